@@ -2,6 +2,7 @@ pub mod formers
 pub mod Lending
 pub mod Spelling
 pub mod Lexes
+pub mod Lines
 pub mod Plain
 pub mod Reads
 pub mod Counts
