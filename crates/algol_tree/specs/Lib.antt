@@ -3,6 +3,7 @@ pub mod Lending
 pub mod Spelling
 pub mod Lexes
 pub mod Lines
+pub mod Numbered
 pub mod Plain
 pub mod Reads
 pub mod Counts

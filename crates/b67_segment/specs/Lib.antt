@@ -1,0 +1,4 @@
+pub mod Operators
+pub mod Syllables
+pub mod Building
+pub mod Fetching

@@ -1,0 +1,4 @@
+pub mod Rest
+pub mod World
+pub mod Choice
+pub mod Run

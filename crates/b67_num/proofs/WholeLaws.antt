@@ -1,0 +1,99 @@
+-- What the operations on whole numbers answer, for proofs that look at a result and not at its definition.
+use Rattle.std.proofs.Common.{◌≡◌, ℕ, ◌<◌, ◌≤◌, ◌%◌, arith, nat_eq}
+use Rattle.std.proofs.lemmas.Bool.Decides.{nat_tests}
+use Rattle.std.proofs.lemmas.Int.{ints, quot-rem, rem_below}
+use Rattle.std.specs.Prelude.{ℤ, pos, negsuc, ◌≤ℤ◌, ◌*ℤ◌, ◌+ℤ◌, ◌-ℤ◌, unsigned_abs, int_div, int_rem, Result, Ok, Err, cond}
+use Rattle.b67_num.specs.Whole.{most, whole, over, sum_of, difference_of, product_of, exact_quotient_of, quotient_of, remainder_of, negation_of, IsDivision}
+use Rattle.b67_num.specs.declared.NumFault.{NumFault}
+use Rattle.b67_num.specs.declared.NumFault.TheVariants.{RealResult}
+
+-- a number of at most the greatest magnitude is its own exact result
+pub whole-fitting : (z : ℤ) → unsigned_abs z ≤ most → whole z ≡ Ok z
+unfolding whole
+whole-fitting z h = grind (arith)
+
+-- an exact result that is there is the number itself, and small enough
+pub whole-ok : (z y : ℤ) → whole z ≡ Ok y → (z ≡ y) × (unsigned_abs y ≤ most)
+unfolding whole
+whole-ok z y e = grind (arith, nat_tests)
+
+not_negative : (a b : ℤ) → pos 0 ≤ℤ a → pos 0 ≤ℤ int_rem a b
+not_negative (pos n) b h = omega (arith, ints)
+not_negative (negsuc n) b h = absurd (omega (arith, ints))
+
+zero_left : (n k : ℕ) → n ≡ 0 → n % k ≡ 0
+zero_left n k e = grind arith
+
+not_positive : (a b : ℤ) → a ≤ℤ pos 0 → int_rem a b ≤ℤ pos 0
+not_positive (pos n) b h = let e : n ≡ 0 = omega (arith, ints) in omega (arith, ints, zero_left n (unsigned_abs b) e)
+not_positive (negsuc n) b h = omega (arith, ints)
+
+-- a division that has a result has a divisor that is not 0, and its result
+pub over-ok : (b y : ℤ) (r : Result ℤ NumFault) → over b r ≡ Ok y → (0 < unsigned_abs b) × (r ≡ Ok y)
+unfolding over
+over-ok b y r e = grind (arith, nat_tests)
+
+divides_at : (a b : ℤ) → 0 < unsigned_abs b → IsDivision a b (int_div a b) (int_rem a b)
+divides_at a b h = record {
+  restores = quot-rem a b;
+  smaller = rem_below a b h;
+  not_negative = not_negative a b;
+  not_positive = not_positive a b;
+}
+
+pub divides : (a b q r : ℤ) → quotient_of a b ≡ Ok q → remainder_of a b ≡ Ok r → IsDivision a b q r
+unfolding quotient_of remainder_of
+divides a b q r e f =
+    let d = over-ok b q (whole (int_div a b)) e in
+    let g = over-ok b r (whole (int_rem a b)) f in
+    let x : int_div a b ≡ q = (whole-ok (int_div a b) q d.1).0 in
+    let y : int_rem a b ≡ r = (whole-ok (int_rem a b) r g.1).0 in
+    rw (← x, ← y) (divides_at a b d.0)
+
+-- the parts of an exact quotient's test
+divided : (n : ℕ) (r : Result ℤ NumFault) (q : ℤ) → cond (nat_eq n 0) r (Err RealResult) ≡ Ok q → (n ≡ 0) × (r ≡ Ok q)
+divided n r q e = grind (arith, nat_tests)
+
+nothing_left : (a b : ℤ) → unsigned_abs (int_rem a b) ≡ 0 → int_div a b *ℤ b ≡ a
+nothing_left a b h = omega (arith, ints, quot-rem a b)
+
+pub divides_exactly : (a b q : ℤ) → exact_quotient_of a b ≡ Ok q → q *ℤ b ≡ a
+unfolding exact_quotient_of
+divides_exactly a b q e =
+    let d = over-ok b q _ e in
+    let g = divided (unsigned_abs (int_rem a b)) (whole (int_div a b)) q d.1 in
+    let x : int_div a b ≡ q = (whole-ok (int_div a b) q g.1).0 in
+    rw (← x) (nothing_left a b g.0)
+
+-- every result is a whole number
+pub sum_of-fits : (a b z : ℤ) → sum_of a b ≡ Ok z → unsigned_abs z ≤ most
+unfolding sum_of
+sum_of-fits a b z e = (whole-ok (a +ℤ b) z e).1
+
+pub difference_of-fits : (a b z : ℤ) → difference_of a b ≡ Ok z → unsigned_abs z ≤ most
+unfolding difference_of
+difference_of-fits a b z e = (whole-ok (a -ℤ b) z e).1
+
+pub product_of-fits : (a b z : ℤ) → product_of a b ≡ Ok z → unsigned_abs z ≤ most
+unfolding product_of
+product_of-fits a b z e = (whole-ok (a *ℤ b) z e).1
+
+pub exact_quotient_of-fits : (a b z : ℤ) → exact_quotient_of a b ≡ Ok z → unsigned_abs z ≤ most
+unfolding exact_quotient_of
+exact_quotient_of-fits a b z e =
+    let d = over-ok b z _ e in
+    (whole-ok (int_div a b) z (divided (unsigned_abs (int_rem a b)) (whole (int_div a b)) z d.1).1).1
+
+pub quotient_of-fits : (a b z : ℤ) → quotient_of a b ≡ Ok z → unsigned_abs z ≤ most
+unfolding quotient_of
+quotient_of-fits a b z e = (whole-ok (int_div a b) z (over-ok b z (whole (int_div a b)) e).1).1
+
+pub remainder_of-fits : (a b z : ℤ) → remainder_of a b ≡ Ok z → unsigned_abs z ≤ most
+unfolding remainder_of
+remainder_of-fits a b z e = (whole-ok (int_rem a b) z (over-ok b z (whole (int_rem a b)) e).1).1
+
+pub negation_of-fits : (a : ℤ) → unsigned_abs a ≤ most → unsigned_abs (negation_of a) ≤ most
+negation_of-fits a h = omega (arith, ints)
+
+-- for `grind` and `using`: every result is a whole number
+pub ruleset results = (sum_of-fits, difference_of-fits, product_of-fits, exact_quotient_of-fits, quotient_of-fits, remainder_of-fits, negation_of-fits)

@@ -1,0 +1,321 @@
+-- The laws of spellings: what was appended stands, what stands still stands after more, one operator stands at a place,
+-- and what stands is what is read there.
+use Rattle.std.proofs.Common.{◌≡◌, ℕ, zero, suc, ◌+◌, ◌-◌, ◌<◌, ◌≤◌, cond, ltb, List, [], ◌∷◌, ◌++◌, length, take, drop, replicate, Result, Ok, Err, refl, sym, ap, ◌∙◌, subst, inl, inr, ◌↔◌, arith, append_assoc, length-append, length-drop, length-take}
+use Rattle.std.specs.Prelude.{IfOk}
+use Rattle.std.specs.Int.{bytes_high_first}
+use Rattle.std.proofs.lemmas.Bool.{lt-ltb, le-ltb, cond-true, cond-false, cond_both, cases_lt, ltb-true, ltb-false}
+use Rattle.std.proofs.lemmas.List.{append-nil, drop_at, drop_all, drop-drop, drop-append-le, take_at, get_or-drop, get_or_append_left, get_or-append_right, length-replicate}
+use Rattle.b67_ops.specs.declared.BadCode.{BadCode}
+use Rattle.b67_ops.specs.declared.BadCode.TheVariants.{Unknown, CutShort, BadLevel}
+use Rattle.b67_ops.specs.declared.Operator.{Operator}
+use Rattle.b67_ops.specs.declared.Operator.TheVariants.{Valc, Namc, Lt8, Lt16, Lt48, Mpcw, Branch, Plain}
+use Rattle.b67_ops.specs.Spelling.{filling, spelling, HasSpelling, Fits, level_named, Stands}
+use Rattle.b67_ops.specs.Decoding.{◌>>=◌, front, decoded}
+use Rattle.b67_ops.specs.Refusals.{IsCutShort, NamesLevelAbove, IsUnknown}
+use Rattle.b67_ops.proofs.Couples.{IsSpelled-from_seen}
+use Rattle.b67_ops.proofs.Spelled.{front-spelling}
+use Rattle.b67_ops.proofs.Reading.{IsBytes, Reads, front-reads}
+use Rattle.b67_ops.proofs.Refusing.{padding, front-goes_on, front-stays, front-level, front-none}
+
+length-word : (count n : ℕ) → length (replicate count 0 ++ bytes_high_first 6 n) ≡ count + 6
+length-word count n = omega (arith, length-append (replicate count 0) (bytes_high_first 6 n), length-replicate {A = ℕ} count 0)
+
+-- a spelling ends at most with the word after the one that it begins in
+pub spelling-within : (at level : ℕ) (op : Operator) → (1 ≤ length (spelling at level op)) × (length (spelling at level op) ≤ 7 + filling at)
+spelling-within at level (Valc couple) = (omega arith, omega arith)
+spelling-within at level (Namc couple) = (omega arith, omega arith)
+spelling-within at level (Lt8 n) = (omega arith, omega arith)
+spelling-within at level (Lt16 n) = (omega arith, omega arith)
+spelling-within at level (Lt48 n) = (omega arith, omega (arith, length-word (filling at) n))
+spelling-within at level (Mpcw n) = (omega arith, omega (arith, length-word (filling at) n))
+spelling-within at level (Branch kind place) = (omega arith, omega arith)
+spelling-within at level (Plain kind) = (omega arith, omega arith)
+
+-- a spelling is 1 to 12 syllables
+pub length-spelling : (at level : ℕ) (op : Operator) → (1 ≤ length (spelling at level op)) × (length (spelling at level op) ≤ 12)
+length-spelling at level op = let within = spelling-within at level op in (within.0, omega (arith, within.1))
+
+-- what fits a level has a spelling there
+pub HasSpelling-from_fits : (level : ℕ) (op : Operator) → level ≤ 31 → Fits level op → HasSpelling level op
+HasSpelling-from_fits level (Valc couple) p h = IsSpelled-from_seen level couple p h
+HasSpelling-from_fits level (Namc couple) p h = IsSpelled-from_seen level couple p h
+HasSpelling-from_fits level (Lt8 n) p h = h
+HasSpelling-from_fits level (Lt16 n) p h = h
+HasSpelling-from_fits level (Lt48 n) p h = h
+HasSpelling-from_fits level (Mpcw n) p h = h
+HasSpelling-from_fits level (Branch kind place) p h = h
+HasSpelling-from_fits level (Plain kind) p h = h
+
+-- what has a spelling fits, where its couple names no level above
+pub Fits-from_spelled : (level : ℕ) (op : Operator) → HasSpelling level op → level_named op ≤ level → Fits level op
+Fits-from_spelled level (Valc couple) h p = record { level_seen = p; index_fits = h.index_fits }
+Fits-from_spelled level (Namc couple) h p = record { level_seen = p; index_fits = h.index_fits }
+Fits-from_spelled level (Lt8 n) h p = h
+Fits-from_spelled level (Lt16 n) h p = h
+Fits-from_spelled level (Lt48 n) h p = h
+Fits-from_spelled level (Mpcw n) h p = h
+Fits-from_spelled level (Branch kind place) h p = h
+Fits-from_spelled level (Plain kind) h p = h
+
+pub level_named-within : (level : ℕ) (op : Operator) → Fits level op → level_named op ≤ level
+level_named-within level (Valc couple) h = h.level_seen
+level_named-within level (Namc couple) h = h.level_seen
+level_named-within level (Lt8 n) h = omega arith
+level_named-within level (Lt16 n) h = omega arith
+level_named-within level (Lt48 n) h = omega arith
+level_named-within level (Mpcw n) h = omega arith
+level_named-within level (Branch kind place) h = omega arith
+level_named-within level (Plain kind) h = omega arith
+
+-- an operator stands within the code
+pub Stands-within : {bytes : List ℕ} {at level : ℕ} {op : Operator} {next : ℕ} → Stands bytes at level op next → (at < next) × (next ≤ at + 12) × (next ≤ length bytes)
+Stands-within {bytes} {at} {level} {op} {next} s =
+    let size = length-spelling at level op in
+    let long = ap length s.text in (
+      omega (arith, size.0, s.next_is),
+      omega (arith, size.1, s.next_is),
+      omega (arith, size.0, s.next_is, long, length-drop at bytes, length-drop next bytes, length-append (spelling at level op) (drop next bytes)),
+    )
+
+-- what was appended stands
+pub Stands-appended : (bytes : List ℕ) (level : ℕ) (op : Operator) → Fits level op
+    → Stands (bytes ++ spelling (length bytes) level op) (length bytes) level op (length bytes + length (spelling (length bytes) level op))
+Stands-appended bytes level op h =
+    let at = length bytes in
+    let sp = spelling at level op in
+    let all : drop at (bytes ++ sp) ≡ sp = drop_at bytes sp at refl in
+    let none : drop (at + length sp) (bytes ++ sp) ≡ [] = drop_all (at + length sp) (bytes ++ sp) (omega (arith, length-append bytes sp)) in
+    record {
+      text = all ∙ sym (append-nil sp) ∙ ap (λ xs. sp ++ xs) (sym none);
+      next_is = refl;
+      fits = h;
+    }
+
+-- what stands still stands after more
+pub Stands-kept : {bytes : List ℕ} {at level : ℕ} {op : Operator} {next : ℕ} (more : List ℕ) → Stands bytes at level op next → Stands (bytes ++ more) at level op next
+Stands-kept {bytes} {at} {level} {op} {next} more s =
+    let within = Stands-within s in
+    let sp = spelling at level op in
+    let here : drop at (bytes ++ more) ≡ drop at bytes ++ more = drop-append-le at bytes more (omega (arith, within.0, within.2)) in
+    let after : drop next (bytes ++ more) ≡ drop next bytes ++ more = drop-append-le next bytes more within.2 in
+    record {
+      text = here ∙ ap (λ xs. xs ++ more) s.text ∙ append_assoc sp (drop next bytes) more ∙ ap (λ xs. sp ++ xs) (sym after);
+      next_is = s.next_is;
+      fits = s.fits;
+    }
+
+-- what stands is read at the front of the code there
+front-stands : {bytes : List ℕ} {at level : ℕ} {op : Operator} {next : ℕ} → level ≤ 31 → Stands bytes at level op next
+    → front (filling at) level (drop at bytes) ≡ Ok (op, length (spelling at level op))
+front-stands {bytes} {at} {level} {op} {next} most s =
+    ap (front (filling at) level) s.text ∙ front-spelling at level op (drop next bytes) (HasSpelling-from_fits level op most s.fits)
+
+-- one operator stands at a place, where the current level is one
+pub Stands-unique : {bytes : List ℕ} {at level : ℕ} {op other : Operator} {next after : ℕ} → level ≤ 31
+    → Stands bytes at level op next → Stands bytes at level other after → (op ≡ other) × (next ≡ after)
+Stands-unique {at = at} {level = level} {op = op} {other = other} most s t =
+    let same : ◌≡◌ {A = Result (Operator × ℕ) BadCode} (Ok (op, length (spelling at level op))) (Ok (other, length (spelling at level other))) = sym (front-stands most s) ∙ front-stands most t in
+    let pair : ◌≡◌ {A = Operator × ℕ} (op, length (spelling at level op)) (other, length (spelling at level other)) = cc in
+    let one : op ≡ other = ap (λ (p : Operator × ℕ). p.0) pair in
+    (one, s.next_is ∙ ap (λ o. at + length (spelling at level o)) one ∙ sym t.next_is)
+
+-- what is decoded from what is read: the level is tested, and the place after it is counted
+abbrev pub judged : ℕ → ℕ → Operator × ℕ → Result (Operator × ℕ) BadCode
+judged at level found = cond (ltb level (level_named found.0)) (Err BadLevel) (Ok (found.0, at + found.1))
+
+pub decoded-front : (bytes : List ℕ) (at level : ℕ) (r : Result (Operator × ℕ) BadCode) → front (filling at) level (drop at bytes) ≡ r
+    → decoded bytes at level ≡ (r >>= judged at level)
+unfolding decoded
+decoded-front bytes at level r h = ap (λ x. x >>= judged at level) h
+
+judged-seen : (at level : ℕ) (found : Operator × ℕ) → level_named found.0 ≤ level → judged at level found ≡ Ok (found.0, at + found.1)
+judged-seen at level found h = cond-false (ltb level (level_named found.0)) (Err BadLevel) (Ok (found.0, at + found.1)) (le-ltb level (level_named found.0) h)
+
+judged-above : (at level : ℕ) (found : Operator × ℕ) → level < level_named found.0 → judged at level found ≡ Err BadLevel
+judged-above at level found h = cond-true (ltb level (level_named found.0)) (Err BadLevel) (Ok (found.0, at + found.1)) (lt-ltb level (level_named found.0) h)
+
+-- what stands is decoded
+pub decoded-stands : {bytes : List ℕ} {at level : ℕ} {op : Operator} {next : ℕ} → level ≤ 31 → Stands bytes at level op next → decoded bytes at level ≡ Ok (op, next)
+decoded-stands {bytes} {at} {level} {op} {next} most s =
+    decoded-front bytes at level (Ok (op, length (spelling at level op))) (front-stands most s)
+    ∙ judged-seen at level (op, length (spelling at level op)) (level_named-within level op s.fits)
+    ∙ ap (λ k. Ok (op, k)) (sym s.next_is)
+
+-- the code from a place on
+pub dropped : (at : ℕ) (bytes : List ℕ) → IsBytes bytes → IsBytes (drop at bytes)
+dropped at bytes b i = rw (get_or-drop at bytes i 0) (b (at + i))
+
+zeros-bytes : (count : ℕ) → IsBytes (replicate count 0)
+zeros-bytes zero i = omega arith
+zeros-bytes (suc count) zero = omega arith
+zeros-bytes (suc count) (suc i) = zeros-bytes count i
+
+-- bytes with zeros after them are bytes
+pub padded : (bytes : List ℕ) → IsBytes bytes → IsBytes (bytes ++ padding)
+padded bytes b i =
+    elim (cases_lt i (length bytes)) [
+      | inl within ↦ rw (get_or_append_left bytes padding 0 i within) (b i)
+      | inr past ↦ rw (get_or-append_right bytes padding (length bytes) i 0 refl past) (zeros-bytes 12 (i - length bytes))
+    ]
+
+take-append-ge : (xs ys : List ℕ) (n : ℕ) → length xs ≤ n → take n (xs ++ ys) ≡ xs ++ take (n - length xs) ys
+take-append-ge [] ys n h = ap (λ k. take k ys) (omega arith)
+take-append-ge (x ∷ xs) ys zero h = absurd (omega arith)
+take-append-ge (x ∷ xs) ys (suc n) h =
+    let less : n - length xs ≡ suc n - suc (length xs) = omega arith in
+    ap (λ zs. x ∷ zs) (take-append-ge xs ys n (omega arith)) ∙ ap (λ k. x ∷ xs ++ take k ys) less
+
+-- what can come of a decoding, each with its cause
+pub data Outcome (bytes : List ℕ) (at level : ℕ) : Result (Operator × ℕ) BadCode → Type 0 where
+  stands : (op : Operator) (next : ℕ) → Stands bytes at level op next → Outcome bytes at level (Ok (op, next))
+  cut_short : IsCutShort bytes at level → Outcome bytes at level (Err CutShort)
+  above : NamesLevelAbove bytes at level → Outcome bytes at level (Err BadLevel)
+  unknown : IsUnknown bytes at level → Outcome bytes at level (Err Unknown)
+
+-- an operator that is read stands there, if its level can be seen
+outcome-read : (bytes : List ℕ) (at level : ℕ) (op : Operator) (size : ℕ) → Reads at level (drop at bytes) op size → Outcome bytes at level (judged at level (op, size))
+outcome-read bytes at level op size r =
+    let text : drop at bytes ≡ spelling at level op ++ drop (at + size) bytes = r.text ∙ ap (λ xs. spelling at level op ++ xs) (drop-drop size at bytes) in
+    let P : Result (Operator × ℕ) BadCode → Type 0 = Outcome bytes at level in
+    cond_both (ltb level (level_named op)) (Err BadLevel) (Ok (op, at + size)) P
+    (λ t. above (record { op = op; rest = drop (at + size) bytes; spelled = r.spelled; above = ltb-true level (level_named op) t; text = text }))
+    (λ f. stands op (at + size) (record {
+      text = text;
+      next_is = ap (λ k. at + k) r.count_is;
+      fits = Fits-from_spelled level op r.spelled (ltb-false level (level_named op) f);
+    }))
+
+-- an operator that is read once zeros follow is what some syllables begin
+cut-from_read : (bytes : List ℕ) (at level : ℕ) (op : Operator) (size : ℕ) → Reads at level (drop at bytes ++ padding) op size
+    → length (drop at bytes) < size → IsCutShort bytes at level
+cut-from_read bytes at level op size r short =
+    let rest = drop at bytes in
+    let sp = spelling at level op in
+    let whole : take (length sp) (rest ++ padding) ≡ sp = ap (take (length sp)) r.text ∙ take_at sp (drop size (rest ++ padding)) (length sp) refl in
+    let parts : take (length sp) (rest ++ padding) ≡ rest ++ take (length sp - length rest) padding =
+    take-append-ge rest padding (length sp) (omega (arith, r.count_is)) in
+    record {
+      op = op;
+      missing = take (length sp - length rest) padding;
+      spelled = r.spelled;
+      some = omega (arith, length-take (length sp - length rest) padding, r.count_is);
+      text = sym parts ∙ whole;
+    }
+
+-- what is cut short is the beginning of an operator
+cut-from_front : (bytes : List ℕ) (at level : ℕ) → IsBytes bytes → front (filling at) level (drop at bytes) ≡ Err CutShort → IsCutShort bytes at level
+cut-from_front bytes at level b h =
+    let rest = drop at bytes in
+    let on = front-goes_on (filling at) level rest (omega arith) h in
+    cut-from_read bytes at level on.0 on.1 (front-reads at level (rest ++ padding) (padded rest (dropped at bytes b)) on.0 on.1 on.2) on.3
+
+-- what can come of a decoding, by what was read
+outcome-front : (bytes : List ℕ) (at level : ℕ) → IsBytes bytes → (r : Result (Operator × ℕ) BadCode)
+    → front (filling at) level (drop at bytes) ≡ r → Outcome bytes at level (r >>= judged at level)
+outcome-front bytes at level b (Ok x) h = outcome-read bytes at level x.0 x.1 (front-reads at level (drop at bytes) (dropped at bytes b) x.0 x.1 h)
+outcome-front bytes at level b (Err CutShort) h = cut_short (cut-from_front bytes at level b h)
+outcome-front bytes at level b (Err BadLevel) h = absurd (front-level (filling at) level (drop at bytes) h)
+outcome-front bytes at level b (Err Unknown) h = unknown (λ op more rest spelled same.
+    let stays = front-stays (filling at) level (drop at bytes) more h in
+    let read = ap (front (filling at) level) same ∙ front-spelling at level op rest spelled in cc)
+
+pub decoded-outcome : (bytes : List ℕ) (at level : ℕ) → IsBytes bytes → Outcome bytes at level (decoded bytes at level)
+decoded-outcome bytes at level b =
+    let P : Result (Operator × ℕ) BadCode → Type 0 = Outcome bytes at level in
+    subst P (sym (decoded-front bytes at level (front (filling at) level (drop at bytes)) refl))
+    (outcome-front bytes at level b (front (filling at) level (drop at bytes)) refl)
+
+-- no spelling begins another at its place
+pub spelling-prefix : (at level : ℕ) (a b : Operator) (x y : List ℕ) → HasSpelling level a → HasSpelling level b
+    → spelling at level a ++ x ≡ spelling at level b ++ y → a ≡ b
+spelling-prefix at level a b x y p q h =
+    let same : ◌≡◌ {A = Result (Operator × ℕ) BadCode} (Ok (a, length (spelling at level a))) (Ok (b, length (spelling at level b))) =
+    sym (front-spelling at level a x p) ∙ ap (front (filling at) level) h ∙ front-spelling at level b y q in
+    let pair : ◌≡◌ {A = Operator × ℕ} (a, length (spelling at level a)) (b, length (spelling at level b)) = cc in
+    ap (λ (p : Operator × ℕ). p.0) pair
+
+-- what begins with a spelling is no part of one
+not-part : (at level : ℕ) (a b : Operator) (rest x missing : List ℕ) → HasSpelling level a → HasSpelling level b
+    → rest ≡ spelling at level a ++ x → 0 < length missing → rest ++ missing ≡ spelling at level b → ⊥
+not-part at level a b rest x missing p q h some whole =
+    let sp = spelling at level a in
+    let all : sp ++ (x ++ missing) ≡ spelling at level b = sym (append_assoc sp x missing) ∙ ap (λ xs. xs ++ missing) (sym h) ∙ whole in
+    let same : a ≡ b = spelling-prefix at level a b (x ++ missing) [] p q (all ∙ sym (append-nil (spelling at level b))) in
+    let sizes : length (sp ++ (x ++ missing)) ≡ length sp = ap length all ∙ ap (λ o. length (spelling at level o)) (sym same) in
+    absurd (omega (arith, length-append sp (x ++ missing), length-append x missing))
+
+module _ (bytes : List ℕ) (at level : ℕ) (most : level ≤ 31) where
+  stands-known : (op : Operator) (next : ℕ) → Stands bytes at level op next → HasSpelling level op
+  stands-known op next s = HasSpelling-from_fits level op most s.fits
+
+  only-stands : {r : Result (Operator × ℕ) BadCode} → Outcome bytes at level r → (op : Operator) (next : ℕ) → r ≡ Ok (op, next) → Stands bytes at level op next
+  only-stands (stands o n s) op next h =
+      let same : ◌≡◌ {A = Operator × ℕ} (o, n) (op, next) = cc in
+      subst (λ (p : Operator × ℕ). Stands bytes at level p.0 p.1) same s
+  only-stands (cut_short c) op next h = cc
+  only-stands (above n) op next h = cc
+  only-stands (unknown u) op next h = cc
+
+  cut-only : {r : Result (Operator × ℕ) BadCode} → Outcome bytes at level r → r ≡ Err CutShort → IsCutShort bytes at level
+  cut-only (stands o n s) h = cc
+  cut-only (cut_short c) h = c
+  cut-only (above n) h = cc
+  cut-only (unknown u) h = cc
+
+  cut-all : {r : Result (Operator × ℕ) BadCode} → Outcome bytes at level r → IsCutShort bytes at level → r ≡ Err CutShort
+  cut-all (stands o n s) c = absurd (not-part at level o c.op (drop at bytes) (drop n bytes) c.missing (stands-known o n s) c.spelled s.text c.some c.text)
+  cut-all (cut_short d) c = refl
+  cut-all (above n) c = absurd (not-part at level n.op c.op (drop at bytes) n.rest c.missing n.spelled c.spelled n.text c.some c.text)
+  cut-all (unknown u) c = absurd (u c.op c.missing [] c.spelled (c.text ∙ sym (append-nil (spelling at level c.op))))
+
+  above-only : {r : Result (Operator × ℕ) BadCode} → Outcome bytes at level r → r ≡ Err BadLevel → NamesLevelAbove bytes at level
+  above-only (stands o n s) h = cc
+  above-only (cut_short c) h = cc
+  above-only (above n) h = n
+  above-only (unknown u) h = cc
+
+  above-all : {r : Result (Operator × ℕ) BadCode} → Outcome bytes at level r → NamesLevelAbove bytes at level → r ≡ Err BadLevel
+  above-all (stands o n s) a =
+      let same : o ≡ a.op = spelling-prefix at level o a.op (drop n bytes) a.rest (stands-known o n s) a.spelled (sym s.text ∙ a.text) in
+      let seen : level_named a.op ≤ level = subst (λ p. level_named p ≤ level) same (level_named-within level o s.fits) in
+      absurd (omega (arith, a.above))
+  above-all (cut_short c) a = absurd (not-part at level a.op c.op (drop at bytes) a.rest c.missing a.spelled c.spelled a.text c.some c.text)
+  above-all (above n) a = refl
+  above-all (unknown u) a = absurd (u a.op [] a.rest a.spelled (append-nil (drop at bytes) ∙ a.text))
+
+  unknown-only : {r : Result (Operator × ℕ) BadCode} → Outcome bytes at level r → r ≡ Err Unknown → IsUnknown bytes at level
+  unknown-only (stands o n s) h = cc
+  unknown-only (cut_short c) h = cc
+  unknown-only (above n) h = cc
+  unknown-only (unknown u) h = u
+
+  unknown-all : {r : Result (Operator × ℕ) BadCode} → Outcome bytes at level r → IsUnknown bytes at level → r ≡ Err Unknown
+  unknown-all (stands o n s) u = absurd (u o [] (drop n bytes) (stands-known o n s) (append-nil (drop at bytes) ∙ s.text))
+  unknown-all (cut_short c) u = absurd (u c.op c.missing [] c.spelled (c.text ∙ sym (append-nil (spelling at level c.op))))
+  unknown-all (above a) u = absurd (u a.op [] a.rest a.spelled (append-nil (drop at bytes) ∙ a.text))
+  unknown-all (unknown v) u = refl
+
+  -- an operator is decoded exactly where it stands
+  pub decoded-ok : IsBytes bytes → (op : Operator) (next : ℕ) → (decoded bytes at level ≡ Ok (op, next)) ↔ Stands bytes at level op next
+  decoded-ok b op next = (only-stands (decoded-outcome bytes at level b) op next, decoded-stands most)
+
+  -- each refusal comes exactly where it has its cause
+  pub decoded-cut_short : IsBytes bytes → (decoded bytes at level ≡ Err CutShort) ↔ IsCutShort bytes at level
+  decoded-cut_short b = (cut-only (decoded-outcome bytes at level b), cut-all (decoded-outcome bytes at level b))
+
+  pub decoded-above : IsBytes bytes → (decoded bytes at level ≡ Err BadLevel) ↔ NamesLevelAbove bytes at level
+  decoded-above b = (above-only (decoded-outcome bytes at level b), above-all (decoded-outcome bytes at level b))
+
+  pub decoded-unknown : IsBytes bytes → (decoded bytes at level ≡ Err Unknown) ↔ IsUnknown bytes at level
+  decoded-unknown b = (unknown-only (decoded-outcome bytes at level b), unknown-all (decoded-outcome bytes at level b))
+
+  -- an operator that is decoded lies within the code
+  pub decoded-within : IsBytes bytes → (r : Result (Operator × ℕ) BadCode) → decoded bytes at level ≡ r
+      → IfOk r (λ found. (at < found.1) × (found.1 ≤ at + 12) × (found.1 ≤ length bytes))
+  decoded-within b (Ok found) h = Stands-within (only-stands (decoded-outcome bytes at level b) found.0 found.1 h)
+  decoded-within b (Err e) h = tt
+
+-- nothing is decoded past the code
+pub decoded-past : (bytes : List ℕ) (at level : ℕ) → length bytes ≤ at → decoded bytes at level ≡ Err CutShort
+decoded-past bytes at level h =
+    decoded-front bytes at level (Err CutShort) (ap (front (filling at) level) (drop_all at bytes h) ∙ front-none (filling at) level)

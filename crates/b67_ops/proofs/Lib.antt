@@ -1,0 +1,9 @@
+pub mod Couples
+pub mod Words
+pub mod CodeLemmas
+pub mod Cases
+pub mod Spelled
+pub mod Reading
+pub mod Refusing
+pub mod Laws
+pub mod Windows

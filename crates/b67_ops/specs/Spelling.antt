@@ -1,0 +1,81 @@
+use Rattle.std.specs.Prelude.{◌≡◌, ℕ, ◌+◌, ◌-◌, ◌*◌, ◌%◌, ◌^◌, ◌<◌, ◌≤◌, nat_le, List, [], ◌∷◌, ◌++◌, length, drop, replicate, if◌then◌else◌}
+use Rattle.std.specs.Int.{w16, to_be_bytes, bytes_high_first}
+use Rattle.b67_ops.specs.Codes.{code_of, branch_code}
+use Rattle.b67_ops.specs.declared.Couple.{Couple}
+use Rattle.b67_ops.specs.declared.Operator.{Operator}
+use Rattle.b67_ops.specs.declared.Operator.TheVariants.{Valc, Namc, Lt8, Lt16, Lt48, Mpcw, Branch, Plain}
+
+-- how many bits of a couple name its level, where the current level is this one
+unfoldable pub level_bits : ℕ → ℕ
+level_bits level =
+    if nat_le level 1 then 1
+    else (if nat_le level 3 then 2 else (if nat_le level 7 then 3 else (if nat_le level 15 then 4 else 5)))
+
+-- how many of the 14 bits are left for the index
+abbrev pub index_bits : ℕ → ℕ
+index_bits level = 14 - level_bits level
+
+-- a couple as a number of 14 bits, the level above the index
+abbrev pub couple_bits : ℕ → Couple → ℕ
+couple_bits level couple = couple.level * 2 ^ index_bits level + couple.index
+
+-- how many syllables are left of the word after the syllable at this place
+abbrev pub filling : ℕ → ℕ
+filling at = 5 - at % 6
+
+-- the one spelling of an operator that begins at this place, where the current level is this one
+abbrev pub spelling : ℕ → ℕ → Operator → List ℕ
+spelling at level (Valc couple) = to_be_bytes w16 (couple_bits level couple)
+spelling at level (Namc couple) = to_be_bytes w16 (2 ^ 14 + couple_bits level couple)
+spelling at level (Lt8 n) = 0xb2 ∷ n ∷ []
+spelling at level (Lt16 n) = 0xb3 ∷ to_be_bytes w16 n
+spelling at level (Lt48 n) = 0xbe ∷ (replicate (filling at) 0 ++ bytes_high_first 6 n)
+spelling at level (Mpcw n) = 0xbf ∷ (replicate (filling at) 0 ++ bytes_high_first 6 n)
+spelling at level (Branch kind place) = branch_code kind ∷ to_be_bytes w16 place
+spelling at level (Plain kind) = code_of kind ∷ []
+
+-- a couple that can be spelled at this level, whether or not its own level is above it
+pub record IsSpelled (level : ℕ) (couple : Couple) : Type 0 where
+  pub level_fits : couple.level < 2 ^ level_bits level
+  pub index_fits : couple.index < 2 ^ index_bits level
+
+-- a couple that can stand in a block of this level
+pub record IsSeen (level : ℕ) (couple : Couple) : Type 0 where
+  pub level_seen : couple.level ≤ level
+  pub index_fits : couple.index < 2 ^ index_bits level
+
+-- an operator whose operand fits its syllables, where the couple is one of these
+abbrev pub FitsAs : (Couple → Type 0) → Operator → Type 0
+FitsAs P (Valc couple) = P couple
+FitsAs P (Namc couple) = P couple
+FitsAs P (Lt8 n) = n < 2 ^ 8
+FitsAs P (Lt16 n) = n < 2 ^ 16
+FitsAs P (Lt48 n) = n < 2 ^ 48
+FitsAs P (Mpcw n) = n < 2 ^ 48
+FitsAs P (Branch kind place) = place < 2 ^ 16
+FitsAs P (Plain kind) = Unit {0}
+
+-- an operator with a spelling: its operand fits its syllables
+abbrev pub HasSpelling : ℕ → Operator → Type 0
+HasSpelling level op = FitsAs (IsSpelled level) op
+
+-- an operator that may stand in a block of this level: it has a spelling, and its couple names no level above
+abbrev pub Fits : ℕ → Operator → Type 0
+Fits level op = FitsAs (IsSeen level) op
+
+-- the level that the operator's couple names, or 0 where it has no couple
+abbrev pub level_named : Operator → ℕ
+level_named (Valc couple) = couple.level
+level_named (Namc couple) = couple.level
+level_named (Lt8 n) = 0
+level_named (Lt16 n) = 0
+level_named (Lt48 n) = 0
+level_named (Mpcw n) = 0
+level_named (Branch kind place) = 0
+level_named (Plain kind) = 0
+
+-- at this place of the code, where the current level is this one, stands this operator, and next is the place after it
+pub record Stands (bytes : List ℕ) (at level : ℕ) (op : Operator) (next : ℕ) : Type 0 where
+  pub text : drop at bytes ≡ spelling at level op ++ drop next bytes
+  pub next_is : next ≡ at + length (spelling at level op)
+  pub fits : Fits level op

@@ -1,0 +1,229 @@
+-- Each history of the code is legal for the source, and world and image agree after it.
+use Rattle.std.proofs.Common.{◌≡◌, ℕ, zero, suc, List, [], ◌∷◌, ◌++◌, length, Option, Some, None, true, false, refl, sym, ap, ◌∙◌, subst, ℤ}
+use Rattle.std.specs.Prelude.{reverse, slice_get, if◌then◌else◌}
+use Rattle.algol_tree.specs.Numbered.{numbered}
+use Rattle.algol_tree.specs.Plain.{PProgram}
+use Rattle.algol_tree.specs.Accepted.{IsDistinct, names_of, accepted}
+use Rattle.b67_num.specs.declared.NumFault.{NumFault}
+use Rattle.b67_num.specs.declared.FaultKind.{FaultKind}
+use Rattle.b67_num.specs.Whole.{fault_of}
+use Rattle.b67_segment.specs.declared.code.Code.{Code}
+use Rattle.algol_meaning.specs.Rest.{Rest}
+use Rattle.algol_meaning.specs.World.{World}
+use Rattle.algol_meaning.specs.Choice.{choice, with_fault}
+use Rattle.algol_meaning.specs.Run.{start, run, run_from, entered, may_go, end_of, world_of}
+use Rattle.b67_table.specs.declared.InterruptKind.{InterruptKind}
+use Rattle.b67_table.specs.declared.InterruptKind.TheVariants.{BadCode as bad_code}
+use Rattle.b67_table.specs.declared.ProcessState.{ProcessState}
+use Rattle.b67_table.specs.declared.ProcessState.TheVariants.{Able}
+use Rattle.b67_table.specs.Effect.{Effect, gives, faults, interrupts, limit}
+use Rattle.b67_table.specs.Image.{Image, Failure, is_able}
+use Rattle.b67_table.specs.Table.{table, plain, failed, may_act, image_end, ImageEnd, goes_on, end_by, first_image}
+use Rattle.b67_table.specs.Table as machine
+use Rattle.b67_table.specs.Runs.{Plains, stay, go, Acts, acts, fails, Entry, Runs, begin, entry}
+use Rattle.b67_relate.specs.Picture.{At, world, ended_world, image, ended_image}
+use Rattle.b67_relate.specs.Agreement.{end_as, Shows, HistoriesAgree}
+use Rattle.b67_relate.specs.Pictures.{Pictures, live, ended, faulted, Alive}
+use Rattle.b67_relate.proofs.WordKinds.{word_laws}
+use Rattle.b67_relate.proofs.StackWords.{reverse-cons}
+use Rattle.b67_relate.proofs.Steps.{Follows, step_at}
+use Rattle.b67_relate.proofs.Steps as steps
+use Rattle.b67_relate.specs.Code.{program_at}
+use Rattle.b67_relate.proofs.Cells.{IsDistinct-tail}
+use Rattle.b67_relate.proofs.Prologue.{start-world, first_pictured}
+use Rattle.b67_relate.proofs.OneWay.{one_way, way, OnTheWay, there, further, plains_public}
+
+-- ---- runs of the source
+
+run_from-none : (tree : PProgram) (h : List ℕ) → run_from tree h None ≡ None
+run_from-none tree [] = refl
+run_from-none tree (p ∷ h) = refl
+
+run_from-some : (tree : PProgram) (o : Option World) → run_from tree [] o ≡ o
+run_from-some tree None = refl
+run_from-some tree (Some w) = refl
+
+run_from-append : (tree : PProgram) (h : List ℕ) (p : ℕ) (o : Option World) (w : World) → run_from tree h o ≡ Some w → run_from tree (h ++ p ∷ []) o ≡ entered tree w p
+run_from-append tree h p None w e = let n : run_from tree h None ≡ None = run_from-none tree h in cc
+run_from-append tree [] p (Some v) w e = let same : v ≡ w = cc in run_from-some tree (entered tree v p) ∙ ap (λ (u : World). entered tree u p) same
+run_from-append tree (q ∷ h) p (Some v) w e = run_from-append tree h p (entered tree v q) w e
+
+pub run-later : (tree : PProgram) (h : List ℕ) (p : ℕ) (w v : World) → run tree (reverse h) ≡ Some w → entered tree w p ≡ Some v → run tree (reverse (p ∷ h)) ≡ Some v
+unfolding run
+run-later tree h p w v e f = ap (λ g. run_from tree g (Some (start tree))) (reverse-cons p h) ∙ run_from-append tree (reverse h) p (Some (start tree)) w e ∙ f
+
+-- ---- which process can act
+
+not_true : {B : Type 0} (o : Option ImageEnd) → goes_on o false ≡ true → B
+not_true None e = cc
+not_true (Some x) e = cc
+
+only_one : (o : Option ImageEnd) (states : List ProcessState) (p : ℕ) → states ≡ Able ∷ [] → goes_on o (is_able (numbered states p)) ≡ true → p ≡ 1
+only_one o states zero e may = not_true o may
+only_one o states (suc zero) e may = refl
+only_one o states (suc (suc k)) e may = not_true o (sym (ap (λ (s : List ProcessState). goes_on o (is_able (slice_get s (suc k)))) e) ∙ may)
+
+the_process : (a : Image) (p : ℕ) → a.states ≡ Able ∷ [] → may_act a p ≡ true → p ≡ 1
+unfolding may_act
+the_process a p e may = only_one (image_end a) a.states p e may
+
+false_true : {B : Type 0} → false ≡ true → B
+false_true e = cc
+
+-- ---- one entry
+
+module _ (tree : PProgram) (code : Code) (names : List (List ℕ)) (distinct : IsDistinct names) where
+  pub record Entered (w : World) (p : ℕ) (b : Image) : Type 0 where
+    pub after : World
+    pub is : entered tree w p ≡ Some after
+    pub pictures : Pictures code names after b
+
+  entered-world : (values : List ℤ) (output : List (List ℕ)) (rest : Rest) → entered tree (world names values output rest) 1 ≡ world_of (choice tree (world names values output rest) 1)
+  unfolding entered may_go end_of
+  entered-world values output rest = refl
+
+  follow : (values : List ℤ) (output : List (List ℕ)) (rest : Rest) (to : At) → Follows tree code names values output rest to → (q : Image) (n m : ℕ) (a b : Image) → Plains code 1 a n q → Acts code 1 q b →
+      Plains code 1 a m (image values output to) → Entered (world names values output rest) 1 b
+  follow values output rest to (steps.goes_on action values' output' rest' next is act same comes) q n m a b l x k =
+      record {
+        after = world names values' output' rest';
+        is = entered-world values output rest ∙ ap world_of is;
+        pictures =
+            subst (λ (i : Image). Pictures code names (world names values' output' rest') i) (one_way code 1 k act l x)
+            (live values' output' rest' (image values' output' next) comes.goes.n comes.to same (record { states = refl; fault = refl; output_is = refl }) comes.goes.plains comes.goes.sized comes.stands);
+      }
+  follow values output rest to (steps.ends next is act) q n m a b l x k =
+      record {
+        after = ended_world names values output;
+        is = entered-world values output rest ∙ ap world_of is;
+        pictures = subst (λ (i : Image). Pictures code names (ended_world names values output) i) (one_way code 1 k act l x) (ended values output (length values) next);
+      }
+  follow values output rest to (steps.faulted fault is act stays) q n m a b l x k =
+      record {
+        after = with_fault (world names values output rest) 1 fault;
+        is = entered-world values output rest ∙ ap world_of is;
+        pictures = subst (λ (i : Image). Pictures code names (with_fault (world names values output rest) 1 fault) i) (one_way code 1 k act l x) (faulted values output rest to fault stays);
+      }
+
+  pub entry_pictured : (w : World) (a : Image) (p n : ℕ) (b : Image) → Pictures code names w a → Entry code p a n b → Entered w p b
+  unfolding may_act image_end failed
+  entry_pictured w a p n b (live values output rest img m to same alive plains sized stands) e =
+      let one : p ≡ 1 = the_process img p alive.states e.may in
+      let l : Plains code 1 img n e.quiet = subst (λ q. Plains code q img n e.quiet) one e.plains in
+      let x : Acts code 1 e.quiet b = subst (λ q. Acts code q e.quiet b) one e.action in
+      subst (λ q. Entered (world names values output rest) q b) (sym one)
+      (follow values output rest to (step_at word_laws tree code names distinct values same output rest to sized stands) e.quiet n m img b l x plains)
+  entry_pictured w a p n b (ended values output cells at) e = false_true e.may
+  entry_pictured w a p n b (faulted values output rest at fault stays) e = false_true e.may
+
+-- ---- whole histories
+
+module _ (tree : PProgram) (code : Code) (names : List (List ℕ)) (distinct : IsDistinct names) (first : World) (starts : start tree ≡ first) (pictured : Pictures code names first first_image) where
+  pub record Related (h : List ℕ) (img : Image) : Type 0 where
+    pub world : World
+    pub is : run tree (reverse h) ≡ Some world
+    pub pictures : Pictures code names world img
+
+  run-start : run tree [] ≡ Some first
+  unfolding run
+  run-start = ap Some starts
+
+  pub related : {h counts : List ℕ} {img : Image} → Runs code h counts img → Related h img
+  related begin = record { world = first; is = run-start; pictures = pictured }
+  related (entry {h = h} {a = a} {b = b} {p = p} {n = n} runs e) =
+      let before = related runs in
+      let next = entry_pictured tree code names distinct before.world a p n b before.pictures e in
+      record { world = next.after; is = run-later tree h p before.world next.after before.is next.is; pictures = next.pictures }
+
+-- ---- after some plain operators more
+
+by_states : (states : List ProcessState) (f : Option Failure) → states ≡ Able ∷ [] → f ≡ None → (if machine.has_ended (numbered states 1) then Some machine.finished else end_by f states) ≡ None
+by_states states f e g =
+    ap (λ (s : List ProcessState). if machine.has_ended (numbered s 1) then Some machine.finished else end_by f s) e
+    ∙ ap (λ (x : Option Failure). if machine.has_ended (numbered (Able ∷ []) 1) then Some machine.finished else end_by x (Able ∷ [])) g
+
+alive_none : (img : Image) → img.states ≡ Able ∷ [] → img.fault ≡ None → image_end img ≡ None
+unfolding image_end
+alive_none img e g = by_states img.states img.fault e g
+
+no_end : (names : List (List ℕ)) (values : List ℤ) (output : List (List ℕ)) (rest : Rest) → end_of (world names values output rest) ≡ None
+unfolding end_of
+no_end names values output rest = refl
+
+not_both : {A B : Type 0} (a : A) (kind : InterruptKind) (e : Effect A) → e ≡ gives a → e ≡ interrupts kind → B
+not_both a kind e x y = cc
+
+not_limit : {A B : Type 0} (a : A) (e : Effect A) → e ≡ gives a → e ≡ limit → B
+not_limit a e x y = cc
+
+acts_no_interrupt : {B : Type 0} (code : Code) (a b : Image) → Acts code 1 a b → (kind : InterruptKind) → table code a 1 ≡ interrupts kind → B
+acts_no_interrupt code a b (acts x t) kind e = not_both b kind (table code a 1) t e
+acts_no_interrupt code a b (fails k t) kind e = cc
+
+acts_no_limit : {B : Type 0} (code : Code) (a b : Image) → Acts code 1 a b → table code a 1 ≡ limit → B
+acts_no_limit code a b (acts x t) e = not_limit b (table code a 1) t e
+acts_no_limit code a b (fails k t) e = cc
+
+way_no_interrupt : {B : Type 0} (code : Code) (r q b : Image) → OnTheWay code 1 r q → Acts code 1 r b → (kind : InterruptKind) → table code q 1 ≡ interrupts kind → B
+way_no_interrupt code r q b there act kind e = acts_no_interrupt code r b act kind e
+way_no_interrupt code r q b (further {b = c} x t) act kind e = not_both c kind (table code q 1) t e
+
+way_no_limit : {B : Type 0} (code : Code) (r q b : Image) → OnTheWay code 1 r q → Acts code 1 r b → table code q 1 ≡ limit → B
+way_no_limit code r q b there act e = acts_no_limit code r b act e
+way_no_limit code r q b (further {b = c} x t) act e = not_limit c (table code q 1) t e
+
+ended_shows : (code : Code) (names : List (List ℕ)) (values : List ℤ) (output : List (List ℕ)) (cells : ℕ) (at : At) → Shows code (ended_world names values output) (ended_image cells output at)
+unfolding image_end end_of
+ended_shows code names values output cells at = record { output = refl; ends = refl; no_interrupt = λ kind e t. none_some e; no_limit = λ e t. none_some e }
+  where
+    none_some : {A B : Type 0} {x : A} → Some x ≡ None → B
+    none_some h = cc
+
+faulted_shows : (code : Code) (names : List (List ℕ)) (values : List ℤ) (output : List (List ℕ)) (rest : Rest) (at : At) (fault : NumFault) → Shows code (with_fault (world names values output rest) 1 fault) (failed (image values output at) 1 (fault_of fault))
+unfolding image_end end_of failed
+faulted_shows code names values output rest at fault = record { output = refl; ends = refl; no_interrupt = λ kind e t. none_some e; no_limit = λ e t. none_some e }
+  where
+    none_some : {A B : Type 0} {x : A} → Some x ≡ None → B
+    none_some h = cc
+
+ended_table : (code : Code) (cells : ℕ) (output : List (List ℕ)) (at : At) → table code (ended_image cells output at) 1 ≡ interrupts bad_code
+unfolding table
+ended_table code cells output at = refl
+
+module _ (tree : PProgram) (code : Code) (names : List (List ℕ)) (distinct : IsDistinct names) where
+  live_shows : (values : List ℤ) (output : List (List ℕ)) (rest : Rest) (a : Image) (m : ℕ) (to : At) → Alive a output → Plains code 1 a m (image values output to) → Follows tree code names values output rest to →
+      (n : ℕ) (img : Image) → Plains code 1 a n img → Shows code (world names values output rest) img
+  live_shows values output rest a m to alive k follows n img l =
+      let same = plains_public l in
+      let none : image_end img ≡ None = alive_none img (same.states ∙ alive.states) (same.fault ∙ alive.fault) in
+      let acting = act_of follows in
+      let on_way : OnTheWay code 1 (image values output to) img = way code 1 l k acting.1 in
+      record {
+        output = same.output ∙ alive.output_is;
+        ends = no_end names values output rest ∙ ap end_as (sym none);
+        no_interrupt = λ kind e t. way_no_interrupt code (image values output to) img acting.0 on_way acting.1 kind t;
+        no_limit = λ e t. way_no_limit code (image values output to) img acting.0 on_way acting.1 t;
+      }
+    where
+      act_of : Follows tree code names values output rest to → (b : Image) × Acts code 1 (image values output to) b
+      act_of (steps.goes_on action values' output' rest' next is act same comes) = (image values' output' next, act)
+      act_of (steps.ends next is act) = (ended_image (length values) output next, act)
+      act_of (steps.faulted fault is act stays) = (failed (image values output to) 1 (fault_of fault), act)
+
+  pub pictured_shows : (w : World) (a : Image) → Pictures code names w a → (n : ℕ) (img : Image) → Plains code 1 a n img → Shows code w img
+  pictured_shows w a (live values output rest img m to same alive plains sized stands) n q l =
+      live_shows values output rest img m to alive plains (step_at word_laws tree code names distinct values same output rest to sized stands) n q l
+  pictured_shows w a (ended values output cells at) n q stay = ended_shows code names values output cells at
+  pictured_shows w a (ended values output cells at) n q (go {b = b} e t l) = not_both b bad_code (table code (ended_image cells output at) 1) t (ended_table code cells output at)
+  pictured_shows w a (faulted values output rest at fault stays) n q stay = faulted_shows code names values output rest at fault
+  pictured_shows w a (faulted values output rest at fault stays) n q (go {b = b} e t l) = gives_faults b (fault_of fault) (table code (failed (image values output at) 1 (fault_of fault)) 1) t stays
+    where
+      gives_faults : {B : Type 0} (b : Image) (kind : FaultKind) (x : Effect Image) → x ≡ gives b → x ≡ faults kind → B
+      gives_faults b kind x u v = cc
+
+pub histories_agree : HistoriesAgree
+histories_agree tree code (accepted spot file ns ss distinct few known small) (program_at spot' file' ns' ss' few' body) h counts before img tail runs plains =
+    let names : List (List ℕ) = names_of ns in
+    let apart : IsDistinct names = IsDistinct-tail file.name names distinct in
+    let rel = related tree code names apart _ (start-world spot file ns ss) (first_pictured code ns ss few' body) runs in
+    record { world = rel.world; is = rel.is; shows = pictured_shows tree code names apart rel.world before rel.pictures tail img plains }

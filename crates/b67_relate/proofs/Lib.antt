@@ -1,0 +1,13 @@
+pub mod StackWords
+pub mod WordKinds
+pub mod PrivateSteps
+pub mod ActionSteps
+pub mod WriteStep
+pub mod SumSteps
+pub mod Reach
+pub mod Starts
+pub mod Cells
+pub mod Steps
+pub mod OneWay
+pub mod Prologue
+pub mod Histories

@@ -1,0 +1,4 @@
+pub mod Code
+pub mod Picture
+pub mod Pictures
+pub mod Agreement

@@ -1,0 +1,29 @@
+-- World and image agree, between two entries of a run.
+use Rattle.std.specs.Prelude.{◌≡◌, ℕ, ℤ, List, [], ◌∷◌, length, None}
+use Rattle.b67_num.specs.declared.NumFault.{NumFault}
+use Rattle.b67_num.specs.Whole.{fault_of}
+use Rattle.b67_segment.specs.declared.code.Code.{Code}
+use Rattle.algol_meaning.specs.Rest.{Rest}
+use Rattle.algol_meaning.specs.World.{World}
+use Rattle.algol_meaning.specs.Choice.{with_fault}
+use Rattle.b67_table.specs.declared.ProcessState.TheVariants.{Able}
+use Rattle.b67_table.specs.Image.{Image}
+use Rattle.b67_table.specs.Effect.{faults}
+use Rattle.b67_table.specs.Table.{table, failed}
+use Rattle.b67_table.specs.Runs.{Plains}
+use Rattle.b67_relate.specs.Picture.{At, world, ended_world, image, ended_image, Sized, Stands}
+
+-- process 1 alone is there and able, nothing has failed, and this is the output
+pub record Alive (img : Image) (output : List (List ℕ)) : Type 0 where
+  pub states : img.states ≡ Able ∷ []
+  pub fault : img.fault ≡ None
+  pub output_is : img.output ≡ output
+
+-- The world has gone as far as it can without an action; the machine comes there by plain operators alone.
+pub data Pictures (code : Code) (names : List (List ℕ)) : World → Image → Type 0 where
+  live : (values : List ℤ) (output : List (List ℕ)) (rest : Rest) (img : Image) (n : ℕ) (to : At) → length values ≡ length names → Alive img output →
+      Plains code 1 img n (image values output to) → Sized values to → Stands code names values rest to → Pictures code names (world names values output rest) img
+  ended : (values : List ℤ) (output : List (List ℕ)) (cells : ℕ) (at : At) → Pictures code names (ended_world names values output) (ended_image cells output at)
+  faulted : (values : List ℤ) (output : List (List ℕ)) (rest : Rest) (at : At) (fault : NumFault) →
+      table code (failed (image values output at) 1 (fault_of fault)) 1 ≡ faults (fault_of fault) →
+      Pictures code names (with_fault (world names values output rest) 1 fault) (failed (image values output at) 1 (fault_of fault))

@@ -1,0 +1,131 @@
+-- One more action after those of a schedule.
+use Rattle.std.proofs.Common.{◌≡◌, ℕ, ◌+◌, ◌-◌, ◌<◌, ◌≤◌, List, [], ◌∷◌, ◌++◌, length, get_or, take, drop, set, replicate, zero, suc, sym, ap, subst, arith, ◌∙◌, ⊎_elim, append_assoc}
+use Rattle.std.specs.List.{All}
+use Rattle.std.proofs.lemmas.List.{append-nil, length-append, length-set, length-replicate, replicate_more, get_or_append_left, get_or_push, get_or-set_same, get_or-set_other, get_or_default, length_push, take_more, take_all, set_split, drop_all}
+use Rattle.std.proofs.lemmas.List.Concat.{flat_map-append}
+use Rattle.std.proofs.lemmas.List.Elements.{All-head, All-tail, All-push, All-set}
+use Rattle.std.proofs.lemmas.Bool.{cases_eq, cases_lt}
+use Rattle.b67_schedule.specs.declared.Run.{Run}
+use Rattle.b67_schedule.specs.Schedules.{most, entries, IsRun, IsSchedule, IsLast}
+
+-- the entries of a last run
+entries-push : (runs : List Run) (run : Run) → entries (runs ++ run ∷ []) ≡ entries runs ++ replicate run.times run.process
+entries-push runs run =
+    flat_map-append (λ (r : Run). replicate r.times r.process) runs (run ∷ []) ∙ ap (λ e. entries runs ++ e) (append-nil (replicate run.times run.process))
+
+-- a list with an element is what is before its last one, and that
+split_last : (runs : List Run) (d : Run) → 0 < length runs → runs ≡ take (length runs - 1) runs ++ get_or runs (length runs - 1) d ∷ []
+split_last runs d some =
+    let all : runs ≡ take (length runs - 1 + 1) runs = sym (take_all (length runs - 1 + 1) runs (omega arith)) in
+    all ∙ take_more runs (length runs - 1) d (omega arith)
+
+-- and with another last one it is what is before, and that
+set_last : (runs : List Run) (run : Run) → 0 < length runs → set runs (length runs - 1) run ≡ take (length runs - 1) runs ++ run ∷ []
+set_last runs run some =
+    let none : drop (suc (length runs - 1)) runs ≡ [] = drop_all (suc (length runs - 1)) runs (omega arith) in
+    set_split runs (length runs - 1) run (omega arith) ∙ ap (λ rest. take (length runs - 1) runs ++ run ∷ rest) none
+
+-- a run has as many entries as its times say
+times-le : (runs : List Run) (n : ℕ) (d : Run) → n < length runs → (get_or runs n d).times ≤ length (entries runs)
+times-le [] n d p = absurd (omega arith)
+times-le (run ∷ runs) zero d p = rw (length-append, length-replicate) (omega arith)
+times-le (run ∷ runs) (suc n) d p = let below = times-le runs n d (omega arith) in rw (length-append, length-replicate) (omega arith)
+
+-- no run is without entries
+length-le-entries : (runs : List Run) → All IsRun runs → length runs ≤ length (entries runs)
+length-le-entries [] all = omega arith
+length-le-entries (run ∷ runs) all =
+    let rest = length-le-entries runs (All-tail IsRun run runs all) in
+    let first = (All-head IsRun run runs all).times_least in
+    rw (length-append, length-replicate) (omega arith)
+
+-- a run that is written over by one of the same process leaves the process of each run
+process-set : (runs : List Run) (n k : ℕ) (run d : Run) → n < length runs → run.process ≡ (get_or runs n run).process →
+    (get_or (set runs n run) k d).process ≡ (get_or runs k d).process
+process-set runs n k run d inside same =
+    ⊎_elim (λ (e : k ≡ n).
+    let written : get_or (set runs n run) n d ≡ run = get_or-set_same runs n run d inside in
+    let default : get_or runs n run ≡ get_or runs n d = get_or_default runs n run d inside in
+    rw e (ap (λ (r : Run). r.process) written ∙ same ∙ ap (λ (r : Run). r.process) default))
+    (λ (other : k ≡ n → ⊥). ap (λ (r : Run). r.process) (get_or-set_other runs n k run d other)) (cases_eq k n)
+
+-- a last run that is longer by one
+pub entries-raised : (runs : List Run) (last : Run) → 0 < length runs → last ≡ get_or runs (length runs - 1) last →
+    entries (set runs (length runs - 1) record { process = last.process; times = last.times + 1 }) ≡ entries runs ++ last.process ∷ []
+entries-raised runs last some is =
+    let front = take (length runs - 1) runs in
+    let whole : runs ≡ front ++ last ∷ [] = split_last runs last some ∙ ap (λ (r : Run). front ++ r ∷ []) (sym is) in
+    ap entries (set_last runs record { process = last.process; times = last.times + 1 } some)
+    ∙ entries-push front record { process = last.process; times = last.times + 1 }
+    ∙ ap (λ e. entries front ++ e) (sym (replicate_more last.times last.process))
+    ∙ sym (append_assoc (entries front) (replicate last.times last.process) (last.process ∷ []))
+    ∙ ap (λ e. e ++ last.process ∷ []) (sym (entries-push front last))
+    ∙ ap (λ rs. entries rs ++ last.process ∷ []) (sym whole)
+
+pub IsSchedule-raised : (runs : List Run) (last : Run) → 0 < length runs → last ≡ get_or runs (length runs - 1) last → IsSchedule runs → length (entries runs) < most →
+    IsSchedule (set runs (length runs - 1) record { process = last.process; times = last.times + 1 })
+IsSchedule-raised runs last some is valid small =
+    let inside : length runs - 1 < length runs = omega arith in
+    let run : IsRun last = subst IsRun (sym is) (valid.numbers (length runs - 1) last inside) in
+    let times = times-le runs (length runs - 1) last inside in
+    let same : last.times ≡ (get_or runs (length runs - 1) last).times = ap (λ (r : Run). r.times) is in
+    let raised : Run = record { process = last.process; times = last.times + 1 } in
+    let process : raised.process ≡ (get_or runs (length runs - 1) raised).process =
+    ap (λ (r : Run). r.process) is ∙ ap (λ (r : Run). r.process) (get_or_default runs (length runs - 1) last raised inside) in
+    record {
+      numbers = All-set IsRun runs (length runs - 1) raised
+          record { process_least = run.process_least; process_greatest = run.process_greatest; times_least = omega arith; times_greatest = omega arith } valid.numbers;
+      differ = λ k d within equal. valid.differ k d (rw length-set at within)
+          (sym (process-set runs (length runs - 1) k raised d inside process) ∙ equal ∙ process-set runs (length runs - 1) (k + 1) raised d inside process);
+      few = rw length-set valid.few;
+    }
+
+-- a new last run
+pub entries-pushed : (runs : List Run) (process : ℕ) → entries (runs ++ record { process = process; times = 1 } ∷ []) ≡ entries runs ++ process ∷ []
+entries-pushed runs process = entries-push runs record { process = process; times = 1 }
+
+pub IsSchedule-pushed : (runs : List Run) (process : ℕ) → IsSchedule runs → length (entries runs) < most → 1 ≤ process → process ≤ most → (IsLast runs process → ⊥) →
+    IsSchedule (runs ++ record { process = process; times = 1 } ∷ [])
+IsSchedule-pushed runs process valid small least greatest new =
+    let count = length-le-entries runs valid.numbers in
+    let run : Run = record { process = process; times = 1 } in
+    record {
+      numbers = All-push IsRun runs run valid.numbers record { process_least = least; process_greatest = greatest; times_least = omega arith; times_greatest = omega arith };
+      differ = λ k d within equal.
+          let long : length (runs ++ run ∷ []) ≡ length runs + 1 = length_push runs run in
+          ⊎_elim (λ (before : k + 1 < length runs).
+          let first : get_or (runs ++ run ∷ []) k d ≡ get_or runs k d = get_or_append_left runs (run ∷ []) d k (omega arith) in
+          let second : get_or (runs ++ run ∷ []) (k + 1) d ≡ get_or runs (k + 1) d = get_or_append_left runs (run ∷ []) d (k + 1) before in
+          valid.differ k d before (rw (first, second) at equal))
+          (λ (at_end : length runs ≤ k + 1).
+          let last : k ≡ length runs - 1 = omega arith in
+          let first : get_or (runs ++ run ∷ []) k d ≡ get_or runs k d = get_or_append_left runs (run ∷ []) d k (omega arith) in
+          let second : get_or (runs ++ run ∷ []) (k + 1) d ≡ run = get_or_push runs run d (k + 1) (omega arith) in
+          let same : (get_or runs k d).process ≡ process = rw (first, second) at equal in
+          let read : (e : Run) → (get_or runs (length runs - 1) e).process ≡ process =
+          λ e. ap (λ (r : Run). r.process) (get_or_default runs (length runs - 1) e d (omega arith) ∙ ap (λ i. get_or runs i d) (sym last)) ∙ same in
+          new (omega arith, read)) (cases_lt (k + 1) (length runs));
+      few = rw length_push (omega arith);
+    }
+
+-- what becomes of a schedule: one more action of that process
+pub record Added (old new : List Run) (process : ℕ) : Type 0 where
+  pub valid : IsSchedule new
+  pub added : entries new ≡ entries old ++ process ∷ []
+  pub count : length (entries new) ≡ length (entries old) + 1
+
+counted : (old new : List Run) (process : ℕ) → IsSchedule new → entries new ≡ entries old ++ process ∷ [] → Added old new process
+counted old new process valid added = record { valid = valid; added = added; count = ap length added ∙ length_push (entries old) process }
+
+pub raised : (runs : List Run) (count process : ℕ) (last : Run) → count ≡ length runs → IsLast runs process → last ≡ get_or runs (count - 1) last →
+    IsSchedule runs → length (entries runs) < most → Added runs (set runs (count - 1) record { process = last.process; times = last.times + 1 }) process
+raised runs count process last is ends read valid small =
+    let at_end : last ≡ get_or runs (length runs - 1) last = rw is at read in
+    let same : last.process ≡ process = ap (λ (r : Run). r.process) at_end ∙ ends.1 last in
+    rw (is, ← same) (counted runs (set runs (length runs - 1) record { process = last.process; times = last.times + 1 }) last.process
+    (IsSchedule-raised runs last ends.0 at_end valid small) (entries-raised runs last ends.0 at_end))
+
+pub pushed : (runs new : List Run) (process : ℕ) → new ≡ runs ++ record { process = process; times = 1 } ∷ [] → IsSchedule runs → length (entries runs) < most →
+    1 ≤ process → process ≤ most → (IsLast runs process → ⊥) → Added runs new process
+pushed runs new process is valid small least greatest other =
+    rw is (counted runs (runs ++ record { process = process; times = 1 } ∷ []) process (IsSchedule-pushed runs process valid small least greatest other) (entries-pushed runs process))

@@ -1,0 +1,58 @@
+-- The grammar of the command words, and which word of a list is the first that breaks it. A word is the list of its bytes.
+use Rattle.std.specs.Prelude.{◌≡◌, ℕ, ◌+◌, ◌≤◌, List, [], ◌∷◌, ◌++◌, length, codes, slice_get, Option, Some, None, Result, Ok, Err}
+use Rattle.std.specs.Fmt.{decimal}
+use Rattle.b67_words.specs.declared.Words.{Words}
+use Rattle.b67_words.specs.declared.Words.TheVariants.{Run}
+use Rattle.b67_words.specs.declared.UsageKind.{UsageKind}
+use Rattle.b67_words.specs.declared.UsageKind.TheVariants.{Missing, Unknown, BadNumber, Extra}
+use Rattle.b67_words.specs.declared.BadWords.{BadWords}
+use Rattle.b67_words.specs.declared.BadWords.TheVariants.{Usage}
+
+-- the word is that number, from 1 to the given one: decimal, without sign and leading zeros
+pub record IsNumber (most : ℕ) (word : List ℕ) (number : ℕ) : Type 0 where
+  pub written : word ≡ decimal number
+  pub least : 1 ≤ number
+  pub greatest : number ≤ most
+
+-- The commands: the words of each, and what they mean.
+pub data IsCommand : List (List ℕ) → Words → Type 0 where
+  run : (processors budget : List ℕ) (p b : ℕ) → IsNumber 1 processors p → IsNumber 4194304 budget b →
+      IsCommand (codes "run" ∷ processors ∷ budget ∷ []) (Run b)
+
+-- some command begins with these words
+abbrev pub BeginCommand : List (List ℕ) → Type 0
+BeginCommand words = (rest : List (List ℕ)) × (meaning : Words) × IsCommand (words ++ rest) meaning
+
+-- what is wrong with a word after these, if it is wrong: what should stand there
+pub data Wants : List (List ℕ) → UsageKind → Type 0 where
+  command : Wants [] Unknown
+  numeral : (words : List (List ℕ)) (word : List ℕ) (most n : ℕ) → IsNumber most word n → BeginCommand (words ++ word ∷ []) →
+      Wants words BadNumber
+  nothing : (words : List (List ℕ)) → BeginCommand words → ((word : List ℕ) → BeginCommand (words ++ word ∷ []) → ⊥) → Wants words Extra
+
+-- the first word that breaks the grammar is the one with this number, counted from 1, and this is wrong with it
+pub data Breaks : List (List ℕ) → ℕ → UsageKind → Type 0 where
+  missing : (words : List (List ℕ)) → BeginCommand words → ((meaning : Words) → IsCommand words meaning → ⊥) →
+      Breaks words (length words + 1) Missing
+  wrong : (before : List (List ℕ)) (word : List ℕ) (after : List (List ℕ)) (kind : UsageKind) →
+      BeginCommand before → (BeginCommand (before ++ word ∷ []) → ⊥) → Wants before kind →
+      Breaks (before ++ word ∷ after) (length before + 1) kind
+
+-- the words are that command, or break the grammar so
+pub data WordsMean : List (List ℕ) → Result Words BadWords → Type 0 where
+  meant : (words : List (List ℕ)) (meaning : Words) → IsCommand words meaning → WordsMean words (Ok meaning)
+  broken : (words : List (List ℕ)) (number : ℕ) (kind : UsageKind) → Breaks words number kind →
+      WordsMean words (Err (Usage number kind))
+
+-- the text is that number, or none
+abbrev pub IsNumberOrNone : ℕ → List ℕ → Option ℕ → Type 0
+IsNumberOrNone most text (Some n) = IsNumber most text n
+IsNumberOrNone most text None = (n : ℕ) → IsNumber most text n → ⊥
+
+-- reading a number as the word after so many others
+abbrev pub NumberStandsAt : List (List ℕ) → ℕ → ℕ → Result ℕ BadWords → Type 0
+NumberStandsAt words before most (Ok n) = (word : List ℕ) × (slice_get words before ≡ Some word) × IsNumber most word n
+NumberStandsAt words before most (Err (Usage k Missing)) = (k ≡ before + 1) × (length words ≤ before)
+NumberStandsAt words before most (Err (Usage k BadNumber)) =
+    (k ≡ before + 1) × (word : List ℕ) × (slice_get words before ≡ Some word) × IsNumberOrNone most word None
+NumberStandsAt words before most _ = ⊥

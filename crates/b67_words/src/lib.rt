@@ -1,0 +1,158 @@
+//! The words of a command line: the grammar of the commands, and which word of a list is the first that breaks it.
+#![tactic(auto)]
+
+ghost use Rattle.std.specs.Prelude.{◌≡◌, ◌<◌, ◌≤◌, map, length, codes, slice_get, slice_index, Some, IsTrue, ◌↔◌};
+ghost use Rattle.std.specs.String.{string_bytes};
+ghost use Rattle.b67_words.specs.Grammar.{WordsMean, IsNumberOrNone, NumberStandsAt};
+
+use thiserror::Error;
+
+/// The greatest budget of a run, in operators.
+pub const MOST_BUDGET: u64 = 4_194_304;
+
+/// A command with what its words say.
+#[derive(Clone, Copy, PartialEq, Eq, Debug)]
+pub enum Words {
+    /// `run 1 B`: run the source on one processor, with a budget of B operators, from 1 to 4,194,304.
+    Run { budget: u64 },
+}
+
+/// What is wrong with the first word that breaks the grammar.
+#[derive(Clone, Copy, PartialEq, Eq, Debug)]
+pub enum UsageKind {
+    /// The words end before it.
+    Missing,
+    /// It is no command.
+    Unknown,
+    /// A number in range, decimal and without sign and leading zeros, has to stand there.
+    BadNumber,
+    /// A rule has to stand there.
+    BadRule,
+    /// No word may stand there.
+    Extra,
+}
+
+/// Why words are no command.
+#[derive(Clone, Copy, PartialEq, Eq, Debug, Error)]
+pub enum BadWords {
+    /// The first word that breaks the grammar, counted from 1, and what is wrong with it.
+    #[error("word {word} breaks the grammar of the commands: {kind:?}")]
+    Usage { word: u32, kind: UsageKind },
+}
+
+/// The command that the words are, or the first word that breaks the grammar. Takes no memory.
+pub fn read_words(words: &[String]) -> Result<Words, BadWords>
+    ensures { WordsMean (map string_bytes words.now) result }
+{
+    let Some(command) = words.first() else {
+        return Err(BadWords::Usage {
+            word: 1,
+            kind: UsageKind::Missing,
+        });
+    };
+    match command.as_str() {
+        "run" => read_run(words),
+        _ => Err(BadWords::Usage {
+            word: 1,
+            kind: UsageKind::Unknown,
+        }),
+    }
+}
+
+/// `run 1 B`, where the first word is `run`.
+fn read_run(words: &[String]) -> Result<Words, BadWords>
+    requires { slice_get (map string_bytes words.now) 0 ≡ Some (codes "run") }
+    ensures { WordsMean (map string_bytes words.now) result }
+{
+    number_at(words, 1, 1)?;
+    let budget = number_at(words, 2, MOST_BUDGET)?;
+    if words.len() > 3 {
+        return Err(BadWords::Usage {
+            word: 4,
+            kind: UsageKind::Extra,
+        });
+    }
+    Ok(Words::Run { budget })
+}
+
+/// The number from 1 to `most` that is the word after `before` others.
+fn number_at(words: &[String], before: u32, most: u64) -> Result<u64, BadWords>
+    requires { before < 9 }
+    ensures { NumberStandsAt (map string_bytes words.now) before most result }
+{
+    let Some(word) = words.get(before as usize) else {
+        return Err(BadWords::Usage {
+            word: before + 1,
+            kind: UsageKind::Missing,
+        });
+    };
+    number_of(word.as_str(), most).ok_or(BadWords::Usage {
+        word: before + 1,
+        kind: UsageKind::BadNumber,
+    })
+}
+
+/// The number from 1 to `most` that the text is, decimal and without sign and leading zeros.
+fn number_of(text: &str, most: u64) -> Option<u64>
+    ensures { IsNumberOrNone most text.now result }
+{
+    if !begins_with_digit(text) {
+        return None;
+    }
+    let Ok(number) = text.parse::<u64>() else {
+        return None;
+    };
+    (number <= most).then_some(number)
+}
+
+/// Tests that the text begins with a digit other than 0.
+fn begins_with_digit(text: &str) -> bool
+    ensures { IsTrue result ↔ (49 ≤ slice_index text.now 0) × (slice_index text.now 0 ≤ 57) }
+{
+    matches!(text.as_bytes(), [b'1'..=b'9', ..])
+}
+
+#[cfg(test)]
+mod tests {
+    use super::*;
+    use std::alloc::{AllocError, Global};
+    use std::test::Fail;
+
+    /// What the words are read as, which are separated by single blanks.
+    fn read(alloc: Global, line: &str) -> Result<Result<Words, BadWords>, AllocError> {
+        let mut words = Vec::new(alloc);
+        for word in line.split_whitespace() {
+            words.push(String::from_str(alloc, word)?)?;
+        }
+        Ok(read_words(words.as_slice()))
+    }
+
+    #[test]
+    fn words_of_a_run(rt: HostRuntime) -> Result<(), Fail> {
+        let alloc = rt.alloc();
+        let usage = |word, kind| Err(BadWords::Usage { word, kind });
+        assert_eq!(rt; read(alloc, "")?, usage(1, UsageKind::Missing));
+        assert_eq!(rt; read(alloc, "check")?, usage(1, UsageKind::Unknown));
+        assert_eq!(rt; read(alloc, "run")?, usage(2, UsageKind::Missing));
+        assert_eq!(rt; read(alloc, "run 9 100")?, usage(2, UsageKind::BadNumber));
+        assert_eq!(rt; read(alloc, "run 01 100")?, usage(2, UsageKind::BadNumber));
+        assert_eq!(rt; read(alloc, "run 1")?, usage(3, UsageKind::Missing));
+        assert_eq!(rt; read(alloc, "run 1 +100")?, usage(3, UsageKind::BadNumber));
+        assert_eq!(rt; read(alloc, "run 1 0")?, usage(3, UsageKind::BadNumber));
+        assert_eq!(rt;
+            read(alloc, "run 1 4194305")?,
+            usage(3, UsageKind::BadNumber)
+        );
+        assert_eq!(rt;
+            read(alloc, "run 1 100 --rule=fifo")?,
+            usage(4, UsageKind::Extra)
+        );
+        assert_eq!(rt;
+            read(alloc, "run 1 4194304")?,
+            Ok(Words::Run {
+                budget: MOST_BUDGET
+            })
+        );
+        Ok(())
+    }
+}
