@@ -34,7 +34,8 @@ impl Model for Schedule {
 
     ghost view = { λ schedule. record { runs = schedule.runs.items; room = vec_capacity schedule.runs } };
 
-    ghost invariant = { λ schedule. IsSchedule schedule.runs.items × (schedule.actions ≡ length (entries schedule.runs.items)) };
+    ghost invariant = { λ schedule.
+        IsSchedule schedule.runs.items × (schedule.actions ≡ length (entries schedule.runs.items)) };
 }
 
 impl Schedule {

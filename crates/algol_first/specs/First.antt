@@ -1,0 +1,36 @@
+-- A program of the first form as it is read, and the tree that it stands for.
+use Rattle.std.specs.Prelude.{◌≤◌, List, [], ◌∷◌, unsigned_abs}
+use Rattle.algol_tree.specs.declared.tree.PhraseText.TheVariants as phrases
+use Rattle.algol_tree.specs.Plain.{PExpr, number, subscripted, none, more, PStmt, assign, write, PStmts, no_stmts, stmts, PProgram}
+use Rattle.algol_tree.specs.Reads.{variable_of, program_of}
+use Rattle.algol_first.specs.declared.reader.Primary.{Primary}
+use Rattle.algol_first.specs.declared.reader.Primary.TheVariants as primaries
+use Rattle.algol_first.specs.declared.reader.Simple.{Simple}
+use Rattle.algol_first.specs.declared.reader.Simple.TheVariants as simples
+use Rattle.algol_first.specs.declared.reader.FirstProgram.{FirstProgram}
+
+abbrev pub expr_of : Primary → PExpr
+expr_of (primaries.Number value spot) = number value spot
+expr_of (primaries.Name n) = variable_of n
+
+abbrev pub stmt_of : Simple → PStmt
+stmt_of (simples.Assign n e) = assign (subscripted n none) (expr_of e)
+stmt_of (simples.Write file spot phrase item) = write file spot (phrases.Word phrase ∷ []) (more (variable_of item) none)
+
+abbrev pub stmts_of : List Simple → PStmts
+stmts_of [] = no_stmts
+stmts_of (s ∷ ss) = stmts (stmt_of s) (stmts_of ss)
+
+-- the tree that the program stands for
+abbrev pub tree_of : FirstProgram → PProgram
+tree_of p = program_of p.spot p.file p.integers (stmts_of p.statements)
+
+-- a number is at most 549,755,813,887
+abbrev pub IsSmallPrimary : Primary → Type 0
+IsSmallPrimary (primaries.Number value spot) = unsigned_abs value ≤ 549755813887
+IsSmallPrimary (primaries.Name n) = Unit {0}
+
+-- each number of the statement is at most 549,755,813,887
+abbrev pub IsSmall : Simple → Type 0
+IsSmall (simples.Assign n e) = IsSmallPrimary e
+IsSmall (simples.Write file spot phrase item) = Unit {0}

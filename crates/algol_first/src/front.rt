@@ -1,0 +1,93 @@
+//! A text to what is to be run of it.
+
+ghost use Rattle.std.specs.Prelude.{◌≡◌, ◌≤◌, length, IfOk, Err};
+ghost use Rattle.algol_tree.specs.Plain.{PProgram};
+ghost use Rattle.algol_tree.specs.Accepted.{Source};
+ghost use Rattle.algol_first.specs.declared.unread.Unread.TheVariants.{Unbuilt};
+ghost use Rattle.algol_first.specs.Straight.{Resolves};
+
+use crate::lexer::lex;
+use crate::reader::read_program;
+use crate::resolver::resolve;
+use crate::straight::Straight;
+use crate::unread::Unread;
+use std::alloc::Global;
+
+/// What is to be run of a text: the straight line that its program stands for. A text that is no
+/// source of the first form is `Unbuilt`.
+pub fn straight_of(alloc: Global, bytes: &[u8]) -> Result<Straight, Unread>
+    requires { length bytes.now ≤ 262144 }
+    // The text is a source, and these are the steps of its tree.
+    ensures source { IfOk result (λ straight. (tree : PProgram) × Source bytes.now tree × Resolves tree straight) }
+    // They are the steps of each tree that the text has as a source.
+    ensures only { IfOk result (λ straight. (tree : PProgram) → Source bytes.now tree → Resolves tree straight) }
+    // No source is refused but for want of memory.
+    ensures unbuilt { result ≡ Err Unbuilt → (tree : PProgram) → Source bytes.now tree → ⊥ }
+{
+    let tokens = lex(alloc, bytes)?;
+    let program = read_program(alloc, tokens.as_slice())?;
+    resolve(alloc, &program)
+}
+
+#[cfg(test)]
+mod tests {
+    use super::*;
+    use crate::straight::{Operand, Step};
+    use std::test::Fail;
+
+    fn is_unbuilt(alloc: Global, text: &[u8]) -> bool
+        requires { length text.now ≤ 262144 }
+    {
+        match straight_of(alloc, text) {
+            Err(Unread::Unbuilt) => true,
+            _ => false,
+        }
+    }
+
+    #[test]
+    fn small_sources(rt: HostRuntime) -> Result<(), Fail> {
+        let alloc = rt.alloc();
+        let text =
+            b"BEGIN FILE LINE(KIND=PRINTER); INTEGER I,J;\nI:=40; J:=I; WRITE(LINE,<I5>,J) END.";
+        let straight = straight_of(alloc, text).ok().ok_or("no source")?;
+        assert_eq!(rt; straight.integers, 2);
+        let steps = straight.steps.items().as_slice();
+        assert_eq!(rt; steps.len(), 3);
+        assert!(rt;
+            matches!(
+                &steps[0],
+                Step::Assign {
+                    target: 0,
+                    value: Operand::Number(40)
+                }
+            )
+        );
+        assert!(rt;
+            matches!(
+                &steps[1],
+                Step::Assign {
+                    target: 1,
+                    value: Operand::Integer(0)
+                }
+            )
+        );
+        assert!(rt; matches!(&steps[2], Step::Write { width: 5, item: 1 }));
+
+        let text = b"BEGIN FILE F; INTEGER I; WRITE(F,<I007>,I) END.";
+        let straight = straight_of(alloc, text).ok().ok_or("no width")?;
+        let steps = straight.steps.items().as_slice();
+        assert_eq!(rt; steps.len(), 1);
+        assert!(rt; matches!(&steps[0], Step::Write { width: 7, item: 0 }));
+
+        assert!(rt; is_unbuilt(alloc, b"BEGIN END."));
+        assert!(rt; is_unbuilt(alloc, b"BEGIN FILE F; INTEGER I; K:=1 END."));
+        assert!(rt; is_unbuilt(alloc, b"BEGIN FILE F; INTEGER I; I:=K END."));
+        assert!(rt; is_unbuilt(alloc, b"BEGIN FILE F; INTEGER I,I; I:=1 END."));
+        assert!(rt; is_unbuilt(alloc, b"BEGIN FILE F; INTEGER F; F:=1 END."));
+        assert!(rt; is_unbuilt(alloc, b"BEGIN FILE F; INTEGER I; WRITE(G,<I5>,I) END."));
+        assert!(rt; is_unbuilt(alloc, b"BEGIN FILE F; INTEGER I; WRITE(F,<I0>,I) END."));
+        assert!(rt; is_unbuilt(alloc, b"BEGIN FILE F; INTEGER I; WRITE(F,<I133>,I) END."));
+        assert!(rt; is_unbuilt(alloc, b"BEGIN FILE F; INTEGER I; I:=1 END. I"));
+        Ok(())
+    }
+}

@@ -1,0 +1,26 @@
+//! What is built of a source: a straight line of assignments and lines, its names resolved to numbers.
+
+use algol_tree::List;
+
+/// What an assignment takes: a number, or an integer by its number in the order of declaration, from 0.
+#[derive(Clone, Copy)]
+pub enum Operand {
+    Number(i64),
+    Integer(u16),
+}
+
+/// A statement. An integer is named by its number in the order of declaration, from 0.
+#[derive(Clone, Copy)]
+pub enum Step {
+    /// The integer `target` takes a value.
+    Assign { target: u16, value: Operand },
+    /// A line shows the integer `item`, right-justified in `width` columns.
+    Write { width: u8, item: u16 },
+}
+
+/// A program of the form that is built: how many integers it declares, and its statements in order.
+#[derive(Drop)]
+pub struct Straight {
+    pub integers: u16,
+    pub steps: List<Step>,
+}

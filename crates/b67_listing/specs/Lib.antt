@@ -1,0 +1,4 @@
+pub mod Digits
+pub mod Operators
+pub mod Formats
+pub mod Listings
