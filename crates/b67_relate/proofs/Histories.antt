@@ -35,7 +35,7 @@ use Rattle.b67_relate.proofs.OneWay.{one_way, way, OnTheWay, there, further, pla
 
 -- ---- runs of the source
 
-run_from-none : (tree : PProgram) (h : List ℕ) → run_from tree h None ≡ None
+pub run_from-none : (tree : PProgram) (h : List ℕ) → run_from tree h None ≡ None
 run_from-none tree [] = refl
 run_from-none tree (p ∷ h) = refl
 
@@ -43,7 +43,7 @@ run_from-some : (tree : PProgram) (o : Option World) → run_from tree [] o ≡ 
 run_from-some tree None = refl
 run_from-some tree (Some w) = refl
 
-run_from-append : (tree : PProgram) (h : List ℕ) (p : ℕ) (o : Option World) (w : World) → run_from tree h o ≡ Some w → run_from tree (h ++ p ∷ []) o ≡ entered tree w p
+pub run_from-append : (tree : PProgram) (h : List ℕ) (p : ℕ) (o : Option World) (w : World) → run_from tree h o ≡ Some w → run_from tree (h ++ p ∷ []) o ≡ entered tree w p
 run_from-append tree h p None w e = let n : run_from tree h None ≡ None = run_from-none tree h in cc
 run_from-append tree [] p (Some v) w e = let same : v ≡ w = cc in run_from-some tree (entered tree v p) ∙ ap (λ (u : World). entered tree u p) same
 run_from-append tree (q ∷ h) p (Some v) w e = run_from-append tree h p (entered tree v q) w e
@@ -142,7 +142,7 @@ by_states states f e g =
     ap (λ (s : List ProcessState). if machine.has_ended (numbered s 1) then Some machine.finished else end_by f s) e
     ∙ ap (λ (x : Option Failure). if machine.has_ended (numbered (Able ∷ []) 1) then Some machine.finished else end_by x (Able ∷ [])) g
 
-alive_none : (img : Image) → img.states ≡ Able ∷ [] → img.fault ≡ None → image_end img ≡ None
+pub alive_none : (img : Image) → img.states ≡ Able ∷ [] → img.fault ≡ None → image_end img ≡ None
 unfolding image_end
 alive_none img e g = by_states img.states img.fault e g
 

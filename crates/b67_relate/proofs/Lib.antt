@@ -11,3 +11,4 @@ pub mod Steps
 pub mod OneWay
 pub mod Prologue
 pub mod Histories
+pub mod Schedules

@@ -4,7 +4,7 @@ use Rattle.algol_tree.specs.Plain.{PProgram}
 use Rattle.algol_tree.specs.Accepted.{Accepted}
 use Rattle.b67_segment.specs.declared.code.Code.{Code}
 use Rattle.algol_meaning.specs.World.{World}
-use Rattle.algol_meaning.specs.Run.{run, end_of, End}
+use Rattle.algol_meaning.specs.Run.{run, end_of, End, Legal}
 use Rattle.algol_meaning.specs.Run as meaning
 use Rattle.b67_table.specs.declared.InterruptKind.{InterruptKind}
 use Rattle.b67_table.specs.Effect.{interrupts, limit}
@@ -39,3 +39,14 @@ abbrev pub HistoriesAgree : Type 0
 HistoriesAgree =
     (tree : PProgram) (code : Code) → Accepted tree → ProgramAt code tree → (h counts : List ℕ) (before img : Image) (tail : ℕ) →
     Runs code h counts before → Plains code 1 before tail img → Agrees tree code (reverse h) img
+
+-- the code has a run with this history, and it agrees
+pub record Performs (tree : PProgram) (code : Code) (h : List ℕ) : Type 0 where
+  pub counts : List ℕ
+  pub image : Image
+  pub runs : Runs code h counts image
+  pub agrees : Agrees tree code (reverse h) image
+
+-- where the code of an accepted tree stands, it performs every legal schedule of the tree
+abbrev pub SchedulesPerformed : Type 0
+SchedulesPerformed = (tree : PProgram) (code : Code) → Accepted tree → ProgramAt code tree → (h : List ℕ) → Legal tree (reverse h) → Performs tree code h

@@ -1,0 +1,12 @@
+pub mod CompilerRows
+pub mod CompilerTrees
+pub mod CompilerLayout
+pub mod CompilerSmall
+pub mod CompilerRange
+mod MachineLine
+mod MachineRows
+mod MachineCalls
+mod MachineBuilt
+mod MachineStep
+mod MachineSeen
+mod MachineRuns

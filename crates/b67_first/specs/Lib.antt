@@ -1,0 +1,8 @@
+pub mod Compiler
+pub mod Words
+pub mod Written
+pub mod Machine
+pub mod Reach
+pub mod Built
+pub mod Seen
+pub mod Ran

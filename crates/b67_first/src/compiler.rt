@@ -1,0 +1,266 @@
+//! The code of a program. An integer is a cell of the program's frame; a line is written by the intrinsic WRITE, which
+//! takes the number of its format. Which operators a statement takes is this project's profile of the B6700.
+
+ghost use Rattle.std.specs.Prelude.{◌≡◌, ℕ, ◌+◌, ◌*◌, ◌<◌, ◌≤◌, ◌++◌, ◌∷◌, [], Some, pos, length, replicate, All, unsigned_abs, IfOk, OnOk};
+ghost use Rattle.algol_tree.specs.Plain.{PProgram};
+ghost use Rattle.b67_ops.specs.Spelling.{IsSeen, Fits};
+ghost use Rattle.b67_segment.specs.Operators.{AreFit};
+ghost use Rattle.b67_relate.specs.Code.{ProgramAt};
+ghost use Rattle.algol_first.specs.Straight.{Resolves};
+ghost use Rattle.b67_first.specs.Compiler.{IsOperand, IsStep, IsInRange, cell, short_literal, literal, operand_code, assign_code, write_code, step_code, step_formats, steps_code, number_format, formats_of, cells_code, placed, with_code, HasRoom, IsCodeOf, IsSmall};
+
+use algol_first::{Operand, Step, Straight};
+use algol_tree::List;
+use b67_ops::{Couple, Operator, PlainKind};
+use b67_segment::{Builder, Code, Format, Phrase};
+use b67_word::operand;
+use std::alloc::{AllocError, Global};
+
+/// The level of the program's block.
+const LEVEL: u8 = 2;
+
+/// Where the intrinsic that writes a line is found: at index 7 of stack 0, which level 0 names.
+const WRITE: Couple = Couple { level: 0, index: 7 };
+
+/// Where an integer is found. The first two words of a frame link it to others, and its cells come after these.
+#[tactic(auto, unfolding(b67_ops::specs::Spelling::level_bits))]
+fn cell(integer: u16) -> Couple
+    requires { integer < 400 }
+    ensures value { result ≡ cell integer }
+    ensures seen { IsSeen 2 result }
+{
+    Couple {
+        level: LEVEL,
+        index: 2 + integer,
+    }
+}
+
+/// The shortest operator that pushes this number.
+#[tactic(auto, unfolding(crate::specs::Compiler::short_literal))]
+fn short_literal(value: u16) -> Operator
+    ensures value { result ≡ short_literal value }
+    ensures fits { Fits 2 result }
+{
+    match value {
+        0 => Operator::Plain(PlainKind::Zero),
+        1 => Operator::Plain(PlainKind::One),
+        2..=0xff => Operator::Lt8(value as u8),
+        _ => Operator::Lt16(value),
+    }
+}
+
+/// The shortest operator that pushes this whole number.
+#[tactic(auto, unfolding(crate::specs::Compiler::literal))]
+fn literal(value: i64) -> Operator
+    requires { unsigned_abs value ≤ 549755813887 }
+    ensures value { result ≡ literal value }
+    ensures fits { Fits 2 result }
+{
+    match u16::try_from(value) {
+        Ok(value) => short_literal(value),
+        Err(_) => Operator::Lt48(operand(value).bits()),
+    }
+}
+
+/// Appends operators at the level of the program.
+fn append_all(builder: &mut Builder, operators: &[Operator]) -> Result<(), AllocError>
+    requires level { builder.old.level ≡ Some 2 }
+    requires fit { AreFit (placed operators.now) }
+    requires room { HasRoom builder.old operators.now }
+    ensures code { OnOk result (builder.new ≡ with_code builder.old operators.now) }
+{
+    'operators: for operator in operators {
+        builder.append(operator)?;
+    }
+    Ok(())
+}
+
+/// Pushes the value of an operand.
+fn push_operand(builder: &mut Builder, value: Operand) -> Result<(), AllocError>
+    requires level { builder.old.level ≡ Some 2 }
+    requires operand { IsOperand 400 value }
+    requires room { HasRoom builder.old (operand_code value) }
+    ensures code { OnOk result (builder.new ≡ with_code builder.old (operand_code value)) }
+{
+    match value {
+        Operand::Number(number) => append_all(builder, &[literal(number)]),
+        Operand::Integer(integer) => append_all(builder, &[Operator::Valc(cell(integer))]),
+    }
+}
+
+/// Stores a value in an integer's cell.
+fn assign(builder: &mut Builder, target: u16, value: Operand) -> Result<(), AllocError>
+    requires level { builder.old.level ≡ Some 2 }
+    requires target { target < 400 }
+    requires operand { IsOperand 400 value }
+    requires room { HasRoom builder.old (assign_code target value) }
+    ensures code { OnOk result (builder.new ≡ with_code builder.old (assign_code target value)) }
+{
+    append_all(builder, &[Operator::Namc(cell(target))])?;
+    push_operand(builder, value)?;
+    append_all(builder, &[Operator::Plain(PlainKind::Stod)])
+}
+
+/// Calls the intrinsic WRITE with the number of a format, and an integer's value.
+#[tactic(auto, unfolding(b67_ops::specs::Spelling::level_bits))]
+fn write(builder: &mut Builder, format: u16, item: u16) -> Result<(), AllocError>
+    requires level { builder.old.level ≡ Some 2 }
+    requires item { item < 400 }
+    requires room { HasRoom builder.old (write_code format item) }
+    ensures code { OnOk result (builder.new ≡ with_code builder.old (write_code format item)) }
+{
+    let operators = [
+        Operator::Plain(PlainKind::Mkst),
+        Operator::Namc(WRITE),
+        literal(i64::from(format)),
+        Operator::Valc(cell(item)),
+        Operator::Plain(PlainKind::Entr),
+    ];
+    append_all(builder, &operators)
+}
+
+/// The format of a line that is one number in so many columns.
+fn number_format(alloc: Global, width: u8) -> Result<Format, AllocError>
+    ensures { IfOk result (λ format. format ≡ number_format width) }
+{
+    let mut phrases = Vec::new(alloc);
+    phrases.push(Phrase::Number(u32::from(width)))?;
+    Ok(Format {
+        phrases: List::of(phrases),
+    })
+}
+
+/// Appends the code of one statement, and the format of its line if it writes one.
+fn append_step(
+    alloc: Global,
+    builder: &mut Builder,
+    formats: &mut Vec<Format>,
+    step: Step,
+) -> Result<(), AllocError>
+    requires level { builder.old.level ≡ Some 2 }
+    requires step { IsStep 400 step }
+    requires few { length formats.old.items < 2000 }
+    requires room { HasRoom builder.old (step_code (length formats.old.items) step) }
+    ensures code { OnOk result (builder.new ≡ with_code builder.old (step_code (length formats.old.items) step)) }
+    ensures formats { OnOk result (formats.new.items ≡ formats.old.items ++ step_formats step) }
+{
+    match step {
+        Step::Assign { target, value } => assign(builder, target, value),
+        Step::Write { width, item } => {
+            let number = formats.len() as u16;
+            formats.push(number_format(alloc, width)?)?;
+            write(builder, number, item)
+        }
+    }
+}
+
+/// Appends the code of statements, and gives the formats of their lines.
+fn append_steps(
+    alloc: Global,
+    builder: &mut Builder,
+    steps: &[Step],
+) -> Result<Vec<Format>, AllocError>
+    requires level { builder.old.level ≡ Some 2 }
+    requires steps { All (IsStep 400) steps.now }
+    requires few { length steps.now ≤ 2000 }
+    requires room { HasRoom builder.old (steps_code 0 steps.now) }
+    ensures code { OnOk result (builder.new ≡ with_code builder.old (steps_code 0 steps.now)) }
+    ensures formats { IfOk result (λ formats. formats.items ≡ formats_of steps.now) }
+{
+    let mut formats = Vec::new(alloc);
+    'steps: for step in steps {
+        append_step(alloc, builder, &mut formats, *step)?;
+    }
+    Ok(formats)
+}
+
+/// Makes a cell of 0 for each integer.
+fn declare(builder: &mut Builder, integers: u16) -> Result<(), AllocError>
+    requires level { builder.old.level ≡ Some 2 }
+    requires room { HasRoom builder.old (cells_code integers) }
+    ensures code { OnOk result (builder.new ≡ with_code builder.old (cells_code integers)) }
+{
+    'integers: for _ in 0..integers {
+        append_all(builder, &[Operator::Plain(PlainKind::Zero)])?;
+    }
+    append_all(builder, &[Operator::Plain(PlainKind::Push)])
+}
+
+/// The code of a straight line.
+fn translate(alloc: Global, straight: &Straight) -> Result<Code, AllocError>
+    requires few { straight.now.integers ≤ 400 }
+    requires range { IsInRange straight.now }
+    ensures { IfOk result (IsCodeOf straight.now) }
+{
+    let mut builder = Builder::new(alloc);
+    builder.level(LEVEL)?;
+    declare(&mut builder, straight.integers)?;
+    let formats = append_steps(alloc, &mut builder, straight.steps.items())?;
+    append_all(&mut builder, &[Operator::Plain(PlainKind::Exit)])?;
+    let mut segments = Vec::new(alloc);
+    segments.push(builder.finish()?)?;
+    Ok(Code {
+        segments: List::of(segments),
+        formats: List::of(formats),
+    })
+}
+
+/// The code of a straight line of at most 400 integers and at most 2,000 steps: one segment at level 2, and a format
+/// for each line that is written, in order.
+pub fn compile(alloc: Global, straight: &Straight) -> Result<Code, AllocError>
+    requires few { straight.now.integers ≤ 400 }
+    requires range { IsInRange straight.now }
+
+    // Where the straight line is that of a tree, the code of that tree stands.
+    ensures code { IfOk result (λ code. (tree : PProgram) → Resolves tree straight.now → ProgramAt code tree) }
+
+    // One segment of 1 to 8,192 words, with its mark and nothing but operators; formats of one number each.
+    ensures small { IfOk result IsSmall }
+{
+    translate(alloc, straight)
+}
+
+#[cfg(test)]
+mod tests {
+    use super::*;
+    use b67_segment::Mark;
+    use std::test::Fail;
+
+    #[test]
+    fn a_number_is_copied_and_written(rt: HostRuntime) -> Result<(), Fail> {
+        let alloc = rt.alloc();
+        let mut steps = Vec::new(alloc);
+        steps.push(Step::Assign {
+            target: 0,
+            value: Operand::Number(40),
+        })?;
+        steps.push(Step::Assign {
+            target: 1,
+            value: Operand::Integer(0),
+        })?;
+        steps.push(Step::Write { width: 5, item: 1 })?;
+        let straight = Straight {
+            integers: 2,
+            steps: List::of(steps),
+        };
+        let code = compile(alloc, &straight)?;
+        assert_eq!(rt; code.formats.items().len(), 1);
+        let segments = code.segments.items();
+        let segment = &segments[0];
+        assert_eq!(rt;
+            segment.marks.items().as_slice(),
+            [Mark { place: 0, level: 2 }].as_slice()
+        );
+        assert_eq!(rt;
+            segment.words.items().as_slice(),
+            [
+                0xb0b0_b460_02b2,
+                0x28b8_6003_2002,
+                0xb8ae_4007_b020,
+                0x03ab_a3fe_fefe
+            ]
+            .as_slice()
+        );
+        Ok(())
+    }
+}
