@@ -221,6 +221,14 @@ straight-room straight few short =
     let at = length (text 0 (placed cells)) in
     record { room = omega (arith, text-two 0 cells (body ++ exit), cells-size straight.integers 0, text-two (0 + at) body exit, steps-size 0 straight.steps (0 + at)) }
 
+pub straight-size : (straight : Straight) → size (placed (straight_code straight)) ≤ 18 * length straight.steps + straight.integers + 2
+straight-size straight =
+    let cells = cells_code straight.integers in
+    let body = steps_code 0 straight.steps in
+    let exit : List Operator = ops.Plain kinds.Exit ∷ [] in
+    let at = length (text 0 (placed cells)) in
+    omega (arith, text-two 0 cells (body ++ exit), cells-size straight.integers 0, text-two (0 + at) body exit, steps-size 0 straight.steps (0 + at))
+
 -- there is some code
 pub straight-some : (straight : Straight) → (1 ≤ length (straight_code straight)) × (1 ≤ size (placed (straight_code straight)))
 straight-some straight =

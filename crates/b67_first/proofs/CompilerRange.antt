@@ -40,7 +40,7 @@ module _ (names : List (List ℕ)) where
   steps-within _ _ r = absurd r
 
   -- each statement has a token
-  steps-few : (ss : PStmts) (after : List Step) → ResolvesStmts names ss after → length after ≤ stmts_tokens ss
+  pub steps-few : (ss : PStmts) (after : List Step) → ResolvesStmts names ss after → length after ≤ stmts_tokens ss
   steps-few no_stmts [] r = omega arith
   steps-few (stmts s ss) (step ∷ after) r = omega (arith, steps-few ss after r.1)
   steps-few _ _ r = absurd r

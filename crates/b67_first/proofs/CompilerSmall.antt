@@ -23,7 +23,7 @@ use Rattle.b67_first.specs.Compiler.{IsStep, IsInRange, number_format, formats_o
 use Rattle.b67_first.proofs.CompilerTrees.{tree-at}
 use Rattle.b67_first.proofs.CompilerLayout.{straight-room, straight-some}
 
-AreFit-front : (ps qs : List Placed) → AreFit (ps ++ qs) → AreFit ps
+pub AreFit-front : (ps qs : List Placed) → AreFit (ps ++ qs) → AreFit ps
 AreFit-front [] qs h = tt
 AreFit-front (p ∷ ps) qs h = (h.0, AreFit-front ps qs h.1)
 

@@ -3,6 +3,7 @@ pub mod CompilerTrees
 pub mod CompilerLayout
 pub mod CompilerSmall
 pub mod CompilerRange
+pub mod CompilerFaithful
 mod MachineLine
 mod MachineRows
 mod MachineCalls

@@ -5,7 +5,9 @@ ghost use Rattle.std.specs.Prelude.{◌≡◌, ℕ, ◌+◌, ◌*◌, ◌<◌, �
 ghost use Rattle.algol_tree.specs.Plain.{PProgram};
 ghost use Rattle.b67_ops.specs.Spelling.{IsSeen, Fits};
 ghost use Rattle.b67_segment.specs.Operators.{AreFit};
+ghost use Rattle.algol_tree.specs.Accepted.{Accepted};
 ghost use Rattle.b67_relate.specs.Code.{ProgramAt};
+ghost use Rattle.b67_relate.specs.Faithful.{Faithful};
 ghost use Rattle.algol_first.specs.Straight.{Resolves};
 ghost use Rattle.b67_first.specs.Compiler.{IsOperand, IsStep, IsInRange, cell, short_literal, literal, operand_code, assign_code, write_code, step_code, step_formats, steps_code, number_format, formats_of, cells_code, placed, with_code, HasRoom, IsCodeOf, IsSmall};
 
@@ -213,6 +215,9 @@ pub fn compile(alloc: Global, straight: &Straight) -> Result<Code, AllocError>
 
     // Where the straight line is that of a tree, the code of that tree stands.
     ensures code { IfOk result (λ code. (tree : PProgram) → Resolves tree straight.now → ProgramAt code tree) }
+
+    // That code does what the tree does, for every list of choices.
+    ensures faithful { IfOk result (λ code. (tree : PProgram) → Accepted tree → Resolves tree straight.now → Faithful tree code) }
 
     // One segment of 1 to 8,192 words, with its mark and nothing but operators; formats of one number each.
     ensures small { IfOk result IsSmall }

@@ -3,26 +3,28 @@ use Rattle.std.proofs.Common.{◌≡◌, ℕ, zero, suc, List, [], ◌∷◌, �
 use Rattle.std.specs.Prelude.{reverse, slice_get, if◌then◌else◌}
 use Rattle.algol_tree.specs.Numbered.{numbered}
 use Rattle.algol_tree.specs.Plain.{PProgram}
-use Rattle.algol_tree.specs.Accepted.{IsDistinct, names_of, accepted}
+use Rattle.algol_tree.specs.Accepted.{IsDistinct, names_of, Accepted, accepted}
 use Rattle.b67_num.specs.declared.NumFault.{NumFault}
 use Rattle.b67_num.specs.declared.FaultKind.{FaultKind}
 use Rattle.b67_num.specs.Whole.{fault_of}
 use Rattle.b67_segment.specs.declared.code.Code.{Code}
 use Rattle.algol_meaning.specs.Rest.{Rest}
-use Rattle.algol_meaning.specs.World.{World}
+use Rattle.algol_meaning.specs.World.{World, process_at}
+use Rattle.algol_meaning.specs.World.{is_able as meaning_able}
 use Rattle.algol_meaning.specs.Choice.{choice, with_fault}
 use Rattle.algol_meaning.specs.Run.{start, run, run_from, entered, may_go, end_of, world_of}
 use Rattle.b67_table.specs.declared.InterruptKind.{InterruptKind}
 use Rattle.b67_table.specs.declared.InterruptKind.TheVariants.{BadCode as bad_code}
 use Rattle.b67_table.specs.declared.ProcessState.{ProcessState}
-use Rattle.b67_table.specs.declared.ProcessState.TheVariants.{Able}
+use Rattle.b67_table.specs.declared.ProcessState.TheVariants.{Able, Ended}
 use Rattle.b67_table.specs.Effect.{Effect, gives, faults, interrupts, limit}
 use Rattle.b67_table.specs.Image.{Image, Failure, is_able}
 use Rattle.b67_table.specs.Table.{table, plain, failed, may_act, image_end, ImageEnd, goes_on, end_by, first_image}
 use Rattle.b67_table.specs.Table as machine
 use Rattle.b67_table.specs.Runs.{Plains, stay, go, Acts, acts, fails, Entry, Runs, begin, entry}
 use Rattle.b67_relate.specs.Picture.{At, world, ended_world, image, ended_image}
-use Rattle.b67_relate.specs.Agreement.{end_as, Shows, HistoriesAgree}
+use Rattle.b67_relate.specs.Agreement.{end_as, Shows, Agrees}
+use Rattle.b67_relate.specs.Code.{ProgramAt}
 use Rattle.b67_relate.specs.Pictures.{Pictures, live, ended, faulted, Alive}
 use Rattle.b67_relate.proofs.WordKinds.{word_laws}
 use Rattle.b67_relate.proofs.StackWords.{reverse-cons}
@@ -172,16 +174,27 @@ way_no_limit : {B : Type 0} (code : Code) (r q b : Image) → OnTheWay code 1 r 
 way_no_limit code r q b there act e = acts_no_limit code r b act e
 way_no_limit code r q b (further {b = c} x t) act e = not_limit c (table code q 1) t e
 
+-- the same processes are able
+live_able : (names : List (List ℕ)) (values : List ℤ) (output : List (List ℕ)) (rest : Rest) (p : ℕ) → meaning_able (process_at (world names values output rest) p) ≡ is_able (numbered (Able ∷ []) p)
+live_able names values output rest zero = refl
+live_able names values output rest (suc zero) = refl
+live_able names values output rest (suc (suc p)) = refl
+
+ended_able : (names : List (List ℕ)) (values : List ℤ) (output : List (List ℕ)) (p : ℕ) → meaning_able (process_at (ended_world names values output) p) ≡ is_able (numbered (Ended ∷ []) p)
+ended_able names values output zero = refl
+ended_able names values output (suc zero) = refl
+ended_able names values output (suc (suc p)) = refl
+
 ended_shows : (code : Code) (names : List (List ℕ)) (values : List ℤ) (output : List (List ℕ)) (cells : ℕ) (at : At) → Shows code (ended_world names values output) (ended_image cells output at)
 unfolding image_end end_of
-ended_shows code names values output cells at = record { output = refl; ends = refl; no_interrupt = λ kind e t. none_some e; no_limit = λ e t. none_some e }
+ended_shows code names values output cells at = record { output = refl; ends = refl; able = ended_able names values output; no_interrupt = λ kind e t. none_some e; no_limit = λ e t. none_some e }
   where
     none_some : {A B : Type 0} {x : A} → Some x ≡ None → B
     none_some h = cc
 
 faulted_shows : (code : Code) (names : List (List ℕ)) (values : List ℤ) (output : List (List ℕ)) (rest : Rest) (at : At) (fault : NumFault) → Shows code (with_fault (world names values output rest) 1 fault) (failed (image values output at) 1 (fault_of fault))
 unfolding image_end end_of failed
-faulted_shows code names values output rest at fault = record { output = refl; ends = refl; no_interrupt = λ kind e t. none_some e; no_limit = λ e t. none_some e }
+faulted_shows code names values output rest at fault = record { output = refl; ends = refl; able = live_able names values output rest; no_interrupt = λ kind e t. none_some e; no_limit = λ e t. none_some e }
   where
     none_some : {A B : Type 0} {x : A} → Some x ≡ None → B
     none_some h = cc
@@ -201,6 +214,7 @@ module _ (tree : PProgram) (code : Code) (names : List (List ℕ)) (distinct : I
       record {
         output = same.output ∙ alive.output_is;
         ends = no_end names values output rest ∙ ap end_as (sym none);
+        able = λ p. live_able names values output rest p ∙ ap (λ (states : List ProcessState). is_able (numbered states p)) (sym (same.states ∙ alive.states));
         no_interrupt = λ kind e t. way_no_interrupt code (image values output to) img acting.0 on_way acting.1 kind t;
         no_limit = λ e t. way_no_limit code (image values output to) img acting.0 on_way acting.1 t;
       }
@@ -221,9 +235,23 @@ module _ (tree : PProgram) (code : Code) (names : List (List ℕ)) (distinct : I
       gives_faults : {B : Type 0} (b : Image) (kind : FaultKind) (x : Effect Image) → x ≡ gives b → x ≡ faults kind → B
       gives_faults b kind x u v = cc
 
-pub histories_agree : HistoriesAgree
+-- each history of the code of an accepted tree agrees with the tree, also after some plain operators more
+pub histories_agree : (tree : PProgram) (code : Code) → Accepted tree → ProgramAt code tree → (h counts : List ℕ) (before img : Image) (tail : ℕ) → Runs code h counts before → Plains code 1 before tail img → Agrees tree code (reverse h) img
 histories_agree tree code (accepted spot file ns ss distinct few known small) (program_at spot' file' ns' ss' few' body) h counts before img tail runs plains =
     let names : List (List ℕ) = names_of ns in
     let apart : IsDistinct names = IsDistinct-tail file.name names distinct in
     let rel = related tree code names apart _ (start-world spot file ns ss) (first_pictured code ns ss few' body) runs in
     record { world = rel.world; is = rel.is; shows = pictured_shows tree code names apart rel.world before rel.pictures tail img plains }
+
+-- process 1 is alone
+pictured_alone : (code : Code) (names : List (List ℕ)) (w : World) (a : Image) → Pictures code names w a → (s : ProcessState) × (a.states ≡ s ∷ [])
+unfolding failed
+pictured_alone code names w a (live values output rest img m to same alive plains sized stands) = (Able, alive.states)
+pictured_alone code names w a (ended values output cells at) = (Ended, refl)
+pictured_alone code names w a (faulted values output rest at fault stays) = (Able, refl)
+
+pub runs_alone : (tree : PProgram) (code : Code) → Accepted tree → ProgramAt code tree → {h counts : List ℕ} {img : Image} → Runs code h counts img → (s : ProcessState) × (img.states ≡ s ∷ [])
+runs_alone tree code (accepted spot file ns ss distinct few known small) (program_at spot' file' ns' ss' few' body) {img = img} runs =
+    let names : List (List ℕ) = names_of ns in
+    let rel = related tree code names (IsDistinct-tail file.name names distinct) _ (start-world spot file ns ss) (first_pictured code ns ss few' body) runs in
+    pictured_alone code names rel.world img rel.pictures

@@ -12,3 +12,4 @@ pub mod OneWay
 pub mod Prologue
 pub mod Histories
 pub mod Schedules
+pub mod FaithfulPrograms

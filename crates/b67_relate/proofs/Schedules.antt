@@ -3,7 +3,7 @@ use Rattle.std.proofs.Common.{◌≡◌, ℕ, zero, suc, ◌+◌, List, [], ◌�
 use Rattle.std.specs.Prelude.{reverse, slice_get}
 use Rattle.algol_tree.specs.Numbered.{numbered}
 use Rattle.algol_tree.specs.Plain.{PProgram}
-use Rattle.algol_tree.specs.Accepted.{IsDistinct, names_of, accepted}
+use Rattle.algol_tree.specs.Accepted.{IsDistinct, names_of, Accepted, accepted}
 use Rattle.b67_num.specs.Whole.{fault_of}
 use Rattle.b67_segment.specs.declared.code.Code.{Code}
 use Rattle.algol_meaning.specs.Rest.{Rest}
@@ -17,14 +17,14 @@ use Rattle.b67_table.specs.Runs.{Plains, stay, Acts, Entry, Runs, begin, entry}
 use Rattle.b67_relate.specs.Code.{program_at}
 use Rattle.b67_relate.specs.Picture.{At, world, ended_world, image, ended_image}
 use Rattle.b67_relate.specs.Pictures.{Pictures, live, ended, faulted, Alive}
-use Rattle.b67_relate.specs.Agreement.{SchedulesPerformed, Performs}
+use Rattle.b67_relate.specs.Code.{ProgramAt}
 use Rattle.b67_relate.proofs.WordKinds.{word_laws}
 use Rattle.b67_relate.proofs.StackWords.{reverse-cons}
 use Rattle.b67_relate.proofs.Steps.{Follows, step_at}
 use Rattle.b67_relate.proofs.Steps as steps
 use Rattle.b67_relate.proofs.Cells.{IsDistinct-tail}
 use Rattle.b67_relate.proofs.Prologue.{start-world, first_pictured}
-use Rattle.b67_relate.proofs.Histories.{alive_none, run_from-none, run_from-append, related, pictured_shows}
+use Rattle.b67_relate.proofs.Histories.{alive_none, run_from-none, run_from-append, related}
 
 -- ---- the last entry of a legal schedule
 
@@ -104,15 +104,9 @@ module _ (tree : PProgram) (code : Code) (names : List (List ℕ)) (distinct : I
       let next = performed tree code names distinct rel.world so_far.1 p w rel.pictures (ap (λ (u : World). entered tree u p) same ∙ last.enters) in
       ((next.0 + 1) ∷ so_far.0, next.1, entry so_far.2 next.2)
 
-pub schedules_performed : SchedulesPerformed
+-- each legal schedule of an accepted tree has a run of its code
+pub schedules_performed : (tree : PProgram) (code : Code) → Accepted tree → ProgramAt code tree → (h : List ℕ) → Legal tree (reverse h) → (counts : List ℕ) × (img : Image) × Runs code h counts img
 schedules_performed tree code (accepted spot file ns ss distinct few known small) (program_at spot' file' ns' ss' few' body) h legal =
     let names : List (List ℕ) = names_of ns in
     let apart : IsDistinct names = IsDistinct-tail file.name names distinct in
-    let found = runs_of tree code names apart _ (start-world spot file ns ss) (first_pictured code ns ss few' body) h legal.0 legal.1 in
-    let rel = related tree code names apart _ (start-world spot file ns ss) (first_pictured code ns ss few' body) found.2 in
-    record {
-      counts = found.0;
-      image = found.1;
-      runs = found.2;
-      agrees = record { world = rel.world; is = rel.is; shows = pictured_shows tree code names apart rel.world found.1 rel.pictures 0 found.1 stay };
-    }
+    runs_of tree code names apart _ (start-world spot file ns ss) (first_pictured code ns ss few' body) h legal.0 legal.1

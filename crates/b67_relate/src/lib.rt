@@ -1,16 +1,12 @@
-//! Worlds and images: where the code of a tree stands, how the machine stands for what is still to be done, and that every history
-//! of the code is a run of the source.
+//! Worlds and images: where the code of a tree stands, how the machine stands for what is still to be done, and that the code is
+//! faithful to the tree.
 #![tactic(auto)]
 
-ghost use Rattle.b67_relate.specs.Agreement.{HistoriesAgree, SchedulesPerformed};
+ghost use Rattle.b67_relate.specs.Faithful.{ProgramsAreFaithful};
 
-/// Wherever the code of an accepted tree stands, every history of that code under the operator table is legal for the tree, its
-/// output and end are those of the tree's own execution, and no operator on the way met an ill-tagged word or the stack limit.
-pub fn histories_agree()
-    ensures { HistoriesAgree }
-{}
-
-/// Wherever the code of an accepted tree stands, it performs every legal schedule of the tree, with the tree's output and end.
-pub fn schedules_performed()
-    ensures { SchedulesPerformed }
+/// Wherever the code of an accepted tree stands and is short, it is faithful to the tree: every run of it under the operator table is one of the
+/// tree under the same schedule, with the same output, end and able processes, and meets no ill-tagged word and no stack limit; and
+/// every legal schedule of the tree has a run.
+pub fn programs_are_faithful()
+    ensures { ProgramsAreFaithful }
 {}

@@ -1,0 +1,35 @@
+-- What the parts of the top call promise one another.
+use Rattle.std.specs.Prelude.{◌≡◌, ℕ, List, Result, Ok, Err}
+use Rattle.b67_io.specs.Faults.{Rose}
+use Rattle.b67_desk.specs.declared.desk.Answer.{Answer}
+use Rattle.b67_desk.specs.declared.desk.Unanswered.{Unanswered}
+use Rattle.b67_desk.specs.declared.desk.Unanswered.TheVariants as why
+use Rattle.b67_words.specs.declared.BadWords.{BadWords}
+use Rattle.b67_words.specs.declared.BadWords.TheVariants as broken
+use Rattle.b67_words.specs.declared.UsageKind.{UsageKind}
+use Rattle.b67_desk.specs.declared.status.Status.TheVariants as statuses
+use Rattle.algol_tree.specs.declared.refusal.Code.TheVariants as refusals
+use Rattle.b67_desk.specs.Answers.{usage_text, refused_text, AnswersSource, Answers, Reading, Unreadable}
+
+-- the source is answered, or it failed, or memory ran out
+abbrev pub SourceAnswered : ℕ → Reading → Result Answer Unanswered → Type 0
+SourceAnswered budget r (Ok a) = AnswersSource budget r.left r.left_after a.text.items a.status
+SourceAnswered budget r (Err why.ReadFault) = Rose r.faults r.faults_after
+SourceAnswered budget r (Err why.NoMemory) = Unit {0}
+
+-- the call is answered, or its source failed, or memory ran out
+abbrev pub CallAnswered : List (List ℕ) → Reading → Result Answer Unanswered → Type 0
+CallAnswered words r (Ok a) = Answers words r a.text.items a.status
+CallAnswered words r (Err why.ReadFault) = Unreadable words r
+CallAnswered words r (Err why.NoMemory) = Unit {0}
+
+-- the refusal of words that are no command, or memory ran out
+abbrev pub IsUsage : BadWords → Result Answer Unanswered → Type 0
+IsUsage bad (Ok a) = (word : ℕ) × (kind : UsageKind) × (bad ≡ broken.Usage word kind) × (a.text.items ≡ usage_text word kind) × (a.status ≡ statuses.Usage word kind)
+IsUsage bad (Err why.ReadFault) = ⊥
+IsUsage bad (Err why.NoMemory) = Unit {0}
+
+-- the refusal of a text that is not of the form that is built
+pub record IsUnbuilt (a : Answer) : Type 0 where
+  pub text : a.text.items ≡ refused_text (record { line = 1; column = 1 }) refusals.Unbuilt
+  pub status : a.status ≡ statuses.Refused (record { line = 1; column = 1 }) refusals.Unbuilt

@@ -1,0 +1,186 @@
+//! The top call.
+
+ghost use Rattle.std.specs.Prelude.{◌≡◌, ◌≤◌, ℕ, IfOk, length, map, string_bytes};
+ghost use Rattle.b67_desk.specs.Answers.{AnswersBytes, HasAnswer, status_of};
+ghost use Rattle.b67_desk.specs.Calls.{SourceAnswered, CallAnswered, IsUsage, IsUnbuilt};
+
+use crate::report::report_of;
+use crate::status::Status;
+use crate::texts::{too_long_line, unbuilt_line, usage_line};
+use algol_first::{Unread, straight_of};
+use algol_tree::{Code, Spot};
+use b67_io::{ReadAll, Sink, Source, WriteAll, read_all, write_all};
+use b67_report::{EndWords, text as report_text};
+use b67_words::{BadWords, UsageKind, Words, read_words};
+use std::alloc::{AllocError, Global};
+
+/// The greatest number of bytes that a source has.
+const MOST_BYTES: usize = 262144;
+
+/// What is to be written, and the status that it is written under.
+#[derive(Drop)]
+pub struct Answer {
+    pub text: Vec<u8>,
+    pub status: Status,
+}
+
+/// Why there is nothing to be written.
+#[derive(Clone, Copy, PartialEq, Eq)]
+pub enum Unanswered {
+    ReadFault,
+    NoMemory,
+}
+
+/// The status under which a run is reported.
+fn status_of(end: EndWords) -> Status
+    ensures { result ≡ status_of end }
+{
+    match end {
+        EndWords::Finished => Status::Finished,
+        EndWords::Fault { kind, process } => Status::Fault { kind, process },
+        EndWords::AllWaiting => Status::AllWaiting,
+        EndWords::BudgetSpent => Status::BudgetSpent,
+        EndWords::StackLimit { process, words } => Status::StackLimit { process, words },
+        EndWords::ScheduleEnded => Status::ScheduleEnded,
+        EndWords::Illegal { entry } => Status::Illegal { entry },
+    }
+}
+
+/// The refusal of a text that is not of the form that is built.
+fn refuse_source(alloc: Global) -> Result<Answer, AllocError>
+    ensures { IfOk result IsUnbuilt }
+{
+    let place = Spot { line: 1, column: 1 };
+    Ok(Answer {
+        text: unbuilt_line(alloc, place)?,
+        status: Status::Refused {
+            place,
+            code: Code::Unbuilt,
+        },
+    })
+}
+
+/// The answer to a text of at most 262,144 bytes under a budget.
+fn answer_bytes(alloc: Global, budget: u64, bytes: &[u8]) -> Result<Answer, AllocError>
+    requires small { length bytes.now ≤ 262144 }
+    requires least { 1 ≤ budget }
+    requires most { budget ≤ 4194304 }
+    ensures { IfOk result (λ answer. AnswersBytes budget bytes.now answer.text.items answer.status) }
+{
+    match straight_of(alloc, bytes) {
+        Ok(straight) => {
+            let report = report_of(alloc, budget, &straight)?;
+            Ok(Answer {
+                text: report_text(alloc, &report)?,
+                status: status_of(report.end),
+            })
+        }
+        Err(Unread::Unbuilt) => refuse_source(alloc),
+        Err(Unread::NoMemory) => Err(AllocError),
+    }
+}
+
+/// Reads the source to its end and answers it.
+fn answer_source<S: Source>(
+    alloc: Global,
+    budget: u64,
+    source: &mut S,
+) -> Result<Answer, Unanswered>
+    requires least { 1 ≤ budget }
+    requires most { budget ≤ 4194304 }
+    ensures { SourceAnswered budget (record {
+      left = S.left source.old;
+      left_after = S.left source.new;
+      faults = S.faults source.old;
+      faults_after = S.faults source.new;
+    }) result }
+{
+    match read_all(alloc, source, MOST_BYTES) {
+        Ok(bytes) => match answer_bytes(alloc, budget, bytes.as_slice()) {
+            Ok(answer) => Ok(answer),
+            Err(_) => Err(Unanswered::NoMemory),
+        },
+        Err(ReadAll::TooLong) => match too_long_line(alloc) {
+            Ok(text) => Ok(Answer {
+                text,
+                status: Status::TooLong,
+            }),
+            Err(_) => Err(Unanswered::NoMemory),
+        },
+        Err(ReadAll::Failed) => Err(Unanswered::ReadFault),
+        Err(ReadAll::NoMemory) => Err(Unanswered::NoMemory),
+    }
+}
+
+/// The budget of a command.
+fn budget_in(command: Words) -> u64
+    ensures { command ≡ Words.Run result }
+{
+    match command {
+        Words::Run { budget } => budget,
+    }
+}
+
+/// The word that breaks the grammar, and what is wrong with it.
+fn usage_in(bad: BadWords) -> (u32, UsageKind)
+    ensures { bad ≡ BadWords.Usage result.0 result.1 }
+{
+    match bad {
+        BadWords::Usage { word, kind } => (word, kind),
+    }
+}
+
+/// The refusal of words that are no command.
+fn refuse_words(alloc: Global, bad: BadWords) -> Result<Answer, Unanswered>
+    ensures { IsUsage bad result }
+{
+    let (word, kind) = usage_in(bad);
+    match usage_line(alloc, word, kind) {
+        Ok(text) => Ok(Answer {
+            text,
+            status: Status::Usage { word, kind },
+        }),
+        Err(_) => Err(Unanswered::NoMemory),
+    }
+}
+
+/// Answers the words, and where they are a command the source.
+fn answer_call<S: Source>(
+    alloc: Global,
+    words: &[String],
+    source: &mut S,
+) -> Result<Answer, Unanswered>
+    ensures { CallAnswered (map string_bytes words.now) (record {
+      left = S.left source.old;
+      left_after = S.left source.new;
+      faults = S.faults source.old;
+      faults_after = S.faults source.new;
+    }) result }
+{
+    match read_words(words) {
+        Ok(command) => answer_source(alloc, budget_in(command), source),
+        Err(bad) => refuse_words(alloc, bad),
+    }
+}
+
+/// The top call.
+pub fn desk_alone<S: Source, K: Sink>(
+    alloc: Global,
+    words: &[String],
+    source: &mut S,
+    sink: &mut K,
+) -> Status
+    ensures { HasAnswer (map string_bytes words.now)
+        (record { left = S.left source.old; left_after = S.left source.new; faults = S.faults source.old; faults_after = S.faults source.new })
+        (record { written = K.written sink.old; written_after = K.written sink.new; faults = K.faults sink.old; faults_after = K.faults sink.new })
+        result }
+{
+    match answer_call(alloc, words, source) {
+        Ok(answer) => match write_all(sink, answer.text.as_slice()) {
+            Ok(()) => answer.status,
+            Err(WriteAll::Failed { .. }) => Status::WriteFault,
+        },
+        Err(Unanswered::ReadFault) => Status::ReadFault,
+        Err(Unanswered::NoMemory) => Status::NoMemory,
+    }
+}
