@@ -1,5 +1,5 @@
 -- A run of the code of an accepted tree is explained by its report.
-use Rattle.std.proofs.Common.{◌≡◌, ℕ, zero, suc, ◌+◌, ◌≤◌, List, [], ◌∷◌, length, Some, None, refl, sym, ap, ◌∙◌, subst, arith}
+use Rattle.std.proofs.Common.{◌≡◌, ℕ, zero, suc, ◌+◌, ◌*◌, ◌≤◌, List, [], ◌∷◌, length, Some, None, refl, sym, ap, ◌∙◌, subst, arith}
 use Rattle.std.specs.Prelude.{replicate, reverse, sum}
 use Rattle.std.proofs.lemmas.List.Sums.{sum_by-cons}
 use Rattle.algol_tree.specs.Plain.{PProgram}
@@ -11,7 +11,7 @@ use Rattle.b67_table.specs.Image.{Image}
 use Rattle.b67_table.specs.Table.{image_end, ImageEnd}
 use Rattle.b67_table.specs.Runs.{Runs, begin, entry, none, next, count_of}
 use Rattle.b67_relate.specs.Agreement.{end_as, Agrees}
-use Rattle.b67_relate.specs.Faithful.{Faithful}
+use Rattle.b67_relate.specs.Faithful.{Faithful, longest}
 use Rattle.b67_relate.proofs.Prologue.{reverse-replicate, length-zeros}
 use Rattle.b67_schedule.specs.Schedules.{entries}
 use Rattle.b67_report.specs.declared.Report.{Report}
@@ -84,6 +84,15 @@ module _ (tree : PProgram) (code : Code) (faithful : Faithful tree code) (budget
     order : entries report.schedule.runs ≡ reverse (replicate ran.entries 1)
     order = schedule ∙ sym (reverse-replicate ran.entries 1)
 
+    within_code : sum report.operators ≤ (length (entries report.schedule.runs) + length report.operators) * longest code.segments
+    within_code =
+        let h : List ℕ = reverse (replicate ran.entries 1) in
+        let few = faithful.few h (to.tail ∷ []) image
+        (record { history = replicate ran.entries 1; counts = to.counts; before_tails = to.before; order = refl; runs = to.runs; after = next to.plains none }) in
+        let long : (length (entries report.schedule.runs) + length report.operators) * longest code.segments ≡ (length h + 1) * longest code.segments =
+        ap (λ (n : ℕ). n * longest code.segments) (ap (λ (xs : List ℕ). length xs + length report.operators) order ∙ ap (λ (xs : List ℕ). length h + length xs) operators) in
+        omega (arith, few, long, to.counted, ap sum operators)
+
     pub explained : Explains tree budget report
     explained = record {
       world = agrees.world;
@@ -101,4 +110,5 @@ module _ (tree : PProgram) (code : Code) (faithful : Faithful tree code) (budget
       shown = shown ∙ sym output;
       same_end = agrees.shows.ends;
       counted = operators ∙ ap (λ n. n ∷ []) (sym counted);
+      bounded = within_code;
     }

@@ -1,5 +1,5 @@
 -- What the desk answers: the text that it writes and the status that it gives, for which words and which bytes.
-use Rattle.std.specs.Prelude.{◌≡◌, ℕ, ◌+◌, ◌<◌, ◌≤◌, List, [], ◌∷◌, ◌++◌, length, sum, codes, Option, Some, None, IfSome, Ok, Err, take}
+use Rattle.std.specs.Prelude.{◌≡◌, ℕ, ◌+◌, ◌*◌, ◌<◌, ◌≤◌, List, [], ◌∷◌, ◌++◌, length, sum, codes, Option, Some, None, IfSome, Ok, Err, take}
 use Rattle.std.specs.Fmt.{decimal}
 use Rattle.std.specs.Io.KnownBytes.{Appends, IsAtEnd}
 use Rattle.algol_tree.specs.declared.token.Spot.{Spot}
@@ -25,7 +25,7 @@ use Rattle.algol_meaning.specs.Run.{run, end_of, End, finished, fault}
 use Rattle.b67_table.specs.Image.{Image}
 use Rattle.b67_table.specs.Table.{image_end}
 use Rattle.b67_relate.specs.Agreement.{end_as}
-use Rattle.b67_relate.specs.Faithful.{Faithful}
+use Rattle.b67_relate.specs.Faithful.{Faithful, longest}
 use Rattle.b67_table.specs.Runs.{TableRun, count_of}
 use Rattle.b67_desk.specs.declared.status.Status.{Status}
 use Rattle.b67_desk.specs.declared.status.Status.TheVariants as status
@@ -108,6 +108,8 @@ pub record Explains (tree : PProgram) (budget : ℕ) (report : Report) : Type 0 
   pub shown : image.output ≡ report.output
   pub same_end : end_of world ≡ end_as (image_end image)
   pub counted : report.operators ≡ printed_counts 1 table_run.history table_run.counts tails
+  -- for each entry, and for each process after the last one, at most as many operators as the longest segment has syllables
+  pub bounded : sum report.operators ≤ (length (entries report.schedule.runs) + length report.operators) * longest code.segments
 
 abbrev pub status_of : EndWords → Status
 status_of ends.Finished = status.Finished

@@ -22,10 +22,10 @@ use Rattle.b67_table.specs.Image.{Image, Failure, is_able}
 use Rattle.b67_table.specs.Table.{table, plain, failed, may_act, image_end, ImageEnd, goes_on, end_by, first_image}
 use Rattle.b67_table.specs.Table as machine
 use Rattle.b67_table.specs.Runs.{Plains, stay, go, Acts, acts, fails, Entry, Runs, begin, entry}
-use Rattle.b67_relate.specs.Picture.{At, world, ended_world, image, ended_image}
+use Rattle.b67_relate.specs.Picture.{At, world, ended_world, image, ended_image, registers}
 use Rattle.b67_relate.specs.Agreement.{end_as, Shows, Agrees}
 use Rattle.b67_relate.specs.Code.{ProgramAt}
-use Rattle.b67_relate.specs.Pictures.{Pictures, live, ended, faulted, Alive}
+use Rattle.b67_relate.specs.Pictures.{Pictures, live, ended, faulted, Alive, Located}
 use Rattle.b67_relate.proofs.WordKinds.{word_laws}
 use Rattle.b67_relate.proofs.StackWords.{reverse-cons}
 use Rattle.b67_relate.proofs.Steps.{Follows, step_at}
@@ -65,7 +65,7 @@ only_one o states zero e may = not_true o may
 only_one o states (suc zero) e may = refl
 only_one o states (suc (suc k)) e may = not_true o (sym (ap (λ (s : List ProcessState). goes_on o (is_able (slice_get s (suc k)))) e) ∙ may)
 
-the_process : (a : Image) (p : ℕ) → a.states ≡ Able ∷ [] → may_act a p ≡ true → p ≡ 1
+pub the_process : (a : Image) (p : ℕ) → a.states ≡ Able ∷ [] → may_act a p ≡ true → p ≡ 1
 unfolding may_act
 the_process a p e may = only_one (image_end a) a.states p e may
 
@@ -92,7 +92,7 @@ module _ (tree : PProgram) (code : Code) (names : List (List ℕ)) (distinct : I
         is = entered-world values output rest ∙ ap world_of is;
         pictures =
             subst (λ (i : Image). Pictures code names (world names values' output' rest') i) (one_way code 1 k act l x)
-            (live values' output' rest' (image values' output' next) comes.goes.n comes.to same (record { states = refl; fault = refl; output_is = refl }) comes.goes.plains comes.goes.sized comes.stands);
+            (live values' output' rest' (image values' output' next) comes.goes.n comes.to same (record { states = refl; fault = refl; output_is = refl; located = record { registers = registers (length values') next; alone = refl; level = refl; segment = refl } }) comes.goes.plains comes.goes.sized comes.stands);
       }
   follow values output rest to (steps.ends next is act) q n m a b l x k =
       record {
@@ -255,3 +255,37 @@ runs_alone tree code (accepted spot file ns ss distinct few known small) (progra
     let names : List (List ℕ) = names_of ns in
     let rel = related tree code names (IsDistinct-tail file.name names distinct) _ (start-world spot file ns ss) (first_pictured code ns ss few' body) runs in
     pictured_alone code names rel.world img rel.pictures
+
+-- a process that can act is process 1, which stands in its segment
+acting_located : (code : Code) (names : List (List ℕ)) (w : World) (a : Image) (p : ℕ) → Pictures code names w a → may_act a p ≡ true → (p ≡ 1) × Located a
+unfolding may_act image_end failed
+acting_located code names w a p (live values output rest img m to same alive plains sized stands) e = (the_process img p alive.states e, alive.located)
+acting_located code names w a p (ended values output cells at) e = false_true e
+acting_located code names w a p (faulted values output rest at fault stays) e = false_true e
+
+pub runs_located : (tree : PProgram) (code : Code) → Accepted tree → ProgramAt code tree → {h counts : List ℕ} {img : Image} {p : ℕ} → Runs code h counts img → may_act img p ≡ true → (p ≡ 1) × Located img
+runs_located tree code (accepted spot file ns ss distinct few known small) (program_at spot' file' ns' ss' few' body) {img = img} {p = p} runs e =
+    let names : List (List ℕ) = names_of ns in
+    let rel = related tree code names (IsDistinct-tail file.name names distinct) _ (start-world spot file ns ss) (first_pictured code ns ss few' body) runs in
+    acting_located code names rel.world img p rel.pictures e
+
+-- no operator is plain after an end
+pub data Further (a : Image) (n : ℕ) : Type 0 where
+  nowhere : n ≡ 0 → Further a n
+  from_here : Located a → Further a n
+
+gives_and_faults : {B : Type 0} {b : Image} {x : Effect Image} {kind : FaultKind} → x ≡ gives b → x ≡ faults kind → B
+gives_and_faults u v = cc
+
+pictured_further : (code : Code) (names : List (List ℕ)) (w : World) (a : Image) → Pictures code names w a → (n : ℕ) (b : Image) → Plains code 1 a n b → Further a n
+pictured_further code names w a (live values output rest img m to same alive plains sized stands) n b l = from_here alive.located
+pictured_further code names w a (ended values output cells at) n b stay = nowhere refl
+pictured_further code names w a (ended values output cells at) n b (go {b = c} e t l) = not_both c bad_code (table code (ended_image cells output at) 1) t (ended_table code cells output at)
+pictured_further code names w a (faulted values output rest at fault stays) n b stay = nowhere refl
+pictured_further code names w a (faulted values output rest at fault stays) n b (go {b = c} e t l) = gives_and_faults t stays
+
+pub runs_further : (tree : PProgram) (code : Code) → Accepted tree → ProgramAt code tree → {h counts : List ℕ} {img : Image} → Runs code h counts img → (n : ℕ) (b : Image) → Plains code 1 img n b → Further img n
+runs_further tree code (accepted spot file ns ss distinct few known small) (program_at spot' file' ns' ss' few' body) {img = img} runs n b l =
+    let names : List (List ℕ) = names_of ns in
+    let rel = related tree code names (IsDistinct-tail file.name names distinct) _ (start-world spot file ns ss) (first_pictured code ns ss few' body) runs in
+    pictured_further code names rel.world img rel.pictures n b l

@@ -13,3 +13,4 @@ pub mod Prologue
 pub mod Histories
 pub mod Schedules
 pub mod FaithfulPrograms
+pub mod Counting

@@ -17,7 +17,7 @@ use Rattle.b67_table.specs.declared.InterruptKind.TheVariants.{InvalidOperand}
 use Rattle.b67_table.specs.Effect.{Effect, gives, interrupts, ◌>>=◌}
 use Rattle.b67_table.specs.Private.{Private, private_op}
 use Rattle.b67_table.specs.Image.{Image, with_private}
-use Rattle.b67_table.specs.Table.{first_image, base_frame, system_stack, table, plain}
+use Rattle.b67_table.specs.Table.{first_registers, first_image, base_frame, system_stack, table, plain}
 use Rattle.b67_table.specs.Runs.{Plains, stay, go}
 use Rattle.b67_relate.specs.Code.{Has, LiteralAt, zero_pushed, ZerosAt, BodyAt}
 use Rattle.b67_relate.specs.Picture.{At, cells, world, stack, registers, image, Sized, Goes}
@@ -25,7 +25,7 @@ use Rattle.b67_relate.proofs.StackWords.{reverse-cons}
 use Rattle.b67_relate.proofs.PrivateSteps.{part, pushed, after, literal_step, table_at, part_is, plain_is, most_is}
 use Rattle.b67_relate.proofs.Reach.{here, on, plains_on}
 use Rattle.b67_relate.proofs.Starts.{items_settle}
-use Rattle.b67_relate.specs.Pictures.{Pictures, live}
+use Rattle.b67_relate.specs.Pictures.{Pictures, live, Located}
 use Rattle.b67_table.specs.declared.ProcessState.TheVariants.{Able}
 
 pub first_at : At
@@ -162,6 +162,10 @@ unfolding start
 start-world spot file ns ss =
     ap (λ cs. record (world (names_of ns) [] [] (settle_items 1 (items ss))) { instances = record { block = 0; parent = 0; process = 1; cells = cs; left = false } ∷ [] }) (cells-named ns)
 
+first_located : Located first_image
+unfolding first_image
+first_located = record { registers = first_registers; alone = refl; level = refl; segment = refl }
+
 pub first_pictured : (code : Code) (ns : List Named) (ss : PStmts) → length ns ≤ 400 → BodyAt code (names_of ns) ss →
     Pictures code (names_of ns) (world (names_of ns) (replicate (length ns) (pos 0)) [] (settle_items 1 (items ss))) first_image
 unfolding first_at
@@ -180,5 +184,5 @@ first_pictured code ns ss few body =
     let steps = plains_on zeroed.goes.plains (plains_on (go made.0 made.1 stay) comes.goes.plains).1 in
     subst (λ m. Pictures code names (world names (replicate m (pos 0)) [] (settle_items 1 (items ss))) first_image) same
     (live (replicate n (pos 0)) [] (settle_items 1 (items ss)) first_image steps.0 comes.to (length-zeros n (pos 0))
-    (record { states = first_states; fault = first_fault; output_is = first_output })
+    (record { states = first_states; fault = first_fault; output_is = first_output; located = first_located })
     (subst (λ (i : Image). Plains code 1 i steps.0 (image (replicate n (pos 0)) [] comes.to)) (sym first_is) steps.1) comes.goes.sized comes.stands)

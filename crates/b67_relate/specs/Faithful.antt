@@ -1,5 +1,5 @@
 -- A code that is faithful to a source: for every list of choices it does what the source does.
-use Rattle.std.specs.Prelude.{ℕ, ◌+◌, ◌*◌, ◌≤◌, List, [], length, All}
+use Rattle.std.specs.Prelude.{ℕ, ◌+◌, ◌*◌, ◌≤◌, max, List, [], ◌∷◌, length, sum, All}
 use Rattle.algol_tree.specs.Plain.{PProgram}
 use Rattle.algol_tree.specs.Accepted.{Accepted}
 use Rattle.algol_tree.specs.Counts.{program_tokens}
@@ -15,12 +15,20 @@ use Rattle.b67_relate.specs.Agreement.{Agrees}
 abbrev pub IsShort : PProgram → Code → Type 0
 IsShort tree code = All (λ (segment : Segment). 6 * length segment.words ≤ 24 * program_tokens tree + 48) code.segments
 
+-- the syllables of the longest of these segments
+abbrev pub longest : List Segment → ℕ
+longest [] = 0
+longest (segment ∷ segments) = max (6 * length segment.words) (longest segments)
+
 pub record Faithful (tree : PProgram) (code : Code) : Type 0 where
   -- each run of the code has a legal schedule of the source, with its output, end and able processes, and meets no ill-tagged word
   pub legal : (schedule tails : List ℕ) (image : Image) → TableRun code schedule tails image → Agrees tree code schedule image
   -- each legal schedule of the source has a run of the code
   pub whole : (schedule : List ℕ) → Legal tree schedule → (image : Image) × TableRun code schedule [] image
   pub short : IsShort tree code
+  -- for each entry and for each tail at most as many operators are performed as the longest segment has syllables
+  pub few : (schedule tails : List ℕ) (image : Image) → (r : TableRun code schedule tails image) →
+      sum r.counts + sum tails ≤ (length schedule + length tails) * longest code.segments
 
 -- where the code of an accepted tree stands and is short, it is faithful
 abbrev pub ProgramsAreFaithful : Type 0

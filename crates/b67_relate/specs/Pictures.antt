@@ -1,6 +1,7 @@
 -- World and image agree, between two entries of a run.
 use Rattle.std.specs.Prelude.{◌≡◌, ℕ, ℤ, List, [], ◌∷◌, length, None}
 use Rattle.b67_num.specs.declared.NumFault.{NumFault}
+use Rattle.b67_control.specs.declared.Registers.{Registers}
 use Rattle.b67_num.specs.Whole.{fault_of}
 use Rattle.b67_segment.specs.declared.code.Code.{Code}
 use Rattle.algol_meaning.specs.Rest.{Rest}
@@ -13,11 +14,19 @@ use Rattle.b67_table.specs.Table.{table, failed}
 use Rattle.b67_table.specs.Runs.{Plains}
 use Rattle.b67_relate.specs.Picture.{At, world, ended_world, image, ended_image, Sized, Stands}
 
+-- process 1 alone has registers, and stands in segment 0, at level 2
+pub record Located (img : Image) : Type 0 where
+  pub registers : Registers
+  pub alone : img.regs ≡ registers ∷ []
+  pub level : registers.ll ≡ 2
+  pub segment : registers.segment ≡ 0
+
 -- process 1 alone is there and able, nothing has failed, and this is the output
 pub record Alive (img : Image) (output : List (List ℕ)) : Type 0 where
   pub states : img.states ≡ Able ∷ []
   pub fault : img.fault ≡ None
   pub output_is : img.output ≡ output
+  pub located : Located img
 
 -- The world has gone as far as it can without an action; the machine comes there by plain operators alone.
 pub data Pictures (code : Code) (names : List (List ℕ)) : World → Image → Type 0 where

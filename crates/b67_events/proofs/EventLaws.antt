@@ -1,0 +1,217 @@
+-- Each action changes the event at one place.
+use Rattle.std.proofs.Common.{◌≡◌, ◌≢◌, ℕ, Bool, true, false, cond, not, ◌||◌, List, [], ◌∷◌, ◌++◌, refl, sym, ap, ◌∙◌, inl, inr}
+use Rattle.std.specs.Prelude.{filter, Some, None, is_some}
+use Rattle.std.specs.Option.{option_map}
+use Rattle.std.proofs.lemmas.Bool.{cases_Bool, cond-true, cond-false, both_ways, false_from_ne_true, not_from_true, not_from_false, or_from, or_parts}
+use Rattle.std.proofs.lemmas.List.Folds.{list_any-append}
+use Rattle.b67_word.specs.declared.Place.{Place}
+use Rattle.b67_events.specs.Events.{Event, same_place, event_at, is_open, is_from, changed, fresh, opened, closed_from}
+use Rattle.b67_events.specs.Laws.{StaysInPlace, AreApart, OneEventChanges, EventsStayApart}
+use Rattle.b67_events.proofs.Listed.{same_place-true, same_place-self}
+use Rattle.b67_events.proofs.Queued.{any-filter}
+
+-- another place is not that one
+apart : (p q : Place) → p ≢ q → same_place p q ≡ false
+apart p q h = false_from_ne_true (same_place p q) (λ e. h (same_place-true p q e))
+
+turned : (p q : Place) → same_place p q ≡ false → same_place q p ≡ false
+turned p q h = false_from_ne_true (same_place q p) (λ e. both_ways (same_place p q) h (same_place-self p q (sym (same_place-true q p e))))
+
+-- an event that is changed, or not, stays at its place
+module _ (at : Place) (change : Event → Event) (stays : StaysInPlace change) where
+  one : Event → Event
+  one e = cond (same_place e.place at) (change e) e
+
+  place_stays : (e : Event) → (one e).place ≡ e.place
+  unfolding one
+  place_stays e = elim (cases_Bool (same_place e.place at)) [
+    | inl h ↦ ap (λ (g : Event). g.place) (cond-true (same_place e.place at) (change e) e h) ∙ stays e
+    | inr h ↦ ap (λ (g : Event). g.place) (cond-false (same_place e.place at) (change e) e h)
+  ]
+
+  changed-here : (es : List Event) → event_at at (changed at change es) ≡ option_map change (event_at at es)
+  unfolding one
+  changed-here [] = refl
+  changed-here (e ∷ es) =
+      let b = same_place e.place at in
+      let rest = event_at at (changed at change es) in
+      let test : same_place (one e).place at ≡ b = ap (λ p. same_place p at) (place_stays e) in
+      elim (cases_Bool b) [
+        | inl h ↦
+            cond-true (same_place (one e).place at) (Some (one e)) rest (test ∙ h)
+            ∙ ap Some (cond-true b (change e) e h)
+            ∙ sym (ap (option_map change) (cond-true b (Some e) (event_at at es) h))
+        | inr h ↦
+            cond-false (same_place (one e).place at) (Some (one e)) rest (test ∙ h)
+            ∙ changed-here es
+            ∙ sym (ap (option_map change) (cond-false b (Some e) (event_at at es) h))
+      ]
+
+  changed-elsewhere : (to : Place) → to ≢ at → (es : List Event) → event_at to (changed at change es) ≡ event_at to es
+  unfolding one
+  changed-elsewhere to other [] = refl
+  changed-elsewhere to other (e ∷ es) =
+      let b = same_place e.place at in
+      let t = same_place e.place to in
+      let rest = event_at to (changed at change es) in
+      let test : same_place (one e).place to ≡ t = ap (λ p. same_place p to) (place_stays e) in
+      elim (cases_Bool t) [
+        | inl h ↦
+            let no : b ≡ false = false_from_ne_true b (λ k. other (sym (same_place-true e.place to h) ∙ same_place-true e.place at k)) in
+            cond-true (same_place (one e).place to) (Some (one e)) rest (test ∙ h)
+            ∙ ap Some (cond-false b (change e) e no)
+            ∙ sym (cond-true t (Some e) (event_at to es) h)
+        | inr h ↦
+            cond-false (same_place (one e).place to) (Some (one e)) rest (test ∙ h)
+            ∙ changed-elsewhere to other es
+            ∙ sym (cond-false t (Some e) (event_at to es) h)
+      ]
+
+  open-changed : (to : Place) (es : List Event) → is_open to (changed at change es) ≡ is_open to es
+  unfolding one
+  open-changed to [] = refl
+  open-changed to (e ∷ es) =
+      ap (λ p. same_place p to || is_open to (changed at change es)) (place_stays e) ∙ ap (λ b. same_place e.place to || b) (open-changed to es)
+
+  apart-changed : (es : List Event) → AreApart es → AreApart (changed at change es)
+  unfolding one
+  apart-changed [] h = tt
+  apart-changed (e ∷ es) h = (ap (λ p. is_open p (changed at change es)) (place_stays e) ∙ open-changed e.place es ∙ h.0, apart-changed es h.1)
+
+module _ (at : Place) where
+  others : List Event → List Event
+  others es = filter (λ e. not (same_place e.place at)) es
+
+  goes : (e : Event) (es : List Event) → same_place e.place at ≡ true → others (e ∷ es) ≡ others es
+  unfolding others
+  goes e es h = cond-false (not (same_place e.place at)) (e ∷ others es) (others es) (not_from_true (same_place e.place at) h)
+
+  remains : (e : Event) (es : List Event) → same_place e.place at ≡ false → others (e ∷ es) ≡ e ∷ others es
+  unfolding others
+  remains e es h = cond-true (not (same_place e.place at)) (e ∷ others es) (others es) (not_from_false (same_place e.place at) h)
+
+  opened-here : (es : List Event) → event_at at (others es ++ fresh at ∷ []) ≡ Some (fresh at)
+  unfolding others
+  opened-here [] = cond-true (same_place at at) (Some (fresh at)) None (same_place-self at at refl)
+  opened-here (e ∷ es) = elim (cases_Bool (same_place e.place at)) [
+    | inl h ↦ ap (λ xs. event_at at (xs ++ fresh at ∷ [])) (goes e es h) ∙ opened-here es
+    | inr h ↦
+        ap (λ xs. event_at at (xs ++ fresh at ∷ [])) (remains e es h)
+        ∙ cond-false (same_place e.place at) (Some e) (event_at at (others es ++ fresh at ∷ [])) h
+        ∙ opened-here es
+  ]
+
+  opened-elsewhere : (to : Place) → to ≢ at → (es : List Event) → event_at to (others es ++ fresh at ∷ []) ≡ event_at to es
+  unfolding others
+  opened-elsewhere to other [] = cond-false (same_place at to) (Some (fresh at)) None (apart at to (λ e. other (sym e)))
+  opened-elsewhere to other (e ∷ es) =
+      let t = same_place e.place to in
+      elim (cases_Bool (same_place e.place at)) [
+        | inl h ↦
+            let no : t ≡ false = false_from_ne_true t (λ k. other (sym (same_place-true e.place to k) ∙ same_place-true e.place at h)) in
+            ap (λ xs. event_at to (xs ++ fresh at ∷ [])) (goes e es h) ∙ opened-elsewhere to other es ∙ sym (cond-false t (Some e) (event_at to es) no)
+        | inr h ↦
+            ap (λ xs. event_at to (xs ++ fresh at ∷ [])) (remains e es h) ∙ ap (λ r. cond t (Some e) r) (opened-elsewhere to other es)
+      ]
+
+  none_left : (es : List Event) → is_open at (others es) ≡ false
+  unfolding others
+  none_left [] = refl
+  none_left (e ∷ es) = elim (cases_Bool (same_place e.place at)) [
+    | inl h ↦ ap (is_open at) (goes e es h) ∙ none_left es
+    | inr h ↦ ap (is_open at) (remains e es h) ∙ or_from (same_place e.place at) (is_open at (others es)) h (none_left es)
+  ]
+
+apart-filter : (r : Event → Bool) (es : List Event) → AreApart es → AreApart (filter r es)
+apart-filter r [] h = tt
+apart-filter r (e ∷ es) h = elim (cases_Bool (r e)) [
+  | inl k ↦ rw (cond-true (r e) (e ∷ filter r es) (filter r es) k) (any-filter (λ f. same_place f.place e.place) r es h.0, apart-filter r es h.1)
+  | inr k ↦ rw (cond-false (r e) (e ∷ filter r es) (filter r es) k) (apart-filter r es h.1)
+]
+
+apart-push : (f : Event) (es : List Event) → is_open f.place es ≡ false → AreApart es → AreApart (es ++ f ∷ [])
+apart-push f [] none h = (refl, tt)
+apart-push f (e ∷ es) none h =
+    let parts = or_parts (same_place e.place f.place) (is_open f.place es) none in
+    let last : same_place f.place e.place ≡ false = turned e.place f.place parts.0 in (
+      list_any-append (λ g. same_place g.place e.place) es (f ∷ [])
+          ∙ or_from (is_open e.place es) (is_open e.place (f ∷ [])) h.0 (or_from (same_place f.place e.place) false last refl),
+      apart-push f es parts.1 h.1,
+    )
+
+apart-opened : (at : Place) (es : List Event) → AreApart es → AreApart (opened at es)
+unfolding others
+apart-opened at es h =
+    apart-push (fresh at) (others at es) (none_left at es) (apart-filter (λ e. not (same_place e.place at)) es h)
+
+module _ (stack low : ℕ) (to : Place) where
+  test : Event → Bool
+  test e = not (is_from stack low e.place)
+
+  closed-gone : is_from stack low to ≡ true → (es : List Event) → event_at to (closed_from stack low es) ≡ None
+  unfolding test
+  closed-gone from [] = refl
+  closed-gone from (e ∷ es) =
+      let rest = closed_from stack low es in
+      elim (cases_Bool (is_from stack low e.place)) [
+        | inl h ↦ ap (event_at to) (cond-false (test e) (e ∷ rest) rest (not_from_true (is_from stack low e.place) h)) ∙ closed-gone from es
+        | inr h ↦
+            let no : same_place e.place to ≡ false =
+            false_from_ne_true (same_place e.place to)
+            (λ k. both_ways (is_from stack low e.place) h (ap (is_from stack low) (same_place-true e.place to k) ∙ from)) in
+            ap (event_at to) (cond-true (test e) (e ∷ rest) rest (not_from_false (is_from stack low e.place) h))
+            ∙ cond-false (same_place e.place to) (Some e) (event_at to rest) no
+            ∙ closed-gone from es
+      ]
+
+  closed-stays : is_from stack low to ≡ false → (es : List Event) → event_at to (closed_from stack low es) ≡ event_at to es
+  unfolding test
+  closed-stays below [] = refl
+  closed-stays below (e ∷ es) =
+      let rest = closed_from stack low es in
+      let t = same_place e.place to in
+      elim (cases_Bool (is_from stack low e.place)) [
+        | inl h ↦
+            let no : t ≡ false =
+            false_from_ne_true t (λ k. both_ways (is_from stack low to) below (ap (is_from stack low) (sym (same_place-true e.place to k)) ∙ h)) in
+            ap (event_at to) (cond-false (test e) (e ∷ rest) rest (not_from_true (is_from stack low e.place) h))
+            ∙ closed-stays below es
+            ∙ sym (cond-false t (Some e) (event_at to es) no)
+        | inr h ↦
+            ap (event_at to) (cond-true (test e) (e ∷ rest) rest (not_from_false (is_from stack low e.place) h))
+            ∙ ap (λ r. cond t (Some e) r) (closed-stays below es)
+      ]
+
+  closed-is : (es : List Event) → event_at to (closed_from stack low es) ≡ cond (is_from stack low to) None (event_at to es)
+  closed-is es = elim (cases_Bool (is_from stack low to)) [
+    | inl h ↦ closed-gone h es ∙ sym (cond-true (is_from stack low to) None (event_at to es) h)
+    | inr h ↦ closed-stays h es ∙ sym (cond-false (is_from stack low to) None (event_at to es) h)
+  ]
+
+found-is : (at : Place) (es : List Event) → is_open at es ≡ is_some (event_at at es)
+found-is at [] = refl
+found-is at (e ∷ es) =
+    let b = same_place e.place at in
+    let rest = event_at at es in
+    elim (cases_Bool b) [
+      | inl h ↦ ap (λ t. t || is_open at es) h ∙ sym (ap is_some (cond-true b (Some e) rest h))
+      | inr h ↦ ap (λ t. t || is_open at es) h ∙ found-is at es ∙ sym (ap is_some (cond-false b (Some e) rest h))
+    ]
+
+pub one_event : OneEventChanges
+unfolding others
+one_event = record {
+  here = changed-here;
+  elsewhere = λ at to change stays other es. changed-elsewhere at change stays to other es;
+  opened_here = opened-here;
+  opened_elsewhere = opened-elsewhere;
+  closed_there = closed-is;
+  found = found-is;
+}
+
+pub stay_apart : EventsStayApart
+stay_apart = record {
+  by_change = apart-changed;
+  by_opening = apart-opened;
+  by_closing = λ stack low es h. apart-filter (λ e. not (is_from stack low e.place)) es h;
+}

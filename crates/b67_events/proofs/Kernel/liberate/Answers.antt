@@ -1,0 +1,51 @@
+use Rattle.std.proofs.Common.{◌∙◌, true, refl, ap, sym, vec_capacity}
+use Rattle.std.specs.Prelude.{slice_get}
+use Rattle.b67_events.specs.Kept.{stands_in, with_available}
+use Rattle.b67_events.specs.declared.Queue.TheVariants.{Procurers}
+use Rattle.b67_events.proofs.Steps.{held, kept-first, kept-set, kept-wider, procurers-shown, liberated-served, liberated-freed}
+use Rattle.b67_events.proofs.Kernel.liberate.Goals as goal
+
+pub invariant_of-self : goal.invariant_of-self
+invariant_of-self c =
+    let k = c.self.inside in
+    let kept =
+    kept-first (stands_in Procurers c.args.at) k.events.items k.waiting.items k.processes (vec_capacity k.waiting) c.self.invariant in
+    rw c.serve.ensures.rest (kept-wider _ _ _ _ _ kept c.serve.ensures.capacity)
+
+pub returns-in-Some-clause-answer : goal.returns-in-Some-clause-answer
+returns-in-Some-clause-answer c =
+    let k = c.self.inside in
+    let here = rw (← c.self.view_is) at c.requires in
+    rw (← c.self.view_is)
+    (sym c.in-Some.is ∙ c.serve.ensures.first ∙ ap (λ ks. slice_get ks 0) (procurers-shown c.args.at k.events.items k.waiting.items here))
+
+pub returns-in-Some-clause-after : goal.returns-in-Some-clause-after
+returns-in-Some-clause-after c =
+    let k = c.self.inside in
+    let here = rw (← c.self.view_is) at c.requires in
+    rw (← c.self.view_is, c.serve.ensures.rest)
+    (ap (λ es. held es k.processes)
+    (liberated-served c.args.at c.in-Some.process k.events.items k.waiting.items here (sym c.serve.ensures.first ∙ c.in-Some.is)))
+
+pub invariant_of-self-2 : goal.invariant_of-self-2
+invariant_of-self-2 c =
+    let k = c.self.inside in
+    let set =
+    kept-set c.args.at (with_available true) (λ f. refl) k.events.items k.waiting.items k.processes (vec_capacity k.waiting) c.self.invariant in
+    let kept = kept-first (stands_in Procurers c.args.at) _ _ _ _ set in
+    rw (c.set_available.ensures, c.serve.ensures.rest) (kept-wider _ _ _ _ _ kept c.serve.ensures.capacity)
+
+pub returns-clause-answer : goal.returns-clause-answer
+returns-clause-answer c =
+    let k = c.self.inside in
+    let here = rw (← c.self.view_is) at c.requires in
+    rw (← c.self.view_is)
+    (sym c.in_default.is ∙ c.serve.ensures.first ∙ ap (λ ks. slice_get ks 0) (procurers-shown c.args.at k.events.items k.waiting.items here))
+
+pub returns-clause-after : goal.returns-clause-after
+returns-clause-after c =
+    let k = c.self.inside in
+    let here = rw (← c.self.view_is) at c.requires in
+    rw (← c.self.view_is, c.set_available.ensures, c.serve.ensures.rest)
+    (ap (λ es. held es k.processes)
+    (liberated-freed c.args.at k.events.items k.waiting.items here (sym c.serve.ensures.first ∙ c.in_default.is)))

@@ -1,0 +1,6 @@
+pub mod Listed
+pub mod Shown
+pub mod Queued
+pub mod Steps
+pub mod EventLaws
+pub mod OnceLaws

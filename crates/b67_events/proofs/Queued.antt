@@ -1,0 +1,240 @@
+-- Each process that waits is known, waits once, and waits for an event that is open.
+use Rattle.std.proofs.Common.{◌≡◌, ℕ, ◌+◌, ◌<◌, ◌≤◌, Bool, true, false, cond, ◌&&◌, ◌||◌, eqb, List, [], ◌∷◌, ◌++◌, length, map, refl, sym, ap, ◌∙◌, subst, inl, inr, arith}
+use Rattle.std.specs.Prelude.{filter}
+use Rattle.std.specs.List.{list_any, IsDistinct, AllByRecursion}
+use Rattle.std.proofs.lemmas.Bool.{cases_Bool, cond-true, cond-false, and_parts, and_from, both_ways, false_from_ne_true, eqb-true, eq-eqb, ne_eqb, or_cases, or_parts, or_from, or_left, or_right}
+use Rattle.std.proofs.lemmas.List.Folds.{list_any-append}
+use Rattle.std.proofs.lemmas.List.{length-map}
+use Rattle.std.proofs.lemmas.Map.Steps.{length-le_from_distinct_below}
+use Rattle.b67_word.specs.declared.Place.{Place}
+use Rattle.b67_events.specs.Events.{same_place, is_waiting}
+use Rattle.b67_events.specs.Kept.{same_queue, stands_in, listed, events_of, has_flags, set_flags, without_first, among, AreQueued}
+use Rattle.b67_events.specs.declared.Flags.{Flags}
+use Rattle.b67_events.specs.declared.Queue.{Queue}
+use Rattle.b67_events.specs.declared.Queue.TheVariants.{Waiters, Procurers}
+use Rattle.b67_events.specs.declared.Waiting.{Waiting}
+use Rattle.b67_events.proofs.Listed.{same_place-true, same_place-self}
+
+module _ {X : Type 0} where
+  pub any-filter : (t r : X → Bool) (xs : List X) → list_any t xs ≡ false → list_any t (filter r xs) ≡ false
+  any-filter t r [] h = refl
+  any-filter t r (x ∷ xs) h =
+      let parts = or_parts (t x) (list_any t xs) h in
+      elim (cases_Bool (r x)) [
+        | inl e ↦ ap (list_any t) (cond-true (r x) (x ∷ filter r xs) (filter r xs) e) ∙ or_from (t x) (list_any t (filter r xs)) parts.0 (any-filter t r xs parts.1)
+        | inr e ↦ ap (list_any t) (cond-false (r x) (x ∷ filter r xs) (filter r xs) e) ∙ any-filter t r xs parts.1
+      ]
+
+  any-first : (t u : X → Bool) (xs : List X) → list_any t xs ≡ false → list_any t (without_first u xs) ≡ false
+  any-first t u [] h = refl
+  any-first t u (x ∷ xs) h =
+      let parts = or_parts (t x) (list_any t xs) h in
+      elim (cases_Bool (u x)) [
+        | inl e ↦ ap (list_any t) (cond-true (u x) xs (x ∷ without_first u xs) e) ∙ parts.1
+        | inr e ↦
+            ap (list_any t) (cond-false (u x) xs (x ∷ without_first u xs) e)
+            ∙ or_from (t x) (list_any t (without_first u xs)) parts.0 (any-first t u xs parts.1)
+      ]
+
+-- some who wait go, and the events that the others wait for stay open
+pub queued-filter : (fs gs : List Flags) (n : ℕ) (r : Waiting → Bool)
+    → ((w : Waiting) → r w ≡ true → has_flags w.place fs ≡ true → has_flags w.place gs ≡ true)
+    → (ws : List Waiting) → AreQueued fs n ws → AreQueued gs n (filter r ws)
+queued-filter fs gs n r stays [] h = tt
+queued-filter fs gs n r stays (w ∷ ws) h =
+    let rest = queued-filter fs gs n r stays ws h.4 in
+    elim (cases_Bool (r w)) [
+      | inl e ↦
+          subst (AreQueued gs n) (sym (cond-true (r w) (w ∷ filter r ws) (filter r ws) e))
+          (h.0, h.1, stays w e h.2, any-filter (λ v. eqb w.process v.process) r ws h.3, rest)
+      | inr e ↦ subst (AreQueued gs n) (sym (cond-false (r w) (w ∷ filter r ws) (filter r ws) e)) rest
+    ]
+
+pub queued-flags : (fs gs : List Flags) (n : ℕ) → ((at : Place) → has_flags at fs ≡ true → has_flags at gs ≡ true)
+    → (ws : List Waiting) → AreQueued fs n ws → AreQueued gs n ws
+queued-flags fs gs n stays [] h = tt
+queued-flags fs gs n stays (w ∷ ws) h = (h.0, h.1, stays w.place h.2, h.3, queued-flags fs gs n stays ws h.4)
+
+pub queued-first : (fs gs : List Flags) (n : ℕ) (u : Waiting → Bool)
+    → ((at : Place) → has_flags at fs ≡ true → has_flags at gs ≡ true)
+    → (ws : List Waiting) → AreQueued fs n ws → AreQueued gs n (without_first u ws)
+queued-first fs gs n u stays [] h = tt
+queued-first fs gs n u stays (w ∷ ws) h = elim (cases_Bool (u w)) [
+  | inl e ↦ subst (AreQueued gs n) (sym (cond-true (u w) ws (w ∷ without_first u ws) e)) (queued-flags fs gs n stays ws h.4)
+  | inr e ↦
+      subst (AreQueued gs n) (sym (cond-false (u w) ws (w ∷ without_first u ws) e))
+      (h.0, h.1, stays w.place h.2, any-first (λ v. eqb w.process v.process) u ws h.3, queued-first fs gs n u stays ws h.4)
+]
+
+eqb-turn : (a b : ℕ) → eqb a b ≡ false → eqb b a ≡ false
+eqb-turn a b h = false_from_ne_true (eqb b a) (λ k. both_ways (eqb a b) h (eq-eqb a b (sym (eqb-true b a k))))
+
+pub queued-push : (fs : List Flags) (n : ℕ) (w : Waiting) → 1 ≤ w.process → w.process ≤ n → has_flags w.place fs ≡ true
+    → (ws : List Waiting) → among w.process ws ≡ false → AreQueued fs n ws → AreQueued fs n (ws ++ w ∷ [])
+queued-push fs n w low high stays [] idle h = (low, high, stays, refl, tt)
+queued-push fs n w low high stays (v ∷ ws) idle h =
+    let parts = or_parts (eqb w.process v.process) (among w.process ws) idle in
+    let apart : eqb v.process w.process ≡ false = eqb-turn w.process v.process parts.0 in
+    let once : among v.process (ws ++ w ∷ []) ≡ false =
+    list_any-append (λ u. eqb v.process u.process) ws (w ∷ [])
+    ∙ or_from (among v.process ws) (among v.process (w ∷ [])) h.3 (or_from (eqb v.process w.process) false apart refl) in
+    (h.0, h.1, h.2, once, queued-push fs n w low high stays ws parts.1 h.4)
+
+-- flags that are set, and events that are closed elsewhere, leave events open
+pub open-set : (at : Place) (change : Flags → Flags) → ((f : Flags) → (change f).place ≡ f.place)
+    → (fs : List Flags) (p : Place) → has_flags p fs ≡ true → has_flags p (set_flags at change fs) ≡ true
+open-set at change same [] p h = h
+open-set at change same (f ∷ fs) p h =
+    let b = same_place f.place at in
+    let place : (cond b (change f) f).place ≡ f.place = elim (cases_Bool b) [
+      | inl e ↦ ap (λ (g : Flags). g.place) (cond-true b (change f) f e) ∙ same f
+      | inr e ↦ ap (λ (g : Flags). g.place) (cond-false b (change f) f e)
+    ] in
+    let g = cond b (change f) f in
+    elim (or_cases (same_place f.place p) (has_flags p fs) h) [
+      | inl k ↦ or_left (same_place g.place p) (has_flags p (set_flags at change fs)) (ap (λ q. same_place q p) place ∙ k)
+      | inr k ↦ or_right (same_place g.place p) (has_flags p (set_flags at change fs)) (open-set at change same fs p k)
+    ]
+
+pub open-filter : (r : Place → Bool) (fs : List Flags) (p : Place) → r p ≡ true → has_flags p fs ≡ true → has_flags p (filter (λ f. r f.place) fs) ≡ true
+open-filter r [] p k h = h
+open-filter r (f ∷ fs) p k h =
+    let rest = filter (λ (g : Flags). r g.place) fs in
+    let b = r f.place in
+    elim (or_cases (same_place f.place p) (has_flags p fs) h) [
+      | inl e ↦
+          let kept : b ≡ true = ap r (same_place-true f.place p e) ∙ k in
+          ap (has_flags p) (cond-true b (f ∷ rest) rest kept) ∙ or_left (same_place f.place p) (has_flags p rest) e
+      | inr e ↦
+          let more : has_flags p rest ≡ true = open-filter r fs p k e in
+          elim (cases_Bool b) [
+            | inl t ↦ ap (has_flags p) (cond-true b (f ∷ rest) rest t) ∙ or_right (same_place f.place p) (has_flags p rest) more
+            | inr t ↦ ap (has_flags p) (cond-false b (f ∷ rest) rest t) ∙ more
+          ]
+    ]
+
+pub open-push : (fs : List Flags) (g : Flags) (p : Place) → has_flags p fs ≡ true → has_flags p (fs ++ g ∷ []) ≡ true
+open-push fs g p h = list_any-append (λ f. same_place f.place p) fs (g ∷ []) ∙ or_left (has_flags p fs) (has_flags p (g ∷ [])) h
+
+-- the numbers of those who wait are apart, and from 1 to n
+processes : List Waiting → List ℕ
+processes ws = map (λ w. w.process) ws
+
+apart_from : (p : ℕ) (ws : List Waiting) → among p ws ≡ false → AllByRecursion (λ q. eqb p q ≡ false) (processes ws)
+unfolding processes
+apart_from p [] h = tt
+apart_from p (w ∷ ws) h = let parts = or_parts (eqb p w.process) (among p ws) h in (parts.0, apart_from p ws parts.1)
+
+all_distinct : (fs : List Flags) (n : ℕ) (ws : List Waiting) → AreQueued fs n ws → IsDistinct eqb (processes ws)
+unfolding processes IsDistinct
+all_distinct fs n [] h = tt
+all_distinct fs n (w ∷ ws) h = (apart_from w.process ws h.3, all_distinct fs n ws h.4)
+
+all_below : (fs : List Flags) (n : ℕ) (ws : List Waiting) → AreQueued fs n ws → (q : ℕ) → list_any (eqb q) (processes ws) ≡ true → q < n + 1
+unfolding processes
+all_below fs n [] h q k = cc
+all_below fs n (w ∷ ws) h q k = elim (or_cases (eqb q w.process) (list_any (eqb q) (processes ws)) k) [
+  | inl e ↦ let same : q ≡ w.process = eqb-true q w.process e in let top : w.process ≤ n = h.1 in omega arith
+  | inr e ↦ all_below fs n ws h.4 q e
+]
+
+none_is_zero : (fs : List Flags) (n : ℕ) (ws : List Waiting) → AreQueued fs n ws → among 0 ws ≡ false
+none_is_zero fs n [] h = refl
+none_is_zero fs n (w ∷ ws) h =
+    let low : 1 ≤ w.process = h.0 in
+    or_from (eqb 0 w.process) (among 0 ws) (ne_eqb 0 w.process (λ e. omega arith)) (none_is_zero fs n ws h.4)
+
+-- there is room for one more who waits
+pub room-more : (fs : List Flags) (n : ℕ) (ws : List Waiting) (p : ℕ) → AreQueued fs n ws → 1 ≤ p → p ≤ n → among p ws ≡ false → length ws < n
+unfolding processes IsDistinct
+room-more fs n ws p h low high idle =
+    let all = 0 ∷ p ∷ processes ws in
+    let first : eqb 0 p ≡ false = ne_eqb 0 p (λ e. omega arith) in
+    let distinct : IsDistinct eqb all =
+    ((first, apart_from 0 ws (none_is_zero fs n ws h)), (apart_from p ws idle, all_distinct fs n ws h)) in
+    let below : (q : ℕ) → list_any (eqb q) all ≡ true → q < n + 1 = λ q k. elim (or_cases (eqb q 0) (eqb q p || list_any (eqb q) (processes ws)) k) [
+      | inl e ↦ let same : q ≡ 0 = eqb-true q 0 e in omega arith
+      | inr e ↦ elim (or_cases (eqb q p) (list_any (eqb q) (processes ws)) e) [
+        | inl t ↦ let same : q ≡ p = eqb-true q p t in omega arith
+        | inr t ↦ all_below fs n ws h q t
+      ]
+    ] in
+    omega (arith, length-le_from_distinct_below all (n + 1) distinct below, length-map ws (λ w. w.process))
+
+-- no more wait than there are processes
+pub room-all : (fs : List Flags) (n : ℕ) (ws : List Waiting) → AreQueued fs n ws → length ws ≤ n
+unfolding processes IsDistinct
+room-all fs n ws h =
+    let all = 0 ∷ processes ws in
+    let distinct : IsDistinct eqb all = (apart_from 0 ws (none_is_zero fs n ws h), all_distinct fs n ws h) in
+    let below : (q : ℕ) → list_any (eqb q) all ≡ true → q < n + 1 = λ q k. elim (or_cases (eqb q 0) (list_any (eqb q) (processes ws)) k) [
+      | inl e ↦ let same : q ≡ 0 = eqb-true q 0 e in omega arith
+      | inr t ↦ all_below fs n ws h q t
+    ] in
+    omega (arith, length-le_from_distinct_below all (n + 1) distinct below, length-map ws (λ w. w.process))
+
+-- a process that no event shows does not wait
+abbrev waits_so : Queue → Place → ℕ → Waiting → Bool
+waits_so queue at p w = stands_in queue at w && eqb p w.process
+
+listed-has : (queue : Queue) (at : Place) (p : ℕ) (ws : List Waiting) → list_any (waits_so queue at p) ws ≡ true → list_any (eqb p) (listed queue at ws) ≡ true
+listed-has queue at p [] h = h
+listed-has queue at p (w ∷ ws) h =
+    let t = stands_in queue at w in
+    let rest = filter (stands_in queue at) ws in
+    let numbers : List Waiting → List ℕ = map (λ w. w.process) in
+    elim (or_cases (waits_so queue at p w) (list_any (waits_so queue at p) ws) h) [
+      | inl e ↦
+          let parts = and_parts t (eqb p w.process) e in
+          ap (λ ks. list_any (eqb p) (numbers ks)) (cond-true t (w ∷ rest) rest parts.0) ∙ or_left (eqb p w.process) (list_any (eqb p) (listed queue at ws)) parts.1
+      | inr e ↦
+          let more = listed-has queue at p ws e in
+          elim (cases_Bool t) [
+            | inl k ↦
+                ap (λ ks. list_any (eqb p) (numbers ks)) (cond-true t (w ∷ rest) rest k) ∙ or_right (eqb p w.process) (list_any (eqb p) (listed queue at ws)) more
+            | inr k ↦ ap (λ ks. list_any (eqb p) (numbers ks)) (cond-false t (w ∷ rest) rest k) ∙ more
+          ]
+    ]
+
+both-have : (queue : Queue) (at : Place) (p : ℕ) (ws : List Waiting) → list_any (eqb p) (listed queue at ws) ≡ true
+    → list_any (eqb p) (listed Waiters at ws ++ listed Procurers at ws) ≡ true
+both-have Waiters at p ws h =
+    list_any-append (eqb p) (listed Waiters at ws) (listed Procurers at ws)
+    ∙ or_left (list_any (eqb p) (listed Waiters at ws)) (list_any (eqb p) (listed Procurers at ws)) h
+both-have Procurers at p ws h =
+    list_any-append (eqb p) (listed Waiters at ws) (listed Procurers at ws)
+    ∙ or_right (list_any (eqb p) (listed Waiters at ws)) (list_any (eqb p) (listed Procurers at ws)) h
+
+waiting-shown : (queue : Queue) (at : Place) (p : ℕ) (ws : List Waiting) → list_any (eqb p) (listed queue at ws) ≡ true
+    → (fs : List Flags) → has_flags at fs ≡ true → is_waiting p (events_of fs ws) ≡ true
+waiting-shown queue at p ws h [] k = k
+waiting-shown queue at p ws h (f ∷ fs) k =
+    let here = list_any (eqb p) (listed Waiters f.place ws ++ listed Procurers f.place ws) in
+    elim (or_cases (same_place f.place at) (has_flags at fs) k) [
+      | inl e ↦
+          let same : at ≡ f.place = sym (same_place-true f.place at e) in
+          or_left here (is_waiting p (events_of fs ws)) (both-have queue f.place p ws (ap (λ q. list_any (eqb p) (listed queue q ws)) (sym same) ∙ h))
+      | inr e ↦ or_right here (is_waiting p (events_of fs ws)) (waiting-shown queue at p ws h fs e)
+    ]
+
+same_queue-self : (queue : Queue) → same_queue queue queue ≡ true
+same_queue-self Waiters = refl
+same_queue-self Procurers = refl
+
+idle-among : (fs : List Flags) (n : ℕ) (all : List Waiting) (p : ℕ) → is_waiting p (events_of fs all) ≡ false
+    → (ws : List Waiting) → ((queue : Queue) (at : Place) → list_any (waits_so queue at p) ws ≡ true → list_any (waits_so queue at p) all ≡ true)
+    → AreQueued fs n ws → among p ws ≡ false
+idle-among fs n all p idle [] within h = refl
+idle-among fs n all p idle (w ∷ ws) within h =
+    let rest = idle-among fs n all p idle ws
+    (λ queue at k. within queue at (or_right (waits_so queue at p w) (list_any (waits_so queue at p) ws) k)) h.4 in
+    let apart : eqb p w.process ≡ false = false_from_ne_true (eqb p w.process) (λ e.
+    let stands : stands_in w.queue w.place w ≡ true =
+    and_from (same_place w.place w.place) (same_queue w.queue w.queue) (same_place-self w.place w.place refl) (same_queue-self w.queue) in
+    let here = or_left (waits_so w.queue w.place p w) (list_any (waits_so w.queue w.place p) ws) (and_from (stands_in w.queue w.place w) (eqb p w.process) stands e) in
+    both_ways (is_waiting p (events_of fs all)) idle
+    (waiting-shown w.queue w.place p all (listed-has w.queue w.place p all (within w.queue w.place here)) fs h.2)) in
+    or_from (eqb p w.process) (among p ws) apart rest
+
+pub idle-is_not_among : (fs : List Flags) (n : ℕ) (ws : List Waiting) (p : ℕ) → AreQueued fs n ws → is_waiting p (events_of fs ws) ≡ false → among p ws ≡ false
+idle-is_not_among fs n ws p h idle = idle-among fs n ws p idle ws (λ queue at k. k) h

@@ -1,0 +1,475 @@
+//! The events of the machine: who waits for them to happen, and who waits to procure them.
+//!
+//! The actions are those of the B6700's Extended ALGOL on events: CAUSE, RESET, WAIT, HAPPENED, PROCURE and
+//! LIBERATE. That processes are released in the order in which they came is this project's profile.
+#![tactic(auto)]
+
+ghost use Rattle.std.specs.Prelude.{◌≡◌, ℕ, ◌+◌, ◌<◌, ◌≤◌, not, [], ◌∷◌, ◌++◌, map, filter, length, slice_get, vec_len, vec_capacity, IfOk, OnOk, OnErr, IsTrue, IsFalse, if◌then◌else◌};
+ghost use Rattle.b67_events.specs.Events.{same_place, is_open, is_from, happened_at, available_at, waiters_at, procurers_at, is_waiting, changed, opened, closed_from, waited, caused, cleared, procured, liberated, took};
+ghost use Rattle.b67_events.specs.Kept.{same_queue, stands_in, listed, flags_at, flag_of, has_flags, set_flags, with_happened, with_available, without_first};
+ghost use Rattle.b67_events.specs.Laws.{OneEventChanges, EventsStayApart};
+ghost use Rattle.b67_events.specs.Once.{EachWaitsOnce, ReleasedWaitNowhere};
+ghost use Rattle.b67_events.specs.declared.Queue.TheVariants.{Waiters, Procurers};
+
+use b67_word::Place;
+use std::alloc::{AllocError, Global};
+use std::marker::Model;
+
+/// Whether a process goes on, or waits.
+#[derive(Clone, Copy, PartialEq, Eq, Debug)]
+pub enum Took {
+    Went,
+    Waits,
+}
+
+/// The processes that an event released, in the order in which they came to wait.
+#[derive(Drop)]
+pub struct Woken {
+    pub processes: Vec<u32>,
+}
+
+// An event that is open at a place.
+#[derive(Clone, Copy)]
+struct Flags {
+    place: Place,
+    happened: bool,
+    available: bool,
+}
+
+// The two lists of an event: those who wait for it to happen, and those who wait to procure it.
+#[derive(Clone, Copy)]
+enum Queue {
+    Waiters,
+    Procurers,
+}
+
+impl Flags {
+    // Sets whether the event has happened, where it is the one at a place.
+    fn set_happened(&mut self, at: Place, happened: bool)
+        ensures { self.new ≡ (if same_place self.old.place at then with_happened happened self.old else self.old) }
+    {
+        if is_at(self.place, at) {
+            self.happened = happened;
+        }
+    }
+
+    // Sets whether the event is available, where it is the one at a place.
+    fn set_available(&mut self, at: Place, available: bool)
+        ensures { self.new ≡ (if same_place self.old.place at then with_available available self.old else self.old) }
+    {
+        if is_at(self.place, at) {
+            self.available = available;
+        }
+    }
+}
+
+// A process that waits in a list of the event at a place.
+#[derive(Clone, Copy)]
+struct Waiting {
+    process: u32,
+    place: Place,
+    queue: Queue,
+}
+
+/// The events that are open, each at its place, and the processes that wait for them.
+///
+/// Contracts see a kernel as the list of its events, each with its place, whether it has happened, whether it
+/// is available, and the processes that wait for it to happen and to procure it, both in order of arrival, and
+/// as the number of processes that it has room for. Processes are numbered from 1.
+#[derive(Drop)]
+pub struct Kernel {
+    events: Vec<Flags>,
+    // All who wait, in order of arrival; an event's lists are what it shows of this one.
+    waiting: Vec<Waiting>,
+    processes: u32,
+}
+
+impl Model for Kernel {
+    ghost use Rattle.std.specs.Prelude.{vec_capacity};
+    ghost use Rattle.b67_events.specs.Events.{Events};
+    ghost use Rattle.b67_events.specs.Kept.{events_of, IsKept};
+
+    ghost Value = { Events };
+
+    ghost view = { λ k. record { events = events_of k.events.items k.waiting.items; room = k.processes } };
+
+    ghost invariant = { λ k. IsKept k.events.items k.waiting.items k.processes (vec_capacity k.waiting) };
+}
+
+// Tests that two places are one.
+fn is_at(place: Place, at: Place) -> bool
+    ensures { result ≡ same_place place at }
+{
+    place.stack == at.stack && place.at == at.at
+}
+
+// Tests that a place lies in this stack, at this displacement or above.
+fn is_above(place: Place, stack: u16, at: u32) -> bool
+    ensures { result ≡ is_from stack at place }
+{
+    place.stack == stack && at <= u32::from(place.at)
+}
+
+impl Waiting {
+    // Tests that it stands in this list of the event at a place.
+    fn is_in(&self, queue: Queue, at: Place) -> bool
+        ensures { result ≡ stands_in queue at self.now }
+    {
+        is_at(at, self.place)
+            && match (queue, self.queue) {
+                (Queue::Waiters, Queue::Waiters) => true,
+                (Queue::Waiters, Queue::Procurers) => false,
+                (Queue::Procurers, Queue::Waiters) => false,
+                (Queue::Procurers, Queue::Procurers) => true,
+            }
+    }
+}
+
+// The flags of the event that is open at a place.
+fn flags_of(events: &[Flags], at: Place) -> Option<Flags>
+    ensures { result ≡ flags_at at events.now }
+{
+    'finding: for flags in events {
+        if is_at(flags.place, at) {
+            return Some(*flags);
+        }
+    }
+    None
+}
+
+// Tests that an event is open at a place.
+fn is_open(events: &[Flags], at: Place) -> bool
+    ensures { result ≡ has_flags at events.now }
+{
+    events.iter().any(|flags| is_at(flags.place, at))
+}
+
+// Tests that the event that is open at a place has happened.
+fn has_happened(events: &[Flags], at: Place) -> bool
+    ensures { result ≡ flag_of (λ f. f.happened) (flags_at at events.now) }
+{
+    match flags_of(events, at) {
+        Some(flags) => flags.happened,
+        None => false,
+    }
+}
+
+// Tests that the event that is open at a place is available.
+fn is_available(events: &[Flags], at: Place) -> bool
+    ensures { result ≡ flag_of (λ f. f.available) (flags_at at events.now) }
+{
+    match flags_of(events, at) {
+        Some(flags) => flags.available,
+        None => false,
+    }
+}
+
+// Sets whether the event at a place has happened.
+fn set_happened(events: &mut Vec<Flags>, at: Place, happened: bool)
+    ensures { events.new.items ≡ set_flags at (with_happened happened) events.old.items }
+{
+    'setting: for flags in events.iter_mut() {
+        flags.set_happened(at, happened);
+    }
+}
+
+// Sets whether the event at a place is available.
+fn set_available(events: &mut Vec<Flags>, at: Place, available: bool)
+    ensures { events.new.items ≡ set_flags at (with_available available) events.old.items }
+{
+    'setting: for flags in events.iter_mut() {
+        flags.set_available(at, available);
+    }
+}
+
+// Takes the event at a place out of the list.
+fn remove_event(events: &mut Vec<Flags>, at: Place)
+    ensures kept { events.new.items ≡ filter (λ f. not (same_place f.place at)) events.old.items }
+    ensures capacity { vec_capacity events.new ≡ vec_capacity events.old }
+    ensures bound { vec_len events.new ≤ vec_len events.old }
+{
+    events.retain(|flags| !is_at(flags.place, at));
+}
+
+// Takes all who wait for the event at a place out of the list.
+fn forget(waiting: &mut Vec<Waiting>, at: Place)
+    ensures kept { waiting.new.items ≡ filter (λ w. not (same_place w.place at)) waiting.old.items }
+    ensures capacity { vec_capacity waiting.old ≤ vec_capacity waiting.new }
+{
+    waiting.retain(|one| !is_at(one.place, at));
+}
+
+// Takes the events of a stack at a displacement and above out of the list.
+fn remove_events_from(events: &mut Vec<Flags>, stack: u16, at: u32)
+    ensures { events.new.items ≡ filter (λ f. not (is_from stack at f.place)) events.old.items }
+{
+    events.retain(|flags| !is_above(flags.place, stack, at));
+}
+
+// Takes all who wait for the events of a stack at a displacement and above out of the list.
+fn forget_from(waiting: &mut Vec<Waiting>, stack: u16, at: u32)
+    ensures kept { waiting.new.items ≡ filter (λ w. not (is_from stack at w.place)) waiting.old.items }
+    ensures capacity { vec_capacity waiting.old ≤ vec_capacity waiting.new }
+{
+    waiting.retain(|one| !is_above(one.place, stack, at));
+}
+
+// Puts one who waits at the end of the list.
+fn enqueue(waiting: &mut Vec<Waiting>, one: Waiting)
+    requires { length waiting.old.items < vec_capacity waiting.old }
+    ensures items { waiting.new.items ≡ waiting.old.items ++ one ∷ [] }
+    ensures capacity { vec_capacity waiting.old ≤ vec_capacity waiting.new }
+{
+    waiting.push(one).unwrap();
+}
+
+// Puts a process at the end of those who are released.
+fn wake(woken: &mut Vec<u32>, process: u32)
+    requires { length woken.old.items < vec_capacity woken.old }
+    ensures items { woken.new.items ≡ woken.old.items ++ process ∷ [] }
+    ensures capacity { vec_capacity woken.old ≤ vec_capacity woken.new }
+{
+    woken.push(process).unwrap();
+}
+
+// Takes those who wait for the event at a place to happen out of the list, and puts them into `woken`.
+fn release(waiting: &mut Vec<Waiting>, at: Place, woken: &mut Vec<u32>)
+    requires { length woken.old.items + length waiting.old.items ≤ vec_capacity woken.old }
+    ensures kept { waiting.new.items ≡ filter (λ w. not (stands_in Waiters at w)) waiting.old.items }
+    ensures capacity { vec_capacity waiting.old ≤ vec_capacity waiting.new }
+    ensures woken { woken.new.items ≡ woken.old.items ++ listed Waiters at waiting.old.items }
+    ensures room { vec_capacity woken.old ≤ vec_capacity woken.new }
+{
+    let mut kept = 0;
+    'waiting: for index in 0..waiting.len() {
+        let one = waiting[index];
+        if one.is_in(Queue::Waiters, at) {
+            wake(woken, one.process);
+        } else {
+            waiting[kept] = one;
+            kept += 1;
+        }
+    }
+    waiting.truncate(kept);
+}
+
+// Takes the first who waits to procure the event at a place out of the list, and gives it.
+fn serve(waiting: &mut Vec<Waiting>, at: Place) -> Option<u32>
+    ensures first { result ≡ slice_get (listed Procurers at waiting.old.items) 0 }
+    ensures rest { waiting.new.items ≡ without_first (stands_in Procurers at) waiting.old.items }
+    ensures capacity { vec_capacity waiting.old ≤ vec_capacity waiting.new }
+{
+    'serving: for index in 0..waiting.len() {
+        if waiting[index].is_in(Queue::Procurers, at) {
+            return Some(waiting.remove(index).process);
+        }
+    }
+    None
+}
+
+impl Kernel {
+    /// A kernel without events, with room for this many processes to wait.
+    pub fn with_room(alloc: Global, processes: u32) -> Result<Kernel, AllocError>
+        ensures { IfOk result (λ kernel. kernel ≡ record { events = []; room = processes }) }
+    {
+        Ok(Kernel {
+            events: Vec::new(alloc),
+            waiting: Vec::with_capacity(alloc, processes as usize)?,
+            processes,
+        })
+    }
+
+    /// Opens a fresh event at a place: it has not happened, is available, and nobody waits for it. An event
+    /// that is open there is replaced. On `Err` nothing changes.
+    pub fn open_event(&mut self, at: Place) -> Result<(), AllocError>
+        ensures ok { OnOk result (self.new ≡ record self.old { events = opened at self.old.events }) }
+        ensures err { OnErr result (self.new ≡ self.old) }
+    {
+        self.events.reserve(1)?;
+        remove_event(&mut self.events, at);
+        forget(&mut self.waiting, at);
+        self.events
+            .push(Flags {
+                place: at,
+                happened: false,
+                available: true,
+            })
+            .unwrap();
+        Ok(())
+    }
+
+    /// Closes the events of a stack at a displacement and above. Who waits for one of them waits no more.
+    pub fn close_from(&mut self, stack: u16, at: u32)
+        ensures { self.new ≡ record self.old { events = closed_from stack at self.old.events } }
+    {
+        remove_events_from(&mut self.events, stack, at);
+        forget_from(&mut self.waiting, stack, at);
+    }
+
+    /// Tests that an event is open at a place.
+    pub fn is_open(&self, at: Place) -> bool
+        ensures { result ≡ is_open at self.now.events }
+    {
+        is_open(&self.events, at)
+    }
+
+    /// Lets a process go on where the event at a place has happened; else it waits for it, after all who wait.
+    pub fn wait(&mut self, at: Place, process: u32) -> Took
+        requires open { IsTrue (is_open at self.old.events) }
+        requires process { (1 ≤ process) × (process ≤ self.old.room) }
+        requires idle { IsFalse (is_waiting process self.old.events) }
+        ensures answer { result ≡ took (happened_at at self.old.events) }
+        ensures after { self.new ≡ record self.old { events = waited at process self.old.events } }
+    {
+        if has_happened(&self.events, at) {
+            return Took::Went;
+        }
+        enqueue(
+            &mut self.waiting,
+            Waiting {
+                process,
+                place: at,
+                queue: Queue::Waiters,
+            },
+        );
+        Took::Waits
+    }
+
+    /// Makes the event at a place happen, and releases all who wait for it: `woken` is emptied, and then has
+    /// them in the order in which they came. It has room for as many processes as the kernel, and keeps it.
+    pub fn cause(&mut self, at: Place, woken: &mut Woken)
+        requires open { IsTrue (is_open at self.old.events) }
+        requires room { self.old.room ≤ vec_capacity woken.old.processes }
+        ensures after { self.new ≡ record self.old { events = changed at caused self.old.events } }
+        ensures woken { woken.new.processes.items ≡ waiters_at at self.old.events }
+        ensures room { vec_capacity woken.old.processes ≤ vec_capacity woken.new.processes }
+    {
+        woken.processes.clear();
+        set_happened(&mut self.events, at, true);
+        release(&mut self.waiting, at, &mut woken.processes);
+    }
+
+    /// Makes the event at a place one that has not happened. Who was released stays released, and who waits
+    /// goes on waiting.
+    pub fn reset(&mut self, at: Place)
+        requires { IsTrue (is_open at self.old.events) }
+        ensures { self.new ≡ record self.old { events = changed at cleared self.old.events } }
+    {
+        set_happened(&mut self.events, at, false);
+    }
+
+    /// Tests that the event at a place has happened.
+    pub fn happened(&self, at: Place) -> bool
+        requires { IsTrue (is_open at self.now.events) }
+        ensures { result ≡ happened_at at self.now.events }
+    {
+        has_happened(&self.events, at)
+    }
+
+    /// Lets a process take the event at a place where it is available; else it waits to procure it, after all
+    /// who wait.
+    pub fn procure(&mut self, at: Place, process: u32) -> Took
+        requires open { IsTrue (is_open at self.old.events) }
+        requires process { (1 ≤ process) × (process ≤ self.old.room) }
+        requires idle { IsFalse (is_waiting process self.old.events) }
+        ensures answer { result ≡ took (available_at at self.old.events) }
+        ensures after { self.new ≡ record self.old { events = procured at process self.old.events } }
+    {
+        if is_available(&self.events, at) {
+            set_available(&mut self.events, at, false);
+            return Took::Went;
+        }
+        enqueue(
+            &mut self.waiting,
+            Waiting {
+                process,
+                place: at,
+                queue: Queue::Procurers,
+            },
+        );
+        Took::Waits
+    }
+
+    /// Gives the event at a place to the first who waits to procure it, and answers that process; where nobody
+    /// does, the event is available.
+    pub fn liberate(&mut self, at: Place) -> Option<u32>
+        requires { IsTrue (is_open at self.old.events) }
+        ensures answer { result ≡ slice_get (procurers_at at self.old.events) 0 }
+        ensures after { self.new ≡ record self.old { events = liberated at self.old.events } }
+    {
+        if let Some(process) = serve(&mut self.waiting, at) {
+            return Some(process);
+        }
+        set_available(&mut self.events, at, true);
+        None
+    }
+}
+
+/// Law: the events are a map from places. An action changes the event at its place, and every other event
+/// stays as it is.
+pub fn one_event_changes()
+    ensures { OneEventChanges }
+{}
+
+/// Law: no action opens a second event at a place.
+pub fn events_stay_apart()
+    ensures { EventsStayApart }
+{}
+
+/// Law: where each process waits once, at the most, and no two events are open at one place, each waits once
+/// after every action.
+pub fn each_waits_once()
+    ensures { EachWaitsOnce }
+{}
+
+/// Law: where each process waits once, who is released by a cause, or is given an event that is liberated,
+/// waits nowhere.
+pub fn released_wait_nowhere()
+    ensures { ReleasedWaitNowhere }
+{}
+
+#[cfg(test)]
+mod tests {
+    use super::*;
+    use std::test::Fail;
+
+    #[test]
+    fn procurers_are_served_in_order(rt: HostRuntime) -> Result<(), Fail> {
+        let at = Place { stack: 1, at: 2 };
+        let mut kernel = Kernel::with_room(rt.alloc(), 4)?;
+        kernel.open_event(at)?;
+        assert_eq!(rt; kernel.procure(at, 1), Took::Went);
+        assert_eq!(rt; kernel.procure(at, 2), Took::Waits);
+        assert_eq!(rt; kernel.procure(at, 3), Took::Waits);
+        assert_eq!(rt; kernel.liberate(at), Some(2));
+        assert_eq!(rt; kernel.liberate(at), Some(3));
+        assert_eq!(rt; kernel.liberate(at), None);
+        assert_eq!(rt; kernel.procure(at, 4), Took::Went);
+        Ok(())
+    }
+
+    #[test]
+    fn released_stay_released(rt: HostRuntime) -> Result<(), Fail> {
+        let one = Place { stack: 1, at: 2 };
+        let other = Place { stack: 2, at: 7 };
+        let mut kernel = Kernel::with_room(rt.alloc(), 2)?;
+        let mut woken = Woken {
+            processes: Vec::with_capacity(rt.alloc(), 2)?,
+        };
+        kernel.open_event(one)?;
+        kernel.open_event(other)?;
+        assert_eq!(rt; kernel.wait(one, 2), Took::Waits);
+        assert_eq!(rt; kernel.wait(one, 1), Took::Waits);
+        kernel.cause(one, &mut woken);
+        assert_eq!(rt; kernel.happened(one), true);
+        kernel.reset(one);
+        assert_eq!(rt; kernel.happened(one), false);
+        assert_eq!(rt; woken.processes.as_slice(), [2, 1].as_slice());
+        assert_eq!(rt; kernel.wait(one, 2), Took::Waits);
+        kernel.close_from(1, 2);
+        assert_eq!(rt; kernel.is_open(one), false);
+        assert_eq!(rt; kernel.is_open(other), true);
+        assert_eq!(rt; kernel.wait(other, 2), Took::Waits);
+        Ok(())
+    }
+}

@@ -1,0 +1,4 @@
+pub mod Heaps
+pub mod Lists
+pub mod Tables
+pub mod StoreLaws

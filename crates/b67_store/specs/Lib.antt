@@ -1,0 +1,4 @@
+pub mod Store
+pub mod Numbers
+pub mod Table
+pub mod Laws

@@ -1,0 +1,247 @@
+//! The store of the machine: stacks of words, and rows of words for arrays.
+//!
+//! `Core` is what the rest of the machine sees of a store, as lists by number; it is the bound of every part
+//! that reads or writes words, so that each is proved once for every store. `ListCore` is a store that keeps
+//! each stack and each row in a list of its own. That a stack has at most 65,536 words, that at most 1,048,576
+//! words of rows count, and that row numbers are below 4,194,304 is this project's profile.
+#![tactic(auto)]
+
+ghost use Rattle.std.specs.Prelude.{◌≡◌, ℕ, ◌+◌, ◌-◌, ◌<◌, ◌≤◌, Bool, true, false, List, [], ◌∷◌, ◌++◌, length, take, Option, Some, None, slice_get, is_some, IfSome, is_ok, IfOk, IfErr, OnOk, OnErr, option_map, if◌then◌else◌, IsSome};
+ghost use Rattle.b67_store.specs.Laws.{IsByNumber, CountsOpenRows};
+ghost use Rattle.b67_word.specs.Word.{Word};
+ghost use Rattle.b67_store.specs.Store.{Row, Stacks, Rows, stack_at, words_of, word_at, with_stack, with_word, with_push, with_cut, opened_at, closed_at, least_free, stack_limit, PushFails, OpenFails, row_at, row_words, with_row_word, zero_row, counted_words, count_limit, row_limit, exceeds, RowFails};
+
+mod free_numbers;
+mod list_core;
+mod row;
+mod row_table;
+mod stack;
+mod stack_table;
+
+use b67_word::{Place, Word};
+pub use list_core::ListCore;
+use std::alloc::AllocError;
+
+/// There is no such stack, row or place.
+#[derive(Clone, Copy, PartialEq, Eq, Debug, Drop)]
+pub struct NoSuchPlace;
+
+/// Why a word was not pushed.
+#[derive(Clone, Copy, PartialEq, Eq, Debug)]
+pub enum PushFault {
+    /// The stack is not open.
+    NoSuchPlace,
+    /// The stack has 65,536 words.
+    StackLimit,
+}
+
+/// Why a stack was not opened.
+#[derive(Clone, Copy, PartialEq, Eq, Debug)]
+pub enum OpenFault {
+    /// A stack of this number is open.
+    InUse,
+    /// There is no memory for its words.
+    NoMemory,
+}
+
+/// Why a row was not opened.
+#[derive(Clone, Copy, PartialEq, Eq, Debug)]
+pub enum RowFault {
+    /// The counted words and the request exceed 1,048,576.
+    CoreFull,
+    /// There is no memory for its words, or all 4,194,304 numbers are in use.
+    NoMemory,
+}
+
+/// A store of stacks and rows, seen as lists by number.
+///
+/// A number of the lists has none where no stack, or no row, of that number is open. Each call leaves every
+/// other stack and every other row as it is, and a call that answers None or an error leaves all as it is.
+pub trait Core: Drop {
+    ghost use Rattle.b67_store.specs.Laws.{IsByNumber, CountsOpenRows};
+    ghost use Rattle.b67_word.specs.Word.{Word};
+    ghost use Rattle.b67_store.specs.Store.{Row, Stacks, Rows};
+
+    ghost stacks: { Self → Stacks };
+
+    ghost rows: { Self → Rows };
+
+    /// The word at a place. None comes exactly where the stack is not open or has no such word.
+    fn read(&self, at: Place) -> Option<Word>
+        ensures { result ≡ word_at (stacks self.now) at };
+
+    /// Puts a word in place of the one at a place. An error comes exactly where there is no word.
+    fn write(&mut self, at: Place, word: Word) -> Result<(), NoSuchPlace>
+        ensures found { is_ok result ≡ is_some (word_at (stacks self.old) at) }
+        ensures stacks { stacks self.new ≡ (if is_ok result then with_word (stacks self.old) at word else stacks self.old) }
+        ensures rows { rows self.new ≡ rows self.old };
+
+    /// The number of words of a stack, at most 65,536. None comes exactly where the stack is not open.
+    fn length(&self, stack: u16) -> Option<u32>
+        ensures value { result ≡ option_map length (stack_at (stacks self.now) stack) }
+        ensures bound { IfSome result (λ n. n ≤ stack_limit) };
+
+    /// Adds a word on top of a stack, and takes no memory. StackLimit comes exactly where the stack has
+    /// 65,536 words, NoSuchPlace exactly where it is not open.
+    fn push(&mut self, stack: u16, word: Word) -> Result<(), PushFault>
+        ensures room { OnOk result (IsSome (stack_at (stacks self.old) stack) × (length (words_of (stacks self.old) stack) < stack_limit)) }
+        ensures fault { IfErr result (PushFails (stacks self.old) stack) }
+        ensures stacks { stacks self.new ≡ (if is_ok result then with_push (stacks self.old) stack word else stacks self.old) }
+        ensures rows { rows self.new ≡ rows self.old };
+
+    /// Takes the word on top of a stack off it. None comes exactly where the stack is not open or empty.
+    fn pop(&mut self, stack: u16) -> Option<Word>
+        ensures value { result ≡ slice_get (words_of (stacks self.old) stack) (length (words_of (stacks self.old) stack) - 1) }
+        ensures stacks { stacks self.new ≡ (if is_some result then with_cut (stacks self.old) stack (length (words_of (stacks self.old) stack) - 1) else stacks self.old) }
+        ensures rows { rows self.new ≡ rows self.old };
+
+    /// Leaves the lowest words of a stack, so many of them; one that has fewer words stays as it is. An error
+    /// comes exactly where the stack is not open.
+    fn cut(&mut self, stack: u16, length: u32) -> Result<(), NoSuchPlace>
+        ensures found { is_ok result ≡ is_some (stack_at (stacks self.old) stack) }
+        ensures stacks { stacks self.new ≡ (if is_ok result then with_cut (stacks self.old) stack length else stacks self.old) }
+        ensures rows { rows self.new ≡ rows self.old };
+
+    /// Opens a stack without words, and takes the memory for all 65,536. InUse comes exactly where it is open.
+    fn open_stack(&mut self, stack: u16) -> Result<(), OpenFault>
+        ensures free { OnOk result (stack_at (stacks self.old) stack ≡ None) }
+        ensures fault { IfErr result (OpenFails (stacks self.old) stack) }
+        ensures stacks { stacks self.new ≡ (if is_ok result then opened_at (stacks self.old) stack [] else stacks self.old) }
+        ensures rows { rows self.new ≡ rows self.old };
+
+    /// Closes a stack with all its words. An error comes exactly where it is not open.
+    fn close_stack(&mut self, stack: u16) -> Result<(), NoSuchPlace>
+        ensures found { is_ok result ≡ is_some (stack_at (stacks self.old) stack) }
+        ensures stacks { stacks self.new ≡ (if is_ok result then closed_at (stacks self.old) stack else stacks self.old) }
+        ensures rows { rows self.new ≡ rows self.old };
+
+    /// Opens a row of operands 0, and gives its number: the least that is free, below 4,194,304. The words of a
+    /// counted row count. CoreFull comes exactly where the counted words and a counted request exceed
+    /// 1,048,576. Where no number is free, or no memory, it is NoMemory.
+    fn open_row(&mut self, length: u32, counted: bool) -> Result<u32, RowFault>
+        requires some { 1 ≤ length }
+        requires most { length ≤ count_limit }
+        ensures number { IfOk result (λ row. (row ≡ least_free (rows self.old)) × (row < row_limit)) }
+        ensures room { OnOk result (exceeds (rows self.old) length counted ≡ false) }
+        ensures fault { IfErr result (RowFails (rows self.old) length counted) }
+        ensures rows { IfOk result (λ row. rows self.new ≡ opened_at (rows self.old) row (zero_row length counted)) }
+        ensures unchanged { OnErr result (rows self.new ≡ rows self.old) }
+        ensures stacks { stacks self.new ≡ stacks self.old };
+
+    /// The word at a place of a row. None comes exactly where the row is not open or has no such word.
+    fn read_row(&self, row: u32, at: u32) -> Option<Word>
+        ensures { result ≡ slice_get (row_words (rows self.now) row) at };
+
+    /// Puts a word in place of the one at a place of a row. An error comes exactly where there is no word.
+    fn write_row(&mut self, row: u32, at: u32, word: Word) -> Result<(), NoSuchPlace>
+        ensures found { is_ok result ≡ is_some (slice_get (row_words (rows self.old) row) at) }
+        ensures rows { rows self.new ≡ (if is_ok result then with_row_word (rows self.old) row at word else rows self.old) }
+        ensures stacks { stacks self.new ≡ stacks self.old };
+
+    /// Closes a row, and takes no memory; its number is free, and its words count no more. An error comes
+    /// exactly where it is not open.
+    fn close_row(&mut self, row: u32) -> Result<(), NoSuchPlace>
+        ensures found { is_ok result ≡ is_some (row_at (rows self.old) row) }
+        ensures rows { rows self.new ≡ (if is_ok result then closed_at (rows self.old) row else rows self.old) }
+        ensures stacks { stacks self.new ≡ stacks self.old };
+
+    /// The number of words in all counted rows, at most 1,048,576.
+    fn counted(&self) -> u32
+        ensures value { result ≡ counted_words (rows self.now) }
+        ensures bound { result ≤ count_limit };
+}
+
+impl From<AllocError> for OpenFault {
+    ghost use Rattle.std.specs.Prelude.{◌≡◌};
+    ghost use Rattle.b67_store.specs.declared.OpenFault.TheVariants.{NoMemory};
+
+    ghost from_gives = { λ _ fault. fault ≡ NoMemory };
+
+    fn from(_: AllocError) -> OpenFault {
+        OpenFault::NoMemory
+    }
+}
+
+impl From<AllocError> for RowFault {
+    ghost use Rattle.std.specs.Prelude.{◌≡◌};
+    ghost use Rattle.b67_store.specs.declared.RowFault.TheVariants.{NoMemory};
+
+    ghost from_gives = { λ _ fault. fault ≡ NoMemory };
+
+    fn from(_: AllocError) -> RowFault {
+        RowFault::NoMemory
+    }
+}
+
+/// Law: opening, changing or closing at a number leaves every other number as it is. The least free number is
+/// free, and every number below it is open.
+pub fn numbers_stand_alone()
+    ensures stacks { IsByNumber (List Word) }
+    ensures rows { IsByNumber Row }
+{}
+
+/// Law: the words of a counted row count from its opening to its closing, whatever is written into it.
+pub fn open_rows_are_counted()
+    ensures { CountsOpenRows }
+{}
+
+#[cfg(test)]
+mod tests {
+    use super::*;
+    use b67_word::operand;
+    use std::process::Abort;
+
+    fn each_stack_call<C: Core>(rt: &impl Abort, core: &mut C) {
+        let at = Place { stack: 3, at: 1 };
+        assert_eq!(rt; core.open_stack(3), Ok(()));
+        assert_eq!(rt; core.push(3, operand(5)), Ok(()));
+        assert_eq!(rt; core.push(3, operand(6)), Ok(()));
+        assert_eq!(rt; core.write(at, operand(7)), Ok(()));
+        assert_eq!(rt; core.read(at), Some(operand(7)));
+        assert_eq!(rt; core.length(3), Some(2));
+        assert_eq!(rt; core.cut(3, 1), Ok(()));
+        assert_eq!(rt; core.pop(3), Some(operand(5)));
+        assert_eq!(rt; core.pop(3), None);
+        assert_eq!(rt; core.close_stack(3), Ok(()));
+        assert_eq!(rt; core.push(3, operand(6)), Err(PushFault::NoSuchPlace));
+    }
+
+    fn each_row_call<C: Core>(rt: &impl Abort, core: &mut C) {
+        assert_eq!(rt; core.open_row(10, true), Ok(0));
+        assert_eq!(rt; core.open_row(5, false), Ok(1));
+        assert_eq!(rt; core.write_row(0, 9, operand(8)), Ok(()));
+        assert_eq!(rt; core.read_row(0, 9), Some(operand(8)));
+        assert_eq!(rt; core.counted(), 10);
+        assert_eq!(rt; core.close_row(0), Ok(()));
+        assert_eq!(rt; core.counted(), 0);
+        assert_eq!(rt; core.open_row(10, true), Ok(0));
+        assert_eq!(rt; core.read_row(0, 9), Some(operand(0)));
+        assert_eq!(rt; core.open_row(7, true), Ok(2));
+    }
+
+    #[test]
+    fn every_call(rt: HostRuntime) {
+        let mut core = ListCore::new(rt.alloc());
+        each_stack_call(&rt, &mut core);
+        each_row_call(&rt, &mut core);
+    }
+
+    #[test]
+    fn limits(rt: HostRuntime) {
+        let mut core = ListCore::new(rt.alloc());
+        assert_eq!(rt; core.open_stack(1), Ok(()));
+        assert_eq!(rt; core.open_stack(1), Err(OpenFault::InUse));
+        assert_eq!(rt; core.open_row(1_048_576, true), Ok(0));
+        assert_eq!(rt; core.open_row(1, true), Err(RowFault::CoreFull));
+        for _ in 0..65_536 {
+            assert_eq!(rt; core.push(1, operand(1)), Ok(()));
+        }
+        assert_eq!(rt; core.push(1, operand(1)), Err(PushFault::StackLimit));
+        assert_eq!(rt; core.cut(1, 65_537), Ok(()));
+        assert_eq!(rt; core.length(1), Some(65_536));
+        assert_eq!(rt; core.cut(1, 65_536), Ok(()));
+        assert_eq!(rt; core.length(1), Some(65_536));
+        assert_eq!(rt; core.cut(1, 0), Ok(()));
+        assert_eq!(rt; core.length(1), Some(0));
+    }
+}

@@ -1,0 +1,139 @@
+// The rows by their numbers.
+ghost use Rattle.std.specs.Prelude.{◌≡◌, ℕ, ◌+◌, ◌-◌, ◌<◌, ◌≤◌, Bool, true, false, List, [], ◌∷◌, ◌++◌, length, Option, Some, None, slice_get, is_some, IfSome, is_ok, IfOk, IfErr, OnOk, OnErr, if◌then◌else◌};
+ghost use Rattle.b67_store.specs.Store.{row_at, row_words, with_row_word, opened_at, closed_at, least_free, zero_row, counted_words, count_limit, row_limit, live_words, exceeds, RowFails};
+
+use crate::free_numbers::FreeNumbers;
+use crate::row::{HeldRow, write_row_word};
+use crate::{NoSuchPlace, RowFault};
+use b67_word::Word;
+use std::alloc::{AllocError, Global};
+use std::marker::Model;
+
+const COUNT_LIMIT: u32 = 1_048_576;
+
+const ROW_LIMIT: usize = 4_194_304;
+
+#[derive(Drop)]
+pub struct RowTable {
+    rows: Vec<Option<HeldRow>>,
+    free: FreeNumbers,
+    counted: u32,
+}
+
+impl Model for RowTable {
+    ghost use Rattle.b67_store.specs.Store.{Rows};
+    ghost use Rattle.b67_store.specs.Table.{IsTable};
+
+    ghost Value = { Rows };
+
+    ghost view = { λ t. t.rows.items };
+
+    ghost invariant = { λ t. IsTable t.rows.items t.free t.counted };
+}
+
+impl RowTable {
+    #[tactic(auto, using(crate::proofs::Tables::empty_table))]
+    pub fn new(alloc: Global) -> RowTable
+        ensures { result ≡ [] }
+    {
+        RowTable {
+            rows: Vec::new(alloc),
+            free: FreeNumbers::new(alloc),
+            counted: 0,
+        }
+    }
+
+    pub fn read(&self, row: u32, at: u32) -> Option<Word>
+        ensures { result ≡ slice_get (row_words self.now row) at }
+    {
+        match self.rows.get(row as usize) {
+            Some(Some(row)) => row.get(at),
+            _ => None,
+        }
+    }
+
+    pub fn counted(&self) -> u32
+        ensures value { result ≡ counted_words self.now }
+        ensures bound { result ≤ count_limit }
+    {
+        self.counted
+    }
+
+    #[tactic(auto, using(crate::proofs::Lists::slots))]
+    pub fn write(&mut self, row: u32, at: u32, word: Word) -> Result<(), NoSuchPlace>
+        ensures found { is_ok result ≡ is_some (slice_get (row_words self.old row) at) }
+        ensures rows { self.new ≡ (if is_ok result then with_row_word self.old row at word else self.old) }
+    {
+        let Some(slot) = self.rows.get_mut(row as usize) else {
+            return Err(NoSuchPlace);
+        };
+        write_row_word(slot, at, word)
+    }
+
+    #[tactic(auto, using(crate::proofs::Lists::slots))]
+    pub fn close(&mut self, row: u32) -> Result<(), NoSuchPlace>
+        ensures found { is_ok result ≡ is_some (row_at self.old row) }
+        ensures rows { self.new ≡ (if is_ok result then closed_at self.old row else self.old) }
+    {
+        let Some(slot) = self.rows.get_mut(row as usize) else {
+            return Err(NoSuchPlace);
+        };
+        let Some(closed) = slot.take() else {
+            return Err(NoSuchPlace);
+        };
+        self.counted -= closed.live();
+        self.free.put(row);
+        Ok(())
+    }
+
+    // Whether the counted words and a counted request exceed the limit.
+    fn exceeds(&self, length: u32, counted: bool) -> bool
+        requires { length ≤ count_limit }
+        ensures value { result ≡ exceeds self.now length counted }
+        ensures few { counted_words self.now ≤ count_limit }
+    {
+        counted && COUNT_LIMIT < self.counted + length
+    }
+
+    #[tactic(auto, using(crate::proofs::Tables::requests))]
+    pub fn open(&mut self, alloc: Global, length: u32, counted: bool) -> Result<u32, RowFault>
+        requires { length ≤ count_limit }
+        ensures number { IfOk result (λ row. (row ≡ least_free self.old) × (row < row_limit)) }
+        ensures room { OnOk result (exceeds self.old length counted ≡ false) }
+        ensures fault { IfErr result (RowFails self.old length counted) }
+        ensures rows { IfOk result (λ row. self.new ≡ opened_at self.old row (zero_row length counted)) }
+        ensures unchanged { OnErr result (self.new ≡ self.old) }
+    {
+        if self.exceeds(length, counted) {
+            return Err(RowFault::CoreFull);
+        }
+        let row = HeldRow::zeros(alloc, length, counted)?;
+        let number = self.place(row)?;
+        Ok(number)
+    }
+
+    // Opens a row at the least number that is free.
+    #[tactic(auto, using(crate::proofs::Tables::placing))]
+    fn place(&mut self, row: HeldRow) -> Result<u32, AllocError>
+        requires { counted_words self.old + live_words (Some row) ≤ count_limit }
+        ensures number { IfOk result (λ n. (n ≡ least_free self.old) × (n < row_limit)) }
+        ensures rows { IfOk result (λ n. self.new ≡ opened_at self.old n row) }
+        ensures unchanged { OnErr result (self.new ≡ self.old) }
+    {
+        let more = row.live();
+        if let Some(number) = self.free.take_least() {
+            self.rows[number as usize] = Some(row);
+            self.counted += more;
+            return Ok(number);
+        }
+        let number = self.rows.len();
+        if number == ROW_LIMIT {
+            return Err(AllocError);
+        }
+        self.free.reserve(number + 1)?;
+        self.rows.reserve(1)?;
+        self.rows.push_reserved(Some(row));
+        self.counted += more;
+        Ok(number as u32)
+    }
+}
