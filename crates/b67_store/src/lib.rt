@@ -23,7 +23,7 @@ pub use list_core::ListCore;
 use std::alloc::AllocError;
 
 /// There is no such stack, row or place.
-#[derive(Clone, Copy, PartialEq, Eq, Debug, Drop)]
+#[derive(Clone, Copy, PartialEq, Eq, Debug)]
 pub struct NoSuchPlace;
 
 /// Why a word was not pushed.
@@ -58,9 +58,7 @@ pub enum RowFault {
 /// A number of the lists has none where no stack, or no row, of that number is open. Each call leaves every
 /// other stack and every other row as it is, and a call that answers None or an error leaves all as it is.
 pub trait Core: Drop {
-    ghost use Rattle.b67_store.specs.Laws.{IsByNumber, CountsOpenRows};
-    ghost use Rattle.b67_word.specs.Word.{Word};
-    ghost use Rattle.b67_store.specs.Store.{Row, Stacks, Rows};
+    ghost use Rattle.b67_store.specs.Store.{Stacks, Rows};
 
     ghost stacks: { Self → Stacks };
 
@@ -115,8 +113,8 @@ pub trait Core: Drop {
         ensures stacks { stacks self.new ≡ (if is_ok result then closed_at (stacks self.old) stack else stacks self.old) }
         ensures rows { rows self.new ≡ rows self.old };
 
-    /// Opens a row of operands 0, and gives its number: the least that is free, below 4,194,304. The words of a
-    /// counted row count. CoreFull comes exactly where the counted words and a counted request exceed
+    /// Opens a row of operands 0, of 1 to 1,048,576 words, and gives its number: the least that is free, below
+    /// 4,194,304, so that it fits a descriptor. The words of a counted row count. CoreFull comes exactly where the counted words and a counted request exceed
     /// 1,048,576. Where no number is free, or no memory, it is NoMemory.
     fn open_row(&mut self, length: u32, counted: bool) -> Result<u32, RowFault>
         requires some { 1 ≤ length }
