@@ -163,7 +163,21 @@ fn answer_call<S: Source>(
     }
 }
 
-/// The top call.
+/// The top call: reads the words of a command and a source, runs what they ask for in the caller as processor 1, and
+/// writes the answer.
+///
+/// `words` are the words after the program's name; today the one command is `run 1 B` with a budget B of 1 to 4,194,304
+/// operators. `source` gives the bytes of an ALGOL source, at most 262,144 of them, and is read to its end. `sink` gets
+/// the answer whole: the report of the run, or one line of refusal. It returns on every input.
+///
+/// The first of these that holds is the answer. `Usage` comes exactly where the words break the grammar, names the first
+/// word that does, and nothing is read. `ReadFault` comes only where the source's count of faults rose, and nothing is
+/// written. `TooLong` comes exactly where the source has too many bytes. `Refused` comes exactly where the text is no
+/// source that is built, at 1:1 with `Unbuilt`. Else the run is reported: `Finished`, or `BudgetSpent` where the operators
+/// came to the budget first. `WriteFault` comes only where the sink's count of faults rose, and what was written is a
+/// front of the answer. `NoMemory` may come instead of any of them, and then nothing is written.
+///
+/// Command, statuses and report are this project's profile.
 pub fn desk_alone<S: Source, K: Sink>(
     alloc: Global,
     words: &[String],
