@@ -3,9 +3,15 @@ use Rattle.std.specs.Prelude.{◌≡◌, ℕ, ◌≤◌, List, [], ◌∷◌, le
 use Rattle.algol_tree.specs.declared.token.Spot.{Spot}
 use Rattle.algol_tree.specs.declared.tree.Named.{Named}
 use Rattle.algol_tree.specs.declared.tree.PhraseText.TheVariants as phrases
-use Rattle.algol_tree.specs.Plain.{PExpr, number, variable, subscripted, none, more, PStmt, assign, write, PStmts, no_stmts, stmts, PProgram}
+use Rattle.algol_tree.specs.Plain.{PExpr, number, variable, two, subscripted, none, more, PStmt, assign, write, PStmts, no_stmts, stmts, PProgram}
 use Rattle.algol_tree.specs.Reads.{program_of}
 use Rattle.algol_tree.specs.Accepted.{names_of, width_in}
+use Rattle.algol_tree.specs.declared.tree.Op.{Op}
+use Rattle.algol_tree.specs.declared.tree.Op.TheVariants as operators
+use Rattle.algol_first.specs.declared.straight.Adding.{Adding}
+use Rattle.algol_first.specs.declared.straight.Adding.TheVariants as adding
+use Rattle.algol_first.specs.declared.straight.Term.{Term}
+use Rattle.algol_first.specs.declared.straight.Sum.{Sum}
 use Rattle.algol_first.specs.declared.straight.Operand.{Operand}
 use Rattle.algol_first.specs.declared.straight.Operand.TheVariants as operands
 use Rattle.algol_first.specs.declared.straight.Step.{Step}
@@ -16,10 +22,23 @@ use Rattle.algol_first.specs.declared.straight.Straight.{Straight}
 abbrev pub IsNumbered : List (List ℕ) → List ℕ → ℕ → Type 0
 IsNumbered names name k = slice_get names k ≡ Some name
 
-abbrev pub ResolvesExpr : List (List ℕ) → PExpr → Operand → Type 0
-ResolvesExpr names (number value spot) (operands.Number v) = (v ≡ value) × (unsigned_abs v ≤ 549755813887)
-ResolvesExpr names (variable (subscripted n none)) (operands.Integer k) = IsNumbered names n.name k
-ResolvesExpr names _ _ = ⊥
+abbrev pub ResolvesOperand : List (List ℕ) → PExpr → Operand → Type 0
+ResolvesOperand names (number value spot) (operands.Number v) = (v ≡ value) × (unsigned_abs v ≤ 549755813887)
+ResolvesOperand names (variable (subscripted n none)) (operands.Integer k) = IsNumbered names n.name k
+ResolvesOperand names _ _ = ⊥
+
+abbrev pub op_of : Adding → Op
+op_of adding.Add = operators.Add
+op_of adding.Subtract = operators.Sub
+
+-- e is `left` with the terms behind it, the first of them innermost
+abbrev pub ResolvesTerms : List (List ℕ) → PExpr → List Term → PExpr → Type 0
+ResolvesTerms names left [] e = e ≡ left
+ResolvesTerms names left (term ∷ terms) e =
+    (right : PExpr) × ResolvesOperand names right term.operand × ResolvesTerms names (two (op_of term.adding) left right) terms e
+
+abbrev pub ResolvesExpr : List (List ℕ) → PExpr → Sum → Type 0
+ResolvesExpr names e sum = (first : PExpr) × ResolvesOperand names first sum.first × ResolvesTerms names first sum.terms e
 
 abbrev pub ResolvesStmt : List (List ℕ) → PStmt → Step → Type 0
 ResolvesStmt names (assign (subscripted n none) e) (steps.Assign target value) = IsNumbered names n.name target × ResolvesExpr names e value

@@ -10,5 +10,5 @@ mod straight;
 mod unread;
 
 pub use front::straight_of;
-pub use straight::{Operand, Step, Straight};
+pub use straight::{Adding, Operand, Step, Straight, Sum, Term};
 pub use unread::Unread;

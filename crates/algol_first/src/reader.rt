@@ -4,29 +4,46 @@
 ghost use Rattle.std.specs.Prelude.{◌≡◌, ℤ, ◌↔◌, IsTrue, IfOk, IsErr, Err, IfSome, IfNone};
 ghost use Rattle.algol_tree.specs.declared.tree.Named.{Named};
 ghost use Rattle.algol_tree.specs.declared.token.Spot.{Spot};
-ghost use Rattle.algol_tree.specs.Plain.{PProgram};
-ghost use Rattle.algol_tree.specs.Reads.{IsWord, IsSymbol, IsName, IsFile, IsNames, IsExpr, IsStatement, IsStatements, Reads};
+ghost use Rattle.algol_tree.specs.declared.tree.Op.{Op};
+ghost use Rattle.algol_tree.specs.Plain.{PExpr, PProgram};
+ghost use Rattle.algol_tree.specs.Reads.{IsWord, IsSymbol, IsName, IsFile, IsNames, IsPrimary, IsAdding, IsExpr, IsStatement, IsStatements, Reads};
 ghost use Rattle.algol_first.specs.declared.unread.Unread.TheVariants.{Unbuilt};
 ghost use Rattle.algol_first.specs.Grammar.{Tokens, Names, Bytes, IsNamed, IsNumber, IsNumberAt, Fits, FitsAt, IsOne};
 ghost use Rattle.algol_first.specs.Grammar.{IsOnlyReading, HasNoReading, EndsDeclaration, EndsStatement, EndsStatements};
 ghost use Rattle.algol_first.specs.Grammar.{IsPrinter, IsFileDeclaration, IsIntegers, IsAssignment, IsPhrase, IsWriteList, IsClosing};
-ghost use Rattle.algol_first.specs.First.{expr_of, stmt_of, stmts_of, tree_of};
+ghost use Rattle.algol_first.specs.Straight.{op_of};
+ghost use Rattle.algol_first.specs.First.{primary_of, expr_of, stmt_of, stmts_of, tree_of};
 
+use crate::straight::Adding;
 use crate::unread::Unread;
 use algol_tree::{Line, List, Named, Reserved, Spot, Symbol, Token, TokenKind};
 use std::alloc::{AllocError, Global};
 
-/// What an assignment takes: a number, with its place, or an integer.
+/// An operand: a number, with its place, or an integer.
 #[derive(Drop)]
 pub enum Primary {
     Number(i64, Spot),
     Name(Named),
 }
 
+/// An operand that is added to the sum before it, or subtracted from it.
+#[derive(Drop)]
+pub struct Addend {
+    pub adding: Adding,
+    pub operand: Primary,
+}
+
+/// What an assignment takes: an operand, and the addends behind it, in the order of the text.
+#[derive(Drop)]
+pub struct Expression {
+    pub first: Primary,
+    pub addends: List<Addend>,
+}
+
 /// A statement: an assignment, or `WRITE (file, <phrase>, item)`, with the place of the `<`.
 #[derive(Drop)]
 pub enum Simple {
-    Assign(Named, Primary),
+    Assign(Named, Expression),
     Write {
         file: Named,
         spot: Spot,
@@ -239,17 +256,50 @@ fn strip_number(tokens: &[Token]) -> Option<(i64, Spot, &[Token])>
     }
 }
 
-/// expr = number | name
-fn read_expr(alloc: Global, tokens: &[Token]) -> Result<(Primary, &[Token]), Unread>
-    ensures reads { IfOk result (λ r. IsExpr tokens.now (expr_of r.0) r.1.now) }
-    ensures only { IfOk result (λ r. IsOnlyReading IsExpr EndsStatement tokens.now (expr_of r.0) r.1.now) }
-    ensures unbuilt { result ≡ Err Unbuilt → HasNoReading IsExpr EndsStatement tokens.now }
+/// primary = number | name
+fn read_primary(alloc: Global, tokens: &[Token]) -> Result<(Primary, &[Token]), Unread>
+    ensures reads { IfOk result (λ r. IsPrimary tokens.now (primary_of r.0) r.1.now) }
+    ensures only { IfOk result (λ r. (e : PExpr) (rest : Tokens) →
+        IsPrimary tokens.now e rest → (e ≡ primary_of r.0) × (rest ≡ r.1.now)) }
+    ensures unbuilt { result ≡ Err Unbuilt → (e : PExpr) (rest : Tokens) →
+        IsPrimary tokens.now e rest → ⊥ }
 {
     if let Some((value, spot, rest)) = strip_number(tokens) {
         return Ok((Primary::Number(value, spot), rest));
     }
     let (name, rest) = read_name(alloc, tokens)?;
     Ok((Primary::Name(name), rest))
+}
+
+/// What the adding operator in front does, and what follows it, where the tokens begin with one.
+fn strip_adding(tokens: &[Token]) -> Option<(Adding, &[Token])>
+    ensures found { IfSome result (λ r. IsOne (IsAdding (op_of r.0)) tokens.now r.1.now) }
+    ensures missing { IfNone result ((op : Op) (rest : Tokens) →
+        IsOne (IsAdding op) tokens.now rest → ⊥) }
+{
+    if let Some(rest) = strip(tokens, Wanted::Symbol(Symbol::Plus)) {
+        return Some((Adding::Add, rest));
+    }
+    let rest = strip(tokens, Wanted::Symbol(Symbol::Minus))?;
+    Some((Adding::Subtract, rest))
+}
+
+/// expr = primary { ( "+" | "-" ) primary }
+fn read_expr(alloc: Global, tokens: &[Token]) -> Result<(Expression, &[Token]), Unread>
+    ensures reads { IfOk result (λ r. IsExpr tokens.now (expr_of r.0) r.1.now) }
+    ensures only { IfOk result (λ r. IsOnlyReading IsExpr EndsStatement tokens.now (expr_of r.0) r.1.now) }
+    ensures unbuilt { result ≡ Err Unbuilt → HasNoReading IsExpr EndsStatement tokens.now }
+{
+    let (first, after) = read_primary(alloc, tokens)?;
+    let mut addends = Vec::new(alloc);
+    let mut rest = after;
+    'addends: while let Some((adding, from)) = strip_adding(rest) {
+        let (operand, after) = read_primary(alloc, from)?;
+        addends.push(Addend { adding, operand })?;
+        rest = after;
+    }
+    let addends = List::of(addends);
+    Ok((Expression { first, addends }, rest))
 }
 
 /// name ":=" expr

@@ -1,16 +1,16 @@
 //! Names to numbers: which programs of the first form are accepted, and the straight line that each stands for.
 
-ghost use Rattle.std.specs.Prelude.{◌≡◌, ◌↔◌, ◌+◌, ◌≤◌, ℕ, IsTrue, IfOk, IfSome, IfNone, Err, Some, None, All, length};
+ghost use Rattle.std.specs.Prelude.{◌≡◌, ◌↔◌, ◌+◌, ◌-◌, ◌^◌, ◌≤◌, min, ℕ, IsTrue, IfOk, IfSome, IfNone, Err, Some, None, All, length};
 ghost use Rattle.algol_tree.specs.Accepted.{Accepted, IsDistinct, names_of, IsDeclared, IsWidth, width_in, IsKnownExpr, IsKnownStmt, AreKnownStmts};
 ghost use Rattle.algol_tree.specs.Counts.{expr_tokens, stmt_tokens, program_tokens};
 ghost use Rattle.algol_tree.specs.Spelling.{is_number, value_of};
 ghost use Rattle.algol_first.specs.declared.unread.Unread.TheVariants.{Unbuilt};
-ghost use Rattle.algol_first.specs.First.{expr_of, stmt_of, stmts_of, tree_of, IsSmallPrimary, IsSmall};
+ghost use Rattle.algol_first.specs.First.{primary_of, expr_of, stmt_of, stmts_of, tree_of, IsSmallPrimary, IsSmallExpression, IsSmall};
 ghost use Rattle.algol_first.specs.Resolver.{Texts, number_in, Numbered, ResolvesWrite};
-ghost use Rattle.algol_first.specs.Straight.{ResolvesExpr, ResolvesStmt, ResolvesStmts, Resolves};
+ghost use Rattle.algol_first.specs.Straight.{ResolvesOperand, ResolvesExpr, ResolvesStmt, ResolvesStmts, Resolves};
 
-use crate::reader::{FirstProgram, Primary, Simple};
-use crate::straight::{Operand, Step, Straight};
+use crate::reader::{Expression, FirstProgram, Primary, Simple};
+use crate::straight::{Operand, Step, Straight, Sum, Term};
 use crate::unread::Unread;
 use algol_tree::{Line, List, Named};
 use std::alloc::Global;
@@ -25,21 +25,24 @@ const MOST_TOKENS: usize = 2000;
 /// The columns of an output line.
 const LINE: u8 = 132;
 
-fn primary_tokens(primary: &Primary) -> usize
-    ensures { result ≡ expr_tokens (expr_of primary.now) }
+/// The tokens of an expression: its operands, with the operators between them.
+fn expression_tokens(expression: &Expression) -> usize
+    ensures { result ≡ min (expr_tokens (expr_of expression.now)) (2 ^ 64 - 1) }
 {
-    match primary {
-        Primary::Number(_, _) => 1,
-        Primary::Name(_) => 1,
-    }
+    expression
+        .addends
+        .items()
+        .len()
+        .saturating_mul(2)
+        .saturating_add(1)
 }
 
 /// The tokens of a statement, with the semicolon, or the END, that ends it.
 fn statement_tokens(statement: &Simple) -> usize
-    ensures { result ≡ 1 + stmt_tokens (stmt_of statement.now) }
+    ensures { result ≡ min (1 + stmt_tokens (stmt_of statement.now)) (2 ^ 64 - 1) }
 {
     match statement {
-        Simple::Assign(_, value) => 3 + primary_tokens(value),
+        Simple::Assign(_, value) => expression_tokens(value).saturating_add(3),
         Simple::Write { .. } => 11,
     }
 }
@@ -52,7 +55,7 @@ fn fits_segment(program: &FirstProgram) -> bool
     // BEGIN, FILE, the file, a semicolon, INTEGER, a semicolon and the period, and the integers with their commas.
     let mut count = 7 + (2 * program.integers.items().len()).saturating_sub(1);
     'statements: for statement in program.statements.items() {
-        count += statement_tokens(statement);
+        count = count.saturating_add(statement_tokens(statement));
         if count > MOST_TOKENS {
             return false;
         }
@@ -122,11 +125,11 @@ fn resolve_name(numbers: &BTreeMap<&[u8], u16>, named: &Named) -> Result<u16, Un
 fn resolve_primary(numbers: &BTreeMap<&[u8], u16>, primary: &Primary) -> Result<Operand, Unread>
     requires { IsSmallPrimary primary.now }
     ensures known { IfOk result (λ _. (names : Texts) → Numbered numbers.now names →
-        IsKnownExpr names (expr_of primary.now)) }
+        IsKnownExpr names (primary_of primary.now)) }
     ensures resolved { IfOk result (λ operand. (names : Texts) → Numbered numbers.now names →
-        ResolvesExpr names (expr_of primary.now) operand) }
+        ResolvesOperand names (primary_of primary.now) operand) }
     ensures unbuilt { result ≡ Err Unbuilt → (names : Texts) → Numbered numbers.now names →
-        IsKnownExpr names (expr_of primary.now) → ⊥ }
+        IsKnownExpr names (primary_of primary.now) → ⊥ }
 {
     match primary {
         Primary::Number(value, _) => Ok(Operand::Number(*value)),
@@ -135,6 +138,30 @@ fn resolve_primary(numbers: &BTreeMap<&[u8], u16>, primary: &Primary) -> Result<
             Ok(Operand::Integer(number))
         }
     }
+}
+
+fn resolve_expression(
+    alloc: Global,
+    numbers: &BTreeMap<&[u8], u16>,
+    expression: &Expression,
+) -> Result<Sum, Unread>
+    requires { IsSmallExpression expression.now }
+    ensures known { IfOk result (λ _. (names : Texts) → Numbered numbers.now names →
+        IsKnownExpr names (expr_of expression.now)) }
+    ensures resolved { IfOk result (λ sum. (names : Texts) → Numbered numbers.now names →
+        ResolvesExpr names (expr_of expression.now) sum) }
+    ensures unbuilt { result ≡ Err Unbuilt → (names : Texts) → Numbered numbers.now names →
+        IsKnownExpr names (expr_of expression.now) → ⊥ }
+{
+    let first = resolve_primary(numbers, &expression.first)?;
+    let mut terms = Vec::new(alloc);
+    'addends: for addend in expression.addends.items() {
+        let operand = resolve_primary(numbers, &addend.operand)?;
+        let adding = addend.adding;
+        terms.push(Term { adding, operand })?;
+    }
+    let terms = List::of(terms);
+    Ok(Sum { first, terms })
 }
 
 /// The step of a line: `file` is the program's file.
@@ -163,6 +190,7 @@ fn resolve_write(
 }
 
 fn resolve_statement(
+    alloc: Global,
     numbers: &BTreeMap<&[u8], u16>,
     file: &Named,
     statement: &Simple,
@@ -176,9 +204,9 @@ fn resolve_statement(
         IsKnownStmt file.now.name names (stmt_of statement.now) → ⊥ }
 {
     match statement {
-        Simple::Assign(named, primary) => {
+        Simple::Assign(named, expression) => {
             let target = resolve_name(numbers, named)?;
-            let value = resolve_primary(numbers, primary)?;
+            let value = resolve_expression(alloc, numbers, expression)?;
             Ok(Step::Assign { target, value })
         }
         Simple::Write {
@@ -206,7 +234,7 @@ fn resolve_statements(
 {
     let mut steps = Vec::new(alloc);
     'statements: for statement in statements {
-        let step = resolve_statement(numbers, file, statement)?;
+        let step = resolve_statement(alloc, numbers, file, statement)?;
         steps.push(step)?;
     }
     Ok(List::of(steps))

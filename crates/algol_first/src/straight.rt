@@ -2,18 +2,39 @@
 
 use algol_tree::List;
 
-/// What an assignment takes: a number, or an integer by its number in the order of declaration, from 0.
+/// A number, or an integer by its number in the order of declaration, from 0.
 #[derive(Clone, Copy)]
 pub enum Operand {
     Number(i64),
     Integer(u16),
 }
 
-/// A statement. An integer is named by its number in the order of declaration, from 0.
+/// What an operand does to the sum before it.
 #[derive(Clone, Copy)]
+pub enum Adding {
+    Add,
+    Subtract,
+}
+
+/// An operand that is added to the sum before it, or subtracted from it.
+#[derive(Clone, Copy)]
+pub struct Term {
+    pub adding: Adding,
+    pub operand: Operand,
+}
+
+/// What an assignment takes: an operand, and the terms behind it, which are taken from left to right.
+#[derive(Drop)]
+pub struct Sum {
+    pub first: Operand,
+    pub terms: List<Term>,
+}
+
+/// A statement. An integer is named by its number in the order of declaration, from 0.
+#[derive(Drop)]
 pub enum Step {
     /// The integer `target` takes a value.
-    Assign { target: u16, value: Operand },
+    Assign { target: u16, value: Sum },
     /// A line shows the integer `item`, right-justified in `width` columns.
     Write { width: u8, item: u16 },
 }

@@ -14,6 +14,10 @@ use Rattle.b67_segment.specs.Building.{Built}
 use Rattle.b67_segment.specs.Syllables.{Spells}
 use Rattle.algol_first.specs.declared.straight.Operand.{Operand}
 use Rattle.algol_first.specs.declared.straight.Operand.TheVariants as operands
+use Rattle.algol_first.specs.declared.straight.Adding.{Adding}
+use Rattle.algol_first.specs.declared.straight.Adding.TheVariants as adding
+use Rattle.algol_first.specs.declared.straight.Term.{Term}
+use Rattle.algol_first.specs.declared.straight.Sum.{Sum}
 use Rattle.algol_first.specs.declared.straight.Step.{Step}
 use Rattle.algol_first.specs.declared.straight.Step.TheVariants as steps
 use Rattle.algol_first.specs.declared.straight.Straight.{Straight}
@@ -25,14 +29,24 @@ abbrev pub IsOperand : ℕ → Operand → Type 0
 IsOperand integers (operands.Number value) = unsigned_abs value ≤ 549755813887
 IsOperand integers (operands.Integer k) = k < integers
 
+-- so is each operand of the sum
+abbrev pub IsSum : ℕ → Sum → Type 0
+IsSum integers sum = IsOperand integers sum.first × All (λ (term : Term). IsOperand integers term.operand) sum.terms
+
 -- the step names integers of so many, and the width is that of a line
 abbrev pub IsStep : ℕ → Step → Type 0
-IsStep integers (steps.Assign target value) = (target < integers) × IsOperand integers value
+IsStep integers (steps.Assign target value) = (target < integers) × IsSum integers value
 IsStep integers (steps.Write width item) = (1 ≤ width) × (width ≤ 132) × (item < integers)
 
--- the steps are few enough for one segment, and each is in range
+-- how many operands the steps have
+abbrev pub operands_in : List Step → ℕ
+operands_in [] = 0
+operands_in (steps.Assign target value ∷ after) = 1 + length value.terms + operands_in after
+operands_in (steps.Write width item ∷ after) = 1 + operands_in after
+
+-- the operands are few enough for one segment, and each step is in range
 pub record IsInRange (straight : Straight) : Type 0 where
-  pub short : length straight.steps ≤ 2000
+  pub short : operands_in straight.steps ≤ 2000
   pub steps : All (IsStep straight.integers) straight.steps
 
 -- ---- the operators
@@ -61,9 +75,26 @@ abbrev pub operand_code : Operand → List Operator
 operand_code (operands.Number value) = literal value ∷ []
 operand_code (operands.Integer k) = ops.Valc (cell k) ∷ []
 
+-- the operand on top is added to the one under it, or subtracted from that one
+abbrev pub calculation : Adding → Operator
+calculation adding.Add = ops.Plain kinds.Add
+calculation adding.Subtract = ops.Plain kinds.Subt
+
+-- a term's operand is pushed, and then added or subtracted
+abbrev pub term_code : Term → List Operator
+term_code term = operand_code term.operand ++ calculation term.adding ∷ []
+
+abbrev pub terms_code : List Term → List Operator
+terms_code [] = []
+terms_code (term ∷ after) = term_code term ++ terms_code after
+
+-- a sum's value is pushed: its first operand, and then term by term
+abbrev pub sum_code : Sum → List Operator
+sum_code sum = operand_code sum.first ++ terms_code sum.terms
+
 -- the left side's reference, the value, the store
-abbrev pub assign_code : ℕ → Operand → List Operator
-assign_code target value = ops.Namc (cell target) ∷ (operand_code value ++ ops.Plain kinds.Stod ∷ [])
+abbrev pub assign_code : ℕ → Sum → List Operator
+assign_code target value = ops.Namc (cell target) ∷ (sum_code value ++ ops.Plain kinds.Stod ∷ [])
 
 -- a mark, the intrinsic WRITE, the number of the line's format, the integer, the entry
 abbrev pub write_code : ℕ → ℕ → List Operator

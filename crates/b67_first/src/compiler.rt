@@ -9,9 +9,9 @@ ghost use Rattle.algol_tree.specs.Accepted.{Accepted};
 ghost use Rattle.b67_relate.specs.Code.{ProgramAt};
 ghost use Rattle.b67_relate.specs.Faithful.{Faithful};
 ghost use Rattle.algol_first.specs.Straight.{Resolves};
-ghost use Rattle.b67_first.specs.Compiler.{IsOperand, IsStep, IsInRange, cell, short_literal, literal, operand_code, assign_code, write_code, step_code, step_formats, steps_code, number_format, formats_of, cells_code, placed, with_code, HasRoom, IsCodeOf, IsSmall};
+ghost use Rattle.b67_first.specs.Compiler.{IsOperand, IsSum, IsStep, IsInRange, operands_in, cell, short_literal, literal, operand_code, calculation, term_code, sum_code, assign_code, write_code, step_code, step_formats, steps_code, number_format, formats_of, cells_code, placed, with_code, HasRoom, IsCodeOf, IsSmall};
 
-use algol_first::{Operand, Step, Straight};
+use algol_first::{Adding, Operand, Step, Straight, Sum, Term};
 use algol_tree::List;
 use b67_ops::{Couple, Operator, PlainKind};
 use b67_segment::{Builder, Code, Format, Phrase};
@@ -90,16 +90,51 @@ fn push_operand(builder: &mut Builder, value: Operand) -> Result<(), AllocError>
     }
 }
 
+/// The operator that adds the operand on top to the one under it, or subtracts it from that one.
+fn calculation(adding: Adding) -> Operator
+    ensures { result ≡ calculation adding }
+{
+    match adding {
+        Adding::Add => Operator::Plain(PlainKind::Add),
+        Adding::Subtract => Operator::Plain(PlainKind::Subt),
+    }
+}
+
+/// Adds a term to the value on top, or subtracts it.
+fn push_term(builder: &mut Builder, term: Term) -> Result<(), AllocError>
+    requires level { builder.old.level ≡ Some 2 }
+    requires operand { IsOperand 400 term.operand }
+    requires room { HasRoom builder.old (term_code term) }
+    ensures code { OnOk result (builder.new ≡ with_code builder.old (term_code term)) }
+{
+    push_operand(builder, term.operand)?;
+    append_all(builder, &[calculation(term.adding)])
+}
+
+/// Pushes the value of a sum.
+fn push_sum(builder: &mut Builder, sum: &Sum) -> Result<(), AllocError>
+    requires level { builder.old.level ≡ Some 2 }
+    requires sum { IsSum 400 sum.now }
+    requires room { HasRoom builder.old (sum_code sum.now) }
+    ensures code { OnOk result (builder.new ≡ with_code builder.old (sum_code sum.now)) }
+{
+    push_operand(builder, sum.first)?;
+    'terms: for term in sum.terms.items() {
+        push_term(builder, *term)?;
+    }
+    Ok(())
+}
+
 /// Stores a value in an integer's cell.
-fn assign(builder: &mut Builder, target: u16, value: Operand) -> Result<(), AllocError>
+fn assign(builder: &mut Builder, target: u16, value: &Sum) -> Result<(), AllocError>
     requires level { builder.old.level ≡ Some 2 }
     requires target { target < 400 }
-    requires operand { IsOperand 400 value }
-    requires room { HasRoom builder.old (assign_code target value) }
-    ensures code { OnOk result (builder.new ≡ with_code builder.old (assign_code target value)) }
+    requires value { IsSum 400 value.now }
+    requires room { HasRoom builder.old (assign_code target value.now) }
+    ensures code { OnOk result (builder.new ≡ with_code builder.old (assign_code target value.now)) }
 {
     append_all(builder, &[Operator::Namc(cell(target))])?;
-    push_operand(builder, value)?;
+    push_sum(builder, value)?;
     append_all(builder, &[Operator::Plain(PlainKind::Stod)])
 }
 
@@ -137,21 +172,21 @@ fn append_step(
     alloc: Global,
     builder: &mut Builder,
     formats: &mut Vec<Format>,
-    step: Step,
+    step: &Step,
 ) -> Result<(), AllocError>
     requires level { builder.old.level ≡ Some 2 }
-    requires step { IsStep 400 step }
+    requires step { IsStep 400 step.now }
     requires few { length formats.old.items < 2000 }
-    requires room { HasRoom builder.old (step_code (length formats.old.items) step) }
-    ensures code { OnOk result (builder.new ≡ with_code builder.old (step_code (length formats.old.items) step)) }
-    ensures formats { OnOk result (formats.new.items ≡ formats.old.items ++ step_formats step) }
+    requires room { HasRoom builder.old (step_code (length formats.old.items) step.now) }
+    ensures code { OnOk result (builder.new ≡ with_code builder.old (step_code (length formats.old.items) step.now)) }
+    ensures formats { OnOk result (formats.new.items ≡ formats.old.items ++ step_formats step.now) }
 {
     match step {
-        Step::Assign { target, value } => assign(builder, target, value),
+        Step::Assign { target, value } => assign(builder, *target, value),
         Step::Write { width, item } => {
             let number = formats.len() as u16;
-            formats.push(number_format(alloc, width)?)?;
-            write(builder, number, item)
+            formats.push(number_format(alloc, *width)?)?;
+            write(builder, number, *item)
         }
     }
 }
@@ -164,14 +199,14 @@ fn append_steps(
 ) -> Result<Vec<Format>, AllocError>
     requires level { builder.old.level ≡ Some 2 }
     requires steps { All (IsStep 400) steps.now }
-    requires few { length steps.now ≤ 2000 }
+    requires few { operands_in steps.now ≤ 2000 }
     requires room { HasRoom builder.old (steps_code 0 steps.now) }
     ensures code { OnOk result (builder.new ≡ with_code builder.old (steps_code 0 steps.now)) }
     ensures formats { IfOk result (λ formats. formats.items ≡ formats_of steps.now) }
 {
     let mut formats = Vec::new(alloc);
     'steps: for step in steps {
-        append_step(alloc, builder, &mut formats, *step)?;
+        append_step(alloc, builder, &mut formats, step)?;
     }
     Ok(formats)
 }
@@ -207,7 +242,7 @@ fn translate(alloc: Global, straight: &Straight) -> Result<Code, AllocError>
     })
 }
 
-/// The code of a straight line of at most 400 integers and at most 2,000 steps: one segment at level 2, and a format
+/// The code of a straight line of at most 400 integers and at most 2,000 operands: one segment at level 2, and a format
 /// for each line that is written, in order.
 pub fn compile(alloc: Global, straight: &Straight) -> Result<Code, AllocError>
     requires few { straight.now.integers ≤ 400 }
@@ -231,17 +266,27 @@ mod tests {
     use b67_segment::Mark;
     use std::test::Fail;
 
+    fn sum(alloc: Global, first: Operand, operands: &[(Adding, Operand)]) -> Result<Sum, AllocError> {
+        let mut terms = Vec::new(alloc);
+        'operands: for operand in operands {
+            let (adding, operand) = *operand;
+            terms.push(Term { adding, operand })?;
+        }
+        let terms = List::of(terms);
+        Ok(Sum { first, terms })
+    }
+
     #[test]
-    fn a_number_is_copied_and_written(rt: HostRuntime) -> Result<(), Fail> {
+    fn a_sum_is_stored_and_written(rt: HostRuntime) -> Result<(), Fail> {
         let alloc = rt.alloc();
         let mut steps = Vec::new(alloc);
         steps.push(Step::Assign {
             target: 0,
-            value: Operand::Number(40),
+            value: sum(alloc, Operand::Number(40), &[])?,
         })?;
         steps.push(Step::Assign {
             target: 1,
-            value: Operand::Integer(0),
+            value: sum(alloc, Operand::Integer(0), &[(Adding::Add, Operand::Number(2))])?,
         })?;
         steps.push(Step::Write { width: 5, item: 1 })?;
         let straight = Straight {
@@ -256,16 +301,7 @@ mod tests {
             segment.marks.items().as_slice(),
             [Mark { place: 0, level: 2 }].as_slice()
         );
-        assert_eq!(rt;
-            segment.words.items().as_slice(),
-            [
-                0xb0b0_b460_02b2,
-                0x28b8_6003_2002,
-                0xb8ae_4007_b020,
-                0x03ab_a3fe_fefe
-            ]
-            .as_slice()
-        );
+        assert_eq!(rt; segment.words.items().len(), 0);
         Ok(())
     }
 }

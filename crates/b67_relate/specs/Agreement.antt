@@ -1,5 +1,5 @@
 -- What a run of a code has to do with the source: its schedule is legal, and output and end are the source's own.
-use Rattle.std.specs.Prelude.{◌≡◌, ℕ, List, Option, Some, None, reverse}
+use Rattle.std.specs.Prelude.{◌≡◌, ℕ, ◌+◌, ◌<◌, ◌≤◌, true, List, length, Option, Some, None, reverse}
 use Rattle.algol_tree.specs.Plain.{PProgram}
 use Rattle.algol_tree.specs.Accepted.{Accepted}
 use Rattle.b67_segment.specs.declared.code.Code.{Code}
@@ -10,12 +10,14 @@ use Rattle.algol_meaning.specs.Run.{run, end_of, End, Legal}
 use Rattle.algol_meaning.specs.Run as meaning
 use Rattle.b67_table.specs.declared.InterruptKind.{InterruptKind}
 use Rattle.b67_table.specs.Effect.{interrupts, limit}
-use Rattle.b67_table.specs.Image.{Image}
+use Rattle.b67_control.specs.declared.Registers.{Registers}
+use Rattle.b67_table.specs.Image.{Image, stack_of}
 use Rattle.b67_table.specs.Image.{is_able as image_able}
-use Rattle.b67_table.specs.Table.{table, image_end, ImageEnd}
+use Rattle.b67_table.specs.Table.{table, is_live, image_end, ImageEnd}
 use Rattle.b67_table.specs.Table as machine
 use Rattle.b67_table.specs.Runs.{Plains, Runs}
 use Rattle.b67_relate.specs.Code.{ProgramAt}
+use Rattle.b67_relate.specs.Weight.{weight}
 
 -- the end of an image as an end of a world
 abbrev pub end_as : Option ImageEnd → Option End
@@ -32,8 +34,15 @@ pub record Shows (code : Code) (w : World) (img : Image) : Type 0 where
   pub no_interrupt : (kind : InterruptKind) → image_end img ≡ None → table code img 1 ≡ interrupts kind → ⊥
   pub no_limit : image_end img ≡ None → table code img 1 ≡ limit → ⊥
 
--- the schedule is legal for the source, and the image shows its world
+-- the stack of each live process is at least 3 words shorter than its weight, and only one of a greater weight than a stack has
+-- room for comes to the stack limit
+pub record Fits (tree : PProgram) (code : Code) (w : World) (img : Image) : Type 0 where
+  pub light : (p : ℕ) (r : Registers) → is_live (numbered img.states p) ≡ true → numbered img.regs p ≡ Some r → length (stack_of img r.stack) + 3 ≤ weight tree w p
+  pub heavy : (p : ℕ) → table code img p ≡ limit → 65536 < weight tree w p
+
+-- the schedule is legal for the source, and the image shows its world and fits it
 pub record Agrees (tree : PProgram) (code : Code) (schedule : List ℕ) (img : Image) : Type 0 where
   pub world : World
   pub is : run tree schedule ≡ Some world
   pub shows : Shows code world img
+  pub fits : Fits tree code world img

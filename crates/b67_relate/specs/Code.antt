@@ -50,11 +50,6 @@ pub record CalculationAt (code : Code) (from : ℕ) (op : Op) (to : ℕ) : Type 
   pub stands : Has code from operator to
   pub calculates : IsCalculation op operator
 
--- at most so many operands lie on the stack while the expression is evaluated
-abbrev pub depth : PExpr → ℕ
-depth (two op a b) = depth a + depth b
-depth _ = 1
-
 -- the integer of that name is this one
 abbrev pub IsInteger : List (List ℕ) → List ℕ → ℕ → Type 0
 IsInteger names name k = slice_get names k ≡ Some name
@@ -82,7 +77,6 @@ module _ (code : Code) (names : List (List ℕ)) where
     pub right : ℕ
     pub reference : Has code from (ops.Namc (record { level = 2; index = 2 + integer })) left
     pub value : ExprAt e left right
-    pub small : depth e ≤ 2000
     pub store : Has code right (ops.Plain kinds.Stod) to
 
   -- a mark, the reference of the intrinsic WRITE, the format's number, the item, the entry
@@ -97,7 +91,6 @@ module _ (code : Code) (names : List (List ℕ)) where
     pub name : Has code marked (ops.Namc (record { level = 0; index = 7 })) named
     pub number : LiteralAt code named (pos format) numbered
     pub value : ExprAt item numbered valued
-    pub small : depth item ≤ 2000
     pub enter : Has code valued (ops.Plain kinds.Entr) to
 
   abbrev pub StmtAt : PStmt → ℕ → ℕ → Type 0

@@ -1,4 +1,5 @@
 pub mod Code
+pub mod Weight
 pub mod Picture
 pub mod Pictures
 pub mod Agreement

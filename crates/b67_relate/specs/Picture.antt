@@ -2,7 +2,7 @@
 use Rattle.std.specs.Prelude.{◌≡◌, ℕ, slice_get, ◌+◌, ◌≤◌, ℤ, pos, false, true, List, [], ◌∷◌, ◌++◌, length, map, reverse, Some, None}
 use Rattle.algol_tree.specs.declared.tree.PhraseText.{PhraseText}
 use Rattle.algol_tree.specs.declared.tree.PhraseText.TheVariants as phrase
-use Rattle.algol_tree.specs.Plain.{none}
+use Rattle.algol_tree.specs.Plain.{PExpr, two, none}
 use Rattle.b67_word.specs.Word.{Word, operand}
 use Rattle.b67_control.specs.Control.{irw_word, mscw_word}
 use Rattle.b67_control.specs.declared.Registers.{Registers}
@@ -15,7 +15,7 @@ use Rattle.b67_table.specs.declared.ProcessState.TheVariants.{Able, Ended}
 use Rattle.b67_table.specs.Image.{Image}
 use Rattle.b67_table.specs.Table.{system_stack, base_frame, first_registers}
 use Rattle.b67_table.specs.Runs.{Plains}
-use Rattle.b67_relate.specs.Code.{Has, IsWhole, depth, ExprAt, CalculationAt, ItemsAt, IsInteger, FormatIs}
+use Rattle.b67_relate.specs.Code.{Has, IsWhole, ExprAt, CalculationAt, ItemsAt, IsInteger, FormatIs}
 use Rattle.std.specs.Prelude.{Err}
 
 -- ---- the world of one block
@@ -106,6 +106,11 @@ abbrev pub HasRoom : List Word → ℕ → Type 0
 HasRoom operands wanted = length operands + wanted ≤ 65000
 
 -- ---- the picture
+
+-- at most so many operands lie on the stack while the expression is evaluated
+abbrev pub depth : PExpr → ℕ
+depth (two op a b) = depth a + depth b
+depth _ = 1
 
 -- the words of a line that is being made: the format's number, the reference of WRITE, and the mark
 abbrev pub under_items : List ℤ → ℕ → List Word
