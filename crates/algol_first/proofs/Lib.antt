@@ -14,5 +14,6 @@ mod ReadProgram
 mod ReadSmall
 mod ResolveNames
 mod ResolveWidth
+mod ResolveSums
 mod ResolveSteps
 mod ResolveProgram
