@@ -13,10 +13,14 @@ use Rattle.b67_segment.specs.Building.{Built, level_set}
 use Rattle.b67_segment.proofs.Texts.{text-append}
 use Rattle.algol_first.specs.declared.straight.Operand.{Operand}
 use Rattle.algol_first.specs.declared.straight.Operand.TheVariants as operands
+use Rattle.algol_first.specs.declared.straight.Adding.{Adding}
+use Rattle.algol_first.specs.declared.straight.Adding.TheVariants as adding
+use Rattle.algol_first.specs.declared.straight.Term.{Term}
+use Rattle.algol_first.specs.declared.straight.Sum.{Sum}
 use Rattle.algol_first.specs.declared.straight.Step.{Step}
 use Rattle.algol_first.specs.declared.straight.Step.TheVariants as steps
 use Rattle.algol_first.specs.declared.straight.Straight.{Straight}
-use Rattle.b67_first.specs.Compiler.{IsOperand, cell, write_intrinsic, short_literal, literal, operand_code, assign_code, write_code, step_code, steps_code, cells_code, straight_code, placed, with_code, HasRoom}
+use Rattle.b67_first.specs.Compiler.{IsOperand, operands_in, cell, write_intrinsic, short_literal, literal, operand_code, calculation, term_code, terms_code, sum_code, assign_code, write_code, step_code, steps_code, cells_code, straight_code, placed, with_code, HasRoom}
 
 -- ---- builders with code appended
 
@@ -98,11 +102,34 @@ module _ (b a : Built) (n i : ℕ) (rest : with_code b (cells_code (n - i)) ≡ 
   pub push-room : n ≤ i → HasRoom a (cells_code n) → HasRoom b (ops.Plain kinds.Push ∷ [])
   push-room past h = room-same b a (ops.Plain kinds.Push ∷ []) (cells_code n) (push-last past) h
 
+-- ---- the terms of a sum, of which some are left
+
+module _ (b a : Built) (all : List Term) (i : ℕ) (term : Term) (rest : with_code b (terms_code (drop i all)) ≡ with_code a (terms_code all)) (within : i < length all) where
+  term-first : terms_code (drop i all) ≡ term_code (get_or all i term) ++ terms_code (drop (suc i) all)
+  term-first = ap terms_code (drop-cons all i term within)
+
+  -- there is room for the code of the first term that is left
+  pub term-room : HasRoom a (terms_code all) → HasRoom b (term_code (get_or all i term))
+  term-room h =
+      room-front b (term_code (get_or all i term)) (terms_code (drop (suc i) all))
+      (subst (HasRoom b) term-first (room-same b a (terms_code (drop i all)) (terms_code all) rest h))
+
+  pub term-next : (d : Built) → d ≡ with_code b (term_code (get_or all i term)) → with_code d (terms_code (drop (suc i) all)) ≡ with_code a (terms_code all)
+  term-next d e =
+      code-next b d (with_code d (terms_code (drop (suc i) all))) (term_code (get_or all i term)) (terms_code (drop (suc i) all)) e refl
+      ∙ ap (with_code b) (sym term-first) ∙ rest
+
 -- ---- the steps, of which some are left
 
 step-first : (k : ℕ) (step : Step) (after : List Step) → (ops : List Operator) × (steps_code k (step ∷ after) ≡ step_code k step ++ ops)
 step-first k (steps.Assign target v) after = (steps_code k after, refl)
 step-first k (steps.Write width item) after = (steps_code (k + 1) after, refl)
+
+-- each step has an operand
+pub steps-operands : (all : List Step) → length all ≤ operands_in all
+steps-operands [] = omega arith
+steps-operands (steps.Assign target v ∷ after) = omega (arith, steps-operands after)
+steps-operands (steps.Write width item ∷ after) = omega (arith, steps-operands after)
 
 -- there is room for the code of the first step that is left
 pub step-room : (b a : Built) (all : List Step) (i k : ℕ) (step : Step) → with_code b (steps_code k (drop i all)) ≡ with_code a (steps_code 0 all)
@@ -157,6 +184,10 @@ pub operand-fit : (v : Operand) → IsOperand 400 v → AreFit (placed (operand_
 operand-fit (operands.Number value) h = (is-fit (literal value) (literal-fits value h), tt)
 operand-fit (operands.Integer k) h = (is-fit (ops.Valc (cell k)) (cell-fits k h), tt)
 
+pub calculation-fit : (a : Adding) → AreFit (placed (calculation a ∷ []))
+calculation-fit adding.Add = plain-fit kinds.Add
+calculation-fit adding.Subtract = plain-fit kinds.Subt
+
 pub write-fit : (format item : ℕ) → item < 400 → format < 2 ^ 16 → AreFit (placed (write_code format item))
 write-fit format item h few = (
   is-fit (ops.Plain kinds.Mkst) tt,
@@ -185,17 +216,42 @@ operand-size : (v : Operand) (at : ℕ) → length (text at (placed (operand_cod
 operand-size (operands.Number value) at = one-size (literal value) at
 operand-size (operands.Integer k) at = one-size (ops.Valc (cell k)) at
 
-assign-size : (target : ℕ) (v : Operand) (at : ℕ) → length (text at (placed (assign_code target v))) ≤ 18
-assign-size target v at =
-    let value = operand_code v in
-    omega (arith, text-two (at + 2) value (ops.Plain kinds.Stod ∷ []), operand-size v (at + 2))
+calculation-size : (a : Adding) (at : ℕ) → length (text at (placed (calculation a ∷ []))) ≡ 1
+calculation-size adding.Add at = refl
+calculation-size adding.Subtract at = refl
+
+terms-size : (terms : List Term) (at : ℕ) → length (text at (placed (terms_code terms))) ≤ 13 * length terms
+terms-size [] at = omega arith
+terms-size (term ∷ after) at =
+    let value = operand_code term.operand in
+    let own = term_code term in
+    let then = at + length (text at (placed value)) in
+    let next = at + length (text at (placed own)) in
+    omega (
+      arith,
+      text-two at own (terms_code after),
+      text-two at value (calculation term.adding ∷ []),
+      operand-size term.operand at,
+      calculation-size term.adding then,
+      terms-size after next,
+    )
+
+sum-size : (sum : Sum) (at : ℕ) → length (text at (placed (sum_code sum))) ≤ 12 + 13 * length sum.terms
+sum-size sum at =
+    let first = operand_code sum.first in
+    omega (arith, text-two at first (terms_code sum.terms), operand-size sum.first at, terms-size sum.terms (at + length (text at (placed first))))
+
+assign-size : (target : ℕ) (sum : Sum) (at : ℕ) → length (text at (placed (assign_code target sum))) ≤ 15 + 13 * length sum.terms
+assign-size target sum at =
+    let value = sum_code sum in
+    omega (arith, text-two (at + 2) value (ops.Plain kinds.Stod ∷ []), sum-size sum (at + 2))
 
 write-size : (format item at : ℕ) → length (text at (placed (write_code format item))) ≤ 18
 write-size format item at =
     let lit = spelling (at + 1 + 2) 2 (literal (pos format)) in
     omega (arith, length-append lit (text (at + 1 + 2 + length lit) (placed (ops.Valc (cell item) ∷ ops.Plain kinds.Entr ∷ []))), (length-spelling (at + 1 + 2) 2 (literal (pos format))).1)
 
-steps-size : (format : ℕ) (after : List Step) (at : ℕ) → length (text at (placed (steps_code format after))) ≤ 18 * length after
+steps-size : (format : ℕ) (after : List Step) (at : ℕ) → length (text at (placed (steps_code format after))) ≤ 18 * operands_in after
 steps-size format [] at = omega arith
 steps-size format (steps.Assign target v ∷ after) at =
     let own = assign_code target v in
@@ -212,7 +268,7 @@ cells-size n at =
     omega (arith, text-two at zeros (ops.Plain kinds.Push ∷ []), zeros-size n at)
 
 -- a segment has room for the code of a straight line
-pub straight-room : (straight : Straight) → straight.integers ≤ 400 → length straight.steps ≤ 2000
+pub straight-room : (straight : Straight) → straight.integers ≤ 400 → operands_in straight.steps ≤ 2000
     → HasRoom (record { operators = []; level = Some 2 }) (straight_code straight)
 straight-room straight few short =
     let cells = cells_code straight.integers in
@@ -221,7 +277,7 @@ straight-room straight few short =
     let at = length (text 0 (placed cells)) in
     record { room = omega (arith, text-two 0 cells (body ++ exit), cells-size straight.integers 0, text-two (0 + at) body exit, steps-size 0 straight.steps (0 + at)) }
 
-pub straight-size : (straight : Straight) → size (placed (straight_code straight)) ≤ 18 * length straight.steps + straight.integers + 2
+pub straight-size : (straight : Straight) → size (placed (straight_code straight)) ≤ 18 * operands_in straight.steps + straight.integers + 2
 straight-size straight =
     let cells = cells_code straight.integers in
     let body = steps_code 0 straight.steps in
@@ -243,7 +299,7 @@ abbrev pub fresh : Built
 fresh = record { operators = []; level = Some 2 }
 
 -- the parts of a program's code, one after another, have room, and are its code
-module _ (straight : Straight) (few : straight.integers ≤ 400) (short : length straight.steps ≤ 2000) (b : Built) (started : b ≡ fresh) where
+module _ (straight : Straight) (few : straight.integers ≤ 400) (short : operands_in straight.steps ≤ 2000) (b : Built) (started : b ≡ fresh) where
   exit : List Operator
   exit = ops.Plain kinds.Exit ∷ []
 

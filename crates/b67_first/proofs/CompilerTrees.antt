@@ -5,7 +5,7 @@ use Rattle.std.proofs.lemmas.Bool.{eqb-true}
 use Rattle.std.proofs.lemmas.List.{length-map}
 use Rattle.algol_tree.specs.declared.tree.Named.{Named}
 use Rattle.algol_tree.specs.declared.tree.PhraseText.TheVariants as phrases
-use Rattle.algol_tree.specs.Plain.{PExpr, number, variable, subscripted, none, more, PStmt, assign, write, PStmts, no_stmts, stmts, PProgram}
+use Rattle.algol_tree.specs.Plain.{PExpr, number, variable, two, subscripted, none, more, PStmt, assign, write, PStmts, no_stmts, stmts, PProgram}
 use Rattle.algol_tree.specs.Accepted.{names_of, width_in}
 use Rattle.algol_meaning.specs.Rest.{items}
 use Rattle.b67_word.specs.Word.{operand}
@@ -14,14 +14,18 @@ use Rattle.b67_ops.specs.declared.Operator.TheVariants as ops
 use Rattle.b67_ops.specs.declared.PlainKind.TheVariants as kinds
 use Rattle.b67_segment.specs.declared.code.Format.{Format}
 use Rattle.b67_segment.specs.declared.code.Code.{Code}
-use Rattle.b67_relate.specs.Code.{Has, IsLiteral, zero_pushed, one_pushed, byte, two_bytes, whole_word, IsWhole, LiteralAt, depth, ExprAt, AssignAt, WriteAt, StmtAt, ItemsAt, ZerosAt, BodyAt, ProgramAt, program_at}
+use Rattle.b67_relate.specs.Code.{Has, IsLiteral, zero_pushed, one_pushed, byte, two_bytes, whole_word, IsWhole, LiteralAt, addition, subtraction, CalculationAt, ExprAt, AssignAt, WriteAt, StmtAt, ItemsAt, ZerosAt, BodyAt, ProgramAt, program_at}
 use Rattle.algol_first.specs.declared.straight.Operand.{Operand}
 use Rattle.algol_first.specs.declared.straight.Operand.TheVariants as operands
+use Rattle.algol_first.specs.declared.straight.Adding.{Adding}
+use Rattle.algol_first.specs.declared.straight.Adding.TheVariants as adding
+use Rattle.algol_first.specs.declared.straight.Term.{Term}
+use Rattle.algol_first.specs.declared.straight.Sum.{Sum}
 use Rattle.algol_first.specs.declared.straight.Step.{Step}
 use Rattle.algol_first.specs.declared.straight.Step.TheVariants as steps
 use Rattle.algol_first.specs.declared.straight.Straight.{Straight}
-use Rattle.algol_first.specs.Straight.{IsNumbered, ResolvesExpr, ResolvesStmt, ResolvesStmts, Resolves, resolves}
-use Rattle.b67_first.specs.Compiler.{cell, short_literal, literal, operand_code, assign_code, write_code, steps_code, number_format, formats_of, cells_code, straight_code, IsCodeOf}
+use Rattle.algol_first.specs.Straight.{IsNumbered, op_of, ResolvesOperand, ResolvesTerms, ResolvesExpr, ResolvesStmt, ResolvesStmts, Resolves, resolves}
+use Rattle.b67_first.specs.Compiler.{operands_in, cell, short_literal, literal, operand_code, calculation, term_code, terms_code, sum_code, assign_code, write_code, steps_code, number_format, formats_of, cells_code, straight_code, IsCodeOf}
 use Rattle.b67_first.proofs.CompilerRows.{RowAt, RowAt-append, row-spells}
 
 slice_get-middle : {X : Type 0} (xs : List X) (x : X) (ys : List X) → slice_get (xs ++ x ∷ ys) (length xs) ≡ Some x
@@ -64,22 +68,40 @@ module _ (code : Code) (names : List (List ℕ)) where
   variable-at n k from to is row = (k, is, subst (λ m. Has code from (ops.Valc (cell k)) m) row.2 row.1)
 
   -- the code of an operand is that of the expression that it stands for
-  expr-at : (e : PExpr) (v : Operand) (from to : ℕ) → ResolvesExpr names e v → RowAt code from (operand_code v) to → ExprAt code names e from to
-  expr-at (number value spot) (operands.Number v) from to r row =
+  operand-at : (e : PExpr) (v : Operand) (from to : ℕ) → ResolvesOperand names e v → RowAt code from (operand_code v) to → ExprAt code names e from to
+  operand-at (number value spot) (operands.Number v) from to r row =
       let here : Has code from (literal v) to = subst (λ m. Has code from (literal v) m) row.2 row.1 in
       subst (λ z. LiteralAt code from z to) r.0 (literal-at code from v to r.1 here)
-  expr-at (variable (subscripted n none)) (operands.Integer k) from to r row = variable-at n k from to r row
-  expr-at _ _ from to r row = absurd r
+  operand-at (variable (subscripted n none)) (operands.Integer k) from to r row = variable-at n k from to r row
+  operand-at _ _ from to r row = absurd r
 
-  expr-small : (e : PExpr) (v : Operand) → ResolvesExpr names e v → depth e ≤ 2000
-  expr-small (number value spot) (operands.Number v) r = omega arith
-  expr-small (variable (subscripted n none)) (operands.Integer k) r = omega arith
-  expr-small _ _ r = absurd r
+  calculation-at : (a : Adding) (from to : ℕ) → RowAt code from (calculation a ∷ []) to → CalculationAt code from (op_of a) to
+  calculation-at adding.Add from to row =
+      record { operator = ops.Plain kinds.Add; stands = subst (λ m. Has code from (ops.Plain kinds.Add) m) row.2 row.1; calculates = addition }
+  calculation-at adding.Subtract from to row =
+      record { operator = ops.Plain kinds.Subt; stands = subst (λ m. Has code from (ops.Plain kinds.Subt) m) row.2 row.1; calculates = subtraction }
 
-  assign-at : (name : List ℕ) (e : PExpr) (target : ℕ) (v : Operand) (from to : ℕ) → IsNumbered names name target → ResolvesExpr names e v
+  -- the code of terms behind that of what stands to their left is the code of the whole
+  terms-at : (left : PExpr) (terms : List Term) (e : PExpr) (from middle to : ℕ) → ResolvesTerms names left terms e → ExprAt code names left from middle
+      → RowAt code middle (terms_code terms) to → ExprAt code names e from to
+  terms-at left [] e from middle to r at row =
+      subst (λ x. ExprAt code names x from to) (sym r) (subst (λ m. ExprAt code names left from m) row at)
+  terms-at left (term ∷ after) e from middle to r at row =
+      let parts = RowAt-append code middle (term_code term) (terms_code after) to row in
+      let own = RowAt-append code middle (operand_code term.operand) (calculation term.adding ∷ []) parts.0 parts.1 in
+      terms-at (two (op_of term.adding) left r.0) after e from parts.0 to r.2
+      (middle, own.0, at, operand-at r.0 term.operand middle own.0 r.1 own.1, calculation-at term.adding own.0 parts.0 own.2) parts.2
+
+  -- the code of a sum is that of the expression that it stands for
+  expr-at : (e : PExpr) (sum : Sum) (from to : ℕ) → ResolvesExpr names e sum → RowAt code from (sum_code sum) to → ExprAt code names e from to
+  expr-at e sum from to r row =
+      let parts = RowAt-append code from (operand_code sum.first) (terms_code sum.terms) to row in
+      terms-at r.0 sum.terms e from parts.0 to r.2 (operand-at r.0 sum.first from parts.0 r.1 parts.1) parts.2
+
+  assign-at : (name : List ℕ) (e : PExpr) (target : ℕ) (v : Sum) (from to : ℕ) → IsNumbered names name target → ResolvesExpr names e v
       → RowAt code from (assign_code target v) to → AssignAt code names name e from to
   assign-at name e target v from to is r row =
-      let parts = RowAt-append code row.0 (operand_code v) (ops.Plain kinds.Stod ∷ []) to row.2 in
+      let parts = RowAt-append code row.0 (sum_code v) (ops.Plain kinds.Stod ∷ []) to row.2 in
       record {
         integer = target;
         is = is;
@@ -87,7 +109,6 @@ module _ (code : Code) (names : List (List ℕ)) where
         right = parts.0;
         reference = row.1;
         value = expr-at e v row.0 parts.0 r parts.1;
-        small = expr-small e v r;
         store = subst (λ m. Has code parts.0 (ops.Plain kinds.Stod) m) parts.2.2 parts.2.1;
       }
 
@@ -105,11 +126,10 @@ module _ (code : Code) (names : List (List ℕ)) where
     name = row.2.1;
     number = literal-at code row.2.0 (pos format) row.2.2.0 (omega arith) row.2.2.1;
     value = (item, is, row.2.2.2.1);
-    small = omega arith;
     enter = subst (λ m. Has code row.2.2.2.0 (ops.Plain kinds.Entr) m) row.2.2.2.2.2 row.2.2.2.2.1;
   }
 
-  assigned-at : (s : PStmt) (target : ℕ) (v : Operand) (from to : ℕ) → ResolvesStmt names s (steps.Assign target v)
+  assigned-at : (s : PStmt) (target : ℕ) (v : Sum) (from to : ℕ) → ResolvesStmt names s (steps.Assign target v)
       → RowAt code from (assign_code target v) to → StmtAt code names s from to
   assigned-at (assign (subscripted n none) e) target v from to r row = assign-at n.name e target v from to r.0 r.1 row
   assigned-at (write f spot (phrases.Word phrase ∷ []) (more (variable (subscripted n none)) none)) target v from to r row = absurd r
@@ -125,7 +145,7 @@ module _ (code : Code) (names : List (List ℕ)) where
 
   -- the steps' code, and then the end, are the code of the statements
   steps-at : (ss : PStmts) (after : List Step) (before : List Format) (from to : ℕ) → ResolvesStmts names ss after
-      → code.formats ≡ before ++ formats_of after → length before + length after ≤ 2000
+      → code.formats ≡ before ++ formats_of after → length before + operands_in after ≤ 2000
       → RowAt code from (steps_code (length before) after ++ ops.Plain kinds.Exit ∷ []) to → ItemsAt code names (items ss) from
   steps-at no_stmts [] before from to r shown few row = (row.0, row.1)
   steps-at (stmts s ss) (steps.Assign target v ∷ after) before from to r shown few row =
@@ -154,7 +174,7 @@ module _ (code : Code) (names : List (List ℕ)) where
   zeros-at (suc n) from to row = (row.0, row.1, zeros-at n row.0 to row.2)
 
   body-at : (ss : PStmts) (straight : Straight) → straight.integers ≡ length names → ResolvesStmts names ss straight.steps
-      → length straight.steps ≤ 2000 → code.formats ≡ formats_of straight.steps → (to : ℕ) → RowAt code 0 (straight_code straight) to → BodyAt code names ss
+      → operands_in straight.steps ≤ 2000 → code.formats ≡ formats_of straight.steps → (to : ℕ) → RowAt code 0 (straight_code straight) to → BodyAt code names ss
   body-at ss straight count r few shown to row =
       let push : List Operator = ops.Plain kinds.Push ∷ [] in
       let rest = steps_code 0 straight.steps ++ ops.Plain kinds.Exit ∷ [] in
@@ -169,7 +189,7 @@ module _ (code : Code) (names : List (List ℕ)) where
       }
 
 -- in the code of a straight line, the code of its tree stands
-pub tree-at : (straight : Straight) (code : Code) → straight.integers ≤ 400 → length straight.steps ≤ 2000 → IsCodeOf straight code
+pub tree-at : (straight : Straight) (code : Code) → straight.integers ≤ 400 → operands_in straight.steps ≤ 2000 → IsCodeOf straight code
     → (tree : PProgram) → Resolves tree straight → ProgramAt code tree
 tree-at straight code few short is tree (resolves spot file ns ss _ count r) =
     let row = row-spells code is.segment (straight_code straight) _ is.only is.spells in

@@ -301,7 +301,16 @@ mod tests {
             segment.marks.items().as_slice(),
             [Mark { place: 0, level: 2 }].as_slice()
         );
-        assert_eq!(rt; segment.words.items().len(), 0);
+        assert_eq!(rt;
+            segment.words.items().as_slice(),
+            [
+                0xb0b0_b460_02b2,
+                0x28b8_6003_2002,
+                0xb202_80b8_ae40,
+                0x07b0_2003_aba3
+            ]
+            .as_slice()
+        );
         Ok(())
     }
 }
