@@ -7,6 +7,7 @@ mod LexValue
 mod ReadOne
 mod ReadList
 mod ReadParts
+mod ReadSums
 mod ReadStatement
 mod ReadNames
 mod ReadStatements

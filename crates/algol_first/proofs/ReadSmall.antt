@@ -1,5 +1,5 @@
 -- The numbers of a text are small, and so are those of the statements that are read from it.
-use Rattle.std.proofs.Common.{◌≡◌, ℕ, ℤ, ◌≤◌, zero, suc, List, [], ◌∷◌, refl, subst, arith}
+use Rattle.std.proofs.Common.{◌≡◌, ℕ, ℤ, ◌≤◌, List, [], ◌∷◌, refl, subst}
 use Rattle.std.specs.Prelude.{All, unsigned_abs}
 use Rattle.algol_tree.specs.declared.token.Spot.{Spot}
 use Rattle.algol_tree.specs.declared.token.Token.{Token}
@@ -7,15 +7,19 @@ use Rattle.algol_tree.specs.declared.token.TokenKind.TheVariants as kinds
 use Rattle.algol_tree.specs.declared.tree.Named.{Named}
 use Rattle.algol_tree.specs.Lexes as texts
 use Rattle.algol_tree.specs.Lexes.{Lexes, LexesFrom, IsWithinLimits}
-use Rattle.algol_tree.specs.Plain.{PExpr, PStmt, PStmts, PProgram}
+use Rattle.algol_tree.specs.Plain.{PExpr, number, two, PStmt, PStmts, PProgram}
 use Rattle.algol_tree.specs.Reads as grammar
-use Rattle.algol_tree.specs.Reads.{IsFile, IsNames, IsExpr, IsStatement, IsStatements, Reads}
+use Rattle.algol_tree.specs.Reads.{IsFile, IsNames, IsPrimary, IsSumOn, IsExpr, IsStatement, IsStatements, Reads}
 use Rattle.algol_first.specs.declared.reader.Primary.{Primary}
 use Rattle.algol_first.specs.declared.reader.Primary.TheVariants as primaries
+use Rattle.algol_first.specs.declared.reader.Addend.{Addend}
+use Rattle.algol_first.specs.declared.reader.Expression.{Expression}
 use Rattle.algol_first.specs.declared.reader.Simple.{Simple}
 use Rattle.algol_first.specs.declared.reader.Simple.TheVariants as simples
 use Rattle.algol_first.specs.declared.reader.FirstProgram.{FirstProgram}
-use Rattle.algol_first.specs.First.{expr_of, stmt_of, stmts_of, tree_of, IsSmallPrimary, IsSmall}
+use Rattle.algol_first.specs.Straight.{op_of}
+use Rattle.algol_first.specs.First.{primary_of, sum_on, expr_of, stmt_of, stmts_of, tree_of, IsSmallPrimary, IsSmallExpression, IsSmall}
+use Rattle.std.proofs.lemmas.List.Elements.{All-cons, All-nil}
 
 -- each token is within the limits
 abbrev pub AreWithin : List Token → Type 0
@@ -39,9 +43,17 @@ names_rest : (from : List Token) (ns : List Named) (rest : List Token) → IsNam
 names_rest _ _ _ (grammar.last t n rest p) w = w.1
 names_rest _ _ _ (grammar.comma t u n from ns rest p q r) w = names_rest from ns rest r w.1.1
 
+primary_rest : (from : List Token) (e : PExpr) (rest : List Token) → IsPrimary from e rest → AreWithin from → AreWithin rest
+primary_rest _ _ _ (grammar.literal t value rest p) w = w.1
+primary_rest _ _ _ (grammar.named t n rest p) w = w.1
+
+sum_rest : (left : PExpr) (from : List Token) (e : PExpr) (rest : List Token) → IsSumOn left from e rest → AreWithin from → AreWithin rest
+sum_rest _ _ _ _ (grammar.last left rest) w = w
+sum_rest _ _ _ _ (grammar.on left t op from right after e rest a p s) w = sum_rest (two op left right) after e rest s
+    (primary_rest from right after p w.1)
+
 expr_rest : (from : List Token) (e : PExpr) (rest : List Token) → IsExpr from e rest → AreWithin from → AreWithin rest
-expr_rest _ _ _ (grammar.literal t value rest p) w = w.1
-expr_rest _ _ _ (grammar.named t n rest p) w = w.1
+expr_rest _ _ _ (grammar.sum from first after e rest p s) w = sum_rest first after e rest s (primary_rest from first after p w)
 
 statement_rest : (from : List Token) (s : PStmt) (rest : List Token) → IsStatement from s rest → AreWithin from → AreWithin rest
 statement_rest _ _ _ (grammar.assignment t becomes n from e rest p q x) w = expr_rest from e rest x w.1.1
@@ -53,40 +65,65 @@ statement_rest _ _ _ (grammar.line word opening t first less phrase greater seco
 small_number : (t : Token) (value : ℤ) → t.kind ≡ kinds.Number value → IsWithinLimits t.kind → unsigned_abs value ≤ 549755813887
 small_number t value e w = subst IsWithinLimits e w
 
-small_expr : (from : List Token) (e : PExpr) (rest : List Token) → IsExpr from e rest → AreWithin from → (p : Primary) → e ≡ expr_of p →
-    IsSmallPrimary p
-small_expr _ _ _ (grammar.literal t value rest k) w (primaries.Number v s) e =
-    let same : value ≡ v = cc in
-    subst (λ x. unsigned_abs x ≤ 549755813887) same (small_number t value k w.0)
-small_expr _ _ _ (grammar.literal t value rest k) w (primaries.Name n) e = tt
-small_expr _ _ _ (grammar.named t n rest k) w (primaries.Number v s) e = cc
-small_expr _ _ _ (grammar.named t n rest k) w (primaries.Name m) e = tt
+-- each number among the operands of the expression is small
+HasSmallNumbers : PExpr → Type 0
+HasSmallNumbers (number value spot) = unsigned_abs value ≤ 549755813887
+HasSmallNumbers (two op a b) = HasSmallNumbers a × HasSmallNumbers b
+HasSmallNumbers _ = Unit {0}
+
+small_primary : (from : List Token) (e : PExpr) (rest : List Token) → IsPrimary from e rest → AreWithin from → HasSmallNumbers e
+unfolding HasSmallNumbers
+small_primary _ _ _ (grammar.literal t value rest k) w = small_number t value k w.0
+small_primary _ _ _ (grammar.named t n rest k) w = tt
+
+small_sum : (left : PExpr) (from : List Token) (e : PExpr) (rest : List Token) → IsSumOn left from e rest → AreWithin from →
+    HasSmallNumbers left → HasSmallNumbers e
+unfolding HasSmallNumbers
+small_sum _ _ _ _ (grammar.last left rest) w small = small
+small_sum _ _ _ _ (grammar.on left t op from right after e rest a p s) w small =
+    small_sum (two op left right) after e rest s (primary_rest from right after p w.1) (small, small_primary from right after p w.1)
+
+small_expr : (from : List Token) (e : PExpr) (rest : List Token) → IsExpr from e rest → AreWithin from → HasSmallNumbers e
+small_expr _ _ _ (grammar.sum from first after e rest p s) w =
+    small_sum first after e rest s (primary_rest from first after p w) (small_primary from first after p w)
+
+small_operand : (p : Primary) → HasSmallNumbers (primary_of p) → IsSmallPrimary p
+unfolding HasSmallNumbers
+small_operand (primaries.Number value spot) small = small
+small_operand (primaries.Name n) small = tt
+
+-- the numbers of a sum are those of its left and those of its addends
+small_addends : (left : PExpr) (addends : List Addend) → HasSmallNumbers (sum_on left addends) →
+    HasSmallNumbers left × All (λ (a : Addend). IsSmallPrimary a.operand) addends
+unfolding HasSmallNumbers
+small_addends left [] small = (small, All-nil (λ (a : Addend). IsSmallPrimary a.operand))
+small_addends left (addend ∷ addends) small =
+    let inside = small_addends (two (op_of addend.adding) left (primary_of addend.operand)) addends small in
+    (inside.0.0, All-cons (λ (a : Addend). IsSmallPrimary a.operand) addend addends (small_operand addend.operand inside.0.1) inside.1)
+
+small_expression : (x : Expression) → HasSmallNumbers (expr_of x) → IsSmallExpression x
+small_expression x small =
+    let parts = small_addends (primary_of x.first) x.addends small in
+    (small_operand x.first parts.0, parts.1)
 
 small_statement : (from : List Token) (s : PStmt) (rest : List Token) → IsStatement from s rest → AreWithin from → (x : Simple) →
     s ≡ stmt_of x → IsSmall x
 small_statement _ _ _ (grammar.assignment t becomes n from e rest p q x) w (simples.Assign m v) same =
     let one : e ≡ expr_of v = cc in
-    small_expr from e rest x w.1.1 v one
+    small_expression v (subst HasSmallNumbers one (small_expr from e rest x w.1.1))
 small_statement _ _ _ (grammar.line word opening t first less phrase greater second u closing file format item rest w0 o n k x y z l i r) w
     (simples.Assign m v) same = cc
 small_statement _ _ _ _ w (simples.Write file spot format item) same = tt
 
 -- a list of small statements
-small_cons : (x : Simple) (xs : List Simple) → IsSmall x → All IsSmall xs → All IsSmall (x ∷ xs)
-small_cons x xs p ps zero d h = p
-small_cons x xs p ps (suc k) d h = ps k d (omega arith)
-
-small_nil : All IsSmall []
-small_nil k d h = absurd (omega arith)
-
 small_statements : (from : List Token) (ss : PStmts) (rest : List Token) → IsStatements from ss rest → AreWithin from → (xs : List Simple) →
     ss ≡ stmts_of xs → All IsSmall xs
-small_statements _ _ _ _ w [] e = small_nil
+small_statements _ _ _ _ w [] e = All-nil IsSmall
 small_statements _ _ _ (grammar.last from s rest p) w (x ∷ []) e =
-    small_cons x [] (small_statement from s rest p w x (let one : s ≡ stmt_of x = cc in one)) small_nil
+    All-cons IsSmall x [] (small_statement from s rest p w x (let one : s ≡ stmt_of x = cc in one)) (All-nil IsSmall)
 small_statements _ _ _ (grammar.last from s rest p) w (x ∷ y ∷ ys) e = let clash : ⊥ = cc in absurd clash
 small_statements _ _ _ (grammar.semicolon from s u after ss rest p q r) w (x ∷ xs) e =
-    small_cons x xs (small_statement from s (u ∷ after) p w x (let one : s ≡ stmt_of x = cc in one))
+    All-cons IsSmall x xs (small_statement from s (u ∷ after) p w x (let one : s ≡ stmt_of x = cc in one))
     (small_statements after ss rest r (statement_rest from s (u ∷ after) p w).1 xs (let one : ss ≡ stmts_of xs = cc in one))
 
 small_tree : (tokens : List Token) (tree : PProgram) → Reads tokens tree → AreWithin tokens → (p : FirstProgram) → tree ≡ tree_of p →

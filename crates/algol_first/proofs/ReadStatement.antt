@@ -1,5 +1,5 @@
 -- Where each part of a statement is read, and where it is refused.
-use Rattle.std.proofs.Common.{◌≡◌, ℕ, ℤ, List, [], ◌∷◌, refl, sym, subst, ap, ◌∙◌}
+use Rattle.std.proofs.Common.{◌≡◌, ℕ, List, [], ◌∷◌, refl, sym, subst, ap, ◌∙◌}
 use Rattle.algol_tree.specs.declared.token.Spot.{Spot}
 use Rattle.algol_tree.specs.declared.token.Token.{Token}
 use Rattle.algol_tree.specs.declared.token.Reserved.TheVariants as reserved
@@ -7,52 +7,13 @@ use Rattle.algol_tree.specs.declared.token.Symbol.TheVariants as symbols
 use Rattle.algol_tree.specs.declared.token.TokenKind.TheVariants as kinds
 use Rattle.algol_tree.specs.declared.tree.Named.{Named}
 use Rattle.algol_tree.specs.declared.tree.PhraseText.TheVariants as phrases
-use Rattle.algol_tree.specs.Plain.{PExpr, number, subscripted, none, more, PStmt, assign, write}
+use Rattle.algol_tree.specs.Plain.{PExpr, subscripted, none, more, PStmt, assign, write}
 use Rattle.algol_tree.specs.Reads as grammar
 use Rattle.algol_tree.specs.Reads.{IsWord, IsSymbol, IsName, IsExpr, IsStatement, variable_of}
-use Rattle.algol_first.specs.Grammar.{IsNumber, IsNumberAt, FitsAt, IsOne, one, Begins, IsOnlyReading, HasNoReading, EndsStatement, IsAssignment, assignment, IsPhrase, phrase, IsWriteList, list}
+use Rattle.algol_first.specs.Grammar.{FitsAt, IsOne, one, Begins, IsOnlyReading, HasNoReading, EndsStatement, IsAssignment, assignment, IsPhrase, phrase, IsWriteList, list}
 use Rattle.algol_first.specs.declared.reader.Wanted.TheVariants as wanted
 use Rattle.algol_first.proofs.ReadOne.{IsName-only}
 use Rattle.algol_first.proofs.ReadParts.{HasNoOne}
-
--- expr = number | name
-
-pub expr_reads_number : (from rest : List Token) (value : ℤ) (spot : Spot) → IsOne (IsNumberAt value spot) from rest →
-    IsExpr from (number value spot) rest
-expr_reads_number _ _ value spot (one t rest p) = subst (λ s. IsExpr (t ∷ rest) (number value s) rest) p.1 (grammar.literal t value rest p.0)
-
-pub expr_reads_name : (from rest : List Token) (n : Named) → IsOne (IsName n) from rest → IsExpr from (variable_of n) rest
-expr_reads_name _ _ n (one t rest p) = grammar.named t n rest p
-
-pub expr_only_number : (from a : List Token) (value : ℤ) (spot : Spot) → IsOne (IsNumberAt value spot) from a →
-    IsOnlyReading IsExpr EndsStatement from (number value spot) a
-expr_only_number from a value spot p e rest x ends = same from a e rest p x
-  where
-    same : (from a : List Token) (e : PExpr) (rest : List Token) → IsOne (IsNumberAt value spot) from a → IsExpr from e rest →
-        (e ≡ number value spot) × (rest ≡ a)
-    same _ _ _ _ (one t _ p) (grammar.literal _ other rest q) =
-        let values : kinds.Number other ≡ kinds.Number value = sym q ∙ p.0 in
-        let spots : t.spot ≡ spot = p.1 in
-        ((let one_value : other ≡ value = cc in cc), refl)
-    same _ _ _ _ (one t _ p) (grammar.named _ n rest q) =
-        let clash : kinds.Name n.name ≡ kinds.Number value = sym q.name ∙ p.0 in cc
-
-pub expr_only_name : (from a : List Token) (n : Named) → IsOne (IsName n) from a → IsOnlyReading IsExpr EndsStatement from (variable_of n) a
-expr_only_name from a n p e rest x ends = same from a e rest p x
-  where
-    same : (from a : List Token) (e : PExpr) (rest : List Token) → IsOne (IsName n) from a → IsExpr from e rest → (e ≡ variable_of n) × (rest ≡ a)
-    same _ _ _ _ (one t _ p) (grammar.literal _ other rest q) =
-        let clash : kinds.Name n.name ≡ kinds.Number other = sym p.name ∙ q in cc
-    same _ _ _ _ (one t _ p) (grammar.named _ m rest q) = (ap variable_of (IsName-only t n m p q), refl)
-
-pub expr_refused : (from : List Token) → ((value : ℤ) → HasNoOne (IsNumber value) from) → ((n : Named) → HasNoOne (IsName n) from) →
-    HasNoReading IsExpr EndsStatement from
-expr_refused from no_number no_name e rest x ends = refused from e rest no_number no_name x
-  where
-    refused : (from : List Token) (e : PExpr) (rest : List Token) → ((value : ℤ) → HasNoOne (IsNumber value) from) → ((n : Named) →
-        HasNoOne (IsName n) from) → IsExpr from e rest → ⊥
-    refused _ _ _ no_number no_name (grammar.literal t value rest p) = no_number value rest (one t rest p)
-    refused _ _ _ no_number no_name (grammar.named t n rest p) = no_name n rest (one t rest p)
 
 -- name ":=" expr
 

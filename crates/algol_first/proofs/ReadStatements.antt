@@ -1,12 +1,12 @@
 -- Statements with semicolons between them: where they are read, and where they are refused.
-use Rattle.std.proofs.Common.{◌≡◌, ◌<◌, List, [], ◌∷◌, ◌++◌, length, map, refl, sym, subst, ap, ◌∙◌, inl, inr, arith}
+use Rattle.std.proofs.Common.{◌≡◌, ◌<◌, ◌≤◌, List, [], ◌∷◌, ◌++◌, length, map, refl, sym, subst, ap, ◌∙◌, inl, inr, arith}
 use Rattle.algol_tree.specs.declared.token.Token.{Token}
 use Rattle.algol_tree.specs.declared.token.Reserved.TheVariants as reserved
 use Rattle.algol_tree.specs.declared.token.Symbol.TheVariants as symbols
 use Rattle.algol_tree.specs.declared.token.TokenKind.TheVariants as kinds
-use Rattle.algol_tree.specs.Plain.{PExpr, PStmt, PStmts, no_stmts, stmts}
+use Rattle.algol_tree.specs.Plain.{PExpr, two, PStmt, PStmts, no_stmts, stmts}
 use Rattle.algol_tree.specs.Reads as grammar
-use Rattle.algol_tree.specs.Reads.{IsWord, IsSymbol, IsName, IsNames, IsExpr, IsStatement, IsStatements, Reads, program_of}
+use Rattle.algol_tree.specs.Reads.{IsWord, IsSymbol, IsName, IsNames, IsPrimary, IsSumOn, IsExpr, IsStatement, IsStatements, Reads, program_of}
 use Rattle.algol_first.specs.Grammar.{IsOne, one, IsOnlyReading, HasNoReading, EndsStatement, EndsStatements}
 use Rattle.algol_first.specs.declared.reader.Simple.{Simple}
 use Rattle.algol_first.specs.First.{stmt_of, stmts_of}
@@ -100,10 +100,20 @@ statements_refused tokens rest found g refuses ss end x ends =
     (IsSymbol symbols.Semicolon) EndsStatements EndsStatement semicolon_ends end_ends semicolon_no_end tokens rest (map stmt_of found) g
     refuses l.items end l.listed ends
 
+-- an operand is one token
+primary_shorter : (from : List Token) (e : PExpr) (rest : List Token) → IsPrimary from e rest → length rest < length from
+primary_shorter _ _ _ (grammar.literal t value rest p) = omega arith
+primary_shorter _ _ _ (grammar.named t n rest p) = omega arith
+
+sum_shorter : (left : PExpr) (from : List Token) (e : PExpr) (rest : List Token) → IsSumOn left from e rest → length rest ≤ length from
+sum_shorter _ _ _ _ (grammar.last left rest) = omega arith
+sum_shorter _ _ _ _ (grammar.on left t op from right after e rest a p s) =
+    omega (arith, primary_shorter from right after p, sum_shorter (two op left right) after e rest s)
+
 -- an expression has at least a token
 expr_shorter : (from : List Token) (e : PExpr) (rest : List Token) → IsExpr from e rest → length rest < length from
-expr_shorter _ _ _ (grammar.literal t value rest p) = omega arith
-expr_shorter _ _ _ (grammar.named t n rest p) = omega arith
+expr_shorter _ _ _ (grammar.sum from first after e rest p s) =
+    omega (arith, primary_shorter from first after p, sum_shorter first after e rest s)
 
 -- and so has a statement
 shorter : (from : List Token) (s : PStmt) (rest : List Token) → IsStatement from s rest → length rest < length from

@@ -54,7 +54,8 @@ mod tests {
     #[test]
     fn small_sources(rt: HostRuntime) -> Result<(), Fail> {
         let alloc = rt.alloc();
-        let text = b"BEGIN FILE LINE(KIND=PRINTER); INTEGER I,J;\nI:=40; J:=I-2+J; WRITE(LINE,<I5>,J) END.";
+        let text =
+            b"BEGIN FILE LINE(KIND=PRINTER); INTEGER I,J;\nI:=40; J:=I-2+J; WRITE(LINE,<I5>,J) END.";
         let straight = straight_of(alloc, text).ok().ok_or("no source")?;
         assert_eq!(rt; straight.integers, 2);
         let steps = straight.steps.items().as_slice();

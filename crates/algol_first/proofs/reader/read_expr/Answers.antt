@@ -1,27 +1,22 @@
-use Rattle.std.proofs.Common.{w64, rules}
-use mir.Val.{SFits}
-use Rattle.std.proofs.lemmas.Int.{to_z-of_z}
 use Rattle.std.proofs.lemmas.Result.{err_from_is_err_and}
-use Rattle.algol_first.proofs.ReadStatement.{expr_reads_number, expr_reads_name, expr_only_number, expr_only_name, expr_refused}
+use Rattle.algol_first.proofs.ReadSums.{addends_begun, addends_step, addends_done, addends_only, sum_at_operand}
 use Rattle.algol_first.proofs.reader.read_expr.Goals as goal
 
-pub returns-in-Some-clause-reads : goal.returns-in-Some-clause-reads
-returns-in-Some-clause-reads c =
-    let f : SFits w64 c.in-Some.value = search rules in
-    simp to_z-of_z (expr_reads_number _ _ _ _ c.in-Some.ensures.found)
+pub addends-init : goal.addends-init
+addends-init c = addends_begun _ _ _ _ c.new-addends.ensures.items c.in_ok-first.ensures.reads c.in_ok-first.ensures.only
 
-pub returns-in-Some-clause-only : goal.returns-in-Some-clause-only
-returns-in-Some-clause-only c =
-    let f : SFits w64 c.in-Some.value = search rules in
-    simp to_z-of_z (expr_only_number _ _ _ _ c.in-Some.ensures.found)
+pub returns-in_err-operand-clause-unbuilt : goal.returns-in_err-operand-clause-unbuilt
+returns-in_err-operand-clause-unbuilt c = λ e.
+    let p = err_from_is_err_and c.from_residual-in_err-operand.result c.from_residual-in_err-operand.ensures.1 in
+    sum_at_operand _ _ _ _ _ c.addends.invariant c.in-Some.ensures.found (c.in_err-operand.ensures.unbuilt cc)
 
-pub returns-in_err-name-clause-unbuilt : goal.returns-in_err-name-clause-unbuilt
-returns-in_err-name-clause-unbuilt c = λ e.
-    let p = err_from_is_err_and c.from_residual.result c.from_residual.ensures.1 in
-    expr_refused _ c.in_default.ensures.missing (c.in_err-name.ensures.unbuilt cc)
+pub addends-preserved : goal.addends-preserved
+addends-preserved c =
+    addends_step _ _ _ _ _ _ _ _ c.in_ok-push.ensures.items c.addends.invariant c.in-Some.ensures.found c.in_ok-operand.ensures.reads
+    c.in_ok-operand.ensures.only
 
 pub returns-clause-reads : goal.returns-clause-reads
-returns-clause-reads c = expr_reads_name _ _ _ c.in_ok-name.ensures.reads
+returns-clause-reads c = addends_done _ _ _ _ _ c.of-addends.ensures c.addends.invariant
 
 pub returns-clause-only : goal.returns-clause-only
-returns-clause-only c = expr_only_name _ _ _ c.in_ok-name.ensures.reads
+returns-clause-only c = addends_only _ _ _ _ _ c.of-addends.ensures c.addends.invariant c.in_default.ensures.missing
