@@ -1,5 +1,5 @@
 -- The action operators in an image of the picture.
-use Rattle.std.proofs.Common.{◌≡◌, ℕ, ◌+◌, ◌-◌, ◌<◌, ◌≤◌, List, [], ◌∷◌, ◌++◌, length, take, Option, Some, false, refl, sym, ap, ◌∙◌, arith, ℤ, Result, zero-add}
+use Rattle.std.proofs.Common.{◌≡◌, ℕ, ◌+◌, ◌-◌, ◌<◌, List, [], ◌∷◌, ◌++◌, length, take, Option, Some, false, refl, sym, ap, ◌∙◌, arith, ℤ, Result, zero-add}
 use Rattle.std.specs.Prelude.{slice_get, slice_set, if◌then◌else◌, ◌&&◌, ◌==◌}
 use Rattle.b67_word.specs.declared.Place.{Place}
 use Rattle.b67_word.specs.Word.{Word, operand}
@@ -26,7 +26,7 @@ use Rattle.b67_relate.proofs.StackWords.{stack-cons, top-stack, under-stack, cel
 use Rattle.b67_relate.proofs.WordKinds.{WordLaws}
 use Rattle.b67_relate.proofs.PrivateSteps.{table_at, pushed, below_is, most_is}
 
-module _ (laws : WordLaws) (code : Code) (values : List ℤ) (output : List (List ℕ)) where
+module _ (most : ℕ) (laws : WordLaws) (code : Code) (values : List ℤ) (output : List (List ℕ)) where
   -- an operator that is no private one is not plain
   pub not_plain : (at : At) (op : Operator) (next : ℕ) → Has code at.place op next → is_private op at.place ≡ false → plain code (image values output at) 1 ≡ false
   unfolding plain
@@ -48,24 +48,24 @@ module _ (laws : WordLaws) (code : Code) (values : List ℤ) (output : List (Lis
     abbrev push_it : Word → Program
     push_it w = push 1 w (set_registers (registers (length values) (pushed at w next)) done)
 
-    value_does : (v : ℤ) → Sized values at → length at.operands ≤ 65000 → slice_get values k ≡ Some v →
+    value_does : (v : ℤ) → Sized most values at → slice_get values k ≡ Some v →
         does 1 (value_call (registers (length values) at) next (record { level = 2; index = 2 + k })) (image values output at) ≡ gives (image values output (pushed at (operand v) next))
-    value_does v sized room is =
+    value_does v sized is =
         let img : Image = image values output at in
         ap (λ n. does 1 (with_word (slice_get (stack values at.operands) n) (λ (w : Word). one_sirw (as_sirw w) w (λ (x : Word). if_operand x (push_it x)))) img) (zero-add (2 + k))
         ∙ ap (λ (o : Option Word). does 1 (with_word o (λ (w : Word). one_sirw (as_sirw w) w (λ (x : Word). if_operand x (push_it x)))) img) (cell-stack values at.operands k v is)
         ∙ ap (λ (o : Option Sirw). does 1 (one_sirw o (operand v) (λ (x : Word). if_operand x (push_it x))) img) (laws.operand_no_sirw v)
         ∙ ap (λ t. does 1 (if t == 0 then push_it (operand v) else invalid) img) (operand-tag v)
         ∙ ap (λ b. if b then gives (record (image values output (pushed at (operand v) next)) { stacks = Some system_stack ∷ Some (stack values at.operands ++ operand v ∷ []) ∷ [] }) else limit)
-        (below_is (length (stack values at.operands)) 65536 (omega (arith, length-stack values at.operands, sized.few)))
+        (below_is (length (stack values at.operands)) 65536 (omega (arith, length-stack values at.operands, sized.few, sized.room, sized.small)))
         ∙ ap (λ ws. gives (record (image values output (pushed at (operand v) next)) { stacks = Some system_stack ∷ Some ws ∷ [] })) (sym (stack-cons values (operand v) at.operands))
 
-  pub value_step : (at : At) (k next : ℕ) (v : ℤ) → Sized values at → length at.operands ≤ 65000 → slice_get values k ≡ Some v → Has code at.place (ops.Valc (record { level = 2; index = 2 + k })) next →
+  pub value_step : (at : At) (k next : ℕ) (v : ℤ) → Sized most values at → slice_get values k ≡ Some v → Has code at.place (ops.Valc (record { level = 2; index = 2 + k })) next →
       Acts code 1 (image values output at) (image values output (pushed at (operand v) next))
   unfolding action_op
-  value_step at k next v sized room is has =
+  value_step at k next v sized is has =
       acts (not_plain at (ops.Valc (record { level = 2; index = 2 + k })) next has refl)
-      (action_at at (ops.Valc (record { level = 2; index = 2 + k })) next has refl ∙ value_does at k next v sized room is)
+      (action_at at (ops.Valc (record { level = 2; index = 2 + k })) next has refl ∙ value_does at k next v sized is)
 
   -- ---- an operand is stored in a cell
 
@@ -73,7 +73,7 @@ module _ (laws : WordLaws) (code : Code) (values : List ℤ) (output : List (Lis
   abbrev pub dropped : At → List Word → ℕ → At
   dropped at below next = record { place = next; s = at.s - 2; f = at.f; operands = below }
 
-  module _ (at : At) (below : List Word) (k next : ℕ) (v old : ℤ) (sized : Sized values at) (top : at.operands ≡ operand v ∷ reference_word k ∷ below)
+  module _ (at : At) (below : List Word) (k next : ℕ) (v old : ℤ) (sized : Sized most values at) (top : at.operands ≡ operand v ∷ reference_word k ∷ below)
       (few : k < 400) (is : slice_get values k ≡ Some old) where
     abbrev r : Registers
     r = registers (length values) at
@@ -150,7 +150,7 @@ module _ (laws : WordLaws) (code : Code) (values : List ℤ) (output : List (Lis
         ∙ ap (λ t. does 1 (if t == 0 then keep else invalid) img) (operand-tag old)
         ∙ kept
 
-  pub store_step : (at : At) (below : List Word) (k next : ℕ) (v old : ℤ) → Sized values at → at.operands ≡ operand v ∷ reference_word k ∷ below → k < 400 → slice_get values k ≡ Some old →
+  pub store_step : (at : At) (below : List Word) (k next : ℕ) (v old : ℤ) → Sized most values at → at.operands ≡ operand v ∷ reference_word k ∷ below → k < 400 → slice_get values k ≡ Some old →
       Has code at.place (ops.Plain kinds.Stod) next → Acts code 1 (image values output at) (image (slice_set values k v) output (dropped at below next))
   unfolding action_op
   store_step at below k next v old sized top few is has =

@@ -1,8 +1,9 @@
 -- Each history of the code is legal for the source, and world and image agree after it.
-use Rattle.std.proofs.Common.{◌≡◌, ℕ, zero, suc, List, [], ◌∷◌, ◌++◌, length, Option, Some, None, true, false, refl, sym, ap, ◌∙◌, subst, ℤ}
+use Rattle.std.proofs.Common.{◌≡◌, ℕ, zero, suc, ◌≤◌, List, [], ◌∷◌, ◌++◌, length, Option, Some, None, true, false, refl, sym, ap, ◌∙◌, subst, arith, ℤ}
 use Rattle.std.specs.Prelude.{reverse, slice_get, if◌then◌else◌}
 use Rattle.algol_tree.specs.Numbered.{numbered}
 use Rattle.algol_tree.specs.Plain.{PProgram}
+use Rattle.algol_tree.specs.Counts.{program_tokens}
 use Rattle.algol_tree.specs.Accepted.{IsDistinct, names_of, Accepted, accepted}
 use Rattle.b67_num.specs.declared.NumFault.{NumFault}
 use Rattle.b67_num.specs.declared.FaultKind.{FaultKind}
@@ -22,8 +23,8 @@ use Rattle.b67_table.specs.Image.{Image, Failure, is_able}
 use Rattle.b67_table.specs.Table.{table, plain, failed, may_act, image_end, ImageEnd, goes_on, end_by, first_image}
 use Rattle.b67_table.specs.Table as machine
 use Rattle.b67_table.specs.Runs.{Plains, stay, go, Acts, acts, fails, Entry, Runs, begin, entry}
-use Rattle.b67_relate.specs.Picture.{At, world, ended_world, image, ended_image, registers}
-use Rattle.b67_relate.specs.Agreement.{end_as, Shows, Agrees}
+use Rattle.b67_relate.specs.Picture.{At, world, ended_world, image, ended_image, registers, Sized}
+use Rattle.b67_relate.specs.Agreement.{end_as, Shows, Fits, Agrees}
 use Rattle.b67_relate.specs.Code.{ProgramAt}
 use Rattle.b67_relate.specs.Pictures.{Pictures, live, ended, faulted, Alive, Located}
 use Rattle.b67_relate.proofs.WordKinds.{word_laws}
@@ -33,6 +34,8 @@ use Rattle.b67_relate.proofs.Steps as steps
 use Rattle.b67_relate.specs.Code.{program_at}
 use Rattle.b67_relate.proofs.Cells.{IsDistinct-tail}
 use Rattle.b67_relate.proofs.Prologue.{start-world, first_pictured}
+use Rattle.b67_relate.proofs.Within.{plains_of, way_within}
+use Rattle.b67_relate.proofs.Fitting.{live_fits, faulted_fits, ended_fits}
 use Rattle.b67_relate.proofs.OneWay.{one_way, way, OnTheWay, there, further, plains_public}
 
 -- ---- runs of the source
@@ -74,57 +77,57 @@ false_true e = cc
 
 -- ---- one entry
 
-module _ (tree : PProgram) (code : Code) (names : List (List ℕ)) (distinct : IsDistinct names) where
+module _ (most : ℕ) (tree : PProgram) (code : Code) (names : List (List ℕ)) (distinct : IsDistinct names) where
   pub record Entered (w : World) (p : ℕ) (b : Image) : Type 0 where
     pub after : World
     pub is : entered tree w p ≡ Some after
-    pub pictures : Pictures code names after b
+    pub pictures : Pictures most code names after b
 
   entered-world : (values : List ℤ) (output : List (List ℕ)) (rest : Rest) → entered tree (world names values output rest) 1 ≡ world_of (choice tree (world names values output rest) 1)
   unfolding entered may_go end_of
   entered-world values output rest = refl
 
-  follow : (values : List ℤ) (output : List (List ℕ)) (rest : Rest) (to : At) → Follows tree code names values output rest to → (q : Image) (n m : ℕ) (a b : Image) → Plains code 1 a n q → Acts code 1 q b →
+  follow : (values : List ℤ) (output : List (List ℕ)) (rest : Rest) (to : At) → length values ≡ length names → Sized most values to → Follows most tree code names values output rest to → (q : Image) (n m : ℕ) (a b : Image) → Plains code 1 a n q → Acts code 1 q b →
       Plains code 1 a m (image values output to) → Entered (world names values output rest) 1 b
-  follow values output rest to (steps.goes_on action values' output' rest' next is act same comes) q n m a b l x k =
+  follow values output rest to many sized (steps.goes_on action values' output' rest' next is act same comes) q n m a b l x k =
       record {
         after = world names values' output' rest';
         is = entered-world values output rest ∙ ap world_of is;
         pictures =
-            subst (λ (i : Image). Pictures code names (world names values' output' rest') i) (one_way code 1 k act l x)
+            subst (λ (i : Image). Pictures most code names (world names values' output' rest') i) (one_way code 1 k act l x)
             (live values' output' rest' (image values' output' next) comes.goes.n comes.to same (record { states = refl; fault = refl; output_is = refl; located = record { registers = registers (length values') next; alone = refl; level = refl; segment = refl } }) comes.goes.plains comes.goes.sized comes.stands);
       }
-  follow values output rest to (steps.ends next is act) q n m a b l x k =
+  follow values output rest to many sized (steps.ends next is act) q n m a b l x k =
       record {
         after = ended_world names values output;
         is = entered-world values output rest ∙ ap world_of is;
-        pictures = subst (λ (i : Image). Pictures code names (ended_world names values output) i) (one_way code 1 k act l x) (ended values output (length values) next);
+        pictures = subst (λ (i : Image). Pictures most code names (ended_world names values output) i) (one_way code 1 k act l x) (ended values output (length values) next);
       }
-  follow values output rest to (steps.faulted fault is act stays) q n m a b l x k =
+  follow values output rest to many sized (steps.faulted fault is act stays) q n m a b l x k =
       record {
         after = with_fault (world names values output rest) 1 fault;
         is = entered-world values output rest ∙ ap world_of is;
-        pictures = subst (λ (i : Image). Pictures code names (with_fault (world names values output rest) 1 fault) i) (one_way code 1 k act l x) (faulted values output rest to fault stays);
+        pictures = subst (λ (i : Image). Pictures most code names (with_fault (world names values output rest) 1 fault) i) (one_way code 1 k act l x) (faulted values output rest to fault many sized stays);
       }
 
-  pub entry_pictured : (w : World) (a : Image) (p n : ℕ) (b : Image) → Pictures code names w a → Entry code p a n b → Entered w p b
+  pub entry_pictured : (w : World) (a : Image) (p n : ℕ) (b : Image) → Pictures most code names w a → Entry code p a n b → Entered w p b
   unfolding may_act image_end failed
   entry_pictured w a p n b (live values output rest img m to same alive plains sized stands) e =
       let one : p ≡ 1 = the_process img p alive.states e.may in
       let l : Plains code 1 img n e.quiet = subst (λ q. Plains code q img n e.quiet) one e.plains in
       let x : Acts code 1 e.quiet b = subst (λ q. Acts code q e.quiet b) one e.action in
       subst (λ q. Entered (world names values output rest) q b) (sym one)
-      (follow values output rest to (step_at word_laws tree code names distinct values same output rest to sized stands) e.quiet n m img b l x plains)
+      (follow values output rest to same sized (step_at most word_laws tree code names distinct values same output rest to sized stands) e.quiet n m img b l x (plains_of plains))
   entry_pictured w a p n b (ended values output cells at) e = false_true e.may
-  entry_pictured w a p n b (faulted values output rest at fault stays) e = false_true e.may
+  entry_pictured w a p n b (faulted values output rest at fault same sized stays) e = false_true e.may
 
 -- ---- whole histories
 
-module _ (tree : PProgram) (code : Code) (names : List (List ℕ)) (distinct : IsDistinct names) (first : World) (starts : start tree ≡ first) (pictured : Pictures code names first first_image) where
+module _ (most : ℕ) (tree : PProgram) (code : Code) (names : List (List ℕ)) (distinct : IsDistinct names) (first : World) (starts : start tree ≡ first) (pictured : Pictures most code names first first_image) where
   pub record Related (h : List ℕ) (img : Image) : Type 0 where
     pub world : World
     pub is : run tree (reverse h) ≡ Some world
-    pub pictures : Pictures code names world img
+    pub pictures : Pictures most code names world img
 
   run-start : run tree [] ≡ Some first
   unfolding run
@@ -134,7 +137,7 @@ module _ (tree : PProgram) (code : Code) (names : List (List ℕ)) (distinct : I
   related begin = record { world = first; is = run-start; pictures = pictured }
   related (entry {h = h} {a = a} {b = b} {p = p} {n = n} runs e) =
       let before = related runs in
-      let next = entry_pictured tree code names distinct before.world a p n b before.pictures e in
+      let next = entry_pictured most tree code names distinct before.world a p n b before.pictures e in
       record { world = next.after; is = run-later tree h p before.world next.after before.is next.is; pictures = next.pictures }
 
 -- ---- after some plain operators more
@@ -203,8 +206,16 @@ ended_table : (code : Code) (cells : ℕ) (output : List (List ℕ)) (at : At) �
 unfolding table
 ended_table code cells output at = refl
 
-module _ (tree : PProgram) (code : Code) (names : List (List ℕ)) (distinct : IsDistinct names) where
-  live_shows : (values : List ℤ) (output : List (List ℕ)) (rest : Rest) (a : Image) (m : ℕ) (to : At) → Alive a output → Plains code 1 a m (image values output to) → Follows tree code names values output rest to →
+gives_and_faults : {B : Type 0} {b : Image} {x : Effect Image} {kind : FaultKind} → x ≡ gives b → x ≡ faults kind → B
+gives_and_faults u v = cc
+
+module _ (most : ℕ) (tree : PProgram) (code : Code) (names : List (List ℕ)) (distinct : IsDistinct names) where
+  pub act_of : {values : List ℤ} {output : List (List ℕ)} {rest : Rest} {to : At} → Follows most tree code names values output rest to → (b : Image) × Acts code 1 (image values output to) b
+  act_of {values} {output} (steps.goes_on action values' output' rest' next is act same comes) = (image values' output' next, act)
+  act_of {values} {output} (steps.ends next is act) = (ended_image (length values) output next, act)
+  act_of {values} {output} {to = to} (steps.faulted fault is act stays) = (failed (image values output to) 1 (fault_of fault), act)
+
+  live_shows : (values : List ℤ) (output : List (List ℕ)) (rest : Rest) (a : Image) (m : ℕ) (to : At) → Alive a output → Plains code 1 a m (image values output to) → Follows most tree code names values output rest to →
       (n : ℕ) (img : Image) → Plains code 1 a n img → Shows code (world names values output rest) img
   live_shows values output rest a m to alive k follows n img l =
       let same = plains_public l in
@@ -218,74 +229,74 @@ module _ (tree : PProgram) (code : Code) (names : List (List ℕ)) (distinct : I
         no_interrupt = λ kind e t. way_no_interrupt code (image values output to) img acting.0 on_way acting.1 kind t;
         no_limit = λ e t. way_no_limit code (image values output to) img acting.0 on_way acting.1 t;
       }
-    where
-      act_of : Follows tree code names values output rest to → (b : Image) × Acts code 1 (image values output to) b
-      act_of (steps.goes_on action values' output' rest' next is act same comes) = (image values' output' next, act)
-      act_of (steps.ends next is act) = (ended_image (length values) output next, act)
-      act_of (steps.faulted fault is act stays) = (failed (image values output to) 1 (fault_of fault), act)
 
-  pub pictured_shows : (w : World) (a : Image) → Pictures code names w a → (n : ℕ) (img : Image) → Plains code 1 a n img → Shows code w img
+  pub pictured_shows : (w : World) (a : Image) → Pictures most code names w a → (n : ℕ) (img : Image) → Plains code 1 a n img → Shows code w img
   pictured_shows w a (live values output rest img m to same alive plains sized stands) n q l =
-      live_shows values output rest img m to alive plains (step_at word_laws tree code names distinct values same output rest to sized stands) n q l
+      live_shows values output rest img m to alive (plains_of plains) (step_at most word_laws tree code names distinct values same output rest to sized stands) n q l
   pictured_shows w a (ended values output cells at) n q stay = ended_shows code names values output cells at
   pictured_shows w a (ended values output cells at) n q (go {b = b} e t l) = not_both b bad_code (table code (ended_image cells output at) 1) t (ended_table code cells output at)
-  pictured_shows w a (faulted values output rest at fault stays) n q stay = faulted_shows code names values output rest at fault
-  pictured_shows w a (faulted values output rest at fault stays) n q (go {b = b} e t l) = gives_faults b (fault_of fault) (table code (failed (image values output at) 1 (fault_of fault)) 1) t stays
-    where
-      gives_faults : {B : Type 0} (b : Image) (kind : FaultKind) (x : Effect Image) → x ≡ gives b → x ≡ faults kind → B
-      gives_faults b kind x u v = cc
+  pictured_shows w a (faulted values output rest at fault same sized stays) n q stay = faulted_shows code names values output rest at fault
+  pictured_shows w a (faulted values output rest at fault same sized stays) n q (go {b = b} e t l) = gives_and_faults t stays
+
+  pub pictured_fits : most ≤ program_tokens tree → (w : World) (a : Image) → Pictures most code names w a → (n : ℕ) (img : Image) → Plains code 1 a n img → Fits tree code w img
+  pictured_fits few w a (live values output rest img m to same alive plains sized stands) n q l =
+      let acting = act_of (step_at most word_laws tree code names distinct values same output rest to sized stands) in
+      let on_way : OnTheWay code 1 (image values output to) q = way code 1 l (plains_of plains) acting.1 in
+      live_fits tree code names values output rest most few same q ((plains_public l).states ∙ alive.states) (way_within l plains acting.1)
+      (λ t. way_no_limit code (image values output to) q acting.0 on_way acting.1 t)
+  pictured_fits few w a (ended values output cells at) n q stay = ended_fits tree code names values output cells at
+  pictured_fits few w a (ended values output cells at) n q (go {b = b} e t l) = not_both b bad_code (table code (ended_image cells output at) 1) t (ended_table code cells output at)
+  pictured_fits few w a (faulted values output rest at fault same sized stays) n q stay = faulted_fits tree code names values output rest most few same at fault sized stays
+  pictured_fits few w a (faulted values output rest at fault same sized stays) n q (go {b = b} e t l) = gives_and_faults t stays
 
 -- each history of the code of an accepted tree agrees with the tree, also after some plain operators more
 pub histories_agree : (tree : PProgram) (code : Code) → Accepted tree → ProgramAt code tree → (h counts : List ℕ) (before img : Image) (tail : ℕ) → Runs code h counts before → Plains code 1 before tail img → Agrees tree code (reverse h) img
 histories_agree tree code (accepted spot file ns ss distinct few known small) (program_at spot' file' ns' ss' few' body) h counts before img tail runs plains =
     let names : List (List ℕ) = names_of ns in
     let apart : IsDistinct names = IsDistinct-tail file.name names distinct in
-    let rel = related tree code names apart _ (start-world spot file ns ss) (first_pictured code ns ss few' body) runs in
-    record { world = rel.world; is = rel.is; shows = pictured_shows tree code names apart rel.world before rel.pictures tail img plains }
+    let rel = related (program_tokens tree) tree code names apart _ (start-world spot file ns ss) (first_pictured code spot file ns ss few' small body) runs in
+    record { world = rel.world; is = rel.is; shows = pictured_shows (program_tokens tree) tree code names apart rel.world before rel.pictures tail img plains; fits = pictured_fits (program_tokens tree) tree code names apart (omega arith) rel.world before rel.pictures tail img plains }
 
 -- process 1 is alone
-pictured_alone : (code : Code) (names : List (List ℕ)) (w : World) (a : Image) → Pictures code names w a → (s : ProcessState) × (a.states ≡ s ∷ [])
+pictured_alone : (most : ℕ) (code : Code) (names : List (List ℕ)) (w : World) (a : Image) → Pictures most code names w a → (s : ProcessState) × (a.states ≡ s ∷ [])
 unfolding failed
-pictured_alone code names w a (live values output rest img m to same alive plains sized stands) = (Able, alive.states)
-pictured_alone code names w a (ended values output cells at) = (Ended, refl)
-pictured_alone code names w a (faulted values output rest at fault stays) = (Able, refl)
+pictured_alone most code names w a (live values output rest img m to same alive plains sized stands) = (Able, alive.states)
+pictured_alone most code names w a (ended values output cells at) = (Ended, refl)
+pictured_alone most code names w a (faulted values output rest at fault same sized stays) = (Able, refl)
 
 pub runs_alone : (tree : PProgram) (code : Code) → Accepted tree → ProgramAt code tree → {h counts : List ℕ} {img : Image} → Runs code h counts img → (s : ProcessState) × (img.states ≡ s ∷ [])
 runs_alone tree code (accepted spot file ns ss distinct few known small) (program_at spot' file' ns' ss' few' body) {img = img} runs =
     let names : List (List ℕ) = names_of ns in
-    let rel = related tree code names (IsDistinct-tail file.name names distinct) _ (start-world spot file ns ss) (first_pictured code ns ss few' body) runs in
-    pictured_alone code names rel.world img rel.pictures
+    let rel = related (program_tokens tree) tree code names (IsDistinct-tail file.name names distinct) _ (start-world spot file ns ss) (first_pictured code spot file ns ss few' small body) runs in
+    pictured_alone (program_tokens tree) code names rel.world img rel.pictures
 
 -- a process that can act is process 1, which stands in its segment
-acting_located : (code : Code) (names : List (List ℕ)) (w : World) (a : Image) (p : ℕ) → Pictures code names w a → may_act a p ≡ true → (p ≡ 1) × Located a
+acting_located : (most : ℕ) (code : Code) (names : List (List ℕ)) (w : World) (a : Image) (p : ℕ) → Pictures most code names w a → may_act a p ≡ true → (p ≡ 1) × Located a
 unfolding may_act image_end failed
-acting_located code names w a p (live values output rest img m to same alive plains sized stands) e = (the_process img p alive.states e, alive.located)
-acting_located code names w a p (ended values output cells at) e = false_true e
-acting_located code names w a p (faulted values output rest at fault stays) e = false_true e
+acting_located most code names w a p (live values output rest img m to same alive plains sized stands) e = (the_process img p alive.states e, alive.located)
+acting_located most code names w a p (ended values output cells at) e = false_true e
+acting_located most code names w a p (faulted values output rest at fault same sized stays) e = false_true e
 
 pub runs_located : (tree : PProgram) (code : Code) → Accepted tree → ProgramAt code tree → {h counts : List ℕ} {img : Image} {p : ℕ} → Runs code h counts img → may_act img p ≡ true → (p ≡ 1) × Located img
 runs_located tree code (accepted spot file ns ss distinct few known small) (program_at spot' file' ns' ss' few' body) {img = img} {p = p} runs e =
     let names : List (List ℕ) = names_of ns in
-    let rel = related tree code names (IsDistinct-tail file.name names distinct) _ (start-world spot file ns ss) (first_pictured code ns ss few' body) runs in
-    acting_located code names rel.world img p rel.pictures e
+    let rel = related (program_tokens tree) tree code names (IsDistinct-tail file.name names distinct) _ (start-world spot file ns ss) (first_pictured code spot file ns ss few' small body) runs in
+    acting_located (program_tokens tree) code names rel.world img p rel.pictures e
 
 -- no operator is plain after an end
 pub data Further (a : Image) (n : ℕ) : Type 0 where
   nowhere : n ≡ 0 → Further a n
   from_here : Located a → Further a n
 
-gives_and_faults : {B : Type 0} {b : Image} {x : Effect Image} {kind : FaultKind} → x ≡ gives b → x ≡ faults kind → B
-gives_and_faults u v = cc
-
-pictured_further : (code : Code) (names : List (List ℕ)) (w : World) (a : Image) → Pictures code names w a → (n : ℕ) (b : Image) → Plains code 1 a n b → Further a n
-pictured_further code names w a (live values output rest img m to same alive plains sized stands) n b l = from_here alive.located
-pictured_further code names w a (ended values output cells at) n b stay = nowhere refl
-pictured_further code names w a (ended values output cells at) n b (go {b = c} e t l) = not_both c bad_code (table code (ended_image cells output at) 1) t (ended_table code cells output at)
-pictured_further code names w a (faulted values output rest at fault stays) n b stay = nowhere refl
-pictured_further code names w a (faulted values output rest at fault stays) n b (go {b = c} e t l) = gives_and_faults t stays
+pictured_further : (most : ℕ) (code : Code) (names : List (List ℕ)) (w : World) (a : Image) → Pictures most code names w a → (n : ℕ) (b : Image) → Plains code 1 a n b → Further a n
+pictured_further most code names w a (live values output rest img m to same alive plains sized stands) n b l = from_here alive.located
+pictured_further most code names w a (ended values output cells at) n b stay = nowhere refl
+pictured_further most code names w a (ended values output cells at) n b (go {b = c} e t l) = not_both c bad_code (table code (ended_image cells output at) 1) t (ended_table code cells output at)
+pictured_further most code names w a (faulted values output rest at fault same sized stays) n b stay = nowhere refl
+pictured_further most code names w a (faulted values output rest at fault same sized stays) n b (go {b = c} e t l) = gives_and_faults t stays
 
 pub runs_further : (tree : PProgram) (code : Code) → Accepted tree → ProgramAt code tree → {h counts : List ℕ} {img : Image} → Runs code h counts img → (n : ℕ) (b : Image) → Plains code 1 img n b → Further img n
 runs_further tree code (accepted spot file ns ss distinct few known small) (program_at spot' file' ns' ss' few' body) {img = img} runs n b l =
     let names : List (List ℕ) = names_of ns in
-    let rel = related tree code names (IsDistinct-tail file.name names distinct) _ (start-world spot file ns ss) (first_pictured code ns ss few' body) runs in
-    pictured_further code names rel.world img rel.pictures n b l
+    let rel = related (program_tokens tree) tree code names (IsDistinct-tail file.name names distinct) _ (start-world spot file ns ss) (first_pictured code spot file ns ss few' small body) runs in
+    pictured_further (program_tokens tree) code names rel.world img rel.pictures n b l

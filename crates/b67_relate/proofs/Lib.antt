@@ -1,5 +1,7 @@
 pub mod StackWords
 pub mod WordKinds
+pub mod Within
+pub mod Depths
 pub mod PrivateSteps
 pub mod ActionSteps
 pub mod WriteStep
@@ -10,6 +12,7 @@ pub mod Cells
 pub mod Steps
 pub mod OneWay
 pub mod Prologue
+pub mod Fitting
 pub mod Histories
 pub mod Schedules
 pub mod FaithfulPrograms

@@ -15,10 +15,10 @@ use Rattle.b67_table.specs.Effect.{Effect, gives, interrupts, limit, ◌>>=◌}
 use Rattle.b67_table.specs.Private.{Private, private_op, push}
 use Rattle.b67_table.specs.Image.{Image, private_of, with_private}
 use Rattle.b67_table.specs.Table.{table, plain, by_operator, by_class, is_private, system_stack, private_at, is_gives}
-use Rattle.b67_table.specs.Runs.{stay, go}
 use Rattle.b67_relate.specs.Code.{Has, IsLiteral, zero_pushed, one_pushed, byte, two_bytes, whole_word, LiteralAt}
-use Rattle.b67_relate.specs.Picture.{At, registers, image, Sized, Goes}
+use Rattle.b67_relate.specs.Picture.{At, registers, image, Sized, stop, pass, Goes, HasRoom}
 use Rattle.b67_relate.proofs.StackWords.{drop-stack, take-stack}
+use Rattle.b67_relate.proofs.Within.{image_within}
 
 -- the private part of an image of the picture
 abbrev pub part : List ℤ → At → Private
@@ -60,11 +60,15 @@ module _ (code : Code) (values : List ℤ) (output : List (List ℕ)) where
       ∙ ap is_gives e
 
   -- one plain operator
-  pub step : (at to : At) (op : Operator) (next : ℕ) → Has code at.place op next → is_private op at.place ≡ true →
-      private_op op next (part values at) ≡ gives (part values to) → Sized values to → Goes code values output at to
-  step at to op next has is e sized =
+  pub step : (most : ℕ) (at to : At) (op : Operator) (next : ℕ) → Has code at.place op next → is_private op at.place ≡ true →
+      private_op op next (part values at) ≡ gives (part values to) → Sized most values at → Sized most values to → Goes most code values output at to
+  step most at to op next has is e from sized =
       let t = private_gives at to op next has is e in
-      record { n = 1; plains = go (plain_is at op next (image values output to) has is t) t stay; sized = sized }
+      record {
+        n = 1;
+        plains = pass (image_within most values output at from) (plain_is at op next (image values output to) has is t) t (stop (image_within most values output to sized));
+        sized = sized;
+      }
 
 -- ---- one more operand
 
@@ -80,23 +84,24 @@ most_is m n h = grind (arith, nat_tests)
 abbrev pub after : ℕ → Effect Private → Effect Private
 after next e = e >>= (λ (q : Private). gives (record q { regs = record q.regs { place = next } }))
 
-module _ (values : List ℤ) where
+module _ (most : ℕ) (values : List ℤ) where
   pub push_gives : (at : At) (w : Word) (next : ℕ) → at.s < 65536 → after next (push w (part values at)) ≡ gives (part values (pushed at w next))
   push_gives at w next h =
       ap (λ b. after next (if b then gives (record { regs = record (registers (length values) at) { s = at.s + 1 }; words = w ∷ at.operands }) else limit))
       (below_is at.s 65536 h)
 
-  pub sized-pushed : (at : At) (w : Word) (next : ℕ) → Sized values at → Sized values (pushed at w next)
-  sized-pushed at w next sized = record { long = omega (arith, sized.long); few = sized.few; whole = sized.whole }
+  pub sized-pushed : (at : At) (w : Word) (next : ℕ) → Sized most values at → HasRoom most at.operands 1 → Sized most values (pushed at w next)
+  sized-pushed at w next sized room = record { long = omega (arith, sized.long); few = sized.few; room = omega (arith, room); small = sized.small; whole = sized.whole }
 
-module _ (code : Code) (values : List ℤ) (output : List (List ℕ)) where
+module _ (most : ℕ) (code : Code) (values : List ℤ) (output : List (List ℕ)) where
   -- an operator that pushes a word and does nothing else
-  pub pushes : (at : At) (op : Operator) (w : Word) (next : ℕ) → Sized values at → length at.operands ≤ 65000 → Has code at.place op next → is_private op at.place ≡ true →
-      private_op op next (part values at) ≡ after next (push w (part values at)) → Goes code values output at (pushed at w next)
+  pub pushes : (at : At) (op : Operator) (w : Word) (next : ℕ) → Sized most values at → HasRoom most at.operands 1 → Has code at.place op next → is_private op at.place ≡ true →
+      private_op op next (part values at) ≡ after next (push w (part values at)) → Goes most code values output at (pushed at w next)
   pushes at op w next sized room has is e =
-      step code values output at (pushed at w next) op next has is
-      (e ∙ push_gives values at w next (omega (arith, sized.long, sized.few)))
-      (sized-pushed values at w next sized)
+      step code values output most at (pushed at w next) op next has is
+      (e ∙ push_gives most values at w next (omega (arith, sized.long, sized.few, sized.room, sized.small)))
+      sized
+      (sized-pushed most values at w next sized room)
 
   literal_private : {op : Operator} {w : Word} (place : ℕ) → IsLiteral op w → is_private op place ≡ true
   literal_private place zero_pushed = refl
@@ -113,8 +118,8 @@ module _ (code : Code) (values : List ℤ) (output : List (List ℕ)) where
   literal_row next p (two_bytes n) = refl
   literal_row next p (whole_word n) = refl
 
-  pub literal_step : (at : At) (value : ℤ) (next : ℕ) → Sized values at → length at.operands ≤ 65000 → LiteralAt code at.place value next →
-      Goes code values output at (pushed at (operand value) next)
+  pub literal_step : (at : At) (value : ℤ) (next : ℕ) → Sized most values at → HasRoom most at.operands 1 → LiteralAt code at.place value next →
+      Goes most code values output at (pushed at (operand value) next)
   literal_step at value next sized room l =
       pushes at l.op (operand value) next sized room l.stands (literal_private at.place l.literal) (literal_row next (part values at) l.literal)
 
@@ -122,8 +127,8 @@ module _ (code : Code) (values : List ℤ) (output : List (List ℕ)) where
   unfolding private_op
   name_row level index next p = refl
 
-  pub name_step : (at : At) (level index next : ℕ) → Sized values at → length at.operands ≤ 65000 → Has code at.place (ops.Namc (record { level = level; index = index })) next →
-      Goes code values output at (pushed at (irw_word (record { level = level; index = index })) next)
+  pub name_step : (at : At) (level index next : ℕ) → Sized most values at → HasRoom most at.operands 1 → Has code at.place (ops.Namc (record { level = level; index = index })) next →
+      Goes most code values output at (pushed at (irw_word (record { level = level; index = index })) next)
   name_step at level index next sized room has =
       pushes at (ops.Namc (record { level = level; index = index })) _ next sized room has refl (name_row level index next (part values at))
 
@@ -145,7 +150,8 @@ module _ (code : Code) (values : List ℤ) (output : List (List ℕ)) where
       ∙ ap (λ b. after next ((if b then gives (record { regs = record (registers (length values) at) { s = at.s + 1 }; words = mark_word (at.s - at.f) ∷ at.operands }) else limit)
       >>= (λ (q : Private). gives (record q { regs = record q.regs { f = at.s } })))) (below_is at.s 65536 room)
 
-  pub mark_step : (at : At) (next : ℕ) → Sized values at → length at.operands ≤ 65000 → at.f < at.s → Has code at.place (ops.Plain kinds.Mkst) next → Goes code values output at (marked at next)
+  pub mark_step : (at : At) (next : ℕ) → Sized most values at → HasRoom most at.operands 1 → at.f < at.s → Has code at.place (ops.Plain kinds.Mkst) next → Goes most code values output at (marked at next)
   mark_step at next sized room h has =
-      step code values output at (marked at next) (ops.Plain kinds.Mkst) next has refl (mark_row at next h (omega (arith, sized.long, sized.few)))
-      (record { long = omega (arith, sized.long); few = sized.few; whole = sized.whole })
+      step code values output most at (marked at next) (ops.Plain kinds.Mkst) next has refl (mark_row at next h (omega (arith, sized.long, sized.few, sized.room, sized.small)))
+      sized
+      (record { long = omega (arith, sized.long); few = sized.few; room = omega (arith, room); small = sized.small; whole = sized.whole })

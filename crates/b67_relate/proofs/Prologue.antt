@@ -6,11 +6,12 @@ use Rattle.algol_tree.specs.declared.token.Spot.{Spot}
 use Rattle.algol_tree.specs.Plain.{PStmts}
 use Rattle.algol_tree.specs.Reads.{program_of}
 use Rattle.algol_tree.specs.Accepted.{names_of}
+use Rattle.algol_tree.specs.Counts.{program_tokens}
 use Rattle.b67_word.specs.Word.{Word, operand}
 use Rattle.b67_ops.specs.declared.Operator.TheVariants as ops
 use Rattle.b67_ops.specs.declared.PlainKind.TheVariants as kinds
 use Rattle.b67_segment.specs.declared.code.Code.{Code}
-use Rattle.algol_meaning.specs.Rest.{items, settle_items}
+use Rattle.algol_meaning.specs.Rest.{Rest, items, settle_items}
 use Rattle.algol_meaning.specs.World.{number}
 use Rattle.algol_meaning.specs.Run.{start, cells_of}
 use Rattle.b67_table.specs.declared.InterruptKind.TheVariants.{InvalidOperand}
@@ -18,12 +19,13 @@ use Rattle.b67_table.specs.Effect.{Effect, gives, interrupts, ◌>>=◌}
 use Rattle.b67_table.specs.Private.{Private, private_op}
 use Rattle.b67_table.specs.Image.{Image, with_private}
 use Rattle.b67_table.specs.Table.{first_registers, first_image, base_frame, system_stack, table, plain}
-use Rattle.b67_table.specs.Runs.{Plains, stay, go}
 use Rattle.b67_relate.specs.Code.{Has, LiteralAt, zero_pushed, ZerosAt, BodyAt}
-use Rattle.b67_relate.specs.Picture.{At, cells, world, stack, registers, image, Sized, Goes}
+use Rattle.b67_relate.specs.Picture.{At, cells, world, stack, registers, image, Sized, Within, Goes, HasRoom, Comes}
 use Rattle.b67_relate.proofs.StackWords.{reverse-cons}
+use Rattle.b67_relate.proofs.Within.{within_by}
+use Rattle.b67_relate.proofs.Depths.{shallow_program}
 use Rattle.b67_relate.proofs.PrivateSteps.{part, pushed, after, literal_step, table_at, part_is, plain_is, most_is}
-use Rattle.b67_relate.proofs.Reach.{here, on, plains_on}
+use Rattle.b67_relate.proofs.Reach.{here, on}
 use Rattle.b67_relate.proofs.Starts.{items_settle}
 use Rattle.b67_relate.specs.Pictures.{Pictures, live, Located}
 use Rattle.b67_table.specs.declared.ProcessState.TheVariants.{Able}
@@ -77,25 +79,25 @@ zeros_whole (suc n) (suc k) v e = zeros_whole n k v e
 no_values : (k : ℕ) (v : ℤ) → slice_get [] k ≡ Some v → unsigned_abs v ≤ 549755813887
 no_values k v e = cc
 
-module _ (code : Code) (names : List (List ℕ)) where
+module _ (most : ℕ) (code : Code) (names : List (List ℕ)) where
   -- n zeros more
   record Zeroed (n : ℕ) (from : At) (to : ℕ) : Type 0 where
     at : At
-    goes : Goes code [] [] from at
+    goes : Goes most code [] [] from at
     place : at.place ≡ to
     bottom : at.f ≡ from.f
     words : at.operands ≡ replicate n zero_word ++ from.operands
 
-  zeros : (n : ℕ) (from : At) (to : ℕ) → Sized [] from → length from.operands + n ≤ 65000 → ZerosAt code names n from.place to → Zeroed n from to
-  zeros zero from to sized room at = record { at = from; goes = here code [] [] from sized; place = at; bottom = refl; words = refl }
+  zeros : (n : ℕ) (from : At) (to : ℕ) → Sized most [] from → HasRoom most from.operands n → ZerosAt code names n from.place to → Zeroed n from to
+  zeros zero from to sized room at = record { at = from; goes = here most code [] [] from sized; place = at; bottom = refl; words = refl }
   zeros (suc n) from to sized room at =
       let literal : LiteralAt code from.place (pos 0) at.0 = record { op = ops.Plain kinds.Zero; stands = at.1; literal = zero_pushed; whole = omega arith } in
       let next : At = pushed from zero_word at.0 in
-      let one : Goes code [] [] from next = literal_step code [] [] from (pos 0) at.0 sized (omega (arith, room)) literal in
+      let one : Goes most code [] [] from next = literal_step most code [] [] from (pos 0) at.0 sized (omega (arith, room)) literal in
       let rest = zeros n next to one.sized (omega (arith, room)) at.2 in
       record {
         at = rest.at;
-        goes = on code [] [] one rest.goes;
+        goes = on most code [] [] one rest.goes;
         place = rest.place;
         bottom = rest.bottom;
         words = rest.words ∙ replicate-push n zero_word from.operands;
@@ -103,7 +105,7 @@ module _ (code : Code) (names : List (List ℕ)) where
 
   -- ---- the cells are made
 
-  module _ (n : ℕ) (few : n ≤ 400) (at : At) (next : ℕ) (sized : Sized [] at) (words : at.operands ≡ replicate n zero_word) (bottom : at.f ≡ 0) where
+  module _ (n : ℕ) (few : n ≤ 400) (at : At) (next : ℕ) (sized : Sized most [] at) (words : at.operands ≡ replicate n zero_word) (bottom : at.f ≡ 0) where
     abbrev values : List ℤ
     values = replicate n (pos 0)
 
@@ -144,8 +146,9 @@ module _ (code : Code) (names : List (List ℕ)) where
         ∙ ap gives raised in
         (plain_is code [] [] at (ops.Plain kinds.Push) next (image values [] start_at) has refl t, t)
 
-    pub start_sized : Sized values start_at
-    start_sized = record { long = omega (arith, long, length-zeros n (pos 0)); few = omega (arith, few, length-zeros n (pos 0)); whole = zeros_whole n }
+    pub start_sized : (least : ℕ) → least ≤ most → Sized least values start_at
+    start_sized least less =
+        record { long = omega (arith, long, length-zeros n (pos 0)); few = omega (arith, few, length-zeros n (pos 0)); room = omega arith; small = omega (arith, less, sized.small); whole = zeros_whole n }
 
 -- ---- the first world and the first image
 
@@ -166,23 +169,35 @@ first_located : Located first_image
 unfolding first_image
 first_located = record { registers = first_registers; alone = refl; level = refl; segment = refl }
 
-pub first_pictured : (code : Code) (ns : List Named) (ss : PStmts) → length ns ≤ 400 → BodyAt code (names_of ns) ss →
-    Pictures code (names_of ns) (world (names_of ns) (replicate (length ns) (pos 0)) [] (settle_items 1 (items ss))) first_image
+-- zeros, the cells, and then the first statement
+begun_pictured : (most : ℕ) (code : Code) (names : List (List ℕ)) (rest : Rest) (m : ℕ) (at first : At) → Within code (2 + (length names + most)) first_image m (image [] [] at) → plain code (image [] [] at) 1 ≡ true →
+    table code (image [] [] at) 1 ≡ gives (image (replicate (length names) (pos 0)) [] first) → Comes most code names (replicate (length names) (pos 0)) [] first rest →
+    Pictures most code names (world names (replicate (length names) (pos 0)) [] rest) first_image
+begun_pictured most code names rest m at first pushing e t comes =
+    let many : length (replicate (length names) (pos 0)) ≡ length names = length-zeros (length names) (pos 0) in
+    let steps = within_by (omega (arith, many)) pushing e t comes.goes.plains in
+    live (replicate (length names) (pos 0)) [] rest first_image steps.0 comes.to many
+    (record { states = first_states; fault = first_fault; output_is = first_output; located = first_located }) steps.1 comes.goes.sized comes.stands
+
+-- before the cells are made the zeros are operands; after that the statements have their own
+pub first_pictured : (code : Code) (spot : Spot) (file : Named) (ns : List Named) (ss : PStmts) → length ns ≤ 400 → program_tokens (program_of spot file ns ss) ≤ 2000 → BodyAt code (names_of ns) ss →
+    Pictures (program_tokens (program_of spot file ns ss)) code (names_of ns) (world (names_of ns) (replicate (length ns) (pos 0)) [] (settle_items 1 (items ss))) first_image
 unfolding first_at
-first_pictured code ns ss few body =
+first_pictured code spot file ns ss few short body =
+    let most : ℕ = program_tokens (program_of spot file ns ss) in
     let names : List (List ℕ) = names_of ns in
     let n : ℕ = length names in
     let same : n ≡ length ns = length-names ns in
     let small : n ≤ 400 = omega (arith, same, few) in
-    let zeroed = zeros code names n first_at body.zeroed (record { long = refl; few = omega arith; whole = no_values }) (omega (arith, small)) body.zeros in
+    let first_sized : Sized (n + most) [] first_at = record { long = refl; few = omega arith; room = omega arith; small = omega (arith, small, short); whole = no_values } in
+    let zeroed = zeros (n + most) code names n first_at body.zeroed first_sized (omega arith) body.zeros in
     let words : zeroed.at.operands ≡ replicate n zero_word = zeroed.words ∙ append-nil (replicate n zero_word) in
     let has : Has code zeroed.at.place (ops.Plain kinds.Push) body.start = subst (λ p. Has code p (ops.Plain kinds.Push) body.start) (sym zeroed.place) body.cells in
-    let made = cells_made code names n small zeroed.at body.start zeroed.goes.sized words zeroed.bottom has in
-    let start_place : At = start_at code names n small zeroed.at body.start zeroed.goes.sized words zeroed.bottom in
-    let sized : Sized (replicate n (pos 0)) start_place = start_sized code names n small zeroed.at body.start zeroed.goes.sized words zeroed.bottom in
-    let comes = items_settle code names (replicate n (pos 0)) [] (items ss) start_place sized (record { none = refl; bottom = zeroed.bottom }) body.statements in
-    let steps = plains_on zeroed.goes.plains (plains_on (go made.0 made.1 stay) comes.goes.plains).1 in
-    subst (λ m. Pictures code names (world names (replicate m (pos 0)) [] (settle_items 1 (items ss))) first_image) same
-    (live (replicate n (pos 0)) [] (settle_items 1 (items ss)) first_image steps.0 comes.to (length-zeros n (pos 0))
-    (record { states = first_states; fault = first_fault; output_is = first_output; located = first_located })
-    (subst (λ (i : Image). Plains code 1 i steps.0 (image (replicate n (pos 0)) [] comes.to)) (sym first_is) steps.1) comes.goes.sized comes.stands)
+    let made = cells_made (n + most) code names n small zeroed.at body.start zeroed.goes.sized words zeroed.bottom has in
+    let start_place : At = start_at (n + most) code names n small zeroed.at body.start zeroed.goes.sized words zeroed.bottom in
+    let sized : Sized most (replicate n (pos 0)) start_place = start_sized (n + most) code names n small zeroed.at body.start zeroed.goes.sized words zeroed.bottom most (omega arith) in
+    let comes = items_settle most code names (replicate n (pos 0)) [] (items ss) start_place sized (record { none = refl; bottom = zeroed.bottom }) body.statements (shallow_program spot file ns ss) in
+    let pushing : Within code (2 + (n + most)) first_image zeroed.goes.n (image [] [] zeroed.at) =
+    subst (λ (i : Image). Within code (2 + (n + most)) i zeroed.goes.n (image [] [] zeroed.at)) (sym first_is) zeroed.goes.plains in
+    subst (λ m. Pictures most code names (world names (replicate m (pos 0)) [] (settle_items 1 (items ss))) first_image) same
+    (begun_pictured most code names (settle_items 1 (items ss)) zeroed.goes.n zeroed.at start_place pushing made.0 made.1 comes)

@@ -1,10 +1,10 @@
 -- The code performs each legal schedule of the source.
-use Rattle.std.proofs.Common.{◌≡◌, ℕ, zero, suc, ◌+◌, List, [], ◌∷◌, ◌++◌, length, Option, Some, None, Bool, true, false, refl, sym, ap, ◌∙◌, subst, ℤ}
-use Rattle.std.specs.Prelude.{reverse, slice_get}
+use Rattle.std.proofs.Common.{◌≡◌, ℕ, zero, suc, ◌+◌, List, [], ◌∷◌, ◌++◌, Option, Some, None, true, false, refl, sym, ap, ◌∙◌, ℤ}
+use Rattle.std.specs.Prelude.{reverse}
 use Rattle.algol_tree.specs.Numbered.{numbered}
 use Rattle.algol_tree.specs.Plain.{PProgram}
+use Rattle.algol_tree.specs.Counts.{program_tokens}
 use Rattle.algol_tree.specs.Accepted.{IsDistinct, names_of, Accepted, accepted}
-use Rattle.b67_num.specs.Whole.{fault_of}
 use Rattle.b67_segment.specs.declared.code.Code.{Code}
 use Rattle.algol_meaning.specs.Rest.{Rest}
 use Rattle.algol_meaning.specs.World.{World}
@@ -12,19 +12,19 @@ use Rattle.algol_meaning.specs.Run.{start, run, run_from, entered, may_go, end_o
 use Rattle.b67_table.specs.declared.ProcessState.{ProcessState}
 use Rattle.b67_table.specs.declared.ProcessState.TheVariants.{Able}
 use Rattle.b67_table.specs.Image.{Image, is_able}
-use Rattle.b67_table.specs.Table.{may_act, image_end, ImageEnd, goes_on, failed, first_image}
-use Rattle.b67_table.specs.Runs.{Plains, stay, Acts, Entry, Runs, begin, entry}
+use Rattle.b67_table.specs.Table.{may_act, image_end, ImageEnd, goes_on, first_image}
+use Rattle.b67_table.specs.Runs.{Entry, Runs, begin, entry}
 use Rattle.b67_relate.specs.Code.{program_at}
-use Rattle.b67_relate.specs.Picture.{At, world, ended_world, image, ended_image}
-use Rattle.b67_relate.specs.Pictures.{Pictures, live, ended, faulted, Alive}
+use Rattle.b67_relate.specs.Picture.{world, ended_world, image}
+use Rattle.b67_relate.specs.Pictures.{Pictures, live, ended, faulted}
 use Rattle.b67_relate.specs.Code.{ProgramAt}
 use Rattle.b67_relate.proofs.WordKinds.{word_laws}
+use Rattle.b67_relate.proofs.Within.{plains_of}
 use Rattle.b67_relate.proofs.StackWords.{reverse-cons}
-use Rattle.b67_relate.proofs.Steps.{Follows, step_at}
-use Rattle.b67_relate.proofs.Steps as steps
+use Rattle.b67_relate.proofs.Steps.{step_at}
 use Rattle.b67_relate.proofs.Cells.{IsDistinct-tail}
 use Rattle.b67_relate.proofs.Prologue.{start-world, first_pictured}
-use Rattle.b67_relate.proofs.Histories.{alive_none, run_from-none, run_from-append, related}
+use Rattle.b67_relate.proofs.Histories.{alive_none, act_of, run_from-none, run_from-append, related}
 
 -- ---- the last entry of a legal schedule
 
@@ -74,34 +74,29 @@ may_go-zero : (names : List (List ℕ)) (values : List ℤ) (output : List (List
 unfolding may_go end_of
 may_go-zero names values output rest = refl
 
-module _ (tree : PProgram) (code : Code) (names : List (List ℕ)) (distinct : IsDistinct names) where
-  act_of : (values : List ℤ) (output : List (List ℕ)) (rest : Rest) (to : At) → Follows tree code names values output rest to → (b : Image) × Acts code 1 (image values output to) b
-  act_of values output rest to (steps.goes_on action values' output' rest' next is act same comes) = (image values' output' next, act)
-  act_of values output rest to (steps.ends next is act) = (ended_image (length values) output next, act)
-  act_of values output rest to (steps.faulted fault is act stays) = (failed (image values output to) 1 (fault_of fault), act)
-
-  performed : (w : World) (a : Image) (p : ℕ) (v : World) → Pictures code names w a → entered tree w p ≡ Some v → (n : ℕ) × (b : Image) × Entry code p a n b
+module _ (most : ℕ) (tree : PProgram) (code : Code) (names : List (List ℕ)) (distinct : IsDistinct names) where
+  performed : (w : World) (a : Image) (p : ℕ) (v : World) → Pictures most code names w a → entered tree w p ≡ Some v → (n : ℕ) × (b : Image) × Entry code p a n b
   unfolding may_go end_of
   performed w a zero v (live values output rest img m to same alive plains sized stands) e = not_entered tree (world names values output rest) v zero (may_go-zero names values output rest) e
   performed w a (suc zero) v (live values output rest img m to same alive plains sized stands) e =
-      let acting = act_of values output rest to (step_at word_laws tree code names distinct values same output rest to sized stands) in
-      (m, acting.0, record { may = alive_may img alive.states (alive_none img alive.states alive.fault); quiet = image values output to; plains = plains; action = acting.1 })
+      let acting = act_of most tree code names distinct (step_at most word_laws tree code names distinct values same output rest to sized stands) in
+      (m, acting.0, record { may = alive_may img alive.states (alive_none img alive.states alive.fault); quiet = image values output to; plains = plains_of plains; action = acting.1 })
   performed w a (suc (suc p)) v (live values output rest img m to same alive plains sized stands) e =
       not_entered tree (world names values output rest) v (suc (suc p)) (may_go-one names values output rest p) e
   performed w a p v (ended values output cells at) e = not_entered tree (ended_world names values output) v p refl e
-  performed w a p v (faulted values output rest at fault stays) e = not_entered tree w v p refl e
+  performed w a p v (faulted values output rest at fault same sized stays) e = not_entered tree w v p refl e
 
 -- ---- whole schedules
 
-module _ (tree : PProgram) (code : Code) (names : List (List ℕ)) (distinct : IsDistinct names) (first : World) (starts : start tree ≡ first) (pictured : Pictures code names first first_image) where
+module _ (most : ℕ) (tree : PProgram) (code : Code) (names : List (List ℕ)) (distinct : IsDistinct names) (first : World) (starts : start tree ≡ first) (pictured : Pictures most code names first first_image) where
   runs_of : (h : List ℕ) (w : World) → run tree (reverse h) ≡ Some w → (counts : List ℕ) × (img : Image) × Runs code h counts img
   runs_of [] w e = ([], first_image, begin)
   runs_of (p ∷ h) w e =
       let last = before tree h p w e in
       let so_far = runs_of h last.world last.is in
-      let rel = related tree code names distinct first starts pictured so_far.2 in
+      let rel = related most tree code names distinct first starts pictured so_far.2 in
       let same : rel.world ≡ last.world = some_same (sym rel.is ∙ last.is) in
-      let next = performed tree code names distinct rel.world so_far.1 p w rel.pictures (ap (λ (u : World). entered tree u p) same ∙ last.enters) in
+      let next = performed most tree code names distinct rel.world so_far.1 p w rel.pictures (ap (λ (u : World). entered tree u p) same ∙ last.enters) in
       ((next.0 + 1) ∷ so_far.0, next.1, entry so_far.2 next.2)
 
 -- each legal schedule of an accepted tree has a run of its code
@@ -109,4 +104,4 @@ pub schedules_performed : (tree : PProgram) (code : Code) → Accepted tree → 
 schedules_performed tree code (accepted spot file ns ss distinct few known small) (program_at spot' file' ns' ss' few' body) h legal =
     let names : List (List ℕ) = names_of ns in
     let apart : IsDistinct names = IsDistinct-tail file.name names distinct in
-    runs_of tree code names apart _ (start-world spot file ns ss) (first_pictured code ns ss few' body) h legal.0 legal.1
+    runs_of (program_tokens tree) tree code names apart _ (start-world spot file ns ss) (first_pictured code spot file ns ss few' small body) h legal.0 legal.1

@@ -1,5 +1,5 @@
 -- Sums in an image of the picture, and their fault.
-use Rattle.std.proofs.Common.{◌≡◌, ℕ, ◌+◌, ◌-◌, ◌<◌, ◌≤◌, List, ◌∷◌, length, Option, Some, true, refl, ap, ◌∙◌, arith, ℤ, Result, Ok, Err}
+use Rattle.std.proofs.Common.{◌≡◌, ℕ, ◌+◌, ◌-◌, ◌<◌, List, ◌∷◌, length, Option, Some, true, refl, ap, ◌∙◌, arith, ℤ, Result, Ok, Err}
 use Rattle.std.specs.Prelude.{if◌then◌else◌}
 use Rattle.algol_tree.specs.declared.tree.Op.{Op}
 use Rattle.b67_num.specs.declared.NumFault.{NumFault}
@@ -58,7 +58,7 @@ unfolding private_op
 computed addition = (sum_of, computes sum_of (λ v w. refl) (λ next p. refl) (λ place. refl) sum_of-fits)
 computed subtraction = (difference_of, computes difference_of (λ v w. refl) (λ next p. refl) (λ place. refl) difference_of-fits)
 
-module _ (code : Code) (values : List ℤ) (output : List (List ℕ)) (at : At) (next : ℕ) (v w : ℤ) (below : List Word) (sized : Sized values at)
+module _ (most : ℕ) (code : Code) (values : List ℤ) (output : List (List ℕ)) (at : At) (next : ℕ) (v w : ℤ) (below : List Word) (sized : Sized most values at)
     (top : at.operands ≡ operand w ∷ operand v ∷ below) (iv : IsWhole v) (iw : IsWhole w) where
   abbrev pub summed : ℤ → At
   summed z = record { place = next; s = at.s - 1 - 1 + 1; f = at.f; operands = operand z ∷ below }
@@ -77,14 +77,15 @@ module _ (code : Code) (values : List ℤ) (output : List (List ℕ)) (at : At) 
       (private_op operator next (part values at) ≡ after next (result_pushed r (two_less (part values at) below))) × (is_private operator at.place ≡ true)
   by_computes {op} {operator} f (computes g is row private fits) r e = (row_is operator g (row next) r (some_is (g v w) r (result_of op v w) (is v w) e), private at.place)
 
-  pub sum_step : length below ≤ 65000 → (op : Op) → CalculationAt code at.place op next → (z : ℤ) → result_of op v w ≡ Some (Ok z) → Goes code values output at (summed z)
-  sum_step room op c z e =
+  pub sum_step : (op : Op) → CalculationAt code at.place op next → (z : ℤ) → result_of op v w ≡ Some (Ok z) → Goes most code values output at (summed z)
+  sum_step op c z e =
       let f = computed c.calculates in
       let row = by_computes f.0 f.1 (Ok z) e in
-      step code values output at (summed z) c.operator next c.stands row.1
+      step code values output most at (summed z) c.operator next c.stands row.1
       (row.0 ∙ ap (λ b. after next (if b then gives (record { regs = record (registers (length values) at) { s = at.s - 1 - 1 + 1 }; words = operand z ∷ below }) else limit))
-      (below_is (at.s - 1 - 1) 65536 (omega (arith, sized.long, sized.few, ap length top))))
-      (record { long = omega (arith, sized.long, ap length top); few = sized.few; whole = sized.whole })
+      (below_is (at.s - 1 - 1) 65536 (omega (arith, sized.long, sized.few, sized.room, sized.small))))
+      sized
+      (record { long = omega (arith, sized.long, ap length top); few = sized.few; room = omega (arith, sized.room, ap length top); small = sized.small; whole = sized.whole })
 
   -- a sum without a result is the fault
   pub fault_step : (op : Op) → CalculationAt code at.place op next → (fault : NumFault) → result_of op v w ≡ Some (Err fault) →

@@ -29,14 +29,14 @@ use Rattle.b67_relate.proofs.WordKinds.{WordLaws}
 use Rattle.b67_relate.proofs.PrivateSteps.{below_is, most_is}
 use Rattle.b67_relate.proofs.ActionSteps.{not_plain, action_at}
 
-module _ (laws : WordLaws) (code : Code) (values : List ℤ) (output : List (List ℕ)) where
+module _ (most : ℕ) (laws : WordLaws) (code : Code) (values : List ℤ) (output : List (List ℕ)) where
   -- ---- WRITE
 
   -- the mark is gone with all above it
   abbrev pub written : At → ℕ → At
   written at next = record { place = next; s = at.f; f = at.f - (2 + length values); operands = [] }
 
-  module _ (at : At) (next format width : ℕ) (value : ℤ) (sized : Sized values at) (top : at.operands ≡ operand value ∷ under_items values format)
+  module _ (at : At) (next format width : ℕ) (value : ℤ) (sized : Sized most values at) (top : at.operands ≡ operand value ∷ under_items values format)
       (mark : at.f ≡ 2 + length values) (number : format ≤ 549755813887) (whole : IsWhole value) (is : slice_get code.formats format ≡ Some (record { phrases = parts.Number width ∷ [] })) where
     abbrev r : Registers
     r = registers (length values) at
@@ -144,13 +144,13 @@ module _ (laws : WordLaws) (code : Code) (values : List ℤ) (output : List (Lis
         ∙ ap (λ (o : Option Pcw). does 1 (enter_at code r next m o) img) laws.intrinsic_read
         ∙ line_does
 
-  pub write_step : (at : At) (next format width : ℕ) (value : ℤ) → Sized values at → at.operands ≡ operand value ∷ under_items values format → at.f ≡ 2 + length values →
+  pub write_step : (at : At) (next format width : ℕ) (value : ℤ) → Sized most values at → at.operands ≡ operand value ∷ under_items values format → at.f ≡ 2 + length values →
       format ≤ 549755813887 → IsWhole value → slice_get code.formats format ≡ Some (record { phrases = parts.Number width ∷ [] }) → Has code at.place (ops.Plain kinds.Entr) next →
       Acts code 1 (image values output at) (image values (output ++ (justified width value ++ []) ∷ []) (written at next))
   unfolding action_op
   write_step at next format width value sized top mark number whole is has =
-      acts (not_plain laws code values output at (ops.Plain kinds.Entr) next has refl)
-      (action_at laws code values output at (ops.Plain kinds.Entr) next has refl ∙ enter_does at next format width value sized top mark number whole is)
+      acts (not_plain most laws code values output at (ops.Plain kinds.Entr) next has refl)
+      (action_at most laws code values output at (ops.Plain kinds.Entr) next has refl ∙ enter_does at next format width value sized top mark number whole is)
 
   -- ---- the end
 
@@ -160,4 +160,4 @@ module _ (laws : WordLaws) (code : Code) (values : List ℤ) (output : List (Lis
   pub exit_step : (at : At) (next : ℕ) → Has code at.place (ops.Plain kinds.Exit) next → Acts code 1 (image values output at) (ended_image (length values) output (passed at next))
   unfolding action_op
   exit_step at next has =
-      acts (not_plain laws code values output at (ops.Plain kinds.Exit) next has refl) (action_at laws code values output at (ops.Plain kinds.Exit) next has refl)
+      acts (not_plain most laws code values output at (ops.Plain kinds.Exit) next has refl) (action_at most laws code values output at (ops.Plain kinds.Exit) next has refl)

@@ -2,19 +2,20 @@
 use Rattle.std.specs.Prelude.{◌≡◌, ℕ, slice_get, ◌+◌, ◌≤◌, ℤ, pos, false, true, List, [], ◌∷◌, ◌++◌, length, map, reverse, Some, None}
 use Rattle.algol_tree.specs.declared.tree.PhraseText.{PhraseText}
 use Rattle.algol_tree.specs.declared.tree.PhraseText.TheVariants as phrase
-use Rattle.algol_tree.specs.Plain.{PExpr, two, none}
+use Rattle.algol_tree.specs.Numbered.{numbered}
+use Rattle.algol_tree.specs.Plain.{PExpr, two, none, more, PStmt, assign, write}
 use Rattle.b67_word.specs.Word.{Word, operand}
 use Rattle.b67_control.specs.Control.{irw_word, mscw_word}
 use Rattle.b67_control.specs.declared.Registers.{Registers}
 use Rattle.b67_ops.specs.declared.Operator.TheVariants as ops
 use Rattle.b67_ops.specs.declared.PlainKind.TheVariants as kinds
 use Rattle.b67_segment.specs.declared.code.Code.{Code}
-use Rattle.algol_meaning.specs.Rest.{Reference, Hole, read, broken, left, right, unbuilt, Half, val, busy, Item, Rest, over, store, storing, line, writing, idle, result_of}
+use Rattle.algol_meaning.specs.Rest.{Reference, Hole, read, broken, left, right, unbuilt, Half, val, busy, Item, run, Rest, over, store, storing, line, writing, idle, result_of}
 use Rattle.algol_meaning.specs.World.{number, NamedCell, block, able, ended, World}
 use Rattle.b67_table.specs.declared.ProcessState.TheVariants.{Able, Ended}
-use Rattle.b67_table.specs.Image.{Image}
-use Rattle.b67_table.specs.Table.{system_stack, base_frame, first_registers}
-use Rattle.b67_table.specs.Runs.{Plains}
+use Rattle.b67_table.specs.Effect.{gives}
+use Rattle.b67_table.specs.Image.{Image, stack_of}
+use Rattle.b67_table.specs.Table.{table, plain, system_stack, base_frame, first_registers}
 use Rattle.b67_relate.specs.Code.{Has, IsWhole, ExprAt, CalculationAt, ItemsAt, IsInteger, FormatIs}
 use Rattle.std.specs.Prelude.{Err}
 
@@ -89,21 +90,32 @@ ended_image cells output at =
       fault = None;
     }
 
--- the stack is as long as its words, and the values are whole numbers
-pub record Sized (values : List ℤ) (at : At) : Type 0 where
+-- the stack is as long as its words, at most so many of them are operands, and the values are whole numbers
+pub record Sized (most : ℕ) (values : List ℤ) (at : At) : Type 0 where
   pub long : at.s ≡ 2 + length values + length at.operands
   pub few : length values ≤ 400
+  pub room : length at.operands ≤ most
+  pub small : most ≤ 65000
   pub whole : (k : ℕ) (v : ℤ) → slice_get values k ≡ Some v → IsWhole v
 
--- by plain operators alone the machine comes from one place to another
-pub record Goes (code : Code) (values : List ℤ) (output : List (List ℕ)) (from to : At) : Type 0 where
-  pub n : ℕ
-  pub plains : Plains code 1 (image values output from) n (image values output to)
-  pub sized : Sized values to
+-- the stack of process 1 has at most so many words
+abbrev pub IsWithin : ℕ → Image → Type 0
+IsWithin bound img = (r : Registers) → numbered img.regs 1 ≡ Some r → length (stack_of img r.stack) ≤ bound
 
--- so many operands leave room for those of an expression of this depth
-abbrev pub HasRoom : List Word → ℕ → Type 0
-HasRoom operands wanted = length operands + wanted ≤ 65000
+-- process 1 performs so many plain operators, and from the first image to the last its stack is within the bound
+pub data Within (code : Code) (bound : ℕ) : Image → ℕ → Image → Type 0 where
+  stop : {a : Image} → IsWithin bound a → Within code bound a 0 a
+  pass : {a b c : Image} {n : ℕ} → IsWithin bound a → plain code a 1 ≡ true → table code a 1 ≡ gives b → Within code bound b n c → Within code bound a (n + 1) c
+
+-- by plain operators alone, and with at most so many operands, the machine comes from one place to another
+pub record Goes (most : ℕ) (code : Code) (values : List ℤ) (output : List (List ℕ)) (from to : At) : Type 0 where
+  pub n : ℕ
+  pub plains : Within code (2 + length values + most) (image values output from) n (image values output to)
+  pub sized : Sized most values to
+
+-- these operands leave room for so many more
+abbrev pub HasRoom : ℕ → List Word → ℕ → Type 0
+HasRoom most operands wanted = length operands + wanted ≤ most
 
 -- ---- the picture
 
@@ -111,6 +123,17 @@ HasRoom operands wanted = length operands + wanted ≤ 65000
 abbrev pub depth : PExpr → ℕ
 depth (two op a b) = depth a + depth b
 depth _ = 1
+
+-- at most so many lie there while the statement is performed: below the value the reference, or the three words of a line
+abbrev pub stmt_depth : PStmt → ℕ
+stmt_depth (assign v e) = 1 + depth e
+stmt_depth (write file spot phrases (more e items)) = 3 + depth e
+stmt_depth _ = 0
+
+-- no statement that is still to be done needs more
+abbrev pub AreShallow : ℕ → List Item → Type 0
+AreShallow most [] = Unit {0}
+AreShallow most (run s ∷ after) = (stmt_depth s ≤ most) × AreShallow most after
 
 -- the words of a line that is being made: the format's number, the reference of WRITE, and the mark
 abbrev pub under_items : List ℤ → ℕ → List Word
@@ -121,17 +144,17 @@ under_items values format =
 abbrev pub reference_word : ℕ → Word
 reference_word k = irw_word (record { level = 2; index = 2 + k })
 
-module _ (code : Code) (names : List (List ℕ)) where
+module _ (most : ℕ) (code : Code) (names : List (List ℕ)) where
   -- the machine is at a place with operands; the value is to stand at the place `to`, on top of `below`
   abbrev pub Holds : Hole → ℕ → List Word → List Word → ℕ → Type 0
   Holds (read r) place operands below to =
-      (r.instance ≡ 1) × (k : ℕ) × IsInteger names r.name k × Has code place (ops.Valc (record { level = 2; index = 2 + k })) to × (operands ≡ below) × HasRoom below 1
+      (r.instance ≡ 1) × (k : ℕ) × IsInteger names r.name k × Has code place (ops.Valc (record { level = 2; index = 2 + k })) to × (operands ≡ below) × HasRoom most below 1
   Holds (broken op v w fault) place operands below to =
       CalculationAt code place op to × (operands ≡ operand w ∷ operand v ∷ below) × (result_of op v w ≡ Some (Err fault)) × IsWhole v × IsWhole w
   Holds (left op hole second) place operands below to =
-      (m : ℕ) × (n : ℕ) × Holds hole place operands below m × ExprAt code names second m n × CalculationAt code n op to × HasRoom below (1 + depth second)
+      (m : ℕ) × (n : ℕ) × Holds hole place operands below m × ExprAt code names second m n × CalculationAt code n op to × HasRoom most below (1 + depth second)
   Holds (right op v hole) place operands below to =
-      (n : ℕ) × Holds hole place operands (operand v ∷ below) n × CalculationAt code n op to × IsWhole v × HasRoom below 1
+      (n : ℕ) × Holds hole place operands (operand v ∷ below) n × CalculationAt code n op to × IsWhole v
   Holds unbuilt place operands below to = ⊥
 
   abbrev pub Shows : Half → ℕ → List Word → List Word → ℕ → Type 0
@@ -146,6 +169,7 @@ module _ (code : Code) (names : List (List ℕ)) where
     pub next : ℕ
     pub stands : Has code place (ops.Plain kinds.Stod) next
     pub items : ItemsAt code names after next
+    pub shallow : AreShallow most after
 
   -- a line is to be written there
   pub record LineAt (values : List ℤ) (phrases : List PhraseText) (after : List Item) (place : ℕ) (f format : ℕ) : Type 0 where
@@ -157,6 +181,7 @@ module _ (code : Code) (names : List (List ℕ)) where
     pub next : ℕ
     pub stands : Has code place (ops.Plain kinds.Entr) next
     pub items : ItemsAt code names after next
+    pub shallow : AreShallow most after
 
   -- the machine's place and operands stand for the rest
   abbrev pub Stands : List ℤ → Rest → At → Type 0
@@ -176,5 +201,5 @@ module _ (code : Code) (names : List (List ℕ)) where
   -- by plain operators alone the machine comes to where it stands for the rest
   pub record Comes (values : List ℤ) (output : List (List ℕ)) (from : At) (rest : Rest) : Type 0 where
     pub to : At
-    pub goes : Goes code values output from to
+    pub goes : Goes most code values output from to
     pub stands : Stands values rest to
