@@ -12,5 +12,6 @@ pub mod OneWay
 pub mod Prologue
 pub mod Histories
 pub mod Schedules
+pub mod SoundPrograms
 pub mod FaithfulPrograms
 pub mod Counting
