@@ -24,6 +24,7 @@ use Rattle.b67_relate.proofs.OneWay.{plains_public}
 use Rattle.b67_relate.proofs.Counting.{room, size_of, plains_few, entry_few}
 use Rattle.b67_relate.proofs.Histories.{histories_agree, runs_alone, runs_located, Further, nowhere, from_here, runs_further}
 use Rattle.b67_relate.proofs.Schedules.{schedules_performed}
+use Rattle.b67_relate.proofs.SoundPrograms.{programs_are_sound}
 
 -- a process that is not there performs nothing
 not_there : {B : Type 0} (code : Code) (a b : Image) (p : ℕ) (s : ProcessState) → a.states ≡ s ∷ [] → table code a (suc (suc p)) ≡ gives b → B
@@ -122,4 +123,4 @@ module _ (tree : PProgram) (code : Code) (acc : Accepted tree) (at : ProgramAt c
       omega (arith, own, later, both, longer)
 
 pub programs_are_faithful : ProgramsAreFaithful
-programs_are_faithful tree code acc at short = record { legal = legal tree code acc at; whole = whole tree code acc at; short = short; few = few tree code acc at }
+programs_are_faithful tree code acc at short = record { sound = programs_are_sound tree code acc at (legal tree code acc at); legal = legal tree code acc at; whole = whole tree code acc at; short = short; few = few tree code acc at }

@@ -15,5 +15,6 @@ pub mod Prologue
 pub mod Fitting
 pub mod Histories
 pub mod Schedules
+pub mod SoundPrograms
 pub mod FaithfulPrograms
 pub mod Counting

@@ -8,6 +8,7 @@ use Rattle.b67_segment.specs.declared.code.Segment.{Segment}
 use Rattle.algol_meaning.specs.Run.{Legal}
 use Rattle.b67_table.specs.Image.{Image}
 use Rattle.b67_table.specs.Runs.{TableRun}
+use Rattle.b67_table.specs.Sound.{Sound}
 use Rattle.b67_relate.specs.Code.{ProgramAt}
 use Rattle.b67_relate.specs.Agreement.{Agrees}
 
@@ -21,7 +22,9 @@ longest [] = 0
 longest (segment ∷ segments) = max (6 * length segment.words) (longest segments)
 
 pub record Faithful (tree : PProgram) (code : Code) : Type 0 where
-  -- each run of the code has a legal schedule of the source, with its output, end and able processes, and meets no ill-tagged word
+  -- no operator of a run is ill-tagged, or reads or writes what is another process's own
+  pub sound : Sound code
+  -- each run of the code has a legal schedule of the source, with its output, end and able processes, on stacks within their weights
   pub legal : (schedule tails : List ℕ) (image : Image) → TableRun code schedule tails image → Agrees tree code schedule image
   -- each legal schedule of the source has a run of the code
   pub whole : (schedule : List ℕ) → Legal tree schedule → (image : Image) × TableRun code schedule [] image

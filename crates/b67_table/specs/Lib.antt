@@ -5,3 +5,4 @@ pub mod Program
 pub mod Rows
 pub mod Table
 pub mod Runs
+pub mod Sound
