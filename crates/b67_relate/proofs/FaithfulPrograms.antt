@@ -22,7 +22,7 @@ use Rattle.b67_relate.specs.Agreement.{Agrees}
 use Rattle.b67_relate.specs.Faithful.{Faithful, longest, ProgramsAreFaithful}
 use Rattle.b67_relate.proofs.OneWay.{plains_public}
 use Rattle.b67_relate.proofs.Counting.{room, size_of, plains_few, entry_few}
-use Rattle.b67_relate.proofs.Histories.{histories_agree, runs_alone, runs_located, Further, nowhere, from_here, runs_further}
+use Rattle.b67_relate.proofs.Histories.{histories_agree, actions_agree, runs_alone, runs_located, Further, nowhere, from_here, runs_further}
 use Rattle.b67_relate.proofs.Schedules.{schedules_performed}
 use Rattle.b67_relate.proofs.SoundPrograms.{programs_are_sound}
 
@@ -123,4 +123,11 @@ module _ (tree : PProgram) (code : Code) (acc : Accepted tree) (at : ProgramAt c
       omega (arith, own, later, both, longer)
 
 pub programs_are_faithful : ProgramsAreFaithful
-programs_are_faithful tree code acc at short = record { sound = programs_are_sound tree code acc at (legal tree code acc at); legal = legal tree code acc at; whole = whole tree code acc at; short = short; few = few tree code acc at }
+programs_are_faithful tree code acc at short = record {
+  sound = programs_are_sound tree code acc at (legal tree code acc at);
+  legal = legal tree code acc at;
+  actions = λ schedule tails image r. actions_agree tree code acc at r.runs;
+  whole = whole tree code acc at;
+  short = short;
+  few = few tree code acc at;
+}

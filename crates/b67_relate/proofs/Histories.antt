@@ -12,7 +12,7 @@ use Rattle.b67_segment.specs.declared.code.Code.{Code}
 use Rattle.algol_meaning.specs.Rest.{Rest}
 use Rattle.algol_meaning.specs.World.{World, process_at}
 use Rattle.algol_meaning.specs.World.{is_able as meaning_able}
-use Rattle.algol_meaning.specs.Choice.{choice, with_fault}
+use Rattle.algol_meaning.specs.Choice.{Action, choice, with_fault}
 use Rattle.algol_meaning.specs.Run.{start, run, run_from, entered, may_go, end_of, world_of}
 use Rattle.b67_table.specs.declared.InterruptKind.{InterruptKind}
 use Rattle.b67_table.specs.declared.InterruptKind.TheVariants.{BadCode as bad_code}
@@ -24,6 +24,7 @@ use Rattle.b67_table.specs.Table.{table, plain, failed, may_act, image_end, Imag
 use Rattle.b67_table.specs.Table as machine
 use Rattle.b67_table.specs.Runs.{Plains, stay, go, Acts, acts, fails, Entry, Runs, begin, entry}
 use Rattle.b67_relate.specs.Picture.{At, world, ended_world, image, ended_image, registers, Sized}
+use Rattle.b67_relate.specs.Correspondence.{operator_action, operator_actions, chosen_action, action_in, source_actions}
 use Rattle.b67_relate.specs.Agreement.{end_as, Shows, Fits, Agrees}
 use Rattle.b67_relate.specs.Code.{ProgramAt}
 use Rattle.b67_relate.specs.Pictures.{Pictures, live, ended, faulted, Alive, Located}
@@ -36,7 +37,7 @@ use Rattle.b67_relate.proofs.Cells.{IsDistinct-tail}
 use Rattle.b67_relate.proofs.Prologue.{start-world, first_pictured}
 use Rattle.b67_relate.proofs.Within.{plains_of, way_within}
 use Rattle.b67_relate.proofs.Fitting.{live_fits, faulted_fits, ended_fits}
-use Rattle.b67_relate.proofs.OneWay.{one_way, way, OnTheWay, there, further, plains_public}
+use Rattle.b67_relate.proofs.OneWay.{one_way, same_quiet, way, OnTheWay, there, further, plains_public}
 
 -- ---- runs of the source
 
@@ -78,8 +79,9 @@ false_true e = cc
 -- ---- one entry
 
 module _ (most : ℕ) (tree : PProgram) (code : Code) (names : List (List ℕ)) (distinct : IsDistinct names) where
-  pub record Entered (w : World) (p : ℕ) (b : Image) : Type 0 where
+  pub record Entered (w : World) (p : ℕ) (q b : Image) : Type 0 where
     pub after : World
+    pub action : operator_action code q p ≡ chosen_action (choice tree w p)
     pub is : entered tree w p ≡ Some after
     pub pictures : Pictures most code names after b
 
@@ -88,35 +90,39 @@ module _ (most : ℕ) (tree : PProgram) (code : Code) (names : List (List ℕ)) 
   entered-world values output rest = refl
 
   follow : (values : List ℤ) (output : List (List ℕ)) (rest : Rest) (to : At) → length values ≡ length names → Sized most values to → Follows most tree code names values output rest to → (q : Image) (n m : ℕ) (a b : Image) → Plains code 1 a n q → Acts code 1 q b →
-      Plains code 1 a m (image values output to) → Entered (world names values output rest) 1 b
-  follow values output rest to many sized (steps.goes_on action values' output' rest' next is act same comes) q n m a b l x k =
+      Plains code 1 a m (image values output to) → Entered (world names values output rest) 1 q b
+  follow values output rest to many sized (steps.goes_on action values' output' rest' next is does act same comes) q n m a b l x k =
       record {
         after = world names values' output' rest';
+        action = ap (λ (i : Image). operator_action code i 1) (same_quiet code 1 l x k act) ∙ does ∙ ap chosen_action (sym is);
         is = entered-world values output rest ∙ ap world_of is;
         pictures =
             subst (λ (i : Image). Pictures most code names (world names values' output' rest') i) (one_way code 1 k act l x)
             (live values' output' rest' (image values' output' next) comes.goes.n comes.to same (record { states = refl; fault = refl; output_is = refl; located = record { registers = registers (length values') next; alone = refl; level = refl; segment = refl } }) comes.goes.plains comes.goes.sized comes.stands);
       }
-  follow values output rest to many sized (steps.ends next is act) q n m a b l x k =
+  follow values output rest to many sized (steps.ends next is does act) q n m a b l x k =
       record {
         after = ended_world names values output;
+        action = ap (λ (i : Image). operator_action code i 1) (same_quiet code 1 l x k act) ∙ does ∙ ap chosen_action (sym is);
         is = entered-world values output rest ∙ ap world_of is;
         pictures = subst (λ (i : Image). Pictures most code names (ended_world names values output) i) (one_way code 1 k act l x) (ended values output (length values) next);
       }
-  follow values output rest to many sized (steps.faulted fault is act stays) q n m a b l x k =
+  follow values output rest to many sized (steps.faulted fault is does fault_comes stays) q n m a b l x k =
+      let act : Acts code 1 (image values output to) (failed (image values output to) 1 (fault_of fault)) = fails (fault_of fault) fault_comes in
       record {
         after = with_fault (world names values output rest) 1 fault;
+        action = ap (λ (i : Image). operator_action code i 1) (same_quiet code 1 l x k act) ∙ does ∙ ap chosen_action (sym is);
         is = entered-world values output rest ∙ ap world_of is;
         pictures = subst (λ (i : Image). Pictures most code names (with_fault (world names values output rest) 1 fault) i) (one_way code 1 k act l x) (faulted values output rest to fault many sized stays);
       }
 
-  pub entry_pictured : (w : World) (a : Image) (p n : ℕ) (b : Image) → Pictures most code names w a → Entry code p a n b → Entered w p b
+  pub entry_pictured : (w : World) (a : Image) (p n : ℕ) (b : Image) → Pictures most code names w a → (e : Entry code p a n b) → Entered w p e.quiet b
   unfolding may_act image_end failed
   entry_pictured w a p n b (live values output rest img m to same alive plains sized stands) e =
       let one : p ≡ 1 = the_process img p alive.states e.may in
       let l : Plains code 1 img n e.quiet = subst (λ q. Plains code q img n e.quiet) one e.plains in
       let x : Acts code 1 e.quiet b = subst (λ q. Acts code q e.quiet b) one e.action in
-      subst (λ q. Entered (world names values output rest) q b) (sym one)
+      subst (λ q. Entered (world names values output rest) q e.quiet b) (sym one)
       (follow values output rest to same sized (step_at most word_laws tree code names distinct values same output rest to sized stands) e.quiet n m img b l x (plains_of plains))
   entry_pictured w a p n b (ended values output cells at) e = false_true e.may
   entry_pictured w a p n b (faulted values output rest at fault same sized stays) e = false_true e.may
@@ -139,6 +145,15 @@ module _ (most : ℕ) (tree : PProgram) (code : Code) (names : List (List ℕ)) 
       let before = related runs in
       let next = entry_pictured most tree code names distinct before.world a p n b before.pictures e in
       record { world = next.after; is = run-later tree h p before.world next.after before.is next.is; pictures = next.pictures }
+
+  -- the operators of the entries are the actions of the source
+  pub same_actions : {h counts : List ℕ} {img : Image} → (r : Runs code h counts img) → operator_actions r ≡ source_actions tree h
+  same_actions begin = refl
+  same_actions (entry {h = h} {a = a} {b = b} {p = p} {n = n} runs e) =
+      let before = related runs in
+      let next = entry_pictured most tree code names distinct before.world a p n b before.pictures e in
+      let head : operator_action code e.quiet p ≡ action_in tree (run tree (reverse h)) p = next.action ∙ ap (λ (o : Option World). action_in tree o p) (sym before.is) in
+      ap (λ (x : Option Action). x ∷ operator_actions runs) head ∙ ap (λ (xs : List (Option Action)). action_in tree (run tree (reverse h)) p ∷ xs) (same_actions runs)
 
 -- ---- after some plain operators more
 
@@ -211,9 +226,9 @@ gives_and_faults u v = cc
 
 module _ (most : ℕ) (tree : PProgram) (code : Code) (names : List (List ℕ)) (distinct : IsDistinct names) where
   pub act_of : {values : List ℤ} {output : List (List ℕ)} {rest : Rest} {to : At} → Follows most tree code names values output rest to → (b : Image) × Acts code 1 (image values output to) b
-  act_of {values} {output} (steps.goes_on action values' output' rest' next is act same comes) = (image values' output' next, act)
-  act_of {values} {output} (steps.ends next is act) = (ended_image (length values) output next, act)
-  act_of {values} {output} {to = to} (steps.faulted fault is act stays) = (failed (image values output to) 1 (fault_of fault), act)
+  act_of {values} {output} (steps.goes_on action values' output' rest' next is does act same comes) = (image values' output' next, act)
+  act_of {values} {output} (steps.ends next is does act) = (ended_image (length values) output next, act)
+  act_of {values} {output} {to = to} (steps.faulted fault is does comes stays) = (failed (image values output to) 1 (fault_of fault), fails (fault_of fault) comes)
 
   live_shows : (values : List ℤ) (output : List (List ℕ)) (rest : Rest) (a : Image) (m : ℕ) (to : At) → Alive a output → Plains code 1 a m (image values output to) → Follows most tree code names values output rest to →
       (n : ℕ) (img : Image) → Plains code 1 a n img → Shows code (world names values output rest) img
@@ -256,6 +271,11 @@ histories_agree tree code (accepted spot file ns ss distinct few known small) (p
     let apart : IsDistinct names = IsDistinct-tail file.name names distinct in
     let rel = related (program_tokens tree) tree code names apart _ (start-world spot file ns ss) (first_pictured code spot file ns ss few' small body) runs in
     record { world = rel.world; is = rel.is; shows = pictured_shows (program_tokens tree) tree code names apart rel.world before rel.pictures tail img plains; fits = pictured_fits (program_tokens tree) tree code names apart (omega arith) rel.world before rel.pictures tail img plains }
+
+-- and each entry's operator is the action of the source
+pub actions_agree : (tree : PProgram) (code : Code) → Accepted tree → ProgramAt code tree → {h counts : List ℕ} {img : Image} → (r : Runs code h counts img) → operator_actions r ≡ source_actions tree h
+actions_agree tree code (accepted spot file ns ss distinct few known small) (program_at spot' file' ns' ss' few' body) r =
+    same_actions (program_tokens tree) tree code (names_of ns) (IsDistinct-tail file.name (names_of ns) distinct) _ (start-world spot file ns ss) (first_pictured code spot file ns ss few' small body) r
 
 -- process 1 is alone
 pictured_alone : (most : ℕ) (code : Code) (names : List (List ℕ)) (w : World) (a : Image) → Pictures most code names w a → (s : ProcessState) × (a.states ≡ s ∷ [])

@@ -6,6 +6,7 @@ pub mod PrivateSteps
 pub mod ActionSteps
 pub mod WriteStep
 pub mod SumSteps
+pub mod Corresponds
 pub mod Reach
 pub mod Starts
 pub mod Cells

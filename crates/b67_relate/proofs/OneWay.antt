@@ -47,6 +47,14 @@ module _ (code : Code) (p : ℕ) where
   one_way {a = a} {r = r} (go {b = b} e t l) x (go {b = c} {n = j} f u k) y =
       one_way l x (subst (λ (i : Image). Plains code p i j r) (gives_same c b (table code a p) u t) k) y
 
+  -- and the action is done on one image
+  pub same_quiet : {a : Image} {n : ℕ} {q b : Image} {m : ℕ} {r c : Image} → Plains code p a n q → Acts code p q b → Plains code p a m r → Acts code p r c → q ≡ r
+  same_quiet stay x stay y = refl
+  same_quiet stay x (go e t l) y = plain_no_act e t x
+  same_quiet (go e t l) x stay y = plain_no_act e t y
+  same_quiet {a = a} {r = r} (go {b = b} e t l) x (go {b = c} {n = j} f u k) y =
+      same_quiet l x (subst (λ (i : Image). Plains code p i j r) (gives_same c b (table code a p) u t) k) y
+
   -- plain operators before an action lead on to it
   pub data OnTheWay (r : Image) : Image → Type 0 where
     there : OnTheWay r r

@@ -27,6 +27,8 @@ use Rattle.b67_relate.proofs.PrivateSteps.{pushed, sized-pushed}
 use Rattle.b67_relate.proofs.ActionSteps.{value_step, store_step, dropped}
 use Rattle.b67_relate.proofs.WriteStep.{write_step, written, exit_step, passed}
 use Rattle.b67_relate.proofs.SumSteps.{fault_step, fault_stays}
+use Rattle.b67_relate.specs.Correspondence.{operator_action}
+use Rattle.b67_relate.proofs.Corresponds.{action_is, fault_is}
 use Rattle.b67_relate.proofs.Reach.{Reached, here, settle_at, left_at, right_at, assigned_at, item_at}
 use Rattle.b67_relate.proofs.Starts.{items_settle}
 use Rattle.b67_relate.proofs.Cells.{cell_at-world, set_cell-world, has_value, slice_get-small}
@@ -35,12 +37,13 @@ use Rattle.b67_relate.proofs.Cells.{cell_at-world, set_cell-world, has_value, sl
 pub data Follows (most : ℕ) (tree : PProgram) (code : Code) (names : List (List ℕ)) (values : List ℤ) (output : List (List ℕ)) (rest : Rest) (at : At) : Type 0 where
   goes_on : (action : Action) (values' : List ℤ) (output' : List (List ℕ)) (rest' : Rest) (next : At) →
       choice tree (world names values output rest) 1 ≡ Some (record { action = action; world = world names values' output' rest' }) →
+      operator_action code (image values output at) 1 ≡ Some action →
       Acts code 1 (image values output at) (image values' output' next) → length values' ≡ length names → Comes most code names values' output' next rest' →
       Follows most tree code names values output rest at
   ends : (next : At) → choice tree (world names values output rest) 1 ≡ Some (record { action = End; world = ended_world names values output }) →
-      Acts code 1 (image values output at) (ended_image (length values) output next) → Follows most tree code names values output rest at
+      operator_action code (image values output at) 1 ≡ Some End → Acts code 1 (image values output at) (ended_image (length values) output next) → Follows most tree code names values output rest at
   faulted : (fault : NumFault) → choice tree (world names values output rest) 1 ≡ Some (record { action = Fault; world = with_fault (world names values output rest) 1 fault }) →
-      Acts code 1 (image values output at) (failed (image values output at) 1 (fault_of fault)) →
+      operator_action code (image values output at) 1 ≡ Some Fault → table code (image values output at) 1 ≡ effect.faults (fault_of fault) →
       table code (failed (image values output at) 1 (fault_of fault)) 1 ≡ effect.faults (fault_of fault) → Follows most tree code names values output rest at
 
 whole_set : (values : List ℤ) (k : ℕ) (v : ℤ) → IsWhole v → ((j : ℕ) (z : ℤ) → slice_get values j ≡ Some z → IsWhole z) → (j : ℕ) (z : ℤ) → slice_get (slice_set values k v) j ≡ Some z → IsWhole z
@@ -99,12 +102,15 @@ module _ (most : ℕ) (laws : WordLaws) (tree : PProgram) (code : Code) (names :
       let there = has_value names values h.0 r.name same h.3 in
       let whole : IsWhole there.0 = sized.whole h.0 there.0 there.1 in
       let next : At = pushed at (operand there.0) h.1 in
+      let act : Acts code 1 (image values output at) (image values output next) = value_step most laws code values output at h.0 h.1 there.0 sized there.1 h.4 in
       goes_on Read values output (rest_with there.0) next
       (is ∙ ap (λ (c : Option Cell). read_cell (world names values output rest) 1 c rest_with) (cell_at-world names distinct values output rest r h.0 there.0 h.2 h.3 there.1))
-      (value_step most laws code values output at h.0 h.1 there.0 sized there.1 h.4) same
+      (action_is code values output at (ops.Valc (record { level = 2; index = 2 + h.0 })) h.1 h.4 (image values output next) act refl Read refl)
+      act same
       (s next there.0 refl (h.6 there.0 whole (sized-pushed most values at (operand there.0) h.1 sized h.5)))
   on_hole_at rest at sized below to half rest_with (faults fault) is s h =
-      faulted fault is (fault_step most code values output at h.4 h.1 h.2 h.3 sized h.6 h.8 h.9 h.0 h.5 fault h.7)
+      let fails : table code (image values output at) 1 ≡ effect.faults (fault_of fault) = fault_step most code values output at h.4 h.1 h.2 h.3 sized h.6 h.8 h.9 h.0 h.5 fault h.7 in
+      faulted fault is (fault_is code values output at h.5.operator h.4 h.5.stands (fault_of fault) fails) fails
       (fault_stays most code values output at h.4 h.1 h.2 h.3 sized h.6 h.8 h.9 h.0 h.5 fault h.7 (fault_of fault))
   on_hole_at rest at sized below to half rest_with nothing is s h = absurd h
 
@@ -120,9 +126,11 @@ module _ (most : ℕ) (laws : WordLaws) (tree : PProgram) (code : Code) (names :
       let many : length values' ≡ length values = length-slice_set values k v in
       let few : k < length values = slice_get-small values k there.0 there.1 in
       let kept : Sized most values' next = record { long = omega (arith, sized.long, ap length top, many); few = omega (arith, sized.few, many); room = omega arith; small = sized.small; whole = whole_set values k v iv sized.whole } in
+      let act : Acts code 1 (image values output at) (image values' output next) = store_step most laws code values output at [] k s.next v there.0 sized top (omega (arith, sized.few, few)) there.1 s.stands in
       goes_on Store values' output (settle_items 1 after) next
       (ap (λ (w : World). Some (record { action = Store; world = with_rest w 1 (settle_items 1 after) })) (set_cell-world names distinct values output (store r v after) r k v there.0 s.instance s.is there.1))
-      (store_step most laws code values output at [] k s.next v there.0 sized top (omega (arith, sized.few, few)) there.1 s.stands)
+      (action_is code values output at (ops.Plain kinds.Stod) s.next s.stands (image values' output next) act refl Store refl)
+      act
       (many ∙ same)
       (items_settle most code names values' output after next kept (record { none = refl; bottom = s.bottom }) s.items s.shallow)
 
@@ -134,15 +142,21 @@ module _ (most : ℕ) (laws : WordLaws) (tree : PProgram) (code : Code) (names :
       let bytes : line_of shown (v ∷ []) ≡ justified l.is.width v ++ [] = ap (λ ps. line_of ps (v ∷ [])) l.only ∙ ap (λ o. phrase_with o (v ∷ []) (line_of [])) l.is.wide in
       let kept : Sized most values next = record { long = omega (arith, l.mark); few = sized.few; room = omega arith; small = sized.small; whole = sized.whole } in
       let bottom : next.f ≡ 0 = omega (arith, l.mark) in
+      let output' : List (List ℕ) = output ++ (justified l.is.width v ++ []) ∷ [] in
+      let act : Acts code 1 (image values output at) (image values output' next) = write_step most laws code values output at l.next format l.is.width v sized top l.mark l.small iv l.is.is l.stands in
       goes_on Line values (output ++ (justified l.is.width v ++ []) ∷ []) (settle_items 1 after) next
       (ap (λ (ws : List ℕ). Some (record { action = Line; world = world names values (output ++ ws ∷ []) (settle_items 1 after) })) bytes)
-      (write_step most laws code values output at l.next format l.is.width v sized top l.mark l.small iv l.is.is l.stands)
+      (action_is code values output at (ops.Plain kinds.Entr) l.next l.stands (image values output' next) act refl Line refl)
+      act
       same
       (items_settle most code names values (output ++ (justified l.is.width v ++ []) ∷ []) after next kept (record { none = refl; bottom = bottom }) l.items l.shallow)
 
   ends_at : (at : At) (to : ℕ) → Has code at.place (ops.Plain kinds.Exit) to → Follows most tree code names values output over at
   unfolding choice
-  ends_at at to has = ends (passed most laws code values output at to) refl (exit_step most laws code values output at to has)
+  ends_at at to has =
+      let next : At = passed most laws code values output at to in
+      let act : Acts code 1 (image values output at) (ended_image (length values) output next) = exit_step most laws code values output at to has in
+      ends next refl (action_is code values output at (ops.Plain kinds.Exit) to has (ended_image (length values) output next) act refl End refl) act
 
   storing_at : (r : Reference) (hole : Hole) (after : List Item) (at : At) → Sized most values at → (k m : ℕ) → Holds most code names hole at.place at.operands (reference_word k ∷ []) m → StoreAt most code names values r after m at.f k →
       Follows most tree code names values output (storing r hole after) at

@@ -17,7 +17,6 @@ use Rattle.b67_table.specs.Image.{Image, with_private}
 use Rattle.b67_num.specs.declared.FaultKind.{FaultKind}
 use Rattle.b67_ops.specs.declared.BadCode.{BadCode}
 use Rattle.b67_table.specs.Table.{table, by_class, by_operator, is_private, failed}
-use Rattle.b67_table.specs.Runs.{Acts, fails}
 use Rattle.b67_relate.specs.Code.{IsWhole, IsCalculation, addition, subtraction, CalculationAt}
 use Rattle.b67_relate.specs.Picture.{At, registers, image, Sized, Goes}
 use Rattle.b67_relate.proofs.PrivateSteps.{part, table_at, part_is, step, below_is, after}
@@ -89,15 +88,14 @@ module _ (most : ℕ) (code : Code) (values : List ℤ) (output : List (List ℕ
 
   -- a sum without a result is the fault
   pub fault_step : (op : Op) → CalculationAt code at.place op next → (fault : NumFault) → result_of op v w ≡ Some (Err fault) →
-      Acts code 1 (image values output at) (failed (image values output at) 1 (fault_of fault))
+      table code (image values output at) 1 ≡ faults (fault_of fault)
   fault_step op c fault e =
       let f = computed c.calculates in
       let row = by_computes f.0 f.1 (Err fault) e in
-      fails (fault_of fault)
-      (table_at code values output at c.operator next c.stands
+      table_at code values output at c.operator next c.stands
       ∙ ap (λ b. by_class b code (image values output at) 1 (registers (length values) at) c.operator next) row.1
       ∙ ap (λ (q : Private). private_op c.operator next q >>= (λ (r : Private). gives (with_private (image values output at) 1 (2 + length values) r))) (part_is code values output at)
-      ∙ ap (λ (x : Effect Private). x >>= (λ (r : Private). gives (with_private (image values output at) 1 (2 + length values) r))) row.0)
+      ∙ ap (λ (x : Effect Private). x >>= (λ (r : Private). gives (with_private (image values output at) 1 (2 + length values) r))) row.0
 
   -- after the fault the same operator stands there, and is no plain one
   pub fault_stays : (op : Op) → CalculationAt code at.place op next → (fault : NumFault) → result_of op v w ≡ Some (Err fault) → (kept : FaultKind) →

@@ -1,5 +1,5 @@
 -- A code that is faithful to a source: for every list of choices it does what the source does.
-use Rattle.std.specs.Prelude.{ℕ, ◌+◌, ◌*◌, ◌≤◌, max, List, [], ◌∷◌, length, sum, All}
+use Rattle.std.specs.Prelude.{◌≡◌, ℕ, ◌+◌, ◌*◌, ◌≤◌, max, List, [], ◌∷◌, length, sum, All}
 use Rattle.algol_tree.specs.Plain.{PProgram}
 use Rattle.algol_tree.specs.Accepted.{Accepted}
 use Rattle.algol_tree.specs.Counts.{program_tokens}
@@ -11,6 +11,7 @@ use Rattle.b67_table.specs.Runs.{TableRun}
 use Rattle.b67_table.specs.Sound.{Sound}
 use Rattle.b67_relate.specs.Code.{ProgramAt}
 use Rattle.b67_relate.specs.Agreement.{Agrees}
+use Rattle.b67_relate.specs.Correspondence.{operator_actions, source_actions}
 
 -- a segment has at most 24 syllables for each token of the source, and 48 more
 abbrev pub IsShort : PProgram → Code → Type 0
@@ -26,6 +27,8 @@ pub record Faithful (tree : PProgram) (code : Code) : Type 0 where
   pub sound : Sound code
   -- each run of the code has a legal schedule of the source, with its output, end and able processes, on stacks within their weights
   pub legal : (schedule tails : List ℕ) (image : Image) → TableRun code schedule tails image → Agrees tree code schedule image
+  -- the operator of each entry is the action of that entry in the source
+  pub actions : (schedule tails : List ℕ) (image : Image) → (r : TableRun code schedule tails image) → operator_actions r.runs ≡ source_actions tree r.history
   -- each legal schedule of the source has a run of the code
   pub whole : (schedule : List ℕ) → Legal tree schedule → (image : Image) × TableRun code schedule [] image
   pub short : IsShort tree code

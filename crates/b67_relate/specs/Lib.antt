@@ -3,4 +3,5 @@ pub mod Weight
 pub mod Picture
 pub mod Pictures
 pub mod Agreement
+pub mod Correspondence
 pub mod Faithful
