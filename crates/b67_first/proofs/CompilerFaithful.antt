@@ -19,7 +19,8 @@ use Rattle.b67_relate.proofs.FaithfulPrograms.{programs_are_faithful}
 use Rattle.b67_first.specs.Compiler.{IsInRange, straight_code, placed, IsCodeOf}
 use Rattle.b67_first.proofs.CompilerTrees.{tree-at}
 use Rattle.b67_first.proofs.CompilerLayout.{straight-size}
-use Rattle.b67_first.proofs.CompilerSmall.{AreFit-front, length-syllables}
+use Rattle.b67_first.proofs.CompilerSmall.{AreFit-front, length-syllables, small-from_code}
+use Rattle.b67_first.proofs.CompilerListed.{listable}
 use Rattle.b67_first.proofs.CompilerRange.{steps-few}
 
 -- the words of the one segment
@@ -46,4 +47,5 @@ pub faithful-translated : (straight : Straight) → straight.integers ≤ 400 �
     → IfOk r (λ code. (tree : PProgram) → Accepted tree → Resolves tree straight → Faithful tree code)
 faithful-translated straight few range (Ok code) is =
     λ tree acc h. programs_are_faithful tree code acc (tree-at straight code few range.short is tree h) (short-code tree straight code acc h is)
+    (listable code (small-from_code straight code few range is))
 faithful-translated straight few range (Err e) is = tt

@@ -2,6 +2,7 @@ pub mod CompilerRows
 pub mod CompilerTrees
 pub mod CompilerLayout
 pub mod CompilerSmall
+pub mod CompilerListed
 pub mod CompilerRange
 pub mod CompilerFaithful
 mod MachineLine

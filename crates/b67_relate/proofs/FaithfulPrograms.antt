@@ -123,11 +123,12 @@ module _ (tree : PProgram) (code : Code) (acc : Accepted tree) (at : ProgramAt c
       omega (arith, own, later, both, longer)
 
 pub programs_are_faithful : ProgramsAreFaithful
-programs_are_faithful tree code acc at short = record {
+programs_are_faithful tree code acc at short listable = record {
   sound = programs_are_sound tree code acc at (legal tree code acc at);
   legal = legal tree code acc at;
   actions = λ schedule tails image r. actions_agree tree code acc at r.runs;
   whole = whole tree code acc at;
   short = short;
+  listable = listable;
   few = few tree code acc at;
 }

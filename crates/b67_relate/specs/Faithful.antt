@@ -9,6 +9,7 @@ use Rattle.algol_meaning.specs.Run.{Legal}
 use Rattle.b67_table.specs.Image.{Image}
 use Rattle.b67_table.specs.Runs.{TableRun}
 use Rattle.b67_table.specs.Sound.{Sound}
+use Rattle.b67_listing.specs.Listings.{IsListable}
 use Rattle.b67_relate.specs.Code.{ProgramAt}
 use Rattle.b67_relate.specs.Agreement.{Agrees}
 use Rattle.b67_relate.specs.Correspondence.{operator_actions, source_actions}
@@ -32,10 +33,11 @@ pub record Faithful (tree : PProgram) (code : Code) : Type 0 where
   -- each legal schedule of the source has a run of the code
   pub whole : (schedule : List ℕ) → Legal tree schedule → (image : Image) × TableRun code schedule [] image
   pub short : IsShort tree code
+  pub listable : IsListable code
   -- for each entry and for each tail at most as many operators are performed as the longest segment has syllables
   pub few : (schedule tails : List ℕ) (image : Image) → (r : TableRun code schedule tails image) →
       sum r.counts + sum tails ≤ (length schedule + length tails) * longest code.segments
 
--- where the code of an accepted tree stands and is short, it is faithful
+-- where the code of an accepted tree stands, is short and can be listed, it is faithful
 abbrev pub ProgramsAreFaithful : Type 0
-ProgramsAreFaithful = (tree : PProgram) (code : Code) → Accepted tree → ProgramAt code tree → IsShort tree code → Faithful tree code
+ProgramsAreFaithful = (tree : PProgram) (code : Code) → Accepted tree → ProgramAt code tree → IsShort tree code → IsListable code → Faithful tree code

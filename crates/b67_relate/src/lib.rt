@@ -4,9 +4,9 @@
 
 ghost use Rattle.b67_relate.specs.Faithful.{ProgramsAreFaithful};
 
-/// Wherever the code of an accepted tree stands and is short, it is faithful to the tree: every run of it under the operator table is one of the
-/// tree under the same schedule, with the same output, end and able processes, and meets no ill-tagged word and no stack limit; and
-/// every legal schedule of the tree has a run.
+/// Wherever the code of an accepted tree stands, is short and can be listed, it is faithful to the tree: every run of it under the
+/// operator table is one of the tree under the same schedule, with the same output, end, able processes and actions, on stacks within
+/// their weights; it meets no ill-tagged word and no stack limit; and every legal schedule of the tree has a run.
 pub fn programs_are_faithful()
     ensures { ProgramsAreFaithful }
 {}

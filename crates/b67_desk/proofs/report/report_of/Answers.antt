@@ -1,6 +1,6 @@
 use Rattle.std.proofs.Common.{arith, refl}
 use Rattle.b67_desk.proofs.Explained.{explained, has_words, entries-within}
-use Rattle.b67_desk.proofs.Listable.{listable}
+use Rattle.b67_first.proofs.CompilerListed.{listable}
 use Rattle.b67_first.proofs.CompilerRange.{range-from_accepted}
 use Rattle.b67_desk.proofs.report.report_of.Goals as goal
 
