@@ -3,6 +3,7 @@
 use super::*;
 use algol_tree::{Code, Spot};
 use b67_io::{MemorySink, MemorySource};
+use b67_num::FaultKind;
 use b67_words::UsageKind;
 use std::alloc::{AllocError, Global};
 use std::test::Fail;
@@ -70,21 +71,112 @@ fn unbuilt() -> Status {
     }
 }
 
-const COPIED: &[u8] = b"BEGIN FILE LINE; INTEGER I,J;\nI:=40; J:=I; WRITE(LINE,<I5>,J) END.\n";
+const SUMMED: &[u8] = b"BEGIN FILE LINE; INTEGER I,J;\nI:=40; J:=I+2; WRITE(LINE,<I5>,J) END.\n";
 
 #[test]
-fn a_number_is_copied_and_written(rt: HostRuntime) -> Result<(), Fail> {
+fn a_sum_is_written(rt: HostRuntime) -> Result<(), Fail> {
     let alloc = rt.alloc();
-    let whole = answered(alloc, "run 1 1000", COPIED)?;
+    let whole = answered(alloc, "run 1 1000", SUMMED)?;
     assert!(rt; whole.status == Status::Finished);
     let end =
-        b"FORMAT 0 <I5>\nOUTPUT 1\n   40\nEND FINISHED\nOPERATORS 1\n1 15\nACTS 1\n1 6\nSCHEDULE 1 1\n1*6\n";
+        b"FORMAT 0 <I5>\nOUTPUT 1\n   42\nEND FINISHED\nOPERATORS 1\n1 17\nACTS 1\n1 6\nSCHEDULE 1 1\n1*6\n";
     assert!(rt; whole.text.as_slice().ends_with(end));
 
-    let first = answered(alloc, "run 1 1", COPIED)?;
+    let first = answered(alloc, "run 1 1", SUMMED)?;
     assert!(rt; first.status == Status::BudgetSpent);
     let end = b"OUTPUT 0\nEND BUDGET SPENT\nOPERATORS 1\n1 1\nACTS 1\n1 0\nSCHEDULE 1 0\n";
     assert!(rt; first.text.as_slice().ends_with(end));
+
+    // A text without a sum, and sums of differences.
+    let copied = b"BEGIN FILE LINE; INTEGER I,J;\nI:=40; J:=I; WRITE(LINE,<I5>,J) END.\n";
+    let copied = answered(alloc, "run 1 1000", copied)?;
+    assert!(rt; copied.status == Status::Finished);
+    let end = b"OUTPUT 1\n   40\nEND FINISHED\nOPERATORS 1\n1 15\nACTS 1\n1 6\nSCHEDULE 1 1\n1*6\n";
+    assert!(rt; copied.text.as_slice().ends_with(end));
+    let signs =
+        b"BEGIN FILE LINE; INTEGER I,J;\nI:=7; J:=10-I-I; WRITE(LINE,<I5>,J); I:=J-I+100; WRITE(LINE,<I5>,I) END.\n";
+    let signs = answered(alloc, "run 1 1000", signs)?;
+    assert!(rt; signs.status == Status::Finished);
+    let end =
+        b"OUTPUT 2\n   -4\n   89\nEND FINISHED\nOPERATORS 1\n1 31\nACTS 1\n1 12\nSCHEDULE 1 1\n1*12\n";
+    assert!(rt; signs.text.as_slice().ends_with(end));
+    Ok(())
+}
+
+/// A source that writes the value of an expression.
+fn with_value(alloc: Global, expression: &[u8]) -> Result<Vec<u8>, AllocError> {
+    let mut bytes = Vec::from_slice(alloc, b"BEGIN FILE LINE; INTEGER I;\nI:=")?;
+    bytes.extend_from_slice(expression)?;
+    bytes.extend_from_slice(b"; WRITE(LINE,<I13>,I) END.\n")?;
+    Ok(bytes)
+}
+
+#[test]
+fn sums_at_the_limits(rt: HostRuntime) -> Result<(), Fail> {
+    let alloc = rt.alloc();
+    let real_result = Status::Fault {
+        kind: FaultKind::RealResult,
+        process: 1,
+    };
+    let most = with_value(alloc, b"549755813886+1")?;
+    let most = answered(alloc, "run 1 1000", most.as_slice())?;
+    assert!(rt; most.status == Status::Finished);
+    let end = b"OUTPUT 1\n 549755813887\nEND FINISHED\nOPERATORS 1\n1 13\nACTS 1\n1 4\nSCHEDULE 1 1\n1*4\n";
+    assert!(rt; most.text.as_slice().ends_with(end));
+    let least = with_value(alloc, b"0-549755813887")?;
+    let least = answered(alloc, "run 1 1000", least.as_slice())?;
+    assert!(rt; least.status == Status::Finished);
+    let end = b"OUTPUT 1\n-549755813887\nEND FINISHED\nOPERATORS 1\n1 13\nACTS 1\n1 4\nSCHEDULE 1 1\n1*4\n";
+    assert!(rt; least.text.as_slice().ends_with(end));
+
+    let above = with_value(alloc, b"549755813887+1")?;
+    let above = answered(alloc, "run 1 1000", above.as_slice())?;
+    assert!(rt; above.status == real_result);
+    let end = b"OUTPUT 0\nEND FAULT REAL RESULT IN 1\nOPERATORS 1\n1 6\nACTS 1\n1 1\nSCHEDULE 1 1\n1*1\n";
+    assert!(rt; above.text.as_slice().ends_with(end));
+    // A later operand would bring the result back.
+    let middle = with_value(alloc, b"549755813887+1-1")?;
+    let middle = answered(alloc, "run 1 1000", middle.as_slice())?;
+    assert!(rt; middle.status == real_result);
+    assert!(rt; middle.text.as_slice().ends_with(end));
+    let below = with_value(alloc, b"0-549755813887-1+1")?;
+    let below = answered(alloc, "run 1 1000", below.as_slice())?;
+    assert!(rt; below.status == real_result);
+    let end = b"OUTPUT 0\nEND FAULT REAL RESULT IN 1\nOPERATORS 1\n1 8\nACTS 1\n1 1\nSCHEDULE 1 1\n1*1\n";
+    assert!(rt; below.text.as_slice().ends_with(end));
+    Ok(())
+}
+
+/// A source of a sum with so many terms behind its first operand, and of so many lines.
+fn with_terms(alloc: Global, terms: u32, lines: u32) -> Result<Vec<u8>, AllocError> {
+    let mut bytes = Vec::from_slice(alloc, b"BEGIN FILE LINE; INTEGER I;\nI:=1")?;
+    for _ in 0..terms {
+        bytes.extend_from_slice(b"\n+1")?;
+    }
+    for _ in 0..lines {
+        bytes.extend_from_slice(b";\nWRITE(LINE,<I4>,I)")?;
+    }
+    bytes.extend_from_slice(b" END.\n")?;
+    Ok(bytes)
+}
+
+#[test]
+fn two_thousand_tokens(rt: HostRuntime) -> Result<(), Fail> {
+    let alloc = rt.alloc();
+    let bytes = with_terms(alloc, 983, 2)?;
+    let outside = Outside {
+        reads: &[],
+        writes: &[],
+        room: 65536,
+    };
+    let most = answered_outside(alloc, "run 1 4194304", bytes.as_slice(), outside)?;
+    assert!(rt; most.status == Status::Finished);
+    let end =
+        b"OUTPUT 2\n 984\n 984\nEND FINISHED\nOPERATORS 1\n1 1982\nACTS 1\n1 6\nSCHEDULE 1 1\n1*6\n";
+    assert!(rt; most.text.as_slice().ends_with(end));
+    let bytes = with_terms(alloc, 989, 1)?;
+    let more = answered(alloc, "run 1 4194304", bytes.as_slice())?;
+    assert!(rt; more.status == unbuilt());
     Ok(())
 }
 
@@ -95,7 +187,7 @@ fn what_is_refused(rt: HostRuntime) -> Result<(), Fail> {
     assert!(rt; empty.status == unbuilt());
     assert_eq!(rt; empty.text.as_slice(), b"REFUSED U0 1:1\n".as_slice());
 
-    let fourth = answered(alloc, "run 1 100 fifo", COPIED)?;
+    let fourth = answered(alloc, "run 1 100 fifo", SUMMED)?;
     let extra = Status::Usage {
         word: 4,
         kind: UsageKind::Extra,
@@ -145,7 +237,7 @@ fn four_hundred_integers(rt: HostRuntime) -> Result<(), Fail> {
 #[test]
 fn faults_in_mid_stream(rt: HostRuntime) -> Result<(), Fail> {
     let alloc = rt.alloc();
-    let whole = answered(alloc, "run 1 1000", COPIED)?;
+    let whole = answered(alloc, "run 1 1000", SUMMED)?;
     let calls = [0u32, 1, 4, 9];
     for call in calls.iter() {
         let unread = Outside {
@@ -153,7 +245,7 @@ fn faults_in_mid_stream(rt: HostRuntime) -> Result<(), Fail> {
             writes: &[],
             room: 4096,
         };
-        let failed = answered_outside(alloc, "run 1 1000", COPIED, unread)?;
+        let failed = answered_outside(alloc, "run 1 1000", SUMMED, unread)?;
         assert!(rt; failed.status == Status::ReadFault);
         assert!(rt; failed.text.as_slice().is_empty());
     }
@@ -164,7 +256,7 @@ fn faults_in_mid_stream(rt: HostRuntime) -> Result<(), Fail> {
             writes: &[],
             room: *room,
         };
-        let failed = answered_outside(alloc, "run 1 1000", COPIED, unwritten)?;
+        let failed = answered_outside(alloc, "run 1 1000", SUMMED, unwritten)?;
         assert!(rt; failed.status == Status::WriteFault);
         assert_eq!(rt; failed.text.len(), *room);
         assert!(rt; whole.text.as_slice().starts_with(failed.text.as_slice()));
@@ -174,7 +266,7 @@ fn faults_in_mid_stream(rt: HostRuntime) -> Result<(), Fail> {
         writes: &[0],
         room: 4096,
     };
-    let failed = answered_outside(alloc, "run 1 1000", COPIED, unwritten)?;
+    let failed = answered_outside(alloc, "run 1 1000", SUMMED, unwritten)?;
     assert!(rt; failed.status == Status::WriteFault);
     Ok(())
 }
