@@ -173,9 +173,10 @@ fn answer_call<S: Source>(
 /// The first of these that holds is the answer. `Usage` comes exactly where the words break the grammar, names the first
 /// word that does, and nothing is read. `ReadFault` comes only where the source's count of faults rose, and nothing is
 /// written. `TooLong` comes exactly where the source has too many bytes. `Refused` comes exactly where the text is no
-/// source that is built, at 1:1 with `Unbuilt`. Else the run is reported: `Finished`, or `BudgetSpent` where the operators
-/// came to the budget first. `WriteFault` comes only where the sink's count of faults rose, and what was written is a
-/// front of the answer. `NoMemory` may come instead of any of them, and then nothing is written.
+/// source that is built, at 1:1 with `Unbuilt`. Else the run is reported: `Finished` or `Fault` where the run has that end,
+/// or `BudgetSpent` where the operators came to the budget first. `WriteFault` comes only where the sink's count of faults
+/// rose, and what was written is a front of the answer. `NoMemory` may come instead of any of them, and then nothing is
+/// written.
 ///
 /// Command, statuses and report are this project's profile.
 pub fn desk_alone<S: Source, K: Sink>(

@@ -121,18 +121,21 @@ fn sums_at_the_limits(rt: HostRuntime) -> Result<(), Fail> {
     let most = with_value(alloc, b"549755813886+1")?;
     let most = answered(alloc, "run 1 1000", most.as_slice())?;
     assert!(rt; most.status == Status::Finished);
-    let end = b"OUTPUT 1\n 549755813887\nEND FINISHED\nOPERATORS 1\n1 13\nACTS 1\n1 4\nSCHEDULE 1 1\n1*4\n";
+    let end =
+        b"OUTPUT 1\n 549755813887\nEND FINISHED\nOPERATORS 1\n1 13\nACTS 1\n1 4\nSCHEDULE 1 1\n1*4\n";
     assert!(rt; most.text.as_slice().ends_with(end));
     let least = with_value(alloc, b"0-549755813887")?;
     let least = answered(alloc, "run 1 1000", least.as_slice())?;
     assert!(rt; least.status == Status::Finished);
-    let end = b"OUTPUT 1\n-549755813887\nEND FINISHED\nOPERATORS 1\n1 13\nACTS 1\n1 4\nSCHEDULE 1 1\n1*4\n";
+    let end =
+        b"OUTPUT 1\n-549755813887\nEND FINISHED\nOPERATORS 1\n1 13\nACTS 1\n1 4\nSCHEDULE 1 1\n1*4\n";
     assert!(rt; least.text.as_slice().ends_with(end));
 
     let above = with_value(alloc, b"549755813887+1")?;
     let above = answered(alloc, "run 1 1000", above.as_slice())?;
     assert!(rt; above.status == real_result);
-    let end = b"OUTPUT 0\nEND FAULT REAL RESULT IN 1\nOPERATORS 1\n1 6\nACTS 1\n1 1\nSCHEDULE 1 1\n1*1\n";
+    let end =
+        b"OUTPUT 0\nEND FAULT REAL RESULT IN 1\nOPERATORS 1\n1 6\nACTS 1\n1 1\nSCHEDULE 1 1\n1*1\n";
     assert!(rt; above.text.as_slice().ends_with(end));
     // A later operand would bring the result back.
     let middle = with_value(alloc, b"549755813887+1-1")?;
@@ -142,7 +145,8 @@ fn sums_at_the_limits(rt: HostRuntime) -> Result<(), Fail> {
     let below = with_value(alloc, b"0-549755813887-1+1")?;
     let below = answered(alloc, "run 1 1000", below.as_slice())?;
     assert!(rt; below.status == real_result);
-    let end = b"OUTPUT 0\nEND FAULT REAL RESULT IN 1\nOPERATORS 1\n1 8\nACTS 1\n1 1\nSCHEDULE 1 1\n1*1\n";
+    let end =
+        b"OUTPUT 0\nEND FAULT REAL RESULT IN 1\nOPERATORS 1\n1 8\nACTS 1\n1 1\nSCHEDULE 1 1\n1*1\n";
     assert!(rt; below.text.as_slice().ends_with(end));
     Ok(())
 }

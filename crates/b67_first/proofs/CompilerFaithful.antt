@@ -1,5 +1,5 @@
 -- The code of an accepted tree is short, and faithful to the tree.
-use Rattle.std.proofs.Common.{◌≡◌, ℕ, ◌+◌, ◌*◌, ◌≤◌, List, [], ◌∷◌, ◌++◌, length, Result, Ok, Err, refl, sym, ap, ◌∙◌, subst, arith, length-append}
+use Rattle.std.proofs.Common.{◌≡◌, ℕ, ◌+◌, ◌*◌, ◌≤◌, [], length, Result, Ok, Err, sym, ap, ◌∙◌, subst, arith, length-append}
 use Rattle.std.specs.Prelude.{All, IfOk, replicate}
 use Rattle.std.proofs.lemmas.List.{length-replicate, length-map}
 use Rattle.std.proofs.lemmas.List.Elements.{All-nil, All-cons}
@@ -13,13 +13,14 @@ use Rattle.algol_first.specs.declared.straight.Straight.{Straight}
 use Rattle.b67_segment.specs.declared.code.Code.{Code}
 use Rattle.b67_segment.specs.declared.code.Segment.{Segment}
 use Rattle.b67_segment.specs.Operators.{text, size, missing, filled}
+use Rattle.b67_segment.proofs.Fetches.{length-syllables}
 use Rattle.b67_segment.proofs.Filling.{filled-text}
 use Rattle.b67_relate.specs.Faithful.{IsShort, Faithful}
 use Rattle.b67_relate.proofs.FaithfulPrograms.{programs_are_faithful}
 use Rattle.b67_first.specs.Compiler.{IsInRange, straight_code, placed, IsCodeOf}
 use Rattle.b67_first.proofs.CompilerTrees.{tree-at}
 use Rattle.b67_first.proofs.CompilerLayout.{straight-size}
-use Rattle.b67_first.proofs.CompilerSmall.{AreFit-front, length-syllables, small-from_code}
+use Rattle.b67_first.proofs.CompilerSmall.{AreFit-front, small-from_code}
 use Rattle.b67_first.proofs.CompilerListed.{listable}
 use Rattle.b67_first.proofs.CompilerRange.{steps-few}
 

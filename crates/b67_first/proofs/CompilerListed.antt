@@ -14,7 +14,7 @@ use Rattle.b67_segment.specs.Syllables.{syllables, Spells}
 use Rattle.b67_listing.specs.Operators as listed
 use Rattle.b67_listing.specs.Listings.{StandInOrder, marks_of, IsSegment, HasOperators, IsPhrase, IsListable}
 use Rattle.b67_first.specs.Compiler.{IsSmall, IsNumberFormat}
-use Rattle.b67_first.proofs.CompilerSmall.{length-syllables}
+use Rattle.b67_segment.proofs.Fetches.{length-syllables}
 
 -- the operators with their places, from this one on
 abbrev places : ℕ → List Placed → List listed.Placed

@@ -1,7 +1,6 @@
 -- The code of a straight line is one small segment at level 2, with formats of one number each.
 use Rattle.std.proofs.Common.{◌≡◌, ℕ, zero, suc, ◌+◌, ◌*◌, ◌≤◌, List, [], ◌∷◌, ◌++◌, length, replicate, Some, None, Result, Ok, Err, refl, sym, ap, ◌∙◌, subst, arith, length-append}
 use Rattle.std.specs.Prelude.{unwrap_or, All, IfOk}
-use Rattle.std.specs.Int.{bytes_high_first}
 use Rattle.std.proofs.lemmas.List.{length-replicate}
 use Rattle.std.proofs.lemmas.List.Elements.{All-nil, All-cons, All-append, recursion_from_All}
 use Rattle.std.specs.List.{AllByRecursion}
@@ -12,7 +11,7 @@ use Rattle.b67_ops.specs.declared.Operator.TheVariants as ops
 use Rattle.b67_ops.specs.declared.PlainKind.TheVariants as kinds
 use Rattle.b67_segment.specs.declared.code.Code.{Code}
 use Rattle.b67_segment.specs.Operators.{Placed, text, size, marks_after, marks_of, AreFit, last_level, missing, filled}
-use Rattle.b67_segment.specs.Syllables.{syllables}
+use Rattle.b67_segment.proofs.Fetches.{length-syllables}
 use Rattle.b67_segment.proofs.Filling.{filled-text}
 use Rattle.b67_relate.specs.Code.{ProgramAt}
 use Rattle.algol_first.specs.Straight.{Resolves}
@@ -26,11 +25,6 @@ use Rattle.b67_first.proofs.CompilerLayout.{straight-room, straight-some}
 pub AreFit-front : (ps qs : List Placed) → AreFit (ps ++ qs) → AreFit ps
 AreFit-front [] qs h = tt
 AreFit-front (p ∷ ps) qs h = (h.0, AreFit-front ps qs h.1)
-
--- six syllables are a word
-pub length-syllables : (words : List ℕ) → length (syllables words) ≡ 6 * length words
-length-syllables [] = refl
-length-syllables (word ∷ words) = omega (arith, length-append (bytes_high_first 6 word) (syllables words), length-syllables words)
 
 -- ---- operators of level 2 have one mark
 

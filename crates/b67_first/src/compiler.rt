@@ -266,27 +266,28 @@ mod tests {
     use b67_segment::Mark;
     use std::test::Fail;
 
-    fn sum(alloc: Global, first: Operand, operands: &[(Adding, Operand)]) -> Result<Sum, AllocError> {
-        let mut terms = Vec::new(alloc);
-        'operands: for operand in operands {
-            let (adding, operand) = *operand;
-            terms.push(Term { adding, operand })?;
-        }
-        let terms = List::of(terms);
-        Ok(Sum { first, terms })
-    }
-
     #[test]
     fn a_sum_is_stored_and_written(rt: HostRuntime) -> Result<(), Fail> {
         let alloc = rt.alloc();
+        let mut terms = Vec::new(alloc);
+        terms.push(Term {
+            adding: Adding::Add,
+            operand: Operand::Number(2),
+        })?;
         let mut steps = Vec::new(alloc);
         steps.push(Step::Assign {
             target: 0,
-            value: sum(alloc, Operand::Number(40), &[])?,
+            value: Sum {
+                first: Operand::Number(40),
+                terms: List::of(Vec::new(alloc)),
+            },
         })?;
         steps.push(Step::Assign {
             target: 1,
-            value: sum(alloc, Operand::Integer(0), &[(Adding::Add, Operand::Number(2))])?,
+            value: Sum {
+                first: Operand::Integer(0),
+                terms: List::of(terms),
+            },
         })?;
         steps.push(Step::Write { width: 5, item: 1 })?;
         let straight = Straight {

@@ -1,5 +1,5 @@
 -- Reading and changing the cells of a world of one block.
-use Rattle.std.proofs.Common.{◌≡◌, ℕ, zero, suc, ◌<◌, List, [], ◌∷◌, length, Some, None, Bool, true, false, refl, ap, ◌∙◌, arith, ℤ}
+use Rattle.std.proofs.Common.{◌≡◌, ℕ, zero, suc, ◌<◌, List, [], ◌∷◌, length, Some, Bool, true, false, refl, ap, ◌∙◌, arith, ℤ}
 use Rattle.std.specs.Prelude.{slice_get, slice_set, ◌==◌, ◌&&◌, if◌then◌else◌}
 use Rattle.std.proofs.lemmas.Option.{slice_get_within}
 use Rattle.std.proofs.lemmas.Bool.Decides.{nat_tests}
@@ -7,6 +7,7 @@ use Rattle.algol_tree.specs.Accepted.{IsDistinct}
 use Rattle.algol_meaning.specs.Rest.{Reference, Rest}
 use Rattle.algol_meaning.specs.World.{number, same_name, cell_in, cells_with, cell_at, set_cell}
 use Rattle.b67_relate.specs.Picture.{cells, world}
+use Rattle.b67_relate.proofs.Contradictions.{none_some}
 
 same_byte : (a : ℕ) → (a == a) ≡ true
 same_byte a = grind (arith, nat_tests)
@@ -85,10 +86,7 @@ module _ (names : List (List ℕ)) (d : IsDistinct names) (values : List ℤ) (o
 
 -- a value for each name
 pub has_value : {A B : Type 0} (xs : List A) (ys : List B) (k : ℕ) (x : A) → length ys ≡ length xs → slice_get xs k ≡ Some x → (y : B) × (slice_get ys k ≡ Some y)
-has_value [] ys k x e h = absurd (none_some h)
-  where
-    none_some : {A : Type 0} {x : A} → None ≡ Some x → ⊥
-    none_some h = cc
+has_value [] ys k x e h = none_some h
 has_value (a ∷ xs) [] k x e h = absurd (omega (arith, e))
 has_value (a ∷ xs) (b ∷ ys) zero x e h = (b, refl)
 has_value (a ∷ xs) (b ∷ ys) (suc k) x e h = let same : length ys ≡ length xs = omega (arith, e) in has_value xs ys k x same h

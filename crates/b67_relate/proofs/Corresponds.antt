@@ -1,5 +1,5 @@
 -- The operator at a place of the picture is the action of the source.
-use Rattle.std.proofs.Common.{◌≡◌, ℕ, List, Option, Some, None, refl, ap, ◌∙◌, ℤ, Result}
+use Rattle.std.proofs.Common.{◌≡◌, ℕ, List, Some, None, ap, ◌∙◌, ℤ, Result}
 use Rattle.b67_num.specs.declared.FaultKind.{FaultKind}
 use Rattle.b67_ops.specs.declared.Operator.{Operator}
 use Rattle.b67_ops.specs.declared.BadCode.{BadCode}

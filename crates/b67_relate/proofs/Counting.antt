@@ -1,14 +1,13 @@
 -- Private operators only go forward in their segment, so that an entry has at most as many operators as the segment has syllables.
-use Rattle.std.proofs.Common.{◌≡◌, ℕ, zero, suc, ◌+◌, ◌-◌, ◌*◌, ◌<◌, ◌≤◌, List, [], ◌∷◌, length, Option, Some, None, Result, Ok, Err, Bool, true, false, refl, sym, ap, ◌∙◌, subst, arith, ℤ}
-use Rattle.std.specs.Prelude.{sum, nat_lt, nat_le, slice_get, IfOk, ◌&&◌, if◌then◌else◌, max}
+use Rattle.std.proofs.Common.{◌≡◌, ℕ, ◌+◌, ◌-◌, ◌*◌, ◌<◌, ◌≤◌, List, ◌∷◌, length, Option, Some, None, Result, Ok, Err, Bool, true, false, refl, sym, ap, ◌∙◌, subst, arith, ℤ}
+use Rattle.std.specs.Prelude.{nat_lt, nat_le, slice_get, if◌then◌else◌}
 use Rattle.b67_num.specs.declared.NumFault.{NumFault}
 use Rattle.b67_num.specs.declared.FaultKind.{FaultKind}
 use Rattle.b67_num.specs.Whole.{sum_of, difference_of}
-use Rattle.b67_word.specs.Word.{Word, operand, as_whole}
+use Rattle.b67_word.specs.Word.{Word, operand}
 use Rattle.b67_control.specs.declared.Registers.{Registers}
 use Rattle.b67_ops.specs.declared.Operator.{Operator}
 use Rattle.b67_ops.specs.declared.Operator.TheVariants as ops
-use Rattle.b67_ops.specs.declared.PlainKind.{PlainKind}
 use Rattle.b67_ops.specs.declared.PlainKind.TheVariants as kinds
 use Rattle.b67_ops.specs.declared.BadCode.{BadCode}
 use Rattle.b67_ops.proofs.Laws.{decoded-within}
@@ -20,12 +19,13 @@ use Rattle.b67_segment.proofs.Fetches.{syllables-bytes, length-syllables}
 use Rattle.b67_table.specs.declared.InterruptKind.TheVariants.{InvalidOperand, StackUnderflow, BadCode as bad_code}
 use Rattle.b67_control.specs.Control.{mscw_word}
 use Rattle.b67_table.specs.Effect.{Effect, gives, faults, interrupts, limit, ◌>>=◌}
-use Rattle.b67_table.specs.Private.{Private, private_row, private_op, floor, pop, top, push, whole_of, whole_or, result_or_fault, arithmetic, mark, make_cells, frame}
+use Rattle.b67_table.specs.Private.{Private, private_row, private_op, floor, pop, top, push, whole_of, result_or_fault, arithmetic, mark, make_cells, frame}
 use Rattle.b67_table.specs.Image.{Image, private_of, with_private}
 use Rattle.b67_table.specs.Table.{table, plain, private_next, by_registers, by_operator, by_class, is_gives, is_live, private_at, operator_at, is_private}
 use Rattle.b67_table.specs.Runs.{Plains, stay, go, Acts, acts, fails, Entry}
 use Rattle.algol_tree.specs.Numbered.{numbered, set_numbered}
 use Rattle.b67_relate.specs.Pictures.{Located}
+use Rattle.b67_relate.proofs.Contradictions.{first_true}
 
 gives_of : {A : Type 0} {a b : A} → gives a ≡ gives b → a ≡ b
 gives_of e = cc
@@ -196,10 +196,6 @@ module _ (code : Code) (a : Image) (l : Located a) where
       by_found : (x : Result (Operator × ℕ) BadCode) → operator_at code l.registers ≡ x → private_at l.registers x ≡ true → by_operator code a 1 l.registers x ≡ gives b → Goes b
       by_found (Ok found) is e f = by_class_true found.0 found.1 (is_private found.0 l.registers.place) e is f
       by_found (Err bad) is e f = cc
-
-first_true : (x y : Bool) → (x && y) ≡ true → x ≡ true
-first_true true y e = refl
-first_true false y e = cc
 
 plain_private : (code : Code) (a : Image) → plain code a 1 ≡ true → private_next code (numbered a.regs 1) ≡ true
 unfolding plain

@@ -1,5 +1,5 @@
 -- The code of an accepted tree is faithful to it.
-use Rattle.std.proofs.Common.{◌≡◌, ℕ, zero, suc, ◌+◌, ◌*◌, ◌≤◌, List, [], ◌∷◌, length, Option, Some, None, Bool, true, false, refl, sym, ap, ◌∙◌, subst, arith}
+use Rattle.std.proofs.Common.{◌≡◌, ℕ, suc, ◌+◌, ◌*◌, ◌≤◌, List, [], ◌∷◌, length, Bool, true, false, refl, sym, ap, ◌∙◌, subst, arith}
 use Rattle.std.specs.Prelude.{reverse, sum, slice_get, if◌then◌else◌}
 use Rattle.std.proofs.lemmas.List.{reverse-reverse, length-reverse}
 use Rattle.std.proofs.lemmas.List.Sums.{sum_by-cons}
@@ -7,10 +7,9 @@ use Rattle.std.proofs.Math.Nat.{mul-le-mul_left, le-max_left}
 use Rattle.algol_tree.specs.Numbered.{numbered}
 use Rattle.algol_tree.specs.Plain.{PProgram}
 use Rattle.algol_tree.specs.Accepted.{Accepted}
-use Rattle.b67_control.specs.declared.Registers.{Registers}
 use Rattle.b67_segment.specs.declared.code.Code.{Code}
 use Rattle.b67_segment.specs.declared.code.Segment.{Segment}
-use Rattle.algol_meaning.specs.Run.{run, Legal}
+use Rattle.algol_meaning.specs.Run.{Legal}
 use Rattle.b67_table.specs.declared.ProcessState.{ProcessState}
 use Rattle.b67_table.specs.declared.InterruptKind.TheVariants.{BadCode as bad_code}
 use Rattle.b67_table.specs.Effect.{Effect, gives, interrupts}
@@ -19,7 +18,7 @@ use Rattle.b67_table.specs.Table.{table, by_registers, is_live}
 use Rattle.b67_table.specs.Runs.{Plains, stay, go, Tails, none, next, Runs, begin, entry, Entry, TableRun}
 use Rattle.b67_relate.specs.Code.{ProgramAt}
 use Rattle.b67_relate.specs.Agreement.{Agrees}
-use Rattle.b67_relate.specs.Faithful.{Faithful, longest, ProgramsAreFaithful}
+use Rattle.b67_relate.specs.Faithful.{longest, ProgramsAreFaithful}
 use Rattle.b67_relate.proofs.OneWay.{plains_public}
 use Rattle.b67_relate.proofs.Counting.{room, size_of, plains_few, entry_few}
 use Rattle.b67_relate.proofs.Histories.{histories_agree, actions_agree, runs_alone, runs_located, Further, nowhere, from_here, runs_further}

@@ -21,9 +21,7 @@ use Rattle.b67_relate.specs.Weight.{weight}
 use Rattle.b67_relate.specs.Picture.{At, cells, world, ended_world, image, ended_image, Sized, IsWithin}
 use Rattle.b67_relate.specs.Agreement.{Fits}
 use Rattle.b67_relate.proofs.Within.{image_within, failed_within}
-
-false_true : {B : Type 0} {x : Bool} → x ≡ false → x ≡ true → B
-false_true e f = cc
+use Rattle.b67_relate.proofs.Contradictions.{true_false}
 
 -- a process that is not live has no operator, and does not come to the limit
 dead_no_limit : {B : Type 0} (code : Code) (img : Image) (p : ℕ) → is_live (numbered img.states p) ≡ false → table code img p ≡ limit → B
@@ -57,9 +55,9 @@ pub live_fits : (tree : PProgram) (code : Code) (names : List (List ℕ)) (value
 live_fits tree code names values output rest most few same img one within no_limit = record { light = light; heavy = heavy }
   where
     light : (p : ℕ) (r : Registers) → is_live (numbered img.states p) ≡ true → numbered img.regs p ≡ Some r → length (stack_of img r.stack) + 3 ≤ weight tree (world names values output rest) p
-    light zero r live e = false_true (none_zero img Able one) live
+    light zero r live e = true_false live (none_zero img Able one)
     light (suc zero) r live e = enough tree names values output rest most (length (stack_of img r.stack)) few same (within r e)
-    light (suc (suc p)) r live e = false_true (none_more img Able one p) live
+    light (suc (suc p)) r live e = true_false live (none_more img Able one p)
 
     heavy : (p : ℕ) → table code img p ≡ limit → 65536 < weight tree (world names values output rest) p
     heavy zero t = dead_no_limit code img zero (none_zero img Able one) t
@@ -87,7 +85,7 @@ faulted_fits tree code names values output rest most few same at fault sized sta
 
 -- after the end no process is live
 pub ended_fits : (tree : PProgram) (code : Code) (names : List (List ℕ)) (values : List ℤ) (output : List (List ℕ)) (cells : ℕ) (at : At) → Fits tree code (ended_world names values output) (ended_image cells output at)
-ended_fits tree code names values output cells at = record { light = λ p r live e. false_true (dead p) live; heavy = λ p t. dead_no_limit code (ended_image cells output at) p (dead p) t }
+ended_fits tree code names values output cells at = record { light = λ p r live e. true_false live (dead p); heavy = λ p t. dead_no_limit code (ended_image cells output at) p (dead p) t }
   where
     dead : (p : ℕ) → is_live (numbered (Ended ∷ []) p) ≡ false
     dead zero = refl

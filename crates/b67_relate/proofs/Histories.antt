@@ -6,7 +6,6 @@ use Rattle.algol_tree.specs.Plain.{PProgram}
 use Rattle.algol_tree.specs.Counts.{program_tokens}
 use Rattle.algol_tree.specs.Accepted.{IsDistinct, names_of, Accepted, accepted}
 use Rattle.b67_num.specs.declared.NumFault.{NumFault}
-use Rattle.b67_num.specs.declared.FaultKind.{FaultKind}
 use Rattle.b67_num.specs.Whole.{fault_of}
 use Rattle.b67_segment.specs.declared.code.Code.{Code}
 use Rattle.algol_meaning.specs.Rest.{Rest}
@@ -18,7 +17,7 @@ use Rattle.b67_table.specs.declared.InterruptKind.{InterruptKind}
 use Rattle.b67_table.specs.declared.InterruptKind.TheVariants.{BadCode as bad_code}
 use Rattle.b67_table.specs.declared.ProcessState.{ProcessState}
 use Rattle.b67_table.specs.declared.ProcessState.TheVariants.{Able, Ended}
-use Rattle.b67_table.specs.Effect.{Effect, gives, faults, interrupts, limit}
+use Rattle.b67_table.specs.Effect.{interrupts, limit}
 use Rattle.b67_table.specs.Image.{Image, Failure, is_able}
 use Rattle.b67_table.specs.Table.{table, plain, failed, may_act, image_end, ImageEnd, goes_on, end_by, first_image}
 use Rattle.b67_table.specs.Table as machine
@@ -38,6 +37,7 @@ use Rattle.b67_relate.proofs.Prologue.{start-world, first_pictured}
 use Rattle.b67_relate.proofs.Within.{plains_of, way_within}
 use Rattle.b67_relate.proofs.Fitting.{live_fits, faulted_fits, ended_fits}
 use Rattle.b67_relate.proofs.OneWay.{one_way, same_quiet, way, OnTheWay, there, further, plains_public}
+use Rattle.b67_relate.proofs.Contradictions.{true_false, none_some, gives_faults, gives_interrupts, gives_limit, faults_interrupts, faults_limit}
 
 -- ---- runs of the source
 
@@ -72,9 +72,6 @@ only_one o states (suc (suc k)) e may = not_true o (sym (ap (λ (s : List Proces
 pub the_process : (a : Image) (p : ℕ) → a.states ≡ Able ∷ [] → may_act a p ≡ true → p ≡ 1
 unfolding may_act
 the_process a p e may = only_one (image_end a) a.states p e may
-
-false_true : {B : Type 0} → false ≡ true → B
-false_true e = cc
 
 -- ---- one entry
 
@@ -124,8 +121,8 @@ module _ (most : ℕ) (tree : PProgram) (code : Code) (names : List (List ℕ)) 
       let x : Acts code 1 e.quiet b = subst (λ q. Acts code q e.quiet b) one e.action in
       subst (λ q. Entered (world names values output rest) q e.quiet b) (sym one)
       (follow values output rest to same sized (step_at most word_laws tree code names distinct values same output rest to sized stands) e.quiet n m img b l x (plains_of plains))
-  entry_pictured w a p n b (ended values output cells at) e = false_true e.may
-  entry_pictured w a p n b (faulted values output rest at fault same sized stays) e = false_true e.may
+  entry_pictured w a p n b (ended values output cells at) e = true_false e.may refl
+  entry_pictured w a p n b (faulted values output rest at fault same sized stays) e = true_false e.may refl
 
 -- ---- whole histories
 
@@ -170,27 +167,21 @@ no_end : (names : List (List ℕ)) (values : List ℤ) (output : List (List ℕ)
 unfolding end_of
 no_end names values output rest = refl
 
-not_both : {A B : Type 0} (a : A) (kind : InterruptKind) (e : Effect A) → e ≡ gives a → e ≡ interrupts kind → B
-not_both a kind e x y = cc
-
-not_limit : {A B : Type 0} (a : A) (e : Effect A) → e ≡ gives a → e ≡ limit → B
-not_limit a e x y = cc
-
 acts_no_interrupt : {B : Type 0} (code : Code) (a b : Image) → Acts code 1 a b → (kind : InterruptKind) → table code a 1 ≡ interrupts kind → B
-acts_no_interrupt code a b (acts x t) kind e = not_both b kind (table code a 1) t e
-acts_no_interrupt code a b (fails k t) kind e = cc
+acts_no_interrupt code a b (acts x t) kind e = gives_interrupts t e
+acts_no_interrupt code a b (fails k t) kind e = faults_interrupts t e
 
 acts_no_limit : {B : Type 0} (code : Code) (a b : Image) → Acts code 1 a b → table code a 1 ≡ limit → B
-acts_no_limit code a b (acts x t) e = not_limit b (table code a 1) t e
-acts_no_limit code a b (fails k t) e = cc
+acts_no_limit code a b (acts x t) e = gives_limit t e
+acts_no_limit code a b (fails k t) e = faults_limit t e
 
 way_no_interrupt : {B : Type 0} (code : Code) (r q b : Image) → OnTheWay code 1 r q → Acts code 1 r b → (kind : InterruptKind) → table code q 1 ≡ interrupts kind → B
 way_no_interrupt code r q b there act kind e = acts_no_interrupt code r b act kind e
-way_no_interrupt code r q b (further {b = c} x t) act kind e = not_both c kind (table code q 1) t e
+way_no_interrupt code r q b (further {b = c} x t) act kind e = gives_interrupts t e
 
 way_no_limit : {B : Type 0} (code : Code) (r q b : Image) → OnTheWay code 1 r q → Acts code 1 r b → table code q 1 ≡ limit → B
 way_no_limit code r q b there act e = acts_no_limit code r b act e
-way_no_limit code r q b (further {b = c} x t) act e = not_limit c (table code q 1) t e
+way_no_limit code r q b (further {b = c} x t) act e = gives_limit t e
 
 -- the same processes are able
 live_able : (names : List (List ℕ)) (values : List ℤ) (output : List (List ℕ)) (rest : Rest) (p : ℕ) → meaning_able (process_at (world names values output rest) p) ≡ is_able (numbered (Able ∷ []) p)
@@ -205,24 +196,15 @@ ended_able names values output (suc (suc p)) = refl
 
 ended_shows : (code : Code) (names : List (List ℕ)) (values : List ℤ) (output : List (List ℕ)) (cells : ℕ) (at : At) → Shows code (ended_world names values output) (ended_image cells output at)
 unfolding image_end end_of
-ended_shows code names values output cells at = record { output = refl; ends = refl; able = ended_able names values output; no_interrupt = λ kind e t. none_some e; no_limit = λ e t. none_some e }
-  where
-    none_some : {A B : Type 0} {x : A} → Some x ≡ None → B
-    none_some h = cc
+ended_shows code names values output cells at = record { output = refl; ends = refl; able = ended_able names values output; no_interrupt = λ kind e t. none_some (sym e); no_limit = λ e t. none_some (sym e) }
 
 faulted_shows : (code : Code) (names : List (List ℕ)) (values : List ℤ) (output : List (List ℕ)) (rest : Rest) (at : At) (fault : NumFault) → Shows code (with_fault (world names values output rest) 1 fault) (failed (image values output at) 1 (fault_of fault))
 unfolding image_end end_of failed
-faulted_shows code names values output rest at fault = record { output = refl; ends = refl; able = live_able names values output rest; no_interrupt = λ kind e t. none_some e; no_limit = λ e t. none_some e }
-  where
-    none_some : {A B : Type 0} {x : A} → Some x ≡ None → B
-    none_some h = cc
+faulted_shows code names values output rest at fault = record { output = refl; ends = refl; able = live_able names values output rest; no_interrupt = λ kind e t. none_some (sym e); no_limit = λ e t. none_some (sym e) }
 
 ended_table : (code : Code) (cells : ℕ) (output : List (List ℕ)) (at : At) → table code (ended_image cells output at) 1 ≡ interrupts bad_code
 unfolding table
 ended_table code cells output at = refl
-
-gives_and_faults : {B : Type 0} {b : Image} {x : Effect Image} {kind : FaultKind} → x ≡ gives b → x ≡ faults kind → B
-gives_and_faults u v = cc
 
 module _ (most : ℕ) (tree : PProgram) (code : Code) (names : List (List ℕ)) (distinct : IsDistinct names) where
   pub act_of : {values : List ℤ} {output : List (List ℕ)} {rest : Rest} {to : At} → Follows most tree code names values output rest to → (b : Image) × Acts code 1 (image values output to) b
@@ -249,9 +231,9 @@ module _ (most : ℕ) (tree : PProgram) (code : Code) (names : List (List ℕ)) 
   pictured_shows w a (live values output rest img m to same alive plains sized stands) n q l =
       live_shows values output rest img m to alive (plains_of plains) (step_at most word_laws tree code names distinct values same output rest to sized stands) n q l
   pictured_shows w a (ended values output cells at) n q stay = ended_shows code names values output cells at
-  pictured_shows w a (ended values output cells at) n q (go {b = b} e t l) = not_both b bad_code (table code (ended_image cells output at) 1) t (ended_table code cells output at)
+  pictured_shows w a (ended values output cells at) n q (go {b = b} e t l) = gives_interrupts t (ended_table code cells output at)
   pictured_shows w a (faulted values output rest at fault same sized stays) n q stay = faulted_shows code names values output rest at fault
-  pictured_shows w a (faulted values output rest at fault same sized stays) n q (go {b = b} e t l) = gives_and_faults t stays
+  pictured_shows w a (faulted values output rest at fault same sized stays) n q (go {b = b} e t l) = gives_faults t stays
 
   pub pictured_fits : most ≤ program_tokens tree → (w : World) (a : Image) → Pictures most code names w a → (n : ℕ) (img : Image) → Plains code 1 a n img → Fits tree code w img
   pictured_fits few w a (live values output rest img m to same alive plains sized stands) n q l =
@@ -260,9 +242,9 @@ module _ (most : ℕ) (tree : PProgram) (code : Code) (names : List (List ℕ)) 
       live_fits tree code names values output rest most few same q ((plains_public l).states ∙ alive.states) (way_within l plains acting.1)
       (λ t. way_no_limit code (image values output to) q acting.0 on_way acting.1 t)
   pictured_fits few w a (ended values output cells at) n q stay = ended_fits tree code names values output cells at
-  pictured_fits few w a (ended values output cells at) n q (go {b = b} e t l) = not_both b bad_code (table code (ended_image cells output at) 1) t (ended_table code cells output at)
+  pictured_fits few w a (ended values output cells at) n q (go {b = b} e t l) = gives_interrupts t (ended_table code cells output at)
   pictured_fits few w a (faulted values output rest at fault same sized stays) n q stay = faulted_fits tree code names values output rest most few same at fault sized stays
-  pictured_fits few w a (faulted values output rest at fault same sized stays) n q (go {b = b} e t l) = gives_and_faults t stays
+  pictured_fits few w a (faulted values output rest at fault same sized stays) n q (go {b = b} e t l) = gives_faults t stays
 
 -- each history of the code of an accepted tree agrees with the tree, also after some plain operators more
 pub histories_agree : (tree : PProgram) (code : Code) → Accepted tree → ProgramAt code tree → (h counts : List ℕ) (before img : Image) (tail : ℕ) → Runs code h counts before → Plains code 1 before tail img → Agrees tree code (reverse h) img
@@ -294,8 +276,8 @@ runs_alone tree code (accepted spot file ns ss distinct few known small) (progra
 acting_located : (most : ℕ) (code : Code) (names : List (List ℕ)) (w : World) (a : Image) (p : ℕ) → Pictures most code names w a → may_act a p ≡ true → (p ≡ 1) × Located a
 unfolding may_act image_end failed
 acting_located most code names w a p (live values output rest img m to same alive plains sized stands) e = (the_process img p alive.states e, alive.located)
-acting_located most code names w a p (ended values output cells at) e = false_true e
-acting_located most code names w a p (faulted values output rest at fault same sized stays) e = false_true e
+acting_located most code names w a p (ended values output cells at) e = true_false e refl
+acting_located most code names w a p (faulted values output rest at fault same sized stays) e = true_false e refl
 
 pub runs_located : (tree : PProgram) (code : Code) → Accepted tree → ProgramAt code tree → {h counts : List ℕ} {img : Image} {p : ℕ} → Runs code h counts img → may_act img p ≡ true → (p ≡ 1) × Located img
 runs_located tree code (accepted spot file ns ss distinct few known small) (program_at spot' file' ns' ss' few' body) {img = img} {p = p} runs e =
@@ -311,9 +293,9 @@ pub data Further (a : Image) (n : ℕ) : Type 0 where
 pictured_further : (most : ℕ) (code : Code) (names : List (List ℕ)) (w : World) (a : Image) → Pictures most code names w a → (n : ℕ) (b : Image) → Plains code 1 a n b → Further a n
 pictured_further most code names w a (live values output rest img m to same alive plains sized stands) n b l = from_here alive.located
 pictured_further most code names w a (ended values output cells at) n b stay = nowhere refl
-pictured_further most code names w a (ended values output cells at) n b (go {b = c} e t l) = not_both c bad_code (table code (ended_image cells output at) 1) t (ended_table code cells output at)
+pictured_further most code names w a (ended values output cells at) n b (go {b = c} e t l) = gives_interrupts t (ended_table code cells output at)
 pictured_further most code names w a (faulted values output rest at fault same sized stays) n b stay = nowhere refl
-pictured_further most code names w a (faulted values output rest at fault same sized stays) n b (go {b = c} e t l) = gives_and_faults t stays
+pictured_further most code names w a (faulted values output rest at fault same sized stays) n b (go {b = c} e t l) = gives_faults t stays
 
 pub runs_further : (tree : PProgram) (code : Code) → Accepted tree → ProgramAt code tree → {h counts : List ℕ} {img : Image} → Runs code h counts img → (n : ℕ) (b : Image) → Plains code 1 img n b → Further img n
 runs_further tree code (accepted spot file ns ss distinct few known small) (program_at spot' file' ns' ss' few' body) {img = img} runs n b l =

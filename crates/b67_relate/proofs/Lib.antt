@@ -1,3 +1,4 @@
+pub mod Contradictions
 pub mod StackWords
 pub mod WordKinds
 pub mod Within

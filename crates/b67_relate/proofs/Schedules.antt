@@ -25,6 +25,7 @@ use Rattle.b67_relate.proofs.Steps.{step_at}
 use Rattle.b67_relate.proofs.Cells.{IsDistinct-tail}
 use Rattle.b67_relate.proofs.Prologue.{start-world, first_pictured}
 use Rattle.b67_relate.proofs.Histories.{alive_none, act_of, run_from-none, run_from-append, related}
+use Rattle.b67_relate.proofs.Contradictions.{some_same, none_some}
 
 -- ---- the last entry of a legal schedule
 
@@ -32,12 +33,6 @@ pub record Before (tree : PProgram) (h : List ℕ) (p : ℕ) (w : World) : Type 
   pub world : World
   pub is : run tree (reverse h) ≡ Some world
   pub enters : entered tree world p ≡ Some w
-
-some_same : {A : Type 0} {x y : A} → Some x ≡ Some y → x ≡ y
-some_same e = cc
-
-none_some : {A B : Type 0} {x : A} → None ≡ Some x → B
-none_some e = cc
 
 run_from-over : (tree : PProgram) (h : List ℕ) (p : ℕ) (o : Option World) → run_from tree h o ≡ None → run_from tree (h ++ p ∷ []) o ≡ None
 run_from-over tree h p None e = run_from-none tree (h ++ p ∷ [])

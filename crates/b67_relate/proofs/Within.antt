@@ -1,17 +1,15 @@
 -- Plain operators with the stack within a bound.
-use Rattle.std.proofs.Common.{◌≡◌, ℕ, ◌+◌, ◌≤◌, List, length, Some, Bool, true, false, subst, arith, ℤ}
+use Rattle.std.proofs.Common.{◌≡◌, ℕ, ◌+◌, ◌≤◌, List, length, true, subst, arith, ℤ}
 use Rattle.b67_control.specs.declared.Registers.{Registers}
 use Rattle.b67_segment.specs.declared.code.Code.{Code}
 use Rattle.b67_num.specs.declared.FaultKind.{FaultKind}
-use Rattle.b67_table.specs.Effect.{Effect, gives, faults}
+use Rattle.b67_table.specs.Effect.{gives}
 use Rattle.b67_table.specs.Image.{Image, stack_of}
 use Rattle.b67_table.specs.Table.{table, plain, failed}
 use Rattle.b67_table.specs.Runs.{Plains, stay, go, Acts, acts, fails}
 use Rattle.b67_relate.specs.Picture.{At, image, Sized, IsWithin, Within, stop, pass}
 use Rattle.b67_relate.proofs.StackWords.{length-stack}
-
-some_same : {A : Type 0} {x y : A} → Some x ≡ Some y → x ≡ y
-some_same e = cc
+use Rattle.b67_relate.proofs.Contradictions.{true_false, some_same, gives_same, gives_faults}
 
 -- an image of the picture has the base frame, the cells and at most so many operands
 pub image_within : (most : ℕ) (values : List ℤ) (output : List (List ℕ)) (at : At) → Sized most values at → IsWithin (2 + length values + most) (image values output at)
@@ -44,15 +42,6 @@ pub within_by : {code : Code} {bound limit : ℕ} {a : Image} {n : ℕ} {b c : I
 within_by {code} {a = a} {n = n} {b = b} same l e t later =
     let first = subst (λ (most : ℕ). Within code most a n b) same l in
     within_on first (pass (last_within first) e t later)
-
-true_false : {B : Type 0} {x : Bool} → x ≡ true → x ≡ false → B
-true_false x y = cc
-
-gives_same : {A : Type 0} {a b : A} {e : Effect A} → e ≡ gives a → e ≡ gives b → a ≡ b
-gives_same x y = cc
-
-gives_faults : {A : Type 0} {B : Type 0} {a : A} {kind : FaultKind} {e : Effect A} → e ≡ gives a → e ≡ faults kind → B
-gives_faults x y = cc
 
 -- what plain operators reach before an action lies on the way to it
 pub way_within : {code : Code} {bound : ℕ} {a : Image} {n : ℕ} {q : Image} {m : ℕ} {r c : Image} → Plains code 1 a n q → Within code bound a m r → Acts code 1 r c → IsWithin bound q

@@ -1,7 +1,6 @@
 -- What a run of a code has to do with the source: its schedule is legal, and output and end are the source's own.
-use Rattle.std.specs.Prelude.{◌≡◌, ℕ, ◌+◌, ◌<◌, ◌≤◌, true, List, length, Option, Some, None, reverse}
+use Rattle.std.specs.Prelude.{◌≡◌, ℕ, ◌+◌, ◌<◌, ◌≤◌, true, List, length, Option, Some, None}
 use Rattle.algol_tree.specs.Plain.{PProgram}
-use Rattle.algol_tree.specs.Accepted.{Accepted}
 use Rattle.b67_segment.specs.declared.code.Code.{Code}
 use Rattle.algol_meaning.specs.World.{World, process_at}
 use Rattle.algol_meaning.specs.World.{is_able as meaning_able}
@@ -15,8 +14,6 @@ use Rattle.b67_table.specs.Image.{Image, stack_of}
 use Rattle.b67_table.specs.Image.{is_able as image_able}
 use Rattle.b67_table.specs.Table.{table, is_live, image_end, ImageEnd}
 use Rattle.b67_table.specs.Table as machine
-use Rattle.b67_table.specs.Runs.{Plains, Runs}
-use Rattle.b67_relate.specs.Code.{ProgramAt}
 use Rattle.b67_relate.specs.Weight.{weight}
 
 -- the end of an image as an end of a world

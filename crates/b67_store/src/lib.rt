@@ -114,8 +114,9 @@ pub trait Core: Drop {
         ensures rows { rows self.new ≡ rows self.old };
 
     /// Opens a row of operands 0, of 1 to 1,048,576 words, and gives its number: the least that is free, below
-    /// 4,194,304, so that it fits a descriptor. The words of a counted row count. CoreFull comes exactly where the counted words and a counted request exceed
-    /// 1,048,576. Where no number is free, or no memory, it is NoMemory.
+    /// 4,194,304, so that it fits a descriptor. The words of a counted row count. CoreFull comes exactly where
+    /// the counted words and a counted request exceed 1,048,576. Where no number is free, or no memory, it is
+    /// NoMemory.
     fn open_row(&mut self, length: u32, counted: bool) -> Result<u32, RowFault>
         requires some { 1 ≤ length }
         requires most { length ≤ count_limit }

@@ -1,4 +1,4 @@
-use Rattle.std.proofs.Common.{◌≡◌, ◌<◌, length, sym, subst, arith}
+use Rattle.std.proofs.Common.{length, sym, subst, arith}
 use Rattle.b67_first.specs.Compiler.{step_code, HasRoom}
 use Rattle.b67_first.proofs.CompilerLayout.{step-room, steps-operands}
 use Rattle.b67_first.proofs.compiler.append_steps.Goals as goal
