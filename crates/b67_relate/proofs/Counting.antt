@@ -2,7 +2,6 @@
 use Rattle.std.proofs.Common.{◌≡◌, ℕ, ◌+◌, ◌-◌, ◌*◌, ◌<◌, ◌≤◌, List, ◌∷◌, length, Option, Some, None, Result, Ok, Err, Bool, true, false, refl, sym, ap, ◌∙◌, subst, arith, ℤ}
 use Rattle.std.specs.Prelude.{nat_lt, nat_le, slice_get, if◌then◌else◌}
 use Rattle.b67_num.specs.declared.NumFault.{NumFault}
-use Rattle.b67_num.specs.declared.FaultKind.{FaultKind}
 use Rattle.b67_num.specs.Whole.{sum_of, difference_of}
 use Rattle.b67_word.specs.Word.{Word, operand}
 use Rattle.b67_control.specs.declared.Registers.{Registers}
@@ -25,7 +24,7 @@ use Rattle.b67_table.specs.Table.{table, plain, private_next, by_registers, by_o
 use Rattle.b67_table.specs.Runs.{Plains, stay, go, Acts, acts, fails, Entry}
 use Rattle.algol_tree.specs.Numbered.{numbered, set_numbered}
 use Rattle.b67_relate.specs.Pictures.{Located}
-use Rattle.b67_relate.proofs.Contradictions.{first_true}
+use Rattle.b67_relate.proofs.Contradictions.{first_true, gives_interrupts, faults_interrupts}
 
 gives_of : {A : Type 0} {a b : A} → gives a ≡ gives b → a ≡ b
 gives_of e = cc
@@ -140,12 +139,6 @@ operator_within code r op next level segment e =
 
 -- ---- how far operators go
 
-no_gives : {B : Type 0} {b : Image} {e : Effect Image} → interrupts bad_code ≡ e → e ≡ gives b → B
-no_gives x y = cc
-
-no_faults : {B : Type 0} {kind : FaultKind} {e : Effect Image} → interrupts bad_code ≡ e → e ≡ faults kind → B
-no_faults x y = cc
-
 module _ (code : Code) (a : Image) (l : Located a) where
   at_registers : (e : Effect Image) → table code a 1 ≡ e → (interrupts bad_code ≡ e → ⊥) → by_operator code a 1 l.registers (operator_at code l.registers) ≡ e
   unfolding table
@@ -172,7 +165,7 @@ module _ (code : Code) (a : Image) (l : Located a) where
   private_there h = ap (λ (rs : List Registers). private_next code (numbered rs 1)) (sym l.alone) ∙ h
 
   pub goes_by : (b : Image) → private_next code (numbered a.regs 1) ≡ true → table code a 1 ≡ gives b → Goes b
-  goes_by b h t = by_found (operator_at code l.registers) refl (private_there h) (at_registers (gives b) t (λ e. no_gives e refl))
+  goes_by b h t = by_found (operator_at code l.registers) refl (private_there h) (at_registers (gives b) t (λ e. gives_interrupts refl (sym e)))
     where
       by_class_true : (op : Operator) (next : ℕ) (c : Bool) → c ≡ true → operator_at code l.registers ≡ Ok (op, next) → by_class c code a 1 l.registers op next ≡ gives b → Goes b
       by_class_true op next true e is f =
@@ -221,8 +214,8 @@ plains_few code plains l =
     omega (arith, went.further, went.within (l.registers.place + room code) (omega arith) (omega arith))
 
 act_there : (code : Code) (q b : Image) (l : Located q) → Acts code 1 q b → l.registers.place < room code
-act_there code q b l (acts x t) = operator_there code q l (gives b) t (λ e. no_gives e refl)
-act_there code q b l (fails kind t) = operator_there code q l (faults kind) t (λ e. no_faults e refl)
+act_there code q b l (acts x t) = operator_there code q l (gives b) t (λ e. gives_interrupts refl (sym e))
+act_there code q b l (fails kind t) = operator_there code q l (faults kind) t (λ e. faults_interrupts refl (sym e))
 
 -- an entry has at most as many operators as the segment has syllables
 pub entry_few : (code : Code) {a b : Image} {n : ℕ} → Entry code 1 a n b → Located a → n + 1 ≤ room code

@@ -21,7 +21,7 @@ use Rattle.b67_relate.specs.Weight.{weight}
 use Rattle.b67_relate.specs.Picture.{At, cells, world, ended_world, image, ended_image, Sized, IsWithin}
 use Rattle.b67_relate.specs.Agreement.{Fits}
 use Rattle.b67_relate.proofs.Within.{image_within, failed_within}
-use Rattle.b67_relate.proofs.Contradictions.{true_false}
+use Rattle.b67_relate.proofs.Contradictions.{true_false, faults_limit}
 
 -- a process that is not live has no operator, and does not come to the limit
 dead_no_limit : {B : Type 0} (code : Code) (img : Image) (p : ℕ) → is_live (numbered img.states p) ≡ false → table code img p ≡ limit → B
@@ -77,11 +77,8 @@ faulted_fits tree code names values output rest most few same at fault sized sta
     let fits : Fits tree code (world names values output rest) img =
     live_fits tree code names values output rest most few same img (failed_able values output at (fault_of fault))
     (failed_within (2 + length values + most) (image values output at) 1 (fault_of fault) (image_within most values output at sized))
-    (λ t. faults_limit t stays) in
+    (λ t. faults_limit stays t) in
     record { light = fits.light; heavy = fits.heavy }
-  where
-    faults_limit : {B : Type 0} {kind : FaultKind} {e : Effect Image} → e ≡ limit → e ≡ faults kind → B
-    faults_limit x y = cc
 
 -- after the end no process is live
 pub ended_fits : (tree : PProgram) (code : Code) (names : List (List ℕ)) (values : List ℤ) (output : List (List ℕ)) (cells : ℕ) (at : At) → Fits tree code (ended_world names values output) (ended_image cells output at)
