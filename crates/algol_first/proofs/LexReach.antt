@@ -1,6 +1,7 @@
 -- How far a text is read: the tokens so far, and what is left.
 use Rattle.std.proofs.Common.{◌≡◌, ℕ, ◌+◌, ◌<◌, ◌≤◌, true, false, List, [], ◌∷◌, ◌++◌, length, drop, get_or, refl, sym, ◌∙◌, ap, subst, arith, length-append, length-drop}
 use Rattle.std.proofs.lemmas.List.{append_assoc, append-nil, drop_more, drop_all, drop_at, drop-drop}
+use Rattle.algol_tree.specs.declared.TheConstants.{LAST_COLUMN}
 use Rattle.algol_tree.specs.declared.token.Spot.{Spot}
 use Rattle.algol_tree.specs.declared.token.Token.{Token}
 use Rattle.algol_tree.specs.declared.token.TokenKind.{TokenKind}
@@ -41,7 +42,7 @@ pub line_reached : (text : List ℕ) (at : ℕ) (spot : Spot) (done : List Token
 line_reached text at spot done lt h r = reaches_on (subst (λ (b : ℕ). Reaches text at spot (b ∷ drop (at + 1) text) done) h (at_byte lt r)) (line_step at spot (drop (at + 1) text))
 
 -- over a blank
-pub blank_reached : (text : List ℕ) (at : ℕ) (spot : Spot) (done : List Token) → at < length text → is_blank (get_or text at 0) ≡ true → spot.column ≤ 72 → Reaches text at spot (drop at text) done → Reaches text (at + 1) (right_by spot 1) (drop (at + 1) text) done
+pub blank_reached : (text : List ℕ) (at : ℕ) (spot : Spot) (done : List Token) → at < length text → is_blank (get_or text at 0) ≡ true → spot.column ≤ LAST_COLUMN → Reaches text at spot (drop at text) done → Reaches text (at + 1) (right_by spot 1) (drop (at + 1) text) done
 blank_reached text at spot done lt h c r = reaches_on (at_byte lt r) (blank_step at spot (get_or text at 0) (drop (at + 1) text) h c)
 
 -- what follows the bytes that a text begins with
@@ -49,10 +50,10 @@ rest_is : (text : List ℕ) (at : ℕ) (bytes after : List ℕ) (size : ℕ) →
 rest_is text at bytes after size e s = sym (drop_at bytes after size (sym s)) ∙ ap (drop size) (sym e) ∙ drop-drop size at text
 
 -- over a token
-pub token_reached : (text : List ℕ) (at : ℕ) (spot : Spot) (done : List Token) (k : TokenKind) (size : ℕ) → BeginsWith (drop at text) k size → spot.column + size ≤ 73 → Reaches text at spot (drop at text) done → Reaches text (at + size) (right_by spot size) (drop (at + size) text) (done ++ token_of k spot at size ∷ [])
+pub token_reached : (text : List ℕ) (at : ℕ) (spot : Spot) (done : List Token) (k : TokenKind) (size : ℕ) → BeginsWith (drop at text) k size → spot.column + size ≤ LAST_COLUMN + 1 → Reaches text at spot (drop at text) done → Reaches text (at + size) (right_by spot size) (drop (at + size) text) (done ++ token_of k spot at size ∷ [])
 token_reached text at spot done k size begins c r =
     let here : Reaches text at spot (begins.bytes ++ begins.after) done = subst (λ (l : List ℕ). Reaches text at spot l done) begins.split r in
-    let narrow : spot.column + length begins.bytes ≤ 73 = omega (arith, begins.size_is) in
+    let narrow : spot.column + length begins.bytes ≤ LAST_COLUMN + 1 = omega (arith, begins.size_is) in
     let there = reaches_step here (token_step at spot begins.bytes begins.after k begins.token narrow) in
     let sized : Reaches text (at + size) (right_by spot size) begins.after (done ++ token_of k spot at size ∷ []) = subst (λ (n : ℕ). Reaches text (at + n) (right_by spot n) begins.after (done ++ token_of k spot at n ∷ [])) (sym begins.size_is) there in
     subst (λ (l : List ℕ). Reaches text (at + size) (right_by spot size) l (done ++ token_of k spot at size ∷ [])) (rest_is text at begins.bytes begins.after size begins.split begins.size_is) sized
@@ -68,13 +69,13 @@ IsNoText text = (tokens : List Token) → Lexes text tokens → ⊥
 stuck_text : {text : List ℕ} {at : ℕ} {spot : Spot} {left : List ℕ} {done : List Token} → Reaches text at spot left done → IsStuck at spot left → IsNoText text
 stuck_text r stuck tokens l = let p = r.backward tokens l in stuck p.tokens p.lexes
 
-pub full_text : (text : List ℕ) (at : ℕ) (spot : Spot) (done : List Token) → at < length text → (get_or text at 0 ≡ 10 → ⊥) → 72 < spot.column → Reaches text at spot (drop at text) done → IsNoText text
+pub full_text : (text : List ℕ) (at : ℕ) (spot : Spot) (done : List Token) → at < length text → (get_or text at 0 ≡ 10 → ⊥) → LAST_COLUMN < spot.column → Reaches text at spot (drop at text) done → IsNoText text
 full_text text at spot done lt other full r = stuck_text (at_byte lt r) (full_stuck at spot (get_or text at 0) (drop (at + 1) text) other full)
 
 pub none_text : (text : List ℕ) (at : ℕ) (spot : Spot) (done : List Token) → at < length text → (get_or text at 0 ≡ 10 → ⊥) → is_blank (get_or text at 0) ≡ false → BeginsNone (drop at text) → Reaches text at spot (drop at text) done → IsNoText text
 none_text text at spot done lt other plain none r = stuck_text (at_byte lt r) (none_stuck at spot (get_or text at 0) (drop (at + 1) text) other plain (subst BeginsNone (drop_more text at 0 lt) none))
 
-pub long_text : (text : List ℕ) (at : ℕ) (spot : Spot) (done : List Token) (k : TokenKind) (size : ℕ) → at < length text → (get_or text at 0 ≡ 10 → ⊥) → is_blank (get_or text at 0) ≡ false → BeginsWith (drop at text) k size → 73 < spot.column + size → Reaches text at spot (drop at text) done → IsNoText text
+pub long_text : (text : List ℕ) (at : ℕ) (spot : Spot) (done : List Token) (k : TokenKind) (size : ℕ) → at < length text → (get_or text at 0 ≡ 10 → ⊥) → is_blank (get_or text at 0) ≡ false → BeginsWith (drop at text) k size → LAST_COLUMN + 1 < spot.column + size → Reaches text at spot (drop at text) done → IsNoText text
 long_text text at spot done k size lt other plain begins long r = stuck_text (at_byte lt r) (long_stuck at spot (get_or text at 0) (drop (at + 1) text) k size other plain (subst (λ (l : List ℕ). BeginsWith l k size) (drop_more text at 0 lt) begins) long)
 
 -- after the last byte

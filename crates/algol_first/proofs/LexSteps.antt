@@ -1,6 +1,7 @@
 -- One step through a text: what it puts in front of the tokens of the rest, and that nothing else can stand there.
 use Rattle.std.proofs.Common.{◌≡◌, ℕ, ◌+◌, ◌<◌, ◌≤◌, ◌==◌, Bool, true, false, not, ◌||◌, List, [], ◌∷◌, ◌++◌, length, refl, sym, ◌∙◌, ap, subst, arith}
 use Rattle.std.proofs.lemmas.Bool.Decides.{nat_tests}
+use Rattle.algol_tree.specs.declared.TheConstants.{LAST_COLUMN}
 use Rattle.algol_tree.specs.declared.token.Spot.{Spot}
 use Rattle.algol_tree.specs.declared.token.Symbol.{Symbol}
 use Rattle.algol_tree.specs.declared.token.Symbol.TheVariants as symbols
@@ -31,8 +32,8 @@ pub record Rest (at : ℕ) (spot : Spot) (left : List ℕ) (first all : List Tok
 pub data Opened : ℕ → Spot → List ℕ → List Token → Type 0 where
   at_end : (at : ℕ) (spot : Spot) (text : List ℕ) (tokens : List Token) → text ≡ [] → tokens ≡ end_of spot at ∷ [] → Opened at spot text tokens
   at_line : (at : ℕ) (spot : Spot) (text after : List ℕ) (tokens : List Token) → text ≡ 10 ∷ after → LexesFrom (at + 1) (next_line spot) after tokens → Opened at spot text tokens
-  at_blank : (at : ℕ) (spot : Spot) (text : List ℕ) (b : ℕ) (after : List ℕ) (tokens : List Token) → text ≡ b ∷ after → is_blank b ≡ true → spot.column ≤ 72 → LexesFrom (at + 1) (right_by spot 1) after tokens → Opened at spot text tokens
-  at_token : (at : ℕ) (spot : Spot) (text bytes after : List ℕ) (k : TokenKind) (tokens more : List Token) → text ≡ bytes ++ after → IsToken bytes after k → spot.column + length bytes ≤ 73 → tokens ≡ token_of k spot at (length bytes) ∷ more → LexesFrom (at + length bytes) (right_by spot (length bytes)) after more → Opened at spot text tokens
+  at_blank : (at : ℕ) (spot : Spot) (text : List ℕ) (b : ℕ) (after : List ℕ) (tokens : List Token) → text ≡ b ∷ after → is_blank b ≡ true → spot.column ≤ LAST_COLUMN → LexesFrom (at + 1) (right_by spot 1) after tokens → Opened at spot text tokens
+  at_token : (at : ℕ) (spot : Spot) (text bytes after : List ℕ) (k : TokenKind) (tokens more : List Token) → text ≡ bytes ++ after → IsToken bytes after k → spot.column + length bytes ≤ LAST_COLUMN + 1 → tokens ≡ token_of k spot at (length bytes) ∷ more → LexesFrom (at + length bytes) (right_by spot (length bytes)) after more → Opened at spot text tokens
 
 pub opened : {at : ℕ} {spot : Spot} {text : List ℕ} {tokens : List Token} → LexesFrom at spot text tokens → Opened at spot text tokens
 opened (ends at spot) = at_end at spot [] _ refl refl
@@ -99,7 +100,7 @@ blank_back at spot text b left tokens h e (at_line at' spot' text' after tokens'
 blank_back at spot text b left tokens h e (at_blank at' spot' text' b' after tokens' p i c l) = let same : after ≡ left = cc in record { tokens = tokens; all_is = refl; lexes = moved _ _ _ _ left after tokens refl refl same l }
 blank_back at spot text b left tokens h e (at_token at' spot' text' bytes after k tokens' more p t c q l) = absurd (grind (arith, nat_tests, token_plain bytes after k b left t (sym e ∙ p)))
 
-pub blank_step : (at : ℕ) (spot : Spot) (b : ℕ) (left : List ℕ) → is_blank b ≡ true → spot.column ≤ 72 → Step at spot (b ∷ left) (at + 1) (right_by spot 1) left []
+pub blank_step : (at : ℕ) (spot : Spot) (b : ℕ) (left : List ℕ) → is_blank b ≡ true → spot.column ≤ LAST_COLUMN → Step at spot (b ∷ left) (at + 1) (right_by spot 1) left []
 blank_step at spot b left h c = record {
   forth = λ tokens l. blank at spot b left tokens h c l;
   back = λ tokens l. blank_back at spot (b ∷ left) b left tokens h refl (opened l);
@@ -119,7 +120,7 @@ token_back at spot text (x ∷ xs) after k tokens t e (at_token at' spot' text' 
       lexes = moved _ _ _ _ after after' more (ap (λ (n : ℕ). at + n) size) (ap (λ (n : ℕ). right_by spot n) size) one.after l;
     }
 
-pub token_step : (at : ℕ) (spot : Spot) (bytes after : List ℕ) (k : TokenKind) → IsToken bytes after k → spot.column + length bytes ≤ 73 → Step at spot (bytes ++ after) (at + length bytes) (right_by spot (length bytes)) after (token_of k spot at (length bytes) ∷ [])
+pub token_step : (at : ℕ) (spot : Spot) (bytes after : List ℕ) (k : TokenKind) → IsToken bytes after k → spot.column + length bytes ≤ LAST_COLUMN + 1 → Step at spot (bytes ++ after) (at + length bytes) (right_by spot (length bytes)) after (token_of k spot at (length bytes) ∷ [])
 token_step at spot bytes after k t c = record {
   forth = λ tokens l. token at spot bytes after k tokens t.spells t.longest t.limits c l;
   back = λ tokens l. token_back at spot (bytes ++ after) bytes after k tokens t refl (opened l);
@@ -130,13 +131,13 @@ abbrev pub IsStuck : ℕ → Spot → List ℕ → Type 0
 IsStuck at spot left = (tokens : List Token) → LexesFrom at spot left tokens → ⊥
 
 -- past column 72 stands no byte but the end of the record
-full_opened : (at : ℕ) (spot : Spot) (text : List ℕ) (b : ℕ) (left : List ℕ) (tokens : List Token) → text ≡ b ∷ left → (b ≡ 10 → ⊥) → 72 < spot.column → Opened at spot text tokens → ⊥
+full_opened : (at : ℕ) (spot : Spot) (text : List ℕ) (b : ℕ) (left : List ℕ) (tokens : List Token) → text ≡ b ∷ left → (b ≡ 10 → ⊥) → LAST_COLUMN < spot.column → Opened at spot text tokens → ⊥
 full_opened at spot text b left tokens e other full (at_end at' spot' text' tokens' p q) = cc
 full_opened at spot text b left tokens e other full (at_line at' spot' text' after tokens' p l) = let same : b ≡ 10 = cc in other same
 full_opened at spot text b left tokens e other full (at_blank at' spot' text' b' after tokens' p h c l) = omega arith
 full_opened at spot text b left tokens e other full (at_token at' spot' text' bytes after k tokens' more p t c q l) = omega (arith, length-shape-pos (shape_of t.spells))
 
-pub full_stuck : (at : ℕ) (spot : Spot) (b : ℕ) (left : List ℕ) → (b ≡ 10 → ⊥) → 72 < spot.column → IsStuck at spot (b ∷ left)
+pub full_stuck : (at : ℕ) (spot : Spot) (b : ℕ) (left : List ℕ) → (b ≡ 10 → ⊥) → LAST_COLUMN < spot.column → IsStuck at spot (b ∷ left)
 full_stuck at spot b left other full tokens l = full_opened at spot (b ∷ left) b left tokens refl other full (opened l)
 
 -- a byte that is no blank and no end of a record, and begins no token
@@ -150,7 +151,7 @@ pub none_stuck : (at : ℕ) (spot : Spot) (b : ℕ) (left : List ℕ) → (b ≡
 none_stuck at spot b left other plain none tokens l = none_opened at spot (b ∷ left) b left tokens refl other plain none (opened l)
 
 -- a token that would end past column 72
-long_opened : (at : ℕ) (spot : Spot) (text : List ℕ) (b : ℕ) (left : List ℕ) (k : TokenKind) (size : ℕ) (tokens : List Token) → text ≡ b ∷ left → (b ≡ 10 → ⊥) → is_blank b ≡ false → BeginsWith text k size → 73 < spot.column + size → Opened at spot text tokens → ⊥
+long_opened : (at : ℕ) (spot : Spot) (text : List ℕ) (b : ℕ) (left : List ℕ) (k : TokenKind) (size : ℕ) (tokens : List Token) → text ≡ b ∷ left → (b ≡ 10 → ⊥) → is_blank b ≡ false → BeginsWith text k size → LAST_COLUMN + 1 < spot.column + size → Opened at spot text tokens → ⊥
 long_opened at spot text b left k size tokens e other plain begins long (at_end at' spot' text' tokens' p q) = cc
 long_opened at spot text b left k size tokens e other plain begins long (at_line at' spot' text' after tokens' p l) = let same : b ≡ 10 = cc in other same
 long_opened at spot text b left k size tokens e other plain begins long (at_blank at' spot' text' b' after tokens' p h c l) = let same : b ≡ b' = cc in let q : is_blank b ≡ is_blank b' = ap is_blank same in cc
@@ -159,7 +160,7 @@ long_opened at spot text b left k size tokens e other plain begins long (at_toke
     let same : length bytes ≡ length begins.bytes = ap length one.bytes in
     omega (arith, begins.size_is)
 
-pub long_stuck : (at : ℕ) (spot : Spot) (b : ℕ) (left : List ℕ) (k : TokenKind) (size : ℕ) → (b ≡ 10 → ⊥) → is_blank b ≡ false → BeginsWith (b ∷ left) k size → 73 < spot.column + size → IsStuck at spot (b ∷ left)
+pub long_stuck : (at : ℕ) (spot : Spot) (b : ℕ) (left : List ℕ) (k : TokenKind) (size : ℕ) → (b ≡ 10 → ⊥) → is_blank b ≡ false → BeginsWith (b ∷ left) k size → LAST_COLUMN + 1 < spot.column + size → IsStuck at spot (b ∷ left)
 long_stuck at spot b left k size other plain begins long tokens l = long_opened at spot (b ∷ left) b left k size tokens refl other plain begins long (opened l)
 
 -- the end of a text is its end alone

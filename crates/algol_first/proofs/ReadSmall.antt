@@ -20,6 +20,7 @@ use Rattle.algol_first.specs.declared.reader.FirstProgram.{FirstProgram}
 use Rattle.algol_first.specs.Straight.{op_of}
 use Rattle.algol_first.specs.First.{primary_of, sum_on, expr_of, stmt_of, stmts_of, tree_of, IsSmallPrimary, IsSmallExpression, IsSmall}
 use Rattle.std.proofs.lemmas.List.Elements.{All-cons, All-nil}
+use Rattle.b67_num.specs.Whole.{most}
 
 -- each token is within the limits
 abbrev pub AreWithin : List Token → Type 0
@@ -62,12 +63,12 @@ statement_rest _ _ _ (grammar.line word opening t first less phrase greater seco
 
 -- the numbers
 
-small_number : (t : Token) (value : ℤ) → t.kind ≡ kinds.Number value → IsWithinLimits t.kind → unsigned_abs value ≤ 549755813887
+small_number : (t : Token) (value : ℤ) → t.kind ≡ kinds.Number value → IsWithinLimits t.kind → unsigned_abs value ≤ most
 small_number t value e w = subst IsWithinLimits e w
 
 -- each number among the operands of the expression is small
 HasSmallNumbers : PExpr → Type 0
-HasSmallNumbers (number value spot) = unsigned_abs value ≤ 549755813887
+HasSmallNumbers (number value spot) = unsigned_abs value ≤ most
 HasSmallNumbers (two op a b) = HasSmallNumbers a × HasSmallNumbers b
 HasSmallNumbers _ = Unit {0}
 

@@ -1,6 +1,7 @@
 -- What a program is accepted for, and what refuses it.
 use Rattle.std.proofs.Common.{◌≡◌, ℕ, ◌≤◌, true, false, List, ◌∷◌, length, refl, sym, subst, ap, ◌∙◌}
 use Rattle.std.specs.Prelude.{is_some}
+use Rattle.algol_tree.specs.declared.TheConstants.{MOST_SEGMENT_TOKENS, MOST_BLOCK_CELLS}
 use Rattle.algol_tree.specs.declared.token.Spot.{Spot}
 use Rattle.algol_tree.specs.declared.tree.Named.{Named}
 use Rattle.algol_tree.specs.Plain.{PStmts}
@@ -17,9 +18,9 @@ use Rattle.algol_first.proofs.ResolveNames.{there_from, absent_from, distinct_re
 -- the tests of a tree
 pub record Tests (spot : Spot) (file : Named) (ns : List Named) (ss : PStmts) : Type 0 where
   pub distinct : IsDistinct (file.name ∷ names_of ns)
-  pub few : length ns ≤ 400
+  pub few : length ns ≤ MOST_BLOCK_CELLS
   pub known : AreKnownStmts file.name (names_of ns) ss
-  pub short : program_tokens (program_of spot file ns ss) ≤ 2000
+  pub short : program_tokens (program_of spot file ns ss) ≤ MOST_SEGMENT_TOKENS
 
 pub tests_of : (spot : Spot) (file : Named) (ns : List Named) (ss : PStmts) → Accepted (program_of spot file ns ss) → Tests spot file ns ss
 tests_of _ _ _ _ (accepted spot file ns ss distinct few known short) = record { distinct = distinct; few = few; known = known; short = short }
@@ -39,14 +40,14 @@ module _ (p : FirstProgram) (integers : List Named) (same_integers : integers �
         let k = there_from (number_in numbers file) (number_in numbers file) refl there in
         numbered_not_distinct numbers (names_of integers) p.file.name k.0 numbered (ap (number_in numbers) (sym same_file) ∙ k.1) (tests a).distinct
 
-    pub accepted_by : is_some (number_in numbers file) ≡ false → length integers ≤ 400 → program_tokens (tree_of p) ≤ 2000 →
+    pub accepted_by : is_some (number_in numbers file) ≡ false → length integers ≤ MOST_BLOCK_CELLS → program_tokens (tree_of p) ≤ MOST_SEGMENT_TOKENS →
         AreKnownStmts p.file.name (names_of integers) (stmts_of p.statements) → Accepted (tree_of p)
     accepted_by lacks few short known =
         let absent = absent_from (number_in numbers file) (number_in numbers file) refl lacks in
         let distinct = numbered_distinct_with numbers (names_of integers) p.file.name numbered (ap (number_in numbers) (sym same_file) ∙ absent) in
         accepted p.spot p.file p.integers (stmts_of p.statements)
         (subst (λ ns. IsDistinct (p.file.name ∷ names_of ns)) same_integers distinct)
-        (subst (λ (ns : List Named). length ns ≤ 400) same_integers few)
+        (subst (λ (ns : List Named). length ns ≤ MOST_BLOCK_CELLS) same_integers few)
         (subst (λ ns. AreKnownStmts p.file.name (names_of ns) (stmts_of p.statements)) same_integers known) short
 
   pub resolves_by : (steps : List Step) → ResolvesStmts (names_of integers) (stmts_of p.statements) steps →

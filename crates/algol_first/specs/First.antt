@@ -1,5 +1,6 @@
 -- A program of the first form as it is read, and the tree that it stands for.
 use Rattle.std.specs.Prelude.{◌≤◌, List, [], ◌∷◌, All, unsigned_abs}
+use Rattle.b67_num.specs.Whole.{most}
 use Rattle.algol_tree.specs.declared.tree.PhraseText.TheVariants as phrases
 use Rattle.algol_tree.specs.Plain.{PExpr, number, two, subscripted, none, more, PStmt, assign, write, PStmts, no_stmts, stmts, PProgram}
 use Rattle.algol_tree.specs.Reads.{variable_of, program_of}
@@ -36,9 +37,9 @@ stmts_of (s ∷ ss) = stmts (stmt_of s) (stmts_of ss)
 abbrev pub tree_of : FirstProgram → PProgram
 tree_of p = program_of p.spot p.file p.integers (stmts_of p.statements)
 
--- a number is at most 549,755,813,887
+-- a number is at most the greatest whole number
 abbrev pub IsSmallPrimary : Primary → Type 0
-IsSmallPrimary (primaries.Number value spot) = unsigned_abs value ≤ 549755813887
+IsSmallPrimary (primaries.Number value spot) = unsigned_abs value ≤ most
 IsSmallPrimary (primaries.Name n) = Unit {0}
 
 -- each number of the expression is

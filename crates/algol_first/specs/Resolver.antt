@@ -4,6 +4,7 @@ use Rattle.std.specs.Borrow.{Bor}
 use Rattle.std.specs.Ordering.{nat_cmp}
 use Rattle.std.specs.Cmp.Lexicographic.{slice_cmp}
 use Rattle.std.specs.BTreeMap.{BTreeMap, get_by}
+use Rattle.algol_tree.specs.declared.TheConstants.{MOST_LINE_WIDTH}
 use Rattle.algol_tree.specs.declared.tree.Named.{Named}
 use Rattle.algol_tree.specs.Accepted.{width_in}
 use Rattle.algol_first.specs.declared.straight.Step.{Step}
@@ -29,5 +30,5 @@ pub record Numbered (numbers : Numbers) (names : List (List ℕ)) : Type 0 where
 -- the step writes that item in the columns of that phrase
 abbrev pub ResolvesWrite : List (List ℕ) → List ℕ → Named → Step → Type 0
 ResolvesWrite names phrase named (steps.Write width item) = (width_in phrase ≡ Some width) × (1 ≤ width) ×
-    (width ≤ 132) × IsNumbered names named.name item
+    (width ≤ MOST_LINE_WIDTH) × IsNumbered names named.name item
 ResolvesWrite names phrase named (steps.Assign target value) = ⊥

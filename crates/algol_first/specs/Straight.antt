@@ -1,5 +1,7 @@
 -- A straight line of steps and the tree that it stands for.
 use Rattle.std.specs.Prelude.{◌≡◌, ℕ, ◌≤◌, List, [], ◌∷◌, length, Some, slice_get, unsigned_abs}
+use Rattle.algol_tree.specs.declared.TheConstants.{MOST_LINE_WIDTH}
+use Rattle.b67_num.specs.Whole.{most}
 use Rattle.algol_tree.specs.declared.token.Spot.{Spot}
 use Rattle.algol_tree.specs.declared.tree.Named.{Named}
 use Rattle.algol_tree.specs.declared.tree.PhraseText.TheVariants as phrases
@@ -23,7 +25,7 @@ abbrev pub IsNumbered : List (List ℕ) → List ℕ → ℕ → Type 0
 IsNumbered names name k = slice_get names k ≡ Some name
 
 abbrev pub ResolvesOperand : List (List ℕ) → PExpr → Operand → Type 0
-ResolvesOperand names (number value spot) (operands.Number v) = (v ≡ value) × (unsigned_abs v ≤ 549755813887)
+ResolvesOperand names (number value spot) (operands.Number v) = (v ≡ value) × (unsigned_abs v ≤ most)
 ResolvesOperand names (variable (subscripted n none)) (operands.Integer k) = IsNumbered names n.name k
 ResolvesOperand names _ _ = ⊥
 
@@ -43,7 +45,7 @@ ResolvesExpr names e sum = (first : PExpr) × ResolvesOperand names first sum.fi
 abbrev pub ResolvesStmt : List (List ℕ) → PStmt → Step → Type 0
 ResolvesStmt names (assign (subscripted n none) e) (steps.Assign target value) = IsNumbered names n.name target × ResolvesExpr names e value
 ResolvesStmt names (write f spot (phrases.Word phrase ∷ []) (more (variable (subscripted n none)) none)) (steps.Write width item) =
-    (width_in phrase ≡ Some width) × (1 ≤ width) × (width ≤ 132) × IsNumbered names n.name item
+    (width_in phrase ≡ Some width) × (1 ≤ width) × (width ≤ MOST_LINE_WIDTH) × IsNumbered names n.name item
 ResolvesStmt names _ _ = ⊥
 
 abbrev pub ResolvesStmts : List (List ℕ) → PStmts → List Step → Type 0

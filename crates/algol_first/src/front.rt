@@ -1,6 +1,7 @@
 //! A text to what is to be run of it.
 
 ghost use Rattle.std.specs.Prelude.{◌≡◌, ◌≤◌, length, IfOk, Err};
+ghost use Rattle.algol_tree.specs.declared.TheConstants.{MOST_SOURCE_BYTES};
 ghost use Rattle.algol_tree.specs.Plain.{PProgram};
 ghost use Rattle.algol_tree.specs.Accepted.{Source};
 ghost use Rattle.algol_first.specs.declared.unread.Unread.TheVariants.{Unbuilt};
@@ -16,7 +17,7 @@ use std::alloc::Global;
 /// What is to be run of a text: the straight line that its program stands for. A text that is no
 /// source of the first form is `Unbuilt`.
 pub fn straight_of(alloc: Global, bytes: &[u8]) -> Result<Straight, Unread>
-    requires { length bytes.now ≤ 262144 }
+    requires { length bytes.now ≤ MOST_SOURCE_BYTES }
     // The text is a source, and these are the steps of its tree.
     ensures source { IfOk result (λ straight. (tree : PProgram) × Source bytes.now tree × Resolves tree straight) }
     // They are the steps of each tree that the text has as a source.
@@ -36,7 +37,7 @@ mod tests {
     use std::test::Fail;
 
     fn is_unbuilt(alloc: Global, text: &[u8]) -> bool
-        requires { length text.now ≤ 262144 }
+        requires { length text.now ≤ MOST_SOURCE_BYTES }
     {
         match straight_of(alloc, text) {
             Err(Unread::Unbuilt) => true,

@@ -6,6 +6,8 @@
 
 ghost use Rattle.std.specs.Prelude.{◌≡◌, ℕ, ◌+◌, ◌^◌, ◌<◌, ◌≤◌, List, [], ◌∷◌, length, pos, IfOk, IfSome, IfNone, IsTrue, MatchOption, Err, ◌++◌};
 ghost use Rattle.std.specs.List.{list_all, prefix_len};
+ghost use Rattle.b67_num.specs.Whole.{most};
+ghost use Rattle.algol_tree.specs.declared.TheConstants.{MOST_SOURCE_BYTES};
 ghost use Rattle.algol_tree.specs.Spelling.{is_blank, is_letter, is_digit, is_letter_or_digit, is_name, is_number, value_of, written, drawn, IsReserved, Spells};
 ghost use Rattle.algol_tree.specs.Lexes.{next_line, IsWithinLimits, Lexes};
 ghost use Rattle.algol_tree.specs.declared.token.Reserved.{Reserved};
@@ -17,17 +19,12 @@ ghost use Rattle.algol_first.specs.Ended.{EndsOnce};
 ghost use Rattle.algol_first.specs.Front.{BeginsWith, BeginsNone, BeginsWithSymbol};
 
 use crate::unread::Unread;
-use algol_tree::{Line, Reserved, Spot, Symbol, Token, TokenKind};
+use algol_tree::{LAST_COLUMN, Line, MOST_NAME_BYTES, Reserved, Spot, Symbol, Token, TokenKind};
+use b67_num::MOST;
 use std::alloc::Global;
 
-/// The length of the longest name.
-const NAME_LIMIT: usize = 63;
-
 /// The greatest number.
-const NUMBER_LIMIT: u64 = 549_755_813_887;
-
-/// The last column of a record.
-const LAST_COLUMN: u32 = 72;
+const NUMBER_LIMIT: u64 = MOST as u64;
 
 fn is_letter(byte: u8) -> bool
     ensures { result ≡ is_letter byte }
@@ -208,7 +205,7 @@ fn word(alloc: Global, bytes: &[u8]) -> Result<TokenKind, Unread>
     if let Some(word) = reserved(bytes) {
         return Ok(TokenKind::Word(word));
     }
-    if bytes.len() > NAME_LIMIT {
+    if bytes.len() > MOST_NAME_BYTES {
         return Err(Unread::Unbuilt);
     }
     Ok(TokenKind::Name(Line::of(Vec::from_slice(alloc, bytes)?)))
@@ -217,8 +214,8 @@ fn word(alloc: Global, bytes: &[u8]) -> Result<TokenKind, Unread>
 /// The value of a run of digits, where it is within the limit.
 fn value(digits: &[u8]) -> Option<u64>
     requires { IsTrue (list_all is_digit digits.now) }
-    ensures within { IfSome result (λ value. (value ≡ value_of digits.now) × (value ≤ 549755813887)) }
-    ensures above { IfNone result (549755813887 < value_of digits.now) }
+    ensures within { IfSome result (λ value. (value ≡ value_of digits.now) × (value ≤ most)) }
+    ensures above { IfNone result (most < value_of digits.now) }
 {
     let mut value = 0;
     for digit in digits {
@@ -346,10 +343,11 @@ fn token_of(kind: TokenKind, spot: Spot, at: usize, size: usize) -> Token
 }
 
 /// The tokens of a text, the last of them the end of the text. A token stands in one record, in its
-/// columns 1 to 72. Where a byte begins no token, a name is longer than 63, a number is above
-/// 549,755,813,887 or a record has more than 72 bytes, the text is `Unbuilt`.
+/// columns 1 to [`LAST_COLUMN`]. Where a byte begins no token, a name is longer than
+/// [`MOST_NAME_BYTES`], a number is above [`MOST`] or a record has more than [`LAST_COLUMN`] bytes,
+/// the text is `Unbuilt`.
 pub fn lex(alloc: Global, bytes: &[u8]) -> Result<Vec<Token>, Unread>
-    requires { length bytes.now ≤ 262144 }
+    requires { length bytes.now ≤ MOST_SOURCE_BYTES }
     // The text is these tokens.
     ensures lexes { IfOk result (λ tokens. Lexes bytes.now tokens.items) }
     // It is no others.
@@ -432,7 +430,7 @@ mod tests {
     }
 
     fn is_unbuilt(alloc: Global, text: &[u8]) -> bool
-        requires { length text.now ≤ 262144 }
+        requires { length text.now ≤ MOST_SOURCE_BYTES }
     {
         match lex(alloc, text) {
             Err(Unread::Unbuilt) => true,

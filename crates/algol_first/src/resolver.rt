@@ -1,6 +1,7 @@
 //! Names to numbers: which programs of the first form are accepted, and the straight line that each stands for.
 
 ghost use Rattle.std.specs.Prelude.{◌≡◌, ◌↔◌, ◌+◌, ◌-◌, ◌^◌, ◌≤◌, min, ℕ, IsTrue, IfOk, IfSome, IfNone, Err, Some, None, All, length};
+ghost use Rattle.algol_tree.specs.declared.TheConstants.{MOST_BLOCK_CELLS, MOST_SEGMENT_TOKENS, MOST_LINE_WIDTH};
 ghost use Rattle.algol_tree.specs.Accepted.{Accepted, IsDistinct, names_of, IsDeclared, IsWidth, width_in, IsKnownExpr, IsKnownStmt, AreKnownStmts};
 ghost use Rattle.algol_tree.specs.Counts.{expr_tokens, stmt_tokens, program_tokens};
 ghost use Rattle.algol_tree.specs.Spelling.{is_number, value_of};
@@ -12,18 +13,9 @@ ghost use Rattle.algol_first.specs.Straight.{ResolvesOperand, ResolvesExpr, Reso
 use crate::reader::{Expression, FirstProgram, Primary, Simple};
 use crate::straight::{Operand, Step, Straight, Sum, Term};
 use crate::unread::Unread;
-use algol_tree::{Line, List, Named};
+use algol_tree::{Line, List, MOST_BLOCK_CELLS, MOST_LINE_WIDTH, MOST_SEGMENT_TOKENS, Named};
 use std::alloc::Global;
 use std::collections::BTreeMap;
-
-/// The most integers that a program may declare.
-const MOST_INTEGERS: usize = 400;
-
-/// The most tokens that the text of a program may have.
-const MOST_TOKENS: usize = 2000;
-
-/// The columns of an output line.
-const LINE: u8 = 132;
 
 /// The tokens of an expression: its operands, with the operators between them.
 fn expression_tokens(expression: &Expression) -> usize
@@ -49,14 +41,14 @@ fn statement_tokens(statement: &Simple) -> usize
 
 /// Whether the text is short enough for a segment.
 fn fits_segment(program: &FirstProgram) -> bool
-    requires { length program.now.integers ≤ 400 }
-    ensures { IsTrue result ↔ (program_tokens (tree_of program.now) ≤ 2000) }
+    requires { length program.now.integers ≤ MOST_BLOCK_CELLS }
+    ensures { IsTrue result ↔ (program_tokens (tree_of program.now) ≤ MOST_SEGMENT_TOKENS) }
 {
     // BEGIN, FILE, the file, a semicolon, INTEGER, a semicolon and the period, and the integers with their commas.
     let mut count = 7 + (2 * program.integers.items().len()).saturating_sub(1);
     'statements: for statement in program.statements.items() {
         count = count.saturating_add(statement_tokens(statement));
-        if count > MOST_TOKENS {
+        if count > MOST_SEGMENT_TOKENS {
             return false;
         }
     }
@@ -66,9 +58,9 @@ fn fits_segment(program: &FirstProgram) -> bool
 /// The width that the digits say, where an output line can have it. Leading zeros are allowed.
 fn width_of_digits(digits: &[u8]) -> Option<u8>
     ensures valid { IfSome result (λ w. IsTrue (is_number digits.now) × (value_of digits.now ≡ w) ×
-        (1 ≤ w) × (w ≤ 132)) }
+        (1 ≤ w) × (w ≤ MOST_LINE_WIDTH)) }
     ensures invalid { IfNone result (IsTrue (is_number digits.now) → 1 ≤ value_of digits.now →
-        value_of digits.now ≤ 132 → ⊥) }
+        value_of digits.now ≤ MOST_LINE_WIDTH → ⊥) }
 {
     let mut width: u16 = 0;
     'digits: for digit in digits {
@@ -76,7 +68,7 @@ fn width_of_digits(digits: &[u8]) -> Option<u8>
             return None;
         }
         width = width * 10 + u16::from(*digit - b'0');
-        if width > u16::from(LINE) {
+        if width > u16::from(MOST_LINE_WIDTH) {
             return None;
         }
     }
@@ -85,7 +77,7 @@ fn width_of_digits(digits: &[u8]) -> Option<u8>
 
 /// The width of a phrase `Iw`, where an output line can have it.
 fn width_of(phrase: &[u8]) -> Option<u8>
-    ensures valid { IfSome result (λ w. (width_in phrase.now ≡ Some w) × (1 ≤ w) × (w ≤ 132)) }
+    ensures valid { IfSome result (λ w. (width_in phrase.now ≡ Some w) × (1 ≤ w) × (w ≤ MOST_LINE_WIDTH)) }
     ensures invalid { IfNone result (IsWidth phrase.now → ⊥) }
 {
     let (letter, digits) = phrase.split_first()?;
@@ -98,7 +90,7 @@ fn width_of(phrase: &[u8]) -> Option<u8>
 
 /// The number of each name, in their order from 0. A name that stands twice is `Unbuilt`.
 fn number_names<'a>(alloc: Global, names: &'a [Named]) -> Result<BTreeMap<&'a [u8], u16>, Unread>
-    requires { length names.now ≤ 400 }
+    requires { length names.now ≤ MOST_BLOCK_CELLS }
     ensures numbered { IfOk result (λ numbers. Numbered numbers (names_of names.now)) }
     ensures unbuilt { result ≡ Err Unbuilt → IsDistinct (names_of names.now) → ⊥ }
 {
@@ -241,8 +233,9 @@ fn resolve_statements(
 }
 
 /// The straight line of a program: each name by its number, and each width. A program that is not
-/// accepted is `Unbuilt`: a name that is declared twice, or not at all, more than 400 integers, a
-/// file that is not the declared one, a width below 1 or above 132, or more than 2,000 tokens.
+/// accepted is `Unbuilt`: a name that is declared twice, or not at all, more than
+/// [`MOST_BLOCK_CELLS`] integers, a file that is not the declared one, a width below 1 or above
+/// [`MOST_LINE_WIDTH`], or more than [`MOST_SEGMENT_TOKENS`] tokens.
 pub fn resolve(alloc: Global, program: &FirstProgram) -> Result<Straight, Unread>
     requires { All IsSmall program.now.statements }
     ensures accepted { IfOk result (λ _. Accepted (tree_of program.now)) }
@@ -250,7 +243,7 @@ pub fn resolve(alloc: Global, program: &FirstProgram) -> Result<Straight, Unread
     ensures unbuilt { result ≡ Err Unbuilt → Accepted (tree_of program.now) → ⊥ }
 {
     let integers = program.integers.items().as_slice();
-    if integers.len() > MOST_INTEGERS {
+    if integers.len() > MOST_BLOCK_CELLS {
         return Err(Unread::Unbuilt);
     }
     if !fits_segment(program) {

@@ -1,10 +1,9 @@
-pub mod formers
-pub mod Lending
 pub mod Spelling
 pub mod Lexes
-pub mod Lines
-pub mod Numbered
 pub mod Plain
 pub mod Reads
 pub mod Counts
 pub mod Accepted
+pub mod Sorts
+pub mod Blocks
+pub mod Scopes

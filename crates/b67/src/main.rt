@@ -4,29 +4,45 @@
 
 use b67_desk::{Status, desk_alone};
 use b67_io::{StdinSource, StdoutSink};
-use std::io::ErrorKind;
+use std::alloc::AllocError;
+use std::env::{Env, FillError};
 use std::process::ExitCode;
-use std::{env, io};
+
+/// The room, in bytes, in which a word is first looked for.
+const FIRST_ROOM: usize = 256;
+
+/// The word with this number, where 0 is the program's name, or none after the last. What is not UTF-8 in it is replaced:
+/// no word of a command has such bytes, nor the mark that stands for them.
+fn word_at(rt: &HostRuntime, number: usize) -> Result<Option<String>, AllocError> {
+    let mut room = FIRST_ROOM;
+    for _ in 0..usize::BITS {
+        let mut bytes = vec![in rt.alloc(); 0u8; room]?;
+        match rt.arg(number, bytes.as_mut_slice()) {
+            Ok(length) => {
+                return Ok(Some(String::from_utf8_lossy(rt.alloc(), &bytes[..length])?));
+            }
+            Err(FillError::NotPresent) => return Ok(None),
+            Err(FillError::TooLong) => room = room.saturating_add(room),
+        }
+    }
+    Err(AllocError)
+}
 
 /// The words after the program's name.
-fn words_of(rt: &HostRuntime) -> io::Result<Vec<String>> {
+fn words_of(rt: &HostRuntime) -> Result<Vec<String>, AllocError> {
     let mut words = Vec::new(rt.alloc());
-    for word in env::args(rt)?.skip(1) {
+    for number in 1..usize::MAX {
+        let Some(word) = word_at(rt, number)? else {
+            break;
+        };
         words.push(word)?;
     }
     Ok(words)
 }
 
 fn main(rt: HostRuntime) -> ExitCode {
-    let words = match words_of(&rt) {
-        Ok(words) => words,
-        Err(error) if error.kind() == ErrorKind::OutOfMemory => {
-            return ExitCode::from(Status::NoMemory.exit_status());
-        }
-        Err(_) => {
-            let _ = eprintln!(rt; "b67: a word of the command is not UTF-8");
-            return ExitCode::from(2);
-        }
+    let Ok(words) = words_of(&rt) else {
+        return ExitCode::from(Status::NoMemory.exit_status());
     };
     let mut source = StdinSource::new(rt.stdin());
     let mut sink = StdoutSink::new(rt.stdout());

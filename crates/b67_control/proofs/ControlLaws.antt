@@ -67,27 +67,14 @@ irw_laws = laws kind.irw irw_layout irw_values irw_from (record { tag = lit< tt;
 pub as_irw-irw_word : (x : Irw) → Fits_irw x → as_irw (irw_word x) ≡ Some x
 as_irw-irw_word = irw_laws.back
 
-pub irw_word-as_irw : (w : Word) {x : Irw} → as_irw w ≡ Some x → w ≡ irw_word x
-irw_word-as_irw w {x} e = irw_laws.only w x e
-
 pub Fits-as_irw : (w : Word) {x : Irw} → as_irw w ≡ Some x → Fits_irw x
 Fits-as_irw w {x} e = irw_laws.holds w x e
 
 pub IsWord-irw_word : (x : Irw) → Fits_irw x → IsWord (irw_word x)
 IsWord-irw_word = irw_laws.is_word
 
-pub kind_of-as_irw : (w : Word) {x : Irw} → as_irw w ≡ Some x → kind_of w ≡ kind.irw
-kind_of-as_irw w {x} e = irw_laws.kind w x e
-
 pub kind_of-irw_word : (x : Irw) → Fits_irw x → kind_of (irw_word x) ≡ kind.irw
 kind_of-irw_word x fit = irw_laws.kind (irw_word x) x (irw_laws.back x fit)
-
-pub as_irw-other : (w : Word) → kind_of w ≢ kind.irw → as_irw w ≡ None
-as_irw-other = irw_laws.other
-
-pub irw_word-tag : (x : Irw) → (irw_word x).tag ≡ 1
-unfolding irw_word
-irw_word-tag x = refl
 
 -- ---- SIRW
 sirw_kind : (w : Word) → OfKind sirw_layout w → kind_of w ≡ kind.sirw
@@ -98,30 +85,14 @@ pub sirw_laws : ReadsBack kind.sirw Fits_sirw sirw_word as_sirw
 unfolding sirw_word as_sirw
 sirw_laws = laws kind.sirw sirw_layout sirw_values sirw_from (record { tag = lit< tt; tiled = refl; there = λ x. refl; back = λ v. refl; kind = sirw_kind })
 
-pub as_sirw-sirw_word : (x : Sirw) → Fits_sirw x → as_sirw (sirw_word x) ≡ Some x
-as_sirw-sirw_word = sirw_laws.back
-
-pub sirw_word-as_sirw : (w : Word) {x : Sirw} → as_sirw w ≡ Some x → w ≡ sirw_word x
-sirw_word-as_sirw w {x} e = sirw_laws.only w x e
-
 pub Fits-as_sirw : (w : Word) {x : Sirw} → as_sirw w ≡ Some x → Fits_sirw x
 Fits-as_sirw w {x} e = sirw_laws.holds w x e
 
 pub IsWord-sirw_word : (x : Sirw) → Fits_sirw x → IsWord (sirw_word x)
 IsWord-sirw_word = sirw_laws.is_word
 
-pub kind_of-as_sirw : (w : Word) {x : Sirw} → as_sirw w ≡ Some x → kind_of w ≡ kind.sirw
-kind_of-as_sirw w {x} e = sirw_laws.kind w x e
-
-pub kind_of-sirw_word : (x : Sirw) → Fits_sirw x → kind_of (sirw_word x) ≡ kind.sirw
-kind_of-sirw_word x fit = sirw_laws.kind (sirw_word x) x (sirw_laws.back x fit)
-
 pub as_sirw-other : (w : Word) → kind_of w ≢ kind.sirw → as_sirw w ≡ None
 as_sirw-other = sirw_laws.other
-
-pub sirw_word-tag : (x : Sirw) → (sirw_word x).tag ≡ 1
-unfolding sirw_word
-sirw_word-tag x = refl
 
 -- ---- MSCW
 mscw_kind : (w : Word) → OfKind mscw_layout w → kind_of w ≡ kind.mscw
@@ -144,19 +115,6 @@ Fits-as_mscw w {x} e = mscw_laws.holds w x e
 pub IsWord-mscw_word : (x : Mscw) → Fits_mscw x → IsWord (mscw_word x)
 IsWord-mscw_word = mscw_laws.is_word
 
-pub kind_of-as_mscw : (w : Word) {x : Mscw} → as_mscw w ≡ Some x → kind_of w ≡ kind.mscw
-kind_of-as_mscw w {x} e = mscw_laws.kind w x e
-
-pub kind_of-mscw_word : (x : Mscw) → Fits_mscw x → kind_of (mscw_word x) ≡ kind.mscw
-kind_of-mscw_word x fit = mscw_laws.kind (mscw_word x) x (mscw_laws.back x fit)
-
-pub as_mscw-other : (w : Word) → kind_of w ≢ kind.mscw → as_mscw w ≡ None
-as_mscw-other = mscw_laws.other
-
-pub mscw_word-tag : (x : Mscw) → (mscw_word x).tag ≡ 3
-unfolding mscw_word
-mscw_word-tag x = refl
-
 -- ---- RCW
 rcw_kind : (w : Word) → OfKind rcw_layout w → kind_of w ≡ kind.rcw
 unfolding kind_of
@@ -178,19 +136,6 @@ Fits-as_rcw w {x} e = rcw_laws.holds w x e
 pub IsWord-rcw_word : (x : Rcw) → Fits_rcw x → IsWord (rcw_word x)
 IsWord-rcw_word = rcw_laws.is_word
 
-pub kind_of-as_rcw : (w : Word) {x : Rcw} → as_rcw w ≡ Some x → kind_of w ≡ kind.rcw
-kind_of-as_rcw w {x} e = rcw_laws.kind w x e
-
-pub kind_of-rcw_word : (x : Rcw) → Fits_rcw x → kind_of (rcw_word x) ≡ kind.rcw
-kind_of-rcw_word x fit = rcw_laws.kind (rcw_word x) x (rcw_laws.back x fit)
-
-pub as_rcw-other : (w : Word) → kind_of w ≢ kind.rcw → as_rcw w ≡ None
-as_rcw-other = rcw_laws.other
-
-pub rcw_word-tag : (x : Rcw) → (rcw_word x).tag ≡ 3
-unfolding rcw_word
-rcw_word-tag x = refl
-
 -- ---- segment descriptors
 segment_kind : (w : Word) → OfKind segment_layout w → kind_of w ≡ kind.segment
 unfolding kind_of
@@ -199,31 +144,6 @@ segment_kind w k = rw (k.tag, first_is 47 2 2 w.bits (rest_of segment_layout.fie
 pub segment_laws : ReadsBack kind.segment Fits_segment segment_word as_segment
 unfolding segment_word as_segment
 segment_laws = laws kind.segment segment_layout segment_values segment_from (record { tag = lit< tt; tiled = refl; there = λ x. refl; back = λ v. refl; kind = segment_kind })
-
-pub as_segment-segment_word : (x : SegmentWord) → Fits_segment x → as_segment (segment_word x) ≡ Some x
-as_segment-segment_word = segment_laws.back
-
-pub segment_word-as_segment : (w : Word) {x : SegmentWord} → as_segment w ≡ Some x → w ≡ segment_word x
-segment_word-as_segment w {x} e = segment_laws.only w x e
-
-pub Fits-as_segment : (w : Word) {x : SegmentWord} → as_segment w ≡ Some x → Fits_segment x
-Fits-as_segment w {x} e = segment_laws.holds w x e
-
-pub IsWord-segment_word : (x : SegmentWord) → Fits_segment x → IsWord (segment_word x)
-IsWord-segment_word = segment_laws.is_word
-
-pub kind_of-as_segment : (w : Word) {x : SegmentWord} → as_segment w ≡ Some x → kind_of w ≡ kind.segment
-kind_of-as_segment w {x} e = segment_laws.kind w x e
-
-pub kind_of-segment_word : (x : SegmentWord) → Fits_segment x → kind_of (segment_word x) ≡ kind.segment
-kind_of-segment_word x fit = segment_laws.kind (segment_word x) x (segment_laws.back x fit)
-
-pub as_segment-other : (w : Word) → kind_of w ≢ kind.segment → as_segment w ≡ None
-as_segment-other = segment_laws.other
-
-pub segment_word-tag : (x : SegmentWord) → (segment_word x).tag ≡ 3
-unfolding segment_word
-segment_word-tag x = refl
 
 -- ---- event words
 event_kind : (w : Word) → OfKind event_layout w → kind_of w ≡ kind.event
@@ -234,30 +154,8 @@ pub event_laws : ReadsBack kind.event Fits_event event_word as_event
 unfolding event_word as_event
 event_laws = laws kind.event event_layout event_values event_from (record { tag = lit< tt; tiled = refl; there = λ x. refl; back = λ v. refl; kind = event_kind })
 
-pub as_event-event_word : (x : EventWord) → Fits_event x → as_event (event_word x) ≡ Some x
-as_event-event_word = event_laws.back
-
-pub event_word-as_event : (w : Word) {x : EventWord} → as_event w ≡ Some x → w ≡ event_word x
-event_word-as_event w {x} e = event_laws.only w x e
-
-pub Fits-as_event : (w : Word) {x : EventWord} → as_event w ≡ Some x → Fits_event x
-Fits-as_event w {x} e = event_laws.holds w x e
-
 pub IsWord-event_word : (x : EventWord) → Fits_event x → IsWord (event_word x)
 IsWord-event_word = event_laws.is_word
-
-pub kind_of-as_event : (w : Word) {x : EventWord} → as_event w ≡ Some x → kind_of w ≡ kind.event
-kind_of-as_event w {x} e = event_laws.kind w x e
-
-pub kind_of-event_word : (x : EventWord) → Fits_event x → kind_of (event_word x) ≡ kind.event
-kind_of-event_word x fit = event_laws.kind (event_word x) x (event_laws.back x fit)
-
-pub as_event-other : (w : Word) → kind_of w ≢ kind.event → as_event w ≡ None
-as_event-other = event_laws.other
-
-pub event_word-tag : (x : EventWord) → (event_word x).tag ≡ 3
-unfolding event_word
-event_word-tag x = refl
 
 -- ---- data descriptors
 descriptor_kind : (w : Word) → OfKind descriptor_layout w → kind_of w ≡ kind.descriptor
@@ -280,19 +178,6 @@ Fits-as_descriptor w {x} e = descriptor_laws.holds w x e
 pub IsWord-descriptor_word : (x : Descriptor) → Fits_descriptor x → IsWord (descriptor_word x)
 IsWord-descriptor_word = descriptor_laws.is_word
 
-pub kind_of-as_descriptor : (w : Word) {x : Descriptor} → as_descriptor w ≡ Some x → kind_of w ≡ kind.descriptor
-kind_of-as_descriptor w {x} e = descriptor_laws.kind w x e
-
-pub kind_of-descriptor_word : (x : Descriptor) → Fits_descriptor x → kind_of (descriptor_word x) ≡ kind.descriptor
-kind_of-descriptor_word x fit = descriptor_laws.kind (descriptor_word x) x (descriptor_laws.back x fit)
-
-pub as_descriptor-other : (w : Word) → kind_of w ≢ kind.descriptor → as_descriptor w ≡ None
-as_descriptor-other = descriptor_laws.other
-
-pub descriptor_word-tag : (x : Descriptor) → (descriptor_word x).tag ≡ 5
-unfolding descriptor_word
-descriptor_word-tag x = refl
-
 -- ---- PCW
 pcw_kind : (w : Word) → OfKind pcw_layout w → kind_of w ≡ kind.pcw
 unfolding kind_of
@@ -305,17 +190,8 @@ pcw_laws = laws kind.pcw pcw_layout pcw_values pcw_from (record { tag = lit< tt;
 pub as_pcw-pcw_word : (x : Pcw) → Fits_pcw x → as_pcw (pcw_word x) ≡ Some x
 as_pcw-pcw_word = pcw_laws.back
 
-pub pcw_word-as_pcw : (w : Word) {x : Pcw} → as_pcw w ≡ Some x → w ≡ pcw_word x
-pcw_word-as_pcw w {x} e = pcw_laws.only w x e
-
 pub Fits-as_pcw : (w : Word) {x : Pcw} → as_pcw w ≡ Some x → Fits_pcw x
 Fits-as_pcw w {x} e = pcw_laws.holds w x e
-
-pub IsWord-pcw_word : (x : Pcw) → Fits_pcw x → IsWord (pcw_word x)
-IsWord-pcw_word = pcw_laws.is_word
-
-pub kind_of-as_pcw : (w : Word) {x : Pcw} → as_pcw w ≡ Some x → kind_of w ≡ kind.pcw
-kind_of-as_pcw w {x} e = pcw_laws.kind w x e
 
 pub kind_of-pcw_word : (x : Pcw) → Fits_pcw x → kind_of (pcw_word x) ≡ kind.pcw
 kind_of-pcw_word x fit = pcw_laws.kind (pcw_word x) x (pcw_laws.back x fit)
@@ -323,31 +199,24 @@ kind_of-pcw_word x fit = pcw_laws.kind (pcw_word x) x (pcw_laws.back x fit)
 pub as_pcw-other : (w : Word) → kind_of w ≢ kind.pcw → as_pcw w ≡ None
 as_pcw-other = pcw_laws.other
 
-pub pcw_word-tag : (x : Pcw) → (pcw_word x).tag ≡ 7
-unfolding pcw_word
-pcw_word-tag x = refl
-
 -- ---- words of tag 0
 tag_zero : (w : Word) → w.tag ≡ 0 → kind_of w ≡ kind.operand
 unfolding kind_of
 tag_zero w e = rw e refl
 
-pub kind_of-as_whole : (w : Word) {z : ℤ} → as_whole w ≡ Some z → kind_of w ≡ kind.operand
+kind_of-as_whole : (w : Word) {z : ℤ} → as_whole w ≡ Some z → kind_of w ≡ kind.operand
 kind_of-as_whole w {z} e = tag_zero w (as_whole-tag w z e)
 
-pub kind_of-as_truth : (w : Word) {b : Bool} → as_truth w ≡ Some b → kind_of w ≡ kind.operand
+kind_of-as_truth : (w : Word) {b : Bool} → as_truth w ≡ Some b → kind_of w ≡ kind.operand
 kind_of-as_truth w {b} e = tag_zero w (as_truth-tag w b e)
 
 pub kind_of-operand : (z : ℤ) → kind_of (operand z) ≡ kind.operand
 kind_of-operand z = tag_zero (operand z) (operand-tag z)
 
-pub kind_of-truth : (b : Bool) → kind_of (truth b) ≡ kind.operand
-kind_of-truth b = tag_zero (truth b) (truth-tag b)
-
-pub as_whole-no_operand : (w : Word) → kind_of w ≢ kind.operand → as_whole w ≡ None
+as_whole-no_operand : (w : Word) → kind_of w ≢ kind.operand → as_whole w ≡ None
 as_whole-no_operand w h = as_whole-other w (λ e. h (tag_zero w e))
 
-pub as_truth-no_operand : (w : Word) → kind_of w ≢ kind.operand → as_truth w ≡ None
+as_truth-no_operand : (w : Word) → kind_of w ≢ kind.operand → as_truth w ≡ None
 as_truth-no_operand w h = as_truth-other w (λ e. h (tag_zero w e))
 
 pub operands_apart : OperandsAreApart
@@ -357,9 +226,3 @@ operands_apart = record {
   truth_kind = λ w b e. kind_of-as_truth w e;
   truth_other = as_truth-no_operand;
 }
-
--- for `grind` and `using`: what was packed is read back, from a word of its kind
-pub ruleset packed_words = (as_irw-irw_word, IsWord-irw_word, kind_of-irw_word, as_sirw-sirw_word, IsWord-sirw_word, kind_of-sirw_word, as_mscw-mscw_word, IsWord-mscw_word, kind_of-mscw_word, as_rcw-rcw_word, IsWord-rcw_word, kind_of-rcw_word, as_segment-segment_word, IsWord-segment_word, kind_of-segment_word, as_event-event_word, IsWord-event_word, kind_of-event_word, as_descriptor-descriptor_word, IsWord-descriptor_word, kind_of-descriptor_word, as_pcw-pcw_word, IsWord-pcw_word, kind_of-pcw_word)
-
--- for `grind` and `using`: the kind of a word that is read
-pub ruleset kinds = (kind_of-as_irw, as_irw-other, kind_of-as_sirw, as_sirw-other, kind_of-as_mscw, as_mscw-other, kind_of-as_rcw, as_rcw-other, kind_of-as_segment, as_segment-other, kind_of-as_event, as_event-other, kind_of-as_descriptor, as_descriptor-other, kind_of-as_pcw, as_pcw-other, kind_of-as_whole, kind_of-as_truth, kind_of-operand, kind_of-truth, as_whole-no_operand, as_truth-no_operand)

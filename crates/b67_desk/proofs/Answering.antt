@@ -3,6 +3,8 @@ use Rattle.std.proofs.Common.{◌≡◌, ℕ, ◌<◌, ◌≤◌, List, length, 
 use Rattle.std.specs.Prelude.{IfSome, IfOk}
 use Rattle.std.specs.declared.alloc.AllocError.{AllocError}
 use Rattle.std.specs.Io.KnownBytes.{IsAtEnd}
+use Rattle.algol_tree.specs.declared.TheConstants.{MOST_SOURCE_BYTES}
+use Rattle.b67_words.specs.declared.TheConstants.{MOST_BUDGET}
 use Rattle.algol_tree.specs.Plain.{PProgram}
 use Rattle.algol_tree.specs.Accepted.{Source}
 use Rattle.algol_tree.specs.declared.refusal.Code.TheVariants as refusals
@@ -24,34 +26,37 @@ use Rattle.b67_desk.specs.declared.desk.Unanswered.TheVariants as why
 use Rattle.b67_desk.specs.Answers.{usage_text, refused_text, status_of, Explains, AnswersBytes, refused, reported, AnswersSource, too_long, too_long_text, read, Reading, Untouched, Answers, usage, answered, Writing, HasAnswer, write_fault}
 use Rattle.b67_desk.specs.Calls.{SourceAnswered, CallAnswered, IsUsage, IsUnbuilt}
 
-pub reported_is : (budget : ℕ) (bytes : List ℕ) (tree : PProgram) (report : Report) (text : List ℕ) (s : Status) → Source bytes tree → Explains tree budget report → text ≡ ReportText report → s ≡ status_of report.end →
-    AnswersBytes budget bytes text s
-reported_is budget bytes tree report text s source explains is said =
-    subst (λ (t : List ℕ). AnswersBytes budget bytes t s) (sym is) (subst (λ (u : Status). AnswersBytes budget bytes (ReportText report) u) (sym said) (reported tree report source explains))
+pub reported_is : (processors budget : ℕ) (bytes : List ℕ) (tree : PProgram) (report : Report) (text : List ℕ) (s : Status) → Source bytes tree → ((t : PProgram) → Source bytes t → Explains t processors budget report) → text ≡ ReportText report → s ≡ status_of report.end →
+    AnswersBytes processors budget bytes text s
+reported_is processors budget bytes tree report text s source explains is said =
+    subst (λ (t : List ℕ). AnswersBytes processors budget bytes t s) (sym is) (subst (λ (u : Status). AnswersBytes processors budget bytes (ReportText report) u) (sym said) (reported tree report source explains))
 
-pub unbuilt_is : (budget : ℕ) (bytes : List ℕ) (a : Answer) → ((tree : PProgram) → Source bytes tree → ⊥) → IsUnbuilt a → AnswersBytes budget bytes a.text.items a.status
-unbuilt_is budget bytes a none is =
-    subst (λ (t : List ℕ). AnswersBytes budget bytes t a.status) (sym is.text)
-    (subst (λ (s : Status). AnswersBytes budget bytes (refused_text (record { line = 1; column = 1 }) refusals.Unbuilt) s) (sym is.status) (refused none))
+pub unbuilt_is : (processors budget : ℕ) (bytes : List ℕ) (a : Answer) → ((tree : PProgram) → Source bytes tree → ⊥) → IsUnbuilt a → AnswersBytes processors budget bytes a.text.items a.status
+unbuilt_is processors budget bytes a none is =
+    subst (λ (t : List ℕ). AnswersBytes processors budget bytes t a.status) (sym is.text)
+    (subst (λ (s : Status). AnswersBytes processors budget bytes (refused_text (record { line = 1; column = 1 }) refusals.Unbuilt) s) (sym is.status) (refused none))
 
-pub unbuilt_answered : (budget : ℕ) (bytes : List ℕ) (result : Result Answer AllocError) → ((tree : PProgram) → Source bytes tree → ⊥) → IfOk result IsUnbuilt → IfOk result (λ a. AnswersBytes budget bytes a.text.items a.status)
-unbuilt_answered budget bytes (Ok a) none is = unbuilt_is budget bytes a none is
-unbuilt_answered budget bytes (Err e) none is = is
+pub unbuilt_answered : (processors budget : ℕ) (bytes : List ℕ) (result : Result Answer AllocError) → ((tree : PProgram) → Source bytes tree → ⊥) → IfOk result IsUnbuilt → IfOk result (λ a. AnswersBytes processors budget bytes a.text.items a.status)
+unbuilt_answered processors budget bytes (Ok a) none is = unbuilt_is processors budget bytes a none is
+unbuilt_answered processors budget bytes (Err e) none is = is
 
--- the budget of a command is in its range
-in_range : (words : List (List ℕ)) (command : Words) (budget : ℕ) → WordsMean words (Ok command) → command ≡ Run budget → (1 ≤ budget) × (budget ≤ 4194304)
-in_range words command budget (meant ws meaning (run_command processors b p n one number)) is = let same : n ≡ budget = cc in (omega (arith, number.least, same), omega (arith, number.greatest, same))
+-- the numbers of a command are in their ranges
+pub record InRange (processors budget : ℕ) : Type 0 where
+  pub some : 1 ≤ processors
+  pub least : 1 ≤ budget
+  pub most : budget ≤ MOST_BUDGET
 
-pub budget_least : (words : List (List ℕ)) (command : Words) (budget : ℕ) → WordsMean words (Ok command) → command ≡ Run budget → 1 ≤ budget
-budget_least words command budget m is = (in_range words command budget m is).0
+pub in_range : (words : List (List ℕ)) (command : Words) (processors budget : ℕ) → WordsMean words (Ok command) → command ≡ Run processors budget → InRange processors budget
+in_range words command processors budget (meant ws meaning (run_command first second p b f s)) is =
+    let same : p ≡ processors = cc in
+    let also : b ≡ budget = cc in
+    record { some = omega (arith, f.least, same); least = omega (arith, s.least, also); most = omega (arith, s.greatest, also) }
 
-pub budget_most : (words : List (List ℕ)) (command : Words) (budget : ℕ) → WordsMean words (Ok command) → command ≡ Run budget → budget ≤ 4194304
-budget_most words command budget m is = (in_range words command budget m is).1
-
-pub command_answered : (words : List (List ℕ)) (r : Reading) (command : Words) (budget : ℕ) (result : Result Answer Unanswered) → WordsMean words (Ok command) → command ≡ Run budget → SourceAnswered budget r result → CallAnswered words r result
-command_answered words r command budget (Ok a) m is s = answered budget a.text.items a.status (subst (λ w. WordsMean words (Ok w)) is m) s
-command_answered words r command budget (Err why.ReadFault) m is s = record { budget = budget; means = subst (λ w. WordsMean words (Ok w)) is m; rose = s }
-command_answered words r command budget (Err why.NoMemory) m is s = s
+pub command_answered : (words : List (List ℕ)) (r : Reading) (command : Words) (processors budget : ℕ) (result : Result Answer Unanswered) → WordsMean words (Ok command) → command ≡ Run processors budget →
+    SourceAnswered processors budget r result → CallAnswered words r result
+command_answered words r command processors budget (Ok a) m is s = answered processors budget a.text.items a.status (subst (λ w. WordsMean words (Ok w)) is m) s
+command_answered words r command processors budget (Err why.ReadFault) m is s = record { processors = processors; budget = budget; means = subst (λ w. WordsMean words (Ok w)) is m; rose = s }
+command_answered words r command processors budget (Err why.NoMemory) m is s = s
 
 pub usage_answered : (words : List (List ℕ)) (r : Reading) (broken : BadWords) (result : Result Answer Unanswered) → Untouched r → WordsMean words (Err broken) → IsUsage broken result → CallAnswered words r result
 usage_answered words r broken (Ok a) still m u =
@@ -64,9 +69,9 @@ pub not_written : (words : List (List ℕ)) (r : Reading) (w : Writing) (text : 
     HasAnswer words r w status.WriteFault
 not_written words r w text s (writes.Failed count) a front rose = write_fault text s count a front.0 front.1 rose
 
-pub read_is : (budget : ℕ) (left left_after : Option (List ℕ)) (items bytes text : List ℕ) (s : Status) → bytes ≡ items → length items ≤ 262144 → IfSome left (λ all. items ≡ all) → IsAtEnd left_after → AnswersBytes budget bytes text s →
-    AnswersSource budget left left_after text s
-read_is budget left left_after items bytes text s is small all end a = read items text s small all end (subst (λ (b : List ℕ). AnswersBytes budget b text s) is a)
+pub read_is : (processors budget : ℕ) (left left_after : Option (List ℕ)) (items bytes text : List ℕ) (s : Status) → bytes ≡ items → length items ≤ MOST_SOURCE_BYTES → IfSome left (λ all. items ≡ all) → IsAtEnd left_after → AnswersBytes processors budget bytes text s →
+    AnswersSource processors budget left left_after text s
+read_is processors budget left left_after items bytes text s is small all end a = read items text s small all end (subst (λ (b : List ℕ). AnswersBytes processors budget b text s) is a)
 
-pub too_long_is : (budget : ℕ) (left left_after : Option (List ℕ)) (text : List ℕ) → IfSome left (λ bytes. 262144 < length bytes) → text ≡ too_long_text → AnswersSource budget left left_after text status.TooLong
-too_long_is budget left left_after text more is = subst (λ (t : List ℕ). AnswersSource budget left left_after t status.TooLong) (sym is) (too_long more)
+pub too_long_is : (processors budget : ℕ) (left left_after : Option (List ℕ)) (text : List ℕ) → IfSome left (λ bytes. MOST_SOURCE_BYTES < length bytes) → text ≡ too_long_text → AnswersSource processors budget left left_after text status.TooLong
+too_long_is processors budget left left_after text more is = subst (λ (t : List ℕ). AnswersSource processors budget left left_after t status.TooLong) (sym is) (too_long more)

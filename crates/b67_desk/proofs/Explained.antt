@@ -5,11 +5,11 @@ use Rattle.std.proofs.lemmas.List.Sums.{sum_by-cons}
 use Rattle.algol_tree.specs.Plain.{PProgram}
 use Rattle.b67_listing.specs.Listings.{ListingText}
 use Rattle.b67_segment.specs.declared.code.Code.{Code}
-use Rattle.algol_meaning.specs.World.{World}
-use Rattle.algol_meaning.specs.Run.{run, end_of, finished, fault}
-use Rattle.b67_table.specs.Image.{Image}
-use Rattle.b67_table.specs.Table.{image_end, ImageEnd}
-use Rattle.b67_table.specs.Runs.{Runs, begin, entry, none, next, count_of}
+use Rattle.algol_first_meaning.specs.World.{World}
+use Rattle.algol_first_meaning.specs.Run.{run, end_of, finished, fault}
+use Rattle.b67_first_table.specs.Image.{Image}
+use Rattle.b67_first_table.specs.Table.{image_end, ImageEnd}
+use Rattle.b67_first_table.specs.Runs.{TableRun, Runs, begin, entry, none, next, count_of}
 use Rattle.b67_relate.specs.Agreement.{end_as, Agrees}
 use Rattle.b67_relate.specs.Faithful.{Faithful, longest}
 use Rattle.b67_relate.proofs.Prologue.{reverse-replicate, length-zeros}
@@ -20,7 +20,8 @@ use Rattle.b67_first.specs.declared.machine.RunEnd.{RunEnd}
 use Rattle.b67_first.specs.declared.machine.RunEnd.TheVariants as runs
 use Rattle.b67_first.specs.declared.machine.Ran.{Ran}
 use Rattle.b67_first.specs.Ran.{RanTo, RunEndsAs}
-use Rattle.b67_desk.specs.Answers.{EndIs, Explains}
+use Rattle.b67_desk.specs.Answers.{EndIs, printed_counts}
+use Rattle.b67_desk.proofs.Started.{one_started}
 use Rattle.b67_desk.specs.Running.{HasWords, WordsAre}
 
 -- all the operators are process 1's
@@ -60,7 +61,7 @@ end_said code w image budget operators runs.StackLimit words a e is = absurd is
 
 module _ (tree : PProgram) (code : Code) (faithful : Faithful tree code) (budget : ℕ) (ran : Ran) (image : Image) (to : RanTo code ran.entries ran.operators image)
     (ends : RunEndsAs code image budget ran.operators ran.end) where
-  agrees : Agrees tree code (reverse (replicate ran.entries 1)) image
+  abbrev agrees : Agrees tree code (reverse (replicate ran.entries 1)) image
   agrees = faithful.legal (reverse (replicate ran.entries 1)) (to.tail ∷ []) image
       (record { history = replicate ran.entries 1; counts = to.counts; before_tails = to.before; order = refl; runs = to.runs; after = next to.plains none })
 
@@ -75,40 +76,37 @@ module _ (tree : PProgram) (code : Code) (faithful : Faithful tree code) (budget
   pub has_words : HasWords ran.end
   has_words = words_there ran.end ends
 
-  module _ (report : Report) (listed : ListingText code report.listing) (shown : image.output ≡ ran.output) (within : ran.operators ≤ budget) (words : WordsAre ran.end report.end) (output : report.output ≡ ran.output)
-      (operators : report.operators ≡ ran.operators ∷ []) (acts : report.acts ≡ ran.entries ∷ []) (schedule : entries report.schedule.runs ≡ replicate ran.entries 1) where
-    counted : count_of 1 (replicate ran.entries 1) to.counts + to.tail ≡ ran.operators
-    counted =
-        ap (λ n. n + to.tail) (count-all ran.entries to.counts (omega (arith, length-counts to.runs, length-zeros {A = ℕ} ran.entries 1))) ∙ sym to.counted
+  -- what stands in any report of the run
+  abbrev pub table_run : (schedule : List ℕ) → schedule ≡ replicate ran.entries 1 → TableRun code schedule (to.tail ∷ []) image
+  table_run schedule is =
+      record { history = replicate ran.entries 1; counts = to.counts; before_tails = to.before; order = is ∙ sym (reverse-replicate ran.entries 1); runs = to.runs; after = next to.plains none }
 
-    order : entries report.schedule.runs ≡ reverse (replicate ran.entries 1)
-    order = schedule ∙ sym (reverse-replicate ran.entries 1)
+  abbrev pub world : World
+  world = agrees.world
 
-    within_code : sum report.operators ≤ (length (entries report.schedule.runs) + length report.operators) * longest code.segments
-    within_code =
-        let h : List ℕ = reverse (replicate ran.entries 1) in
-        let few = faithful.few h (to.tail ∷ []) image
-        (record { history = replicate ran.entries 1; counts = to.counts; before_tails = to.before; order = refl; runs = to.runs; after = next to.plains none }) in
-        let long : (length (entries report.schedule.runs) + length report.operators) * longest code.segments ≡ (length h + 1) * longest code.segments =
-        ap (λ (n : ℕ). n * longest code.segments) (ap (λ (xs : List ℕ). length xs + length report.operators) order ∙ ap (λ (xs : List ℕ). length h + length xs) operators) in
-        omega (arith, few, long, to.counted, ap sum operators)
+  pub legal : (schedule : List ℕ) → schedule ≡ replicate ran.entries 1 → run tree schedule ≡ Some world
+  legal schedule is = ap (run tree) (is ∙ sym (reverse-replicate ran.entries 1)) ∙ agrees.is
 
-    pub explained : Explains tree budget report
-    explained = record {
-      world = agrees.world;
-      legal = ap (run tree) order ∙ agrees.is;
-      output = output ∙ sym shown ∙ agrees.shows.output;
-      ended = subst (λ os. EndIs report.end (end_of agrees.world) budget (sum os)) (sym operators) (end_said code agrees.world image budget ran.operators ran.end report.end agrees.shows.ends ends words);
-      few = omega (arith, within, ap sum operators);
-      acts = omega (arith, ap sum acts, ap length schedule, length-zeros {A = ℕ} ran.entries 1);
-      code = code;
-      listed = listed;
-      faithful = faithful;
-      tails = to.tail ∷ [];
-      image = image;
-      table_run = record { history = replicate ran.entries 1; counts = to.counts; before_tails = to.before; order = order; runs = to.runs; after = next to.plains none };
-      shown = shown ∙ sym output;
-      same_end = agrees.shows.ends;
-      counted = operators ∙ ap (λ n. n ∷ []) (sym counted);
-      bounded = within_code;
-    }
+  pub output : (lines : List (List ℕ)) → lines ≡ ran.output → image.output ≡ ran.output → lines ≡ world.output
+  output lines is shown = is ∙ sym shown ∙ agrees.shows.output
+
+  pub same_end : end_of world ≡ end_as (image_end image)
+  same_end = agrees.shows.ends
+
+  pub ended : (words : EndWords) → WordsAre ran.end words → (operators : List ℕ) → operators ≡ ran.operators ∷ [] → EndIs words (end_of world) budget (sum operators)
+  ended words are operators is = subst (λ os. EndIs words (end_of world) budget (sum os)) (sym is) (end_said code world image budget ran.operators ran.end words same_end ends are)
+
+  -- process 1 alone has been started
+  pub one_process : image.started ≡ 1
+  one_process = one_started (table_run (replicate ran.entries 1) refl)
+
+  pub counted : (operators : List ℕ) → operators ≡ ran.operators ∷ [] → operators ≡ printed_counts 1 (replicate ran.entries 1) to.counts (to.tail ∷ [])
+  counted operators is =
+      is ∙ ap (λ n. n ∷ []) (sym (ap (λ n. n + to.tail) (count-all ran.entries to.counts (omega (arith, length-counts to.runs, length-zeros {A = ℕ} ran.entries 1))) ∙ sym to.counted))
+
+  pub within_code : (schedule operators : List ℕ) → schedule ≡ replicate ran.entries 1 → operators ≡ ran.operators ∷ [] → sum operators ≤ (length schedule + length operators) * longest code.segments
+  within_code schedule operators is are =
+      let few = faithful.few schedule (to.tail ∷ []) image (table_run schedule is) in
+      let long : (length schedule + length operators) * longest code.segments ≡ (length schedule + 1) * longest code.segments =
+      ap (λ (xs : List ℕ). (length schedule + length xs) * longest code.segments) are in
+      omega (arith, few, long, to.counted, ap sum are)

@@ -2,6 +2,8 @@
 use Rattle.std.specs.Prelude.{◌≡◌, ℕ, ◌+◌, ◌*◌, ◌<◌, ◌≤◌, List, [], ◌∷◌, ◌++◌, length, sum, codes, Option, Some, None, IfSome, Ok, Err, take}
 use Rattle.std.specs.Fmt.{decimal}
 use Rattle.std.specs.Io.KnownBytes.{Appends, IsAtEnd}
+use Rattle.b67_words.specs.declared.TheConstants.{MOST_STRETCH}
+use Rattle.algol_tree.specs.declared.TheConstants.{MOST_SOURCE_BYTES}
 use Rattle.algol_tree.specs.declared.token.Spot.{Spot}
 use Rattle.algol_tree.specs.declared.refusal.Code.{Code as RefusalCode}
 use Rattle.algol_tree.specs.declared.refusal.Code.TheVariants as refusals
@@ -13,20 +15,20 @@ use Rattle.b67_words.specs.declared.BadWords.TheVariants as bad
 use Rattle.b67_words.specs.declared.UsageKind.{UsageKind}
 use Rattle.b67_words.specs.declared.UsageKind.TheVariants as kinds
 use Rattle.b67_words.specs.Grammar.{WordsMean}
-use Rattle.b67_schedule.specs.Schedules.{entries}
+use Rattle.b67_schedule.specs.Schedules.{entries, IsSchedule}
 use Rattle.b67_report.specs.declared.Report.{Report}
 use Rattle.b67_report.specs.declared.EndWords.{EndWords}
 use Rattle.b67_report.specs.declared.EndWords.TheVariants as ends
 use Rattle.b67_report.specs.Texts.{ReportText, line_text}
 use Rattle.b67_listing.specs.Listings.{ListingText}
 use Rattle.b67_segment.specs.declared.code.Code.{Code}
-use Rattle.algol_meaning.specs.World.{World}
-use Rattle.algol_meaning.specs.Run.{run, end_of, End, finished, fault}
-use Rattle.b67_table.specs.Image.{Image}
-use Rattle.b67_table.specs.Table.{image_end}
+use Rattle.algol_first_meaning.specs.World.{World}
+use Rattle.algol_first_meaning.specs.Run.{run, end_of, End, finished, fault}
+use Rattle.b67_first_table.specs.Image.{Image}
+use Rattle.b67_first_table.specs.Table.{image_end}
 use Rattle.b67_relate.specs.Agreement.{end_as}
 use Rattle.b67_relate.specs.Faithful.{Faithful, longest}
-use Rattle.b67_table.specs.Runs.{TableRun, count_of}
+use Rattle.b67_first_table.specs.Runs.{TableRun, count_of}
 use Rattle.b67_desk.specs.declared.status.Status.{Status}
 use Rattle.b67_desk.specs.declared.status.Status.TheVariants as status
 
@@ -86,16 +88,19 @@ abbrev pub printed_counts : ℕ → List ℕ → List ℕ → List ℕ → List 
 printed_counts p history counts [] = []
 printed_counts p history counts (tail ∷ tails) = (count_of p history counts + tail) ∷ printed_counts (p + 1) history counts tails
 
--- The report is one of a run of this source.
-pub record Explains (tree : PProgram) (budget : ℕ) (report : Report) : Type 0 where
+-- The report is one of a run of this source on so many processors.
+pub record Explains (tree : PProgram) (processors budget : ℕ) (report : Report) : Type 0 where
   pub world : World
-  -- the printed schedule is legal for the source, and the output is that of the source under it
+  -- the printed schedule is one: each of its runs has an entry at least, and neighbours are of different processes
+  pub schedule : IsSchedule report.schedule.runs
+  -- it is legal for the source, and the output is that of the source under it
   pub legal : run tree (entries report.schedule.runs) ≡ Some world
   pub output : report.output ≡ world.output
-  -- the end is the source's, or the budget is spent: then the operators come to the budget, and to less than 64 more
+  -- the end is the source's, or the budget is spent: then the operators come to the budget, and to less than a stretch more
   pub ended : EndIs report.end (end_of world) budget (sum report.operators)
-  pub few : sum report.operators < budget + 64
-  -- the acts of the processors add up to the entries
+  pub few : sum report.operators < budget + MOST_STRETCH
+  -- there is one number of acts for each processor, and they add up to the entries
+  pub processors_are : length report.acts ≡ processors
   pub acts : sum report.acts ≡ length (entries report.schedule.runs)
   -- the listing is that of a code that does what the source does for every list of choices
   pub code : Code
@@ -107,6 +112,8 @@ pub record Explains (tree : PProgram) (budget : ℕ) (report : Report) : Type 0 
   pub table_run : TableRun code (entries report.schedule.runs) tails image
   pub shown : image.output ≡ report.output
   pub same_end : end_of world ≡ end_as (image_end image)
+  -- there is one count of operators for each process that there has been, and it is that of this run
+  pub processes : length report.operators ≡ image.started
   pub counted : report.operators ≡ printed_counts 1 table_run.history table_run.counts tails
   -- for each entry, and for each process after the last one, at most as many operators as the longest segment has syllables
   pub bounded : sum report.operators ≤ (length (entries report.schedule.runs) + length report.operators) * longest code.segments
@@ -120,18 +127,20 @@ status_of (ends.StackLimit process words) = status.StackLimit process words
 status_of ends.ScheduleEnded = status.ScheduleEnded
 status_of (ends.Illegal entry) = status.Illegal entry
 
--- What these bytes are answered by under that budget: a refusal exactly where they are no source, else a report.
-pub data AnswersBytes (budget : ℕ) (bytes : List ℕ) : List ℕ → Status → Type 0 where
+-- What these bytes are answered by on so many processors under that budget: a refusal exactly where they are no source, else a
+-- report that explains each tree which the bytes are a source of.
+pub data AnswersBytes (processors budget : ℕ) (bytes : List ℕ) : List ℕ → Status → Type 0 where
   refused : ((tree : PProgram) → Source bytes tree → ⊥) →
-      AnswersBytes budget bytes (refused_text (record { line = 1; column = 1 }) refusals.Unbuilt) (status.Refused (record { line = 1; column = 1 }) refusals.Unbuilt)
-  reported : (tree : PProgram) (report : Report) → Source bytes tree → Explains tree budget report → AnswersBytes budget bytes (ReportText report) (status_of report.end)
+      AnswersBytes processors budget bytes (refused_text (record { line = 1; column = 1 }) refusals.Unbuilt) (status.Refused (record { line = 1; column = 1 }) refusals.Unbuilt)
+  reported : (tree : PProgram) (report : Report) → Source bytes tree → ((t : PProgram) → Source bytes t → Explains t processors budget report) →
+      AnswersBytes processors budget bytes (ReportText report) (status_of report.end)
 
 -- What a source is answered by, from the bytes that it has left, before and after, where it tells them: too long exactly where more
 -- than 262,144 are left; else it is read to its end, and its bytes are all that it had left.
-pub data AnswersSource (budget : ℕ) (left left_after : Option (List ℕ)) : List ℕ → Status → Type 0 where
-  too_long : IfSome left (λ bytes. 262144 < length bytes) → AnswersSource budget left left_after too_long_text status.TooLong
-  read : (bytes text : List ℕ) (s : Status) → length bytes ≤ 262144 → IfSome left (λ all. bytes ≡ all) → IsAtEnd left_after → AnswersBytes budget bytes text s →
-      AnswersSource budget left left_after text s
+pub data AnswersSource (processors budget : ℕ) (left left_after : Option (List ℕ)) : List ℕ → Status → Type 0 where
+  too_long : IfSome left (λ bytes. MOST_SOURCE_BYTES < length bytes) → AnswersSource processors budget left left_after too_long_text status.TooLong
+  read : (bytes text : List ℕ) (s : Status) → length bytes ≤ MOST_SOURCE_BYTES → IfSome left (λ all. bytes ≡ all) → IsAtEnd left_after →
+      AnswersBytes processors budget bytes text s → AnswersSource processors budget left left_after text s
 
 -- ---- a call
 
@@ -151,12 +160,14 @@ pub record Untouched (r : Reading) : Type 0 where
 -- break the grammar, and then nothing is read.
 pub data Answers (words : List (List ℕ)) (r : Reading) : List ℕ → Status → Type 0 where
   usage : (word : ℕ) (kind : UsageKind) → WordsMean words (Err (bad.Usage word kind)) → Untouched r → Answers words r (usage_text word kind) (status.Usage word kind)
-  answered : (budget : ℕ) (text : List ℕ) (s : Status) → WordsMean words (Ok (Run budget)) → AnswersSource budget r.left r.left_after text s → Answers words r text s
+  answered : (processors budget : ℕ) (text : List ℕ) (s : Status) → WordsMean words (Ok (Run processors budget)) →
+      AnswersSource processors budget r.left r.left_after text s → Answers words r text s
 
 -- the source failed: its count rose
 pub record Unreadable (words : List (List ℕ)) (r : Reading) : Type 0 where
+  pub processors : ℕ
   pub budget : ℕ
-  pub means : WordsMean words (Ok (Run budget))
+  pub means : WordsMean words (Ok (Run processors budget))
   pub rose : Rose r.faults r.faults_after
 
 -- what a call found and left of its sink
@@ -166,11 +177,16 @@ pub record Writing : Type 0 where
   pub faults : ℕ
   pub faults_after : ℕ
 
--- How a call ended. Want of memory is free, and then nothing was written; a fault of reading or writing comes only where that count
--- rose; what was written when the sink failed is a front of a text that answers the call.
+-- The sink was not called: nothing was written, and its count is as it was.
+pub record Unwritten (w : Writing) : Type 0 where
+  pub written : w.written_after ≡ w.written
+  pub faults : w.faults_after ≡ w.faults
+
+-- How a call ended. Want of memory is free, and then the sink was not called; a fault of reading or writing comes only where that
+-- count rose; what was written when the sink failed is a front of a text that answers the call.
 pub data HasAnswer (words : List (List ℕ)) (r : Reading) (w : Writing) : Status → Type 0 where
   told : (text : List ℕ) (s : Status) → Answers words r text s → Appends w.written w.written_after text → HasAnswer words r w s
   write_fault : (text : List ℕ) (instead_of : Status) (count : ℕ) → Answers words r text instead_of → count < length text →
       Appends w.written w.written_after (take count text) → Rose w.faults w.faults_after → HasAnswer words r w status.WriteFault
-  read_fault : Unreadable words r → w.written_after ≡ w.written → HasAnswer words r w status.ReadFault
-  no_memory : w.written_after ≡ w.written → HasAnswer words r w status.NoMemory
+  read_fault : Unreadable words r → Unwritten w → HasAnswer words r w status.ReadFault
+  no_memory : Unwritten w → HasAnswer words r w status.NoMemory

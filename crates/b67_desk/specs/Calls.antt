@@ -12,10 +12,10 @@ use Rattle.algol_tree.specs.declared.refusal.Code.TheVariants as refusals
 use Rattle.b67_desk.specs.Answers.{usage_text, refused_text, AnswersSource, Answers, Reading, Unreadable}
 
 -- the source is answered, or it failed, or memory ran out
-abbrev pub SourceAnswered : ℕ → Reading → Result Answer Unanswered → Type 0
-SourceAnswered budget r (Ok a) = AnswersSource budget r.left r.left_after a.text.items a.status
-SourceAnswered budget r (Err why.ReadFault) = Rose r.faults r.faults_after
-SourceAnswered budget r (Err why.NoMemory) = Unit {0}
+abbrev pub SourceAnswered : ℕ → ℕ → Reading → Result Answer Unanswered → Type 0
+SourceAnswered processors budget r (Ok a) = AnswersSource processors budget r.left r.left_after a.text.items a.status
+SourceAnswered processors budget r (Err why.ReadFault) = Rose r.faults r.faults_after
+SourceAnswered processors budget r (Err why.NoMemory) = Unit {0}
 
 -- the call is answered, or its source failed, or memory ran out
 abbrev pub CallAnswered : List (List ℕ) → Reading → Result Answer Unanswered → Type 0

@@ -1,6 +1,8 @@
 //! The top call.
 
 ghost use Rattle.std.specs.Prelude.{◌≡◌, ◌≤◌, ℕ, IfOk, length, map, string_bytes};
+ghost use Rattle.b67_words.specs.declared.TheConstants.{MOST_BUDGET};
+ghost use Rattle.algol_tree.specs.declared.TheConstants.{MOST_SOURCE_BYTES};
 ghost use Rattle.b67_desk.specs.Answers.{AnswersBytes, HasAnswer, status_of};
 ghost use Rattle.b67_desk.specs.Calls.{SourceAnswered, CallAnswered, IsUsage, IsUnbuilt};
 
@@ -8,14 +10,11 @@ use crate::report::report_of;
 use crate::status::Status;
 use crate::texts::{too_long_line, unbuilt_line, usage_line};
 use algol_first::{Unread, straight_of};
-use algol_tree::{Code, Spot};
+use algol_tree::{Code as RefusalCode, MOST_SOURCE_BYTES, Spot};
 use b67_io::{ReadAll, Sink, Source, WriteAll, read_all, write_all};
 use b67_report::{EndWords, text as report_text};
 use b67_words::{BadWords, UsageKind, Words, read_words};
 use std::alloc::{AllocError, Global};
-
-/// The greatest number of bytes that a source has.
-const MOST_BYTES: usize = 262144;
 
 /// What is to be written, and the status that it is written under.
 #[derive(Drop)]
@@ -55,21 +54,27 @@ fn refuse_source(alloc: Global) -> Result<Answer, AllocError>
         text: unbuilt_line(alloc, place)?,
         status: Status::Refused {
             place,
-            code: Code::Unbuilt,
+            code: RefusalCode::Unbuilt,
         },
     })
 }
 
-/// The answer to a text of at most 262,144 bytes under a budget.
-fn answer_bytes(alloc: Global, budget: u64, bytes: &[u8]) -> Result<Answer, AllocError>
-    requires small { length bytes.now ≤ 262144 }
+/// The answer to a text of at most [`MOST_SOURCE_BYTES`], on so many processors under a budget.
+fn answer_bytes(
+    alloc: Global,
+    processors: u32,
+    budget: u64,
+    bytes: &[u8],
+) -> Result<Answer, AllocError>
+    requires small { length bytes.now ≤ MOST_SOURCE_BYTES }
+    requires some { 1 ≤ processors }
     requires least { 1 ≤ budget }
-    requires most { budget ≤ 4194304 }
-    ensures { IfOk result (λ answer. AnswersBytes budget bytes.now answer.text.items answer.status) }
+    requires most { budget ≤ MOST_BUDGET }
+    ensures { IfOk result (λ answer. AnswersBytes processors budget bytes.now answer.text.items answer.status) }
 {
     match straight_of(alloc, bytes) {
         Ok(straight) => {
-            let report = report_of(alloc, budget, &straight)?;
+            let report = report_of(alloc, processors, budget, &straight)?;
             Ok(Answer {
                 text: report_text(alloc, &report)?,
                 status: status_of(report.end),
@@ -83,20 +88,22 @@ fn answer_bytes(alloc: Global, budget: u64, bytes: &[u8]) -> Result<Answer, Allo
 /// Reads the source to its end and answers it.
 fn answer_source<S: Source>(
     alloc: Global,
+    processors: u32,
     budget: u64,
     source: &mut S,
 ) -> Result<Answer, Unanswered>
+    requires some { 1 ≤ processors }
     requires least { 1 ≤ budget }
-    requires most { budget ≤ 4194304 }
-    ensures { SourceAnswered budget (record {
+    requires most { budget ≤ MOST_BUDGET }
+    ensures { SourceAnswered processors budget (record {
       left = S.left source.old;
       left_after = S.left source.new;
       faults = S.faults source.old;
       faults_after = S.faults source.new;
     }) result }
 {
-    match read_all(alloc, source, MOST_BYTES) {
-        Ok(bytes) => match answer_bytes(alloc, budget, bytes.as_slice()) {
+    match read_all(alloc, source, MOST_SOURCE_BYTES) {
+        Ok(bytes) => match answer_bytes(alloc, processors, budget, bytes.as_slice()) {
             Ok(answer) => Ok(answer),
             Err(_) => Err(Unanswered::NoMemory),
         },
@@ -112,12 +119,12 @@ fn answer_source<S: Source>(
     }
 }
 
-/// The budget of a command.
-fn budget_in(command: Words) -> u64
-    ensures { command ≡ Words.Run result }
+/// The number of processors and the budget of a command.
+fn run_in(command: Words) -> (u32, u64)
+    ensures { command ≡ Words.Run result.0 result.1 }
 {
     match command {
-        Words::Run { budget } => budget,
+        Words::Run { processors, budget } => (processors, budget),
     }
 }
 
@@ -158,7 +165,10 @@ fn answer_call<S: Source>(
     }) result }
 {
     match read_words(words) {
-        Ok(command) => answer_source(alloc, budget_in(command), source),
+        Ok(command) => {
+            let (processors, budget) = run_in(command);
+            answer_source(alloc, processors, budget, source)
+        }
         Err(bad) => refuse_words(alloc, bad),
     }
 }
@@ -166,9 +176,10 @@ fn answer_call<S: Source>(
 /// The top call: reads the words of a command and a source, runs what they ask for in the caller as processor 1, and
 /// writes the answer.
 ///
-/// `words` are the words after the program's name; today the one command is `run 1 B` with a budget B of 1 to 4,194,304
-/// operators. `source` gives the bytes of an ALGOL source, at most 262,144 of them, and is read to its end. `sink` gets
-/// the answer whole: the report of the run, or one line of refusal. It returns on every input.
+/// `words` are the words after the program's name; today the one command is `run 1 B` with a budget B of 1 to
+/// [`MOST_BUDGET`](b67_words::MOST_BUDGET) operators. `source` gives the bytes of an ALGOL source, at most
+/// [`MOST_SOURCE_BYTES`] of them, and is read to its end. `sink` gets the answer whole: the report of the run, or one
+/// line of refusal. It returns on every input.
 ///
 /// The first of these that holds is the answer. `Usage` comes exactly where the words break the grammar, names the first
 /// word that does, and nothing is read. `ReadFault` comes only where the source's count of faults rose, and nothing is

@@ -3,7 +3,7 @@
 ghost use Rattle.std.specs.Prelude.{◌≡◌};
 ghost use Rattle.b67_desk.specs.Exits.{exit_status};
 
-use algol_tree::{Code, Spot};
+use algol_tree::{Code as RefusalCode, Spot};
 use b67_num::FaultKind;
 use b67_words::UsageKind;
 
@@ -13,7 +13,7 @@ pub enum Status {
     /// The run came to the end of process 1.
     Finished,
     /// The source is refused: the place and the reason.
-    Refused { place: Spot, code: Code },
+    Refused { place: Spot, code: RefusalCode },
     /// The words are no command: the first word that breaks the grammar, counted from 1, and what is wrong with it.
     Usage { word: u32, kind: UsageKind },
     /// A process came to a fault.

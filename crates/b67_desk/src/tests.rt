@@ -1,8 +1,9 @@
 //! The worked sources, and faults in mid-stream.
 
 use super::*;
-use algol_tree::{Code, Spot};
+use algol_tree::{Code as RefusalCode, Spot};
 use b67_io::{MemorySink, MemorySource};
+use b67_list::push_number;
 use b67_num::FaultKind;
 use b67_words::UsageKind;
 use std::alloc::{AllocError, Global};
@@ -67,7 +68,7 @@ fn answered(alloc: Global, line: &str, bytes: &[u8]) -> Result<Told, AllocError>
 fn unbuilt() -> Status {
     Status::Refused {
         place: Spot { line: 1, column: 1 },
-        code: Code::Unbuilt,
+        code: RefusalCode::Unbuilt,
     }
 }
 
@@ -212,10 +213,8 @@ fn what_is_refused(rt: HostRuntime) -> Result<(), Fail> {
 /// A source of so many integers, of which the first is written.
 fn with_integers(alloc: Global, count: u32) -> Result<Vec<u8>, AllocError> {
     let mut bytes = Vec::from_slice(alloc, b"BEGIN FILE LINE; INTEGER I0")?;
-    let mut digits = itoa::Buffer::new();
     for number in 1..count {
-        bytes.extend_from_slice(b",\nI")?;
-        bytes.extend_from_slice(digits.format(number).as_bytes())?;
+        push_number(&mut bytes, b",\nI", number)?;
     }
     bytes.extend_from_slice(b";\nI0:=7; WRITE(LINE,<I1>,I0) END.\n")?;
     Ok(bytes)

@@ -1,12 +1,11 @@
 //! The lines of the answers that are no report.
 
 ghost use Rattle.std.specs.Prelude.{◌≡◌, ◌++◌, IfOk, OnOk};
-ghost use Rattle.std.specs.Fmt.{decimal};
 ghost use Rattle.b67_desk.specs.Answers.{usage_words, usage_text, refused_text, too_long_text};
 
-use algol_tree::{Code, Spot};
+use algol_tree::{Code as RefusalCode, Spot};
+use b67_list::push_number;
 use b67_words::UsageKind;
-use itoa::Buffer;
 use std::alloc::{AllocError, Global};
 
 /// The words of what is wrong with a word.
@@ -22,21 +21,12 @@ fn usage_words(kind: UsageKind) -> &'static [u8]
     }
 }
 
-/// Appends a number in decimal digits.
-fn push_number(text: &mut Vec<u8>, number: u32) -> Result<(), AllocError>
-    ensures { OnOk result (text.new.items ≡ text.old.items ++ decimal number) }
-{
-    let mut digits = Buffer::new();
-    text.extend_from_slice(digits.format(number).as_bytes())
-}
-
 /// The line that names the word that breaks the grammar.
 pub fn usage_line(alloc: Global, word: u32, kind: UsageKind) -> Result<Vec<u8>, AllocError>
     ensures { IfOk result (λ text. text.items ≡ usage_text word kind) }
 {
     let mut text = Vec::new(alloc);
-    text.extend_from_slice(b"USAGE ")?;
-    push_number(&mut text, word)?;
+    push_number(&mut text, b"USAGE ", word)?;
     text.extend_from_slice(b" ")?;
     text.extend_from_slice(usage_words(kind))?;
     text.extend_from_slice(b"\n")?;
@@ -45,13 +35,11 @@ pub fn usage_line(alloc: Global, word: u32, kind: UsageKind) -> Result<Vec<u8>, 
 
 /// The line of a source that is not built yet.
 pub fn unbuilt_line(alloc: Global, place: Spot) -> Result<Vec<u8>, AllocError>
-    ensures { IfOk result (λ text. text.items ≡ refused_text place Code.Unbuilt) }
+    ensures { IfOk result (λ text. text.items ≡ refused_text place RefusalCode.Unbuilt) }
 {
     let mut text = Vec::new(alloc);
-    text.extend_from_slice(b"REFUSED U0 ")?;
-    push_number(&mut text, place.line)?;
-    text.extend_from_slice(b":")?;
-    push_number(&mut text, place.column)?;
+    push_number(&mut text, b"REFUSED U0 ", place.line)?;
+    push_number(&mut text, b":", place.column)?;
     text.extend_from_slice(b"\n")?;
     Ok(text)
 }

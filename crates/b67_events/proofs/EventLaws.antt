@@ -3,9 +3,8 @@ use Rattle.std.proofs.Common.{◌≡◌, ◌≢◌, ℕ, Bool, true, false, cond
 use Rattle.std.specs.Prelude.{filter, Some, None, is_some}
 use Rattle.std.specs.Option.{option_map}
 use Rattle.std.proofs.lemmas.Bool.{cases_Bool, cond-true, cond-false, both_ways, false_from_ne_true, not_from_true, not_from_false, or_from, or_parts}
-use Rattle.std.proofs.lemmas.List.Folds.{list_any-append}
 use Rattle.b67_word.specs.declared.Place.{Place}
-use Rattle.b67_events.specs.Events.{Event, same_place, event_at, is_open, is_from, changed, fresh, opened, closed_from}
+use Rattle.b67_events.specs.Events.{Event, same_place, event_at, is_open, is_from, changed, fresh, is_before, placed, opened, closed_from}
 use Rattle.b67_events.specs.Laws.{StaysInPlace, AreApart, OneEventChanges, EventsStayApart}
 use Rattle.b67_events.proofs.Listed.{same_place-true, same_place-self}
 use Rattle.b67_events.proofs.Queued.{any-filter}
@@ -90,28 +89,16 @@ module _ (at : Place) where
   unfolding others
   remains e es h = cond-true (not (same_place e.place at)) (e ∷ others es) (others es) (not_from_false (same_place e.place at) h)
 
-  opened-here : (es : List Event) → event_at at (others es ++ fresh at ∷ []) ≡ Some (fresh at)
+  others-elsewhere : (to : Place) → to ≢ at → (es : List Event) → event_at to (others es) ≡ event_at to es
   unfolding others
-  opened-here [] = cond-true (same_place at at) (Some (fresh at)) None (same_place-self at at refl)
-  opened-here (e ∷ es) = elim (cases_Bool (same_place e.place at)) [
-    | inl h ↦ ap (λ xs. event_at at (xs ++ fresh at ∷ [])) (goes e es h) ∙ opened-here es
-    | inr h ↦
-        ap (λ xs. event_at at (xs ++ fresh at ∷ [])) (remains e es h)
-        ∙ cond-false (same_place e.place at) (Some e) (event_at at (others es ++ fresh at ∷ [])) h
-        ∙ opened-here es
-  ]
-
-  opened-elsewhere : (to : Place) → to ≢ at → (es : List Event) → event_at to (others es ++ fresh at ∷ []) ≡ event_at to es
-  unfolding others
-  opened-elsewhere to other [] = cond-false (same_place at to) (Some (fresh at)) None (apart at to (λ e. other (sym e)))
-  opened-elsewhere to other (e ∷ es) =
+  others-elsewhere to other [] = refl
+  others-elsewhere to other (e ∷ es) =
       let t = same_place e.place to in
       elim (cases_Bool (same_place e.place at)) [
         | inl h ↦
             let no : t ≡ false = false_from_ne_true t (λ k. other (sym (same_place-true e.place to k) ∙ same_place-true e.place at h)) in
-            ap (λ xs. event_at to (xs ++ fresh at ∷ [])) (goes e es h) ∙ opened-elsewhere to other es ∙ sym (cond-false t (Some e) (event_at to es) no)
-        | inr h ↦
-            ap (λ xs. event_at to (xs ++ fresh at ∷ [])) (remains e es h) ∙ ap (λ r. cond t (Some e) r) (opened-elsewhere to other es)
+            ap (event_at to) (goes e es h) ∙ others-elsewhere to other es ∙ sym (cond-false t (Some e) (event_at to es) no)
+        | inr h ↦ ap (event_at to) (remains e es h) ∙ ap (λ r. cond t (Some e) r) (others-elsewhere to other es)
       ]
 
   none_left : (es : List Event) → is_open at (others es) ≡ false
@@ -122,6 +109,61 @@ module _ (at : Place) where
     | inr h ↦ ap (is_open at) (remains e es h) ∙ or_from (same_place e.place at) (is_open at (others es)) h (none_left es)
   ]
 
+-- an event among the others at its place
+module _ (f : Event) where
+  before : (e : Event) (es : List Event) → is_before f.place e.place ≡ true → placed f (e ∷ es) ≡ f ∷ e ∷ es
+  before e es h = cond-true (is_before f.place e.place) (f ∷ e ∷ es) (e ∷ placed f es) h
+
+  behind : (e : Event) (es : List Event) → is_before f.place e.place ≡ false → placed f (e ∷ es) ≡ e ∷ placed f es
+  behind e es h = cond-false (is_before f.place e.place) (f ∷ e ∷ es) (e ∷ placed f es) h
+
+  placed-here : (es : List Event) → is_open f.place es ≡ false → event_at f.place (placed f es) ≡ Some f
+  placed-here [] none = cond-true (same_place f.place f.place) (Some f) None (same_place-self f.place f.place refl)
+  placed-here (e ∷ es) none =
+      let parts = or_parts (same_place e.place f.place) (is_open f.place es) none in
+      elim (cases_Bool (is_before f.place e.place)) [
+        | inl h ↦
+            ap (event_at f.place) (before e es h)
+            ∙ cond-true (same_place f.place f.place) (Some f) (event_at f.place (e ∷ es)) (same_place-self f.place f.place refl)
+        | inr h ↦
+            ap (event_at f.place) (behind e es h)
+            ∙ cond-false (same_place e.place f.place) (Some e) (event_at f.place (placed f es)) parts.0
+            ∙ placed-here es parts.1
+      ]
+
+  placed-elsewhere : (to : Place) → same_place f.place to ≡ false → (es : List Event) → event_at to (placed f es) ≡ event_at to es
+  placed-elsewhere to other [] = cond-false (same_place f.place to) (Some f) None other
+  placed-elsewhere to other (e ∷ es) = elim (cases_Bool (is_before f.place e.place)) [
+    | inl h ↦ ap (event_at to) (before e es h) ∙ cond-false (same_place f.place to) (Some f) (event_at to (e ∷ es)) other
+    | inr h ↦ ap (event_at to) (behind e es h) ∙ ap (λ r. cond (same_place e.place to) (Some e) r) (placed-elsewhere to other es)
+  ]
+
+  placed-none : (to : Place) → same_place f.place to ≡ false → (es : List Event) → is_open to es ≡ false → is_open to (placed f es) ≡ false
+  placed-none to other [] none = or_from (same_place f.place to) false other refl
+  placed-none to other (e ∷ es) none =
+      let parts = or_parts (same_place e.place to) (is_open to es) none in
+      elim (cases_Bool (is_before f.place e.place)) [
+        | inl h ↦ ap (is_open to) (before e es h) ∙ or_from (same_place f.place to) (is_open to (e ∷ es)) other none
+        | inr h ↦ ap (is_open to) (behind e es h) ∙ or_from (same_place e.place to) (is_open to (placed f es)) parts.0 (placed-none to other es parts.1)
+      ]
+
+  apart-placed : (es : List Event) → is_open f.place es ≡ false → AreApart es → AreApart (placed f es)
+  apart-placed [] none h = (refl, tt)
+  apart-placed (e ∷ es) none h =
+      let parts = or_parts (same_place e.place f.place) (is_open f.place es) none in
+      elim (cases_Bool (is_before f.place e.place)) [
+        | inl k ↦ rw (before e es k) (none, h)
+        | inr k ↦ rw (behind e es k) (placed-none e.place (turned e.place f.place parts.0) es h.0, apart-placed es parts.1 h.1)
+      ]
+
+opened-here : (at : Place) (es : List Event) → event_at at (opened at es) ≡ Some (fresh at)
+unfolding others
+opened-here at es = placed-here (fresh at) (others at es) (none_left at es)
+
+opened-elsewhere : (at to : Place) → to ≢ at → (es : List Event) → event_at to (opened at es) ≡ event_at to es
+unfolding others
+opened-elsewhere at to other es = placed-elsewhere (fresh at) to (apart at to (λ e. other (sym e))) (others at es) ∙ others-elsewhere at to other es
+
 apart-filter : (r : Event → Bool) (es : List Event) → AreApart es → AreApart (filter r es)
 apart-filter r [] h = tt
 apart-filter r (e ∷ es) h = elim (cases_Bool (r e)) [
@@ -129,20 +171,10 @@ apart-filter r (e ∷ es) h = elim (cases_Bool (r e)) [
   | inr k ↦ rw (cond-false (r e) (e ∷ filter r es) (filter r es) k) (apart-filter r es h.1)
 ]
 
-apart-push : (f : Event) (es : List Event) → is_open f.place es ≡ false → AreApart es → AreApart (es ++ f ∷ [])
-apart-push f [] none h = (refl, tt)
-apart-push f (e ∷ es) none h =
-    let parts = or_parts (same_place e.place f.place) (is_open f.place es) none in
-    let last : same_place f.place e.place ≡ false = turned e.place f.place parts.0 in (
-      list_any-append (λ g. same_place g.place e.place) es (f ∷ [])
-          ∙ or_from (is_open e.place es) (is_open e.place (f ∷ [])) h.0 (or_from (same_place f.place e.place) false last refl),
-      apart-push f es parts.1 h.1,
-    )
-
 apart-opened : (at : Place) (es : List Event) → AreApart es → AreApart (opened at es)
 unfolding others
 apart-opened at es h =
-    apart-push (fresh at) (others at es) (none_left at es) (apart-filter (λ e. not (same_place e.place at)) es h)
+    apart-placed (fresh at) (others at es) (none_left at es) (apart-filter (λ e. not (same_place e.place at)) es h)
 
 module _ (stack low : ℕ) (to : Place) where
   test : Event → Bool

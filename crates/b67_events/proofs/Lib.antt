@@ -1,4 +1,5 @@
 pub mod Listed
+pub mod Places
 pub mod Shown
 pub mod Queued
 pub mod Steps

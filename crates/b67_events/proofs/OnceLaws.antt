@@ -4,7 +4,7 @@ use Rattle.std.specs.Prelude.{filter, slice_get, Some}
 use Rattle.std.specs.List.{list_any}
 use Rattle.std.proofs.lemmas.Bool.{cases_Bool, cond-true, cond-false, both_ways, false_from_ne_true, eqb-true, eq-eqb, or_cases, or_parts}
 use Rattle.b67_word.specs.declared.Place.{Place}
-use Rattle.b67_events.specs.Events.{Event, same_place, event_at, is_open, is_from, waiters_of, waiters_at, procurers_of, procurers_at, happened_at, available_at, is_waiting, changed, fresh, joined, caused, cleared, taken, queued, served, passed_on}
+use Rattle.b67_events.specs.Events.{Event, same_place, event_at, is_open, is_from, waiters_of, waiters_at, procurers_of, procurers_at, happened_at, available_at, is_waiting, changed, fresh, is_before, placed, joined, caused, cleared, taken, queued, served, passed_on}
 use Rattle.b67_events.specs.Laws.{AreApart}
 use Rattle.b67_events.specs.Once.{times_in, times_at, times, EachOnce, EachWaitsOnce, ReleasedWaitNowhere}
 use Rattle.b67_events.proofs.Listed.{same_place-true}
@@ -81,9 +81,14 @@ times-filter p r (e ∷ es) =
       | inr h ↦ let is : times p (filter r (e ∷ es)) ≡ times p (filter r es) = ap (times p) (cond-false (r e) (e ∷ filter r es) (filter r es) h) in omega arith
     ]
 
-times-push : (p : ℕ) (es : List Event) (e : Event) → times p (es ++ e ∷ []) ≡ times p es + times_at p e
-times-push p [] e = omega arith
-times-push p (x ∷ es) e = let rest = times-push p es e in omega arith
+times-placed : (p : ℕ) (f : Event) (es : List Event) → times p (placed f es) ≡ times p es + times_at p f
+times-placed p f [] = omega arith
+times-placed p f (e ∷ es) =
+    let rest = times-placed p f es in
+    elim (cases_Bool (is_before f.place e.place)) [
+      | inl h ↦ ap (times p) (cond-true (is_before f.place e.place) (f ∷ e ∷ es) (e ∷ placed f es) h) ∙ omega arith
+      | inr h ↦ ap (times p) (cond-false (is_before f.place e.place) (f ∷ e ∷ es) (e ∷ placed f es) h) ∙ omega arith
+    ]
 
 unchanged : (at : Place) (change : Event → Event) (es : List Event) → is_open at es ≡ false → changed at change es ≡ es
 unchanged at change [] h = refl
@@ -221,7 +226,7 @@ waits_once = record {
     once = λ p.
         let rest = filter (λ (e : Event). not (same_place e.place at)) es in
         let fewer = times-filter p (λ e. not (same_place e.place at)) es in
-        let pushed = times-push p rest (fresh at) in
+        let one = times-placed p (fresh at) rest in
         let before = h.once p in omega arith;
   };
   by_closing = λ stack low es h. record {

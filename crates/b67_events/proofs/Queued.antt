@@ -7,8 +7,8 @@ use Rattle.std.proofs.lemmas.List.Folds.{list_any-append}
 use Rattle.std.proofs.lemmas.List.{length-map}
 use Rattle.std.proofs.lemmas.Map.Steps.{length-le_from_distinct_below}
 use Rattle.b67_word.specs.declared.Place.{Place}
-use Rattle.b67_events.specs.Events.{same_place, is_waiting}
-use Rattle.b67_events.specs.Kept.{same_queue, stands_in, listed, events_of, has_flags, set_flags, without_first, among, AreQueued}
+use Rattle.b67_events.specs.Events.{same_place, is_before, is_waiting}
+use Rattle.b67_events.specs.Kept.{same_queue, stands_in, listed, Entry, events_of, has_flags, set_flags, put, AreWithin, without_first, among, AreQueued}
 use Rattle.b67_events.specs.declared.Flags.{Flags}
 use Rattle.b67_events.specs.declared.Queue.{Queue}
 use Rattle.b67_events.specs.declared.Queue.TheVariants.{Waiters, Procurers}
@@ -37,7 +37,7 @@ module _ {X : Type 0} where
       ]
 
 -- some who wait go, and the events that the others wait for stay open
-pub queued-filter : (fs gs : List Flags) (n : ℕ) (r : Waiting → Bool)
+pub queued-filter : (fs gs : List Entry) (n : ℕ) (r : Waiting → Bool)
     → ((w : Waiting) → r w ≡ true → has_flags w.place fs ≡ true → has_flags w.place gs ≡ true)
     → (ws : List Waiting) → AreQueued fs n ws → AreQueued gs n (filter r ws)
 queued-filter fs gs n r stays [] h = tt
@@ -50,12 +50,12 @@ queued-filter fs gs n r stays (w ∷ ws) h =
       | inr e ↦ subst (AreQueued gs n) (sym (cond-false (r w) (w ∷ filter r ws) (filter r ws) e)) rest
     ]
 
-pub queued-flags : (fs gs : List Flags) (n : ℕ) → ((at : Place) → has_flags at fs ≡ true → has_flags at gs ≡ true)
+pub queued-flags : (fs gs : List Entry) (n : ℕ) → ((at : Place) → has_flags at fs ≡ true → has_flags at gs ≡ true)
     → (ws : List Waiting) → AreQueued fs n ws → AreQueued gs n ws
 queued-flags fs gs n stays [] h = tt
 queued-flags fs gs n stays (w ∷ ws) h = (h.0, h.1, stays w.place h.2, h.3, queued-flags fs gs n stays ws h.4)
 
-pub queued-first : (fs gs : List Flags) (n : ℕ) (u : Waiting → Bool)
+pub queued-first : (fs gs : List Entry) (n : ℕ) (u : Waiting → Bool)
     → ((at : Place) → has_flags at fs ≡ true → has_flags at gs ≡ true)
     → (ws : List Waiting) → AreQueued fs n ws → AreQueued gs n (without_first u ws)
 queued-first fs gs n u stays [] h = tt
@@ -69,7 +69,7 @@ queued-first fs gs n u stays (w ∷ ws) h = elim (cases_Bool (u w)) [
 eqb-turn : (a b : ℕ) → eqb a b ≡ false → eqb b a ≡ false
 eqb-turn a b h = false_from_ne_true (eqb b a) (λ k. both_ways (eqb a b) h (eq-eqb a b (sym (eqb-true b a k))))
 
-pub queued-push : (fs : List Flags) (n : ℕ) (w : Waiting) → 1 ≤ w.process → w.process ≤ n → has_flags w.place fs ≡ true
+pub queued-push : (fs : List Entry) (n : ℕ) (w : Waiting) → 1 ≤ w.process → w.process ≤ n → has_flags w.place fs ≡ true
     → (ws : List Waiting) → among w.process ws ≡ false → AreQueued fs n ws → AreQueued fs n (ws ++ w ∷ [])
 queued-push fs n w low high stays [] idle h = (low, high, stays, refl, tt)
 queued-push fs n w low high stays (v ∷ ws) idle h =
@@ -81,40 +81,62 @@ queued-push fs n w low high stays (v ∷ ws) idle h =
     (h.0, h.1, h.2, once, queued-push fs n w low high stays ws parts.1 h.4)
 
 -- flags that are set, and events that are closed elsewhere, leave events open
-pub open-set : (at : Place) (change : Flags → Flags) → ((f : Flags) → (change f).place ≡ f.place)
-    → (fs : List Flags) (p : Place) → has_flags p fs ≡ true → has_flags p (set_flags at change fs) ≡ true
-open-set at change same [] p h = h
-open-set at change same (f ∷ fs) p h =
-    let b = same_place f.place at in
-    let place : (cond b (change f) f).place ≡ f.place = elim (cases_Bool b) [
-      | inl e ↦ ap (λ (g : Flags). g.place) (cond-true b (change f) f e) ∙ same f
-      | inr e ↦ ap (λ (g : Flags). g.place) (cond-false b (change f) f e)
+pub open-set : (at : Place) (change : Flags → Flags) (fs : List Entry) (p : Place) → has_flags p (set_flags at change fs) ≡ has_flags p fs
+open-set at change [] p = refl
+open-set at change (f ∷ fs) p =
+    let b = same_place f.0 at in
+    let place : (cond b (f.0, change f.1) f).0 ≡ f.0 = elim (cases_Bool b) [
+      | inl e ↦ ap (λ (g : Entry). g.0) (cond-true b (f.0, change f.1) f e)
+      | inr e ↦ ap (λ (g : Entry). g.0) (cond-false b (f.0, change f.1) f e)
     ] in
-    let g = cond b (change f) f in
-    elim (or_cases (same_place f.place p) (has_flags p fs) h) [
-      | inl k ↦ or_left (same_place g.place p) (has_flags p (set_flags at change fs)) (ap (λ q. same_place q p) place ∙ k)
-      | inr k ↦ or_right (same_place g.place p) (has_flags p (set_flags at change fs)) (open-set at change same fs p k)
-    ]
+    ap (λ q. same_place q p || has_flags p (set_flags at change fs)) place ∙ ap (λ t. same_place f.0 p || t) (open-set at change fs p)
 
-pub open-filter : (r : Place → Bool) (fs : List Flags) (p : Place) → r p ≡ true → has_flags p fs ≡ true → has_flags p (filter (λ f. r f.place) fs) ≡ true
+pub open-filter : (r : Place → Bool) (fs : List Entry) (p : Place) → r p ≡ true → has_flags p fs ≡ true → has_flags p (filter (λ f. r f.0) fs) ≡ true
 open-filter r [] p k h = h
 open-filter r (f ∷ fs) p k h =
-    let rest = filter (λ (g : Flags). r g.place) fs in
-    let b = r f.place in
-    elim (or_cases (same_place f.place p) (has_flags p fs) h) [
+    let rest = filter (λ (g : Entry). r g.0) fs in
+    let b = r f.0 in
+    elim (or_cases (same_place f.0 p) (has_flags p fs) h) [
       | inl e ↦
-          let kept : b ≡ true = ap r (same_place-true f.place p e) ∙ k in
-          ap (has_flags p) (cond-true b (f ∷ rest) rest kept) ∙ or_left (same_place f.place p) (has_flags p rest) e
+          let kept : b ≡ true = ap r (same_place-true f.0 p e) ∙ k in
+          ap (has_flags p) (cond-true b (f ∷ rest) rest kept) ∙ or_left (same_place f.0 p) (has_flags p rest) e
       | inr e ↦
           let more : has_flags p rest ≡ true = open-filter r fs p k e in
           elim (cases_Bool b) [
-            | inl t ↦ ap (has_flags p) (cond-true b (f ∷ rest) rest t) ∙ or_right (same_place f.place p) (has_flags p rest) more
+            | inl t ↦ ap (has_flags p) (cond-true b (f ∷ rest) rest t) ∙ or_right (same_place f.0 p) (has_flags p rest) more
             | inr t ↦ ap (has_flags p) (cond-false b (f ∷ rest) rest t) ∙ more
           ]
     ]
 
-pub open-push : (fs : List Flags) (g : Flags) (p : Place) → has_flags p fs ≡ true → has_flags p (fs ++ g ∷ []) ≡ true
-open-push fs g p h = list_any-append (λ f. same_place f.place p) fs (g ∷ []) ∙ or_left (has_flags p fs) (has_flags p (g ∷ [])) h
+open-both : (f : Entry) (b : Bool) (xs ys : List Entry) (p : Place) → has_flags p xs ≡ has_flags p ys → has_flags p (cond b xs ys) ≡ has_flags p ys
+open-both f true xs ys p h = h
+open-both f false xs ys p h = refl
+
+swapped : (a b c : Bool) → (a || (b || c)) ≡ (b || (a || c))
+swapped true true c = refl
+swapped true false c = refl
+swapped false true c = refl
+swapped false false c = refl
+
+-- an event that is put at its place is open, and what was open stays open
+pub open-put : (f : Entry) (fs : List Entry) (p : Place) → has_flags p (put f fs) ≡ (same_place f.0 p || has_flags p fs)
+open-put f [] p = refl
+open-put f (g ∷ gs) p =
+    let last : has_flags p (g ∷ put f gs) ≡ has_flags p (f ∷ g ∷ gs) =
+    ap (λ t. same_place g.0 p || t) (open-put f gs p) ∙ swapped (same_place g.0 p) (same_place f.0 p) (has_flags p gs) in
+    open-both f (is_before f.0 g.0) (f ∷ g ∷ gs) (g ∷ put f gs) p (sym last) ∙ last
+
+pub open-less : (r : Place → Bool) (fs : List Entry) (p : Place) → has_flags p (filter (λ f. r f.0) fs) ≡ true → has_flags p fs ≡ true
+open-less r [] p h = h
+open-less r (f ∷ fs) p h =
+    let rest = filter (λ (g : Entry). r g.0) fs in
+    elim (cases_Bool (r f.0)) [
+      | inl e ↦ elim (or_cases (same_place f.0 p) (has_flags p rest) (sym (ap (has_flags p) (cond-true (r f.0) (f ∷ rest) rest e)) ∙ h)) [
+        | inl k ↦ or_left (same_place f.0 p) (has_flags p fs) k
+        | inr k ↦ or_right (same_place f.0 p) (has_flags p fs) (open-less r fs p k)
+      ]
+      | inr e ↦ or_right (same_place f.0 p) (has_flags p fs) (open-less r fs p (sym (ap (has_flags p) (cond-false (r f.0) (f ∷ rest) rest e)) ∙ h))
+    ]
 
 -- the numbers of those who wait are apart, and from 1 to n
 processes : List Waiting → List ℕ
@@ -125,12 +147,12 @@ unfolding processes
 apart_from p [] h = tt
 apart_from p (w ∷ ws) h = let parts = or_parts (eqb p w.process) (among p ws) h in (parts.0, apart_from p ws parts.1)
 
-all_distinct : (fs : List Flags) (n : ℕ) (ws : List Waiting) → AreQueued fs n ws → IsDistinct eqb (processes ws)
+all_distinct : (fs : List Entry) (n : ℕ) (ws : List Waiting) → AreQueued fs n ws → IsDistinct eqb (processes ws)
 unfolding processes IsDistinct
 all_distinct fs n [] h = tt
 all_distinct fs n (w ∷ ws) h = (apart_from w.process ws h.3, all_distinct fs n ws h.4)
 
-all_below : (fs : List Flags) (n : ℕ) (ws : List Waiting) → AreQueued fs n ws → (q : ℕ) → list_any (eqb q) (processes ws) ≡ true → q < n + 1
+all_below : (fs : List Entry) (n : ℕ) (ws : List Waiting) → AreQueued fs n ws → (q : ℕ) → list_any (eqb q) (processes ws) ≡ true → q < n + 1
 unfolding processes
 all_below fs n [] h q k = cc
 all_below fs n (w ∷ ws) h q k = elim (or_cases (eqb q w.process) (list_any (eqb q) (processes ws)) k) [
@@ -138,14 +160,14 @@ all_below fs n (w ∷ ws) h q k = elim (or_cases (eqb q w.process) (list_any (eq
   | inr e ↦ all_below fs n ws h.4 q e
 ]
 
-none_is_zero : (fs : List Flags) (n : ℕ) (ws : List Waiting) → AreQueued fs n ws → among 0 ws ≡ false
+none_is_zero : (fs : List Entry) (n : ℕ) (ws : List Waiting) → AreQueued fs n ws → among 0 ws ≡ false
 none_is_zero fs n [] h = refl
 none_is_zero fs n (w ∷ ws) h =
     let low : 1 ≤ w.process = h.0 in
     or_from (eqb 0 w.process) (among 0 ws) (ne_eqb 0 w.process (λ e. omega arith)) (none_is_zero fs n ws h.4)
 
 -- there is room for one more who waits
-pub room-more : (fs : List Flags) (n : ℕ) (ws : List Waiting) (p : ℕ) → AreQueued fs n ws → 1 ≤ p → p ≤ n → among p ws ≡ false → length ws < n
+pub room-more : (fs : List Entry) (n : ℕ) (ws : List Waiting) (p : ℕ) → AreQueued fs n ws → 1 ≤ p → p ≤ n → among p ws ≡ false → length ws < n
 unfolding processes IsDistinct
 room-more fs n ws p h low high idle =
     let all = 0 ∷ p ∷ processes ws in
@@ -162,7 +184,7 @@ room-more fs n ws p h low high idle =
     omega (arith, length-le_from_distinct_below all (n + 1) distinct below, length-map ws (λ w. w.process))
 
 -- no more wait than there are processes
-pub room-all : (fs : List Flags) (n : ℕ) (ws : List Waiting) → AreQueued fs n ws → length ws ≤ n
+pub room-all : (fs : List Entry) (n : ℕ) (ws : List Waiting) → AreQueued fs n ws → length ws ≤ n
 unfolding processes IsDistinct
 room-all fs n ws h =
     let all = 0 ∷ processes ws in
@@ -206,14 +228,14 @@ both-have Procurers at p ws h =
     ∙ or_right (list_any (eqb p) (listed Waiters at ws)) (list_any (eqb p) (listed Procurers at ws)) h
 
 waiting-shown : (queue : Queue) (at : Place) (p : ℕ) (ws : List Waiting) → list_any (eqb p) (listed queue at ws) ≡ true
-    → (fs : List Flags) → has_flags at fs ≡ true → is_waiting p (events_of fs ws) ≡ true
+    → (fs : List Entry) → has_flags at fs ≡ true → is_waiting p (events_of fs ws) ≡ true
 waiting-shown queue at p ws h [] k = k
 waiting-shown queue at p ws h (f ∷ fs) k =
-    let here = list_any (eqb p) (listed Waiters f.place ws ++ listed Procurers f.place ws) in
-    elim (or_cases (same_place f.place at) (has_flags at fs) k) [
+    let here = list_any (eqb p) (listed Waiters f.0 ws ++ listed Procurers f.0 ws) in
+    elim (or_cases (same_place f.0 at) (has_flags at fs) k) [
       | inl e ↦
-          let same : at ≡ f.place = sym (same_place-true f.place at e) in
-          or_left here (is_waiting p (events_of fs ws)) (both-have queue f.place p ws (ap (λ q. list_any (eqb p) (listed queue q ws)) (sym same) ∙ h))
+          let same : at ≡ f.0 = sym (same_place-true f.0 at e) in
+          or_left here (is_waiting p (events_of fs ws)) (both-have queue f.0 p ws (ap (λ q. list_any (eqb p) (listed queue q ws)) (sym same) ∙ h))
       | inr e ↦ or_right here (is_waiting p (events_of fs ws)) (waiting-shown queue at p ws h fs e)
     ]
 
@@ -221,7 +243,7 @@ same_queue-self : (queue : Queue) → same_queue queue queue ≡ true
 same_queue-self Waiters = refl
 same_queue-self Procurers = refl
 
-idle-among : (fs : List Flags) (n : ℕ) (all : List Waiting) (p : ℕ) → is_waiting p (events_of fs all) ≡ false
+idle-among : (fs : List Entry) (n : ℕ) (all : List Waiting) (p : ℕ) → is_waiting p (events_of fs all) ≡ false
     → (ws : List Waiting) → ((queue : Queue) (at : Place) → list_any (waits_so queue at p) ws ≡ true → list_any (waits_so queue at p) all ≡ true)
     → AreQueued fs n ws → among p ws ≡ false
 idle-among fs n all p idle [] within h = refl
@@ -236,5 +258,5 @@ idle-among fs n all p idle (w ∷ ws) within h =
     (waiting-shown w.queue w.place p all (listed-has w.queue w.place p all (within w.queue w.place here)) fs h.2)) in
     or_from (eqb p w.process) (among p ws) apart rest
 
-pub idle-is_not_among : (fs : List Flags) (n : ℕ) (ws : List Waiting) (p : ℕ) → AreQueued fs n ws → is_waiting p (events_of fs ws) ≡ false → among p ws ≡ false
+pub idle-is_not_among : (fs : List Entry) (n : ℕ) (ws : List Waiting) (p : ℕ) → AreQueued fs n ws → is_waiting p (events_of fs ws) ≡ false → among p ws ≡ false
 idle-is_not_among fs n ws p h idle = idle-among fs n ws p idle ws (λ queue at k. k) h

@@ -1,16 +1,17 @@
 -- What each call leaves, over plain lists.
-use Rattle.std.proofs.Common.{◌≡◌, ℕ, ◌<◌, ◌≤◌, Bool, true, false, not, List, [], ◌∷◌, ◌++◌, length, refl, sym, ap, ◌∙◌, arith}
+use Rattle.std.proofs.Common.{◌≡◌, ℕ, ◌<◌, ◌≤◌, Bool, true, false, not, List, [], ◌∷◌, ◌++◌, length, refl, sym, ap, ◌∙◌, subst, inl, inr, arith}
 use Rattle.std.specs.Prelude.{filter, slice_get, Option, Some, None}
-use Rattle.std.proofs.lemmas.Bool.{cond-true, cond-false}
+use Rattle.std.proofs.lemmas.Bool.{cond-true, cond-false, or_cases, or_right}
 use Rattle.b67_word.specs.declared.Place.{Place}
 use Rattle.b67_events.specs.Events.{Event, Events, same_place, event_at, is_open, happened_at, available_at, waiters_of, waiters_at, procurers_of, procurers_at, is_waiting, changed, joined, waited, taken, queued, procured, served, freed, passed_on, liberated, took}
-use Rattle.b67_events.specs.Kept.{stands_in, listed, events_of, set_flags, with_available, without_first, IsKept}
+use Rattle.b67_events.specs.Kept.{stands_in, listed, Entry, events_of, has_flags, set_flags, put, AreWithin, with_available, without_first, IsKept}
 use Rattle.b67_events.specs.declared.Took.TheVariants.{Went, Waits}
 use Rattle.b67_events.specs.declared.Flags.{Flags}
 use Rattle.b67_events.specs.declared.Queue.TheVariants.{Waiters, Procurers}
 use Rattle.b67_events.specs.declared.Waiting.{Waiting}
+use Rattle.b67_events.proofs.Listed.{same_place-true}
 use Rattle.b67_events.proofs.Shown.{events-joined, events-queued, events-served, events-freed, events-flags, open-shown, list_of, list-shown}
-use Rattle.b67_events.proofs.Queued.{queued-filter, queued-first, queued-flags, queued-push, open-set, open-filter, open-push, room-more, room-all, idle-is_not_among}
+use Rattle.b67_events.proofs.Queued.{queued-filter, queued-first, queued-flags, queued-push, open-set, open-filter, open-less, open-put, room-more, room-all, idle-is_not_among}
 
 abbrev pub held : List Event → ℕ → Events
 held es n = record { events = es; room = n }
@@ -18,70 +19,80 @@ held es n = record { events = es; room = n }
 pub waited-went : (at : Place) (p : ℕ) (es : List Event) → happened_at at es ≡ true → es ≡ waited at p es
 waited-went at p es h = sym (cond-true (happened_at at es) es (changed at (joined p) es) h)
 
-pub waited-waits : (at : Place) (p : ℕ) (fs : List Flags) (ws : List Waiting) → happened_at at (events_of fs ws) ≡ false
+pub waited-waits : (at : Place) (p : ℕ) (fs : List Entry) (ws : List Waiting) → happened_at at (events_of fs ws) ≡ false
     → events_of fs (ws ++ record { process = p; place = at; queue = Waiters } ∷ []) ≡ waited at p (events_of fs ws)
 waited-waits at p fs ws h =
     let es = events_of fs ws in events-joined at p fs ws ∙ sym (cond-false (happened_at at es) es (changed at (joined p) es) h)
 
-pub procured-went : (at : Place) (p : ℕ) (fs : List Flags) (ws : List Waiting) → available_at at (events_of fs ws) ≡ true
+pub procured-went : (at : Place) (p : ℕ) (fs : List Entry) (ws : List Waiting) → available_at at (events_of fs ws) ≡ true
     → events_of (set_flags at (with_available false) fs) ws ≡ procured at p (events_of fs ws)
 procured-went at p fs ws h =
     let es = events_of fs ws in
     events-flags at (with_available false) taken ws (λ x. refl) fs
     ∙ sym (cond-true (available_at at es) (changed at taken es) (changed at (queued p) es) h)
 
-pub procured-waits : (at : Place) (p : ℕ) (fs : List Flags) (ws : List Waiting) → available_at at (events_of fs ws) ≡ false
+pub procured-waits : (at : Place) (p : ℕ) (fs : List Entry) (ws : List Waiting) → available_at at (events_of fs ws) ≡ false
     → events_of fs (ws ++ record { process = p; place = at; queue = Procurers } ∷ []) ≡ procured at p (events_of fs ws)
 procured-waits at p fs ws h =
     let es = events_of fs ws in
     events-queued at p fs ws ∙ sym (cond-false (available_at at es) (changed at taken es) (changed at (queued p) es) h)
 
-pub kept-room : (fs : List Flags) (ws : List Waiting) (n capacity p : ℕ) → IsKept fs ws n capacity → 1 ≤ p → p ≤ n
+pub kept-room : (fs : List Entry) (ws : List Waiting) (n capacity p : ℕ) → IsKept fs ws n capacity → 1 ≤ p → p ≤ n
     → is_waiting p (events_of fs ws) ≡ false → length ws < capacity
 kept-room fs ws n capacity p k low high idle =
     let less = room-more fs n ws p k.queued low high (idle-is_not_among fs n ws p k.queued idle) in
     let room : n ≤ capacity = k.room in omega arith
 
-pub kept-push : (fs : List Flags) (ws : List Waiting) (n capacity : ℕ) (w : Waiting) → IsKept fs ws n capacity → 1 ≤ w.process → w.process ≤ n
+pub kept-push : (fs : List Entry) (ws : List Waiting) (n capacity : ℕ) (w : Waiting) → IsKept fs ws n capacity → 1 ≤ w.process → w.process ≤ n
     → is_open w.place (events_of fs ws) ≡ true → is_waiting w.process (events_of fs ws) ≡ false → IsKept fs (ws ++ w ∷ []) n capacity
 kept-push fs ws n capacity w k low high here idle = record {
   room = k.room;
   queued = queued-push fs n w low high (sym (open-shown w.place fs ws) ∙ here) ws (idle-is_not_among fs n ws w.process k.queued idle) k.queued;
+  within = k.within;
 }
 
-pub kept-wider : (fs : List Flags) (ws : List Waiting) (n capacity more : ℕ) → IsKept fs ws n capacity → capacity ≤ more → IsKept fs ws n more
-kept-wider fs ws n capacity more k wide = record { room = (let room : n ≤ capacity = k.room in omega arith); queued = k.queued }
+pub kept-wider : (fs : List Entry) (ws : List Waiting) (n capacity more : ℕ) → IsKept fs ws n capacity → capacity ≤ more → IsKept fs ws n more
+kept-wider fs ws n capacity more k wide = record { room = (let room : n ≤ capacity = k.room in omega arith); queued = k.queued; within = k.within }
 
-pub kept-all : (fs : List Flags) (ws : List Waiting) (n capacity : ℕ) → IsKept fs ws n capacity → length ws ≤ n
+pub kept-all : (fs : List Entry) (ws : List Waiting) (n capacity : ℕ) → IsKept fs ws n capacity → length ws ≤ n
 kept-all fs ws n capacity k = room-all fs n ws k.queued
 
-pub kept-set : (at : Place) (change : Flags → Flags) → ((f : Flags) → (change f).place ≡ f.place)
-    → (fs : List Flags) (ws : List Waiting) (n capacity : ℕ) → IsKept fs ws n capacity → IsKept (set_flags at change fs) ws n capacity
-kept-set at change same fs ws n capacity k = record {
+pub kept-set : (at : Place) (change : Flags → Flags) (fs : List Entry) (ws : List Waiting) (n capacity : ℕ) → IsKept fs ws n capacity
+    → IsKept (set_flags at change fs) ws n capacity
+kept-set at change fs ws n capacity k = record {
   room = k.room;
-  queued = queued-flags fs (set_flags at change fs) n (open-set at change same fs) ws k.queued;
+  queued = queued-flags fs (set_flags at change fs) n (λ p h. open-set at change fs p ∙ h) ws k.queued;
+  within = λ p h. k.within p (sym (open-set at change fs p) ∙ h);
 }
 
-pub kept-filter : (r : Waiting → Bool) (fs : List Flags) (ws : List Waiting) (n capacity : ℕ) → IsKept fs ws n capacity → IsKept fs (filter r ws) n capacity
-kept-filter r fs ws n capacity k = record { room = k.room; queued = queued-filter fs fs n r (λ w s h. h) ws k.queued }
+pub kept-filter : (r : Waiting → Bool) (fs : List Entry) (ws : List Waiting) (n capacity : ℕ) → IsKept fs ws n capacity → IsKept fs (filter r ws) n capacity
+kept-filter r fs ws n capacity k = record { room = k.room; queued = queued-filter fs fs n r (λ w s h. h) ws k.queued; within = k.within }
 
-pub kept-first : (r : Waiting → Bool) (fs : List Flags) (ws : List Waiting) (n capacity : ℕ) → IsKept fs ws n capacity → IsKept fs (without_first r ws) n capacity
-kept-first r fs ws n capacity k = record { room = k.room; queued = queued-first fs fs n r (λ p h. h) ws k.queued }
+pub kept-first : (r : Waiting → Bool) (fs : List Entry) (ws : List Waiting) (n capacity : ℕ) → IsKept fs ws n capacity → IsKept fs (without_first r ws) n capacity
+kept-first r fs ws n capacity k = record { room = k.room; queued = queued-first fs fs n r (λ p h. h) ws k.queued; within = k.within }
 
-pub kept-closed : (r : Place → Bool) (fs : List Flags) (ws : List Waiting) (n capacity : ℕ) → IsKept fs ws n capacity
-    → IsKept (filter (λ f. r f.place) fs) (filter (λ w. r w.place) ws) n capacity
+pub kept-closed : (r : Place → Bool) (fs : List Entry) (ws : List Waiting) (n capacity : ℕ) → IsKept fs ws n capacity
+    → IsKept (filter (λ f. r f.0) fs) (filter (λ w. r w.place) ws) n capacity
 kept-closed r fs ws n capacity k = record {
   room = k.room;
-  queued = queued-filter fs (filter (λ f. r f.place) fs) n (λ w. r w.place) (λ w s h. open-filter r fs w.place s h) ws k.queued;
+  queued = queued-filter fs (filter (λ f. r f.0) fs) n (λ w. r w.place) (λ w s h. open-filter r fs w.place s h) ws k.queued;
+  within = λ p h. k.within p (open-less r fs p h);
 }
 
-pub kept-opened : (at : Place) (f : Flags) (fs : List Flags) (ws : List Waiting) (n capacity : ℕ) → IsKept fs ws n capacity
-    → IsKept (filter (λ g. not (same_place g.place at)) fs ++ f ∷ []) (filter (λ w. not (same_place w.place at)) ws) n capacity
-kept-opened at f fs ws n capacity k =
-    let gs = filter (λ (g : Flags). not (same_place g.place at)) fs in
+pub kept-opened : (at : Place) (flags : Flags) (fs : List Entry) (ws : List Waiting) (n capacity : ℕ) → at.at < 65536 → IsKept fs ws n capacity
+    → IsKept (put (at, flags) (filter (λ g. not (same_place g.0 at)) fs)) (filter (λ w. not (same_place w.place at)) ws) n capacity
+kept-opened at flags fs ws n capacity low k =
+    let gs = filter (λ (g : Entry). not (same_place g.0 at)) fs in
     let vs = filter (λ (w : Waiting). not (same_place w.place at)) ws in
     let less = kept-closed (λ p. not (same_place p at)) fs ws n capacity k in
-    record { room = k.room; queued = queued-flags gs (gs ++ f ∷ []) n (open-push gs f) vs less.queued }
+    record {
+      room = k.room;
+      queued = queued-flags gs (put (at, flags) gs) n (λ p h. open-put (at, flags) gs p ∙ or_right (same_place at p) (has_flags p gs) h) vs less.queued;
+      within = λ p h. elim (or_cases (same_place at p) (has_flags p gs) (sym (open-put (at, flags) gs p) ∙ h)) [
+        | inl e ↦ subst (λ (q : Place). q.at < 65536) (same_place-true at p e) low
+        | inr e ↦ less.within p e
+      ];
+    }
 
 waiters_is : (o : Option Event) → list_of Waiters o ≡ waiters_of o
 waiters_is None = refl
@@ -91,12 +102,12 @@ procurers_is : (o : Option Event) → list_of Procurers o ≡ procurers_of o
 procurers_is None = refl
 procurers_is (Some e) = refl
 
-pub woken-shown : (at : Place) (fs : List Flags) (ws : List Waiting) → is_open at (events_of fs ws) ≡ true
+pub woken-shown : (at : Place) (fs : List Entry) (ws : List Waiting) → is_open at (events_of fs ws) ≡ true
     → listed Waiters at ws ≡ waiters_at at (events_of fs ws)
 woken-shown at fs ws h =
     sym (list-shown Waiters at fs ws h) ∙ waiters_is (event_at at (events_of fs ws))
 
-pub procurers-shown : (at : Place) (fs : List Flags) (ws : List Waiting) → is_open at (events_of fs ws) ≡ true
+pub procurers-shown : (at : Place) (fs : List Entry) (ws : List Waiting) → is_open at (events_of fs ws) ≡ true
     → listed Procurers at ws ≡ procurers_at at (events_of fs ws)
 procurers-shown at fs ws h =
     sym (list-shown Procurers at fs ws h) ∙ procurers_is (event_at at (events_of fs ws))
@@ -109,7 +120,7 @@ none-nil : (xs : List ℕ) → slice_get xs 0 ≡ None → xs ≡ []
 none-nil [] h = refl
 none-nil (x ∷ xs) h = cc
 
-pub liberated-served : (at : Place) (p : ℕ) (fs : List Flags) (ws : List Waiting) → is_open at (events_of fs ws) ≡ true
+pub liberated-served : (at : Place) (p : ℕ) (fs : List Entry) (ws : List Waiting) → is_open at (events_of fs ws) ≡ true
     → slice_get (listed Procurers at ws) 0 ≡ Some p
     → events_of fs (without_first (stands_in Procurers at) ws) ≡ liberated at (events_of fs ws)
 liberated-served at p fs ws h first =
@@ -118,7 +129,7 @@ liberated-served at p fs ws h first =
     ap passed_on (sym (procurers-shown at fs ws h)) ∙ passed-served (listed Procurers at ws) p first in
     events-served at ws fs ∙ ap (λ f. changed at f es) (sym act)
 
-pub liberated-freed : (at : Place) (fs : List Flags) (ws : List Waiting) → is_open at (events_of fs ws) ≡ true
+pub liberated-freed : (at : Place) (fs : List Entry) (ws : List Waiting) → is_open at (events_of fs ws) ≡ true
     → slice_get (listed Procurers at ws) 0 ≡ None
     → events_of (set_flags at (with_available true) fs) (without_first (stands_in Procurers at) ws) ≡ liberated at (events_of fs ws)
 liberated-freed at fs ws h first =

@@ -1,5 +1,5 @@
 -- Events at places, and what each action does to them.
-use Rattle.std.specs.Prelude.{ℕ, Bool, true, false, not, ◌&&◌, ◌==◌, nat_le, Option, Some, None, List, [], ◌∷◌, ◌++◌, map, filter, find, drop, if◌then◌else◌}
+use Rattle.std.specs.Prelude.{ℕ, Bool, true, false, not, ◌&&◌, ◌||◌, ◌==◌, nat_lt, nat_le, Option, Some, None, List, [], ◌∷◌, ◌++◌, map, filter, find, drop, if◌then◌else◌}
 use Rattle.std.specs.List.{list_any}
 use Rattle.b67_word.specs.declared.Place.{Place}
 use Rattle.b67_events.specs.declared.Took.{Took}
@@ -14,7 +14,7 @@ pub record Event : Type 0 where
   pub waiters : List ℕ
   pub procurers : List ℕ
 
--- the events that are open, and the number of processes that there is room for
+-- the events that are open, in the order of their places, and the number of processes that there is room for
 pub record Events : Type 0 where
   pub events : List Event
   pub room : ℕ
@@ -69,9 +69,18 @@ changed at change events = map (λ e. if same_place e.place at then change e els
 abbrev pub fresh : Place → Event
 fresh at = record { place = at; happened = false; available = true; waiters = []; procurers = [] }
 
+-- whether a place stands before another: in an earlier stack, or lower in the same
+abbrev pub is_before : Place → Place → Bool
+is_before p q = nat_lt p.stack q.stack || p.stack == q.stack && nat_lt p.at q.at
+
+-- an event stands before the first one whose place is after its own
+abbrev pub placed : Event → List Event → List Event
+placed e [] = e ∷ []
+placed e (x ∷ xs) = if is_before e.place x.place then e ∷ x ∷ xs else x ∷ placed e xs
+
 -- a fresh event is opened, in place of one that is open there
 abbrev pub opened : Place → List Event → List Event
-opened at events = filter (λ e. not (same_place e.place at)) events ++ fresh at ∷ []
+opened at events = placed (fresh at) (filter (λ e. not (same_place e.place at)) events)
 
 -- whether a place lies in this stack at this displacement or above
 abbrev pub is_from : ℕ → ℕ → Place → Bool

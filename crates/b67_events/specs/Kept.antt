@@ -1,8 +1,9 @@
--- How events are kept: the flags of each, and one list of all who wait, in order of arrival.
-use Rattle.std.specs.Prelude.{◌≡◌, ℕ, ◌≤◌, Bool, true, false, ◌&&◌, ◌==◌, Option, Some, None, List, [], ◌∷◌, map, filter, find, if◌then◌else◌, cond}
+-- How events are kept: the flags of each at its place, and one list of all who wait, in order of arrival.
+use Rattle.std.specs.Prelude.{◌≡◌, ℕ, ◌<◌, ◌≤◌, Bool, true, false, ◌&&◌, ◌==◌, Option, Some, None, List, [], ◌∷◌, map, filter, if◌then◌else◌, cond}
 use Rattle.std.specs.List.{list_any}
+use Rattle.std.specs.Map.{lookup}
 use Rattle.b67_word.specs.declared.Place.{Place}
-use Rattle.b67_events.specs.Events.{Event, same_place}
+use Rattle.b67_events.specs.Events.{Event, same_place, is_before}
 use Rattle.b67_events.specs.declared.Flags.{Flags}
 use Rattle.b67_events.specs.declared.Queue.{Queue}
 use Rattle.b67_events.specs.declared.Queue.TheVariants.{Waiters, Procurers}
@@ -22,39 +23,52 @@ stands_in queue at w = same_place at w.place && same_queue queue w.queue
 abbrev pub listed : Queue → Place → List Waiting → List ℕ
 listed queue at ws = map (λ w. w.process) (filter (stands_in queue at) ws)
 
+-- the place of an event that is open, with its flags
+abbrev pub Entry : Type 0
+Entry = Place × Flags
+
 -- the event with these flags
-abbrev pub shown : List Waiting → Flags → Event
+abbrev pub shown : List Waiting → Entry → Event
 shown ws f = record {
-  place = f.place;
-  happened = f.happened;
-  available = f.available;
-  waiters = listed Waiters f.place ws;
-  procurers = listed Procurers f.place ws;
+  place = f.0;
+  happened = f.1.happened;
+  available = f.1.available;
+  waiters = listed Waiters f.0 ws;
+  procurers = listed Procurers f.0 ws;
 }
 
-abbrev pub events_of : List Flags → List Waiting → List Event
+abbrev pub events_of : List Entry → List Waiting → List Event
 events_of fs ws = map (shown ws) fs
 
 -- the flags of the event at a place
-abbrev pub flags_at : Place → List Flags → Option Flags
-flags_at at fs = find (λ f. same_place f.place at) fs
+abbrev pub flags_at : Place → List Entry → Option Flags
+flags_at at fs = lookup (λ p. same_place p at) fs
 
 abbrev pub flag_of : (Flags → Bool) → Option Flags → Bool
 flag_of test None = false
 flag_of test (Some f) = test f
 
-abbrev pub has_flags : Place → List Flags → Bool
-has_flags at fs = list_any (λ f. same_place f.place at) fs
+abbrev pub has_flags : Place → List Entry → Bool
+has_flags at fs = list_any (λ f. same_place f.0 at) fs
 
 -- the flags of the event at a place are changed
-abbrev pub set_flags : Place → (Flags → Flags) → List Flags → List Flags
-set_flags at change fs = map (λ f. if same_place f.place at then change f else f) fs
+abbrev pub set_flags : Place → (Flags → Flags) → List Entry → List Entry
+set_flags at change fs = map (λ f. if same_place f.0 at then (f.0, change f.1) else f) fs
 
 abbrev pub with_happened : Bool → Flags → Flags
 with_happened b f = record f { happened = b }
 
 abbrev pub with_available : Bool → Flags → Flags
 with_available b f = record f { available = b }
+
+-- an event with its flags stands before the first one whose place is after its own
+abbrev pub put : Entry → List Entry → List Entry
+put f [] = f ∷ []
+put f (g ∷ gs) = if is_before f.0 g.0 then f ∷ g ∷ gs else g ∷ put f gs
+
+-- the displacement of each event is one of a stack
+abbrev pub AreWithin : List Entry → Type 0
+AreWithin fs = (p : Place) → has_flags p fs ≡ true → p.at < 65536
 
 -- a list without its first element that passes a test
 abbrev pub without_first : {X : Type 0} → (X → Bool) → List X → List X
@@ -66,13 +80,14 @@ abbrev pub among : ℕ → List Waiting → Bool
 among process ws = list_any (λ w. process == w.process) ws
 
 -- Each who waits is a process from 1 to n, waits once, and waits for an event that is open.
-abbrev pub AreQueued : List Flags → ℕ → List Waiting → Type 0
+abbrev pub AreQueued : List Entry → ℕ → List Waiting → Type 0
 AreQueued fs n [] = Unit {0}
 AreQueued fs n (w ∷ ws) =
     (1 ≤ w.process) × (w.process ≤ n) × (has_flags w.place fs ≡ true)
     × (among w.process ws ≡ false) × AreQueued fs n ws
 
--- There is room for all n processes to wait.
-pub record IsKept (fs : List Flags) (ws : List Waiting) (n capacity : ℕ) : Type 0 where
+-- There is room for all n processes to wait, and events are open at places of stacks.
+pub record IsKept (fs : List Entry) (ws : List Waiting) (n capacity : ℕ) : Type 0 where
   pub room : n ≤ capacity
   pub queued : AreQueued fs n ws
+  pub within : AreWithin fs

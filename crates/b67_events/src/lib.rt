@@ -4,15 +4,17 @@
 //! LIBERATE. That processes are released in the order in which they came is this project's profile.
 #![tactic(auto)]
 
-ghost use Rattle.std.specs.Prelude.{◌≡◌, ℕ, ◌+◌, ◌<◌, ◌≤◌, not, [], ◌∷◌, ◌++◌, map, filter, length, slice_get, vec_len, vec_capacity, IfOk, OnOk, OnErr, IsTrue, IsFalse, if◌then◌else◌};
+ghost use Rattle.std.specs.Prelude.{◌≡◌, ℕ, ◌+◌, ◌<◌, ◌≤◌, not, [], ◌∷◌, ◌++◌, filter, length, slice_get, vec_capacity, IfOk, IfSome, IfNone, OnOk, OnErr, IsTrue, IsFalse};
+ghost use Rattle.std.specs.BTreeMap.{insert_entry};
 ghost use Rattle.b67_events.specs.Events.{same_place, is_open, is_from, happened_at, available_at, waiters_at, procurers_at, is_waiting, changed, opened, closed_from, waited, caused, cleared, procured, liberated, took};
-ghost use Rattle.b67_events.specs.Kept.{same_queue, stands_in, listed, flags_at, flag_of, has_flags, set_flags, with_happened, with_available, without_first};
+ghost use Rattle.b67_events.specs.Kept.{same_queue, stands_in, listed, flags_at, flag_of, has_flags, set_flags, with_happened, with_available, AreWithin, without_first};
 ghost use Rattle.b67_events.specs.Laws.{OneEventChanges, EventsStayApart};
 ghost use Rattle.b67_events.specs.Once.{EachWaitsOnce, ReleasedWaitNowhere};
 ghost use Rattle.b67_events.specs.declared.Queue.TheVariants.{Waiters, Procurers};
 
 use b67_word::Place;
 use std::alloc::{AllocError, Global};
+use std::collections::BTreeMap;
 use std::marker::Model;
 
 /// Whether a process goes on, or waits.
@@ -28,10 +30,9 @@ pub struct Woken {
     pub processes: Vec<u32>,
 }
 
-// An event that is open at a place.
-#[derive(Clone, Copy)]
+// Whether an event has happened, and whether it is available.
+#[derive(Clone, Copy, Drop)]
 struct Flags {
-    place: Place,
     happened: bool,
     available: bool,
 }
@@ -41,26 +42,6 @@ struct Flags {
 enum Queue {
     Waiters,
     Procurers,
-}
-
-impl Flags {
-    // Sets whether the event has happened, where it is the one at a place.
-    fn set_happened(&mut self, at: Place, happened: bool)
-        ensures { self.new ≡ (if same_place self.old.place at then with_happened happened self.old else self.old) }
-    {
-        if is_at(self.place, at) {
-            self.happened = happened;
-        }
-    }
-
-    // Sets whether the event is available, where it is the one at a place.
-    fn set_available(&mut self, at: Place, available: bool)
-        ensures { self.new ≡ (if same_place self.old.place at then with_available available self.old else self.old) }
-    {
-        if is_at(self.place, at) {
-            self.available = available;
-        }
-    }
 }
 
 // A process that waits in a list of the event at a place.
@@ -78,7 +59,8 @@ struct Waiting {
 /// as the number of processes that it has room for. Processes are numbered from 1.
 #[derive(Drop)]
 pub struct Kernel {
-    events: Vec<Flags>,
+    // In the order of their places.
+    events: BTreeMap<Place, Flags>,
     // All who wait, in order of arrival; an event's lists are what it shows of this one.
     waiting: Vec<Waiting>,
     processes: u32,
@@ -91,9 +73,9 @@ impl Model for Kernel {
 
     ghost Value = { Events };
 
-    ghost view = { λ k. record { events = events_of k.events.items k.waiting.items; room = k.processes } };
+    ghost view = { λ k. record { events = events_of k.events.entries k.waiting.items; room = k.processes } };
 
-    ghost invariant = { λ k. IsKept k.events.items k.waiting.items k.processes (vec_capacity k.waiting) };
+    ghost invariant = { λ k. IsKept k.events.entries k.waiting.items k.processes (vec_capacity k.waiting) };
 }
 
 // Tests that two places are one.
@@ -126,27 +108,22 @@ impl Waiting {
 }
 
 // The flags of the event that is open at a place.
-fn flags_of(events: &[Flags], at: Place) -> Option<Flags>
-    ensures { result ≡ flags_at at events.now }
+fn flags_of(events: &BTreeMap<Place, Flags>, at: Place) -> Option<Flags>
+    ensures { result ≡ flags_at at events.now.entries }
 {
-    'finding: for flags in events {
-        if is_at(flags.place, at) {
-            return Some(*flags);
-        }
-    }
-    None
+    events.get(&at).copied()
 }
 
 // Tests that an event is open at a place.
-fn is_open(events: &[Flags], at: Place) -> bool
-    ensures { result ≡ has_flags at events.now }
+fn is_open(events: &BTreeMap<Place, Flags>, at: Place) -> bool
+    ensures { result ≡ has_flags at events.now.entries }
 {
-    events.iter().any(|flags| is_at(flags.place, at))
+    events.contains_key(&at)
 }
 
 // Tests that the event that is open at a place has happened.
-fn has_happened(events: &[Flags], at: Place) -> bool
-    ensures { result ≡ flag_of (λ f. f.happened) (flags_at at events.now) }
+fn has_happened(events: &BTreeMap<Place, Flags>, at: Place) -> bool
+    ensures { result ≡ flag_of (λ f. f.happened) (flags_at at events.now.entries) }
 {
     match flags_of(events, at) {
         Some(flags) => flags.happened,
@@ -155,8 +132,8 @@ fn has_happened(events: &[Flags], at: Place) -> bool
 }
 
 // Tests that the event that is open at a place is available.
-fn is_available(events: &[Flags], at: Place) -> bool
-    ensures { result ≡ flag_of (λ f. f.available) (flags_at at events.now) }
+fn is_available(events: &BTreeMap<Place, Flags>, at: Place) -> bool
+    ensures { result ≡ flag_of (λ f. f.available) (flags_at at events.now.entries) }
 {
     match flags_of(events, at) {
         Some(flags) => flags.available,
@@ -165,30 +142,49 @@ fn is_available(events: &[Flags], at: Place) -> bool
 }
 
 // Sets whether the event at a place has happened.
-fn set_happened(events: &mut Vec<Flags>, at: Place, happened: bool)
-    ensures { events.new.items ≡ set_flags at (with_happened happened) events.old.items }
+fn set_happened(events: &mut BTreeMap<Place, Flags>, at: Place, happened: bool)
+    ensures { events.new.entries ≡ set_flags at (with_happened happened) events.old.entries }
 {
-    'setting: for flags in events.iter_mut() {
-        flags.set_happened(at, happened);
+    if let Some(flags) = events.get_mut(&at) {
+        flags.happened = happened;
     }
 }
 
 // Sets whether the event at a place is available.
-fn set_available(events: &mut Vec<Flags>, at: Place, available: bool)
-    ensures { events.new.items ≡ set_flags at (with_available available) events.old.items }
+fn set_available(events: &mut BTreeMap<Place, Flags>, at: Place, available: bool)
+    ensures { events.new.entries ≡ set_flags at (with_available available) events.old.entries }
 {
-    'setting: for flags in events.iter_mut() {
-        flags.set_available(at, available);
+    if let Some(flags) = events.get_mut(&at) {
+        flags.available = available;
     }
 }
 
-// Takes the event at a place out of the list.
-fn remove_event(events: &mut Vec<Flags>, at: Place)
-    ensures kept { events.new.items ≡ filter (λ f. not (same_place f.place at)) events.old.items }
-    ensures capacity { vec_capacity events.new ≡ vec_capacity events.old }
-    ensures bound { vec_len events.new ≤ vec_len events.old }
+// The lowest event of a stack at a displacement or above.
+fn first_from(events: &BTreeMap<Place, Flags>, stack: u16, at: u16) -> Option<Place>
+    requires { AreWithin events.now.entries }
+    ensures found { IfSome result (λ place. IsTrue (is_from stack at place) × IsTrue (has_flags place events.now.entries)) }
+    ensures none { IfNone result (filter (λ f. not (is_from stack at f.0)) events.now.entries ≡ events.now.entries) }
 {
-    events.retain(|flags| !is_at(flags.place, at));
+    let low = Place { stack, at };
+    let high = Place {
+        stack,
+        at: u16::MAX,
+    };
+    let (place, _) = events.range(low..=high).next()?;
+    Some(*place)
+}
+
+// Takes the events of a stack at a displacement and above out of the map.
+fn remove_from(events: &mut BTreeMap<Place, Flags>, stack: u16, at: u32)
+    requires { AreWithin events.old.entries }
+    ensures { events.new.entries ≡ filter (λ f. not (is_from stack at f.0)) events.old.entries }
+{
+    let Ok(lowest) = u16::try_from(at) else {
+        return;
+    };
+    'closing: while let Some(place) = first_from(events, stack, lowest) {
+        events.remove(&place);
+    }
 }
 
 // Takes all who wait for the event at a place out of the list.
@@ -197,13 +193,6 @@ fn forget(waiting: &mut Vec<Waiting>, at: Place)
     ensures capacity { vec_capacity waiting.old ≤ vec_capacity waiting.new }
 {
     waiting.retain(|one| !is_at(one.place, at));
-}
-
-// Takes the events of a stack at a displacement and above out of the list.
-fn remove_events_from(events: &mut Vec<Flags>, stack: u16, at: u32)
-    ensures { events.new.items ≡ filter (λ f. not (is_from stack at f.place)) events.old.items }
-{
-    events.retain(|flags| !is_above(flags.place, stack, at));
 }
 
 // Takes all who wait for the events of a stack at a displacement and above out of the list.
@@ -273,7 +262,7 @@ impl Kernel {
         ensures { IfOk result (λ kernel. kernel ≡ record { events = []; room = processes }) }
     {
         Ok(Kernel {
-            events: Vec::new(alloc),
+            events: BTreeMap::new(alloc),
             waiting: Vec::with_capacity(alloc, processes as usize)?,
             processes,
         })
@@ -285,16 +274,12 @@ impl Kernel {
         ensures ok { OnOk result (self.new ≡ record self.old { events = opened at self.old.events }) }
         ensures err { OnErr result (self.new ≡ self.old) }
     {
-        self.events.reserve(1)?;
-        remove_event(&mut self.events, at);
+        let fresh = Flags {
+            happened: false,
+            available: true,
+        };
+        self.events.insert(at, fresh)?;
         forget(&mut self.waiting, at);
-        self.events
-            .push(Flags {
-                place: at,
-                happened: false,
-                available: true,
-            })
-            .unwrap();
         Ok(())
     }
 
@@ -302,7 +287,7 @@ impl Kernel {
     pub fn close_from(&mut self, stack: u16, at: u32)
         ensures { self.new ≡ record self.old { events = closed_from stack at self.old.events } }
     {
-        remove_events_from(&mut self.events, stack, at);
+        remove_from(&mut self.events, stack, at);
         forget_from(&mut self.waiting, stack, at);
     }
 

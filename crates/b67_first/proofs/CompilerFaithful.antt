@@ -4,6 +4,7 @@ use Rattle.std.specs.Prelude.{All, IfOk, replicate}
 use Rattle.std.proofs.lemmas.List.{length-replicate, length-map}
 use Rattle.std.proofs.lemmas.List.Elements.{All-nil, All-cons}
 use Rattle.std.specs.declared.alloc.AllocError.{AllocError}
+use Rattle.algol_tree.specs.declared.TheConstants.{MOST_BLOCK_CELLS}
 use Rattle.algol_tree.specs.declared.tree.Named.{Named}
 use Rattle.algol_tree.specs.Plain.{PProgram}
 use Rattle.algol_tree.specs.Accepted.{Accepted, accepted, names_of}
@@ -12,7 +13,7 @@ use Rattle.algol_first.specs.Straight.{Resolves, resolves}
 use Rattle.algol_first.specs.declared.straight.Straight.{Straight}
 use Rattle.b67_segment.specs.declared.code.Code.{Code}
 use Rattle.b67_segment.specs.declared.code.Segment.{Segment}
-use Rattle.b67_segment.specs.Operators.{text, size, missing, filled}
+use Rattle.b67_segment.specs.Operators.{text, size, missing, filler, filled}
 use Rattle.b67_segment.proofs.Fetches.{length-syllables}
 use Rattle.b67_segment.proofs.Filling.{filled-text}
 use Rattle.b67_relate.specs.Faithful.{IsShort, Faithful}
@@ -30,7 +31,7 @@ words-size straight code is =
     let ps = placed (straight_code straight) in
     let fill = filled-text ps (AreFit-front ps _ is.spells.fit) in
     let count : length (text 0 (filled ps)) ≡ size ps + missing (size ps) =
-    ap length fill.0 ∙ length-append (text 0 ps) (replicate (missing (size ps)) 0xfe) ∙ ap (λ n. size ps + n) (length-replicate {A = ℕ} (missing (size ps)) 0xfe) in
+    ap length fill.0 ∙ length-append (text 0 ps) (replicate (missing (size ps)) filler) ∙ ap (λ n. size ps + n) (length-replicate {A = ℕ} (missing (size ps)) filler) in
     let long : 6 * length is.segment.words ≡ size ps + missing (size ps) = sym (length-syllables is.segment.words) ∙ ap length is.spells.code ∙ count in
     omega (arith, long)
 
@@ -44,7 +45,7 @@ short-code tree straight code acc r is =
     subst (λ segments. All (λ (s : Segment). 6 * length s.words ≤ 24 * program_tokens tree + 48) segments) (sym is.only)
     (All-cons (λ (s : Segment). 6 * length s.words ≤ 24 * program_tokens tree + 48) is.segment [] within (All-nil (λ (s : Segment). 6 * length s.words ≤ 24 * program_tokens tree + 48)))
 
-pub faithful-translated : (straight : Straight) → straight.integers ≤ 400 → IsInRange straight → (r : Result Code AllocError) → IfOk r (IsCodeOf straight)
+pub faithful-translated : (straight : Straight) → straight.integers ≤ MOST_BLOCK_CELLS → IsInRange straight → (r : Result Code AllocError) → IfOk r (IsCodeOf straight)
     → IfOk r (λ code. (tree : PProgram) → Accepted tree → Resolves tree straight → Faithful tree code)
 faithful-translated straight few range (Ok code) is =
     λ tree acc h. programs_are_faithful tree code acc (tree-at straight code few range.short is tree h) (short-code tree straight code acc h is)

@@ -2,12 +2,17 @@
 use Rattle.std.proofs.Common.{◌≡◌, ℕ, zero, suc, ◌+◌, ◌-◌, ◌*◌, ◌^◌, ◌<◌, ◌≤◌, Bool, true, false, cond, ltb, eqb, ℤ, pos, negsuc, List, [], ◌∷◌, ◌++◌, length, replicate, drop, drop-cons, get_or, Some, refl, sym, ap, ◌∙◌, subst, arith, append_assoc, length-append}
 use Rattle.std.specs.Prelude.{unsigned_abs, unwrap_or}
 use Rattle.std.proofs.lemmas.Bool.{ltb-true}
+use Rattle.b67_segment.specs.declared.TheConstants.{MOST_SEGMENT_WORDS}
+use Rattle.algol_tree.specs.declared.TheConstants.{MOST_BLOCK_CELLS, MOST_SEGMENT_TOKENS}
+use Rattle.b67_num.specs.Whole.{most}
 use Rattle.b67_word.specs.Word.{operand}
 use Rattle.b67_ops.specs.declared.Operator.{Operator}
 use Rattle.b67_ops.specs.declared.Operator.TheVariants as ops
 use Rattle.b67_ops.specs.declared.PlainKind.TheVariants as kinds
 use Rattle.b67_ops.specs.Spelling.{level_bits, spelling, IsSeen, Fits}
 use Rattle.b67_ops.proofs.Laws.{length-spelling}
+use Rattle.b67_ops.specs.declared.intrinsic.Intrinsic.TheVariants.{Write}
+use Rattle.b67_ops.specs.Intrinsics.{couple_of_intrinsic}
 use Rattle.b67_segment.specs.Operators.{Placed, width, text, size, IsFit, AreFit}
 use Rattle.b67_segment.specs.Building.{Built, level_set}
 use Rattle.b67_segment.proofs.Texts.{text-append}
@@ -20,7 +25,7 @@ use Rattle.algol_first.specs.declared.straight.Sum.{Sum}
 use Rattle.algol_first.specs.declared.straight.Step.{Step}
 use Rattle.algol_first.specs.declared.straight.Step.TheVariants as steps
 use Rattle.algol_first.specs.declared.straight.Straight.{Straight}
-use Rattle.b67_first.specs.Compiler.{IsOperand, operands_in, cell, write_intrinsic, short_literal, literal, operand_code, calculation, term_code, terms_code, sum_code, assign_code, write_code, step_code, steps_code, cells_code, straight_code, placed, with_code, HasRoom}
+use Rattle.b67_first.specs.Compiler.{IsOperand, operands_in, cell, short_literal, literal, operand_code, calculation, term_code, terms_code, sum_code, assign_code, write_code, step_code, steps_code, cells_code, straight_code, placed, with_code, HasRoom}
 
 -- ---- builders with code appended
 
@@ -61,7 +66,7 @@ room-same b d xs ys e h =
 
 -- there is room for the first operator
 pub room-first : (b : Built) (op : Operator) (ops : List Operator) → HasRoom b (op ∷ ops)
-    → size b.operators + length (spelling (size b.operators) 2 op) ≤ 49152
+    → size b.operators + length (spelling (size b.operators) 2 op) ≤ 6 * MOST_SEGMENT_WORDS
 room-first b op ops h =
     let at = size b.operators in
     let one = room-front b (op ∷ []) ops h in
@@ -70,12 +75,12 @@ room-first b op ops h =
 
 -- where code is left from a place on, there is room for the operator at that place
 pub room-at : (b d : Built) (all : List Operator) (i : ℕ) (x : Operator) → b.level ≡ Some 2 → with_code b (drop i all) ≡ with_code d all
-    → HasRoom d all → i < length all → size b.operators + length (spelling (size b.operators) (level_set b) (get_or all i x)) ≤ 49152
+    → HasRoom d all → i < length all → size b.operators + length (spelling (size b.operators) (level_set b) (get_or all i x)) ≤ 6 * MOST_SEGMENT_WORDS
 room-at b d all i x level rest h within =
     let front : drop i all ≡ get_or all i x ∷ drop (suc i) all = drop-cons all i x within in
     let left : HasRoom b (drop i all) = room-same b d (drop i all) all rest h in
     let first = room-first b (get_or all i x) (drop (suc i) all) (subst (HasRoom b) front left) in
-    subst (λ o. size b.operators + length (spelling (size b.operators) (unwrap_or o 0) (get_or all i x)) ≤ 49152) (sym level) first
+    subst (λ o. size b.operators + length (spelling (size b.operators) (unwrap_or o 0) (get_or all i x)) ≤ 6 * MOST_SEGMENT_WORDS) (sym level) first
 
 -- ---- the cells, of which some zeros are pushed
 
@@ -142,11 +147,11 @@ step-room b a all i k step rest h within =
 
 -- ---- what fits level 2
 
-cell-fits : (k : ℕ) → k < 400 → IsSeen 2 (cell k)
+cell-fits : (k : ℕ) → k < MOST_BLOCK_CELLS → IsSeen 2 (cell k)
 unfolding level_bits
 cell-fits k h = record { level_seen = omega arith; index_fits = omega arith }
 
-write-fits : IsSeen 2 write_intrinsic
+write-fits : IsSeen 2 (couple_of_intrinsic Write)
 unfolding level_bits
 write-fits = record { level_seen = omega arith; index_fits = omega arith }
 
@@ -160,12 +165,12 @@ short_literal-fits n h =
     fits-chosen (eqb n 0) _ _ (λ _. tt) (λ _. fits-chosen (eqb n 1) _ _ (λ _. tt)
     (λ _. fits-chosen (ltb n (2 ^ 8)) _ _ (λ e. ltb-true n (2 ^ 8) e) (λ _. h)))
 
-operand-below : (z : ℤ) → unsigned_abs z ≤ 549755813887 → (operand z).bits < 2 ^ 48
+operand-below : (z : ℤ) → unsigned_abs z ≤ most → (operand z).bits < 2 ^ 48
 unfolding operand
 operand-below (pos n) h = omega arith
 operand-below (negsuc n) h = omega arith
 
-pub literal-fits : (z : ℤ) → unsigned_abs z ≤ 549755813887 → Fits 2 (literal z)
+pub literal-fits : (z : ℤ) → unsigned_abs z ≤ most → Fits 2 (literal z)
 unfolding literal
 literal-fits (pos n) h = fits-chosen (ltb n (2 ^ 16)) _ _ (λ e. short_literal-fits n (ltb-true n (2 ^ 16) e)) (λ _. operand-below (pos n) h)
 literal-fits (negsuc n) h = operand-below (negsuc n) h
@@ -177,10 +182,10 @@ is-fit op h = record { known = omega arith; fits = h }
 pub plain-fit : (kind : _) → AreFit (placed (ops.Plain kind ∷ []))
 plain-fit kind = (is-fit (ops.Plain kind) tt, tt)
 
-pub namc-fit : (k : ℕ) → k < 400 → AreFit (placed (ops.Namc (cell k) ∷ []))
+pub namc-fit : (k : ℕ) → k < MOST_BLOCK_CELLS → AreFit (placed (ops.Namc (cell k) ∷ []))
 namc-fit k h = (is-fit (ops.Namc (cell k)) (cell-fits k h), tt)
 
-pub operand-fit : (v : Operand) → IsOperand 400 v → AreFit (placed (operand_code v))
+pub operand-fit : (v : Operand) → IsOperand MOST_BLOCK_CELLS v → AreFit (placed (operand_code v))
 operand-fit (operands.Number value) h = (is-fit (literal value) (literal-fits value h), tt)
 operand-fit (operands.Integer k) h = (is-fit (ops.Valc (cell k)) (cell-fits k h), tt)
 
@@ -188,11 +193,11 @@ pub calculation-fit : (a : Adding) → AreFit (placed (calculation a ∷ []))
 calculation-fit adding.Add = plain-fit kinds.Add
 calculation-fit adding.Subtract = plain-fit kinds.Subt
 
-pub write-fit : (format item : ℕ) → item < 400 → format < 2 ^ 16 → AreFit (placed (write_code format item))
+pub write-fit : (format item : ℕ) → item < MOST_BLOCK_CELLS → format < 2 ^ 16 → AreFit (placed (write_code format item))
 write-fit format item h few = (
   is-fit (ops.Plain kinds.Mkst) tt,
   (
-    is-fit (ops.Namc write_intrinsic) write-fits,
+    is-fit (ops.Namc (couple_of_intrinsic Write)) write-fits,
     (is-fit (literal (pos format)) (literal-fits (pos format) (omega arith)), (is-fit (ops.Valc (cell item)) (cell-fits item h), plain-fit kinds.Entr)),
   ),
 )
@@ -268,7 +273,7 @@ cells-size n at =
     omega (arith, text-two at zeros (ops.Plain kinds.Push ∷ []), zeros-size n at)
 
 -- a segment has room for the code of a straight line
-pub straight-room : (straight : Straight) → straight.integers ≤ 400 → operands_in straight.steps ≤ 2000
+pub straight-room : (straight : Straight) → straight.integers ≤ MOST_BLOCK_CELLS → operands_in straight.steps ≤ MOST_SEGMENT_TOKENS
     → HasRoom (record { operators = []; level = Some 2 }) (straight_code straight)
 straight-room straight few short =
     let cells = cells_code straight.integers in
@@ -299,7 +304,7 @@ abbrev pub fresh : Built
 fresh = record { operators = []; level = Some 2 }
 
 -- the parts of a program's code, one after another, have room, and are its code
-module _ (straight : Straight) (few : straight.integers ≤ 400) (short : operands_in straight.steps ≤ 2000) (b : Built) (started : b ≡ fresh) where
+module _ (straight : Straight) (few : straight.integers ≤ MOST_BLOCK_CELLS) (short : operands_in straight.steps ≤ MOST_SEGMENT_TOKENS) (b : Built) (started : b ≡ fresh) where
   exit : List Operator
   exit = ops.Plain kinds.Exit ∷ []
 

@@ -3,6 +3,7 @@ use Rattle.std.proofs.Common.{◌≡◌, ℕ, ◌+◌, ◌≤◌, List, [], ◌�
 use Rattle.std.specs.Prelude.{All, ◌==◌, if◌then◌else◌}
 use Rattle.std.specs.List.{slice_index_or}
 use Rattle.std.proofs.lemmas.List.Elements.{All-head, All-tail, All-nil, All-cons}
+use Rattle.b67_segment.specs.declared.TheConstants.{MOST_SEGMENT_WORDS}
 use Rattle.b67_ops.specs.Spelling.{spelling, Stands}
 use Rattle.b67_ops.proofs.Laws.{Stands-appended, Stands-kept}
 use Rattle.b67_segment.specs.declared.code.Segment.{Segment}
@@ -52,7 +53,7 @@ one_mark p ps levels =
     ap (λ l. if l == 0 then marks_of l (places later ps) else record { place = 0; level = l } ∷ marks_of l (places later ps)) (All-head AtLevelTwo p ps levels)
     ∙ ap (λ ms. record { place = 0; level = 2 } ∷ ms) (no_marks later ps (All-tail AtLevelTwo p ps levels))
 
-is_segment : (segment : Segment) (ps : List Placed) → 1 ≤ length segment.words → length segment.words ≤ 8192 → Spells ps segment → All AtLevelTwo ps → segment.marks ≡ record { place = 0; level = 2 } ∷ [] →
+is_segment : (segment : Segment) (ps : List Placed) → 1 ≤ length segment.words → length segment.words ≤ MOST_SEGMENT_WORDS → Spells ps segment → All AtLevelTwo ps → segment.marks ≡ record { place = 0; level = 2 } ∷ [] →
     IsSegment segment (places 0 ps)
 is_segment segment [] some few spells levels mark = absurd (omega (arith, some, length-syllables segment.words, ap length spells.code))
 is_segment segment (p ∷ ps) some few spells levels mark = record {

@@ -3,6 +3,7 @@ use Rattle.std.proofs.Common.{◌≡◌, ℕ, zero, suc, ◌+◌, ◌<◌, ◌�
 use Rattle.std.specs.Prelude.{slice_get, All}
 use Rattle.std.proofs.lemmas.List.{length-map}
 use Rattle.std.proofs.lemmas.List.Elements.{All-nil, All-cons}
+use Rattle.algol_tree.specs.declared.TheConstants.{MOST_BLOCK_CELLS}
 use Rattle.algol_tree.specs.declared.tree.Named.{Named}
 use Rattle.algol_tree.specs.declared.tree.PhraseText.TheVariants as phrases
 use Rattle.algol_tree.specs.Plain.{PExpr, number, variable, two, subscripted, none, more, PStmt, assign, write, PStmts, no_stmts, stmts, PProgram}
@@ -73,7 +74,7 @@ module _ (names : List (List ℕ)) where
   steps-few _ _ r = absurd r
 
 -- the conditions of the compiler
-pub range-from_accepted : (tree : PProgram) (straight : Straight) → Accepted tree → Resolves tree straight → (straight.integers ≤ 400) × IsInRange straight
+pub range-from_accepted : (tree : PProgram) (straight : Straight) → Accepted tree → Resolves tree straight → (straight.integers ≤ MOST_BLOCK_CELLS) × IsInRange straight
 range-from_accepted tree straight (accepted spot file ns ss distinct few known small) (resolves _ _ _ _ _ count r) =
     let named : length (names_of ns) ≡ straight.integers = length-map ns (λ (n : Named). n.name) ∙ sym count in (
       omega (arith, few, count),

@@ -5,12 +5,13 @@ use Rattle.std.proofs.lemmas.List.{length-replicate}
 use Rattle.std.proofs.lemmas.List.Elements.{All-nil, All-cons, All-append, recursion_from_All}
 use Rattle.std.specs.List.{AllByRecursion}
 use Rattle.std.specs.declared.alloc.AllocError.{AllocError}
+use Rattle.algol_tree.specs.declared.TheConstants.{MOST_BLOCK_CELLS}
 use Rattle.algol_tree.specs.Plain.{PProgram}
 use Rattle.b67_ops.specs.declared.Operator.{Operator}
 use Rattle.b67_ops.specs.declared.Operator.TheVariants as ops
 use Rattle.b67_ops.specs.declared.PlainKind.TheVariants as kinds
 use Rattle.b67_segment.specs.declared.code.Code.{Code}
-use Rattle.b67_segment.specs.Operators.{Placed, text, size, marks_after, marks_of, AreFit, last_level, missing, filled}
+use Rattle.b67_segment.specs.Operators.{Placed, text, size, marks_after, marks_of, AreFit, last_level, missing, filler, filled}
 use Rattle.b67_segment.proofs.Fetches.{length-syllables}
 use Rattle.b67_segment.proofs.Filling.{filled-text}
 use Rattle.b67_relate.specs.Code.{ProgramAt}
@@ -64,7 +65,7 @@ formats-small integers (steps.Write width item ∷ after) h =
 
 -- ---- the code
 
-pub small-from_code : (straight : Straight) (code : Code) → straight.integers ≤ 400 → IsInRange straight → IsCodeOf straight code → IsSmall code
+pub small-from_code : (straight : Straight) (code : Code) → straight.integers ≤ MOST_BLOCK_CELLS → IsInRange straight → IsCodeOf straight code → IsSmall code
 small-from_code straight code few range is =
     let all = straight_code straight in
     let ps = placed all in
@@ -72,7 +73,7 @@ small-from_code straight code few range is =
     let fill = filled-text ps (AreFit-front ps _ is.spells.fit) in
     let room = straight-room straight few range.short in
     let count : length (text 0 (filled ps)) ≡ size ps + missing (size ps) =
-    ap length fill.0 ∙ length-append (text 0 ps) (replicate (missing (size ps)) 0xfe) ∙ ap (λ n. size ps + n) (length-replicate {A = ℕ} (missing (size ps)) 0xfe) in
+    ap length fill.0 ∙ length-append (text 0 ps) (replicate (missing (size ps)) filler) ∙ ap (λ n. size ps + n) (length-replicate {A = ℕ} (missing (size ps)) filler) in
     let long : 6 * length is.segment.words ≡ size ps + missing (size ps) = sym (length-syllables is.segment.words) ∙ ap length is.spells.code ∙ count in
     record {
       segment = is.segment;
@@ -87,11 +88,11 @@ small-from_code straight code few range is =
     }
 
 -- what a translation ensures, as its caller has it
-pub trees-translated : (straight : Straight) → straight.integers ≤ 400 → IsInRange straight → (r : Result Code AllocError) → IfOk r (IsCodeOf straight)
+pub trees-translated : (straight : Straight) → straight.integers ≤ MOST_BLOCK_CELLS → IsInRange straight → (r : Result Code AllocError) → IfOk r (IsCodeOf straight)
     → IfOk r (λ code. (tree : PProgram) → Resolves tree straight → ProgramAt code tree)
 trees-translated straight few range (Ok code) is = λ tree h. tree-at straight code few range.short is tree h
 trees-translated straight few range (Err e) is = tt
 
-pub small-translated : (straight : Straight) → straight.integers ≤ 400 → IsInRange straight → (r : Result Code AllocError) → IfOk r (IsCodeOf straight) → IfOk r IsSmall
+pub small-translated : (straight : Straight) → straight.integers ≤ MOST_BLOCK_CELLS → IsInRange straight → (r : Result Code AllocError) → IfOk r (IsCodeOf straight) → IfOk r IsSmall
 small-translated straight few range (Ok code) is = small-from_code straight code few range is
 small-translated straight few range (Err e) is = tt

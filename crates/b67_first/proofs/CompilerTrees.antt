@@ -3,18 +3,20 @@ use Rattle.std.proofs.Common.{◌≡◌, ℕ, zero, suc, ◌+◌, ◌^◌, ◌�
 use Rattle.std.specs.Prelude.{slice_get}
 use Rattle.std.proofs.lemmas.Bool.{eqb-true}
 use Rattle.std.proofs.lemmas.List.{length-map}
+use Rattle.algol_tree.specs.declared.TheConstants.{MOST_BLOCK_CELLS, MOST_SEGMENT_TOKENS}
 use Rattle.algol_tree.specs.declared.tree.Named.{Named}
 use Rattle.algol_tree.specs.declared.tree.PhraseText.TheVariants as phrases
 use Rattle.algol_tree.specs.Plain.{PExpr, number, variable, two, subscripted, none, more, PStmt, assign, write, PStmts, no_stmts, stmts, PProgram}
 use Rattle.algol_tree.specs.Accepted.{names_of, width_in}
-use Rattle.algol_meaning.specs.Rest.{items}
+use Rattle.algol_first_meaning.specs.Rest.{items}
 use Rattle.b67_word.specs.Word.{operand}
 use Rattle.b67_ops.specs.declared.Operator.{Operator}
 use Rattle.b67_ops.specs.declared.Operator.TheVariants as ops
 use Rattle.b67_ops.specs.declared.PlainKind.TheVariants as kinds
 use Rattle.b67_segment.specs.declared.code.Format.{Format}
 use Rattle.b67_segment.specs.declared.code.Code.{Code}
-use Rattle.b67_relate.specs.Code.{Has, IsLiteral, zero_pushed, one_pushed, byte, two_bytes, whole_word, IsWhole, LiteralAt, addition, subtraction, CalculationAt, ExprAt, AssignAt, WriteAt, StmtAt, ItemsAt, ZerosAt, BodyAt, ProgramAt, program_at}
+use Rattle.b67_num.specs.declared.Calculation.TheVariants as calculations
+use Rattle.b67_relate.specs.Code.{Has, IsLiteral, zero_pushed, one_pushed, byte, two_bytes, whole_word, IsWhole, LiteralAt, CalculationAt, ExprAt, AssignAt, WriteAt, StmtAt, ItemsAt, ZerosAt, BodyAt, ProgramAt, program_at}
 use Rattle.algol_first.specs.declared.straight.Operand.{Operand}
 use Rattle.algol_first.specs.declared.straight.Operand.TheVariants as operands
 use Rattle.algol_first.specs.declared.straight.Adding.{Adding}
@@ -77,9 +79,9 @@ module _ (code : Code) (names : List (List ℕ)) where
 
   calculation-at : (a : Adding) (from to : ℕ) → RowAt code from (calculation a ∷ []) to → CalculationAt code from (op_of a) to
   calculation-at adding.Add from to row =
-      record { operator = ops.Plain kinds.Add; stands = subst (λ m. Has code from (ops.Plain kinds.Add) m) row.2 row.1; calculates = addition }
+      record { kind = kinds.Add; stands = subst (λ m. Has code from (ops.Plain kinds.Add) m) row.2 row.1; calculation = calculations.Sum; meant = refl; made = refl }
   calculation-at adding.Subtract from to row =
-      record { operator = ops.Plain kinds.Subt; stands = subst (λ m. Has code from (ops.Plain kinds.Subt) m) row.2 row.1; calculates = subtraction }
+      record { kind = kinds.Subt; stands = subst (λ m. Has code from (ops.Plain kinds.Subt) m) row.2 row.1; calculation = calculations.Difference; meant = refl; made = refl }
 
   -- the code of terms behind that of what stands to their left is the code of the whole
   terms-at : (left : PExpr) (terms : List Term) (e : PExpr) (from middle to : ℕ) → ResolvesTerms names left terms e → ExprAt code names left from middle
@@ -113,7 +115,7 @@ module _ (code : Code) (names : List (List ℕ)) where
       }
 
   write-at : (phrase : List ℕ) (n : Named) (width item format from to : ℕ) → width_in phrase ≡ Some width → IsNumbered names n.name item
-      → slice_get code.formats format ≡ Some (number_format width) → format ≤ 2000
+      → slice_get code.formats format ≡ Some (number_format width) → format ≤ MOST_SEGMENT_TOKENS
       → RowAt code from (write_code format item) to → WriteAt code names phrase (variable (subscripted n none)) from to
   write-at phrase n width item format from to wide is shown few row = record {
     format = format;
@@ -136,7 +138,7 @@ module _ (code : Code) (names : List (List ℕ)) where
   assigned-at _ target v from to r row = absurd r
 
   written-at : (s : PStmt) (width item format from to : ℕ) → ResolvesStmt names s (steps.Write width item)
-      → slice_get code.formats format ≡ Some (number_format width) → format ≤ 2000
+      → slice_get code.formats format ≡ Some (number_format width) → format ≤ MOST_SEGMENT_TOKENS
       → RowAt code from (write_code format item) to → StmtAt code names s from to
   written-at (write f spot (phrases.Word phrase ∷ []) (more (variable (subscripted n none)) none)) width item format from to r shown few row =
       write-at phrase n width item format from to r.0 r.3 shown few row
@@ -145,7 +147,7 @@ module _ (code : Code) (names : List (List ℕ)) where
 
   -- the steps' code, and then the end, are the code of the statements
   steps-at : (ss : PStmts) (after : List Step) (before : List Format) (from to : ℕ) → ResolvesStmts names ss after
-      → code.formats ≡ before ++ formats_of after → length before + operands_in after ≤ 2000
+      → code.formats ≡ before ++ formats_of after → length before + operands_in after ≤ MOST_SEGMENT_TOKENS
       → RowAt code from (steps_code (length before) after ++ ops.Plain kinds.Exit ∷ []) to → ItemsAt code names (items ss) from
   steps-at no_stmts [] before from to r shown few row = (row.0, row.1)
   steps-at (stmts s ss) (steps.Assign target v ∷ after) before from to r shown few row =
@@ -174,7 +176,7 @@ module _ (code : Code) (names : List (List ℕ)) where
   zeros-at (suc n) from to row = (row.0, row.1, zeros-at n row.0 to row.2)
 
   body-at : (ss : PStmts) (straight : Straight) → straight.integers ≡ length names → ResolvesStmts names ss straight.steps
-      → operands_in straight.steps ≤ 2000 → code.formats ≡ formats_of straight.steps → (to : ℕ) → RowAt code 0 (straight_code straight) to → BodyAt code names ss
+      → operands_in straight.steps ≤ MOST_SEGMENT_TOKENS → code.formats ≡ formats_of straight.steps → (to : ℕ) → RowAt code 0 (straight_code straight) to → BodyAt code names ss
   body-at ss straight count r few shown to row =
       let push : List Operator = ops.Plain kinds.Push ∷ [] in
       let rest = steps_code 0 straight.steps ++ ops.Plain kinds.Exit ∷ [] in
@@ -189,7 +191,7 @@ module _ (code : Code) (names : List (List ℕ)) where
       }
 
 -- in the code of a straight line, the code of its tree stands
-pub tree-at : (straight : Straight) (code : Code) → straight.integers ≤ 400 → operands_in straight.steps ≤ 2000 → IsCodeOf straight code
+pub tree-at : (straight : Straight) (code : Code) → straight.integers ≤ MOST_BLOCK_CELLS → operands_in straight.steps ≤ MOST_SEGMENT_TOKENS → IsCodeOf straight code
     → (tree : PProgram) → Resolves tree straight → ProgramAt code tree
 tree-at straight code few short is tree (resolves spot file ns ss _ count r) =
     let row = row-spells code is.segment (straight_code straight) _ is.only is.spells in

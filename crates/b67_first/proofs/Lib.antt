@@ -8,7 +8,7 @@ pub mod CompilerFaithful
 mod MachineLine
 mod MachineRows
 mod MachineCalls
-mod MachineBuilt
+mod MachineInstructions
 mod MachineStep
 mod MachineSeen
 mod MachineRuns

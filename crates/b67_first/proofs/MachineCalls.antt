@@ -4,22 +4,25 @@ use Rattle.std.specs.Prelude.{slice_get, slice_set, nat_lt, nat_le, ◌==◌, �
 use Rattle.std.specs.List.{list_all}
 use Rattle.std.proofs.lemmas.List.{take_rest, length-take-le}
 use Rattle.std.proofs.lemmas.Bool.{ne_eqb, and_parts}
+use Rattle.b67_store.specs.declared.TheConstants.{MOST_STACK_WORDS}
 use Rattle.b67_word.specs.declared.Place.{Place}
 use Rattle.b67_word.specs.Word.{Word}
 use Rattle.b67_control.specs.declared.Mscw.{Mscw}
 use Rattle.b67_control.specs.declared.Pcw.{Pcw}
 use Rattle.b67_control.specs.Control.{as_mscw, as_pcw, mscw_word, rcw_word, pcw_word}
 use Rattle.b67_ops.specs.declared.Couple.{Couple}
+use Rattle.b67_ops.specs.declared.intrinsic.Intrinsic.TheVariants.{Write}
+use Rattle.b67_ops.specs.Intrinsics.{number_of}
 use Rattle.b67_segment.specs.declared.code.Code.{Code}
-use Rattle.b67_table.specs.declared.InterruptKind.TheVariants.{InvalidOperand, StackUnderflow, BadCode, BrokenChain}
-use Rattle.b67_table.specs.declared.ProcessState.TheVariants.{Able}
-use Rattle.b67_table.specs.Effect.{gives, interrupts, limit}
-use Rattle.b67_table.specs.Private.{display_at, entry_of}
-use Rattle.b67_table.specs.Image.{Image, stack_of, word_at}
-use Rattle.b67_table.specs.Program.{Program, does, done}
-use Rattle.b67_table.specs.Program as programs
-use Rattle.b67_table.specs.Rows.{invalid, with_word, moved_by, couple_place, reference_place, reached, if_operand, from_top, if_there, value_call, stored, store, values_of, line_for, line_above, line_above_word, line_shown, write_line, intrinsic, enter_at, enter_by, enter_marked, enter}
-use Rattle.b67_table.specs.Table.{system_stack, first_registers}
+use Rattle.b67_first_table.specs.declared.InterruptKind.TheVariants.{InvalidOperand, StackUnderflow, BadCode, BrokenChain}
+use Rattle.b67_first_table.specs.declared.ProcessState.TheVariants.{Able}
+use Rattle.b67_first_table.specs.Effect.{gives, interrupts, limit}
+use Rattle.b67_first_table.specs.Private.{display_at, entry_of}
+use Rattle.b67_first_table.specs.Image.{Image, stack_of, word_at}
+use Rattle.b67_first_table.specs.Program.{Program, does, done}
+use Rattle.b67_first_table.specs.Program as programs
+use Rattle.b67_first_table.specs.Rows.{invalid, with_word, moved_by, couple_place, reference_place, reached, if_operand, from_top, if_there, value_call, stored, store, values_of, line_for, line_above, line_above_word, line_shown, write_line, intrinsic, enter_at, enter_by, enter_marked, enter}
+use Rattle.b67_first_table.specs.Table.{system_stack, first_registers}
 use Rattle.b67_first.specs.Words.{stack_numbered}
 use Rattle.b67_first.specs.Machine.{registers, image}
 use Rattle.b67_first.specs.Reach.{Reads}
@@ -124,27 +127,27 @@ module _ (words : List Word) (mark cells place : ℕ) (output : List (List ℕ))
   push_does : (next : ℕ) (w : Word) →
       does 1 (programs.push (registers (length words) mark cells place).stack w
       (programs.registers (record (registers (length words) mark cells place) { s = (registers (length words) mark cells place).s + 1; place = next }) done)) (image words mark cells place output)
-      ≡ (if nat_lt (length words) 65536 then gives (set_to (words ++ w ∷ []) (length words + 1) next) else limit)
+      ≡ (if nat_lt (length words) MOST_STACK_WORDS then gives (set_to (words ++ w ∷ []) (length words + 1) next) else limit)
   unfolding set_to image registers
   push_does next w = refl
 
-  pub pushing_gives : (next : ℕ) (w : Word) → w.tag ≡ 0 → length words < 65536 →
+  pub pushing_gives : (next : ℕ) (w : Word) → w.tag ≡ 0 → length words < MOST_STACK_WORDS →
       does 1 (pushing next w) (image words mark cells place output) ≡ gives (image (words ++ w ∷ []) mark cells next output)
   pushing_gives next w e room =
       ap (λ (p : Program). does 1 p (image words mark cells place output))
       (tag_is w (programs.push (registers (length words) mark cells place).stack w
       (programs.registers (record (registers (length words) mark cells place) { s = (registers (length words) mark cells place).s + 1; place = next }) done)) e)
       ∙ push_does next w
-      ∙ ap (λ (b : Bool). if b then gives (set_to (words ++ w ∷ []) (length words + 1) next) else limit) (below (length words) 65536 room)
+      ∙ ap (λ (b : Bool). if b then gives (set_to (words ++ w ∷ []) (length words + 1) next) else limit) (below (length words) MOST_STACK_WORDS room)
       ∙ ap gives (set_to_is (words ++ w ∷ []) (length words + 1) next (omega (arith, length-append words (w ∷ []))))
 
-  pub pushing_full : (next : ℕ) (w : Word) → w.tag ≡ 0 → 65536 ≤ length words → does 1 (pushing next w) (image words mark cells place output) ≡ limit
+  pub pushing_full : (next : ℕ) (w : Word) → w.tag ≡ 0 → MOST_STACK_WORDS ≤ length words → does 1 (pushing next w) (image words mark cells place output) ≡ limit
   pushing_full next w e full =
       ap (λ (p : Program). does 1 p (image words mark cells place output))
       (tag_is w (programs.push (registers (length words) mark cells place).stack w
       (programs.registers (record (registers (length words) mark cells place) { s = (registers (length words) mark cells place).s + 1; place = next }) done)) e)
       ∙ push_does next w
-      ∙ ap (λ (b : Bool). if b then gives (set_to (words ++ w ∷ []) (length words + 1) next) else limit) (not_below (length words) 65536 full)
+      ∙ ap (λ (b : Bool). if b then gives (set_to (words ++ w ∷ []) (length words + 1) next) else limit) (not_below (length words) MOST_STACK_WORDS full)
 
   -- ---- a value is stored
 
@@ -327,23 +330,23 @@ module _ (words : List Word) (mark cells place : ℕ) (output : List (List ℕ))
       (all_true (not m.entered) (nat_le (2 + cells) mark) (nat_lt (mark + 1) (length words)) (ap not g) (at_most (2 + cells) mark h) (below (mark + 1) (length words) i))
       ∙ above_read code next m w j
 
-  pub other_number : (code : Code) (next : ℕ) (m : Mscw) (pcw : Pcw) → pcw.intrinsic ≡ true → pcw.number ≢ 7 →
+  pub other_number : (code : Code) (next : ℕ) (m : Mscw) (pcw : Pcw) → pcw.intrinsic ≡ true → pcw.number ≢ number_of Write →
       does 1 (enter_at code (registers (length words) mark cells place) next m (Some pcw)) (image words mark cells place output) ≡ interrupts BadCode
   other_number code next m pcw e f =
       ap (λ (b : Bool). does 1 (if b then intrinsic code (registers (length words) mark cells place) next m pcw.number else programs.interrupt BadCode) (image words mark cells place output)) e
-      ∙ ap (λ (b : Bool). does 1 (if b then write_line code (registers (length words) mark cells place) next m else programs.interrupt BadCode) (image words mark cells place output)) (ne_eqb pcw.number 7 f)
+      ∙ ap (λ (b : Bool). does 1 (if b then write_line code (registers (length words) mark cells place) next m else programs.interrupt BadCode) (image words mark cells place output)) (ne_eqb pcw.number (number_of Write) f)
 
   pub no_intrinsic : (code : Code) (next : ℕ) (m : Mscw) (pcw : Pcw) → pcw.intrinsic ≡ false →
       does 1 (enter_at code (registers (length words) mark cells place) next m (Some pcw)) (image words mark cells place output) ≡ interrupts BadCode
   no_intrinsic code next m pcw e =
       ap (λ (b : Bool). does 1 (if b then intrinsic code (registers (length words) mark cells place) next m pcw.number else programs.interrupt BadCode) (image words mark cells place output)) e
 
-  pub writes : (code : Code) (next : ℕ) (m : Mscw) (pcw : Pcw) → pcw.intrinsic ≡ true → pcw.number ≡ 7 →
+  pub writes : (code : Code) (next : ℕ) (m : Mscw) (pcw : Pcw) → pcw.intrinsic ≡ true → pcw.number ≡ number_of Write →
       does 1 (enter_at code (registers (length words) mark cells place) next m (Some pcw)) (image words mark cells place output)
       ≡ does 1 (write_line code (registers (length words) mark cells place) next m) (image words mark cells place output)
   writes code next m pcw e f =
       ap (λ (b : Bool). does 1 (if b then intrinsic code (registers (length words) mark cells place) next m pcw.number else programs.interrupt BadCode) (image words mark cells place output)) e
-      ∙ ap (λ (b : Bool). does 1 (if b then write_line code (registers (length words) mark cells place) next m else programs.interrupt BadCode) (image words mark cells place output)) (eq-eqb pcw.number 7 f)
+      ∙ ap (λ (b : Bool). does 1 (if b then write_line code (registers (length words) mark cells place) next m else programs.interrupt BadCode) (image words mark cells place output)) (eq-eqb pcw.number (number_of Write) f)
 
   -- ---- a line is written
 

@@ -4,7 +4,7 @@ use Rattle.std.proofs.lemmas.List.{drop_all}
 use Rattle.std.specs.Prelude.{ℤ, option_and_then}
 use Rattle.b67_word.specs.Word.{Word, as_whole}
 use Rattle.b67_segment.specs.declared.code.Phrase.{Phrase}
-use Rattle.b67_table.specs.Rows.{joined_values, values_of, before, format_line}
+use Rattle.b67_first_table.specs.Rows.{joined_values, values_of, before, format_line}
 use Rattle.b67_first.specs.Written.{line_with}
 
 joined_left : (front : List ℕ) (o : Option ℤ) (os : Option (List ℤ)) → before front (option_and_then (format_line []) (joined_values o os)) ≡ None

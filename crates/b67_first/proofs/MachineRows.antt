@@ -4,18 +4,19 @@ use Rattle.std.specs.Prelude.{slice_get, reverse, nat_lt, nat_le, if◌then◌el
 use Rattle.std.proofs.lemmas.List.{reverse-append, reverse-reverse, take-append-le, drop-append-le, length-take-le}
 use Rattle.std.proofs.lemmas.Option.{slice_get-get_or}
 use Rattle.std.proofs.lemmas.Bool.Decides.{nat_tests}
+use Rattle.b67_store.specs.declared.TheConstants.{MOST_STACK_WORDS}
 use Rattle.b67_num.specs.declared.NumFault.{NumFault}
 use Rattle.b67_num.specs.declared.FaultKind.{FaultKind}
-use Rattle.b67_table.specs.declared.InterruptKind.{InterruptKind}
+use Rattle.b67_first_table.specs.declared.InterruptKind.{InterruptKind}
 use Rattle.b67_num.specs.Whole.{fault_of}
 use Rattle.b67_word.specs.Word.{Word, operand, as_whole}
 use Rattle.b67_control.specs.Control.{mscw_word}
-use Rattle.b67_table.specs.declared.InterruptKind.TheVariants.{InvalidOperand, StackUnderflow}
-use Rattle.b67_table.specs.Effect.{Effect, gives, faults, interrupts, limit, ◌>>=◌}
-use Rattle.b67_table.specs.Private.{Private, floor, top, pop, push, arithmetic, mark, make_cells, whole_of, whole_or, result_or_fault}
-use Rattle.b67_table.specs.Image.{Image, with_private}
-use Rattle.b67_table.specs.Table.{system_stack}
-use Rattle.b67_table.specs.declared.ProcessState.TheVariants.{Able}
+use Rattle.b67_first_table.specs.declared.InterruptKind.TheVariants.{InvalidOperand, StackUnderflow}
+use Rattle.b67_first_table.specs.Effect.{Effect, gives, faults, interrupts, limit, ◌>>=◌}
+use Rattle.b67_first_table.specs.Private.{Private, floor, top, pop, push, arithmetic, mark, make_cells, whole_of, whole_or, result_or_fault}
+use Rattle.b67_first_table.specs.Image.{Image, with_private}
+use Rattle.b67_first_table.specs.Table.{system_stack}
+use Rattle.b67_first_table.specs.declared.ProcessState.TheVariants.{Able}
 use Rattle.b67_first.specs.Machine.{registers, image, by_row, with_operand}
 
 -- ---- tests and lists
@@ -94,21 +95,21 @@ module _ (words : List Word) (mark_at cells place : ℕ) (output : List (List �
 
   -- what a push does to a private part
   pushed : Word → List Word → Effect Private
-  pushed w above = if nat_lt (length words) 65536 then gives (record { regs = registers (length words + 1) mark_at cells place; words = w ∷ above }) else limit
+  pushed w above = if nat_lt (length words) MOST_STACK_WORDS then gives (record { regs = registers (length words + 1) mark_at cells place; words = w ∷ above }) else limit
 
   push_is : (w : Word) (above : List Word) → push w (part above) ≡ pushed w above
   unfolding part pushed registers
   push_is w above = refl
 
-  pushed-room : (w : Word) (above : List Word) → length words < 65536 → pushed w above ≡ gives (record { regs = registers (length words + 1) mark_at cells place; words = w ∷ above })
+  pushed-room : (w : Word) (above : List Word) → length words < MOST_STACK_WORDS → pushed w above ≡ gives (record { regs = registers (length words + 1) mark_at cells place; words = w ∷ above })
   unfolding pushed
-  pushed-room w above h = ap (λ (b : Bool). if b then gives (record { regs = registers (length words + 1) mark_at cells place; words = w ∷ above }) else limit) (below (length words) 65536 h)
+  pushed-room w above h = ap (λ (b : Bool). if b then gives (record { regs = registers (length words + 1) mark_at cells place; words = w ∷ above }) else limit) (below (length words) MOST_STACK_WORDS h)
 
-  pushed-full : (w : Word) (above : List Word) → 65536 ≤ length words → pushed w above ≡ limit
+  pushed-full : (w : Word) (above : List Word) → MOST_STACK_WORDS ≤ length words → pushed w above ≡ limit
   unfolding pushed
-  pushed-full w above h = ap (λ (b : Bool). if b then gives (record { regs = registers (length words + 1) mark_at cells place; words = w ∷ above }) else limit) (not_below (length words) 65536 h)
+  pushed-full w above h = ap (λ (b : Bool). if b then gives (record { regs = registers (length words + 1) mark_at cells place; words = w ∷ above }) else limit) (not_below (length words) MOST_STACK_WORDS h)
 
-  pub push_gives : (w : Word) (next : ℕ) → length words < 65536 →
+  pub push_gives : (w : Word) (next : ℕ) → length words < MOST_STACK_WORDS →
       by_row (push w) next (image words mark_at cells place output) (registers (length words) mark_at cells place) ≡ gives (image (words ++ w ∷ []) mark_at cells next output)
   push_gives w next h =
       row_is (push w) next
@@ -127,7 +128,7 @@ module _ (words : List Word) (mark_at cells place : ℕ) (output : List (List �
   unfolding finish
   finish-faults next kind = refl
 
-  pub push_full : (w : Word) (next : ℕ) → 65536 ≤ length words → by_row (push w) next (image words mark_at cells place output) (registers (length words) mark_at cells place) ≡ limit
+  pub push_full : (w : Word) (next : ℕ) → MOST_STACK_WORDS ≤ length words → by_row (push w) next (image words mark_at cells place output) (registers (length words) mark_at cells place) ≡ limit
   push_full w next h =
       row_is (push w) next
       ∙ ap (finish next) (push_is w (reverse (drop (2 + cells) words)) ∙ pushed-full w (reverse (drop (2 + cells) words)) h)
@@ -146,24 +147,24 @@ module _ (words : List Word) (mark_at cells place : ℕ) (output : List (List �
   unfolding part pushed registers set_mark
   mark_is above = refl
 
-  mark_set : (above : List Word) → length words < 65536 → pushed new_mark above >>= set_mark ≡ gives (record { regs = registers (length words + 1) (length words) cells place; words = new_mark ∷ above })
+  mark_set : (above : List Word) → length words < MOST_STACK_WORDS → pushed new_mark above >>= set_mark ≡ gives (record { regs = registers (length words + 1) (length words) cells place; words = new_mark ∷ above })
   unfolding set_mark registers
   mark_set above h = ap (λ (e : Effect Private). e >>= set_mark) (pushed-room new_mark above h)
 
-  mark_full : (above : List Word) → 65536 ≤ length words → pushed new_mark above >>= set_mark ≡ limit
+  mark_full : (above : List Word) → MOST_STACK_WORDS ≤ length words → pushed new_mark above >>= set_mark ≡ limit
   mark_full above h = ap (λ (e : Effect Private). e >>= set_mark) (pushed-full new_mark above h)
 
   marks : (above : List Word) → mark_at < length words → mark (part above) ≡ pushed new_mark above >>= set_mark
   marks above h = mark_is above ∙ ap (λ (b : Bool). if b then pushed new_mark above >>= set_mark else interrupts InvalidOperand) (below mark_at (length words) h)
 
-  pub mark_gives : (next : ℕ) → mark_at < length words → length words < 65536 →
+  pub mark_gives : (next : ℕ) → mark_at < length words → length words < MOST_STACK_WORDS →
       by_row mark next (image words mark_at cells place output) (registers (length words) mark_at cells place) ≡ gives (image (words ++ new_mark ∷ []) (length words) cells next output)
   mark_gives next h room =
       row_is mark next
       ∙ ap (finish next) (marks (reverse (drop (2 + cells) words)) h ∙ mark_set (reverse (drop (2 + cells) words)) room)
       ∙ finished (words ++ new_mark ∷ []) (length words + 1) (length words) cells place next (new_mark ∷ reverse (drop (2 + cells) words)) (one_more (2 + cells) words new_mark) (omega (arith, length-append words (new_mark ∷ [])))
 
-  pub mark_is_full : (next : ℕ) → mark_at < length words → 65536 ≤ length words →
+  pub mark_is_full : (next : ℕ) → mark_at < length words → MOST_STACK_WORDS ≤ length words →
       by_row mark next (image words mark_at cells place output) (registers (length words) mark_at cells place) ≡ limit
   mark_is_full next h full =
       row_is mark next ∙ ap (finish next) (marks (reverse (drop (2 + cells) words)) h ∙ mark_full (reverse (drop (2 + cells) words)) full) ∙ finish-limit next
@@ -247,7 +248,7 @@ module _ (words : List Word) (mark_at cells place : ℕ) (output : List (List �
       >>= (λ (z : ℤ). push (operand z) y.1)))))
       (below (2 + cells) (length words - 1) h)
 
-  module _ (front : List Word) (y x : Word) (split : words ≡ front ++ y ∷ x ∷ []) (room : 2 + cells ≤ length front) (few : length words - 1 - 1 < 65536) where
+  module _ (front : List Word) (y x : Word) (split : words ≡ front ++ y ∷ x ∷ []) (room : 2 + cells ≤ length front) (few : length words - 1 - 1 < MOST_STACK_WORDS) where
     count : length words ≡ length front + 2
     count = ap length split ∙ length-append front (y ∷ x ∷ [])
 
@@ -267,7 +268,7 @@ module _ (words : List Word) (mark_at cells place : ℕ) (output : List (List �
     unfolding put registers
     put_is z =
         ap (λ (b : Bool). if b then gives (record { regs = registers (length words - 1 - 1 + 1) mark_at cells place; words = operand z ∷ reverse (drop (2 + cells) front) }) else limit)
-        (below (length words - 1 - 1) 65536 few)
+        (below (length words - 1 - 1) MOST_STACK_WORDS few)
 
     new_words : (z : ℤ) → take (2 + cells) words ++ reverse (operand z ∷ reverse (drop (2 + cells) front)) ≡ front ++ operand z ∷ []
     new_words z =
@@ -348,7 +349,7 @@ module _ (words : List Word) (mark_at cells place : ℕ) (output : List (List �
 
   -- ---- the two words on top, by their displacements
 
-  module _ (big : 2 + cells + 2 ≤ length words) (most : length words ≤ 65536) (y : Word) (lower : slice_get words (length words - 2) ≡ Some y) where
+  module _ (big : 2 + cells + 2 ≤ length words) (most : length words ≤ MOST_STACK_WORDS) (y : Word) (lower : slice_get words (length words - 2) ≡ Some y) where
     front_is : length (take (length words - 2) words) ≡ length words - 2
     front_is = length-take-le (length words - 2) words (omega arith)
 

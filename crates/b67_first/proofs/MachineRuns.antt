@@ -8,13 +8,13 @@ use Rattle.b67_control.specs.declared.Registers.{Registers}
 use Rattle.b67_ops.specs.declared.Operator.{Operator}
 use Rattle.b67_ops.specs.declared.BadCode.{BadCode as Refused}
 use Rattle.b67_segment.specs.declared.code.Code.{Code}
-use Rattle.algol_tree.specs.Numbered.{numbered}
-use Rattle.b67_table.specs.declared.InterruptKind.TheVariants.{BadCode}
-use Rattle.b67_table.specs.Effect.{Effect, gives, faults, interrupts, limit, ◌>>=◌}
-use Rattle.b67_table.specs.Private.{Private, floor, private_op}
-use Rattle.b67_table.specs.Image.{Image, with_private, private_of}
-use Rattle.b67_table.specs.Table.{table, is_live, plain, by_registers, by_operator, by_class, private_next, private_at, is_gives, operator_at, may_act, image_end, failed, first_image, finished, faulted, has_ended, end_by, goes_on, ImageEnd}
-use Rattle.b67_table.specs.Runs.{Plains, stay, go, Acts, acts, fails, Runs, begin, entry}
+use Rattle.b67_list.specs.Numbered.{numbered}
+use Rattle.b67_first_table.specs.declared.InterruptKind.TheVariants.{BadCode}
+use Rattle.b67_first_table.specs.Effect.{Effect, gives, faults, interrupts, limit, ◌>>=◌}
+use Rattle.b67_first_table.specs.Private.{Private, floor, private_op}
+use Rattle.b67_first_table.specs.Image.{Image, with_private, private_of}
+use Rattle.b67_first_table.specs.Table.{table, is_live, plain, by_registers, by_operator, by_class, private_next, private_at, is_gives, operator_at, may_act, image_end, failed, first_image, finished, faulted, has_ended, end_by, goes_on, ImageEnd}
+use Rattle.b67_first_table.specs.Runs.{Plains, stay, go, Acts, acts, fails, Runs, begin, entry}
 use Rattle.b67_first.specs.Ran.{RanTo, RanWhole, EndsWithEntry}
 use Rattle.b67_first.specs.declared.machine.RunEnd.{RunEnd}
 use Rattle.b67_first.specs.declared.machine.RunEnd.TheVariants as ends

@@ -2,9 +2,9 @@
 use Rattle.std.proofs.Common.{◌≡◌, ℕ, List, [], Some, true, refl, ap, ◌∙◌}
 use Rattle.b67_num.specs.declared.FaultKind.{FaultKind}
 use Rattle.b67_word.specs.Word.{Word}
-use Rattle.b67_table.specs.Table.{base_frame, first_image, may_act, image_end, failed, finished, faulted}
+use Rattle.b67_first_table.specs.Table.{base_frame, first_image, may_act, image_end, failed, finished, faulted}
 use Rattle.b67_first.specs.Machine.{registers, image}
-use Rattle.b67_first.specs.Built.{closed}
+use Rattle.b67_first.specs.Instructions.{closed}
 use Rattle.b67_first.specs.Seen.{image_in}
 use Rattle.b67_first.specs.declared.machine.State.{State}
 use Rattle.b67_first.specs.declared.machine.State.TheVariants as states

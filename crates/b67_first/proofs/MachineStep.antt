@@ -7,15 +7,15 @@ use Rattle.b67_ops.specs.declared.Operator.{Operator}
 use Rattle.b67_ops.specs.declared.BadCode.{BadCode}
 use Rattle.b67_segment.specs.declared.code.Code.{Code}
 use Rattle.b67_segment.specs.Fetching.{fetched}
-use Rattle.b67_table.specs.declared.InterruptKind.TheVariants.{BadCode as bad_code}
-use Rattle.b67_table.specs.Effect.{Effect, gives, interrupts, ◌>>=◌}
-use Rattle.b67_table.specs.Private.{Private, floor, private_op, private_row}
-use Rattle.b67_table.specs.Image.{Image, private_of, with_private}
-use Rattle.b67_table.specs.Program.{Program, does}
-use Rattle.b67_table.specs.Rows.{action_op, exit}
-use Rattle.b67_table.specs.Table.{is_private, by_operator, by_class, by_private, table, plain, private_at, is_gives}
+use Rattle.b67_first_table.specs.declared.InterruptKind.TheVariants.{BadCode as bad_code}
+use Rattle.b67_first_table.specs.Effect.{Effect, gives, interrupts, ◌>>=◌}
+use Rattle.b67_first_table.specs.Private.{Private, floor, private_op, private_row}
+use Rattle.b67_first_table.specs.Image.{Image, private_of, with_private}
+use Rattle.b67_first_table.specs.Program.{Program, does}
+use Rattle.b67_first_table.specs.Rows.{action_op, exit}
+use Rattle.b67_first_table.specs.Table.{is_private, by_operator, by_class, by_private, table, plain, private_at, is_gives}
 use Rattle.b67_first.specs.Machine.{registers, image, by_row}
-use Rattle.b67_first.specs.Built.{closed}
+use Rattle.b67_first.specs.Instructions.{closed}
 
 module _ (code : Code) (words : List Word) (mark cells place : ℕ) (output : List (List ℕ)) where
   -- the table looks at what is fetched

@@ -1,10 +1,16 @@
--- The code of a straight line: its operators, which all stand at level 2, and a format for each line that it writes.
-use Rattle.std.specs.Prelude.{◌≡◌, ℕ, ◌+◌, ◌^◌, ◌<◌, ◌≤◌, nat_eq, nat_lt, ℤ, pos, negsuc, unsigned_abs, List, [], ◌∷◌, ◌++◌, length, map, replicate, All, if◌then◌else◌}
+-- The code of a straight line: its operators, which all stand at the outer block's level, and a format for each line that it writes.
+use Rattle.std.specs.Prelude.{◌≡◌, ℕ, ◌+◌, ◌*◌, ◌^◌, ◌<◌, ◌≤◌, nat_eq, nat_lt, ℤ, pos, negsuc, unsigned_abs, List, [], ◌∷◌, ◌++◌, length, map, replicate, All, if◌then◌else◌}
+use Rattle.algol_tree.specs.declared.TheConstants.{MOST_LINE_WIDTH, MOST_SEGMENT_TOKENS}
+use Rattle.b67_num.specs.Whole.{most}
+use Rattle.b67_segment.specs.declared.TheConstants.{MOST_SEGMENT_WORDS}
 use Rattle.b67_word.specs.Word.{operand}
 use Rattle.b67_ops.specs.declared.Couple.{Couple}
 use Rattle.b67_ops.specs.declared.Operator.{Operator}
 use Rattle.b67_ops.specs.declared.Operator.TheVariants as ops
 use Rattle.b67_ops.specs.declared.PlainKind.TheVariants as kinds
+use Rattle.b67_ops.specs.declared.intrinsic.Intrinsic.TheVariants.{Write}
+use Rattle.b67_ops.specs.declared.TheConstants.{OUTER_LEVEL}
+use Rattle.b67_ops.specs.Intrinsics.{couple_of_intrinsic}
 use Rattle.b67_segment.specs.declared.code.Segment.{Segment}
 use Rattle.b67_segment.specs.declared.code.Phrase.TheVariants as parts
 use Rattle.b67_segment.specs.declared.code.Format.{Format}
@@ -26,7 +32,7 @@ use Rattle.algol_first.specs.declared.straight.Straight.{Straight}
 
 -- the operand is a whole number of the machine, or one of so many integers
 abbrev pub IsOperand : ℕ → Operand → Type 0
-IsOperand integers (operands.Number value) = unsigned_abs value ≤ 549755813887
+IsOperand integers (operands.Number value) = unsigned_abs value ≤ most
 IsOperand integers (operands.Integer k) = k < integers
 
 -- so is each operand of the sum
@@ -36,7 +42,7 @@ IsSum integers sum = IsOperand integers sum.first × All (λ (term : Term). IsOp
 -- the step names integers of so many, and the width is that of a line
 abbrev pub IsStep : ℕ → Step → Type 0
 IsStep integers (steps.Assign target value) = (target < integers) × IsSum integers value
-IsStep integers (steps.Write width item) = (1 ≤ width) × (width ≤ 132) × (item < integers)
+IsStep integers (steps.Write width item) = (1 ≤ width) × (width ≤ MOST_LINE_WIDTH) × (item < integers)
 
 -- how many operands the steps have
 abbrev pub operands_in : List Step → ℕ
@@ -46,18 +52,14 @@ operands_in (steps.Write width item ∷ after) = 1 + operands_in after
 
 -- the operands are few enough for one segment, and each step is in range
 pub record IsInRange (straight : Straight) : Type 0 where
-  pub short : operands_in straight.steps ≤ 2000
+  pub short : operands_in straight.steps ≤ MOST_SEGMENT_TOKENS
   pub steps : All (IsStep straight.integers) straight.steps
 
 -- ---- the operators
 
 -- where an integer is found, by its number: the cells of a frame begin at 2
 abbrev pub cell : ℕ → Couple
-cell k = record { level = 2; index = 2 + k }
-
--- where the intrinsic WRITE is found
-abbrev pub write_intrinsic : Couple
-write_intrinsic = record { level = 0; index = 7 }
+cell k = record { level = OUTER_LEVEL; index = 2 + k }
 
 -- the shortest operator that pushes this number of at most 16 bits
 unfoldable pub short_literal : ℕ → Operator
@@ -99,7 +101,7 @@ assign_code target value = ops.Namc (cell target) ∷ (sum_code value ++ ops.Pla
 -- a mark, the intrinsic WRITE, the number of the line's format, the integer, the entry
 abbrev pub write_code : ℕ → ℕ → List Operator
 write_code format item =
-    ops.Plain kinds.Mkst ∷ ops.Namc write_intrinsic ∷ literal (pos format) ∷ ops.Valc (cell item) ∷ ops.Plain kinds.Entr ∷ []
+    ops.Plain kinds.Mkst ∷ ops.Namc (couple_of_intrinsic Write) ∷ literal (pos format) ∷ ops.Valc (cell item) ∷ ops.Plain kinds.Entr ∷ []
 
 -- the steps' code, where so many formats come before theirs
 abbrev pub steps_code : ℕ → List Step → List Operator
@@ -135,9 +137,9 @@ cells_code integers = replicate integers (ops.Plain kinds.Zero) ++ ops.Plain kin
 abbrev pub straight_code : Straight → List Operator
 straight_code straight = cells_code straight.integers ++ (steps_code 0 straight.steps ++ ops.Plain kinds.Exit ∷ [])
 
--- the operators of a program stand at level 2
+-- the operators of a program stand at the outer block's level
 abbrev pub placed : List Operator → List Placed
-placed = map (λ op. record { level = 2; operator = op })
+placed = map (λ op. record { level = OUTER_LEVEL; operator = op })
 
 -- a builder with these operators appended
 abbrev pub with_code : Built → List Operator → Built
@@ -145,7 +147,7 @@ with_code b ops = record b { operators = b.operators ++ placed ops }
 
 -- the builder's segment has room for these operators
 pub record HasRoom (b : Built) (ops : List Operator) : Type 0 where
-  pub room : size (with_code b ops).operators ≤ 49152
+  pub room : size (with_code b ops).operators ≤ 6 * MOST_SEGMENT_WORDS
 
 -- the code is just that of the straight line
 pub record IsCodeOf (straight : Straight) (code : Code) : Type 0 where
@@ -160,17 +162,17 @@ pub record IsCodeOf (straight : Straight) (code : Code) : Type 0 where
 pub record IsNumberFormat (format : Format) : Type 0 where
   pub width : ℕ
   pub some : 1 ≤ width
-  pub most : width ≤ 132
+  pub most : width ≤ MOST_LINE_WIDTH
   pub is : format ≡ number_format width
 
--- One segment of 1 to 8,192 words, which operators fill, all at level 2; and formats of one number each.
+-- One segment of at least a word, and at most as many as a segment may have, which operators fill, all at the outer block's level; and formats of one number each.
 pub record IsSmall (code : Code) : Type 0 where
   pub segment : Segment
   pub only : code.segments ≡ segment ∷ []
   pub some : 1 ≤ length segment.words
-  pub most : length segment.words ≤ 8192
+  pub most : length segment.words ≤ MOST_SEGMENT_WORDS
   pub operators : List Placed
   pub spells : Spells operators segment
-  pub level : All (λ (p : Placed). p.level ≡ 2) operators
-  pub mark : segment.marks ≡ record { place = 0; level = 2 } ∷ []
+  pub level : All (λ (p : Placed). p.level ≡ OUTER_LEVEL) operators
+  pub mark : segment.marks ≡ record { place = 0; level = OUTER_LEVEL } ∷ []
   pub formats : All IsNumberFormat code.formats

@@ -3,6 +3,6 @@ pub mod Words
 pub mod Written
 pub mod Machine
 pub mod Reach
-pub mod Built
+pub mod Instructions
 pub mod Seen
 pub mod Ran

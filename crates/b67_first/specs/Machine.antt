@@ -4,11 +4,11 @@ use Rattle.b67_num.specs.declared.NumFault.{NumFault}
 use Rattle.b67_num.specs.Whole.{fault_of, most}
 use Rattle.b67_word.specs.Word.{Word, operand}
 use Rattle.b67_control.specs.declared.Registers.{Registers}
-use Rattle.b67_table.specs.declared.ProcessState.TheVariants.{Able}
-use Rattle.b67_table.specs.Effect.{Effect, gives, faults, interrupts, limit, ◌>>=◌}
-use Rattle.b67_table.specs.Private.{Private, floor, arithmetic}
-use Rattle.b67_table.specs.Image.{Image, private_of, with_private}
-use Rattle.b67_table.specs.Table.{system_stack, first_registers}
+use Rattle.b67_first_table.specs.declared.ProcessState.TheVariants.{Able}
+use Rattle.b67_first_table.specs.Effect.{Effect, gives, faults, interrupts, limit, ◌>>=◌}
+use Rattle.b67_first_table.specs.Private.{Private, floor, arithmetic}
+use Rattle.b67_first_table.specs.Image.{Image, private_of, with_private}
+use Rattle.b67_first_table.specs.Table.{system_stack, first_registers}
 use Rattle.b67_first.specs.declared.machine.process.Process.{Process}
 use Rattle.b67_first.specs.declared.machine.process.Stop.{Stop}
 use Rattle.b67_first.specs.declared.machine.process.Stop.TheVariants as stops

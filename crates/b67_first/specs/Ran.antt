@@ -1,10 +1,10 @@
 -- What a run of the machine on one processor is, in the table's terms.
 use Rattle.std.specs.Prelude.{◌≡◌, ℕ, ◌+◌, true, List, replicate, sum, Option, Some, None}
 use Rattle.b67_segment.specs.declared.code.Code.{Code}
-use Rattle.b67_table.specs.Effect.{interrupts, limit}
-use Rattle.b67_table.specs.Image.{Image}
-use Rattle.b67_table.specs.Table.{table, finished, faulted, image_end, may_act}
-use Rattle.b67_table.specs.Runs.{Plains, Runs}
+use Rattle.b67_first_table.specs.Effect.{interrupts, limit}
+use Rattle.b67_first_table.specs.Image.{Image}
+use Rattle.b67_first_table.specs.Table.{table, finished, faulted, image_end, may_act}
+use Rattle.b67_first_table.specs.Runs.{Plains, Runs}
 use Rattle.b67_first.specs.declared.machine.RunEnd.{RunEnd}
 use Rattle.b67_first.specs.declared.machine.RunEnd.TheVariants as ends
 

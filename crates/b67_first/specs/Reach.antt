@@ -4,11 +4,11 @@ use Rattle.b67_word.specs.declared.Place.{Place}
 use Rattle.b67_word.specs.Word.{Word}
 use Rattle.b67_control.specs.declared.Mscw.{Mscw}
 use Rattle.b67_segment.specs.declared.code.Code.{Code}
-use Rattle.b67_table.specs.declared.InterruptKind.TheVariants.{InvalidOperand, BrokenChain}
-use Rattle.b67_table.specs.Effect.{interrupts}
-use Rattle.b67_table.specs.Image.{Image}
-use Rattle.b67_table.specs.Program.{Program, does, done, cut, line, registers}
-use Rattle.b67_table.specs.Rows.{enter, write_line, line_shown}
+use Rattle.b67_first_table.specs.declared.InterruptKind.TheVariants.{InvalidOperand, BrokenChain}
+use Rattle.b67_first_table.specs.Effect.{interrupts}
+use Rattle.b67_first_table.specs.Image.{Image}
+use Rattle.b67_first_table.specs.Program.{Program, does, done, cut, line, registers}
+use Rattle.b67_first_table.specs.Rows.{enter, write_line, line_shown}
 use Rattle.b67_first.specs.declared.machine.calls.Address.{Address}
 use Rattle.b67_first.specs.declared.machine.process.Process.{Process}
 use Rattle.b67_first.specs.declared.machine.process.Stop.{Stop}

@@ -1,14 +1,14 @@
 -- What contracts see of the machine, and what one step of it does.
 use Rattle.std.specs.Prelude.{◌≡◌, true, false}
 use Rattle.b67_segment.specs.declared.code.Code.{Code}
-use Rattle.b67_table.specs.Effect.{gives, faults, interrupts, limit}
-use Rattle.b67_table.specs.Image.{Image}
-use Rattle.b67_table.specs.Table.{table, plain, failed}
+use Rattle.b67_first_table.specs.Effect.{gives, faults, interrupts, limit}
+use Rattle.b67_first_table.specs.Image.{Image}
+use Rattle.b67_first_table.specs.Table.{table, plain, failed}
 use Rattle.b67_first.specs.declared.machine.State.{State}
 use Rattle.b67_first.specs.declared.machine.State.TheVariants as states
 use Rattle.b67_first.specs.declared.machine.Stepped.{Stepped}
 use Rattle.b67_first.specs.declared.machine.Stepped.TheVariants as steps
-use Rattle.b67_first.specs.Built.{closed}
+use Rattle.b67_first.specs.Instructions.{closed}
 
 -- the code that is run, and the image
 pub record Seen : Type 0 where

@@ -2,6 +2,8 @@
 //! takes the number of its format. Which operators a statement takes is this project's profile of the B6700.
 
 ghost use Rattle.std.specs.Prelude.{◌≡◌, ℕ, ◌+◌, ◌*◌, ◌<◌, ◌≤◌, ◌++◌, ◌∷◌, [], Some, pos, length, replicate, All, unsigned_abs, IfOk, OnOk};
+ghost use Rattle.b67_num.specs.Whole.{most};
+ghost use Rattle.algol_tree.specs.declared.TheConstants.{MOST_BLOCK_CELLS, MOST_SEGMENT_TOKENS};
 ghost use Rattle.algol_tree.specs.Plain.{PProgram};
 ghost use Rattle.b67_ops.specs.Spelling.{IsSeen, Fits};
 ghost use Rattle.b67_segment.specs.Operators.{AreFit};
@@ -12,27 +14,21 @@ ghost use Rattle.algol_first.specs.Straight.{Resolves};
 ghost use Rattle.b67_first.specs.Compiler.{IsOperand, IsSum, IsStep, IsInRange, operands_in, cell, short_literal, literal, operand_code, calculation, term_code, sum_code, assign_code, write_code, step_code, step_formats, steps_code, number_format, formats_of, cells_code, placed, with_code, HasRoom, IsCodeOf, IsSmall};
 
 use algol_first::{Adding, Operand, Step, Straight, Sum, Term};
-use algol_tree::List;
-use b67_ops::{Couple, Operator, PlainKind};
+use b67_list::List;
+use b67_ops::{Couple, Intrinsic, OUTER_LEVEL, Operator, PlainKind};
 use b67_segment::{Builder, Code, Format, Phrase};
 use b67_word::operand;
 use std::alloc::{AllocError, Global};
 
-/// The level of the program's block.
-const LEVEL: u8 = 2;
-
-/// Where the intrinsic that writes a line is found: at index 7 of stack 0, which level 0 names.
-const WRITE: Couple = Couple { level: 0, index: 7 };
-
 /// Where an integer is found. The first two words of a frame link it to others, and its cells come after these.
 #[tactic(auto, unfolding(b67_ops::specs::Spelling::level_bits))]
 fn cell(integer: u16) -> Couple
-    requires { integer < 400 }
+    requires { integer < MOST_BLOCK_CELLS }
     ensures value { result ≡ cell integer }
-    ensures seen { IsSeen 2 result }
+    ensures seen { IsSeen OUTER_LEVEL result }
 {
     Couple {
-        level: LEVEL,
+        level: OUTER_LEVEL,
         index: 2 + integer,
     }
 }
@@ -41,7 +37,7 @@ fn cell(integer: u16) -> Couple
 #[tactic(auto, unfolding(crate::specs::Compiler::short_literal))]
 fn short_literal(value: u16) -> Operator
     ensures value { result ≡ short_literal value }
-    ensures fits { Fits 2 result }
+    ensures fits { Fits OUTER_LEVEL result }
 {
     match value {
         0 => Operator::Plain(PlainKind::Zero),
@@ -54,9 +50,9 @@ fn short_literal(value: u16) -> Operator
 /// The shortest operator that pushes this whole number.
 #[tactic(auto, unfolding(crate::specs::Compiler::literal))]
 fn literal(value: i64) -> Operator
-    requires { unsigned_abs value ≤ 549755813887 }
+    requires { unsigned_abs value ≤ most }
     ensures value { result ≡ literal value }
-    ensures fits { Fits 2 result }
+    ensures fits { Fits OUTER_LEVEL result }
 {
     match u16::try_from(value) {
         Ok(value) => short_literal(value),
@@ -66,7 +62,7 @@ fn literal(value: i64) -> Operator
 
 /// Appends operators at the level of the program.
 fn append_all(builder: &mut Builder, operators: &[Operator]) -> Result<(), AllocError>
-    requires level { builder.old.level ≡ Some 2 }
+    requires level { builder.old.level ≡ Some OUTER_LEVEL }
     requires fit { AreFit (placed operators.now) }
     requires room { HasRoom builder.old operators.now }
     ensures code { OnOk result (builder.new ≡ with_code builder.old operators.now) }
@@ -79,8 +75,8 @@ fn append_all(builder: &mut Builder, operators: &[Operator]) -> Result<(), Alloc
 
 /// Pushes the value of an operand.
 fn push_operand(builder: &mut Builder, value: Operand) -> Result<(), AllocError>
-    requires level { builder.old.level ≡ Some 2 }
-    requires operand { IsOperand 400 value }
+    requires level { builder.old.level ≡ Some OUTER_LEVEL }
+    requires operand { IsOperand MOST_BLOCK_CELLS value }
     requires room { HasRoom builder.old (operand_code value) }
     ensures code { OnOk result (builder.new ≡ with_code builder.old (operand_code value)) }
 {
@@ -102,8 +98,8 @@ fn calculation(adding: Adding) -> Operator
 
 /// Adds a term to the value on top, or subtracts it.
 fn push_term(builder: &mut Builder, term: Term) -> Result<(), AllocError>
-    requires level { builder.old.level ≡ Some 2 }
-    requires operand { IsOperand 400 term.operand }
+    requires level { builder.old.level ≡ Some OUTER_LEVEL }
+    requires operand { IsOperand MOST_BLOCK_CELLS term.operand }
     requires room { HasRoom builder.old (term_code term) }
     ensures code { OnOk result (builder.new ≡ with_code builder.old (term_code term)) }
 {
@@ -113,8 +109,8 @@ fn push_term(builder: &mut Builder, term: Term) -> Result<(), AllocError>
 
 /// Pushes the value of a sum.
 fn push_sum(builder: &mut Builder, sum: &Sum) -> Result<(), AllocError>
-    requires level { builder.old.level ≡ Some 2 }
-    requires sum { IsSum 400 sum.now }
+    requires level { builder.old.level ≡ Some OUTER_LEVEL }
+    requires sum { IsSum MOST_BLOCK_CELLS sum.now }
     requires room { HasRoom builder.old (sum_code sum.now) }
     ensures code { OnOk result (builder.new ≡ with_code builder.old (sum_code sum.now)) }
 {
@@ -127,9 +123,9 @@ fn push_sum(builder: &mut Builder, sum: &Sum) -> Result<(), AllocError>
 
 /// Stores a value in an integer's cell.
 fn assign(builder: &mut Builder, target: u16, value: &Sum) -> Result<(), AllocError>
-    requires level { builder.old.level ≡ Some 2 }
-    requires target { target < 400 }
-    requires value { IsSum 400 value.now }
+    requires level { builder.old.level ≡ Some OUTER_LEVEL }
+    requires target { target < MOST_BLOCK_CELLS }
+    requires value { IsSum MOST_BLOCK_CELLS value.now }
     requires room { HasRoom builder.old (assign_code target value.now) }
     ensures code { OnOk result (builder.new ≡ with_code builder.old (assign_code target value.now)) }
 {
@@ -141,14 +137,14 @@ fn assign(builder: &mut Builder, target: u16, value: &Sum) -> Result<(), AllocEr
 /// Calls the intrinsic WRITE with the number of a format, and an integer's value.
 #[tactic(auto, unfolding(b67_ops::specs::Spelling::level_bits))]
 fn write(builder: &mut Builder, format: u16, item: u16) -> Result<(), AllocError>
-    requires level { builder.old.level ≡ Some 2 }
-    requires item { item < 400 }
+    requires level { builder.old.level ≡ Some OUTER_LEVEL }
+    requires item { item < MOST_BLOCK_CELLS }
     requires room { HasRoom builder.old (write_code format item) }
     ensures code { OnOk result (builder.new ≡ with_code builder.old (write_code format item)) }
 {
     let operators = [
         Operator::Plain(PlainKind::Mkst),
-        Operator::Namc(WRITE),
+        Operator::Namc(Intrinsic::Write.couple()),
         literal(i64::from(format)),
         Operator::Valc(cell(item)),
         Operator::Plain(PlainKind::Entr),
@@ -174,9 +170,9 @@ fn append_step(
     formats: &mut Vec<Format>,
     step: &Step,
 ) -> Result<(), AllocError>
-    requires level { builder.old.level ≡ Some 2 }
-    requires step { IsStep 400 step.now }
-    requires few { length formats.old.items < 2000 }
+    requires level { builder.old.level ≡ Some OUTER_LEVEL }
+    requires step { IsStep MOST_BLOCK_CELLS step.now }
+    requires few { length formats.old.items < MOST_SEGMENT_TOKENS }
     requires room { HasRoom builder.old (step_code (length formats.old.items) step.now) }
     ensures code { OnOk result (builder.new ≡ with_code builder.old (step_code (length formats.old.items) step.now)) }
     ensures formats { OnOk result (formats.new.items ≡ formats.old.items ++ step_formats step.now) }
@@ -197,9 +193,9 @@ fn append_steps(
     builder: &mut Builder,
     steps: &[Step],
 ) -> Result<Vec<Format>, AllocError>
-    requires level { builder.old.level ≡ Some 2 }
-    requires steps { All (IsStep 400) steps.now }
-    requires few { operands_in steps.now ≤ 2000 }
+    requires level { builder.old.level ≡ Some OUTER_LEVEL }
+    requires steps { All (IsStep MOST_BLOCK_CELLS) steps.now }
+    requires few { operands_in steps.now ≤ MOST_SEGMENT_TOKENS }
     requires room { HasRoom builder.old (steps_code 0 steps.now) }
     ensures code { OnOk result (builder.new ≡ with_code builder.old (steps_code 0 steps.now)) }
     ensures formats { IfOk result (λ formats. formats.items ≡ formats_of steps.now) }
@@ -213,7 +209,7 @@ fn append_steps(
 
 /// Makes a cell of 0 for each integer.
 fn declare(builder: &mut Builder, integers: u16) -> Result<(), AllocError>
-    requires level { builder.old.level ≡ Some 2 }
+    requires level { builder.old.level ≡ Some OUTER_LEVEL }
     requires room { HasRoom builder.old (cells_code integers) }
     ensures code { OnOk result (builder.new ≡ with_code builder.old (cells_code integers)) }
 {
@@ -225,12 +221,12 @@ fn declare(builder: &mut Builder, integers: u16) -> Result<(), AllocError>
 
 /// The code of a straight line.
 fn translate(alloc: Global, straight: &Straight) -> Result<Code, AllocError>
-    requires few { straight.now.integers ≤ 400 }
+    requires few { straight.now.integers ≤ MOST_BLOCK_CELLS }
     requires range { IsInRange straight.now }
     ensures { IfOk result (IsCodeOf straight.now) }
 {
     let mut builder = Builder::new(alloc);
-    builder.level(LEVEL)?;
+    builder.level(OUTER_LEVEL)?;
     declare(&mut builder, straight.integers)?;
     let formats = append_steps(alloc, &mut builder, straight.steps.items())?;
     append_all(&mut builder, &[Operator::Plain(PlainKind::Exit)])?;
@@ -242,10 +238,10 @@ fn translate(alloc: Global, straight: &Straight) -> Result<Code, AllocError>
     })
 }
 
-/// The code of a straight line of at most 400 integers and at most 2,000 operands: one segment at level 2, and a format
-/// for each line that is written, in order.
+/// The code of a straight line of at most `MOST_BLOCK_CELLS` integers and at most `MOST_SEGMENT_TOKENS` operands:
+/// one segment at the outer block's level, and a format for each line that is written, in order.
 pub fn compile(alloc: Global, straight: &Straight) -> Result<Code, AllocError>
-    requires few { straight.now.integers ≤ 400 }
+    requires few { straight.now.integers ≤ MOST_BLOCK_CELLS }
     requires range { IsInRange straight.now }
 
     // Where the straight line is that of a tree, the code of that tree stands.
@@ -254,7 +250,7 @@ pub fn compile(alloc: Global, straight: &Straight) -> Result<Code, AllocError>
     // That code does what the tree does, for every list of choices.
     ensures faithful { IfOk result (λ code. (tree : PProgram) → Accepted tree → Resolves tree straight.now → Faithful tree code) }
 
-    // One segment of 1 to 8,192 words, with its mark and nothing but operators; formats of one number each.
+    // One segment of at least one word and at most `MOST_SEGMENT_WORDS`, with its mark and nothing but operators; formats of one number each.
     ensures small { IfOk result IsSmall }
 {
     translate(alloc, straight)

@@ -5,22 +5,23 @@
 //! process ends. Any other operator is an interrupt, as in the table.
 
 ghost use Rattle.std.specs.Prelude.{◌≡◌, ◌≤◌, length, All, IfOk, OnErr, IsTrue, true};
-ghost use Rattle.b67_table.specs.Image.{Image};
-ghost use Rattle.b67_table.specs.Table.{first_image, may_act};
+ghost use Rattle.b67_segment.specs.declared.TheConstants.{MOST_SEGMENT_WORDS};
+ghost use Rattle.b67_first_table.specs.Image.{Image};
+ghost use Rattle.b67_first_table.specs.Table.{first_image, may_act};
 ghost use Rattle.b67_first.specs.Ran.{RanTo, RunEndsAs, EndsWithEntry, IsEnd, IsReached};
 ghost use Rattle.b67_first.specs.Seen.{Steps};
 
-mod built;
 mod calls;
+mod instructions;
 mod line;
 mod process;
 mod stacks;
 
-use algol_tree::{Line, List};
+use b67_first_table::InterruptKind;
+use b67_list::{Line, List};
 use b67_num::FaultKind;
 use b67_segment::Code;
-use b67_table::InterruptKind;
-use built::Moved;
+use instructions::Moved;
 use process::{Process, Stop};
 use std::alloc::{AllocError, Global};
 use std::marker::Model;
@@ -45,13 +46,14 @@ pub struct Machine<'a> {
 impl<'a> Model for Machine<'a> {
     ghost use Rattle.std.specs.Prelude.{◌≤◌, length, All};
     ghost use Rattle.b67_first.specs.Seen.{Seen, image_in};
+    ghost use Rattle.b67_segment.specs.declared.TheConstants.{MOST_SEGMENT_WORDS};
     ghost use Rattle.b67_first.specs.Machine.{image_of};
 
     ghost Value = { Seen };
 
     ghost view = { λ m. record { code = m.code.now; image = image_in m.state (image_of m.process) } };
 
-    ghost invariant = { λ m. All (λ segment. length segment.words ≤ 8192) m.code.now.segments };
+    ghost invariant = { λ m. All (λ segment. length segment.words ≤ MOST_SEGMENT_WORDS) m.code.now.segments };
 }
 
 /// What one step did: a plain operator, which is private and gave a new image, or another one; or the
@@ -78,7 +80,7 @@ pub enum RunEnd {
 
 /// What a run did. An operator that made a fault counts, one that can not be performed does not.
 #[derive(Clone, Copy, PartialEq, Eq, Debug)]
-pub struct Run {
+pub struct Tally {
     pub end: RunEnd,
     /// How many operators were performed.
     pub operators: u64,
@@ -101,7 +103,7 @@ impl<'a> Machine<'a> {
     /// The machine as a run of a code begins. It takes the room that the stack may need, so that later
     /// only a line takes memory.
     pub fn load(alloc: Global, code: &'a Code) -> Result<Machine<'a>, AllocError>
-        requires { All (λ segment. length segment.words ≤ 8192) code.now.segments }
+        requires { All (λ segment. length segment.words ≤ MOST_SEGMENT_WORDS) code.now.segments }
         ensures loaded { IfOk result (λ machine. machine.code ≡ code.now) }
         ensures first { IfOk result (λ machine. machine.image ≡ first_image) }
     {
@@ -151,7 +153,7 @@ impl<'a> Machine<'a> {
     /// Runs from the first image until the run comes to an end, as many operators as `budget` says are
     /// performed, or the next one can not be. An end comes before the budget. An error is a want of
     /// memory: then the image is the one before the line that had no room.
-    pub fn run(&mut self, budget: u64) -> Result<Run, AllocError>
+    pub fn run(&mut self, budget: u64) -> Result<Tally, AllocError>
         requires { self.old.image ≡ first_image }
         ensures code { self.new.code ≡ self.old.code }
         ensures ran { IfOk result (λ run. RanTo self.new.code run.entries run.operators self.new.image) }
@@ -167,7 +169,7 @@ impl<'a> Machine<'a> {
                 Stepped::Acted => {
                     entries += 1;
                     if let Some(end) = self.end() {
-                        return Ok(Run {
+                        return Ok(Tally {
                             end,
                             operators: operators + 1,
                             entries,
@@ -175,21 +177,21 @@ impl<'a> Machine<'a> {
                     }
                 }
                 Stepped::Fault(kind) => {
-                    return Ok(Run {
+                    return Ok(Tally {
                         end: RunEnd::Fault(kind),
                         operators: operators + 1,
                         entries: entries + 1,
                     });
                 }
                 Stepped::Interrupt(kind) => {
-                    return Ok(Run {
+                    return Ok(Tally {
                         end: RunEnd::Interrupt(kind),
                         operators,
                         entries,
                     });
                 }
                 Stepped::StackLimit => {
-                    return Ok(Run {
+                    return Ok(Tally {
                         end: RunEnd::StackLimit,
                         operators,
                         entries,
@@ -197,7 +199,7 @@ impl<'a> Machine<'a> {
                 }
             }
         }
-        Ok(Run {
+        Ok(Tally {
             end: RunEnd::BudgetSpent,
             operators: budget,
             entries,
@@ -214,7 +216,7 @@ impl<'a> Machine<'a> {
 
 /// Runs a code from the first image, with as many operators as `budget` says at most.
 pub fn run_code(alloc: Global, code: &Code, budget: u64) -> Result<Ran, AllocError>
-    requires { All (λ segment. length segment.words ≤ 8192) code.now.segments }
+    requires { All (λ segment. length segment.words ≤ MOST_SEGMENT_WORDS) code.now.segments }
     ensures ran { IfOk result (λ ran. (image : Image)
         × RanTo code.now ran.entries ran.operators image
         × RunEndsAs code.now image budget ran.operators ran.end
@@ -240,8 +242,8 @@ mod tests {
 
     // The code of one segment of these words, with a format of one number in five columns.
     fn code_of(alloc: Global, words: &[u64]) -> Result<Code, AllocError>
-        requires { length words.now ≤ 8192 }
-        ensures { IfOk result (λ code. All (λ segment. length segment.words ≤ 8192) code.segments) }
+        requires { length words.now ≤ MOST_SEGMENT_WORDS }
+        ensures { IfOk result (λ code. All (λ segment. length segment.words ≤ MOST_SEGMENT_WORDS) code.segments) }
     {
         let mut segments = Vec::new(alloc);
         segments.push(Segment {

@@ -2,6 +2,7 @@
 use Rattle.std.proofs.Common.{◌≡◌, ℕ, ◌+◌, ◌<◌, ◌≤◌, Bool, true, false, eqb, List, [], ◌∷◌, ◌++◌, length, drop, map, refl, sym, ap, subst, arith, ◌∙◌, append_assoc}
 use Rattle.std.proofs.lemmas.Bool.{eqb-true, eq-eqb, ne_eqb, cond-true, cond-false}
 use Rattle.std.proofs.lemmas.List.{append-nil, length-drop, drop-drop, map-append}
+use Rattle.b67_ops.specs.declared.TheConstants.{MOST_LEVEL}
 use Rattle.b67_ops.specs.declared.Operator.{Operator}
 use Rattle.b67_ops.specs.Spelling.{Stands}
 use Rattle.b67_ops.proofs.Laws.{Stands-within, Stands-unique}
@@ -101,7 +102,7 @@ starts segment bytes lines has are = record {
 
 -- the operator at a place is passed
 pub record Turn (segment : Segment) (bytes : List ℕ) (at : ℕ) (old new : List (List ℕ)) (found : ℕ × ℕ) : Type 0 where
-  pub most : found.0 ≤ 31
+  pub most : found.0 ≤ MOST_LEVEL
   pub stands : HasOperator bytes at found.0
   pub goes_on : (next : ℕ) (after : List (List ℕ)) → AddsOperator bytes at found.0 new after next → Progress segment bytes next found.1 found.0 old after
 

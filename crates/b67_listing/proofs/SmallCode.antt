@@ -38,6 +38,7 @@ unfolding code_of
 second = record { text = refl; next_is = refl; fits = tt }
 
 third : Stands (syllables words) 2 2 (Lt48 0x007fffffffff) 12
+unfolding code_of
 third = record { text = refl; next_is = refl; fits = omega arith }
 
 filled : StandInOrder (syllables words) 0 operators

@@ -2,6 +2,8 @@
 use Rattle.std.specs.Prelude.{◌≡◌, ℕ, ◌+◌, ◌<◌, ◌≤◌, ◌≢◌, ◌^◌, ◌==◌, if◌then◌else◌, List, [], ◌∷◌, ◌++◌, length, map, codes}
 use Rattle.std.specs.List.{All}
 use Rattle.std.specs.Fmt.{decimal}
+use Rattle.b67_segment.specs.declared.TheConstants.{MOST_SEGMENT_WORDS}
+use Rattle.b67_ops.specs.declared.TheConstants.{OUTER_LEVEL, MOST_LEVEL}
 use Rattle.b67_ops.specs.declared.Operator.{Operator}
 use Rattle.b67_ops.specs.Spelling.{Stands}
 use Rattle.b67_segment.specs.declared.code.Mark.{Mark}
@@ -14,11 +16,11 @@ use Rattle.b67_segment.specs.Syllables.{syllables}
 use Rattle.b67_listing.specs.Operators.{Placed, operator_line}
 use Rattle.b67_listing.specs.Formats.{format_lines}
 
--- operators stand one after another, each at its place and its level from 2 to 31, from this place on to the end of the syllables
+-- operators stand one after another, each at its place and at a level from the outer block's to the deepest, from this place on to the end of the syllables
 abbrev pub StandInOrder : List ℕ → ℕ → List Placed → Type 0
 StandInOrder bytes at [] = at ≡ length bytes
 StandInOrder bytes at (first ∷ more) =
-    (first.place ≡ at) × (2 ≤ first.level) × (first.level ≤ 31) × ((next : ℕ) × Stands bytes at first.level first.operator next × StandInOrder bytes next more)
+    (first.place ≡ at) × (OUTER_LEVEL ≤ first.level) × (first.level ≤ MOST_LEVEL) × ((next : ℕ) × Stands bytes at first.level first.operator next × StandInOrder bytes next more)
 
 -- an operator stands at this place and this level
 abbrev pub HasOperator : List ℕ → ℕ → ℕ → Type 0
@@ -30,10 +32,10 @@ marks_of before [] = []
 marks_of before (first ∷ more) =
     if first.level == before then marks_of first.level more else record { place = first.place; level = first.level } ∷ marks_of first.level more
 
--- the segment has from 1 to 8,192 words of 48 bits, these operators fill it, and its marks are theirs, the first one at place 0
+-- the segment has a word, and at most as many as a segment may have, of 48 bits; these operators fill it, and its marks are theirs, the first one at place 0
 pub record IsSegment (segment : Segment) (operators : List Placed) : Type 0 where
   pub some : 1 ≤ length segment.words
-  pub few : length segment.words ≤ 8192
+  pub few : length segment.words ≤ MOST_SEGMENT_WORDS
   pub words : All (λ (word : ℕ). word < 2 ^ 48) segment.words
   pub filled : StandInOrder (syllables segment.words) 0 operators
   pub marked : segment.marks ≡ marks_of 0 operators

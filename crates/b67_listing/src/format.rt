@@ -3,8 +3,8 @@
 ghost use Rattle.std.specs.Prelude.{◌≡◌, ◌++◌, IfOk, OnOk};
 ghost use Rattle.b67_listing.specs.Formats.{phrase_text, phrases_text, format_line};
 
-use crate::text::{push_number, push_words};
-use algol_tree::{Line, List};
+use crate::text::push_words;
+use b67_list::{Line, List, push_number};
 use b67_segment::{Format, Phrase};
 use std::alloc::{AllocError, Global};
 

@@ -17,11 +17,11 @@ ghost use Rattle.b67_listing.specs.Listings.{IsListable, AreListable, AddsSegmen
 
 use crate::format::format_line;
 use crate::segment::push_segment;
-use algol_tree::{Line, List};
+use b67_list::{Line, List};
 use b67_segment::{Code, Format, Segment};
 use std::alloc::{AllocError, Global};
 
-/// The listing of the code. The code's operators fill its segments, each stands at its mark's level, from 2 to 31, and
+/// The listing of the code. The code's operators fill its segments, each stands at its mark's level, from `OUTER_LEVEL` to `MOST_LEVEL`, and
 /// the texts of its formats have bytes 32 to 126 other than `"`.
 pub fn listing(alloc: Global, code: &Code) -> Result<List<Line>, AllocError>
     requires { IsListable code.now }

@@ -1,12 +1,12 @@
 //! The lines of segments.
 
 ghost use Rattle.std.specs.Prelude.{◌≡◌, ℕ, ◌+◌, ◌<◌, ◌≤◌, ◌++◌, length, drop, IfOk, OnOk};
+ghost use Rattle.b67_ops.specs.declared.TheConstants.{MOST_LEVEL};
 ghost use Rattle.b67_segment.specs.Syllables.{syllables};
 ghost use Rattle.b67_listing.specs.Listings.{segment_line, HasOperator, HasOperators, passed_mark, AddsOperator, AddsSegment};
 
 use crate::operator::operator_line;
-use crate::text::push_number;
-use algol_tree::Line;
+use b67_list::{Line, push_number};
 use b67_ops::decode;
 use b67_segment::{Mark, Segment};
 use std::alloc::{AllocError, Global};
@@ -42,7 +42,7 @@ fn push_operator(
     level: u8,
     lines: &mut Vec<Line>,
 ) -> Result<usize, AllocError>
-    requires level { level ≤ 31 }
+    requires level { level ≤ MOST_LEVEL }
     requires stands { HasOperator bytes.now at level }
     ensures { IfOk result (AddsOperator bytes.now at level lines.old.items lines.new.items) }
 {

@@ -4,7 +4,6 @@ ghost use Rattle.std.specs.Prelude.{◌≡◌, ◌<◌, ◌≤◌, ◌++◌, OnO
 ghost use Rattle.std.specs.Fmt.{digit_glyph};
 ghost use Rattle.b67_listing.specs.Digits.{last_digits, hexadecimal};
 
-use itoa::{Buffer, Integer};
 use std::alloc::AllocError;
 
 /// Appends words.
@@ -12,18 +11,6 @@ pub fn push_words(text: &mut Vec<u8>, words: &[u8]) -> Result<(), AllocError>
     ensures { OnOk result (text.new.items ≡ text.old.items ++ words.now) }
 {
     text.extend_from_slice(words)
-}
-
-/// Appends words and a number in decimal digits.
-pub fn push_number<I: Integer>(
-    text: &mut Vec<u8>,
-    words: &[u8],
-    number: I,
-) -> Result<(), AllocError>
-    ensures { OnOk result (text.new.items ≡ text.old.items ++ (words.now ++ I.text number)) }
-{
-    text.extend_from_slice(words)?;
-    text.extend_from_slice(Buffer::new().format(number).as_bytes())
 }
 
 /// Appends the last digits of a number, so many, in a base up to 16.

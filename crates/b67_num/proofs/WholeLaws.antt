@@ -3,7 +3,9 @@ use Rattle.std.proofs.Common.{◌≡◌, ℕ, ◌<◌, ◌≤◌, ◌%◌, arith
 use Rattle.std.proofs.lemmas.Bool.Decides.{nat_tests}
 use Rattle.std.proofs.lemmas.Int.{ints, quot-rem, rem_below}
 use Rattle.std.specs.Prelude.{ℤ, pos, negsuc, ◌≤ℤ◌, ◌*ℤ◌, ◌+ℤ◌, ◌-ℤ◌, unsigned_abs, int_div, int_rem, Result, Ok, Err, cond}
-use Rattle.b67_num.specs.Whole.{most, whole, over, sum_of, difference_of, product_of, exact_quotient_of, quotient_of, remainder_of, negation_of, IsDivision}
+use Rattle.b67_num.specs.Whole.{most, whole, over, calculated, negation_of, IsDivision}
+use Rattle.b67_num.specs.declared.Calculation.{Calculation}
+use Rattle.b67_num.specs.declared.Calculation.TheVariants.{Sum, Difference, Product, WholeQuotient, TruncatedQuotient, Remainder}
 use Rattle.b67_num.specs.declared.NumFault.{NumFault}
 use Rattle.b67_num.specs.declared.NumFault.TheVariants.{RealResult}
 
@@ -41,8 +43,8 @@ divides_at a b h = record {
   not_positive = not_positive a b;
 }
 
-pub divides : (a b q r : ℤ) → quotient_of a b ≡ Ok q → remainder_of a b ≡ Ok r → IsDivision a b q r
-unfolding quotient_of remainder_of
+pub divides : (a b q r : ℤ) → calculated TruncatedQuotient a b ≡ Ok q → calculated Remainder a b ≡ Ok r → IsDivision a b q r
+unfolding calculated
 divides a b q r e f =
     let d = over-ok b q (whole (int_div a b)) e in
     let g = over-ok b r (whole (int_rem a b)) f in
@@ -57,43 +59,25 @@ divided n r q e = grind (arith, nat_tests)
 nothing_left : (a b : ℤ) → unsigned_abs (int_rem a b) ≡ 0 → int_div a b *ℤ b ≡ a
 nothing_left a b h = omega (arith, ints, quot-rem a b)
 
-pub divides_exactly : (a b q : ℤ) → exact_quotient_of a b ≡ Ok q → q *ℤ b ≡ a
-unfolding exact_quotient_of
+pub divides_exactly : (a b q : ℤ) → calculated WholeQuotient a b ≡ Ok q → q *ℤ b ≡ a
+unfolding calculated
 divides_exactly a b q e =
     let d = over-ok b q _ e in
     let g = divided (unsigned_abs (int_rem a b)) (whole (int_div a b)) q d.1 in
     let x : int_div a b ≡ q = (whole-ok (int_div a b) q g.1).0 in
     rw (← x) (nothing_left a b g.0)
 
--- every result is a whole number
-pub sum_of-fits : (a b z : ℤ) → sum_of a b ≡ Ok z → unsigned_abs z ≤ most
-unfolding sum_of
-sum_of-fits a b z e = (whole-ok (a +ℤ b) z e).1
-
-pub difference_of-fits : (a b z : ℤ) → difference_of a b ≡ Ok z → unsigned_abs z ≤ most
-unfolding difference_of
-difference_of-fits a b z e = (whole-ok (a -ℤ b) z e).1
-
-pub product_of-fits : (a b z : ℤ) → product_of a b ≡ Ok z → unsigned_abs z ≤ most
-unfolding product_of
-product_of-fits a b z e = (whole-ok (a *ℤ b) z e).1
-
-pub exact_quotient_of-fits : (a b z : ℤ) → exact_quotient_of a b ≡ Ok z → unsigned_abs z ≤ most
-unfolding exact_quotient_of
-exact_quotient_of-fits a b z e =
+-- what a calculation gives is a whole number
+pub calculated-fits : (calculation : Calculation) (a b z : ℤ) → calculated calculation a b ≡ Ok z → unsigned_abs z ≤ most
+unfolding calculated
+calculated-fits Sum a b z e = (whole-ok (a +ℤ b) z e).1
+calculated-fits Difference a b z e = (whole-ok (a -ℤ b) z e).1
+calculated-fits Product a b z e = (whole-ok (a *ℤ b) z e).1
+calculated-fits WholeQuotient a b z e =
     let d = over-ok b z _ e in
     (whole-ok (int_div a b) z (divided (unsigned_abs (int_rem a b)) (whole (int_div a b)) z d.1).1).1
-
-pub quotient_of-fits : (a b z : ℤ) → quotient_of a b ≡ Ok z → unsigned_abs z ≤ most
-unfolding quotient_of
-quotient_of-fits a b z e = (whole-ok (int_div a b) z (over-ok b z (whole (int_div a b)) e).1).1
-
-pub remainder_of-fits : (a b z : ℤ) → remainder_of a b ≡ Ok z → unsigned_abs z ≤ most
-unfolding remainder_of
-remainder_of-fits a b z e = (whole-ok (int_rem a b) z (over-ok b z (whole (int_rem a b)) e).1).1
+calculated-fits TruncatedQuotient a b z e = (whole-ok (int_div a b) z (over-ok b z (whole (int_div a b)) e).1).1
+calculated-fits Remainder a b z e = (whole-ok (int_rem a b) z (over-ok b z (whole (int_rem a b)) e).1).1
 
 pub negation_of-fits : (a : ℤ) → unsigned_abs a ≤ most → unsigned_abs (negation_of a) ≤ most
 negation_of-fits a h = omega (arith, ints)
-
--- for `grind` and `using`: every result is a whole number
-pub ruleset results = (sum_of-fits, difference_of-fits, product_of-fits, exact_quotient_of-fits, quotient_of-fits, remainder_of-fits, negation_of-fits)

@@ -5,7 +5,9 @@
 #![tactic(auto)]
 
 ghost use Rattle.std.specs.Prelude.{◌≡◌, ℤ, ◌*ℤ◌, ◌≤◌, unsigned_abs, IfOk, Ok};
-ghost use Rattle.b67_num.specs.Whole.{most, whole, sum_of, difference_of, product_of, exact_quotient_of, quotient_of, remainder_of, negation_of, IsDivision};
+ghost use Rattle.b67_num.specs.Whole.{most, whole, calculated, related, negation_of, IsDivision};
+ghost use Rattle.b67_num.specs.declared.Calculation.{Calculation};
+ghost use Rattle.b67_num.specs.declared.Calculation.TheVariants.{Sum, Difference, Product, WholeQuotient, TruncatedQuotient, Remainder};
 
 /// The greatest magnitude of a whole number: an operand's mantissa has 39 bits.
 pub const MOST: i64 = 549_755_813_887;
@@ -17,6 +19,31 @@ pub enum NumFault {
     RealResult,
     /// The divisor is 0.
     DivideByZero,
+}
+
+/// The calculations with two whole numbers.
+#[derive(Clone, Copy, PartialEq, Eq, Debug)]
+pub enum Calculation {
+    Sum,
+    Difference,
+    Product,
+    /// The quotient, which has to be whole.
+    WholeQuotient,
+    /// The quotient without its fraction.
+    TruncatedQuotient,
+    /// What the truncated quotient leaves, with the dividend's sign.
+    Remainder,
+}
+
+/// The relations between two whole numbers.
+#[derive(Clone, Copy, PartialEq, Eq, Debug)]
+pub enum Relation {
+    Less,
+    LessOrEqual,
+    Equal,
+    NotEqual,
+    GreaterOrEqual,
+    Greater,
 }
 
 /// The faults that end a run, each with the process that made it.
@@ -71,33 +98,33 @@ fn fitted(exact: i64) -> Result<i64, NumFault>
 }
 
 /// The sum. RealResult comes exactly where its magnitude is more than [`MOST`].
-#[tactic(auto, unfolding(crate::specs::Whole::sum_of))]
+#[tactic(auto, unfolding(crate::specs::Whole::calculated))]
 pub fn add(a: i64, b: i64) -> Result<i64, NumFault>
     requires left { unsigned_abs a ≤ most }
     requires right { unsigned_abs b ≤ most }
-    ensures value { result ≡ sum_of a b }
+    ensures value { result ≡ calculated Sum a b }
     ensures fits { IfOk result (λ z. unsigned_abs z ≤ most) }
 {
     fitted(a + b)
 }
 
 /// The difference. RealResult comes exactly where its magnitude is more than [`MOST`].
-#[tactic(auto, unfolding(crate::specs::Whole::difference_of))]
+#[tactic(auto, unfolding(crate::specs::Whole::calculated))]
 pub fn sub(a: i64, b: i64) -> Result<i64, NumFault>
     requires left { unsigned_abs a ≤ most }
     requires right { unsigned_abs b ≤ most }
-    ensures value { result ≡ difference_of a b }
+    ensures value { result ≡ calculated Difference a b }
     ensures fits { IfOk result (λ z. unsigned_abs z ≤ most) }
 {
     fitted(a - b)
 }
 
 /// The product. RealResult comes exactly where its magnitude is more than [`MOST`].
-#[tactic(auto, unfolding(crate::specs::Whole::product_of, crate::specs::Whole::whole))]
+#[tactic(auto, unfolding(crate::specs::Whole::calculated, crate::specs::Whole::whole))]
 pub fn mul(a: i64, b: i64) -> Result<i64, NumFault>
     requires left { unsigned_abs a ≤ most }
     requires right { unsigned_abs b ≤ most }
-    ensures value { result ≡ product_of a b }
+    ensures value { result ≡ calculated Product a b }
     ensures fits { IfOk result (λ z. unsigned_abs z ≤ most) }
 {
     match a.checked_mul(b) {
@@ -108,11 +135,11 @@ pub fn mul(a: i64, b: i64) -> Result<i64, NumFault>
 
 /// The quotient where `b` divides `a`. DivideByZero comes exactly where `b` is 0, and RealResult exactly
 /// where `b` is not 0 and leaves a remainder.
-#[tactic(auto, unfolding(crate::specs::Whole::exact_quotient_of, crate::specs::Whole::quotient_of, crate::specs::Whole::remainder_of, crate::specs::Whole::over, crate::specs::Whole::whole))]
+#[tactic(auto, unfolding(crate::specs::Whole::calculated, crate::specs::Whole::over, crate::specs::Whole::whole))]
 pub fn div_exact(a: i64, b: i64) -> Result<i64, NumFault>
     requires left { unsigned_abs a ≤ most }
     requires right { unsigned_abs b ≤ most }
-    ensures value { result ≡ exact_quotient_of a b }
+    ensures value { result ≡ calculated WholeQuotient a b }
     ensures fits { IfOk result (λ z. unsigned_abs z ≤ most) }
 {
     if rdiv(a, b)? == 0 {
@@ -123,22 +150,22 @@ pub fn div_exact(a: i64, b: i64) -> Result<i64, NumFault>
 }
 
 /// The quotient without its fraction. DivideByZero comes exactly where `b` is 0.
-#[tactic(auto, unfolding(crate::specs::Whole::quotient_of, crate::specs::Whole::over, crate::specs::Whole::whole))]
+#[tactic(auto, unfolding(crate::specs::Whole::calculated, crate::specs::Whole::over, crate::specs::Whole::whole))]
 pub fn idiv(a: i64, b: i64) -> Result<i64, NumFault>
     requires left { unsigned_abs a ≤ most }
     requires right { unsigned_abs b ≤ most }
-    ensures value { result ≡ quotient_of a b }
+    ensures value { result ≡ calculated TruncatedQuotient a b }
     ensures fits { IfOk result (λ z. unsigned_abs z ≤ most) }
 {
     a.checked_div(b).ok_or(NumFault::DivideByZero)
 }
 
 /// The remainder of [`idiv`], with the sign of `a`. DivideByZero comes exactly where `b` is 0.
-#[tactic(auto, unfolding(crate::specs::Whole::remainder_of, crate::specs::Whole::over, crate::specs::Whole::whole))]
+#[tactic(auto, unfolding(crate::specs::Whole::calculated, crate::specs::Whole::over, crate::specs::Whole::whole))]
 pub fn rdiv(a: i64, b: i64) -> Result<i64, NumFault>
     requires left { unsigned_abs a ≤ most }
     requires right { unsigned_abs b ≤ most }
-    ensures value { result ≡ remainder_of a b }
+    ensures value { result ≡ calculated Remainder a b }
     ensures fits { IfOk result (λ z. unsigned_abs z ≤ most) }
 {
     a.checked_rem(b).ok_or(NumFault::DivideByZero)
@@ -153,11 +180,48 @@ pub fn neg(a: i64) -> i64
     -a
 }
 
+/// What a calculation gives: the function of its name, with the same faults.
+pub fn calculate(calculation: Calculation, a: i64, b: i64) -> Result<i64, NumFault>
+    requires left { unsigned_abs a ≤ most }
+    requires right { unsigned_abs b ≤ most }
+    ensures value { result ≡ calculated calculation a b }
+    ensures fits { IfOk result (λ z. unsigned_abs z ≤ most) }
+{
+    match calculation {
+        Calculation::Sum => add(a, b),
+        Calculation::Difference => sub(a, b),
+        Calculation::Product => mul(a, b),
+        Calculation::WholeQuotient => div_exact(a, b),
+        Calculation::TruncatedQuotient => idiv(a, b),
+        Calculation::Remainder => rdiv(a, b),
+    }
+}
+
+/// Tests that a relation holds.
+#[tactic(auto, unfolding(crate::specs::Whole::related))]
+pub fn compare(relation: Relation, a: i64, b: i64) -> bool
+    ensures { result ≡ related relation a b }
+{
+    match relation {
+        Relation::Less => a < b,
+        Relation::LessOrEqual => a <= b,
+        Relation::Equal => a == b,
+        Relation::NotEqual => a != b,
+        Relation::GreaterOrEqual => a >= b,
+        Relation::Greater => a > b,
+    }
+}
+
 /// Law: the quotient is the truncated one, the remainder has the dividend's sign, and the exact quotient
 /// leaves nothing.
 pub fn division_truncates()
-    ensures truncated { (a b q r : ℤ) → quotient_of a b ≡ Ok q → remainder_of a b ≡ Ok r → IsDivision a b q r }
-    ensures exact { (a b q : ℤ) → exact_quotient_of a b ≡ Ok q → q *ℤ b ≡ a }
+    ensures truncated { (a b q r : ℤ) → calculated TruncatedQuotient a b ≡ Ok q → calculated Remainder a b ≡ Ok r → IsDivision a b q r }
+    ensures exact { (a b q : ℤ) → calculated WholeQuotient a b ≡ Ok q → q *ℤ b ≡ a }
+{}
+
+/// Law: what a calculation gives is a whole number.
+pub fn results_are_whole()
+    ensures { (calculation : Calculation) (a b z : ℤ) → calculated calculation a b ≡ Ok z → unsigned_abs z ≤ most }
 {}
 
 #[cfg(test)]
@@ -175,6 +239,9 @@ mod tests {
             FaultKind::from(NumFault::DivideByZero),
             FaultKind::DivideByZero
         );
+        assert_eq!(rt; calculate(Calculation::Product, -3, 5), Ok(-15));
+        assert_eq!(rt; compare(Relation::LessOrEqual, -3, -3), true);
+        assert_eq!(rt; compare(Relation::Greater, -3, 3), false);
         assert_eq!(rt; MOST, 549_755_813_887);
     }
 }

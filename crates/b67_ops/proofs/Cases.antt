@@ -1,19 +1,24 @@
--- What the first syllable of an operator without a couple says.
-use Rattle.std.proofs.Common.{◌≡◌, ℕ, ◌+◌, Bool, true, false, cond, eqb, List, Option, Some, None, Result, Ok, Err, refl}
-use Rattle.std.proofs.lemmas.Bool.{eqb-true}
+-- What the first syllable of an operator says.
+use Rattle.std.proofs.Common.{◌≡◌, ℕ, ◌+◌, ◌<◌, ◌≤◌, List, Option, Some, None, Result, Ok, Err, refl, sym, ◌∙◌}
+use Rattle.b67_ops.specs.declared.Couple.{Couple}
 use Rattle.b67_ops.specs.declared.BranchKind.{BranchKind}
-use Rattle.b67_ops.specs.declared.BranchKind.TheVariants.{Brfl, Brtr, Brun}
 use Rattle.b67_ops.specs.declared.PlainKind.{PlainKind}
 use Rattle.b67_ops.specs.declared.BadCode.{BadCode}
 use Rattle.b67_ops.specs.declared.BadCode.TheVariants.{Unknown}
 use Rattle.b67_ops.specs.declared.Operator.{Operator}
-use Rattle.b67_ops.specs.declared.Operator.TheVariants.{Lt8, Lt16, Lt48, Mpcw, Branch, Plain}
-use Rattle.b67_ops.specs.Codes.{branch_code, kind_of}
-use Rattle.b67_ops.specs.Decoding.{◌>>=◌, byte_front, place_front, word_front, plain_front, code_front}
+use Rattle.b67_ops.specs.declared.Operator.TheVariants.{Valc, Namc, Lt8, Lt16, Lt48, Mpcw, Branch, Plain}
+use Rattle.b67_ops.specs.declared.table.OperatorKind.{OperatorKind}
+use Rattle.b67_ops.specs.declared.table.OperatorKind.TheVariants as kinds
+use Rattle.b67_ops.specs.Codes.{code_of, kind_with}
+use Rattle.b67_ops.specs.Decoding.{◌>>=◌, byte_front, place_front, word_front, couple_front, code_in, known_front}
+use Rattle.b67_ops.proofs.CodeLemmas.{code_of-with, code_of-valc, code_of-namc, code_of-branch, code_of-plain, code_of-literal, first-is, first-valc, first-namc}
 
--- what is read after a code: the operand and how many syllables the operator takes
+-- what is read after a first syllable: the operand and how many syllables the operator takes
 abbrev pub Reader : Type 0
 Reader = List ℕ → Result (Operator × ℕ) BadCode
+
+abbrev pub couple_reader : (Couple → Operator) → ℕ → ℕ → Reader
+couple_reader make level first = λ rest. couple_front level first rest >>= (λ couple. Ok (make couple, 2))
 
 abbrev pub branch_reader : BranchKind → Reader
 branch_reader kind = λ rest. place_front rest >>= (λ place. Ok (Branch kind place, 3))
@@ -27,34 +32,31 @@ lt16_reader = λ rest. place_front rest >>= (λ n. Ok (Lt16 n, 3))
 abbrev pub word_reader : (ℕ → Operator) → ℕ → Reader
 word_reader make count = λ rest. word_front count rest >>= (λ n. Ok (make n, 7 + count))
 
--- a code, and the reader that it asks for
-pub data CodeCase (count code : ℕ) : Reader → Type 0 where
-  branch : (kind : BranchKind) → code ≡ branch_code kind → CodeCase count code (branch_reader kind)
-  lt8 : code ≡ 0xb2 → CodeCase count code lt8_reader
-  lt16 : code ≡ 0xb3 → CodeCase count code lt16_reader
-  lt48 : code ≡ 0xbe → CodeCase count code (word_reader Lt48 count)
-  mpcw : code ≡ 0xbf → CodeCase count code (word_reader Mpcw count)
-  plain : (kind : PlainKind) → kind_of code ≡ Some kind → CodeCase count code (λ rest. Ok (Plain kind, 1))
-  other : kind_of code ≡ None → CodeCase count code (λ rest. Err Unknown)
+-- a first syllable, and the reader that it asks for
+pub data Case (count level first : ℕ) : Reader → Type 0 where
+  valc : first < 64 → Case count level first (couple_reader Valc level first)
+  namc : 64 ≤ first → first < 128 → Case count level first (couple_reader Namc level first)
+  lt8 : first ≡ code_of kinds.Lt8 → Case count level first lt8_reader
+  lt16 : first ≡ code_of kinds.Lt16 → Case count level first lt16_reader
+  lt48 : first ≡ code_of kinds.Lt48 → Case count level first (word_reader Lt48 count)
+  mpcw : first ≡ code_of kinds.Mpcw → Case count level first (word_reader Mpcw count)
+  branch : (kind : BranchKind) → first ≡ code_of (kinds.Branch kind) → Case count level first (branch_reader kind)
+  plain : (kind : PlainKind) → first ≡ code_of (kinds.Plain kind) → Case count level first (λ rest. Ok (Plain kind, 1))
+  other : Case count level first (λ rest. Err Unknown)
 
--- a test chooses one of two readers
-chosen : (P : Reader → Type 0) (b : Bool) (f g : Reader) → (b ≡ true → P f) → (b ≡ false → P g) → P (λ rest. cond b (f rest) (g rest))
-chosen P true f g p q = p refl
-chosen P false f g p q = q refl
+kind_case : (count level first : ℕ) (kind : OperatorKind) → code_of kind ≡ code_in first → Case count level first (λ rest. known_front (Some kind) count level first rest)
+kind_case count level first kinds.Valc is = valc (first-valc first (sym code_of-valc ∙ is))
+kind_case count level first kinds.Namc is = let within = first-namc first (sym code_of-namc ∙ is) in namc within.0 within.1
+kind_case count level first kinds.Lt8 is = lt8 (first-is first (code_of kinds.Lt8) code_of-literal.0 is)
+kind_case count level first kinds.Lt16 is = lt16 (first-is first (code_of kinds.Lt16) code_of-literal.1 is)
+kind_case count level first kinds.Lt48 is = lt48 (first-is first (code_of kinds.Lt48) code_of-literal.2 is)
+kind_case count level first kinds.Mpcw is = mpcw (first-is first (code_of kinds.Mpcw) code_of-literal.3 is)
+kind_case count level first (kinds.Branch kind) is = branch kind (first-is first (code_of (kinds.Branch kind)) (code_of-branch kind) is)
+kind_case count level first (kinds.Plain kind) is = plain kind (first-is first (code_of (kinds.Plain kind)) (code_of-plain kind) is)
 
-plain_case : (count code : ℕ) (kind : Option PlainKind) → kind_of code ≡ kind → CodeCase count code (λ rest. plain_front kind)
-plain_case count code None h = other h
-plain_case count code (Some kind) h = plain kind h
+known_case : (count level first : ℕ) (kind : Option OperatorKind) → kind_with (code_in first) ≡ kind → Case count level first (λ rest. known_front kind count level first rest)
+known_case count level first None h = other
+known_case count level first (Some kind) h = kind_case count level first kind (code_of-with (code_in first) kind h)
 
-pub code_case : (count code : ℕ) → CodeCase count code (λ rest. code_front count code rest)
-unfolding code_front branch_code
-code_case count code =
-    let P : Reader → Type 0 = CodeCase count code in
-    chosen P (eqb code 0xa0) _ _ (λ e. branch Brfl (eqb-true code 0xa0 e))
-    (λ _. chosen P (eqb code 0xa1) _ _ (λ e. branch Brtr (eqb-true code 0xa1 e))
-    (λ _. chosen P (eqb code 0xa2) _ _ (λ e. branch Brun (eqb-true code 0xa2 e))
-    (λ _. chosen P (eqb code 0xb2) _ _ (λ e. lt8 (eqb-true code 0xb2 e))
-    (λ _. chosen P (eqb code 0xb3) _ _ (λ e. lt16 (eqb-true code 0xb3 e))
-    (λ _. chosen P (eqb code 0xbe) _ _ (λ e. lt48 (eqb-true code 0xbe e))
-    (λ _. chosen P (eqb code 0xbf) _ _ (λ e. mpcw (eqb-true code 0xbf e))
-    (λ _. plain_case count code (kind_of code) refl)))))))
+pub case_of : (count level first : ℕ) → Case count level first (λ rest. known_front (kind_with (code_in first)) count level first rest)
+case_of count level first = known_case count level first (kind_with (code_in first)) refl

@@ -3,6 +3,7 @@ use Rattle.std.proofs.Common.{◌≡◌, ℕ, ◌+◌, ◌*◌, ◌/◌, ◌%◌
 use Rattle.std.proofs.lemmas.Bool.Decides.{nat_tests}
 use Rattle.std.proofs.lemmas.Nat.{pow_pos, pow-add, mul-add-lt, shr_below, div-mul-add, mod-mul-add, div-add-mod', mod_below}
 use Rattle.std.proofs.Math.Pow.{mod-mod-pow}
+use Rattle.b67_ops.specs.declared.TheConstants.{MOST_LEVEL}
 use Rattle.b67_ops.specs.declared.Couple.{Couple}
 use Rattle.b67_ops.specs.Spelling.{level_bits, index_bits, couple_bits, IsSpelled, IsSeen}
 use Rattle.b67_ops.specs.Decoding.{couple_of}
@@ -13,7 +14,7 @@ unfolding level_bits
 level_bits-within level = grind (arith, nat_tests)
 
 -- each level up to the current one has a number of that many bits
-pub level-below : (level : ℕ) → level ≤ 31 → level < 2 ^ level_bits level
+pub level-below : (level : ℕ) → level ≤ MOST_LEVEL → level < 2 ^ level_bits level
 unfolding level_bits
 level-below level h = grind (arith, nat_tests)
 
@@ -29,7 +30,7 @@ couple_bits-below level couple h =
     rw all_bits at (mul-add-lt couple.level (2 ^ index_bits level) couple.index (2 ^ level_bits level) h.level_fits h.index_fits)
 
 -- a couple that can be seen at a level has a spelling there
-pub IsSpelled-from_seen : (level : ℕ) (couple : Couple) → level ≤ 31 → IsSeen level couple → IsSpelled level couple
+pub IsSpelled-from_seen : (level : ℕ) (couple : Couple) → level ≤ MOST_LEVEL → IsSeen level couple → IsSpelled level couple
 IsSpelled-from_seen level couple most h = record {
   level_fits = omega (arith, level-below level most, h.level_seen);
   index_fits = h.index_fits;

@@ -5,6 +5,7 @@ use Rattle.std.specs.Prelude.{IfOk}
 use Rattle.std.specs.Int.{bytes_high_first}
 use Rattle.std.proofs.lemmas.Bool.{lt-ltb, le-ltb, cond-true, cond-false, cond_both, cases_lt, ltb-true, ltb-false}
 use Rattle.std.proofs.lemmas.List.{append-nil, drop_at, drop_all, drop-drop, drop-append-le, take_at, get_or-drop, get_or_append_left, get_or-append_right, length-replicate}
+use Rattle.b67_ops.specs.declared.TheConstants.{MOST_LEVEL}
 use Rattle.b67_ops.specs.declared.BadCode.{BadCode}
 use Rattle.b67_ops.specs.declared.BadCode.TheVariants.{Unknown, CutShort, BadLevel}
 use Rattle.b67_ops.specs.declared.Operator.{Operator}
@@ -36,7 +37,7 @@ pub length-spelling : (at level : ℕ) (op : Operator) → (1 ≤ length (spelli
 length-spelling at level op = let within = spelling-within at level op in (within.0, omega (arith, within.1))
 
 -- what fits a level has a spelling there
-pub HasSpelling-from_fits : (level : ℕ) (op : Operator) → level ≤ 31 → Fits level op → HasSpelling level op
+pub HasSpelling-from_fits : (level : ℕ) (op : Operator) → level ≤ MOST_LEVEL → Fits level op → HasSpelling level op
 HasSpelling-from_fits level (Valc couple) p h = IsSpelled-from_seen level couple p h
 HasSpelling-from_fits level (Namc couple) p h = IsSpelled-from_seen level couple p h
 HasSpelling-from_fits level (Lt8 n) p h = h
@@ -105,13 +106,13 @@ Stands-kept {bytes} {at} {level} {op} {next} more s =
     }
 
 -- what stands is read at the front of the code there
-front-stands : {bytes : List ℕ} {at level : ℕ} {op : Operator} {next : ℕ} → level ≤ 31 → Stands bytes at level op next
+front-stands : {bytes : List ℕ} {at level : ℕ} {op : Operator} {next : ℕ} → level ≤ MOST_LEVEL → Stands bytes at level op next
     → front (filling at) level (drop at bytes) ≡ Ok (op, length (spelling at level op))
 front-stands {bytes} {at} {level} {op} {next} most s =
     ap (front (filling at) level) s.text ∙ front-spelling at level op (drop next bytes) (HasSpelling-from_fits level op most s.fits)
 
 -- one operator stands at a place, where the current level is one
-pub Stands-unique : {bytes : List ℕ} {at level : ℕ} {op other : Operator} {next after : ℕ} → level ≤ 31
+pub Stands-unique : {bytes : List ℕ} {at level : ℕ} {op other : Operator} {next after : ℕ} → level ≤ MOST_LEVEL
     → Stands bytes at level op next → Stands bytes at level other after → (op ≡ other) × (next ≡ after)
 Stands-unique {at = at} {level = level} {op = op} {other = other} most s t =
     let same : ◌≡◌ {A = Result (Operator × ℕ) BadCode} (Ok (op, length (spelling at level op))) (Ok (other, length (spelling at level other))) = sym (front-stands most s) ∙ front-stands most t in
@@ -135,7 +136,7 @@ judged-above : (at level : ℕ) (found : Operator × ℕ) → level < level_name
 judged-above at level found h = cond-true (ltb level (level_named found.0)) (Err BadLevel) (Ok (found.0, at + found.1)) (lt-ltb level (level_named found.0) h)
 
 -- what stands is decoded
-pub decoded-stands : {bytes : List ℕ} {at level : ℕ} {op : Operator} {next : ℕ} → level ≤ 31 → Stands bytes at level op next → decoded bytes at level ≡ Ok (op, next)
+pub decoded-stands : {bytes : List ℕ} {at level : ℕ} {op : Operator} {next : ℕ} → level ≤ MOST_LEVEL → Stands bytes at level op next → decoded bytes at level ≡ Ok (op, next)
 decoded-stands {bytes} {at} {level} {op} {next} most s =
     decoded-front bytes at level (Ok (op, length (spelling at level op))) (front-stands most s)
     ∙ judged-seen at level (op, length (spelling at level op)) (level_named-within level op s.fits)
@@ -244,7 +245,7 @@ not-part at level a b rest x missing p q h some whole =
     let sizes : length (sp ++ (x ++ missing)) ≡ length sp = ap length all ∙ ap (λ o. length (spelling at level o)) (sym same) in
     absurd (omega (arith, length-append sp (x ++ missing), length-append x missing))
 
-module _ (bytes : List ℕ) (at level : ℕ) (most : level ≤ 31) where
+module _ (bytes : List ℕ) (at level : ℕ) (most : level ≤ MOST_LEVEL) where
   stands-known : (op : Operator) (next : ℕ) → Stands bytes at level op next → HasSpelling level op
   stands-known op next s = HasSpelling-from_fits level op most s.fits
 

@@ -1,9 +1,11 @@
+pub mod Rows
 pub mod Couples
 pub mod Words
 pub mod CodeLemmas
+pub mod NameLemmas
 pub mod Cases
-pub mod Spelled
 pub mod Reading
+pub mod Spelled
 pub mod Refusing
 pub mod Laws
 pub mod Windows

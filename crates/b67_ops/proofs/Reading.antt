@@ -1,20 +1,20 @@
 -- What is read from the front of some syllables, and how a refusal there goes on.
-use Rattle.std.proofs.Common.{◌≡◌, ℕ, zero, suc, ◌+◌, ◌*◌, ◌/◌, ◌%◌, ◌^◌, ◌<◌, ◌≤◌, true, ltb, eqb, List, [], ◌∷◌, ◌++◌, length, take, drop, get_or, replicate, Result, Ok, Err, refl, sym, ap, ◌∙◌, subst, inl, inr, arith, append_assoc, length-append, length-drop}
+use Rattle.std.proofs.Common.{◌≡◌, ℕ, zero, suc, ◌+◌, ◌*◌, ◌/◌, ◌%◌, ◌^◌, ◌<◌, ◌≤◌, true, eqb, List, [], ◌∷◌, ◌++◌, length, take, drop, get_or, replicate, Result, Ok, Err, refl, sym, ap, ◌∙◌, subst, inl, inr, arith, append_assoc, length-append, length-drop}
 use Rattle.std.specs.Int.{w16, w64, to_be_bytes, from_be_bytes, bytes_high_first}
 use Rattle.std.specs.List.{list_all}
-use Rattle.std.proofs.lemmas.Bool.{lt-ltb, le-ltb, cond-true, cond-false, cases_Bool, cases_lt, cond_both, and_parts, eqb-true, ltb-true, ltb-false}
+use Rattle.std.proofs.lemmas.Bool.{cond-true, cond-false, cases_Bool, and_parts, eqb-true}
 use Rattle.std.proofs.lemmas.List.{take-append-drop, drop-drop, get_or-drop, length-replicate}
-use Rattle.std.proofs.Math.Nat.{mod-eq_of_lt}
 use Rattle.b67_ops.specs.declared.BadCode.{BadCode}
 use Rattle.b67_ops.specs.declared.BadCode.TheVariants.{Unknown}
 use Rattle.b67_ops.specs.declared.Operator.{Operator}
 use Rattle.b67_ops.specs.declared.Operator.TheVariants.{Valc, Namc, Lt8, Lt16, Lt48, Mpcw, Branch, Plain}
-use Rattle.b67_ops.specs.Codes.{code_of}
+use Rattle.b67_ops.specs.Codes.{code_of, kind_with}
+use Rattle.b67_ops.specs.declared.table.OperatorKind.TheVariants as kinds
 use Rattle.b67_ops.specs.Spelling.{couple_bits, filling, spelling, HasSpelling}
-use Rattle.b67_ops.specs.Decoding.{◌>>=◌, couple_of, couple_operator, six_front, word_front, couple_front, code_front, front}
+use Rattle.b67_ops.specs.Decoding.{◌>>=◌, couple_of, six_front, word_front, couple_front, code_in, known_front, front}
 use Rattle.b67_ops.proofs.Couples.{couple_of-spelled, bits-couple_of}
-use Rattle.b67_ops.proofs.CodeLemmas.{code_of-kind}
-use Rattle.b67_ops.proofs.Cases.{Reader, CodeCase, branch, lt8, lt16, lt48, mpcw, plain, other, code_case, word_reader}
+use Rattle.b67_ops.proofs.CodeLemmas.{code_of-valc, code_of-namc}
+use Rattle.b67_ops.proofs.Cases.{Reader, Case, valc, namc, branch, lt8, lt16, lt48, mpcw, plain, other, case_of, word_reader}
 
 -- each is a byte
 abbrev pub IsBytes : List ℕ → Type 0
@@ -158,9 +158,43 @@ word_reader-ok : (make : ℕ → Operator) (count : ℕ) (rest : List ℕ) (op :
     → (n : ℕ) × (word_front count rest ≡ Ok n) × ◌≡◌ {A = Result (Operator × ℕ) BadCode} (Ok (make n, 7 + count)) (Ok (op, size))
 word_reader-ok make count rest op size h = bind-ok (word_front count rest) (λ n. Ok (make n, 7 + count)) (op, size) h
 
+-- two syllables that begin with these two bits are a couple's
+couple-reads : (at level first low : ℕ) (rest : List ℕ) (code : ℕ) (op : Operator) → low < 256 → code ≤ first → first < code + 64 → code * 2 ^ 8 % 2 ^ 14 ≡ 0
+    → HasSpelling level op
+    → spelling at level op ≡ to_be_bytes w16 (code * 2 ^ 8 + couple_bits level (couple_of level (from_be_bytes w16 (first ∷ low ∷ []))))
+    → first < 128 → Reads at level (first ∷ low ∷ rest) op 2
+couple-reads at level first low rest code op q from to whole fits is p =
+    let n = from_be_bytes w16 (first ∷ low ∷ []) in
+    let same : code * 2 ^ 8 + couple_bits level (couple_of level n) ≡ n = ap (λ k. code * 2 ^ 8 + k) (bits-couple_of level n) ∙ omega arith in
+    let text : spelling at level op ≡ first ∷ low ∷ [] = is ∙ ap (λ k. to_be_bytes w16 k) same ∙ pair-bytes first low (omega arith) q in
+    record { spelled = fits; count_is = sym (ap length text); text = sym (ap (λ xs. xs ++ rest) text) }
+
+valc-reads : (at level first low : ℕ) (rest : List ℕ) → first < 64 → low < 256
+    → Reads at level (first ∷ low ∷ rest) (Valc (couple_of level (from_be_bytes w16 (first ∷ low ∷ [])))) 2
+valc-reads at level first low rest p q =
+    let couple = couple_of level (from_be_bytes w16 (first ∷ low ∷ [])) in
+    couple-reads at level first low rest 0 (Valc couple) q (omega arith) (omega arith) refl (couple_of-spelled level (from_be_bytes w16 (first ∷ low ∷ [])))
+    (ap (λ code. to_be_bytes w16 (code * 2 ^ 8 + couple_bits level couple)) code_of-valc) (omega arith)
+
+namc-reads : (at level first low : ℕ) (rest : List ℕ) → 64 ≤ first → first < 128 → low < 256
+    → Reads at level (first ∷ low ∷ rest) (Namc (couple_of level (from_be_bytes w16 (first ∷ low ∷ [])))) 2
+namc-reads at level first low rest from p q =
+    let couple = couple_of level (from_be_bytes w16 (first ∷ low ∷ [])) in
+    couple-reads at level first low rest 64 (Namc couple) q from p refl (couple_of-spelled level (from_be_bytes w16 (first ∷ low ∷ [])))
+    (ap (λ code. to_be_bytes w16 (code * 2 ^ 8 + couple_bits level couple)) code_of-namc) p
+
 -- what the reader of a code reads stands there
-code-reads : (at level code : ℕ) {r : Reader} → CodeCase (filling at) code r → (rest : List ℕ) → IsBytes rest → (op : Operator) (count : ℕ)
+code-reads : (at level code : ℕ) {r : Reader} → Case (filling at) level code r → (rest : List ℕ) → IsBytes rest → (op : Operator) (count : ℕ)
     → r rest ≡ Ok (op, count) → Reads at level (code ∷ rest) op count
+unfolding couple_front
+code-reads at level code (valc p) [] bytes op count h = cc
+code-reads at level code (valc p) (low ∷ rest) bytes op count h =
+    reads_as at level (code ∷ low ∷ rest) (Valc (couple_of level (from_be_bytes w16 (code ∷ low ∷ []))), 2) op count
+    (valc-reads at level code low rest p (bytes 0)) h
+code-reads at level code (namc p q) [] bytes op count h = cc
+code-reads at level code (namc p q) (low ∷ rest) bytes op count h =
+    reads_as at level (code ∷ low ∷ rest) (Namc (couple_of level (from_be_bytes w16 (code ∷ low ∷ []))), 2) op count
+    (namc-reads at level code low rest p q (bytes 0)) h
 code-reads at level code (branch kind is) [] bytes op count h = cc
 code-reads at level code (branch kind is) (high ∷ []) bytes op count h = cc
 code-reads at level code (branch kind is) (high ∷ low ∷ rest) bytes op count h =
@@ -173,7 +207,7 @@ code-reads at level code (branch kind is) (high ∷ low ∷ rest) bytes op count
 code-reads at level code (lt8 is) [] bytes op count h = cc
 code-reads at level code (lt8 is) (n ∷ rest) bytes op count h =
     let b0 : n < 256 = bytes 0 in
-    let text : code ∷ n ∷ rest ≡ 0xb2 ∷ n ∷ rest = ap (λ k. k ∷ n ∷ rest) is in
+    let text : code ∷ n ∷ rest ≡ code_of kinds.Lt8 ∷ n ∷ rest = ap (λ k. k ∷ n ∷ rest) is in
     reads_as at level (code ∷ n ∷ rest) (Lt8 n, 2) op count (record { spelled = b0; count_is = refl; text = text }) h
 code-reads at level code (lt16 is) [] bytes op count h = cc
 code-reads at level code (lt16 is) (high ∷ []) bytes op count h = cc
@@ -195,57 +229,18 @@ code-reads at level code (mpcw is) rest bytes op count h =
     (word-reads at level code rest found.0 (Mpcw found.0) bytes found.1 (λ p. p)
     (ap (λ k. k ∷ (replicate (filling at) 0 ++ bytes_high_first 6 found.0)) (sym is))) found.2
 code-reads at level code (plain kind is) rest bytes op count h =
-    let text : code ∷ rest ≡ code_of kind ∷ rest = ap (λ k. k ∷ rest) (sym (code_of-kind code kind is)) in
+    let text : code ∷ rest ≡ code_of (kinds.Plain kind) ∷ rest = ap (λ k. k ∷ rest) is in
     reads_as at level (code ∷ rest) (Plain kind, 1) op count (record { spelled = tt; count_is = refl; text = text }) h
-code-reads at level code (other is) rest bytes op count h = cc
+code-reads at level code other rest bytes op count h = cc
 
--- two syllables that begin with a 0 bit are a couple's
-couple-reads : (at level code low : ℕ) (rest : List ℕ) → code < 128 → low < 256
-    → Reads at level (code ∷ low ∷ rest) (couple_operator level (from_be_bytes w16 (code ∷ low ∷ []))) 2
-couple-reads at level code low rest p q =
-    let n = from_be_bytes w16 (code ∷ low ∷ []) in
-    let couple = couple_of level n in
-    let fits = couple_of-spelled level n in
-    let P : Operator → Type 0 = λ op. Reads at level (code ∷ low ∷ rest) op 2 in
-    let text : to_be_bytes w16 n ≡ code ∷ low ∷ [] = pair-bytes code low (omega arith) q in
-    cond_both (ltb n (2 ^ 14)) (Valc couple) (Namc couple) P
-    (λ t.
-    let below : n % 2 ^ 14 ≡ n = mod-eq_of_lt (ltb-true n (2 ^ 14) t) in
-    let same : couple_bits level couple ≡ n = bits-couple_of level n ∙ below in
-    let is : to_be_bytes w16 (couple_bits level couple) ≡ code ∷ low ∷ [] = ap (λ k. to_be_bytes w16 k) same ∙ text in
-    record { spelled = fits; count_is = refl; text = sym (ap (λ xs. xs ++ rest) is) })
-    (λ f.
-    let above : 2 ^ 14 ≤ n = ltb-false n (2 ^ 14) f in
-    let rest_is : 2 ^ 14 + n % 2 ^ 14 ≡ n = omega arith in
-    let same : 2 ^ 14 + couple_bits level couple ≡ n = ap (λ k. 2 ^ 14 + k) (bits-couple_of level n) ∙ rest_is in
-    let is : to_be_bytes w16 (2 ^ 14 + couple_bits level couple) ≡ code ∷ low ∷ [] = ap (λ k. to_be_bytes w16 k) same ∙ text in
-    record { spelled = fits; count_is = refl; text = sym (ap (λ xs. xs ++ rest) is) })
-
--- the first syllable tells a couple from a code
-pub front-low : (count level code : ℕ) (rest : List ℕ) → code < 128 → front count level (code ∷ rest) ≡ couple_front level code rest
+-- the first syllable tells what is read
+pub front-first : (count level first : ℕ) (rest : List ℕ) → front count level (first ∷ rest) ≡ known_front (kind_with (code_in first)) count level first rest
 unfolding front
-front-low count level code rest h = cond-true (ltb code 128) _ _ (lt-ltb code 128 h)
-
-pub front-high : (count level code : ℕ) (rest : List ℕ) → 128 ≤ code → front count level (code ∷ rest) ≡ code_front count code rest
-unfolding front
-front-high count level code rest h = cond-false (ltb code 128) _ _ (le-ltb code 128 h)
-
-couple_front-reads : (at level code : ℕ) (rest : List ℕ) → code < 128 → IsBytes rest → (op : Operator) (count : ℕ)
-    → couple_front level code rest ≡ Ok (op, count) → Reads at level (code ∷ rest) op count
-unfolding couple_front
-couple_front-reads at level code [] p bytes op count h = cc
-couple_front-reads at level code (low ∷ rest) p bytes op count h =
-    reads_as at level (code ∷ low ∷ rest) (couple_operator level (from_be_bytes w16 (code ∷ low ∷ [])), 2) op count
-    (couple-reads at level code low rest p (bytes 0)) h
+front-first count level first rest = refl
 
 -- the operator that is read at the front of some syllables is spelled there
 pub front-reads : (at level : ℕ) (bytes : List ℕ) → IsBytes bytes → (op : Operator) (count : ℕ)
     → front (filling at) level bytes ≡ Ok (op, count) → Reads at level bytes op count
 unfolding front
 front-reads at level [] b op count h = cc
-front-reads at level (code ∷ rest) b op count h =
-    let c = filling at in
-    elim (cases_lt code 128) [
-      | inl low ↦ couple_front-reads at level code rest low (λ i. b (suc i)) op count (sym (front-low c level code rest low) ∙ h)
-      | inr high ↦ code-reads at level code (code_case c code) rest (λ i. b (suc i)) op count (sym (front-high c level code rest high) ∙ h)
-    ]
+front-reads at level (first ∷ rest) b op count h = code-reads at level first (case_of (filling at) level first) rest (λ i. b (suc i)) op count h

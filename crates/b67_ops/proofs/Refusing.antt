@@ -1,14 +1,15 @@
 -- How a refusal at the front of some syllables goes on: cut short it could have gone on, and unknown it stays.
 use Rattle.std.proofs.Common.{◌≡◌, ℕ, zero, suc, ◌+◌, ◌<◌, ◌≤◌, Bool, true, false, eqb, List, [], ◌∷◌, ◌++◌, length, take, drop, replicate, Result, Ok, Err, refl, sym, ap, ◌∙◌, inl, inr, ◌⊎◌, arith, length-append, length-drop}
 use Rattle.std.specs.List.{list_all}
-use Rattle.std.proofs.lemmas.Bool.{cond-true, cond-false, cases_Bool, cases_lt, and_parts, and_from, and_cases, and_left, and_right}
+use Rattle.std.proofs.lemmas.Bool.{cond-true, cond-false, cases_Bool, and_parts, and_from, and_cases, and_left, and_right}
 use Rattle.b67_ops.specs.declared.BadCode.{BadCode}
 use Rattle.b67_ops.specs.declared.BadCode.TheVariants.{Unknown, CutShort, BadLevel}
 use Rattle.b67_ops.specs.declared.Operator.{Operator}
-use Rattle.b67_ops.specs.declared.Operator.TheVariants.{Lt48, Mpcw}
-use Rattle.b67_ops.specs.Decoding.{◌>>=◌, six_front, word_front, couple_operator, couple_front, front}
-use Rattle.b67_ops.proofs.Cases.{Reader, CodeCase, branch, lt8, lt16, lt48, mpcw, plain, other, code_case, word_reader}
-use Rattle.b67_ops.proofs.Reading.{front-low, front-high}
+use Rattle.b67_ops.specs.declared.Operator.TheVariants.{Valc, Lt48, Mpcw}
+use Rattle.b67_ops.specs.Decoding.{◌>>=◌, couple_of, six_front, word_front, couple_front, known_front, front}
+use Rattle.b67_ops.proofs.CodeLemmas.{kind_in-valc}
+use Rattle.b67_ops.proofs.Cases.{Reader, Case, valc, namc, branch, lt8, lt16, lt48, mpcw, plain, other, case_of, word_reader}
+use Rattle.b67_ops.proofs.Reading.{front-first}
 
 -- zeros for whatever is cut short
 abbrev pub padding : List ℕ
@@ -112,62 +113,62 @@ word-level make count rest h =
       | inr unknown ↦ let wrong : BadLevel ≡ Unknown = unknown.1 in cc
     ]
 
-code-goes_on : (count code : ℕ) {r : Reader} → CodeCase count code r → (rest : List ℕ) → count ≤ 5 → r rest ≡ Err CutShort → GoesOn r rest
-code-goes_on count code (branch kind is) [] p h = (_, _, refl, omega arith)
-code-goes_on count code (branch kind is) (high ∷ []) p h = (_, _, refl, omega arith)
-code-goes_on count code (branch kind is) (high ∷ low ∷ rest) p h = cc
-code-goes_on count code (lt8 is) [] p h = (_, _, refl, omega arith)
-code-goes_on count code (lt8 is) (n ∷ rest) p h = cc
-code-goes_on count code (lt16 is) [] p h = (_, _, refl, omega arith)
-code-goes_on count code (lt16 is) (high ∷ []) p h = (_, _, refl, omega arith)
-code-goes_on count code (lt16 is) (high ∷ low ∷ rest) p h = cc
-code-goes_on count code (lt48 is) rest p h = word-goes_on Lt48 count rest p h
-code-goes_on count code (mpcw is) rest p h = word-goes_on Mpcw count rest p h
-code-goes_on count code (plain kind is) rest p h = cc
-code-goes_on count code (other is) rest p h = cc
-
-code-stays : (count code : ℕ) {r : Reader} → CodeCase count code r → (rest more : List ℕ) → r rest ≡ Err Unknown → r (rest ++ more) ≡ Err Unknown
-code-stays count code (branch kind is) [] more h = cc
-code-stays count code (branch kind is) (high ∷ []) more h = cc
-code-stays count code (branch kind is) (high ∷ low ∷ rest) more h = cc
-code-stays count code (lt8 is) [] more h = cc
-code-stays count code (lt8 is) (n ∷ rest) more h = cc
-code-stays count code (lt16 is) [] more h = cc
-code-stays count code (lt16 is) (high ∷ []) more h = cc
-code-stays count code (lt16 is) (high ∷ low ∷ rest) more h = cc
-code-stays count code (lt48 is) rest more h = word-stays Lt48 count rest more h
-code-stays count code (mpcw is) rest more h = word-stays Mpcw count rest more h
-code-stays count code (plain kind is) rest more h = cc
-code-stays count code (other is) rest more h = refl
-
-couple-goes_on : (level code : ℕ) (rest : List ℕ) → couple_front level code rest ≡ Err CutShort → GoesOn (couple_front level code) rest
+code-goes_on : (count level code : ℕ) {r : Reader} → Case count level code r → (rest : List ℕ) → count ≤ 5 → r rest ≡ Err CutShort → GoesOn r rest
 unfolding couple_front
-couple-goes_on level code [] h = (_, _, refl, omega arith)
-couple-goes_on level code (low ∷ rest) h = cc
+code-goes_on count level code (valc q) [] p h = (_, _, refl, omega arith)
+code-goes_on count level code (valc q) (low ∷ rest) p h = cc
+code-goes_on count level code (namc q z) [] p h = (_, _, refl, omega arith)
+code-goes_on count level code (namc q z) (low ∷ rest) p h = cc
+code-goes_on count level code (branch kind is) [] p h = (_, _, refl, omega arith)
+code-goes_on count level code (branch kind is) (high ∷ []) p h = (_, _, refl, omega arith)
+code-goes_on count level code (branch kind is) (high ∷ low ∷ rest) p h = cc
+code-goes_on count level code (lt8 is) [] p h = (_, _, refl, omega arith)
+code-goes_on count level code (lt8 is) (n ∷ rest) p h = cc
+code-goes_on count level code (lt16 is) [] p h = (_, _, refl, omega arith)
+code-goes_on count level code (lt16 is) (high ∷ []) p h = (_, _, refl, omega arith)
+code-goes_on count level code (lt16 is) (high ∷ low ∷ rest) p h = cc
+code-goes_on count level code (lt48 is) rest p h = word-goes_on Lt48 count rest p h
+code-goes_on count level code (mpcw is) rest p h = word-goes_on Mpcw count rest p h
+code-goes_on count level code (plain kind is) rest p h = cc
+code-goes_on count level code other rest p h = cc
 
-couple-known : (level code : ℕ) (rest : List ℕ) → couple_front level code rest ≡ Err Unknown → ⊥
+code-stays : (count level code : ℕ) {r : Reader} → Case count level code r → (rest more : List ℕ) → r rest ≡ Err Unknown → r (rest ++ more) ≡ Err Unknown
 unfolding couple_front
-couple-known level code [] h = cc
-couple-known level code (low ∷ rest) h = cc
+code-stays count level code (valc q) [] more h = cc
+code-stays count level code (valc q) (low ∷ rest) more h = cc
+code-stays count level code (namc q z) [] more h = cc
+code-stays count level code (namc q z) (low ∷ rest) more h = cc
+code-stays count level code (branch kind is) [] more h = cc
+code-stays count level code (branch kind is) (high ∷ []) more h = cc
+code-stays count level code (branch kind is) (high ∷ low ∷ rest) more h = cc
+code-stays count level code (lt8 is) [] more h = cc
+code-stays count level code (lt8 is) (n ∷ rest) more h = cc
+code-stays count level code (lt16 is) [] more h = cc
+code-stays count level code (lt16 is) (high ∷ []) more h = cc
+code-stays count level code (lt16 is) (high ∷ low ∷ rest) more h = cc
+code-stays count level code (lt48 is) rest more h = word-stays Lt48 count rest more h
+code-stays count level code (mpcw is) rest more h = word-stays Mpcw count rest more h
+code-stays count level code (plain kind is) rest more h = cc
+code-stays count level code other rest more h = refl
 
-couple-level : (level code : ℕ) (rest : List ℕ) → couple_front level code rest ≡ Err BadLevel → ⊥
+code-level : (count level code : ℕ) {r : Reader} → Case count level code r → (rest : List ℕ) → r rest ≡ Err BadLevel → ⊥
 unfolding couple_front
-couple-level level code [] h = cc
-couple-level level code (low ∷ rest) h = cc
-
-code-level : (count code : ℕ) {r : Reader} → CodeCase count code r → (rest : List ℕ) → r rest ≡ Err BadLevel → ⊥
-code-level count code (branch kind is) [] h = cc
-code-level count code (branch kind is) (high ∷ []) h = cc
-code-level count code (branch kind is) (high ∷ low ∷ rest) h = cc
-code-level count code (lt8 is) [] h = cc
-code-level count code (lt8 is) (n ∷ rest) h = cc
-code-level count code (lt16 is) [] h = cc
-code-level count code (lt16 is) (high ∷ []) h = cc
-code-level count code (lt16 is) (high ∷ low ∷ rest) h = cc
-code-level count code (lt48 is) rest h = word-level Lt48 count rest h
-code-level count code (mpcw is) rest h = word-level Mpcw count rest h
-code-level count code (plain kind is) rest h = cc
-code-level count code (other is) rest h = cc
+code-level count level code (valc q) [] h = cc
+code-level count level code (valc q) (low ∷ rest) h = cc
+code-level count level code (namc q z) [] h = cc
+code-level count level code (namc q z) (low ∷ rest) h = cc
+code-level count level code (branch kind is) [] h = cc
+code-level count level code (branch kind is) (high ∷ []) h = cc
+code-level count level code (branch kind is) (high ∷ low ∷ rest) h = cc
+code-level count level code (lt8 is) [] h = cc
+code-level count level code (lt8 is) (n ∷ rest) h = cc
+code-level count level code (lt16 is) [] h = cc
+code-level count level code (lt16 is) (high ∷ []) h = cc
+code-level count level code (lt16 is) (high ∷ low ∷ rest) h = cc
+code-level count level code (lt48 is) rest h = word-level Lt48 count rest h
+code-level count level code (mpcw is) rest h = word-level Mpcw count rest h
+code-level count level code (plain kind is) rest h = cc
+code-level count level code other rest h = cc
 
 -- nothing is read where nothing is
 pub front-none : (count level : ℕ) → front count level [] ≡ Err CutShort
@@ -177,33 +178,24 @@ front-none count level = refl
 -- no reading tests the level
 pub front-level : (count level : ℕ) (bytes : List ℕ) → front count level bytes ≡ Err BadLevel → ⊥
 front-level count level [] h = let cut = front-none count level in cc
-front-level count level (code ∷ rest) h =
-    elim (cases_lt code 128) [
-      | inl low ↦ couple-level level code rest (sym (front-low count level code rest low) ∙ h)
-      | inr high ↦ code-level count code (code_case count code) rest (sym (front-high count level code rest high) ∙ h)
-    ]
+front-level count level (code ∷ rest) h = code-level count level code (case_of count level code) rest (sym (front-first count level code rest) ∙ h)
+
+-- zeros begin with an operator
+zeros-read : (count level : ℕ) → front count level padding ≡ Ok (Valc (couple_of level 0), 2)
+unfolding couple_front
+zeros-read count level = front-first count level 0 (replicate 11 0) ∙ ap (λ k. known_front k count level 0 (replicate 11 0)) (kind_in-valc 0 (omega arith))
 
 -- what is cut short reads an operator of more syllables once zeros follow
 pub front-goes_on : (count level : ℕ) (bytes : List ℕ) → count ≤ 5 → front count level bytes ≡ Err CutShort
     → (op : Operator) × (size : ℕ) × (front count level (bytes ++ padding) ≡ Ok (op, size)) × (length bytes < size)
-front-goes_on count level [] p h = (couple_operator level 0, 2, front-low count level 0 (replicate 11 0) (omega arith) ∙ unfold couple_front in refl, omega arith)
+front-goes_on count level [] p h = (Valc (couple_of level 0), 2, zeros-read count level, omega arith)
 front-goes_on count level (code ∷ rest) p h =
-    elim (cases_lt code 128) [
-      | inl low ↦
-          let on = couple-goes_on level code rest (sym (front-low count level code rest low) ∙ h) in
-          (on.0, on.1, front-low count level code (rest ++ padding) low ∙ on.2, omega (arith, on.3))
-      | inr high ↦
-          let on = code-goes_on count code (code_case count code) rest p (sym (front-high count level code rest high) ∙ h) in
-          (on.0, on.1, front-high count level code (rest ++ padding) high ∙ on.2, omega (arith, on.3))
-    ]
+    let on = code-goes_on count level code (case_of count level code) rest p (sym (front-first count level code rest) ∙ h) in
+    (on.0, on.1, front-first count level code (rest ++ padding) ∙ on.2, omega (arith, on.3))
 
 -- what is unknown stays so, whatever follows
 pub front-stays : (count level : ℕ) (bytes more : List ℕ) → front count level bytes ≡ Err Unknown → front count level (bytes ++ more) ≡ Err Unknown
 front-stays count level [] more h = let cut = front-none count level in cc
 front-stays count level (code ∷ rest) more h =
-    elim (cases_lt code 128) [
-      | inl low ↦ absurd (couple-known level code rest (sym (front-low count level code rest low) ∙ h))
-      | inr high ↦
-          front-high count level code (rest ++ more) high
-          ∙ code-stays count code (code_case count code) rest more (sym (front-high count level code rest high) ∙ h)
-    ]
+    front-first count level code (rest ++ more)
+    ∙ code-stays count level code (case_of count level code) rest more (sym (front-first count level code rest) ∙ h)

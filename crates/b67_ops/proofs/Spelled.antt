@@ -1,47 +1,53 @@
 -- What an operator's spelling begins with is read as that operator, whatever follows.
-use Rattle.std.proofs.Common.{◌≡◌, ℕ, suc, ◌+◌, ◌*◌, ◌/◌, ◌%◌, ◌^◌, ◌<◌, true, ltb, eqb, List, [], ◌∷◌, ◌++◌, length, take, drop, replicate, Result, Ok, refl, ap, ◌∙◌, arith, append_assoc, length-append, zero}
-use Rattle.std.specs.Int.{w16, to_be_bytes, from_be_bytes, bytes_high_first}
+use Rattle.std.proofs.Common.{◌≡◌, ℕ, suc, ◌+◌, ◌*◌, ◌/◌, ◌%◌, ◌^◌, ◌<◌, ◌≤◌, true, eqb, List, ◌∷◌, ◌++◌, length, take, drop, replicate, Result, Ok, Some, refl, ap, ◌∙◌, arith, append_assoc, length-append, zero}
+use Rattle.std.specs.Int.{w16, to_be_bytes, bytes_high_first}
 use Rattle.std.specs.List.{list_all}
-use Rattle.std.proofs.lemmas.Bool.{lt-ltb, le-ltb, cond-true, cond-false}
+use Rattle.std.proofs.lemmas.Bool.{cond-true}
 use Rattle.std.proofs.lemmas.List.{take_at, drop_at, length-replicate}
 use Rattle.std.proofs.lemmas.Nat.{from_be_bytes-to_be_bytes_2}
 use Rattle.b67_ops.specs.declared.Couple.{Couple}
 use Rattle.b67_ops.specs.declared.BadCode.{BadCode}
-use Rattle.b67_ops.specs.declared.BranchKind.TheVariants.{Brfl, Brtr, Brun}
-use Rattle.b67_ops.specs.declared.PlainKind.TheVariants.{Add}
+use Rattle.b67_ops.specs.declared.table.OperatorKind.{OperatorKind}
+use Rattle.b67_ops.specs.declared.table.OperatorKind.TheVariants as kinds
 use Rattle.b67_ops.specs.declared.Operator.{Operator}
 use Rattle.b67_ops.specs.declared.Operator.TheVariants.{Valc, Namc, Lt8, Lt16, Lt48, Mpcw, Branch, Plain}
-use Rattle.b67_ops.specs.Codes.{branch_code, code_of, kind_of}
+use Rattle.b67_ops.specs.Codes.{code_of, kind_with}
 use Rattle.b67_ops.specs.Spelling.{couple_bits, filling, spelling, IsSpelled, HasSpelling}
-use Rattle.b67_ops.specs.Decoding.{◌>>=◌, couple_of, couple_operator, six_front, word_front, couple_front, code_front, front}
+use Rattle.b67_ops.specs.Decoding.{◌>>=◌, couple_of, six_front, word_front, couple_front, operator_front, known_front, code_in, front}
 use Rattle.b67_ops.proofs.Cases.{word_reader}
+use Rattle.b67_ops.proofs.CodeLemmas.{code_of-valc, code_of-namc, code_of-literal, code_of-branch, code_of-plain, kind_in-valc, kind_in-namc, kind_in-code}
+use Rattle.b67_ops.proofs.Reading.{front-first}
 use Rattle.b67_ops.proofs.Couples.{couple_bits-below, couple_of-bits}
 
--- two syllables that begin with a 0 bit
-front-couple : (count level a b : ℕ) (rest : List ℕ) → a < 128
-    → front count level (a ∷ b ∷ rest) ≡ Ok (couple_operator level (from_be_bytes w16 (a ∷ b ∷ [])), 2)
-unfolding front couple_front
-front-couple count level a b rest h = cond-true (ltb a 128) _ _ (lt-ltb a 128 h)
+-- what is read after a first syllable of this kind
+front-kind : (count level first : ℕ) (rest : List ℕ) (kind : OperatorKind) → kind_with (code_in first) ≡ Some kind
+    → front count level (first ∷ rest) ≡ operator_front kind count level first rest
+front-kind count level first rest kind h = front-first count level first rest ∙ ap (λ k. known_front k count level first rest) h
 
--- the two syllables of a number below 2 ^ 15
-front-bits : (count level n : ℕ) (rest : List ℕ) → n < 2 ^ 15
-    → front count level (to_be_bytes w16 n ++ rest) ≡ Ok (couple_operator level n, 2)
-front-bits count level n rest h =
-    front-couple count level (n / 256 % 256) (n % 256) rest (omega arith)
-    ∙ ap (λ k. Ok (couple_operator level k, 2)) (from_be_bytes-to_be_bytes_2 n (omega arith))
+couple_front-bits : (level n : ℕ) (rest : List ℕ) → n < 2 ^ 16 → couple_front level (n / 256 % 256) (n % 256 ∷ rest) ≡ Ok (couple_of level n)
+unfolding couple_front
+couple_front-bits level n rest h = ap (λ k. Ok (couple_of level k)) (from_be_bytes-to_be_bytes_2 n h)
 
-valc_operator : (level : ℕ) (couple : Couple) → IsSpelled level couple → couple_operator level (couple_bits level couple) ≡ Valc couple
-valc_operator level couple h =
-    let n = couple_bits level couple in
-    let same : n ≡ 0 * 2 ^ 14 + n = omega arith in
-    cond-true (ltb n (2 ^ 14)) (Valc (couple_of level n)) (Namc (couple_of level n)) (lt-ltb n (2 ^ 14) (couple_bits-below level couple h))
-    ∙ ap (λ k. Valc (couple_of level k)) same ∙ ap Valc (couple_of-bits level 0 couple h)
+-- the two syllables of an operator with a couple
+front-valc : (count level : ℕ) (couple : Couple) (rest : List ℕ) → IsSpelled level couple
+    → front count level (spelling 0 level (Valc couple) ++ rest) ≡ Ok (Valc couple, 2)
+front-valc count level couple rest h =
+    let n = 0 * 2 ^ 14 + couple_bits level couple in
+    let below = couple_bits-below level couple h in
+    let same : code_of kinds.Valc * 2 ^ 8 + couple_bits level couple ≡ n = omega (arith, code_of-valc) in
+    ap (λ k. front count level (to_be_bytes w16 k ++ rest)) same
+    ∙ front-kind count level (n / 256 % 256) (n % 256 ∷ rest) kinds.Valc (kind_in-valc (n / 256 % 256) (omega arith))
+    ∙ ap (λ r. r >>= (λ c. Ok (Valc c, 2))) (couple_front-bits level n rest (omega arith) ∙ ap Ok (couple_of-bits level 0 couple h))
 
-namc_operator : (level : ℕ) (couple : Couple) → IsSpelled level couple → couple_operator level (2 ^ 14 + couple_bits level couple) ≡ Namc couple
-namc_operator level couple h =
-    let n = 2 ^ 14 + couple_bits level couple in
-    cond-false (ltb n (2 ^ 14)) (Valc (couple_of level n)) (Namc (couple_of level n)) (le-ltb n (2 ^ 14) (omega arith))
-    ∙ ap Namc (couple_of-bits level 1 couple h)
+front-namc : (count level : ℕ) (couple : Couple) (rest : List ℕ) → IsSpelled level couple
+    → front count level (spelling 0 level (Namc couple) ++ rest) ≡ Ok (Namc couple, 2)
+front-namc count level couple rest h =
+    let n = 1 * 2 ^ 14 + couple_bits level couple in
+    let below = couple_bits-below level couple h in
+    let same : code_of kinds.Namc * 2 ^ 8 + couple_bits level couple ≡ n = omega (arith, code_of-namc) in
+    ap (λ k. front count level (to_be_bytes w16 k ++ rest)) same
+    ∙ front-kind count level (n / 256 % 256) (n % 256 ∷ rest) kinds.Namc (kind_in-namc (n / 256 % 256) (omega arith) (omega arith))
+    ∙ ap (λ r. r >>= (λ c. Ok (Namc c, 2))) (couple_front-bits level n rest (omega arith) ∙ ap Ok (couple_of-bits level 1 couple h))
 
 -- so many zeros are all 0
 all-zeros : (count : ℕ) → list_all (λ n. eqb n 0) (replicate count 0) ≡ true
@@ -78,22 +84,26 @@ word-operator make count n rest h =
     let last : 7 + count ≡ suc (length (replicate count 0 ++ bytes_high_first 6 n)) = omega (arith, length-word count n) in
     ap after (word_front-spelling count n rest h) ∙ ap (λ k. Ok (make n, k)) last
 
+-- what is read after a code that is the whole first syllable
+front-code : (at level : ℕ) (kind : OperatorKind) (rest : List ℕ) → 128 ≤ code_of kind
+    → front (filling at) level (code_of kind ∷ rest) ≡ operator_front kind (filling at) level (code_of kind) rest
+front-code at level kind rest h = front-kind (filling at) level (code_of kind) rest kind (kind_in-code kind h)
+
 -- what begins with an operator's spelling is read as that operator
 pub front-spelling : (at level : ℕ) (op : Operator) (rest : List ℕ) → HasSpelling level op
     → front (filling at) level (spelling at level op ++ rest) ≡ Ok (op, length (spelling at level op))
-unfolding front code_front code_of kind_of branch_code
-front-spelling at level (Valc couple) rest h =
-    front-bits (filling at) level (couple_bits level couple) rest (omega (arith, couple_bits-below level couple h))
-    ∙ ap (λ op. Ok (op, 2)) (valc_operator level couple h)
-front-spelling at level (Namc couple) rest h =
-    front-bits (filling at) level (2 ^ 14 + couple_bits level couple) rest (omega (arith, couple_bits-below level couple h))
-    ∙ ap (λ op. Ok (op, 2)) (namc_operator level couple h)
-front-spelling at level (Lt8 n) rest h = refl
-front-spelling at level (Lt16 n) rest h = ap (λ k. Ok (Lt16 k, 3)) (from_be_bytes-to_be_bytes_2 n h)
-front-spelling at level (Lt48 n) rest h = word-operator Lt48 (filling at) n rest h
-front-spelling at level (Mpcw n) rest h = word-operator Mpcw (filling at) n rest h
-front-spelling at level (Branch Brfl place) rest h = ap (λ k. Ok (Branch Brfl k, 3)) (from_be_bytes-to_be_bytes_2 place h)
-front-spelling at level (Branch Brtr place) rest h = ap (λ k. Ok (Branch Brtr k, 3)) (from_be_bytes-to_be_bytes_2 place h)
-front-spelling at level (Branch Brun place) rest h = ap (λ k. Ok (Branch Brun k, 3)) (from_be_bytes-to_be_bytes_2 place h)
-front-spelling at level (Plain Add) rest h = refl
-front-spelling at level (Plain kind) rest h = refl
+front-spelling at level (Valc couple) rest h = front-valc (filling at) level couple rest h
+front-spelling at level (Namc couple) rest h = front-namc (filling at) level couple rest h
+front-spelling at level (Lt8 n) rest h = front-code at level kinds.Lt8 (n ∷ rest) code_of-literal.0
+front-spelling at level (Lt16 n) rest h =
+    front-code at level kinds.Lt16 (to_be_bytes w16 n ++ rest) code_of-literal.1 ∙ ap (λ k. Ok (Lt16 k, 3)) (from_be_bytes-to_be_bytes_2 n h)
+front-spelling at level (Lt48 n) rest h =
+    let word = replicate (filling at) 0 ++ bytes_high_first 6 n in
+    front-code at level kinds.Lt48 (word ++ rest) code_of-literal.2 ∙ word-operator Lt48 (filling at) n rest h
+front-spelling at level (Mpcw n) rest h =
+    let word = replicate (filling at) 0 ++ bytes_high_first 6 n in
+    front-code at level kinds.Mpcw (word ++ rest) code_of-literal.3 ∙ word-operator Mpcw (filling at) n rest h
+front-spelling at level (Branch kind place) rest h =
+    front-code at level (kinds.Branch kind) (to_be_bytes w16 place ++ rest) (code_of-branch kind)
+    ∙ ap (λ k. Ok (Branch kind k, 3)) (from_be_bytes-to_be_bytes_2 place h)
+front-spelling at level (Plain kind) rest h = front-code at level (kinds.Plain kind) rest (code_of-plain kind)

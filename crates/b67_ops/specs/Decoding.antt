@@ -1,13 +1,13 @@
-use Rattle.std.specs.Prelude.{ℕ, ◌+◌, ◌/◌, ◌%◌, ◌^◌, nat_eq, nat_lt, List, [], ◌∷◌, drop, take, Result, Ok, Err, Option, Some, None, if◌then◌else◌}
+use Rattle.std.specs.Prelude.{ℕ, ◌+◌, ◌*◌, ◌/◌, ◌%◌, ◌^◌, nat_eq, nat_lt, List, [], ◌∷◌, drop, take, Result, Ok, Err, Option, Some, None, if◌then◌else◌}
 use Rattle.std.specs.Int.{w16, w64, from_be_bytes}
 use Rattle.std.specs.List.{list_all}
-use Rattle.b67_ops.specs.Codes.{kind_of}
+use Rattle.b67_ops.specs.Codes.{kind_with}
+use Rattle.b67_ops.specs.declared.table.OperatorKind.{OperatorKind}
+use Rattle.b67_ops.specs.declared.table.OperatorKind.TheVariants as kinds
 use Rattle.b67_ops.specs.Spelling.{index_bits, filling, level_named}
 use Rattle.b67_ops.specs.declared.Couple.{Couple}
-use Rattle.b67_ops.specs.declared.PlainKind.{PlainKind}
 use Rattle.b67_ops.specs.declared.BadCode.{BadCode}
 use Rattle.b67_ops.specs.declared.BadCode.TheVariants.{Unknown, CutShort, BadLevel}
-use Rattle.b67_ops.specs.declared.BranchKind.TheVariants.{Brfl, Brtr, Brun}
 use Rattle.b67_ops.specs.declared.Operator.{Operator}
 use Rattle.b67_ops.specs.declared.Operator.TheVariants.{Valc, Namc, Lt8, Lt16, Lt48, Mpcw, Branch, Plain}
 
@@ -40,37 +40,35 @@ unfoldable pub word_front : ℕ → List ℕ → Result ℕ BadCode
 word_front count rest =
     if list_all (λ n. nat_eq n 0) (take count rest) then six_front (drop count rest) else Err Unknown
 
--- the operator that two syllables spell which begin with a 0 bit
-abbrev pub couple_operator : ℕ → ℕ → Operator
-couple_operator level n = if nat_lt n (2 ^ 14) then Valc (couple_of level n) else Namc (couple_of level n)
+-- a couple, in the first syllable of its operator and one after it
+unfoldable pub couple_front : ℕ → ℕ → List ℕ → Result Couple BadCode
+couple_front level first rest = byte_front rest >>= (λ low. Ok (couple_of level (from_be_bytes w16 (first ∷ low ∷ []))))
 
--- an operator with a couple, of which this is the first syllable
-unfoldable pub couple_front : ℕ → ℕ → List ℕ → Result (Operator × ℕ) BadCode
-couple_front level code rest = byte_front rest >>= (λ low. Ok (couple_operator level (from_be_bytes w16 (code ∷ low ∷ [])), 2))
+-- an operator of this kind, of which this is the first syllable, and how many syllables it is; after the first one come so many
+-- until the word is full
+abbrev pub operator_front : OperatorKind → ℕ → ℕ → ℕ → List ℕ → Result (Operator × ℕ) BadCode
+operator_front kinds.Valc count level first rest = couple_front level first rest >>= (λ couple. Ok (Valc couple, 2))
+operator_front kinds.Namc count level first rest = couple_front level first rest >>= (λ couple. Ok (Namc couple, 2))
+operator_front kinds.Lt8 count level first rest = byte_front rest >>= (λ n. Ok (Lt8 n, 2))
+operator_front kinds.Lt16 count level first rest = place_front rest >>= (λ n. Ok (Lt16 n, 3))
+operator_front kinds.Lt48 count level first rest = word_front count rest >>= (λ n. Ok (Lt48 n, 7 + count))
+operator_front kinds.Mpcw count level first rest = word_front count rest >>= (λ n. Ok (Mpcw n, 7 + count))
+operator_front (kinds.Branch kind) count level first rest = place_front rest >>= (λ place. Ok (Branch kind place, 3))
+operator_front (kinds.Plain kind) count level first rest = Ok (Plain kind, 1)
 
--- an operator without an operand
-abbrev pub plain_front : Option PlainKind → Result (Operator × ℕ) BadCode
-plain_front None = Err Unknown
-plain_front (Some kind) = Ok (Plain kind, 1)
+-- the same where the kind may be none
+abbrev pub known_front : Option OperatorKind → ℕ → ℕ → ℕ → List ℕ → Result (Operator × ℕ) BadCode
+known_front None count level first rest = Err Unknown
+known_front (Some kind) count level first rest = operator_front kind count level first rest
 
--- an operator without a couple, of which this is the first syllable
-unfoldable pub code_front : ℕ → ℕ → List ℕ → Result (Operator × ℕ) BadCode
-code_front count code rest =
-    if nat_eq code 0xa0 then place_front rest >>= (λ place. Ok (Branch Brfl place, 3))
-    else (if nat_eq code 0xa1 then place_front rest >>= (λ place. Ok (Branch Brtr place, 3))
-    else (if nat_eq code 0xa2 then place_front rest >>= (λ place. Ok (Branch Brun place, 3))
-    else (if nat_eq code 0xb2 then byte_front rest >>= (λ n. Ok (Lt8 n, 2))
-    else (if nat_eq code 0xb3 then place_front rest >>= (λ n. Ok (Lt16 n, 3))
-    else (if nat_eq code 0xbe then word_front count rest >>= (λ n. Ok (Lt48 n, 7 + count))
-    else (if nat_eq code 0xbf then word_front count rest >>= (λ n. Ok (Mpcw n, 7 + count))
-    else plain_front (kind_of code)))))))
+-- the code in an operator's first syllable: the first two bits where it begins with a 0 bit, else the whole
+abbrev pub code_in : ℕ → ℕ
+code_in first = if nat_lt first 0x80 then first / 2 ^ 6 * 2 ^ 6 else first
 
--- the operator at the front of these syllables, whatever level its couple names, and how many syllables it is;
--- after its first syllable come so many until the word is full
+-- the operator at the front of these syllables, whatever level its couple names
 unfoldable pub front : ℕ → ℕ → List ℕ → Result (Operator × ℕ) BadCode
 front count level [] = Err CutShort
-front count level (code ∷ rest) =
-    if nat_lt code 0x80 then couple_front level code rest else code_front count code rest
+front count level (first ∷ rest) = known_front (kind_with (code_in first)) count level first rest
 
 -- the operator that stands at this place, and the place after it, or why none does
 unfoldable pub decoded : List ℕ → ℕ → ℕ → Result (Operator × ℕ) BadCode

@@ -1,3 +1,5 @@
+pub mod Positions
+pub mod Intrinsics
 pub mod Codes
 pub mod Spelling
 pub mod Decoding

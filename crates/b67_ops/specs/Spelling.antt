@@ -1,6 +1,8 @@
 use Rattle.std.specs.Prelude.{◌≡◌, ℕ, ◌+◌, ◌-◌, ◌*◌, ◌%◌, ◌^◌, ◌<◌, ◌≤◌, nat_le, List, [], ◌∷◌, ◌++◌, length, drop, replicate, if◌then◌else◌}
 use Rattle.std.specs.Int.{w16, to_be_bytes, bytes_high_first}
-use Rattle.b67_ops.specs.Codes.{code_of, branch_code}
+use Rattle.b67_ops.specs.Codes.{code_of}
+use Rattle.b67_ops.specs.declared.table.OperatorKind.{OperatorKind}
+use Rattle.b67_ops.specs.declared.table.OperatorKind.TheVariants as kinds
 use Rattle.b67_ops.specs.declared.Couple.{Couple}
 use Rattle.b67_ops.specs.declared.Operator.{Operator}
 use Rattle.b67_ops.specs.declared.Operator.TheVariants.{Valc, Namc, Lt8, Lt16, Lt48, Mpcw, Branch, Plain}
@@ -23,16 +25,38 @@ couple_bits level couple = couple.level * 2 ^ index_bits level + couple.index
 abbrev pub filling : ℕ → ℕ
 filling at = 5 - at % 6
 
+-- an operator without its operand
+abbrev pub kind_of : Operator → OperatorKind
+kind_of (Valc couple) = kinds.Valc
+kind_of (Namc couple) = kinds.Namc
+kind_of (Lt8 n) = kinds.Lt8
+kind_of (Lt16 n) = kinds.Lt16
+kind_of (Lt48 n) = kinds.Lt48
+kind_of (Mpcw n) = kinds.Mpcw
+kind_of (Branch kind place) = kinds.Branch kind
+kind_of (Plain kind) = kinds.Plain kind
+
+-- two syllables: two bits of a code, and then the 14 bits of a couple
+abbrev pub couple_spelling : ℕ → ℕ → Couple → List ℕ
+couple_spelling code level couple = to_be_bytes w16 (code * 2 ^ 8 + couple_bits level couple)
+
+-- a code, and then two syllables, or the next whole word
+abbrev pub place_spelling : ℕ → ℕ → List ℕ
+place_spelling code place = code ∷ to_be_bytes w16 place
+
+abbrev pub word_spelling : ℕ → ℕ → ℕ → List ℕ
+word_spelling at code word = code ∷ (replicate (filling at) 0 ++ bytes_high_first 6 word)
+
 -- the one spelling of an operator that begins at this place, where the current level is this one
 abbrev pub spelling : ℕ → ℕ → Operator → List ℕ
-spelling at level (Valc couple) = to_be_bytes w16 (couple_bits level couple)
-spelling at level (Namc couple) = to_be_bytes w16 (2 ^ 14 + couple_bits level couple)
-spelling at level (Lt8 n) = 0xb2 ∷ n ∷ []
-spelling at level (Lt16 n) = 0xb3 ∷ to_be_bytes w16 n
-spelling at level (Lt48 n) = 0xbe ∷ (replicate (filling at) 0 ++ bytes_high_first 6 n)
-spelling at level (Mpcw n) = 0xbf ∷ (replicate (filling at) 0 ++ bytes_high_first 6 n)
-spelling at level (Branch kind place) = branch_code kind ∷ to_be_bytes w16 place
-spelling at level (Plain kind) = code_of kind ∷ []
+spelling at level (Valc couple) = couple_spelling (code_of kinds.Valc) level couple
+spelling at level (Namc couple) = couple_spelling (code_of kinds.Namc) level couple
+spelling at level (Lt8 n) = code_of kinds.Lt8 ∷ n ∷ []
+spelling at level (Lt16 n) = place_spelling (code_of kinds.Lt16) n
+spelling at level (Lt48 n) = word_spelling at (code_of kinds.Lt48) n
+spelling at level (Mpcw n) = word_spelling at (code_of kinds.Mpcw) n
+spelling at level (Branch kind place) = place_spelling (code_of (kinds.Branch kind)) place
+spelling at level (Plain kind) = code_of (kinds.Plain kind) ∷ []
 
 -- a couple that can be spelled at this level, whether or not its own level is above it
 pub record IsSpelled (level : ℕ) (couple : Couple) : Type 0 where

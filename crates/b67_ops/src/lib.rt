@@ -13,13 +13,23 @@
 ghost use Rattle.std.specs.Prelude.{◌≡◌, ℕ, ◌+◌, ◌-◌, ◌*◌, ◌/◌, ◌%◌, ◌^◌, ◌<◌, ◌≤◌, ◌++◌, length, ◌∷◌, replicate, OnOk, OnErr, IfOk, ◌↔◌, nat_eq, if◌then◌else◌};
 ghost use Rattle.std.specs.List.{list_all};
 ghost use Rattle.std.specs.Int.{w16, to_be_bytes, bytes_high_first};
-ghost use Rattle.b67_ops.specs.Codes.{branch_code, code_of, kind_of};
-ghost use Rattle.b67_ops.specs.Spelling.{index_bits, couple_bits, filling, spelling, IsSeen, Fits, level_named, Stands};
+ghost use Rattle.b67_ops.specs.Spelling.{kind_of, index_bits, couple_bits, couple_spelling, filling, spelling, IsSeen, Fits, level_named, Stands};
 ghost use Rattle.b67_ops.specs.Refusals.{IsCutShort, NamesLevelAbove, IsUnknown};
 ghost use Rattle.b67_ops.specs.declared.Operator.{Operator};
-ghost use Rattle.b67_ops.specs.Decoding.{couple_of, byte_front, place_front, six_front, word_front, couple_front, code_front, front, decoded};
+ghost use Rattle.b67_ops.specs.Decoding.{couple_of, byte_front, place_front, six_front, word_front, couple_front, code_in, operator_front, front, decoded};
 
+mod intrinsic;
+mod table;
+
+pub use intrinsic::{FIRST_INTRINSIC, Intrinsic, LAST_INTRINSIC};
 use std::alloc::AllocError;
+pub use table::{OperatorKind, operators_are_told_apart};
+
+/// The level of the outer block: the program's own, under which level 0 is the system's.
+pub const OUTER_LEVEL: u8 = 2;
+
+/// The deepest level that a block can have: a couple has five bits for it.
+pub const MOST_LEVEL: u8 = 31;
 
 /// Where a cell is found: in the block of this level that can be seen, at this index.
 #[derive(Clone, Copy, PartialEq, Eq, Debug)]
@@ -28,95 +38,94 @@ pub struct Couple {
     pub index: u16,
 }
 
-/// The operators that go to a place of their segment, by their codes.
+/// The operators that go to a place of their segment.
 #[derive(Clone, Copy, PartialEq, Eq, Debug)]
 pub enum BranchKind {
     /// Goes there where the word popped is false.
-    Brfl = 0xa0,
+    Brfl,
     /// Goes there where the word popped is true.
-    Brtr = 0xa1,
+    Brtr,
     /// Goes there always.
-    Brun = 0xa2,
+    Brun,
 }
 
-/// The operators that have no operand, by their codes. Codes and effects are this project's profile
-/// of the B6700.
+/// The operators that have no operand. Their effects are this project's profile of the B6700.
 #[derive(Clone, Copy, PartialEq, Eq, Debug)]
 pub enum PlainKind {
     /// Replaces the two whole numbers on top by their sum.
-    Add = 0x80,
+    Add,
     /// By their difference, of the lower one and the top one.
-    Subt = 0x81,
+    Subt,
     /// By their product.
-    Mult = 0x82,
+    Mult,
     /// By their quotient, which has to be whole.
-    Divd = 0x84,
+    Divd,
     /// By their quotient without its fraction.
-    Idiv = 0x85,
+    Idiv,
     /// By their remainder.
-    Rdiv = 0x86,
+    Rdiv,
     /// Replaces the two whole numbers on top by 1 where the lower one is less, else by 0.
-    Less = 0x88,
+    Less,
     /// By 1 where it is greater or equal.
-    Greq = 0x89,
+    Greq,
     /// By 1 where it is greater.
-    Grtr = 0x8a,
+    Grtr,
     /// By 1 where it is less or equal.
-    Lseq = 0x8b,
+    Lseq,
     /// By 1 where they are equal.
-    Equl = 0x8c,
+    Equl,
     /// By 1 where they are not equal.
-    Neql = 0x8d,
+    Neql,
     /// Changes the sign of the number on top.
-    Chsn = 0x8e,
+    Chsn,
     /// Replaces the two operands on top by those bits that both have.
-    Land = 0x90,
+    Land,
     /// By those bits that either has.
-    Lor = 0x91,
+    Lor,
     /// Exchanges the bits of the operand on top.
-    Lnot = 0x92,
+    Lnot,
     /// Replaces the two operands on top by those bits in which they agree.
-    Leqv = 0x93,
+    Leqv,
     /// Leaves a procedure.
-    Exit = 0xa3,
+    Exit,
     /// Indexes an array of rows, and leaves the row's descriptor.
-    Nxln = 0xa5,
+    Nxln,
     /// Indexes an array, and leaves an indexed descriptor.
-    Indx = 0xa6,
+    Indx,
     /// Leaves a procedure with a result.
-    Retn = 0xa7,
+    Retn,
     /// Enters a procedure, or does what an intrinsic does.
-    Entr = 0xab,
+    Entr,
     /// Makes of a reference the cell that it leads to.
-    Eval = 0xac,
+    Eval,
     /// Indexes an array, and leaves the element.
-    Nxlv = 0xad,
+    Nxlv,
     /// Marks the stack, before a call's parameters.
-    Mkst = 0xae,
+    Mkst,
     /// Makes of a couple a reference that holds in any stack.
-    Stff = 0xaf,
+    Stff,
     /// Pushes 0.
-    Zero = 0xb0,
+    Zero,
     /// Pushes 1.
-    One = 0xb1,
+    One,
     /// Makes cells of what the block has pushed.
-    Push = 0xb4,
+    Push,
     /// Drops the word on top.
-    Dlet = 0xb5,
+    Dlet,
     /// Exchanges the two words on top.
-    Exch = 0xb6,
+    Exch,
     /// Pushes the word on top again.
-    Dupl = 0xb7,
+    Dupl,
     /// Stores the word on top, and drops it.
-    Stod = 0xb8,
+    Stod,
     /// Stores the word on top, and keeps it.
-    Ston = 0xb9,
+    Ston,
     /// Loads the word that a reference names, as it is.
-    Lodt = 0xbc,
+    Lodt,
     /// Loads the operand that a reference leads to.
-    Load = 0xbd,
+    Load,
     /// Does nothing.
-    Noop = 0xfe,
+    Noop,
 }
 
 /// An operator with its operand.
@@ -140,6 +149,24 @@ pub enum Operator {
     Plain(PlainKind),
 }
 
+impl Operator {
+    /// The operator without its operand.
+    pub fn kind(&self) -> OperatorKind
+        ensures { result ≡ kind_of self.now }
+    {
+        match *self {
+            Operator::Valc(_) => OperatorKind::Valc,
+            Operator::Namc(_) => OperatorKind::Namc,
+            Operator::Lt8(_) => OperatorKind::Lt8,
+            Operator::Lt16(_) => OperatorKind::Lt16,
+            Operator::Lt48(_) => OperatorKind::Lt48,
+            Operator::Mpcw(_) => OperatorKind::Mpcw,
+            Operator::Branch(kind, _) => OperatorKind::Branch(kind),
+            Operator::Plain(kind) => OperatorKind::Plain(kind),
+        }
+    }
+}
+
 /// Why no operator stands at a place.
 #[derive(Clone, Copy, PartialEq, Eq, Debug)]
 pub enum BadCode {
@@ -150,18 +177,6 @@ pub enum BadCode {
     /// The operator's couple names a level above the current one.
     BadLevel,
 }
-
-/// The first two bits of `NAMC`, in a number of two syllables.
-const NAMC: u16 = 1 << 14;
-
-/// The first syllable of each operator with a literal.
-const LT8: u8 = 0xb2;
-
-const LT16: u8 = 0xb3;
-
-const LT48: u8 = 0xbe;
-
-const MPCW: u8 = 0xbf;
 
 /// How many of the 14 bits of a couple are left for its index.
 #[tactic(auto, unfolding(crate::specs::Spelling::level_bits))]
@@ -179,78 +194,26 @@ fn index_bits(level: u8) -> u16
     }
 }
 
-/// The code of a branch.
-#[tactic(auto, unfolding(crate::specs::Codes::branch_code))]
-fn branch_code(kind: BranchKind) -> u8
-    ensures { result ≡ branch_code kind }
-{
-    kind as u8
-}
-
-/// The code of an operator without an operand.
-#[tactic(auto, unfolding(crate::specs::Codes::code_of))]
-fn code(kind: PlainKind) -> u8
-    ensures { result ≡ code_of kind }
-{
-    kind as u8
-}
-
-/// The operator without an operand that has this code.
-#[tactic(auto, unfolding(crate::specs::Codes::code_of, crate::specs::Codes::kind_of))]
-fn kind(code: u8) -> Option<PlainKind>
-    ensures { result ≡ kind_of code }
-{
-    let kind = match code {
-        0x80 => PlainKind::Add,
-        0x81 => PlainKind::Subt,
-        0x82 => PlainKind::Mult,
-        0x84 => PlainKind::Divd,
-        0x85 => PlainKind::Idiv,
-        0x86 => PlainKind::Rdiv,
-        0x88 => PlainKind::Less,
-        0x89 => PlainKind::Greq,
-        0x8a => PlainKind::Grtr,
-        0x8b => PlainKind::Lseq,
-        0x8c => PlainKind::Equl,
-        0x8d => PlainKind::Neql,
-        0x8e => PlainKind::Chsn,
-        0x90 => PlainKind::Land,
-        0x91 => PlainKind::Lor,
-        0x92 => PlainKind::Lnot,
-        0x93 => PlainKind::Leqv,
-        0xa3 => PlainKind::Exit,
-        0xa5 => PlainKind::Nxln,
-        0xa6 => PlainKind::Indx,
-        0xa7 => PlainKind::Retn,
-        0xab => PlainKind::Entr,
-        0xac => PlainKind::Eval,
-        0xad => PlainKind::Nxlv,
-        0xae => PlainKind::Mkst,
-        0xaf => PlainKind::Stff,
-        0xb0 => PlainKind::Zero,
-        0xb1 => PlainKind::One,
-        0xb4 => PlainKind::Push,
-        0xb5 => PlainKind::Dlet,
-        0xb6 => PlainKind::Exch,
-        0xb7 => PlainKind::Dupl,
-        0xb8 => PlainKind::Stod,
-        0xb9 => PlainKind::Ston,
-        0xbc => PlainKind::Lodt,
-        0xbd => PlainKind::Load,
-        0xfe => PlainKind::Noop,
-        _ => return None,
-    };
-    Some(kind)
-}
-
 /// A couple as a number of 14 bits, with the level above the index.
 fn couple_bits(couple: Couple, level: u8) -> u16
-    requires level { level ≤ 31 }
+    requires level { level ≤ MOST_LEVEL }
     requires seen { IsSeen level couple }
     ensures value { result ≡ couple_bits level couple }
     ensures most { result < 2 ^ 14 }
 {
     u16::from(couple.level) << index_bits(level) | couple.index
+}
+
+/// Appends an operator that is the first two bits of a code, and a couple.
+fn push_couple(out: &mut Vec<u8>, code: u8, couple: Couple, level: u8) -> Result<(), AllocError>
+    requires level { level ≤ MOST_LEVEL }
+    requires seen { IsSeen level couple }
+    requires code { code < 0x80 }
+    ensures ok { OnOk result (out.new.items ≡ out.old.items ++ couple_spelling code level couple) }
+    ensures err { OnErr result (out.new.items ≡ out.old.items) }
+{
+    let first = u16::from(code) << 8;
+    out.extend_from_slice(&(first + couple_bits(couple, level)).to_be_bytes())
 }
 
 /// Appends an operator that is a code and two syllables.
@@ -278,23 +241,19 @@ fn push_word(out: &mut Vec<u8>, code: u8, word: u64) -> Result<(), AllocError>
 /// Appends the one spelling of an operator, where the current level is this one. On `Err` nothing
 /// is appended.
 pub fn encode(op: &Operator, level: u8, out: &mut Vec<u8>) -> Result<(), AllocError>
-    requires level { level ≤ 31 }
+    requires level { level ≤ MOST_LEVEL }
     requires fits { Fits level op.now }
     ensures ok { OnOk result (out.new.items
         ≡ out.old.items ++ spelling (length out.old.items) level op.now) }
     ensures err { OnErr result (out.new.items ≡ out.old.items) }
 {
+    let code = op.kind().code();
     match *op {
-        Operator::Valc(couple) => out.extend_from_slice(&couple_bits(couple, level).to_be_bytes()),
-        Operator::Namc(couple) => {
-            out.extend_from_slice(&(NAMC + couple_bits(couple, level)).to_be_bytes())
-        }
-        Operator::Lt8(n) => out.extend_from_slice(&[LT8, n]),
-        Operator::Lt16(n) => push_place(out, LT16, n),
-        Operator::Lt48(word) => push_word(out, LT48, word),
-        Operator::Mpcw(word) => push_word(out, MPCW, word),
-        Operator::Branch(kind, place) => push_place(out, branch_code(kind), place),
-        Operator::Plain(kind) => out.extend_from_slice(&[code(kind)]),
+        Operator::Valc(couple) | Operator::Namc(couple) => push_couple(out, code, couple, level),
+        Operator::Lt8(n) => out.extend_from_slice(&[code, n]),
+        Operator::Lt16(n) | Operator::Branch(_, n) => push_place(out, code, n),
+        Operator::Lt48(word) | Operator::Mpcw(word) => push_word(out, code, word),
+        Operator::Plain(_) => out.extend_from_slice(&[code]),
     }
 }
 
@@ -366,40 +325,43 @@ fn couple_in(n: u16, level: u8) -> Couple
     }
 }
 
-/// The operator with a couple of which this is the first syllable, and how many syllables it is.
+/// The couple of an operator with this first syllable.
 #[tactic(auto, unfolding(crate::specs::Decoding::couple_front))]
-fn read_couple(code: u8, rest: &[u8], level: u8) -> Result<(Operator, usize), BadCode>
-    ensures value { result ≡ couple_front level code rest.now }
-    ensures length { IfOk result (λ found. found.1 ≤ 12) }
+fn read_couple(first: u8, rest: &[u8], level: u8) -> Result<Couple, BadCode>
+    ensures { result ≡ couple_front level first rest.now }
 {
-    let n = u16::from_be_bytes([code, byte(rest)?]);
-    let couple = couple_in(n, level);
-    if n < 1 << 14 {
-        Ok((Operator::Valc(couple), 2))
-    } else {
-        Ok((Operator::Namc(couple), 2))
-    }
+    let n = u16::from_be_bytes([first, byte(rest)?]);
+    Ok(couple_in(n, level))
 }
 
-/// The operator without a couple of which this is the first syllable, and how many syllables it is.
-#[tactic(auto, unfolding(crate::specs::Decoding::code_front))]
-fn read_code(code: u8, rest: &[u8], filling: usize) -> Result<(Operator, usize), BadCode>
+/// The code in the first syllable of an operator.
+fn code_in(first: u8) -> u8
+    ensures { result ≡ code_in first }
+{
+    if first < 0x80 { first >> 6 << 6 } else { first }
+}
+
+/// The operator of this kind that has this first syllable, and how many syllables it is.
+fn with_operand(
+    kind: OperatorKind,
+    first: u8,
+    rest: &[u8],
+    level: u8,
+    filling: usize,
+) -> Result<(Operator, usize), BadCode>
     requires { filling < 6 }
-    ensures value { result ≡ code_front filling code rest.now }
+    ensures value { result ≡ operator_front kind filling level first rest.now }
     ensures length { IfOk result (λ found. found.1 ≤ 12) }
 {
-    match code {
-        0xa0 => Ok((Operator::Branch(BranchKind::Brfl, place(rest)?), 3)),
-        0xa1 => Ok((Operator::Branch(BranchKind::Brtr, place(rest)?), 3)),
-        0xa2 => Ok((Operator::Branch(BranchKind::Brun, place(rest)?), 3)),
-        LT8 => Ok((Operator::Lt8(byte(rest)?), 2)),
-        LT16 => Ok((Operator::Lt16(place(rest)?), 3)),
-        LT48 => Ok((Operator::Lt48(word(rest, filling)?), 7 + filling)),
-        MPCW => Ok((Operator::Mpcw(word(rest, filling)?), 7 + filling)),
-        _ => match kind(code) {
-            Some(kind) => Ok((Operator::Plain(kind), 1)),
-            None => Err(BadCode::Unknown),
-        },
+    match kind {
+        OperatorKind::Valc => Ok((Operator::Valc(read_couple(first, rest, level)?), 2)),
+        OperatorKind::Namc => Ok((Operator::Namc(read_couple(first, rest, level)?), 2)),
+        OperatorKind::Lt8 => Ok((Operator::Lt8(byte(rest)?), 2)),
+        OperatorKind::Lt16 => Ok((Operator::Lt16(place(rest)?), 3)),
+        OperatorKind::Lt48 => Ok((Operator::Lt48(word(rest, filling)?), 7 + filling)),
+        OperatorKind::Mpcw => Ok((Operator::Mpcw(word(rest, filling)?), 7 + filling)),
+        OperatorKind::Branch(kind) => Ok((Operator::Branch(kind, place(rest)?), 3)),
+        OperatorKind::Plain(kind) => Ok((Operator::Plain(kind), 1)),
     }
 }
 
@@ -422,12 +384,9 @@ fn decode_at(bytes: &[u8], at: usize, level: u8) -> Result<(Operator, usize), Ba
         return Err(BadCode::CutShort);
     }
     let (_, rest) = bytes.split_at(at);
-    let code = rest[0];
-    let (operator, length) = if code < 0x80 {
-        read_couple(code, &rest[1..], level)?
-    } else {
-        read_code(code, &rest[1..], 5 - at % 6)?
-    };
+    let first = rest[0];
+    let kind = OperatorKind::with_code(code_in(first)).ok_or(BadCode::Unknown)?;
+    let (operator, length) = with_operand(kind, first, &rest[1..], level, 5 - at % 6)?;
     if named(&operator) > level {
         return Err(BadCode::BadLevel);
     }
@@ -437,7 +396,7 @@ fn decode_at(bytes: &[u8], at: usize, level: u8) -> Result<(Operator, usize), Ba
 /// The operator that stands at this place of the code, where the current level is this one, and the
 /// place after it.
 pub fn decode(bytes: &[u8], at: usize, level: u8) -> Result<(Operator, usize), BadCode>
-    requires { level ≤ 31 }
+    requires { level ≤ MOST_LEVEL }
 
     // The answer as a function of the code.
     ensures value { result ≡ decoded bytes.now at level }
@@ -466,7 +425,7 @@ mod tests {
 
     /// What an operator is spelled as at the start of the code.
     fn spelled(alloc: Global, op: Operator, level: u8) -> Result<Vec<u8>, AllocError>
-        requires level { level ≤ 31 }
+        requires level { level ≤ MOST_LEVEL }
         requires fits { Fits level op }
         ensures { IfOk result (λ bytes. bytes.items ≡ spelling 0 level op) }
     {
@@ -508,10 +467,13 @@ mod tests {
             code.as_slice(),
             [0xb0, 0xb5, 0xbe, 0, 0, 0, 0, 0x7f, 0xff, 0xff, 0xff, 0xff].as_slice()
         );
-        assert_eq!(rt;
-            decode(code.as_slice(), 2, 2),
-            Ok((Operator::Lt48(549755813887), 12))
-        );
+        let literal = Operator::Lt48(549755813887);
+        assert_eq!(rt; decode(code.as_slice(), 2, 2), Ok((literal, 12)));
+        assert_eq!(rt; literal.kind().name(), "LT48");
+        assert_eq!(rt; OperatorKind::Branch(BranchKind::Brfl).name(), "BRFL");
+        assert_eq!(rt; OperatorKind::with_code(0x83), None);
+        assert_eq!(rt; Intrinsic::Liberate.number(), 13);
+        assert_eq!(rt; Intrinsic::Write.couple(), Couple { level: 0, index: 7 });
         let bad = [0xb0, 0xb5, 0xbe, 1, 0, 0, 0, 0x7f, 0xff, 0xff, 0xff, 0xff];
         assert_eq!(rt; decode(&bad, 2, 2), Err(BadCode::Unknown));
         assert_eq!(rt; decode(&bad[..4], 2, 2), Err(BadCode::Unknown));

@@ -1,6 +1,8 @@
 -- The action operators in an image of the picture.
 use Rattle.std.proofs.Common.{◌≡◌, ℕ, ◌+◌, ◌-◌, ◌<◌, List, [], ◌∷◌, ◌++◌, length, take, Option, Some, false, refl, sym, ap, ◌∙◌, arith, ℤ, Result, zero-add}
 use Rattle.std.specs.Prelude.{slice_get, slice_set, if◌then◌else◌, ◌&&◌, ◌==◌}
+use Rattle.algol_tree.specs.declared.TheConstants.{MOST_BLOCK_CELLS}
+use Rattle.b67_store.specs.declared.TheConstants.{MOST_STACK_WORDS}
 use Rattle.b67_word.specs.declared.Place.{Place}
 use Rattle.b67_word.specs.Word.{Word, operand}
 use Rattle.b67_word.proofs.WordLaws.{operand-tag}
@@ -12,14 +14,15 @@ use Rattle.b67_ops.specs.declared.Operator.{Operator}
 use Rattle.b67_ops.specs.declared.Operator.TheVariants as ops
 use Rattle.b67_ops.specs.declared.PlainKind.TheVariants as kinds
 use Rattle.b67_ops.specs.declared.BadCode.{BadCode}
+use Rattle.b67_ops.specs.declared.TheConstants.{OUTER_LEVEL}
 use Rattle.b67_segment.specs.declared.code.Code.{Code}
-use Rattle.b67_table.specs.Effect.{gives, limit}
-use Rattle.b67_table.specs.Image.{Image}
-use Rattle.b67_table.specs.declared.InterruptKind.TheVariants.{StackUnderflow}
-use Rattle.b67_table.specs.Program.{Program, does, done, interrupt, load, cut, push, save, registers as set_registers}
-use Rattle.b67_table.specs.Rows.{action_op, value_call, with_word, one_sirw, if_operand, store, stored, reference_place, irw_or_sirw, invalid}
-use Rattle.b67_table.specs.Table.{table, plain, by_class, is_private, private_at, is_gives, system_stack}
-use Rattle.b67_table.specs.Runs.{Acts, acts}
+use Rattle.b67_first_table.specs.Effect.{gives, limit}
+use Rattle.b67_first_table.specs.Image.{Image}
+use Rattle.b67_first_table.specs.declared.InterruptKind.TheVariants.{StackUnderflow}
+use Rattle.b67_first_table.specs.Program.{Program, does, done, interrupt, load, cut, push, save, registers as set_registers}
+use Rattle.b67_first_table.specs.Rows.{action_op, value_call, with_word, one_sirw, if_operand, store, stored, reference_place, irw_or_sirw, invalid}
+use Rattle.b67_first_table.specs.Table.{table, plain, by_class, is_private, private_at, is_gives, system_stack}
+use Rattle.b67_first_table.specs.Runs.{Acts, acts}
 use Rattle.b67_relate.specs.Code.{Has}
 use Rattle.b67_relate.specs.Picture.{At, stack, registers, image, Sized, reference_word}
 use Rattle.b67_relate.proofs.StackWords.{stack-cons, top-stack, under-stack, cell-stack, set-stack, cut-stack-two, length-stack, length-slice_set}
@@ -49,7 +52,7 @@ module _ (most : ℕ) (laws : WordLaws) (code : Code) (values : List ℤ) (outpu
     push_it w = push 1 w (set_registers (registers (length values) (pushed at w next)) done)
 
     value_does : (v : ℤ) → Sized most values at → slice_get values k ≡ Some v →
-        does 1 (value_call (registers (length values) at) next (record { level = 2; index = 2 + k })) (image values output at) ≡ gives (image values output (pushed at (operand v) next))
+        does 1 (value_call (registers (length values) at) next (record { level = OUTER_LEVEL; index = 2 + k })) (image values output at) ≡ gives (image values output (pushed at (operand v) next))
     value_does v sized is =
         let img : Image = image values output at in
         ap (λ n. does 1 (with_word (slice_get (stack values at.operands) n) (λ (w : Word). one_sirw (as_sirw w) w (λ (x : Word). if_operand x (push_it x)))) img) (zero-add (2 + k))
@@ -57,15 +60,15 @@ module _ (most : ℕ) (laws : WordLaws) (code : Code) (values : List ℤ) (outpu
         ∙ ap (λ (o : Option Sirw). does 1 (one_sirw o (operand v) (λ (x : Word). if_operand x (push_it x))) img) (laws.operand_no_sirw v)
         ∙ ap (λ t. does 1 (if t == 0 then push_it (operand v) else invalid) img) (operand-tag v)
         ∙ ap (λ b. if b then gives (record (image values output (pushed at (operand v) next)) { stacks = Some system_stack ∷ Some (stack values at.operands ++ operand v ∷ []) ∷ [] }) else limit)
-        (below_is (length (stack values at.operands)) 65536 (omega (arith, length-stack values at.operands, sized.few, sized.room, sized.small)))
+        (below_is (length (stack values at.operands)) MOST_STACK_WORDS (omega (arith, length-stack values at.operands, sized.few, sized.room, sized.small)))
         ∙ ap (λ ws. gives (record (image values output (pushed at (operand v) next)) { stacks = Some system_stack ∷ Some ws ∷ [] })) (sym (stack-cons values (operand v) at.operands))
 
-  pub value_step : (at : At) (k next : ℕ) (v : ℤ) → Sized most values at → slice_get values k ≡ Some v → Has code at.place (ops.Valc (record { level = 2; index = 2 + k })) next →
+  pub value_step : (at : At) (k next : ℕ) (v : ℤ) → Sized most values at → slice_get values k ≡ Some v → Has code at.place (ops.Valc (record { level = OUTER_LEVEL; index = 2 + k })) next →
       Acts code 1 (image values output at) (image values output (pushed at (operand v) next))
   unfolding action_op
   value_step at k next v sized is has =
-      acts (not_plain at (ops.Valc (record { level = 2; index = 2 + k })) next has refl)
-      (action_at at (ops.Valc (record { level = 2; index = 2 + k })) next has refl ∙ value_does at k next v sized is)
+      acts (not_plain at (ops.Valc (record { level = OUTER_LEVEL; index = 2 + k })) next has refl)
+      (action_at at (ops.Valc (record { level = OUTER_LEVEL; index = 2 + k })) next has refl ∙ value_does at k next v sized is)
 
   -- ---- an operand is stored in a cell
 
@@ -74,7 +77,7 @@ module _ (most : ℕ) (laws : WordLaws) (code : Code) (values : List ℤ) (outpu
   dropped at below next = record { place = next; s = at.s - 2; f = at.f; operands = below }
 
   module _ (at : At) (below : List Word) (k next : ℕ) (v old : ℤ) (sized : Sized most values at) (top : at.operands ≡ operand v ∷ reference_word k ∷ below)
-      (few : k < 400) (is : slice_get values k ≡ Some old) where
+      (few : k < MOST_BLOCK_CELLS) (is : slice_get values k ≡ Some old) where
     abbrev r : Registers
     r = registers (length values) at
 
@@ -150,7 +153,7 @@ module _ (most : ℕ) (laws : WordLaws) (code : Code) (values : List ℤ) (outpu
         ∙ ap (λ t. does 1 (if t == 0 then keep else invalid) img) (operand-tag old)
         ∙ kept
 
-  pub store_step : (at : At) (below : List Word) (k next : ℕ) (v old : ℤ) → Sized most values at → at.operands ≡ operand v ∷ reference_word k ∷ below → k < 400 → slice_get values k ≡ Some old →
+  pub store_step : (at : At) (below : List Word) (k next : ℕ) (v old : ℤ) → Sized most values at → at.operands ≡ operand v ∷ reference_word k ∷ below → k < MOST_BLOCK_CELLS → slice_get values k ≡ Some old →
       Has code at.place (ops.Plain kinds.Stod) next → Acts code 1 (image values output at) (image (slice_set values k v) output (dropped at below next))
   unfolding action_op
   store_step at below k next v old sized top few is has =

@@ -2,8 +2,8 @@
 use Rattle.std.proofs.Common.{◌≡◌, Some, None, Bool, true, false, refl}
 use Rattle.std.specs.Prelude.{◌&&◌}
 use Rattle.b67_num.specs.declared.FaultKind.{FaultKind}
-use Rattle.b67_table.specs.declared.InterruptKind.{InterruptKind}
-use Rattle.b67_table.specs.Effect.{Effect, gives, faults, interrupts, limit}
+use Rattle.b67_first_table.specs.declared.InterruptKind.{InterruptKind}
+use Rattle.b67_first_table.specs.Effect.{Effect, gives, faults, interrupts, limit}
 
 pub true_false : {B : Type 0} {x : Bool} → x ≡ true → x ≡ false → B
 true_false e f = cc

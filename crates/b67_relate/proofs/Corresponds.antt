@@ -4,11 +4,11 @@ use Rattle.b67_num.specs.declared.FaultKind.{FaultKind}
 use Rattle.b67_ops.specs.declared.Operator.{Operator}
 use Rattle.b67_ops.specs.declared.BadCode.{BadCode}
 use Rattle.b67_segment.specs.declared.code.Code.{Code}
-use Rattle.algol_meaning.specs.Choice.{Action, Fault}
-use Rattle.b67_table.specs.Effect.{Effect, gives, faults}
-use Rattle.b67_table.specs.Image.{Image}
-use Rattle.b67_table.specs.Table.{table, failed}
-use Rattle.b67_table.specs.Runs.{Acts, acts, fails}
+use Rattle.algol_first_meaning.specs.Choice.{Action, Fault}
+use Rattle.b67_first_table.specs.Effect.{Effect, gives, faults}
+use Rattle.b67_first_table.specs.Image.{Image}
+use Rattle.b67_first_table.specs.Table.{table, failed}
+use Rattle.b67_first_table.specs.Runs.{Acts, acts, fails}
 use Rattle.b67_relate.specs.Code.{Has}
 use Rattle.b67_relate.specs.Picture.{At, image}
 use Rattle.b67_relate.specs.Correspondence.{action_of, action_by, fetched_action, operator_action}

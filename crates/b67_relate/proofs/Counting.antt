@@ -1,8 +1,8 @@
 -- Private operators only go forward in their segment, so that an entry has at most as many operators as the segment has syllables.
 use Rattle.std.proofs.Common.{◌≡◌, ℕ, ◌+◌, ◌-◌, ◌*◌, ◌<◌, ◌≤◌, List, ◌∷◌, length, Option, Some, None, Result, Ok, Err, Bool, true, false, refl, sym, ap, ◌∙◌, subst, arith, ℤ}
 use Rattle.std.specs.Prelude.{nat_lt, nat_le, slice_get, if◌then◌else◌}
+use Rattle.b67_store.specs.declared.TheConstants.{MOST_STACK_WORDS}
 use Rattle.b67_num.specs.declared.NumFault.{NumFault}
-use Rattle.b67_num.specs.Whole.{sum_of, difference_of}
 use Rattle.b67_word.specs.Word.{Word, operand}
 use Rattle.b67_control.specs.declared.Registers.{Registers}
 use Rattle.b67_ops.specs.declared.Operator.{Operator}
@@ -10,19 +10,20 @@ use Rattle.b67_ops.specs.declared.Operator.TheVariants as ops
 use Rattle.b67_ops.specs.declared.PlainKind.TheVariants as kinds
 use Rattle.b67_ops.specs.declared.BadCode.{BadCode}
 use Rattle.b67_ops.proofs.Laws.{decoded-within}
+use Rattle.b67_ops.specs.declared.TheConstants.{OUTER_LEVEL, MOST_LEVEL}
 use Rattle.b67_segment.specs.declared.code.Code.{Code}
 use Rattle.b67_segment.specs.declared.code.Segment.{Segment}
 use Rattle.b67_segment.specs.Syllables.{syllables}
 use Rattle.b67_segment.specs.Fetching.{fetched_from}
 use Rattle.b67_segment.proofs.Fetches.{syllables-bytes, length-syllables}
-use Rattle.b67_table.specs.declared.InterruptKind.TheVariants.{InvalidOperand, StackUnderflow, BadCode as bad_code}
+use Rattle.b67_first_table.specs.declared.InterruptKind.TheVariants.{InvalidOperand, StackUnderflow, BadCode as bad_code}
 use Rattle.b67_control.specs.Control.{mscw_word}
-use Rattle.b67_table.specs.Effect.{Effect, gives, faults, interrupts, limit, ◌>>=◌}
-use Rattle.b67_table.specs.Private.{Private, private_row, private_op, floor, pop, top, push, whole_of, result_or_fault, arithmetic, mark, make_cells, frame}
-use Rattle.b67_table.specs.Image.{Image, private_of, with_private}
-use Rattle.b67_table.specs.Table.{table, plain, private_next, by_registers, by_operator, by_class, is_gives, is_live, private_at, operator_at, is_private}
-use Rattle.b67_table.specs.Runs.{Plains, stay, go, Acts, acts, fails, Entry}
-use Rattle.algol_tree.specs.Numbered.{numbered, set_numbered}
+use Rattle.b67_first_table.specs.Effect.{Effect, gives, faults, interrupts, limit, ◌>>=◌}
+use Rattle.b67_first_table.specs.Private.{Private, private_row, private_op, floor, pop, top, push, whole_of, result_or_fault, arithmetic, mark, make_cells, frame}
+use Rattle.b67_first_table.specs.Image.{Image, private_of, with_private}
+use Rattle.b67_first_table.specs.Table.{table, plain, private_next, by_registers, by_operator, by_class, is_gives, is_live, private_at, operator_at, is_private}
+use Rattle.b67_first_table.specs.Runs.{Plains, stay, go, Acts, acts, fails, Entry}
+use Rattle.b67_list.specs.Numbered.{numbered, set_numbered}
 use Rattle.b67_relate.specs.Pictures.{Located}
 use Rattle.b67_relate.proofs.Contradictions.{first_true, gives_interrupts, faults_interrupts}
 
@@ -42,7 +43,7 @@ chain : {p q r : Private} → Keeps p q → Keeps q r → Keeps p r
 chain a b = record { segment = b.segment ∙ a.segment; level = b.level ∙ a.level }
 
 push_keeps : (w : Word) (p q : Private) → push w p ≡ gives q → Keeps p q
-push_keeps w p q e = by_room (nat_lt p.regs.s 65536) e
+push_keeps w p q e = by_room (nat_lt p.regs.s MOST_STACK_WORDS) e
   where
     by_room : (b : Bool) → (if b then gives (record { regs = record p.regs { s = p.regs.s + 1 }; words = w ∷ p.words }) else limit) ≡ gives q → Keeps p q
     by_room true h = kept (record { segment = refl; level = refl }) h
@@ -102,8 +103,12 @@ row_keeps (ops.Lt16 n) p q e = push_keeps _ p q e
 row_keeps (ops.Lt48 n) p q e = push_keeps _ p q e
 row_keeps (ops.Plain kinds.Zero) p q e = push_keeps _ p q e
 row_keeps (ops.Plain kinds.One) p q e = push_keeps _ p q e
-row_keeps (ops.Plain kinds.Add) p q e = arithmetic_keeps sum_of p q e
-row_keeps (ops.Plain kinds.Subt) p q e = arithmetic_keeps difference_of p q e
+row_keeps (ops.Plain kinds.Add) p q e = arithmetic_keeps _ p q e
+row_keeps (ops.Plain kinds.Subt) p q e = arithmetic_keeps _ p q e
+row_keeps (ops.Plain kinds.Mult) p q e = arithmetic_keeps _ p q e
+row_keeps (ops.Plain kinds.Divd) p q e = arithmetic_keeps _ p q e
+row_keeps (ops.Plain kinds.Idiv) p q e = arithmetic_keeps _ p q e
+row_keeps (ops.Plain kinds.Rdiv) p q e = arithmetic_keeps _ p q e
 row_keeps (ops.Plain kinds.Mkst) p q e = mark_keeps p q e
 row_keeps (ops.Plain kinds.Push) p q e = cells_keep p q e
 row_keeps (ops.Plain kinds.Noop) p q e = kept (record { segment = refl; level = refl }) e
@@ -126,13 +131,13 @@ size_of (Some segment) = 6 * length segment.words
 abbrev pub room : Code → ℕ
 room code = size_of (slice_get code.segments 0)
 
-fetched_within : (s : Option Segment) (place level : ℕ) (op : Operator) (next : ℕ) → level ≤ 31 → fetched_from s place level ≡ Ok (op, next) → (place < next) × (next ≤ size_of s)
+fetched_within : (s : Option Segment) (place level : ℕ) (op : Operator) (next : ℕ) → level ≤ MOST_LEVEL → fetched_from s place level ≡ Ok (op, next) → (place < next) × (next ≤ size_of s)
 fetched_within None place level op next most e = cc
 fetched_within (Some segment) place level op next most e =
     let within = decoded-within (syllables segment.words) place level most (syllables-bytes segment.words) (Ok (op, next)) e in
     (within.0, omega (arith, within.2, length-syllables segment.words))
 
-operator_within : (code : Code) (r : Registers) (op : Operator) (next : ℕ) → r.ll ≡ 2 → r.segment ≡ 0 → operator_at code r ≡ Ok (op, next) → (r.place < next) × (next ≤ room code)
+operator_within : (code : Code) (r : Registers) (op : Operator) (next : ℕ) → r.ll ≡ OUTER_LEVEL → r.segment ≡ 0 → operator_at code r ≡ Ok (op, next) → (r.place < next) × (next ≤ room code)
 operator_within code r op next level segment e =
     let same : fetched_from (slice_get code.segments 0) r.place r.ll ≡ Ok (op, next) = ap (λ (n : ℕ). fetched_from (slice_get code.segments n) r.place r.ll) (sym segment) ∙ e in
     fetched_within (slice_get code.segments 0) r.place r.ll op next (omega (arith, level)) same

@@ -6,7 +6,7 @@ use Rattle.algol_tree.specs.Plain.{PExpr, number, truth, variable, call, happene
 use Rattle.algol_tree.specs.Plain.{PStmt, empty, label, assign, call_of, go_to, block, if_then, if_else, while, until, for, thru, case, process, event, write, PStmts, no_stmts, stmts}
 use Rattle.algol_tree.specs.Reads.{program_of}
 use Rattle.algol_tree.specs.Counts.{expr_tokens, variable_tokens, call_tokens, stmt_tokens, stmts_tokens, program_tokens}
-use Rattle.algol_meaning.specs.Rest.{items}
+use Rattle.algol_first_meaning.specs.Rest.{items}
 use Rattle.b67_relate.specs.Picture.{depth, stmt_depth, AreShallow}
 
 variable_some : (v : PVariable) → 1 ≤ variable_tokens v

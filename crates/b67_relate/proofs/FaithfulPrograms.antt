@@ -4,18 +4,18 @@ use Rattle.std.specs.Prelude.{reverse, sum, slice_get, if◌then◌else◌}
 use Rattle.std.proofs.lemmas.List.{reverse-reverse, length-reverse}
 use Rattle.std.proofs.lemmas.List.Sums.{sum_by-cons}
 use Rattle.std.proofs.Math.Nat.{mul-le-mul_left, le-max_left}
-use Rattle.algol_tree.specs.Numbered.{numbered}
+use Rattle.b67_list.specs.Numbered.{numbered}
 use Rattle.algol_tree.specs.Plain.{PProgram}
 use Rattle.algol_tree.specs.Accepted.{Accepted}
 use Rattle.b67_segment.specs.declared.code.Code.{Code}
 use Rattle.b67_segment.specs.declared.code.Segment.{Segment}
-use Rattle.algol_meaning.specs.Run.{Legal}
-use Rattle.b67_table.specs.declared.ProcessState.{ProcessState}
-use Rattle.b67_table.specs.declared.InterruptKind.TheVariants.{BadCode as bad_code}
-use Rattle.b67_table.specs.Effect.{Effect, gives, interrupts}
-use Rattle.b67_table.specs.Image.{Image}
-use Rattle.b67_table.specs.Table.{table, by_registers, is_live}
-use Rattle.b67_table.specs.Runs.{Plains, stay, go, Tails, none, next, Runs, begin, entry, Entry, TableRun}
+use Rattle.algol_first_meaning.specs.Run.{Legal}
+use Rattle.b67_first_table.specs.declared.ProcessState.{ProcessState}
+use Rattle.b67_first_table.specs.declared.InterruptKind.TheVariants.{BadCode as bad_code}
+use Rattle.b67_first_table.specs.Effect.{Effect, gives, interrupts}
+use Rattle.b67_first_table.specs.Image.{Image}
+use Rattle.b67_first_table.specs.Table.{table, by_registers, is_live}
+use Rattle.b67_first_table.specs.Runs.{Plains, stay, go, Tails, none, next, Runs, begin, entry, Entry, TableRun}
 use Rattle.b67_relate.specs.Code.{ProgramAt}
 use Rattle.b67_relate.specs.Agreement.{Agrees}
 use Rattle.b67_relate.specs.Faithful.{longest, ProgramsAreFaithful}

@@ -1,7 +1,8 @@
 -- The stack of a run fits the weight that its world gives it.
 use Rattle.std.proofs.Common.{◌≡◌, ℕ, zero, suc, ◌+◌, ◌<◌, ◌≤◌, List, [], ◌∷◌, length, Some, Bool, true, false, refl, ap, arith, ℤ}
 use Rattle.std.specs.Prelude.{if◌then◌else◌}
-use Rattle.algol_tree.specs.Numbered.{numbered}
+use Rattle.b67_store.specs.declared.TheConstants.{MOST_STACK_WORDS}
+use Rattle.b67_list.specs.Numbered.{numbered}
 use Rattle.algol_tree.specs.Plain.{PProgram}
 use Rattle.algol_tree.specs.Counts.{program_tokens}
 use Rattle.b67_num.specs.declared.FaultKind.{FaultKind}
@@ -9,14 +10,14 @@ use Rattle.b67_control.specs.declared.Registers.{Registers}
 use Rattle.b67_num.specs.declared.NumFault.{NumFault}
 use Rattle.b67_num.specs.Whole.{fault_of}
 use Rattle.b67_segment.specs.declared.code.Code.{Code}
-use Rattle.algol_meaning.specs.Rest.{Rest}
-use Rattle.algol_meaning.specs.Choice.{with_fault}
-use Rattle.b67_table.specs.declared.ProcessState.{ProcessState}
-use Rattle.b67_table.specs.declared.ProcessState.TheVariants.{Able, Ended}
-use Rattle.b67_table.specs.declared.InterruptKind.TheVariants.{BadCode as bad_code}
-use Rattle.b67_table.specs.Effect.{Effect, faults, interrupts, limit}
-use Rattle.b67_table.specs.Image.{Image, stack_of}
-use Rattle.b67_table.specs.Table.{table, by_registers, is_live, failed}
+use Rattle.algol_first_meaning.specs.Rest.{Rest}
+use Rattle.algol_first_meaning.specs.Choice.{with_fault}
+use Rattle.b67_first_table.specs.declared.ProcessState.{ProcessState}
+use Rattle.b67_first_table.specs.declared.ProcessState.TheVariants.{Able, Ended}
+use Rattle.b67_first_table.specs.declared.InterruptKind.TheVariants.{BadCode as bad_code}
+use Rattle.b67_first_table.specs.Effect.{Effect, faults, interrupts, limit}
+use Rattle.b67_first_table.specs.Image.{Image, stack_of}
+use Rattle.b67_first_table.specs.Table.{table, by_registers, is_live, failed}
 use Rattle.b67_relate.specs.Weight.{weight}
 use Rattle.b67_relate.specs.Picture.{At, cells, world, ended_world, image, ended_image, Sized, IsWithin}
 use Rattle.b67_relate.specs.Agreement.{Fits}
@@ -59,7 +60,7 @@ live_fits tree code names values output rest most few same img one within no_lim
     light (suc zero) r live e = enough tree names values output rest most (length (stack_of img r.stack)) few same (within r e)
     light (suc (suc p)) r live e = true_false live (none_more img Able one p)
 
-    heavy : (p : ℕ) → table code img p ≡ limit → 65536 < weight tree (world names values output rest) p
+    heavy : (p : ℕ) → table code img p ≡ limit → MOST_STACK_WORDS < weight tree (world names values output rest) p
     heavy zero t = dead_no_limit code img zero (none_zero img Able one) t
     heavy (suc zero) t = absurd (no_limit t)
     heavy (suc (suc p)) t = dead_no_limit code img (suc (suc p)) (none_more img Able one p) t

@@ -1,27 +1,27 @@
 -- Each history of the code is legal for the source, and world and image agree after it.
 use Rattle.std.proofs.Common.{◌≡◌, ℕ, zero, suc, ◌≤◌, List, [], ◌∷◌, ◌++◌, length, Option, Some, None, true, false, refl, sym, ap, ◌∙◌, subst, arith, ℤ}
 use Rattle.std.specs.Prelude.{reverse, slice_get, if◌then◌else◌}
-use Rattle.algol_tree.specs.Numbered.{numbered}
+use Rattle.b67_list.specs.Numbered.{numbered}
 use Rattle.algol_tree.specs.Plain.{PProgram}
 use Rattle.algol_tree.specs.Counts.{program_tokens}
 use Rattle.algol_tree.specs.Accepted.{IsDistinct, names_of, Accepted, accepted}
 use Rattle.b67_num.specs.declared.NumFault.{NumFault}
 use Rattle.b67_num.specs.Whole.{fault_of}
 use Rattle.b67_segment.specs.declared.code.Code.{Code}
-use Rattle.algol_meaning.specs.Rest.{Rest}
-use Rattle.algol_meaning.specs.World.{World, process_at}
-use Rattle.algol_meaning.specs.World.{is_able as meaning_able}
-use Rattle.algol_meaning.specs.Choice.{Action, choice, with_fault}
-use Rattle.algol_meaning.specs.Run.{start, run, run_from, entered, may_go, end_of, world_of}
-use Rattle.b67_table.specs.declared.InterruptKind.{InterruptKind}
-use Rattle.b67_table.specs.declared.InterruptKind.TheVariants.{BadCode as bad_code}
-use Rattle.b67_table.specs.declared.ProcessState.{ProcessState}
-use Rattle.b67_table.specs.declared.ProcessState.TheVariants.{Able, Ended}
-use Rattle.b67_table.specs.Effect.{interrupts, limit}
-use Rattle.b67_table.specs.Image.{Image, Failure, is_able}
-use Rattle.b67_table.specs.Table.{table, plain, failed, may_act, image_end, ImageEnd, goes_on, end_by, first_image}
-use Rattle.b67_table.specs.Table as machine
-use Rattle.b67_table.specs.Runs.{Plains, stay, go, Acts, acts, fails, Entry, Runs, begin, entry}
+use Rattle.algol_first_meaning.specs.Rest.{Rest}
+use Rattle.algol_first_meaning.specs.World.{World, process_at}
+use Rattle.algol_first_meaning.specs.World.{is_able as meaning_able}
+use Rattle.algol_first_meaning.specs.Choice.{Action, choice, with_fault}
+use Rattle.algol_first_meaning.specs.Run.{start, run, run_from, entered, may_go, end_of, world_of}
+use Rattle.b67_first_table.specs.declared.InterruptKind.{InterruptKind}
+use Rattle.b67_first_table.specs.declared.InterruptKind.TheVariants.{BadCode as bad_code}
+use Rattle.b67_first_table.specs.declared.ProcessState.{ProcessState}
+use Rattle.b67_first_table.specs.declared.ProcessState.TheVariants.{Able, Ended}
+use Rattle.b67_first_table.specs.Effect.{interrupts, limit}
+use Rattle.b67_first_table.specs.Image.{Image, Failure, is_able}
+use Rattle.b67_first_table.specs.Table.{table, plain, failed, may_act, image_end, ImageEnd, goes_on, end_by, first_image}
+use Rattle.b67_first_table.specs.Table as machine
+use Rattle.b67_first_table.specs.Runs.{Plains, stay, go, Acts, acts, fails, Entry, Runs, begin, entry}
 use Rattle.b67_relate.specs.Picture.{At, world, ended_world, image, ended_image, registers, Sized}
 use Rattle.b67_relate.specs.Correspondence.{operator_action, operator_actions, chosen_action, action_in, source_actions}
 use Rattle.b67_relate.specs.Agreement.{end_as, Shows, Fits, Agrees}
@@ -95,7 +95,7 @@ module _ (most : ℕ) (tree : PProgram) (code : Code) (names : List (List ℕ)) 
         is = entered-world values output rest ∙ ap world_of is;
         pictures =
             subst (λ (i : Image). Pictures most code names (world names values' output' rest') i) (one_way code 1 k act l x)
-            (live values' output' rest' (image values' output' next) comes.goes.n comes.to same (record { states = refl; fault = refl; output_is = refl; located = record { registers = registers (length values') next; alone = refl; level = refl; segment = refl } }) comes.goes.plains comes.goes.sized comes.stands);
+            (live values' output' rest' (image values' output' next) comes.goes.n comes.to same (record { states = refl; started = refl; fault = refl; output_is = refl; located = record { registers = registers (length values') next; alone = refl; level = refl; segment = refl } }) comes.goes.plains comes.goes.sized comes.stands);
       }
   follow values output rest to many sized (steps.ends next is does act) q n m a b l x k =
       record {
@@ -196,11 +196,11 @@ ended_able names values output (suc (suc p)) = refl
 
 ended_shows : (code : Code) (names : List (List ℕ)) (values : List ℤ) (output : List (List ℕ)) (cells : ℕ) (at : At) → Shows code (ended_world names values output) (ended_image cells output at)
 unfolding image_end end_of
-ended_shows code names values output cells at = record { output = refl; ends = refl; able = ended_able names values output; no_interrupt = λ kind e t. none_some (sym e); no_limit = λ e t. none_some (sym e) }
+ended_shows code names values output cells at = record { output = refl; ends = refl; started = refl; able = ended_able names values output; no_interrupt = λ kind e t. none_some (sym e); no_limit = λ e t. none_some (sym e) }
 
 faulted_shows : (code : Code) (names : List (List ℕ)) (values : List ℤ) (output : List (List ℕ)) (rest : Rest) (at : At) (fault : NumFault) → Shows code (with_fault (world names values output rest) 1 fault) (failed (image values output at) 1 (fault_of fault))
 unfolding image_end end_of failed
-faulted_shows code names values output rest at fault = record { output = refl; ends = refl; able = live_able names values output rest; no_interrupt = λ kind e t. none_some (sym e); no_limit = λ e t. none_some (sym e) }
+faulted_shows code names values output rest at fault = record { output = refl; ends = refl; started = refl; able = live_able names values output rest; no_interrupt = λ kind e t. none_some (sym e); no_limit = λ e t. none_some (sym e) }
 
 ended_table : (code : Code) (cells : ℕ) (output : List (List ℕ)) (at : At) → table code (ended_image cells output at) 1 ≡ interrupts bad_code
 unfolding table
@@ -222,6 +222,7 @@ module _ (most : ℕ) (tree : PProgram) (code : Code) (names : List (List ℕ)) 
       record {
         output = same.output ∙ alive.output_is;
         ends = no_end names values output rest ∙ ap end_as (sym none);
+        started = same.started ∙ alive.started;
         able = λ p. live_able names values output rest p ∙ ap (λ (states : List ProcessState). is_able (numbered states p)) (sym (same.states ∙ alive.states));
         no_interrupt = λ kind e t. way_no_interrupt code (image values output to) img acting.0 on_way acting.1 kind t;
         no_limit = λ e t. way_no_limit code (image values output to) img acting.0 on_way acting.1 t;

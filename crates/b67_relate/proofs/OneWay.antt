@@ -1,17 +1,17 @@
 -- The machine has one way to go.
 use Rattle.std.proofs.Common.{◌≡◌, ℕ, Option, Some, None, Bool, true, false, refl, ap, ◌∙◌, subst}
 use Rattle.std.specs.Prelude.{if◌then◌else◌}
-use Rattle.algol_tree.specs.Numbered.{numbered}
+use Rattle.b67_list.specs.Numbered.{numbered}
 use Rattle.b67_control.specs.declared.Registers.{Registers}
 use Rattle.b67_ops.specs.declared.Operator.{Operator}
 use Rattle.b67_ops.specs.declared.BadCode.{BadCode}
 use Rattle.b67_segment.specs.declared.code.Code.{Code}
-use Rattle.b67_table.specs.declared.InterruptKind.TheVariants.{BadCode as bad_code}
-use Rattle.b67_table.specs.Effect.{Effect, gives, faults, interrupts, limit, ◌>>=◌}
-use Rattle.b67_table.specs.Private.{Private, private_op, floor}
-use Rattle.b67_table.specs.Image.{Image, private_of, with_private}
-use Rattle.b67_table.specs.Table.{table, plain, failed, is_gives, private_next, private_at, by_registers, by_operator, by_class, is_private, operator_at, is_live}
-use Rattle.b67_table.specs.Runs.{Plains, stay, go, Acts, acts, fails}
+use Rattle.b67_first_table.specs.declared.InterruptKind.TheVariants.{BadCode as bad_code}
+use Rattle.b67_first_table.specs.Effect.{Effect, gives, faults, interrupts, limit, ◌>>=◌}
+use Rattle.b67_first_table.specs.Private.{Private, private_op, floor}
+use Rattle.b67_first_table.specs.Image.{Image, private_of, with_private}
+use Rattle.b67_first_table.specs.Table.{table, plain, failed, is_gives, private_next, private_at, by_registers, by_operator, by_class, is_private, operator_at, is_live}
+use Rattle.b67_first_table.specs.Runs.{Plains, stay, go, Acts, acts, fails}
 use Rattle.std.proofs.Common.{Result, Ok, Err}
 use Rattle.b67_relate.proofs.Contradictions.{true_false, first_true, gives_same, faults_same, gives_faults}
 
@@ -60,11 +60,12 @@ pub record SamePublic (a b : Image) : Type 0 where
   pub output : b.output ≡ a.output
   pub states : b.states ≡ a.states
   pub fault : b.fault ≡ a.fault
+  pub started : b.started ≡ a.started
 
 same_by_private : (a b : Image) (p : ℕ) (r : Registers) (e : Effect Private) → (e >>= (λ (part : Private). gives (with_private a p (floor r) part))) ≡ gives b → SamePublic a b
 same_by_private a b p r (gives part) h =
     let is : with_private a p (floor r) part ≡ b = gives_same refl h in
-    subst (λ (i : Image). SamePublic a i) is (record { output = refl; states = refl; fault = refl })
+    subst (λ (i : Image). SamePublic a i) is (record { output = refl; states = refl; fault = refl; started = refl })
 same_by_private a b p r (faults kind) h = cc
 same_by_private a b p r (interrupts kind) h = cc
 same_by_private a b p r limit h = cc
@@ -91,8 +92,8 @@ module _ (code : Code) (p : ℕ) (a b : Image) where
   plain_public e h = same_by_live (is_live (numbered a.states p)) (first_true (private_next code (numbered a.regs p)) (is_gives (table code a p)) e) h
 
 pub plains_public : {code : Code} {p : ℕ} {a : Image} {n : ℕ} {b : Image} → Plains code p a n b → SamePublic a b
-plains_public stay = record { output = refl; states = refl; fault = refl }
+plains_public stay = record { output = refl; states = refl; fault = refl; started = refl }
 plains_public {code} {p} {a = a} (go {b = b} e t l) =
     let first = plain_public code p a b e t in
     let rest = plains_public l in
-    record { output = rest.output ∙ first.output; states = rest.states ∙ first.states; fault = rest.fault ∙ first.fault }
+    record { output = rest.output ∙ first.output; states = rest.states ∙ first.states; fault = rest.fault ∙ first.fault; started = rest.started ∙ first.started }

@@ -3,6 +3,7 @@ use Rattle.std.proofs.Common.{◌≡◌, ℕ, ◌+◌, ◌-◌, ◌<◌, ◌≤�
 use Rattle.std.specs.Prelude.{reverse, nat_lt, nat_le, if◌then◌else◌, ◌&&◌}
 use Rattle.std.proofs.lemmas.List.{reverse-reverse}
 use Rattle.std.proofs.lemmas.Bool.Decides.{nat_tests}
+use Rattle.b67_store.specs.declared.TheConstants.{MOST_STACK_WORDS}
 use Rattle.b67_word.specs.Word.{Word, operand}
 use Rattle.b67_control.specs.Control.{irw_word, mscw_word}
 use Rattle.b67_ops.specs.declared.Operator.{Operator}
@@ -10,11 +11,11 @@ use Rattle.b67_ops.specs.declared.Operator.TheVariants as ops
 use Rattle.b67_ops.specs.declared.PlainKind.TheVariants as kinds
 use Rattle.b67_ops.specs.declared.BadCode.{BadCode}
 use Rattle.b67_segment.specs.declared.code.Code.{Code}
-use Rattle.b67_table.specs.declared.InterruptKind.TheVariants.{InvalidOperand}
-use Rattle.b67_table.specs.Effect.{Effect, gives, interrupts, limit, ◌>>=◌}
-use Rattle.b67_table.specs.Private.{Private, private_op, push}
-use Rattle.b67_table.specs.Image.{Image, private_of, with_private}
-use Rattle.b67_table.specs.Table.{table, plain, by_operator, by_class, is_private, system_stack, private_at, is_gives}
+use Rattle.b67_first_table.specs.declared.InterruptKind.TheVariants.{InvalidOperand}
+use Rattle.b67_first_table.specs.Effect.{Effect, gives, interrupts, limit, ◌>>=◌}
+use Rattle.b67_first_table.specs.Private.{Private, private_op, push}
+use Rattle.b67_first_table.specs.Image.{Image, private_of, with_private}
+use Rattle.b67_first_table.specs.Table.{table, plain, by_operator, by_class, is_private, system_stack, private_at, is_gives}
 use Rattle.b67_relate.specs.Code.{Has, IsLiteral, zero_pushed, one_pushed, byte, two_bytes, whole_word, LiteralAt}
 use Rattle.b67_relate.specs.Picture.{At, registers, image, Sized, stop, pass, Goes, HasRoom}
 use Rattle.b67_relate.proofs.StackWords.{drop-stack, take-stack}
@@ -85,10 +86,10 @@ abbrev pub after : ℕ → Effect Private → Effect Private
 after next e = e >>= (λ (q : Private). gives (record q { regs = record q.regs { place = next } }))
 
 module _ (most : ℕ) (values : List ℤ) where
-  pub push_gives : (at : At) (w : Word) (next : ℕ) → at.s < 65536 → after next (push w (part values at)) ≡ gives (part values (pushed at w next))
+  pub push_gives : (at : At) (w : Word) (next : ℕ) → at.s < MOST_STACK_WORDS → after next (push w (part values at)) ≡ gives (part values (pushed at w next))
   push_gives at w next h =
       ap (λ b. after next (if b then gives (record { regs = record (registers (length values) at) { s = at.s + 1 }; words = w ∷ at.operands }) else limit))
-      (below_is at.s 65536 h)
+      (below_is at.s MOST_STACK_WORDS h)
 
   pub sized-pushed : (at : At) (w : Word) (next : ℕ) → Sized most values at → HasRoom most at.operands 1 → Sized most values (pushed at w next)
   sized-pushed at w next sized room = record { long = omega (arith, sized.long); few = sized.few; room = omega (arith, room); small = sized.small; whole = sized.whole }
@@ -140,15 +141,15 @@ module _ (most : ℕ) (code : Code) (values : List ℤ) (output : List (List ℕ
   abbrev pub marked : At → ℕ → At
   marked at next = record { place = next; s = at.s + 1; f = at.s; operands = mark_word (at.s - at.f) ∷ at.operands }
 
-  mark_row : (at : At) (next : ℕ) → at.f < at.s → at.s < 65536 → private_op (ops.Plain kinds.Mkst) next (part values at) ≡ gives (part values (marked at next))
+  mark_row : (at : At) (next : ℕ) → at.f < at.s → at.s < MOST_STACK_WORDS → private_op (ops.Plain kinds.Mkst) next (part values at) ≡ gives (part values (marked at next))
   unfolding private_op
   mark_row at next h room =
       ap (λ b. after next (if b
-      then (if nat_lt at.s 65536 then gives (record { regs = record (registers (length values) at) { s = at.s + 1 }; words = mark_word (at.s - at.f) ∷ at.operands }) else limit)
+      then (if nat_lt at.s MOST_STACK_WORDS then gives (record { regs = record (registers (length values) at) { s = at.s + 1 }; words = mark_word (at.s - at.f) ∷ at.operands }) else limit)
       >>= (λ (q : Private). gives (record q { regs = record q.regs { f = at.s } }))
       else interrupts InvalidOperand)) (below_is at.f at.s h)
       ∙ ap (λ b. after next ((if b then gives (record { regs = record (registers (length values) at) { s = at.s + 1 }; words = mark_word (at.s - at.f) ∷ at.operands }) else limit)
-      >>= (λ (q : Private). gives (record q { regs = record q.regs { f = at.s } })))) (below_is at.s 65536 room)
+      >>= (λ (q : Private). gives (record q { regs = record q.regs { f = at.s } })))) (below_is at.s MOST_STACK_WORDS room)
 
   pub mark_step : (at : At) (next : ℕ) → Sized most values at → HasRoom most at.operands 1 → at.f < at.s → Has code at.place (ops.Plain kinds.Mkst) next → Goes most code values output at (marked at next)
   mark_step at next sized room h has =

@@ -1,6 +1,7 @@
 -- The start of a program: its cells are made, and process 1 is at the start of its statements.
 use Rattle.std.proofs.Common.{◌≡◌, ℕ, zero, suc, ◌+◌, ◌-◌, ◌≤◌, List, [], ◌∷◌, ◌++◌, length, map, Some, None, true, false, refl, sym, ap, ◌∙◌, subst, arith, pos, ℤ, append-nil}
-use Rattle.std.specs.Prelude.{slice_get, reverse, replicate, if◌then◌else◌, unsigned_abs}
+use Rattle.std.specs.Prelude.{slice_get, reverse, replicate, if◌then◌else◌}
+use Rattle.algol_tree.specs.declared.TheConstants.{MOST_BLOCK_CELLS, MOST_SEGMENT_TOKENS}
 use Rattle.algol_tree.specs.declared.tree.Named.{Named}
 use Rattle.algol_tree.specs.declared.token.Spot.{Spot}
 use Rattle.algol_tree.specs.Plain.{PStmts}
@@ -11,15 +12,15 @@ use Rattle.b67_word.specs.Word.{Word, operand}
 use Rattle.b67_ops.specs.declared.Operator.TheVariants as ops
 use Rattle.b67_ops.specs.declared.PlainKind.TheVariants as kinds
 use Rattle.b67_segment.specs.declared.code.Code.{Code}
-use Rattle.algol_meaning.specs.Rest.{Rest, items, settle_items}
-use Rattle.algol_meaning.specs.World.{number}
-use Rattle.algol_meaning.specs.Run.{start, cells_of}
-use Rattle.b67_table.specs.declared.InterruptKind.TheVariants.{InvalidOperand}
-use Rattle.b67_table.specs.Effect.{Effect, gives, interrupts, ◌>>=◌}
-use Rattle.b67_table.specs.Private.{Private, private_op}
-use Rattle.b67_table.specs.Image.{Image, with_private}
-use Rattle.b67_table.specs.Table.{first_registers, first_image, base_frame, system_stack, table, plain}
-use Rattle.b67_relate.specs.Code.{Has, LiteralAt, zero_pushed, ZerosAt, BodyAt}
+use Rattle.algol_first_meaning.specs.Rest.{Rest, items, settle_items}
+use Rattle.algol_first_meaning.specs.World.{number}
+use Rattle.algol_first_meaning.specs.Run.{start, cells_of}
+use Rattle.b67_first_table.specs.declared.InterruptKind.TheVariants.{InvalidOperand}
+use Rattle.b67_first_table.specs.Effect.{Effect, gives, interrupts, ◌>>=◌}
+use Rattle.b67_first_table.specs.Private.{Private, private_op}
+use Rattle.b67_first_table.specs.Image.{Image, with_private}
+use Rattle.b67_first_table.specs.Table.{first_registers, first_image, base_frame, system_stack, table, plain}
+use Rattle.b67_relate.specs.Code.{IsWhole, Has, LiteralAt, zero_pushed, ZerosAt, BodyAt}
 use Rattle.b67_relate.specs.Picture.{At, cells, world, stack, registers, image, Sized, Within, Goes, HasRoom, Comes}
 use Rattle.b67_relate.proofs.StackWords.{reverse-cons}
 use Rattle.b67_relate.proofs.Within.{within_by}
@@ -28,7 +29,7 @@ use Rattle.b67_relate.proofs.PrivateSteps.{part, pushed, after, literal_step, ta
 use Rattle.b67_relate.proofs.Reach.{here, on}
 use Rattle.b67_relate.proofs.Starts.{items_settle}
 use Rattle.b67_relate.specs.Pictures.{Pictures, live, Located}
-use Rattle.b67_table.specs.declared.ProcessState.TheVariants.{Able}
+use Rattle.b67_first_table.specs.declared.ProcessState.TheVariants.{Able}
 
 pub first_at : At
 first_at = record { place = 0; s = 2; f = 0; operands = [] }
@@ -36,6 +37,10 @@ first_at = record { place = 0; s = 2; f = 0; operands = [] }
 pub first_states : first_image.states ≡ Able ∷ []
 unfolding first_image
 first_states = refl
+
+pub first_started : first_image.started ≡ 1
+unfolding first_image
+first_started = refl
 
 pub first_fault : first_image.fault ≡ None
 unfolding first_image
@@ -71,12 +76,12 @@ pub length-zeros : {A : Type 0} (n : ℕ) (x : A) → length (replicate n x) ≡
 length-zeros zero x = refl
 length-zeros (suc n) x = ap suc (length-zeros n x)
 
-zeros_whole : (n k : ℕ) (v : ℤ) → slice_get (replicate n (pos 0)) k ≡ Some v → unsigned_abs v ≤ 549755813887
+zeros_whole : (n k : ℕ) (v : ℤ) → slice_get (replicate n (pos 0)) k ≡ Some v → IsWhole v
 zeros_whole zero k v e = cc
-zeros_whole (suc n) zero v e = let is : pos 0 ≡ v = cc in subst (λ (z : ℤ). unsigned_abs z ≤ 549755813887) is (omega arith)
+zeros_whole (suc n) zero v e = let is : pos 0 ≡ v = cc in subst (λ (z : ℤ). IsWhole z) is (omega arith)
 zeros_whole (suc n) (suc k) v e = zeros_whole n k v e
 
-no_values : (k : ℕ) (v : ℤ) → slice_get [] k ≡ Some v → unsigned_abs v ≤ 549755813887
+no_values : (k : ℕ) (v : ℤ) → slice_get [] k ≡ Some v → IsWhole v
 no_values k v e = cc
 
 module _ (most : ℕ) (code : Code) (names : List (List ℕ)) where
@@ -105,7 +110,7 @@ module _ (most : ℕ) (code : Code) (names : List (List ℕ)) where
 
   -- ---- the cells are made
 
-  module _ (n : ℕ) (few : n ≤ 400) (at : At) (next : ℕ) (sized : Sized most [] at) (words : at.operands ≡ replicate n zero_word) (bottom : at.f ≡ 0) where
+  module _ (n : ℕ) (few : n ≤ MOST_BLOCK_CELLS) (at : At) (next : ℕ) (sized : Sized most [] at) (words : at.operands ≡ replicate n zero_word) (bottom : at.f ≡ 0) where
     abbrev values : List ℤ
     values = replicate n (pos 0)
 
@@ -177,10 +182,10 @@ begun_pictured most code names rest m at first pushing e t comes =
     let many : length (replicate (length names) (pos 0)) ≡ length names = length-zeros (length names) (pos 0) in
     let steps = within_by (omega (arith, many)) pushing e t comes.goes.plains in
     live (replicate (length names) (pos 0)) [] rest first_image steps.0 comes.to many
-    (record { states = first_states; fault = first_fault; output_is = first_output; located = first_located }) steps.1 comes.goes.sized comes.stands
+    (record { states = first_states; started = first_started; fault = first_fault; output_is = first_output; located = first_located }) steps.1 comes.goes.sized comes.stands
 
 -- before the cells are made the zeros are operands; after that the statements have their own
-pub first_pictured : (code : Code) (spot : Spot) (file : Named) (ns : List Named) (ss : PStmts) → length ns ≤ 400 → program_tokens (program_of spot file ns ss) ≤ 2000 → BodyAt code (names_of ns) ss →
+pub first_pictured : (code : Code) (spot : Spot) (file : Named) (ns : List Named) (ss : PStmts) → length ns ≤ MOST_BLOCK_CELLS → program_tokens (program_of spot file ns ss) ≤ MOST_SEGMENT_TOKENS → BodyAt code (names_of ns) ss →
     Pictures (program_tokens (program_of spot file ns ss)) code (names_of ns) (world (names_of ns) (replicate (length ns) (pos 0)) [] (settle_items 1 (items ss))) first_image
 unfolding first_at
 first_pictured code spot file ns ss few short body =
@@ -188,7 +193,7 @@ first_pictured code spot file ns ss few short body =
     let names : List (List ℕ) = names_of ns in
     let n : ℕ = length names in
     let same : n ≡ length ns = length-names ns in
-    let small : n ≤ 400 = omega (arith, same, few) in
+    let small : n ≤ MOST_BLOCK_CELLS = omega (arith, same, few) in
     let first_sized : Sized (n + most) [] first_at = record { long = refl; few = omega arith; room = omega arith; small = omega (arith, small, short); whole = no_values } in
     let zeroed = zeros (n + most) code names n first_at body.zeroed first_sized (omega arith) body.zeros in
     let words : zeroed.at.operands ≡ replicate n zero_word = zeroed.words ∙ append-nil (replicate n zero_word) in

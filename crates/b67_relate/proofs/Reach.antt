@@ -4,14 +4,15 @@ use Rattle.algol_tree.specs.declared.tree.Op.{Op}
 use Rattle.algol_tree.specs.declared.tree.PhraseText.{PhraseText}
 use Rattle.algol_tree.specs.Plain.{PExpr, number, truth, variable, call, happened, paren, plus, neg, not, two, if, subscripted, none, more}
 use Rattle.b67_num.specs.declared.NumFault.{NumFault}
+use Rattle.b67_num.specs.Whole.{calculated}
 use Rattle.b67_word.specs.Word.{Word, operand}
 use Rattle.b67_segment.specs.declared.code.Code.{Code}
-use Rattle.algol_meaning.specs.Rest.{Reference, Half, val, busy, Item, Rest, result_of, calculated, right_of, left_of, settle, assigned, item_of, items_of}
+use Rattle.algol_first_meaning.specs.Rest.{Reference, Half, val, busy, Item, Rest, result_of, after_result, right_of, left_of, settle, assigned, item_of, items_of}
 use Rattle.b67_relate.specs.Code.{IsWhole, CalculationAt, ExprAt}
-use Rattle.b67_relate.specs.Picture.{At, Sized, stop, Goes, HasRoom, depth, Shows, StoreAt, LineAt, Comes, reference_word, under_items}
+use Rattle.b67_relate.specs.Picture.{At, Sized, stop, Goes, HasRoom, depth, HoldsHalf, StoreAt, LineAt, Comes, reference_word, under_items}
 use Rattle.b67_relate.proofs.Within.{image_within, within_on}
 use Rattle.b67_relate.proofs.PrivateSteps.{pushed, literal_step}
-use Rattle.b67_relate.proofs.SumSteps.{computed, Computes, computes, sum_step, summed}
+use Rattle.b67_relate.proofs.SumSteps.{result_is, result-whole, sum_step, summed}
 
 -- ---- plain operators, one after the other
 
@@ -28,37 +29,33 @@ module _ (most : ℕ) (code : Code) (names : List (List ℕ)) (values : List ℤ
     pub at : At
     pub goes : Goes most code values output from at
     pub mark : at.f ≡ from.f
-    pub shows : Shows most code names h at.place at.operands below to
+    pub shows : HoldsHalf most code names h at.place at.operands below to
 
   from_earlier : {a b : At} {h : Half} {below : List Word} {to : ℕ} → Goes most code values output a b → b.f ≡ a.f → Reached b h below to → Reached a h below to
   from_earlier g e r = record { at = r.at; goes = on most code values output g r.goes; mark = r.mark ∙ e; shows = r.shows }
 
   module _ (from : At) (below : List Word) (op : Op) (n to : ℕ) (has : CalculationAt code n op to) where
-    calculated_at : (v w : ℤ) → IsWhole v → IsWhole w → (at : At) → Goes most code values output from at → at.f ≡ from.f → at.place ≡ n → at.operands ≡ operand w ∷ operand v ∷ below →
-        (f : ℤ → ℤ → Result ℤ NumFault) → Computes op f has.operator → (r : Result ℤ NumFault) → result_of op v w ≡ Some r → Reached from (calculated op v w (Some r)) below to
-    calculated_at v w iv iw at g m place top f (computes h is row private fits) (Ok z) e =
+    result_at : (v w : ℤ) → IsWhole v → IsWhole w → (at : At) → Goes most code values output from at → at.f ≡ from.f → at.place ≡ n → at.operands ≡ operand w ∷ operand v ∷ below →
+        (r : Result ℤ NumFault) → result_of op v w ≡ Some r → Reached from (after_result op v w (Some r)) below to
+    result_at v w iv iw at g m place top (Ok z) e =
         record {
           at = summed most code values output at to v w below g.sized top iv iw z;
           goes = on most code values output g (sum_step most code values output at to v w below g.sized top iv iw op (subst (λ p. CalculationAt code p op to) (sym place) has) z e);
           mark = m;
-          shows = (refl, refl, fits v w z (same v w z h (is v w) e));
+          shows = (refl, refl, result-whole op has.calculation v w z has.meant e);
         }
-      where
-        same : (v w z : ℤ) (h : ℤ → ℤ → Result ℤ NumFault) → result_of op v w ≡ Some (h v w) → result_of op v w ≡ Some (Ok z) → h v w ≡ Ok z
-        same v w z h a b = cc
-    calculated_at v w iv iw at g m place top f c (Err fault) e =
+    result_at v w iv iw at g m place top (Err fault) e =
         record { at = at; goes = g; mark = m; shows = (subst (λ p. CalculationAt code p op to) (sym place) has, top, e, iv, iw) }
 
     with_result : (v w : ℤ) → IsWhole v → IsWhole w → (at : At) → Goes most code values output from at → at.f ≡ from.f → at.place ≡ n → at.operands ≡ operand w ∷ operand v ∷ below →
-        (f : ℤ → ℤ → Result ℤ NumFault) → Computes op f has.operator → Reached from (calculated op v w (result_of op v w)) below to
-    with_result v w iv iw at g m place top f (computes h is row private fits) =
-        subst (λ o. Reached from (calculated op v w o) below to) (sym (is v w))
-        (calculated_at v w iv iw at g m place top h (computes h is row private fits) (h v w) (is v w))
+        Reached from (after_result op v w (result_of op v w)) below to
+    with_result v w iv iw at g m place top =
+        let e = result_is op has.calculation v w has.meant in
+        subst (λ o. Reached from (after_result op v w o) below to) (sym e) (result_at v w iv iw at g m place top (calculated has.calculation v w) e)
 
     pub right_at : (v : ℤ) → IsWhole v → (h : Half) → Reached from h (operand v ∷ below) n → Reached from (right_of op v h) below to
     right_at v iv (val w) r =
-        let c = computed has.calculates in
-        with_result v w iv r.shows.2 r.at r.goes r.mark r.shows.0 r.shows.1 c.0 c.1
+        with_result v w iv r.shows.2 r.at r.goes r.mark r.shows.0 r.shows.1
     right_at v iv (busy hole) r = record { at = r.at; goes = r.goes; mark = r.mark; shows = (n, r.shows, has, iv) }
 
   -- from any place with these operands

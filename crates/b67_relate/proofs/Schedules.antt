@@ -1,19 +1,19 @@
 -- The code performs each legal schedule of the source.
 use Rattle.std.proofs.Common.{◌≡◌, ℕ, zero, suc, ◌+◌, List, [], ◌∷◌, ◌++◌, Option, Some, None, true, false, refl, sym, ap, ◌∙◌, ℤ}
 use Rattle.std.specs.Prelude.{reverse}
-use Rattle.algol_tree.specs.Numbered.{numbered}
+use Rattle.b67_list.specs.Numbered.{numbered}
 use Rattle.algol_tree.specs.Plain.{PProgram}
 use Rattle.algol_tree.specs.Counts.{program_tokens}
 use Rattle.algol_tree.specs.Accepted.{IsDistinct, names_of, Accepted, accepted}
 use Rattle.b67_segment.specs.declared.code.Code.{Code}
-use Rattle.algol_meaning.specs.Rest.{Rest}
-use Rattle.algol_meaning.specs.World.{World}
-use Rattle.algol_meaning.specs.Run.{start, run, run_from, entered, may_go, end_of, Legal}
-use Rattle.b67_table.specs.declared.ProcessState.{ProcessState}
-use Rattle.b67_table.specs.declared.ProcessState.TheVariants.{Able}
-use Rattle.b67_table.specs.Image.{Image, is_able}
-use Rattle.b67_table.specs.Table.{may_act, image_end, ImageEnd, goes_on, first_image}
-use Rattle.b67_table.specs.Runs.{Entry, Runs, begin, entry}
+use Rattle.algol_first_meaning.specs.Rest.{Rest}
+use Rattle.algol_first_meaning.specs.World.{World}
+use Rattle.algol_first_meaning.specs.Run.{start, run, run_from, entered, may_go, end_of, Legal}
+use Rattle.b67_first_table.specs.declared.ProcessState.{ProcessState}
+use Rattle.b67_first_table.specs.declared.ProcessState.TheVariants.{Able}
+use Rattle.b67_first_table.specs.Image.{Image, is_able}
+use Rattle.b67_first_table.specs.Table.{may_act, image_end, ImageEnd, goes_on, first_image}
+use Rattle.b67_first_table.specs.Runs.{Entry, Runs, begin, entry}
 use Rattle.b67_relate.specs.Code.{program_at}
 use Rattle.b67_relate.specs.Picture.{world, ended_world, image}
 use Rattle.b67_relate.specs.Pictures.{Pictures, live, ended, faulted}

@@ -1,16 +1,16 @@
 -- The code of an accepted tree is sound.
 use Rattle.std.proofs.Common.{◌≡◌, ℕ, zero, suc, List, ◌∷◌, [], Option, Some, None, true, refl, sym, ap, ◌∙◌, subst}
-use Rattle.algol_tree.specs.Numbered.{numbered}
+use Rattle.b67_list.specs.Numbered.{numbered}
 use Rattle.algol_tree.specs.Plain.{PProgram}
 use Rattle.algol_tree.specs.Accepted.{Accepted}
 use Rattle.b67_segment.specs.declared.code.Code.{Code}
-use Rattle.b67_table.specs.declared.ProcessState.{ProcessState}
-use Rattle.b67_table.specs.declared.ProcessState.TheVariants.{Able, Ended, WaitsFor, Procures}
-use Rattle.b67_table.specs.Effect.{interrupts}
-use Rattle.b67_table.specs.Image.{Image, is_able}
-use Rattle.b67_table.specs.Table.{table, is_live}
-use Rattle.b67_table.specs.Runs.{Tails, none, next, TableRun}
-use Rattle.b67_table.specs.Sound.{Sound}
+use Rattle.b67_first_table.specs.declared.ProcessState.{ProcessState}
+use Rattle.b67_first_table.specs.declared.ProcessState.TheVariants.{Able, Ended, WaitsFor, Procures}
+use Rattle.b67_first_table.specs.Effect.{interrupts}
+use Rattle.b67_first_table.specs.Image.{Image, is_able}
+use Rattle.b67_first_table.specs.Table.{table, is_live}
+use Rattle.b67_first_table.specs.Runs.{Tails, none, next, TableRun}
+use Rattle.b67_first_table.specs.Sound.{Sound}
 use Rattle.b67_relate.specs.Code.{ProgramAt}
 use Rattle.b67_relate.specs.Agreement.{Agrees}
 use Rattle.b67_relate.proofs.OneWay.{plains_public}

@@ -4,7 +4,7 @@ use Rattle.std.specs.Prelude.{slice_get, slice_set, reverse, ℤ}
 use Rattle.std.proofs.Math.Seq.{drop-append_seam, take-append_seam}
 use Rattle.std.proofs.lemmas.List.{reverse-append, length-map, length-reverse}
 use Rattle.b67_word.specs.Word.{Word, operand}
-use Rattle.b67_table.specs.Table.{base_frame}
+use Rattle.b67_first_table.specs.Table.{base_frame}
 use Rattle.b67_relate.specs.Picture.{stack}
 
 -- ---- lists

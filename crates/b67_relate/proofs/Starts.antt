@@ -5,8 +5,10 @@ use Rattle.algol_tree.specs.declared.tree.PhraseText.TheVariants as phrases
 use Rattle.algol_tree.specs.Plain.{PExpr, subscripted, none, more, PStmt, empty, label, assign, call_of, go_to, block, if_then, if_else, while, until, for, thru, case, process, event, write}
 use Rattle.b67_word.specs.Word.{operand}
 use Rattle.b67_control.specs.Control.{irw_word, mscw_word}
+use Rattle.b67_ops.specs.declared.intrinsic.Intrinsic.TheVariants.{Write}
+use Rattle.b67_ops.specs.Intrinsics.{number_of}
 use Rattle.b67_segment.specs.declared.code.Code.{Code}
-use Rattle.algol_meaning.specs.Rest.{reference_to, Item, run, settle, settle_stmt, settle_items, item_of, items_of}
+use Rattle.algol_first_meaning.specs.Rest.{reference_to, Item, run, settle, settle_stmt, settle_items, item_of, items_of}
 use Rattle.b67_relate.specs.Code.{StmtAt, AssignAt, WriteAt, ItemsAt}
 use Rattle.b67_relate.specs.Picture.{At, Sized, Goes, HasRoom, depth, stmt_depth, AreShallow, StoreAt, LineAt, Comes, reference_word, under_items}
 use Rattle.b67_relate.proofs.PrivateSteps.{pushed, literal_step, name_step, mark_step, marked}
@@ -40,16 +42,16 @@ module _ (most : ℕ) (code : Code) (names : List (List ℕ)) (values : List ℤ
       let bottom : from.f ≡ 0 = bare.bottom in
       let first : At = marked most code values output from at.marked in
       let mark : Goes most code values output from first = mark_step most code values output from at.marked sized (omega (arith, none_left, low)) (omega (arith, sized.long)) at.mark in
-      let second : At = pushed first (irw_word (record { level = 0; index = 7 })) at.named in
-      let name : Goes most code values output first second = name_step most code values output first 0 7 at.named mark.sized (omega (arith, none_left, low)) at.name in
+      let second : At = pushed first (irw_word (record { level = 0; index = number_of Write })) at.named in
+      let name : Goes most code values output first second = name_step most code values output first 0 (number_of Write) at.named mark.sized (omega (arith, none_left, low)) at.name in
       let third : At = pushed second (operand (pos at.format)) at.numbered in
       let number : Goes most code values output second third = literal_step most code values output second (pos at.format) at.numbered name.sized (omega (arith, none_left, low)) at.number in
       let room : HasRoom most third.operands (depth item) = omega (arith, none_left, low) in
       let long : from.s - from.f ≡ 2 + length values = omega (arith, sized.long, none_left, bottom) in
       let up : from.s ≡ 2 + length values = omega (arith, sized.long, none_left) in
       let below : third.operands ≡ under_items values at.format =
-      ap (λ ws. operand (pos at.format) ∷ irw_word (record { level = 0; index = 7 }) ∷ mscw_word (record { entered = false; stack = 0; displacement = 0; df = from.s - from.f }) ∷ ws) bare.none
-      ∙ ap (λ df. operand (pos at.format) ∷ irw_word (record { level = 0; index = 7 }) ∷ mscw_word (record { entered = false; stack = 0; displacement = 0; df = df }) ∷ []) long in
+      ap (λ ws. operand (pos at.format) ∷ irw_word (record { level = 0; index = number_of Write }) ∷ mscw_word (record { entered = false; stack = 0; displacement = 0; df = from.s - from.f }) ∷ ws) bare.none
+      ∙ ap (λ df. operand (pos at.format) ∷ irw_word (record { level = 0; index = number_of Write }) ∷ mscw_word (record { entered = false; stack = 0; displacement = 0; df = df }) ∷ []) long in
       let value : Reached most code names values output third (settle 1 item) third.operands at.valued = settle_at most code names values output item third at.valued number.sized room at.value in
       let line : LineAt most code names values (phrases.Word phrase ∷ []) after at.valued third.f at.format =
       record { word = phrase; only = refl; is = at.is; small = at.number.whole; mark = up; next = to; stands = at.enter; items = items; shallow = shallow } in

@@ -5,20 +5,21 @@ use Rattle.algol_tree.specs.declared.tree.Op.{Op}
 use Rattle.algol_tree.specs.declared.tree.PhraseText.{PhraseText}
 use Rattle.algol_tree.specs.Plain.{none, PProgram}
 use Rattle.algol_tree.specs.Accepted.{IsDistinct}
-use Rattle.algol_tree.specs.Lines.{justified}
+use Rattle.b67_list.specs.Lines.{justified}
 use Rattle.b67_num.specs.declared.NumFault.{NumFault}
 use Rattle.b67_num.specs.Whole.{fault_of}
 use Rattle.b67_word.specs.Word.{Word, operand}
 use Rattle.b67_ops.specs.declared.Operator.TheVariants as ops
 use Rattle.b67_ops.specs.declared.PlainKind.TheVariants as kinds
+use Rattle.b67_ops.specs.declared.TheConstants.{OUTER_LEVEL}
 use Rattle.b67_segment.specs.declared.code.Code.{Code}
-use Rattle.algol_meaning.specs.Rest.{Reference, Hole, read, broken, left, right, unbuilt, Half, Item, Rest, over, store, storing, line, writing, idle, result_of, settle, put, left_of, right_of, assigned, item_of, items_of, settle_items}
-use Rattle.algol_meaning.specs.World.{Cell, World}
-use Rattle.algol_meaning.specs.Choice.{Action, Read, Store, Line, End, Fault, Ask, reads, faults, nothing, ask, on_hole, read_cell, with_rest, with_fault, line_of, phrase_with, choice}
-use Rattle.b67_table.specs.Effect.{Effect}
-use Rattle.b67_table.specs.Effect as effect
-use Rattle.b67_table.specs.Table.{table, failed}
-use Rattle.b67_table.specs.Runs.{Acts}
+use Rattle.algol_first_meaning.specs.Rest.{Reference, Hole, read, broken, left, right, unbuilt, Half, Item, Rest, over, store, storing, line, writing, idle, result_of, settle, put, left_of, right_of, assigned, item_of, items_of, settle_items}
+use Rattle.algol_first_meaning.specs.World.{Cell, World}
+use Rattle.algol_first_meaning.specs.Choice.{Action, Read, Store, Line, End, Fault, Ask, reads, faults, nothing, ask, on_hole, read_cell, with_rest, with_fault, line_of, phrase_with, choice}
+use Rattle.b67_first_table.specs.Effect.{Effect}
+use Rattle.b67_first_table.specs.Effect as effect
+use Rattle.b67_first_table.specs.Table.{table, failed}
+use Rattle.b67_first_table.specs.Runs.{Acts}
 use Rattle.b67_relate.specs.Code.{Has, IsWhole, CalculationAt, ExprAt, IsInteger}
 use Rattle.b67_relate.specs.Picture.{At, world, ended_world, image, ended_image, Sized, HasRoom, Holds, Stands, StoreAt, LineAt, Comes, reference_word, under_items}
 use Rattle.b67_relate.proofs.WordKinds.{WordLaws}
@@ -57,7 +58,7 @@ module _ (most : ℕ) (laws : WordLaws) (tree : PProgram) (code : Code) (names :
   -- what stands at the head of an expression
   abbrev HoleActs : At → List Word → ℕ → Ask → (ℤ → Half) → Type 0
   HoleActs at below to (reads r) half =
-      (k : ℕ) × (next : ℕ) × (r.instance ≡ 1) × IsInteger names r.name k × Has code at.place (ops.Valc (record { level = 2; index = 2 + k })) next × HasRoom most at.operands 1
+      (k : ℕ) × (next : ℕ) × (r.instance ≡ 1) × IsInteger names r.name k × Has code at.place (ops.Valc (record { level = OUTER_LEVEL; index = 2 + k })) next × HasRoom most at.operands 1
       × ((v : ℤ) → IsWhole v → Sized most values (pushed at (operand v) next) → Reached most code names values output (pushed at (operand v) next) (half v) below to)
   HoleActs at below to (faults fault) half =
       (op : Op) × (v : ℤ) × (w : ℤ) × (under : List Word) × (next : ℕ) × CalculationAt code at.place op next × (at.operands ≡ operand w ∷ operand v ∷ under)
@@ -105,12 +106,12 @@ module _ (most : ℕ) (laws : WordLaws) (tree : PProgram) (code : Code) (names :
       let act : Acts code 1 (image values output at) (image values output next) = value_step most laws code values output at h.0 h.1 there.0 sized there.1 h.4 in
       goes_on Read values output (rest_with there.0) next
       (is ∙ ap (λ (c : Option Cell). read_cell (world names values output rest) 1 c rest_with) (cell_at-world names distinct values output rest r h.0 there.0 h.2 h.3 there.1))
-      (action_is code values output at (ops.Valc (record { level = 2; index = 2 + h.0 })) h.1 h.4 (image values output next) act refl Read refl)
+      (action_is code values output at (ops.Valc (record { level = OUTER_LEVEL; index = 2 + h.0 })) h.1 h.4 (image values output next) act refl Read refl)
       act same
       (s next there.0 refl (h.6 there.0 whole (sized-pushed most values at (operand there.0) h.1 sized h.5)))
   on_hole_at rest at sized below to half rest_with (faults fault) is s h =
       let fails : table code (image values output at) 1 ≡ effect.faults (fault_of fault) = fault_step most code values output at h.4 h.1 h.2 h.3 sized h.6 h.8 h.9 h.0 h.5 fault h.7 in
-      faulted fault is (fault_is code values output at h.5.operator h.4 h.5.stands (fault_of fault) fails) fails
+      faulted fault is (fault_is code values output at (ops.Plain h.5.kind) h.4 h.5.stands (fault_of fault) fails) fails
       (fault_stays most code values output at h.4 h.1 h.2 h.3 sized h.6 h.8 h.9 h.0 h.5 fault h.7 (fault_of fault))
   on_hole_at rest at sized below to half rest_with nothing is s h = absurd h
 

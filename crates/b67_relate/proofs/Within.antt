@@ -3,10 +3,10 @@ use Rattle.std.proofs.Common.{◌≡◌, ℕ, ◌+◌, ◌≤◌, List, length, 
 use Rattle.b67_control.specs.declared.Registers.{Registers}
 use Rattle.b67_segment.specs.declared.code.Code.{Code}
 use Rattle.b67_num.specs.declared.FaultKind.{FaultKind}
-use Rattle.b67_table.specs.Effect.{gives}
-use Rattle.b67_table.specs.Image.{Image, stack_of}
-use Rattle.b67_table.specs.Table.{table, plain, failed}
-use Rattle.b67_table.specs.Runs.{Plains, stay, go, Acts, acts, fails}
+use Rattle.b67_first_table.specs.Effect.{gives}
+use Rattle.b67_first_table.specs.Image.{Image, stack_of}
+use Rattle.b67_first_table.specs.Table.{table, plain, failed}
+use Rattle.b67_first_table.specs.Runs.{Plains, stay, go, Acts, acts, fails}
 use Rattle.b67_relate.specs.Picture.{At, image, Sized, IsWithin, Within, stop, pass}
 use Rattle.b67_relate.proofs.StackWords.{length-stack}
 use Rattle.b67_relate.proofs.Contradictions.{true_false, some_same, gives_same, gives_faults}

@@ -2,7 +2,8 @@
 use Rattle.std.proofs.Common.{◌≡◌, ℕ, ◌+◌, ◌-◌, ◌≤◌, List, [], ◌∷◌, ◌++◌, length, take, drop, Option, Some, false, refl, sym, ap, ◌∙◌, arith, pos, ℤ, append_assoc, length-append, append-nil}
 use Rattle.std.specs.Prelude.{slice_get, nat_lt, if◌then◌else◌, ◌&&◌}
 use Rattle.std.proofs.Math.Seq.{drop-append-add, take-append_seam}
-use Rattle.algol_tree.specs.Lines.{justified}
+use Rattle.b67_num.specs.Whole.{most as whole_most}
+use Rattle.b67_list.specs.Lines.{justified}
 use Rattle.b67_word.specs.Word.{Word, operand, as_whole}
 use Rattle.b67_word.proofs.WordLaws.{as_whole-operand}
 use Rattle.b67_control.specs.Control.{irw_word, mscw_word, as_sirw, as_mscw, as_pcw}
@@ -13,15 +14,17 @@ use Rattle.b67_control.specs.declared.Mscw.{Mscw}
 use Rattle.b67_control.specs.declared.Pcw.{Pcw}
 use Rattle.b67_ops.specs.declared.Operator.TheVariants as ops
 use Rattle.b67_ops.specs.declared.PlainKind.TheVariants as kinds
+use Rattle.b67_ops.specs.declared.intrinsic.Intrinsic.TheVariants.{Write}
+use Rattle.b67_ops.specs.Intrinsics.{number_of}
 use Rattle.b67_segment.specs.declared.code.Code.{Code}
 use Rattle.b67_segment.specs.declared.code.Phrase.TheVariants as parts
-use Rattle.b67_table.specs.declared.InterruptKind.TheVariants.{BrokenChain}
-use Rattle.b67_table.specs.Effect.{gives}
-use Rattle.b67_table.specs.Image.{Image}
-use Rattle.b67_table.specs.Program.{Program, does, done, load, cut, interrupt, line, registers as set_registers}
-use Rattle.b67_table.specs.Rows.{action_op, with_word, one_sirw, invalid, enter, enter_marked, enter_by, enter_at, reached, irw_or_sirw, write_line, line_shown, line_above_word, line_above, line_for, line_by, values_of, joined_values}
-use Rattle.b67_table.specs.Table.{system_stack, intrinsic_pcw, base_mark}
-use Rattle.b67_table.specs.Runs.{Acts, acts}
+use Rattle.b67_first_table.specs.declared.InterruptKind.TheVariants.{BrokenChain}
+use Rattle.b67_first_table.specs.Effect.{gives}
+use Rattle.b67_first_table.specs.Image.{Image}
+use Rattle.b67_first_table.specs.Program.{Program, does, done, load, cut, interrupt, line, registers as set_registers}
+use Rattle.b67_first_table.specs.Rows.{action_op, with_word, one_sirw, invalid, enter, enter_marked, enter_by, enter_at, reached, irw_or_sirw, write_line, line_shown, line_above_word, line_above, line_for, line_by, values_of, joined_values}
+use Rattle.b67_first_table.specs.Table.{system_stack, intrinsic_pcw, base_mark}
+use Rattle.b67_first_table.specs.Runs.{Acts, acts}
 use Rattle.b67_relate.specs.Code.{Has, IsWhole}
 use Rattle.b67_relate.specs.Picture.{At, stack, registers, image, ended_image, Sized, under_items}
 use Rattle.b67_relate.proofs.StackWords.{front, length-front, slice_get-seam}
@@ -37,7 +40,7 @@ module _ (most : ℕ) (laws : WordLaws) (code : Code) (values : List ℤ) (outpu
   written at next = record { place = next; s = at.f; f = at.f - (2 + length values); operands = [] }
 
   module _ (at : At) (next format width : ℕ) (value : ℤ) (sized : Sized most values at) (top : at.operands ≡ operand value ∷ under_items values format)
-      (mark : at.f ≡ 2 + length values) (number : format ≤ 549755813887) (whole : IsWhole value) (is : slice_get code.formats format ≡ Some (record { phrases = parts.Number width ∷ [] })) where
+      (mark : at.f ≡ 2 + length values) (number : format ≤ whole_most) (whole : IsWhole value) (is : slice_get code.formats format ≡ Some (record { phrases = parts.Number width ∷ [] })) where
     abbrev r : Registers
     r = registers (length values) at
 
@@ -48,7 +51,7 @@ module _ (most : ℕ) (laws : WordLaws) (code : Code) (values : List ℤ) (outpu
     m = record { entered = false; stack = 0; displacement = 0; df = 2 + length values }
 
     abbrev reference : Word
-    reference = irw_word (record { level = 0; index = 7 })
+    reference = irw_word (record { level = 0; index = number_of Write })
 
     abbrev above : List Word
     above = mscw_word m ∷ reference ∷ operand (pos format) ∷ operand value ∷ []
@@ -138,14 +141,14 @@ module _ (most : ℕ) (laws : WordLaws) (code : Code) (values : List ℤ) (outpu
         (most_is (2 + length values) at.f (omega (arith, mark)))
         ∙ ap (λ b. does 1 (if b then load (record { stack = 1; at = at.f + 1 }) on_above else invalid) img) (below_is (at.f + 1) at.s (omega (arith, mark, long)))
         ∙ ap (λ (o : Option Word). does 1 (on_above o) img) at_reference
-        ∙ ap (λ (o : Option Pcw). does 1 (enter_by code r next m reference o) img) (laws.irw_no_pcw 0 7 (omega arith) (omega arith))
-        ∙ ap (λ (o : Option Irw). does 1 (on_reference o (as_sirw reference)) img) (laws.irw_read 0 7 (omega arith) (omega arith))
-        ∙ ap (λ (o : Option Sirw). does 1 (one_sirw o (intrinsic_pcw 7) (λ (v : Word). enter_at code r next m (as_pcw v))) img) laws.intrinsic_no_sirw
+        ∙ ap (λ (o : Option Pcw). does 1 (enter_by code r next m reference o) img) (laws.irw_no_pcw 0 (number_of Write) (omega arith) (omega arith))
+        ∙ ap (λ (o : Option Irw). does 1 (on_reference o (as_sirw reference)) img) (laws.irw_read 0 (number_of Write) (omega arith) (omega arith))
+        ∙ ap (λ (o : Option Sirw). does 1 (one_sirw o (intrinsic_pcw Write) (λ (v : Word). enter_at code r next m (as_pcw v))) img) laws.intrinsic_no_sirw
         ∙ ap (λ (o : Option Pcw). does 1 (enter_at code r next m o) img) laws.intrinsic_read
         ∙ line_does
 
   pub write_step : (at : At) (next format width : ℕ) (value : ℤ) → Sized most values at → at.operands ≡ operand value ∷ under_items values format → at.f ≡ 2 + length values →
-      format ≤ 549755813887 → IsWhole value → slice_get code.formats format ≡ Some (record { phrases = parts.Number width ∷ [] }) → Has code at.place (ops.Plain kinds.Entr) next →
+      format ≤ whole_most → IsWhole value → slice_get code.formats format ≡ Some (record { phrases = parts.Number width ∷ [] }) → Has code at.place (ops.Plain kinds.Entr) next →
       Acts code 1 (image values output at) (image values (output ++ (justified width value ++ []) ∷ []) (written at next))
   unfolding action_op
   write_step at next format width value sized top mark number whole is has =

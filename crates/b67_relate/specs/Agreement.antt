@@ -1,19 +1,20 @@
 -- What a run of a code has to do with the source: its schedule is legal, and output and end are the source's own.
 use Rattle.std.specs.Prelude.{◌≡◌, ℕ, ◌+◌, ◌<◌, ◌≤◌, true, List, length, Option, Some, None}
+use Rattle.b67_store.specs.declared.TheConstants.{MOST_STACK_WORDS}
 use Rattle.algol_tree.specs.Plain.{PProgram}
 use Rattle.b67_segment.specs.declared.code.Code.{Code}
-use Rattle.algol_meaning.specs.World.{World, process_at}
-use Rattle.algol_meaning.specs.World.{is_able as meaning_able}
-use Rattle.algol_tree.specs.Numbered.{numbered}
-use Rattle.algol_meaning.specs.Run.{run, end_of, End, Legal}
-use Rattle.algol_meaning.specs.Run as meaning
-use Rattle.b67_table.specs.declared.InterruptKind.{InterruptKind}
-use Rattle.b67_table.specs.Effect.{interrupts, limit}
+use Rattle.algol_first_meaning.specs.World.{World, process_at}
+use Rattle.algol_first_meaning.specs.World.{is_able as meaning_able}
+use Rattle.b67_list.specs.Numbered.{numbered}
+use Rattle.algol_first_meaning.specs.Run.{run, end_of, End, Legal}
+use Rattle.algol_first_meaning.specs.Run as meaning
+use Rattle.b67_first_table.specs.declared.InterruptKind.{InterruptKind}
+use Rattle.b67_first_table.specs.Effect.{interrupts, limit}
 use Rattle.b67_control.specs.declared.Registers.{Registers}
-use Rattle.b67_table.specs.Image.{Image, stack_of}
-use Rattle.b67_table.specs.Image.{is_able as image_able}
-use Rattle.b67_table.specs.Table.{table, is_live, image_end, ImageEnd}
-use Rattle.b67_table.specs.Table as machine
+use Rattle.b67_first_table.specs.Image.{Image, stack_of}
+use Rattle.b67_first_table.specs.Image.{is_able as image_able}
+use Rattle.b67_first_table.specs.Table.{table, is_live, image_end, ImageEnd}
+use Rattle.b67_first_table.specs.Table as machine
 use Rattle.b67_relate.specs.Weight.{weight}
 
 -- the end of an image as an end of a world
@@ -23,10 +24,11 @@ end_as (Some machine.finished) = Some meaning.finished
 end_as (Some (machine.faulted kind p)) = Some (meaning.fault kind p)
 end_as (Some machine.all_waiting) = Some meaning.all_waiting
 
--- the image has the world's output, end and able processes, and where there is no end process 1 is neither ill-tagged nor at the stack limit
+-- the image has the world's output, end, processes and able processes, and where there is no end process 1 is neither ill-tagged nor at the stack limit
 pub record Shows (code : Code) (w : World) (img : Image) : Type 0 where
   pub output : img.output ≡ w.output
   pub ends : end_of w ≡ end_as (image_end img)
+  pub started : img.started ≡ length w.processes
   pub able : (p : ℕ) → meaning_able (process_at w p) ≡ image_able (numbered img.states p)
   pub no_interrupt : (kind : InterruptKind) → image_end img ≡ None → table code img 1 ≡ interrupts kind → ⊥
   pub no_limit : image_end img ≡ None → table code img 1 ≡ limit → ⊥
@@ -35,7 +37,7 @@ pub record Shows (code : Code) (w : World) (img : Image) : Type 0 where
 -- room for comes to the stack limit
 pub record Fits (tree : PProgram) (code : Code) (w : World) (img : Image) : Type 0 where
   pub light : (p : ℕ) (r : Registers) → is_live (numbered img.states p) ≡ true → numbered img.regs p ≡ Some r → length (stack_of img r.stack) + 3 ≤ weight tree w p
-  pub heavy : (p : ℕ) → table code img p ≡ limit → 65536 < weight tree w p
+  pub heavy : (p : ℕ) → table code img p ≡ limit → MOST_STACK_WORDS < weight tree w p
 
 -- the schedule is legal for the source, and the image shows its world and fits it
 pub record Agrees (tree : PProgram) (code : Code) (schedule : List ℕ) (img : Image) : Type 0 where

@@ -1,20 +1,20 @@
 -- Which action of the source each operator that is not plain is, in the code of a tree.
 use Rattle.std.specs.Prelude.{ℕ, List, [], ◌∷◌, Option, Some, None, Result, Ok, Err, reverse}
-use Rattle.algol_tree.specs.Numbered.{numbered}
+use Rattle.b67_list.specs.Numbered.{numbered}
 use Rattle.algol_tree.specs.Plain.{PProgram}
-use Rattle.algol_meaning.specs.World.{World}
-use Rattle.algol_meaning.specs.Choice.{Action, Read, Store, Line, End, Fault, Choice, choice}
-use Rattle.algol_meaning.specs.Run.{run}
+use Rattle.algol_first_meaning.specs.World.{World}
+use Rattle.algol_first_meaning.specs.Choice.{Action, Read, Store, Line, End, Fault, Choice, choice}
+use Rattle.algol_first_meaning.specs.Run.{run}
 use Rattle.b67_control.specs.declared.Registers.{Registers}
 use Rattle.b67_ops.specs.declared.Operator.{Operator}
 use Rattle.b67_ops.specs.declared.Operator.TheVariants as ops
 use Rattle.b67_ops.specs.declared.PlainKind.TheVariants as kinds
 use Rattle.b67_ops.specs.declared.BadCode.{BadCode}
 use Rattle.b67_segment.specs.declared.code.Code.{Code}
-use Rattle.b67_table.specs.Effect.{Effect, faults}
-use Rattle.b67_table.specs.Image.{Image}
-use Rattle.b67_table.specs.Table.{table, operator_at}
-use Rattle.b67_table.specs.Runs.{Runs, begin, entry}
+use Rattle.b67_first_table.specs.Effect.{Effect, faults}
+use Rattle.b67_first_table.specs.Image.{Image}
+use Rattle.b67_first_table.specs.Table.{table, operator_at}
+use Rattle.b67_first_table.specs.Runs.{Runs, begin, entry}
 
 -- ---- of the operators
 

@@ -5,10 +5,10 @@ use Rattle.algol_tree.specs.Accepted.{Accepted}
 use Rattle.algol_tree.specs.Counts.{program_tokens}
 use Rattle.b67_segment.specs.declared.code.Code.{Code}
 use Rattle.b67_segment.specs.declared.code.Segment.{Segment}
-use Rattle.algol_meaning.specs.Run.{Legal}
-use Rattle.b67_table.specs.Image.{Image}
-use Rattle.b67_table.specs.Runs.{TableRun}
-use Rattle.b67_table.specs.Sound.{Sound}
+use Rattle.algol_first_meaning.specs.Run.{Legal}
+use Rattle.b67_first_table.specs.Image.{Image}
+use Rattle.b67_first_table.specs.Runs.{TableRun}
+use Rattle.b67_first_table.specs.Sound.{Sound}
 use Rattle.b67_listing.specs.Listings.{IsListable}
 use Rattle.b67_relate.specs.Code.{ProgramAt}
 use Rattle.b67_relate.specs.Agreement.{Agrees}

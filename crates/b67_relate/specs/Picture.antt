@@ -2,22 +2,26 @@
 use Rattle.std.specs.Prelude.{◌≡◌, ℕ, slice_get, ◌+◌, ◌≤◌, ℤ, pos, false, true, List, [], ◌∷◌, ◌++◌, length, map, reverse, Some, None}
 use Rattle.algol_tree.specs.declared.tree.PhraseText.{PhraseText}
 use Rattle.algol_tree.specs.declared.tree.PhraseText.TheVariants as phrase
-use Rattle.algol_tree.specs.Numbered.{numbered}
+use Rattle.b67_list.specs.Numbered.{numbered}
 use Rattle.algol_tree.specs.Plain.{PExpr, two, none, more, PStmt, assign, write}
 use Rattle.b67_word.specs.Word.{Word, operand}
 use Rattle.b67_control.specs.Control.{irw_word, mscw_word}
 use Rattle.b67_control.specs.declared.Registers.{Registers}
 use Rattle.b67_ops.specs.declared.Operator.TheVariants as ops
 use Rattle.b67_ops.specs.declared.PlainKind.TheVariants as kinds
+use Rattle.b67_ops.specs.declared.intrinsic.Intrinsic.TheVariants.{Write}
+use Rattle.b67_ops.specs.declared.TheConstants.{OUTER_LEVEL}
+use Rattle.b67_ops.specs.Intrinsics.{number_of}
 use Rattle.b67_segment.specs.declared.code.Code.{Code}
-use Rattle.algol_meaning.specs.Rest.{Reference, Hole, read, broken, left, right, unbuilt, Half, val, busy, Item, run, Rest, over, store, storing, line, writing, idle, result_of}
-use Rattle.algol_meaning.specs.World.{number, NamedCell, block, able, ended, World}
-use Rattle.b67_table.specs.declared.ProcessState.TheVariants.{Able, Ended}
-use Rattle.b67_table.specs.Effect.{gives}
-use Rattle.b67_table.specs.Image.{Image, stack_of}
-use Rattle.b67_table.specs.Table.{table, plain, system_stack, base_frame, first_registers}
+use Rattle.algol_first_meaning.specs.Rest.{Reference, Hole, read, broken, left, right, unbuilt, Half, val, busy, Item, run, Rest, over, store, storing, line, writing, idle, result_of}
+use Rattle.algol_first_meaning.specs.World.{number, NamedCell, block, able, ended, World}
+use Rattle.b67_first_table.specs.declared.ProcessState.TheVariants.{Able, Ended}
+use Rattle.b67_first_table.specs.Effect.{gives}
+use Rattle.b67_first_table.specs.Image.{Image, stack_of}
+use Rattle.b67_first_table.specs.Table.{table, plain, system_stack, base_frame, first_registers}
 use Rattle.b67_relate.specs.Code.{Has, IsWhole, ExprAt, CalculationAt, ItemsAt, IsInteger, FormatIs}
 use Rattle.std.specs.Prelude.{Err}
+use Rattle.algol_tree.specs.declared.TheConstants.{MOST_BLOCK_CELLS}
 
 -- ---- the world of one block
 
@@ -93,7 +97,7 @@ ended_image cells output at =
 -- the stack is as long as its words, at most so many of them are operands, and the values are whole numbers
 pub record Sized (most : ℕ) (values : List ℤ) (at : At) : Type 0 where
   pub long : at.s ≡ 2 + length values + length at.operands
-  pub few : length values ≤ 400
+  pub few : length values ≤ MOST_BLOCK_CELLS
   pub room : length at.operands ≤ most
   pub small : most ≤ 65000
   pub whole : (k : ℕ) (v : ℤ) → slice_get values k ≡ Some v → IsWhole v
@@ -138,17 +142,17 @@ AreShallow most (run s ∷ after) = (stmt_depth s ≤ most) × AreShallow most a
 -- the words of a line that is being made: the format's number, the reference of WRITE, and the mark
 abbrev pub under_items : List ℤ → ℕ → List Word
 under_items values format =
-    operand (pos format) ∷ irw_word (record { level = 0; index = 7 })
+    operand (pos format) ∷ irw_word (record { level = 0; index = number_of Write })
     ∷ mscw_word (record { entered = false; stack = 0; displacement = 0; df = 2 + length values }) ∷ []
 
 abbrev pub reference_word : ℕ → Word
-reference_word k = irw_word (record { level = 2; index = 2 + k })
+reference_word k = irw_word (record { level = OUTER_LEVEL; index = 2 + k })
 
 module _ (most : ℕ) (code : Code) (names : List (List ℕ)) where
   -- the machine is at a place with operands; the value is to stand at the place `to`, on top of `below`
   abbrev pub Holds : Hole → ℕ → List Word → List Word → ℕ → Type 0
   Holds (read r) place operands below to =
-      (r.instance ≡ 1) × (k : ℕ) × IsInteger names r.name k × Has code place (ops.Valc (record { level = 2; index = 2 + k })) to × (operands ≡ below) × HasRoom most below 1
+      (r.instance ≡ 1) × (k : ℕ) × IsInteger names r.name k × Has code place (ops.Valc (record { level = OUTER_LEVEL; index = 2 + k })) to × (operands ≡ below) × HasRoom most below 1
   Holds (broken op v w fault) place operands below to =
       CalculationAt code place op to × (operands ≡ operand w ∷ operand v ∷ below) × (result_of op v w ≡ Some (Err fault)) × IsWhole v × IsWhole w
   Holds (left op hole second) place operands below to =
@@ -157,9 +161,9 @@ module _ (most : ℕ) (code : Code) (names : List (List ℕ)) where
       (n : ℕ) × Holds hole place operands (operand v ∷ below) n × CalculationAt code n op to × IsWhole v
   Holds unbuilt place operands below to = ⊥
 
-  abbrev pub Shows : Half → ℕ → List Word → List Word → ℕ → Type 0
-  Shows (val v) place operands below to = (place ≡ to) × (operands ≡ operand v ∷ below) × IsWhole v
-  Shows (busy hole) place operands below to = Holds hole place operands below to
+  abbrev pub HoldsHalf : Half → ℕ → List Word → List Word → ℕ → Type 0
+  HoldsHalf (val v) place operands below to = (place ≡ to) × (operands ≡ operand v ∷ below) × IsWhole v
+  HoldsHalf (busy hole) place operands below to = Holds hole place operands below to
 
   -- a store is to be done there
   pub record StoreAt (values : List ℤ) (r : Reference) (after : List Item) (place : ℕ) (f integer : ℕ) : Type 0 where

@@ -3,26 +3,28 @@ use Rattle.std.specs.Prelude.{◌≡◌, ℕ, ◌+◌, ℤ, List, [], ◌∷◌,
 use Rattle.b67_num.specs.declared.NumFault.{NumFault}
 use Rattle.b67_control.specs.declared.Registers.{Registers}
 use Rattle.b67_num.specs.Whole.{fault_of}
+use Rattle.b67_ops.specs.declared.TheConstants.{OUTER_LEVEL}
 use Rattle.b67_segment.specs.declared.code.Code.{Code}
-use Rattle.algol_meaning.specs.Rest.{Rest}
-use Rattle.algol_meaning.specs.World.{World}
-use Rattle.algol_meaning.specs.Choice.{with_fault}
-use Rattle.b67_table.specs.declared.ProcessState.TheVariants.{Able}
-use Rattle.b67_table.specs.Image.{Image}
-use Rattle.b67_table.specs.Effect.{faults}
-use Rattle.b67_table.specs.Table.{table, failed}
+use Rattle.algol_first_meaning.specs.Rest.{Rest}
+use Rattle.algol_first_meaning.specs.World.{World}
+use Rattle.algol_first_meaning.specs.Choice.{with_fault}
+use Rattle.b67_first_table.specs.declared.ProcessState.TheVariants.{Able}
+use Rattle.b67_first_table.specs.Image.{Image}
+use Rattle.b67_first_table.specs.Effect.{faults}
+use Rattle.b67_first_table.specs.Table.{table, failed}
 use Rattle.b67_relate.specs.Picture.{At, world, ended_world, image, ended_image, Sized, Within, Stands}
 
--- process 1 alone has registers, and stands in segment 0, at level 2
+-- process 1 alone has registers, and stands in segment 0, at the outer block's level
 pub record Located (img : Image) : Type 0 where
   pub registers : Registers
   pub alone : img.regs ≡ registers ∷ []
-  pub level : registers.ll ≡ 2
+  pub level : registers.ll ≡ OUTER_LEVEL
   pub segment : registers.segment ≡ 0
 
--- process 1 alone is there and able, nothing has failed, and this is the output
+-- process 1 alone has been started and is able, nothing has failed, and this is the output
 pub record Alive (img : Image) (output : List (List ℕ)) : Type 0 where
   pub states : img.states ≡ Able ∷ []
+  pub started : img.started ≡ 1
   pub fault : img.fault ≡ None
   pub output_is : img.output ≡ output
   pub located : Located img

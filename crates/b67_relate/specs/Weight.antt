@@ -2,7 +2,7 @@
 use Rattle.std.specs.Prelude.{ℕ, ◌+◌, ◌*◌, nat_eq, ◌&&◌, not, if◌then◌else◌, List, [], ◌∷◌, length}
 use Rattle.algol_tree.specs.Plain.{PProgram}
 use Rattle.algol_tree.specs.Counts.{program_tokens}
-use Rattle.algol_meaning.specs.World.{Instance, World}
+use Rattle.algol_first_meaning.specs.World.{Instance, World}
 
 -- an instance of a block: 8, its cells, and 4 for each token of the segment in whose text it stands, which is the program's own
 abbrev pub instance_weight : PProgram → Instance → ℕ

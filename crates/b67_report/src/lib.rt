@@ -7,10 +7,9 @@
 ghost use Rattle.std.specs.Prelude.{◌≡◌, ◌++◌, IfOk, OnOk, codes};
 ghost use Rattle.b67_report.specs.Texts.{line_text, head_text, lines_text, count_text, counts_text, end_words, fault_words, ReportText};
 
-use algol_tree::{Line, List};
+use b67_list::{Line, List, push_number};
 use b67_num::FaultKind;
 use b67_schedule::Schedule;
-use itoa::{Buffer, Integer};
 use std::alloc::{AllocError, Global};
 
 /// How a run ended.
@@ -149,14 +148,6 @@ fn push_line(text: &mut Vec<u8>, line: &[u8]) -> Result<(), AllocError>
 {
     text.extend_from_slice(line)?;
     text.extend_from_slice(b"\n")
-}
-
-/// Appends words and a number in decimal digits.
-fn push_number<I: Integer>(text: &mut Vec<u8>, words: &[u8], number: I) -> Result<(), AllocError>
-    ensures { OnOk result (text.new.items ≡ text.old.items ++ (words.now ++ I.text number)) }
-{
-    text.extend_from_slice(words)?;
-    text.extend_from_slice(Buffer::new().format(number).as_bytes())
 }
 
 #[cfg(test)]

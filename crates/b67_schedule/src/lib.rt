@@ -6,7 +6,7 @@ ghost use Rattle.std.specs.Fmt.{decimal};
 ghost use Rattle.std.specs.List.{flat_map};
 ghost use Rattle.b67_schedule.specs.Schedules.{most, entries, IsSchedule, IsLast, run_line, ScheduleText};
 
-use itoa::{Buffer, Integer};
+use b67_list::push_number;
 use std::alloc::{AllocError, Global};
 use std::marker::Model;
 
@@ -42,6 +42,7 @@ impl Schedule {
     /// A schedule without actions, with room for so many runs.
     pub fn with_room(alloc: Global, runs: usize) -> Result<Schedule, AllocError>
         ensures empty { IfOk result (λ schedule. schedule.runs ≡ []) }
+        ensures valid { IfOk result (λ schedule. IsSchedule schedule.runs) }
         ensures room { IfOk result (λ schedule. schedule.room ≡ runs) }
     {
         Ok(Schedule {
@@ -99,8 +100,7 @@ impl Schedule {
     pub fn push_text(&self, text: &mut Vec<u8>) -> Result<(), AllocError>
         ensures { OnOk result (text.new.items ≡ text.old.items ++ ScheduleText self.now.runs) }
     {
-        text.extend_from_slice(b"SCHEDULE 1 ")?;
-        push_number(text, self.runs.len())?;
+        push_number(text, b"SCHEDULE 1 ", self.runs.len())?;
         text.extend_from_slice(b"\n")?;
         'lines: for run in &self.runs {
             push_line(text, run)?;
@@ -120,17 +120,9 @@ fn is_last(runs: &[Run], process: u32) -> bool
 fn push_line(text: &mut Vec<u8>, run: &Run) -> Result<(), AllocError>
     ensures { OnOk result (text.new.items ≡ text.old.items ++ run_line run.now) }
 {
-    push_number(text, run.process)?;
-    text.extend_from_slice(b"*")?;
-    push_number(text, run.times)?;
+    push_number(text, b"", run.process)?;
+    push_number(text, b"*", run.times)?;
     text.extend_from_slice(b"\n")
-}
-
-/// Appends a number in decimal digits.
-fn push_number<I: Integer>(text: &mut Vec<u8>, number: I) -> Result<(), AllocError>
-    ensures { OnOk result (text.new.items ≡ text.old.items ++ I.text number) }
-{
-    text.extend_from_slice(Buffer::new().format(number).as_bytes())
 }
 
 #[cfg(test)]

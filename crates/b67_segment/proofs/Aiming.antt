@@ -5,7 +5,8 @@ use Rattle.std.proofs.lemmas.List.{take_at, drop_at}
 use Rattle.std.specs.Int.{w16, to_be_bytes}
 use Rattle.b67_ops.specs.declared.Operator.TheVariants.{Branch}
 use Rattle.b67_ops.specs.declared.BranchKind.{BranchKind}
-use Rattle.b67_ops.specs.Codes.{branch_code}
+use Rattle.b67_ops.specs.Codes.{code_of}
+use Rattle.b67_ops.specs.declared.table.OperatorKind.TheVariants as kinds
 use Rattle.b67_ops.specs.Spelling.{spelling}
 use Rattle.b67_ops.proofs.Laws.{length-spelling}
 use Rattle.b67_segment.specs.declared.code.Mark.{Mark}
@@ -47,7 +48,7 @@ module _ (before after : List Placed) (level : ℕ) (kind : BranchKind) where
 
   -- the syllables and the marks around a branch
   branch-text : (place : ℕ) → text 0 (before ++ branch place ∷ after)
-      ≡ text 0 before ++ branch_code kind ∷ (to_be_bytes w16 place ++ text (size before + 3) after)
+      ≡ text 0 before ++ code_of (kinds.Branch kind) ∷ (to_be_bytes w16 place ++ text (size before + 3) after)
   unfolding branch
   branch-text place =
       text-append 0 before (branch place ∷ after)
@@ -67,10 +68,10 @@ module _ (before after : List Placed) (level : ℕ) (kind : BranchKind) where
       let x = text 0 before in
       let y = text (at + 3) after in
       let parts = AreFit-parts before (branch old) after b.fit in
-      let is : bytes ≡ x ++ branch_code kind ∷ (to_be_bytes w16 old ++ y) = b.code ∙ branch-text old in
+      let is : bytes ≡ x ++ code_of (kinds.Branch kind) ∷ (to_be_bytes w16 old ++ y) = b.code ∙ branch-text old in
       let text_is : spliced bytes at target ≡ text 0 (before ++ branch target ∷ after) =
       ap (λ xs. spliced xs at target) is
-      ∙ splice x y (branch_code kind) (old / 256 % 256) (old % 256) (to_be_bytes w16 target) at refl
+      ∙ splice x y (code_of (kinds.Branch kind)) (old / 256 % 256) (old % 256) (to_be_bytes w16 target) at refl
       ∙ sym (branch-text target) in
       record {
         code = text_is;
@@ -82,8 +83,8 @@ module _ (before after : List Placed) (level : ℕ) (kind : BranchKind) where
           ap length is,
           ap length text_is,
           ap length (branch-text target),
-          length-append x (branch_code kind ∷ (to_be_bytes w16 old ++ y)),
-          length-append x (branch_code kind ∷ (to_be_bytes w16 target ++ y)),
+          length-append x (code_of (kinds.Branch kind) ∷ (to_be_bytes w16 old ++ y)),
+          length-append x (code_of (kinds.Branch kind) ∷ (to_be_bytes w16 target ++ y)),
         );
       }
 
@@ -105,6 +106,6 @@ unfolding branch
 branch-within {ps} {bytes} {ms} at here b =
     let s = here.stands in
     let y = text (size s.before + 3) s.after in
-    let is : bytes ≡ text 0 s.before ++ branch_code here.kind ∷ (to_be_bytes w16 here.old ++ y) =
+    let is : bytes ≡ text 0 s.before ++ code_of (kinds.Branch here.kind) ∷ (to_be_bytes w16 here.old ++ y) =
     b.code ∙ ap (text 0) s.parts ∙ branch-text s.before s.after here.level here.kind here.old in
-    omega (arith, s.at_is, ap length is, length-append (text 0 s.before) (branch_code here.kind ∷ (to_be_bytes w16 here.old ++ y)))
+    omega (arith, s.at_is, ap length is, length-append (text 0 s.before) (code_of (kinds.Branch here.kind) ∷ (to_be_bytes w16 here.old ++ y)))

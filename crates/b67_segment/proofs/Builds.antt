@@ -1,9 +1,11 @@
 -- What a builder keeps, under each of its calls.
-use Rattle.std.proofs.Common.{◌≡◌, ◌≢◌, ℕ, ◌+◌, ◌<◌, ◌≤◌, Bool, true, false, cond, Option, Some, None, List, [], ◌∷◌, ◌++◌, length, refl, sym, ap, ◌∙◌, subst, arith, length-append}
+use Rattle.std.proofs.Common.{◌*◌, ◌≡◌, ◌≢◌, ℕ, ◌+◌, ◌<◌, ◌≤◌, Bool, true, false, cond, Option, Some, None, List, [], ◌∷◌, ◌++◌, length, refl, sym, ap, ◌∙◌, subst, arith, length-append}
 use Rattle.std.proofs.lemmas.List.{append-nil}
 use Rattle.std.specs.Option.{ForSome}
 use Rattle.std.specs.Prelude.{Result, Ok, Err, OnOk, OnErr}
 use Rattle.std.specs.declared.alloc.AllocError.{AllocError}
+use Rattle.b67_segment.specs.declared.TheConstants.{MOST_SEGMENT_WORDS}
+use Rattle.b67_ops.specs.declared.TheConstants.{MOST_LEVEL}
 use Rattle.b67_ops.specs.declared.Operator.{Operator}
 use Rattle.b67_ops.specs.Spelling.{spelling, Fits}
 use Rattle.b67_segment.specs.declared.code.Mark.{Mark}
@@ -21,7 +23,7 @@ operators_of-none = operators_of-built Builds-none
 
 -- what is built is kept
 pub IsBuilt-from : {ps : List Placed} {bytes : List ℕ} {ms : List Mark} (level : Option ℕ) (room : ℕ) → Builds ps bytes ms
-    → ForSome level (λ l. l ≤ 31) → (marked None ms ≢ level → 0 < room) → IsBuilt bytes ms level room
+    → ForSome level (λ l. l ≤ MOST_LEVEL) → (marked None ms ≢ level → 0 < room) → IsBuilt bytes ms level room
 IsBuilt-from {ps} {bytes} {ms} level room b known marking = record {
   builds = subst (λ qs. Builds qs bytes ms) (sym (operators_of-built b)) b;
   known = known;
@@ -37,8 +39,8 @@ marks_with-append true m ms = append-nil ms
 marks_with-append false m ms = refl
 
 -- one more operator is built by its syllables, and by its mark
-pub Builds-append : {ps : List Placed} {bytes : List ℕ} {ms : List Mark} (level : ℕ) (op : Operator) → Builds ps bytes ms → level ≤ 31 → Fits level op
-    → length bytes + length (spelling (length bytes) level op) ≤ 49152
+pub Builds-append : {ps : List Placed} {bytes : List ℕ} {ms : List Mark} (level : ℕ) (op : Operator) → Builds ps bytes ms → level ≤ MOST_LEVEL → Fits level op
+    → length bytes + length (spelling (length bytes) level op) ≤ 6 * MOST_SEGMENT_WORDS
     → Builds (ps ++ record { level = level; operator = op } ∷ []) (bytes ++ spelling (length bytes) level op) (marks_with ms (length bytes) level)
 Builds-append {ps} {bytes} {ms} level op b most fits room =
     let p : Placed = record { level = level; operator = op } in
@@ -76,8 +78,8 @@ marked-with ms at level = marked-cases (is_level (marked None ms) level) ms at l
     marked-cases false ms at level h = marked-push None ms (record { place = at; level = level })
 
 module _ (bytes : List ℕ) (ms : List Mark) (room level : ℕ) (op : Operator) (built : IsBuilt bytes ms (Some level) room) (fits : Fits level op)
-    (short : length bytes + length (spelling (length bytes) level op) ≤ 49152) where
-  known : level ≤ 31
+    (short : length bytes + length (spelling (length bytes) level op) ≤ 6 * MOST_SEGMENT_WORDS) where
+  known : level ≤ MOST_LEVEL
   known = built.known level refl
 
   -- what a call of append leaves is kept, whether or not there was memory

@@ -3,19 +3,21 @@ use Rattle.std.proofs.Common.{◌≡◌, ℕ, zero, suc, ◌+◌, ◌*◌, ◌/�
 use Rattle.std.specs.Prelude.{◌↔◌, MatchOption, slice_get}
 use Rattle.std.proofs.lemmas.List.{drop_all}
 use Rattle.std.specs.Int.{bytes_high_first}
+use Rattle.b67_ops.specs.declared.TheConstants.{MOST_LEVEL}
 use Rattle.b67_ops.specs.declared.Operator.{Operator}
 use Rattle.b67_ops.specs.declared.BadCode.{BadCode}
-use Rattle.b67_ops.specs.declared.BadCode.TheVariants.{CutShort}
+use Rattle.b67_ops.specs.declared.BadCode.TheVariants.{CutShort, BadLevel, Unknown}
 use Rattle.b67_ops.specs.Spelling.{Stands}
 use Rattle.b67_ops.specs.Decoding.{decoded}
-use Rattle.b67_ops.proofs.Laws.{decoded-ok, decoded-past}
+use Rattle.b67_ops.specs.Refusals.{IsCutShort, NamesLevelAbove, IsUnknown}
+use Rattle.b67_ops.proofs.Laws.{decoded-ok, decoded-past, decoded-cut_short, decoded-above, decoded-unknown}
 use Rattle.b67_ops.proofs.Reading.{IsBytes}
 use Rattle.b67_ops.proofs.Windows.{decoded-window, moved}
 use Rattle.b67_segment.specs.declared.code.Segment.{Segment}
 use Rattle.b67_segment.specs.declared.code.Code.{Code}
 use Rattle.b67_segment.specs.declared.code.Pointer.{Pointer}
 use Rattle.b67_segment.specs.Syllables.{syllables}
-use Rattle.b67_segment.specs.Fetching.{fetched_from, fetched, StandsIn, IsPast}
+use Rattle.b67_segment.specs.Fetching.{fetched_from, fetched, StandsIn, IsPast, IsCutShortIn, NamesLevelAboveIn, IsUnknownIn}
 
 -- the syllables of one word, and the first of two or more
 pub one-word : (words : List ℕ) → 1 ≤ length words → length words < 2 → take 12 (syllables words) ≡ bytes_high_first 6 (get_or words 0 0)
@@ -70,7 +72,7 @@ pub decoded-past_words : (words : List ℕ) (place level : ℕ) → length words
 decoded-past_words words place level h = decoded-past (syllables words) place level (omega (arith, length-syllables words))
 
 -- an operator is fetched exactly where it stands in its segment
-fetched-some : (code : Code) (at : Pointer) (level : ℕ) (s : Option Segment) → slice_get code.segments at.segment ≡ s → level ≤ 31 → (op : Operator) (next : ℕ)
+fetched-some : (code : Code) (at : Pointer) (level : ℕ) (s : Option Segment) → slice_get code.segments at.segment ≡ s → level ≤ MOST_LEVEL → (op : Operator) (next : ℕ)
     → (fetched_from s at.place level ≡ Ok (op, next)) ↔ StandsIn code at level op next
 fetched-some code at level None there most op next = (λ h. cc, λ s. let wrong : None ≡ Some s.segment = sym there ∙ s.there in cc)
 fetched-some code at level (Some segment) there most op next =
@@ -83,7 +85,7 @@ fetched-some code at level (Some segment) there most op next =
     some-same : (a b : Segment) → Some a ≡ Some b → a ≡ b
     some-same a b h = cc
 
-pub fetched-ok : (code : Code) (at : Pointer) (level : ℕ) → level ≤ 31 → (op : Operator) (next : ℕ)
+pub fetched-ok : (code : Code) (at : Pointer) (level : ℕ) → level ≤ MOST_LEVEL → (op : Operator) (next : ℕ)
     → (fetched code at level ≡ Ok (op, next)) ↔ StandsIn code at level op next
 fetched-ok code at level most op next = fetched-some code at level (slice_get code.segments at.segment) refl most op next
 
@@ -94,3 +96,28 @@ past-some (Some segment) place level h = decoded-past (syllables segment.words) 
 -- nothing is fetched past a segment, or from none
 pub fetched-past : (code : Code) (at : Pointer) (level : ℕ) → IsPast code at → fetched code at level ≡ Err CutShort
 fetched-past code at level h = past-some (slice_get code.segments at.segment) at.place level h
+
+-- each refusal comes exactly where it has its cause
+cut_short-some : (s : Option Segment) (place level : ℕ) → level ≤ MOST_LEVEL
+    → (fetched_from s place level ≡ Err CutShort) ↔ MatchOption s (Unit {0}) (λ segment. IsCutShort (syllables segment.words) place level)
+cut_short-some None place level most = (λ h. tt, λ h. refl)
+cut_short-some (Some segment) place level most = decoded-cut_short (syllables segment.words) place level most (syllables-bytes segment.words)
+
+above-some : (s : Option Segment) (place level : ℕ) → level ≤ MOST_LEVEL
+    → (fetched_from s place level ≡ Err BadLevel) ↔ MatchOption s ⊥ (λ segment. NamesLevelAbove (syllables segment.words) place level)
+above-some None place level most = (λ h. cc, λ h. absurd h)
+above-some (Some segment) place level most = decoded-above (syllables segment.words) place level most (syllables-bytes segment.words)
+
+unknown-some : (s : Option Segment) (place level : ℕ) → level ≤ MOST_LEVEL
+    → (fetched_from s place level ≡ Err Unknown) ↔ MatchOption s ⊥ (λ segment. IsUnknown (syllables segment.words) place level)
+unknown-some None place level most = (λ h. cc, λ h. absurd h)
+unknown-some (Some segment) place level most = decoded-unknown (syllables segment.words) place level most (syllables-bytes segment.words)
+
+pub fetched-cut_short : (code : Code) (at : Pointer) (level : ℕ) → level ≤ MOST_LEVEL → (fetched code at level ≡ Err CutShort) ↔ IsCutShortIn code at level
+fetched-cut_short code at level most = cut_short-some (slice_get code.segments at.segment) at.place level most
+
+pub fetched-above : (code : Code) (at : Pointer) (level : ℕ) → level ≤ MOST_LEVEL → (fetched code at level ≡ Err BadLevel) ↔ NamesLevelAboveIn code at level
+fetched-above code at level most = above-some (slice_get code.segments at.segment) at.place level most
+
+pub fetched-unknown : (code : Code) (at : Pointer) (level : ℕ) → level ≤ MOST_LEVEL → (fetched code at level ≡ Err Unknown) ↔ IsUnknownIn code at level
+fetched-unknown code at level most = unknown-some (slice_get code.segments at.segment) at.place level most

@@ -7,19 +7,19 @@ use Rattle.std.proofs.Math.Seq.{take-add}
 use Rattle.std.proofs.lemmas.Grind.{flat_map-append}
 use Rattle.std.proofs.lemmas.Bool.{eq-eqb, cond-true}
 use Rattle.std.proofs.lemmas.List.{append-nil, take-replicate}
+use Rattle.b67_ops.specs.declared.TheConstants.{MOST_LEVEL}
 use Rattle.b67_ops.specs.declared.Operator.TheVariants.{Plain}
 use Rattle.b67_ops.specs.declared.PlainKind.TheVariants.{Noop}
-use Rattle.b67_ops.specs.Codes.{code_of}
 use Rattle.b67_ops.proofs.Reading.{word-bytes}
 use Rattle.b67_segment.specs.declared.code.Mark.{Mark}
-use Rattle.b67_segment.specs.Operators.{Placed, text, size, marks_after, marks_of, AreFit, last_level, missing, filled}
+use Rattle.b67_segment.specs.Operators.{Placed, text, size, marks_after, marks_of, AreFit, last_level, missing, filler, filled}
 use Rattle.b67_segment.specs.Building.{Builds}
 use Rattle.b67_segment.specs.Syllables.{syllables, Spells}
 use Rattle.b67_segment.proofs.Texts.{text-append, marks_after-append, AreFit-append}
 
 -- the first of five NOOPs
-pub noops : (count : ℕ) → count ≤ 5 → take {A = ℕ} count (0xfe ∷ 0xfe ∷ 0xfe ∷ 0xfe ∷ 0xfe ∷ []) ≡ replicate count 0xfe
-noops count h = take-replicate {X = ℕ} count 5 0xfe h
+pub noops : (count : ℕ) → count ≤ 5 → take {A = ℕ} count (filler ∷ filler ∷ filler ∷ filler ∷ filler ∷ []) ≡ replicate count filler
+noops count h = take-replicate {X = ℕ} count 5 filler h
 
 -- six bytes are those of their word
 pub word_of : (a b c d e f : ℕ) → a < 256 → b < 256 → c < 256 → d < 256 → e < 256 → f < 256
@@ -30,29 +30,27 @@ word_of a b c d e f pa pb pc pd pe pf = sym (word-bytes a b c d e f [] pa pb pc 
 abbrev pub noop : ℕ → Placed
 noop level = record { level = level; operator = Plain Noop }
 
-text-noops : (at level count : ℕ) → text at (replicate count (noop level)) ≡ replicate count 0xfe
-unfolding code_of
+text-noops : (at level count : ℕ) → text at (replicate count (noop level)) ≡ replicate count filler
 text-noops at level zero = refl
-text-noops at level (suc count) = ap (λ xs. 0xfe ∷ xs) (text-noops (at + 1) level count)
+text-noops at level (suc count) = ap (λ xs. filler ∷ xs) (text-noops (at + 1) level count)
 
 marks-noops : (at level count : ℕ) → marks_after at (Some level) (replicate count (noop level)) ≡ []
-unfolding code_of
 marks-noops at level zero = refl
 marks-noops at level (suc count) =
     cond-true (eqb level level) _ _ (eq-eqb level level refl) ∙ marks-noops (at + 1) level count
 
-AreFit-noops : (level count : ℕ) → level ≤ 31 → AreFit (replicate count (noop level))
+AreFit-noops : (level count : ℕ) → level ≤ MOST_LEVEL → AreFit (replicate count (noop level))
 AreFit-noops level zero h = tt
 AreFit-noops level (suc count) h = (record { known = h; fits = tt }, AreFit-noops level count h)
 
 -- the last operator has a level, which is known
-last-some : (level : ℕ) (ps : List Placed) → level ≤ 31 → AreFit ps → (last : ℕ) × (last_level (Some level) ps ≡ Some last) × (last ≤ 31)
+last-some : (level : ℕ) (ps : List Placed) → level ≤ MOST_LEVEL → AreFit ps → (last : ℕ) × (last_level (Some level) ps ≡ Some last) × (last ≤ 31)
 last-some level [] h fit = (level, refl, h)
 last-some level (p ∷ ps) h fit = last-some p.level ps fit.0.known fit.1
 
 -- the NOOPs that fill a segment stand at the last operator's level, so they have no mark
 pub filled-text : (ps : List Placed) → AreFit ps
-    → (text 0 (filled ps) ≡ text 0 ps ++ replicate (missing (size ps)) 0xfe) × (marks_of (filled ps) ≡ marks_of ps) × AreFit (filled ps)
+    → (text 0 (filled ps) ≡ text 0 ps ++ replicate (missing (size ps)) filler) × (marks_of (filled ps) ≡ marks_of ps) × AreFit (filled ps)
 filled-text [] fit = (refl, refl, tt)
 filled-text (p ∷ ps) fit =
     let all = p ∷ ps in
@@ -83,12 +81,12 @@ words-more words word index code h k =
 
 -- a segment of filled code is that of the operators that were built, and NOOPs
 pub Spells-filled : {ps : List Placed} {bytes : List ℕ} {ms : List Mark} → Builds ps bytes ms → (words : List ℕ) (marks : List Mark)
-    → syllables words ≡ bytes ++ replicate (missing (length bytes)) 0xfe → All (λ word. word < 2 ^ 48) words → marks ≡ ms
+    → syllables words ≡ bytes ++ replicate (missing (length bytes)) filler → All (λ word. word < 2 ^ 48) words → marks ≡ ms
     → Spells (filled ps) (record { words = words; marks = marks })
 Spells-filled {ps} {bytes} {ms} b words marks code small same =
     let fills = filled-text ps b.fit in
     record {
-      code = code ∙ ap (λ xs. xs ++ replicate (missing (length xs)) 0xfe) b.code ∙ sym fills.0;
+      code = code ∙ ap (λ xs. xs ++ replicate (missing (length xs)) filler) b.code ∙ sym fills.0;
       small = small;
       marks = same ∙ b.marks ∙ sym fills.1;
       fit = fills.2;

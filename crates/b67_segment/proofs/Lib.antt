@@ -4,4 +4,5 @@ pub mod Builds
 pub mod Aiming
 pub mod Filling
 pub mod Fetches
+pub mod DecodedPlaces
 pub mod Among

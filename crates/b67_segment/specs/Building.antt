@@ -1,7 +1,9 @@
 -- What a builder holds: the operators appended so far, each with its level, and the level that was set.
-use Rattle.std.specs.Prelude.{◌≡◌, ◌≢◌, ℕ, ◌<◌, zero, suc, ◌+◌, ◌≤◌, nat_eq, Option, Some, None, unwrap_or, Result, Ok, Err, List, [], ◌∷◌, ◌++◌, length, take, drop, if◌then◌else◌}
+use Rattle.std.specs.Prelude.{◌*◌, ◌≡◌, ◌≢◌, ℕ, ◌<◌, zero, suc, ◌+◌, ◌≤◌, nat_eq, Option, Some, None, unwrap_or, Result, Ok, Err, List, [], ◌∷◌, ◌++◌, length, take, drop, if◌then◌else◌}
 use Rattle.std.specs.Option.{ForSome}
 use Rattle.std.specs.Int.{w16, to_be_bytes}
+use Rattle.b67_segment.specs.declared.TheConstants.{MOST_SEGMENT_WORDS}
+use Rattle.b67_ops.specs.declared.TheConstants.{MOST_LEVEL}
 use Rattle.b67_ops.specs.declared.Operator.{Operator}
 use Rattle.b67_ops.specs.declared.Operator.TheVariants.{Branch}
 use Rattle.b67_ops.specs.declared.BranchKind.{BranchKind}
@@ -53,7 +55,7 @@ pub record Builds (ps : List Placed) (bytes : List ℕ) (ms : List Mark) : Type 
   pub code : bytes ≡ text 0 ps
   pub marks : ms ≡ marks_of ps
   pub fit : AreFit ps
-  pub room : length bytes ≤ 49152
+  pub room : length bytes ≤ 6 * MOST_SEGMENT_WORDS
 
 -- the level that marks leave, after this one
 abbrev pub marked : Option ℕ → List Mark → Option ℕ
@@ -67,7 +69,7 @@ marks_with ms at level = if is_level (marked None ms) level then ms else (ms ++ 
 -- what a builder keeps: its syllables and marks are those of operators, and there is room for the next mark
 pub record IsBuilt (bytes : List ℕ) (ms : List Mark) (level : Option ℕ) (room : ℕ) : Type 0 where
   pub builds : Builds (operators_of bytes ms) bytes ms
-  pub known : ForSome level (λ l. l ≤ 31)
+  pub known : ForSome level (λ l. l ≤ MOST_LEVEL)
   pub marking : marked None ms ≢ level → 0 < room
 
 -- a branch stands at this place

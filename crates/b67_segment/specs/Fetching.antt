@@ -5,6 +5,7 @@ use Rattle.b67_ops.specs.declared.BadCode.{BadCode}
 use Rattle.b67_ops.specs.declared.BadCode.TheVariants.{CutShort}
 use Rattle.b67_ops.specs.Spelling.{Stands}
 use Rattle.b67_ops.specs.Decoding.{decoded}
+use Rattle.b67_ops.specs.Refusals.{IsCutShort, NamesLevelAbove, IsUnknown}
 use Rattle.b67_segment.specs.declared.code.Segment.{Segment}
 use Rattle.b67_segment.specs.declared.code.Code.{Code}
 use Rattle.b67_segment.specs.declared.code.Pointer.{Pointer}
@@ -28,3 +29,18 @@ pub record StandsIn (code : Code) (at : Pointer) (level : ℕ) (op : Operator) (
 -- the pointer's segment is not there, or ends before its place
 abbrev pub IsPast : Code → Pointer → Type 0
 IsPast code at = MatchOption (slice_get code.segments at.segment) (Unit {0}) (λ segment. 6 * length segment.words ≤ at.place)
+
+-- the pointer's segment is not there, or ends before the operator at its place does
+abbrev pub IsCutShortIn : Code → Pointer → ℕ → Type 0
+IsCutShortIn code at level =
+    MatchOption (slice_get code.segments at.segment) (Unit {0}) (λ segment. IsCutShort (syllables segment.words) at.place level)
+
+-- the pointer's segment is there, and an operator at its place names a level above the current one
+abbrev pub NamesLevelAboveIn : Code → Pointer → ℕ → Type 0
+NamesLevelAboveIn code at level =
+    MatchOption (slice_get code.segments at.segment) ⊥ (λ segment. NamesLevelAbove (syllables segment.words) at.place level)
+
+-- the pointer's segment is there, and no operator is spelled at its place, however the code might go on
+abbrev pub IsUnknownIn : Code → Pointer → ℕ → Type 0
+IsUnknownIn code at level =
+    MatchOption (slice_get code.segments at.segment) ⊥ (λ segment. IsUnknown (syllables segment.words) at.place level)

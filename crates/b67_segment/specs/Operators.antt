@@ -1,8 +1,11 @@
 -- Operators that stand one after another, each at a level: their syllables, their marks, and which stands where.
 use Rattle.std.specs.Prelude.{◌≡◌, ℕ, ◌+◌, ◌-◌, ◌%◌, ◌≤◌, nat_eq, Bool, false, Option, Some, None, unwrap_or, List, [], ◌∷◌, ◌++◌, length, replicate, if◌then◌else◌}
+use Rattle.b67_ops.specs.declared.TheConstants.{MOST_LEVEL}
 use Rattle.b67_ops.specs.declared.Operator.{Operator}
 use Rattle.b67_ops.specs.declared.Operator.TheVariants.{Valc, Namc, Lt8, Lt16, Lt48, Mpcw, Branch, Plain}
 use Rattle.b67_ops.specs.declared.PlainKind.TheVariants.{Noop}
+use Rattle.b67_ops.specs.declared.table.OperatorKind.TheVariants as kinds
+use Rattle.b67_ops.specs.Codes.{code_of}
 use Rattle.b67_ops.specs.Spelling.{spelling, Fits}
 use Rattle.b67_segment.specs.declared.code.Mark.{Mark}
 
@@ -41,7 +44,7 @@ marks_of ps = marks_after 0 None ps
 
 -- an operator fits the level at which it stands
 pub record IsFit (p : Placed) : Type 0 where
-  pub known : p.level ≤ 31
+  pub known : p.level ≤ MOST_LEVEL
   pub fits : Fits p.level p.operator
 
 abbrev pub AreFit : List Placed → Type 0
@@ -82,6 +85,10 @@ last_level before (p ∷ ps) = last_level (Some p.level) ps
 -- how many syllables are missing to a whole word
 abbrev pub missing : ℕ → ℕ
 missing count = (6 - count % 6) % 6
+
+-- the syllable that fills the last word: NOOP
+abbrev pub filler : ℕ
+filler = code_of (kinds.Plain Noop)
 
 -- the operators of a segment: those that were appended, and as many NOOPs as fill the last word
 abbrev pub filled : List Placed → List Placed

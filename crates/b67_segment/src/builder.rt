@@ -1,13 +1,15 @@
 ghost use Rattle.std.specs.Prelude.{◌≡◌, ◌≢◌, ◌+◌, ◌-◌, ◌*◌, ◌/◌, ◌%◌, ◌^◌, replicate, All, ◌<◌, ◌≤◌, ◌++◌, Some, None, [], ◌∷◌, length, vec_len, vec_capacity, IsSome, IfOk, OnOk, OnErr};
 ghost use Rattle.std.specs.Int.{bytes_high_first};
+ghost use Rattle.b67_segment.specs.declared.TheConstants.{MOST_SEGMENT_WORDS};
+ghost use Rattle.b67_ops.specs.declared.TheConstants.{MOST_LEVEL};
 ghost use Rattle.b67_ops.specs.Spelling.{spelling, Fits};
-ghost use Rattle.b67_segment.specs.Operators.{is_level, size, aimed_from, missing, filled};
+ghost use Rattle.b67_segment.specs.Operators.{is_level, size, aimed_from, missing, filler, filled};
 ghost use Rattle.b67_segment.specs.Building.{level_set, appended, marked, marks_with, spliced, IsBranchAt};
 ghost use Rattle.b67_segment.specs.Syllables.{syllables, Spells};
 
 use crate::code::{Mark, Segment};
-use algol_tree::List;
-use b67_ops::{Operator, PlainKind, encode};
+use b67_list::List;
+use b67_ops::{Operator, OperatorKind, PlainKind, encode};
 use std::alloc::{AllocError, Global};
 use std::marker::Model;
 
@@ -54,10 +56,10 @@ fn append_to(
     syllables: &mut Vec<u8>,
     marks: &mut Vec<Mark>,
 ) -> Result<u16, AllocError>
-    requires level { level ≤ 31 }
+    requires level { level ≤ MOST_LEVEL }
     requires fits { Fits level op.now }
     requires room { length syllables.old.items
-        + length (spelling (length syllables.old.items) level op.now) ≤ 49152 }
+        + length (spelling (length syllables.old.items) level op.now) ≤ 6 * MOST_SEGMENT_WORDS }
     requires marking { marked None marks.old.items ≢ Some level
         → vec_len marks.old < vec_capacity marks.old }
     ensures place { IfOk result (λ place. place ≡ length syllables.old.items) }
@@ -89,10 +91,10 @@ fn aim(code: &mut Vec<u8>, branch: usize, target: u16)
 #[tactic(auto, using(crate::proofs::Filling::noops))]
 fn fill(code: &mut Vec<u8>) -> Result<(), AllocError>
     ensures { OnOk result (code.new.items
-        ≡ code.old.items ++ replicate (missing (length code.old.items)) 0xfe) }
+        ≡ code.old.items ++ replicate (missing (length code.old.items)) filler) }
 {
     let missing = (6 - code.len() % 6) % 6;
-    code.extend_from_slice(&[PlainKind::Noop as u8; 5][..missing])
+    code.extend_from_slice(&[OperatorKind::Plain(PlainKind::Noop).code(); 5][..missing])
 }
 
 /// The word of six syllables, the first one highest.
@@ -138,7 +140,7 @@ impl Builder {
     /// Sets the level of the operators that follow, and makes room for its mark. On `Err` nothing
     /// changes.
     pub fn level(&mut self, level: u8) -> Result<(), AllocError>
-        requires { level ≤ 31 }
+        requires { level ≤ MOST_LEVEL }
         ensures ok { OnOk result (self.new ≡ record self.old { level = Some level }) }
         ensures err { OnErr result (self.new ≡ self.old) }
     {
@@ -157,12 +159,12 @@ impl Builder {
     /// Appends an operator at the level that was set last, and gives its place. On `Err` nothing
     /// changes.
     pub fn append(&mut self, op: &Operator) -> Result<u16, AllocError>
-        // A level was set, which the operator fits, and the segment stays within 8,192 words of six
-        // syllables.
+        // A level was set, which the operator fits, and the segment stays within its most words,
+        // which are of six syllables.
         requires set { IsSome self.old.level }
         requires fits { Fits (level_set self.old) op.now }
         requires room { size self.old.operators
-            + length (spelling (size self.old.operators) (level_set self.old) op.now) ≤ 49152 }
+            + length (spelling (size self.old.operators) (level_set self.old) op.now) ≤ 6 * MOST_SEGMENT_WORDS }
         ensures place { IfOk result (λ place. place ≡ size self.old.operators) }
         ensures ok { OnOk result (self.new ≡ appended self.old op.now) }
         ensures err { OnErr result (self.new ≡ self.old) }

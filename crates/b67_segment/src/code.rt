@@ -1,6 +1,6 @@
 ghost use Rattle.std.specs.Prelude.{◌≡◌, IfOk};
 
-use algol_tree::{Line, List};
+use b67_list::{Line, List};
 use std::alloc::{AllocError, Global};
 
 /// From this place of a segment on, in syllables from 0, operators stand at this level.
@@ -11,7 +11,8 @@ pub struct Mark {
 }
 
 /// The code of a procedure or of the program: words of six syllables, the first syllable highest, and
-/// the marks of its levels. A segment has at most 8,192 words of 48 bits.
+/// the marks of its levels. A segment has at most [`MOST_SEGMENT_WORDS`](crate::MOST_SEGMENT_WORDS)
+/// words of 48 bits.
 #[derive(Drop)]
 pub struct Segment {
     pub words: List<u64>,

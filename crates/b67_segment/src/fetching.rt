@@ -1,8 +1,10 @@
 ghost use Rattle.std.specs.Prelude.{◌≡◌, ℕ, ◌*◌, ◌<◌, ◌≤◌, ◌↔◌, All, length, take};
+ghost use Rattle.b67_ops.specs.declared.TheConstants.{MOST_LEVEL};
 ghost use Rattle.b67_ops.specs.declared.Operator.{Operator};
 ghost use Rattle.b67_ops.specs.Decoding.{decoded};
+ghost use Rattle.b67_segment.specs.declared.TheConstants.{MOST_SEGMENT_WORDS};
 ghost use Rattle.b67_segment.specs.Syllables.{syllables};
-ghost use Rattle.b67_segment.specs.Fetching.{fetched, StandsIn, IsPast};
+ghost use Rattle.b67_segment.specs.Fetching.{fetched, StandsIn, IsPast, IsCutShortIn, NamesLevelAboveIn, IsUnknownIn};
 
 use crate::code::{Code, Pointer};
 use b67_ops::{BadCode, Operator, decode};
@@ -29,8 +31,8 @@ fn window(words: &[u64]) -> ([u8; 12], usize)
 /// The operator at a place of a segment's words. It ends at most with the word after the one that it
 /// begins in.
 fn fetch_from(words: &[u64], place: u16, level: u8) -> Result<(Operator, u16), BadCode>
-    requires level { level ≤ 31 }
-    requires words { length words.now ≤ 8192 }
+    requires level { level ≤ MOST_LEVEL }
+    requires words { length words.now ≤ MOST_SEGMENT_WORDS }
     ensures { result ≡ decoded (syllables words.now) place level }
 {
     let first = usize::from(place / 6);
@@ -46,8 +48,8 @@ fn fetch_from(words: &[u64], place: u16, level: u8) -> Result<(Operator, u16), B
 
 /// What `fetch` answers.
 fn fetch_at(code: &Code, at: Pointer, level: u8) -> Result<(Operator, u16), BadCode>
-    requires level { level ≤ 31 }
-    requires segments { All (λ segment. length segment.words ≤ 8192) code.now.segments }
+    requires level { level ≤ MOST_LEVEL }
+    requires segments { All (λ segment. length segment.words ≤ MOST_SEGMENT_WORDS) code.now.segments }
     ensures { result ≡ fetched code.now at level }
 {
     match code.segments.items().get(usize::from(at.segment)) {
@@ -58,14 +60,22 @@ fn fetch_at(code: &Code, at: Pointer, level: u8) -> Result<(Operator, u16), BadC
 
 /// The operator at a pointer, where the current level is this one, and the place after it.
 ///
-/// `CutShort` comes also where the segment is not there or the place is past its words.
+/// The refusals are those of `decode`, of the segment's syllables at the place. `CutShort` comes also
+/// where the segment is not there or the place is past its words.
 pub fn fetch(code: &Code, at: Pointer, level: u8) -> Result<(Operator, u16), BadCode>
-    requires level { level ≤ 31 }
-    requires segments { All (λ segment. length segment.words ≤ 8192) code.now.segments }
+    requires level { level ≤ MOST_LEVEL }
+    requires segments { All (λ segment. length segment.words ≤ MOST_SEGMENT_WORDS) code.now.segments }
     ensures value { result ≡ fetched code.now at level }
+
+    // An operator comes exactly where it stands.
     ensures ok { (op : Operator) (next : ℕ)
         → (result ≡ Ok (op, next)) ↔ StandsIn code.now at level op next }
+
+    // Each refusal comes exactly where it has its cause.
     ensures past { IsPast code.now at → result ≡ Err BadCode.CutShort }
+    ensures cut_short { (result ≡ Err BadCode.CutShort) ↔ IsCutShortIn code.now at level }
+    ensures bad_level { (result ≡ Err BadCode.BadLevel) ↔ NamesLevelAboveIn code.now at level }
+    ensures unknown { (result ≡ Err BadCode.Unknown) ↔ IsUnknownIn code.now at level }
 {
     fetch_at(code, at, level)
 }

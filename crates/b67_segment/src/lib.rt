@@ -3,18 +3,23 @@
 
 mod builder;
 mod code;
+mod decoding;
 mod fetching;
 mod laws;
 
+/// The most words of a segment, by this project's profile: a place in it has 16 bits.
+pub const MOST_SEGMENT_WORDS: usize = 8_192;
+
 pub use builder::Builder;
 pub use code::{Code, Format, Mark, Phrase, Pointer, Segment};
+pub use decoding::Decoded;
 pub use fetching::fetch;
 pub use laws::{operators_are_fetched, operators_stand};
 
 #[cfg(test)]
 mod tests {
     use super::*;
-    use algol_tree::List;
+    use b67_list::List;
     use b67_ops::{BadCode, BranchKind, Operator, PlainKind};
     use std::test::Fail;
 

@@ -1,6 +1,7 @@
 -- What a core holds: stacks and rows as lists by their numbers from 0, with none where a number is not open. A stack's bottom stands first.
 use Rattle.std.specs.Prelude.{◌≡◌, ℕ, zero, suc, ◌+◌, ◌&&◌, nat_lt, Bool, true, false, List, [], ◌∷◌, ◌++◌, length, take, replicate, Option, Some, None, IsSome, slice_get, slice_set, pos, if◌then◌else◌}
 use Rattle.std.specs.List.{sum_by}
+use Rattle.b67_store.specs.declared.TheConstants.{MOST_STACK_WORDS, MOST_COUNTED_WORDS, MOST_ROWS}
 use Rattle.b67_word.specs.declared.Place.{Place}
 use Rattle.b67_word.specs.Word.{Word, operand}
 use Rattle.b67_store.specs.declared.PushFault.{PushFault}
@@ -41,7 +42,7 @@ least_free (Some x ∷ xs) = suc (least_free xs)
 
 -- the most words that a stack has
 abbrev pub stack_limit : ℕ
-stack_limit = 65536
+stack_limit = MOST_STACK_WORDS
 
 abbrev pub Stacks : Type 0
 Stacks = List (Option (List Word))
@@ -95,11 +96,11 @@ OpenFails stacks n open_fault.NoMemory = stack_at stacks n ≡ None
 
 -- the most words of all counted rows
 abbrev pub count_limit : ℕ
-count_limit = 1048576
+count_limit = MOST_COUNTED_WORDS
 
 -- rows have numbers below this one
 abbrev pub row_limit : ℕ
-row_limit = 4194304
+row_limit = MOST_ROWS
 
 -- a row of an array: its words, and whether they count as live elements
 pub record Row : Type 0 where

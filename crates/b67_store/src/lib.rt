@@ -2,8 +2,7 @@
 //!
 //! `Core` is what the rest of the machine sees of a store, as lists by number; it is the bound of every part
 //! that reads or writes words, so that each is proved once for every store. `ListCore` is a store that keeps
-//! each stack and each row in a list of its own. That a stack has at most 65,536 words, that at most 1,048,576
-//! words of rows count, and that row numbers are below 4,194,304 is this project's profile.
+//! each stack and each row in a list of its own.
 #![tactic(auto)]
 
 ghost use Rattle.std.specs.Prelude.{◌≡◌, ℕ, ◌+◌, ◌-◌, ◌<◌, ◌≤◌, Bool, true, false, List, [], ◌∷◌, ◌++◌, length, take, Option, Some, None, slice_get, is_some, IfSome, is_ok, IfOk, IfErr, OnOk, OnErr, option_map, if◌then◌else◌, IsSome};
@@ -22,6 +21,15 @@ use b67_word::{Place, Word};
 pub use list_core::ListCore;
 use std::alloc::AllocError;
 
+/// The most words of a stack, by this project's profile.
+pub const MOST_STACK_WORDS: usize = 65_536;
+
+/// The most words of all rows that count as live elements of arrays, by this project's profile.
+pub const MOST_COUNTED_WORDS: u32 = 1_048_576;
+
+/// The most rows; their numbers are below this one, by this project's profile.
+pub const MOST_ROWS: usize = 4_194_304;
+
 /// There is no such stack, row or place.
 #[derive(Clone, Copy, PartialEq, Eq, Debug)]
 pub struct NoSuchPlace;
@@ -31,7 +39,7 @@ pub struct NoSuchPlace;
 pub enum PushFault {
     /// The stack is not open.
     NoSuchPlace,
-    /// The stack has 65,536 words.
+    /// The stack has [`MOST_STACK_WORDS`].
     StackLimit,
 }
 
@@ -47,9 +55,9 @@ pub enum OpenFault {
 /// Why a row was not opened.
 #[derive(Clone, Copy, PartialEq, Eq, Debug)]
 pub enum RowFault {
-    /// The counted words and the request exceed 1,048,576.
+    /// The counted words and the request exceed [`MOST_COUNTED_WORDS`].
     CoreFull,
-    /// There is no memory for its words, or all 4,194,304 numbers are in use.
+    /// There is no memory for its words, or all of [`MOST_ROWS`] numbers are in use.
     NoMemory,
 }
 
@@ -74,13 +82,13 @@ pub trait Core: Drop {
         ensures stacks { stacks self.new ≡ (if is_ok result then with_word (stacks self.old) at word else stacks self.old) }
         ensures rows { rows self.new ≡ rows self.old };
 
-    /// The number of words of a stack, at most 65,536. None comes exactly where the stack is not open.
+    /// The number of words of a stack, at most [`MOST_STACK_WORDS`]. None comes exactly where the stack is not open.
     fn length(&self, stack: u16) -> Option<u32>
         ensures value { result ≡ option_map length (stack_at (stacks self.now) stack) }
         ensures bound { IfSome result (λ n. n ≤ stack_limit) };
 
     /// Adds a word on top of a stack, and takes no memory. StackLimit comes exactly where the stack has
-    /// 65,536 words, NoSuchPlace exactly where it is not open.
+    /// [`MOST_STACK_WORDS`], NoSuchPlace exactly where it is not open.
     fn push(&mut self, stack: u16, word: Word) -> Result<(), PushFault>
         ensures room { OnOk result (IsSome (stack_at (stacks self.old) stack) × (length (words_of (stacks self.old) stack) < stack_limit)) }
         ensures fault { IfErr result (PushFails (stacks self.old) stack) }
@@ -100,7 +108,8 @@ pub trait Core: Drop {
         ensures stacks { stacks self.new ≡ (if is_ok result then with_cut (stacks self.old) stack length else stacks self.old) }
         ensures rows { rows self.new ≡ rows self.old };
 
-    /// Opens a stack without words, and takes the memory for all 65,536. InUse comes exactly where it is open.
+    /// Opens a stack without words, and takes the memory for [`MOST_STACK_WORDS`]. InUse comes exactly where
+    /// it is open.
     fn open_stack(&mut self, stack: u16) -> Result<(), OpenFault>
         ensures free { OnOk result (stack_at (stacks self.old) stack ≡ None) }
         ensures fault { IfErr result (OpenFails (stacks self.old) stack) }
@@ -113,10 +122,10 @@ pub trait Core: Drop {
         ensures stacks { stacks self.new ≡ (if is_ok result then closed_at (stacks self.old) stack else stacks self.old) }
         ensures rows { rows self.new ≡ rows self.old };
 
-    /// Opens a row of operands 0, of 1 to 1,048,576 words, and gives its number: the least that is free, below
-    /// 4,194,304, so that it fits a descriptor. The words of a counted row count. CoreFull comes exactly where
-    /// the counted words and a counted request exceed 1,048,576. Where no number is free, or no memory, it is
-    /// NoMemory.
+    /// Opens a row of operands 0, of 1 to [`MOST_COUNTED_WORDS`], and gives its number: the least that is free,
+    /// below [`MOST_ROWS`], so that it fits a descriptor. The words of a counted row count. CoreFull comes
+    /// exactly where the counted words and a counted request exceed [`MOST_COUNTED_WORDS`]. Where no number is
+    /// free, or no memory, it is NoMemory.
     fn open_row(&mut self, length: u32, counted: bool) -> Result<u32, RowFault>
         requires some { 1 ≤ length }
         requires most { length ≤ count_limit }
@@ -126,6 +135,10 @@ pub trait Core: Drop {
         ensures rows { IfOk result (λ row. rows self.new ≡ opened_at (rows self.old) row (zero_row length counted)) }
         ensures unchanged { OnErr result (rows self.new ≡ rows self.old) }
         ensures stacks { stacks self.new ≡ stacks self.old };
+
+    /// Tests that a row is open.
+    fn has_row(&self, row: u32) -> bool
+        ensures { result ≡ is_some (row_at (rows self.now) row) };
 
     /// The word at a place of a row. None comes exactly where the row is not open or has no such word.
     fn read_row(&self, row: u32, at: u32) -> Option<Word>
@@ -144,7 +157,7 @@ pub trait Core: Drop {
         ensures rows { rows self.new ≡ (if is_ok result then closed_at (rows self.old) row else rows self.old) }
         ensures stacks { stacks self.new ≡ stacks self.old };
 
-    /// The number of words in all counted rows, at most 1,048,576.
+    /// The number of words in all counted rows, at most [`MOST_COUNTED_WORDS`].
     fn counted(&self) -> u32
         ensures value { result ≡ counted_words (rows self.now) }
         ensures bound { result ≤ count_limit };

@@ -82,6 +82,10 @@ impl Core for ListCore {
         self.rows.open(self.alloc, length, counted)
     }
 
+    fn has_row(&self, row: u32) -> bool {
+        self.rows.has(row)
+    }
+
     fn read_row(&self, row: u32, at: u32) -> Option<Word> {
         self.rows.read(row, at)
     }

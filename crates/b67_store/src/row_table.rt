@@ -4,14 +4,10 @@ ghost use Rattle.b67_store.specs.Store.{row_at, row_words, with_row_word, opened
 
 use crate::free_numbers::FreeNumbers;
 use crate::row::{HeldRow, write_row_word};
-use crate::{NoSuchPlace, RowFault};
+use crate::{MOST_COUNTED_WORDS, MOST_ROWS, NoSuchPlace, RowFault};
 use b67_word::Word;
 use std::alloc::{AllocError, Global};
 use std::marker::Model;
-
-const COUNT_LIMIT: u32 = 1_048_576;
-
-const ROW_LIMIT: usize = 4_194_304;
 
 #[derive(Drop)]
 pub struct RowTable {
@@ -49,6 +45,15 @@ impl RowTable {
         match self.rows.get(row as usize) {
             Some(Some(row)) => row.get(at),
             _ => None,
+        }
+    }
+
+    pub fn has(&self, row: u32) -> bool
+        ensures { result ≡ is_some (row_at self.now row) }
+    {
+        match self.rows.get(row as usize) {
+            Some(Some(_)) => true,
+            _ => false,
         }
     }
 
@@ -92,7 +97,7 @@ impl RowTable {
         ensures value { result ≡ exceeds self.now length counted }
         ensures few { counted_words self.now ≤ count_limit }
     {
-        counted && COUNT_LIMIT < self.counted + length
+        counted && MOST_COUNTED_WORDS < self.counted + length
     }
 
     #[tactic(auto, using(crate::proofs::Tables::requests))]
@@ -127,7 +132,7 @@ impl RowTable {
             return Ok(number);
         }
         let number = self.rows.len();
-        if number == ROW_LIMIT {
+        if number == MOST_ROWS {
             return Err(AllocError);
         }
         self.free.reserve(number + 1)?;

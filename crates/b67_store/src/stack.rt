@@ -2,12 +2,10 @@
 ghost use Rattle.std.specs.Prelude.{◌≡◌, ℕ, ◌+◌, ◌-◌, ◌<◌, ◌≤◌, nat_lt, false, List, [], ◌∷◌, ◌++◌, length, take, Some, slice_get, slice_set, IsSome, is_some, is_ok, IfOk, IfErr, OnOk, if◌then◌else◌};
 ghost use Rattle.b67_store.specs.Store.{stack_limit, words_or, SlotFails};
 
-use crate::{NoSuchPlace, PushFault};
+use crate::{MOST_STACK_WORDS, NoSuchPlace, PushFault};
 use b67_word::Word;
 use std::alloc::{AllocError, Global};
 use std::marker::Model;
-
-const LIMIT: usize = 65_536;
 
 #[derive(Drop)]
 pub struct Stack {
@@ -32,7 +30,7 @@ impl Stack {
     pub fn open(alloc: Global) -> Result<Stack, AllocError>
         ensures { IfOk result (λ stack. stack ≡ []) }
     {
-        let words = Vec::with_capacity(alloc, LIMIT)?;
+        let words = Vec::with_capacity(alloc, MOST_STACK_WORDS)?;
         Ok(Stack { words })
     }
 
@@ -69,7 +67,7 @@ impl Stack {
         ensures full { result ≡ false → length self.old ≡ stack_limit }
         ensures words { self.new ≡ (if result then self.old ++ word ∷ [] else self.old) }
     {
-        if self.words.len() == LIMIT {
+        if self.words.len() == MOST_STACK_WORDS {
             return false;
         }
         self.words.push(word).is_ok()

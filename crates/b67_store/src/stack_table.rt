@@ -1,5 +1,5 @@
 // The stacks by their numbers.
-ghost use Rattle.std.specs.Prelude.{◌≡◌, ℕ, ◌+◌, ◌-◌, ◌<◌, ◌≤◌, Bool, true, false, List, [], ◌∷◌, ◌++◌, length, replicate, Option, Some, None, slice_get, is_some, IsSome, IfSome, is_ok, IfOk, IfErr, OnOk, OnErr, option_map, if◌then◌else◌};
+ghost use Rattle.std.specs.Prelude.{◌^◌, ◌≡◌, ℕ, ◌+◌, ◌-◌, ◌<◌, ◌≤◌, Bool, true, false, List, [], ◌∷◌, ◌++◌, length, replicate, Option, Some, None, slice_get, is_some, IsSome, IfSome, is_ok, IfOk, IfErr, OnOk, OnErr, option_map, if◌then◌else◌};
 ghost use Rattle.std.specs.Vec.{vec_len, vec_capacity};
 ghost use Rattle.b67_store.specs.Store.{stack_at, words_of, word_at, with_stack, with_word, with_push, with_cut, opened_at, closed_at, stack_limit, PushFails, OpenFails};
 
@@ -132,7 +132,7 @@ impl StackTable {
 #[tactic(auto, using(crate::proofs::Lists::openings))]
 fn append_at(stacks: &mut Vec<Option<Stack>>, number: usize, stack: Stack) -> Result<(), AllocError>
     requires beyond { vec_len stacks.old ≤ number }
-    requires small { number < 65536 }
+    requires small { number < 2 ^ 16 }
     ensures { stacks.new.items ≡ (if is_ok result then opened_at stacks.old.items number stack else stacks.old.items) }
 {
     stacks.reserve(number + 1 - stacks.len())?;

@@ -1,6 +1,7 @@
 -- The grammar of the command words, and which word of a list is the first that breaks it. A word is the list of its bytes.
 use Rattle.std.specs.Prelude.{◌≡◌, ℕ, ◌+◌, ◌≤◌, List, [], ◌∷◌, ◌++◌, length, codes, slice_get, Option, Some, None, Result, Ok, Err}
 use Rattle.std.specs.Fmt.{decimal}
+use Rattle.b67_words.specs.declared.TheConstants.{MOST_BUDGET, MOST_PROCESSORS}
 use Rattle.b67_words.specs.declared.Words.{Words}
 use Rattle.b67_words.specs.declared.Words.TheVariants.{Run}
 use Rattle.b67_words.specs.declared.UsageKind.{UsageKind}
@@ -16,8 +17,8 @@ pub record IsNumber (most : ℕ) (word : List ℕ) (number : ℕ) : Type 0 where
 
 -- The commands: the words of each, and what they mean.
 pub data IsCommand : List (List ℕ) → Words → Type 0 where
-  run : (processors budget : List ℕ) (p b : ℕ) → IsNumber 1 processors p → IsNumber 4194304 budget b →
-      IsCommand (codes "run" ∷ processors ∷ budget ∷ []) (Run b)
+  run : (processors budget : List ℕ) (p b : ℕ) → IsNumber MOST_PROCESSORS processors p → IsNumber MOST_BUDGET budget b →
+      IsCommand (codes "run" ∷ processors ∷ budget ∷ []) (Run p b)
 
 -- some command begins with these words
 abbrev pub BeginCommand : List (List ℕ) → Type 0
@@ -26,7 +27,7 @@ BeginCommand words = (rest : List (List ℕ)) × (meaning : Words) × IsCommand 
 -- what is wrong with a word after these, if it is wrong: what should stand there
 pub data Wants : List (List ℕ) → UsageKind → Type 0 where
   command : Wants [] Unknown
-  numeral : (words : List (List ℕ)) (word : List ℕ) (most n : ℕ) → IsNumber most word n → BeginCommand (words ++ word ∷ []) →
+  numeral : (words : List (List ℕ)) (word : List ℕ) (n : ℕ) → IsNumber MOST_BUDGET word n → BeginCommand (words ++ word ∷ []) →
       Wants words BadNumber
   nothing : (words : List (List ℕ)) → BeginCommand words → ((word : List ℕ) → BeginCommand (words ++ word ∷ []) → ⊥) → Wants words Extra
 

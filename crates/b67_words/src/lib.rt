@@ -1,7 +1,7 @@
 //! The words of a command line: the grammar of the commands, and which word of a list is the first that breaks it.
 #![tactic(auto)]
 
-ghost use Rattle.std.specs.Prelude.{◌≡◌, ◌<◌, ◌≤◌, map, length, codes, slice_get, slice_index, Some, IsTrue, ◌↔◌};
+ghost use Rattle.std.specs.Prelude.{◌≡◌, ◌<◌, ◌≤◌, ℕ, List, Result, map, length, codes, slice_get, slice_index, Some, IsTrue, ◌↔◌};
 ghost use Rattle.std.specs.String.{string_bytes};
 ghost use Rattle.b67_words.specs.Grammar.{WordsMean, IsNumberOrNone, NumberStandsAt};
 
@@ -10,11 +10,19 @@ use thiserror::Error;
 /// The greatest budget of a run, in operators.
 pub const MOST_BUDGET: u64 = 4_194_304;
 
+/// The most operators of a private stretch: a run may pass its budget by less than these, since it ends only
+/// between stretches.
+pub const MOST_STRETCH: u64 = 64;
+
+/// The greatest number of processors of a run.
+pub const MOST_PROCESSORS: u64 = 1;
+
 /// A command with what its words say.
 #[derive(Clone, Copy, PartialEq, Eq, Debug)]
 pub enum Words {
-    /// `run 1 B`: run the source on one processor, with a budget of B operators, from 1 to 4,194,304.
-    Run { budget: u64 },
+    /// `run P B`: run the source on P processors, from 1 to [`MOST_PROCESSORS`], with a budget of B operators, from 1 to
+    /// [`MOST_BUDGET`].
+    Run { processors: u32, budget: u64 },
 }
 
 /// What is wrong with the first word that breaks the grammar.
@@ -40,6 +48,11 @@ pub enum BadWords {
     Usage { word: u32, kind: UsageKind },
 }
 
+/// Law: a list of words has one meaning. It is one command, or one word is the first that breaks the grammar, in one way.
+pub fn words_have_one_meaning()
+    ensures { (words : List (List ℕ)) (one other : Result Words BadWords) → WordsMean words one → WordsMean words other → one ≡ other }
+{}
+
 /// The command that the words are, or the first word that breaks the grammar. Takes no memory.
 pub fn read_words(words: &[String]) -> Result<Words, BadWords>
     ensures { WordsMean (map string_bytes words.now) result }
@@ -59,12 +72,12 @@ pub fn read_words(words: &[String]) -> Result<Words, BadWords>
     }
 }
 
-/// `run 1 B`, where the first word is `run`.
+/// `run P B`, where the first word is `run`.
 fn read_run(words: &[String]) -> Result<Words, BadWords>
     requires { slice_get (map string_bytes words.now) 0 ≡ Some (codes "run") }
     ensures { WordsMean (map string_bytes words.now) result }
 {
-    number_at(words, 1, 1)?;
+    let processors = number_at(words, 1, MOST_PROCESSORS)?;
     let budget = number_at(words, 2, MOST_BUDGET)?;
     if words.len() > 3 {
         return Err(BadWords::Usage {
@@ -72,7 +85,10 @@ fn read_run(words: &[String]) -> Result<Words, BadWords>
             kind: UsageKind::Extra,
         });
     }
-    Ok(Words::Run { budget })
+    Ok(Words::Run {
+        processors: processors as u32,
+        budget,
+    })
 }
 
 /// The number from 1 to `most` that is the word after `before` others.
@@ -150,6 +166,7 @@ mod tests {
         assert_eq!(rt;
             read(alloc, "run 1 4194304")?,
             Ok(Words::Run {
+                processors: 1,
                 budget: MOST_BUDGET
             })
         );

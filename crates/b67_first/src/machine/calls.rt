@@ -4,25 +4,22 @@ ghost use Rattle.std.specs.Prelude.{◌≡◌, ◌<◌, ◌≤◌, ◌+◌, ℕ,
 ghost use Rattle.b67_control.specs.Control.{as_pcw};
 ghost use Rattle.b67_control.specs.declared.Mscw.{Mscw};
 ghost use Rattle.b67_segment.specs.declared.code.Code.{Code};
-ghost use Rattle.b67_table.specs.Image.{word_at};
-ghost use Rattle.b67_table.specs.Program.{does};
-ghost use Rattle.b67_table.specs.Rows.{couple_place, sirw_place, reference_place, reached, value_call, store, enter, enter_by, enter_at, write_line};
-ghost use Rattle.b67_table.specs.Table.{first_registers};
+ghost use Rattle.b67_first_table.specs.Image.{word_at};
+ghost use Rattle.b67_first_table.specs.Program.{does};
+ghost use Rattle.b67_first_table.specs.Rows.{couple_place, sirw_place, reference_place, reached, value_call, store, enter, enter_by, enter_at, write_line};
+ghost use Rattle.b67_first_table.specs.Table.{first_registers};
 ghost use Rattle.b67_first.specs.Machine.{registers_of, image_of, Performs};
 ghost use Rattle.b67_first.specs.Reach.{place_of, Reads, Enters, LiesAbove};
 
 use super::line::line_for;
 use super::process::{INVALID, NOT_BUILT, Process, Stop};
-use super::stacks::ROOM;
 use b67_control::{Irw, Mscw, Pcw, Sirw};
-use b67_ops::Couple;
+use b67_first_table::InterruptKind;
+use b67_ops::{Couple, Intrinsic, OUTER_LEVEL};
 use b67_segment::Code;
-use b67_table::InterruptKind;
+use b67_store::MOST_STACK_WORDS;
 use b67_word::Word;
 use std::alloc::{AllocError, Global};
-
-/// The number of the intrinsic that writes a line.
-const WRITE: u16 = 7;
 
 /// The number of the stack of the process.
 const OWN: u16 = 1;
@@ -36,13 +33,13 @@ pub struct Address {
     pub at: u32,
 }
 
-// The place that a couple names: level 0 is in the system's stack, and level 2 in that of the process.
+// The place that a couple names: level 0 is in the system's stack, and the outer block's level in that of the process.
 fn couple_address(level: u8, index: u16) -> Option<Address>
     ensures { option_map place_of result ≡ couple_place first_registers level index }
 {
     let stack = match level {
         0 => 0,
-        2 => OWN,
+        OUTER_LEVEL => OWN,
         _ => return None,
     };
     Some(Address {
@@ -108,7 +105,7 @@ impl Process {
         if word.tag() != 0 {
             return Err(INVALID);
         }
-        if self.stacks.len() >= ROOM {
+        if self.stacks.len() >= MOST_STACK_WORDS {
             return Err(Stop::StackLimit);
         }
         self.stacks.push(word);
@@ -182,7 +179,7 @@ impl Process {
         if !code.intrinsic {
             return Err(NOT_BUILT);
         }
-        if code.number != WRITE {
+        if code.number != Intrinsic::Write.number() {
             return Err(NOT_BUILT);
         }
         Ok(mark)

@@ -1,38 +1,13 @@
 //! The line that a format makes of the words above a mark.
 
-ghost use Rattle.std.specs.Prelude.{◌≡◌, ◌<◌, ◌^◌, ◌++◌, length, replicate, option_map, IfOk, OnOk};
-ghost use Rattle.algol_tree.specs.Lines.{justified};
-ghost use Rattle.b67_table.specs.Rows.{line_for, values_of};
+ghost use Rattle.std.specs.Prelude.{◌≡◌, ◌<◌, ◌^◌, length, option_map, IfOk};
+ghost use Rattle.b67_first_table.specs.Rows.{line_for, values_of};
 ghost use Rattle.b67_first.specs.Written.{line_with};
 
-use algol_tree::Line;
+use b67_list::{Line, push_copies, push_justified};
 use b67_segment::{Code, Phrase};
 use b67_word::Word;
-use itoa::Buffer;
 use std::alloc::{AllocError, Global};
-
-// Appends so many copies of a byte.
-fn push_copies(line: &mut Vec<u8>, byte: u8, count: u32) -> Result<(), AllocError>
-    ensures { OnOk result (line.new.items ≡ line.old.items ++ replicate count byte) }
-{
-    let length = line.len() + count as usize;
-    line.resize(length, byte)
-}
-
-// Appends a number to the right in so many columns, or as many asterisks where it does not fit.
-fn push_number(line: &mut Vec<u8>, width: u32, value: i64) -> Result<(), AllocError>
-    ensures { OnOk result (line.new.items ≡ line.old.items ++ justified width value) }
-{
-    let mut buffer = Buffer::new();
-    let digits = buffer.format(value).as_bytes();
-    let length = digits.len() as u32;
-    if length <= width {
-        push_copies(line, b' ', width - length)?;
-        line.extend_from_slice(digits)
-    } else {
-        push_copies(line, b'*', width)
-    }
-}
 
 // The bytes that phrases make of the words, where each word is a whole number and there are as many as numbers are shown.
 fn bytes_of(
@@ -55,7 +30,7 @@ fn bytes_of(
                 let Some(value) = word.as_whole() else {
                     return Ok(None);
                 };
-                push_number(&mut line, *width, value)?;
+                push_justified(&mut line, *width, value)?;
                 used += 1;
             }
         }

@@ -2,18 +2,19 @@
 
 ghost use Rattle.std.specs.Prelude.{◌≡◌, ◌<◌, ◌≤◌, ◌++◌, ◌∷◌, [], ◌-◌, ◌+◌, ℕ, ℤ, length, take, Result, IfOk, unsigned_abs};
 ghost use Rattle.b67_num.specs.declared.NumFault.{NumFault};
-ghost use Rattle.b67_num.specs.Whole.{sum_of, difference_of, most, fault_of};
+ghost use Rattle.b67_num.specs.Whole.{calculated, most, fault_of};
 ghost use Rattle.b67_word.specs.Word.{operand};
-ghost use Rattle.b67_table.specs.Effect.{gives};
-ghost use Rattle.b67_table.specs.Private.{push, arithmetic, mark, make_cells, floor};
-ghost use Rattle.b67_table.specs.Table.{first_image};
+ghost use Rattle.b67_first_table.specs.Effect.{gives};
+ghost use Rattle.b67_first_table.specs.Private.{push, arithmetic, mark, make_cells, floor};
+ghost use Rattle.b67_first_table.specs.Table.{first_image};
 ghost use Rattle.b67_first.specs.Machine.{image, registers_of, image_of, stopped, Performs, TakesTwo, by_row};
 
-use super::stacks::{ROOM, Stacks};
-use algol_tree::Line;
+use super::stacks::Stacks;
 use b67_control::Mscw;
-use b67_num::{FaultKind, NumFault};
-use b67_table::InterruptKind;
+use b67_first_table::InterruptKind;
+use b67_list::Line;
+use b67_num::{Calculation, FaultKind, NumFault, calculate};
+use b67_store::MOST_STACK_WORDS;
 use b67_word::{Word, operand};
 use std::alloc::{AllocError, Global};
 
@@ -84,7 +85,7 @@ impl Process {
     pub fn push(&mut self, word: Word, next: u16) -> Result<(), Stop>
         ensures { Performs (by_row (push word) next (image_of self.old) (registers_of self.old)) self.old result self.new }
     {
-        if self.stacks.len() >= ROOM {
+        if self.stacks.len() >= MOST_STACK_WORDS {
             return Err(Stop::StackLimit);
         }
         self.stacks.push(word);
@@ -120,23 +121,13 @@ impl Process {
         self.place = next;
     }
 
-    /// Replaces the two numbers on top by their sum.
-    pub fn add(&mut self, next: u16) -> Result<(), Stop>
-        ensures { Performs (by_row (arithmetic sum_of) next (image_of self.old) (registers_of self.old)) self.old result self.new }
+    /// Replaces the two numbers on top by what a calculation gives for the lower one and the upper.
+    pub fn calculate(&mut self, calculation: Calculation, next: u16) -> Result<(), Stop>
+        ensures { Performs (by_row (arithmetic (calculated calculation)) next (image_of self.old) (registers_of self.old)) self.old result self.new }
     {
         let (a, b) = self.two_numbers()?;
-        let sum = b67_num::add(a, b)?;
-        self.replace_two(operand(sum), next);
-        Ok(())
-    }
-
-    /// Replaces the two numbers on top by their difference, the lower less the upper.
-    pub fn subtract(&mut self, next: u16) -> Result<(), Stop>
-        ensures { Performs (by_row (arithmetic difference_of) next (image_of self.old) (registers_of self.old)) self.old result self.new }
-    {
-        let (a, b) = self.two_numbers()?;
-        let difference = b67_num::sub(a, b)?;
-        self.replace_two(operand(difference), next);
+        let number = calculate(calculation, a, b)?;
+        self.replace_two(operand(number), next);
         Ok(())
     }
 
@@ -149,7 +140,7 @@ impl Process {
         if count <= below {
             return Err(INVALID);
         }
-        if count >= ROOM {
+        if count >= MOST_STACK_WORDS {
             return Err(Stop::StackLimit);
         }
         let mark = Mscw {

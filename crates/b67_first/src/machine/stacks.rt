@@ -1,16 +1,16 @@
 //! The two stacks that there are: that of the system, which never changes, and that of the process.
 
 ghost use Rattle.std.specs.Prelude.{◌≡◌, ◌<◌, ◌≤◌, ◌++◌, ◌∷◌, [], ◌-◌, ℕ, Some, IfOk, IsTrue, ◌↔◌, length, take, drop, slice_get, slice_set};
-ghost use Rattle.b67_table.specs.Table.{base_mark, base_control, intrinsic_pcw, base_frame, system_stack};
+ghost use Rattle.b67_store.specs.declared.TheConstants.{MOST_STACK_WORDS};
+ghost use Rattle.b67_first_table.specs.Table.{base_mark, base_control, intrinsic_pcw, base_frame, system_stack};
 ghost use Rattle.b67_first.specs.Words.{stack_numbered};
 
 use b67_control::{Mscw, Pcw, Rcw};
+use b67_ops::{Intrinsic, LAST_INTRINSIC, OUTER_LEVEL};
+use b67_store::MOST_STACK_WORDS;
 use b67_word::Word;
 use std::alloc::{AllocError, Global};
 use std::marker::Model;
-
-/// How many words a stack has room for.
-pub const ROOM: usize = 65536;
 
 // The mark of a base frame.
 fn base_mark() -> Word
@@ -41,10 +41,9 @@ fn base_control(own_level: u8) -> Word
     control.pack()
 }
 
-// The intrinsic of this number.
-fn intrinsic(number: u16) -> Word
-    requires { number < 32768 }
-    ensures { result ≡ intrinsic_pcw number }
+// The control word of an intrinsic.
+fn control_word(intrinsic: Intrinsic) -> Word
+    ensures { result ≡ intrinsic_pcw intrinsic }
 {
     let code = Pcw {
         intrinsic: true,
@@ -53,29 +52,32 @@ fn intrinsic(number: u16) -> Word
         psr: 0,
         pir: 0,
         level: 0,
-        number,
+        number: intrinsic.number(),
     };
     code.pack()
 }
 
-fn system_stack() -> [Word; 14]
+/// How many words the stack of the system has.
+const SYSTEM: usize = LAST_INTRINSIC as usize + 1;
+
+fn system_stack() -> [Word; SYSTEM]
     ensures { result ≡ system_stack }
 {
     [
         base_mark(),
         base_control(0),
-        intrinsic(2),
-        intrinsic(3),
-        intrinsic(4),
-        intrinsic(5),
-        intrinsic(6),
-        intrinsic(7),
-        intrinsic(8),
-        intrinsic(9),
-        intrinsic(10),
-        intrinsic(11),
-        intrinsic(12),
-        intrinsic(13),
+        control_word(Intrinsic::GoTo),
+        control_word(Intrinsic::Select),
+        control_word(Intrinsic::Arrays),
+        control_word(Intrinsic::Event),
+        control_word(Intrinsic::Start),
+        control_word(Intrinsic::Write),
+        control_word(Intrinsic::Wait),
+        control_word(Intrinsic::Cause),
+        control_word(Intrinsic::Reset),
+        control_word(Intrinsic::Happened),
+        control_word(Intrinsic::Procure),
+        control_word(Intrinsic::Liberate),
     ]
 }
 
@@ -83,20 +85,21 @@ fn system_stack() -> [Word; 14]
 /// Room for all the words that it may have is taken at the start, so no later call takes memory.
 #[derive(Drop)]
 pub struct Stacks {
-    system: [Word; 14],
+    system: [Word; SYSTEM],
     words: Vec<Word>,
 }
 
 impl Model for Stacks {
     ghost use Rattle.std.specs.Prelude.{List, ◌≡◌, ◌≤◌, length, vec_capacity};
     ghost use Rattle.b67_word.specs.Word.{Word as Seen};
-    ghost use Rattle.b67_table.specs.Table.{system_stack};
+    ghost use Rattle.b67_first_table.specs.Table.{system_stack};
+    ghost use Rattle.b67_store.specs.declared.TheConstants.{MOST_STACK_WORDS};
 
     ghost Value = { List Seen };
 
     ghost view = { λ s. s.words.items };
 
-    ghost invariant = { λ s. record { system : s.system ≡ system_stack; room : 65536 ≤ vec_capacity s.words; most : length s.words.items ≤ 65536 } };
+    ghost invariant = { λ s. record { system : s.system ≡ system_stack; room : MOST_STACK_WORDS ≤ vec_capacity s.words; most : length s.words.items ≤ MOST_STACK_WORDS } };
 }
 
 impl Stacks {
@@ -104,9 +107,9 @@ impl Stacks {
     pub fn new(alloc: Global) -> Result<Stacks, AllocError>
         ensures { IfOk result (λ stacks. stacks ≡ base_frame) }
     {
-        let mut words = Vec::with_capacity(alloc, ROOM)?;
+        let mut words = Vec::with_capacity(alloc, MOST_STACK_WORDS)?;
         words.push(base_mark())?;
-        words.push(base_control(2))?;
+        words.push(base_control(OUTER_LEVEL))?;
         Ok(Stacks {
             system: system_stack(),
             words,
@@ -116,7 +119,7 @@ impl Stacks {
     /// How many words there are.
     pub fn len(&self) -> usize
         ensures value { result ≡ length self.now }
-        ensures most { length self.now ≤ 65536 }
+        ensures most { length self.now ≤ MOST_STACK_WORDS }
     {
         self.words.len()
     }
@@ -151,7 +154,7 @@ impl Stacks {
 
     /// One more word on top.
     pub fn push(&mut self, word: Word)
-        requires { length self.old < 65536 }
+        requires { length self.old < MOST_STACK_WORDS }
         ensures { self.new ≡ self.old ++ word ∷ [] }
     {
         let _pushed = self.words.push(word);

@@ -1,4 +1,5 @@
 use Rattle.std.proofs.Common.{◌+◌, ◌-◌, ◌≤◌, length, drop}
+use Rattle.algol_tree.specs.declared.TheConstants.{LAST_COLUMN}
 use Rattle.algol_first.proofs.LexReach.{Reaches}
 use Rattle.algol_first.proofs.lexer.lex.Given as goal
 
@@ -8,7 +9,7 @@ invariant-scanning l = record {
   reached : Reaches l.bytes l.at l.spot (drop l.at l.bytes) l.tokens.items;
   within : l.at ≤ length l.bytes;
   line : l.spot.line ≤ l.at + 1;
-  column : l.spot.column ≤ 73;
+  column : l.spot.column ≤ LAST_COLUMN + 1;
   many : length l.tokens.items ≤ l.at;
 }
 

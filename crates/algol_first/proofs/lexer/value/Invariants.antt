@@ -1,4 +1,5 @@
 use Rattle.std.proofs.Common.{◌≡◌, ◌≤◌, drop}
+use Rattle.b67_num.specs.Whole.{most}
 use Rattle.algol_tree.specs.Spelling.{value_after, value_of}
 use Rattle.algol_first.proofs.lexer.value.Given as goal
 
@@ -6,5 +7,5 @@ use Rattle.algol_first.proofs.lexer.value.Given as goal
 abbrev pub invariant-loop-digit : goal.invariant-loop-digit
 invariant-loop-digit l = record {
   whole : value_after l.value (drop l.digit-index l.digits) ≡ value_of l.digits;
-  small : l.value ≤ 549755813887;
+  small : l.value ≤ most;
 }

@@ -19,7 +19,7 @@ returns-then-contains_key-clause-unbuilt c = λ e a.
 pub returns-clause-accepted : goal.returns-clause-accepted
 returns-clause-accepted c =
     accepted_by _ _ (c.as_slice-integers.ensures.value ∙ c.items.ensures) c.in_ok-numbers.numbers c.in_ok-numbers.ensures.numbered _ c.bytes.ensures
-    (sym c.contains_key.ensures ∙ c.if-contains_key.false) c.if-integers-gt-MOST_INTEGERS.false (c.fits_segment.ensures.0 c.if-not-fits_segment.false)
+    (sym c.contains_key.ensures ∙ c.if-contains_key.false) c.if-integers-gt-MOST_BLOCK_CELLS.false (c.fits_segment.ensures.0 c.if-not-fits_segment.false)
     (subst (λ ss. AreKnownStmts c.args.program.now.file.name (names_of c.as_slice-integers.result.now) (stmts_of ss))
     (c.as_slice-statements.ensures.value ∙ c.items-2.ensures)
     (c.in_ok-steps.ensures.known _ c.in_ok-numbers.ensures.numbered))

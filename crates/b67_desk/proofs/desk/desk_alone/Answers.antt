@@ -10,7 +10,7 @@ pub returns-in-Ok : goal.returns-in-Ok
 returns-in-Ok g c = not_written _ _ _ c.in-Ok.answer.text.items c.in-Ok.answer.status c.in-Err-Failed.field-0 c.in-Ok.ensures (search rules) (search rules)
 
 pub returns-in-Err-ReadFault : goal.returns-in-Err-ReadFault
-returns-in-Err-ReadFault g c = read_fault (search rules) refl
+returns-in-Err-ReadFault g c = read_fault (search rules) (record { written = refl; faults = refl })
 
 pub returns : goal.returns
-returns g c = no_memory refl
+returns g c = no_memory (record { written = refl; faults = refl })

@@ -9,7 +9,7 @@ pub invariant_of-self : goal.invariant_of-self
 invariant_of-self c =
     let k = c.self.inside in
     let kept =
-    kept-first (stands_in Procurers c.args.at) k.events.items k.waiting.items k.processes (vec_capacity k.waiting) c.self.invariant in
+    kept-first (stands_in Procurers c.args.at) k.events.entries k.waiting.items k.processes (vec_capacity k.waiting) c.self.invariant in
     rw c.serve.ensures.rest (kept-wider _ _ _ _ _ kept c.serve.ensures.capacity)
 
 pub returns-in-Some-clause-answer : goal.returns-in-Some-clause-answer
@@ -17,7 +17,7 @@ returns-in-Some-clause-answer c =
     let k = c.self.inside in
     let here = rw (← c.self.view_is) at c.requires in
     rw (← c.self.view_is)
-    (sym c.in-Some.is ∙ c.serve.ensures.first ∙ ap (λ ks. slice_get ks 0) (procurers-shown c.args.at k.events.items k.waiting.items here))
+    (sym c.in-Some.is ∙ c.serve.ensures.first ∙ ap (λ ks. slice_get ks 0) (procurers-shown c.args.at k.events.entries k.waiting.items here))
 
 pub returns-in-Some-clause-after : goal.returns-in-Some-clause-after
 returns-in-Some-clause-after c =
@@ -25,13 +25,13 @@ returns-in-Some-clause-after c =
     let here = rw (← c.self.view_is) at c.requires in
     rw (← c.self.view_is, c.serve.ensures.rest)
     (ap (λ es. held es k.processes)
-    (liberated-served c.args.at c.in-Some.process k.events.items k.waiting.items here (sym c.serve.ensures.first ∙ c.in-Some.is)))
+    (liberated-served c.args.at c.in-Some.process k.events.entries k.waiting.items here (sym c.serve.ensures.first ∙ c.in-Some.is)))
 
 pub invariant_of-self-2 : goal.invariant_of-self-2
 invariant_of-self-2 c =
     let k = c.self.inside in
     let set =
-    kept-set c.args.at (with_available true) (λ f. refl) k.events.items k.waiting.items k.processes (vec_capacity k.waiting) c.self.invariant in
+    kept-set c.args.at (with_available true) k.events.entries k.waiting.items k.processes (vec_capacity k.waiting) c.self.invariant in
     let kept = kept-first (stands_in Procurers c.args.at) _ _ _ _ set in
     rw (c.set_available.ensures, c.serve.ensures.rest) (kept-wider _ _ _ _ _ kept c.serve.ensures.capacity)
 
@@ -40,7 +40,7 @@ returns-clause-answer c =
     let k = c.self.inside in
     let here = rw (← c.self.view_is) at c.requires in
     rw (← c.self.view_is)
-    (sym c.in_default.is ∙ c.serve.ensures.first ∙ ap (λ ks. slice_get ks 0) (procurers-shown c.args.at k.events.items k.waiting.items here))
+    (sym c.in_default.is ∙ c.serve.ensures.first ∙ ap (λ ks. slice_get ks 0) (procurers-shown c.args.at k.events.entries k.waiting.items here))
 
 pub returns-clause-after : goal.returns-clause-after
 returns-clause-after c =
@@ -48,4 +48,4 @@ returns-clause-after c =
     let here = rw (← c.self.view_is) at c.requires in
     rw (← c.self.view_is, c.set_available.ensures, c.serve.ensures.rest)
     (ap (λ es. held es k.processes)
-    (liberated-freed c.args.at k.events.items k.waiting.items here (sym c.serve.ensures.first ∙ c.in_default.is)))
+    (liberated-freed c.args.at k.events.entries k.waiting.items here (sym c.serve.ensures.first ∙ c.in_default.is)))

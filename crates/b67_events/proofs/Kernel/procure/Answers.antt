@@ -7,40 +7,40 @@ use Rattle.b67_events.proofs.Shown.{available-shown}
 use Rattle.b67_events.proofs.Steps.{held, kept-set, kept-room, kept-push, kept-wider, procured-went, procured-waits, took-went, took-waits}
 use Rattle.b67_events.proofs.Kernel.procure.Goals as goal
 
-went : (c : goal.After-set_available) → available_at c.args.at (events_of c.self.inside.events.items c.self.inside.waiting.items) ≡ true
+went : (c : goal.After-set_available) → available_at c.args.at (events_of c.self.inside.events.entries c.self.inside.waiting.items) ≡ true
 went c =
     let k = c.self.inside in
-    let flag = rw c.deref.ensures.value at c.is_available.ensures in
-    available-shown c.args.at k.events.items k.waiting.items ∙ sym flag ∙ c.if-is_available.true
+    let flag = c.is_available.ensures in
+    available-shown c.args.at k.events.entries k.waiting.items ∙ sym flag ∙ c.if-is_available.true
 
-waits : (c : goal.After-enqueue) → available_at c.args.at (events_of c.self.inside.events.items c.self.inside.waiting.items) ≡ false
+waits : (c : goal.After-enqueue) → available_at c.args.at (events_of c.self.inside.events.entries c.self.inside.waiting.items) ≡ false
 waits c =
     let k = c.self.inside in
-    let flag = rw c.deref.ensures.value at c.is_available.ensures in
-    available-shown c.args.at k.events.items k.waiting.items ∙ sym flag ∙ c.if-is_available.false
+    let flag = c.is_available.ensures in
+    available-shown c.args.at k.events.entries k.waiting.items ∙ sym flag ∙ c.if-is_available.false
 
 pub returns-then-is_available-clause-answer : goal.returns-then-is_available-clause-answer
 returns-then-is_available-clause-answer c =
-    rw (← c.self.view_is) (took-went (available_at c.args.at (events_of c.self.inside.events.items c.self.inside.waiting.items)) (went c))
+    rw (← c.self.view_is) (took-went (available_at c.args.at (events_of c.self.inside.events.entries c.self.inside.waiting.items)) (went c))
 
 pub invariant_of-self : goal.invariant_of-self
 invariant_of-self c =
     let k = c.self.inside in
     rw c.set_available.ensures
-    (kept-set c.args.at (with_available false) (λ f. refl) k.events.items k.waiting.items k.processes (vec_capacity k.waiting) c.self.invariant)
+    (kept-set c.args.at (with_available false) k.events.entries k.waiting.items k.processes (vec_capacity k.waiting) c.self.invariant)
 
 pub returns-then-is_available-clause-after : goal.returns-then-is_available-clause-after
 returns-then-is_available-clause-after c =
     let k = c.self.inside in
     rw (← c.self.view_is, c.set_available.ensures)
-    (ap (λ es. held es k.processes) (procured-went c.args.at c.args.process k.events.items k.waiting.items (went c)))
+    (ap (λ es. held es k.processes) (procured-went c.args.at c.args.process k.events.entries k.waiting.items (went c)))
 
 pub enqueue-requires : goal.enqueue-requires
 enqueue-requires c =
     let k = c.self.inside in
     let idle = rw (← c.self.view_is) at c.requires.idle in
     let process = rw (← c.self.view_is) at c.requires.process in
-    kept-room k.events.items k.waiting.items k.processes (vec_capacity k.waiting) c.args.process c.self.invariant process.0 process.1 idle
+    kept-room k.events.entries k.waiting.items k.processes (vec_capacity k.waiting) c.args.process c.self.invariant process.0 process.1 idle
 
 pub invariant_of-self-2 : goal.invariant_of-self-2
 invariant_of-self-2 c =
@@ -49,15 +49,15 @@ invariant_of-self-2 c =
     let process = rw (← c.self.view_is) at c.requires.process in
     let here = rw (← c.self.view_is) at c.requires.open in
     let one : Waiting = record { process = c.args.process; place = c.args.at; queue = Procurers } in
-    let kept = kept-push k.events.items k.waiting.items k.processes (vec_capacity k.waiting) one c.self.invariant process.0 process.1 here idle in
+    let kept = kept-push k.events.entries k.waiting.items k.processes (vec_capacity k.waiting) one c.self.invariant process.0 process.1 here idle in
     rw c.enqueue.ensures.items (kept-wider _ _ _ _ _ kept c.enqueue.ensures.capacity)
 
 pub returns-clause-answer : goal.returns-clause-answer
 returns-clause-answer c =
-    rw (← c.self.view_is) (took-waits (available_at c.args.at (events_of c.self.inside.events.items c.self.inside.waiting.items)) (waits c))
+    rw (← c.self.view_is) (took-waits (available_at c.args.at (events_of c.self.inside.events.entries c.self.inside.waiting.items)) (waits c))
 
 pub returns-clause-after : goal.returns-clause-after
 returns-clause-after c =
     let k = c.self.inside in
     rw (← c.self.view_is, c.enqueue.ensures.items)
-    (ap (λ es. held es k.processes) (procured-waits c.args.at c.args.process k.events.items k.waiting.items (waits c)))
+    (ap (λ es. held es k.processes) (procured-waits c.args.at c.args.process k.events.entries k.waiting.items (waits c)))

@@ -9,10 +9,10 @@ pub invariant_of-self : goal.invariant_of-self
 invariant_of-self c =
     let k = c.self.inside in
     rw c.set_happened.ensures
-    (kept-set c.args.at (with_happened false) (λ f. refl) k.events.items k.waiting.items k.processes (vec_capacity k.waiting) c.self.invariant)
+    (kept-set c.args.at (with_happened false) k.events.entries k.waiting.items k.processes (vec_capacity k.waiting) c.self.invariant)
 
 pub returns : goal.returns
 returns c =
     let k = c.self.inside in
     rw (← c.self.view_is, c.set_happened.ensures)
-    (ap (λ es. held es k.processes) (events-flags c.args.at (with_happened false) cleared k.waiting.items (λ x. refl) k.events.items))
+    (ap (λ es. held es k.processes) (events-flags c.args.at (with_happened false) cleared k.waiting.items (λ x. refl) k.events.entries))

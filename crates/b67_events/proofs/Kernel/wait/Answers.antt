@@ -7,33 +7,33 @@ use Rattle.b67_events.proofs.Shown.{happened-shown}
 use Rattle.b67_events.proofs.Steps.{held, kept-room, kept-push, kept-wider, waited-went, waited-waits, took-went, took-waits}
 use Rattle.b67_events.proofs.Kernel.wait.Goals as goal
 
-went : (c : goal.Then-has_happened) → happened_at c.args.at (events_of c.self.inside.events.items c.self.inside.waiting.items) ≡ true
+went : (c : goal.Then-has_happened) → happened_at c.args.at (events_of c.self.inside.events.entries c.self.inside.waiting.items) ≡ true
 went c =
     let k = c.self.inside in
-    let flag = rw c.deref.ensures.value at c.has_happened.ensures in
-    happened-shown c.args.at k.events.items k.waiting.items ∙ sym flag ∙ c.if-has_happened.true
+    let flag = c.has_happened.ensures in
+    happened-shown c.args.at k.events.entries k.waiting.items ∙ sym flag ∙ c.if-has_happened.true
 
-waits : (c : goal.After-enqueue) → happened_at c.args.at (events_of c.self.inside.events.items c.self.inside.waiting.items) ≡ false
+waits : (c : goal.After-enqueue) → happened_at c.args.at (events_of c.self.inside.events.entries c.self.inside.waiting.items) ≡ false
 waits c =
     let k = c.self.inside in
-    let flag = rw c.deref.ensures.value at c.has_happened.ensures in
-    happened-shown c.args.at k.events.items k.waiting.items ∙ sym flag ∙ c.if-has_happened.false
+    let flag = c.has_happened.ensures in
+    happened-shown c.args.at k.events.entries k.waiting.items ∙ sym flag ∙ c.if-has_happened.false
 
 pub returns-then-has_happened-clause-answer : goal.returns-then-has_happened-clause-answer
 returns-then-has_happened-clause-answer c =
-    rw (← c.self.view_is) (took-went (happened_at c.args.at (events_of c.self.inside.events.items c.self.inside.waiting.items)) (went c))
+    rw (← c.self.view_is) (took-went (happened_at c.args.at (events_of c.self.inside.events.entries c.self.inside.waiting.items)) (went c))
 
 pub returns-then-has_happened-clause-after : goal.returns-then-has_happened-clause-after
 returns-then-has_happened-clause-after c =
     let k = c.self.inside in
-    rw (← c.self.view_is) (ap (λ es. held es k.processes) (waited-went c.args.at c.args.process (events_of k.events.items k.waiting.items) (went c)))
+    rw (← c.self.view_is) (ap (λ es. held es k.processes) (waited-went c.args.at c.args.process (events_of k.events.entries k.waiting.items) (went c)))
 
 pub enqueue-requires : goal.enqueue-requires
 enqueue-requires c =
     let k = c.self.inside in
     let idle = rw (← c.self.view_is) at c.requires.idle in
     let process = rw (← c.self.view_is) at c.requires.process in
-    kept-room k.events.items k.waiting.items k.processes (vec_capacity k.waiting) c.args.process c.self.invariant process.0 process.1 idle
+    kept-room k.events.entries k.waiting.items k.processes (vec_capacity k.waiting) c.args.process c.self.invariant process.0 process.1 idle
 
 pub invariant_of-self : goal.invariant_of-self
 invariant_of-self c =
@@ -42,15 +42,15 @@ invariant_of-self c =
     let process = rw (← c.self.view_is) at c.requires.process in
     let here = rw (← c.self.view_is) at c.requires.open in
     let one : Waiting = record { process = c.args.process; place = c.args.at; queue = Waiters } in
-    let kept = kept-push k.events.items k.waiting.items k.processes (vec_capacity k.waiting) one c.self.invariant process.0 process.1 here idle in
+    let kept = kept-push k.events.entries k.waiting.items k.processes (vec_capacity k.waiting) one c.self.invariant process.0 process.1 here idle in
     rw c.enqueue.ensures.items (kept-wider _ _ _ _ _ kept c.enqueue.ensures.capacity)
 
 pub returns-clause-answer : goal.returns-clause-answer
 returns-clause-answer c =
-    rw (← c.self.view_is) (took-waits (happened_at c.args.at (events_of c.self.inside.events.items c.self.inside.waiting.items)) (waits c))
+    rw (← c.self.view_is) (took-waits (happened_at c.args.at (events_of c.self.inside.events.entries c.self.inside.waiting.items)) (waits c))
 
 pub returns-clause-after : goal.returns-clause-after
 returns-clause-after c =
     let k = c.self.inside in
     rw (← c.self.view_is, c.enqueue.ensures.items)
-    (ap (λ es. held es k.processes) (waited-waits c.args.at c.args.process k.events.items k.waiting.items (waits c)))
+    (ap (λ es. held es k.processes) (waited-waits c.args.at c.args.process k.events.entries k.waiting.items (waits c)))

@@ -1,7 +1,7 @@
 use Rattle.std.proofs.Common.{◌≡◌, ◌∙◌, sym, ap}
 use Rattle.b67_first.specs.Machine.{image_of}
-use Rattle.b67_first.specs.Built.{closed}
-use Rattle.b67_table.specs.Table.{failed}
+use Rattle.b67_first.specs.Instructions.{closed}
+use Rattle.b67_first_table.specs.Table.{failed}
 use Rattle.b67_first.specs.Seen.{Seen, image_in}
 use Rattle.b67_first.specs.declared.machine.State.{State}
 use Rattle.b67_first.proofs.MachineSeen.{able_acts, closed_end, fault_end}

@@ -1,12 +1,12 @@
 use Rattle.std.proofs.Common.{◌≡◌, Ok, Err, true, ◌∙◌, sym, ap}
-use Rattle.b67_table.specs.Image.{Image}
-use Rattle.b67_table.specs.Table.{may_act, failed}
+use Rattle.b67_first_table.specs.Image.{Image}
+use Rattle.b67_first_table.specs.Table.{may_act, failed}
 use Rattle.b67_first.specs.Machine.{image_of}
-use Rattle.b67_first.specs.Built.{Moves}
+use Rattle.b67_first.specs.Instructions.{Moves}
 use Rattle.b67_first.specs.Seen.{Seen, image_in}
 use Rattle.b67_first.specs.declared.machine.State.{State}
 use Rattle.b67_first.specs.declared.machine.State.TheVariants as states
-use Rattle.b67_first.specs.declared.machine.built.Moved.TheVariants as moves
+use Rattle.b67_first.specs.declared.machine.instructions.Moved.TheVariants as moves
 use Rattle.b67_first.specs.declared.machine.process.Stop.TheVariants as stops
 use Rattle.b67_first.proofs.MachineSeen.{able}
 use Rattle.b67_first.proofs.machine.Machine.step.Goals as goal

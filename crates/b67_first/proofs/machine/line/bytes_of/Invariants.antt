@@ -1,5 +1,5 @@
 use Rattle.std.proofs.Common.{◌≡◌, ◌≤◌, length, drop}
-use Rattle.b67_table.specs.Rows.{before}
+use Rattle.b67_first_table.specs.Rows.{before}
 use Rattle.b67_first.specs.Written.{line_with}
 use Rattle.b67_first.proofs.machine.line.bytes_of.Given as goal
 

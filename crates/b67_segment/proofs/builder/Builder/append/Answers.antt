@@ -1,4 +1,5 @@
-use Rattle.std.proofs.Common.{rules, ◌+◌, ◌-◌, ◌≤◌, Some, length, vec_len, vec_capacity}
+use Rattle.std.proofs.Common.{◌*◌, rules, ◌+◌, ◌-◌, ◌≤◌, Some, length, vec_len, vec_capacity}
+use Rattle.b67_segment.specs.declared.TheConstants.{MOST_SEGMENT_WORDS}
 use Rattle.b67_ops.specs.Spelling.{spelling, Fits}
 use Rattle.b67_segment.specs.Building.{Built, IsBuilt, operators_of}
 use Rattle.b67_segment.proofs.Builds.{append-keeps, append-adds, appended-seen}
@@ -14,7 +15,7 @@ invariant_of-self c =
     let new = c.append_to.new in
     let built : IsBuilt bytes ms (Some level) room = rw c.unwrap.ensures at c.self.invariant in
     let fits : Fits level c.args.op.now = search rules in
-    let short : length bytes + length (spelling (length bytes) level c.args.op.now) ≤ 49152 = search rules in
+    let short : length bytes + length (spelling (length bytes) level c.args.op.now) ≤ 6 * MOST_SEGMENT_WORDS = search rules in
     rw c.unwrap.ensures
     (append-keeps bytes ms room level c.args.op.now built fits short new.syllables.items new.marks.items (vec_capacity new.marks - vec_len new.marks)
     c.append_to.result c.append_to.ensures.ok c.append_to.ensures.marks c.append_to.ensures.err)
@@ -29,7 +30,7 @@ returns-clause-ok c =
     let new = c.append_to.new in
     let built : IsBuilt bytes ms (Some level) room = rw c.unwrap.ensures at c.self.invariant in
     let fits : Fits level c.args.op.now = search rules in
-    let short : length bytes + length (spelling (length bytes) level c.args.op.now) ≤ 49152 = search rules in
+    let short : length bytes + length (spelling (length bytes) level c.args.op.now) ≤ 6 * MOST_SEGMENT_WORDS = search rules in
     let added = append-adds bytes ms room level c.args.op.now built fits short new.syllables.items new.marks.items
     c.append_to.result c.append_to.ensures.ok c.append_to.ensures.marks in
     let before : Built = record { operators = operators_of bytes ms; level = Some level } in

@@ -24,10 +24,10 @@ returns-in-Some-clause-rows c =
 
 pub invariant_of-self-2 : goal.invariant_of-self-2
 invariant_of-self-2 c =
-    let r = placed_last c.self.inside.rows.items c.args.self.now c.self.inside.free c.reserve.new.self c.self.inside.counted c.len-number.result c.live-more.result c.args.row c.self.view_is c.self.invariant c.in_default.ensures.none c.reserve.ensures.numbers (search rules) c.in_ok-reserve.ensures.room c.if-number-eq-ROW_LIMIT.false c.live-more.ensures c.requires in
+    let r = placed_last c.self.inside.rows.items c.args.self.now c.self.inside.free c.reserve.new.self c.self.inside.counted c.len-number.result c.live-more.result c.args.row c.self.view_is c.self.invariant c.in_default.ensures.none c.reserve.ensures.numbers (search rules) c.in_ok-reserve.ensures.room c.if-number-eq-MOST_ROWS.false c.live-more.ensures c.requires in
     rw (c.push_reserved.ensures.items, c.reserve-2.ensures.items) r.2
 
 pub returns-clause-number : goal.returns-clause-number
 returns-clause-number c =
-    let r = placed_last c.self.inside.rows.items c.args.self.now c.self.inside.free c.reserve.new.self c.self.inside.counted c.len-number.result c.live-more.result c.args.row c.self.view_is c.self.invariant c.in_default.ensures.none c.reserve.ensures.numbers (search rules) c.in_ok-reserve.ensures.room c.if-number-eq-ROW_LIMIT.false c.live-more.ensures c.requires in
+    let r = placed_last c.self.inside.rows.items c.args.self.now c.self.inside.free c.reserve.new.self c.self.inside.counted c.len-number.result c.live-more.result c.args.row c.self.view_is c.self.invariant c.in_default.ensures.none c.reserve.ensures.numbers (search rules) c.in_ok-reserve.ensures.room c.if-number-eq-MOST_ROWS.false c.live-more.ensures c.requires in
     (r.0, r.1)

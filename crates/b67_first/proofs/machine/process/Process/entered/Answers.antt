@@ -57,15 +57,15 @@ returns-then-not-code c =
     ∙ (rw c.in-Some-called.is at c.called.ensures code next c.in-Some-unpack.mark)
     ∙ no_intrinsic p.stacks p.mark p.cells p.place p.output.items code next c.in-Some-unpack.mark c.in-Some-called.code (not_true c.in-Some-called.code.intrinsic c.if-not-code.true)
 
-pub returns-then-code-ne-WRITE : goal.returns-then-code-ne-WRITE
-returns-then-code-ne-WRITE c =
+pub returns-then-code-number : goal.returns-then-code-number
+returns-then-code-number c =
     let p = c.args.self.now in
     let e : slice_get p.stacks p.mark ≡ Some c.in-Some.word = ap (slice_get p.stacks) (sym c.from-at.ensures) ∙ sym c.word_in.ensures ∙ c.in-Some.is in
     let f : as_mscw c.in-Some.word ≡ Some c.in-Some-unpack.mark = sym c.unpack.ensures.value ∙ c.in-Some-unpack.is in
     let w : slice_get p.stacks (p.mark + 1) ≡ Some c.word.result = ap (λ n. slice_get p.stacks (n + 1)) (sym c.from-at.ensures) ∙ c.word.ensures in
     λ code next. enters p.stacks p.mark p.cells p.place p.output.items code next c.in-Some.word c.in-Some-unpack.mark c.word.result e f c.if-mark.false (omega arith) (omega arith) w
     ∙ (rw c.in-Some-called.is at c.called.ensures code next c.in-Some-unpack.mark)
-    ∙ other_number p.stacks p.mark p.cells p.place p.output.items code next c.in-Some-unpack.mark c.in-Some-called.code (not_false c.in-Some-called.code.intrinsic c.if-not-code.false) c.if-code-ne-WRITE.true
+    ∙ other_number p.stacks p.mark p.cells p.place p.output.items code next c.in-Some-unpack.mark c.in-Some-called.code (not_false c.in-Some-called.code.intrinsic c.if-not-code.false) (λ n. c.if-code-number.true (n ∙ sym c.number.ensures))
 
 pub returns : goal.returns
 returns c =
@@ -76,5 +76,5 @@ returns c =
       omega arith,
       λ code next. enters p.stacks p.mark p.cells p.place p.output.items code next c.in-Some.word c.in-Some-unpack.mark c.word.result e f c.if-mark.false (omega arith) (omega arith) w
           ∙ (rw c.in-Some-called.is at c.called.ensures code next c.in-Some-unpack.mark)
-          ∙ writes p.stacks p.mark p.cells p.place p.output.items code next c.in-Some-unpack.mark c.in-Some-called.code (not_false c.in-Some-called.code.intrinsic c.if-not-code.false) c.if-code-ne-WRITE.false,
+          ∙ writes p.stacks p.mark p.cells p.place p.output.items code next c.in-Some-unpack.mark c.in-Some-called.code (not_false c.in-Some-called.code.intrinsic c.if-not-code.false) (c.if-code-number.false ∙ c.number.ensures),
     )

@@ -5,8 +5,8 @@ use Rattle.b67_first.proofs.machine.process.Process.mark.Goals as goal
 pub returns-then-count-below : goal.returns-then-count-below
 returns-then-count-below c = let p = c.args.self.now in (mark_invalid p.stacks p.mark p.cells p.place p.output.items c.args.next (omega arith), refl)
 
-pub returns-then-count-ge-ROOM : goal.returns-then-count-ge-ROOM
-returns-then-count-ge-ROOM c =
+pub returns-then-count-ge-MOST_STACK_WORDS : goal.returns-then-count-ge-MOST_STACK_WORDS
+returns-then-count-ge-MOST_STACK_WORDS c =
     let p = c.args.self.now in (mark_is_full p.stacks p.mark p.cells p.place p.output.items c.args.next (omega arith) (omega arith), refl)
 
 pub returns : goal.returns

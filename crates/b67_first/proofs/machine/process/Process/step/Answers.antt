@@ -1,10 +1,10 @@
 use Rattle.std.proofs.Common.{◌≡◌, Ok, Err, refl, sym, ◌∙◌}
 use Rattle.b67_segment.specs.Fetching.{fetched}
-use Rattle.b67_table.specs.Program.{does}
-use Rattle.b67_table.specs.Rows.{exit}
+use Rattle.b67_first_table.specs.Program.{does}
+use Rattle.b67_first_table.specs.Rows.{exit}
 use Rattle.b67_first.specs.Machine.{image_of, registers_of, by_row, Performs}
-use Rattle.b67_first.specs.Built.{IsBuiltAs, effect_of, program_of}
-use Rattle.b67_first.specs.declared.machine.built.Instruction.TheVariants as instructions
+use Rattle.b67_first.specs.Instructions.{IsBuiltAs, effect_of, program_of}
+use Rattle.b67_first.specs.declared.machine.instructions.Instruction.TheVariants as instructions
 use Rattle.b67_first.proofs.MachineStep.{nothing_fetched, not_built, row_tabled, row_plain, act_tabled, act_not_plain, exit_gives}
 use Rattle.b67_first.proofs.machine.process.Process.step.Goals as goal
 

@@ -1,7 +1,7 @@
 use Rattle.std.proofs.Common.{◌≡◌, Some, None, ap, refl, sym, ◌∙◌, option_map, arith}
-use Rattle.b67_table.specs.Rows.{reference_place}
-use Rattle.b67_table.specs.Table.{first_registers}
-use Rattle.b67_table.specs.Image.{word_at}
+use Rattle.b67_first_table.specs.Rows.{reference_place}
+use Rattle.b67_first_table.specs.Table.{first_registers}
+use Rattle.b67_first_table.specs.Image.{word_at}
 use Rattle.b67_first.specs.Machine.{image_of}
 use Rattle.b67_first.specs.Reach.{place_of}
 use Rattle.b67_first.proofs.MachineCalls.{store_underflows, store_reads, storing_invalid, storing_nowhere, storing_past, storing_no_value, storing_gives}

@@ -18,8 +18,8 @@ returns-then-tag-ne0 c =
       refl,
     )
 
-pub returns-then-len-ge-ROOM : goal.returns-then-len-ge-ROOM
-returns-then-len-ge-ROOM c =
+pub returns-then-len-ge-MOST_STACK_WORDS : goal.returns-then-len-ge-MOST_STACK_WORDS
+returns-then-len-ge-MOST_STACK_WORDS c =
     let p = c.args.self.now in
     let reads = rw c.in-Some.is at c.reached.ensures in (
       value_some p.stacks p.mark p.cells p.place p.output.items c.args.next c.args.couple (option_map place_of c.couple_address-address.result) c.in-Some.word c.couple_address-address.ensures reads

@@ -1,7 +1,7 @@
 use Rattle.std.proofs.Common.{◌≡◌, true, false, ℕ, ◌+◌, List, Option, drop, ap, refl, sym, ◌∙◌, arith}
 use Rattle.b67_word.specs.Word.{Word}
-use Rattle.b67_table.specs.Program.{does}
-use Rattle.b67_table.specs.Rows.{line_for, values_of, line_shown}
+use Rattle.b67_first_table.specs.Program.{does}
+use Rattle.b67_first_table.specs.Rows.{line_for, values_of, line_shown}
 use Rattle.b67_first.specs.Machine.{image_of, registers_of}
 use Rattle.b67_first.specs.Reach.{LiesAbove}
 use Rattle.b67_first.proofs.MachineCalls.{shows, cutting_gives}

@@ -1,4 +1,0 @@
-pub mod Rest
-pub mod World
-pub mod Choice
-pub mod Run

@@ -1,0 +1,4 @@
+pub mod formers
+pub mod Lending
+pub mod Lines
+pub mod Numbered

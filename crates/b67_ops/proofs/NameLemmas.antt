@@ -1,0 +1,38 @@
+-- A name belongs to one operator.
+use Rattle.std.proofs.Common.{◌≡◌, ℕ, ◌&&◌, eqb, Bool, true, false, cond, List, [], ◌∷◌, Option, Some, None, refl, sym, ap, ◌∙◌}
+use Rattle.b67_ops.specs.declared.PlainKind.TheVariants as plains
+use Rattle.b67_ops.specs.declared.BranchKind.TheVariants as branches
+use Rattle.b67_ops.specs.declared.table.OperatorKind.{OperatorKind}
+use Rattle.b67_ops.specs.declared.table.OperatorKind.TheVariants.{Valc, Namc, Lt8, Lt16, Lt48, Mpcw, Branch, Plain}
+use Rattle.b67_ops.specs.declared.table.TheConstants.{TABLE}
+use Rattle.b67_ops.specs.Codes.{Row, name_of}
+
+-- two texts are one
+abbrev same_text : List ℕ → List ℕ → Bool
+same_text [] [] = true
+same_text (x ∷ xs) (y ∷ ys) = eqb x y && same_text xs ys
+same_text _ _ = false
+
+-- the operator of the first row that has this name
+abbrev first_named : List ℕ → List (Row (record { now : List ℕ })) → Option OperatorKind
+first_named name [] = None
+first_named name (row ∷ more) = cond (same_text row.2.now name) (Some row.0) (first_named name more)
+
+named-name : (kind : OperatorKind) → first_named (name_of kind) TABLE ≡ Some kind
+unfolding name_of
+named-name Valc = refl
+named-name Namc = refl
+named-name Lt8 = refl
+named-name Lt16 = refl
+named-name Lt48 = refl
+named-name Mpcw = refl
+named-name (Branch branches.Brfl) = refl
+named-name (Branch kind) = refl
+named-name (Plain plains.Add) = refl
+named-name (Plain kind) = refl
+
+-- no two operators have one name
+pub name_of-one : (a b : OperatorKind) → name_of a ≡ name_of b → a ≡ b
+name_of-one a b h =
+    let same : Some a ≡ Some b = sym (named-name a) ∙ ap (λ name. first_named name TABLE) h ∙ named-name b in
+    cc

@@ -1,0 +1,20 @@
+-- The numbers of the intrinsics.
+use Rattle.std.specs.Prelude.{ℕ, ◌+◌, List, [], ◌∷◌}
+use Rattle.b67_ops.specs.contracts.intrinsic.Intrinsic as generated
+use Rattle.b67_ops.specs.declared.Couple.{Couple}
+use Rattle.b67_ops.specs.declared.intrinsic.Intrinsic.{Intrinsic}
+use Rattle.b67_ops.specs.declared.intrinsic.Intrinsic.TheVariants.{GoTo, Select, Arrays, Event, Start, Write, Wait, Cause, Reset, Happened, Procure, Liberate}
+use Rattle.b67_ops.specs.declared.intrinsic.TheConstants.{FIRST_INTRINSIC}
+use Rattle.b67_ops.specs.Positions.{position}
+
+-- the number of an intrinsic: they are numbered in the order in which they are declared
+abbrev pub number_of : Intrinsic → ℕ
+number_of intrinsic = FIRST_INTRINSIC + position generated.the_parts (generated.as_values intrinsic)
+
+-- the couple of an intrinsic: level 0 names the stack of the system
+abbrev pub couple_of_intrinsic : Intrinsic → Couple
+couple_of_intrinsic intrinsic = record { level = 0; index = number_of intrinsic }
+
+-- the intrinsics in the order of their numbers
+abbrev pub intrinsics : List Intrinsic
+intrinsics = GoTo ∷ Select ∷ Arrays ∷ Event ∷ Start ∷ Write ∷ Wait ∷ Cause ∷ Reset ∷ Happened ∷ Procure ∷ Liberate ∷ []

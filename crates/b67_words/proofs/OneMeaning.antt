@@ -1,0 +1,150 @@
+-- A list of words has one meaning.
+use Rattle.std.proofs.Common.{◌≡◌, ℕ, ◌+◌, ◌^◌, ◌<◌, ◌≤◌, List, [], ◌∷◌, ◌++◌, length, get_or, Result, Ok, Err, refl, sym, ap, ◌∙◌, subst, arith}
+use Rattle.std.specs.Prelude.{codes}
+use Rattle.std.proofs.lemmas.List.{append_assoc, append-nil}
+use Rattle.std.proofs.lemmas.Fmt.{decimal_injective}
+use Rattle.b67_words.specs.declared.TheConstants.{MOST_BUDGET, MOST_PROCESSORS}
+use Rattle.b67_words.specs.declared.Words.{Words}
+use Rattle.b67_words.specs.declared.Words.TheVariants.{Run}
+use Rattle.b67_words.specs.declared.UsageKind.{UsageKind}
+use Rattle.b67_words.specs.declared.UsageKind.TheVariants.{Missing, Unknown, BadNumber, Extra}
+use Rattle.b67_words.specs.declared.BadWords.{BadWords}
+use Rattle.b67_words.specs.declared.BadWords.TheVariants.{Usage}
+use Rattle.b67_words.specs.Grammar.{IsNumber, IsCommand, BeginCommand, Wants, command, numeral, nothing, Breaks, missing, wrong, WordsMean, meant, broken}
+use Rattle.b67_words.proofs.Commands.{Shape, shape_of, begin_run}
+use Rattle.b67_words.proofs.Numbers.{first_digit}
+
+-- ---- a command has one meaning
+
+same_number : (most : ℕ) (word : List ℕ) (n k : ℕ) → most < 2 ^ 64 → IsNumber most word n → IsNumber most word k → n ≡ k
+same_number most word n k small a b = decimal_injective n k (omega (arith, a.greatest)) (omega (arith, b.greatest)) (sym a.written ∙ b.written)
+
+same_command : (words : List (List ℕ)) (a b : Words) → IsCommand words a → IsCommand words b → a ≡ b
+same_command words a b is also =
+    let x = shape_of words a is in
+    let y = shape_of words b also in
+    let e = sym x.are ∙ y.are in
+    let first : y.processors ≡ x.processors = cc in
+    let second : y.budget ≡ x.budget = cc in
+    let p : x.p ≡ y.p = same_number MOST_PROCESSORS x.processors x.p y.p (omega arith) x.first (subst (λ w. IsNumber MOST_PROCESSORS w y.p) first y.first) in
+    let q : x.b ≡ y.b = same_number MOST_BUDGET x.budget x.b y.b (omega arith) x.second (subst (λ w. IsNumber MOST_BUDGET w y.b) second y.second) in
+    x.meant_is ∙ ap (λ n. Run n x.b) p ∙ ap (λ n. Run y.p n) q ∙ sym y.meant_is
+
+-- a number is no name of a command
+no_number_first : {B : Type 0} (word : List ℕ) (n : ℕ) → IsNumber MOST_BUDGET word n → BeginCommand (word ∷ []) → B
+no_number_first word n is (rest, m, begins) =
+    let words = shape_of (word ∷ rest) m begins in
+    let e = words.are in
+    let same : word ≡ codes "run" = cc in
+    let low = (first_digit MOST_BUDGET word n (omega arith) is).1 in
+    let high : get_or word 0 0 ≡ 114 = rw same refl in
+    absurd (omega arith)
+
+-- ---- two ways to cut a list at a word
+
+data Cuts (before : List (List ℕ)) (word : List ℕ) (others : List (List ℕ)) (other : List ℕ) : Type 0 where
+  together : before ≡ others → Cuts before word others other
+  earlier : (more : List (List ℕ)) → others ≡ (before ++ word ∷ []) ++ more → Cuts before word others other
+  later : (more : List (List ℕ)) → before ≡ (others ++ other ∷ []) ++ more → Cuts before word others other
+
+cuts_after : (x : List ℕ) (before others : List (List ℕ)) (word other : List ℕ) → Cuts before word others other → Cuts (x ∷ before) word (x ∷ others) other
+cuts_after x before others word other (together e) = together (ap (λ ws. x ∷ ws) e)
+cuts_after x before others word other (earlier more e) = earlier more (ap (λ ws. x ∷ ws) e)
+cuts_after x before others word other (later more e) = later more (ap (λ ws. x ∷ ws) e)
+
+cuts : (before : List (List ℕ)) (word : List ℕ) (after others : List (List ℕ)) (other : List ℕ) (rest : List (List ℕ)) →
+    before ++ word ∷ after ≡ others ++ other ∷ rest → Cuts before word others other
+cuts [] word after [] other rest e = together refl
+cuts [] word after (x ∷ others) other rest e = let same : x ≡ word = cc in earlier others (ap (λ w. w ∷ others) same)
+cuts (x ∷ before) word after [] other rest e = let same : x ≡ other = cc in later before (ap (λ w. w ∷ before) same)
+cuts (x ∷ before) word after (y ∷ others) other rest e =
+    let same : x ≡ y = cc in
+    let tails : before ++ word ∷ after ≡ others ++ other ∷ rest = cc in
+    subst (λ z. Cuts (x ∷ before) word (z ∷ others) other) same (cuts_after x before others word other (cuts before word after others other rest tails))
+
+-- ---- what breaks the grammar, case by case
+
+begins : (front more : List (List ℕ)) → BeginCommand (front ++ more) → BeginCommand front
+begins front more (rest, m, is) = (more ++ rest, m, subst (λ ws. IsCommand ws m) (append_assoc front more rest) is)
+
+data Wanted (words : List (List ℕ)) : UsageKind → Type 0 where
+  a_command : words ≡ [] → Wanted words Unknown
+  a_number : (word : List ℕ) (n : ℕ) → IsNumber MOST_BUDGET word n → BeginCommand (words ++ word ∷ []) → Wanted words BadNumber
+  no_word : ((word : List ℕ) → BeginCommand (words ++ word ∷ []) → ⊥) → Wanted words Extra
+
+wanted : (words : List (List ℕ)) (kind : UsageKind) → Wants words kind → Wanted words kind
+wanted _ _ command = a_command refl
+wanted _ _ (numeral words word n is starts) = a_number word n is starts
+wanted _ _ (nothing words starts none) = no_word none
+
+number_or_command : {B : Type 0} (words : List (List ℕ)) (word : List ℕ) (n : ℕ) → words ≡ [] → IsNumber MOST_BUDGET word n → BeginCommand (words ++ word ∷ []) → B
+number_or_command words word n e is starts = no_number_first word n is (subst (λ ws. BeginCommand (ws ++ word ∷ [])) e starts)
+
+command_or_none : {B : Type 0} (words : List (List ℕ)) → words ≡ [] → ((word : List ℕ) → BeginCommand (words ++ word ∷ []) → ⊥) → B
+command_or_none words e none = absurd (none (codes "run") (subst (λ ws. BeginCommand (ws ++ codes "run" ∷ [])) (sym e) begin_run))
+
+same_want : (words : List (List ℕ)) (a b : UsageKind) → Wanted words a → Wanted words b → a ≡ b
+same_want words _ _ (a_command e) (a_command f) = refl
+same_want words _ _ (a_command e) (a_number word n is starts) = number_or_command words word n e is starts
+same_want words _ _ (a_command e) (no_word none) = command_or_none words e none
+same_want words _ _ (a_number word n is starts) (a_command e) = number_or_command words word n e is starts
+same_want words _ _ (a_number word n is starts) (a_number other k also then) = refl
+same_want words _ _ (a_number word n is starts) (no_word none) = absurd (none word starts)
+same_want words _ _ (no_word none) (a_command e) = command_or_none words e none
+same_want words _ _ (no_word none) (a_number word n is starts) = absurd (none word starts)
+same_want words _ _ (no_word none) (no_word also) = refl
+
+data Broken (words : List (List ℕ)) (number : ℕ) (kind : UsageKind) : Type 0 where
+  ends : BeginCommand words → ((meaning : Words) → IsCommand words meaning → ⊥) → number ≡ length words + 1 → kind ≡ Missing → Broken words number kind
+  stops : (before : List (List ℕ)) (word : List ℕ) (after : List (List ℕ)) → words ≡ before ++ word ∷ after → number ≡ length before + 1 →
+      BeginCommand before → (BeginCommand (before ++ word ∷ []) → ⊥) → Wants before kind → Broken words number kind
+
+breaks : (words : List (List ℕ)) (number : ℕ) (kind : UsageKind) → Breaks words number kind → Broken words number kind
+breaks _ _ _ (missing words starts none) = ends starts none refl refl
+breaks _ _ _ (wrong before word after kind starts none wants) = stops before word after refl refl starts none wants
+
+-- words that begin a command have no word that stops it
+no_stop : {B : Type 0} (words before : List (List ℕ)) (word : List ℕ) (after : List (List ℕ)) → BeginCommand words → words ≡ before ++ word ∷ after →
+    (BeginCommand (before ++ word ∷ []) → ⊥) → B
+no_stop words before word after starts e none =
+    absurd (none (begins (before ++ word ∷ []) after (subst BeginCommand (e ∙ sym (append_assoc before (word ∷ []) after)) starts)))
+
+same_stop : (before others : List (List ℕ)) (word other : List ℕ) → Cuts before word others other →
+    BeginCommand before → (BeginCommand (before ++ word ∷ []) → ⊥) → BeginCommand others → (BeginCommand (others ++ other ∷ []) → ⊥) → before ≡ others
+same_stop before others word other (together e) starts none also_starts also_none = e
+same_stop before others word other (earlier more e) starts none also_starts also_none = absurd (none (begins (before ++ word ∷ []) more (subst BeginCommand e also_starts)))
+same_stop before others word other (later more e) starts none also_starts also_none = absurd (also_none (begins (others ++ other ∷ []) more (subst BeginCommand e starts)))
+
+same_break : (words : List (List ℕ)) (n k : ℕ) (a b : UsageKind) → Broken words n a → Broken words k b → Usage n a ≡ Usage k b
+same_break words n k a b (ends starts none e f) (ends also_starts also_none g h) = ap (λ (i : ℕ). Usage i a) (e ∙ sym g) ∙ ap (λ (x : UsageKind). Usage k x) (f ∙ sym h)
+same_break words n k a b (ends starts none e f) (stops before word after is at begin end wants) = no_stop words before word after starts is end
+same_break words n k a b (stops before word after is at begin end wants) (ends starts none e f) = no_stop words before word after starts is end
+same_break words n k a b (stops before word after is at begin end wants) (stops others other rest also_is also_at also_begin also_end also_wants) =
+    let one = same_stop before others word other (cuts before word after others other rest (sym is ∙ also_is)) begin end also_begin also_end in
+    let place : n ≡ k = at ∙ ap (λ (ws : List (List ℕ)). length ws + 1) one ∙ sym also_at in
+    let kind : a ≡ b = same_want others a b (subst (λ ws. Wanted ws a) one (wanted before a wants)) (wanted others b also_wants) in
+    ap (λ (i : ℕ). Usage i a) place ∙ ap (λ (x : UsageKind). Usage k x) kind
+
+no_break : {B : Type 0} (words : List (List ℕ)) (meaning : Words) (n : ℕ) (kind : UsageKind) → IsCommand words meaning → Broken words n kind → B
+no_break words meaning n kind is (ends starts none e f) = absurd (none meaning is)
+no_break words meaning n kind is (stops before word after e at begin end wants) =
+    no_stop words before word after ([], meaning, subst (λ ws. IsCommand ws meaning) (sym (append-nil words)) is) e end
+
+-- ---- the law
+
+data Meaning (words : List (List ℕ)) : Result Words BadWords → Type 0 where
+  means : (meaning : Words) → IsCommand words meaning → Meaning words (Ok meaning)
+  breaks_at : (n : ℕ) (kind : UsageKind) → Broken words n kind → Meaning words (Err (Usage n kind))
+
+meaning_of : (words : List (List ℕ)) (r : Result Words BadWords) → WordsMean words r → Meaning words r
+meaning_of _ _ (meant words meaning is) = means meaning is
+meaning_of _ _ (broken words n kind is) = breaks_at n kind (breaks words n kind is)
+
+same_meaning : (words : List (List ℕ)) (a b : Result Words BadWords) → Meaning words a → Meaning words b → a ≡ b
+same_meaning words _ _ (means m is) (means k also) = ap Ok (same_command words m k is also)
+same_meaning words _ _ (means m is) (breaks_at n kind wrong_at) = no_break words m n kind is wrong_at
+same_meaning words _ _ (breaks_at n kind wrong_at) (means m is) = no_break words m n kind is wrong_at
+same_meaning words _ _ (breaks_at n a one) (breaks_at k b other) = ap Err (same_break words n k a b one other)
+
+pub one_meaning : (words : List (List ℕ)) (a b : Result Words BadWords) → WordsMean words a → WordsMean words b → a ≡ b
+one_meaning words a b is also = same_meaning words a b (meaning_of words a is) (meaning_of words b also)
