@@ -1,0 +1,161 @@
+-- Intrinsics that neither make arrays nor start a process keep an image valid.
+use Rattle.std.proofs.Common.{◌≡◌, refl, subst, ℕ, ◌+◌, ◌-◌, ◌*◌, ◌+ℤ◌, ◌<◌, ◌≤◌, ◌^◌, true, ℤ, pos, List, [], ◌∷◌, ◌++◌, All, Option, Some, None, cond, arith}
+use Rattle.std.specs.Prelude.{nat_le}
+use Rattle.std.proofs.lemmas.List.Elements.{All-nil, All-cons}
+use Rattle.b67_list.specs.Numbered.{numbered}
+use Rattle.b67_word.specs.declared.Place.{Place}
+use Rattle.b67_word.specs.Word.{Word, IsWord, truth}
+use Rattle.b67_word.proofs.WordLaws.{truth-word}
+use Rattle.b67_control.specs.declared.Registers.{Registers}
+use Rattle.b67_control.specs.declared.Mscw.{Mscw}
+use Rattle.b67_control.specs.Control.{event_word}
+use Rattle.b67_control.proofs.ControlLaws.{IsWord-event_word}
+use Rattle.b67_segment.specs.declared.code.Code.{Code}
+use Rattle.b67_events.specs.Events.{happened_at, available_at}
+use Rattle.b67_table.specs.declared.Cell.{Cell}
+use Rattle.b67_table.specs.declared.ProcessState.TheVariants.{WaitsFor, Procures}
+use Rattle.b67_table.specs.declared.InterruptKind.TheVariants.{InvalidOperand}
+use Rattle.b67_table.specs.Limits.{end_of_code}
+use Rattle.b67_table.specs.Private.{floor}
+use Rattle.b67_table.specs.Look.{◌>->◌, seen, valid}
+use Rattle.b67_table.specs.Chains.{place, broken, mark_at}
+use Rattle.b67_table.specs.References.{cell_place}
+use Rattle.b67_table.specs.Image.{Image, is_able, is_live}
+use Rattle.b67_table.specs.Writes.{written}
+use Rattle.b67_table.specs.Writes as writes
+use Rattle.b67_table.specs.Program.{asked, Change, wait, procure, cause, reset, liberate, Program}
+use Rattle.b67_table.specs.Arguments.{Three, three, wholes, number_in, event_of, if_chained, finished_at}
+use Rattle.b67_table.specs.Intrinsics.{case_in, case_place, gone_to_case, select, write, make_event, on_event, tell_event}
+use Rattle.b67_table.specs.Lines.{line_for}
+use Rattle.b67_table.specs.Valid.{IsValid}
+use Rattle.b67_table.proofs.Keeping.{Gives, anything}
+use Rattle.b67_table.proofs.Finding.{Found, look_then, see_then, test_then, there_found, anything_found}
+use Rattle.b67_table.proofs.OwnValid.{process_stays}
+use Rattle.b67_table.proofs.Simple.{Ends, finished_ends}
+use Rattle.b67_table.proofs.EventKept.{open_event_valid, reset_valid}
+use Rattle.b67_table.proofs.Waking.{cause_valid, liberate_valid, wait_valid, procure_valid, wait_live, caused_live, liberated_live}
+use Rattle.b67_table.proofs.Exits.{number_by}
+
+pub output_valid : (code : Code) (img : Image) (lines : List (List ℕ)) → IsValid code img → IsValid code (record img { output = lines })
+output_valid code img lines v = record {
+  segments = v.segments;
+  words = v.words;
+  registers = v.registers;
+  states = v.states;
+  some = v.some;
+  most = v.most;
+  system = v.system;
+  stacks = v.stacks;
+  processes = λ q r l i. process_stays img (record img { output = lines }) q r refl (v.processes q r l i);
+  earlier = v.earlier;
+  rows = record { few = v.rows.few; room = v.rows.room; short = v.rows.short; words = v.rows.words; shallow = v.rows.shallow };
+  events = record { apart = v.events.apart; once = v.events.once; waiting = v.events.waiting };
+}
+
+module _ (code : Code) (img : Image) (p : ℕ) (r : Registers) (v : IsValid code img) (live : is_live (numbered img.states p) ≡ true)
+    (has : numbered img.regs p ≡ Some r) (next : ℕ) (small : next < 2 ^ 16) (m : Mscw) (low : floor r ≤ r.f) (high : r.f + 1 < r.s) where
+  E : Change → Type 0
+  E = Ends code img p
+
+  pub chained_kept : (more : Program) → Gives (Ends code img p) (asked img more) → Gives (Ends code img p) (asked img (if_chained r m more))
+  chained_kept more k =
+      see_then img (λ (lower : Mscw). Unit {0}) (Ends code img p) (cond (nat_le m.df r.f) (mark_at (place r.stack (r.f - m.df))) broken) (λ (lower : Mscw). more)
+      (anything_found (seen img.stacks (cond (nat_le m.df r.f) (mark_at (place r.stack (r.f - m.df))) broken))) (λ lower u. k)
+
+  finish : (words : List Word) → All IsWord words → E (finished_at r m words next)
+  unfolding E
+  finish words are = finished_ends code img p r v live has m words next low (omega (arith, high)) are small
+
+  -- the places that SELECT goes to
+  At : Option ℕ → Type 0
+  At o = (n : ℕ) → o ≡ Some n → n ≤ end_of_code
+
+  no_place : At None
+  unfolding At
+  no_place n e = cc
+
+  same_place : (to : ℕ) → to ≤ end_of_code → At (Some to)
+  unfolding At
+  same_place to h n e = let same : to ≡ n = cc in subst (λ (x : ℕ). x ≤ end_of_code) same h
+
+  case_found : (first : ℤ) (o : Option ℕ) → Found At (seen img.stacks (case_place first o))
+  unfolding At
+  case_found first None = no_place
+  case_found first (Some k) =
+      look_then img.stacks (λ (n : ℕ). n ≤ end_of_code) At (valid (number_in (first +ℤ pos (3 * k)) end_of_code)) _
+      (there_found img.stacks (λ (n : ℕ). n ≤ end_of_code) InvalidOperand (number_in (first +ℤ pos (3 * k)) end_of_code)
+      (number_by code img p r v live has next small (first +ℤ pos (3 * k)) end_of_code)) (λ to h. same_place to h)
+
+  case_kept : (o : Option ℕ) → At o → Gives E (asked img (gone_to_case r m o))
+  unfolding E At
+  case_kept None k = tt
+  case_kept (Some to) k = finished_ends code img p r v live has m [] to low (omega (arith, high)) (All-nil IsWord) (omega (arith, k to refl))
+
+  pub select_kept : (words : List Word) → Gives (Ends code img p) (asked img (select code r next m words))
+  unfolding E At
+  select_kept words =
+      see_then img (λ (t : Three). Unit {0}) E (three words) _ (anything_found (seen img.stacks (three words))) (λ z u.
+      see_then img At E (case_place z.third (case_in z.first z.second)) _ (case_found z.third (case_in z.first z.second)) (λ to k.
+      chained_kept (gone_to_case r m to) (case_kept to k)))
+
+  pub write_kept : (words : List Word) → Gives (Ends code img p) (asked img (write code r next m words))
+  unfolding E Ends
+  write_kept words =
+      see_then img (λ (bytes : List ℕ). Unit {0}) (Ends code img p) (wholes words >-> (λ (zs : List ℤ). valid (line_for code zs))) _
+      (anything_found (seen img.stacks (wholes words >-> (λ (zs : List ℤ). valid (line_for code zs))))) (λ bytes u.
+      chained_kept _ (finished_ends code (record img { output = img.output ++ bytes ∷ [] }) p r (output_valid code img (img.output ++ bytes ∷ []) v) live has m [] next low
+      (omega (arith, high)) (All-nil IsWord) small))
+
+  pub make_event_kept : (words : List Word) → Gives (Ends code img p) (asked img (make_event code r next m words))
+  unfolding Ends
+  make_event_kept [] =
+      chained_kept _ (finished_ends code (written p (writes.open_event (place r.stack r.f)) img) p r (open_event_valid code img v (place r.stack r.f)) live has m
+      (event_word (record {}) ∷ []) next low (omega (arith, high)) (All-cons IsWord (event_word (record {})) [] (IsWord-event_word (record {}) tt) (All-nil IsWord)) small)
+  make_event_kept (w ∷ words) = tt
+
+  pub tell_kept : (words : List Word) → Gives (Ends code img p) (asked img (tell_event code r next m words))
+  unfolding E
+  tell_kept [] = tt
+  tell_kept (w ∷ []) =
+      test_then img (λ (c : Cell). Unit {0}) E (event_of r w) _ (anything (asked img (event_of r w))) (λ c u.
+      chained_kept _ (finish (truth (happened_at (cell_place c) img.events) ∷ [])
+      (All-cons IsWord (truth (happened_at (cell_place c) img.events)) [] (truth-word (happened_at (cell_place c) img.events)) (All-nil IsWord))))
+  tell_kept (w ∷ x ∷ words) = tt
+
+  -- an action on one event
+  on_event_kept : (act : Place → Change → Change) → ((x : Place) → Ends code img p (act x (finished_at r m [] next))) → (words : List Word)
+      → Gives (Ends code img p) (asked img (on_event act code r next m words))
+  on_event_kept act k [] = tt
+  on_event_kept act k (w ∷ []) =
+      test_then img (λ (c : Cell). Unit {0}) (Ends code img p) (event_of r w) _ (anything (asked img (event_of r w))) (λ c u.
+      chained_kept _ (k (cell_place c)))
+  on_event_kept act k (w ∷ x ∷ words) = tt
+
+  pub cause_kept : (words : List Word) → Gives (Ends code img p) (asked img (on_event cause code r next m words))
+  unfolding Ends
+  cause_kept = on_event_kept cause (λ x.
+      finished_ends code (written p (writes.cause x) img) p r (cause_valid code img v x) (caused_live code img v x p live) has m [] next low (omega (arith, high))
+      (All-nil IsWord) small)
+
+  pub reset_kept : (words : List Word) → Gives (Ends code img p) (asked img (on_event reset code r next m words))
+  unfolding Ends
+  reset_kept = on_event_kept reset (λ x.
+      finished_ends code (written p (writes.reset x) img) p r (reset_valid code img v x) live has m [] next low (omega (arith, high)) (All-nil IsWord) small)
+
+  pub liberate_kept : (words : List Word) → Gives (Ends code img p) (asked img (on_event liberate code r next m words))
+  unfolding Ends
+  liberate_kept = on_event_kept liberate (λ x.
+      finished_ends code (written p (writes.liberate x) img) p r (liberate_valid code img v x) (liberated_live code img v x p live) has m [] next low
+      (omega (arith, high)) (All-nil IsWord) small)
+
+  pub wait_kept : is_able (numbered img.states p) ≡ true → (words : List Word) → Gives (Ends code img p) (asked img (on_event wait code r next m words))
+  unfolding Ends
+  wait_kept able = on_event_kept wait (λ x.
+      finished_ends code (written p (writes.wait x) img) p r (wait_valid code img v p able x)
+      (wait_live code img v p able (happened_at x img.events) (WaitsFor x) refl) has m [] next low (omega (arith, high)) (All-nil IsWord) small)
+
+  pub procure_kept : is_able (numbered img.states p) ≡ true → (words : List Word) → Gives (Ends code img p) (asked img (on_event procure code r next m words))
+  unfolding Ends
+  procure_kept able = on_event_kept procure (λ x.
+      finished_ends code (written p (writes.procure x) img) p r (procure_valid code img v p able x)
+      (wait_live code img v p able (available_at x img.events) (Procures x) refl) has m [] next low (omega (arith, high)) (All-nil IsWord) small)

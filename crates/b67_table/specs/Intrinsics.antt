@@ -1,0 +1,131 @@
+-- The intrinsics: what each does where its procedure word is entered, with a mark at F and its arguments above it.
+use Rattle.std.specs.Prelude.{ℕ, ◌+◌, ◌-◌, ◌*◌, ◌&&◌, nat_lt, nat_le, Bool, if◌then◌else◌, ℤ, pos, negsuc, ◌+ℤ◌, List, [], ◌∷◌, Option, Some, None}
+use Rattle.b67_num.specs.declared.FaultKind.TheVariants.{CaseIndex}
+use Rattle.b67_word.specs.declared.Place.{Place}
+use Rattle.b67_word.specs.Word.{Word, truth}
+use Rattle.b67_control.specs.declared.Registers.{Registers}
+use Rattle.b67_control.specs.declared.Mscw.{Mscw}
+use Rattle.b67_control.specs.Control.{event_word}
+use Rattle.b67_segment.specs.declared.code.Code.{Code}
+use Rattle.b67_table.specs.declared.Cell.{Cell}
+use Rattle.b67_ops.specs.declared.intrinsic.Intrinsic.{Intrinsic}
+use Rattle.b67_table.specs.Names.{intrinsic_numbered}
+use Rattle.b67_ops.specs.declared.intrinsic.Intrinsic.TheVariants as names
+use Rattle.b67_table.specs.Limits.{end_of_code, most_arrays}
+use Rattle.b67_table.specs.Look.{Look, found, ◌>->◌, valid}
+use Rattle.b67_table.specs.Chains.{place}
+use Rattle.b67_table.specs.References.{cell_place, invalid}
+use Rattle.b67_table.specs.Program.{Test, answer, fault, loads, has_happened, ◌>>=◌, see, Change, open_event, wait, procure, cause, reset, liberate, line, Program}
+use Rattle.b67_table.specs.Arrays.{Extents, one, two, extent, if_small, if_held, arrays_made}
+use Rattle.b67_table.specs.Arguments.{IntrinsicRow, no_such, Three, three, wholes, number_in, event_of, if_chained, finished_at}
+use Rattle.b67_table.specs.Lines.{line_for}
+use Rattle.b67_table.specs.GoingTo.{go_to}
+use Rattle.b67_table.specs.Starting.{start_process}
+
+-- ---- SELECT
+
+abbrev pub not_negative : ℤ → Option ℕ
+not_negative (pos n) = Some n
+not_negative (negsuc n) = None
+
+-- the index, where it is from 0 to one below the count
+abbrev pub case_in : ℤ → ℤ → Option ℕ
+case_in (negsuc n) count = None
+case_in (pos n) (negsuc k) = None
+case_in (pos n) (pos k) = if nat_lt n k then Some n else None
+
+-- where the place for an index lies, and none where there is no such case
+abbrev pub case_place : ℤ → Option ℕ → Look (Option ℕ)
+case_place first None = found None
+case_place first (Some n) = valid (number_in (first +ℤ pos (3 * n)) end_of_code) >-> (λ (to : ℕ). found (Some to))
+
+abbrev pub gone_to_case : Registers → Mscw → Option ℕ → Program
+gone_to_case r m None = fault CaseIndex
+gone_to_case r m (Some to) = answer (finished_at r m [] to)
+
+abbrev pub select : IntrinsicRow
+select code r next m words =
+    see (three words) >>= (λ (z : Three). see (case_place z.third (case_in z.first z.second)) >>= (λ (to : Option ℕ).
+    if_chained r m (gone_to_case r m to)))
+
+-- ---- ARRAYS
+
+-- how many arrays, and their bounds in pairs
+pub record Wanted : Type 0 where
+  pub count : ℕ
+  pub bounds : List ℤ
+
+abbrev pub count_in : ℤ → Option ℕ
+count_in (pos n) = if nat_le 1 n && nat_le n most_arrays then Some n else None
+count_in (negsuc n) = None
+
+abbrev pub wanted_with : ℤ → List ℤ → Look Wanted
+wanted_with k bounds = valid (count_in k) >-> (λ (n : ℕ). found (record { count = n; bounds = bounds }))
+
+abbrev pub wanted : List ℤ → Look Wanted
+wanted (k ∷ low ∷ high ∷ []) = wanted_with k (low ∷ high ∷ [])
+wanted (k ∷ low ∷ high ∷ low2 ∷ high2 ∷ []) = wanted_with k (low ∷ high ∷ low2 ∷ high2 ∷ [])
+wanted zs = invalid
+
+abbrev pub extents : List ℤ → Test Extents
+extents (low ∷ high ∷ []) = extent low high >>= (λ (n : ℕ). if_small (one n))
+extents (low ∷ high ∷ low2 ∷ high2 ∷ []) = extent low high >>= (λ (m : ℕ). extent low2 high2 >>= (λ (n : ℕ). if_small (two m n)))
+extents zs = no_such
+
+abbrev pub arrays : IntrinsicRow
+arrays code r next m words =
+    see (wholes words >-> wanted) >>= (λ (w : Wanted). if_chained r m
+    (extents w.bounds >>= (λ (e : Extents). if_held w.count e >>= (λ (held : Extents).
+    answer (arrays_made w.count held [] (λ (made : List Word). finished_at r m made next))))))
+
+-- ---- WRITE
+
+abbrev pub write : IntrinsicRow
+write code r next m words =
+    see (wholes words >-> (λ (zs : List ℤ). valid (line_for code zs))) >>= (λ (bytes : List ℕ).
+    if_chained r m (answer (line bytes (finished_at r m [] next))))
+
+-- ---- events
+
+abbrev pub make_event : IntrinsicRow
+make_event code r next m [] = if_chained r m (answer (open_event (place r.stack r.f) (finished_at r m (event_word (record {}) ∷ []) next)))
+make_event code r next m (w ∷ words) = no_such
+
+-- an action on the one event that is the argument
+abbrev pub on_event : (Place → Change → Change) → IntrinsicRow
+on_event act code r next m (w ∷ []) =
+    event_of r w >>= (λ (c : Cell). if_chained r m (answer (act (cell_place c) (finished_at r m [] next))))
+on_event act code r next m [] = no_such
+on_event act code r next m (w ∷ v ∷ words) = no_such
+
+abbrev pub tell_event : IntrinsicRow
+tell_event code r next m (w ∷ []) =
+    event_of r w >>= (λ (c : Cell). if_chained r m (has_happened (cell_place c) (λ (happened : Bool). answer (finished_at r m (truth happened ∷ []) next))))
+tell_event code r next m [] = no_such
+tell_event code r next m (w ∷ v ∷ words) = no_such
+
+-- ---- all of them
+
+abbrev pub row_of_intrinsic : Intrinsic → IntrinsicRow
+row_of_intrinsic names.GoTo = go_to
+row_of_intrinsic names.Select = select
+row_of_intrinsic names.Arrays = arrays
+row_of_intrinsic names.Event = make_event
+row_of_intrinsic names.Start = start_process
+row_of_intrinsic names.Write = write
+row_of_intrinsic names.Wait = on_event wait
+row_of_intrinsic names.Cause = on_event cause
+row_of_intrinsic names.Reset = on_event reset
+row_of_intrinsic names.Happened = tell_event
+row_of_intrinsic names.Procure = on_event procure
+row_of_intrinsic names.Liberate = on_event liberate
+
+-- a number of which there is no intrinsic is no operand of the entry
+abbrev pub intrinsic_row : Option Intrinsic → IntrinsicRow
+intrinsic_row None code r next m words = no_such
+intrinsic_row (Some name) code r next m words = row_of_intrinsic name code r next m words
+
+-- the intrinsic of a number; its arguments stand above the procedure's word
+abbrev pub intrinsic : ℕ → Code → Registers → ℕ → Mscw → Program
+intrinsic number code r next m =
+    loads (place r.stack (r.f + 2)) (r.s - (r.f + 2)) (λ (words : List Word). intrinsic_row (intrinsic_numbered number) code r next m words)
