@@ -1,0 +1,11 @@
+pub mod Quiet
+pub mod Heads
+pub mod Cells
+pub mod Parents
+pub mod Keeping
+pub mod Choices
+pub mod Growing
+pub mod Storing
+pub mod Standing
+pub mod Running
+pub mod Again

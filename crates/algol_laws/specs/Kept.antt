@@ -1,0 +1,118 @@
+-- What one action leaves as it is.
+use Rattle.std.specs.Prelude.{◌≡◌, ◌≢◌, ℕ, Bool, true, false, if◌then◌else◌, List, [], ◌∷◌, ◌++◌, Option, Some, None}
+use Rattle.b67_list.specs.Numbered.{numbered}
+use Rattle.algol_tree.specs.Sorts.{same_name}
+use Rattle.algol_tree.specs.Scopes.{Scopes}
+use Rattle.algol_meaning.specs.Value.{Reference}
+use Rattle.algol_meaning.specs.World.{NamedCell, cell_in, Instance, able, Part, Process, World, followed, process_at}
+use Rattle.algol_meaning.specs.Critical.{is_one_of}
+use Rattle.algol_meaning.specs.Rest.{Place, own, there, element_of}
+use Rattle.algol_meaning.specs.Asks as asks
+use Rattle.algol_meaning.specs.Asks.{Ask, ask}
+use Rattle.algol_meaning.specs.Actions as actions
+use Rattle.algol_meaning.specs.Actions.{Action}
+use Rattle.algol_meaning.specs.Choice.{here, choice}
+use Rattle.algol_meaning.specs.Run.{run_from}
+
+-- a cell of that name is there
+abbrev pub has_cell : List NamedCell → List ℕ → Bool
+has_cell [] name = false
+has_cell (c ∷ cells) name = if same_name c.name name then true else has_cell cells name
+
+-- An instance, which was x, is now y: it is of the same block, with the same parent, in the same stack; one that was left stays left, and
+-- each cell stays there.
+pub record InstanceGrown (x y : Instance) : Type 0 where
+  pub block : y.block ≡ x.block
+  pub parent : y.parent ≡ x.parent
+  pub process : y.process ≡ x.process
+  pub left : x.left ≡ true → y.left ≡ true
+  pub cells : (name : List ℕ) → has_cell x.cells name ≡ true → has_cell y.cells name ≡ true
+
+-- Instance i has grown, and but for one cell, `stored`, each cell that was there holds what it held.
+pub record InstanceKept (stored : Option Reference) (i : ℕ) (x y : Instance) : Type 0 where
+  pub grown : InstanceGrown x y
+  pub values : (name : List ℕ) → has_cell x.cells name ≡ true → stored ≢ Some (record { instance = i; name = name }) →
+      cell_in y.cells name ≡ cell_in x.cells name
+
+-- A process, which was q, is now r: its critical instance and its task stay.
+pub record ProcessGrown (q r : Process) : Type 0 where
+  pub critical : r.critical ≡ q.critical
+  pub task : r.task ≡ q.task
+
+-- After an action of process p, process j, where it is another one, is as it was but that a released process is able.
+pub record ProcessKept (p : ℕ) (released : List ℕ) (j : ℕ) (q r : Process) : Type 0 where
+  pub grown : ProcessGrown q r
+  pub other : j ≢ p → r ≡ (if is_one_of released j then record q { state = able } else q)
+
+-- nothing that was there is lost
+pub record Grown (w after : World) : Type 0 where
+  pub instances : (i : ℕ) (x : Instance) → numbered w.instances i ≡ Some x →
+      (y : Instance) × (numbered after.instances i ≡ Some y) × InstanceGrown x y
+  pub processes : (j : ℕ) (q : Process) → numbered w.processes j ≡ Some q →
+      (r : Process) × (numbered after.processes j ≡ Some r) × ProcessGrown q r
+  pub output : (lines : List (List ℕ)) × (after.output ≡ w.output ++ lines)
+
+-- a world before an action of process p and after it
+pub record Kept (p : ℕ) (released : List ℕ) (stored : Option Reference) (w after : World) : Type 0 where
+  pub instances : (i : ℕ) (x : Instance) → numbered w.instances i ≡ Some x →
+      (y : Instance) × (numbered after.instances i ≡ Some y) × InstanceKept stored i x y
+  pub processes : (j : ℕ) (q : Process) → numbered w.processes j ≡ Some q →
+      (r : Process) × (numbered after.processes j ≡ Some r) × ProcessKept p released j q r
+  pub output : (lines : List (List ℕ)) × (after.output ≡ w.output ++ lines)
+
+-- ---- the cell that an action stores
+
+module _ (sc : Scopes) (w : World) (p : ℕ) (q : Process) (part : Part) (outer : List Part) where
+  abbrev pub cell_of_place : Place → Reference
+  cell_of_place (own n) = here sc w p q part outer n
+  cell_of_place (there r) = r
+  cell_of_place (element_of r ks) = r
+
+  -- the task, where this is the process's last part
+  abbrev pub task_at_end : List Part → Option Reference
+  task_at_end [] = q.task
+  task_at_end (next ∷ parts) = None
+
+  -- a store names its variable or array, an event action its event, the end of a process its task
+  abbrev pub stored_by : Ask → Option Reference
+  stored_by (asks.stores x v) = Some (cell_of_place x)
+  stored_by (asks.acts x n) = Some (followed w (here sc w p q part outer n))
+  stored_by (asks.leaves a) = task_at_end outer
+  stored_by _ = None
+
+abbrev pub stored_in : Scopes → World → ℕ → Process → List Part → Option Reference
+stored_in sc w p q [] = None
+stored_in sc w p q (part ∷ outer) = stored_by sc w p q part outer (ask part.rest)
+
+-- the one cell, of those that are there, that the action of process p may change
+unfoldable pub stored_cell : Scopes → World → ℕ → Option Reference
+stored_cell sc w p = stored_in sc w p (process_at w p) (process_at w p).todo
+
+-- the actions that may change a cell that is there
+abbrev pub stores : Action → Bool
+stores actions.Store = true
+stores actions.ElementStore = true
+stores actions.Wait = true
+stores actions.Cause = true
+stores actions.Reset = true
+stores actions.Procure = true
+stores actions.Liberate = true
+stores actions.End = true
+stores _ = false
+
+-- ---- the laws
+
+-- An action of process p leaves all as it is but for its own parts, the processes that it releases, the cell that it stores, and what it
+-- adds: instances, processes, cells and lines.
+abbrev pub EachActionKeeps : Type 0
+EachActionKeeps =
+    (sc : Scopes) (w : World) (p : ℕ) → Kept p (choice sc w p).released (stored_cell sc w p) w (choice sc w p).world
+
+-- The letter says whether a cell is stored: an action with another letter leaves every cell that is there as it is.
+abbrev pub OnlyStoresStore : Type 0
+OnlyStoresStore =
+    (sc : Scopes) (w : World) (p : ℕ) → stores (choice sc w p).action ≡ false → Kept p (choice sc w p).released None w (choice sc w p).world
+
+-- Along a run nothing that was there is lost.
+abbrev pub EachRunGrows : Type 0
+EachRunGrows = (sc : Scopes) (h : List ℕ) (w after : World) → run_from sc h (Some w) ≡ Some after → Grown w after

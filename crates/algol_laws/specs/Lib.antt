@@ -1,0 +1,4 @@
+pub mod Kept
+pub mod Quiet
+pub mod Heads
+pub mod Again
