@@ -1,0 +1,4 @@
+pub mod Extents
+pub mod Rows
+pub mod Filled
+pub mod Allocating

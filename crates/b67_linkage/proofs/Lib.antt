@@ -1,0 +1,10 @@
+pub mod There
+pub mod Looks
+pub mod Downwards
+pub mod Closed
+pub mod Entered
+pub mod Passed
+pub mod Cutting
+pub mod Linked
+pub mod Closes
+pub mod Alone

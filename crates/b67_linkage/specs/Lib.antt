@@ -1,0 +1,5 @@
+pub mod Held
+pub mod Closing
+pub mod Entering
+pub mod Leaving
+pub mod Laws

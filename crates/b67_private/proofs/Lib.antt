@@ -1,0 +1,9 @@
+pub mod Underflow
+pub mod BitBounds
+pub mod Stepping
+pub mod ValidParts
+pub mod Own
+pub mod Deeper
+pub mod Floors
+pub mod Stretching
+pub mod Plains

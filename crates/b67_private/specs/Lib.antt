@@ -1,0 +1,4 @@
+pub mod Parts
+pub mod Performing
+pub mod Operating
+pub mod Laws

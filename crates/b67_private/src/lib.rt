@@ -1,0 +1,41 @@
+//! The private operators: what each does to the private part of its process, and stretches of them.
+//!
+//! A private operator only goes forward, and reads and writes the registers and the words at the floor and above of its own
+//! process. So a processor can perform a stretch of them on a copy of the private part alone.
+#![tactic(auto)]
+
+mod laws;
+mod operators;
+mod rows;
+mod stretch;
+mod taking;
+
+use b67_num::{FaultKind, NumFault};
+use b67_table::InterruptKind;
+pub use laws::{operators_are_own, parts_of_valid_images, stretches_are_own};
+pub use operators::operate;
+pub use stretch::burst;
+
+/// Why an operator has no effect.
+#[derive(Clone, Copy, PartialEq, Eq, Debug)]
+pub enum Stop {
+    Fault(FaultKind),
+    Interrupt(InterruptKind),
+    /// The stack would have more words than a stack can have.
+    StackLimit,
+}
+
+impl From<NumFault> for Stop {
+    ghost use Rattle.std.specs.Prelude.{◌≡◌};
+    ghost use Rattle.b67_num.specs.Whole.{fault_of};
+    ghost use Rattle.b67_private.specs.declared.Stop.TheVariants.{Fault};
+
+    ghost from_gives = { λ fault stop. stop ≡ Fault (fault_of fault) };
+
+    fn from(fault: NumFault) -> Stop {
+        Stop::Fault(FaultKind::from(fault))
+    }
+}
+
+#[cfg(test)]
+mod tests;

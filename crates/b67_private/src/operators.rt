@@ -1,0 +1,173 @@
+// Which row an operator has, and what it does.
+ghost use Rattle.std.specs.Prelude.{◌≡◌, ◌<◌, ◌^◌};
+ghost use Rattle.b67_word.specs.Word.{word};
+ghost use Rattle.b67_ops.specs.Spelling.{Fits, FitsAs};
+ghost use Rattle.b67_table.specs.Outcome.{limited};
+ghost use Rattle.b67_private.specs.Parts.{IsPart, length_of, own_outcome};
+ghost use Rattle.b67_private.specs.Performing.{Performs};
+ghost use Rattle.b67_private.specs.Operating.{effect_by, top_effect, HasRow, HasRowOf, IsHeldCouple};
+
+use crate::Stop;
+use crate::rows::{
+    Logic, branch_to, calculate_two, combine_two, compare_two, complement_top, double, drop_top,
+    exchange, go_on, make_cells, mark_stack, negate, push_word, stuff_top,
+};
+use b67_control::Irw;
+use b67_num::{Calculation, Relation};
+use b67_ops::{BranchKind, Operator, PlainKind};
+use b67_table::{InterruptKind, Private};
+use b67_word::{Word, make_word, operand};
+
+/// What is done to the words on top alone.
+#[derive(Clone, Copy, PartialEq, Eq, Debug)]
+pub enum TopRow {
+    Negate,
+    Complement,
+    Drop,
+    Exchange,
+    Double,
+    Stuff,
+}
+
+/// What an operator does to a private part, with the word that it pushes made ready.
+#[derive(Clone, Copy, PartialEq, Eq, Debug)]
+pub enum Row {
+    Push(Word),
+    Calculate(Calculation),
+    Compare(Relation),
+    Combine(Logic),
+    Top(TopRow),
+    Mark,
+    MakeCells,
+    GoOn,
+    Branch(BranchKind, u16),
+    /// An action, which is no operator of a private part.
+    Foreign,
+}
+
+const FOREIGN: Stop = Stop::Interrupt(InterruptKind::BadCode);
+
+// The row of an operator without an operand.
+fn row_of_plain(kind: PlainKind) -> Row
+    ensures { HasRowOf kind result }
+{
+    match kind {
+        PlainKind::Add => Row::Calculate(Calculation::Sum),
+        PlainKind::Subt => Row::Calculate(Calculation::Difference),
+        PlainKind::Mult => Row::Calculate(Calculation::Product),
+        PlainKind::Divd => Row::Calculate(Calculation::WholeQuotient),
+        PlainKind::Idiv => Row::Calculate(Calculation::TruncatedQuotient),
+        PlainKind::Rdiv => Row::Calculate(Calculation::Remainder),
+        PlainKind::Less => Row::Compare(Relation::Less),
+        PlainKind::Greq => Row::Compare(Relation::GreaterOrEqual),
+        PlainKind::Grtr => Row::Compare(Relation::Greater),
+        PlainKind::Lseq => Row::Compare(Relation::LessOrEqual),
+        PlainKind::Equl => Row::Compare(Relation::Equal),
+        PlainKind::Neql => Row::Compare(Relation::NotEqual),
+        PlainKind::Land => Row::Combine(Logic::Both),
+        PlainKind::Lor => Row::Combine(Logic::Either),
+        PlainKind::Leqv => Row::Combine(Logic::Agreement),
+        PlainKind::Chsn => Row::Top(TopRow::Negate),
+        PlainKind::Lnot => Row::Top(TopRow::Complement),
+        PlainKind::Dlet => Row::Top(TopRow::Drop),
+        PlainKind::Exch => Row::Top(TopRow::Exchange),
+        PlainKind::Dupl => Row::Top(TopRow::Double),
+        PlainKind::Stff => Row::Top(TopRow::Stuff),
+        PlainKind::Zero => Row::Push(operand(0)),
+        PlainKind::One => Row::Push(operand(1)),
+        PlainKind::Mkst => Row::Mark,
+        PlainKind::Push => Row::MakeCells,
+        PlainKind::Noop => Row::GoOn,
+        _ => Row::Foreign,
+    }
+}
+
+// A word of these bits.
+#[inline(always)]
+fn literal(tag: u8, bits: u64) -> Word
+    requires tag { tag < 8 }
+    requires bits { bits < 2 ^ 48 }
+    ensures { result ≡ word tag bits }
+{
+    make_word(tag, bits).unwrap()
+}
+
+// The row of an operator at its place.
+#[tactic(auto, unfolding(b67_table::specs::Rows::row))]
+#[inline(always)]
+fn row_of(op: &Operator, place: u16) -> Row
+    requires { FitsAs IsHeldCouple op.now }
+    ensures { HasRow op.now place result }
+{
+    match *op {
+        Operator::Valc(_) => Row::Foreign,
+        Operator::Namc(couple) => {
+            let reference = Irw {
+                level: couple.level,
+                index: couple.index,
+            };
+            Row::Push(reference.pack())
+        }
+        Operator::Lt8(value) => Row::Push(operand(i64::from(value))),
+        Operator::Lt16(value) => Row::Push(operand(i64::from(value))),
+        Operator::Lt48(bits) => Row::Push(literal(0, bits)),
+        Operator::Mpcw(bits) => Row::Push(literal(7, bits)),
+        Operator::Branch(kind, target) => {
+            if place < target {
+                Row::Branch(kind, target)
+            } else {
+                Row::Foreign
+            }
+        }
+        Operator::Plain(kind) => row_of_plain(kind),
+    }
+}
+
+#[inline(always)]
+fn change_top(p: &mut Private, row: TopRow, next: u16) -> Result<(), Stop>
+    requires { IsPart p.old }
+    ensures { Performs (limited length_of (top_effect row next p.old)) p.old result p.new }
+{
+    match row {
+        TopRow::Negate => negate(p, next),
+        TopRow::Complement => complement_top(p, next),
+        TopRow::Drop => drop_top(p, next),
+        TopRow::Exchange => exchange(p, next),
+        TopRow::Double => double(p, next),
+        TopRow::Stuff => stuff_top(p, next),
+    }
+}
+
+// Does what a row says.
+#[inline(always)]
+fn perform(p: &mut Private, row: Row, next: u16) -> Result<(), Stop>
+    requires { IsPart p.old }
+    ensures { Performs (limited length_of (effect_by row next p.old)) p.old result p.new }
+{
+    match row {
+        Row::Push(word) => push_word(p, word, next),
+        Row::Calculate(calculation) => calculate_two(p, calculation, next),
+        Row::Compare(relation) => compare_two(p, relation, next),
+        Row::Combine(kind) => combine_two(p, kind, next),
+        Row::Top(row) => change_top(p, row, next),
+        Row::Mark => mark_stack(p, next),
+        Row::MakeCells => make_cells(p, next),
+        Row::GoOn => {
+            go_on(p, next);
+            Ok(())
+        }
+        Row::Branch(kind, target) => branch_to(p, kind, target, next),
+        Row::Foreign => Err(FOREIGN),
+    }
+}
+
+/// Performs an operator that stands at the pointer of a private part, given the place after it: what the table says, or
+/// the stop that it gives, which changes nothing. An action is `BadCode`: it is no operator of a private part.
+pub fn operate(p: &mut Private, op: &Operator, next: u16) -> Result<(), Stop>
+    requires part { IsPart p.old }
+    requires fits { Fits p.old.regs.ll op.now }
+    ensures { Performs (own_outcome op.now next p.old) p.old result p.new }
+{
+    let row = row_of(op, p.regs.place);
+    perform(p, row, next)
+}

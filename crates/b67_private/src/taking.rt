@@ -1,0 +1,104 @@
+// The words on top of a private part, and words in their place.
+ghost use Rattle.std.specs.Prelude.{◌≡◌, ◌+◌, ◌<◌, ◌≤◌, length};
+ghost use Rattle.b67_control.specs.Display.{levels};
+ghost use Rattle.b67_store.specs.Store.{stack_limit};
+ghost use Rattle.b67_table.specs.Private.{display_at, floor, frame};
+ghost use Rattle.b67_private.specs.Parts.{IsPart};
+ghost use Rattle.b67_private.specs.Performing.{TakesOne, TakesTwo, replaced, lowered};
+
+use crate::Stop;
+use b67_control::Registers;
+use b67_table::{InterruptKind, Private};
+use b67_word::{Place, Word};
+
+/// No word lies in the private part.
+pub const UNDERFLOW: Stop = Stop::Interrupt(InterruptKind::StackUnderflow);
+
+/// The same number, as wide as S.
+#[inline(always)]
+pub fn wide(value: u16) -> u32
+    ensures value { result ≡ value }
+    ensures bound { result < 65536 }
+{
+    u32::from(value)
+}
+
+// Where the frame lies.
+#[inline(always)]
+pub fn frame(regs: &Registers) -> u32
+    requires { regs.now.ll < levels }
+    ensures value { result ≡ frame regs.now }
+    ensures bound { result < 65536 }
+{
+    match regs.display.get(regs.ll) {
+        Some(place) => wide(place.at),
+        None => 0,
+    }
+}
+
+// Where the cells end and the private part begins.
+#[inline(always)]
+pub fn floor(regs: &Registers) -> u32
+    requires { regs.now.ll < levels }
+    ensures value { result ≡ floor regs.now }
+    ensures bound { result < 131074 }
+{
+    frame(regs) + 2 + wide(regs.cells)
+}
+
+// The word on top.
+#[inline(always)]
+pub fn top(p: &Private) -> Result<Word, Stop>
+    requires { IsPart p.now }
+    ensures { TakesOne p.now result }
+{
+    if floor(&p.regs) >= p.regs.s {
+        return Err(UNDERFLOW);
+    }
+    match p.words.from_top(0) {
+        Some(word) => Ok(word),
+        None => Err(UNDERFLOW),
+    }
+}
+
+// The two words on top, the top one first.
+#[inline(always)]
+pub fn two(p: &Private) -> Option<(Word, Word)>
+    requires { IsPart p.now }
+    ensures { TakesTwo p.now result }
+{
+    if floor(&p.regs) + 1 >= p.regs.s {
+        return None;
+    }
+    match (p.words.from_top(0), p.words.from_top(1)) {
+        (Some(x), Some(y)) => Some((x, y)),
+        _ => None,
+    }
+}
+
+// A word takes the place of so many on top.
+#[inline(always)]
+pub fn replace(p: &mut Private, count: u32, word: Word, next: u16)
+    requires some { count ≤ length p.old.words }
+    requires within { count ≤ p.old.regs.s }
+    requires room { length p.old.words + 1 ≤ stack_limit + count }
+    requires small { p.old.regs.s ≤ stack_limit }
+    ensures { p.new ≡ replaced count word next p.old }
+{
+    p.words.cut(count);
+    p.words.push(word);
+    p.regs.s = p.regs.s + 1 - count;
+    p.regs.place = next;
+}
+
+// So many words on top go.
+#[inline(always)]
+pub fn lower(p: &mut Private, count: u32, next: u16)
+    requires some { count ≤ length p.old.words }
+    requires within { count ≤ p.old.regs.s }
+    ensures { p.new ≡ lowered count next p.old }
+{
+    p.words.cut(count);
+    p.regs.s -= count;
+    p.regs.place = next;
+}
