@@ -1,0 +1,6 @@
+pub mod Accidents
+pub mod Callings
+pub mod Choices
+pub mod Leaves
+pub mod Loads
+pub mod Subscripts

@@ -1,0 +1,6 @@
+pub mod Critical
+pub mod Steps
+pub mod Leading
+pub mod Named
+pub mod Begins
+pub mod Opened

@@ -1,0 +1,3 @@
+pub mod Criticals
+pub mod Paths
+pub mod Starts

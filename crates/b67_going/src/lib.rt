@@ -1,0 +1,16 @@
+//! The intrinsics that leave frames or make processes: GOTO and START, and the critical places of processes.
+//!
+//! A process's critical place is the frame that its procedure, its parameters or its task need; no one may leave that
+//! frame while the process lives (this project's profile, after Burroughs Extended ALGOL).
+#![tactic(auto)]
+
+mod adds;
+mod criticals;
+mod opens;
+mod paths;
+mod starts;
+
+pub use criticals::is_critical;
+pub use opens::{NoMemory, open_process};
+pub use paths::{Needs, frame_below, on_path};
+pub use starts::{Start, first_registers};

@@ -1,0 +1,133 @@
+//! What START is given, and with what a new process begins.
+
+ghost use Rattle.std.specs.Prelude.{◌≡◌, ◌+◌, ◌<◌, ◌≤◌, ◌^◌, Ok, IfOk, IfSome, length};
+ghost use Rattle.b67_control.specs.Control.{Fits_pcw};
+ghost use Rattle.b67_control.specs.Display.{levels};
+ghost use Rattle.b67_table.specs.Limits.{most_processes};
+ghost use Rattle.b67_table.specs.Look.{seen};
+ghost use Rattle.b67_table.specs.Private.{frame};
+ghost use Rattle.b67_table.specs.Starting.{place_of, begun, first_display};
+ghost use Rattle.b67_reach.specs.Answers.{looked};
+ghost use Rattle.b67_going.specs.Paths.{Leads};
+ghost use Rattle.b67_going.specs.Starts.{starting_of, IsGiven, first_registers};
+
+use crate::paths::{Needs, broken, on_path};
+use b67_control::{Display, Pcw};
+use b67_display::linked;
+use b67_num::FaultKind;
+use b67_reach::{Cell, Registers, Stop};
+use b67_store::Core;
+use b67_word::Place;
+
+/// The most processes that a run has.
+pub const MOST_PROCESSES: u32 = 256;
+
+/// What START is given.
+#[derive(Clone, Copy, PartialEq, Eq, Debug)]
+pub struct Start {
+    /// The procedure that the new process runs.
+    pub procedure: Pcw,
+    /// The frames that the new process needs.
+    pub needs: Needs,
+}
+
+// The display of a process of a number; an intrinsic can not be started.
+fn first_display<C: Core>(core: &C, number: u16, start: &Start) -> Result<Display, Stop>
+    requires { Fits_pcw start.now.procedure }
+    ensures { result ≡ looked (seen (C.Core.stacks core.now) (first_display number (starting_of (C.Core.stacks core.now) start.now))) }
+{
+    if start.procedure.intrinsic {
+        return Err(broken());
+    }
+    let top = Place {
+        stack: number,
+        at: 0,
+    };
+    match linked(core, top, start.needs.home, start.procedure.level) {
+        Ok(display) => Ok(display),
+        Err(_) => Err(broken()),
+    }
+}
+
+// Where a cell lies.
+fn place_of(cell: Option<Cell>) -> Option<Place>
+    requires { IfSome cell (λ c. c.frame.at + c.index < 2 ^ 16) }
+    ensures { result ≡ place_of cell }
+{
+    match cell {
+        Some(cell) => Some(Place {
+            stack: cell.frame.stack,
+            at: cell.frame.at + cell.index,
+        }),
+        None => None,
+    }
+}
+
+// The registers with which a process of a number begins.
+fn begun<C: Core>(
+    core: &C,
+    number: u16,
+    start: &Start,
+    display: Display,
+    critical: Option<Place>,
+) -> Registers
+    requires { IsGiven (C.Core.stacks core.now) start.now }
+    ensures { result ≡ begun number (starting_of (C.Core.stacks core.now) start.now) display critical }
+{
+    Registers {
+        stack: number,
+        s: start.needs.count + 2,
+        f: 0,
+        ll: start.procedure.level,
+        display,
+        cells: start.needs.count as u16,
+        segment: start.procedure.segment,
+        place: 6 * start.procedure.pir + u16::from(start.procedure.psr),
+        task: place_of(start.needs.task),
+        critical,
+    }
+}
+
+// The frame of a process.
+fn frame_of(regs: &Registers) -> Place
+    requires { regs.now.ll < levels }
+    ensures { result ≡ record { stack = regs.now.stack; at = frame regs.now } }
+{
+    Place {
+        stack: regs.stack,
+        at: match regs.display.get(regs.ll) {
+            Some(place) => place.at,
+            None => 0,
+        },
+    }
+}
+
+/// The registers with which a new process begins, where there have been so many. BrokenChain comes exactly where the
+/// procedure is an intrinsic, or its display can not be found, or a way down the starter's path is broken; then
+/// ProcessLimit exactly where there have been as many processes as a run has.
+pub fn first_registers<C: Core>(
+    core: &C,
+    all: &[Registers],
+    regs: &Registers,
+    started: u32,
+    start: &Start,
+) -> Result<Registers, Stop>
+    requires given { IsGiven (C.Core.stacks core.now) start.now }
+    requires level { regs.now.ll < levels }
+    requires most { started ≤ most_processes }
+    ensures { Leads (first_registers regs.now started (starting_of (C.Core.stacks core.now) start.now)) (C.Core.stacks core.now) all.now result }
+{
+    let number = (started + 1) as u16;
+    let display = match first_display(core, number, start) {
+        Ok(display) => display,
+        Err(stop) => return Err(stop),
+    };
+    let critical = match on_path(core, all, &start.needs, regs.stack, frame_of(regs)) {
+        Ok(critical) => critical,
+        Err(stop) => return Err(stop),
+    };
+    if started >= MOST_PROCESSES {
+        return Err(Stop::Fault(FaultKind::ProcessLimit));
+    }
+    Ok(begun(core, number, start, display, critical))
+}

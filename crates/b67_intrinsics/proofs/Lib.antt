@@ -1,0 +1,4 @@
+pub mod Calling
+pub mod Cases
+pub mod Telling
+pub mod Acting

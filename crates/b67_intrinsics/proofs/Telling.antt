@@ -1,0 +1,141 @@
+-- What is told of the event that is an intrinsic's argument.
+use Rattle.std.specs.Result.{IsErrAnd}
+use Rattle.std.proofs.Common.{◌≡◌, refl, sym, ap, subst, ◌∙◌, ℕ, Bool, true, false, List, [], ◌∷◌, Option, Some, None, Result, Ok, Err, is_some}
+use Rattle.b67_word.specs.declared.Place.{Place}
+use Rattle.b67_word.specs.Word.{Word}
+use Rattle.b67_control.specs.declared.Mscw.{Mscw}
+use Rattle.b67_control.specs.declared.Registers.{Registers}
+use Rattle.b67_control.specs.declared.Sirw.{Sirw}
+use Rattle.b67_control.specs.declared.EventWord.{EventWord}
+use Rattle.b67_control.specs.Control.{as_sirw, as_event}
+use Rattle.b67_store.specs.Store.{Stacks, Rows, word_at}
+use Rattle.b67_events.specs.Events.{is_open}
+use Rattle.b67_table.specs.declared.Cell.{Cell}
+use Rattle.b67_table.specs.declared.Reached.{Reached}
+use Rattle.b67_table.specs.declared.InterruptKind.{InterruptKind}
+use Rattle.b67_table.specs.declared.InterruptKind.TheVariants.{InvalidOperand}
+use Rattle.b67_table.specs.Arguments.{event_of, event_in, if_open, if_chained, no_such}
+use Rattle.b67_table.specs.Effect.{Effect}
+use Rattle.b67_table.specs.Effect as effects
+use Rattle.b67_table.specs.Image.{Image}
+use Rattle.b67_table.specs.Look.{seen, valid}
+use Rattle.b67_table.specs.Program.{Test, asked, see, ◌>>=◌, is_event, Program}
+use Rattle.b67_table.specs.References.{named, reached, reached_in, sirw_cell, one_sirw, no_second, cell_place, cell_of}
+use Rattle.b67_reach.specs.declared.Stop.{Stop}
+use Rattle.b67_reach.specs.declared.Stop.TheVariants.{Interrupt}
+use Rattle.b67_reach.specs.Answers.{looked, whole, stopped, answered, Acts}
+use Rattle.b67_reach.proofs.Looking.{seen_then, after_found, looked_ok, asked_on, asked_then, tells_look, tells_stop, tells_of, acts_then, acts_stop}
+use Rattle.b67_intrinsics.specs.Called.{arguments, only, mark_below, event_tests, Leads}
+
+-- ---- the word that is reached lies in its cell
+
+abbrev Stands : Stacks → Reached → Type 0
+Stands st f = word_at st (cell_place f.cell) ≡ Some f.word
+
+in_cell : (st : Stacks) (c : Cell) (w : Option Word) (f : Reached) → word_at st (cell_place c) ≡ w → seen st (reached_in c w) ≡ Ok f → Stands st f
+in_cell st c None f e h = cc
+in_cell st c (Some w) f e h =
+    let p : record { word = w; cell = c } ≡ f = cc in subst (Stands st) p e
+
+named_stands : (st : Stacks) (c : Option Cell) (f : Reached) → seen st (named c) ≡ Ok f → Stands st f
+named_stands st None f h = cc
+named_stands st (Some c) f h = in_cell st c (word_at st (cell_place c)) f refl h
+
+second_stands : (st : Stacks) (f : Reached) (q : Result Reached InterruptKind) → ((v : Reached) → q ≡ Ok v → Stands st v)
+    → after_found q (λ (v : Reached). seen st (no_second (as_sirw v.word) v)) ≡ Ok f → Stands st f
+second_stands st f (Err kind) h e = cc
+second_stands st f (Ok v) h e = by (as_sirw v.word) e
+  where
+    by : (s : Option Sirw) → seen st (no_second s v) ≡ Ok f → Stands st f
+    by None e = let p : v ≡ f = cc in subst (Stands st) p (h v refl)
+    by (Some s) e = cc
+
+first_stands : (st : Stacks) (f : Reached) (q : Result Reached InterruptKind) → ((v : Reached) → q ≡ Ok v → Stands st v)
+    → after_found q (λ (v : Reached). seen st (one_sirw (as_sirw v.word) v)) ≡ Ok f → Stands st f
+first_stands st f (Err kind) h e = cc
+first_stands st f (Ok v) h e = by (as_sirw v.word) e
+  where
+    by : (s : Option Sirw) → seen st (one_sirw s v) ≡ Ok f → Stands st f
+    by None e = let p : v ≡ f = cc in subst (Stands st) p (h v refl)
+    by (Some s) e =
+        second_stands st f (seen st (named (Some (sirw_cell s)))) (λ v q. named_stands st (Some (sirw_cell s)) v q)
+        (sym (seen_then st (named (Some (sirw_cell s))) (λ (v : Reached). no_second (as_sirw v.word) v)) ∙ e)
+
+pub reached_stands : (st : Stacks) (c : Option Cell) (f : Reached) → Ok f ≡ looked (seen st (reached c)) → Stands st f
+reached_stands st c f e =
+    first_stands st f (seen st (named c)) (λ v q. named_stands st c v q)
+    (sym (seen_then st (named c) (λ (w : Reached). one_sirw (as_sirw w.word) w)) ∙ looked_ok (seen st (reached c)) f e)
+
+pub reached_some : (st : Stacks) (c : Option Cell) (f : Reached) → Ok f ≡ looked (seen st (reached c)) → is_some (word_at st (cell_place f.cell)) ≡ true
+reached_some st c f e = ap is_some (reached_stands st c f e)
+
+-- ---- what is told of an event
+
+module _ (img : Image) (r : Registers) (w : Word) where
+  pub not_reached : (stop : Stop) → ◌≡◌ {A = Result Reached Stop} (Err stop) (looked (seen img.stacks (reached (cell_of r w)))) → whole (asked img (event_of r w)) ≡ stopped stop
+  not_reached stop e =
+      (tells_stop (see (reached (cell_of r w))) event_in stop img.stacks img.rows (tells_look (reached (cell_of r w)) img.stacks img.rows (Err stop) e)).told img refl refl
+
+  module _ (f : Reached) (e : Ok f ≡ looked (seen img.stacks (reached (cell_of r w)))) where
+    in_reached : asked img (event_of r w) ≡ asked img (event_in f)
+    in_reached =
+        asked_on img (see (reached (cell_of r w))) event_in f ((tells_look (reached (cell_of r w)) img.stacks img.rows (Ok f) e).told img refl refl)
+
+    pub no_event_word : as_event f.word ≡ None → whole (asked img (event_of r w)) ≡ stopped (Interrupt InvalidOperand)
+    no_event_word n =
+        ap whole (in_reached ∙ ap (λ (o : Option EventWord). asked img (see (valid o) >>= (λ e. is_event (cell_place f.cell) (λ (there : Bool). if_open there f.cell)))) n)
+
+    pub if_event : (x : EventWord) (b : Bool) → as_event f.word ≡ Some x → is_open (cell_place f.cell) img.events ≡ b → asked img (event_of r w) ≡ asked img (if_open b f.cell)
+    if_event x b n o =
+        in_reached ∙ ap (λ (o : Option EventWord). asked img (see (valid o) >>= (λ e. is_event (cell_place f.cell) (λ (there : Bool). if_open there f.cell)))) n
+        ∙ ap (λ (there : Bool). asked img (if_open there f.cell)) o
+
+-- ---- the tests of an intrinsic on an event
+
+only_stop : (words : List Word) (stop : Stop) → ◌≡◌ {A = Result Word Stop} (Err stop) (only words) → (img : Image) (r : Registers) (m : Mscw)
+    → Leads img (event_tests r m words) (Err stop)
+only_stop [] stop e img r m = λ p next. record { outcome = ap (λ (s : Stop). stopped s) (sym (stop_is e)); stays = refl }
+  where
+    stop_is : ◌≡◌ {A = Result Word Stop} (Err stop) (Err (Interrupt InvalidOperand)) → stop ≡ Interrupt InvalidOperand
+    stop_is e = cc
+only_stop (w ∷ []) stop e img r m = cc
+only_stop (w ∷ v ∷ words) stop e img r m = λ p next. record { outcome = ap (λ (s : Stop). stopped s) (sym (stop_is e)); stays = refl }
+  where
+    stop_is : ◌≡◌ {A = Result Word Stop} (Err stop) (Err (Interrupt InvalidOperand)) → stop ≡ Interrupt InvalidOperand
+    stop_is e = cc
+
+pub no_argument : (img : Image) (r : Registers) (m : Mscw) (res : Result Place Stop) (stop : Stop) → ◌≡◌ {A = Result Word Stop} (Err stop) (only (arguments img.stacks r)) → IsErrAnd res (λ e. e ≡ stop)
+    → Leads img (event_tests r m (arguments img.stacks r)) res
+no_argument img r m (Ok place) stop e i = absurd i
+no_argument img r m (Err other) stop e i =
+    only_stop (arguments img.stacks r) other (ap (λ (s : Stop). Err s) i ∙ e) img r m
+
+only_is : (words : List Word) (w : Word) → Ok w ≡ only words → words ≡ w ∷ []
+only_is [] w e = cc
+only_is (v ∷ []) w e = let p : v ≡ w = cc in ap (λ (x : Word). x ∷ []) p
+only_is (v ∷ u ∷ words) w e = cc
+
+module _ (img : Image) (r : Registers) (m : Mscw) (w : Word) (is : Ok w ≡ only (arguments img.stacks r)) where
+  in_words : (res : Result Place Stop) → Leads img (event_tests r m (w ∷ [])) res → Leads img (event_tests r m (arguments img.stacks r)) res
+  in_words res x =
+      subst (λ (words : List Word). Leads img (event_tests r m words) res) (sym (only_is (arguments img.stacks r) w is)) x
+
+  pub no_event : (res : Result Place Stop) (stop : Stop) → whole (asked img (event_of r w)) ≡ stopped stop → IsErrAnd res (λ e. e ≡ stop)
+      → Leads img (event_tests r m (arguments img.stacks r)) res
+  no_event (Ok place) stop e i = absurd i
+  no_event (Err other) stop e i =
+      in_words (Err other) (λ p next. acts_stop p (event_of r w) (λ (c : Cell). if_chained r m (next (cell_place c))) other img img (e ∙ ap (λ (s : Stop). stopped s) (sym i)) refl)
+
+  module _ (c : Cell) (e : whole (asked img (event_of r w)) ≡ answered (Ok c)) where
+    pub no_lower : (res : Result Place Stop) (stop : Stop) → ◌≡◌ {A = Result Mscw Stop} (Err stop) (looked (seen img.stacks (mark_below r m))) → IsErrAnd res (λ e. e ≡ stop)
+        → Leads img (event_tests r m (arguments img.stacks r)) res
+    no_lower (Ok place) stop f i = absurd i
+    no_lower (Err other) stop f i =
+        in_words (Err other) (λ p next. acts_then p (event_of r w) (λ (c : Cell). if_chained r m (next (cell_place c))) c img img (Err other) e
+        (acts_stop p (see (mark_below r m)) (λ (lower : Mscw). next (cell_place c)) other img img
+        ((tells_look (mark_below r m) img.stacks img.rows (Err other) (ap (λ (s : Stop). Err s) i ∙ f)).told img refl refl) refl))
+
+    pub event_found : (lower : Mscw) → Ok lower ≡ looked (seen img.stacks (mark_below r m)) → Leads img (event_tests r m (arguments img.stacks r)) (Ok (cell_place c))
+    event_found lower f =
+        in_words (Ok (cell_place c)) (λ next. asked_on img (event_of r w) (λ (c : Cell). if_chained r m (next (cell_place c))) c e
+        ∙ asked_on img (see (mark_below r m)) (λ (lower : Mscw). next (cell_place c)) lower ((tells_look (mark_below r m) img.stacks img.rows (Ok lower) f).told img refl refl))

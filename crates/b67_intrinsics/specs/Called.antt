@@ -1,0 +1,96 @@
+-- An intrinsic where it is called: its arguments above the mark at F, and its program.
+use Rattle.std.specs.Prelude.{◌≡◌, ℕ, ◌+◌, ◌-◌, ◌≤◌, nat_le, if◌then◌else◌, ℤ, List, [], ◌∷◌, take, drop, Option, Some, None, Result, Ok, Err}
+use Rattle.b67_word.specs.Word.{Word, as_whole}
+use Rattle.b67_control.specs.declared.Registers.{Registers}
+use Rattle.b67_control.specs.declared.Mscw.{Mscw}
+use Rattle.b67_segment.specs.declared.code.Code.{Code}
+use Rattle.b67_store.specs.Store.{Stacks, Rows, words_of}
+use Rattle.b67_table.specs.declared.InterruptKind.{InterruptKind}
+use Rattle.b67_table.specs.declared.InterruptKind.TheVariants.{InvalidOperand}
+use Rattle.b67_table.specs.Arguments.{IntrinsicRow, Three, no_such, event_of, if_chained, finished_at}
+use Rattle.b67_table.specs.Chains.{place, broken, mark_at}
+use Rattle.b67_table.specs.Image.{Image}
+use Rattle.b67_table.specs.Look.{Look}
+use Rattle.b67_table.specs.References.{cell_place}
+use Rattle.b67_table.specs.declared.Cell.{Cell}
+use Rattle.b67_word.specs.declared.Place.{Place}
+use Rattle.b67_table.specs.Program.{Program, loads, asked, answer, ◌>>=◌}
+use Rattle.b67_reach.specs.declared.Stop.{Stop}
+use Rattle.b67_reach.specs.declared.Stop.TheVariants.{Interrupt}
+use Rattle.b67_reach.specs.Answers.{IsReady, Acts}
+
+-- ---- the arguments
+
+-- the words above the procedure's, which stands above the mark at F
+abbrev pub arguments : Stacks → Registers → List Word
+arguments stacks r = take (r.s - (r.f + 2)) (drop (r.f + 2) (words_of stacks r.stack))
+
+-- the only one of them
+abbrev pub only : List Word → Result Word Stop
+only (w ∷ []) = Ok w
+only ws = Err (Interrupt InvalidOperand)
+
+-- the whole number that a word is read as
+abbrev pub whole_of : Option ℤ → Result ℤ Stop
+whole_of None = Err (Interrupt InvalidOperand)
+whole_of (Some z) = Ok z
+
+abbrev pub whole_in : Option Word → Result ℤ Stop
+whole_in None = Err (Interrupt InvalidOperand)
+whole_in (Some w) = whole_of (as_whole w)
+
+-- three whole numbers as a triple
+abbrev pub as_triple : Result Three InterruptKind → Result (ℤ × ℤ × ℤ) InterruptKind
+as_triple (Ok z) = Ok (z.first, z.second, z.third)
+as_triple (Err kind) = Err kind
+
+-- the mark below the one at F
+abbrev pub mark_below : Registers → Mscw → Look Mscw
+mark_below r m = if nat_le m.df r.f then mark_at (place r.stack (r.f - m.df)) else broken
+
+-- ---- the program
+
+-- the intrinsic's program in a process with these registers, after whose operator the pointer is at `next`, and whose mark at F is `m`
+abbrev pub called : IntrinsicRow → Code → Registers → ℕ → Mscw → Program
+called row code r next m = loads (place r.stack (r.f + 2)) (r.s - (r.f + 2)) (λ (words : List Word). row code r next m words)
+
+abbrev pub called_in : IntrinsicRow → Code → Option Registers → ℕ → Mscw → Program
+called_in row code None next m = no_such
+called_in row code (Some r) next m = called row code r next m
+
+-- a process has its mark at F and a procedure's word above it
+abbrev pub IsCalled : Stacks → Option Registers → Type 0
+IsCalled stacks None = ⊥
+IsCalled stacks (Some r) = IsReady stacks r × (r.f + 2 ≤ r.s)
+
+-- ---- tests that lead to a program
+
+-- the tests find a value and go on with it, or they are stopped
+abbrev pub Leads : {A : Type 0} → Image → ((A → Program) → Program) → Result A Stop → Type 0
+Leads {A = A} img tests (Ok a) = (next : A → Program) → asked img (tests next) ≡ asked img (next a)
+Leads {A = A} img tests (Err stop) = (p : ℕ) (next : A → Program) → Acts {A = Unit {0}} p (tests next) img img (Err stop)
+
+-- the tests of an intrinsic whose argument is an event
+abbrev pub event_tests : Registers → Mscw → List Word → (Place → Program) → Program
+event_tests r m (w ∷ []) next = event_of r w >>= (λ (c : Cell). if_chained r m (next (cell_place c)))
+event_tests r m [] next = no_such
+event_tests r m (w ∷ v ∷ words) next = no_such
+
+-- how an intrinsic ends in a process
+abbrev pub finished_in : Option Registers → Mscw → List Word → ℕ → Program
+finished_in None m words pointer = no_such
+finished_in (Some r) m words pointer = answer (finished_at r m words pointer)
+
+-- the mark at F of a process lies so far above the one below
+abbrev pub IsChained : Mscw → Option Registers → Type 0
+IsChained m None = ⊥
+IsChained m (Some r) = m.df ≤ r.f
+
+-- the image with these stacks, rows and registers
+abbrev pub ended : Stacks → Rows → List Registers → Image → Image
+ended stacks rows regs img = record img { stacks = stacks; rows = rows; regs = regs }
+
+-- the same tests in a process
+abbrev pub event_tests_in : Option Registers → Mscw → Stacks → (Place → Program) → Program
+event_tests_in None m stacks next = no_such
+event_tests_in (Some r) m stacks next = event_tests r m (arguments stacks r) next

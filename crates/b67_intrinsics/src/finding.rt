@@ -1,0 +1,73 @@
+//! The event that is an intrinsic's argument.
+
+ghost use Rattle.std.specs.Prelude.{◌≡◌, ◌+◌, ◌<◌, ◌≤◌, OnOk, IfOk, IsTrue, true, is_some};
+ghost use Rattle.b67_store.specs.Store.{word_at};
+ghost use Rattle.b67_events.specs.Events.{is_open};
+ghost use Rattle.b67_table.specs.Arguments.{event_of};
+ghost use Rattle.b67_table.specs.Image.{Image};
+ghost use Rattle.b67_table.specs.Program.{asked};
+ghost use Rattle.b67_table.specs.References.{cell_place};
+ghost use Rattle.b67_reach.specs.Answers.{whole, answered, IsReady};
+ghost use Rattle.b67_intrinsics.specs.Called.{arguments, Leads, event_tests};
+
+use crate::marks::{chained, only_argument};
+use b67_control::{EventWord, Mscw};
+use b67_events::Kernel;
+use b67_reach::{Cell, Registers, Stop, cell_of, invalid, reached};
+use b67_store::Core;
+use b67_word::{Place, Word};
+
+// Where a cell lies in which a word is.
+fn cell_place<C: Core>(core: &C, cell: Cell) -> Place
+    requires { is_some (word_at (C.Core.stacks core.now) (cell_place cell)) ≡ true }
+    ensures value { result ≡ cell_place cell }
+    ensures fits { cell.frame.at + cell.index < 65536 }
+{
+    // no stack is so long that the cell could lie higher
+    let _ = core.length(cell.frame.stack);
+    Place {
+        stack: cell.frame.stack,
+        at: cell.frame.at + cell.index,
+    }
+}
+
+// The cell in which the event lies that a reference reaches.
+fn event_of<C: Core>(core: &C, kernel: &Kernel, regs: &Registers, word: Word) -> Result<Cell, Stop>
+    ensures told { (img : Image) → img.stacks ≡ C.Core.stacks core.now → img.events ≡ kernel.now.events → whole (asked img (event_of regs.now word)) ≡ answered result }
+    ensures there { IfOk result (λ cell. IsTrue (is_open (cell_place cell) kernel.now.events)) }
+    ensures fits { IfOk result (λ cell. cell.frame.at + cell.index < 65536) }
+{
+    let found = reached(core, cell_of(regs, word))?;
+    if EventWord::unpack(found.word).is_none() {
+        return Err(invalid());
+    }
+    let cell = found.cell;
+    let place = cell_place(core, cell);
+    if !kernel.is_open(place) {
+        return Err(invalid());
+    }
+    Ok(cell)
+}
+
+/// The place of the event that the only argument's reference reaches, where the mark at F is chained. An error comes
+/// exactly where it is no such argument, no event is open there, or the chain is broken, in this order.
+pub fn find_event<C: Core>(
+    core: &C,
+    kernel: &Kernel,
+    regs: &Registers,
+    mark: &Mscw,
+) -> Result<Place, Stop>
+    requires ready { IsReady (C.Core.stacks core.now) regs.now }
+    requires above { regs.now.f + 2 ≤ regs.now.s }
+    ensures leads { (img : Image) → img.stacks ≡ C.Core.stacks core.now → img.events ≡ kernel.now.events → Leads img (event_tests regs.now mark.now (arguments img.stacks regs.now)) result }
+    ensures there { IfOk result (λ place. IsTrue (is_open place kernel.now.events)) }
+    ensures within { OnOk result (mark.now.df ≤ regs.now.f) }
+{
+    let word = only_argument(core, regs)?;
+    let cell = event_of(core, kernel, regs, word)?;
+    chained(core, regs, mark)?;
+    Ok(Place {
+        stack: cell.frame.stack,
+        at: cell.frame.at + cell.index,
+    })
+}

@@ -1,0 +1,18 @@
+//! The intrinsics: what the procedures do that the machine itself has, where they are entered.
+//!
+//! A mark stands at F, the intrinsic's procedure word above it, and its arguments above that. An intrinsic first reads,
+//! and an error is what stops it, in the table's order; then nothing has changed. It then gives up all from the mark on.
+//! The events' intrinsics are those of the B6700's Extended ALGOL; their effects are this project's profile.
+#![tactic(auto)]
+
+mod finding;
+mod happening;
+mod marks;
+mod selecting;
+
+pub use finding::find_event;
+pub use happening::reset;
+pub use marks::{
+    arguments, chained, finish, finish_with, only_argument, three_arguments, whole_argument,
+};
+pub use selecting::select;

@@ -1,0 +1,127 @@
+//! What all intrinsics share: the mark at F, the mark below it, the arguments, and how an intrinsic ends.
+
+ghost use Rattle.std.specs.Prelude.{◌≡◌, ◌+◌, ◌-◌, ◌<◌, ◌≤◌, ℕ, length, Ok, Err, OnOk, IfOk, unsigned_abs, slice_get, [], ◌∷◌};
+ghost use Rattle.b67_word.specs.Word.{most};
+ghost use Rattle.b67_store.specs.Store.{stack_limit};
+ghost use Rattle.b67_table.specs.Arguments.{finished_at, three};
+ghost use Rattle.b67_table.specs.Look.{seen};
+ghost use Rattle.b67_table.specs.Program.{answer};
+ghost use Rattle.b67_reach.specs.Images.{own};
+ghost use Rattle.b67_reach.specs.Answers.{looked, IsReady, Performs};
+ghost use Rattle.b67_intrinsics.specs.Called.{arguments, only, whole_in, as_triple, mark_below};
+
+use b67_control::Mscw;
+use b67_reach::{InterruptKind, Registers, Stop, invalid};
+use b67_store::Core;
+use b67_word::{Place, Word};
+
+/// How many arguments there are.
+pub fn arguments<C: Core>(core: &C, regs: &Registers) -> u32
+    requires ready { IsReady (C.Core.stacks core.now) regs.now }
+    requires above { regs.now.f + 2 ≤ regs.now.s }
+    ensures { result ≡ length (arguments (C.Core.stacks core.now) regs.now) }
+{
+    regs.s - (u32::from(regs.f) + 2)
+}
+
+/// The only argument. InvalidOperand comes exactly where there is none, or more than one.
+pub fn only_argument<C: Core>(core: &C, regs: &Registers) -> Result<Word, Stop>
+    requires ready { IsReady (C.Core.stacks core.now) regs.now }
+    requires above { regs.now.f + 2 ≤ regs.now.s }
+    ensures { result ≡ only (arguments (C.Core.stacks core.now) regs.now) }
+{
+    if regs.s - (u32::from(regs.f) + 2) != 1 {
+        return Err(invalid());
+    }
+    let place = Place {
+        stack: regs.stack,
+        at: regs.f + 2,
+    };
+    Ok(core.read(place).unwrap())
+}
+
+/// The whole number that an argument is read as, by its number from 0. InvalidOperand comes exactly where it is none.
+pub fn whole_argument<C: Core>(core: &C, regs: &Registers, n: u32) -> Result<i64, Stop>
+    requires ready { IsReady (C.Core.stacks core.now) regs.now }
+    requires within { regs.now.f + 2 + n < regs.now.s }
+    ensures value { result ≡ whole_in (slice_get (arguments (C.Core.stacks core.now) regs.now) n) }
+    ensures small { IfOk result (λ z. unsigned_abs z ≤ most) }
+{
+    let place = Place {
+        stack: regs.stack,
+        at: (u32::from(regs.f) + 2 + n) as u16,
+    };
+    match core.read(place).unwrap().as_whole() {
+        Some(value) => Ok(value),
+        None => Err(invalid()),
+    }
+}
+
+/// The three whole numbers that the arguments are read as. InvalidOperand comes exactly where they are not three.
+pub fn three_arguments<C: Core>(core: &C, regs: &Registers) -> Result<(i64, i64, i64), Stop>
+    requires ready { IsReady (C.Core.stacks core.now) regs.now }
+    requires above { regs.now.f + 2 ≤ regs.now.s }
+    ensures value { result ≡ looked (as_triple (seen (C.Core.stacks core.now) (three (arguments (C.Core.stacks core.now) regs.now)))) }
+    ensures first { IfOk result (λ z. unsigned_abs z.0 ≤ most) }
+    ensures second { IfOk result (λ z. unsigned_abs z.1 ≤ most) }
+    ensures third { IfOk result (λ z. unsigned_abs z.2 ≤ most) }
+{
+    if arguments(core, regs) != 3 {
+        return Err(invalid());
+    }
+    let x = whole_argument(core, regs, 0)?;
+    let y = whole_argument(core, regs, 1)?;
+    let z = whole_argument(core, regs, 2)?;
+    Ok((x, y, z))
+}
+
+/// The mark below the one at F. BrokenChain comes exactly where no mark stands as far below as that one says.
+pub fn chained<C: Core>(core: &C, regs: &Registers, mark: &Mscw) -> Result<Mscw, Stop>
+    ensures value { result ≡ looked (seen (C.Core.stacks core.now) (mark_below regs.now mark.now)) }
+    ensures within { OnOk result (mark.now.df ≤ regs.now.f) }
+{
+    let broken = Stop::Interrupt(InterruptKind::BrokenChain);
+    if mark.df > regs.f {
+        return Err(broken);
+    }
+    let place = Place {
+        stack: regs.stack,
+        at: regs.f - mark.df,
+    };
+    match core.read(place) {
+        Some(word) => match Mscw::unpack(word) {
+            Some(lower) => Ok(lower),
+            None => Err(broken),
+        },
+        None => Err(broken),
+    }
+}
+
+/// All from the mark at F on is taken off, and the pointer goes to a place.
+pub fn finish<C: Core>(core: &mut C, regs: &mut Registers, mark: &Mscw, place: u16)
+    requires ready { IsReady (C.Core.stacks core.old) regs.old }
+    requires above { regs.old.f + 2 ≤ regs.old.s }
+    requires within { mark.now.df ≤ regs.old.f }
+    ensures { Performs (answer (finished_at regs.old mark.now [] place)) (own (C.Core.stacks core.old) (C.Core.rows core.old) regs.old) (own (C.Core.stacks core.new) (C.Core.rows core.new) regs.new) (Ok result) }
+{
+    let length = u32::from(regs.f);
+    core.cut(regs.stack, length).unwrap();
+    regs.s = length;
+    regs.f -= mark.df;
+    regs.place = place;
+}
+
+/// All from the mark at F on gives way to a word, and the pointer goes to a place.
+pub fn finish_with<C: Core>(core: &mut C, regs: &mut Registers, mark: &Mscw, word: Word, place: u16)
+    requires ready { IsReady (C.Core.stacks core.old) regs.old }
+    requires above { regs.old.f + 2 ≤ regs.old.s }
+    requires within { mark.now.df ≤ regs.old.f }
+    ensures { Performs (answer (finished_at regs.old mark.now (word ∷ []) place)) (own (C.Core.stacks core.old) (C.Core.rows core.old) regs.old) (own (C.Core.stacks core.new) (C.Core.rows core.new) regs.new) (Ok result) }
+{
+    let length = u32::from(regs.f);
+    core.cut(regs.stack, length).unwrap();
+    core.push(regs.stack, word).unwrap();
+    regs.s = length + 1;
+    regs.f -= mark.df;
+    regs.place = place;
+}
