@@ -46,12 +46,12 @@ use Rattle.algol_meaning.specs.declared.statement.Work.{Work}
 use Rattle.algol_meaning.specs.declared.statement.Point.{Point}
 use Rattle.algol_meaning.specs.declared.statement.Point.TheVariants as point
 
-abbrev pub answer : Answer → rest.Answer
-answer answers.Done = rest.done
-answer (answers.Value v) = rest.value (value v)
-answer (answers.Cell c) = rest.cell (cell c)
-answer (answers.Place p) = rest.place (place p)
-answer answers.Entered = rest.entered
+abbrev pub answered : Answer → rest.Answer
+answered answers.Done = rest.done
+answered (answers.Value v) = rest.value (value v)
+answered (answers.Cell c) = rest.cell (cell c)
+answered (answers.Place p) = rest.place (place p)
+answered answers.Entered = rest.entered
 
 -- ---- what follows
 

@@ -1,6 +1,6 @@
 //! The silent steps of expressions, one after another: nothing here is recursive, and nothing is copied.
 
-ghost use Rattle.std.specs.Prelude.{◌≡◌, ◌+◌, [], ◌∷◌, ◌++◌, length, IfOk, Some};
+ghost use Rattle.std.specs.Prelude.{◌≡◌, ◌+◌, [], ◌∷◌, ◌++◌, length, pos, IfOk, Some};
 ghost use Rattle.algol_meaning.specs.Rest as rest;
 ghost use Rattle.algol_meaning.specs.Value as plain;
 ghost use Rattle.algol_meaning.specs.Settle as settling;
@@ -13,11 +13,13 @@ ghost use Rattle.algol_meaning.specs.SeenScope as sorting;
 ghost use Rattle.algol_meaning.specs.Operators as operators;
 ghost use Rattle.algol_meaning.specs.SeenValue.{value};
 ghost use Rattle.algol_meaning.specs.SeenScope.{scoped};
-ghost use Rattle.algol_meaning.specs.SeenExpression.{done, all_done, sorts_from, sorts_after, hole, refilled, half, Moves, Comes, Calculates, Supplies, IsSupplied, expr_size, exprs_size, variable_size, call_size, weigh_frames};
+ghost use Rattle.algol_meaning.specs.SeenStatement.{answered};
+ghost use Rattle.algol_meaning.specs.SeenExpression.{cell, place, done, all_done, sorts_from, sorts_after, hole, refilled, half, Moves, Comes, Calculates, Supplies, IsSupplied, expr_size, exprs_size, variable_size, call_size, weigh_frames};
 
+use crate::cell::Cell;
 use crate::error::Unable;
 use crate::operator::{inverted, negated, result_of, truth_of};
-use crate::part::{Control, Frame, Given, Head, Outcome, Supplied, Supply};
+use crate::part::{Answer, Control, Frame, Given, Head, Outcome, Place, Supplied, Supply};
 use crate::scope::{Scopes, Sort};
 use crate::stack::Stack;
 use crate::value::{Value, Whole};
@@ -353,5 +355,82 @@ pub fn evaluate<'p>(
                 Some(frame) => control = outward(scopes, v, frame, frames)?,
             },
         }
+    }
+}
+
+/// What stands in place of a head that is not among subscripts or actuals, once it has this answer.
+fn filled<'p>(answer: &Answer<'p>) -> Control<'p>
+    ensures { (sc : scoping.Scopes) → settling.half_of (answered answer.now) ≡ half sc result }
+{
+    match answer {
+        Answer::Value(v) => Control::Value(*v),
+        Answer::Entered => Control::Found(Head::Inside),
+        _ => Control::Value(Value::Number(Whole::zero())),
+    }
+}
+
+/// The subscripts of an element's place.
+fn subscripts_of<'p>(alloc: Global, answer: Answer<'p>) -> List<usize>
+    ensures { result ≡ rest.subscripts_of (answered answer.entry) }
+{
+    match answer {
+        Answer::Place(place) => subscripts_in(alloc, place),
+        _ => List::of(Vec::new(alloc)),
+    }
+}
+
+/// The subscripts of a place.
+fn subscripts_in<'p>(alloc: Global, at: Place<'p>) -> List<usize>
+    ensures { result ≡ rest.subscripts_of (rest.place (place at.entry)) }
+{
+    match at {
+        Place::ElementOf(_, ks) => ks,
+        _ => List::of(Vec::new(alloc)),
+    }
+}
+
+/// The cell that is passed.
+fn cell_of<'p>(answer: Answer<'p>) -> Cell<'p>
+    ensures { cell result ≡ rest.cell_of (answered answer.entry) (plain.simple (plain.number (pos 0))) }
+{
+    match answer {
+        Answer::Cell(cell) => cell,
+        _ => Cell::Simple(Value::Number(Whole::zero())),
+    }
+}
+
+/// A call one of whose actuals is this cell.
+#[tactic(auto, using(crate::proofs::Supplying::supply_laws))]
+fn passed<'p>(
+    scopes: &Scopes<'p>,
+    callee: &'p Named,
+    mut gs: List<Given<'p>>,
+    passing: Cell<'p>,
+    es: &'p [Expr],
+    frames: &mut Stack<Frame<'p>>,
+) -> Result<Control<'p>, AllocError>
+    ensures { IfOk result (λ c. Moves (scoped scopes.now) (refilled (scoped scopes.now) frames.old (settling.called_of callee.now (settling.settle_actuals (scoped scopes.now) (exprs es.now) (sorts_after (scoped scopes.now) callee.now gs.entry) (all_done gs.entry ++ rest.passed (cell passing.entry) ∷ [])))) (1 + exprs_size (exprs es.now) + weigh_frames frames.old) c frames.new) }
+{
+    gs.items_mut().push(Given::Passed(passing))?;
+    call(scopes, callee, gs, es, frames)
+}
+
+/// What stands in place of a head that has this answer, with what is around it.
+pub fn put<'p>(
+    alloc: Global,
+    scopes: &Scopes<'p>,
+    head: Head<'p>,
+    answer: Answer<'p>,
+    frames: &mut Stack<Frame<'p>>,
+) -> Result<Control<'p>, AllocError>
+    ensures { IfOk result (λ c. refilled (scoped scopes.now) frames.old (settling.put (scoped scopes.now) (hole (scoped scopes.now) head.entry) (answered answer.entry)) ≡ refilled (scoped scopes.now) frames.new (half (scoped scopes.now) c)) }
+{
+    match head {
+        Head::Index(n, _, _, e, es) => {
+            frames.push(Frame::Subscript(n, subscripts_of(alloc, answer), es))?;
+            Ok(Control::Eval(e))
+        }
+        Head::Pass(n, gs, _, es) => Ok(passed(scopes, n, gs, cell_of(answer), es, frames)?),
+        _ => Ok(filled(&answer)),
     }
 }

@@ -25,7 +25,7 @@ use crate::scope::Scopes;
 use crate::stack::append;
 use crate::statement::{Again, Deed, Last, Next, Point, Right, Role, Sought, Target, Within, Work};
 use crate::value::{Value, Whole};
-use algol_tree::{Body, Expr, Kind, List, Named, Op, Pair, PhraseText, Stmt, Variable};
+use algol_tree::{Body, Decl, Expr, Kind, List, Named, Op, Pair, PhraseText, Stmt, Variable};
 use std::alloc::{AllocError, Global};
 
 impl<'p> Work<'p> {
@@ -443,6 +443,77 @@ impl<'p> Work<'p> {
         match evaluate(alloc, scopes, from, &mut self.frames)? {
             Outcome::Busy(head) => Ok(Some(Point::In(head, within))),
             Outcome::Value(v) => self.held_value(alloc, scopes, v, within),
+        }
+    }
+
+    /// The making of arrays: their upper bounds come first.
+    fn make_arrays(
+        &mut self,
+        alloc: Global,
+        scopes: &Scopes<'p>,
+        kind: Kind,
+        ns: &'p [Named],
+        ps: &'p [Pair],
+    ) -> Result<Option<Point<'p>>, Unable>
+        requires { self.old.frames ≡ [] }
+        ensures { IfOk result (λ found. Advances (scoped scopes.now) (settle_items (scoped scopes.now) (rest.make_arrays kind ns.now (pairs ps.now) ∷ ahead self.old)) (3 + weigh self.old.todo) found self.new) }
+    {
+        Ok(Some(self.bound(alloc, scopes, kind, ns, ps, List::of(Vec::new(alloc)), ps)?))
+    }
+
+    /// The making of events.
+    fn make_events(&mut self, ns: &'p [Named]) -> Result<Option<Point<'p>>, AllocError>
+        requires { self.old.frames ≡ [] }
+        ensures { (sc : scoping.Scopes) → IfOk result (λ found. Advances sc (settle_items sc (statements.event_items ns.now ++ ahead self.old)) (3 + length ns.now + weigh self.old.todo) found self.new) }
+    {
+        self.todo.push(Next::Events(ns))?;
+        Ok(None)
+    }
+
+    /// A BEGIN with these declarations and statements: a block is entered, a compound is not.
+    #[tactic(auto, using(crate::proofs::Following::list_laws))]
+    fn open(
+        &mut self,
+        b: &'p Body,
+        ds: &'p [Decl],
+        ss: &'p [Stmt],
+    ) -> Result<Option<Point<'p>>, AllocError>
+        requires empty { self.old.frames ≡ [] }
+        requires whole { seen.body b.now ≡ tree.body b.now.spot (seen.decls ds.now) (stmts ss.now) }
+        ensures { (sc : scoping.Scopes) → IfOk result (λ found. Advances sc (settle_items sc (rest.run (tree.block (tree.body b.now.spot (seen.decls ds.now) (stmts ss.now))) ∷ ahead self.old)) (2 + stmts_size (stmts ss.now) + weigh self.old.todo) found self.new) }
+    {
+        match ds.split_first() {
+            Some(_) => Ok(Some(Point::EnterBlock(b))),
+            None => {
+                self.todo.push(Next::Rest(ss))?;
+                Ok(None)
+            }
+        }
+    }
+
+    /// The statements of a list from there on.
+    fn next_statement(&mut self, ss: &'p [Stmt]) -> Result<Option<Point<'p>>, AllocError>
+        requires { self.old.frames ≡ [] }
+        ensures { (sc : scoping.Scopes) → IfOk result (λ found. Advances sc (settle_items sc (statements.items (stmts ss.now) (ahead self.old))) (1 + stmts_size (stmts ss.now) + weigh self.old.todo) found self.new) }
+    {
+        if let Some((first, rest)) = ss.split_first() {
+            self.todo.push(Next::Rest(rest))?;
+            self.todo.push(Next::Run(first))?;
+        }
+        Ok(None)
+    }
+
+    /// An event for each of these names.
+    fn next_event(&mut self, ns: &'p [Named]) -> Result<Option<Point<'p>>, AllocError>
+        requires { self.old.frames ≡ [] }
+        ensures { (sc : scoping.Scopes) → IfOk result (λ found. Advances sc (settle_items sc (statements.event_items ns.now ++ ahead self.old)) (1 + length ns.now + weigh self.old.todo) found self.new) }
+    {
+        match ns.split_first() {
+            None => Ok(None),
+            Some((n, rest)) => {
+                self.todo.push(Next::Events(rest))?;
+                Ok(Some(Point::Deed(Deed::MakeEvent(n))))
+            }
         }
     }
 }

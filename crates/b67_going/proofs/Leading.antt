@@ -8,7 +8,7 @@ use Rattle.b67_table.specs.declared.InterruptKind.{InterruptKind}
 use Rattle.b67_table.specs.Effect.{Effect}
 use Rattle.b67_table.specs.Effect as effects
 use Rattle.b67_table.specs.Image.{Image, critical_of}
-use Rattle.b67_table.specs.Look.{Look, found, seen, ◌>->◌}
+use Rattle.b67_table.specs.Look.{found, seen, ◌>->◌}
 use Rattle.b67_table.specs.Chains.{frame_below}
 use Rattle.b67_table.specs.Program.{Test, answer, asked, see, ◌>>=◌, critical}
 use Rattle.b67_table.specs.Starting.{is_among, down, on_path, or_none}

@@ -4,3 +4,4 @@ pub mod Leading
 pub mod Named
 pub mod Begins
 pub mod Opened
+pub mod Left

@@ -1,10 +1,7 @@
 -- The stack of a new process, word by word.
-use Rattle.std.proofs.Common.{◌≡◌, ◌≢◌, refl, sym, ap, subst, ◌∙◌, ℕ, zero, suc, ◌+◌, ◌<◌, ◌≤◌, List, [], ◌∷◌, ◌++◌, length, take, drop, set, slice_get, Option, Some, None, IsSome, is_some, true, arith}
-use Rattle.std.proofs.Math.Seq.{take-nil}
-use Rattle.std.proofs.lemmas.List.{append_assoc}
-use Rattle.b67_word.specs.declared.Place.{Place}
+use Rattle.std.proofs.Common.{◌≡◌, ◌≢◌, refl, sym, ap, subst, ◌∙◌, ℕ, zero, suc, ◌+◌, ◌<◌, ◌≤◌, List, [], ◌∷◌, ◌++◌, length, take, drop, set, slice_get, Option, Some, None, IsSome, is_some, arith}
 use Rattle.b67_word.specs.Word.{Word}
-use Rattle.b67_store.specs.Store.{Stacks, stack_at, at_number, words_of, words_or, word_at, with_stack, with_push, opened_at}
+use Rattle.b67_store.specs.Store.{Stacks, stack_at, words_of, words_or, with_stack, with_push, opened_at}
 use Rattle.b67_table.proofs.Lists.{set_there}
 use Rattle.b67_table.proofs.Stacks.{set_here, set_other, set_set_here, opened_other}
 

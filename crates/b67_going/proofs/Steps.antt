@@ -1,5 +1,5 @@
 -- The way down a stack from a frame to a wanted one, step by step.
-use Rattle.std.proofs.Common.{◌≡◌, ◌≢◌, refl, sym, ap, ◌∙◌, ℕ, zero, suc, ◌+◌, ◌-◌, ◌<◌, ◌≤◌, Bool, true, false, List, Option, Some, None, Result, Ok, Err, cond, arith}
+use Rattle.std.proofs.Common.{◌≡◌, ◌≢◌, refl, sym, ap, ◌∙◌, ℕ, suc, ◌-◌, ◌<◌, ◌≤◌, Bool, true, false, List, Option, Some, None, Result, Ok, Err, cond, arith}
 use Rattle.std.specs.Prelude.{nat_eq}
 use Rattle.std.proofs.lemmas.Bool.{eq-eqb, ne_eqb}
 use Rattle.b67_word.specs.declared.Place.{Place}
@@ -7,11 +7,9 @@ use Rattle.b67_control.specs.declared.Mscw.{Mscw}
 use Rattle.b67_store.specs.Store.{Stacks}
 use Rattle.b67_table.specs.declared.InterruptKind.{InterruptKind}
 use Rattle.b67_table.specs.declared.InterruptKind.TheVariants.{BrokenChain}
-use Rattle.b67_table.specs.Look.{Look, found, stops, seen, ◌>->◌}
-use Rattle.b67_table.specs.Chains.{place, below, broken, mark_at, entered_below, frame_below}
+use Rattle.b67_table.specs.Look.{Look, found, seen, ◌>->◌}
+use Rattle.b67_table.specs.Chains.{place, below, mark_at, entered_below, frame_below}
 use Rattle.b67_table.specs.Starting.{is_among}
-use Rattle.b67_display.specs.Found.{shown}
-use Rattle.b67_display.specs.declared.BrokenChain.{BrokenChain as Broken}
 use Rattle.b67_reach.proofs.Looking.{seen_then, after_found}
 use Rattle.b67_linkage.proofs.Downwards.{goes_down, stands_still, goes_out}
 use Rattle.b67_reach.specs.declared.Stop.{Stop}

@@ -1,5 +1,5 @@
 -- The path from a frame down its stack, and on down the stacks of starters.
-use Rattle.std.specs.Prelude.{◌≡◌, ℕ, zero, suc, ◌+◌, nat_eq, if◌then◌else◌, List, ◌∷◌, take, drop, Option, Some, None, Result}
+use Rattle.std.specs.Prelude.{◌≡◌, ℕ, zero, suc, nat_eq, if◌then◌else◌, List, ◌∷◌, take, drop, Option, Some, None, Result}
 use Rattle.b67_word.specs.declared.Place.{Place}
 use Rattle.b67_word.specs.Word.{Word}
 use Rattle.b67_control.specs.declared.Registers.{Registers}

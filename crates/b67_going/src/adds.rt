@@ -1,6 +1,6 @@
 //! A new process among the others.
 
-ghost use Rattle.std.specs.Prelude.{◌≡◌, ◌≢◌, ◌+◌, ◌<◌, ◌^◌, ◌++◌, ◌∷◌, [], ℕ, List, None, OnOk, OnErr};
+ghost use Rattle.std.specs.Prelude.{◌≡◌, ◌≢◌, ◌+◌, ◌<◌, ◌^◌, ◌++◌, ◌∷◌, [], ℕ, List, None, OnOk, OnErr, take, length};
 ghost use Rattle.b67_store.specs.Store.{stack_at};
 ghost use Rattle.b67_events.specs.Events.{Event};
 ghost use Rattle.b67_table.specs.declared.ProcessState.TheVariants.{Able};
@@ -34,4 +34,49 @@ fn add_entry(parts: &mut Parts, registers: Registers) -> Result<(), NoMemory>
         return Err(NoMemory);
     }
     Ok(())
+}
+
+// The registers and the state that were added last are taken off.
+fn drop_entry(parts: &mut Parts, count: usize)
+    ensures regs { parts.new.regs.items ≡ take count parts.old.regs.items }
+    ensures states { parts.new.states.items ≡ take count parts.old.states.items }
+    ensures output { parts.new.output ≡ parts.old.output }
+    ensures started { parts.new.started ≡ parts.old.started }
+{
+    parts.regs.truncate(count);
+    parts.states.truncate(count);
+}
+
+/// A new process with these registers is added, and its stack opened. Without memory nothing changes.
+pub fn add_process<C: Core>(
+    core: &mut C,
+    parts: &mut Parts,
+    start: &Start,
+    registers: Registers,
+) -> Result<(), NoMemory>
+    requires given { IsGiven (C.Core.stacks core.old) start.now }
+    requires free { stack_at (C.Core.stacks core.old) registers.stack ≡ None }
+    requires home { start.now.needs.home.stack < 2 ^ 10 }
+    requires other { start.now.needs.stack ≢ registers.stack }
+    requires each { length parts.old.regs.items ≡ length parts.old.states.items }
+    requires most { parts.old.started < most_processes }
+    ensures added { (p : ℕ) (events : List Event) → OnOk result (image_of (C.Core.stacks core.new) (C.Core.rows core.new) events parts.new ≡ written p (writes.start registers (first_words (starting_of (C.Core.stacks core.old) start.now))) (image_of (C.Core.stacks core.old) (C.Core.rows core.old) events parts.old)) }
+    ensures unchanged { (events : List Event) → OnErr result (image_of (C.Core.stacks core.new) (C.Core.rows core.new) events parts.new ≡ image_of (C.Core.stacks core.old) (C.Core.rows core.old) events parts.old) }
+{
+    let count = parts.regs.len();
+    let number = registers.stack;
+    match add_entry(parts, registers) {
+        Ok(()) => {}
+        Err(none) => return Err(none),
+    }
+    match open_process(core, number, start) {
+        Ok(()) => {
+            parts.started += 1;
+            Ok(())
+        }
+        Err(none) => {
+            drop_entry(parts, count);
+            Err(none)
+        }
+    }
 }

@@ -6,11 +6,16 @@
 
 mod adds;
 mod criticals;
+mod leaves;
 mod opens;
 mod paths;
 mod starts;
+mod targets;
 
+pub use adds::add_process;
 pub use criticals::is_critical;
+pub use leaves::passes_critical;
 pub use opens::{NoMemory, open_process};
 pub use paths::{Needs, frame_below, on_path};
-pub use starts::{Start, first_registers};
+pub use starts::{MOST_PROCESSES, Start, first_registers};
+pub use targets::{Target, level_in, number_in, target_of};

@@ -1,21 +1,13 @@
 -- The arguments of an intrinsic, and the tests that lead to its changes.
-use Rattle.std.specs.Result.{IsErrAnd}
-use Rattle.std.proofs.Common.{◌≡◌, refl, sym, ap, subst, ◌∙◌, ℕ, zero, suc, ◌+◌, ◌-◌, ◌<◌, ℤ, List, [], ◌∷◌, take, drop, length, Option, Some, None, Result, Ok, Err, slice_get, arith}
+use Rattle.std.proofs.Common.{◌≡◌, refl, sym, ap, ◌∙◌, ℕ, zero, suc, ◌+◌, ◌<◌, ℤ, List, [], ◌∷◌, take, drop, length, Option, Some, None, Result, Ok, Err, slice_get, arith}
 use Rattle.b67_word.specs.Word.{Word, as_whole}
-use Rattle.b67_control.specs.declared.Sirw.{Sirw}
-use Rattle.b67_control.specs.Control.{as_sirw}
-use Rattle.b67_store.specs.Store.{Stacks, word_at}
-use Rattle.b67_table.specs.declared.Cell.{Cell}
-use Rattle.b67_table.specs.declared.Reached.{Reached}
-use Rattle.b67_table.specs.declared.InterruptKind.{InterruptKind}
+use Rattle.b67_store.specs.Store.{Stacks}
 use Rattle.b67_table.specs.declared.InterruptKind.TheVariants.{InvalidOperand}
-use Rattle.b67_table.specs.Arguments.{Three, three, three_in, joined, wholes_in}
+use Rattle.b67_table.specs.Arguments.{three, three_in, joined, wholes_in}
 use Rattle.b67_table.specs.Look.{seen, valid, ◌>->◌}
-use Rattle.b67_table.specs.References.{named, reached, reached_in, sirw_cell, one_sirw, no_second, cell_place}
 use Rattle.b67_reach.specs.declared.Stop.{Stop}
 use Rattle.b67_reach.specs.declared.Stop.TheVariants.{Interrupt}
 use Rattle.b67_reach.specs.Answers.{looked}
-use Rattle.b67_reach.proofs.Looking.{seen_then, after_found, looked_ok}
 use Rattle.b67_intrinsics.specs.Called.{only, as_triple, whole_in, whole_of}
 
 -- ---- words of a list

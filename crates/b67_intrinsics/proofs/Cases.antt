@@ -1,6 +1,6 @@
 -- What SELECT performs, step by step.
 use Rattle.std.specs.Result.{IsErrAnd}
-use Rattle.std.proofs.Common.{◌≡◌, refl, sym, ap, ◌∙◌, ℕ, ℤ, Option, Some, None, Result, Ok, Err, List, to_z, of_z, unsigned_abs, ◌≤◌, ◌<◌, ◌^◌, arith}
+use Rattle.std.proofs.Common.{◌≡◌, refl, ap, ◌∙◌, ℕ, ℤ, Option, Result, Ok, Err, List, to_z, of_z, unsigned_abs, ◌≤◌, ◌<◌, ◌^◌, arith}
 use Rattle.std.specs.Int.{w64}
 use Rattle.std.proofs.lemmas.Int.{to_z-of_z, fits_signed_from_abs}
 use Rattle.b67_word.specs.Word.{Word, most}

@@ -1,6 +1,6 @@
 -- What is told of the event that is an intrinsic's argument.
 use Rattle.std.specs.Result.{IsErrAnd}
-use Rattle.std.proofs.Common.{◌≡◌, refl, sym, ap, subst, ◌∙◌, ℕ, Bool, true, false, List, [], ◌∷◌, Option, Some, None, Result, Ok, Err, is_some}
+use Rattle.std.proofs.Common.{◌≡◌, refl, sym, ap, subst, ◌∙◌, Bool, true, List, [], ◌∷◌, Option, Some, None, Result, Ok, Err, is_some}
 use Rattle.b67_word.specs.declared.Place.{Place}
 use Rattle.b67_word.specs.Word.{Word}
 use Rattle.b67_control.specs.declared.Mscw.{Mscw}
@@ -8,23 +8,21 @@ use Rattle.b67_control.specs.declared.Registers.{Registers}
 use Rattle.b67_control.specs.declared.Sirw.{Sirw}
 use Rattle.b67_control.specs.declared.EventWord.{EventWord}
 use Rattle.b67_control.specs.Control.{as_sirw, as_event}
-use Rattle.b67_store.specs.Store.{Stacks, Rows, word_at}
+use Rattle.b67_store.specs.Store.{Stacks, word_at}
 use Rattle.b67_events.specs.Events.{is_open}
 use Rattle.b67_table.specs.declared.Cell.{Cell}
 use Rattle.b67_table.specs.declared.Reached.{Reached}
 use Rattle.b67_table.specs.declared.InterruptKind.{InterruptKind}
 use Rattle.b67_table.specs.declared.InterruptKind.TheVariants.{InvalidOperand}
-use Rattle.b67_table.specs.Arguments.{event_of, event_in, if_open, if_chained, no_such}
-use Rattle.b67_table.specs.Effect.{Effect}
-use Rattle.b67_table.specs.Effect as effects
+use Rattle.b67_table.specs.Arguments.{event_of, event_in, if_open, if_chained}
 use Rattle.b67_table.specs.Image.{Image}
 use Rattle.b67_table.specs.Look.{seen, valid}
-use Rattle.b67_table.specs.Program.{Test, asked, see, ◌>>=◌, is_event, Program}
+use Rattle.b67_table.specs.Program.{asked, see, ◌>>=◌, is_event}
 use Rattle.b67_table.specs.References.{named, reached, reached_in, sirw_cell, one_sirw, no_second, cell_place, cell_of}
 use Rattle.b67_reach.specs.declared.Stop.{Stop}
 use Rattle.b67_reach.specs.declared.Stop.TheVariants.{Interrupt}
-use Rattle.b67_reach.specs.Answers.{looked, whole, stopped, answered, Acts}
-use Rattle.b67_reach.proofs.Looking.{seen_then, after_found, looked_ok, asked_on, asked_then, tells_look, tells_stop, tells_of, acts_then, acts_stop}
+use Rattle.b67_reach.specs.Answers.{looked, whole, stopped, answered}
+use Rattle.b67_reach.proofs.Looking.{seen_then, after_found, looked_ok, asked_on, tells_look, tells_stop, acts_then, acts_stop}
 use Rattle.b67_intrinsics.specs.Called.{arguments, only, mark_below, event_tests, Leads}
 
 -- ---- the word that is reached lies in its cell

@@ -1,5 +1,9 @@
 -- An intrinsic where it is called: its arguments above the mark at F, and its program.
 use Rattle.std.specs.Prelude.{◌≡◌, ℕ, ◌+◌, ◌-◌, ◌≤◌, nat_le, if◌then◌else◌, ℤ, List, [], ◌∷◌, take, drop, Option, Some, None, Result, Ok, Err}
+use Rattle.b67_list.specs.Numbered.{set_numbered}
+use Rattle.b67_events.specs.declared.Took.{Took}
+use Rattle.b67_events.specs.declared.Took.TheVariants.{Went, Waits}
+use Rattle.b67_table.specs.declared.ProcessState.{ProcessState}
 use Rattle.b67_word.specs.Word.{Word, as_whole}
 use Rattle.b67_control.specs.declared.Registers.{Registers}
 use Rattle.b67_control.specs.declared.Mscw.{Mscw}
@@ -94,3 +98,13 @@ ended stacks rows regs img = record img { stacks = stacks; rows = rows; regs = r
 abbrev pub event_tests_in : Option Registers → Mscw → Stacks → (Place → Program) → Program
 event_tests_in None m stacks next = no_such
 event_tests_in (Some r) m stacks next = event_tests r m (arguments stacks r) next
+
+-- the states, where a process goes on or waits in a state
+abbrev pub state_after : Took → ProcessState → ℕ → List ProcessState → List ProcessState
+state_after Went state p states = states
+state_after Waits state p states = set_numbered states p state
+
+-- the process that was found, if one was
+abbrev pub listed : Option ℕ → List ℕ
+listed None = []
+listed (Some p) = p ∷ []

@@ -1,24 +1,24 @@
 //! The intrinsics on one event: WAIT, CAUSE, RESET, HAPPENED, PROCURE and LIBERATE.
 
-ghost use Rattle.std.specs.Prelude.{◌≡◌, ◌≤◌, ℕ, OnOk, IfOk, IsSome, Some, IsTrue, IsFalse, vec_capacity, [], ◌∷◌, Ok};
+ghost use Rattle.std.specs.Prelude.{take, ◌≡◌, ◌≤◌, ℕ, OnOk, IfOk, IsSome, Some, IsTrue, IsFalse, vec_capacity, [], ◌∷◌, Ok};
 ghost use Rattle.b67_list.specs.Numbered.{numbered, set_numbered};
 ghost use Rattle.b67_control.specs.declared.Registers.{Registers};
-ghost use Rattle.b67_events.specs.Events.{is_open, is_waiting};
+ghost use Rattle.b67_events.specs.Events.{is_open, is_waiting, waiters_at, procurers_at};
 ghost use Rattle.b67_table.specs.Image.{Image};
 ghost use Rattle.b67_table.specs.Intrinsics.{on_event, tell_event};
 ghost use Rattle.b67_table.specs.Program.{wait, cause, reset, procure, liberate};
 ghost use Rattle.b67_table.specs.Writes.{able_again};
 ghost use Rattle.b67_reach.specs.Images.{image_of};
 ghost use Rattle.b67_reach.specs.Answers.{Acts};
-ghost use Rattle.b67_intrinsics.specs.Called.{IsCalled, IsChained, called_in, finished_in, ended, Leads, event_tests_in};
+ghost use Rattle.b67_intrinsics.specs.Called.{listed, state_after, IsCalled, IsChained, called_in, finished_in, ended, Leads, event_tests_in};
 
 use crate::finding::find_event;
-use crate::marks::finish;
+use crate::marks::{finish, finish_with};
 use b67_control::Mscw;
-use b67_events::Kernel;
-use b67_reach::{Parts, Registers, Stop};
+use b67_events::{Kernel, Took, Woken};
+use b67_reach::{Parts, ProcessState, Registers, Stop};
 use b67_store::Core;
-use b67_word::Place;
+use b67_word::{Place, Word, truth};
 
 // A process's mark gives way, and its pointer goes to a place.
 fn end<C: Core>(core: &mut C, all: &mut Vec<Registers>, process: u32, mark: &Mscw, place: u16)
@@ -66,12 +66,199 @@ pub fn reset<C: Core>(
 ) -> Result<(), Stop>
     requires { IsCalled (C.Core.stacks core.old) (numbered parts.old.regs.items process) }
     ensures acts { Acts process (called_in (on_event reset) parts.old.code (numbered parts.old.regs.items process) next mark.now) (image_of (C.Core.stacks core.old) (C.Core.rows core.old) kernel.old.events parts.old) (image_of (C.Core.stacks core.new) (C.Core.rows core.new) kernel.new.events parts.new) result }
-    ensures room { kernel.new.room ≡ kernel.old.room }
+    ensures processes { kernel.new.room ≡ kernel.old.room }
     ensures code { parts.new.code ≡ parts.old.code }
     ensures woken { parts.new.woken ≡ parts.old.woken }
 {
     let place = find(core, kernel, &parts.regs, process, mark)?;
     kernel.reset(place);
     end(core, &mut parts.regs, process, mark, next);
+    Ok(())
+}
+
+// A process is in a state.
+fn set_state(states: &mut Vec<ProcessState>, process: u32, state: ProcessState)
+    ensures { states.new.items ≡ set_numbered states.old.items process state }
+{
+    let index = process as usize;
+    if 1 <= index && index <= states.len() {
+        states[index - 1] = state;
+    }
+}
+
+// A process is in a state, where it waits.
+fn set_waiting(states: &mut Vec<ProcessState>, process: u32, took: Took, state: ProcessState)
+    ensures { states.new.items ≡ state_after took state process states.old.items }
+{
+    match took {
+        Took::Went => {}
+        Took::Waits => set_state(states, process, state),
+    }
+}
+
+/// WAIT: the process goes on where the event has happened; else it waits for it, after all who wait.
+pub fn wait<C: Core>(
+    core: &mut C,
+    kernel: &mut Kernel,
+    parts: &mut Parts,
+    process: u32,
+    mark: &Mscw,
+    next: u16,
+) -> Result<(), Stop>
+    requires called { IsCalled (C.Core.stacks core.old) (numbered parts.old.regs.items process) }
+    requires process { (1 ≤ process) × (process ≤ kernel.old.room) }
+    requires idle { IsFalse (is_waiting process kernel.old.events) }
+    ensures acts { Acts process (called_in (on_event wait) parts.old.code (numbered parts.old.regs.items process) next mark.now) (image_of (C.Core.stacks core.old) (C.Core.rows core.old) kernel.old.events parts.old) (image_of (C.Core.stacks core.new) (C.Core.rows core.new) kernel.new.events parts.new) result }
+    ensures processes { kernel.new.room ≡ kernel.old.room }
+    ensures code { parts.new.code ≡ parts.old.code }
+    ensures woken { parts.new.woken ≡ parts.old.woken }
+{
+    let place = find(core, kernel, &parts.regs, process, mark)?;
+    let took = kernel.wait(place, process);
+    set_waiting(
+        &mut parts.states,
+        process,
+        took,
+        ProcessState::WaitsFor(place),
+    );
+    end(core, &mut parts.regs, process, mark, next);
+    Ok(())
+}
+
+/// PROCURE: the process takes the event where it is available; else it waits to procure it, after all who wait.
+pub fn procure<C: Core>(
+    core: &mut C,
+    kernel: &mut Kernel,
+    parts: &mut Parts,
+    process: u32,
+    mark: &Mscw,
+    next: u16,
+) -> Result<(), Stop>
+    requires called { IsCalled (C.Core.stacks core.old) (numbered parts.old.regs.items process) }
+    requires process { (1 ≤ process) × (process ≤ kernel.old.room) }
+    requires idle { IsFalse (is_waiting process kernel.old.events) }
+    ensures acts { Acts process (called_in (on_event procure) parts.old.code (numbered parts.old.regs.items process) next mark.now) (image_of (C.Core.stacks core.old) (C.Core.rows core.old) kernel.old.events parts.old) (image_of (C.Core.stacks core.new) (C.Core.rows core.new) kernel.new.events parts.new) result }
+    ensures processes { kernel.new.room ≡ kernel.old.room }
+    ensures code { parts.new.code ≡ parts.old.code }
+    ensures woken { parts.new.woken ≡ parts.old.woken }
+{
+    let place = find(core, kernel, &parts.regs, process, mark)?;
+    let took = kernel.procure(place, process);
+    set_waiting(
+        &mut parts.states,
+        process,
+        took,
+        ProcessState::Procures(place),
+    );
+    end(core, &mut parts.regs, process, mark, next);
+    Ok(())
+}
+
+// These processes are able.
+fn wake(states: &mut Vec<ProcessState>, processes: &Vec<u32>)
+    ensures { states.new.items ≡ able_again processes.now.items states.old.items }
+{
+    'waking: for process in processes {
+        set_state(states, *process, ProcessState::Able);
+    }
+}
+
+// The process that was served is the one released, and is able.
+fn wake_one(states: &mut Vec<ProcessState>, woken: &mut Woken, served: Option<u32>)
+    requires { 1 ≤ vec_capacity woken.old.processes }
+    ensures states { states.new.items ≡ able_again (listed served) states.old.items }
+    ensures woken { woken.new.processes.items ≡ listed served }
+    ensures capacity { vec_capacity woken.old.processes ≤ vec_capacity woken.new.processes }
+{
+    woken.processes.clear();
+    if let Some(process) = served {
+        woken.processes.push(process).unwrap();
+        set_state(states, process, ProcessState::Able);
+    }
+}
+
+/// CAUSE: the event happens, and all who wait for it are released, in the order in which they came.
+pub fn cause<C: Core>(
+    core: &mut C,
+    kernel: &mut Kernel,
+    parts: &mut Parts,
+    process: u32,
+    mark: &Mscw,
+    next: u16,
+) -> Result<(), Stop>
+    requires called { IsCalled (C.Core.stacks core.old) (numbered parts.old.regs.items process) }
+    requires room { kernel.old.room ≤ vec_capacity parts.old.woken.processes }
+    ensures acts { Acts process (called_in (on_event cause) parts.old.code (numbered parts.old.regs.items process) next mark.now) (image_of (C.Core.stacks core.old) (C.Core.rows core.old) kernel.old.events parts.old) (image_of (C.Core.stacks core.new) (C.Core.rows core.new) kernel.new.events parts.new) result }
+    ensures woken { OnOk result ((at : Place) × Leads (image_of (C.Core.stacks core.old) (C.Core.rows core.old) kernel.old.events parts.old) (event_tests_in (numbered parts.old.regs.items process) mark.now (C.Core.stacks core.old)) (Ok at) × (parts.new.woken.processes.items ≡ waiters_at at kernel.old.events)) }
+    ensures capacity { vec_capacity parts.old.woken.processes ≤ vec_capacity parts.new.woken.processes }
+    ensures processes { kernel.new.room ≡ kernel.old.room }
+    ensures code { parts.new.code ≡ parts.old.code }
+{
+    let place = find(core, kernel, &parts.regs, process, mark)?;
+    kernel.cause(place, &mut parts.woken);
+    wake(&mut parts.states, &parts.woken.processes);
+    end(core, &mut parts.regs, process, mark, next);
+    Ok(())
+}
+
+/// LIBERATE: the first who waits to procure the event has it and is released; where nobody does, it is available.
+pub fn liberate<C: Core>(
+    core: &mut C,
+    kernel: &mut Kernel,
+    parts: &mut Parts,
+    process: u32,
+    mark: &Mscw,
+    next: u16,
+) -> Result<(), Stop>
+    requires called { IsCalled (C.Core.stacks core.old) (numbered parts.old.regs.items process) }
+    requires room { 1 ≤ vec_capacity parts.old.woken.processes }
+    ensures acts { Acts process (called_in (on_event liberate) parts.old.code (numbered parts.old.regs.items process) next mark.now) (image_of (C.Core.stacks core.old) (C.Core.rows core.old) kernel.old.events parts.old) (image_of (C.Core.stacks core.new) (C.Core.rows core.new) kernel.new.events parts.new) result }
+    ensures woken { OnOk result ((at : Place) × Leads (image_of (C.Core.stacks core.old) (C.Core.rows core.old) kernel.old.events parts.old) (event_tests_in (numbered parts.old.regs.items process) mark.now (C.Core.stacks core.old)) (Ok at) × (parts.new.woken.processes.items ≡ take 1 (procurers_at at kernel.old.events))) }
+    ensures capacity { vec_capacity parts.old.woken.processes ≤ vec_capacity parts.new.woken.processes }
+    ensures processes { kernel.new.room ≡ kernel.old.room }
+    ensures code { parts.new.code ≡ parts.old.code }
+{
+    let place = find(core, kernel, &parts.regs, process, mark)?;
+    let served = kernel.liberate(place);
+    wake_one(&mut parts.states, &mut parts.woken, served);
+    end(core, &mut parts.regs, process, mark, next);
+    Ok(())
+}
+
+// A process's mark gives way to a word, and its pointer goes to a place.
+fn end_with<C: Core>(
+    core: &mut C,
+    all: &mut Vec<Registers>,
+    process: u32,
+    mark: &Mscw,
+    word: Word,
+    place: u16,
+)
+    requires called { IsCalled (C.Core.stacks core.old) (numbered all.old.items process) }
+    requires within { IsChained mark.now (numbered all.old.items process) }
+    ensures acts { (img : Image) → img.stacks ≡ C.Core.stacks core.old → img.rows ≡ C.Core.rows core.old → img.regs ≡ all.old.items → Acts process (finished_in (numbered all.old.items process) mark.now (word ∷ []) place) img (ended (C.Core.stacks core.new) (C.Core.rows core.new) all.new.items img) (Ok result) }
+    ensures room { vec_capacity all.old ≤ vec_capacity all.new }
+{
+    let regs = &mut all[process as usize - 1];
+    finish_with(core, regs, mark, word, place);
+}
+
+/// HAPPENED: whether the event has happened, as a truth value on the stack.
+pub fn happened<C: Core>(
+    core: &mut C,
+    kernel: &Kernel,
+    parts: &mut Parts,
+    process: u32,
+    mark: &Mscw,
+    next: u16,
+) -> Result<(), Stop>
+    requires called { IsCalled (C.Core.stacks core.old) (numbered parts.old.regs.items process) }
+    ensures acts { Acts process (called_in tell_event parts.old.code (numbered parts.old.regs.items process) next mark.now) (image_of (C.Core.stacks core.old) (C.Core.rows core.old) kernel.now.events parts.old) (image_of (C.Core.stacks core.new) (C.Core.rows core.new) kernel.now.events parts.new) result }
+    ensures code { parts.new.code ≡ parts.old.code }
+    ensures woken { parts.new.woken ≡ parts.old.woken }
+{
+    let place = find(core, kernel, &parts.regs, process, mark)?;
+    let happened = kernel.happened(place);
+    end_with(core, &mut parts.regs, process, mark, truth(happened), next);
     Ok(())
 }

@@ -11,7 +11,7 @@ mod marks;
 mod selecting;
 
 pub use finding::find_event;
-pub use happening::reset;
+pub use happening::{cause, happened, liberate, procure, reset, wait};
 pub use marks::{
     arguments, chained, finish, finish_with, only_argument, three_arguments, whole_argument,
 };

@@ -1,4 +1,4 @@
-use Rattle.std.proofs.Common.{◌≡◌, sym, ◌∙◌}
+use Rattle.std.proofs.Common.{sym, ◌∙◌}
 use Rattle.b67_going.proofs.Critical.{no_state, no_more_registers, held, not_held}
 use Rattle.b67_going.proofs.criticals.is_critical.Goals as goal
 

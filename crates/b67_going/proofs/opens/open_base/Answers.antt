@@ -1,6 +1,6 @@
-use Rattle.std.proofs.Common.{◌≡◌, sym, ap, ◌∙◌, ◌∷◌, [], arith}
+use Rattle.std.proofs.Common.{ap, ◌∙◌, ◌∷◌, [], arith}
 use Rattle.b67_word.specs.Word.{Word}
-use Rattle.b67_store.specs.Store.{Stacks, with_push, opened_at}
+use Rattle.b67_store.specs.Store.{opened_at}
 use Rattle.b67_table.specs.Linkage.{entered_mark}
 use Rattle.b67_going.proofs.Opened.{opened_is, opened_length, opened_push}
 use Rattle.b67_going.proofs.opens.open_base.Goals as goal

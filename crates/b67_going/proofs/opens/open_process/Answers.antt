@@ -1,6 +1,5 @@
-use Rattle.std.proofs.Common.{◌≡◌, sym, ap, ◌∙◌, ◌+◌, ◌∷◌, [], ◌≤◌, List, length, subst, arith}
+use Rattle.std.proofs.Common.{sym, ◌+◌, ◌∷◌, [], ◌≤◌, List, length, subst, arith}
 use Rattle.b67_word.specs.Word.{Word}
-use Rattle.b67_store.specs.Store.{words_of}
 use Rattle.b67_table.specs.Linkage.{entered_mark, base_control}
 use Rattle.b67_going.proofs.Opened.{opened_is, opened_length, opened_others, opened_all}
 use Rattle.b67_going.proofs.opens.open_process.Goals as goal

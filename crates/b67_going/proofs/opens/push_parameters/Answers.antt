@@ -1,4 +1,4 @@
-use Rattle.std.proofs.Common.{◌≡◌, refl, ℕ, Option, sym, ap, subst, ◌∙◌, ◌+◌, ◌<◌, ◌≤◌, ◌++◌, List, IsSome, Some, length, slice_get, take, drop, arith}
+use Rattle.std.proofs.Common.{◌≡◌, refl, ℕ, Option, sym, ap, subst, ◌∙◌, ◌+◌, ◌<◌, ◌++◌, List, IsSome, Some, length, slice_get, arith}
 use Rattle.b67_word.specs.Word.{Word}
 use Rattle.b67_store.specs.Store.{Stacks, stack_at, words_of, word_at, with_stack, with_push, stack_limit}
 use Rattle.b67_table.specs.Chains.{place}

@@ -1,4 +1,4 @@
-use Rattle.std.proofs.Common.{◌≡◌, ◌+◌, ◌-◌, ◌≤◌, ◌++◌}
+use Rattle.std.proofs.Common.{◌≡◌, ◌-◌, ◌≤◌, ◌++◌}
 use Rattle.b67_store.specs.Store.{words_of, with_stack}
 use Rattle.b67_going.specs.Paths.{some_words}
 use Rattle.b67_going.proofs.opens.push_parameters.Given as goal

@@ -1,8 +1,7 @@
-use Rattle.std.proofs.Common.{◌≡◌, sym, ap, ◌∙◌, ◌-◌, Result, Ok, Err, arith}
-use Rattle.b67_word.specs.declared.Place.{Place}
+use Rattle.std.proofs.Common.{sym, ap, ◌∙◌, Ok, Err, arith}
 use Rattle.b67_table.specs.declared.InterruptKind.TheVariants.{BrokenChain}
 use Rattle.b67_table.specs.Look.{seen}
-use Rattle.b67_table.specs.Chains.{mark_at, frame_below}
+use Rattle.b67_table.specs.Chains.{frame_below}
 use Rattle.b67_display.specs.Found.{shown}
 use Rattle.b67_reach.specs.Answers.{looked}
 use Rattle.b67_going.proofs.Steps.{no_mark, mark_stays, mark_leaves, mark_leads, refusal}

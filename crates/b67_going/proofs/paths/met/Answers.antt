@@ -1,9 +1,7 @@
-use Rattle.std.proofs.Common.{◌≡◌, sym, ap, ◌∙◌, ◌+◌, ◌-◌, Result, Ok, Err, arith}
-use Rattle.b67_word.specs.declared.Place.{Place}
+use Rattle.std.proofs.Common.{sym, ap, ◌∙◌, ◌+◌, Ok, arith}
 use Rattle.b67_table.specs.declared.InterruptKind.TheVariants.{BrokenChain}
 use Rattle.b67_table.specs.Look.{seen}
 use Rattle.b67_table.specs.Chains.{frame_below}
-use Rattle.b67_reach.specs.declared.Stop.{Stop}
 use Rattle.b67_reach.specs.Answers.{looked}
 use Rattle.b67_reach.proofs.Looking.{looked_ok}
 use Rattle.b67_going.specs.Paths.{met, needed}

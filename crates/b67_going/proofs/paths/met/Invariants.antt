@@ -1,4 +1,4 @@
-use Rattle.std.proofs.Common.{◌≡◌, ◌+◌, ◌≤◌}
+use Rattle.std.proofs.Common.{◌≡◌, ◌+◌}
 use Rattle.b67_table.specs.Look.{seen}
 use Rattle.b67_going.specs.Paths.{met, needed}
 use Rattle.b67_going.proofs.paths.met.Given as goal

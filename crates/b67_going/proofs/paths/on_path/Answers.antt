@@ -1,11 +1,9 @@
-use Rattle.std.proofs.Common.{◌≡◌, sym, ap, ◌∙◌, ◌+◌, ◌-◌, Option, Result, Some, None, Ok, Err, arith}
+use Rattle.std.proofs.Common.{sym, ap, ◌∙◌, ◌-◌, Option, Result, Some, None, Ok, Err, arith}
 use Rattle.b67_word.specs.declared.Place.{Place}
-use Rattle.b67_table.specs.Look.{seen}
 use Rattle.b67_table.specs.Starting.{on_path}
 use Rattle.b67_reach.specs.declared.Stop.{Stop}
-use Rattle.b67_reach.specs.Answers.{looked}
-use Rattle.b67_going.specs.Paths.{met, needed}
-use Rattle.b67_going.proofs.Leading.{SameTest, leads_to, leads_out, leads_nowhere, leads_on, no_stacks, same_lead, same_then, same_first}
+use Rattle.b67_going.specs.Paths.{needed}
+use Rattle.b67_going.proofs.Leading.{leads_to, leads_out, leads_nowhere, leads_on, no_stacks, same_lead, same_then, same_first}
 use Rattle.b67_going.proofs.paths.on_path.Goals as goal
 
 abbrev ok : Option Place → Result (Option Place) Stop

@@ -1,4 +1,4 @@
-use Rattle.std.proofs.Common.{◌≡◌, sym, ◌∙◌, ◌+◌, ◌-◌, ◌≤◌, None, Some, slice_get, arith}
+use Rattle.std.proofs.Common.{sym, ◌∙◌, ◌+◌, ◌-◌, arith}
 use Rattle.b67_store.specs.Store.{words_of}
 use Rattle.b67_going.proofs.Named.{named_here, named_later, named_no_more, named_none}
 use Rattle.b67_going.proofs.paths.parameter_names.Goals as goal

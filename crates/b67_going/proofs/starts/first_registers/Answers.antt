@@ -1,4 +1,4 @@
-use Rattle.std.proofs.Common.{◌≡◌, sym, ap, subst, ◌∙◌, ◌+◌, Option, Result, Ok, Err, arith}
+use Rattle.std.proofs.Common.{sym, subst, ◌∙◌, Option, Result, Ok, Err}
 use Rattle.b67_word.specs.declared.Place.{Place}
 use Rattle.b67_table.specs.Starting.{on_path}
 use Rattle.b67_reach.specs.declared.Stop.{Stop}

@@ -1,10 +1,6 @@
-use Rattle.std.proofs.Common.{◌≡◌, subst, sym, ◌∙◌, ap, Result, Ok, Err}
-use Rattle.b67_word.specs.declared.Place.{Place}
-use Rattle.b67_word.specs.Word.{Word}
-use Rattle.b67_control.specs.declared.Mscw.{Mscw}
+use Rattle.std.proofs.Common.{sym, ◌∙◌, ap}
 use Rattle.b67_store.specs.Store.{Stacks}
 use Rattle.b67_table.specs.Look.{seen}
-use Rattle.b67_reach.specs.declared.Stop.{Stop}
 use Rattle.b67_reach.specs.Answers.{looked}
 use Rattle.b67_intrinsics.specs.Called.{arguments, only, mark_below}
 use Rattle.b67_intrinsics.proofs.Telling.{no_event, no_lower, event_found}

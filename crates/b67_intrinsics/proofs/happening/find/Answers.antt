@@ -1,7 +1,6 @@
-use Rattle.std.proofs.Common.{◌≡◌, subst, sym, ap, Option, Some, OnOk}
+use Rattle.std.proofs.Common.{subst, sym, Option, OnOk}
 use Rattle.b67_control.specs.declared.Registers.{Registers}
-use Rattle.b67_store.specs.Store.{Stacks}
-use Rattle.b67_intrinsics.specs.Called.{Leads, event_tests, event_tests_in, arguments, IsChained}
+use Rattle.b67_intrinsics.specs.Called.{Leads, event_tests_in, IsChained}
 use Rattle.b67_intrinsics.proofs.happening.find.Goals as goal
 
 pub returns-clause-leads : goal.returns-clause-leads

@@ -1,4 +1,4 @@
-use Rattle.std.proofs.Common.{[], ◌≡◌, refl, subst, sym, ap, Ok, Err, List}
+use Rattle.std.proofs.Common.{[], refl, subst, sym, ap, Ok, List}
 use Rattle.b67_list.specs.Numbered.{numbered}
 use Rattle.b67_events.specs.Events.{Event, Events}
 use Rattle.b67_table.specs.Program.{reset}

@@ -1,6 +1,6 @@
-use Rattle.std.proofs.Common.{◌≡◌, ◌∙◌, ap, Err}
+use Rattle.std.proofs.Common.{◌∙◌, ap, Err}
 use Rattle.b67_intrinsics.specs.Called.{arguments}
-use Rattle.b67_intrinsics.proofs.Calling.{not_three, three_are, three_stop}
+use Rattle.b67_intrinsics.proofs.Calling.{not_three}
 use Rattle.b67_intrinsics.proofs.marks.three_arguments.Goals as goal
 
 pub returns-then-arguments-ne3-clause-value : goal.returns-then-arguments-ne3-clause-value

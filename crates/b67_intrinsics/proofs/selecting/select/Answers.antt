@@ -1,9 +1,5 @@
-use Rattle.std.proofs.Common.{◌≡◌, subst, sym, ◌∙◌, ap, ℕ, ℤ, Option, Result, Ok, Err}
-use Rattle.b67_table.specs.Intrinsics.{case_in, case_place}
-use Rattle.b67_table.specs.Look.{seen}
-use Rattle.b67_reach.specs.declared.Stop.{Stop}
+use Rattle.std.proofs.Common.{Ok, Err}
 use Rattle.b67_reach.specs.Images.{own}
-use Rattle.b67_reach.specs.Answers.{looked}
 use Rattle.b67_intrinsics.proofs.Cases.{placed_case, no_place, no_chain, select_goes}
 use Rattle.b67_intrinsics.proofs.selecting.select.Goals as goal
 
