@@ -10,7 +10,7 @@ use Rattle.algol_tree.specs.declared.token.Symbol.TheVariants as symbols
 use Rattle.algol_tree.specs.declared.token.TokenKind.{TokenKind}
 use Rattle.algol_tree.specs.declared.token.TokenKind.TheVariants as kinds
 use Rattle.algol_tree.specs.Spelling.{is_letter, is_digit, is_letter_or_digit, is_name, is_number, drawn, Spells, number, symbol}
-use Rattle.algol_tree.specs.Lexes.{IsLongest, IsWithinLimits}
+use Rattle.algol_tree.specs.FirstLexes.{IsLongest, IsWithinLimits}
 use Rattle.algol_first.specs.Front.{BeginsWith, BeginsNone, BeginsWithSymbol}
 use Rattle.algol_first.proofs.LexSpelling.{Shape, letters, digits, mark, shape_of, letter_not_digit, is_letter-head, is_digit-head, length-shape-pos, length-drawn-le}
 use Rattle.algol_first.proofs.LexFronts.{one_front, name_spelled}

@@ -6,7 +6,7 @@ use Rattle.std.proofs.lemmas.List.{nil_from_length}
 use Rattle.algol_tree.specs.declared.token.TokenKind.{TokenKind}
 use Rattle.algol_tree.specs.declared.token.TokenKind.TheVariants as kinds
 use Rattle.algol_tree.specs.Spelling.{is_letter, is_digit, is_letter_or_digit, is_name, is_number, drawn, IsReserved, Spells, word, name, number, symbol}
-use Rattle.algol_tree.specs.Lexes.{IsLongest}
+use Rattle.algol_tree.specs.FirstLexes.{IsLongest}
 use Rattle.algol_first.specs.Front.{IsToken}
 use Rattle.algol_first.proofs.LexSpelling.{Shape, letters, digits, mark, shape_of, length-shape-pos, length-drawn-le, one_kind}
 

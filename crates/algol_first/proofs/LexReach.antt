@@ -6,7 +6,7 @@ use Rattle.algol_tree.specs.declared.token.Spot.{Spot}
 use Rattle.algol_tree.specs.declared.token.Token.{Token}
 use Rattle.algol_tree.specs.declared.token.TokenKind.{TokenKind}
 use Rattle.algol_tree.specs.Spelling.{is_blank}
-use Rattle.algol_tree.specs.Lexes.{right_by, next_line, LexesFrom, ends, Lexes}
+use Rattle.algol_tree.specs.FirstLexes.{right_by, next_line, LexesFrom, ends, Lexes}
 use Rattle.algol_first.specs.Front.{BeginsWith, BeginsNone}
 use Rattle.algol_first.proofs.LexSpelling.{shape_of, length-shape-pos}
 use Rattle.algol_first.proofs.LexSteps.{token_of, end_of, Rest, Step, line_step, blank_step, token_step, IsStuck, full_stuck, none_stuck, long_stuck, end_only}

@@ -9,7 +9,7 @@ use Rattle.algol_tree.specs.declared.token.Token.{Token}
 use Rattle.algol_tree.specs.declared.token.TokenKind.{TokenKind}
 use Rattle.algol_tree.specs.declared.token.TokenKind.TheVariants as kinds
 use Rattle.algol_tree.specs.Spelling.{is_letter, is_digit, is_blank, drawn, Spells, word, name, number, symbol}
-use Rattle.algol_tree.specs.Lexes.{right_by, next_line, LexesFrom, ends, line, blank, token}
+use Rattle.algol_tree.specs.FirstLexes.{right_by, next_line, LexesFrom, ends, line, blank, token}
 use Rattle.algol_first.specs.Ended.{EndsOnce}
 use Rattle.algol_first.specs.Front.{IsToken, BeginsWith, BeginsNone}
 use Rattle.algol_first.proofs.LexSpelling.{Shape, letters, digits, mark, shape_of, is_letter-head, is_digit-head, length-shape-pos}

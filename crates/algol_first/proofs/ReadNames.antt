@@ -4,8 +4,8 @@ use Rattle.algol_tree.specs.declared.token.Token.{Token}
 use Rattle.algol_tree.specs.declared.token.Symbol.TheVariants as symbols
 use Rattle.algol_tree.specs.declared.token.TokenKind.TheVariants as kinds
 use Rattle.algol_tree.specs.declared.tree.Named.{Named}
-use Rattle.algol_tree.specs.Reads as grammar
-use Rattle.algol_tree.specs.Reads.{IsWord, IsSymbol, IsName, IsNames, IsExpr, IsStatement, IsStatements, Reads, program_of}
+use Rattle.algol_tree.specs.FirstReads as grammar
+use Rattle.algol_tree.specs.FirstReads.{IsWord, IsSymbol, IsName, IsNames, IsExpr, IsStatement, IsStatements, Reads, program_of}
 use Rattle.algol_first.specs.Grammar.{IsOne, one, IsOnlyReading, HasNoReading, EndsDeclaration}
 use Rattle.algol_first.proofs.ReadOne.{IsName-only}
 use Rattle.algol_first.proofs.ReadParts.{HasNoOne}

@@ -4,7 +4,7 @@ use Rattle.algol_tree.specs.declared.token.Token.{Token}
 use Rattle.algol_tree.specs.declared.token.TokenKind.TheVariants as kinds
 use Rattle.algol_tree.specs.declared.token.Spot.{Spot}
 use Rattle.algol_tree.specs.declared.tree.Named.{Named}
-use Rattle.algol_tree.specs.Reads.{IsName}
+use Rattle.algol_tree.specs.FirstReads.{IsName}
 use Rattle.algol_first.specs.Grammar.{IsOne, one}
 
 -- the first token, and what follows

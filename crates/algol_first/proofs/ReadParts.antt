@@ -4,8 +4,8 @@ use Rattle.algol_tree.specs.declared.token.Token.{Token}
 use Rattle.algol_tree.specs.declared.token.Reserved.{Reserved}
 use Rattle.algol_tree.specs.declared.token.Symbol.TheVariants as symbols
 use Rattle.algol_tree.specs.declared.tree.Named.{Named}
-use Rattle.algol_tree.specs.Reads as grammar
-use Rattle.algol_tree.specs.Reads.{IsWord, IsSymbol, IsName, IsFile}
+use Rattle.algol_tree.specs.FirstReads as grammar
+use Rattle.algol_tree.specs.FirstReads.{IsWord, IsSymbol, IsName, IsFile}
 use Rattle.algol_first.specs.Grammar.{IsNamed, IsOne, one, Begins, IsOnlyReading, HasNoReading, EndsDeclaration, IsPrinter, printer, IsDeclaration, declaration}
 use Rattle.algol_first.proofs.ReadOne.{IsName-only}
 

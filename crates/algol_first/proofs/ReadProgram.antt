@@ -7,8 +7,8 @@ use Rattle.algol_tree.specs.declared.token.Symbol.TheVariants as symbols
 use Rattle.algol_tree.specs.declared.token.TokenKind.TheVariants as kinds
 use Rattle.algol_tree.specs.declared.tree.Named.{Named}
 use Rattle.algol_tree.specs.Plain.{PStmts, PProgram}
-use Rattle.algol_tree.specs.Reads as grammar
-use Rattle.algol_tree.specs.Reads.{IsWord, IsSymbol, IsName, IsNames, IsExpr, IsStatement, IsStatements, Reads, program_of}
+use Rattle.algol_tree.specs.FirstReads as grammar
+use Rattle.algol_tree.specs.FirstReads.{IsWord, IsSymbol, IsName, IsNames, IsExpr, IsStatement, IsStatements, Reads, program_of}
 use Rattle.algol_first.specs.Grammar.{FitsAt, IsOne, one, Begins, IsOnlyReading, HasNoReading, EndsStatements, IsFileDeclaration, IsIntegers, declaration, IsClosing, closing}
 use Rattle.algol_first.specs.declared.reader.Wanted.TheVariants as wanted
 use Rattle.std.proofs.lemmas.Bool.Decides.{nat_tests}

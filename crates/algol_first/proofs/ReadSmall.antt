@@ -5,11 +5,11 @@ use Rattle.algol_tree.specs.declared.token.Spot.{Spot}
 use Rattle.algol_tree.specs.declared.token.Token.{Token}
 use Rattle.algol_tree.specs.declared.token.TokenKind.TheVariants as kinds
 use Rattle.algol_tree.specs.declared.tree.Named.{Named}
-use Rattle.algol_tree.specs.Lexes as texts
-use Rattle.algol_tree.specs.Lexes.{Lexes, LexesFrom, IsWithinLimits}
+use Rattle.algol_tree.specs.FirstLexes as texts
+use Rattle.algol_tree.specs.FirstLexes.{Lexes, LexesFrom, IsWithinLimits}
 use Rattle.algol_tree.specs.Plain.{PExpr, number, two, PStmt, PStmts, PProgram}
-use Rattle.algol_tree.specs.Reads as grammar
-use Rattle.algol_tree.specs.Reads.{IsFile, IsNames, IsPrimary, IsSumOn, IsExpr, IsStatement, IsStatements, Reads}
+use Rattle.algol_tree.specs.FirstReads as grammar
+use Rattle.algol_tree.specs.FirstReads.{IsFile, IsNames, IsPrimary, IsSumOn, IsExpr, IsStatement, IsStatements, Reads}
 use Rattle.algol_first.specs.declared.reader.Primary.{Primary}
 use Rattle.algol_first.specs.declared.reader.Primary.TheVariants as primaries
 use Rattle.algol_first.specs.declared.reader.Addend.{Addend}

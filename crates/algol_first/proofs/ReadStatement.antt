@@ -8,8 +8,8 @@ use Rattle.algol_tree.specs.declared.token.TokenKind.TheVariants as kinds
 use Rattle.algol_tree.specs.declared.tree.Named.{Named}
 use Rattle.algol_tree.specs.declared.tree.PhraseText.TheVariants as phrases
 use Rattle.algol_tree.specs.Plain.{PExpr, subscripted, none, more, PStmt, assign, write}
-use Rattle.algol_tree.specs.Reads as grammar
-use Rattle.algol_tree.specs.Reads.{IsWord, IsSymbol, IsName, IsExpr, IsStatement, variable_of}
+use Rattle.algol_tree.specs.FirstReads as grammar
+use Rattle.algol_tree.specs.FirstReads.{IsWord, IsSymbol, IsName, IsExpr, IsStatement, variable_of}
 use Rattle.algol_first.specs.Grammar.{FitsAt, IsOne, one, Begins, IsOnlyReading, HasNoReading, EndsStatement, IsAssignment, assignment, IsPhrase, phrase, IsWriteList, list}
 use Rattle.algol_first.specs.declared.reader.Wanted.TheVariants as wanted
 use Rattle.algol_first.proofs.ReadOne.{IsName-only}

@@ -5,8 +5,8 @@ use Rattle.algol_tree.specs.declared.token.Reserved.TheVariants as reserved
 use Rattle.algol_tree.specs.declared.token.Symbol.TheVariants as symbols
 use Rattle.algol_tree.specs.declared.token.TokenKind.TheVariants as kinds
 use Rattle.algol_tree.specs.Plain.{PExpr, two, PStmt, PStmts, no_stmts, stmts}
-use Rattle.algol_tree.specs.Reads as grammar
-use Rattle.algol_tree.specs.Reads.{IsWord, IsSymbol, IsName, IsNames, IsPrimary, IsSumOn, IsExpr, IsStatement, IsStatements, Reads, program_of}
+use Rattle.algol_tree.specs.FirstReads as grammar
+use Rattle.algol_tree.specs.FirstReads.{IsWord, IsSymbol, IsName, IsNames, IsPrimary, IsSumOn, IsExpr, IsStatement, IsStatements, Reads, program_of}
 use Rattle.algol_first.specs.Grammar.{IsOne, one, IsOnlyReading, HasNoReading, EndsStatement, EndsStatements}
 use Rattle.algol_first.specs.declared.reader.Simple.{Simple}
 use Rattle.algol_first.specs.First.{stmt_of, stmts_of}

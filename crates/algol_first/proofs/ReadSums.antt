@@ -9,8 +9,8 @@ use Rattle.algol_tree.specs.declared.tree.Named.{Named}
 use Rattle.algol_tree.specs.declared.tree.Op.{Op}
 use Rattle.algol_tree.specs.declared.tree.Op.TheVariants as operators
 use Rattle.algol_tree.specs.Plain.{PExpr, number, two}
-use Rattle.algol_tree.specs.Reads as grammar
-use Rattle.algol_tree.specs.Reads.{IsSymbol, IsName, IsPrimary, IsAdding, IsSumOn, IsExpr, variable_of}
+use Rattle.algol_tree.specs.FirstReads as grammar
+use Rattle.algol_tree.specs.FirstReads.{IsSymbol, IsName, IsPrimary, IsAdding, IsSumOn, IsExpr, variable_of}
 use Rattle.algol_first.specs.declared.reader.Addend.{Addend}
 use Rattle.algol_first.specs.Straight.{op_of}
 use Rattle.algol_first.specs.First.{primary_of, sum_on}

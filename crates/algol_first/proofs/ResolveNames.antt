@@ -12,7 +12,7 @@ use Rattle.std.proofs.lemmas.List.{length-map}
 use Rattle.std.proofs.lemmas.Slice.Eq.{bytes_eq-Decides}
 use Rattle.std.proofs.lemmas.Map.Text.{btree_map_updates_str}
 use Rattle.algol_tree.specs.declared.tree.Named.{Named}
-use Rattle.algol_tree.specs.Accepted.{IsDeclared, IsDistinct, names_of}
+use Rattle.algol_tree.specs.FirstAccepted.{IsDeclared, IsDistinct, names_of}
 use Rattle.algol_first.specs.Resolver.{Numbers, number_in, Numbered}
 
 -- the table has each of the first i names by its number, and no other

@@ -6,8 +6,8 @@ use Rattle.algol_tree.specs.declared.token.Spot.{Spot}
 use Rattle.algol_tree.specs.declared.tree.Named.{Named}
 use Rattle.algol_tree.specs.Plain.{PStmts}
 use Rattle.algol_tree.specs.Counts.{program_tokens}
-use Rattle.algol_tree.specs.Reads.{program_of}
-use Rattle.algol_tree.specs.Accepted.{Accepted, accepted, IsDistinct, names_of, AreKnownStmts}
+use Rattle.algol_tree.specs.FirstReads.{program_of}
+use Rattle.algol_tree.specs.FirstAccepted.{Accepted, accepted, IsDistinct, names_of, AreKnownStmts}
 use Rattle.algol_first.specs.declared.reader.FirstProgram.{FirstProgram}
 use Rattle.algol_first.specs.declared.straight.Step.{Step}
 use Rattle.algol_first.specs.First.{stmts_of, tree_of}

@@ -1,7 +1,7 @@
 -- Statements to steps, one by one.
 use Rattle.std.proofs.Common.{◌≡◌, ℕ, ◌+◌, ◌<◌, ◌≤◌, List, [], ◌∷◌, ◌++◌, length, get_or, drop, sym, subst, ap, ◌∙◌, append_assoc, append-nil}
 use Rattle.std.proofs.lemmas.List.{at_drop_more, at_drop_all}
-use Rattle.algol_tree.specs.Accepted.{IsKnownStmt, AreKnownStmts}
+use Rattle.algol_tree.specs.FirstAccepted.{IsKnownStmt, AreKnownStmts}
 use Rattle.algol_tree.specs.Plain.{PStmts}
 use Rattle.algol_first.specs.First.{stmt_of, stmts_of}
 use Rattle.algol_first.specs.Straight.{ResolvesStmt, ResolvesStmts}

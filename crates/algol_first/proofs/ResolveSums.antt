@@ -1,7 +1,7 @@
 -- Sums, addend by addend: how many tokens they are, which operands they have, and the terms that they become.
 use Rattle.std.proofs.Common.{◌≡◌, ℕ, ◌+◌, ◌*◌, ◌<◌, ◌≤◌, List, [], ◌∷◌, ◌++◌, length, get_or, drop, min, refl, sym, subst, ap, ◌∙◌, append_assoc, append-nil, arith}
 use Rattle.std.proofs.lemmas.List.{at_drop_more, at_drop_all}
-use Rattle.algol_tree.specs.Accepted.{IsKnownExpr}
+use Rattle.algol_tree.specs.FirstAccepted.{IsKnownExpr}
 use Rattle.algol_tree.specs.Counts.{expr_tokens}
 use Rattle.algol_tree.specs.Plain.{PExpr, two}
 use Rattle.algol_first.specs.First.{primary_of, sum_on, expr_of}

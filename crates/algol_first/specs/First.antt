@@ -3,7 +3,7 @@ use Rattle.std.specs.Prelude.{◌≤◌, List, [], ◌∷◌, All, unsigned_abs}
 use Rattle.b67_num.specs.Whole.{most}
 use Rattle.algol_tree.specs.declared.tree.PhraseText.TheVariants as phrases
 use Rattle.algol_tree.specs.Plain.{PExpr, number, two, subscripted, none, more, PStmt, assign, write, PStmts, no_stmts, stmts, PProgram}
-use Rattle.algol_tree.specs.Reads.{variable_of, program_of}
+use Rattle.algol_tree.specs.FirstReads.{variable_of, program_of}
 use Rattle.algol_first.specs.declared.reader.Primary.{Primary}
 use Rattle.algol_first.specs.declared.reader.Primary.TheVariants as primaries
 use Rattle.algol_first.specs.declared.reader.Addend.{Addend}

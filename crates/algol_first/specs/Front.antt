@@ -3,7 +3,7 @@ use Rattle.std.specs.Prelude.{◌≡◌, ℕ, ◌≤◌, List, ◌++◌, length}
 use Rattle.algol_tree.specs.declared.token.TokenKind.{TokenKind}
 use Rattle.algol_tree.specs.declared.token.Symbol.{Symbol}
 use Rattle.algol_tree.specs.Spelling.{drawn, Spells}
-use Rattle.algol_tree.specs.Lexes.{IsLongest, IsWithinLimits}
+use Rattle.algol_tree.specs.FirstLexes.{IsLongest, IsWithinLimits}
 
 -- These bytes are a token within the limits, and what follows them does not make it longer.
 pub record IsToken (bytes after : List ℕ) (kind : TokenKind) : Type 0 where

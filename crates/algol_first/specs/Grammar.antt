@@ -10,7 +10,7 @@ use Rattle.algol_tree.specs.declared.token.TokenKind.TheVariants as kinds
 use Rattle.algol_tree.specs.declared.tree.Named.{Named}
 use Rattle.algol_tree.specs.declared.tree.PhraseText.TheVariants as phrases
 use Rattle.algol_tree.specs.Plain.{PExpr, subscripted, none, more, PStmt, assign, write}
-use Rattle.algol_tree.specs.Reads.{IsWord, IsSymbol, IsName, IsFile, IsNames, IsExpr, variable_of}
+use Rattle.algol_tree.specs.FirstReads.{IsWord, IsSymbol, IsName, IsFile, IsNames, IsExpr, variable_of}
 use Rattle.algol_first.specs.declared.reader.Wanted.{Wanted}
 use Rattle.algol_first.specs.declared.reader.Wanted.TheVariants as wanted
 

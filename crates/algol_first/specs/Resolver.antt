@@ -6,7 +6,7 @@ use Rattle.std.specs.Cmp.Lexicographic.{slice_cmp}
 use Rattle.std.specs.BTreeMap.{BTreeMap, get_by}
 use Rattle.algol_tree.specs.declared.TheConstants.{MOST_LINE_WIDTH}
 use Rattle.algol_tree.specs.declared.tree.Named.{Named}
-use Rattle.algol_tree.specs.Accepted.{width_in}
+use Rattle.algol_tree.specs.FirstAccepted.{width_in}
 use Rattle.algol_first.specs.declared.straight.Step.{Step}
 use Rattle.algol_first.specs.declared.straight.Step.TheVariants as steps
 use Rattle.algol_first.specs.Straight.{IsNumbered}

@@ -6,8 +6,8 @@ use Rattle.algol_tree.specs.declared.token.Spot.{Spot}
 use Rattle.algol_tree.specs.declared.tree.Named.{Named}
 use Rattle.algol_tree.specs.declared.tree.PhraseText.TheVariants as phrases
 use Rattle.algol_tree.specs.Plain.{PExpr, number, variable, two, subscripted, none, more, PStmt, assign, write, PStmts, no_stmts, stmts, PProgram}
-use Rattle.algol_tree.specs.Reads.{program_of}
-use Rattle.algol_tree.specs.Accepted.{names_of, width_in}
+use Rattle.algol_tree.specs.FirstReads.{program_of}
+use Rattle.algol_tree.specs.FirstAccepted.{names_of, width_in}
 use Rattle.algol_tree.specs.declared.tree.Op.{Op}
 use Rattle.algol_tree.specs.declared.tree.Op.TheVariants as operators
 use Rattle.algol_first.specs.declared.straight.Adding.{Adding}

@@ -3,7 +3,7 @@
 ghost use Rattle.std.specs.Prelude.{◌≡◌, ◌≤◌, length, IfOk, Err};
 ghost use Rattle.algol_tree.specs.declared.TheConstants.{MOST_SOURCE_BYTES};
 ghost use Rattle.algol_tree.specs.Plain.{PProgram};
-ghost use Rattle.algol_tree.specs.Accepted.{Source};
+ghost use Rattle.algol_tree.specs.FirstAccepted.{Source};
 ghost use Rattle.algol_first.specs.declared.unread.Unread.TheVariants.{Unbuilt};
 ghost use Rattle.algol_first.specs.Straight.{Resolves};
 

@@ -9,7 +9,7 @@ ghost use Rattle.std.specs.List.{list_all, prefix_len};
 ghost use Rattle.b67_num.specs.Whole.{most};
 ghost use Rattle.algol_tree.specs.declared.TheConstants.{MOST_SOURCE_BYTES};
 ghost use Rattle.algol_tree.specs.Spelling.{is_blank, is_letter, is_digit, is_letter_or_digit, is_name, is_number, value_of, written, drawn, IsReserved, Spells};
-ghost use Rattle.algol_tree.specs.Lexes.{next_line, IsWithinLimits, Lexes};
+ghost use Rattle.algol_tree.specs.FirstLexes.{next_line, IsWithinLimits, Lexes};
 ghost use Rattle.algol_tree.specs.declared.token.Reserved.{Reserved};
 ghost use Rattle.algol_tree.specs.declared.token.Symbol.{Symbol};
 ghost use Rattle.algol_tree.specs.declared.token.Token.{Token};

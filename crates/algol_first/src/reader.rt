@@ -6,7 +6,7 @@ ghost use Rattle.algol_tree.specs.declared.tree.Named.{Named};
 ghost use Rattle.algol_tree.specs.declared.token.Spot.{Spot};
 ghost use Rattle.algol_tree.specs.declared.tree.Op.{Op};
 ghost use Rattle.algol_tree.specs.Plain.{PExpr, PProgram};
-ghost use Rattle.algol_tree.specs.Reads.{IsWord, IsSymbol, IsName, IsFile, IsNames, IsPrimary, IsAdding, IsExpr, IsStatement, IsStatements, Reads};
+ghost use Rattle.algol_tree.specs.FirstReads.{IsWord, IsSymbol, IsName, IsFile, IsNames, IsPrimary, IsAdding, IsExpr, IsStatement, IsStatements, Reads};
 ghost use Rattle.algol_first.specs.declared.unread.Unread.TheVariants.{Unbuilt};
 ghost use Rattle.algol_first.specs.Grammar.{Tokens, Names, Bytes, IsNamed, IsNumber, IsNumberAt, Fits, FitsAt, IsOne};
 ghost use Rattle.algol_first.specs.Grammar.{IsOnlyReading, HasNoReading, EndsDeclaration, EndsStatement, EndsStatements};

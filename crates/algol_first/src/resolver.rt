@@ -2,7 +2,7 @@
 
 ghost use Rattle.std.specs.Prelude.{◌≡◌, ◌↔◌, ◌+◌, ◌-◌, ◌^◌, ◌≤◌, min, ℕ, IsTrue, IfOk, IfSome, IfNone, Err, Some, None, All, length};
 ghost use Rattle.algol_tree.specs.declared.TheConstants.{MOST_BLOCK_CELLS, MOST_SEGMENT_TOKENS, MOST_LINE_WIDTH};
-ghost use Rattle.algol_tree.specs.Accepted.{Accepted, IsDistinct, names_of, IsDeclared, IsWidth, width_in, IsKnownExpr, IsKnownStmt, AreKnownStmts};
+ghost use Rattle.algol_tree.specs.FirstAccepted.{Accepted, IsDistinct, names_of, IsDeclared, IsWidth, width_in, IsKnownExpr, IsKnownStmt, AreKnownStmts};
 ghost use Rattle.algol_tree.specs.Counts.{expr_tokens, stmt_tokens, program_tokens};
 ghost use Rattle.algol_tree.specs.Spelling.{is_number, value_of};
 ghost use Rattle.algol_first.specs.declared.unread.Unread.TheVariants.{Unbuilt};

@@ -1,9 +1,9 @@
 pub mod Spelling
-pub mod Lexes
+pub mod FirstLexes
 pub mod Plain
-pub mod Reads
+pub mod FirstReads
 pub mod Counts
-pub mod Accepted
+pub mod FirstAccepted
 pub mod Sorts
 pub mod Blocks
 pub mod Scopes

@@ -6,7 +6,7 @@ use Rattle.std.specs.Io.KnownBytes.{IsAtEnd}
 use Rattle.algol_tree.specs.declared.TheConstants.{MOST_SOURCE_BYTES}
 use Rattle.b67_words.specs.declared.TheConstants.{MOST_BUDGET}
 use Rattle.algol_tree.specs.Plain.{PProgram}
-use Rattle.algol_tree.specs.Accepted.{Source}
+use Rattle.algol_tree.specs.FirstAccepted.{Source}
 use Rattle.algol_tree.specs.declared.refusal.Code.TheVariants as refusals
 use Rattle.b67_io.specs.Faults.{Rose}
 use Rattle.b67_io.specs.Writing.{WroteFront}

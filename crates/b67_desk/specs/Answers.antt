@@ -8,7 +8,7 @@ use Rattle.algol_tree.specs.declared.token.Spot.{Spot}
 use Rattle.algol_tree.specs.declared.refusal.Code.{Code as RefusalCode}
 use Rattle.algol_tree.specs.declared.refusal.Code.TheVariants as refusals
 use Rattle.algol_tree.specs.Plain.{PProgram}
-use Rattle.algol_tree.specs.Accepted.{Source}
+use Rattle.algol_tree.specs.FirstAccepted.{Source}
 use Rattle.b67_io.specs.Faults.{Rose}
 use Rattle.b67_words.specs.declared.Words.TheVariants.{Run}
 use Rattle.b67_words.specs.declared.BadWords.TheVariants as bad

@@ -4,7 +4,7 @@ use Rattle.b67_first.specs.declared.machine.RunEnd.TheVariants as runs
 use Rattle.b67_report.specs.declared.EndWords.{EndWords}
 use Rattle.b67_report.specs.declared.EndWords.TheVariants as ends
 use Rattle.algol_tree.specs.Plain.{PProgram}
-use Rattle.algol_tree.specs.Accepted.{Accepted}
+use Rattle.algol_tree.specs.FirstAccepted.{Accepted}
 use Rattle.algol_first.specs.declared.straight.Straight.{Straight}
 use Rattle.algol_first.specs.Straight.{Resolves}
 use Rattle.std.specs.Prelude.{◌≡◌}

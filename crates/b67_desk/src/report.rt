@@ -3,7 +3,7 @@
 ghost use Rattle.std.specs.Prelude.{◌≡◌, ◌≤◌, ℕ, [], ◌∷◌, IfOk, length, replicate, sum};
 ghost use Rattle.b67_words.specs.declared.TheConstants.{MOST_BUDGET};
 ghost use Rattle.algol_tree.specs.Plain.{PProgram};
-ghost use Rattle.algol_tree.specs.Accepted.{Accepted};
+ghost use Rattle.algol_tree.specs.FirstAccepted.{Accepted};
 ghost use Rattle.algol_first.specs.Straight.{Resolves};
 ghost use Rattle.b67_schedule.specs.Schedules.{entries, IsSchedule};
 ghost use Rattle.b67_desk.specs.Answers.{Explains};

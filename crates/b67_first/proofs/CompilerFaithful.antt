@@ -7,7 +7,7 @@ use Rattle.std.specs.declared.alloc.AllocError.{AllocError}
 use Rattle.algol_tree.specs.declared.TheConstants.{MOST_BLOCK_CELLS}
 use Rattle.algol_tree.specs.declared.tree.Named.{Named}
 use Rattle.algol_tree.specs.Plain.{PProgram}
-use Rattle.algol_tree.specs.Accepted.{Accepted, accepted, names_of}
+use Rattle.algol_tree.specs.FirstAccepted.{Accepted, accepted, names_of}
 use Rattle.algol_tree.specs.Counts.{program_tokens}
 use Rattle.algol_first.specs.Straight.{Resolves, resolves}
 use Rattle.algol_first.specs.declared.straight.Straight.{Straight}

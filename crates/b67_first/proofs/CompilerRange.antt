@@ -7,7 +7,7 @@ use Rattle.algol_tree.specs.declared.TheConstants.{MOST_BLOCK_CELLS}
 use Rattle.algol_tree.specs.declared.tree.Named.{Named}
 use Rattle.algol_tree.specs.declared.tree.PhraseText.TheVariants as phrases
 use Rattle.algol_tree.specs.Plain.{PExpr, number, variable, two, subscripted, none, more, PStmt, assign, write, PStmts, no_stmts, stmts, PProgram}
-use Rattle.algol_tree.specs.Accepted.{names_of, Accepted, accepted}
+use Rattle.algol_tree.specs.FirstAccepted.{names_of, Accepted, accepted}
 use Rattle.algol_tree.specs.Counts.{expr_tokens, stmt_tokens, stmts_tokens}
 use Rattle.algol_first.specs.declared.straight.Operand.{Operand}
 use Rattle.algol_first.specs.declared.straight.Operand.TheVariants as operands

@@ -7,7 +7,7 @@ use Rattle.algol_tree.specs.declared.TheConstants.{MOST_BLOCK_CELLS, MOST_SEGMEN
 use Rattle.algol_tree.specs.declared.tree.Named.{Named}
 use Rattle.algol_tree.specs.declared.tree.PhraseText.TheVariants as phrases
 use Rattle.algol_tree.specs.Plain.{PExpr, number, variable, two, subscripted, none, more, PStmt, assign, write, PStmts, no_stmts, stmts, PProgram}
-use Rattle.algol_tree.specs.Accepted.{names_of, width_in}
+use Rattle.algol_tree.specs.FirstAccepted.{names_of, width_in}
 use Rattle.algol_first_meaning.specs.Rest.{items}
 use Rattle.b67_word.specs.Word.{operand}
 use Rattle.b67_ops.specs.declared.Operator.{Operator}

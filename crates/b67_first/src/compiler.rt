@@ -7,7 +7,7 @@ ghost use Rattle.algol_tree.specs.declared.TheConstants.{MOST_BLOCK_CELLS, MOST_
 ghost use Rattle.algol_tree.specs.Plain.{PProgram};
 ghost use Rattle.b67_ops.specs.Spelling.{IsSeen, Fits};
 ghost use Rattle.b67_segment.specs.Operators.{AreFit};
-ghost use Rattle.algol_tree.specs.Accepted.{Accepted};
+ghost use Rattle.algol_tree.specs.FirstAccepted.{Accepted};
 ghost use Rattle.b67_relate.specs.Code.{ProgramAt};
 ghost use Rattle.b67_relate.specs.Faithful.{Faithful};
 ghost use Rattle.algol_first.specs.Straight.{Resolves};

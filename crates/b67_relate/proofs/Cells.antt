@@ -3,7 +3,7 @@ use Rattle.std.proofs.Common.{◌≡◌, ℕ, zero, suc, ◌<◌, List, [], ◌�
 use Rattle.std.specs.Prelude.{slice_get, slice_set, ◌==◌, ◌&&◌, if◌then◌else◌}
 use Rattle.std.proofs.lemmas.Option.{slice_get_within}
 use Rattle.std.proofs.lemmas.Bool.Decides.{nat_tests}
-use Rattle.algol_tree.specs.Accepted.{IsDistinct}
+use Rattle.algol_tree.specs.FirstAccepted.{IsDistinct}
 use Rattle.algol_first_meaning.specs.Rest.{Reference, Rest}
 use Rattle.algol_first_meaning.specs.World.{number, same_name, cell_in, cells_with, cell_at, set_cell}
 use Rattle.b67_relate.specs.Picture.{cells, world}

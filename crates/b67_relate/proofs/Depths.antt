@@ -4,7 +4,7 @@ use Rattle.algol_tree.specs.declared.token.Spot.{Spot}
 use Rattle.algol_tree.specs.declared.tree.Named.{Named}
 use Rattle.algol_tree.specs.Plain.{PExpr, number, truth, variable, call, happened, paren, plus, neg, not, two, if, PVariable, subscripted, PCall, called, none, more}
 use Rattle.algol_tree.specs.Plain.{PStmt, empty, label, assign, call_of, go_to, block, if_then, if_else, while, until, for, thru, case, process, event, write, PStmts, no_stmts, stmts}
-use Rattle.algol_tree.specs.Reads.{program_of}
+use Rattle.algol_tree.specs.FirstReads.{program_of}
 use Rattle.algol_tree.specs.Counts.{expr_tokens, variable_tokens, call_tokens, stmt_tokens, stmts_tokens, program_tokens}
 use Rattle.algol_first_meaning.specs.Rest.{items}
 use Rattle.b67_relate.specs.Picture.{depth, stmt_depth, AreShallow}

@@ -4,7 +4,7 @@ use Rattle.std.specs.Prelude.{reverse, slice_get, if◌then◌else◌}
 use Rattle.b67_list.specs.Numbered.{numbered}
 use Rattle.algol_tree.specs.Plain.{PProgram}
 use Rattle.algol_tree.specs.Counts.{program_tokens}
-use Rattle.algol_tree.specs.Accepted.{IsDistinct, names_of, Accepted, accepted}
+use Rattle.algol_tree.specs.FirstAccepted.{IsDistinct, names_of, Accepted, accepted}
 use Rattle.b67_num.specs.declared.NumFault.{NumFault}
 use Rattle.b67_num.specs.Whole.{fault_of}
 use Rattle.b67_segment.specs.declared.code.Code.{Code}

@@ -5,8 +5,8 @@ use Rattle.algol_tree.specs.declared.TheConstants.{MOST_BLOCK_CELLS, MOST_SEGMEN
 use Rattle.algol_tree.specs.declared.tree.Named.{Named}
 use Rattle.algol_tree.specs.declared.token.Spot.{Spot}
 use Rattle.algol_tree.specs.Plain.{PStmts}
-use Rattle.algol_tree.specs.Reads.{program_of}
-use Rattle.algol_tree.specs.Accepted.{names_of}
+use Rattle.algol_tree.specs.FirstReads.{program_of}
+use Rattle.algol_tree.specs.FirstAccepted.{names_of}
 use Rattle.algol_tree.specs.Counts.{program_tokens}
 use Rattle.b67_word.specs.Word.{Word, operand}
 use Rattle.b67_ops.specs.declared.Operator.TheVariants as ops

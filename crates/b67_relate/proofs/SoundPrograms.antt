@@ -2,7 +2,7 @@
 use Rattle.std.proofs.Common.{◌≡◌, ℕ, zero, suc, List, ◌∷◌, [], Option, Some, None, true, refl, sym, ap, ◌∙◌, subst}
 use Rattle.b67_list.specs.Numbered.{numbered}
 use Rattle.algol_tree.specs.Plain.{PProgram}
-use Rattle.algol_tree.specs.Accepted.{Accepted}
+use Rattle.algol_tree.specs.FirstAccepted.{Accepted}
 use Rattle.b67_segment.specs.declared.code.Code.{Code}
 use Rattle.b67_first_table.specs.declared.ProcessState.{ProcessState}
 use Rattle.b67_first_table.specs.declared.ProcessState.TheVariants.{Able, Ended, WaitsFor, Procures}

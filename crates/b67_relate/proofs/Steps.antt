@@ -4,7 +4,7 @@ use Rattle.std.specs.Prelude.{slice_get, slice_set}
 use Rattle.algol_tree.specs.declared.tree.Op.{Op}
 use Rattle.algol_tree.specs.declared.tree.PhraseText.{PhraseText}
 use Rattle.algol_tree.specs.Plain.{none, PProgram}
-use Rattle.algol_tree.specs.Accepted.{IsDistinct}
+use Rattle.algol_tree.specs.FirstAccepted.{IsDistinct}
 use Rattle.b67_list.specs.Lines.{justified}
 use Rattle.b67_num.specs.declared.NumFault.{NumFault}
 use Rattle.b67_num.specs.Whole.{fault_of}

@@ -1,7 +1,7 @@
 -- A code that is faithful to a source: for every list of choices it does what the source does.
 use Rattle.std.specs.Prelude.{◌≡◌, ℕ, ◌+◌, ◌*◌, ◌≤◌, max, List, [], ◌∷◌, length, sum, All}
 use Rattle.algol_tree.specs.Plain.{PProgram}
-use Rattle.algol_tree.specs.Accepted.{Accepted}
+use Rattle.algol_tree.specs.FirstAccepted.{Accepted}
 use Rattle.algol_tree.specs.Counts.{program_tokens}
 use Rattle.b67_segment.specs.declared.code.Code.{Code}
 use Rattle.b67_segment.specs.declared.code.Segment.{Segment}

@@ -1,5 +1,5 @@
 use Rattle.std.proofs.Common.{subst}
-use Rattle.algol_tree.specs.Reads.{Reads}
+use Rattle.algol_tree.specs.FirstReads.{Reads}
 use Rattle.algol_first.specs.First.{tree_of}
 use Rattle.algol_first.proofs.ReadSmall.{small_program}
 use Rattle.algol_first.proofs.front.straight_of.Goals as goal

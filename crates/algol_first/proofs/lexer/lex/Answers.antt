@@ -2,7 +2,7 @@ use Rattle.std.proofs.Common.{[], ◌∷◌, ◌++◌, ◌≡◌, ◌+◌, ◌<�
 use Rattle.std.proofs.lemmas.Result.{err_from_is_err_and}
 use Rattle.algol_tree.specs.declared.token.Spot.{Spot}
 use Rattle.algol_tree.specs.declared.token.Token.{Token}
-use Rattle.algol_tree.specs.Lexes.{right_by, next_line, Lexes}
+use Rattle.algol_tree.specs.FirstLexes.{right_by, next_line, Lexes}
 use Rattle.algol_first.specs.declared.unread.Unread.TheVariants.{Unbuilt}
 use Rattle.algol_first.specs.Front.{BeginsWith, BeginsNone}
 use Rattle.algol_first.proofs.LexSteps.{ends_once}

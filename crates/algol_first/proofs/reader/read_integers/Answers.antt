@@ -2,7 +2,7 @@ use Rattle.std.proofs.Common.{refl, List}
 use Rattle.std.proofs.lemmas.Result.{err_from_is_err_and}
 use Rattle.algol_tree.specs.declared.tree.Named.{Named}
 use Rattle.algol_tree.specs.declared.token.Reserved.TheVariants as reserved
-use Rattle.algol_tree.specs.Reads.{IsNames}
+use Rattle.algol_tree.specs.FirstReads.{IsNames}
 use Rattle.algol_first.proofs.ReadParts.{declaration_reads, declaration_at_word, declaration_at_inside, declaration_at_semicolon, declaration_only}
 use Rattle.algol_first.proofs.reader.read_integers.Goals as goal
 

@@ -1,5 +1,5 @@
 use Rattle.std.proofs.Common.{ap, sym, ◌∙◌, refl}
-use Rattle.algol_tree.specs.Reads.{IsName}
+use Rattle.algol_tree.specs.FirstReads.{IsName}
 use Rattle.algol_tree.specs.declared.token.TokenKind.TheVariants as kinds
 use Rattle.algol_first.proofs.ReadOne.{one_of}
 use Rattle.algol_first.proofs.reader.read_name.Goals as goal

@@ -1,7 +1,7 @@
 use Rattle.std.proofs.lemmas.Result.{IfOk-weaker}
 use Rattle.algol_first.specs.First.{stmt_of}
 use Rattle.algol_first.specs.Grammar.{IsOnlyReading, EndsStatement, IsAssignment, IsWriteList}
-use Rattle.algol_tree.specs.Reads.{IsStatement}
+use Rattle.algol_tree.specs.FirstReads.{IsStatement}
 use Rattle.algol_first.proofs.ReadStatement.{statement_reads_write, statement_reads_assignment, write_from_statement, assignment_from_statement}
 use Rattle.algol_first.proofs.reader.read_statement.Goals as goal
 

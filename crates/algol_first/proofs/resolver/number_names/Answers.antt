@@ -1,6 +1,6 @@
 use Rattle.std.proofs.Common.{◌∙◌, sym, Some}
 use Rattle.algol_first.specs.Resolver.{number_in}
-use Rattle.algol_tree.specs.Accepted.{names_of}
+use Rattle.algol_tree.specs.FirstAccepted.{names_of}
 use Rattle.algol_first.proofs.ResolveNames.{numbered_more, numbered_all, numbered_twice, number_in_more, name_at, absent_from, there_from}
 use Rattle.algol_first.proofs.resolver.number_names.Goals as goal
 

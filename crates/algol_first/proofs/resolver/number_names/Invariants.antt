@@ -1,4 +1,4 @@
-use Rattle.algol_tree.specs.Accepted.{names_of}
+use Rattle.algol_tree.specs.FirstAccepted.{names_of}
 use Rattle.algol_first.proofs.ResolveNames.{NumberedBelow}
 use Rattle.algol_first.proofs.resolver.number_names.Given as goal
 

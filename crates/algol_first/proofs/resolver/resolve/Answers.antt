@@ -1,6 +1,6 @@
 use Rattle.std.proofs.Common.{subst, sym, ◌∙◌}
 use Rattle.std.proofs.lemmas.Result.{err_from_is_err_and}
-use Rattle.algol_tree.specs.Accepted.{names_of, AreKnownStmts}
+use Rattle.algol_tree.specs.FirstAccepted.{names_of, AreKnownStmts}
 use Rattle.algol_first.specs.First.{stmts_of}
 use Rattle.algol_first.specs.Straight.{ResolvesStmts}
 use Rattle.algol_first.proofs.ResolveProgram.{refused_twice, refused_file, accepted_by, resolves_by}
