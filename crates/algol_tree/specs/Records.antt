@@ -4,8 +4,6 @@ use Rattle.std.specs.List.{slice_split}
 use Rattle.std.specs.Str.Lines.{strip_carriage_return}
 use Rattle.algol_tree.specs.declared.TheConstants.{LAST_COLUMN}
 use Rattle.algol_tree.specs.declared.token.Spot.{Spot}
-use Rattle.algol_tree.specs.declared.token.Token.{Token}
-use Rattle.algol_tree.specs.declared.token.TokenKind.TheVariants as kinds
 
 -- a record: its line, the place of its first byte in the text, and its bytes
 pub record Record : Type 0 where
@@ -31,15 +29,12 @@ has_dollar [] = Bool.false
 has_dollar (b ∷ bytes) = b == 36
 
 -- the bytes of a record that are read: none where it has a dollar sign in column 1
+abbrev pub columns_of : List ℕ → List ℕ
+columns_of bytes = if has_dollar bytes then [] else take LAST_COLUMN bytes
+
 abbrev pub columns : Record → List ℕ
-columns r = if has_dollar r.bytes then [] else take LAST_COLUMN r.bytes
+columns r = columns_of r.bytes
 
 -- the spot of the byte that so many bytes of the record stand before
 abbrev pub spot_in : Record → ℕ → Spot
 spot_in r at = record { line = r.line; column = at + 1 }
-
--- the end of a text of these records, behind the last of them
-abbrev pub end_of : List Record → List Token
-end_of [] = []
-end_of (r ∷ []) = record { kind = kinds.End; spot = spot_in r (length r.bytes); from = r.from + length r.bytes; to = r.from + length r.bytes } ∷ []
-end_of (r ∷ next ∷ rs) = end_of (next ∷ rs)

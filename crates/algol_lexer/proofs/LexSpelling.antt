@@ -1,0 +1,121 @@
+-- What the spelling of a token tells of its bytes and its kind.
+use Rattle.std.proofs.Common.{◌≡◌, ℕ, ◌<◌, ◌≤◌, true, false, cond, List, [], ◌∷◌, length, pos, refl, sym, ◌∙◌, ap, arith}
+use Rattle.std.specs.List.{list_all}
+use Rattle.std.specs.Str.{bytes_eq}
+use Rattle.std.proofs.lemmas.Bool.{and_parts}
+use Rattle.std.proofs.lemmas.Bool.Decides.{nat_tests}
+use Rattle.algol_tree.specs.declared.token.Reserved.{Reserved}
+use Rattle.algol_tree.specs.declared.token.Reserved.TheVariants as reserved
+use Rattle.algol_tree.specs.declared.token.Symbol.{Symbol}
+use Rattle.algol_tree.specs.declared.token.Symbol.TheVariants as symbols
+use Rattle.algol_tree.specs.declared.token.TokenKind.{TokenKind}
+use Rattle.algol_tree.specs.declared.token.TokenKind.TheVariants as kinds
+use Rattle.algol_tree.specs.Spelling.{is_letter, is_digit, is_letter_or_digit, is_name, is_number, value_of, written, drawn, Spells, word, name, number, symbol}
+
+-- a reserved word is letters
+pub is_name-written : (w : Reserved) → is_name (written w) ≡ true
+is_name-written w = elim w as (λ v. is_name (written v) ≡ true) [ reserved.And ↦ refl | _ ↦ refl ]
+
+-- a symbol is no name and no number, and has one byte or two
+pub is_name-drawn : (s : Symbol) → is_name (drawn s) ≡ false
+is_name-drawn s = elim s as (λ v. is_name (drawn v) ≡ false) [ symbols.Plus ↦ refl | _ ↦ refl ]
+
+pub is_number-drawn : (s : Symbol) → is_number (drawn s) ≡ false
+is_number-drawn s = elim s as (λ v. is_number (drawn v) ≡ false) [ symbols.Plus ↦ refl | _ ↦ refl ]
+
+pub length-drawn-le : (s : Symbol) → length (drawn s) ≤ 2
+length-drawn-le s = elim s as (λ v. length (drawn v) ≤ 2) [ symbols.Plus ↦ omega arith | _ ↦ omega arith ]
+
+pub length-drawn-pos : (s : Symbol) → 0 < length (drawn s)
+length-drawn-pos s = elim s as (λ v. 0 < length (drawn v)) [ symbols.Plus ↦ omega arith | _ ↦ omega arith ]
+
+-- the word of a list that is written so, or else the last
+pub word_among : List Reserved → List ℕ → Reserved
+word_among [] bytes = reserved.Write
+word_among (w ∷ ws) bytes = cond (bytes_eq (written w) bytes) w (word_among ws bytes)
+
+abbrev pub words : List Reserved
+words = reserved.And ∷ reserved.Array ∷ reserved.Available ∷ reserved.Begin ∷ reserved.Boolean ∷ reserved.Case ∷ reserved.Cause ∷ reserved.CauseAndReset ∷ reserved.Comment ∷ reserved.Div ∷ reserved.Do ∷ reserved.Else ∷ reserved.End ∷ reserved.Eql ∷ reserved.Eqv ∷ reserved.Event ∷ reserved.False ∷ reserved.File ∷ reserved.Fix ∷ reserved.For ∷ reserved.Forward ∷ reserved.Geq ∷ reserved.Go ∷ reserved.Gtr ∷ reserved.Happened ∷ reserved.If ∷ reserved.Imp ∷ reserved.Integer ∷ reserved.Label ∷ reserved.Leq ∷ reserved.Liberate ∷ reserved.Lss ∷ reserved.Mod ∷ reserved.Neq ∷ reserved.Not ∷ reserved.Of ∷ reserved.Or ∷ reserved.Procedure ∷ reserved.Process ∷ reserved.Procure ∷ reserved.Real ∷ reserved.Reset ∷ reserved.Step ∷ reserved.Task ∷ reserved.Then ∷ reserved.Thru ∷ reserved.To ∷ reserved.True ∷ reserved.Until ∷ reserved.Value ∷ reserved.Wait ∷ reserved.While ∷ reserved.Write ∷ []
+
+pub word_among-written : (w : Reserved) → word_among words (written w) ≡ w
+unfolding word_among
+word_among-written w = elim w as (λ v. word_among words (written v) ≡ v) [ reserved.And ↦ refl | _ ↦ refl ]
+
+-- no two words are written alike
+pub written_injective : (v w : Reserved) → written v ≡ written w → v ≡ w
+written_injective v w e = sym (word_among-written v) ∙ ap (word_among words) e ∙ word_among-written w
+
+-- the symbol of a list that is drawn so, or else the last
+symbol_among : List Symbol → List ℕ → Symbol
+symbol_among [] bytes = symbols.NotEqual
+symbol_among (s ∷ ss) bytes = cond (bytes_eq (drawn s) bytes) s (symbol_among ss bytes)
+
+abbrev all_symbols : List Symbol
+all_symbols = symbols.Plus ∷ symbols.Minus ∷ symbols.Times ∷ symbols.Over ∷ symbols.Becomes ∷ symbols.Semicolon ∷ symbols.Comma ∷ symbols.OpenRound ∷ symbols.CloseRound ∷ symbols.OpenSquare ∷ symbols.CloseSquare ∷ symbols.Colon ∷ symbols.Period ∷ symbols.Less ∷ symbols.Greater ∷ symbols.Equal ∷ symbols.LessOrEqual ∷ symbols.GreaterOrEqual ∷ symbols.NotEqual ∷ []
+
+symbol_among-drawn : (s : Symbol) → symbol_among all_symbols (drawn s) ≡ s
+unfolding symbol_among
+symbol_among-drawn s = elim s as (λ v. symbol_among all_symbols (drawn v) ≡ v) [ symbols.Plus ↦ refl | _ ↦ refl ]
+
+-- no two symbols are drawn alike
+pub drawn_injective : (s t : Symbol) → drawn s ≡ drawn t → s ≡ t
+drawn_injective s t e = sym (symbol_among-drawn s) ∙ ap (symbol_among all_symbols) e ∙ symbol_among-drawn t
+
+-- A spelled list has the shape of a name, of a number, or of a symbol.
+pub data Shape : List ℕ → Type 0 where
+  letters : (bytes : List ℕ) → is_name bytes ≡ true → Shape bytes
+  digits : (bytes : List ℕ) → is_number bytes ≡ true → Shape bytes
+  mark : (s : Symbol) → Shape (drawn s)
+
+-- Each token has such a shape.
+pub shape_of : {bytes : List ℕ} {k : TokenKind} → Spells bytes k → Shape bytes
+shape_of (word w) = letters (written w) (is_name-written w)
+shape_of (name bytes h other) = letters bytes h
+shape_of (number bytes h) = digits bytes h
+shape_of (symbol s) = mark s
+
+-- no byte is both a letter and a digit
+pub letter_not_digit : (b : ℕ) → is_letter b ≡ true → is_digit b ≡ true → ⊥
+letter_not_digit b l d = grind (arith, nat_tests)
+
+-- a name begins with a letter, a number with a digit
+pub is_letter-head : (b : ℕ) (bytes : List ℕ) → is_name (b ∷ bytes) ≡ true → is_letter b ≡ true
+is_letter-head b bytes h = (and_parts (is_letter b) (list_all is_letter_or_digit bytes) h).0
+
+pub is_digit-head : (b : ℕ) (bytes : List ℕ) → is_number (b ∷ bytes) ≡ true → is_digit b ≡ true
+is_digit-head b bytes h = (and_parts (is_digit b) (list_all is_digit bytes) h).0
+
+-- no list is both a name and a number
+name_not_number : (bytes : List ℕ) → is_name bytes ≡ true → is_number bytes ≡ true → ⊥
+name_not_number [] h i = absurd cc
+name_not_number (b ∷ bytes) h i = letter_not_digit b (is_letter-head b bytes h) (is_digit-head b bytes i)
+
+-- what is spelled has a byte
+pub length-shape-pos : {bytes : List ℕ} → Shape bytes → 0 < length bytes
+length-shape-pos (letters [] h) = absurd cc
+length-shape-pos (letters (b ∷ bytes) h) = omega arith
+length-shape-pos (digits [] h) = absurd cc
+length-shape-pos (digits (b ∷ bytes) h) = omega arith
+length-shape-pos (mark s) = length-drawn-pos s
+
+-- A list that is spelled has one kind.
+one_kind_at : {xs ys : List ℕ} {k j : TokenKind} → Spells xs k → Spells ys j → xs ≡ ys → k ≡ j
+one_kind_at (word w) (word v) e = ap kinds.Word (written_injective w v e)
+one_kind_at (word w) (name bytes h other) e = absurd (other (w, sym e))
+one_kind_at (word w) (number bytes h) e = absurd (name_not_number (written w) (is_name-written w) (ap is_number e ∙ h))
+one_kind_at (word w) (symbol s) e = let p : is_name (written w) ≡ is_name (drawn s) = ap is_name e in let q = is_name-written w in let r = is_name-drawn s in absurd cc
+one_kind_at (name bytes h other) (word v) e = absurd (other (v, e))
+one_kind_at (name bytes h other) (name bytes' h' other') e = ap kinds.Name e
+one_kind_at (name bytes h other) (number bytes' h') e = absurd (name_not_number bytes h (ap is_number e ∙ h'))
+one_kind_at (name bytes h other) (symbol s) e = let p : is_name bytes ≡ is_name (drawn s) = ap is_name e in let r = is_name-drawn s in absurd cc
+one_kind_at (number bytes h) (word v) e = absurd (name_not_number bytes (ap is_name e ∙ is_name-written v) h)
+one_kind_at (number bytes h) (name bytes' h' other') e = absurd (name_not_number bytes (ap is_name e ∙ h') h)
+one_kind_at (number bytes h) (number bytes' h') e = ap (λ ds. kinds.Number (pos (value_of ds))) e
+one_kind_at (number bytes h) (symbol s) e = let p : is_number bytes ≡ is_number (drawn s) = ap is_number e in let r = is_number-drawn s in absurd cc
+one_kind_at (symbol s) (word v) e = let p : is_name (drawn s) ≡ is_name (written v) = ap is_name e in let q = is_name-written v in let r = is_name-drawn s in absurd cc
+one_kind_at (symbol s) (name bytes h other) e = let p : is_name (drawn s) ≡ is_name bytes = ap is_name e in let r = is_name-drawn s in absurd cc
+one_kind_at (symbol s) (number bytes h) e = let p : is_number (drawn s) ≡ is_number bytes = ap is_number e in let r = is_number-drawn s in absurd cc
+one_kind_at (symbol s) (symbol t) e = ap kinds.Symbol (drawn_injective s t e)
+
+pub one_kind : {xs : List ℕ} {k j : TokenKind} → Spells xs k → Spells xs j → k ≡ j
+one_kind p q = one_kind_at p q refl

@@ -1,0 +1,12 @@
+mod LexSpelling
+mod LexFronts
+mod LexFound
+mod LexValue
+mod LexCapitals
+mod LexStands
+mod LexStrings
+mod LexRemarks
+mod LexOnly
+mod LexReach
+mod LexRecords
+mod LexTexts

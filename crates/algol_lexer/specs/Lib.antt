@@ -1,0 +1,5 @@
+pub mod Runs
+pub mod Symbols
+pub mod Shown
+pub mod Records
+pub mod Outcome
