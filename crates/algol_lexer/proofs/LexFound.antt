@@ -108,9 +108,6 @@ pub name_run_at : (text : List ℕ) → 0 < length text → is_letter (get_or te
 name_run_at [] some h = absurd (omega arith)
 name_run_at (b ∷ text) some h = name_run_cons b text h
 
-pub name_run : (text : List ℕ) (n : ℕ) → 0 < length text → is_letter (get_or text 0 0) ≡ true → n ≡ prefix_len is_letter_or_digit text → is_name (take n text) ≡ true
-name_run text n some h e = ap (λ (m : ℕ). is_name (take m text)) e ∙ name_run_at text some h
-
 pub name_run_longest : (text : List ℕ) → is_name (take (prefix_len is_letter_or_digit text) text) ≡ true → IsLongestOf (take (prefix_len is_letter_or_digit text) text) (drop (prefix_len is_letter_or_digit text) text)
 name_run_longest text h b more k e s =
     let n : ℕ = prefix_len is_letter_or_digit text in
@@ -128,9 +125,6 @@ number_run_cons b text h =
 pub number_run_at : (text : List ℕ) → 0 < length text → is_digit (get_or text 0 0) ≡ true → is_number (take_while is_digit text) ≡ true
 number_run_at [] some h = absurd (omega arith)
 number_run_at (b ∷ text) some h = number_run_cons b text h
-
-pub number_run : (text : List ℕ) (n : ℕ) → 0 < length text → is_digit (get_or text 0 0) ≡ true → n ≡ prefix_len is_digit text → is_number (take n text) ≡ true
-number_run text n some h e = ap (λ (m : ℕ). is_number (take m text)) e ∙ number_run_at text some h
 
 pub number_run_longest : (text : List ℕ) → is_number (take (prefix_len is_digit text) text) ≡ true → IsLongestOf (take (prefix_len is_digit text) text) (drop (prefix_len is_digit text) text)
 number_run_longest text h b more k e s =
