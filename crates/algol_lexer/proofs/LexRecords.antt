@@ -67,3 +67,10 @@ end_of-next r line from rest = end_of_cons r (records_from line from (slice_spli
 -- the columns of a short record are the record
 pub columns_short : (bytes : List ℕ) → has_dollar bytes ≡ false → length bytes ≤ LAST_COLUMN → bytes ≡ columns_of bytes
 columns_short bytes plain short = sym (ap (λ (v : Bool). cond v [] (take LAST_COLUMN bytes)) plain ∙ take_all LAST_COLUMN bytes short)
+
+-- the columns of a longer one
+pub length_taken : (n : ℕ) (bytes : List ℕ) → n < length bytes → n ≡ length (take n bytes)
+length_taken n bytes lt = sym (length-take-le n bytes (omega arith))
+
+pub taken_within : (n : ℕ) (bytes : List ℕ) → n < length bytes → length (take n bytes) ≤ length bytes
+taken_within n bytes lt = omega (arith, length_taken n bytes lt)

@@ -92,11 +92,11 @@ pub fn lex(alloc: Global, bytes: &[u8]) -> Result<Vec<Token>, Refusal>
     let mut from = 0;
     let mut rest = bytes;
     'records: while let Some(length) = first_line_feed(rest) {
-        let (bytes, after) = rest.split_at(length);
+        let (line_bytes, after) = rest.split_at(length);
         let record = Record {
             line,
             from,
-            bytes: without_return(bytes),
+            bytes: without_return(line_bytes),
         };
         mode = read_record(alloc, &record, mode, &mut tokens)?;
         line += 1;
