@@ -13,6 +13,19 @@ pub mod Blocks
 pub mod Surroundings
 pub mod Sites
 pub mod Scopes
+pub mod Tokens
+pub mod Operators
+pub mod Expressions
+pub mod Headings
+pub mod Statements
+pub mod Programs
+pub mod Refused
+pub mod Due
+pub mod DueExpr
+pub mod DueDecl
+pub mod DueStmt
+pub mod Reading
+pub mod Found
 pub mod Cells
 pub mod Types
 pub mod Names
@@ -22,3 +35,4 @@ pub mod Checks
 pub mod Counted
 pub mod Labels
 pub mod Accepted
+pub mod First
