@@ -36,3 +36,4 @@ pub mod Counted
 pub mod Labels
 pub mod Accepted
 pub mod First
+pub mod Couples

@@ -32,7 +32,7 @@ names_of_spec (specs.Events ns) = ns
 names_of_spec (specs.Arrays kind ns lows) = ns
 
 -- the names that the specifications of a heading speak of
-abbrev specified : Heading → List Named
+abbrev pub specified : Heading → List Named
 specified h = flat_map names_of_spec h.specs
 
 -- ---- unknown names: a name that no declaration makes known where it stands, a FORWARD without its body, and a name of VALUE or of a
