@@ -4,6 +4,7 @@ pub mod Lexes
 pub mod Ended
 pub mod FirstLexes
 pub mod Plain
+pub mod Image
 pub mod FirstReads
 pub mod Counts
 pub mod FirstAccepted
