@@ -9,7 +9,8 @@ use Rattle.algol_tree.specs.Plain.{PProgram}
 use Rattle.algol_tree.specs.Lexes.{Lexes, IsRefused}
 use Rattle.algol_tree.specs.Programs.{Reads}
 use Rattle.algol_tree.specs.Refused.{RefusedProgram}
-use Rattle.algol_tree.specs.Accepted.{Fault, Accepted, tree_refusal}
+use Rattle.algol_tree.specs.declared.refusal.Fault.{Fault}
+use Rattle.algol_tree.specs.Accepted.{Accepted, tree_refusal}
 
 -- the text is an accepted source, with this tree
 pub record Source (bytes : List ℕ) (tree : PProgram) : Type 0 where

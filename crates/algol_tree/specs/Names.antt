@@ -26,7 +26,7 @@ if_so false spot = []
 abbrev places_if : (Named → Bool) → List Named → List Spot
 places_if test ns = flat_map (λ (n : Named). if_so (test n) n.spot) ns
 
-abbrev names_of_spec : Spec → List Named
+abbrev pub names_of_spec : Spec → List Named
 names_of_spec (specs.Simple kind ns) = ns
 names_of_spec (specs.Events ns) = ns
 names_of_spec (specs.Arrays kind ns lows) = ns
