@@ -1,9 +1,12 @@
 -- What a name can be declared as, and the names of a scope.
-use Rattle.std.specs.Prelude.{ℕ, ◌==◌, ◌&&◌, if◌then◌else◌, ℤ, Bool, true, false, List, [], ◌∷◌, map, Option, Some, None}
+use Rattle.std.specs.Prelude.{ℕ, ◌==◌, ◌&&◌, if◌then◌else◌, ℤ, Bool, true, false, List, [], ◌∷◌, length, map, Option, Some, None}
+use Rattle.algol_tree.specs.declared.token.Spot.{Spot}
 use Rattle.algol_tree.specs.declared.tree.Named.{Named}
 use Rattle.algol_tree.specs.declared.tree.Heading.{Heading}
 use Rattle.algol_tree.specs.declared.tree.Spec.{Spec}
 use Rattle.algol_tree.specs.declared.tree.Spec.TheVariants as spec
+use Rattle.algol_tree.specs.Classes as class
+use Rattle.algol_tree.specs.Classes.{Class, Formal}
 
 abbrev pub same_name : List ℕ → List ℕ → Bool
 same_name [] [] = true
@@ -43,20 +46,24 @@ abbrev pub procedure_in : Sort → Option ℕ
 procedure_in (procedure block) = Some block
 procedure_in _ = None
 
--- a name, the block that declares it, and how many blocks are around that block
+-- A name, where its declaration stands (of a procedure, the heading with its body), the block that declares it, how many blocks are
+-- around that block, and what it is declared as.
 pub record Declared : Type 0 where
   pub name : List ℕ
+  pub spot : Spot
   pub block : ℕ
   pub depth : ℕ
   pub sort : Sort
+  pub class : Class
 
 -- the first of that name, in a list with the innermost first
 abbrev pub look_up : List Declared → List ℕ → Option Declared
 look_up [] name = None
 look_up (d ∷ ds) name = if same_name d.name name then Some d else look_up ds name
 
-abbrev pub declare : ℕ → ℕ → Sort → List Named → List Declared
-declare block depth sort ns = map (λ (n : Named). record { name = n.name; block = block; depth = depth; sort = sort }) ns
+abbrev pub declare : ℕ → ℕ → Sort → Class → List Named → List Declared
+declare block depth sort class ns =
+    map (λ (n : Named). record { name = n.name; spot = n.spot; block = block; depth = depth; sort = sort; class = class }) ns
 
 -- ---- parameters
 
@@ -89,5 +96,29 @@ sort_in (s ∷ ss) by_value name = if specified_by s name then sort_by s by_valu
 abbrev pub parameters_of : Heading → List Parameter
 parameters_of h = map (λ (n : Named). record { name = n.name; sort = sort_in h.specs (is_named_in h.values n.name) n.name }) h.params
 
-abbrev pub declared_parameters : ℕ → ℕ → List Parameter → List Declared
-declared_parameters block depth ps = map (λ (p : Parameter). record { name = p.name; block = block; depth = depth; sort = p.sort }) ps
+abbrev pub class_by : Spec → Class
+class_by (spec.Simple kind ns) = class.simple kind
+class_by (spec.Events ns) = class.event
+class_by (spec.Arrays kind ns lows) = class.array kind (length lows)
+
+-- the first specification of a name decides
+abbrev pub class_in : List Spec → List ℕ → Class
+class_in [] name = class.unknown
+class_in (s ∷ ss) name = if specified_by s name then class_by s else class_in ss name
+
+abbrev pub declared_parameters : ℕ → ℕ → Heading → List Declared
+declared_parameters block depth h =
+    map
+    (λ (n : Named).
+    record {
+      name = n.name;
+      spot = n.spot;
+      block = block;
+      depth = depth;
+      sort = sort_in h.specs (is_named_in h.values n.name) n.name;
+      class = class_in h.specs n.name;
+    })
+    h.params
+
+abbrev pub formals_of : Heading → List Formal
+formals_of h = map (λ (n : Named). record { class = class_in h.specs n.name; by_value = is_named_in h.values n.name }) h.params

@@ -32,6 +32,13 @@ pub enum Code {
     Unbuilt,
 }
 
+/// A rule that is broken at a place.
+#[derive(Clone, Copy)]
+pub struct Fault {
+    pub spot: Spot,
+    pub code: Code,
+}
+
 /// A refusal of a source: the place and the reason, or want of memory.
 #[derive(Clone, Copy, PartialEq, Eq)]
 pub enum Refusal {

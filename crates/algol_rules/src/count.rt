@@ -1,0 +1,302 @@
+//! How many tokens the text of a segment has. A count stops at the greatest number.
+
+ghost use Rattle.std.specs.Prelude.{◌≡◌, ◌+◌, ◌-◌, ◌^◌, min, length};
+ghost use Rattle.algol_tree.specs.Counts as counts;
+ghost use Rattle.algol_tree.specs.Names.{names_of_spec};
+ghost use Rattle.algol_rules.specs.Opened.{opened};
+ghost use Rattle.algol_tree.specs.Image.{expr, variable, call, exprs, pairs, stmt, stmts, decl, body, program};
+
+use algol_tree::{
+    Body, Call, Decl, EventName, Expr, Heading, Kind, Named, Pair, Program, Spec, Stmt, Variable,
+};
+
+fn event_tokens(e: &EventName) -> usize
+    ensures { result ≡ counts.event_tokens e.now }
+{
+    if e.task { 3 } else { 1 }
+}
+
+/// A name with the brackets behind it, but for the comma that the first expression between them has not.
+fn opening(es: &[Expr]) -> usize
+    ensures { result ≡ opened (exprs es.now) }
+{
+    match es.split_first() {
+        None => 1,
+        Some(_) => 2,
+    }
+}
+
+#[cycle(expressions)]
+fn expr_tokens(e: &Expr) -> usize
+    ensures { result ≡ min (counts.expr_tokens (expr e.now)) (2 ^ 64 - 1) }
+{
+    match e {
+        Expr::Number(_, _) => 1,
+        Expr::Truth(_, _) => 1,
+        Expr::Variable(v) => variable_tokens(v),
+        Expr::Call(c) => call_tokens(c),
+        Expr::Happened(e, _) => event_tokens(e).saturating_add(3),
+        Expr::Paren(e, _) => expr_tokens(e).saturating_add(2),
+        Expr::Plus(e, _) => expr_tokens(e).saturating_add(1),
+        Expr::Neg(e, _) => expr_tokens(e).saturating_add(1),
+        Expr::Not(e, _) => expr_tokens(e).saturating_add(1),
+        Expr::Two(_, a, b) => expr_tokens(a)
+            .saturating_add(expr_tokens(b))
+            .saturating_add(1),
+        Expr::If(c, a, b, _) => {
+            expr_tokens(c)
+                .saturating_add(expr_tokens(a))
+                .saturating_add(expr_tokens(b))
+                .saturating_add(3)
+        }
+    }
+}
+
+#[cycle(expressions)]
+#[tactic(auto, using(crate::proofs::Counting::counting))]
+fn variable_tokens(v: &Variable) -> usize
+    ensures { result ≡ min (counts.variable_tokens (variable v.now)) (2 ^ 64 - 1) }
+{
+    let mut count = opening(v.subs.items());
+    'subscripts: for e in v.subs.items() {
+        count = count.saturating_add(expr_tokens(e)).saturating_add(1);
+    }
+    count
+}
+
+#[cycle(expressions)]
+#[tactic(auto, using(crate::proofs::Counting::counting))]
+fn call_tokens(c: &Call) -> usize
+    ensures { result ≡ min (counts.call_tokens (call c.now)) (2 ^ 64 - 1) }
+{
+    let mut count = opening(c.actuals.items());
+    'actuals: for e in c.actuals.items() {
+        count = count.saturating_add(expr_tokens(e)).saturating_add(1);
+    }
+    count
+}
+
+/// Expressions, each with the comma before it.
+fn exprs_tokens(es: &[Expr]) -> usize
+    ensures { result ≡ min (counts.exprs_tokens (exprs es.now)) (2 ^ 64 - 1) }
+{
+    let mut count: usize = 0;
+    'expressions: for e in es {
+        count = count.saturating_add(expr_tokens(e)).saturating_add(1);
+    }
+    count
+}
+
+/// Names with the commas between them.
+fn names_tokens(names: &[Named]) -> usize
+    ensures { result ≡ min (counts.names_tokens names.now) (2 ^ 64 - 1) }
+{
+    names.len().saturating_mul(2).saturating_sub(1)
+}
+
+fn literal_tokens(z: i64) -> usize
+    ensures { result ≡ counts.literal_tokens z }
+{
+    if z < 0 { 2 } else { 1 }
+}
+
+fn pairs_tokens(ps: &[Pair]) -> usize
+    ensures { result ≡ min (counts.pairs_tokens (pairs ps.now)) (2 ^ 64 - 1) }
+{
+    let mut count: usize = 0;
+    'pairs: for pair in ps {
+        count = count
+            .saturating_add(literal_tokens(pair.low))
+            .saturating_add(expr_tokens(&pair.high))
+            .saturating_add(2);
+    }
+    count
+}
+
+fn lows_tokens(lows: &[i64]) -> usize
+    ensures { result ≡ min (counts.lows_tokens lows.now) (2 ^ 64 - 1) }
+{
+    let mut count: usize = 0;
+    'lows: for low in lows {
+        count = count.saturating_add(literal_tokens(*low)).saturating_add(1);
+    }
+    count
+}
+
+/// A word before ARRAY counts only where it is BOOLEAN.
+fn type_before_array(kind: Kind) -> usize
+    ensures { result ≡ counts.type_before_array kind }
+{
+    match kind {
+        Kind::Number => 0,
+        Kind::Truth => 1,
+    }
+}
+
+/// The names that a specification speaks of.
+pub fn names_of(spec: &Spec) -> &Vec<Named>
+    ensures { result.now.items ≡ names_of_spec spec.now }
+{
+    match spec {
+        Spec::Simple(_, names) => names.items(),
+        Spec::Events(names) => names.items(),
+        Spec::Arrays(_, names, _) => names.items(),
+    }
+}
+
+fn spec_tokens(spec: &Spec) -> usize
+    ensures { result ≡ min (counts.spec_tokens spec.now) (2 ^ 64 - 1) }
+{
+    let names = names_tokens(names_of(spec)).saturating_add(2);
+    match spec {
+        Spec::Arrays(kind, _, lows) => {
+            names
+                .saturating_add(type_before_array(*kind))
+                .saturating_add(lows_tokens(lows.items()))
+                .saturating_add(1)
+        }
+        _ => names,
+    }
+}
+
+/// Names with a word or a bracket before and behind them, where there are some.
+fn part_tokens(names: &[Named]) -> usize
+    ensures { result ≡ min (counts.params_tokens names.now) (2 ^ 64 - 1) }
+{
+    if names.is_empty() {
+        0
+    } else {
+        names_tokens(names).saturating_add(2)
+    }
+}
+
+fn type_before_procedure(kind: Option<Kind>) -> usize
+    ensures { result ≡ counts.kind_tokens kind }
+{
+    if kind.is_some() { 1 } else { 0 }
+}
+
+fn heading_tokens(h: &Heading) -> usize
+    ensures { result ≡ min (counts.heading_tokens h.now) (2 ^ 64 - 1) }
+{
+    let mut count = type_before_procedure(h.kind)
+        .saturating_add(part_tokens(h.params.items()))
+        .saturating_add(part_tokens(h.values.items()))
+        .saturating_add(3);
+    'specs: for spec in h.specs.items() {
+        count = count.saturating_add(spec_tokens(spec));
+    }
+    count
+}
+
+#[cycle(statements)]
+fn stmt_tokens(s: &Stmt) -> usize
+    ensures { result ≡ min (counts.stmt_tokens (stmt s.now)) (2 ^ 64 - 1) }
+{
+    match s {
+        Stmt::Empty => 0,
+        Stmt::Label(_, s) => stmt_tokens(s).saturating_add(2),
+        Stmt::Assign(v, e) => variable_tokens(v)
+            .saturating_add(expr_tokens(e))
+            .saturating_add(1),
+        Stmt::Call(c) => call_tokens(c),
+        Stmt::GoTo(_) => 2,
+        Stmt::Block(b) => body_tokens(b),
+        Stmt::If(c, a, None) => expr_tokens(c)
+            .saturating_add(stmt_tokens(a))
+            .saturating_add(2),
+        Stmt::If(c, a, Some(b)) => {
+            expr_tokens(c)
+                .saturating_add(stmt_tokens(a))
+                .saturating_add(stmt_tokens(b))
+                .saturating_add(3)
+        }
+        Stmt::While(c, s) => expr_tokens(c)
+            .saturating_add(stmt_tokens(s))
+            .saturating_add(2),
+        Stmt::Until(s, c) => stmt_tokens(s)
+            .saturating_add(expr_tokens(c))
+            .saturating_add(2),
+        Stmt::For(_, a, s, l, b) => {
+            expr_tokens(a)
+                .saturating_add(expr_tokens(s))
+                .saturating_add(expr_tokens(l))
+                .saturating_add(stmt_tokens(b))
+                .saturating_add(6)
+        }
+        Stmt::Thru(e, s) => expr_tokens(e)
+            .saturating_add(stmt_tokens(s))
+            .saturating_add(2),
+        Stmt::Case(e, ss) => {
+            let mut count = expr_tokens(e).saturating_add(3);
+            'cases: for s in ss.items() {
+                count = count.saturating_add(stmt_tokens(s)).saturating_add(1);
+            }
+            count
+        }
+        Stmt::Process(c, task) => {
+            match task {
+                None => call_tokens(c).saturating_add(1),
+                Some(_) => call_tokens(c).saturating_add(4),
+            }
+        }
+        Stmt::Event(_, e) => event_tokens(e).saturating_add(3),
+        Stmt::Write(_, _, phrases, items) => {
+            phrases
+                .items()
+                .len()
+                .saturating_mul(2)
+                .saturating_add(exprs_tokens(items.items()))
+                .saturating_add(6)
+        }
+    }
+}
+
+#[cycle(statements)]
+#[tactic(auto, using(crate::proofs::Counting::counting))]
+fn body_tokens(b: &Body) -> usize
+    ensures { result ≡ min (counts.body_tokens (body b.now)) (2 ^ 64 - 1) }
+{
+    let mut count: usize = 1;
+    'declarations: for d in b.decls.items() {
+        count = count.saturating_add(decl_tokens(d)).saturating_add(1);
+    }
+    'statements: for s in b.stmts.items() {
+        count = count.saturating_add(stmt_tokens(s)).saturating_add(1);
+    }
+    count
+}
+
+fn decl_tokens(d: &Decl) -> usize
+    ensures { result ≡ min (counts.decl_tokens (decl d.now)) (2 ^ 64 - 1) }
+{
+    match d {
+        Decl::Simple(_, ns) => names_tokens(ns.items()).saturating_add(1),
+        Decl::Files(ns) => names_tokens(ns.items()).saturating_add(1),
+        Decl::Events(ns) => names_tokens(ns.items()).saturating_add(1),
+        Decl::Tasks(ns) => names_tokens(ns.items()).saturating_add(1),
+        Decl::Labels(ns) => names_tokens(ns.items()).saturating_add(1),
+        Decl::Arrays(kind, ns, pairs) => {
+            names_tokens(ns.items())
+                .saturating_add(type_before_array(*kind))
+                .saturating_add(pairs_tokens(pairs.items()))
+                .saturating_add(2)
+        }
+        Decl::Forward(h) => heading_tokens(h).saturating_add(1),
+        Decl::Procedure(_, _) => 0,
+    }
+}
+
+/// The tokens of a procedure's segment.
+pub fn procedure_tokens(h: &Heading, s: &Stmt) -> usize
+    ensures { result ≡ min (counts.heading_tokens h.now + counts.stmt_tokens (stmt s.now)) (2 ^ 64 - 1) }
+{
+    heading_tokens(h).saturating_add(stmt_tokens(s))
+}
+
+/// The tokens of the program's segment, with the period.
+pub fn program_tokens(p: &Program) -> usize
+    ensures { result ≡ min (counts.program_tokens (program p.now)) (2 ^ 64 - 1) }
+{
+    body_tokens(&p.body).saturating_add(1)
+}
