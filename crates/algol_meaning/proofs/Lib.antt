@@ -4,3 +4,8 @@ pub mod Supplying
 pub mod Following
 pub mod Statements
 pub mod Frames
+pub mod Asking
+pub mod Answering
+pub mod Declaring
+pub mod Labels
+pub mod Naming

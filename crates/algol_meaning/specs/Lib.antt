@@ -21,3 +21,4 @@ pub mod SeenStack
 pub mod SeenScope
 pub mod SeenExpression
 pub mod SeenStatement
+pub mod SeenRest

@@ -2,6 +2,7 @@
 use Rattle.std.specs.Prelude.{ℕ, List, [], map, Option, Some, None}
 use Rattle.std.specs.Borrow.{Bor}
 use Rattle.algol_tree.specs.Plain as tree
+use Rattle.algol_tree.specs.declared.tree.Kind.{Kind}
 use Rattle.algol_tree.specs.Plain.{PStmts}
 use Rattle.algol_tree.specs.Sorts as plain
 use Rattle.algol_tree.specs.Blocks as blocks
@@ -11,8 +12,9 @@ use Rattle.algol_meaning.specs.declared.scope.Sort.{Sort}
 use Rattle.algol_meaning.specs.declared.scope.Sort.TheVariants as sorts
 use Rattle.algol_meaning.specs.declared.scope.Use.{Use}
 use Rattle.algol_meaning.specs.declared.scope.Parameter.{Parameter}
-use Rattle.algol_meaning.specs.declared.scope.Statements.{Statements}
-use Rattle.algol_meaning.specs.declared.scope.Statements.TheVariants as statements
+use Rattle.algol_meaning.specs.declared.scope.BlockStatements.{BlockStatements}
+use Rattle.algol_meaning.specs.declared.scope.BlockStatements.TheVariants as statements
+use Rattle.algol_meaning.specs.declared.scope.Owner.{Owner}
 use Rattle.algol_meaning.specs.declared.scope.Block.{Block}
 use Rattle.algol_meaning.specs.declared.scope.Scopes.{Scopes}
 
@@ -37,23 +39,27 @@ used u = record { spot = u.spot; block = u.block; up = u.up; sort = sort u.sort 
 abbrev pub parameter : Parameter → plain.Parameter
 parameter p = record { name = p.name.now; sort = sort p.sort }
 
-abbrev pub in_block : Statements → PStmts
+abbrev pub in_block : BlockStatements → PStmts
 in_block (statements.All ss) = stmts ss.now
 in_block (statements.One s) = tree.stmts (stmt s.now) tree.no_stmts
 
 -- the outer block and a BEGIN have no name
-abbrev pub name_of : Option (Bor (List ℕ)) → List ℕ
+abbrev pub name_of : Option Owner → List ℕ
 name_of None = []
-name_of (Some name) = name.now
+name_of (Some o) = o.name.now
+
+abbrev pub result_of : Option Owner → Option Kind
+result_of None = None
+result_of (Some o) = o.result
 
 abbrev pub block : Block → blocks.Block
 block b =
     record {
       spot = b.spot;
       outer = b.outer;
-      name = name_of b.name;
+      name = name_of b.owner;
       parameters = map parameter b.parameters;
-      result = b.result;
+      result = result_of b.owner;
       decls = decls b.decls.now;
       stmts = in_block b.stmts;
     }

@@ -1,5 +1,5 @@
 -- What the points of a part, and what follows them, stand for.
-use Rattle.std.specs.Prelude.{◌≡◌, ℕ, ◌+◌, ◌<◌, ◌*◌, ◌++◌, nat_abs, ℤ, List, [], ◌∷◌, map, length, Option, Some, None}
+use Rattle.std.specs.Prelude.{◌≡◌, ℕ, ◌+◌, ◌<◌, ◌*◌, ◌++◌, Bool, true, false, List, [], ◌∷◌, map, length, Option, Some, None}
 use Rattle.std.specs.declared.boxed.Box.{Box}
 use Rattle.std.specs.declared.alloc.Global.{Global}
 use Rattle.algol_tree.specs.Plain as tree
@@ -79,6 +79,16 @@ item (next.Decls ds) k = decls_items (decls ds.now) ++ k
 abbrev pub following : List Next → List Item
 following [] = []
 following (n ∷ k) = item n (following k)
+
+-- the statement begins with an action, or with what an action needs
+abbrev pub is_action : PStmt → Bool
+is_action (tree.assign v e) = true
+is_action (tree.call_of c) = true
+is_action (tree.go_to n) = true
+is_action (tree.process c task) = true
+is_action (tree.event act e) = true
+is_action (tree.write n spot phrases es) = true
+is_action _ = false
 
 -- ---- what an expression is evaluated for
 

@@ -17,13 +17,13 @@ ghost use Rattle.algol_meaning.specs.SeenStatement.{answered};
 ghost use Rattle.algol_meaning.specs.SeenExpression.{cell, place, done, all_done, sorts_from, sorts_after, hole, refilled, half, Moves, Comes, Calculates, Supplies, IsSupplied, expr_size, exprs_size, variable_size, call_size, weigh_frames};
 
 use crate::cell::Cell;
-use crate::error::Unable;
 use crate::operator::{inverted, negated, result_of, truth_of};
 use crate::part::{Answer, Control, Frame, Given, Head, Outcome, Place, Supplied, Supply};
 use crate::scope::{Scopes, Sort};
 use crate::stack::Stack;
-use crate::value::{Value, Whole};
+use crate::value::Value;
 use algol_tree::{Call, Expr, List, Named, Op, Variable};
+use b67_num::Whole;
 use std::alloc::{AllocError, Global};
 
 /// A name alone: a call where it names a procedure.
@@ -84,16 +84,6 @@ pub fn subscripted<'p>(n: &'p Named, ks: List<usize>, v: Value, es: &'p [Expr]) 
     match es.split_first() {
         None => Head::Element(n, ks, v),
         Some((e, rest)) => Head::Index(n, ks, v, e, rest),
-    }
-}
-
-/// A literal.
-pub fn literal(z: i64) -> Result<Value, Unable>
-    ensures { IfOk result (λ v. value v ≡ plain.number z) }
-{
-    match Whole::of(z) {
-        Some(number) => Ok(Value::Number(number)),
-        None => Err(Unable::NumberTooWide),
     }
 }
 
@@ -267,14 +257,14 @@ pub fn eval<'p>(
     scopes: &Scopes<'p>,
     e: &'p Expr,
     frames: &mut Stack<Frame<'p>>,
-) -> Result<Control<'p>, Unable>
+) -> Result<Control<'p>, AllocError>
     ensures { IfOk result (λ c. Moves (scoped scopes.now) (refilled (scoped scopes.now) frames.old (settling.settle (scoped scopes.now) (expr e.now))) (expr_size (expr e.now) + weigh_frames frames.old) c frames.new) }
 {
     match e {
-        Expr::Number(z, _) => Ok(Control::Value(literal(*z)?)),
+        Expr::Number(number, _) => Ok(Control::Value(Value::Number(*number))),
         Expr::Truth(b, _) => Ok(Control::Value(Value::Truth(*b))),
-        Expr::Variable(v) => Ok(variable(alloc, scopes, &v.name, v.subs.items(), frames)?),
-        Expr::Call(c) => Ok(first_call(alloc, scopes, &c.name, c.actuals.items(), frames)?),
+        Expr::Variable(v) => variable(alloc, scopes, &v.name, v.subs.items(), frames),
+        Expr::Call(c) => first_call(alloc, scopes, &c.name, c.actuals.items(), frames),
         Expr::Happened(event, _) => Ok(Control::Found(Head::Happens(&event.name))),
         Expr::Paren(e, _) | Expr::Plus(e, _) => Ok(Control::Eval(e)),
         Expr::Neg(e, _) => {
@@ -342,7 +332,7 @@ pub fn evaluate<'p>(
     scopes: &Scopes<'p>,
     from: Control<'p>,
     frames: &mut Stack<Frame<'p>>,
-) -> Result<Outcome<'p>, Unable>
+) -> Result<Outcome<'p>, AllocError>
     ensures { IfOk result (λ found. Comes (scoped scopes.now) (refilled (scoped scopes.now) frames.old (half (scoped scopes.now) from.entry)) found frames.new) }
 {
     let mut control = from;
@@ -359,7 +349,7 @@ pub fn evaluate<'p>(
 }
 
 /// What stands in place of a head that is not among subscripts or actuals, once it has this answer.
-fn filled<'p>(answer: &Answer<'p>) -> Control<'p>
+pub fn filled<'p>(answer: &Answer<'p>) -> Control<'p>
     ensures { (sc : scoping.Scopes) → settling.half_of (answered answer.now) ≡ half sc result }
 {
     match answer {
@@ -370,7 +360,7 @@ fn filled<'p>(answer: &Answer<'p>) -> Control<'p>
 }
 
 /// The subscripts of an element's place.
-fn subscripts_of<'p>(alloc: Global, answer: Answer<'p>) -> List<usize>
+pub fn subscripts_of<'p>(alloc: Global, answer: Answer<'p>) -> List<usize>
     ensures { result ≡ rest.subscripts_of (answered answer.entry) }
 {
     match answer {
@@ -390,7 +380,7 @@ fn subscripts_in<'p>(alloc: Global, at: Place<'p>) -> List<usize>
 }
 
 /// The cell that is passed.
-fn cell_of<'p>(answer: Answer<'p>) -> Cell<'p>
+pub fn cell_of<'p>(answer: Answer<'p>) -> Cell<'p>
     ensures { cell result ≡ rest.cell_of (answered answer.entry) (plain.simple (plain.number (pos 0))) }
 {
     match answer {
@@ -430,7 +420,7 @@ pub fn put<'p>(
             frames.push(Frame::Subscript(n, subscripts_of(alloc, answer), es))?;
             Ok(Control::Eval(e))
         }
-        Head::Pass(n, gs, _, es) => Ok(passed(scopes, n, gs, cell_of(answer), es, frames)?),
+        Head::Pass(n, gs, _, es) => passed(scopes, n, gs, cell_of(answer), es, frames),
         _ => Ok(filled(&answer)),
     }
 }

@@ -4,7 +4,7 @@ ghost use Rattle.std.specs.Prelude.{◌≡◌, map, slice_get};
 ghost use Rattle.algol_tree.specs.Sorts as sorts;
 ghost use Rattle.algol_tree.specs.Scopes as scoping;
 ghost use Rattle.algol_meaning.specs.Settle as settling;
-ghost use Rattle.algol_meaning.specs.SeenScope.{sort, used, scoped, sorted, parameter, block_or_none};
+ghost use Rattle.algol_meaning.specs.SeenScope.{sort, used, scoped, sorted, parameter, result_of, block_or_none};
 
 use algol_tree::{Decl, Kind, Line, List, Named, Spot, Stmt};
 
@@ -43,21 +43,28 @@ pub struct Parameter<'p> {
 
 /// The statements of a block: a list, or the one that is a procedure's body.
 #[derive(Clone, Copy)]
-pub enum Statements<'p> {
+pub enum BlockStatements<'p> {
     All(&'p [Stmt]),
     One(&'p Stmt),
 }
 
-/// A block of the text.
+/// The procedure whose block it is: its name, and the type of its result where it has one.
+#[derive(Clone, Copy)]
+pub struct Owner<'p> {
+    pub name: &'p Line,
+    pub result: Option<Kind>,
+}
+
+/// A block of the text: where it stands, and where the blocks around it stand, the innermost first. The outer
+/// block and that of a BEGIN have no owner.
 #[derive(Drop)]
 pub struct Block<'p> {
     pub spot: Spot,
     pub outer: List<Spot>,
-    pub name: Option<&'p Line>,
+    pub owner: Option<Owner<'p>>,
     pub parameters: List<Parameter<'p>>,
-    pub result: Option<Kind>,
     pub decls: &'p [Decl],
-    pub stmts: Statements<'p>,
+    pub stmts: BlockStatements<'p>,
 }
 
 /// The blocks of a tree in the order of the text, and the uses of names.
@@ -162,12 +169,22 @@ impl<'p> Scopes<'p> {
     {
         match self.callee(callee) {
             None => false,
-            Some(block) => block.result.is_some(),
+            Some(block) => block.has_result(),
         }
     }
 }
 
 impl<'p> Block<'p> {
+    /// Tests that it is the block of a procedure that has a result.
+    pub fn has_result(&self) -> bool
+        ensures { result ≡ settling.has_result (result_of self.now.owner) }
+    {
+        match self.owner {
+            None => false,
+            Some(owner) => owner.result.is_some(),
+        }
+    }
+
     /// What a parameter is declared as, none where there are not so many.
     #[tactic(auto, using(crate::proofs::Scoping::parameter_laws))]
     pub fn parameter_sort(&self, number: usize) -> Option<Sort<'p>>

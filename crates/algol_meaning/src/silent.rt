@@ -17,15 +17,15 @@ ghost use Rattle.algol_meaning.specs.SeenScope.{scoped};
 ghost use Rattle.algol_meaning.specs.SeenExpression.{place, all_done, sorts_from, refilled, half};
 ghost use Rattle.algol_meaning.specs.SeenStatement.{ahead, Finds, Advances, right_side, sought_at, role_at, tested, stepped_by, held, stmt_size, stmts_size, test_size, weigh, within_size};
 
-use crate::error::Unable;
 use crate::expression::{alone, evaluate, supplied};
 use crate::operator::{truth_of, whole_of};
 use crate::part::{Control, Frame, Given, Head, Outcome, Place, Supplied};
 use crate::scope::Scopes;
 use crate::stack::append;
 use crate::statement::{Again, Deed, Last, Next, Point, Right, Role, Sought, Target, Within, Work};
-use crate::value::{Value, Whole};
+use crate::value::Value;
 use algol_tree::{Body, Decl, Expr, Kind, List, Named, Op, Pair, PhraseText, Stmt, Variable};
+use b67_num::Whole;
 use std::alloc::{AllocError, Global};
 
 impl<'p> Work<'p> {
@@ -56,7 +56,7 @@ impl<'p> Work<'p> {
         scopes: &Scopes<'p>,
         to: Place<'p>,
         right: Right<'p>,
-    ) -> Result<Point<'p>, Unable>
+    ) -> Result<Point<'p>, AllocError>
         requires { self.old.frames ≡ [] }
         ensures { IfOk result (λ p. Finds (scoped scopes.now) (statements.assigned_of (place to.entry) (settling.settle (scoped scopes.now) (right_side right.entry)) (ahead self.old)) p self.new) }
     {
@@ -69,14 +69,14 @@ impl<'p> Work<'p> {
 
     /// The items of a line from the next one on, and the line.
     #[tactic(auto, using(crate::proofs::Following::value_laws))]
-    fn write(
+    pub fn write(
         &mut self,
         alloc: Global,
         scopes: &Scopes<'p>,
         phrases: &'p [PhraseText],
         before: List<Value>,
         items: &'p [Expr],
-    ) -> Result<Point<'p>, Unable>
+    ) -> Result<Point<'p>, AllocError>
         requires { self.old.frames ≡ [] }
         ensures { IfOk result (λ p. Finds (scoped scopes.now) (statements.settle_line (scoped scopes.now) (exprs items.now) phrases.now (ahead self.old) (map value before)) p self.new) }
     {
@@ -105,7 +105,7 @@ impl<'p> Work<'p> {
         all: &'p [Pair],
         before: List<Value>,
         left: &'p [Pair],
-    ) -> Result<Point<'p>, Unable>
+    ) -> Result<Point<'p>, AllocError>
         requires { self.old.frames ≡ [] }
         ensures { IfOk result (λ p. Finds (scoped scopes.now) (statements.settle_bounds (scoped scopes.now) (pairs left.now) kind ns.now (pairs all.now) (ahead self.old) (map value before)) p self.new) }
     {
@@ -135,7 +135,7 @@ impl<'p> Work<'p> {
 
     /// The actuals of a statement from the next one on, and its call.
     #[tactic(auto, using(crate::proofs::Supplying::supply_laws))]
-    fn prepare(
+    pub fn prepare(
         &mut self,
         alloc: Global,
         scopes: &Scopes<'p>,
@@ -143,7 +143,7 @@ impl<'p> Work<'p> {
         n: &'p Named,
         before: List<Given<'p>>,
         actuals: &'p [Expr],
-    ) -> Result<Point<'p>, Unable>
+    ) -> Result<Point<'p>, AllocError>
         requires { self.old.frames ≡ [] }
         ensures { IfOk result (λ p. Finds (scoped scopes.now) (role_at role.entry n.now (settling.settle_actuals (scoped scopes.now) (exprs actuals.now) (sorts_from (scoped scopes.now) n.now (length before.entry)) (all_done before.entry)) (ahead self.old)) p self.new) }
     {
@@ -170,13 +170,13 @@ impl<'p> Work<'p> {
     }
 
     /// What a place is asked for, once it is known.
-    fn found(
+    pub fn found(
         &mut self,
         alloc: Global,
         scopes: &Scopes<'p>,
         sought: Sought<'p>,
         at: Place<'p>,
-    ) -> Result<Point<'p>, Unable>
+    ) -> Result<Point<'p>, AllocError>
         requires { self.old.frames ≡ [] }
         ensures { IfOk result (λ p. Finds (scoped scopes.now) (sought_at (scoped scopes.now) sought.entry (rest.at (place at.entry)) (ahead self.old)) p self.new) }
     {
@@ -187,7 +187,7 @@ impl<'p> Work<'p> {
     }
 
     /// A subscript of a place, with the subscripts before it and the expressions after it.
-    fn aim_subscript(
+    pub fn aim_subscript(
         &mut self,
         alloc: Global,
         scopes: &Scopes<'p>,
@@ -196,7 +196,7 @@ impl<'p> Work<'p> {
         ks: List<usize>,
         e: &'p Expr,
         es: &'p [Expr],
-    ) -> Result<Point<'p>, Unable>
+    ) -> Result<Point<'p>, AllocError>
         requires { self.old.frames ≡ [] }
         ensures { IfOk result (λ p. Finds (scoped scopes.now) (sought_at (scoped scopes.now) sought.entry (settling.aimed_of n.now ks (settling.settle (scoped scopes.now) (expr e.now)) (exprs es.now)) (ahead self.old)) p self.new) }
     {
@@ -207,13 +207,13 @@ impl<'p> Work<'p> {
     }
 
     /// A name alone whose place is asked for.
-    fn aim_alone(
+    pub fn aim_alone(
         &mut self,
         alloc: Global,
         scopes: &Scopes<'p>,
         sought: Sought<'p>,
         n: &'p Named,
-    ) -> Result<Point<'p>, Unable>
+    ) -> Result<Point<'p>, AllocError>
         requires { self.old.frames ≡ [] }
         ensures { IfOk result (λ p. Finds (scoped scopes.now) (sought_at (scoped scopes.now) sought.entry (settling.settle_place (scoped scopes.now) (tree.subscripted n.now tree.none)) (ahead self.old)) p self.new) }
     {
@@ -225,14 +225,14 @@ impl<'p> Work<'p> {
     }
 
     /// A place whose head is a name, with its subscripts.
-    fn aim(
+    pub fn aim(
         &mut self,
         alloc: Global,
         scopes: &Scopes<'p>,
         sought: Sought<'p>,
         n: &'p Named,
         es: &'p [Expr],
-    ) -> Result<Point<'p>, Unable>
+    ) -> Result<Point<'p>, AllocError>
         requires { self.old.frames ≡ [] }
         ensures { IfOk result (λ p. Finds (scoped scopes.now) (sought_at (scoped scopes.now) sought.entry (settling.settle_place (scoped scopes.now) (tree.subscripted n.now (exprs es.now))) (ahead self.old)) p self.new) }
     {
@@ -270,15 +270,15 @@ impl<'p> Work<'p> {
         &mut self,
         v: Value,
         s: &'p Stmt,
-        b: &'p Stmt,
+        body: &'p Stmt,
     ) -> Result<Option<Point<'p>>, AllocError>
         requires { self.old.frames ≡ [] }
-        ensures { (sc : scoping.Scopes) (c : tree.PExpr) → stmt s.now ≡ tree.while c (stmt b.now) → IfOk result (λ found. Advances sc (tested sc (tree.while c (stmt b.now)) (rest.val (value v)) (ahead self.old)) (test_size (tree.while c (stmt b.now)) + weigh self.old.todo) found self.new) }
+        ensures { (sc : scoping.Scopes) (c : tree.PExpr) → stmt s.now ≡ tree.while c (stmt body.now) → IfOk result (λ found. Advances sc (tested sc (tree.while c (stmt body.now)) (rest.val (value v)) (ahead self.old)) (test_size (tree.while c (stmt body.now)) + weigh self.old.todo) found self.new) }
     {
         if truth_of(v) {
             self.todo.push(Next::Run(s))?;
             self.todo.push(Next::Turn)?;
-            self.todo.push(Next::Run(b))?;
+            self.todo.push(Next::Run(body))?;
         }
         Ok(None)
     }
@@ -297,7 +297,7 @@ impl<'p> Work<'p> {
     }
 
     /// The body of a THRU, where its number is at least 1, and what follows it.
-    fn repeat(
+    pub fn repeat(
         &mut self,
         n: Whole,
         s: &'p Stmt,
@@ -345,13 +345,13 @@ impl<'p> Work<'p> {
         s: &'p Stmt,
         step: &'p Expr,
         b: &'p Stmt,
-    ) -> Result<Option<Point<'p>>, Unable>
+    ) -> Result<Option<Point<'p>>, AllocError>
         requires { self.old.frames ≡ [] }
         ensures { (n : Named) (e last : tree.PExpr) → stmt s.now ≡ tree.for n e (expr step.now) last (stmt b.now) → IfOk result (λ found. Advances (scoped scopes.now) (tested (scoped scopes.now) (tree.for n e (expr step.now) last (stmt b.now)) (rest.val (value v)) (ahead self.old)) (test_size (tree.for n e (expr step.now) last (stmt b.now)) + weigh self.old.todo) found self.new) }
     {
         match evaluate(alloc, scopes, Control::Eval(step), &mut self.frames)? {
             Outcome::Busy(head) => Ok(Some(Point::In(head, Within::Stepping(v, s)))),
-            Outcome::Value(by) => Ok(self.turn_for(v, by, s, b)?),
+            Outcome::Value(by) => self.turn_for(v, by, s, b),
         }
     }
 
@@ -363,15 +363,15 @@ impl<'p> Work<'p> {
         scopes: &Scopes<'p>,
         v: Value,
         s: &'p Stmt,
-    ) -> Result<Option<Point<'p>>, Unable>
+    ) -> Result<Option<Point<'p>>, AllocError>
         requires { self.old.frames ≡ [] }
         ensures { IfOk result (λ found. Advances (scoped scopes.now) (tested (scoped scopes.now) (stmt s.now) (rest.val (value v)) (ahead self.old)) (test_size (stmt s.now) + weigh self.old.todo) found self.new) }
     {
         match s {
-            Stmt::If(_, x, y) => Ok(self.choose(v, x, y)?),
-            Stmt::While(_, b) => Ok(self.turn_while(v, s, b)?),
-            Stmt::Until(_, _) => Ok(self.turn_until(v, s)?),
-            Stmt::Thru(_, b) => Ok(self.repeat(whole_of(v), s, b)?),
+            Stmt::If(_, x, y) => self.choose(v, x, y),
+            Stmt::While(_, b) => self.turn_while(v, s, b),
+            Stmt::Until(_, _) => self.turn_until(v, s),
+            Stmt::Thru(_, b) => self.repeat(whole_of(v), s, b),
             Stmt::For(_, _, step, _, b) => self.test_for(alloc, scopes, v, s, step, b),
             Stmt::Case(_, ss) => Ok(Some(Point::Select(v, ss.items()))),
             _ => Ok(Some(Point::Last(Last::Giving(v)))),
@@ -403,7 +403,7 @@ impl<'p> Work<'p> {
         scopes: &Scopes<'p>,
         v: Value,
         within: Within<'p>,
-    ) -> Result<Option<Point<'p>>, Unable>
+    ) -> Result<Option<Point<'p>>, AllocError>
         requires { self.old.frames ≡ [] }
         ensures { IfOk result (λ found. Advances (scoped scopes.now) (held (scoped scopes.now) within.entry (rest.val (value v)) (ahead self.old)) (within_size within.entry + weigh self.old.todo) found self.new) }
     {
@@ -411,7 +411,7 @@ impl<'p> Work<'p> {
             Within::Evaluating => Ok(Some(Point::Last(Last::Giving(v)))),
             Within::Storing(to) => Ok(Some(Point::Deed(Deed::Store(to, v)))),
             Within::Testing(s) => self.tested(alloc, scopes, v, s),
-            Within::Stepping(difference, s) => Ok(self.stepped(difference, v, s)?),
+            Within::Stepping(difference, s) => self.stepped(difference, v, s),
             Within::Supplying(role, n, mut gs, es) => {
                 append(&mut gs, Given::Valued(v))?;
                 Ok(Some(self.prepare(alloc, scopes, role, n, gs, es)?))
@@ -431,13 +431,13 @@ impl<'p> Work<'p> {
     }
 
     /// An expression from there on, and what it is evaluated for.
-    fn begin_from(
+    pub fn begin_from(
         &mut self,
         alloc: Global,
         scopes: &Scopes<'p>,
         from: Control<'p>,
         within: Within<'p>,
-    ) -> Result<Option<Point<'p>>, Unable>
+    ) -> Result<Option<Point<'p>>, AllocError>
         ensures { IfOk result (λ found. Advances (scoped scopes.now) (held (scoped scopes.now) within.entry (refilled (scoped scopes.now) self.old.frames (half (scoped scopes.now) from.entry)) (ahead self.old)) (within_size within.entry + weigh self.old.todo) found self.new) }
     {
         match evaluate(alloc, scopes, from, &mut self.frames)? {
@@ -447,14 +447,14 @@ impl<'p> Work<'p> {
     }
 
     /// The making of arrays: their upper bounds come first.
-    fn make_arrays(
+    pub fn make_arrays(
         &mut self,
         alloc: Global,
         scopes: &Scopes<'p>,
         kind: Kind,
         ns: &'p [Named],
         ps: &'p [Pair],
-    ) -> Result<Option<Point<'p>>, Unable>
+    ) -> Result<Option<Point<'p>>, AllocError>
         requires { self.old.frames ≡ [] }
         ensures { IfOk result (λ found. Advances (scoped scopes.now) (settle_items (scoped scopes.now) (rest.make_arrays kind ns.now (pairs ps.now) ∷ ahead self.old)) (3 + weigh self.old.todo) found self.new) }
     {
@@ -462,7 +462,7 @@ impl<'p> Work<'p> {
     }
 
     /// The making of events.
-    fn make_events(&mut self, ns: &'p [Named]) -> Result<Option<Point<'p>>, AllocError>
+    pub fn make_events(&mut self, ns: &'p [Named]) -> Result<Option<Point<'p>>, AllocError>
         requires { self.old.frames ≡ [] }
         ensures { (sc : scoping.Scopes) → IfOk result (λ found. Advances sc (settle_items sc (statements.event_items ns.now ++ ahead self.old)) (3 + length ns.now + weigh self.old.todo) found self.new) }
     {
@@ -472,7 +472,7 @@ impl<'p> Work<'p> {
 
     /// A BEGIN with these declarations and statements: a block is entered, a compound is not.
     #[tactic(auto, using(crate::proofs::Following::list_laws))]
-    fn open(
+    pub fn open(
         &mut self,
         b: &'p Body,
         ds: &'p [Decl],
@@ -492,7 +492,7 @@ impl<'p> Work<'p> {
     }
 
     /// The statements of a list from there on.
-    fn next_statement(&mut self, ss: &'p [Stmt]) -> Result<Option<Point<'p>>, AllocError>
+    pub fn next_statement(&mut self, ss: &'p [Stmt]) -> Result<Option<Point<'p>>, AllocError>
         requires { self.old.frames ≡ [] }
         ensures { (sc : scoping.Scopes) → IfOk result (λ found. Advances sc (settle_items sc (statements.items (stmts ss.now) (ahead self.old))) (1 + stmts_size (stmts ss.now) + weigh self.old.todo) found self.new) }
     {
@@ -504,7 +504,7 @@ impl<'p> Work<'p> {
     }
 
     /// An event for each of these names.
-    fn next_event(&mut self, ns: &'p [Named]) -> Result<Option<Point<'p>>, AllocError>
+    pub fn next_event(&mut self, ns: &'p [Named]) -> Result<Option<Point<'p>>, AllocError>
         requires { self.old.frames ≡ [] }
         ensures { (sc : scoping.Scopes) → IfOk result (λ found. Advances sc (settle_items sc (statements.event_items ns.now ++ ahead self.old)) (1 + length ns.now + weigh self.old.todo) found self.new) }
     {

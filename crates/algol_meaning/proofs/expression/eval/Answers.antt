@@ -5,11 +5,11 @@ use Rattle.algol_meaning.specs.SeenTree.{expr, exprs}
 use Rattle.algol_meaning.proofs.Trees.{expr_of_variable}
 use Rattle.algol_meaning.proofs.expression.eval.Goals as goal
 
-pub returns-in_ok-variable-in-Variable : goal.returns-in_ok-variable-in-Variable
-returns-in_ok-variable-in-Variable c =
+pub returns-in-Variable : goal.returns-in-Variable
+returns-in-Variable c =
     let q : c.deref.result.now ≡ c.in-Variable.v.subs = c.deref.ensures.value ∙ c.items.ensures in
     let e : expr c.args.e.now ≡ tree.variable (tree.subscripted c.in-Variable.v.name (exprs c.deref.result.now)) =
     ap expr c.in-Variable.is
     ∙ expr_of_variable c.in-Variable.v
     ∙ ap (λ (es : List Expr). tree.variable (tree.subscripted c.in-Variable.v.name (exprs es))) (sym q) in
-    rw e c.in_ok-variable-in-Variable.ensures
+    rw e c.variable.ensures

@@ -6,7 +6,7 @@ use Rattle.algol_meaning.specs.SeenValue.{value}
 use Rattle.algol_meaning.specs.SeenScope.{scoped}
 use Rattle.algol_meaning.proofs.statement.Work.test_for.Goals as goal
 
-pub returns-in_ok-turn_for-in-Value : goal.returns-in_ok-turn_for-in-Value
-returns-in_ok-turn_for-in-Value c =
+pub returns-in-Value : goal.returns-in-Value
+returns-in-Value c =
     let q : settle (scoped c.args.scopes.now) (expr c.args.step.now) ≡ rest.val (value c.in-Value.by) = search (rules) in
-    λ n e last same. rw q (c.in_ok-turn_for-in-Value.ensures (scoped c.args.scopes.now) n e (expr c.args.step.now) last same)
+    λ n e last same. rw q (c.turn_for.ensures (scoped c.args.scopes.now) n e (expr c.args.step.now) last same)
