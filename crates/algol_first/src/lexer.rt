@@ -19,7 +19,9 @@ ghost use Rattle.algol_first.specs.Ended.{EndsOnce};
 ghost use Rattle.algol_first.specs.Front.{BeginsWith, BeginsNone, BeginsWithSymbol};
 
 use crate::unread::Unread;
-use algol_tree::{LAST_COLUMN, Line, MOST_NAME_BYTES, Reserved, Spot, Symbol, Token, TokenKind};
+use algol_tree::{
+    LAST_COLUMN, Line, MOST_NAME_BYTES, Reserved, Spot, Symbol, Token, TokenKind, Whole,
+};
 use b67_num::MOST;
 use std::alloc::Global;
 
@@ -235,7 +237,7 @@ fn number(bytes: &[u8]) -> Result<TokenKind, Unread>
         (kind : TokenKind) → Spells bytes.now kind → IsWithinLimits kind → ⊥ }
 {
     match value(bytes) {
-        Some(value) => Ok(TokenKind::Number(value as i64)),
+        Some(value) => Ok(TokenKind::Number(Whole::fitting(value as i64))),
         None => Err(Unread::Unbuilt),
     }
 }
@@ -424,7 +426,7 @@ mod tests {
 
     fn is_number(token: &Token, number: i64) -> bool {
         match token.kind {
-            TokenKind::Number(found) => found == number,
+            TokenKind::Number(found) => found.number() == number,
             _ => false,
         }
     }

@@ -251,7 +251,7 @@ fn strip_number(tokens: &[Token]) -> Option<(i64, Spot, &[Token])>
     let (first, rest) = tokens.split_first()?;
     let spot = first.spot;
     match first.kind {
-        TokenKind::Number(value) => Some((value, spot, rest)),
+        TokenKind::Number(value) => Some((value.number(), spot, rest)),
         _ => None,
     }
 }

@@ -15,7 +15,7 @@ use crate::runs::{
 };
 use crate::symbols::symbol;
 use crate::words::reserved;
-use algol_tree::{Code, Line, MOST_NAME_BYTES, Reserved, Symbol, TokenKind};
+use algol_tree::{Code, Line, MOST_NAME_BYTES, Reserved, Symbol, TokenKind, Whole};
 use b67_num::MOST;
 use std::alloc::{AllocError, Global};
 
@@ -46,7 +46,7 @@ fn number_front(text: &[u8]) -> Front
 {
     let size = digits(text);
     match value(&text[..size]) {
-        Some(value) => Front::token(TokenKind::Number(value as i64), size),
+        Some(value) => Front::token(TokenKind::Number(Whole::fitting(value as i64)), size),
         None => Front::wrong(Code::NumberTooWide),
     }
 }

@@ -138,7 +138,7 @@ mod tests {
             TokenKind::Word(Reserved::End) => b"END",
             TokenKind::Word(_) => b"word",
             TokenKind::Name(name) => name.bytes(),
-            TokenKind::Number(5) => b"5",
+            TokenKind::Number(value) if value.number() == 5 => b"5",
             TokenKind::Number(_) => b"number",
             TokenKind::Text(text) => text.bytes(),
             TokenKind::Symbol(Symbol::Becomes) => b":=",

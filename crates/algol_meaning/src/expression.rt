@@ -22,8 +22,7 @@ use crate::part::{Answer, Control, Frame, Given, Head, Outcome, Place, Supplied,
 use crate::scope::{Scopes, Sort};
 use crate::stack::Stack;
 use crate::value::Value;
-use algol_tree::{Call, Expr, List, Named, Op, Variable};
-use b67_num::Whole;
+use algol_tree::{Call, Expr, List, Named, Op, Variable, Whole};
 use std::alloc::{AllocError, Global};
 
 /// A name alone: a call where it names a procedure.

@@ -15,8 +15,7 @@ use crate::expression::alone;
 use crate::part::{Control, Frame};
 use crate::scope::Scopes;
 use crate::statement::{Again, Deed, Last, Next, Point, Right, Role, Sought, Within, Work};
-use algol_tree::{Decl, Expr, List, Named, Op, Stmt};
-use b67_num::Whole;
+use algol_tree::{Decl, Expr, List, Named, Op, Stmt, Whole};
 use std::alloc::{AllocError, Global};
 
 impl<'p> Work<'p> {

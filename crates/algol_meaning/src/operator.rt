@@ -8,8 +8,8 @@ ghost use Rattle.b67_num.specs.Whole.{calculated, related, negation_of};
 ghost use Rattle.algol_meaning.specs.SeenValue.{value, resulting};
 
 use crate::value::Value;
-use algol_tree::Op;
-use b67_num::{Calculation, NumFault, Relation, Whole, calculate, compare, neg};
+use algol_tree::{Op, Whole};
+use b67_num::{Calculation, NumFault, Relation, calculate, compare, neg};
 
 /// The number of a value, 0 where it is a truth value.
 pub fn whole_of(v: Value) -> Whole

@@ -24,8 +24,9 @@ use crate::scope::Scopes;
 use crate::stack::append;
 use crate::statement::{Again, Deed, Last, Next, Point, Right, Role, Sought, Target, Within, Work};
 use crate::value::Value;
-use algol_tree::{Body, Decl, Expr, Kind, List, Named, Op, Pair, PhraseText, Stmt, Variable};
-use b67_num::Whole;
+use algol_tree::{
+    Body, Decl, Expr, Kind, List, Named, Op, Pair, PhraseText, Stmt, Variable, Whole,
+};
 use std::alloc::{AllocError, Global};
 
 impl<'p> Work<'p> {

@@ -3,8 +3,9 @@
 use crate::part::{Frame, Given, Head, Place};
 use crate::stack::Stack;
 use crate::value::Value;
-use algol_tree::{Body, Decl, EventAct, Expr, Kind, Line, List, Named, Pair, PhraseText, Stmt};
-use b67_num::Whole;
+use algol_tree::{
+    Body, Decl, EventAct, Expr, Kind, Line, List, Named, Pair, PhraseText, Stmt, Whole,
+};
 
 /// What follows a statement.
 #[derive(Drop)]

@@ -1,6 +1,6 @@
 //! The values of variables and expressions.
 
-use b67_num::Whole;
+use algol_tree::Whole;
 
 /// A value: a whole number or a truth value.
 #[derive(Clone, Copy, PartialEq, Eq)]

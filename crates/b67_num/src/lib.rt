@@ -9,10 +9,6 @@ ghost use Rattle.b67_num.specs.Whole.{most, whole, calculated, related, negation
 ghost use Rattle.b67_num.specs.declared.Calculation.{Calculation};
 ghost use Rattle.b67_num.specs.declared.Calculation.TheVariants.{Sum, Difference, Product, WholeQuotient, TruncatedQuotient, Remainder};
 
-mod whole;
-
-pub use whole::Whole;
-
 /// The greatest magnitude of a whole number: an operand's mantissa has 39 bits.
 pub const MOST: i64 = 549_755_813_887;
 

@@ -16,7 +16,7 @@ returns-in-Some c =
     let n : ℕ = c.digits-size.result in
     let whole = c.in-Some.ensures.within.0 in
     let within : value_of (take n c.args.text.now) ≤ most = omega (arith, c.in-Some.ensures.within.1, whole) in
-    let same = whole_value c.in-Some.value c.in-Some.ensures.within.1 ∙ ap pos whole in
+    let same = c.fitting.ensures ∙ whole_value c.in-Some.value c.in-Some.ensures.within.1 ∙ ap pos whole in
     subst (Stands Program c.args.text.now) (sym (c.token.ensures ∙ ap (λ z. token_of (kinds.Number z) n) same)) (number_at c.args.text.now n (digits_at c.args.text.now n c.requires.some c.requires.digit c.digits-size.ensures.value) within)
 
 -- a number above it

@@ -1,10 +1,10 @@
 ghost use Rattle.std.specs.Prelude.{◌≡◌, ◌≤◌, nat_le, unsigned_abs, if◌then◌else◌, pos, Some, None};
 ghost use Rattle.b67_num.specs.Whole.{most};
 
-use crate::MOST;
+use b67_num::MOST;
 use std::marker::Model;
 
-/// A whole number of the machine, which contracts see as a number: its magnitude is at most [`MOST`].
+/// A whole number of the machine, which contracts see as a number: its magnitude is at most [`MOST`](b67_num::MOST).
 #[derive(Clone, Copy, PartialEq, Eq)]
 pub struct Whole {
     number: i64,
