@@ -136,15 +136,16 @@ fails_last {r} {left} {n} f q qs tokens o e read =
     let same : q ≡ r = cc in
     read_fails (subst (λ (s : Record). IsRead s n tokens o) same read) f
 
-one_lexing : {bytes : List ℕ} {tokens others : List Token} → Lexes bytes tokens → Lexes bytes others → tokens ≡ others
+-- A text has one list of tokens, or is refused at one spot for one reason, and not both.
+pub one_lexing : {bytes : List ℕ} {tokens others : List Token} → Lexes bytes tokens → Lexes bytes others → tokens ≡ others
 one_lexing {bytes} p q =
     let one = one_part p.read q.read (none_left p.mode) (none_left q.mode) in
     p.ended ∙ ap (λ (ts : List Token). ts ++ end_of (records_of bytes)) one.tokens_are ∙ sym q.ended
 
-not_both : {bytes : List ℕ} {tokens : List Token} {spot : Spot} {code : Code} → Lexes bytes tokens → IsRefused bytes spot code → ⊥
+pub not_both : {bytes : List ℕ} {tokens : List Token} {spot : Spot} {code : Code} → Lexes bytes tokens → IsRefused bytes spot code → ⊥
 not_both p q = let one = one_part p.read q.read (none_left p.mode) (fails_last q.fails) in let clash = one.left_is in cc
 
-one_refusal : {bytes : List ℕ} {spot other : Spot} {code reason : Code} → IsRefused bytes spot code → IsRefused bytes other reason → IsOneRefusal spot other code reason
+pub one_refusal : {bytes : List ℕ} {spot other : Spot} {code reason : Code} → IsRefused bytes spot code → IsRefused bytes other reason → IsOneRefusal spot other code reason
 one_refusal {spot = spot} {code = code} p q =
     let one = one_part p.read q.read (fails_last p.fails) (fails_last q.fails) in
     let left = one.left_is in

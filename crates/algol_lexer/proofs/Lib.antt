@@ -7,6 +7,6 @@ mod LexStands
 mod LexStrings
 mod LexRemarks
 mod LexOnly
-mod LexReach
+pub mod LexReach
 mod LexRecords
 mod LexTexts

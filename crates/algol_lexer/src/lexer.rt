@@ -20,19 +20,19 @@ use std::alloc::Global;
 /// Appends the tokens of a record, and says what its end stands in.
 fn read_record(
     alloc: Global,
-    record: &Record,
+    card: &Record,
     mut mode: Mode,
     tokens: &mut Vec<Token>,
 ) -> Result<Mode, Refusal>
-    requires room { record.now.from + length record.now.bytes.now < 2 ^ 32 - 1 }
+    requires room { card.now.from + length card.now.bytes.now < 2 ^ 32 - 1 }
     // The tokens of the record are put behind those before.
-    ensures read { IfOk result (λ next. Reads (record_of record.now) (mode_of mode) (mode_of next) tokens.old.items tokens.new.items) }
+    ensures read { IfOk result (λ next. Reads (record_of card.now) (mode_of mode) (mode_of next) tokens.old.items tokens.new.items) }
     // There are at most as many as bytes.
-    ensures many { OnOk result (length tokens.new.items ≤ length tokens.old.items + length record.now.bytes.now) }
+    ensures many { OnOk result (length tokens.new.items ≤ length tokens.old.items + length card.now.bytes.now) }
     // What is refused first.
-    ensures refused { (spot : Spot) (code : Code) → result ≡ Err (At spot code) → Fails (record_of record.now) (mode_of mode) spot code }
+    ensures refused { (spot : Spot) (code : Code) → result ≡ Err (At spot code) → Fails (record_of card.now) (mode_of mode) spot code }
 {
-    let columns = columns(record.bytes);
+    let columns = columns(card.bytes);
     let mut at = 0;
     'reading: while at < columns.len() {
         let (_, text) = columns.split_at(at);
@@ -42,21 +42,21 @@ fn read_record(
                 kind,
                 mode: next,
             } => {
-                record.put(kind, at, size, tokens)?;
+                card.put(kind, at, size, tokens)?;
                 mode = next;
                 at += size;
             }
             Front::Wrong { skipped, code } => {
                 return Err(Refusal::At {
-                    spot: record.spot(at + skipped),
+                    spot: card.spot(at + skipped),
                     code,
                 });
             }
         }
     }
-    if record.bytes.len() > MOST_RECORD_BYTES {
+    if card.bytes.len() > MOST_RECORD_BYTES {
         return Err(Refusal::At {
-            spot: record.spot(MOST_RECORD_BYTES),
+            spot: card.spot(MOST_RECORD_BYTES),
             code: Code::LineTooLong,
         });
     }
@@ -93,23 +93,23 @@ pub fn lex(alloc: Global, bytes: &[u8]) -> Result<Vec<Token>, Refusal>
     let mut rest = bytes;
     'records: while let Some(length) = first_line_feed(rest) {
         let (line_bytes, after) = rest.split_at(length);
-        let record = Record {
+        let card = Record {
             line,
             from,
             bytes: without_return(line_bytes),
         };
-        mode = read_record(alloc, &record, mode, &mut tokens)?;
+        mode = read_record(alloc, &card, mode, &mut tokens)?;
         line += 1;
         from += length + 1;
         (_, rest) = after.split_at(1);
     }
-    let record = Record {
+    let card = Record {
         line,
         from,
         bytes: rest,
     };
-    read_record(alloc, &record, mode, &mut tokens)?;
-    tokens.push(record.token(TokenKind::End, rest.len(), 0))?;
+    read_record(alloc, &card, mode, &mut tokens)?;
+    tokens.push(card.token(TokenKind::End, rest.len(), 0))?;
     Ok(tokens)
 }
 

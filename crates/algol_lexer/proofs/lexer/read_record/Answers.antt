@@ -13,7 +13,7 @@ use Rattle.algol_lexer.proofs.lexer.read_record.Goals as goal
 
 -- before the first column
 pub reading-init : goal.reading-init
-reading-init c = record { reached = reaches_start (record_of c.args.record.now) (mode_of c.args.mode) c.args.tokens.now.items; within = omega arith; many = omega arith }
+reading-init c = record { reached = reaches_start (record_of c.args.card.now) (mode_of c.args.mode) c.args.tokens.now.items; within = omega arith; many = omega arith }
 
 -- over a piece
 pub put-requires : goal.put-requires
@@ -33,13 +33,13 @@ reading-smaller c =
 
 pub reading-preserved : goal.reading-preserved
 reading-preserved c =
-    let st : Stands (mode_of c.reading.mode) (drop c.reading.at (columns (record_of c.args.record.now))) (Piece c.in-Piece.size c.in-Piece.kind (mode_of c.in-Piece.next)) = stands_there c.reading.at c.in_ok-size.ensures (ap front_shown c.in-Piece.is) c.split_at.ensures.back c.columns-columns.ensures.value in
+    let st : Stands (mode_of c.reading.mode) (drop c.reading.at (columns (record_of c.args.card.now))) (Piece c.in-Piece.size c.in-Piece.kind (mode_of c.in-Piece.next)) = stands_there c.reading.at c.in_ok-size.ensures (ap front_shown c.in-Piece.is) c.split_at.ensures.back c.columns-columns.ensures.value in
     let fits : (0 < c.in-Piece.size) × (c.in-Piece.size ≤ length c.split_at.result.1.now) = stands_fits (subst (λ f. Stands (mode_of c.reading.mode) c.split_at.result.1.now (front_shown f)) c.in-Piece.is c.in_ok-size.ensures) in
     let new = c.in_ok-put-in-Piece.ensures in
     record {
       reached = reaches_more c.reading.invariant.reached st new;
       within = omega (arith, fits.0, fits.1, c.split_at.ensures.back_len);
-      many = omega (arith, fits.0, ap length new, length-append c.reading.tokens.items (token_at (record_of c.args.record.now) c.reading.at c.in-Piece.size c.in-Piece.kind), length-token_at (record_of c.args.record.now) c.reading.at c.in-Piece.size c.in-Piece.kind, c.reading.invariant.many);
+      many = omega (arith, fits.0, ap length new, length-append c.reading.tokens.items (token_at (record_of c.args.card.now) c.reading.at c.in-Piece.size c.in-Piece.kind), length-token_at (record_of c.args.card.now) c.reading.at c.in-Piece.size c.in-Piece.kind, c.reading.invariant.many);
     }
 
 -- what cannot be read
@@ -55,24 +55,24 @@ spot-requires c =
 
 pub returns-in-Wrong-clause-refused : goal.returns-in-Wrong-clause-refused
 returns-in-Wrong-clause-refused c =
-    let st : Stands (mode_of c.reading.mode) (drop c.reading.at (columns (record_of c.args.record.now))) (Wrong c.in-Wrong.skipped c.in-Wrong.code) = stands_there c.reading.at c.in_ok-size.ensures (ap front_shown c.in-Wrong.is) c.split_at.ensures.back c.columns-columns.ensures.value in
-    let fails : Fails (record_of c.args.record.now) (mode_of c.args.mode) (spot_in (record_of c.args.record.now) (c.reading.at + c.in-Wrong.skipped)) c.in-Wrong.code = reaches_wrong c.reading.invariant.reached st in
+    let st : Stands (mode_of c.reading.mode) (drop c.reading.at (columns (record_of c.args.card.now))) (Wrong c.in-Wrong.skipped c.in-Wrong.code) = stands_there c.reading.at c.in_ok-size.ensures (ap front_shown c.in-Wrong.is) c.split_at.ensures.back c.columns-columns.ensures.value in
+    let fails : Fails (record_of c.args.card.now) (mode_of c.args.mode) (spot_in (record_of c.args.card.now) (c.reading.at + c.in-Wrong.skipped)) c.in-Wrong.code = reaches_wrong c.reading.invariant.reached st in
     λ spot code e.
-    let spots : spot_in (record_of c.args.record.now) (c.reading.at + c.in-Wrong.skipped) ≡ spot = let here = c.spot.ensures in cc in
+    let spots : spot_in (record_of c.args.card.now) (c.reading.at + c.in-Wrong.skipped) ≡ spot = let here = c.spot.ensures in cc in
     let codes_are : c.in-Wrong.code ≡ code = cc in
-    subst (λ (k : Code). Fails (record_of c.args.record.now) (mode_of c.args.mode) spot k) codes_are (subst (λ (s : Spot). Fails (record_of c.args.record.now) (mode_of c.args.mode) s c.in-Wrong.code) spots fails)
+    subst (λ (k : Code). Fails (record_of c.args.card.now) (mode_of c.args.mode) spot k) codes_are (subst (λ (s : Spot). Fails (record_of c.args.card.now) (mode_of c.args.mode) s c.in-Wrong.code) spots fails)
 
 -- the byte behind the last column of a card
-pub returns-then-record-gt-MOST_RECORD_BYTES-clause-refused :
-    goal.returns-then-record-gt-MOST_RECORD_BYTES-clause-refused
-returns-then-record-gt-MOST_RECORD_BYTES-clause-refused c =
+pub returns-then-card-gt-MOST_RECORD_BYTES-clause-refused :
+    goal.returns-then-card-gt-MOST_RECORD_BYTES-clause-refused
+returns-then-card-gt-MOST_RECORD_BYTES-clause-refused c =
     let size = ap length c.columns-columns.ensures.value in
-    let whole : c.reading.at ≡ length (columns (record_of c.args.record.now)) = omega (arith, size, c.reading-test.false, c.reading.invariant.within) in
-    let fails : Fails (record_of c.args.record.now) (mode_of c.args.mode) (spot_in (record_of c.args.record.now) MOST_RECORD_BYTES) LineTooLong = reaches_long c.reading.invariant.reached whole c.if-record-gt-MOST_RECORD_BYTES.true in
+    let whole : c.reading.at ≡ length (columns (record_of c.args.card.now)) = omega (arith, size, c.reading-test.false, c.reading.invariant.within) in
+    let fails : Fails (record_of c.args.card.now) (mode_of c.args.mode) (spot_in (record_of c.args.card.now) MOST_RECORD_BYTES) LineTooLong = reaches_long c.reading.invariant.reached whole c.if-card-gt-MOST_RECORD_BYTES.true in
     λ spot code e.
-    let spots : spot_in (record_of c.args.record.now) MOST_RECORD_BYTES ≡ spot = let here = c.spot-then-record-gt-MOST_RECORD_BYTES.ensures in cc in
+    let spots : spot_in (record_of c.args.card.now) MOST_RECORD_BYTES ≡ spot = let here = c.spot-then-card-gt-MOST_RECORD_BYTES.ensures in cc in
     let codes_are : LineTooLong ≡ code = cc in
-    subst (λ (k : Code). Fails (record_of c.args.record.now) (mode_of c.args.mode) spot k) codes_are (subst (λ (s : Spot). Fails (record_of c.args.record.now) (mode_of c.args.mode) s LineTooLong) spots fails)
+    subst (λ (k : Code). Fails (record_of c.args.card.now) (mode_of c.args.mode) spot k) codes_are (subst (λ (s : Spot). Fails (record_of c.args.card.now) (mode_of c.args.mode) s LineTooLong) spots fails)
 
 -- behind the last column
 pub returns-clause-many : goal.returns-clause-many

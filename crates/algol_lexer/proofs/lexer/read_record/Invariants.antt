@@ -7,7 +7,7 @@ use Rattle.algol_lexer.proofs.lexer.read_record.Given as goal
 -- the tokens of the columns so far stand behind those before
 abbrev pub invariant-reading : goal.invariant-reading
 invariant-reading l = record {
-  reached : Reaches (record_of l.record) (mode_of l.fn.mode) (mode_of l.mode) l.at l.fn.tokens.items l.tokens.items;
+  reached : Reaches (record_of l.card) (mode_of l.fn.mode) (mode_of l.mode) l.at l.fn.tokens.items l.tokens.items;
   within : l.at ≤ length l.columns;
   many : length l.tokens.items ≤ length l.fn.tokens.items + l.at;
 }
