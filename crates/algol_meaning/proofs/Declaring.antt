@@ -1,5 +1,5 @@
 -- Laws of declarations that are actions.
-use Rattle.std.proofs.Common.{arith, rules, ◌≡◌, ◌<◌, ◌+◌, ℕ, List, ◌∷◌, ◌++◌, ap, sym, subst, ◌∙◌, Option, Some, None, Result, Ok, Err, IfOk}
+use Rattle.std.proofs.Common.{arith, rules, ◌≡◌, ◌<◌, ◌+◌, ℕ, List, ◌∷◌, ◌++◌, ap, subst, ◌∙◌, Option, Some, None, Result, Ok, Err, IfOk}
 use Rattle.std.proofs.lemmas.List.{append_assoc}
 use Rattle.std.specs.Borrow.{Bor}
 use Rattle.algol_tree.specs.Plain as tree
@@ -13,7 +13,6 @@ use Rattle.algol_tree.specs.declared.tree.Heading.{Heading}
 use Rattle.algol_tree.specs.declared.tree.Stmt.{Stmt}
 use Rattle.algol_tree.specs.declared.tree.Decl.{Decl, the_lemmas}
 use Rattle.algol_tree.specs.declared.tree.Decl.TheVariants as shapes
-use Rattle.algol_meaning.specs.Rest.{Item}
 use Rattle.algol_meaning.specs.Statements.{decl_items, decls_items, settle_items}
 use Rattle.algol_meaning.specs.SeenTree.{stmt, decl, decls}
 use Rattle.algol_meaning.specs.SeenStatement.{following, weigh, decl_size, decls_size, Advances}

@@ -1,5 +1,5 @@
 -- Laws of what follows.
-use Rattle.std.proofs.Common.{◌≡◌, refl, List, [], ◌∷◌, ◌++◌, map, ap, ◌∙◌}
+use Rattle.std.proofs.Common.{◌≡◌, refl, List, [], ◌∷◌, ◌++◌, map, ap}
 use Rattle.algol_tree.specs.Plain as tree
 use Rattle.algol_tree.specs.Plain.{PStmts}
 use Rattle.algol_tree.specs.Scopes.{Scopes}

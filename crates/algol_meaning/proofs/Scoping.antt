@@ -1,6 +1,6 @@
 -- Laws of parameters.
 use Rattle.std.proofs.Common.{◌≡◌, refl, ℕ, zero, suc, List, [], ◌∷◌, ◌∙◌, sym, ap, map, length, nat_lt, true, false, Some, None, slice_get, slice_index_or, option_map}
-use Rattle.std.proofs.lemmas.Option.{slice_get-map, slice_get_read, slice_get_past}
+use Rattle.std.proofs.lemmas.Option.{slice_get_read, slice_get_past}
 use Rattle.std.proofs.lemmas.Bool.{ltb-true, ltb-false}
 use Rattle.algol_meaning.specs.Settle.{sorts_of}
 use Rattle.algol_meaning.specs.SeenScope.{parameter, sort}

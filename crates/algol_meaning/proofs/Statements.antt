@@ -5,8 +5,6 @@ use Rattle.std.specs.declared.alloc.Global.{Global}
 use Rattle.algol_tree.specs.Plain as tree
 use Rattle.algol_tree.specs.declared.tree.Named.{Named}
 use Rattle.algol_tree.specs.declared.tree.Expr.{Expr}
-use Rattle.algol_tree.specs.declared.tree.Variable.{Variable}
-use Rattle.algol_tree.specs.declared.tree.Call.{Call}
 use Rattle.algol_tree.specs.declared.tree.Stmt.{Stmt, the_lemmas}
 use Rattle.algol_tree.specs.declared.tree.Stmt.TheVariants as shapes
 use Rattle.algol_meaning.specs.SeenTree.{expr, stmt, branched}

@@ -1,5 +1,5 @@
 -- Laws of the actuals of a call.
-use Rattle.std.proofs.Common.{arith, ◌≡◌, refl, ℕ, zero, suc, ◌+◌, List, [], ◌∷◌, ◌++◌, map, drop, length, ap, sym, ◌∙◌, slice_get, Some, None}
+use Rattle.std.proofs.Common.{arith, ◌≡◌, refl, ℕ, zero, suc, ◌+◌, List, [], ◌∷◌, ◌++◌, drop, length, ap, sym, ◌∙◌, slice_get, Some, None}
 use Rattle.std.proofs.lemmas.List.{length-append}
 use Rattle.algol_tree.specs.Plain as tree
 use Rattle.algol_tree.specs.Plain.{PExpr, PExprs}

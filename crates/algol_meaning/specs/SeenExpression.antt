@@ -11,7 +11,6 @@ use Rattle.algol_meaning.specs.Rest.{Hole, Half, val, busy, HalfGiven, given, wa
 use Rattle.algol_meaning.specs.Settle.{sorts_of, callee, settle, settle_actuals, left_of, right_of, negated_of, inverted_of, condition_of, subscripted_of, called_of, valued_of}
 use Rattle.algol_meaning.specs.SeenTree.{expr, exprs}
 use Rattle.algol_meaning.specs.SeenValue as seen
-use Rattle.algol_meaning.specs.declared.value.Value.{Value}
 use Rattle.algol_meaning.specs.declared.cell.Reference.{Reference}
 use Rattle.algol_meaning.specs.declared.cell.EventCell.{EventCell}
 use Rattle.algol_meaning.specs.declared.cell.Bounds.{Bounds}

@@ -1,18 +1,13 @@
 -- What the points of a part, and what follows them, stand for.
-use Rattle.std.specs.Prelude.{◌≡◌, ℕ, ◌+◌, ◌<◌, ◌*◌, ◌++◌, Bool, true, false, List, [], ◌∷◌, map, length, Option, Some, None}
-use Rattle.std.specs.declared.boxed.Box.{Box}
-use Rattle.std.specs.declared.alloc.Global.{Global}
+use Rattle.std.specs.Prelude.{◌≡◌, ℕ, ◌+◌, ◌<◌, ◌++◌, Bool, true, false, List, [], ◌∷◌, map, length, Option, Some, None}
 use Rattle.algol_tree.specs.Plain as tree
 use Rattle.algol_tree.specs.Plain.{PExpr, PStmt, PStmts, PDecl, PDecls, PBody}
 use Rattle.algol_tree.specs.Scopes.{Scopes}
 use Rattle.algol_tree.specs.declared.tree.Op.TheVariants as operators
 use Rattle.algol_tree.specs.declared.tree.Named.{Named}
-use Rattle.algol_tree.specs.declared.tree.Stmt.{Stmt}
-use Rattle.algol_tree.specs.declared.tree.Pair.{Pair}
 use Rattle.algol_meaning.specs.Value as plain
 use Rattle.algol_meaning.specs.Rest as rest
 use Rattle.algol_meaning.specs.Rest.{Hole, Half, val, busy, HalfGiven, given, wants, HalfPlace, at, aims, Item, run, turn, count, check, test, result, make_arrays, make_event, Rest}
-use Rattle.algol_meaning.specs.Settle as settling
 use Rattle.algol_meaning.specs.Settle.{settle, settle_actuals, valued_of, aimed_of}
 use Rattle.algol_meaning.specs.Statements as statements
 use Rattle.algol_meaning.specs.Statements.{items, decls_items, event_items, settle_items, settle_line, settle_bounds, alone, stepped}
@@ -20,7 +15,6 @@ use Rattle.algol_meaning.specs.Asks as asks
 use Rattle.algol_meaning.specs.SeenTree.{expr, exprs, stmt, stmts, decls, body, pairs}
 use Rattle.algol_meaning.specs.SeenValue.{value}
 use Rattle.algol_meaning.specs.SeenExpression.{cell, place, all_done, sorts_after, hole, wrap}
-use Rattle.algol_meaning.specs.declared.value.Value.{Value}
 use Rattle.algol_meaning.specs.declared.part.Answer.{Answer}
 use Rattle.algol_meaning.specs.declared.part.Answer.TheVariants as answers
 use Rattle.algol_meaning.specs.declared.part.Frame.{Frame}

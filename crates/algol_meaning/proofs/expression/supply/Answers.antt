@@ -1,5 +1,4 @@
-use Rattle.std.proofs.Common.{rules, ◌≡◌, sym, ap, ◌∙◌, length, Some, None, slice_get}
-use Rattle.algol_tree.specs.Sorts.{procedure_in}
+use Rattle.std.proofs.Common.{rules, sym, ap, ◌∙◌, length, slice_get}
 use Rattle.algol_meaning.specs.Settle.{settle, callee, sorts_of}
 use Rattle.algol_meaning.specs.SeenTree.{expr, exprs}
 use Rattle.algol_meaning.specs.SeenScope.{sort, sorted, scoped}

@@ -1,4 +1,4 @@
-use Rattle.std.proofs.Common.{◌≡◌, sym, ◌∙◌}
+use Rattle.std.proofs.Common.{sym, ◌∙◌}
 use Rattle.algol_meaning.specs.SeenStatement.{following}
 use Rattle.algol_meaning.proofs.Asking.{ask-in}
 use Rattle.algol_meaning.proofs.statement.Point.ask.Goals as goal

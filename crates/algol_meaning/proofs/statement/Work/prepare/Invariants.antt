@@ -3,7 +3,6 @@ use Rattle.algol_meaning.specs.Settle.{settle_actuals}
 use Rattle.algol_meaning.specs.SeenTree.{exprs}
 use Rattle.algol_meaning.specs.SeenScope.{scoped}
 use Rattle.algol_meaning.specs.SeenExpression.{all_done, sorts_from, exprs_size}
-use Rattle.algol_meaning.specs.SeenStatement.{ahead}
 use Rattle.algol_meaning.proofs.statement.Work.prepare.Given as goal
 
 abbrev pub invariant-preparing : goal.invariant-preparing
