@@ -7,3 +7,16 @@ pub mod FirstAccepted
 pub mod Sorts
 pub mod Blocks
 pub mod Scopes
+pub mod Tokens
+pub mod Operators
+pub mod Expressions
+pub mod Headings
+pub mod Statements
+pub mod Programs
+pub mod Refused
+pub mod Due
+pub mod DueExpr
+pub mod DueDecl
+pub mod DueStmt
+pub mod Reading
+pub mod Found
