@@ -1,4 +1,7 @@
 pub mod Spelling
+pub mod Records
+pub mod Lexes
+pub mod Ended
 pub mod FirstLexes
 pub mod Plain
 pub mod FirstReads
