@@ -5,7 +5,7 @@ use Rattle.algol_tree.specs.declared.token.Token.{Token}
 use Rattle.algol_tree.specs.declared.refusal.Code.{Code}
 use Rattle.algol_tree.specs.declared.refusal.Refusal.{Refusal}
 use Rattle.algol_tree.specs.declared.refusal.Refusal.TheVariants as refusals
-use Rattle.algol_tree.specs.Tokens.{EndsOnce}
+use Rattle.algol_tree.specs.Ended.{EndsOnce}
 use Rattle.algol_tree.specs.Due.{Value, Due}
 use Rattle.algol_tree.specs.Reading.{read, refused}
 

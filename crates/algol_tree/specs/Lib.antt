@@ -23,3 +23,5 @@ pub mod DueDecl
 pub mod DueStmt
 pub mod Reading
 pub mod Found
+pub mod Image
+pub mod Ends
