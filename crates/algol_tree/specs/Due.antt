@@ -1,7 +1,7 @@
 -- What is still due after the first tokens of a text: a list, the next first. A token decides alone how the list goes on.
 -- Beside it stand the values that the tokens before have made, the newest first.
 -- This is a device of the proofs, one for the whole language: what a text means is said by the grammar alone.
-use Rattle.std.specs.Prelude.{ℕ, ℤ, List, [], ◌∷◌, ◌++◌, Bool, true, false, Option, Some, None}
+use Rattle.std.specs.Prelude.{ℕ, ℤ, List, ◌∷◌, ◌++◌, Bool, true, false, Option, Some, None}
 use Rattle.algol_tree.specs.declared.token.Spot.{Spot}
 use Rattle.algol_tree.specs.declared.token.Reserved.{Reserved}
 use Rattle.algol_tree.specs.declared.token.Symbol.{Symbol}
@@ -96,7 +96,7 @@ pub data Limit : Type 0 where
   plain : Limit  -- that of the tokens of an expression, where it is of one
   nests : ℕ → Limit  -- the same, and it opens a level where so many are open
   label : ℕ → Spot → Limit  -- the token before it, at that place, opens a level
-  first : Limit → Limit  -- it is the first token of an expression that stands in no other
+  begun : Limit → Limit  -- it is the first token of an expression that stands in no other
 
 -- what a token is to the first that is due
 pub data Turn : Type 0 where
@@ -115,7 +115,7 @@ followed refuses rest = refuses
 
 -- it begins an expression that stands in no other
 abbrev pub begins : Turn → Turn
-begins (takes l ds) = takes (first l) ds
+begins (takes l ds) = takes (begun l) ds
 begins x = x
 
 abbrev pub either : Bool → Turn → Turn → Turn

@@ -1,18 +1,16 @@
 -- What a token is to a part of a heading or of a list of names that is due.
-use Rattle.std.specs.Prelude.{ℕ, ℤ, pos, ◌-ℤ◌, List, [], ◌∷◌, ◌++◌, Option, Some, None, codes}
+use Rattle.std.specs.Prelude.{pos, ◌-ℤ◌, List, [], ◌∷◌, ◌++◌, Option, codes}
 use Rattle.algol_tree.specs.declared.token.Spot.{Spot}
 use Rattle.algol_tree.specs.declared.token.TokenKind.{TokenKind}
 use Rattle.algol_tree.specs.declared.token.TokenKind.TheVariants as kinds
 use Rattle.algol_tree.specs.declared.token.Reserved.TheVariants as reserved
 use Rattle.algol_tree.specs.declared.token.Symbol.TheVariants as symbols
-use Rattle.algol_tree.specs.declared.tree.Named.{Named}
 use Rattle.algol_tree.specs.declared.tree.Kind.{Kind}
 use Rattle.algol_tree.specs.declared.tree.Kind.TheVariants as types
-use Rattle.algol_tree.specs.declared.tree.Spec.{Spec}
 use Rattle.algol_tree.specs.declared.tree.Spec.TheVariants as specs
 use Rattle.algol_tree.specs.Tokens.{is_word, is_symbol}
 use Rattle.algol_tree.specs.Headings.{type_of}
-use Rattle.algol_tree.specs.Due.{Value, name_is, names, low, lows, specified, heading, Make, put, Due, make, word, symbol, spelled, named, names_more, printer_part, files_more, literal, number_negated, lows_more, values_part, spec, spec_typed, specs_more, behind_procedure, procedure_body, Turn, takes, makes, skips, refuses, plain, followed, either, optional}
+use Rattle.algol_tree.specs.Due.{name_is, names, low, lows, specified, heading, Make, put, Due, make, symbol, spelled, named, names_more, printer_part, files_more, literal, number_negated, lows_more, values_part, spec, spec_typed, specs_more, Turn, takes, makes, skips, refuses, plain, followed, either, optional}
 
 -- how values are made into one
 

@@ -13,8 +13,8 @@ use Rattle.algol_tree.specs.declared.tree.Op.{Op}
 use Rattle.algol_tree.specs.Plain as trees
 use Rattle.algol_tree.specs.Plain.{PExpr, PExprs, subscripted, called, none, more}
 use Rattle.algol_tree.specs.Tokens.{is_word, is_symbol}
-use Rattle.algol_tree.specs.Operators.{Part, expr, level, not_part, rel, primary, operand, operator, relop}
-use Rattle.algol_tree.specs.Due.{Value, one, many, event_named, Make, put, Due, make, word, symbol, spelled, part, more_of, relation, behind_name, exprs_more, opening, event, behind_event, whole_ends, Turn, takes, makes, skips, refuses, plain, nests, followed, begins, either, optional}
+use Rattle.algol_tree.specs.Operators.{Part, expr, level, not_part, rel, primary, operand}
+use Rattle.algol_tree.specs.Due.{one, many, event_named, Make, put, Due, make, word, symbol, spelled, part, more_of, relation, behind_name, exprs_more, opening, event, behind_event, whole_ends, Turn, takes, makes, skips, refuses, plain, nests, followed, begins, either}
 
 abbrev pub is_sign : TokenKind → Bool
 is_sign k = is_symbol symbols.Plus k || is_symbol symbols.Minus k

@@ -1,10 +1,9 @@
 -- What a token is to a statement or a declaration that is due.
-use Rattle.std.specs.Prelude.{◌+◌, ℕ, ℤ, List, [], ◌∷◌, ◌++◌, Bool, true, false, Option, Some, None}
+use Rattle.std.specs.Prelude.{◌+◌, ℕ, List, [], ◌∷◌, ◌++◌, Option, Some, None}
 use Rattle.algol_tree.specs.declared.token.Spot.{Spot}
 use Rattle.algol_tree.specs.declared.token.TokenKind.{TokenKind}
 use Rattle.algol_tree.specs.declared.token.TokenKind.TheVariants as kinds
 use Rattle.algol_tree.specs.declared.token.Reserved.TheVariants as reserved
-use Rattle.algol_tree.specs.declared.token.Symbol.{Symbol}
 use Rattle.algol_tree.specs.declared.token.Symbol.TheVariants as symbols
 use Rattle.algol_tree.specs.declared.tree.Named.{Named}
 use Rattle.algol_tree.specs.declared.tree.Kind.{Kind}
@@ -17,9 +16,8 @@ use Rattle.algol_tree.specs.Tokens.{is_word, is_symbol}
 use Rattle.algol_tree.specs.Headings.{type_of}
 use Rattle.algol_tree.specs.Statements.{act_of, phrase_of}
 use Rattle.algol_tree.specs.DueExpr.{listed}
-use Rattle.algol_tree.specs.DueDecl.{names_in, files_in, name_added}
-use Rattle.algol_tree.specs.Due as due
-use Rattle.algol_tree.specs.Due.{Value, one, many, event_named, name_is, names, low, pairs, heading, task, place, phrases, stmt, list, declared, whole_program, Make, put, Due, make, word, symbol, event, whole, named, names_more, literal, behind_procedure, wholes_more, actuals_part, items_part, pairs_more, segments_more, task_part, to_part, angle, phrase, phrases_more, statement, behind_start, else_part, stmts_more, declarations, typed, procedure_body, Turn, takes, makes, skips, refuses, plain, nests, label, followed, either, optional}
+use Rattle.algol_tree.specs.DueDecl.{names_in, files_in}
+use Rattle.algol_tree.specs.Due.{one, many, event_named, name_is, names, low, pairs, heading, task, place, phrases, stmt, list, declared, whole_program, Make, put, Due, make, word, symbol, event, whole, named, names_more, literal, behind_procedure, wholes_more, actuals_part, items_part, pairs_more, segments_more, task_part, to_part, angle, phrase, phrases_more, statement, behind_start, else_part, stmts_more, declarations, typed, procedure_body, Turn, takes, makes, skips, refuses, plain, nests, label, followed, either, optional}
 
 -- a statement behind others, a declaration behind others
 abbrev pub stmt_behind : PStmts → PStmt → PStmts

@@ -1,7 +1,7 @@
 -- The grammar of expressions: tokens and the expression that they read as. `IsPart free p d from e rest`: the tokens `from` begin
 -- with those of the part p, which read as e where d levels are open, and `rest` is what follows. There is one case for each
 -- form of a production. The limits are kept by all tokens but the last `free` ones; with 0 they are kept by all.
-use Rattle.std.specs.Prelude.{◌≡◌, ◌⊎◌, ◌<◌, ◌≤◌, ◌+◌, ℕ, ℤ, Bool, true, false, List, [], ◌∷◌, length, Some, codes}
+use Rattle.std.specs.Prelude.{◌≡◌, ◌⊎◌, ◌<◌, ◌≤◌, ◌+◌, ℕ, ℤ, true, false, List, ◌∷◌, length, Some, codes}
 use Rattle.algol_tree.specs.declared.TheConstants.{MOST_NESTING, MOST_EXPRESSION_TOKENS}
 use Rattle.algol_tree.specs.declared.level.Level.{Level}
 use Rattle.algol_tree.specs.declared.level.Level.TheVariants as levels

@@ -1,11 +1,11 @@
 -- What a reader has found out, whatever is due behind what it was to read: the words of the readers' own contracts.
-use Rattle.std.specs.Prelude.{◌≡◌, ◌<◌, ◌≤◌, ℕ, List, [], ◌∷◌, ◌++◌, length}
+use Rattle.std.specs.Prelude.{◌≡◌, ◌<◌, ◌≤◌, ℕ, List, ◌∷◌, ◌++◌, length}
 use Rattle.algol_tree.specs.declared.token.Spot.{Spot}
 use Rattle.algol_tree.specs.declared.token.Token.{Token}
 use Rattle.algol_tree.specs.declared.refusal.Code.{Code}
 use Rattle.algol_tree.specs.declared.refusal.Refusal.{Refusal}
 use Rattle.algol_tree.specs.declared.refusal.Refusal.TheVariants as refusals
-use Rattle.algol_tree.specs.Tokens.{EndsOnce}
+use Rattle.algol_tree.specs.Ended.{EndsOnce}
 use Rattle.algol_tree.specs.Due.{Value, Due}
 use Rattle.algol_tree.specs.Reading.{read, refused}
 

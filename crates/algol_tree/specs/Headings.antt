@@ -1,6 +1,6 @@
 -- The grammar of lists of names, of files, of bounds, and of headings of procedures. `IsX from x rest`: the tokens `from` begin
 -- with those of x, and `rest` is what follows. There is one case for each form of a production.
-use Rattle.std.specs.Prelude.{◌≡◌, ℕ, ℤ, pos, ◌-ℤ◌, List, [], ◌∷◌, Option, Some, None, codes}
+use Rattle.std.specs.Prelude.{◌≡◌, ℤ, pos, ◌-ℤ◌, List, [], ◌∷◌, Option, Some, None, codes}
 use Rattle.algol_tree.specs.declared.token.Token.{Token}
 use Rattle.algol_tree.specs.declared.token.TokenKind.{TokenKind}
 use Rattle.algol_tree.specs.declared.token.TokenKind.TheVariants as kinds

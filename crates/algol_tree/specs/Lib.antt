@@ -38,3 +38,4 @@ pub mod Labels
 pub mod Accepted
 pub mod First
 pub mod Couples
+pub mod Ends

@@ -1,5 +1,5 @@
 -- How tokens are read against what is due.
-use Rattle.std.specs.Prelude.{◌≡◌, ◌<◌, ◌≤◌, ◌+◌, ℕ, nat_lt, nat_le, Bool, true, false, ◌&&◌, ◌||◌, List, [], ◌∷◌, ◌++◌, length}
+use Rattle.std.specs.Prelude.{◌+◌, ℕ, nat_lt, nat_le, Bool, true, false, ◌&&◌, List, [], ◌∷◌, ◌++◌, length}
 use Rattle.algol_tree.specs.declared.TheConstants.{MOST_NESTING, MOST_EXPRESSION_TOKENS}
 use Rattle.algol_tree.specs.declared.token.Spot.{Spot}
 use Rattle.algol_tree.specs.declared.token.Token.{Token}
@@ -7,12 +7,10 @@ use Rattle.algol_tree.specs.declared.token.TokenKind.{TokenKind}
 use Rattle.algol_tree.specs.declared.token.TokenKind.TheVariants as kinds
 use Rattle.algol_tree.specs.declared.refusal.Code.{Code}
 use Rattle.algol_tree.specs.declared.refusal.Code.TheVariants as codes
-use Rattle.algol_tree.specs.declared.refusal.Refusal.{Refusal}
-use Rattle.algol_tree.specs.declared.refusal.Refusal.TheVariants as refusals
-use Rattle.algol_tree.specs.Tokens.{EndsOnce, is_word, is_symbol, is_spelled}
+use Rattle.algol_tree.specs.Tokens.{is_word, is_symbol, is_spelled}
 use Rattle.algol_tree.specs.Operators.{operator, relop}
 use Rattle.algol_tree.specs.Due as due
-use Rattle.algol_tree.specs.Due.{Value, Make, Due, make, word, symbol, spelled, part, more_of, relation, behind_name, exprs_more, opening, whole, whole_ends, named, statement, Limit, plain, nests, label, first, Turn, takes, makes, skips, closes, refuses, either, optional}
+use Rattle.algol_tree.specs.Due.{Value, Make, Due, make, word, symbol, spelled, part, more_of, relation, behind_name, exprs_more, opening, whole, whole_ends, named, statement, Limit, plain, nests, label, begun, Turn, takes, makes, skips, closes, refuses, either, optional}
 use Rattle.algol_tree.specs.DueExpr.{turn_part, turn_whole, on_with, related, turn_behind_name, turn_exprs_more, turn_event, turn_behind_event}
 use Rattle.algol_tree.specs.DueDecl.{turn_named, turn_names_more, turn_printer_part, turn_files_more, turn_literal, turn_negated, turn_lows_more, turn_values_part, turn_spec, turn_spec_typed, turn_specs_more, turn_behind_procedure}
 use Rattle.algol_tree.specs.DueStmt.{turn_wholes_more, turn_actuals_part, turn_items_part, turn_pairs_more, turn_segments_more, turn_task_part, turn_to_part, turn_angle, turn_phrase, turn_phrases_more, turn_statement, turn_behind_start, turn_else_part, turn_stmts_more, turn_typed, turn_declarations, turn_procedure_body, turn_program}
@@ -73,7 +71,7 @@ full outside = false
 full (inside c) = nat_le MOST_EXPRESSION_TOKENS c
 
 abbrev pub counted : Limit → Count → Count
-counted (first l) c = inside 1
+counted (begun l) c = inside 1
 counted l outside = outside
 counted l (inside c) = inside (c + 1)
 
@@ -82,22 +80,23 @@ pub record Judged : Type 0 where
   pub here : Bool
   pub before : Bool
 
--- a token breaks its limit
-abbrev pub broken : Limit → Count → Judged → Bool
-broken plain c j = full c && j.here
-broken (nests d) c j = (full c || nat_le MOST_NESTING d) && j.here
-broken (label d spot) c j = nat_le MOST_NESTING d && j.before
-broken (first l) c j = broken l outside j
+-- a token opens a level too much
+abbrev pub broken : Limit → Judged → Bool
+broken plain j = false
+broken (nests d) j = nat_le MOST_NESTING d && j.here
+broken (label d spot) j = nat_le MOST_NESTING d && j.before
+broken (begun l) j = broken l j
 
 -- the place of the token that opens the level
 abbrev pub broken_at : Limit → Spot → Spot
 broken_at (label d before) spot = before
+broken_at (begun l) spot = broken_at l spot
 broken_at l spot = spot
 
 -- what is due after a token, or why there is nothing
 pub data Step : Type 0 where
   goes : Count → List Due → List Value → Step
-  over : List Value → Step  -- the token belongs to nothing that is due, and nothing has to come
+  over : Count → List Value → Step  -- the token belongs to nothing that is due, and nothing has to come
   stops : Spot → Code → Step
 
 abbrev pub unless : Bool → Spot → Step → Step
@@ -105,14 +104,14 @@ unless true spot x = stops spot codes.TooDeep
 unless false spot x = x
 
 abbrev pub stepped : Judged → Count → Spot → Turn → List Due → List Value → (Count → List Value → Step) → Step
-stepped j c spot (takes l ds) due vs on = unless (broken l c j) (broken_at l spot) (goes (counted l c) (ds ++ due) vs)
+stepped j c spot (takes l ds) due vs on = unless (full c && j.here) spot (unless (broken l j) (broken_at l spot) (goes (counted l c) (ds ++ due) vs))
 stepped j c spot (makes m) due vs on = on c (m vs)
 stepped j c spot skips due vs on = on c vs
 stepped j c spot closes due vs on = on outside vs
 stepped j c spot refuses due vs on = stops spot codes.Unexpected
 
 abbrev pub step : Judged → List Due → Spot → TokenKind → Count → List Value → Step
-step j [] spot k c vs = over vs
+step j [] spot k c vs = over c vs
 step j (s ∷ due) spot k c vs = stepped j c spot (turn s spot k) due vs (step j due spot k)
 
 -- What reading what is due comes to: the tokens behind it and the values; or the place and the reason of a refusal, and how many
@@ -124,13 +123,13 @@ pub data Reading : Type 0 where
 
 abbrev pub read_on : Step → Token → List Token → (Count → List Due → List Value → Reading) → Reading
 read_on (goes c ds vs) t ts go = go c ds vs
-read_on (over vs) t ts go = to (t ∷ ts) vs
+read_on (over c vs) t ts go = to (t ∷ ts) vs
 read_on (stops spot code) t ts go = refused (length (t ∷ ts)) spot code
 
 -- where the tokens end, only what is optional may be due
 abbrev pub read_end : Step → Reading
 read_end (goes c ds vs) = cut_off
-read_end (over vs) = to [] vs
+read_end (over c vs) = to [] vs
 read_end (stops spot code) = cut_off
 
 -- the first of these tokens, and the one before it, are not of the last `free` ones

@@ -16,7 +16,7 @@ use Rattle.algol_tree.specs.declared.tree.EventName.{EventName}
 use Rattle.algol_tree.specs.declared.tree.PhraseText.{PhraseText}
 use Rattle.algol_tree.specs.declared.tree.PhraseText.TheVariants as phrases
 use Rattle.algol_tree.specs.declared.tree.Heading.{Heading}
-use Rattle.algol_tree.specs.Plain.{PExpr, subscripted, PCall, called, PExprs, none, more, PPair, PStmt, empty, label, assign, call_of, go_to, block, if_then, if_else, while, until, for, thru, case, process, event, write, PStmts, no_stmts, stmts, PDecl, simple, files, events, tasks, labels, arrays, forward, procedure, PDecls, no_decls, decls, PBody, body}
+use Rattle.algol_tree.specs.Plain.{PExpr, subscripted, called, PExprs, none, more, PPair, PStmt, empty, label, assign, call_of, go_to, block, if_then, if_else, while, until, for, thru, case, process, event, write, PStmts, no_stmts, stmts, simple, files, events, tasks, labels, arrays, forward, procedure, PDecls, no_decls, decls, PBody, body}
 use Rattle.algol_tree.specs.Tokens.{IsWord, IsSymbol, IsName}
 use Rattle.algol_tree.specs.Expressions.{Opens, IsWhole, IsEvent}
 use Rattle.algol_tree.specs.Headings.{type_of, IsTyped, elements_of, IsNames, IsFiles, IsLiteral, IsHeading}

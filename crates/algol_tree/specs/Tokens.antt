@@ -1,4 +1,4 @@
--- What single tokens are, and where a text of tokens ends.
+-- What single tokens are.
 use Rattle.std.specs.Prelude.{◌≡◌, ℕ, nat_eq, Bool, true, false, ◌&&◌, List, [], ◌∷◌, Option, Some, None}
 use denote.Enum.Bare.{sameb}
 use Rattle.algol_tree.specs.contracts.token.Reserved as reserved_row
@@ -24,12 +24,6 @@ pub record IsName (n : Named) (token : Token) : Type 0 where
 -- the token is a name that stands as written
 abbrev pub IsSpelled : List ℕ → Token → Type 0
 IsSpelled name token = token.kind ≡ kinds.Name name
-
--- The last token, and no other, is the end of the text.
-abbrev pub EndsOnce : List Token → Type 0
-EndsOnce [] = ⊥
-EndsOnce (token ∷ []) = token.kind ≡ kinds.End
-EndsOnce (token ∷ next ∷ tokens) = (token.kind ≡ kinds.End → ⊥) × EndsOnce (next ∷ tokens)
 
 -- the same as tests
 

@@ -1,0 +1,170 @@
+use Rattle.std.proofs.Common.{[], ◌∷◌, sym, ap, ◌∙◌, refl, arith}
+use Rattle.algol_tree.specs.Plain as plains
+use Rattle.algol_tree.specs.Image.{expr as plain, exprs as plain_list}
+use Rattle.algol_expr.proofs.Lists.{list_begins, list_goes_on, list_fails_item, list_fails_closing, list_done}
+use Rattle.algol_tree.specs.Due.{one}
+use Rattle.algol_expr.proofs.Chain.{left_as, turning, no_memory, failing, via, past, making, done, finds_as, fails_as, fails_on, extends_to, extends_on, completes_to, listing, failing_list, completes_done, behind_token, first_shorter, rest_of, rest_cons, rest_first, from_tokens, fails_from}
+use Rattle.algol_expr.proofs.Starts.{if_starts, if_too_deep, expr_is, not_starts, not_too_deep, not_is, rel_starts, relation_on, relation_over, level_starts, sign_starts, more_on, more_over, literal_is, not_end_literal, name_starts, primary_fails, group_starts, group_too_deep, square_starts, round_starts, square_too_deep, round_too_deep, name_alone}
+use Rattle.algol_expr.proofs.reader.+expressions.Goals as goal
+
+pub read_choice-returns-in_err-inner-clause-refused : goal.read_choice-returns-in_err-inner-clause-refused
+read_choice-returns-in_err-inner-clause-refused t c = left_as _ _ _ c.from_residual.ensures.1 (if_too_deep _ _ _ _ _ c.requires.word c.in_err-inner.ensures.deep.0 c.in_err-inner.ensures.deep.1 c.in_err-inner.ensures.deep.2)
+
+pub read_choice-returns-in_err-condition-clause-refused : goal.read_choice-returns-in_err-condition-clause-refused
+read_choice-returns-in_err-condition-clause-refused t c = left_as _ _ _ c.from_residual-in_err-condition.ensures.1 (failing (if_starts _ _ _ _ c.requires.word c.in_ok-inner.ensures.opens.0 c.in_ok-inner.ensures.opens.1) c.in_err-condition.ensures.refused)
+
+pub read_choice-returns-in_err-rest-clause-refused : goal.read_choice-returns-in_err-rest-clause-refused
+read_choice-returns-in_err-rest-clause-refused t c = left_as _ _ _ c.from_residual-in_err-rest.ensures.1 (failing (via (if_starts _ _ _ _ c.requires.word c.in_ok-inner.ensures.opens.0 c.in_ok-inner.ensures.opens.1) c.in_ok-condition.ensures.found) c.in_err-rest.ensures.fails)
+
+pub read_choice-returns-in_err-yes-clause-refused : goal.read_choice-returns-in_err-yes-clause-refused
+read_choice-returns-in_err-yes-clause-refused t c = left_as _ _ _ c.from_residual-in_err-yes.ensures.1 (failing (past (via (if_starts _ _ _ _ c.requires.word c.in_ok-inner.ensures.opens.0 c.in_ok-inner.ensures.opens.1) c.in_ok-condition.ensures.found) c.in_ok-rest.ensures.passes) c.in_err-yes.ensures.refused)
+
+pub read_choice-returns-in_err-rest-2-clause-refused : goal.read_choice-returns-in_err-rest-2-clause-refused
+read_choice-returns-in_err-rest-2-clause-refused t c = left_as _ _ _ c.from_residual-in_err-rest-2.ensures.1 (failing (via (past (via (if_starts _ _ _ _ c.requires.word c.in_ok-inner.ensures.opens.0 c.in_ok-inner.ensures.opens.1) c.in_ok-condition.ensures.found) c.in_ok-rest.ensures.passes) c.in_ok-yes.ensures.found) c.in_err-rest-2.ensures.fails)
+
+pub read_choice-returns-in_err-otherwise-clause-refused : goal.read_choice-returns-in_err-otherwise-clause-refused
+read_choice-returns-in_err-otherwise-clause-refused t c = left_as _ _ _ c.from_residual-in_err-otherwise.ensures.1 (failing (past (via (past (via (if_starts _ _ _ _ c.requires.word c.in_ok-inner.ensures.opens.0 c.in_ok-inner.ensures.opens.1) c.in_ok-condition.ensures.found) c.in_ok-rest.ensures.passes) c.in_ok-yes.ensures.found) c.in_ok-rest-2.ensures.passes) c.in_err-otherwise.ensures.refused)
+
+pub read_choice-returns-in_err-choice-clause-refused : goal.read_choice-returns-in_err-choice-clause-refused
+read_choice-returns-in_err-choice-clause-refused t c = no_memory _ _ _ _ _ c.from_residual-in_err-choice.ensures.1 c.in_err-choice.ensures.memory
+
+pub read_choice-returns-clause-found : goal.read_choice-returns-clause-found
+read_choice-returns-clause-found t c = done (making (via (past (via (past (via (if_starts _ _ _ _ c.requires.word c.in_ok-inner.ensures.opens.0 c.in_ok-inner.ensures.opens.1) c.in_ok-condition.ensures.found) c.in_ok-rest.ensures.passes) c.in_ok-yes.ensures.found) c.in_ok-rest-2.ensures.passes) c.in_ok-otherwise.ensures.found) (λ vs. refl)) (ap one c.in_ok-choice.ensures.built) (rest_cons (rest_of c.in_ok-condition.ensures.found.behind (rest_of c.in_ok-rest.ensures.passes.behind (rest_of c.in_ok-yes.ensures.found.behind (rest_of c.in_ok-rest-2.ensures.passes.behind c.in_ok-otherwise.ensures.found.behind)))))
+
+pub read_expression-returns-else-is_word-clause-found : goal.read_expression-returns-else-is_word-clause-found
+read_expression-returns-else-is_word-clause-found t c = finds_as c.read_level.result (λ x. one (plain x.0)) (λ x. x.1.now) (expr_is _ _ _ _ c.first_of.ensures (sym c.is_word.ensures ∙ c.if-is_word.false)) c.read_level.ensures.found
+
+pub read_expression-returns-else-is_word-clause-refused : goal.read_expression-returns-else-is_word-clause-refused
+read_expression-returns-else-is_word-clause-refused t c = fails_as c.read_level.result (expr_is _ _ _ _ c.first_of.ensures (sym c.is_word.ensures ∙ c.if-is_word.false)) c.read_level.ensures.refused
+
+pub read_group-returns-in_err-inner-clause-refused : goal.read_group-returns-in_err-inner-clause-refused
+read_group-returns-in_err-inner-clause-refused t c = left_as _ _ _ c.from_residual.ensures.1 (group_too_deep _ _ _ _ _ c.requires.symbol c.in_err-inner.ensures.deep.0 c.in_err-inner.ensures.deep.1 c.in_err-inner.ensures.deep.2)
+
+pub read_group-returns-in_err-inside-clause-refused : goal.read_group-returns-in_err-inside-clause-refused
+read_group-returns-in_err-inside-clause-refused t c = left_as _ _ _ c.from_residual-in_err-inside.ensures.1 (failing (group_starts _ _ _ _ c.requires.symbol c.in_ok-inner.ensures.opens.0 c.in_ok-inner.ensures.opens.1) c.in_err-inside.ensures.refused)
+
+pub read_group-returns-in_err-rest-clause-refused : goal.read_group-returns-in_err-rest-clause-refused
+read_group-returns-in_err-rest-clause-refused t c = left_as _ _ _ c.from_residual-in_err-rest.ensures.1 (failing (via (group_starts _ _ _ _ c.requires.symbol c.in_ok-inner.ensures.opens.0 c.in_ok-inner.ensures.opens.1) c.in_ok-inside.ensures.found) c.in_err-rest.ensures.fails)
+
+pub read_group-returns-in_err-grouped-clause-refused : goal.read_group-returns-in_err-grouped-clause-refused
+read_group-returns-in_err-grouped-clause-refused t c = no_memory _ _ _ _ _ c.from_residual-in_err-grouped.ensures.1 c.in_err-grouped.ensures.memory
+
+pub read_group-returns-clause-found : goal.read_group-returns-clause-found
+read_group-returns-clause-found t c = done (making (past (via (group_starts _ _ _ _ c.requires.symbol c.in_ok-inner.ensures.opens.0 c.in_ok-inner.ensures.opens.1) c.in_ok-inside.ensures.found) c.in_ok-rest.ensures.passes) (λ vs. refl)) (ap one c.in_ok-grouped.ensures.built) (rest_cons (rest_of c.in_ok-inside.ensures.found.behind c.in_ok-rest.ensures.passes.behind))
+
+pub read_not-returns-in_err-inner-clause-refused : goal.read_not-returns-in_err-inner-clause-refused
+read_not-returns-in_err-inner-clause-refused t c = left_as _ _ _ c.from_residual.ensures.1 (fails_from c.first_of.ensures (not_too_deep _ _ _ _ _ (sym c.is_word.ensures ∙ c.if-is_word.true) c.in_err-inner.ensures.deep.0 c.in_err-inner.ensures.deep.1 c.in_err-inner.ensures.deep.2))
+
+pub read_not-returns-in_err-operand-clause-refused : goal.read_not-returns-in_err-operand-clause-refused
+read_not-returns-in_err-operand-clause-refused t c = left_as _ _ _ c.from_residual-in_err-operand.ensures.1 (failing (from_tokens c.first_of.ensures (not_starts _ _ _ _ (sym c.is_word.ensures ∙ c.if-is_word.true) c.in_ok-inner.ensures.opens.0 c.in_ok-inner.ensures.opens.1)) c.in_err-operand.ensures.refused)
+
+pub read_not-returns-in_err-negated-clause-refused : goal.read_not-returns-in_err-negated-clause-refused
+read_not-returns-in_err-negated-clause-refused t c = no_memory _ _ _ _ _ c.from_residual-in_err-negated.ensures.1 c.in_err-negated.ensures.memory
+
+pub read_not-returns-in_ok-negated-clause-found : goal.read_not-returns-in_ok-negated-clause-found
+read_not-returns-in_ok-negated-clause-found t c = done (making (via (from_tokens c.first_of.ensures (not_starts _ _ _ _ (sym c.is_word.ensures ∙ c.if-is_word.true) c.in_ok-inner.ensures.opens.0 c.in_ok-inner.ensures.opens.1)) c.in_ok-operand.ensures.found) (λ vs. refl)) (ap one c.in_ok-negated.ensures.built) (rest_first c.first_of.ensures c.in_ok-operand.ensures.found.behind)
+
+pub read_not-returns-else-is_word-clause-found : goal.read_not-returns-else-is_word-clause-found
+read_not-returns-else-is_word-clause-found t c = finds_as c.read_relation.result (λ x. one (plain x.0)) (λ x. x.1.now) (not_is _ _ _ _ c.first_of.ensures (sym c.is_word.ensures ∙ c.if-is_word.false)) c.read_relation.ensures.found
+
+pub read_not-returns-else-is_word-clause-refused : goal.read_not-returns-else-is_word-clause-refused
+read_not-returns-else-is_word-clause-refused t c = fails_as c.read_relation.result (not_is _ _ _ _ c.first_of.ensures (sym c.is_word.ensures ∙ c.if-is_word.false)) c.read_relation.ensures.refused
+
+pub read_relation-returns-in_err-left-clause-refused : goal.read_relation-returns-in_err-left-clause-refused
+read_relation-returns-in_err-left-clause-refused t c = left_as _ _ _ c.from_residual.ensures.1 (failing (rel_starts _ _) c.in_err-left.ensures.refused)
+
+pub read_relation-returns-in_err-right-in-Some-clause-refused : goal.read_relation-returns-in_err-right-in-Some-clause-refused
+read_relation-returns-in_err-right-in-Some-clause-refused t c = left_as _ _ _ c.from_residual-in_err-right-in-Some.ensures.1 (failing (turning (via (rel_starts _ _) c.in_ok-left.ensures.found) (relation_on _ _ _ _ _ c.first_of.ensures (sym c.relation.ensures ∙ c.in-Some.is))) c.in_err-right-in-Some.ensures.refused)
+
+pub read_relation-returns-in_err-two-in-Some-clause-refused : goal.read_relation-returns-in_err-two-in-Some-clause-refused
+read_relation-returns-in_err-two-in-Some-clause-refused t c = no_memory _ _ _ _ _ c.from_residual-in_err-two-in-Some.ensures.1 c.in_err-two-in-Some.ensures.memory
+
+pub read_relation-returns-in_ok-two-in-Some-clause-found : goal.read_relation-returns-in_ok-two-in-Some-clause-found
+read_relation-returns-in_ok-two-in-Some-clause-found t c = done (making (via (turning (via (rel_starts _ _) c.in_ok-left.ensures.found) (relation_on _ _ _ _ _ c.first_of.ensures (sym c.relation.ensures ∙ c.in-Some.is))) c.in_ok-right-in-Some.ensures.found) (λ vs. refl)) (ap one c.in_ok-two-in-Some.ensures.built) (rest_of c.in_ok-left.ensures.found.behind (rest_first c.first_of.ensures c.in_ok-right-in-Some.ensures.found.behind))
+
+pub read_relation-returns-in-None-clause-found : goal.read_relation-returns-in-None-clause-found
+read_relation-returns-in-None-clause-found t c = done (turning (via (rel_starts _ _) c.in_ok-left.ensures.found) (relation_over _ _ _ _ c.first_of.ensures (sym c.relation.ensures ∙ c.in-None.is))) refl c.in_ok-left.ensures.found.behind
+
+pub read_level-returns-in_err-operand-clause-refused : goal.read_level-returns-in_err-operand-clause-refused
+read_level-returns-in_err-operand-clause-refused t c = left_as _ _ _ c.from_residual.ensures.1 (failing (sign_starts _ _ _ _ _ c.first_of.ensures (sym c.has_sign.ensures ∙ c.if-has_sign.true)) c.in_err-operand.ensures.refused)
+
+pub read_level-returns-in_err-first-clause-refused : goal.read_level-returns-in_err-first-clause-refused
+read_level-returns-in_err-first-clause-refused t c = no_memory _ _ _ _ _ c.from_residual-in_err-first.ensures.1 c.in_err-first.ensures.memory
+
+pub read_level-returns-in_ok-first-clause-found : goal.read_level-returns-in_ok-first-clause-found
+read_level-returns-in_ok-first-clause-found t c = extends_to c.read_more.result (λ x. one (plain x.0)) (λ x. x.1.now) (making (via (sign_starts _ _ _ _ _ c.first_of.ensures (sym c.has_sign.ensures ∙ c.if-has_sign.true)) c.in_ok-operand.ensures.found) (λ vs. ap (λ e. one e ∷ vs) (sym c.in_ok-first.ensures.built))) (rest_first c.first_of.ensures c.in_ok-operand.ensures.found.behind).shorter c.read_more.ensures.found
+
+pub read_level-returns-in_ok-first-clause-refused : goal.read_level-returns-in_ok-first-clause-refused
+read_level-returns-in_ok-first-clause-refused t c = fails_on c.read_more.result {ws = []} (making (via (sign_starts _ _ _ _ _ c.first_of.ensures (sym c.has_sign.ensures ∙ c.if-has_sign.true)) c.in_ok-operand.ensures.found) (λ vs. ap (λ e. one e ∷ vs) (sym c.in_ok-first.ensures.built))) c.read_more.ensures.refused
+
+pub read_level-returns-in_err-first-2-clause-refused : goal.read_level-returns-in_err-first-2-clause-refused
+read_level-returns-in_err-first-2-clause-refused t c = left_as _ _ _ c.from_residual-in_err-first-2.ensures.1 (failing (level_starts _ _ _ _ _ c.first_of.ensures (sym c.has_sign.ensures ∙ c.if-has_sign.false)) c.in_err-first-2.ensures.refused)
+
+pub read_level-returns-in_ok-first-2-clause-found : goal.read_level-returns-in_ok-first-2-clause-found
+read_level-returns-in_ok-first-2-clause-found t c = extends_to c.read_more-else-has_sign.result (λ x. one (plain x.0)) (λ x. x.1.now) (via (level_starts _ _ _ _ _ c.first_of.ensures (sym c.has_sign.ensures ∙ c.if-has_sign.false)) c.in_ok-first-2.ensures.found) c.in_ok-first-2.ensures.found.behind.shorter c.read_more-else-has_sign.ensures.found
+
+pub read_level-returns-in_ok-first-2-clause-refused : goal.read_level-returns-in_ok-first-2-clause-refused
+read_level-returns-in_ok-first-2-clause-refused t c = fails_on c.read_more-else-has_sign.result {ws = []} (via (level_starts _ _ _ _ _ c.first_of.ensures (sym c.has_sign.ensures ∙ c.if-has_sign.false)) c.in_ok-first-2.ensures.found) c.read_more-else-has_sign.ensures.refused
+
+pub read_more-returns-in_err-right-in-Some-clause-refused : goal.read_more-returns-in_err-right-in-Some-clause-refused
+read_more-returns-in_err-right-in-Some-clause-refused t c = left_as _ _ _ c.from_residual.ensures.1 (failing (more_on _ _ _ _ _ _ _ c.first_of.ensures (sym c.operator.ensures ∙ c.in-Some.is)) c.in_err-right-in-Some.ensures.refused)
+
+pub read_more-returns-in_err-left-in-Some-clause-refused : goal.read_more-returns-in_err-left-in-Some-clause-refused
+read_more-returns-in_err-left-in-Some-clause-refused t c = no_memory _ _ _ _ _ c.from_residual-in_err-left-in-Some.ensures.1 c.in_err-left-in-Some.ensures.memory
+
+pub read_more-returns-in_ok-left-in-Some-clause-found : goal.read_more-returns-in_ok-left-in-Some-clause-found
+read_more-returns-in_ok-left-in-Some-clause-found t c = extends_on c.read_more.result (λ x. one (plain x.0)) (λ x. x.1.now) (making (via (more_on _ _ _ _ _ _ _ c.first_of.ensures (sym c.operator.ensures ∙ c.in-Some.is)) c.in_ok-right-in-Some.ensures.found) (λ vs. ap (λ e. one e ∷ vs) (sym c.in_ok-left-in-Some.ensures.built))) (rest_first c.first_of.ensures c.in_ok-right-in-Some.ensures.found.behind).shorter c.read_more.ensures.found
+
+pub read_more-returns-in_ok-left-in-Some-clause-refused : goal.read_more-returns-in_ok-left-in-Some-clause-refused
+read_more-returns-in_ok-left-in-Some-clause-refused t c = fails_on c.read_more.result {ws = []} (making (via (more_on _ _ _ _ _ _ _ c.first_of.ensures (sym c.operator.ensures ∙ c.in-Some.is)) c.in_ok-right-in-Some.ensures.found) (λ vs. ap (λ e. one e ∷ vs) (sym c.in_ok-left-in-Some.ensures.built))) c.read_more.ensures.refused
+
+pub read_more-returns-in-None-clause-found : goal.read_more-returns-in-None-clause-found
+read_more-returns-in-None-clause-found t c = record { run = (more_over _ _ _ _ _ (one (plain c.args.left) ∷ []) c.first_of.ensures (sym c.operator.ensures ∙ c.in-None.is)).run; ended = c.requires.ended; no_longer = omega arith }
+
+pub read_behind_name-returns-in_err-inner-clause-refused : goal.read_behind_name-returns-in_err-inner-clause-refused
+read_behind_name-returns-in_err-inner-clause-refused t c = left_as _ _ _ c.from_residual.ensures.1 (square_too_deep _ _ _ _ _ _ _ c.first_of.ensures (sym c.is_symbol.ensures ∙ c.if-is_symbol.true) c.in_err-inner.ensures.deep.0 c.in_err-inner.ensures.deep.1 c.in_err-inner.ensures.deep.2)
+
+pub read_behind_name-returns-in_err-subs-clause-refused : goal.read_behind_name-returns-in_err-subs-clause-refused
+read_behind_name-returns-in_err-subs-clause-refused t c = left_as _ _ _ c.from_residual-in_err-subs.ensures.1 (failing_list (square_starts _ _ _ _ _ _ c.first_of.ensures (sym c.is_symbol.ensures ∙ c.if-is_symbol.true) c.in_ok-inner.ensures.opens.0 c.in_ok-inner.ensures.opens.1) c.in_err-subs.ensures.refused)
+
+pub read_behind_name-returns-in_ok-subs-clause-found : goal.read_behind_name-returns-in_ok-subs-clause-found
+read_behind_name-returns-in_ok-subs-clause-found t c = completes_done (making (listing (square_starts _ _ _ _ _ _ c.first_of.ensures (sym c.is_symbol.ensures ∙ c.if-is_symbol.true) c.in_ok-inner.ensures.opens.0 c.in_ok-inner.ensures.opens.1) c.in_ok-subs.ensures.found) (λ vs. refl)) (ap one c.variable.ensures) (c.in_ok-subs.ensures.found.behind.ended) (omega (arith, (rest_first c.first_of.ensures c.in_ok-subs.ensures.found.behind).shorter))
+
+pub read_behind_name-returns-in_err-inner-2-clause-refused : goal.read_behind_name-returns-in_err-inner-2-clause-refused
+read_behind_name-returns-in_err-inner-2-clause-refused t c = left_as _ _ _ c.from_residual-in_err-inner-2.ensures.1 (round_too_deep _ _ _ _ _ _ _ c.first_of.ensures (sym c.is_symbol.ensures ∙ c.if-is_symbol.false) (sym c.is_symbol-else-is_symbol.ensures ∙ c.if-is_symbol-2.true) c.in_err-inner-2.ensures.deep.0 c.in_err-inner-2.ensures.deep.1 c.in_err-inner-2.ensures.deep.2)
+
+pub read_behind_name-returns-in_err-actuals-clause-refused : goal.read_behind_name-returns-in_err-actuals-clause-refused
+read_behind_name-returns-in_err-actuals-clause-refused t c = left_as _ _ _ c.from_residual-in_err-actuals.ensures.1 (failing_list (round_starts _ _ _ _ _ _ c.first_of.ensures (sym c.is_symbol.ensures ∙ c.if-is_symbol.false) (sym c.is_symbol-else-is_symbol.ensures ∙ c.if-is_symbol-2.true) c.in_ok-inner-2.ensures.opens.0 c.in_ok-inner-2.ensures.opens.1) c.in_err-actuals.ensures.refused)
+
+pub read_behind_name-returns-in_ok-actuals-clause-found : goal.read_behind_name-returns-in_ok-actuals-clause-found
+read_behind_name-returns-in_ok-actuals-clause-found t c = completes_done (making (listing (round_starts _ _ _ _ _ _ c.first_of.ensures (sym c.is_symbol.ensures ∙ c.if-is_symbol.false) (sym c.is_symbol-else-is_symbol.ensures ∙ c.if-is_symbol-2.true) c.in_ok-inner-2.ensures.opens.0 c.in_ok-inner-2.ensures.opens.1) c.in_ok-actuals.ensures.found) (λ vs. refl)) (ap one c.call.ensures) (c.in_ok-actuals.ensures.found.behind.ended) (omega (arith, (rest_first c.first_of.ensures c.in_ok-actuals.ensures.found.behind).shorter))
+
+pub read_behind_name-returns-else-is_symbol-2-clause-found : goal.read_behind_name-returns-else-is_symbol-2-clause-found
+read_behind_name-returns-else-is_symbol-2-clause-found t c = completes_done (name_alone _ _ _ _ _ c.first_of.ensures (sym c.is_symbol.ensures ∙ c.if-is_symbol.false) (sym c.is_symbol-else-is_symbol.ensures ∙ c.if-is_symbol-2.false)) (ap one (c.variable-else-is_symbol-2.ensures ∙ ap (λ xs. plains.variable (plains.subscripted c.args.name (plain_list xs))) (c.of.ensures ∙ c.new.ensures.items))) c.requires.ended (omega arith)
+
+pub read_list-items-init : goal.read_list-items-init
+read_list-items-init t c = list_begins _ _ _ _ c.new-items.ensures.items c.requires.ended
+
+pub read_list-items-preserved : goal.read_list-items-preserved
+read_list-items-preserved t c = list_goes_on _ _ _ _ _ _ _ _ _ c.in_ok-item.item c.in_ok-push.ensures.items c.items.invariant c.in_ok-item.ensures.found c.first_of.ensures (sym c.is_symbol.ensures ∙ c.if-is_symbol.true)
+
+pub read_list-returns-in_err-item-clause-refused : goal.read_list-returns-in_err-item-clause-refused
+read_list-returns-in_err-item-clause-refused t c = left_as _ _ _ c.from_residual.ensures.1 (list_fails_item _ _ _ _ _ _ _ c.items.invariant c.in_err-item.ensures.refused)
+
+pub read_list-returns-in_err-rest-clause-refused : goal.read_list-returns-in_err-rest-clause-refused
+read_list-returns-in_err-rest-clause-refused t c = left_as _ _ _ c.from_residual-in_err-rest.ensures.1 (list_fails_closing _ _ _ _ _ _ _ _ _ c.in_ok-item.item _ _ c.in_ok-push.ensures.items c.items.invariant c.in_ok-item.ensures.found c.first_of.ensures (sym c.is_symbol.ensures ∙ c.if-is_symbol.false) c.in_err-rest.ensures.fails)
+
+pub read_list-returns-else-is_symbol-clause-found : goal.read_list-returns-else-is_symbol-clause-found
+read_list-returns-else-is_symbol-clause-found t c = list_done _ _ _ _ _ _ _ _ _ _ c.in_ok-item.item (c.of.ensures ∙ c.in_ok-push.ensures.items) c.items.invariant c.in_ok-item.ensures.found c.first_of.ensures (sym c.is_symbol.ensures ∙ c.if-is_symbol.false) c.in_ok-rest.ensures.passes
+
+pub read_primary-returns-in-Some-clause-found : goal.read_primary-returns-in-Some-clause-found
+read_primary-returns-in-Some-clause-found t c = done (literal_is _ _ _ _ _ c.first_of.ensures c.in-Some.ensures.some) refl (behind_token c.first_of.ensures c.requires.ended (not_end_literal _ _ _ c.in-Some.ensures.some))
+
+pub read_primary-returns-else-is_symbol-clause-refused : goal.read_primary-returns-else-is_symbol-clause-refused
+read_primary-returns-else-is_symbol-clause-refused t c = primary_fails _ _ _ _ _ _ c.first_of.ensures c.in_default.ensures.none c.in_default-name_in.ensures.none (sym c.is_word.ensures ∙ c.if-is_word.false) (sym c.is_symbol.ensures ∙ c.if-is_symbol.false) c.refused.ensures.left c.refused.ensures.refusal
+
+pub read_primary-returns-in-Some-name_in-clause-found : goal.read_primary-returns-in-Some-name_in-clause-found
+read_primary-returns-in-Some-name_in-clause-found t c = completes_to c.read_behind_name.result (λ x. one (plain x.0)) (λ x. x.1.now) (name_starts _ _ _ _ _ _ c.first_of.ensures c.in-Some-name_in.ensures.some c.in_ok-name.ensures.built) (first_shorter c.first_of.ensures) c.read_behind_name.ensures.found
+
+pub read_primary-returns-in-Some-name_in-clause-refused : goal.read_primary-returns-in-Some-name_in-clause-refused
+read_primary-returns-in-Some-name_in-clause-refused t c = fails_as c.read_behind_name.result (name_starts _ _ _ _ _ _ c.first_of.ensures c.in-Some-name_in.ensures.some c.in_ok-name.ensures.built) c.read_behind_name.ensures.refused

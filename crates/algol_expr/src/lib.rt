@@ -1,0 +1,15 @@
+//! Tokens to expressions.
+//!
+//! `read_expr` reads the longest expression that the tokens begin with. Its refusals are the first token through
+//! which no expression goes, and the token that breaks a limit.
+#![tactic(auto)]
+
+mod event;
+mod make;
+mod operator;
+mod reader;
+mod stop;
+mod take;
+mod whole;
+
+pub use whole::{read_expr, read_whole};
