@@ -51,12 +51,12 @@ listed-snoc [] e = refl
 listed-snoc (x ∷ es) e = ap (more x) (listed-snoc es e)
 
 -- one item more
-one_more : (found new : List Expr) (item : Expr) → new ≡ found ++ item ∷ [] → behind (plain_list found) (image.plain item) ≡ plain_list new
-one_more found new item e = listed-snoc (map image.plain found) (image.plain item) ∙ ap listed (sym (map-append image.plain found (item ∷ []))) ∙ ap plain_list (sym e)
+one_more : (found new : List Expr) (item : Expr) → new ≡ found ++ item ∷ [] → behind (plain_list found) (image.expr item) ≡ plain_list new
+one_more found new item e = listed-snoc (map image.expr found) (image.expr item) ∙ ap listed (sym (map-append image.expr found (item ∷ []))) ∙ ap plain_list (sym e)
 
 -- an item and what is due behind it
 item_read : (d : ℕ) (closing : Symbol) (tokens rest after : List Token) (found new : List Expr) (item : Expr) → new ≡ found ++ item ∷ [] →
-    GoesOn d closing tokens found rest → Finds (part expr d) rest (one (image.plain item)) after →
+    GoesOn d closing tokens found rest → Finds (part expr d) rest (one (image.expr item)) after →
     Reaches (list_in d closing) (many none ∷ []) tokens (exprs_more d ∷ symbol closing ∷ []) (many (plain_list new) ∷ []) after
 item_read d closing tokens rest after found new item e g f =
     making (via g.run f) (λ vs. ap (λ es. many es ∷ vs) (one_more found new item e))
@@ -69,7 +69,7 @@ list_begins d closing tokens items e ended = record {
 }
 
 pub list_goes_on : (d : ℕ) (closing : Symbol) (tokens rest after : List Token) (t : Token) (ts : List Token) (found new : List Expr) (item : Expr) →
-    new ≡ found ++ item ∷ [] → GoesOn d closing tokens found rest → Finds (part expr d) rest (one (image.plain item)) after → after ≡ t ∷ ts →
+    new ≡ found ++ item ∷ [] → GoesOn d closing tokens found rest → Finds (part expr d) rest (one (image.expr item)) after → after ≡ t ∷ ts →
     is_symbol symbols.Comma t.kind ≡ true → GoesOn d closing tokens new ts
 list_goes_on d closing tokens rest after t ts found new item e g f is comma =
     let b = behind_first t ts (subst EndsOnce is f.behind.ended) (λ q. let no : kinds.Symbol symbols.Comma ≡ kinds.End = sym (symbol_from t.kind symbols.Comma comma) ∙ q in cc) in
@@ -83,7 +83,7 @@ list_goes_on d closing tokens rest after t ts found new item e g f is comma =
 
 -- the list is over where no comma follows
 list_over : (d : ℕ) (closing : Symbol) (tokens rest after : List Token) (t : Token) (ts : List Token) (found new : List Expr) (item : Expr) →
-    new ≡ found ++ item ∷ [] → GoesOn d closing tokens found rest → Finds (part expr d) rest (one (image.plain item)) after → after ≡ t ∷ ts →
+    new ≡ found ++ item ∷ [] → GoesOn d closing tokens found rest → Finds (part expr d) rest (one (image.expr item)) after → after ≡ t ∷ ts →
     is_symbol symbols.Comma t.kind ≡ false → Reaches (list_in d closing) (many none ∷ []) tokens (symbol closing ∷ []) (many (plain_list new) ∷ []) after
 list_over d closing tokens rest after t ts found new item e g f is comma =
     turning (item_read d closing tokens rest after found new item e g f)
@@ -91,7 +91,7 @@ list_over d closing tokens rest after t ts found new item e g f is comma =
     (ap (λ b. either b (takes plain (part expr d ∷ make due_expr.listed ∷ exprs_more d ∷ [])) skips) comma)))
 
 pub list_done : (d : ℕ) (closing : Symbol) (tokens rest after end : List Token) (t : Token) (ts : List Token) (found new : List Expr) (item : Expr) →
-    new ≡ found ++ item ∷ [] → GoesOn d closing tokens found rest → Finds (part expr d) rest (one (image.plain item)) after → after ≡ t ∷ ts →
+    new ≡ found ++ item ∷ [] → GoesOn d closing tokens found rest → Finds (part expr d) rest (one (image.expr item)) after → after ≡ t ∷ ts →
     is_symbol symbols.Comma t.kind ≡ false → Passes (symbol closing) after end → Lists (list_in d closing) tokens (many none) (many (plain_list new)) end
 list_done d closing tokens rest after end t ts found new item e g f is comma p = record {
   run = λ due vs. (past (list_over d closing tokens rest after t ts found new item e g f is comma) p).run due vs;
@@ -103,6 +103,6 @@ pub list_fails_item : (d : ℕ) (closing : Symbol) (tokens rest : List Token) (f
 list_fails_item d closing tokens rest found left e g f = failing g.run f
 
 pub list_fails_closing : (d : ℕ) (closing : Symbol) (tokens rest after : List Token) (t : Token) (ts : List Token) (found new : List Expr) (item : Expr) (left : ℕ) (e : Refusal) →
-    new ≡ found ++ item ∷ [] → GoesOn d closing tokens found rest → Finds (part expr d) rest (one (image.plain item)) after → after ≡ t ∷ ts →
+    new ≡ found ++ item ∷ [] → GoesOn d closing tokens found rest → Finds (part expr d) rest (one (image.expr item)) after → after ≡ t ∷ ts →
     is_symbol symbols.Comma t.kind ≡ false → Fails (symbol closing ∷ []) [] after left e → Fails (list_in d closing) (many none ∷ []) tokens left e
 list_fails_closing d closing tokens rest after t ts found new item left e is g f at comma p = failing (list_over d closing tokens rest after t ts found new item is g f at comma) p
