@@ -1,6 +1,0 @@
-pub mod Accidents
-pub mod Callings
-pub mod Choices
-pub mod Leaves
-pub mod Loads
-pub mod Subscripts
