@@ -1,4 +1,3 @@
-pub mod Criticals
 pub mod Paths
 pub mod Starts
 pub mod Leaves

@@ -7,18 +7,17 @@ ghost use Rattle.b67_table.specs.Questions.{live_criticals};
 ghost use Rattle.b67_reach.specs.Answers.{looked};
 ghost use Rattle.b67_going.specs.Leaves.{passes_critical};
 
-use crate::criticals::is_critical;
 use crate::paths::broken;
 use b67_linkage::left_to;
-use b67_reach::{ProcessState, Registers, Stop};
+use b67_reach::{ProcessState, Registers, Stop, is_critical};
 use b67_store::Core;
 use b67_word::Place;
 
 // Tests that a frame is the critical place of a live process, or that one before it was.
-fn is_so(states: &[ProcessState], regs: &[Registers], stack: u16, frame: u16, before: bool) -> bool
-    ensures { result ≡ (is_critical stack (frame ∷ []) (live_criticals states.now regs.now) || before) }
+fn is_so(states: &[ProcessState], regs: &[Registers], frame: Place, before: bool) -> bool
+    ensures { result ≡ (is_critical frame.stack (frame.at ∷ []) (live_criticals states.now regs.now) || before) }
 {
-    is_critical(states, regs, stack, frame) || before
+    is_critical(states, regs, frame) || before
 }
 
 /// Tests that one of the frames from one with so many cells down to a target, which is met on the way, is the critical
@@ -52,7 +51,7 @@ pub fn passes_critical<C: Core>(
             Ok(below) => below,
             Err(_) => return Err(broken()),
         };
-        critical = is_so(states, regs, from.stack, at, critical);
+        critical = is_so(states, regs, frame, critical);
         at = below.frame;
         count = below.control.caller_cells;
         steps -= 1;

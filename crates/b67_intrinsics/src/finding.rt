@@ -31,8 +31,14 @@ fn cell_place<C: Core>(core: &C, cell: Cell) -> Place
     }
 }
 
-// The cell in which the event lies that a reference reaches.
-fn event_of<C: Core>(core: &C, kernel: &Kernel, regs: &Registers, word: Word) -> Result<Cell, Stop>
+/// The cell in which the event lies that a reference reaches. InvalidOperand comes exactly where it reaches no event word,
+/// or no event is open there.
+pub fn event_of<C: Core>(
+    core: &C,
+    kernel: &Kernel,
+    regs: &Registers,
+    word: Word,
+) -> Result<Cell, Stop>
     ensures told { (img : Image) → img.stacks ≡ C.Core.stacks core.now → img.events ≡ kernel.now.events → whole (asked img (event_of regs.now word)) ≡ answered result }
     ensures there { IfOk result (λ cell. IsTrue (is_open (cell_place cell) kernel.now.events)) }
     ensures fits { IfOk result (λ cell. cell.frame.at + cell.index < 65536) }

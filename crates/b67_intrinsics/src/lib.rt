@@ -10,8 +10,8 @@ mod happening;
 mod marks;
 mod selecting;
 
-pub use finding::find_event;
-pub use happening::{cause, happened, liberate, procure, reset, wait};
+pub use finding::{event_of, find_event};
+pub use happening::{cause, end, happened, liberate, procure, registers, reset, wait};
 pub use marks::{
     arguments, chained, finish, finish_with, only_argument, three_arguments, whole_argument,
 };
