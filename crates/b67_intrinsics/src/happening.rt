@@ -226,7 +226,7 @@ pub fn liberate<C: Core>(
 }
 
 // A process's mark gives way to a word, and its pointer goes to a place.
-fn end_with<C: Core>(
+pub fn end_with<C: Core>(
     core: &mut C,
     all: &mut Vec<Registers>,
     process: u32,

@@ -7,12 +7,21 @@
 
 mod finding;
 mod happening;
+mod hindrance;
+mod lines;
+mod making;
 mod marks;
 mod selecting;
+mod writing;
 
-pub use finding::{event_of, find_event};
+pub use finding::{event_of, find_event, find_mark};
 pub use happening::{cause, end, happened, liberate, procure, registers, reset, wait};
+pub use hindrance::Hindrance;
+pub use lines::{line_for, line_of};
+pub use making::make_event;
 pub use marks::{
     arguments, chained, finish, finish_with, only_argument, three_arguments, whole_argument,
+    whole_arguments,
 };
 pub use selecting::select;
+pub use writing::write;

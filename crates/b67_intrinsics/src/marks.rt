@@ -1,19 +1,21 @@
 //! What all intrinsics share: the mark at F, the mark below it, the arguments, and how an intrinsic ends.
 
-ghost use Rattle.std.specs.Prelude.{◌≡◌, ◌+◌, ◌-◌, ◌<◌, ◌≤◌, ℕ, length, Ok, Err, OnOk, IfOk, unsigned_abs, slice_get, [], ◌∷◌};
+ghost use Rattle.std.specs.Prelude.{◌≡◌, ◌+◌, ◌-◌, ◌<◌, ◌≤◌, ℕ, length, Ok, Err, Some, OnOk, IfOk, IfErr, unsigned_abs, slice_get, vec_capacity, [], ◌∷◌, ◌++◌};
 ghost use Rattle.b67_word.specs.Word.{most};
 ghost use Rattle.b67_store.specs.Store.{stack_limit};
-ghost use Rattle.b67_table.specs.Arguments.{finished_at, three};
+ghost use Rattle.b67_table.specs.Arguments.{finished_at, three, wholes_in};
 ghost use Rattle.b67_table.specs.Look.{seen};
 ghost use Rattle.b67_table.specs.Program.{answer};
 ghost use Rattle.b67_reach.specs.Images.{own};
 ghost use Rattle.b67_reach.specs.Answers.{looked, IsReady, Performs};
-ghost use Rattle.b67_intrinsics.specs.Called.{arguments, only, whole_in, as_triple, mark_below};
+ghost use Rattle.b67_intrinsics.specs.Called.{arguments, only, whole_in, as_triple, mark_below, WholesFail};
 
+use crate::hindrance::Hindrance;
 use b67_control::Mscw;
 use b67_reach::{InterruptKind, Registers, Stop, invalid};
 use b67_store::Core;
 use b67_word::{Place, Word};
+use std::alloc::Global;
 
 /// How many arguments there are.
 pub fn arguments<C: Core>(core: &C, regs: &Registers) -> u32
@@ -73,6 +75,35 @@ pub fn three_arguments<C: Core>(core: &C, regs: &Registers) -> Result<(i64, i64,
     let y = whole_argument(core, regs, 1)?;
     let z = whole_argument(core, regs, 2)?;
     Ok((x, y, z))
+}
+
+// Adds a number to a list that has room for it.
+fn add_item(items: &mut Vec<i64>, item: i64)
+    requires { length items.old.items < vec_capacity items.old }
+    ensures items { items.new.items ≡ items.old.items ++ item ∷ [] }
+    ensures capacity { vec_capacity items.old ≤ vec_capacity items.new }
+{
+    items.push(item).unwrap();
+}
+
+/// The whole numbers that the arguments are read as. InvalidOperand comes exactly where one of them is none.
+pub fn whole_arguments<C: Core>(
+    core: &C,
+    alloc: Global,
+    regs: &Registers,
+) -> Result<Vec<i64>, Hindrance>
+    requires ready { IsReady (C.Core.stacks core.now) regs.now }
+    requires above { regs.now.f + 2 ≤ regs.now.s }
+    ensures items { IfOk result (λ items. wholes_in (arguments (C.Core.stacks core.now) regs.now) ≡ Some items.items) }
+    ensures fault { IfErr result (WholesFail (arguments (C.Core.stacks core.now) regs.now)) }
+{
+    let count = arguments(core, regs);
+    let mut items = Vec::with_capacity(alloc, count as usize)?;
+    'reading: for n in 0..count {
+        let item = whole_argument(core, regs, n)?;
+        add_item(&mut items, item);
+    }
+    Ok(items)
 }
 
 /// The mark below the one at F. BrokenChain comes exactly where no mark stands as far below as that one says.

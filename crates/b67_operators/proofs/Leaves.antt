@@ -1,6 +1,6 @@
 -- What leaving a frame makes of an image.
 use Rattle.std.specs.Result.{IsErrAnd}
-use Rattle.std.specs.Prelude.{nat_le, nat_eq, ◌&&◌, not}
+use Rattle.std.specs.Prelude.{◌||◌, nat_le, nat_eq, ◌&&◌, not}
 use Rattle.std.proofs.Common.{◌≡◌, refl, sym, ap, subst, ◌∙◌, ℕ, zero, suc, ◌-◌, ◌≤◌, Bool, true, false, cond, List, [], ◌∷◌, set, get_or, slice_get, Option, Some, None, Result, Ok, Err, arith}
 use Rattle.std.proofs.lemmas.Option.{get_or_from_slice_get}
 use Rattle.std.proofs.lemmas.Bool.Decides.{nat_tests}
@@ -117,6 +117,10 @@ module _ (img : Image) (r : Registers) (next : ℕ) (words : List Word) where
 
   pub is_other : nat_eq (frame r) 0 ≡ false → asked img (leave r next words) ≡ asked img (leave_other r cells (frame r) words)
   is_other e = ap (λ (b : Bool). asked img (cond b (leave_base r cells next) (leave_other r cells (frame r) words))) e
+
+pub only_one : (b : Bool) → (b || false) ≡ b
+only_one true = refl
+only_one false = refl
 
 -- what is told by slices of the states and the registers
 critical_in : (n : ℕ) (fs : List ℕ) {states more : List ProcessState} {regs all : List Registers} → states ≡ more → regs ≡ all

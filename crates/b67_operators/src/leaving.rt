@@ -48,6 +48,13 @@ fn frame_of(regs: &Registers) -> u16
     }
 }
 
+// Tests that a frame is a live process's critical place.
+fn is_needed(states: &[ProcessState], all: &[Registers], frame: Place) -> bool
+    ensures { result ≡ is_critical frame.stack (frame.at ∷ []) (live_criticals states.now all.now) }
+{
+    is_critical(states, all, frame)
+}
+
 // ---- another frame than the base frame
 
 // What leaving a frame finds below it, where it is no live process's critical place.
@@ -63,7 +70,7 @@ fn below<C: Core>(
     let Ok(found) = leaving(core, frame) else {
         return Err(Stop::Interrupt(InterruptKind::BrokenChain));
     };
-    if is_critical(states, all, frame.stack, frame.at) {
+    if is_needed(states, all, frame) {
         return Err(Stop::Fault(FaultKind::CriticalBlockExit));
     }
     Ok(found)
@@ -186,7 +193,7 @@ fn end<C: Core>(
     let regs = registers(&parts.regs, process);
     let stack = regs.stack;
     let task = regs.task;
-    if is_critical(&parts.states, &parts.regs, stack, 0) {
+    if is_needed(&parts.states, &parts.regs, Place { stack, at: 0 }) {
         return Err(Stop::Fault(FaultKind::CriticalBlockExit));
     }
     leave_base_in(core, &mut parts.regs, process, next);

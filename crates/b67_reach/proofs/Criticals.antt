@@ -49,7 +49,3 @@ pub registers_end : (frame : Place) (states : List ProcessState) (regs : List Re
 registers_end frame states regs i h =
     let a : drop i regs ≡ [] = nil_from_length (drop i regs) (omega (arith, length-drop i regs)) in
     ap (λ (z : List Registers). some_critical frame (drop i states) z) a ∙ none_left frame (drop i states)
-
-pub only_one : (b : Bool) → (b || false) ≡ b
-only_one true = refl
-only_one false = refl

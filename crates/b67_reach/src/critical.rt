@@ -1,9 +1,8 @@
 //! Critical places.
 
-ghost use Rattle.std.specs.Prelude.{◌≡◌, [], ◌∷◌};
+ghost use Rattle.std.specs.Prelude.{◌≡◌};
 ghost use Rattle.std.specs.List.{list_any};
 ghost use Rattle.b67_events.specs.Events.{same_place};
-ghost use Rattle.b67_table.specs.Linkage.{is_critical};
 ghost use Rattle.b67_table.specs.Questions.{live_criticals};
 ghost use Rattle.b67_reach.specs.Criticals.{has_critical};
 
@@ -28,8 +27,9 @@ fn has_critical(state: ProcessState, critical: Option<Place>, frame: Place) -> b
     }
 }
 
-// Tests that a place is the critical place of a live process.
-fn is_critical_place(states: &[ProcessState], regs: &[Registers], frame: Place) -> bool
+/// Tests that a frame is the critical place of a process that has not ended. States and registers stand by the processes'
+/// numbers.
+pub fn is_critical(states: &[ProcessState], regs: &[Registers], frame: Place) -> bool
     ensures { result ≡ list_any (same_place frame) (live_criticals states.now regs.now) }
 {
     let mut index = 0;
@@ -40,12 +40,4 @@ fn is_critical_place(states: &[ProcessState], regs: &[Registers], frame: Place) 
         index += 1;
     }
     false
-}
-
-/// Tests that a frame of a stack is the critical place of a process that has not ended. States and registers stand by the
-/// processes' numbers.
-pub fn is_critical(states: &[ProcessState], regs: &[Registers], stack: u16, frame: u16) -> bool
-    ensures { result ≡ is_critical stack (frame ∷ []) (live_criticals states.now regs.now) }
-{
-    is_critical_place(states, regs, Place { stack, at: frame })
 }

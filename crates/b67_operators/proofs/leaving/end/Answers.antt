@@ -20,7 +20,7 @@ returns-clause-acts g c =
     let shut : c.close_from.new.self.events ≡ closed_from r.stack 0 c.args.kernel.now.events = ap (λ (e : Events). e.events) c.close_from.ensures in
     base_goes p img r c.args.next c.registers-regs.ensures c.deref.result.now c.deref-2.result.now (g.C.Core.stacks c.leave_base_in.new.core) (g.C.Core.rows c.leave_base_in.new.core) c.leave_base_in.new.all.items
     c.cause_task.new.kernel.events c.set_state.new.states.items
-    c.deref.ensures.value c.deref-2.ensures.value (sym c.if-is_critical.false ∙ c.is_critical.ensures) (subst (λ (o : Option Registers). IsLinkedIn st rows o) c.registers-regs.ensures c.requires.linked)
+    c.deref.ensures.value c.deref-2.ensures.value (sym c.if-is_needed.false ∙ c.is_needed.ensures) (subst (λ (o : Option Registers). IsLinkedIn st rows o) c.registers-regs.ensures c.requires.linked)
     c.leave_base_in.ensures.left (c.cause_task.ensures.events ∙ ap (task_caused r.task) shut)
     (c.set_state.ensures ∙ ap (λ (ss : List ProcessState). set_numbered ss p Ended)
     (c.cause_task.ensures.states ∙ ap (λ (es : List Event). able_again (task_waiters r.task es) c.args.parts.now.states.items) shut))
