@@ -1,3 +1,5 @@
+pub mod Acting
 pub mod Among
+pub mod Done
 pub mod Own
 pub mod Rows

@@ -1,6 +1,17 @@
 //! One action of a process: its next operator, whatever its class.
+//!
+//! [`action`] performs what the operator table says on a store, a kernel and a machine's other parts, for any code.
 #![tactic(auto)]
 
+mod acting;
+mod done;
+mod entering;
+mod next;
 mod own;
 mod rows;
+mod to_come;
 mod words;
+
+pub use done::Done;
+pub use next::action;
+pub use own::{put_part, take_part};
