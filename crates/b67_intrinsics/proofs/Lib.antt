@@ -6,3 +6,6 @@ pub mod Trying
 pub mod Phrases
 pub mod Numbers
 pub mod LineTests
+pub mod Pushing
+pub mod MakingArrays
+pub mod Naming

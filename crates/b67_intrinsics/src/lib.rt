@@ -5,6 +5,8 @@
 //! The events' intrinsics are those of the B6700's Extended ALGOL; their effects are this project's profile.
 #![tactic(auto)]
 
+mod all;
+mod allocating;
 mod finding;
 mod happening;
 mod hindrance;
@@ -14,6 +16,8 @@ mod marks;
 mod selecting;
 mod writing;
 
+pub use all::intrinsic;
+pub use allocating::{MOST_ARRAYS, arrays};
 pub use finding::{event_of, find_event, find_mark};
 pub use happening::{cause, end, happened, liberate, procure, registers, reset, wait};
 pub use hindrance::Hindrance;
