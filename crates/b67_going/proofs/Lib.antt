@@ -5,3 +5,6 @@ pub mod Begins
 pub mod Opened
 pub mod Left
 pub mod Started
+pub mod Gone
+pub mod Numbers
+pub mod Above

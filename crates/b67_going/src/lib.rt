@@ -5,6 +5,7 @@
 #![tactic(auto)]
 
 mod adds;
+mod jumps;
 mod leaves;
 mod opens;
 mod paths;
@@ -13,6 +14,7 @@ mod starts;
 mod targets;
 
 pub use adds::add_process;
+pub use jumps::go_to;
 pub use leaves::passes_critical;
 pub use opens::{NoMemory, open_process};
 pub use paths::{Needs, frame_below, on_path};
