@@ -1,9 +1,8 @@
 -- What a private operator makes of an image.
 use Rattle.std.specs.Prelude.{nat_le, ◌++◌, ◌^◌, ◌<◌}
-use Rattle.std.proofs.Common.{◌≡◌, refl, sym, ap, ◌∙◌, ℕ, ◌+◌, ◌≤◌, Bool, true, false, cond, List, take, drop, reverse, length, arith, Option, Some, Result, Ok, Err}
+use Rattle.std.proofs.Common.{◌≡◌, refl, sym, ap, ◌∙◌, ℕ, ◌+◌, ◌≤◌, Bool, true, false, cond, take, drop, reverse, length, arith, Some, Result, Ok, Err}
 use Rattle.std.proofs.lemmas.List.{length-drop, length-reverse}
 use Rattle.b67_list.specs.Numbered.{numbered}
-use Rattle.b67_word.specs.Word.{Word}
 use Rattle.b67_control.specs.declared.Registers.{Registers}
 use Rattle.b67_ops.specs.declared.Operator.{Operator}
 use Rattle.b67_store.specs.Store.{Stacks, Rows, words_of, with_stack, stack_limit}
@@ -26,8 +25,7 @@ use Rattle.b67_private.specs.declared.Stop.TheVariants as parts
 use Rattle.b67_private.specs.Parts.{IsPart, length_of, own_outcome}
 use Rattle.b67_private.proofs.Stepping.{given_of}
 use Rattle.b67_private.specs.Performing.{stopped as part_stopped, Performs}
-use Rattle.b67_reach.specs.declared.Stop.{Stop}
-use Rattle.b67_reach.specs.Answers.{stopped, after}
+use Rattle.b67_reach.specs.Answers.{stopped}
 use Rattle.b67_reach.specs.Images.{Own, own, with_own}
 use Rattle.b67_action.specs.Own.{part_of, stop_by, DoesOwn}
 

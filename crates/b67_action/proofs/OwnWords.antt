@@ -1,12 +1,9 @@
 -- A private part is taken out of the stacks and put back, and what its operator makes of an image.
-use Rattle.std.proofs.Common.{◌≡◌, refl, sym, ap, subst, ◌∙◌, ℕ, zero, suc, ◌+◌, ◌-◌, ◌<◌, ◌≤◌, List, [], ◌∷◌, ◌++◌, length, take, drop, reverse, slice_get, Option, Some, None, Result, Ok, Err, IsSome, All, arith}
-use Rattle.std.specs.Prelude.{nat_le}
+use Rattle.std.proofs.Common.{◌≡◌, refl, sym, ap, ◌∙◌, ℕ, zero, suc, ◌+◌, ◌-◌, ◌<◌, ◌≤◌, List, [], ◌∷◌, ◌++◌, length, take, drop, reverse, slice_get, Option, Some, None, IsSome, arith}
 use Rattle.std.proofs.lemmas.List.{reverse-append, drop-append-le, length-drop, length-append, length-reverse, append-nil}
 use Rattle.std.proofs.Math.Seq.{drop-length}
 use Rattle.std.proofs.lemmas.Option.{slice_get_within}
-use Rattle.b67_list.specs.Numbered.{numbered}
 use Rattle.b67_word.specs.Word.{Word}
-use Rattle.b67_control.specs.declared.Registers.{Registers}
 use Rattle.b67_store.specs.Store.{Stacks, stack_at, words_of, words_or, with_stack, with_push}
 use Rattle.b67_table.proofs.Stacks.{set_here, set_set_here}
 

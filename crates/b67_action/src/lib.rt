@@ -9,7 +9,6 @@ mod entering;
 mod next;
 mod own;
 mod rows;
-mod to_come;
 mod words;
 
 pub use done::Done;

@@ -2,6 +2,9 @@
 ghost use Rattle.std.specs.Prelude.{◌≡◌};
 ghost use Rattle.b67_ops.specs.Spelling.{FitsAs};
 ghost use Rattle.b67_private.specs.Operating.{IsHeldCouple};
+ghost use Rattle.b67_ops.specs.declared.Operator.TheVariants.{Plain};
+ghost use Rattle.b67_ops.specs.declared.PlainKind.TheVariants.{Entr};
+ghost use Rattle.b67_action.specs.declared.rows.Row.TheVariants.{Enter};
 ghost use Rattle.b67_action.specs.Rows.{HasRow, HasRowOf, IsHeldRow};
 
 use b67_ops::{BranchKind, Couple, Operator, PlainKind};
@@ -37,6 +40,7 @@ pub enum Row {
 fn row_of_plain(kind: PlainKind) -> Row
     ensures row { HasRowOf kind result }
     ensures held { IsHeldRow result }
+    ensures enters { result ≡ Enter → kind ≡ Entr }
 {
     match kind {
         PlainKind::Exit => Row::Exit,
@@ -60,6 +64,7 @@ pub fn row_of(op: &Operator, place: u16) -> Row
     requires { FitsAs IsHeldCouple op.now }
     ensures row { HasRow op.now place result }
     ensures held { IsHeldRow result }
+    ensures enters { result ≡ Enter → op.now ≡ Plain Entr }
 {
     match *op {
         Operator::Valc(couple) => Row::Words(WordsRow::ValueCall(couple)),

@@ -1,8 +1,8 @@
-use Rattle.std.proofs.Common.{◌≡◌, refl, sym, ap, subst, ◌∙◌, ◌+◌, ◌≤◌, ℕ, IsSome, Ok, Err, length, arith}
+use Rattle.std.proofs.Common.{◌≡◌, refl, sym, ap, subst, ◌∙◌, ◌+◌, ◌≤◌, ℕ, IsSome, Ok, Err, length}
 use Rattle.b67_control.specs.declared.Registers.{Registers}
 use Rattle.b67_store.specs.Store.{stack_at, stack_limit}
 use Rattle.b67_table.specs.declared.Private.{Private}
-use Rattle.b67_table.specs.Outcome.{Outcome, gives}
+use Rattle.b67_table.specs.Outcome.{gives}
 use Rattle.b67_private.specs.Parts.{own_outcome}
 use Rattle.b67_private.specs.Performing.{stopped}
 use Rattle.b67_reach.specs.declared.Stop.{Stop}

@@ -1,6 +1,6 @@
-use Rattle.std.proofs.Common.{◌≡◌, refl, sym, ap, subst, ◌∙◌, ℕ, suc, ◌+◌, ◌-◌, ◌<◌, ◌++◌, ◌∷◌, [], take, drop, reverse, length, slice_get, List, Option, IsSome, Some, arith}
+use Rattle.std.proofs.Common.{◌≡◌, refl, sym, ap, subst, ◌∙◌, ℕ, suc, ◌-◌, ◌<◌, ◌++◌, ◌∷◌, [], take, drop, reverse, length, slice_get, List, Option, IsSome, Some, arith}
 use Rattle.b67_word.specs.Word.{Word}
-use Rattle.b67_store.specs.Store.{Stacks, stack_at, words_of, words_or, with_stack, with_push, with_cut, stack_limit}
+use Rattle.b67_store.specs.Store.{Stacks, stack_at, words_of, words_or, with_stack, with_push, stack_limit}
 use Rattle.b67_action.proofs.OwnWords.{none_put, next_put, own_words, one_pushed, is_there, put_long}
 use Rattle.b67_action.proofs.own.put_part.Goals as goal
 

@@ -1,0 +1,239 @@
+// ENTR: an intrinsic is called, or a procedure entered.
+ghost use Rattle.std.specs.Prelude.{◌≡◌, ◌≤◌, ℕ, true, false, Some, Err, vec_capacity};
+ghost use Rattle.b67_list.specs.Numbered.{numbered};
+ghost use Rattle.b67_segment.specs.declared.code.Code.{Code};
+ghost use Rattle.b67_table.specs.Intrinsics.{intrinsic_row, row_of_intrinsic};
+ghost use Rattle.b67_table.specs.Names.{intrinsic_numbered};
+ghost use Rattle.b67_table.specs.Rows.{enter};
+ghost use Rattle.b67_table.specs.Starting.{start_process};
+ghost use Rattle.b67_going.specs.Starts.{IsCalling, HasNext};
+ghost use Rattle.b67_operators.specs.Leaves.{IsLinkedIn, program_in};
+ghost use Rattle.b67_intrinsics.specs.declared.hindrance.Hindrance.TheVariants.{NoMemory};
+ghost use Rattle.b67_intrinsics.specs.Called.{called_in, Tries};
+ghost use Rattle.b67_reach.specs.Images.{image_of};
+ghost use Rattle.b67_reach.specs.Answers.{Acts};
+ghost use Rattle.b67_action.specs.Acting.{IsActing, IsEntering, selects, hindered, CallsMaker};
+ghost use Rattle.b67_action.specs.Among.{ActsIn};
+ghost use Rattle.b67_action.specs.Done.{makes};
+
+use crate::words::enter_procedure;
+use b67_control::Mscw;
+use b67_events::Kernel;
+use b67_going::{Unstarted, go_to, start};
+use b67_intrinsics::{
+    Hindrance, arrays, cause, happened, liberate, make_event, procure, registers, reset, select,
+    wait, write,
+};
+use b67_operators::find_called;
+use b67_ops::{FIRST_INTRINSIC, Intrinsic};
+use b67_reach::{Parts, Registers, Stop, invalid};
+use b67_store::Core;
+
+// The intrinsics in the order of their numbers.
+const INTRINSICS: [Intrinsic; 12] = [
+    Intrinsic::GoTo,
+    Intrinsic::Select,
+    Intrinsic::Arrays,
+    Intrinsic::Event,
+    Intrinsic::Start,
+    Intrinsic::Write,
+    Intrinsic::Wait,
+    Intrinsic::Cause,
+    Intrinsic::Reset,
+    Intrinsic::Happened,
+    Intrinsic::Procure,
+    Intrinsic::Liberate,
+];
+
+// The intrinsic of a number, where there is one.
+fn intrinsic_numbered(number: u16) -> Option<Intrinsic>
+    ensures { result ≡ intrinsic_numbered number }
+{
+    if number < FIRST_INTRINSIC {
+        return None;
+    }
+    let index = usize::from(number - FIRST_INTRINSIC);
+    if index < INTRINSICS.len() {
+        Some(INTRINSICS[index])
+    } else {
+        None
+    }
+}
+
+// Tests that an intrinsic makes something, for which there may be no memory.
+fn makes(name: Intrinsic) -> bool
+    ensures { result ≡ makes (Some name) }
+{
+    match name {
+        Intrinsic::Arrays | Intrinsic::Event | Intrinsic::Start | Intrinsic::Write => true,
+        _ => false,
+    }
+}
+
+// SELECT, in a process.
+fn select_in<C: Core>(
+    core: &mut C,
+    all: &mut Vec<Registers>,
+    process: u32,
+    mark: &Mscw,
+) -> Result<(), Stop>
+    requires linked { IsLinkedIn (C.Core.stacks core.old) (C.Core.rows core.old) (numbered all.old.items process) }
+    requires above { IsEntering (numbered all.old.items process) }
+    ensures acts { (code : Code) (next : ℕ) → ActsIn (selects code mark.now) next (C.Core.stacks core.old) (C.Core.rows core.old) all.old.items process (C.Core.stacks core.new) (C.Core.rows core.new) all.new.items result }
+    ensures room { vec_capacity all.old ≤ vec_capacity all.new }
+{
+    let regs = &mut all[process as usize - 1];
+    select(core, regs, mark)
+}
+
+// An intrinsic that takes no memory.
+fn call_plainly<C: Core>(
+    core: &mut C,
+    kernel: &mut Kernel,
+    parts: &mut Parts,
+    process: u32,
+    name: Intrinsic,
+    mark: &Mscw,
+    next: u16,
+) -> Result<(), Stop>
+    requires acting { IsActing (C.Core.stacks core.old) (C.Core.rows core.old) kernel.old parts.old process }
+    requires entering { IsEntering (numbered parts.old.regs.items process) }
+    requires plain { makes (Some name) ≡ false }
+    ensures acts { Acts process (called_in (row_of_intrinsic name) parts.old.code (numbered parts.old.regs.items process) next mark.now) (image_of (C.Core.stacks core.old) (C.Core.rows core.old) kernel.old.events parts.old) (image_of (C.Core.stacks core.new) (C.Core.rows core.new) kernel.new.events parts.new) result }
+    ensures capacity { vec_capacity parts.old.woken.processes ≤ vec_capacity parts.new.woken.processes }
+    ensures processes { kernel.new.room ≡ kernel.old.room }
+    ensures code { parts.new.code ≡ parts.old.code }
+{
+    match name {
+        Intrinsic::GoTo => go_to(core, kernel, parts, process),
+        Intrinsic::Select => select_in(core, &mut parts.regs, process, mark),
+        Intrinsic::Wait => wait(core, kernel, parts, process, mark, next),
+        Intrinsic::Cause => cause(core, kernel, parts, process, mark, next),
+        Intrinsic::Reset => reset(core, kernel, parts, process, mark, next),
+        Intrinsic::Happened => happened(core, kernel, parts, process, mark, next),
+        Intrinsic::Procure => procure(core, kernel, parts, process, mark, next),
+        Intrinsic::Liberate => liberate(core, kernel, parts, process, mark, next),
+        _ => Err(invalid()),
+    }
+}
+
+// START, whose answer is not told.
+fn start_in<C: Core>(
+    core: &mut C,
+    kernel: &Kernel,
+    parts: &mut Parts,
+    process: u32,
+    mark: &Mscw,
+    next: u16,
+) -> Result<(), Hindrance>
+    requires calling { IsCalling (C.Core.stacks core.old) (C.Core.rows core.old) (numbered parts.old.regs.items process) }
+    requires next { HasNext (C.Core.stacks core.old) parts.old }
+    ensures tries { Tries process (called_in start_process parts.old.code (numbered parts.old.regs.items process) next mark.now) (image_of (C.Core.stacks core.old) (C.Core.rows core.old) kernel.now.events parts.old) (image_of (C.Core.stacks core.new) (C.Core.rows core.new) kernel.now.events parts.new) result }
+    ensures code { parts.new.code ≡ parts.old.code }
+    ensures woken { parts.new.woken ≡ parts.old.woken }
+{
+    match start(core, kernel, parts, process, mark, next) {
+        Ok(_) => Ok(()),
+        Err(Unstarted::Stopped(stop)) => Err(Hindrance::Stopped(stop)),
+        Err(Unstarted::NoMemory) => Err(Hindrance::NoMemory),
+    }
+}
+
+// An intrinsic that makes something.
+fn call_making<C: Core>(
+    core: &mut C,
+    kernel: &mut Kernel,
+    parts: &mut Parts,
+    process: u32,
+    name: Intrinsic,
+    mark: &Mscw,
+    next: u16,
+) -> Result<(), Hindrance>
+    requires acting { IsActing (C.Core.stacks core.old) (C.Core.rows core.old) kernel.old parts.old process }
+    requires entering { IsEntering (numbered parts.old.regs.items process) }
+    requires makes { makes (Some name) ≡ true }
+    ensures tries { Tries process (called_in (row_of_intrinsic name) parts.old.code (numbered parts.old.regs.items process) next mark.now) (image_of (C.Core.stacks core.old) (C.Core.rows core.old) kernel.old.events parts.old) (image_of (C.Core.stacks core.new) (C.Core.rows core.new) kernel.new.events parts.new) result }
+    ensures woken { parts.new.woken ≡ parts.old.woken }
+    ensures processes { kernel.new.room ≡ kernel.old.room }
+    ensures code { parts.new.code ≡ parts.old.code }
+{
+    match name {
+        Intrinsic::Arrays => arrays(core, parts, process, mark, next),
+        Intrinsic::Event => make_event(core, kernel, parts, process, mark, next),
+        Intrinsic::Start => start_in(core, kernel, parts, process, mark, next),
+        Intrinsic::Write => write(core, parts, process, mark, next),
+        _ => Err(Hindrance::Stopped(invalid())),
+    }
+}
+
+/// An answer that no memory hinders.
+pub fn hindered(answer: Result<(), Stop>) -> Result<(), Hindrance>
+    ensures { result ≡ hindered answer }
+{
+    match answer {
+        Ok(()) => Ok(()),
+        Err(stop) => Err(Hindrance::Stopped(stop)),
+    }
+}
+
+// The intrinsic of a number is called.
+fn call<C: Core>(
+    core: &mut C,
+    kernel: &mut Kernel,
+    parts: &mut Parts,
+    process: u32,
+    number: u16,
+    mark: &Mscw,
+    next: u16,
+) -> Result<(), Hindrance>
+    requires acting { IsActing (C.Core.stacks core.old) (C.Core.rows core.old) kernel.old parts.old process }
+    requires entering { IsEntering (numbered parts.old.regs.items process) }
+    ensures tries { Tries process (called_in (intrinsic_row (intrinsic_numbered number)) parts.old.code (numbered parts.old.regs.items process) next mark.now) (image_of (C.Core.stacks core.old) (C.Core.rows core.old) kernel.old.events parts.old) (image_of (C.Core.stacks core.new) (C.Core.rows core.new) kernel.new.events parts.new) result }
+    ensures making { result ≡ Err NoMemory → makes (intrinsic_numbered number) ≡ true }
+    ensures capacity { vec_capacity parts.old.woken.processes ≤ vec_capacity parts.new.woken.processes }
+    ensures processes { kernel.new.room ≡ kernel.old.room }
+    ensures code { parts.new.code ≡ parts.old.code }
+{
+    let Some(name) = intrinsic_numbered(number) else {
+        return Err(Hindrance::Stopped(invalid()));
+    };
+    if makes(name) {
+        call_making(core, kernel, parts, process, name, mark, next)
+    } else {
+        hindered(call_plainly(core, kernel, parts, process, name, mark, next))
+    }
+}
+
+/// ENTR, in a process: the intrinsic that the PCW names is called, or the procedure is entered.
+pub fn enter<C: Core>(
+    core: &mut C,
+    kernel: &mut Kernel,
+    parts: &mut Parts,
+    process: u32,
+    next: u16,
+) -> Result<(), Hindrance>
+    requires { IsActing (C.Core.stacks core.old) (C.Core.rows core.old) kernel.old parts.old process }
+    ensures tries { Tries process (program_in (enter parts.old.code) (numbered parts.old.regs.items process) next) (image_of (C.Core.stacks core.old) (C.Core.rows core.old) kernel.old.events parts.old) (image_of (C.Core.stacks core.new) (C.Core.rows core.new) kernel.new.events parts.new) result }
+    ensures making { result ≡ Err NoMemory → CallsMaker (C.Core.stacks core.old) (numbered parts.old.regs.items process) }
+    ensures capacity { vec_capacity parts.old.woken.processes ≤ vec_capacity parts.new.woken.processes }
+    ensures processes { kernel.new.room ≡ kernel.old.room }
+    ensures code { parts.new.code ≡ parts.old.code }
+{
+    let called = match find_called(core, registers(&parts.regs, process)) {
+        Ok(called) => called,
+        Err(stop) => return Err(Hindrance::Stopped(stop)),
+    };
+    if called.pcw.intrinsic {
+        call(
+            core,
+            kernel,
+            parts,
+            process,
+            called.pcw.number,
+            &called.mark,
+            next,
+        )
+    } else {
+        hindered(enter_procedure(core, &mut parts.regs, process, &called, next))
+    }
+}
