@@ -32,7 +32,7 @@ use Rattle.b67_linkage.proofs.Entered.{outcome_of, within}
 use Rattle.b67_reach.specs.declared.Stop.{Stop}
 use Rattle.b67_reach.specs.Images.{own, with_own}
 use Rattle.b67_reach.specs.Answers.{looked, Acts}
-use Rattle.b67_reach.proofs.Looking.{asked_on, acts_stop}
+use Rattle.b67_reach.proofs.Looking.{asked_on}
 use Rattle.b67_intrinsics.specs.Called.{arguments, called}
 use Rattle.b67_going.specs.declared.targets.Target.{Target}
 use Rattle.b67_going.specs.Leaves.{without_events}
@@ -91,20 +91,11 @@ module _ (st : Stacks) (rows : Rows) (r : Registers) (t : going.Target) (c : Cut
         ∙ ap (λ (z : Held). with_events (with_own (own z.stacks z.rows (in_target z)) p img) (without_events r.stack fs events)) (after_is after k)
         ∙ ap (λ (z : List Event). with_events (with_own (own after.stacks after.rows (in_target after)) p img) z) l
 
-    pub is_short : (after : Held) → outcome_of (cuts h t.level) ≡ gives after → after.regs.s ≤ stack_limit
-    is_short after k =
-        subst (λ (z : Held). z.regs.s ≤ stack_limit) (after_is after k) (subst (λ (n : ℕ). n + 2 + c.passing.cells ≤ stack_limit) at_is low)
-
 -- ---- the operator
 
 pub target_was : (y : Result going.Target InterruptKind) (t : Target) → Ok t ≡ looked (target_in y) → Ok (tabled t) ≡ looked y
 target_was (Ok x) t e = let is : t ≡ record { frame = x.frame; level = x.level; segment = x.segment; pointer = x.pointer } = cc in ap (λ (z : Target). Ok (tabled z)) is
 target_was (Err kind) t e = absurd cc
-
-pub target_stops : (y : Result going.Target InterruptKind) (stop : Stop) → ◌≡◌ {A = Result Target Stop} (Err stop) (looked (target_in y))
-    → ◌≡◌ {A = Result going.Target Stop} (Err stop) (looked y)
-target_stops (Ok x) stop e = cc
-target_stops (Err kind) stop e = cc
 
 pub acts_exit : {A : Type 0} (p : ℕ) (program : Program) (img : Image) (res : Result A Stop) (stop : Stop) → IsErrAnd res (λ s. s ≡ stop)
     → Acts {A = A} p program img img (Err stop) → Acts p program img img res
@@ -133,11 +124,6 @@ module _ (code : Code) (r : Registers) (next : ℕ) (m : Mscw) (img : Image) (p 
 
   by_route : (new : Image) (res : Result (Unit {0}) Stop) → Acts p (see (named_target r words) >>= on_route) img new res → Acts p (called go_to code r next m) img new res
   by_route new res x = record { outcome = ap (λ (e : Effect Change). limited (stack_length p) (effect_of p img e)) as_route ∙ x.outcome; stays = x.stays }
-
-  pub no_target : (stop : Stop) → ◌≡◌ {A = Result going.Target Stop} (Err stop) (looked (seen img.stacks (named_target r words)))
-      → Acts {A = Unit {0}} p (called go_to code r next m) img img (Err stop)
-  no_target stop e =
-      by_route img (Err stop) (acts_stop p (see (named_target r words)) on_route stop img img (sees img (named_target r words) img.stacks (Err stop) refl e) refl)
 
   module _ (t : going.Target) (e : Ok t ≡ looked (seen img.stacks (named_target r words))) where
     to_target : asked img (see (named_target r words) >>= on_route) ≡ asked img (on_route t)
