@@ -1,8 +1,7 @@
 // The next operator of a process.
-ghost use Rattle.std.specs.Prelude.{◌≡◌, ◌≤◌, IfSome, length, true};
+ghost use Rattle.std.specs.Prelude.{◌≡◌, IfSome, true};
 ghost use Rattle.b67_list.specs.Numbered.{numbered};
 ghost use Rattle.b67_segment.specs.Decoded.{AreDecoded};
-ghost use Rattle.b67_store.specs.Store.{row_limit};
 ghost use Rattle.b67_table.specs.Image.{is_able};
 ghost use Rattle.b67_table.specs.Valid.{IsValid};
 ghost use Rattle.b67_reach.specs.Images.{image_of};
@@ -36,7 +35,7 @@ pub fn action<C: Core>(
     requires room { HasRoom kernel.old parts.old }
     requires table { IfSome (numbered parts.old.regs.items process) (λ r. IfSome table (λ t. AreDecoded parts.old.code r.segment r.ll t.now)) }
     ensures came { Came parts.old.code (image_of (C.Core.stacks core.old) (C.Core.rows core.old) kernel.old.events parts.old) process result (image_of (C.Core.stacks core.new) (C.Core.rows core.new) kernel.new.events parts.new) }
-    ensures valid { length (C.Core.rows core.new) ≤ row_limit → IsValid parts.old.code (image_of (C.Core.stacks core.new) (C.Core.rows core.new) kernel.new.events parts.new) }
+    ensures valid { IsValid parts.old.code (image_of (C.Core.stacks core.new) (C.Core.rows core.new) kernel.new.events parts.new) }
     ensures room { HasRoom kernel.new parts.new }
     ensures code { parts.new.code ≡ parts.old.code }
 {
@@ -50,7 +49,10 @@ pub fn action<C: Core>(
         return Done::Interrupt(InterruptKind::BadCode);
     };
     let row = row_of(&op, at.place);
-    match perform(core, kernel, parts, part, process, row, &op, next) {
+    let answer = perform(core, kernel, parts, part, process, row, &op, next);
+    // no store has more rows than it has numbers for
+    let _ = core.counted();
+    match answer {
         Ok(()) => went(parts.states[process as usize - 1]),
         Err(hindrance) => hindered_by(hindrance),
     }

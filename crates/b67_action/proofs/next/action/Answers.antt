@@ -51,7 +51,7 @@ perform-requires-clause-part g c =
 pub index-requires : goal.index-requires
 index-requires g c =
     let old = image_of (g.C.Core.stacks c.args.core.now) (g.C.Core.rows c.args.core.now) c.args.kernel.now.events c.args.parts.now in
-    let new = image_of (g.C.Core.stacks c.perform.new.core) (g.C.Core.rows c.perform.new.core) c.perform.new.kernel.events c.perform.new.parts in
+    let new = image_of (g.C.Core.stacks c.perform-answer.new.core) (g.C.Core.rows c.perform-answer.new.core) c.perform-answer.new.kernel.events c.perform-answer.new.parts in
     let after = state_after c.args.parts.now.code old new c.args.process c.registers-regs.result.now c.in-Some.op c.in-Some.next c.row_of-row.result c.registers-regs.ensures
     c.row_of-row.ensures.row c.requires.able c.in-Ok.ensures.comes in
     omega (arith, after.0, after.1)
@@ -62,7 +62,7 @@ returns-in-Ok-clause-came g c =
     let p = c.args.process in
     let r = c.registers-regs.result.now in
     let old = image_of (g.C.Core.stacks c.args.core.now) (g.C.Core.rows c.args.core.now) c.args.kernel.now.events c.args.parts.now in
-    let new = image_of (g.C.Core.stacks c.perform.new.core) (g.C.Core.rows c.perform.new.core) c.perform.new.kernel.events c.perform.new.parts in
+    let new = image_of (g.C.Core.stacks c.perform-answer.new.core) (g.C.Core.rows c.perform-answer.new.core) c.perform-answer.new.kernel.events c.perform-answer.new.parts in
     let here : found code r.segment r.ll r.place ≡ Some (c.in-Some.op, c.in-Some.next) = sym c.next_operator.ensures.value ∙ c.in-Some.is in
     let after = state_after code old new p r c.in-Some.op c.in-Some.next c.row_of-row.result c.registers-regs.ensures c.row_of-row.ensures.row c.requires.able c.in-Ok.ensures.comes in
     subst (λ (d : Done). Came code old p d new) (sym c.went.ensures)
@@ -71,16 +71,16 @@ returns-in-Ok-clause-came g c =
     c.index.result.now c.in-Ok.ensures.comes (state_at new.states p c.index.result.now after.0 after.1 c.index.ensures))
 
 pub returns-in-Ok-clause-valid : goal.returns-in-Ok-clause-valid
-returns-in-Ok-clause-valid g c = λ few.
+returns-in-Ok-clause-valid g c =
     let code = c.args.parts.now.code in
     let p = c.args.process in
     let r = c.registers-regs.result.now in
     let old = image_of (g.C.Core.stacks c.args.core.now) (g.C.Core.rows c.args.core.now) c.args.kernel.now.events c.args.parts.now in
-    let new = image_of (g.C.Core.stacks c.perform.new.core) (g.C.Core.rows c.perform.new.core) c.perform.new.kernel.events c.perform.new.parts in
+    let new = image_of (g.C.Core.stacks c.perform-answer.new.core) (g.C.Core.rows c.perform-answer.new.core) c.perform-answer.new.kernel.events c.perform-answer.new.parts in
     let here : found code r.segment r.ll r.place ≡ Some (c.in-Some.op, c.in-Some.next) = sym c.next_operator.ensures.value ∙ c.in-Some.is in
-    stays_valid code old new p (row_effect c.row_of-row.result code c.in-Some.op c.in-Some.next p (numbered old.regs p) old) c.perform.result c.requires.valid c.requires.able
+    stays_valid code old new p (row_effect c.row_of-row.result code c.in-Some.op c.in-Some.next p (numbered old.regs p) old) c.perform-answer.result c.requires.valid c.requires.able
     (table_row code old p r c.registers-regs.ensures c.in-Some.op c.in-Some.next c.row_of-row.result c.row_of-row.ensures.row c.requires.able here)
-    c.perform.ensures.comes few
+    c.perform-answer.ensures.comes c.counted.ensures.few
 
 pub returns-in-Err-clause-came : goal.returns-in-Err-clause-came
 returns-in-Err-clause-came g c =
@@ -88,24 +88,24 @@ returns-in-Err-clause-came g c =
     let p = c.args.process in
     let r = c.registers-regs.result.now in
     let old = image_of (g.C.Core.stacks c.args.core.now) (g.C.Core.rows c.args.core.now) c.args.kernel.now.events c.args.parts.now in
-    let new = image_of (g.C.Core.stacks c.perform.new.core) (g.C.Core.rows c.perform.new.core) c.perform.new.kernel.events c.perform.new.parts in
+    let new = image_of (g.C.Core.stacks c.perform-answer.new.core) (g.C.Core.rows c.perform-answer.new.core) c.perform-answer.new.kernel.events c.perform-answer.new.parts in
     let here : found code r.segment r.ll r.place ≡ Some (c.in-Some.op, c.in-Some.next) = sym c.next_operator.ensures.value ∙ c.in-Some.is in
     subst (λ (d : Done). Came code old p d new) (sym c.hindered_by.ensures)
     (came_not code old new p (row_effect c.row_of-row.result code c.in-Some.op c.in-Some.next p (numbered old.regs p) old)
     (table_row code old p r c.registers-regs.ensures c.in-Some.op c.in-Some.next c.row_of-row.result c.row_of-row.ensures.row c.requires.able here)
     c.in-Err.hindrance c.in-Err.ensures.comes
-    (λ m. let making = c.perform.ensures.making (c.in-Err.is ∙ ap (λ (h : Hindrance). Err h) m) in
+    (λ m. let making = c.perform-answer.ensures.making (c.in-Err.is ∙ ap (λ (h : Hindrance). Err h) m) in
     makes_next code old p r c.registers-regs.ensures c.in-Some.op c.in-Some.next c.row_of-row.result c.row_of-row.ensures.row c.requires.able here
     (c.row_of-row.ensures.enters making.0) making.1))
 
 pub returns-in-Err-clause-valid : goal.returns-in-Err-clause-valid
-returns-in-Err-clause-valid g c = λ few.
+returns-in-Err-clause-valid g c =
     let code = c.args.parts.now.code in
     let p = c.args.process in
     let r = c.registers-regs.result.now in
     let old = image_of (g.C.Core.stacks c.args.core.now) (g.C.Core.rows c.args.core.now) c.args.kernel.now.events c.args.parts.now in
-    let new = image_of (g.C.Core.stacks c.perform.new.core) (g.C.Core.rows c.perform.new.core) c.perform.new.kernel.events c.perform.new.parts in
+    let new = image_of (g.C.Core.stacks c.perform-answer.new.core) (g.C.Core.rows c.perform-answer.new.core) c.perform-answer.new.kernel.events c.perform-answer.new.parts in
     let here : found code r.segment r.ll r.place ≡ Some (c.in-Some.op, c.in-Some.next) = sym c.next_operator.ensures.value ∙ c.in-Some.is in
-    stays_valid code old new p (row_effect c.row_of-row.result code c.in-Some.op c.in-Some.next p (numbered old.regs p) old) c.perform.result c.requires.valid c.requires.able
+    stays_valid code old new p (row_effect c.row_of-row.result code c.in-Some.op c.in-Some.next p (numbered old.regs p) old) c.perform-answer.result c.requires.valid c.requires.able
     (table_row code old p r c.registers-regs.ensures c.in-Some.op c.in-Some.next c.row_of-row.result c.row_of-row.ensures.row c.requires.able here)
-    c.perform.ensures.comes few
+    c.perform-answer.ensures.comes c.counted.ensures.few
