@@ -42,7 +42,7 @@ use Rattle.b67_action.specs.declared.rows.Row.{Row}
 use Rattle.b67_action.specs.declared.rows.Row.TheVariants as ours
 use Rattle.b67_action.specs.Acting.{row_effect, hindered, ComesOrNot, CallsMaker}
 use Rattle.b67_action.specs.Among.{Comes}
-use Rattle.b67_action.specs.Done.{went, hindered_by, MakesNext, Came}
+use Rattle.b67_action.specs.Done.{went, hindered_by, is_performed, MakesNext, Came}
 use Rattle.b67_action.specs.Rows.{Is}
 
 -- ---- programs and effects
@@ -149,6 +149,12 @@ module _ (code : Code) (old new : Image) (p : ℕ) (effect : Effect Image) (t : 
   came_not (Stopped (Fault kind)) x m = (t ∙ x.outcome, x.stays)
   came_not (Stopped StackLimit) x m = (t ∙ x.outcome, x.stays)
   came_not NoMemory x m = (m refl, x)
+
+pub not_performed : (hindrance : Hindrance) → is_performed (hindered_by hindrance) ≡ true → ⊥
+not_performed (Stopped (Interrupt kind)) e = cc
+not_performed (Stopped (Fault kind)) e = cc
+not_performed (Stopped StackLimit) e = cc
+not_performed NoMemory e = cc
 
 -- ---- states are not taken away
 

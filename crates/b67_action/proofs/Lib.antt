@@ -5,3 +5,4 @@ pub mod Kept
 pub mod OwnOutcome
 pub mod OwnWords
 pub mod Ready
+pub mod Releasing

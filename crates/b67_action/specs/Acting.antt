@@ -1,10 +1,11 @@
 -- What is performed in a process, and what is asked of it.
-use Rattle.std.specs.Prelude.{◌≡◌, ◌+◌, ◌≤◌, IsFalse, ℕ, true, Option, Some, None, Result, Ok, Err}
+use Rattle.std.specs.Prelude.{◌≡◌, ◌+◌, ◌≤◌, IsFalse, ℕ, Bool, true, false, List, [], Option, Some, None, Result, Ok, Err}
 use Rattle.std.specs.Vec.{vec_capacity}
 use Rattle.b67_list.specs.Numbered.{numbered}
 use Rattle.b67_control.specs.declared.Mscw.{Mscw}
 use Rattle.b67_control.specs.declared.Registers.{Registers}
 use Rattle.b67_events.specs.Events.{Events, is_waiting}
+use Rattle.b67_ops.specs.declared.intrinsic.Intrinsic.{Intrinsic}
 use Rattle.b67_ops.specs.declared.Operator.{Operator}
 use Rattle.b67_segment.specs.declared.code.Code.{Code}
 use Rattle.b67_store.specs.Store.{Stacks, Rows}
@@ -15,13 +16,15 @@ use Rattle.b67_table.specs.Look.{seen}
 use Rattle.b67_table.specs.Names.{intrinsic_numbered}
 use Rattle.b67_table.specs.Program.{Program, does}
 use Rattle.b67_table.specs.Rows.{exit, return_value, enter}
+use Rattle.b67_table.specs.Table.{operator_at}
 use Rattle.b67_going.specs.Starts.{HasNext}
 use Rattle.b67_intrinsics.specs.declared.hindrance.Hindrance.{Hindrance}
 use Rattle.b67_intrinsics.specs.declared.hindrance.Hindrance.TheVariants.{Stopped, NoMemory}
 use Rattle.b67_intrinsics.specs.Called.{IsLeft, called}
+use Rattle.b67_intrinsics.specs.Names.{Releases}
 use Rattle.b67_operators.specs.declared.calling.Called.{Called}
 use Rattle.b67_operators.specs.Entries.{called as entered}
-use Rattle.b67_operators.specs.Leaves.{IsLinkedIn, program_in}
+use Rattle.b67_operators.specs.Leaves.{IsLinkedIn, program_in, released}
 use Rattle.b67_reach.specs.declared.Parts.{Parts}
 use Rattle.b67_reach.specs.declared.Stop.{Stop}
 use Rattle.b67_reach.specs.Answers.{looked}
@@ -30,7 +33,7 @@ use Rattle.b67_action.specs.declared.rows.Row.TheVariants as rows
 use Rattle.b67_action.specs.Among.{Comes}
 use Rattle.b67_action.specs.Done.{makes}
 use Rattle.b67_action.specs.Own.{own_effect}
-use Rattle.b67_action.specs.Rows.{words_program}
+use Rattle.b67_action.specs.Rows.{words_program, HasRow}
 
 -- ---- what is asked
 
@@ -78,3 +81,39 @@ abbrev pub ComesOrNot : ℕ → Effect Image → Image → Image → Result (Uni
 ComesOrNot p effect old new (Ok u) = Comes {A = Unit {0}} p effect old new (Ok u)
 ComesOrNot p effect old new (Err (Stopped stop)) = Comes {A = Unit {0}} p effect old new (Err stop)
 ComesOrNot p effect old new (Err NoMemory) = IsLeft old new
+
+-- ---- whom an operator releases
+
+-- These are the processes that are released after an operator, where those were before: who waited for the event that CAUSE makes happen,
+-- or EXIT from a base frame for the process's task, and who is the first to procure the event that LIBERATE frees. Other operators
+-- release nobody.
+abbrev pub CallReleases : Option Intrinsic → Image → Option Registers → Mscw → List ℕ → List ℕ → Type 0
+CallReleases None img regs m before after = after ≡ before
+CallReleases (Some name) img regs m before after = Releases name img regs m before after
+
+abbrev pub CalleeReleases : Bool → Called → Image → Option Registers → List ℕ → List ℕ → Type 0
+CalleeReleases false c img regs before after = after ≡ before
+CalleeReleases true c img regs before after = CallReleases (intrinsic_numbered c.pcw.number) img regs c.mark before after
+
+abbrev pub EnterReleases : Image → Option Registers → List ℕ → List ℕ → Type 0
+EnterReleases img None before after = ⊥
+EnterReleases img (Some r) before after =
+    (c : Called) × (Ok c ≡ looked (seen img.stacks (entered r))) × CalleeReleases c.pcw.intrinsic c img (Some r) before after
+
+abbrev pub RowReleases : Row → Image → Option Registers → List ℕ → List ℕ → Type 0
+RowReleases rows.Own img regs before after = after ≡ before
+RowReleases (rows.Words kind) img regs before after = after ≡ before
+RowReleases rows.Exit img regs before after = after ≡ released regs img.events before
+RowReleases rows.ReturnValue img regs before after = after ≡ before
+RowReleases rows.Enter img regs before after = EnterReleases img regs before after
+
+-- the processes that the next operator of a process releases, where there were none before
+pub record NextReleases (code : Code) (img : Image) (p : ℕ) (after : List ℕ) : Type 0 where
+  pub regs : Registers
+  pub has : numbered img.regs p ≡ Some regs
+  pub op : Operator
+  pub next : ℕ
+  pub stands : operator_at code regs ≡ Ok (op, next)
+  pub row : Row
+  pub is : HasRow op regs.place row
+  pub releases : RowReleases row img (numbered img.regs p) [] after

@@ -79,6 +79,13 @@ Came code old p (Interrupt kind) new = (table code old p ≡ outcomes.interrupts
 Came code old p StackLimit new = (table code old p ≡ outcomes.limit) × (new ≡ old)
 Came code old p NoMemory new = MakesNext code old p × IsLeft old new
 
+-- the operator was performed
+abbrev pub is_performed : Done → Bool
+is_performed Went = true
+is_performed Waits = true
+is_performed Ended = true
+is_performed _ = false
+
 -- there is room for the most processes to wait and to be released
 pub record HasRoom (kernel : Events) (parts : Parts) : Type 0 where
   pub waiting : most_processes ≤ kernel.room

@@ -1,12 +1,12 @@
 // What an operator of a row does in a process.
-ghost use Rattle.std.specs.Prelude.{◌≡◌, ◌≢◌, ◌≤◌, Err, IfSome, vec_capacity};
+ghost use Rattle.std.specs.Prelude.{◌≡◌, ◌≢◌, ◌≤◌, Err, IfSome, OnOk, vec_capacity};
 ghost use Rattle.b67_list.specs.Numbered.{numbered};
 ghost use Rattle.b67_ops.specs.Spelling.{Fits};
 ghost use Rattle.b67_private.specs.Parts.{IsPart};
 ghost use Rattle.b67_intrinsics.specs.declared.hindrance.Hindrance.TheVariants.{NoMemory};
 ghost use Rattle.b67_reach.specs.Images.{image_of};
 ghost use Rattle.b67_action.specs.declared.rows.Row.TheVariants.{Enter};
-ghost use Rattle.b67_action.specs.Acting.{IsActing, row_effect, ComesOrNot, CallsMaker};
+ghost use Rattle.b67_action.specs.Acting.{IsActing, row_effect, ComesOrNot, CallsMaker, RowReleases};
 ghost use Rattle.b67_action.specs.Among.{Comes};
 ghost use Rattle.b67_action.specs.Own.{part_of};
 ghost use Rattle.b67_action.specs.Rows.{IsHeldRow};
@@ -40,6 +40,7 @@ fn perform_plainly<C: Core>(
     requires held { IsHeldRow row }
     requires plain { row ≢ Enter }
     ensures comes { Comes process (row_effect row parts.old.code op.now next process (numbered parts.old.regs.items process) (image_of (C.Core.stacks core.old) (C.Core.rows core.old) kernel.old.events parts.old)) (image_of (C.Core.stacks core.old) (C.Core.rows core.old) kernel.old.events parts.old) (image_of (C.Core.stacks core.new) (C.Core.rows core.new) kernel.new.events parts.new) result }
+    ensures woken { OnOk result (RowReleases row (image_of (C.Core.stacks core.old) (C.Core.rows core.old) kernel.old.events parts.old) (numbered parts.old.regs.items process) parts.old.woken.processes.items parts.new.woken.processes.items) }
     ensures capacity { vec_capacity parts.old.woken.processes ≤ vec_capacity parts.new.woken.processes }
     ensures processes { kernel.new.room ≡ kernel.old.room }
     ensures code { parts.new.code ≡ parts.old.code }
@@ -70,6 +71,7 @@ pub fn perform<C: Core>(
     requires held { IsHeldRow row }
     ensures comes { ComesOrNot process (row_effect row parts.old.code op.now next process (numbered parts.old.regs.items process) (image_of (C.Core.stacks core.old) (C.Core.rows core.old) kernel.old.events parts.old)) (image_of (C.Core.stacks core.old) (C.Core.rows core.old) kernel.old.events parts.old) (image_of (C.Core.stacks core.new) (C.Core.rows core.new) kernel.new.events parts.new) result }
     ensures making { result ≡ Err NoMemory → (row ≡ Enter) × CallsMaker (C.Core.stacks core.old) (numbered parts.old.regs.items process) }
+    ensures woken { OnOk result (RowReleases row (image_of (C.Core.stacks core.old) (C.Core.rows core.old) kernel.old.events parts.old) (numbered parts.old.regs.items process) parts.old.woken.processes.items parts.new.woken.processes.items) }
     ensures capacity { vec_capacity parts.old.woken.processes ≤ vec_capacity parts.new.woken.processes }
     ensures processes { kernel.new.room ≡ kernel.old.room }
     ensures code { parts.new.code ≡ parts.old.code }

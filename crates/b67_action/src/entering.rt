@@ -1,5 +1,5 @@
 // ENTR: an intrinsic is called, or a procedure entered.
-ghost use Rattle.std.specs.Prelude.{◌≡◌, ◌≤◌, ℕ, true, false, Some, Err, vec_capacity};
+ghost use Rattle.std.specs.Prelude.{◌≡◌, ◌≤◌, ℕ, true, false, Some, Err, OnOk, vec_capacity};
 ghost use Rattle.b67_list.specs.Numbered.{numbered};
 ghost use Rattle.b67_segment.specs.declared.code.Code.{Code};
 ghost use Rattle.b67_table.specs.Intrinsics.{intrinsic_row, row_of_intrinsic};
@@ -10,9 +10,10 @@ ghost use Rattle.b67_going.specs.Starts.{IsCalling, HasNext};
 ghost use Rattle.b67_operators.specs.Leaves.{IsLinkedIn, program_in};
 ghost use Rattle.b67_intrinsics.specs.declared.hindrance.Hindrance.TheVariants.{NoMemory};
 ghost use Rattle.b67_intrinsics.specs.Called.{called_in, Tries};
+ghost use Rattle.b67_intrinsics.specs.Names.{Releases};
 ghost use Rattle.b67_reach.specs.Images.{image_of};
 ghost use Rattle.b67_reach.specs.Answers.{Acts};
-ghost use Rattle.b67_action.specs.Acting.{IsActing, IsEntering, selects, hindered, CallsMaker};
+ghost use Rattle.b67_action.specs.Acting.{IsActing, IsEntering, selects, hindered, CallsMaker, CallReleases, EnterReleases};
 ghost use Rattle.b67_action.specs.Among.{ActsIn};
 ghost use Rattle.b67_action.specs.Done.{makes};
 
@@ -100,6 +101,7 @@ fn call_plainly<C: Core>(
     requires entering { IsEntering (numbered parts.old.regs.items process) }
     requires plain { makes (Some name) ≡ false }
     ensures acts { Acts process (called_in (row_of_intrinsic name) parts.old.code (numbered parts.old.regs.items process) next mark.now) (image_of (C.Core.stacks core.old) (C.Core.rows core.old) kernel.old.events parts.old) (image_of (C.Core.stacks core.new) (C.Core.rows core.new) kernel.new.events parts.new) result }
+    ensures woken { OnOk result (Releases name (image_of (C.Core.stacks core.old) (C.Core.rows core.old) kernel.old.events parts.old) (numbered parts.old.regs.items process) mark.now parts.old.woken.processes.items parts.new.woken.processes.items) }
     ensures capacity { vec_capacity parts.old.woken.processes ≤ vec_capacity parts.new.woken.processes }
     ensures processes { kernel.new.room ≡ kernel.old.room }
     ensures code { parts.new.code ≡ parts.old.code }
@@ -190,6 +192,7 @@ fn call<C: Core>(
     requires entering { IsEntering (numbered parts.old.regs.items process) }
     ensures tries { Tries process (called_in (intrinsic_row (intrinsic_numbered number)) parts.old.code (numbered parts.old.regs.items process) next mark.now) (image_of (C.Core.stacks core.old) (C.Core.rows core.old) kernel.old.events parts.old) (image_of (C.Core.stacks core.new) (C.Core.rows core.new) kernel.new.events parts.new) result }
     ensures making { result ≡ Err NoMemory → makes (intrinsic_numbered number) ≡ true }
+    ensures woken { OnOk result (CallReleases (intrinsic_numbered number) (image_of (C.Core.stacks core.old) (C.Core.rows core.old) kernel.old.events parts.old) (numbered parts.old.regs.items process) mark.now parts.old.woken.processes.items parts.new.woken.processes.items) }
     ensures capacity { vec_capacity parts.old.woken.processes ≤ vec_capacity parts.new.woken.processes }
     ensures processes { kernel.new.room ≡ kernel.old.room }
     ensures code { parts.new.code ≡ parts.old.code }
@@ -215,6 +218,7 @@ pub fn enter<C: Core>(
     requires { IsActing (C.Core.stacks core.old) (C.Core.rows core.old) kernel.old parts.old process }
     ensures tries { Tries process (program_in (enter parts.old.code) (numbered parts.old.regs.items process) next) (image_of (C.Core.stacks core.old) (C.Core.rows core.old) kernel.old.events parts.old) (image_of (C.Core.stacks core.new) (C.Core.rows core.new) kernel.new.events parts.new) result }
     ensures making { result ≡ Err NoMemory → CallsMaker (C.Core.stacks core.old) (numbered parts.old.regs.items process) }
+    ensures woken { OnOk result (EnterReleases (image_of (C.Core.stacks core.old) (C.Core.rows core.old) kernel.old.events parts.old) (numbered parts.old.regs.items process) parts.old.woken.processes.items parts.new.woken.processes.items) }
     ensures capacity { vec_capacity parts.old.woken.processes ≤ vec_capacity parts.new.woken.processes }
     ensures processes { kernel.new.room ≡ kernel.old.room }
     ensures code { parts.new.code ≡ parts.old.code }

@@ -5,7 +5,8 @@ ghost use Rattle.b67_segment.specs.Decoded.{AreDecoded};
 ghost use Rattle.b67_table.specs.Image.{is_able};
 ghost use Rattle.b67_table.specs.Valid.{IsValid};
 ghost use Rattle.b67_reach.specs.Images.{image_of};
-ghost use Rattle.b67_action.specs.Done.{Came, HasRoom};
+ghost use Rattle.b67_action.specs.Acting.{NextReleases};
+ghost use Rattle.b67_action.specs.Done.{is_performed, Came, HasRoom};
 
 use crate::acting::perform;
 use crate::done::{Done, hindered_by, went};
@@ -20,7 +21,8 @@ use b67_table::Private;
 
 /// Performs the next operator of a process, whatever its class, as the operator table says, and answers what it came to.
 /// Where the process's segment was decoded at its level, the table of its operators saves the decoding. A private operator
-/// is performed on `part`, whatever that holds. NoMemory comes only from an intrinsic that makes something: arrays, an
+/// is performed on `part`, whatever that holds. After an operator that was performed `woken` has the processes that it
+/// released, in their order. NoMemory comes only from an intrinsic that makes something: arrays, an
 /// event, a process or a line.
 pub fn action<C: Core>(
     core: &mut C,
@@ -35,6 +37,7 @@ pub fn action<C: Core>(
     requires room { HasRoom kernel.old parts.old }
     requires table { IfSome (numbered parts.old.regs.items process) (λ r. IfSome table (λ t. AreDecoded parts.old.code r.segment r.ll t.now)) }
     ensures came { Came parts.old.code (image_of (C.Core.stacks core.old) (C.Core.rows core.old) kernel.old.events parts.old) process result (image_of (C.Core.stacks core.new) (C.Core.rows core.new) kernel.new.events parts.new) }
+    ensures woken { is_performed result ≡ true → NextReleases parts.old.code (image_of (C.Core.stacks core.old) (C.Core.rows core.old) kernel.old.events parts.old) process parts.new.woken.processes.items }
     ensures valid { IsValid parts.old.code (image_of (C.Core.stacks core.new) (C.Core.rows core.new) kernel.new.events parts.new) }
     ensures room { HasRoom kernel.new parts.new }
     ensures code { parts.new.code ≡ parts.old.code }

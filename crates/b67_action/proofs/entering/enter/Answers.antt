@@ -1,4 +1,4 @@
-use Rattle.std.proofs.Common.{refl, sym, subst, ◌∙◌, Option, Result}
+use Rattle.std.proofs.Common.{true, false, refl, sym, subst, ◌∙◌, Option, Result}
 use Rattle.b67_list.specs.Numbered.{numbered}
 use Rattle.b67_control.specs.declared.Registers.{Registers}
 use Rattle.b67_table.specs.Rows.{enter}
@@ -9,6 +9,7 @@ use Rattle.b67_reach.specs.Images.{image_of}
 use Rattle.b67_action.specs.Acting.{CallsMaker}
 use Rattle.b67_action.specs.Among.{with_all, entry_program}
 use Rattle.b67_action.proofs.Calling.{enter_stops, enter_calls, enter_enters, tries_plainly, never_hindered}
+use Rattle.b67_action.proofs.Releasing.{on_ok, on_same, enter_releases}
 use Rattle.b67_action.proofs.entering.enter.Goals as goal
 
 pub returns-in-Err-clause-tries : goal.returns-in-Err-clause-tries
@@ -42,3 +43,18 @@ returns-else-called-clause-tries g c =
 
 pub returns-else-called-clause-making : goal.returns-else-called-clause-making
 returns-else-called-clause-making g c = λ m. absurd (never_hindered c.enter_procedure.result (sym c.hindered.ensures ∙ m))
+
+pub returns-then-called-clause-woken : goal.returns-then-called-clause-woken
+returns-then-called-clause-woken g c =
+    let img = image_of (g.C.Core.stacks c.args.core.now) (g.C.Core.rows c.args.core.now) c.args.kernel.now.events c.args.parts.now in
+    on_same c.call.result _ _
+    (enter_releases img (numbered c.args.parts.now.regs.items c.args.process) c.registers.result.now c.registers.ensures c.in-Ok.called c.in-Ok.ensures.value
+    c.args.parts.now.woken.processes.items c.call.new.parts.woken.processes.items true c.if-called.true)
+    c.call.ensures.woken
+
+pub returns-else-called-clause-woken : goal.returns-else-called-clause-woken
+returns-else-called-clause-woken g c =
+    let img = image_of (g.C.Core.stacks c.args.core.now) (g.C.Core.rows c.args.core.now) c.args.kernel.now.events c.args.parts.now in
+    on_ok c.hindered.result _
+    (enter_releases img (numbered c.args.parts.now.regs.items c.args.process) c.registers.result.now c.registers.ensures c.in-Ok.called c.in-Ok.ensures.value
+    c.args.parts.now.woken.processes.items c.args.parts.now.woken.processes.items false c.if-called.false refl)

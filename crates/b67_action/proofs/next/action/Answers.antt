@@ -1,13 +1,13 @@
-use Rattle.std.proofs.Common.{◌≡◌, refl, sym, ap, subst, ◌∙◌, Some, None, Err, arith}
+use Rattle.std.proofs.Common.{◌≡◌, refl, sym, ap, subst, ◌∙◌, ℕ, List, Some, None, Err, arith}
 use Rattle.b67_list.specs.Numbered.{numbered}
 use Rattle.b67_segment.specs.Decoded.{found}
 use Rattle.b67_private.proofs.Stepping.{held_operand}
 use Rattle.b67_intrinsics.specs.declared.hindrance.Hindrance.{Hindrance}
 use Rattle.b67_reach.specs.Images.{image_of}
 use Rattle.b67_action.specs.declared.done.Done.{Done}
-use Rattle.b67_action.specs.Acting.{row_effect}
-use Rattle.b67_action.specs.Done.{Came}
-use Rattle.b67_action.proofs.Coming.{table_row, table_bad, makes_next, came_on, came_not, state_after}
+use Rattle.b67_action.specs.Acting.{row_effect, RowReleases}
+use Rattle.b67_action.specs.Done.{Came, is_performed}
+use Rattle.b67_action.proofs.Coming.{table_row, table_bad, operator_is, not_performed, makes_next, came_on, came_not, state_after}
 use Rattle.b67_action.proofs.Kept.{stays_valid}
 use Rattle.b67_action.proofs.Ready.{acting, level_known, part_known, state_at}
 use Rattle.b67_action.proofs.next.action.Goals as goal
@@ -30,8 +30,8 @@ row_of-row-requires g c =
     c.requires.valid c.requires.able c.requires.room c.registers-regs.ensures in
     held_operand c.registers-regs.result.now.ll c.in-Some.op (omega (arith, known)) c.in-Some.ensures.fits
 
-pub perform-requires-clause-acting : goal.perform-requires-clause-acting
-perform-requires-clause-acting g c =
+pub perform-answer-requires-clause-acting : goal.perform-answer-requires-clause-acting
+perform-answer-requires-clause-acting g c =
     let now = acting (g.C.Core.stacks c.args.core.now) (g.C.Core.rows c.args.core.now) c.args.kernel.now c.args.parts.now c.args.process c.registers-regs.result.now
     c.requires.valid c.requires.able c.requires.room c.registers-regs.ensures in
     record {
@@ -43,8 +43,8 @@ perform-requires-clause-acting g c =
       next = record { free = now.next.free; each = now.next.each; most = now.next.most };
     }
 
-pub perform-requires-clause-part : goal.perform-requires-clause-part
-perform-requires-clause-part g c =
+pub perform-answer-requires-clause-part : goal.perform-answer-requires-clause-part
+perform-answer-requires-clause-part g c =
     part_known (g.C.Core.stacks c.args.core.now) (g.C.Core.rows c.args.core.now) c.args.kernel.now c.args.parts.now c.args.process c.registers-regs.result.now
     c.requires.valid c.requires.able c.requires.room c.registers-regs.ensures
 
@@ -109,3 +109,24 @@ returns-in-Err-clause-valid g c =
     stays_valid code old new p (row_effect c.row_of-row.result code c.in-Some.op c.in-Some.next p (numbered old.regs p) old) c.perform-answer.result c.requires.valid c.requires.able
     (table_row code old p r c.registers-regs.ensures c.in-Some.op c.in-Some.next c.row_of-row.result c.row_of-row.ensures.row c.requires.able here)
     c.perform-answer.ensures.comes c.counted.ensures.few
+
+pub returns-in-Ok-clause-woken : goal.returns-in-Ok-clause-woken
+returns-in-Ok-clause-woken g c = λ performed.
+    let old = image_of (g.C.Core.stacks c.args.core.now) (g.C.Core.rows c.args.core.now) c.args.kernel.now.events c.args.parts.now in
+    let r = c.registers-regs.result.now in
+    let here : found c.args.parts.now.code r.segment r.ll r.place ≡ Some (c.in-Some.op, c.in-Some.next) = sym c.next_operator.ensures.value ∙ c.in-Some.is in
+    record {
+      regs = r;
+      has = c.registers-regs.ensures;
+      op = c.in-Some.op;
+      next = c.in-Some.next;
+      stands = operator_is c.args.parts.now.code old c.args.process r c.requires.able c.registers-regs.ensures (c.in-Some.op, c.in-Some.next) here;
+      row = c.row_of-row.result;
+      is = c.row_of-row.ensures.row;
+      releases = subst (λ (before : List ℕ). RowReleases c.row_of-row.result old (numbered c.args.parts.now.regs.items c.args.process) before c.perform-answer.new.parts.woken.processes.items)
+          c.clear.ensures.items c.in-Ok.ensures.woken;
+    }
+
+pub returns-in-Err-clause-woken : goal.returns-in-Err-clause-woken
+returns-in-Err-clause-woken g c = λ performed.
+    absurd (not_performed c.in-Err.hindrance (ap is_performed (sym c.hindered_by.ensures) ∙ performed))
