@@ -27,20 +27,20 @@ is_on_event names.Happened = true
 is_on_event names.Procure = true
 is_on_event names.Liberate = true
 
--- all but GOTO and START, which ask for the frames of processes
-abbrev pub is_here : Intrinsic → Bool
-is_here names.GoTo = false
-is_here names.Select = true
-is_here names.Arrays = true
-is_here names.Event = true
-is_here names.Start = false
-is_here names.Write = true
-is_here names.Wait = true
-is_here names.Cause = true
-is_here names.Reset = true
-is_here names.Happened = true
-is_here names.Procure = true
-is_here names.Liberate = true
+-- the intrinsics that go by frames
+abbrev pub needs_frames : Intrinsic → Bool
+needs_frames names.GoTo = true
+needs_frames names.Select = false
+needs_frames names.Arrays = false
+needs_frames names.Event = false
+needs_frames names.Start = true
+needs_frames names.Write = false
+needs_frames names.Wait = false
+needs_frames names.Cause = false
+needs_frames names.Reset = false
+needs_frames names.Happened = false
+needs_frames names.Procure = false
+needs_frames names.Liberate = false
 
 -- the answer of an intrinsic that takes no memory
 abbrev pub tried : Result (Unit {0}) Stop → Result (Unit {0}) Hindrance

@@ -1,6 +1,6 @@
 //! The intrinsics by name.
 
-ghost use Rattle.std.specs.Prelude.{◌≡◌, ◌≤◌, ℕ, true, OnOk, IsFalse, vec_capacity};
+ghost use Rattle.std.specs.Prelude.{◌≡◌, ◌≤◌, ℕ, false, true, OnOk, IsFalse, vec_capacity};
 ghost use Rattle.b67_list.specs.Numbered.{numbered};
 ghost use Rattle.b67_events.specs.Events.{is_waiting};
 ghost use Rattle.b67_segment.specs.declared.code.Code.{Code};
@@ -9,7 +9,7 @@ ghost use Rattle.b67_table.specs.Intrinsics.{row_of_intrinsic, select};
 ghost use Rattle.b67_reach.specs.Images.{image_of};
 ghost use Rattle.b67_reach.specs.Answers.{Acts};
 ghost use Rattle.b67_intrinsics.specs.Called.{called_in, ended, IsCalled, Tries};
-ghost use Rattle.b67_intrinsics.specs.Names.{is_on_event, is_here, tried, Releases};
+ghost use Rattle.b67_intrinsics.specs.Names.{is_on_event, needs_frames, tried, Releases};
 
 use crate::allocating::arrays;
 use crate::happening::{cause, happened, liberate, procure, reset, wait};
@@ -79,7 +79,18 @@ fn act<C: Core>(
     }
 }
 
-/// What the entry of an intrinsic does, by the operator table, for all but those that leave frames or make processes. A process
+/// Tests that an intrinsic goes by frames: GOTO leaves them, and START looks for those that the new process needs.
+pub fn needs_frames(name: Intrinsic) -> bool
+    ensures { result ≡ needs_frames name }
+{
+    match name {
+        Intrinsic::GoTo => true,
+        Intrinsic::Start => true,
+        _ => false,
+    }
+}
+
+/// What the entry of an intrinsic does, by the operator table, where it needs no frames. A process
 /// that waits for an event, or to procure one, waits after the operator. The processes that CAUSE and LIBERATE release stand
 /// in `woken`, in the order of their release; the others leave it. Without memory all is as it was.
 pub fn intrinsic<C: Core>(
@@ -95,7 +106,7 @@ pub fn intrinsic<C: Core>(
     requires process { (1 ≤ process) × (process ≤ kernel.old.room) }
     requires idle { IsFalse (is_waiting process kernel.old.events) }
     requires room { kernel.old.room ≤ vec_capacity parts.old.woken.processes }
-    requires here { is_here name ≡ true }
+    requires frames { needs_frames name ≡ false }
     ensures acts { Tries process (called_in (row_of_intrinsic name) parts.old.code (numbered parts.old.regs.items process) next mark.now) (image_of (C.Core.stacks core.old) (C.Core.rows core.old) kernel.old.events parts.old) (image_of (C.Core.stacks core.new) (C.Core.rows core.new) kernel.new.events parts.new) result }
     ensures woken { OnOk result (Releases name (image_of (C.Core.stacks core.old) (C.Core.rows core.old) kernel.old.events parts.old) (numbered parts.old.regs.items process) mark.now parts.old.woken.processes.items parts.new.woken.processes.items) }
     ensures capacity { vec_capacity parts.old.woken.processes ≤ vec_capacity parts.new.woken.processes }
