@@ -6,6 +6,7 @@
 
 mod adds;
 mod jumps;
+mod laws;
 mod leaves;
 mod opens;
 mod paths;
@@ -15,6 +16,7 @@ mod targets;
 
 pub use adds::add_process;
 pub use jumps::go_to;
+pub use laws::valid_images_have_a_next;
 pub use leaves::passes_critical;
 pub use opens::{NoMemory, open_process};
 pub use paths::{Needs, frame_below, on_path};
