@@ -8,3 +8,4 @@ pub mod Started
 pub mod Gone
 pub mod Numbers
 pub mod Above
+pub mod Next

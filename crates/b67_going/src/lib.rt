@@ -6,6 +6,7 @@
 
 mod adds;
 mod jumps;
+mod laws;
 mod leaves;
 mod opens;
 mod paths;
@@ -15,9 +16,13 @@ mod targets;
 
 pub use adds::add_process;
 pub use jumps::go_to;
+pub use laws::valid_images_have_a_next;
 pub use leaves::passes_critical;
 pub use opens::{NoMemory, open_process};
 pub use paths::{Needs, frame_below, on_path};
 pub use processes::{Unstarted, start};
 pub use starts::{Given, MOST_CELLS, MOST_PROCESSES, first_registers};
 pub use targets::{Target, level_in, number_in, target_of};
+
+#[cfg(test)]
+mod tests;
