@@ -1,6 +1,8 @@
-pub mod Accidents
-pub mod Callings
-pub mod Choices
-pub mod Leaves
-pub mod Loads
-pub mod Subscripts
+pub mod Among
+pub mod Calling
+pub mod Coming
+pub mod Kept
+pub mod OwnOutcome
+pub mod OwnWords
+pub mod Ready
+pub mod Releasing

@@ -1,4 +1,5 @@
-pub mod Arrays
-pub mod Entries
-pub mod Leaves
-pub mod Stages
+pub mod Acting
+pub mod Among
+pub mod Done
+pub mod Own
+pub mod Rows

@@ -1,307 +1,243 @@
-//! Operators that enter procedures: VALC and EVAL by accidental entry.
+// ENTR: an intrinsic is called, or a procedure entered.
+ghost use Rattle.std.specs.Prelude.{◌≡◌, ◌≤◌, ℕ, true, false, Some, Err, OnOk, vec_capacity};
+ghost use Rattle.b67_list.specs.Numbered.{numbered};
+ghost use Rattle.b67_segment.specs.declared.code.Code.{Code};
+ghost use Rattle.b67_table.specs.Intrinsics.{intrinsic_row, row_of_intrinsic};
+ghost use Rattle.b67_table.specs.Names.{intrinsic_numbered};
+ghost use Rattle.b67_table.specs.Rows.{enter};
+ghost use Rattle.b67_table.specs.Starting.{start_process};
+ghost use Rattle.b67_going.specs.Starts.{IsCalling, HasNext};
+ghost use Rattle.b67_operators.specs.Leaves.{IsLinkedIn, program_in};
+ghost use Rattle.b67_intrinsics.specs.declared.hindrance.Hindrance.TheVariants.{NoMemory};
+ghost use Rattle.b67_intrinsics.specs.Called.{called_in, Tries};
+ghost use Rattle.b67_intrinsics.specs.Names.{Releases};
+ghost use Rattle.b67_reach.specs.Images.{image_of};
+ghost use Rattle.b67_reach.specs.Answers.{Acts};
+ghost use Rattle.b67_action.specs.Acting.{IsActing, IsEntering, selects, hindered, CallsMaker, CallReleases, EnterReleases};
+ghost use Rattle.b67_action.specs.Among.{ActsIn};
+ghost use Rattle.b67_action.specs.Done.{makes};
 
-ghost use Rattle.std.specs.Prelude.{◌≡◌, ◌<◌, ◌≤◌, ◌+◌, ◌-◌, ◌^◌, ℕ, Bool, Ok, Err, Some, None, IfOk, OnOk, OnErr, IsSome, length, nat_lt, nat_le};
-ghost use Rattle.b67_control.specs.Control.{Fits_pcw, as_pcw};
-ghost use Rattle.b67_control.specs.Display.{levels};
-ghost use Rattle.b67_store.specs.Store.{stack_at, stack_limit};
-ghost use Rattle.b67_table.specs.Private.{floor};
-ghost use Rattle.b67_table.specs.Look.{seen, ◌>->◌};
-ghost use Rattle.b67_table.specs.Linkage.{entering, accidental, selected};
-ghost use Rattle.b67_table.specs.Limits.{end_of_code};
-ghost use Rattle.b67_table.specs.Program.{answer};
-ghost use Rattle.b67_table.specs.References.{popped, reached, cell_of, cell_word};
-ghost use Rattle.b67_table.specs.Rows.{value_call, value_or_entry, cell_or_entry, evaluate};
-ghost use Rattle.b67_linkage.specs.Held.{IsLinked};
-ghost use Rattle.b67_reach.specs.Images.{own};
-ghost use Rattle.b67_reach.specs.Answers.{looked, IsReady, Performs};
-ghost use Rattle.b67_action.specs.Entries.{stop_by, accident};
-
-use crate::loading::operand_pushed;
-use b67_control::{Mscw, Pcw, Sirw};
-use b67_linkage::{LinkFault, control_word, entering, go_in};
-use b67_num::FaultKind;
-use b67_ops::Couple;
-use b67_reach::{
-    Cell, InterruptKind, Reached, Registers, Stop, cell_of, couple_cell, invalid, is_operand,
-    popped, reached, replaced,
+use crate::words::enter_procedure;
+use b67_control::Mscw;
+use b67_events::Kernel;
+use b67_going::{Unstarted, go_to, start};
+use b67_intrinsics::{
+    Hindrance, arrays, cause, happened, liberate, make_event, procure, registers, reset, select,
+    wait, write,
 };
-use b67_segment::MOST_SEGMENT_WORDS;
-use b67_store::{Core, MOST_STACK_WORDS};
-use b67_table::Entry;
-use b67_word::{Place, Word, operand};
+use b67_operators::find_called;
+use b67_ops::{FIRST_INTRINSIC, Intrinsic};
+use b67_reach::{Parts, Registers, Stop, invalid};
+use b67_store::Core;
 
-/// What stops an operator where a call of the linkage was refused.
-pub fn stop_by(fault: LinkFault) -> Stop
-    ensures { result ≡ stop_by fault }
+// The intrinsics in the order of their numbers.
+const INTRINSICS: [Intrinsic; 12] = [
+    Intrinsic::GoTo,
+    Intrinsic::Select,
+    Intrinsic::Arrays,
+    Intrinsic::Event,
+    Intrinsic::Start,
+    Intrinsic::Write,
+    Intrinsic::Wait,
+    Intrinsic::Cause,
+    Intrinsic::Reset,
+    Intrinsic::Happened,
+    Intrinsic::Procure,
+    Intrinsic::Liberate,
+];
+
+// The intrinsic of a number, where there is one.
+fn intrinsic_numbered(number: u16) -> Option<Intrinsic>
+    ensures { result ≡ intrinsic_numbered number }
 {
-    match fault {
-        LinkFault::InvalidOperand => Stop::Interrupt(InterruptKind::InvalidOperand),
-        LinkFault::StackUnderflow => Stop::Interrupt(InterruptKind::StackUnderflow),
-        LinkFault::StackLimit => Stop::StackLimit,
-        LinkFault::BrokenChain => Stop::Interrupt(InterruptKind::BrokenChain),
+    if number < FIRST_INTRINSIC {
+        return None;
     }
-}
-
-// What an entry at a mark finds, where the pointer is left after the operator.
-pub fn entering_after<C: Core>(
-    core: &C,
-    regs: &mut Registers,
-    next: u16,
-    fits: bool,
-    mark: u16,
-    pcw: &Pcw,
-    home: Place,
-) -> Result<Entry, Stop>
-    requires { Fits_pcw pcw.now }
-    ensures value { result ≡ looked (seen (C.Core.stacks core.now) (entering regs.old next fits mark pcw.now (Some home))) }
-    ensures home { IfOk result (λ e. e.home ≡ home) }
-    ensures returnable { IfOk result (λ e. next < end_of_code) }
-    ensures same { regs.new ≡ regs.old }
-{
-    if usize::from(next) >= 6 * MOST_SEGMENT_WORDS {
-        return Err(Stop::Interrupt(InterruptKind::BadCode));
-    }
-    let here = regs.place;
-    regs.place = next;
-    let found = entering(core, regs, fits, mark, pcw, home);
-    regs.place = here;
-    match found {
-        Ok(entry) => Ok(entry),
-        Err(fault) => Err(stop_by(fault)),
-    }
-}
-
-// How many words a selector takes: one, where the procedure has names.
-fn selectors(names: bool, selector: u8) -> u32
-    ensures value { result ≡ length (selected names selector) }
-    ensures bound { result ≤ 1 }
-{
-    if names { 1 } else { 0 }
-}
-
-// A frame is opened at a mark, and its selector pushed where the procedure has names.
-fn open_frame<C: Core>(
-    core: &mut C,
-    regs: &mut Registers,
-    next: u16,
-    mark: u16,
-    pcw: &Pcw,
-    entry: &Entry,
-    selector: u8,
-)
-    requires linked { IsLinked (C.Core.stacks core.old) (C.Core.rows core.old) regs.old }
-    requires below { regs.old.f < mark }
-    requires mark { mark ≤ regs.old.s }
-    requires next { next < end_of_code }
-    requires procedure { Fits_pcw pcw.now }
-    requires home { entry.now.home.stack < 2 ^ 10 }
-    requires room { mark + 2 + length (selected pcw.now.names selector) ≤ stack_limit }
-    ensures { Performs (answer (accident regs.old next mark pcw.now entry.now selector)) (own (C.Core.stacks core.old) (C.Core.rows core.old) regs.old) (own (C.Core.stacks core.new) (C.Core.rows core.new) regs.new) (Ok result) }
-{
-    let mscw = Mscw {
-        entered: true,
-        stack: entry.home.stack,
-        displacement: entry.home.at,
-        df: mark - regs.f,
-    };
-    regs.place = next;
-    let control = control_word(regs, pcw.level);
-    core.cut(regs.stack, u32::from(mark)).unwrap();
-    core.push(regs.stack, mscw.pack()).unwrap();
-    core.push(regs.stack, control).unwrap();
-    let mut s = u32::from(mark) + 2;
-    if pcw.names {
-        core.push(regs.stack, operand(i64::from(selector))).unwrap();
-        s += 1;
-    }
-    go_in(regs, s, mark, pcw, entry, 0);
-}
-
-// What comes of an accidental entry where the stack is full: an interrupt, or the stack limit.
-fn full<C: Core>(
-    core: &C,
-    regs: &mut Registers,
-    next: u16,
-    pcw: &Pcw,
-    home: Place,
-    selector: u8,
-) -> Result<(), Stop>
-    requires linked { IsLinked (C.Core.stacks core.now) (C.Core.rows core.now) regs.old }
-    requires full { regs.old.s ≡ stack_limit }
-    requires procedure { Fits_pcw pcw.now }
-    ensures { Performs (accidental regs.old next 0 pcw.now home selector) (own (C.Core.stacks core.now) (C.Core.rows core.now) regs.old) (own (C.Core.stacks core.now) (C.Core.rows core.now) regs.new) result }
-{
-    // what is found there, and what is refused, is the same at any mark
-    let fits = u32::from(regs.f) < regs.s;
-    let _found = entering_after(core, regs, next, fits, u16::MAX, pcw, home)?;
-    Err(Stop::StackLimit)
-}
-
-// Accidental entry at a mark that a stack can have.
-fn enter_at<C: Core>(
-    core: &mut C,
-    regs: &mut Registers,
-    next: u16,
-    taken: u32,
-    pcw: &Pcw,
-    home: Place,
-    selector: u8,
-) -> Result<(), Stop>
-    requires linked { IsLinked (C.Core.stacks core.old) (C.Core.rows core.old) regs.old }
-    requires taken { taken ≤ regs.old.s }
-    requires mark { regs.old.s - taken < stack_limit }
-    requires procedure { Fits_pcw pcw.now }
-    requires home { home.stack < 2 ^ 10 }
-    ensures { Performs (accidental regs.old next taken pcw.now home selector) (own (C.Core.stacks core.old) (C.Core.rows core.old) regs.old) (own (C.Core.stacks core.new) (C.Core.rows core.new) regs.new) result }
-{
-    let mark = (regs.s - taken) as u16;
-    let entry = entering_after(core, regs, next, regs.f < mark, mark, pcw, home)?;
-    if u32::from(mark) + 2 + selectors(pcw.names, selector) > 65_536 {
-        return Err(Stop::StackLimit);
-    }
-    open_frame(core, regs, next, mark, pcw, &entry, selector);
-    Ok(())
-}
-
-/// Accidental entry: after so many words on top are taken off, the procedure that lies in the frame home is entered, with
-/// the selector where it has names.
-pub fn accidental<C: Core>(
-    core: &mut C,
-    regs: &mut Registers,
-    next: u16,
-    taken: u32,
-    pcw: &Pcw,
-    home: Place,
-    selector: u8,
-) -> Result<(), Stop>
-    requires linked { IsLinked (C.Core.stacks core.old) (C.Core.rows core.old) regs.old }
-    requires taken { taken ≤ regs.old.s }
-    requires procedure { Fits_pcw pcw.now }
-    requires home { home.stack < 2 ^ 10 }
-    ensures { Performs (accidental regs.old next taken pcw.now home selector) (own (C.Core.stacks core.old) (C.Core.rows core.old) regs.old) (own (C.Core.stacks core.new) (C.Core.rows core.new) regs.new) result }
-{
-    if taken == 0 && regs.s == 65_536 {
-        full(core, regs, next, pcw, home, selector)
+    let index = usize::from(number - FIRST_INTRINSIC);
+    if index < INTRINSICS.len() {
+        Some(INTRINSICS[index])
     } else {
-        enter_at(core, regs, next, taken, pcw, home, selector)
+        None
     }
 }
 
-/// VALC: the operand in the cell that the couple's reference reaches is pushed; a procedure is entered, with selector 0.
-pub fn value_call<C: Core>(
+// Tests that an intrinsic makes something, for which there may be no memory.
+fn makes(name: Intrinsic) -> bool
+    ensures { result ≡ makes (Some name) }
+{
+    match name {
+        Intrinsic::Arrays | Intrinsic::Event | Intrinsic::Start | Intrinsic::Write => true,
+        _ => false,
+    }
+}
+
+// SELECT, in a process.
+fn select_in<C: Core>(
     core: &mut C,
-    regs: &mut Registers,
-    next: u16,
-    couple: Couple,
+    all: &mut Vec<Registers>,
+    process: u32,
+    mark: &Mscw,
 ) -> Result<(), Stop>
-    requires linked { IsLinked (C.Core.stacks core.old) (C.Core.rows core.old) regs.old }
-    requires couple { couple.level < levels }
-    ensures { Performs (value_call couple regs.old next) (own (C.Core.stacks core.old) (C.Core.rows core.old) regs.old) (own (C.Core.stacks core.new) (C.Core.rows core.new) regs.new) result }
+    requires linked { IsLinkedIn (C.Core.stacks core.old) (C.Core.rows core.old) (numbered all.old.items process) }
+    requires above { IsEntering (numbered all.old.items process) }
+    ensures acts { (code : Code) (next : ℕ) → ActsIn (selects code mark.now) next (C.Core.stacks core.old) (C.Core.rows core.old) all.old.items process (C.Core.stacks core.new) (C.Core.rows core.new) all.new.items result }
+    ensures room { vec_capacity all.old ≤ vec_capacity all.new }
 {
-    let found = reached(core, couple_cell(regs, couple.level, couple.index))?;
-    value_or_entry(core, regs, next, found)
+    let regs = &mut all[process as usize - 1];
+    select(core, regs, mark)
 }
 
-// What VALC does with the word that it reaches.
-fn value_or_entry<C: Core>(
+// An intrinsic that takes no memory.
+fn call_plainly<C: Core>(
     core: &mut C,
-    regs: &mut Registers,
+    kernel: &mut Kernel,
+    parts: &mut Parts,
+    process: u32,
+    name: Intrinsic,
+    mark: &Mscw,
     next: u16,
-    found: Reached,
 ) -> Result<(), Stop>
-    requires linked { IsLinked (C.Core.stacks core.old) (C.Core.rows core.old) regs.old }
-    requires is_open { IsSome (stack_at (C.Core.stacks core.old) found.cell.frame.stack) }
-    ensures { Performs (value_or_entry regs.old next found (as_pcw found.word)) (own (C.Core.stacks core.old) (C.Core.rows core.old) regs.old) (own (C.Core.stacks core.new) (C.Core.rows core.new) regs.new) result }
+    requires acting { IsActing (C.Core.stacks core.old) (C.Core.rows core.old) kernel.old parts.old process }
+    requires entering { IsEntering (numbered parts.old.regs.items process) }
+    requires plain { makes (Some name) ≡ false }
+    ensures acts { Acts process (called_in (row_of_intrinsic name) parts.old.code (numbered parts.old.regs.items process) next mark.now) (image_of (C.Core.stacks core.old) (C.Core.rows core.old) kernel.old.events parts.old) (image_of (C.Core.stacks core.new) (C.Core.rows core.new) kernel.new.events parts.new) result }
+    ensures woken { OnOk result (Releases name (image_of (C.Core.stacks core.old) (C.Core.rows core.old) kernel.old.events parts.old) (numbered parts.old.regs.items process) mark.now parts.old.woken.processes.items parts.new.woken.processes.items) }
+    ensures capacity { vec_capacity parts.old.woken.processes ≤ vec_capacity parts.new.woken.processes }
+    ensures processes { kernel.new.room ≡ kernel.old.room }
+    ensures code { parts.new.code ≡ parts.old.code }
 {
-    match Pcw::unpack(found.word) {
-        Some(pcw) => {
-            if pcw.intrinsic {
-                Err(invalid())
-            } else {
-                accidental(core, regs, next, 0, &pcw, found.cell.frame, 0)
-            }
-        }
-        None => operand_pushed(core, regs, next, found),
+    match name {
+        Intrinsic::GoTo => go_to(core, kernel, parts, process),
+        Intrinsic::Select => select_in(core, &mut parts.regs, process, mark),
+        Intrinsic::Wait => wait(core, kernel, parts, process, mark, next),
+        Intrinsic::Cause => cause(core, kernel, parts, process, mark, next),
+        Intrinsic::Reset => reset(core, kernel, parts, process, mark, next),
+        Intrinsic::Happened => happened(core, kernel, parts, process, mark, next),
+        Intrinsic::Procure => procure(core, kernel, parts, process, mark, next),
+        Intrinsic::Liberate => liberate(core, kernel, parts, process, mark, next),
+        _ => Err(invalid()),
     }
 }
 
-// The reference to a cell, wherever it is read.
-fn cell_word(cell: Cell) -> Word
-    requires stack { cell.frame.stack < 2 ^ 10 }
-    requires index { cell.index < 2 ^ 14 }
-    ensures { result ≡ cell_word cell }
-{
-    Sirw {
-        stack: cell.frame.stack,
-        displacement: cell.frame.at,
-        index: cell.index,
-    }
-    .pack()
-}
-
-// What EVAL does with the word that it reaches.
-fn cell_or_entry<C: Core>(
+// START, whose answer is not told.
+fn start_in<C: Core>(
     core: &mut C,
-    regs: &mut Registers,
+    kernel: &Kernel,
+    parts: &mut Parts,
+    process: u32,
+    mark: &Mscw,
     next: u16,
-    found: Reached,
-) -> Result<(), Stop>
-    requires linked { IsLinked (C.Core.stacks core.old) (C.Core.rows core.old) regs.old }
-    requires some { 1 ≤ regs.old.s }
-    requires is_open { IsSome (stack_at (C.Core.stacks core.old) found.cell.frame.stack) }
-    requires index { found.cell.index < 2 ^ 14 }
-    ensures { Performs (cell_or_entry regs.old next found (as_pcw found.word)) (own (C.Core.stacks core.old) (C.Core.rows core.old) regs.old) (own (C.Core.stacks core.new) (C.Core.rows core.new) regs.new) result }
+) -> Result<(), Hindrance>
+    requires calling { IsCalling (C.Core.stacks core.old) (C.Core.rows core.old) (numbered parts.old.regs.items process) }
+    requires next { HasNext (C.Core.stacks core.old) parts.old }
+    ensures tries { Tries process (called_in start_process parts.old.code (numbered parts.old.regs.items process) next mark.now) (image_of (C.Core.stacks core.old) (C.Core.rows core.old) kernel.now.events parts.old) (image_of (C.Core.stacks core.new) (C.Core.rows core.new) kernel.now.events parts.new) result }
+    ensures code { parts.new.code ≡ parts.old.code }
+    ensures woken { parts.new.woken ≡ parts.old.woken }
 {
-    match Pcw::unpack(found.word) {
-        Some(pcw) => {
-            if pcw.names {
-                accidental(core, regs, next, 1, &pcw, found.cell.frame, 1)
-            } else {
-                Err(Stop::Fault(FaultKind::NotAVariable))
-            }
-        }
-        None => cell_replaces(core, regs, next, found),
+    match start(core, kernel, parts, process, mark, next) {
+        Ok(_) => Ok(()),
+        Err(Unstarted::Stopped(stop)) => Err(Hindrance::Stopped(stop)),
+        Err(Unstarted::NoMemory) => Err(Hindrance::NoMemory),
     }
 }
 
-// The reference to the cell of an operand that is reached takes the place of the word on top.
-fn cell_replaces<C: Core>(
+// An intrinsic that makes something.
+fn call_making<C: Core>(
     core: &mut C,
-    regs: &mut Registers,
+    kernel: &mut Kernel,
+    parts: &mut Parts,
+    process: u32,
+    name: Intrinsic,
+    mark: &Mscw,
     next: u16,
-    found: Reached,
-) -> Result<(), Stop>
-    requires linked { IsLinked (C.Core.stacks core.old) (C.Core.rows core.old) regs.old }
-    requires some { 1 ≤ regs.old.s }
-    requires is_open { IsSome (stack_at (C.Core.stacks core.old) found.cell.frame.stack) }
-    requires index { found.cell.index < 2 ^ 14 }
-    ensures { Performs (cell_or_entry regs.old next found None) (own (C.Core.stacks core.old) (C.Core.rows core.old) regs.old) (own (C.Core.stacks core.new) (C.Core.rows core.new) regs.new) result }
+) -> Result<(), Hindrance>
+    requires acting { IsActing (C.Core.stacks core.old) (C.Core.rows core.old) kernel.old parts.old process }
+    requires entering { IsEntering (numbered parts.old.regs.items process) }
+    requires makes { makes (Some name) ≡ true }
+    ensures tries { Tries process (called_in (row_of_intrinsic name) parts.old.code (numbered parts.old.regs.items process) next mark.now) (image_of (C.Core.stacks core.old) (C.Core.rows core.old) kernel.old.events parts.old) (image_of (C.Core.stacks core.new) (C.Core.rows core.new) kernel.new.events parts.new) result }
+    ensures woken { parts.new.woken ≡ parts.old.woken }
+    ensures processes { kernel.new.room ≡ kernel.old.room }
+    ensures code { parts.new.code ≡ parts.old.code }
 {
-    if !is_operand(found.word) {
-        return Err(invalid());
+    match name {
+        Intrinsic::Arrays => arrays(core, parts, process, mark, next),
+        Intrinsic::Event => make_event(core, kernel, parts, process, mark, next),
+        Intrinsic::Start => start_in(core, kernel, parts, process, mark, next),
+        Intrinsic::Write => write(core, parts, process, mark, next),
+        _ => Err(Hindrance::Stopped(invalid())),
     }
-    replaced(core, regs, next, 1, cell_word(found.cell));
-    Ok(())
 }
 
-/// EVAL: the reference on top is replaced by one to the cell of the operand that it reaches; a procedure with names is
-/// entered instead, with selector 1, and another is the fault NOT A VARIABLE.
-pub fn evaluate<C: Core>(core: &mut C, regs: &mut Registers, next: u16) -> Result<(), Stop>
-    requires linked { IsLinked (C.Core.stacks core.old) (C.Core.rows core.old) regs.old }
-    ensures { Performs (evaluate regs.old next) (own (C.Core.stacks core.old) (C.Core.rows core.old) regs.old) (own (C.Core.stacks core.new) (C.Core.rows core.new) regs.new) result }
+/// An answer that no memory hinders.
+pub fn hindered(answer: Result<(), Stop>) -> Result<(), Hindrance>
+    ensures { result ≡ hindered answer }
 {
-    let found = evaluated(core, regs)?;
-    cell_or_entry(core, regs, next, found)
+    match answer {
+        Ok(()) => Ok(()),
+        Err(stop) => Err(Hindrance::Stopped(stop)),
+    }
 }
 
-// What the reference on top reaches.
-fn evaluated<C: Core>(core: &C, regs: &Registers) -> Result<Reached, Stop>
-    requires linked { IsLinked (C.Core.stacks core.now) (C.Core.rows core.now) regs.now }
-    ensures value { result ≡ looked (seen (C.Core.stacks core.now) (popped regs.now >-> (λ x. reached (cell_of regs.now x)))) }
-    ensures some { OnOk result (1 ≤ regs.now.s) }
-    ensures fits { IfOk result (λ found. found.cell.index < 2 ^ 14) }
-    ensures is_open { IfOk result (λ found. IsSome (stack_at (C.Core.stacks core.now) found.cell.frame.stack)) }
+// The intrinsic of a number is called.
+fn call<C: Core>(
+    core: &mut C,
+    kernel: &mut Kernel,
+    parts: &mut Parts,
+    process: u32,
+    number: u16,
+    mark: &Mscw,
+    next: u16,
+) -> Result<(), Hindrance>
+    requires acting { IsActing (C.Core.stacks core.old) (C.Core.rows core.old) kernel.old parts.old process }
+    requires entering { IsEntering (numbered parts.old.regs.items process) }
+    ensures tries { Tries process (called_in (intrinsic_row (intrinsic_numbered number)) parts.old.code (numbered parts.old.regs.items process) next mark.now) (image_of (C.Core.stacks core.old) (C.Core.rows core.old) kernel.old.events parts.old) (image_of (C.Core.stacks core.new) (C.Core.rows core.new) kernel.new.events parts.new) result }
+    ensures making { result ≡ Err NoMemory → makes (intrinsic_numbered number) ≡ true }
+    ensures woken { OnOk result (CallReleases (intrinsic_numbered number) (image_of (C.Core.stacks core.old) (C.Core.rows core.old) kernel.old.events parts.old) (numbered parts.old.regs.items process) mark.now parts.old.woken.processes.items parts.new.woken.processes.items) }
+    ensures capacity { vec_capacity parts.old.woken.processes ≤ vec_capacity parts.new.woken.processes }
+    ensures processes { kernel.new.room ≡ kernel.old.room }
+    ensures code { parts.new.code ≡ parts.old.code }
 {
-    let x = popped(core, regs)?;
-    reached(core, cell_of(regs, x))
+    let Some(name) = intrinsic_numbered(number) else {
+        return Err(Hindrance::Stopped(invalid()));
+    };
+    if makes(name) {
+        call_making(core, kernel, parts, process, name, mark, next)
+    } else {
+        hindered(call_plainly(core, kernel, parts, process, name, mark, next))
+    }
+}
+
+/// ENTR, in a process: the intrinsic that the PCW names is called, or the procedure is entered.
+pub fn enter<C: Core>(
+    core: &mut C,
+    kernel: &mut Kernel,
+    parts: &mut Parts,
+    process: u32,
+    next: u16,
+) -> Result<(), Hindrance>
+    requires { IsActing (C.Core.stacks core.old) (C.Core.rows core.old) kernel.old parts.old process }
+    ensures tries { Tries process (program_in (enter parts.old.code) (numbered parts.old.regs.items process) next) (image_of (C.Core.stacks core.old) (C.Core.rows core.old) kernel.old.events parts.old) (image_of (C.Core.stacks core.new) (C.Core.rows core.new) kernel.new.events parts.new) result }
+    ensures making { result ≡ Err NoMemory → CallsMaker (C.Core.stacks core.old) (numbered parts.old.regs.items process) }
+    ensures woken { OnOk result (EnterReleases (image_of (C.Core.stacks core.old) (C.Core.rows core.old) kernel.old.events parts.old) (numbered parts.old.regs.items process) parts.old.woken.processes.items parts.new.woken.processes.items) }
+    ensures capacity { vec_capacity parts.old.woken.processes ≤ vec_capacity parts.new.woken.processes }
+    ensures processes { kernel.new.room ≡ kernel.old.room }
+    ensures code { parts.new.code ≡ parts.old.code }
+{
+    let called = match find_called(core, registers(&parts.regs, process)) {
+        Ok(called) => called,
+        Err(stop) => return Err(Hindrance::Stopped(stop)),
+    };
+    if called.pcw.intrinsic {
+        call(
+            core,
+            kernel,
+            parts,
+            process,
+            called.pcw.number,
+            &called.mark,
+            next,
+        )
+    } else {
+        hindered(enter_procedure(core, &mut parts.regs, process, &called, next))
+    }
 }

@@ -1,25 +1,16 @@
-//! The operators that act: those that read or write more than the private part of their own process.
+//! One action of a process: its next operator, whatever its class.
 //!
-//! Each function performs one operator of the table for any code. It first reads, and an error is what stops it: an
-//! interrupt, a fault, or the stack limit, in the table's order; then nothing has changed. The operators are modelled
-//! on the Burroughs B6700's (Organick 1973); their effects are this project's profile.
+//! [`action`] performs what the operator table says on a store, a kernel and a machine's other parts, for any code.
 #![tactic(auto)]
 
-mod branching;
-mod calling;
+mod acting;
+mod done;
 mod entering;
-mod indexing;
-mod leaving;
-mod loading;
-mod storing;
+mod next;
+mod own;
+mod rows;
+mod words;
 
-pub use branching::turn;
-pub use calling::{Called, enter_does_what_it_calls, entry, find_called};
-pub use entering::{accidental, evaluate, stop_by, value_call};
-pub use indexing::{index, index_and_load, index_mother};
-pub use leaving::leave;
-pub use loading::{load_through, load_value, operand_pushed};
-pub use storing::store;
-
-#[cfg(test)]
-mod tests;
+pub use done::Done;
+pub use next::action;
+pub use own::{put_part, take_part};

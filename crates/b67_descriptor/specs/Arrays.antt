@@ -1,5 +1,5 @@
 -- The making of arrays in a store.
-use Rattle.std.specs.Prelude.{◌≡◌, ◌≢◌, ℕ, ◌+◌, ◌-◌, ◌<◌, ◌≤◌, Bool, true, false, Option, Some, None, Result, Ok, Err, slice_get, is_some, ℤ, List}
+use Rattle.std.specs.Prelude.{◌≡◌, ◌≢◌, ℕ, zero, suc, ◌+◌, ◌-◌, ◌<◌, ◌≤◌, if◌then◌else◌, Bool, true, false, Option, Some, None, Result, Ok, Err, slice_get, is_some, ℤ, List, [], map}
 use Rattle.b67_word.specs.Word.{Word}
 use Rattle.b67_control.specs.declared.Descriptor.{Descriptor}
 use Rattle.b67_control.specs.Control.{descriptor_word, as_descriptor}
@@ -13,7 +13,7 @@ use Rattle.b67_descriptor.specs.declared.DescriptorFault.{DescriptorFault}
 use Rattle.b67_descriptor.specs.declared.DescriptorFault.TheVariants.{InvalidIndex, ArraySize, CoreFull, InvalidOperand, NoMemory}
 use Rattle.b67_table.specs.Look.{read_as}
 use Rattle.b67_table.specs.Program.{Test, asked, ◌>>=◌, Change, changed}
-use Rattle.b67_table.specs.Arrays.{Extents, one, two, elements, elements, if_held, rows_made, array_made, array_word}
+use Rattle.b67_table.specs.Arrays.{Extents, one, two, elements, if_held, rows_made, array_made, arrays_made, array_word}
 use Rattle.b67_descriptor.specs.Sizes.{numbers}
 
 -- the array's own descriptor, of a row or of a mother's row
@@ -70,6 +70,28 @@ MakesRows m mother n before rows at =
 abbrev pub row_added : Rows → ℕ → ℕ → ℕ → Rows
 row_added rows mother at n =
     with_row_word (opened_at rows (least_free rows) (zero_row n true)) mother at (array_word false n (least_free rows))
+
+-- ---- so many arrays
+
+-- how many rows an array's row describes: none but a mother's
+abbrev pub described : Descriptor → ℕ
+described d = if d.mother then d.length else 0
+
+-- the rows differ from those before by the rows of an array
+abbrev pub HasArray : Rows → Rows → Descriptor → Type 0
+HasArray before rows d = HasMore before rows d.address 0 (described d)
+
+-- the rows differ from those before by the rows of the first so many of these arrays, one after another
+abbrev pub HaveArrays : Rows → List Descriptor → ℕ → Rows → Type 0
+HaveArrays before arrays zero rows = SameRows before rows
+HaveArrays before arrays (suc n) rows = (mid : Rows) × HaveArrays before arrays n mid × ((d : Descriptor) → slice_get arrays n ≡ Some d → HasArray mid rows d)
+
+-- The table's making of so many arrays, in every image with the rows of before, goes on with their descriptors in the image with the
+-- rows of after.
+abbrev pub MakesArrays : ℕ → Extents → Rows → Rows → List Descriptor → Type 0
+MakesArrays k e before after arrays =
+    (p : ℕ) (img : Image) (next : List Word → Change) → img.rows ≡ before
+    → changed p (arrays_made k e [] next) img ≡ changed p (next (map descriptor_word arrays)) (with_rows img after)
 
 -- ---- the tests
 

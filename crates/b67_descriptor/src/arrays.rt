@@ -1,16 +1,17 @@
 // The making of arrays.
-ghost use Rattle.std.specs.Prelude.{◌≡◌, ℕ, ◌+◌, ◌≤◌, ◌<◌, false, true, length, IfOk, OnErr, OnOk, IfErr, is_some, Some, None};
+ghost use Rattle.std.specs.Prelude.{◌≡◌, ℕ, ◌+◌, ◌≤◌, ◌<◌, false, true, [], ◌∷◌, ◌++◌, length, vec_capacity, All, slice_get, IfOk, OnErr, OnOk, IfErr, is_some, Some, None};
 ghost use Rattle.b67_control.specs.Control.{descriptor_word, Fits_descriptor};
 ghost use Rattle.b67_store.specs.Store.{Rows, row_at, row_words, row_limit, least_free, opened_at, zero_row, count_limit, with_row_word};
 ghost use Rattle.b67_table.specs.Arrays.{one, two, elements};
 ghost use Rattle.b67_descriptor.specs.declared.DescriptorFault.TheVariants.{NoMemory};
 ghost use Rattle.b67_descriptor.specs.Sizes.{IsSize, extents_of};
-ghost use Rattle.b67_descriptor.specs.Arrays.{array_descriptor, descriptor_by, Makes, SameRows, HasMore, row_added, child, Holds, Allocates};
+ghost use Rattle.b67_descriptor.specs.Arrays.{array_descriptor, descriptor_by, Makes, SameRows, HasMore, row_added, child, described, HasArray, HaveArrays, MakesArrays, Holds, Allocates};
 
 use crate::sizes::size_of;
 use crate::{DescriptorFault, Size};
 use b67_control::Descriptor;
 use b67_store::{Core, MOST_COUNTED_WORDS};
+use std::alloc::Global;
 
 // The descriptor of a new array.
 fn descriptor(mother: bool, length: u32, address: u32) -> Descriptor
@@ -51,6 +52,8 @@ fn make_row<C: Core>(core: &mut C, count: u32) -> Result<Descriptor, DescriptorF
     requires most { count ≤ count_limit }
     ensures made { IfOk result (Makes (one count) (C.Core.rows core.old) (C.Core.rows core.new)) }
     ensures descriptor { IfOk result (λ d. d ≡ descriptor_by (one count) (least_free (C.Core.rows core.old))) }
+    ensures more { IfOk result (HasArray (C.Core.rows core.old) (C.Core.rows core.new)) }
+    ensures fits { IfOk result Fits_descriptor }
     ensures fault { IfErr result (λ fault. fault ≡ NoMemory) }
     ensures unchanged { OnErr result (C.Core.rows core.new ≡ C.Core.rows core.old) }
     ensures stacks { C.Core.stacks core.new ≡ C.Core.stacks core.old }
@@ -104,6 +107,8 @@ fn make_rows<C: Core>(core: &mut C, rows: u32, columns: u32) -> Result<Descripto
     requires columns { (1 ≤ columns) × (columns ≤ count_limit) }
     ensures made { IfOk result (Makes (two rows columns) (C.Core.rows core.old) (C.Core.rows core.new)) }
     ensures descriptor { IfOk result (λ d. d ≡ descriptor_by (two rows columns) (least_free (C.Core.rows core.old))) }
+    ensures more { IfOk result (HasArray (C.Core.rows core.old) (C.Core.rows core.new)) }
+    ensures fits { IfOk result Fits_descriptor }
     ensures fault { IfErr result (λ fault. fault ≡ NoMemory) }
     ensures unchanged { OnErr result (SameRows (C.Core.rows core.old) (C.Core.rows core.new)) }
     ensures stacks { C.Core.stacks core.new ≡ C.Core.stacks core.old }
@@ -125,6 +130,8 @@ pub fn make_array<C: Core>(core: &mut C, size: Size) -> Result<Descriptor, Descr
     requires { IsSize size }
     ensures made { IfOk result (Makes (extents_of size) (C.Core.rows core.old) (C.Core.rows core.new)) }
     ensures descriptor { IfOk result (λ d. d ≡ descriptor_by (extents_of size) (least_free (C.Core.rows core.old))) }
+    ensures more { IfOk result (HasArray (C.Core.rows core.old) (C.Core.rows core.new)) }
+    ensures fits { IfOk result Fits_descriptor }
     ensures fault { IfErr result (λ fault. fault ≡ NoMemory) }
     ensures unchanged { OnErr result (SameRows (C.Core.rows core.old) (C.Core.rows core.new)) }
     ensures stacks { C.Core.stacks core.new ≡ C.Core.stacks core.old }
@@ -135,8 +142,84 @@ pub fn make_array<C: Core>(core: &mut C, size: Size) -> Result<Descriptor, Descr
     }
 }
 
-// How many elements an array of this size has.
-fn elements(size: Size) -> u32
+// How many rows an array's row describes.
+fn described(array: &Descriptor) -> u32
+    ensures { result ≡ described array.now }
+{
+    if array.mother { array.length } else { 0 }
+}
+
+// The rows of an array go.
+fn close_array<C: Core>(core: &mut C, array: &Descriptor)
+    ensures closed { (before : Rows) → HasArray before (C.Core.rows core.old) array.now → SameRows before (C.Core.rows core.new) }
+    ensures stacks { C.Core.stacks core.new ≡ C.Core.stacks core.old }
+{
+    close_rows(core, array.address, described(array));
+}
+
+// The array at a place of a list.
+fn array_at(arrays: &[Descriptor], at: usize) -> Descriptor
+    requires { at < length arrays.now }
+    ensures { slice_get arrays.now at ≡ Some result }
+{
+    arrays[at]
+}
+
+// The rows of arrays that were made one after another go, those of the last one first.
+fn close_arrays<C: Core>(core: &mut C, arrays: &[Descriptor])
+    ensures closed { (before : Rows) → HaveArrays before arrays.now (length arrays.now) (C.Core.rows core.old) → SameRows before (C.Core.rows core.new) }
+    ensures stacks { C.Core.stacks core.new ≡ C.Core.stacks core.old }
+{
+    let mut left = arrays.len();
+    'closing: while left > 0 {
+        left -= 1;
+        let array = array_at(arrays, left);
+        close_array(core, &array);
+    }
+}
+
+// Adds an array to a list that has room for it.
+fn add_array(arrays: &mut Vec<Descriptor>, array: Descriptor)
+    requires { length arrays.old.items < vec_capacity arrays.old }
+    ensures items { arrays.new.items ≡ arrays.old.items ++ array ∷ [] }
+    ensures capacity { vec_capacity arrays.old ≤ vec_capacity arrays.new }
+{
+    arrays.push(array).unwrap();
+}
+
+/// Makes so many arrays of this size, of operands 0, one after another, and gives their descriptors in order. An error is a
+/// want of memory or of a number; then the rows are as before.
+pub fn make_arrays<C: Core>(
+    core: &mut C,
+    alloc: Global,
+    size: Size,
+    count: u32,
+) -> Result<Vec<Descriptor>, DescriptorFault>
+    requires { IsSize size }
+    ensures made { IfOk result (λ arrays. MakesArrays count (extents_of size) (C.Core.rows core.old) (C.Core.rows core.new) arrays.items) }
+    ensures count { IfOk result (λ arrays. length arrays.items ≡ count) }
+    ensures fits { IfOk result (λ arrays. All Fits_descriptor arrays.items) }
+    ensures fault { IfErr result (λ fault. fault ≡ NoMemory) }
+    ensures unchanged { OnErr result (SameRows (C.Core.rows core.old) (C.Core.rows core.new)) }
+    ensures stacks { C.Core.stacks core.new ≡ C.Core.stacks core.old }
+{
+    let Ok(mut arrays) = Vec::with_capacity(alloc, count as usize) else {
+        return Err(DescriptorFault::NoMemory);
+    };
+    'making: for _ in 0..count {
+        match make_array(core, size) {
+            Ok(array) => add_array(&mut arrays, array),
+            Err(fault) => {
+                close_arrays(core, arrays.as_slice());
+                return Err(fault);
+            }
+        }
+    }
+    Ok(arrays)
+}
+
+/// How many elements an array of this size has.
+pub fn elements(size: Size) -> u32
     requires { IsSize size }
     ensures value { result ≡ elements (extents_of size) }
     ensures bound { result ≤ count_limit }

@@ -8,7 +8,7 @@ mod arrays;
 mod sizes;
 mod subscripts;
 
-pub use arrays::{allocate, make_array};
+pub use arrays::{allocate, elements, make_array, make_arrays};
 pub use sizes::{Size, size_of};
 pub use subscripts::{index, load_row};
 

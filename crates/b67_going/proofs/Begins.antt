@@ -21,7 +21,7 @@ use Rattle.b67_reach.proofs.Looking.{asked_on, asked_then, after_test, tells_loo
 use Rattle.b67_going.specs.Paths.{Leads}
 use Rattle.b67_going.specs.Starts.{first_registers, if_number}
 
-stops_test : {A B : Type 0} (img : Image) (e : Effect A) (next : A → Test B) (stop : Stop) → whole e ≡ stopped stop
+pub stops_test : {A B : Type 0} (img : Image) (e : Effect A) (next : A → Test B) (stop : Stop) → whole e ≡ stopped stop
     → whole (after_test img e next) ≡ stopped stop
 stops_test img (effects.gives a) next (Interrupt kind) e = cc
 stops_test img (effects.gives a) next (Fault kind) e = cc

@@ -68,10 +68,6 @@ module _ (st : Stacks) (regs : List Registers) (wanted : List Place) (f : Place)
       ∙ down_is_met img wanted (further (stacks - 1)) (f.at + 1) f
       ∙ ap (λ (q : Result (Option Place) InterruptKind). or_rest img q (further (stacks - 1))) (ap (λ (z : Stacks). seen z (met (f.at + 1) wanted f)) s ∙ e)
 
-  seen_by : {A : Type 0} (r : Result A InterruptKind) (a : Result A Stop) → a ≡ looked r → whole (as_effect r) ≡ answered a
-  seen_by (Ok b) a e = sym (ap answered e)
-  seen_by (Err kind) a e = sym (ap answered e)
-
   stop_of : (r : Result (Option Place) InterruptKind) (stop : Stop) (img : Image) (rest : Test (Option Place)) → ◌≡◌ {A = Result (Option Place) Stop} (Err stop) (looked r)
       → whole (or_rest img r rest) ≡ answered {A = Option Place} (Err stop)
   stop_of (Ok a) stop img rest e = cc

@@ -1,7 +1,11 @@
-pub mod Critical
 pub mod Steps
 pub mod Leading
 pub mod Named
 pub mod Begins
 pub mod Opened
 pub mod Left
+pub mod Started
+pub mod Gone
+pub mod Numbers
+pub mod Above
+pub mod Next

@@ -6,8 +6,7 @@ use Rattle.b67_word.specs.Word.{Word}
 use Rattle.b67_control.specs.declared.Sirw.{Sirw}
 use Rattle.b67_control.specs.Control.{as_sirw}
 use Rattle.b67_events.specs.Events.{same_place}
-use Rattle.b67_table.specs.declared.Cell.{Cell}
-use Rattle.b67_table.specs.Starting.{is_among, sirw_frame, frames_with, named_frames}
+use Rattle.b67_table.specs.Starting.{is_among, sirw_frame, named_frames}
 
 pub drop_at : (words : List Word) (at : ℕ) (w : Word) → slice_get words at ≡ Some w → drop at words ≡ w ∷ drop (at + 1) words
 drop_at [] zero w e = cc
@@ -33,10 +32,6 @@ or_either false c = refl
 sirw_or : (o : Option Sirw) (rest : List Place) (f : Place) → is_among (sirw_frame o rest) f ≡ (is_among (sirw_frame o []) f || is_among rest f)
 sirw_or None rest f = refl
 sirw_or (Some s) rest f = or_either (same_place f (record { stack = s.stack; at = s.displacement })) (list_any (same_place f) rest)
-
-pub task_or : (o : Option Cell) (rest : List Place) (f : Place) → is_among (frames_with o rest) f ≡ (is_among (frames_with o []) f || is_among rest f)
-task_or None rest f = refl
-task_or (Some c) rest f = or_either (same_place f c.frame) (list_any (same_place f) rest)
 
 module _ (words : List Word) (f : Place) where
   abbrev pub among : ℕ → ℕ → Bool

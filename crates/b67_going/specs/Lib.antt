@@ -1,5 +1,5 @@
-pub mod Criticals
 pub mod Paths
 pub mod Starts
 pub mod Leaves
 pub mod Targets
+pub mod Laws

@@ -12,7 +12,7 @@ ghost use Rattle.b67_reach.specs.Images.{image_of};
 ghost use Rattle.b67_going.specs.Starts.{starting_of, IsGiven};
 
 use crate::opens::{NoMemory, open_process};
-use crate::starts::Start;
+use crate::starts::Given;
 use b67_reach::{Parts, ProcessState, Registers};
 use b67_store::Core;
 
@@ -24,6 +24,8 @@ fn add_entry(parts: &mut Parts, registers: Registers) -> Result<(), NoMemory>
     ensures same_states { OnErr result (parts.new.states.items ≡ parts.old.states.items) }
     ensures output { parts.new.output ≡ parts.old.output }
     ensures started { parts.new.started ≡ parts.old.started }
+    ensures code { parts.new.code ≡ parts.old.code }
+    ensures woken { parts.new.woken ≡ parts.old.woken }
 {
     let count = parts.regs.len();
     if parts.regs.push(registers).is_err() {
@@ -42,6 +44,8 @@ fn drop_entry(parts: &mut Parts, count: usize)
     ensures states { parts.new.states.items ≡ take count parts.old.states.items }
     ensures output { parts.new.output ≡ parts.old.output }
     ensures started { parts.new.started ≡ parts.old.started }
+    ensures code { parts.new.code ≡ parts.old.code }
+    ensures woken { parts.new.woken ≡ parts.old.woken }
 {
     parts.regs.truncate(count);
     parts.states.truncate(count);
@@ -51,7 +55,7 @@ fn drop_entry(parts: &mut Parts, count: usize)
 pub fn add_process<C: Core>(
     core: &mut C,
     parts: &mut Parts,
-    start: &Start,
+    start: &Given,
     registers: Registers,
 ) -> Result<(), NoMemory>
     requires given { IsGiven (C.Core.stacks core.old) start.now }
@@ -61,6 +65,10 @@ pub fn add_process<C: Core>(
     requires each { length parts.old.regs.items ≡ length parts.old.states.items }
     requires most { parts.old.started < most_processes }
     ensures added { (p : ℕ) (events : List Event) → OnOk result (image_of (C.Core.stacks core.new) (C.Core.rows core.new) events parts.new ≡ written p (writes.start registers (first_words (starting_of (C.Core.stacks core.old) start.now))) (image_of (C.Core.stacks core.old) (C.Core.rows core.old) events parts.old)) }
+    ensures regs { OnOk result (parts.new.regs.items ≡ parts.old.regs.items ++ registers ∷ []) }
+    ensures started { OnOk result (parts.new.started ≡ parts.old.started + 1) }
+    ensures code { parts.new.code ≡ parts.old.code }
+    ensures woken { parts.new.woken ≡ parts.old.woken }
     ensures unchanged { (events : List Event) → OnErr result (image_of (C.Core.stacks core.new) (C.Core.rows core.new) events parts.new ≡ image_of (C.Core.stacks core.old) (C.Core.rows core.old) events parts.old) }
 {
     let count = parts.regs.len();

@@ -5,17 +5,24 @@
 #![tactic(auto)]
 
 mod adds;
-mod criticals;
+mod jumps;
+mod laws;
 mod leaves;
 mod opens;
 mod paths;
+mod processes;
 mod starts;
 mod targets;
 
 pub use adds::add_process;
-pub use criticals::is_critical;
+pub use jumps::go_to;
+pub use laws::valid_images_have_a_next;
 pub use leaves::passes_critical;
 pub use opens::{NoMemory, open_process};
 pub use paths::{Needs, frame_below, on_path};
-pub use starts::{MOST_PROCESSES, Start, first_registers};
+pub use processes::{Unstarted, start};
+pub use starts::{Given, MOST_CELLS, MOST_PROCESSES, first_registers};
 pub use targets::{Target, level_in, number_in, target_of};
+
+#[cfg(test)]
+mod tests;

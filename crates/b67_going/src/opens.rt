@@ -9,7 +9,7 @@ ghost use Rattle.b67_going.specs.Paths.{some_words};
 ghost use Rattle.b67_going.specs.Starts.{starting_of, IsGiven};
 
 use crate::paths::Needs;
-use crate::starts::Start;
+use crate::starts::Given;
 use b67_control::{Mscw, Rcw};
 use b67_store::{Core, OpenFault};
 use b67_word::{Place, Word};
@@ -30,7 +30,7 @@ fn push_parameters<C: Core>(core: &mut C, number: u16, needs: &Needs)
     requires room { length (words_of (C.Core.stacks core.old) number) + needs.now.count ≤ stack_limit }
     requires other { needs.now.stack ≢ number }
     requires there { needs.now.first + needs.now.count ≤ length (words_of (C.Core.stacks core.old) needs.now.stack) }
-    requires low { needs.now.first + needs.now.count ≤ 2 ^ 16 }
+    requires low { needs.now.first + needs.now.count ≤ stack_limit }
     ensures stacks { C.Core.stacks core.new ≡ with_stack (C.Core.stacks core.old) number (words_of (C.Core.stacks core.old) number ++ some_words (C.Core.stacks core.old) needs.now.stack needs.now.first needs.now.count) }
     ensures rows { C.Core.rows core.new ≡ C.Core.rows core.old }
 {
@@ -84,7 +84,7 @@ fn open_base<C: Core>(core: &mut C, number: u16, home: Place, level: u8) -> Resu
 
 /// Opens the stack of a new process, with the mark and the control word of its base frame and its parameters. Without
 /// memory nothing changes.
-pub fn open_process<C: Core>(core: &mut C, number: u16, start: &Start) -> Result<(), NoMemory>
+pub fn open_process<C: Core>(core: &mut C, number: u16, start: &Given) -> Result<(), NoMemory>
     requires given { IsGiven (C.Core.stacks core.old) start.now }
     requires free { stack_at (C.Core.stacks core.old) number ≡ None }
     requires home { start.now.needs.home.stack < 2 ^ 10 }

@@ -4,6 +4,7 @@ ghost use Rattle.std.specs.Prelude.{◌≡◌, [], ◌+◌, ◌≤◌, ◌^◌, 
 ghost use Rattle.std.specs.List.{list_any};
 ghost use Rattle.b67_control.specs.Control.{as_sirw};
 ghost use Rattle.b67_events.specs.Events.{same_place};
+ghost use Rattle.b67_store.specs.Store.{stack_limit};
 ghost use Rattle.b67_table.specs.Image.{critical_of};
 ghost use Rattle.b67_table.specs.Look.{seen};
 ghost use Rattle.b67_table.specs.Chains.{frame_below};
@@ -13,7 +14,6 @@ ghost use Rattle.b67_reach.specs.declared.Stop.TheVariants.{Interrupt};
 ghost use Rattle.b67_reach.specs.Answers.{looked};
 ghost use Rattle.b67_going.specs.Paths.{met, some_words, needed, Leads};
 
-use crate::criticals::same_place;
 use b67_control::Sirw;
 use b67_display::mark_at;
 use b67_linkage::entered_below;
@@ -33,8 +33,15 @@ pub struct Needs {
     pub stack: u16,
     /// The displacement of the first parameter.
     pub first: u32,
-    /// How many parameters there are, at most 511.
+    /// How many parameters there are, as few as a frame's cells.
     pub count: u32,
+}
+
+// Tests that two places are one.
+fn same_place(place: Place, other: Place) -> bool
+    ensures { result ≡ same_place place other }
+{
+    place.stack == other.stack && place.at == other.at
 }
 
 // The interrupt of a chain that does not lead where it has to.
@@ -86,7 +93,7 @@ fn word_names(word: Word, frame: Place) -> bool
 
 // Tests that a parameter names a frame.
 fn parameter_names<C: Core>(core: &C, needs: &Needs, frame: Place) -> bool
-    requires { needs.now.first + needs.now.count ≤ 2 ^ 16 }
+    requires { needs.now.first + needs.now.count ≤ stack_limit }
     ensures { result ≡ is_among (named_frames (some_words (C.Core.stacks core.now) needs.now.stack needs.now.first needs.now.count)) frame }
 {
     let mut index = 0;
@@ -118,7 +125,7 @@ fn task_is_in(task: Option<Cell>, frame: Place) -> bool
 
 // Tests that a new process needs a frame.
 fn is_needed<C: Core>(core: &C, needs: &Needs, frame: Place) -> bool
-    requires { needs.now.first + needs.now.count ≤ 2 ^ 16 }
+    requires { needs.now.first + needs.now.count ≤ stack_limit }
     ensures { result ≡ is_among (needed (C.Core.stacks core.now) needs.now) frame }
 {
     same_place(frame, needs.home)
@@ -128,7 +135,7 @@ fn is_needed<C: Core>(core: &C, needs: &Needs, frame: Place) -> bool
 
 // The first frame that a new process needs down a stack from a frame, None where there is none down to the base frame.
 fn met<C: Core>(core: &C, needs: &Needs, from: Place) -> Result<Option<Place>, Stop>
-    requires { needs.now.first + needs.now.count ≤ 2 ^ 16 }
+    requires { needs.now.first + needs.now.count ≤ stack_limit }
     ensures { result ≡ looked (seen (C.Core.stacks core.now) (met (from.at + 1) (needed (C.Core.stacks core.now) needs.now) from)) }
 {
     let mut frame = from;
@@ -172,7 +179,7 @@ pub fn on_path<C: Core>(
     stacks: u16,
     from: Place,
 ) -> Result<Option<Place>, Stop>
-    requires { needs.now.first + needs.now.count ≤ 2 ^ 16 }
+    requires { needs.now.first + needs.now.count ≤ stack_limit }
     ensures { Leads (on_path stacks (needed (C.Core.stacks core.now) needs.now) from) (C.Core.stacks core.now) regs.now result }
 {
     let mut frame = from;

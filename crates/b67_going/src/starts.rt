@@ -1,8 +1,9 @@
 //! What START is given, and with what a new process begins.
 
-ghost use Rattle.std.specs.Prelude.{◌≡◌, ◌+◌, ◌<◌, ◌≤◌, ◌^◌, Ok, IfOk, IfSome, length};
+ghost use Rattle.std.specs.Prelude.{◌≡◌, ◌+◌, ◌<◌, ◌≤◌, ◌^◌, Ok, IfOk, OnOk, IfSome, length};
 ghost use Rattle.b67_control.specs.Control.{Fits_pcw};
 ghost use Rattle.b67_control.specs.Display.{levels};
+ghost use Rattle.b67_store.specs.Store.{stack_limit};
 ghost use Rattle.b67_table.specs.Limits.{most_processes};
 ghost use Rattle.b67_table.specs.Look.{seen};
 ghost use Rattle.b67_table.specs.Private.{frame};
@@ -22,9 +23,12 @@ use b67_word::Place;
 /// The most processes that a run has.
 pub const MOST_PROCESSES: u32 = 256;
 
+/// The most cells of a frame, and so the most parameters of a process.
+pub const MOST_CELLS: u32 = 511;
+
 /// What START is given.
 #[derive(Clone, Copy, PartialEq, Eq, Debug)]
-pub struct Start {
+pub struct Given {
     /// The procedure that the new process runs.
     pub procedure: Pcw,
     /// The frames that the new process needs.
@@ -32,7 +36,7 @@ pub struct Start {
 }
 
 // The display of a process of a number; an intrinsic can not be started.
-fn first_display<C: Core>(core: &C, number: u16, start: &Start) -> Result<Display, Stop>
+fn first_display<C: Core>(core: &C, number: u16, start: &Given) -> Result<Display, Stop>
     requires { Fits_pcw start.now.procedure }
     ensures { result ≡ looked (seen (C.Core.stacks core.now) (first_display number (starting_of (C.Core.stacks core.now) start.now))) }
 {
@@ -51,7 +55,7 @@ fn first_display<C: Core>(core: &C, number: u16, start: &Start) -> Result<Displa
 
 // Where a cell lies.
 fn place_of(cell: Option<Cell>) -> Option<Place>
-    requires { IfSome cell (λ c. c.frame.at + c.index < 2 ^ 16) }
+    requires { IfSome cell (λ c. c.frame.at + c.index < stack_limit) }
     ensures { result ≡ place_of cell }
 {
     match cell {
@@ -67,7 +71,7 @@ fn place_of(cell: Option<Cell>) -> Option<Place>
 fn begun<C: Core>(
     core: &C,
     number: u16,
-    start: &Start,
+    start: &Given,
     display: Display,
     critical: Option<Place>,
 ) -> Registers
@@ -89,7 +93,7 @@ fn begun<C: Core>(
 }
 
 // The frame of a process.
-fn frame_of(regs: &Registers) -> Place
+pub fn frame_of(regs: &Registers) -> Place
     requires { regs.now.ll < levels }
     ensures { result ≡ record { stack = regs.now.stack; at = frame regs.now } }
 {
@@ -110,12 +114,14 @@ pub fn first_registers<C: Core>(
     all: &[Registers],
     regs: &Registers,
     started: u32,
-    start: &Start,
+    start: &Given,
 ) -> Result<Registers, Stop>
     requires given { IsGiven (C.Core.stacks core.now) start.now }
     requires level { regs.now.ll < levels }
     requires most { started ≤ most_processes }
-    ensures { Leads (first_registers regs.now started (starting_of (C.Core.stacks core.now) start.now)) (C.Core.stacks core.now) all.now result }
+    ensures leads { Leads (first_registers regs.now started (starting_of (C.Core.stacks core.now) start.now)) (C.Core.stacks core.now) all.now result }
+    ensures number { IfOk result (λ q. q.stack ≡ started + 1) }
+    ensures few { OnOk result (started < most_processes) }
 {
     let number = (started + 1) as u16;
     let display = match first_display(core, number, start) {

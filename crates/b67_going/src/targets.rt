@@ -1,22 +1,24 @@
 //! What GOTO goes to.
 
-ghost use Rattle.std.specs.Prelude.{◌≡◌, ◌≤◌, ◌<◌, ◌^◌, unsigned_abs, Ok, IfOk, IfSome};
+ghost use Rattle.std.specs.Prelude.{◌≡◌, ◌≤◌, ◌<◌, ◌^◌, unsigned_abs, Ok, Some, IfOk, IfSome};
 ghost use Rattle.b67_control.specs.Display.{levels};
 ghost use Rattle.b67_store.specs.Store.{Stacks};
 ghost use Rattle.b67_table.specs.Arguments.{number_in};
 ghost use Rattle.b67_table.specs.GoingTo.{level_in, target_of};
 ghost use Rattle.b67_table.specs.Look.{seen};
+ghost use Rattle.b67_table.specs.Private.{display_at};
 ghost use Rattle.b67_reach.specs.Answers.{looked};
 ghost use Rattle.b67_going.specs.Targets.{target_in};
 
 use b67_reach::{Registers, Stop, frame_at, invalid};
+use b67_segment::MOST_SEGMENT_WORDS;
 use b67_word::Place;
 
-// The greatest number of a segment.
+// The greatest number of a segment that a control word can hold.
 const LAST_SEGMENT: u32 = 1_023;
 
-// The place after the last syllable that a segment can have: 6 in each of 8,192 words.
-const END_OF_CODE: u32 = 49_152;
+// The place after the last syllable that a segment can have: 6 in each of its words.
+const END_OF_CODE: u32 = 6 * MOST_SEGMENT_WORDS as u32;
 
 /// A number from 0 to a greatest one.
 pub fn number_in(value: i64, most: u32) -> Option<u32>
@@ -36,7 +38,8 @@ pub fn level_in(regs: &Registers, value: i64) -> Option<u8>
     requires small { unsigned_abs value < 2 ^ 63 }
     requires level { regs.now.ll < levels }
     ensures value { result ≡ level_in regs.now value }
-    ensures bound { IfSome result (λ n. n ≤ regs.now.ll) }
+    ensures low { IfSome result (λ n. 2 ≤ n) }
+    ensures high { IfSome result (λ n. n ≤ regs.now.ll) }
 {
     if 2 <= value && value <= i64::from(regs.ll) {
         Some(value as u8)
@@ -65,7 +68,10 @@ pub fn target_of(regs: &Registers, level: i64, segment: i64, pointer: i64) -> Re
     requires second { unsigned_abs segment < 2 ^ 63 }
     requires third { unsigned_abs pointer < 2 ^ 63 }
     requires level { regs.now.ll < levels }
-    ensures { (stacks : Stacks) → result ≡ looked (target_in (seen stacks (target_of regs.now (record { first = level; second = segment; third = pointer })))) }
+    ensures value { (stacks : Stacks) → result ≡ looked (target_in (seen stacks (target_of regs.now (record { first = level; second = segment; third = pointer })))) }
+    ensures low { IfOk result (λ t. 2 ≤ t.level) }
+    ensures high { IfOk result (λ t. t.level ≤ regs.now.ll) }
+    ensures frame { IfOk result (λ t. display_at regs.now t.level ≡ Some t.frame) }
 {
     let Some(level) = level_in(regs, level) else {
         return Err(invalid());

@@ -2,3 +2,10 @@ pub mod Calling
 pub mod Cases
 pub mod Telling
 pub mod Acting
+pub mod Trying
+pub mod Phrases
+pub mod Numbers
+pub mod LineTests
+pub mod Pushing
+pub mod MakingArrays
+pub mod Naming

@@ -8,10 +8,10 @@ use Rattle.b67_word.specs.Word.{Word, as_whole}
 use Rattle.b67_control.specs.declared.Registers.{Registers}
 use Rattle.b67_control.specs.declared.Mscw.{Mscw}
 use Rattle.b67_segment.specs.declared.code.Code.{Code}
-use Rattle.b67_store.specs.Store.{Stacks, Rows, words_of}
+use Rattle.b67_store.specs.Store.{Stacks, Rows, words_of, row_at}
 use Rattle.b67_table.specs.declared.InterruptKind.{InterruptKind}
 use Rattle.b67_table.specs.declared.InterruptKind.TheVariants.{InvalidOperand}
-use Rattle.b67_table.specs.Arguments.{IntrinsicRow, Three, no_such, event_of, if_chained, finished_at}
+use Rattle.b67_table.specs.Arguments.{IntrinsicRow, Three, no_such, event_of, wholes_in, if_chained, finished_at}
 use Rattle.b67_table.specs.Chains.{place, broken, mark_at}
 use Rattle.b67_table.specs.Image.{Image}
 use Rattle.b67_table.specs.Look.{Look}
@@ -22,6 +22,8 @@ use Rattle.b67_table.specs.Program.{Program, loads, asked, answer, ◌>>=◌}
 use Rattle.b67_reach.specs.declared.Stop.{Stop}
 use Rattle.b67_reach.specs.declared.Stop.TheVariants.{Interrupt}
 use Rattle.b67_reach.specs.Answers.{IsReady, Acts}
+use Rattle.b67_intrinsics.specs.declared.hindrance.Hindrance.{Hindrance}
+use Rattle.b67_intrinsics.specs.declared.hindrance.Hindrance.TheVariants.{Stopped, NoMemory}
 
 -- ---- the arguments
 
@@ -47,6 +49,11 @@ whole_in (Some w) = whole_of (as_whole w)
 abbrev pub as_triple : Result Three InterruptKind → Result (ℤ × ℤ × ℤ) InterruptKind
 as_triple (Ok z) = Ok (z.first, z.second, z.third)
 as_triple (Err kind) = Err kind
+
+-- why the arguments are not read as whole numbers: one of them is none, or there is no memory
+abbrev pub WholesFail : List Word → Hindrance → Type 0
+WholesFail words (Stopped stop) = (stop ≡ Interrupt InvalidOperand) × (wholes_in words ≡ None)
+WholesFail words NoMemory = Unit {0}
 
 -- the mark below the one at F
 abbrev pub mark_below : Registers → Mscw → Look Mscw
@@ -108,3 +115,32 @@ state_after Waits state p states = set_numbered states p state
 abbrev pub listed : Option ℕ → List ℕ
 listed None = []
 listed (Some p) = p ∷ []
+
+-- ---- intrinsics that make something
+
+-- the tests find a value and go on with it, or they are stopped, or there is no memory
+abbrev pub MayLead : {A : Type 0} → Image → ((A → Program) → Program) → Result A Hindrance → Type 0
+MayLead img tests (Ok a) = Leads img tests (Ok a)
+MayLead {A = A} img tests (Err (Stopped stop)) = Leads {A = A} img tests (Err stop)
+MayLead img tests (Err NoMemory) = Unit {0}
+
+-- the tests of an intrinsic without arguments, which go on with the place of the mark at F
+abbrev pub mark_tests : Registers → Mscw → List Word → (Place → Program) → Program
+mark_tests r m [] next = if_chained r m (next (place r.stack r.f))
+mark_tests r m (w ∷ words) next = no_such
+
+-- the same tests in a process
+abbrev pub mark_tests_in : Option Registers → Mscw → Stacks → (Place → Program) → Program
+mark_tests_in None m stacks next = no_such
+mark_tests_in (Some r) m stacks next = mark_tests r m (arguments stacks r) next
+
+-- all is as it was, and at every number the same row is open, or none
+pub record IsLeft (old new : Image) : Type 0 where
+  pub rows : (n : ℕ) → row_at new.rows n ≡ row_at old.rows n
+  pub others : new ≡ record old { rows = new.rows }
+
+-- the program makes the new image, or the table stops it, and all is as it was; so it is where there is no memory
+abbrev pub Tries : ℕ → Program → Image → Image → Result (Unit {0}) Hindrance → Type 0
+Tries p program old new (Ok u) = Acts {A = Unit {0}} p program old new (Ok u)
+Tries p program old new (Err (Stopped stop)) = Acts {A = Unit {0}} p program old new (Err stop)
+Tries p program old new (Err NoMemory) = IsLeft old new

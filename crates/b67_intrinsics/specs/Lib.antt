@@ -1,1 +1,4 @@
 pub mod Called
+pub mod Lines
+pub mod Arrays
+pub mod Names

@@ -1,4 +1,4 @@
-//! The event that is an intrinsic's argument.
+//! Where the event of an intrinsic lies.
 
 ghost use Rattle.std.specs.Prelude.{◌≡◌, ◌+◌, ◌<◌, ◌≤◌, OnOk, IfOk, IsTrue, true, is_some};
 ghost use Rattle.b67_store.specs.Store.{word_at};
@@ -8,9 +8,9 @@ ghost use Rattle.b67_table.specs.Image.{Image};
 ghost use Rattle.b67_table.specs.Program.{asked};
 ghost use Rattle.b67_table.specs.References.{cell_place};
 ghost use Rattle.b67_reach.specs.Answers.{whole, answered, IsReady};
-ghost use Rattle.b67_intrinsics.specs.Called.{arguments, Leads, event_tests};
+ghost use Rattle.b67_intrinsics.specs.Called.{arguments, Leads, event_tests, mark_tests};
 
-use crate::marks::{chained, only_argument};
+use crate::marks::{arguments, chained, only_argument};
 use b67_control::{EventWord, Mscw};
 use b67_events::Kernel;
 use b67_reach::{Cell, Registers, Stop, cell_of, invalid, reached};
@@ -31,8 +31,14 @@ fn cell_place<C: Core>(core: &C, cell: Cell) -> Place
     }
 }
 
-// The cell in which the event lies that a reference reaches.
-fn event_of<C: Core>(core: &C, kernel: &Kernel, regs: &Registers, word: Word) -> Result<Cell, Stop>
+/// The cell in which the event lies that a reference reaches. InvalidOperand comes exactly where it reaches no event word,
+/// or no event is open there.
+pub fn event_of<C: Core>(
+    core: &C,
+    kernel: &Kernel,
+    regs: &Registers,
+    word: Word,
+) -> Result<Cell, Stop>
     ensures told { (img : Image) → img.stacks ≡ C.Core.stacks core.now → img.events ≡ kernel.now.events → whole (asked img (event_of regs.now word)) ≡ answered result }
     ensures there { IfOk result (λ cell. IsTrue (is_open (cell_place cell) kernel.now.events)) }
     ensures fits { IfOk result (λ cell. cell.frame.at + cell.index < 65536) }
@@ -69,5 +75,23 @@ pub fn find_event<C: Core>(
     Ok(Place {
         stack: cell.frame.stack,
         at: cell.frame.at + cell.index,
+    })
+}
+
+/// The place of the mark at F, where an event is made. InvalidOperand comes exactly where there are arguments; then
+/// BrokenChain exactly where the mark is not chained.
+pub fn find_mark<C: Core>(core: &C, regs: &Registers, mark: &Mscw) -> Result<Place, Stop>
+    requires ready { IsReady (C.Core.stacks core.now) regs.now }
+    requires above { regs.now.f + 2 ≤ regs.now.s }
+    ensures leads { (img : Image) → img.stacks ≡ C.Core.stacks core.now → Leads img (mark_tests regs.now mark.now (arguments img.stacks regs.now)) result }
+    ensures within { OnOk result (mark.now.df ≤ regs.now.f) }
+{
+    if arguments(core, regs) != 0 {
+        return Err(invalid());
+    }
+    chained(core, regs, mark)?;
+    Ok(Place {
+        stack: regs.stack,
+        at: regs.f,
     })
 }

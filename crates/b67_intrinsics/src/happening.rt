@@ -20,8 +20,8 @@ use b67_reach::{Parts, ProcessState, Registers, Stop};
 use b67_store::Core;
 use b67_word::{Place, Word, truth};
 
-// A process's mark gives way, and its pointer goes to a place.
-fn end<C: Core>(core: &mut C, all: &mut Vec<Registers>, process: u32, mark: &Mscw, place: u16)
+/// A process's mark at F gives way with all above it, and its pointer goes to a place.
+pub fn end<C: Core>(core: &mut C, all: &mut Vec<Registers>, process: u32, mark: &Mscw, place: u16)
     requires called { IsCalled (C.Core.stacks core.old) (numbered all.old.items process) }
     requires within { IsChained mark.now (numbered all.old.items process) }
     ensures acts { (img : Image) → img.stacks ≡ C.Core.stacks core.old → img.rows ≡ C.Core.rows core.old → img.regs ≡ all.old.items → Acts process (finished_in (numbered all.old.items process) mark.now [] place) img (ended (C.Core.stacks core.new) (C.Core.rows core.new) all.new.items img) (Ok result) }
@@ -31,8 +31,8 @@ fn end<C: Core>(core: &mut C, all: &mut Vec<Registers>, process: u32, mark: &Msc
     finish(core, regs, mark, place);
 }
 
-// The registers of a process.
-fn registers(all: &Vec<Registers>, process: u32) -> &Registers
+/// The registers of a process.
+pub fn registers(all: &Vec<Registers>, process: u32) -> &Registers
     requires { IsSome (numbered all.now.items process) }
     ensures { numbered all.now.items process ≡ Some result.now }
 {
@@ -226,7 +226,7 @@ pub fn liberate<C: Core>(
 }
 
 // A process's mark gives way to a word, and its pointer goes to a place.
-fn end_with<C: Core>(
+pub fn end_with<C: Core>(
     core: &mut C,
     all: &mut Vec<Registers>,
     process: u32,

@@ -14,7 +14,7 @@ use b67_num::{FaultKind, NumFault};
 use b67_table::InterruptKind;
 pub use laws::{operators_are_own, parts_of_valid_images, stretches_are_own};
 pub use operators::operate;
-pub use stretch::burst;
+pub use stretch::{burst, next_operator};
 
 /// Why an operator has no effect.
 #[derive(Clone, Copy, PartialEq, Eq, Debug)]

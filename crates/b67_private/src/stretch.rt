@@ -13,9 +13,10 @@ use b67_ops::Operator;
 use b67_segment::{Code, Decoded, Pointer, fetch};
 use b67_table::Private;
 
-// The operator at a place, and the place after it: from the table where there is one.
+/// The operator at a place, and the place after it: from the table of the segment's operators at this level, where there is
+/// one. None comes exactly where no operator stands there.
 #[inline(always)]
-fn next_operator(
+pub fn next_operator(
     code: &Code,
     table: Option<&Decoded>,
     at: Pointer,

@@ -27,7 +27,8 @@ fn has_critical(state: ProcessState, critical: Option<Place>, frame: Place) -> b
     }
 }
 
-/// Tests that a frame is a live process's critical place.
+/// Tests that a frame is the critical place of a process that has not ended. States and registers stand by the processes'
+/// numbers.
 pub fn is_critical(states: &[ProcessState], regs: &[Registers], frame: Place) -> bool
     ensures { result ≡ list_any (same_place frame) (live_criticals states.now regs.now) }
 {

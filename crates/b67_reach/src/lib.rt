@@ -8,6 +8,7 @@
 
 mod critical;
 mod reading;
+mod states;
 mod writing;
 
 use b67_events::Woken;
@@ -20,6 +21,7 @@ pub use reading::{
     as_indexed, cell_of, couple_cell, element, floor, frame_at, from_top, invalid, is_operand,
     is_ready, named, operand_in, popped, popped_two, reached, read_cell, sirw_cell,
 };
+pub use states::{set_state, wake};
 pub use writing::{dropped, replaced};
 
 /// What stops an operator. One that is stopped changes nothing.

@@ -13,6 +13,7 @@ ghost use Rattle.b67_reach.specs.Answers.{looked, both, IsReady, Tells};
 
 use crate::{Cell, InterruptKind, Reached, Registers, Stop};
 use b67_control::{Descriptor, Irw, Sirw};
+use b67_ops::MOST_LEVEL;
 use b67_store::Core;
 use b67_word::{Place, Word};
 
@@ -34,7 +35,7 @@ pub fn frame_at(regs: &Registers, level: u8) -> Option<Place>
 // The number as it is, which is below 65,536.
 fn wide(value: u16) -> u32
     ensures value { result ≡ value }
-    ensures bound { result < 65536 }
+    ensures bound { result < 2 ^ 16 }
 {
     u32::from(value)
 }
@@ -43,7 +44,7 @@ fn wide(value: u16) -> u32
 pub fn floor(regs: &Registers) -> u32
     requires { regs.now.ll < levels }
     ensures value { result ≡ floor regs.now }
-    ensures bound { result < 131073 }
+    ensures bound { result ≤ 2 ^ 17 }
 {
     match frame_at(regs, regs.ll) {
         Some(frame) => wide(frame.at) + 2 + wide(regs.cells),
@@ -74,18 +75,17 @@ pub fn is_ready<C: Core>(core: &C, regs: &Registers) -> bool
     ensures { result ≡ true → IsReady (C.Core.stacks core.now) regs.now }
 {
     match core.length(regs.stack) {
-        Some(length) => length == regs.s && regs.ll < 32,
+        Some(length) => length == regs.s && regs.ll <= MOST_LEVEL,
         None => false,
     }
 }
 
 // Tests that so many words lie in the private part.
-fn need(regs: &Registers, n: u32) -> Result<(), Stop>
-    requires level { regs.now.ll < levels }
-    requires few { n < 1024 }
+fn need(regs: &Registers, n: u8) -> Result<(), Stop>
+    requires { regs.now.ll < levels }
     ensures { result ≡ (if nat_le (floor regs.now + n) regs.now.s then Ok tt else Err (Interrupt StackUnderflow)) }
 {
-    if floor(regs) + n <= regs.s {
+    if floor(regs) + u32::from(n) <= regs.s {
         Ok(())
     } else {
         Err(Stop::Interrupt(InterruptKind::StackUnderflow))

@@ -157,10 +157,12 @@ pub trait Core: Drop {
         ensures rows { rows self.new ≡ (if is_ok result then closed_at (rows self.old) row else rows self.old) }
         ensures stacks { stacks self.new ≡ stacks self.old };
 
-    /// The number of words in all counted rows, at most [`MOST_COUNTED_WORDS`].
+    /// The number of words in all counted rows, at most [`MOST_COUNTED_WORDS`]. No row has a number of [`MOST_ROWS`] or
+    /// above.
     fn counted(&self) -> u32
         ensures value { result ≡ counted_words (rows self.now) }
-        ensures bound { result ≤ count_limit };
+        ensures bound { result ≤ count_limit }
+        ensures few { length (rows self.now) ≤ row_limit };
 }
 
 impl From<AllocError> for OpenFault {

@@ -60,6 +60,7 @@ impl RowTable {
     pub fn counted(&self) -> u32
         ensures value { result ≡ counted_words self.now }
         ensures bound { result ≤ count_limit }
+        ensures few { length self.now ≤ row_limit }
     {
         self.counted
     }

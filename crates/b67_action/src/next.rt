@@ -1,0 +1,62 @@
+// The next operator of a process.
+ghost use Rattle.std.specs.Prelude.{◌≡◌, IfSome, true};
+ghost use Rattle.b67_list.specs.Numbered.{numbered};
+ghost use Rattle.b67_segment.specs.Decoded.{AreDecoded};
+ghost use Rattle.b67_table.specs.Image.{is_able};
+ghost use Rattle.b67_table.specs.Valid.{IsValid};
+ghost use Rattle.b67_reach.specs.Images.{image_of};
+ghost use Rattle.b67_action.specs.Acting.{NextReleases};
+ghost use Rattle.b67_action.specs.Done.{is_performed, Came, HasRoom};
+
+use crate::acting::perform;
+use crate::done::{Done, hindered_by, went};
+use crate::rows::row_of;
+use b67_events::Kernel;
+use b67_intrinsics::registers;
+use b67_private::next_operator;
+use b67_reach::{InterruptKind, Parts};
+use b67_segment::{Decoded, Pointer};
+use b67_store::Core;
+use b67_table::Private;
+
+/// Performs the next operator of a process, whatever its class, as the operator table says, and answers what it came to.
+/// Where the process's segment was decoded at its level, the table of its operators saves the decoding. A private operator
+/// is performed on `part`, whatever that holds. After an operator that was performed `woken` has the processes that it
+/// released, in their order. NoMemory comes only from an intrinsic that makes something: arrays, an
+/// event, a process or a line.
+pub fn action<C: Core>(
+    core: &mut C,
+    kernel: &mut Kernel,
+    parts: &mut Parts,
+    process: u32,
+    table: Option<&Decoded>,
+    part: &mut Private,
+) -> Done
+    requires valid { IsValid parts.old.code (image_of (C.Core.stacks core.old) (C.Core.rows core.old) kernel.old.events parts.old) }
+    requires able { is_able (numbered parts.old.states.items process) ≡ true }
+    requires room { HasRoom kernel.old parts.old }
+    requires table { IfSome (numbered parts.old.regs.items process) (λ r. IfSome table (λ t. AreDecoded parts.old.code r.segment r.ll t.now)) }
+    ensures came { Came parts.old.code (image_of (C.Core.stacks core.old) (C.Core.rows core.old) kernel.old.events parts.old) process result (image_of (C.Core.stacks core.new) (C.Core.rows core.new) kernel.new.events parts.new) }
+    ensures woken { is_performed result ≡ true → NextReleases parts.old.code (image_of (C.Core.stacks core.old) (C.Core.rows core.old) kernel.old.events parts.old) process parts.new.woken.processes.items }
+    ensures valid { IsValid parts.old.code (image_of (C.Core.stacks core.new) (C.Core.rows core.new) kernel.new.events parts.new) }
+    ensures room { HasRoom kernel.new parts.new }
+    ensures code { parts.new.code ≡ parts.old.code }
+{
+    parts.woken.processes.clear();
+    let regs = registers(&parts.regs, process);
+    let at = Pointer {
+        segment: regs.segment,
+        place: regs.place,
+    };
+    let Some((op, next)) = next_operator(&parts.code, table, at, regs.ll) else {
+        return Done::Interrupt(InterruptKind::BadCode);
+    };
+    let row = row_of(&op, at.place);
+    let answer = perform(core, kernel, parts, part, process, row, &op, next);
+    // no store has more rows than it has numbers for
+    let _ = core.counted();
+    match answer {
+        Ok(()) => went(parts.states[process as usize - 1]),
+        Err(hindrance) => hindered_by(hindrance),
+    }
+}

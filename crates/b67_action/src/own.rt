@@ -1,0 +1,128 @@
+// Private operators, performed on a copy of the private part.
+ghost use Rattle.std.specs.Prelude.{◌≡◌, ◌+◌, ◌<◌, ◌≤◌, ◌++◌, IfSome, IsSome, length, reverse, take, vec_capacity};
+ghost use Rattle.b67_list.specs.Numbered.{numbered};
+ghost use Rattle.b67_ops.specs.Spelling.{Fits};
+ghost use Rattle.b67_store.specs.Store.{stack_at, words_of, with_stack, with_push, with_cut, stack_limit};
+ghost use Rattle.b67_linkage.specs.Held.{IsLinked};
+ghost use Rattle.b67_operators.specs.Leaves.{IsLinkedIn};
+ghost use Rattle.b67_private.specs.Parts.{IsPart};
+ghost use Rattle.b67_reach.specs.Images.{own};
+ghost use Rattle.b67_action.specs.Own.{part_of, stop_by, DoesOwn, DoesOwnIn};
+
+use b67_ops::Operator;
+use b67_private::operate;
+use b67_reach::{Registers, Stop, floor};
+use b67_store::Core;
+use b67_table::Private;
+use b67_word::{Place, Word};
+
+/// The private part of a process is copied: its registers, and the words at its floor and above.
+pub fn take_part<C: Core>(core: &C, regs: &Registers, part: &mut Private)
+    requires { IsLinked (C.Core.stacks core.now) (C.Core.rows core.now) regs.now }
+    ensures { part.new ≡ part_of (C.Core.stacks core.now) regs.now }
+{
+    let length = part.words.len();
+    part.words.cut(length);
+    let mut at = floor(regs);
+    'words: while at < regs.s {
+        let place = Place {
+            stack: regs.stack,
+            at: at as u16,
+        };
+        part.words.push(core.read(place).unwrap());
+        at += 1;
+    }
+    part.regs = *regs;
+}
+
+// Leaves so many words of a stack that is open.
+fn cut_words<C: Core>(core: &mut C, stack: u16, length: u32)
+    requires { IsSome (stack_at (C.Core.stacks core.old) stack) }
+    ensures stacks { C.Core.stacks core.new ≡ with_cut (C.Core.stacks core.old) stack length }
+    ensures rows { C.Core.rows core.new ≡ C.Core.rows core.old }
+{
+    let _ = core.cut(stack, length);
+}
+
+// Pushes a word on a stack that has room for it.
+fn push_word<C: Core>(core: &mut C, stack: u16, word: Word)
+    requires open { IsSome (stack_at (C.Core.stacks core.old) stack) }
+    requires room { length (words_of (C.Core.stacks core.old) stack) < stack_limit }
+    ensures stacks { C.Core.stacks core.new ≡ with_push (C.Core.stacks core.old) stack word }
+    ensures rows { C.Core.rows core.new ≡ C.Core.rows core.old }
+{
+    let _ = core.push(stack, word);
+}
+
+/// A private part is put back: the words of its stack from a place on give way to its own.
+pub fn put_part<C: Core>(core: &mut C, regs: &mut Registers, base: u32, part: &Private)
+    requires open { IsSome (stack_at (C.Core.stacks core.old) part.now.regs.stack) }
+    requires room { base + length part.now.words ≤ stack_limit }
+    ensures stacks { C.Core.stacks core.new ≡ with_stack (C.Core.stacks core.old) part.now.regs.stack (take base (words_of (C.Core.stacks core.old) part.now.regs.stack) ++ reverse part.now.words) }
+    ensures rows { C.Core.rows core.new ≡ C.Core.rows core.old }
+    ensures registers { regs.new ≡ part.now.regs }
+{
+    let stack = part.regs.stack;
+    cut_words(core, stack, base);
+    let mut count = part.words.len();
+    'words: while count > 0 {
+        count -= 1;
+        let word = part.words.from_top(count).unwrap();
+        push_word(core, stack, word);
+    }
+    *regs = part.regs;
+}
+
+// A stop of a private operator is one of any operator.
+fn stop_by(stop: b67_private::Stop) -> Stop
+    ensures { result ≡ stop_by stop }
+{
+    match stop {
+        b67_private::Stop::Fault(kind) => Stop::Fault(kind),
+        b67_private::Stop::Interrupt(kind) => Stop::Interrupt(kind),
+        b67_private::Stop::StackLimit => Stop::StackLimit,
+    }
+}
+
+/// A private operator is performed, by way of a copy of the private part.
+pub fn perform_own<C: Core>(
+    core: &mut C,
+    regs: &mut Registers,
+    part: &mut Private,
+    op: &Operator,
+    next: u16,
+) -> Result<(), Stop>
+    requires linked { IsLinked (C.Core.stacks core.old) (C.Core.rows core.old) regs.old }
+    requires part { IsPart (part_of (C.Core.stacks core.old) regs.old) }
+    requires fits { Fits regs.old.ll op.now }
+    ensures { DoesOwn op.now next (own (C.Core.stacks core.old) (C.Core.rows core.old) regs.old) (own (C.Core.stacks core.new) (C.Core.rows core.new) regs.new) result }
+{
+    let base = floor(regs);
+    take_part(core, regs, part);
+    match operate(part, op, next) {
+        Ok(()) => {
+            put_part(core, regs, base, part);
+            Ok(())
+        }
+        Err(stop) => Err(stop_by(stop)),
+    }
+}
+
+/// A private operator is performed in a process.
+pub fn perform_own_in<C: Core>(
+    core: &mut C,
+    all: &mut Vec<Registers>,
+    process: u32,
+    part: &mut Private,
+    op: &Operator,
+    next: u16,
+) -> Result<(), Stop>
+    requires linked { IsLinkedIn (C.Core.stacks core.old) (C.Core.rows core.old) (numbered all.old.items process) }
+    requires part { IfSome (numbered all.old.items process) (λ r. IsPart (part_of (C.Core.stacks core.old) r)) }
+    requires fits { IfSome (numbered all.old.items process) (λ r. Fits r.ll op.now) }
+    ensures does { DoesOwnIn op.now next (C.Core.stacks core.old) (C.Core.rows core.old) all.old.items process (C.Core.stacks core.new) (C.Core.rows core.new) all.new.items result }
+    ensures room { vec_capacity all.old ≤ vec_capacity all.new }
+{
+    let regs = &mut all[process as usize - 1];
+    perform_own(core, regs, part, op, next)
+}

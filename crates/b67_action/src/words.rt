@@ -1,0 +1,76 @@
+// Operators on words and rows, in a process.
+ghost use Rattle.std.specs.Prelude.{◌≤◌, ◌+◌, vec_capacity, IfSome};
+ghost use Rattle.b67_control.specs.Control.{Fits_pcw};
+ghost use Rattle.b67_list.specs.Numbered.{numbered};
+ghost use Rattle.b67_linkage.specs.Held.{IsLinked};
+ghost use Rattle.b67_operators.specs.Leaves.{IsLinkedIn};
+ghost use Rattle.b67_reach.specs.Images.{own};
+ghost use Rattle.b67_reach.specs.Answers.{Performs};
+ghost use Rattle.b67_action.specs.Among.{ActsIn, entry_program};
+ghost use Rattle.b67_action.specs.Rows.{words_program, IsHeldWords};
+
+use crate::rows::WordsRow;
+use b67_operators::{
+    Called, entry, evaluate, index, index_and_load, index_mother, load_through, load_value, store,
+    turn, value_call,
+};
+use b67_reach::{Registers, Stop};
+use b67_store::Core;
+
+fn perform<C: Core>(
+    core: &mut C,
+    regs: &mut Registers,
+    row: WordsRow,
+    next: u16,
+) -> Result<(), Stop>
+    requires linked { IsLinked (C.Core.stacks core.old) (C.Core.rows core.old) regs.old }
+    requires held { IsHeldWords row }
+    ensures { Performs (words_program row regs.old next) (own (C.Core.stacks core.old) (C.Core.rows core.old) regs.old) (own (C.Core.stacks core.new) (C.Core.rows core.new) regs.new) result }
+{
+    match row {
+        WordsRow::ValueCall(couple) => value_call(core, regs, next, couple),
+        WordsRow::Turn(kind, target) => turn(core, regs, next, kind, target),
+        WordsRow::Evaluate => evaluate(core, regs, next),
+        WordsRow::LoadThrough => load_through(core, regs, next),
+        WordsRow::LoadValue => load_value(core, regs, next),
+        WordsRow::Store(keeps) => store(core, regs, next, keeps),
+        WordsRow::Index => index(core, regs, next),
+        WordsRow::IndexAndLoad => index_and_load(core, regs, next),
+        WordsRow::IndexMother => index_mother(core, regs, next),
+    }
+}
+
+/// An operator on words and rows is performed in a process.
+pub fn perform_words<C: Core>(
+    core: &mut C,
+    all: &mut Vec<Registers>,
+    process: u32,
+    row: WordsRow,
+    next: u16,
+) -> Result<(), Stop>
+    requires linked { IsLinkedIn (C.Core.stacks core.old) (C.Core.rows core.old) (numbered all.old.items process) }
+    requires held { IsHeldWords row }
+    ensures acts { ActsIn (words_program row) next (C.Core.stacks core.old) (C.Core.rows core.old) all.old.items process (C.Core.stacks core.new) (C.Core.rows core.new) all.new.items result }
+    ensures room { vec_capacity all.old ≤ vec_capacity all.new }
+{
+    let regs = &mut all[process as usize - 1];
+    perform(core, regs, row, next)
+}
+
+/// ENTR on a procedure that is no intrinsic's, in a process.
+pub fn enter_procedure<C: Core>(
+    core: &mut C,
+    all: &mut Vec<Registers>,
+    process: u32,
+    called: &Called,
+    next: u16,
+) -> Result<(), Stop>
+    requires linked { IsLinkedIn (C.Core.stacks core.old) (C.Core.rows core.old) (numbered all.old.items process) }
+    requires above { IfSome (numbered all.old.items process) (λ r. r.f + 2 ≤ r.s) }
+    requires procedure { Fits_pcw called.now.pcw }
+    ensures acts { ActsIn (entry_program called.now) next (C.Core.stacks core.old) (C.Core.rows core.old) all.old.items process (C.Core.stacks core.new) (C.Core.rows core.new) all.new.items result }
+    ensures room { vec_capacity all.old ≤ vec_capacity all.new }
+{
+    let regs = &mut all[process as usize - 1];
+    entry(core, regs, next, called)
+}

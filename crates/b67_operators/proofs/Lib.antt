@@ -1,0 +1,7 @@
+pub mod Accidents
+pub mod Callings
+pub mod Choices
+pub mod Leaves
+pub mod Loads
+pub mod Subscripts
+pub mod TaskEvents

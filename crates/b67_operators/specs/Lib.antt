@@ -1,0 +1,4 @@
+pub mod Arrays
+pub mod Entries
+pub mod Leaves
+pub mod Stages

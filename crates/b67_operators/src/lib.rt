@@ -1,0 +1,25 @@
+//! The operators that act: those that read or write more than the private part of their own process.
+//!
+//! Each function performs one operator of the table for any code. It first reads, and an error is what stops it: an
+//! interrupt, a fault, or the stack limit, in the table's order; then nothing has changed. The operators are modelled
+//! on the Burroughs B6700's (Organick 1973); their effects are this project's profile.
+#![tactic(auto)]
+
+mod branching;
+mod calling;
+mod entering;
+mod indexing;
+mod leaving;
+mod loading;
+mod storing;
+
+pub use branching::turn;
+pub use calling::{Called, enter_does_what_it_calls, entry, find_called};
+pub use entering::{accidental, evaluate, stop_by, value_call};
+pub use indexing::{index, index_and_load, index_mother};
+pub use leaving::{exit, return_value};
+pub use loading::{load_through, load_value, operand_pushed};
+pub use storing::store;
+
+#[cfg(test)]
+mod tests;

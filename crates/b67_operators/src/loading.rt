@@ -1,0 +1,113 @@
+//! Operators that put a word on the stack that lies elsewhere: LODT, LOAD, and VALC on an operand.
+
+ghost use Rattle.std.specs.Prelude.{◌≡◌, ◌||◌, ◌==◌, ◌+◌, ◌≤◌, OnOk, ℕ};
+ghost use Rattle.b67_table.specs.Rows.{is_passed, load_through, load_value, loaded, operand_pushed, value_pushed};
+ghost use Rattle.b67_table.specs.Arrays.{as_indexed};
+ghost use Rattle.b67_operators.specs.Stages.{operand_replaces};
+ghost use Rattle.b67_reach.specs.Images.{own};
+ghost use Rattle.b67_reach.specs.Answers.{IsReady, Performs, Tells};
+
+use b67_control::Sirw;
+use b67_reach::{
+    Reached, Registers, Stop, as_indexed, cell_of, element, invalid, is_operand, named, popped,
+    reached, replaced,
+};
+use b67_store::{Core, MOST_STACK_WORDS};
+use b67_word::Word;
+
+// Tests that LODT passes a word on: an operand or a SIRW.
+fn is_passed(word: Word) -> bool
+    ensures { result ≡ is_passed word }
+{
+    is_operand(word) || Sirw::unpack(word).is_some()
+}
+
+/// LODT: the reference on top is replaced by the word that it names, an operand or a SIRW.
+pub fn load_through<C: Core>(core: &mut C, regs: &mut Registers, next: u16) -> Result<(), Stop>
+    requires { IsReady (C.Core.stacks core.old) regs.old }
+    ensures { Performs (load_through regs.old next) (own (C.Core.stacks core.old) (C.Core.rows core.old) regs.old) (own (C.Core.stacks core.new) (C.Core.rows core.new) regs.new) result }
+{
+    let x = popped(core, regs)?;
+    let found = named(core, cell_of(regs, x))?;
+    if !is_passed(found.word) {
+        return Err(invalid());
+    }
+    replaced(core, regs, next, 1, found.word);
+    Ok(())
+}
+
+// The word of an indexed descriptor's element, or what a reference reaches.
+fn loaded<C: Core>(core: &C, regs: &Registers, x: Word) -> Result<Word, Stop>
+    ensures { Tells (loaded regs.now x (as_indexed x)) (C.Core.stacks core.now) (C.Core.rows core.now) result }
+{
+    match as_indexed(x) {
+        Some(descriptor) => element(core, descriptor.address, descriptor.length),
+        None => Ok(reached(core, cell_of(regs, x))?.word),
+    }
+}
+
+/// An operand takes the place of so many words on top, as LOAD and NXLV end.
+pub fn operand_replaces<C: Core>(
+    core: &mut C,
+    regs: &mut Registers,
+    next: u16,
+    count: u32,
+    word: Word,
+) -> Result<(), Stop>
+    requires ready { IsReady (C.Core.stacks core.old) regs.old }
+    requires some { (1 ≤ count) × (count ≤ regs.old.s) }
+    ensures { Performs (operand_replaces regs.old next count word) (own (C.Core.stacks core.old) (C.Core.rows core.old) regs.old) (own (C.Core.stacks core.new) (C.Core.rows core.new) regs.new) result }
+{
+    if is_operand(word) {
+        replaced(core, regs, next, count, word);
+        Ok(())
+    } else {
+        Err(invalid())
+    }
+}
+
+/// LOAD: the reference or the indexed descriptor on top is replaced by the operand that it reaches.
+pub fn load_value<C: Core>(core: &mut C, regs: &mut Registers, next: u16) -> Result<(), Stop>
+    requires { IsReady (C.Core.stacks core.old) regs.old }
+    ensures { Performs (load_value regs.old next) (own (C.Core.stacks core.old) (C.Core.rows core.old) regs.old) (own (C.Core.stacks core.new) (C.Core.rows core.new) regs.new) result }
+{
+    let x = popped(core, regs)?;
+    let word = loaded(core, regs, x)?;
+    operand_replaces(core, regs, next, 1, word)
+}
+
+// A word is pushed, where its stack has room.
+fn value_pushed<C: Core>(
+    core: &mut C,
+    regs: &mut Registers,
+    next: u16,
+    word: Word,
+) -> Result<(), Stop>
+    requires { IsReady (C.Core.stacks core.old) regs.old }
+    ensures { Performs (value_pushed regs.old next word) (own (C.Core.stacks core.old) (C.Core.rows core.old) regs.old) (own (C.Core.stacks core.new) (C.Core.rows core.new) regs.new) result }
+{
+    if regs.s as usize == MOST_STACK_WORDS {
+        return Err(Stop::StackLimit);
+    }
+    core.push(regs.stack, word).unwrap();
+    regs.s += 1;
+    regs.place = next;
+    Ok(())
+}
+
+/// VALC where it reaches no PCW: the operand that was reached is pushed.
+pub fn operand_pushed<C: Core>(
+    core: &mut C,
+    regs: &mut Registers,
+    next: u16,
+    found: Reached,
+) -> Result<(), Stop>
+    requires { IsReady (C.Core.stacks core.old) regs.old }
+    ensures { Performs (operand_pushed regs.old next found) (own (C.Core.stacks core.old) (C.Core.rows core.old) regs.old) (own (C.Core.stacks core.new) (C.Core.rows core.new) regs.new) result }
+{
+    if is_operand(found.word) {
+        value_pushed(core, regs, next, found.word)
+    } else {
+        Err(invalid())
+    }
+}
