@@ -10,6 +10,8 @@ mod operator;
 mod reader;
 mod stop;
 mod take;
+#[cfg(test)]
+mod tests;
 mod whole;
 
 pub use whole::{read_expr, read_whole};
