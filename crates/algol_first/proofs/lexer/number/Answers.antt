@@ -1,4 +1,4 @@
-use Rattle.std.proofs.Common.{◌≤◌, ℤ, ◌×◌, sym, subst, unsigned_abs}
+use Rattle.std.proofs.Common.{◌≤◌, ℤ, sym, subst, unsigned_abs}
 use Rattle.b67_num.specs.Whole.{most}
 use Rattle.algol_tree.specs.declared.token.TokenKind.TheVariants as kinds
 use Rattle.algol_tree.specs.Spelling.{Spells}
