@@ -75,7 +75,7 @@ counted (begun l) c = inside 1
 counted l outside = outside
 counted l (inside c) = inside (c + 1)
 
--- whether a token and the one before it keep the limits
+-- whether a token, and the one before it, have to keep the limits
 pub record Judged : Type 0 where
   pub here : Bool
   pub before : Bool
