@@ -22,3 +22,4 @@ pub mod SeenScope
 pub mod SeenExpression
 pub mod SeenStatement
 pub mod SeenRest
+pub mod Shown

@@ -1,5 +1,6 @@
-ghost use Rattle.std.specs.Prelude.{◌≡◌, [], ◌∷◌, ◌++◌, IfOk};
+ghost use Rattle.std.specs.Prelude.{◌≡◌, [], ◌∷◌, ◌++◌, slice_get, IfOk};
 ghost use Rattle.algol_meaning.specs.SeenStack.{Popped};
+ghost use Rattle.algol_meaning.specs.Shown.{shown};
 
 use b67_list::List;
 use std::alloc::{AllocError, Global};
@@ -47,6 +48,14 @@ impl<T> Stack<T> {
         ensures { Popped result self.old self.new }
     {
         self.items.pop()
+    }
+
+    /// The item before which so many newer ones stand.
+    pub fn under(&self, newer: usize) -> Option<&T>
+        ensures { shown result ≡ slice_get self.now newer }
+    {
+        let place = self.items.len().checked_sub(newer)?.checked_sub(1)?;
+        self.items.get(place)
     }
 
     /// No items.
