@@ -1,0 +1,32 @@
+-- A process that is able stays as it is where others are released.
+use Rattle.std.proofs.Common.{◌≡◌, ℕ, zero, suc, true, List, [], ◌∷◌, ap, sym, ◌∙◌, Option, Some, None}
+use Rattle.b67_list.specs.Numbered.{numbered, set_numbered}
+use Rattle.algol_meaning.specs.Value as plain
+use Rattle.algol_meaning.specs.World as world
+use Rattle.algol_meaning.specs.World.{World, Process, or_no_process, set_able, set_all_able}
+use Rattle.algol_meaning.specs.Events.{event_at, caused_by_end, set_event}
+
+able_after : (xs : List Process) (n m : ℕ) (q : Process) → numbered xs m ≡ Some q → q.state ≡ world.able
+    → numbered (set_numbered xs n (record (or_no_process (numbered xs n)) { state = world.able })) m ≡ Some q
+able_after xs zero m q e s = e
+able_after xs (suc n) zero q e s = cc
+able_after [] (suc n) (suc m) q e s = e
+able_after (x ∷ xs) (suc zero) (suc zero) q e s =
+    let p : x ≡ q = cc in
+    ap Some (ap (λ (y : Process). record y { state = world.able }) p ∙ ap (λ (t : world.State). record q { state = t }) (sym s))
+able_after (x ∷ xs) (suc zero) (suc (suc m)) q e s = e
+able_after (x ∷ xs) (suc (suc n)) (suc zero) q e s = e
+able_after (x ∷ xs) (suc (suc n)) (suc (suc m)) q e s = able_after xs (suc n) (suc m) q e s
+
+able_stays :
+    (w : World) (ps : List ℕ) (p : ℕ) (q : Process) → numbered w.processes p ≡ Some q → q.state ≡ world.able
+    → numbered ((set_all_able w ps).processes) p ≡ Some q
+able_stays w [] p q e s = e
+able_stays w (n ∷ ps) p q e s = able_stays (set_able w n) ps p q (able_after w.processes n p q e s) s
+
+pub caused_stays :
+    (w : World) (p : ℕ) (q : Process) (task : Option plain.Reference) → numbered w.processes p ≡ Some q → q.state ≡ world.able
+    → numbered ((caused_by_end w task).world.processes) p ≡ Some q
+caused_stays w p q None e s = e
+caused_stays w p q (Some r) e s =
+    able_stays (set_event w r (record (event_at w r) { happened = true; waiters = [] })) ((event_at w r).waiters) p q e s

@@ -1,0 +1,63 @@
+//! The world of a run.
+
+use crate::instance::Instance;
+use algol_meaning::{Reference, Rest, Scopes, Stack};
+use algol_tree::{Line, List};
+use b67_num::FaultKind;
+
+/// What a part is for.
+#[derive(Clone, Copy, PartialEq, Eq)]
+pub enum Purpose {
+    Block,
+    Procedure,
+    /// The evaluation of a name for its value.
+    NameRead,
+    /// The evaluation of a name for its place.
+    NamePlace,
+    /// The body of a process that was started.
+    Started,
+}
+
+/// A part of what a process has to do: the instance in which it goes on, and what is still to be done.
+#[derive(Drop)]
+pub struct Part<'p> {
+    pub instance: usize,
+    pub purpose: Purpose,
+    pub rest: Rest<'p>,
+}
+
+/// Whether a process can go on, and what it waits for.
+#[derive(Clone, Copy)]
+pub enum State<'p> {
+    Able,
+    WaitsFor(Reference<'p>),
+    Procures(Reference<'p>),
+    Ended,
+}
+
+/// A process: its parts with the innermost newest, the instance on whose life it depends, and its task.
+#[derive(Drop)]
+pub struct Process<'p> {
+    pub todo: Stack<Part<'p>>,
+    pub critical: Option<usize>,
+    pub task: Option<Reference<'p>>,
+    pub state: State<'p>,
+}
+
+/// The fault that ended a run, and the process in which it came.
+#[derive(Clone, Copy, PartialEq, Eq)]
+pub struct WorldFault {
+    pub kind: FaultKind,
+    pub process: usize,
+}
+
+/// The world of a run: instances and processes, numbered from 1, the lines written, and the fault that ended it,
+/// beside the scopes of the tree that is run.
+#[derive(Drop)]
+pub struct World<'p> {
+    pub scopes: Scopes<'p>,
+    pub instances: List<Instance<'p>>,
+    pub processes: List<Process<'p>>,
+    pub output: List<Line>,
+    pub fault: Option<WorldFault>,
+}
