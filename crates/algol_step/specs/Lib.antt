@@ -1,8 +1,1 @@
-pub mod SeenInstance
-pub mod SeenAction
-pub mod SeenWorld
-pub mod SeenArray
 pub mod Effects
-pub mod Going
-pub mod SeenActed
-pub mod Leaving

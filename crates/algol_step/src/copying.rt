@@ -2,11 +2,11 @@
 
 ghost use Rattle.std.specs.Prelude.{◌≡◌, IfOk};
 ghost use Rattle.algol_meaning.specs.SeenExpression as seen;
-ghost use Rattle.algol_step.specs.SeenInstance.{cell_or_none};
+ghost use Rattle.algol_world.specs.SeenInstance.{cell_or_none};
 
 use crate::lists::copied;
 use algol_meaning::{ArrayCell, Cell, EventCell, Value};
-use b67_num::Whole;
+use algol_tree::Whole;
 use std::alloc::{AllocError, Global};
 
 /// A copy of an event.

@@ -1,16 +1,13 @@
 //! What an action does, once all that it reads is known.
 
-use crate::action::Action;
-use crate::world::Part;
-use algol_meaning::{Answer, Bounds, Cell, Reference, Value};
-use algol_tree::{EventAct, Kind, Line, List, Named};
+use algol_meaning::{Answer, Cell, Reference, Value};
+use algol_tree::{EventAct, List, Named};
+use algol_world::{Action, Part};
 use b67_num::FaultKind;
 
 /// What the action of a part does to the world.
 #[derive(Drop)]
 pub enum Effect<'p> {
-    /// The part has no head of its own: nothing is done.
-    Stays,
     /// The part goes on with this answer.
     Goes(Action, Answer<'p>),
     Stores(Reference<'p>, Value),
@@ -18,8 +15,6 @@ pub enum Effect<'p> {
     StoresElement(Reference<'p>, List<usize>, Value),
     /// A name is evaluated by a part inside.
     Evaluates(Part<'p>),
-    /// The entry of a block, by its number.
-    EntersBlock(usize),
     /// The entry of a procedure: its block, the instance around it, and what its parameters hold.
     EntersProcedure(usize, usize, Vec<Cell<'p>>),
     Leaves(Answer<'p>),
@@ -28,9 +23,6 @@ pub enum Effect<'p> {
     /// The start of a process: its block, the instance around it, what its parameters hold, and its task.
     Starts(usize, usize, Vec<Cell<'p>>, Option<Reference<'p>>),
     Acts(EventAct, Reference<'p>),
-    Writes(Line),
-    /// Arrays with these names and bounds, which have their right sizes and room.
-    MakesArrays(Kind, &'p [Named], List<Bounds>),
     MakesEvent(&'p Named),
     Fails(FaultKind),
 }

@@ -1,25 +1,24 @@
 //! What the heads of expressions and places do: subscripts, elements, events and names.
 
 ghost use Rattle.std.specs.Prelude.{◌≡◌, ◌++◌, ◌∷◌, [], IfOk};
-ghost use Rattle.algol_meaning.specs.World as world;
+ghost use Rattle.algol_meaning.specs.World as plain;
 ghost use Rattle.algol_meaning.specs.Asks as asks;
 ghost use Rattle.algol_meaning.specs.Choice as choices;
 ghost use Rattle.algol_meaning.specs.SeenTree.{expr};
 ghost use Rattle.algol_meaning.specs.SeenValue.{value};
 ghost use Rattle.algol_meaning.specs.SeenExpression.{reference};
-ghost use Rattle.algol_step.specs.SeenInstance.{cell_or_none};
-ghost use Rattle.algol_step.specs.SeenWorld.{world_of};
+ghost use Rattle.algol_world.specs.SeenWorld.{world_of};
 ghost use Rattle.algol_step.specs.Effects.{asked_choice, effect_choice};
 
-use crate::action::Action;
-use crate::array::{element_at, subscript_place};
 use crate::copying::copy_cell;
+use crate::deciding::here;
 use crate::effect::Effect;
-use crate::instance::cell_at;
 use crate::lists::{copied, has_items};
-use crate::world::{Part, Purpose, World};
 use algol_meaning::{Answer, Cell, Place, Reference, Rest, Value, append, whole_of};
 use algol_tree::{Expr, List, Named};
+use algol_world::{
+    Action, Part, Purpose, World, cell_at, element_at, has_happened, subscript_place,
+};
 use b67_num::FaultKind;
 use std::alloc::{AllocError, Global};
 
@@ -30,16 +29,6 @@ fn with_last(alloc: Global, before: &[usize], last: usize) -> Result<List<usize>
     let mut all = copied(alloc, before)?;
     append(&mut all, last)?;
     Ok(all)
-}
-
-/// Whether the event of a cell has happened.
-pub fn has_happened(cell: Option<&Cell<'_>>) -> bool
-    ensures { result ≡ (world.event_in (cell_or_none cell.entry)).happened }
-{
-    match cell {
-        Some(Cell::Event(event)) => event.happened,
-        _ => false,
-    }
 }
 
 /// Tests that an actual is a variable with subscripts.
@@ -53,118 +42,121 @@ fn is_subscripted(actual: &Expr) -> bool
     }
 }
 
-impl<'p> World<'p> {
-    /// What a Reference leads to: where its cell holds a Reference itself, that is followed.
-    pub fn followed(&self, r: Reference<'p>) -> Reference<'p>
-        ensures { reference result ≡ world.followed (world_of self.now) (reference r.entry) }
-    {
-        match cell_at(&self.instances, r) {
-            Some(Cell::Reference(s)) => *s,
-            _ => r,
+/// What a Reference leads to: where its cell holds a Reference itself, that is followed.
+pub fn followed<'p>(world: &World<'p>, r: Reference<'p>) -> Reference<'p>
+    ensures { reference result ≡ plain.followed (world_of world.now) (reference r.entry) }
+{
+    match cell_at(&world.instances, r) {
+        Some(Cell::Reference(s)) => *s,
+        _ => r,
+    }
+}
+
+/// The reading of an element with its last subscript.
+pub fn decide_read_element<'p>(
+    world: &World<'p>,
+    alloc: Global,
+    process: usize,
+    part: &Part<'p>,
+    n: &'p Named,
+    before: &[usize],
+    last: Value,
+) -> Result<Effect<'p>, AllocError>
+    ensures { IfOk result (λ e. asked_choice world.now process part.now (asks.reads_element n.now before.now (value last)) ≡ effect_choice world.now process part.now e) }
+{
+    let cell = cell_at(&world.instances, followed(world, here(world, part, n)));
+    let sort = world.scopes.use_of(n).sort;
+    match subscript_place(sort, cell, before, whole_of(last).number()) {
+        None => Ok(Effect::Fails(FaultKind::InvalidIndex)),
+        Some(k) => {
+            let all = with_last(alloc, before, k)?;
+            let read = element_at(cell, all.items());
+            Ok(Effect::Goes(Action::ElementRead, Answer::Value(read)))
         }
     }
+}
 
-    /// The reading of an element with its last subscript.
-    pub fn read_element(
-        &self,
-        alloc: Global,
-        process: usize,
-        part: &Part<'p>,
-        n: &'p Named,
-        before: &[usize],
-        last: Value,
-    ) -> Result<Effect<'p>, AllocError>
-        ensures { IfOk result (λ e. asked_choice self.now process part.now (asks.reads_element n.now before.now (value last)) ≡ effect_choice self.now process part.now e) }
-    {
-        let cell = cell_at(&self.instances, self.followed(self.here(part, n)));
-        let sort = self.scopes.use_of(n).sort;
-        match subscript_place(sort, cell, before, whole_of(last).number()) {
-            None => Ok(Effect::Fails(FaultKind::InvalidIndex)),
-            Some(k) => {
-                let all = with_last(alloc, before, k)?;
-                let read = element_at(cell, all.items());
-                Ok(Effect::Goes(Action::ElementRead, Answer::Value(read)))
-            }
+/// A subscript that others follow, or the last one of a place.
+pub fn decide_index<'p>(
+    world: &World<'p>,
+    alloc: Global,
+    process: usize,
+    part: &Part<'p>,
+    n: &'p Named,
+    before: &[usize],
+    last: Value,
+) -> Result<Effect<'p>, AllocError>
+    ensures { IfOk result (λ e. asked_choice world.now process part.now (asks.indexes n.now before.now (value last)) ≡ effect_choice world.now process part.now e) }
+{
+    let r = followed(world, here(world, part, n));
+    let sort = world.scopes.use_of(n).sort;
+    let cell = cell_at(&world.instances, r);
+    match subscript_place(sort, cell, before, whole_of(last).number()) {
+        None => Ok(Effect::Fails(FaultKind::InvalidIndex)),
+        Some(k) => {
+            let all = with_last(alloc, before, k)?;
+            Ok(Effect::Goes(Action::Index, Answer::Place(Place::ElementOf(r, all))))
         }
     }
+}
 
-    /// A subscript that others follow, or the last one of a place.
-    pub fn index(
-        &self,
-        alloc: Global,
-        process: usize,
-        part: &Part<'p>,
-        n: &'p Named,
-        before: &[usize],
-        last: Value,
-    ) -> Result<Effect<'p>, AllocError>
-        ensures { IfOk result (λ e. asked_choice self.now process part.now (asks.indexes n.now before.now (value last)) ≡ effect_choice self.now process part.now e) }
-    {
-        let r = self.followed(self.here(part, n));
-        let sort = self.scopes.use_of(n).sort;
-        let cell = cell_at(&self.instances, r);
-        match subscript_place(sort, cell, before, whole_of(last).number()) {
-            None => Ok(Effect::Fails(FaultKind::InvalidIndex)),
-            Some(k) => {
-                let all = with_last(alloc, before, k)?;
-                Ok(Effect::Goes(Action::Index, Answer::Place(Place::ElementOf(r, all))))
+/// The test of an event.
+pub fn decide_happened<'p>(
+    world: &World<'p>,
+    process: usize,
+    part: &Part<'p>,
+    n: &'p Named,
+) -> Effect<'p>
+    ensures { asked_choice world.now process part.now (asks.asks_happened n.now) ≡ effect_choice world.now process part.now result }
+{
+    let cell = cell_at(&world.instances, followed(world, here(world, part, n)));
+    Effect::Goes(
+        Action::Happened,
+        Answer::Value(Value::Truth(has_happened(cell))),
+    )
+}
+
+/// The passing of a parameter's own cell.
+pub fn decide_pass<'p>(
+    world: &World<'p>,
+    alloc: Global,
+    process: usize,
+    part: &Part<'p>,
+    n: &'p Named,
+) -> Result<Effect<'p>, AllocError>
+    ensures { IfOk result (λ e. asked_choice world.now process part.now (asks.passes n.now) ≡ effect_choice world.now process part.now e) }
+{
+    let cell = copy_cell(alloc, cell_at(&world.instances, here(world, part, n)))?;
+    Ok(Effect::Goes(Action::Pass, Answer::Cell(cell)))
+}
+
+/// The place of a name parameter.
+pub fn decide_resolve<'p>(
+    world: &World<'p>,
+    alloc: Global,
+    process: usize,
+    part: &Part<'p>,
+    n: &'p Named,
+) -> Result<Effect<'p>, AllocError>
+    ensures { IfOk result (λ e. asked_choice world.now process part.now (asks.resolves n.now) ≡ effect_choice world.now process part.now e) }
+{
+    let here = here(world, part, n);
+    match cell_at(&world.instances, here) {
+        Some(Cell::Named(actual, instance)) => {
+            if is_subscripted(*actual) {
+                let rest = Rest::of_place(alloc, &world.scopes, *actual)?;
+                Ok(Effect::Evaluates(Part {
+                    instance: *instance,
+                    purpose: Purpose::NamePlace,
+                    rest,
+                }))
+            } else {
+                Ok(Effect::Fails(FaultKind::NotAVariable))
             }
         }
-    }
-
-    /// The test of an event.
-    pub fn test_event(&self, process: usize, part: &Part<'p>, n: &'p Named) -> Effect<'p>
-        ensures { asked_choice self.now process part.now (asks.asks_happened n.now) ≡ effect_choice self.now process part.now result }
-    {
-        let cell = cell_at(&self.instances, self.followed(self.here(part, n)));
-        Effect::Goes(
-            Action::Happened,
-            Answer::Value(Value::Truth(has_happened(cell))),
-        )
-    }
-
-    /// The passing of a parameter's own cell.
-    pub fn pass(
-        &self,
-        alloc: Global,
-        process: usize,
-        part: &Part<'p>,
-        n: &'p Named,
-    ) -> Result<Effect<'p>, AllocError>
-        ensures { IfOk result (λ e. asked_choice self.now process part.now (asks.passes n.now) ≡ effect_choice self.now process part.now e) }
-    {
-        let cell = copy_cell(alloc, cell_at(&self.instances, self.here(part, n)))?;
-        Ok(Effect::Goes(Action::Pass, Answer::Cell(cell)))
-    }
-
-    /// The place of a name parameter.
-    pub fn resolve(
-        &self,
-        alloc: Global,
-        process: usize,
-        part: &Part<'p>,
-        n: &'p Named,
-    ) -> Result<Effect<'p>, AllocError>
-        ensures { IfOk result (λ e. asked_choice self.now process part.now (asks.resolves n.now) ≡ effect_choice self.now process part.now e) }
-    {
-        let here = self.here(part, n);
-        match cell_at(&self.instances, here) {
-            Some(Cell::Named(actual, instance)) => {
-                if is_subscripted(*actual) {
-                    let rest = Rest::of_place(alloc, &self.scopes, *actual)?;
-                    Ok(Effect::Evaluates(Part {
-                        instance: *instance,
-                        purpose: Purpose::NamePlace,
-                        rest,
-                    }))
-                } else {
-                    Ok(Effect::Fails(FaultKind::NotAVariable))
-                }
-            }
-            Some(Cell::Reference(r)) => {
-                Ok(Effect::Goes(Action::Resolve, Answer::Place(Place::There(*r))))
-            }
-            _ => Ok(Effect::Goes(Action::Resolve, Answer::Place(Place::There(here)))),
+        Some(Cell::Reference(r)) => {
+            Ok(Effect::Goes(Action::Resolve, Answer::Place(Place::There(*r))))
         }
+        _ => Ok(Effect::Goes(Action::Resolve, Answer::Place(Place::There(here)))),
     }
 }

@@ -1,26 +1,21 @@
-//! The world of a run, its first state and its one step.
+//! What each head of a part does, decided from the world as it stands.
 #![tactic(auto)]
 
-mod acted;
-mod action;
-mod array;
 mod calling;
 mod copying;
 mod deciding;
 mod effect;
 mod evaluating;
-mod event;
-mod eventful;
-mod exiting;
-mod instance;
-mod leaving;
 mod lists;
-mod process;
 mod stating;
-mod storing;
-mod world;
 
-pub use acted::Acted;
-pub use action::Action;
-pub use instance::{Instance, NamedCell};
-pub use world::{Part, Process, Purpose, State, World, WorldFault};
+pub use calling::{decide_enter, decide_start};
+pub use deciding::{decide_read, decide_read_result};
+pub use effect::Effect;
+pub use evaluating::{
+    decide_happened, decide_index, decide_pass, decide_read_element, decide_resolve,
+};
+pub use stating::{
+    decide_act, decide_event, decide_fault, decide_giving, decide_giving_place, decide_go_to,
+    decide_leaving, decide_store, decide_turn,
+};

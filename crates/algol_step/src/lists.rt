@@ -1,25 +1,9 @@
 //! Lists, as they are read and copied.
 
-ghost use Rattle.std.specs.Prelude.{◌≡◌, [], ◌∷◌, length, nat_lt, slice_get, IfOk};
-ghost use Rattle.algol_meaning.specs.SeenStack.{Popped};
-ghost use Rattle.algol_meaning.specs.Shown.{shown};
+ghost use Rattle.std.specs.Prelude.{◌≡◌, length, nat_lt, IfOk};
 
 use algol_tree::List;
 use std::alloc::{AllocError, Global};
-
-/// The item at that place.
-pub fn item<T>(list: &List<T>, place: usize) -> Option<&T>
-    ensures { shown result ≡ slice_get list.now place }
-{
-    list.items().get(place)
-}
-
-/// A list without items.
-pub fn no_items<T>(alloc: Global) -> List<T>
-    ensures { result ≡ [] }
-{
-    List::of(Vec::new(alloc))
-}
 
 /// A list of these items.
 pub fn copied<T: Copy>(alloc: Global, items: &[T]) -> Result<List<T>, AllocError>
@@ -35,24 +19,4 @@ pub fn has_items<T>(list: &List<T>) -> bool
     ensures { result ≡ nat_lt 0 (length list.now) }
 {
     list.items().len() > 0
-}
-
-/// The first item, out of its list.
-pub fn take_first(list: &mut List<usize>) -> Option<usize>
-    ensures { Popped result list.old list.new }
-{
-    if list.items().is_empty() {
-        None
-    } else {
-        Some(list.items_mut().remove(0))
-    }
-}
-
-/// A list of one item.
-pub fn one_item(alloc: Global, item: usize) -> Result<List<usize>, AllocError>
-    ensures { IfOk result (λ list. list ≡ item ∷ []) }
-{
-    let mut list = Vec::new(alloc);
-    list.push(item)?;
-    Ok(List::of(list))
 }

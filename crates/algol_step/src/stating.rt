@@ -7,12 +7,13 @@ ghost use Rattle.algol_meaning.specs.SeenValue.{value};
 ghost use Rattle.algol_meaning.specs.SeenExpression as seen;
 ghost use Rattle.algol_step.specs.Effects.{asked_choice, effect_choice};
 
-use crate::action::Action;
+use crate::deciding::here;
 use crate::effect::Effect;
+use crate::evaluating::followed;
 use crate::lists::copied;
-use crate::world::{Part, World};
 use algol_meaning::{Answer, Place, Value};
 use algol_tree::{EventAct, Named};
+use algol_world::{Action, Part, World};
 use b67_num::{FaultKind, NumFault};
 use std::alloc::{AllocError, Global};
 
@@ -29,92 +30,105 @@ fn copy_place<'p>(alloc: Global, place: &Place<'p>) -> Result<Place<'p>, AllocEr
     }
 }
 
-impl<'p> World<'p> {
-    /// The storing of a value.
-    pub fn decide_store(
-        &self,
-        alloc: Global,
-        process: usize,
-        part: &Part<'p>,
-        place: &Place<'p>,
-        v: Value,
-    ) -> Result<Effect<'p>, AllocError>
-        ensures { IfOk result (λ e. asked_choice self.now process part.now (asks.stores (seen.place place.now) (value v)) ≡ effect_choice self.now process part.now e) }
-    {
-        match place {
-            Place::Own(n) => Ok(Effect::Stores(self.here(part, *n), v)),
-            Place::There(r) => Ok(Effect::Stores(*r, v)),
-            Place::ElementOf(r, subscripts) => {
-                Ok(Effect::StoresElement(*r, copied(alloc, subscripts.items())?, v))
-            }
+/// The storing of a value.
+pub fn decide_store<'p>(
+    world: &World<'p>,
+    alloc: Global,
+    process: usize,
+    part: &Part<'p>,
+    place: &Place<'p>,
+    v: Value,
+) -> Result<Effect<'p>, AllocError>
+    ensures { IfOk result (λ e. asked_choice world.now process part.now (asks.stores (seen.place place.now) (value v)) ≡ effect_choice world.now process part.now e) }
+{
+    match place {
+        Place::Own(n) => Ok(Effect::Stores(here(world, part, *n), v)),
+        Place::There(r) => Ok(Effect::Stores(*r, v)),
+        Place::ElementOf(r, subscripts) => {
+            Ok(Effect::StoresElement(*r, copied(alloc, subscripts.items())?, v))
         }
     }
+}
 
-    /// A turn of a loop.
-    pub fn decide_turn(&self, process: usize, part: &Part<'p>) -> Effect<'p>
-        ensures { asked_choice self.now process part.now asks.turns ≡ effect_choice self.now process part.now result }
-    {
-        Effect::Goes(Action::Turn, Answer::Done)
-    }
+/// A turn of a loop.
+pub fn decide_turn<'p>(world: &World<'p>, process: usize, part: &Part<'p>) -> Effect<'p>
+    ensures { asked_choice world.now process part.now asks.turns ≡ effect_choice world.now process part.now result }
+{
+    Effect::Goes(Action::Turn, Answer::Done)
+}
 
-    /// GO TO a label.
-    pub fn decide_go_to(&self, process: usize, part: &Part<'p>, n: &'p Named) -> Effect<'p>
-        ensures { asked_choice self.now process part.now (asks.goes_to n.now) ≡ effect_choice self.now process part.now result }
-    {
-        Effect::GoesTo(n, self.here(part, n).instance)
-    }
+/// GO TO a label.
+pub fn decide_go_to<'p>(
+    world: &World<'p>,
+    process: usize,
+    part: &Part<'p>,
+    n: &'p Named,
+) -> Effect<'p>
+    ensures { asked_choice world.now process part.now (asks.goes_to n.now) ≡ effect_choice world.now process part.now result }
+{
+    Effect::GoesTo(n, here(world, part, n).instance)
+}
 
-    /// A statement on an event.
-    pub fn decide_act(
-        &self,
-        process: usize,
-        part: &Part<'p>,
-        act: EventAct,
-        n: &'p Named,
-    ) -> Effect<'p>
-        ensures { asked_choice self.now process part.now (asks.acts act n.now) ≡ effect_choice self.now process part.now result }
-    {
-        Effect::Acts(act, self.followed(self.here(part, n)))
-    }
+/// A statement on an event.
+pub fn decide_act<'p>(
+    world: &World<'p>,
+    process: usize,
+    part: &Part<'p>,
+    act: EventAct,
+    n: &'p Named,
+) -> Effect<'p>
+    ensures { asked_choice world.now process part.now (asks.acts act n.now) ≡ effect_choice world.now process part.now result }
+{
+    Effect::Acts(act, followed(world, here(world, part, n)))
+}
 
-    /// The making of an event.
-    pub fn decide_event(&self, process: usize, part: &Part<'p>, n: &'p Named) -> Effect<'p>
-        ensures { asked_choice self.now process part.now (asks.makes_event n.now) ≡ effect_choice self.now process part.now result }
-    {
-        Effect::MakesEvent(n)
-    }
+/// The making of an event.
+pub fn decide_event<'p>(
+    world: &World<'p>,
+    process: usize,
+    part: &Part<'p>,
+    n: &'p Named,
+) -> Effect<'p>
+    ensures { asked_choice world.now process part.now (asks.makes_event n.now) ≡ effect_choice world.now process part.now result }
+{
+    Effect::MakesEvent(n)
+}
 
-    /// An operator without a result.
-    pub fn decide_fault(&self, process: usize, part: &Part<'p>, fault: NumFault) -> Effect<'p>
-        ensures { asked_choice self.now process part.now (asks.fails fault) ≡ effect_choice self.now process part.now result }
-    {
-        Effect::Fails(FaultKind::from(fault))
-    }
+/// An operator without a result.
+pub fn decide_fault<'p>(
+    world: &World<'p>,
+    process: usize,
+    part: &Part<'p>,
+    fault: NumFault,
+) -> Effect<'p>
+    ensures { asked_choice world.now process part.now (asks.fails fault) ≡ effect_choice world.now process part.now result }
+{
+    Effect::Fails(FaultKind::from(fault))
+}
 
-    /// The leaving of a part, with nothing.
-    pub fn decide_leaving(&self, process: usize, part: &Part<'p>) -> Effect<'p>
-        ensures { asked_choice self.now process part.now (asks.leaves rest.done) ≡ effect_choice self.now process part.now result }
-    {
-        Effect::Leaves(Answer::Done)
-    }
+/// The leaving of a part, with nothing.
+pub fn decide_leaving<'p>(world: &World<'p>, process: usize, part: &Part<'p>) -> Effect<'p>
+    ensures { asked_choice world.now process part.now (asks.leaves rest.done) ≡ effect_choice world.now process part.now result }
+{
+    Effect::Leaves(Answer::Done)
+}
 
-    /// The leaving of a part, with a value.
-    pub fn decide_giving(&self, process: usize, part: &Part<'p>, v: Value) -> Effect<'p>
-        ensures { asked_choice self.now process part.now (asks.leaves (rest.value (value v))) ≡ effect_choice self.now process part.now result }
-    {
-        Effect::Leaves(Answer::Value(v))
-    }
+/// The leaving of a part, with a value.
+pub fn decide_giving<'p>(world: &World<'p>, process: usize, part: &Part<'p>, v: Value) -> Effect<'p>
+    ensures { asked_choice world.now process part.now (asks.leaves (rest.value (value v))) ≡ effect_choice world.now process part.now result }
+{
+    Effect::Leaves(Answer::Value(v))
+}
 
-    /// The leaving of a part, with a place.
-    pub fn decide_giving_place(
-        &self,
-        alloc: Global,
-        process: usize,
-        part: &Part<'p>,
-        place: &Place<'p>,
-    ) -> Result<Effect<'p>, AllocError>
-        ensures { IfOk result (λ e. asked_choice self.now process part.now (asks.leaves (rest.place (seen.place place.now))) ≡ effect_choice self.now process part.now e) }
-    {
-        Ok(Effect::Leaves(Answer::Place(copy_place(alloc, place)?)))
-    }
+/// The leaving of a part, with a place.
+pub fn decide_giving_place<'p>(
+    world: &World<'p>,
+    alloc: Global,
+    process: usize,
+    part: &Part<'p>,
+    place: &Place<'p>,
+) -> Result<Effect<'p>, AllocError>
+    ensures { IfOk result (λ e. asked_choice world.now process part.now (asks.leaves (rest.place (seen.place place.now))) ≡ effect_choice world.now process part.now e) }
+{
+    Ok(Effect::Leaves(Answer::Place(copy_place(alloc, place)?)))
 }

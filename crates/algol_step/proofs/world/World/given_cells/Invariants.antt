@@ -1,9 +1,0 @@
-use Rattle.std.proofs.Common.{◌≡◌, ◌++◌, drop, map}
-use Rattle.algol_meaning.specs.SeenExpression as seen
-use Rattle.algol_step.specs.Effects.{given_cells_in}
-use Rattle.algol_step.proofs.world.World.given_cells.Given as goal
-
-abbrev pub invariant-giving : goal.invariant-giving
-invariant-giving l =
-    map seen.cell l.cells.items ++ given_cells_in l.self l.process l.part (seen.all_done (drop l.given-index l.givens))
-    ≡ given_cells_in l.self l.process l.part (seen.all_done l.givens)

@@ -1,0 +1,10 @@
+pub mod Capping
+pub mod Numbering
+pub mod Cells
+pub mod Placing
+pub mod Elements
+pub mod Processes
+pub mod Setting
+pub mod Releasing
+pub mod Innermosts
+pub mod Exits

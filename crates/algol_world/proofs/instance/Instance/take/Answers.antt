@@ -1,0 +1,36 @@
+use Rattle.std.proofs.Common.{arith, ◌≡◌, ◌≤◌, ◌<◌, length, get_or, ap, ◌∙◌}
+use Rattle.algol_meaning.specs.World.{cells_with}
+use Rattle.algol_meaning.specs.SeenExpression as seen
+use Rattle.algol_world.specs.SeenInstance.{instance, named_cells, zero_cell}
+use Rattle.algol_world.proofs.Cells.{with_cell, with_no_cell, cell_in_at, cell_in_none, place_within}
+use Rattle.algol_world.proofs.instance.Instance.take.Goals as goal
+
+pub returns-in-None : goal.returns-in-None
+returns-in-None c =
+    let cells = c.args.self.now.cells in
+    record {
+      value = c.zero.ensures ∙ cell_in_none cells c.args.name.now c.in-None.ensures;
+      after = ap (λ (cs : _). record (instance c.args.self.now) { cells = cs }) (with_no_cell cells c.args.name.now zero_cell c.in-None.ensures);
+    }
+
+pub returns-in-None-get_mut : goal.returns-in-None-get_mut
+returns-in-None-get_mut c =
+    let past : length c.args.self.now.cells ≤ c.in-Some.at = rw (← c.items_mut.ensures.shows) c.in-None-get_mut.ensures.item.3 in
+    let within : c.in-Some.at < length c.args.self.now.cells = place_within c.args.self.now.cells c.args.name.now c.in-Some.at c.in-Some.ensures in
+    absurd (omega (arith, past, within))
+
+pub returns-in-Some-get_mut : goal.returns-in-Some-get_mut
+returns-in-Some-get_mut c =
+    let cells = c.args.self.now.cells in
+    let name = c.args.name.now in
+    let x = c.in-Some-get_mut.named.now in
+    let item = c.in-Some-get_mut.ensures.item in
+    let is : x ≡ get_or cells c.in-Some.at x = rw (← c.items_mut.ensures.shows) (item.3.1 x) in
+    let zero : seen.cell c.replace.new.dest ≡ zero_cell = ap seen.cell c.replace.ensures.after ∙ c.zero-in-Some-get_mut.ensures in
+    record {
+      value = ap seen.cell c.replace.ensures.value ∙ cell_in_at cells name c.in-Some.at x c.in-Some.ensures is;
+      after =
+          rw c.items_mut.ensures.shows
+          (ap (λ (cs : _). record (instance c.args.self.now) { cells = cs })
+          (with_cell cells name c.in-Some.at x c.replace.new.dest c.in-Some.ensures is ∙ ap (cells_with (named_cells cells) name) zero));
+    }

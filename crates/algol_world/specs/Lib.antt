@@ -1,0 +1,7 @@
+pub mod SeenInstance
+pub mod SeenAction
+pub mod SeenWorld
+pub mod SeenArray
+pub mod Going
+pub mod SeenActed
+pub mod Leaving

@@ -1,0 +1,145 @@
+//! What the event actions do to an event, and whom they release.
+
+ghost use Rattle.std.specs.Prelude.{◌≡◌, ◌∷◌, [], IfOk};
+ghost use Rattle.algol_meaning.specs.World as world;
+ghost use Rattle.algol_meaning.specs.Events as events;
+ghost use Rattle.algol_meaning.specs.SeenExpression as seen;
+ghost use Rattle.algol_meaning.specs.SeenExpression.{reference};
+ghost use Rattle.algol_world.specs.SeenInstance.{zero_cell};
+ghost use Rattle.algol_world.specs.SeenWorld.{world_of};
+
+use crate::instance::{set_cell, take_cell};
+use crate::lists::{no_items, one_item, take_first};
+use crate::world::World;
+use algol_meaning::{Cell, EventCell, Reference, append};
+use algol_tree::List;
+use std::alloc::{AllocError, Global};
+
+impl<'p> World<'p> {
+    /// Another content of a cell, nothing where there is no such cell.
+    pub fn set_cell(&mut self, r: Reference<'p>, cell: Cell<'p>)
+        ensures after { world_of self.new ≡ world.set_cell (world_of self.old) (reference r.entry) (seen.cell cell.entry) }
+        ensures same { self.new.scopes ≡ self.old.scopes }
+    {
+        set_cell(&mut self.instances, r, cell);
+    }
+
+    /// An event, out of its cell; one that has not happened where it is none.
+    fn take_event(&mut self, alloc: Global, r: Reference<'p>) -> EventCell
+        ensures value { seen.event result ≡ events.event_at (world_of self.old) (reference r.entry) }
+        ensures after { world_of self.new ≡ world.set_cell (world_of self.old) (reference r.entry) zero_cell }
+        ensures same { self.new.scopes ≡ self.old.scopes }
+    {
+        match take_cell(&mut self.instances, r) {
+            Cell::Event(event) => event,
+            _ => EventCell {
+                happened: false,
+                available: false,
+                waiters: no_items(alloc),
+                procurers: no_items(alloc),
+            },
+        }
+    }
+
+    /// CAUSE: the event has happened, and all who waited for it are released, in their order.
+    #[tactic(auto, using(crate::proofs::Setting::setting))]
+    pub fn cause(&mut self, alloc: Global, r: Reference<'p>) -> List<usize>
+        ensures released { result ≡ (events.caused (world_of self.old) (reference r.entry)).processes }
+        ensures after { world_of self.new ≡ (events.caused (world_of self.old) (reference r.entry)).world }
+        ensures same { self.new.scopes ≡ self.old.scopes }
+    {
+        let EventCell {
+            available,
+            waiters,
+            procurers,
+            happened: _,
+        } = self.take_event(alloc, r);
+        let event = EventCell {
+            happened: true,
+            available,
+            waiters: no_items(alloc),
+            procurers,
+        };
+        self.set_cell(r, Cell::Event(event));
+        self.release(waiters.items());
+        waiters
+    }
+
+    /// RESET: the event has not happened.
+    #[tactic(auto, using(crate::proofs::Setting::setting))]
+    pub fn reset(&mut self, alloc: Global, r: Reference<'p>)
+        ensures after { world_of self.new ≡ (events.reset (world_of self.old) (reference r.entry)).world }
+        ensures same { self.new.scopes ≡ self.old.scopes }
+    {
+        let mut event = self.take_event(alloc, r);
+        event.happened = false;
+        self.set_cell(r, Cell::Event(event));
+    }
+
+    /// A process waits for the event, after those that wait for it.
+    #[tactic(auto, using(crate::proofs::Setting::setting))]
+    pub fn add_waiter(
+        &mut self,
+        alloc: Global,
+        r: Reference<'p>,
+        number: usize,
+    ) -> Result<(), AllocError>
+        ensures after { IfOk result (λ _. world_of self.new ≡ events.with_waiter (world_of self.old) (reference r.entry) number) }
+        ensures same { self.new.scopes ≡ self.old.scopes }
+    {
+        let mut event = self.take_event(alloc, r);
+        append(&mut event.waiters, number)?;
+        self.set_cell(r, Cell::Event(event));
+        Ok(())
+    }
+
+    /// A process waits to procure the event, after those that wait for that.
+    #[tactic(auto, using(crate::proofs::Setting::setting))]
+    pub fn add_procurer(
+        &mut self,
+        alloc: Global,
+        r: Reference<'p>,
+        number: usize,
+    ) -> Result<(), AllocError>
+        ensures after { IfOk result (λ _. world_of self.new ≡ events.with_procurer (world_of self.old) (reference r.entry) number) }
+        ensures same { self.new.scopes ≡ self.old.scopes }
+    {
+        let mut event = self.take_event(alloc, r);
+        append(&mut event.procurers, number)?;
+        self.set_cell(r, Cell::Event(event));
+        Ok(())
+    }
+
+    /// The event is not available any more.
+    #[tactic(auto, using(crate::proofs::Setting::setting))]
+    pub fn take(&mut self, alloc: Global, r: Reference<'p>)
+        ensures after { world_of self.new ≡ events.taken (world_of self.old) (reference r.entry) }
+        ensures same { self.new.scopes ≡ self.old.scopes }
+    {
+        let mut event = self.take_event(alloc, r);
+        event.available = false;
+        self.set_cell(r, Cell::Event(event));
+    }
+
+    /// LIBERATE hands the event to who has waited longest to procure it, and makes it available where nobody waits.
+    #[tactic(auto, using(crate::proofs::Setting::setting))]
+    pub fn liberate(&mut self, alloc: Global, r: Reference<'p>) -> Result<List<usize>, AllocError>
+        ensures released { IfOk result (λ ps. ps ≡ (events.liberated (world_of self.old) (reference r.entry)).processes) }
+        ensures after { IfOk result (λ _. world_of self.new ≡ (events.liberated (world_of self.old) (reference r.entry)).world) }
+        ensures same { self.new.scopes ≡ self.old.scopes }
+    {
+        let mut event = self.take_event(alloc, r);
+        match take_first(&mut event.procurers) {
+            None => {
+                event.available = true;
+                self.set_cell(r, Cell::Event(event));
+                Ok(no_items(alloc))
+            }
+            Some(next) => {
+                self.set_cell(r, Cell::Event(event));
+                self.release(&[next]);
+                one_item(alloc, next)
+            }
+        }
+    }
+}

@@ -1,0 +1,22 @@
+//! The world of a run, and its changes: instances and their cells, processes, events, stores and the leaving of parts.
+#![tactic(auto)]
+
+mod acted;
+mod action;
+mod array;
+mod event;
+mod eventful;
+mod exiting;
+mod instance;
+mod leaving;
+mod lists;
+mod process;
+mod storing;
+mod world;
+
+pub use acted::Acted;
+pub use action::Action;
+pub use array::{element_at, subscript_place};
+pub use eventful::has_happened;
+pub use instance::{Instance, NamedCell, ancestor, cell_at};
+pub use world::{Part, Process, Purpose, State, World, WorldFault};

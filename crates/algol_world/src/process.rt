@@ -1,0 +1,149 @@
+//! How the parts of a process go on.
+
+ghost use Rattle.std.specs.Prelude.{◌≡◌, ◌∷◌, IfOk};
+ghost use Rattle.algol_meaning.specs.Rest as rest;
+ghost use Rattle.algol_meaning.specs.World as world;
+ghost use Rattle.algol_meaning.specs.SeenScope.{scoped};
+ghost use Rattle.algol_meaning.specs.SeenStatement.{answered};
+ghost use Rattle.algol_world.specs.SeenWorld.{part, process, state, world_of};
+ghost use Rattle.algol_world.specs.Going.{resumed, going, stopping, opening};
+
+use crate::instance::place;
+use crate::world::{Part, Process, State, World};
+use algol_meaning::{Answer, Scopes};
+use std::alloc::{AllocError, Global};
+
+impl<'p> Process<'p> {
+    /// The innermost part goes on with this answer.
+    fn go_on(
+        &mut self,
+        alloc: Global,
+        scopes: &Scopes<'p>,
+        answer: Answer<'p>,
+    ) -> Result<(), AllocError>
+        ensures { IfOk result (λ _. process (scoped scopes.now) self.new ≡ record (process (scoped scopes.now) self.old) { todo = resumed (scoped scopes.now) ((process (scoped scopes.now) self.old).todo) (answered answer.entry) }) }
+    {
+        if let Some(inner) = self.todo.pop() {
+            let Part {
+                instance,
+                purpose,
+                rest,
+            } = inner;
+            let rest = rest.resume(alloc, scopes, answer)?;
+            self.todo.push(Part {
+                instance,
+                purpose,
+                rest,
+            })?;
+        }
+        Ok(())
+    }
+
+    /// It goes on, and waits.
+    fn stop(
+        &mut self,
+        alloc: Global,
+        scopes: &Scopes<'p>,
+        until: State<'p>,
+    ) -> Result<(), AllocError>
+        ensures { IfOk result (λ _. process (scoped scopes.now) self.new ≡ record (process (scoped scopes.now) self.old) { todo = resumed (scoped scopes.now) ((process (scoped scopes.now) self.old).todo) rest.done; state = state until.entry }) }
+    {
+        self.go_on(alloc, scopes, Answer::Done)?;
+        self.state = until;
+        Ok(())
+    }
+
+    /// A part inside comes to be.
+    fn open(
+        &mut self,
+        alloc: Global,
+        scopes: &Scopes<'p>,
+        inner: Part<'p>,
+    ) -> Result<(), AllocError>
+        ensures { IfOk result (λ _. process (scoped scopes.now) self.new ≡ record (process (scoped scopes.now) self.old) { todo = part (scoped scopes.now) inner.entry ∷ resumed (scoped scopes.now) ((process (scoped scopes.now) self.old).todo) rest.entered }) }
+    {
+        self.go_on(alloc, scopes, Answer::Entered)?;
+        self.todo.push(inner)?;
+        Ok(())
+    }
+
+    /// It is able to go on.
+    fn release(&mut self, scopes: &Scopes<'p>)
+        ensures { process (scoped scopes.now) self.new ≡ record (process (scoped scopes.now) self.old) { state = world.able } }
+    {
+        self.state = State::Able;
+    }
+}
+
+impl<'p> World<'p> {
+    /// The innermost part of a process goes on with this answer.
+    pub fn goes(
+        &mut self,
+        alloc: Global,
+        number: usize,
+        answer: Answer<'p>,
+    ) -> Result<(), AllocError>
+        ensures went { IfOk result (λ _. world_of self.new ≡ going (scoped self.old.scopes) (world_of self.old) number (answered answer.entry)) }
+        ensures same { self.new.scopes ≡ self.old.scopes }
+    {
+        if let Some(at) = place(number) {
+            if let Some(q) = self.processes.items_mut().get_mut(at) {
+                q.go_on(alloc, &self.scopes, answer)?;
+            }
+        }
+        Ok(())
+    }
+
+    /// A process waits.
+    pub fn stops(
+        &mut self,
+        alloc: Global,
+        number: usize,
+        until: State<'p>,
+    ) -> Result<(), AllocError>
+        ensures went { IfOk result (λ _. world_of self.new ≡ stopping (scoped self.old.scopes) (world_of self.old) number (state until.entry)) }
+        ensures same { self.new.scopes ≡ self.old.scopes }
+    {
+        if let Some(at) = place(number) {
+            if let Some(q) = self.processes.items_mut().get_mut(at) {
+                q.stop(alloc, &self.scopes, until)?;
+            }
+        }
+        Ok(())
+    }
+
+    /// A part inside the innermost part of a process comes to be.
+    pub fn opens(&mut self, alloc: Global, number: usize, inner: Part<'p>) -> Result<(), AllocError>
+        ensures went { IfOk result (λ _. world_of self.new ≡ opening (scoped self.old.scopes) (world_of self.old) number (part (scoped self.old.scopes) inner.entry)) }
+        ensures same { self.new.scopes ≡ self.old.scopes }
+    {
+        if let Some(at) = place(number) {
+            if let Some(q) = self.processes.items_mut().get_mut(at) {
+                q.open(alloc, &self.scopes, inner)?;
+            }
+        }
+        Ok(())
+    }
+
+    /// A process is able to go on.
+    fn set_able(&mut self, number: usize)
+        ensures went { world_of self.new ≡ world.set_able (world_of self.old) number }
+        ensures same { self.new.scopes ≡ self.old.scopes }
+    {
+        if let Some(at) = place(number) {
+            if let Some(q) = self.processes.items_mut().get_mut(at) {
+                q.release(&self.scopes);
+            }
+        }
+    }
+
+    /// Processes are able to go on.
+    pub fn release(&mut self, numbers: &[usize])
+        ensures went { world_of self.new ≡ world.set_all_able (world_of self.old) numbers.now }
+        ensures same { self.new.scopes ≡ self.old.scopes }
+    {
+        'releasing: for number in numbers {
+            self.set_able(*number);
+        }
+    }
+}

@@ -1,0 +1,95 @@
+//! What the actions that change cells do to the world: stores, and the making of arrays and events.
+
+ghost use Rattle.std.specs.Prelude.{◌≡◌, ◌∷◌, [], map, IfOk};
+ghost use Rattle.algol_meaning.specs.World as world;
+ghost use Rattle.algol_meaning.specs.Rest as rest;
+ghost use Rattle.algol_meaning.specs.Arrays as arrays;
+ghost use Rattle.algol_meaning.specs.Value as plain;
+ghost use Rattle.algol_meaning.specs.SeenScope.{scoped};
+ghost use Rattle.algol_meaning.specs.SeenValue.{value};
+ghost use Rattle.algol_meaning.specs.SeenExpression as seen;
+ghost use Rattle.algol_meaning.specs.SeenExpression.{reference};
+ghost use Rattle.algol_world.specs.SeenInstance.{zero_cell, named_cells};
+ghost use Rattle.algol_world.specs.SeenWorld.{world_of};
+ghost use Rattle.algol_world.specs.Going.{going};
+
+use crate::array::with_element;
+use crate::instance::{NamedCell, add_cells, take_cell};
+use crate::world::World;
+use algol_meaning::{Answer, Cell, Reference, Value};
+use std::alloc::{AllocError, Global};
+
+impl<'p> World<'p> {
+    /// What a cell holds, out of it; a number 0 stays in its place.
+    fn take_cell(&mut self, r: Reference<'p>) -> Cell<'p>
+        ensures value { seen.cell result ≡ world.cell_at (world_of self.old) (reference r.entry) }
+        ensures after { world_of self.new ≡ world.set_cell (world_of self.old) (reference r.entry) zero_cell }
+        ensures same { self.new.scopes ≡ self.old.scopes }
+    {
+        take_cell(&mut self.instances, r)
+    }
+
+    /// The storing of a value in a simple cell.
+    pub fn store(
+        &mut self,
+        alloc: Global,
+        number: usize,
+        r: Reference<'p>,
+        v: Value,
+    ) -> Result<(), AllocError>
+        ensures stored { IfOk result (λ _. world_of self.new ≡ going (scoped self.old.scopes) (world.set_cell (world_of self.old) (reference r.entry) (plain.simple (value v))) number rest.done) }
+        ensures same { self.new.scopes ≡ self.old.scopes }
+    {
+        self.set_cell(r, Cell::Simple(v));
+        self.goes(alloc, number, Answer::Done)
+    }
+
+    /// Another value of an element.
+    #[tactic(auto, using(crate::proofs::Setting::setting))]
+    fn set_element(&mut self, alloc: Global, r: Reference<'p>, subscripts: &[usize], v: Value)
+        ensures after { world_of self.new ≡ world.set_cell (world_of self.old) (reference r.entry) (plain.array (arrays.with_element (world.array_in (world.cell_at (world_of self.old) (reference r.entry))) subscripts.now (value v))) }
+        ensures same { self.new.scopes ≡ self.old.scopes }
+    {
+        let cell = self.take_cell(r);
+        self.set_cell(r, with_element(alloc, cell, subscripts, v));
+    }
+
+    /// The storing of a value in an element.
+    pub fn store_element(
+        &mut self,
+        alloc: Global,
+        number: usize,
+        r: Reference<'p>,
+        subscripts: &[usize],
+        v: Value,
+    ) -> Result<(), AllocError>
+        ensures stored { IfOk result (λ _. world_of self.new ≡ going (scoped self.old.scopes) (world.set_cell (world_of self.old) (reference r.entry) (plain.array (arrays.with_element (world.array_in (world.cell_at (world_of self.old) (reference r.entry))) subscripts.now (value v)))) number rest.done) }
+        ensures same { self.new.scopes ≡ self.old.scopes }
+    {
+        self.set_element(alloc, r, subscripts, v);
+        self.goes(alloc, number, Answer::Done)
+    }
+
+    /// More cells in the instance in which a part goes on.
+    fn add_cells(&mut self, instance: usize, cells: Vec<NamedCell<'p>>) -> Result<(), AllocError>
+        ensures added { IfOk result (λ _. world_of self.new ≡ world.add_cells (world_of self.old) instance (named_cells cells.entry.items)) }
+        ensures same { self.new.scopes ≡ self.old.scopes }
+    {
+        add_cells(&mut self.instances, instance, cells)
+    }
+
+    /// The making of cells in the instance in which a part goes on.
+    pub fn make(
+        &mut self,
+        alloc: Global,
+        number: usize,
+        instance: usize,
+        cells: Vec<NamedCell<'p>>,
+    ) -> Result<(), AllocError>
+        ensures made { IfOk result (λ _. world_of self.new ≡ going (scoped self.old.scopes) (world.add_cells (world_of self.old) instance (named_cells cells.entry.items)) number rest.done) }
+        ensures same { self.new.scopes ≡ self.old.scopes }
+    {
+        self.add_cells(instance, cells)?;
+        self.goes(alloc, number, Answer::Done)
+    }
+}
