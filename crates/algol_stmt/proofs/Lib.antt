@@ -3,4 +3,10 @@ pub mod Headings
 pub mod Lists
 pub mod Begins
 pub mod Complete
+pub mod Meant
+pub mod Given
+pub mod SoundHeadings
+pub mod SoundLists
+pub mod SoundStatements
+pub mod SoundDeclarations
 mod OneTree
