@@ -9,4 +9,7 @@ pub mod SoundHeadings
 pub mod SoundLists
 pub mod SoundStatements
 pub mod SoundDeclarations
+pub mod SoundDue
+pub mod Keeps
+pub mod Inside
 mod OneTree
