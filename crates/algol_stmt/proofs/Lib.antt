@@ -12,4 +12,6 @@ pub mod SoundDeclarations
 pub mod SoundDue
 pub mod Keeps
 pub mod Inside
+pub mod Places
+pub mod Sound
 mod OneTree
