@@ -125,19 +125,19 @@ abbrev pub stmts_and : PStmts → PStmts → PStmts
 stmts_and no_stmts ss = ss
 stmts_and (stmts s ss) ts = stmts s (stmts_and ss ts)
 
-stmts-behind : (acc : PStmts) (s : PStmt) (ss : PStmts) → stmts_and (stmt_behind acc s) ss ≡ stmts_and acc (stmts s ss)
+pub stmts-behind : (acc : PStmts) (s : PStmt) (ss : PStmts) → stmts_and (stmt_behind acc s) ss ≡ stmts_and acc (stmts s ss)
 stmts-behind no_stmts s ss = refl
 stmts-behind (stmts x acc) s ss = ap (stmts x) (stmts-behind acc s ss)
 
-behind-stmts : (acc : PStmts) (s : PStmt) → stmt_behind acc s ≡ stmts_and acc (stmts s no_stmts)
+pub behind-stmts : (acc : PStmts) (s : PStmt) → stmt_behind acc s ≡ stmts_and acc (stmts s no_stmts)
 behind-stmts no_stmts s = refl
 behind-stmts (stmts x acc) s = ap (stmts x) (behind-stmts acc s)
 
-decls_and-assoc : (a b c : PDecls) → decls_and (decls_and a b) c ≡ decls_and a (decls_and b c)
+pub decls_and-assoc : (a b c : PDecls) → decls_and (decls_and a b) c ≡ decls_and a (decls_and b c)
 decls_and-assoc no_decls b c = refl
 decls_and-assoc (decls x a) b c = ap (decls x) (decls_and-assoc a b c)
 
-decls_and-none : (acc : PDecls) → decls_and acc no_decls ≡ acc
+pub decls_and-none : (acc : PDecls) → decls_and acc no_decls ≡ acc
 decls_and-none no_decls = refl
 decls_and-none (decls x acc) = ap (decls x) (decls_and-none acc)
 

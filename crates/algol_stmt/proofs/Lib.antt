@@ -3,4 +3,15 @@ pub mod Headings
 pub mod Lists
 pub mod Begins
 pub mod Complete
+pub mod Meant
+pub mod Given
+pub mod SoundHeadings
+pub mod SoundLists
+pub mod SoundStatements
+pub mod SoundDeclarations
+pub mod SoundDue
+pub mod Keeps
+pub mod Inside
+pub mod Places
+pub mod Sound
 mod OneTree
