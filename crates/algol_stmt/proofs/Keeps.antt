@@ -32,7 +32,7 @@ inner_outer : (s : Due) → IsInner s → is_outer s ≡ true
 inner_outer whole_ends i = absurd i
 inner_outer s i = refl
 
-inners_outer : (due : List Due) → Inners due → all_outer due ≡ true
+pub inners_outer : (due : List Due) → Inners due → all_outer due ≡ true
 inners_outer [] i = refl
 inners_outer (s ∷ due) i = rw (inner_outer s i.0, inners_outer due i.1) refl
 

@@ -14,4 +14,6 @@ pub mod Keeps
 pub mod Inside
 pub mod Places
 pub mod Sound
+pub mod Feed
+pub mod Texts
 mod OneTree

@@ -64,7 +64,7 @@ due_inner free event vs from ws rest i x = x
 due_inner free (behind_event n) vs from ws rest i x = x
 due_inner free s vs from ws rest i x = absurd i
 
-all_inner : (free : ℕ) (due : List Due) (vs : List Value) (from : List Token) (ws : List Value) (rest : List Token) → Inners due → IsAll free due vs from ws rest →
+pub all_inner : (free : ℕ) (due : List Due) (vs : List Value) (from : List Token) (ws : List Value) (rest : List Token) → Inners due → IsAll free due vs from ws rest →
     inner.IsAll free due vs from ws rest
 all_inner free _ vs from _ _ i (nil _ _) = inner.nil vs from
 all_inner free _ vs from ws rest i (cons s due _ us _ _ mid _ x y) =
