@@ -135,7 +135,7 @@ refused_at (t ∷ ts) p vs left spot code i e = at_token (step strict (stack p) 
     at_token (goes c ds us) is e more =
         let n = place_next strict p t vs c ds us i is in
         let r = more n.q us n.placed (subst (λ ds. reading 0 ts (count n.q) ds us ≡ refused left spot code) n.stack_is
-            (subst (λ c. reading 0 ts c ds us ≡ refused left spot code) n.count_is e)) in
+        (subst (λ c. reading 0 ts c ds us ≡ refused left spot code) n.count_is e)) in
         record {
           front = t ∷ r.front;
           t = r.t;
