@@ -1,5 +1,5 @@
 -- What is due has a text.
-use Rattle.std.proofs.Common.{◌≡◌, ◌⊎◌, ◌≤◌, ◌+◌, ℕ, pos, Bool, true, false, None, List, [], ◌∷◌, ◌++◌, length, length-append, refl, sym, subst, ap, ◌∙◌, inl, inr, append_assoc, arith}
+use Rattle.std.proofs.Common.{◌≡◌, ◌≤◌, ◌+◌, ℕ, pos, true, false, None, List, [], ◌∷◌, ◌++◌, length, length-append, refl, sym, subst, ap, ◌∙◌, inl, inr, append_assoc, arith}
 use Rattle.algol_tree.specs.declared.TheConstants.{MOST_EXPRESSION_TOKENS}
 use Rattle.algol_tree.specs.declared.token.Token.{Token}
 use Rattle.algol_tree.specs.declared.token.TokenKind.{TokenKind}
@@ -23,7 +23,6 @@ use Rattle.algol_tree.specs.Due.{Value, one, names, stmt, declared, Due, make, w
 use Rattle.algol_tree.specs.DueDecl.{spec_simple, spec_events, headed}
 use Rattle.algol_tree.specs.DueStmt.{phrase_added, two_armed, names_declared, announced}
 use Rattle.algol_tree.specs.Reading.{nowhere}
-use Rattle.algol_expr.proofs.Inner.{Inners}
 use Rattle.algol_expr.proofs.Sound.{single, opened, event_is, it, makes_it, left_out, leave_more, leave_relation, leave_name, leave_exprs, leave_behind_event}
 use Rattle.algol_stmt.proofs.Lists.{behind-decls}
 use Rattle.algol_stmt.proofs.Meant.{gives, one_name, less, one_phrase, IsArms, with_else, ended, IsDue, IsAll, nil, cons}
@@ -141,15 +140,24 @@ sample free literal vs rest o le = (_, gives (pos 1) rest (headings.positive a_n
 sample free number_negated vs rest o le = (_, gives _ rest (λ t m. headings.negative t a_number (pos 1) rest m refl))
 sample free lows_more vs rest o le = (vs, no_lows_more free vs rest)
 sample free values_part vs rest o le = (_, no_values free vs rest)
-sample free spec vs rest o le = (spec_events (names (nobody ∷ []) ∷ vs), λ acc below is.
-    put_given (specs.Events (nobody ∷ [])) (ap (λ us. spec_events (names (nobody ∷ []) ∷ us)) is)
-    (headings.events _ _ (nobody ∷ []) _ rest refl (headings.last a_name nobody _ (record { name = refl; place = refl })) refl))
-sample free (spec_typed kind) vs rest o le = (spec_simple kind (names (nobody ∷ []) ∷ vs), λ acc below is.
-    put_given (specs.Simple kind (nobody ∷ [])) (ap (λ us. spec_simple kind (names (nobody ∷ []) ∷ us)) is)
-    (λ t k. headings.simple t _ kind (nobody ∷ []) _ rest k (headings.last a_name nobody _ (record { name = refl; place = refl })) refl))
+sample free spec vs rest o le = (
+  spec_events (names (nobody ∷ []) ∷ vs),
+  λ acc below is.
+      put_given (specs.Events (nobody ∷ [])) (ap (λ us. spec_events (names (nobody ∷ []) ∷ us)) is)
+      (headings.events _ _ (nobody ∷ []) _ rest refl (headings.last a_name nobody _ (record { name = refl; place = refl })) refl),
+)
+sample free (spec_typed kind) vs rest o le = (
+  spec_simple kind (names (nobody ∷ []) ∷ vs),
+  λ acc below is.
+      put_given (specs.Simple kind (nobody ∷ [])) (ap (λ us. spec_simple kind (names (nobody ∷ []) ∷ us)) is)
+      (λ t k. headings.simple t _ kind (nobody ∷ []) _ rest k (headings.last a_name nobody _ (record { name = refl; place = refl })) refl),
+)
 sample free specs_more vs rest o le = (vs, no_specs_more free vs rest)
-sample free (behind_procedure kind) vs rest o le = (headed kind vs, λ n below is.
-    put_given (record { kind = kind; name = n; params = []; values = []; specs = [] }) (ap (headed kind) is) (λ before t u x w k. headings.without t u _ kind n before rest x w k refl))
+sample free (behind_procedure kind) vs rest o le = (
+  headed kind vs,
+  λ n below is.
+      put_given (record { kind = kind; name = n; params = []; values = []; specs = [] }) (ap (headed kind) is) (λ before t u x w k. headings.without t u _ kind n before rest x w k refl),
+)
 sample free wholes_more vs rest o le = (vs, no_wholes_more free vs rest)
 sample free actuals_part vs rest o le = (_, no_actuals free vs rest)
 sample free items_part vs rest o le = (_, no_items free vs rest)
@@ -158,25 +166,40 @@ sample free (segments_more kind) vs rest o le = (vs, no_segments_more free kind 
 sample free task_part vs rest o le = (_, no_task free vs rest)
 sample free to_part vs rest o le = (vs, no_to free vs rest)
 sample free angle vs rest o le = (_, gives nowhere rest (less (one_token (kinds.Symbol symbols.Less)) rest refl))
-sample free phrase vs rest o le = (phrase_added (formats.Word []) vs, λ acc below is.
-    put_given (formats.Word []) (ap (phrase_added (formats.Word [])) is) (one_phrase a_name (formats.Word []) rest refl))
+sample free phrase vs rest o le = (
+  phrase_added (formats.Word []) vs,
+  λ acc below is.
+      put_given (formats.Word []) (ap (phrase_added (formats.Word [])) is) (one_phrase a_name (formats.Word []) rest refl),
+)
 sample free phrases_more vs rest o le = (vs, no_phrases_more free vs rest)
 sample free (statement d) vs rest o le = (_, gives empty rest (shut (grammar.nothing d rest) refl))
 sample free (behind_start n d) vs rest o le = (_, only_name free n d vs rest)
-sample free (else_part d) vs rest o le = (two_armed (stmt empty ∷ vs), λ s c below is.
-    subst (λ us. IsArms free d c s below (one_token (kinds.Word reserved.Else) ∷ rest) (two_armed (stmt empty ∷ us)) rest) (sym is)
-    (with_else (one_token (kinds.Word reserved.Else)) empty rest rest refl (shut (grammar.nothing d rest) refl)))
+sample free (else_part d) vs rest o le = (
+  two_armed (stmt empty ∷ vs),
+  λ s c below is.
+      subst (λ us. IsArms free d c s below (one_token (kinds.Word reserved.Else) ∷ rest) (two_armed (stmt empty ∷ us)) rest) (sym is)
+      (with_else (one_token (kinds.Word reserved.Else)) empty rest rest refl (shut (grammar.nothing d rest) refl)),
+)
 sample free (stmts_more d) vs rest o le = (vs, no_stmts_more free d vs rest)
 sample free (declarations d) vs rest o le = (vs, no_declarations free d vs rest)
-sample free (typed kind d) vs rest o le = (names_declared (trees.simple kind) (names (nobody ∷ []) ∷ vs), λ acc below is.
-    put_given (decls (trees.simple kind (nobody ∷ [])) no_decls) (ap (λ us. names_declared (trees.simple kind) (names (nobody ∷ []) ∷ us)) is
-    ∙ ap (λ ds. declared ds ∷ below) (behind-decls acc (trees.simple kind (nobody ∷ []))))
-    (λ t e. ended _ _ _ rest (grammar.values t kind (nobody ∷ []) d _ _ e (headings.last a_name nobody _ (record { name = refl; place = refl }))) refl))
-sample free (procedure_body d) vs rest o le = (announced vs, λ h acc below is.
-    put_given (decls (trees.forward h) no_decls) (ap announced is ∙ ap (λ ds. declared ds ∷ below) (behind-decls acc (trees.forward h)))
-    (λ before x. ended _ _ before rest (grammar.announced _ h d before _ x refl) refl))
-sample free program vs rest o le = (_, gives (trees.program (trees.body nowhere no_decls (stmts empty no_stmts))) rest
-    (programs.whole _ _ _ _ _ rest refl (grammar.declared 1 nowhere no_decls (stmts empty no_stmts) _ _ _ (grammar.no_more 1 _) (grammar.last 1 empty _ _ (grammar.nothing 1 _))) refl refl))
+sample free (typed kind d) vs rest o le = (
+  names_declared (trees.simple kind) (names (nobody ∷ []) ∷ vs),
+  λ acc below is.
+      put_given (decls (trees.simple kind (nobody ∷ [])) no_decls) (ap (λ us. names_declared (trees.simple kind) (names (nobody ∷ []) ∷ us)) is
+      ∙ ap (λ ds. declared ds ∷ below) (behind-decls acc (trees.simple kind (nobody ∷ []))))
+      (λ t e. ended _ _ _ rest (grammar.values t kind (nobody ∷ []) d _ _ e (headings.last a_name nobody _ (record { name = refl; place = refl }))) refl),
+)
+sample free (procedure_body d) vs rest o le = (
+  announced vs,
+  λ h acc below is.
+      put_given (decls (trees.forward h) no_decls) (ap announced is ∙ ap (λ ds. declared ds ∷ below) (behind-decls acc (trees.forward h)))
+      (λ before x. ended _ _ before rest (grammar.announced _ h d before _ x refl) refl),
+)
+sample free program vs rest o le = (
+  _,
+  gives (trees.program (trees.body nowhere no_decls (stmts empty no_stmts))) rest
+      (programs.whole _ _ _ _ _ rest refl (grammar.declared 1 nowhere no_decls (stmts empty no_stmts) _ _ _ (grammar.no_more 1 _) (grammar.last 1 empty _ _ (grammar.nothing 1 _))) refl refl),
+)
 
 outer_one : (s : Due) (due : List Due) → all_outer (s ∷ due) ≡ true → (all_outer (s ∷ []) ≡ true) × (all_outer due ≡ true)
 outer_one s due e = let r = outer_first s due e in (rw r.0 refl, r.1)
