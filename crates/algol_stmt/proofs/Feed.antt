@@ -1,5 +1,5 @@
 -- Tokens that are gone over, and where a text is refused.
-use Rattle.std.proofs.Common.{◌≡◌, ◌≤◌, ◌+◌, ℕ, Bool, true, false, ◌&&◌, List, [], ◌∷◌, ◌++◌, length, length-append, refl, sym, subst, ap, ◌∙◌, arith}
+use Rattle.std.proofs.Common.{◌≡◌, ◌≤◌, ℕ, Bool, true, false, ◌&&◌, List, [], ◌∷◌, ◌++◌, length, length-append, refl, sym, subst, ap, ◌∙◌, arith}
 use Rattle.algol_tree.specs.declared.token.Spot.{Spot}
 use Rattle.algol_tree.specs.declared.token.Token.{Token}
 use Rattle.algol_tree.specs.declared.token.TokenKind.{TokenKind}
@@ -7,7 +7,7 @@ use Rattle.algol_tree.specs.declared.token.TokenKind.TheVariants as kinds
 use Rattle.algol_tree.specs.declared.refusal.Code.{Code}
 use Rattle.algol_tree.specs.declared.refusal.Code.TheVariants as codes
 use Rattle.algol_tree.specs.Due.{Value, Due, Limit, plain, nests, label, begun, Turn, takes, makes, skips, closes, refuses}
-use Rattle.algol_tree.specs.Reading.{turn, Count, outside, full, counted, Judged, broken, broken_at, Step, goes, over, stops, unless, stepped, step, to, refused, read_on, read_end, judged, unjudged, nowhere, reading}
+use Rattle.algol_tree.specs.Reading.{turn, Count, outside, full, counted, Judged, broken, broken_at, Step, goes, over, stops, unless, stepped, step, refused, read_on, read_end, judged, unjudged, nowhere, reading}
 use Rattle.algol_expr.proofs.Steps.{strict, judged_strict, unless_goes}
 use Rattle.algol_stmt.proofs.Places.{Place, count, stack, Placed, Fits, IsFrom, Next}
 use Rattle.algol_stmt.proofs.Sound.{place_next}

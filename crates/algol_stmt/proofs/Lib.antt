@@ -16,4 +16,6 @@ pub mod Places
 pub mod Sound
 pub mod Feed
 pub mod Texts
+pub mod Idle
+pub mod Exact
 mod OneTree

@@ -1,5 +1,5 @@
 -- What is due has a text.
-use Rattle.std.proofs.Common.{◌≡◌, ◌⊎◌, ◌≤◌, ◌+◌, ℕ, pos, Bool, true, false, None, List, [], ◌∷◌, ◌++◌, length, length-append, refl, sym, subst, ap, ◌∙◌, inl, inr, append_assoc, arith}
+use Rattle.std.proofs.Common.{◌≡◌, ◌≤◌, ◌+◌, ℕ, pos, true, false, None, List, [], ◌∷◌, ◌++◌, length, length-append, refl, sym, subst, ap, ◌∙◌, inl, inr, append_assoc, arith}
 use Rattle.algol_tree.specs.declared.TheConstants.{MOST_EXPRESSION_TOKENS}
 use Rattle.algol_tree.specs.declared.token.Token.{Token}
 use Rattle.algol_tree.specs.declared.token.TokenKind.{TokenKind}
@@ -23,7 +23,6 @@ use Rattle.algol_tree.specs.Due.{Value, one, names, stmt, declared, Due, make, w
 use Rattle.algol_tree.specs.DueDecl.{spec_simple, spec_events, headed}
 use Rattle.algol_tree.specs.DueStmt.{phrase_added, two_armed, names_declared, announced}
 use Rattle.algol_tree.specs.Reading.{nowhere}
-use Rattle.algol_expr.proofs.Inner.{Inners}
 use Rattle.algol_expr.proofs.Sound.{single, opened, event_is, it, makes_it, left_out, leave_more, leave_relation, leave_name, leave_exprs, leave_behind_event}
 use Rattle.algol_stmt.proofs.Lists.{behind-decls}
 use Rattle.algol_stmt.proofs.Meant.{gives, one_name, less, one_phrase, IsArms, with_else, ended, IsDue, IsAll, nil, cons}

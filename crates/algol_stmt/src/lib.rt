@@ -2,6 +2,7 @@
 #![tactic(auto)]
 
 ghost use Rattle.algol_stmt.specs.OneTree.{OneTree, OneTreeOfText};
+ghost use Rattle.algol_stmt.specs.ReadExactly.{ReadExactly};
 
 /// Law: tokens read as one program at most.
 pub fn tokens_have_one_tree()
@@ -11,4 +12,10 @@ pub fn tokens_have_one_tree()
 /// Law: a text is one program at most.
 pub fn texts_have_one_tree()
     ensures { OneTreeOfText }
+{}
+
+/// Law: what tokens are read as is what the grammar has, and a token is refused as of no program, or as
+/// behind one, where the grammar has it so.
+pub fn reading_is_exact()
+    ensures { ReadExactly }
 {}
