@@ -5,7 +5,7 @@ ghost use Rattle.algol_tree.specs.Ended.{EndsOnce};
 ghost use Rattle.algol_tree.specs.declared.token.TokenKind.TheVariants as kinds;
 
 use crate::read_expr;
-use algol_tree::{Code, Expr, Line, Op, Refusal, Reserved, Spot, Symbol, Token, TokenKind};
+use algol_tree::{Code, Expr, Line, Op, Refusal, Reserved, Spot, Symbol, Token, TokenKind, Whole};
 use std::alloc::Global;
 use std::test::Fail;
 
@@ -43,7 +43,7 @@ fn kind_of(alloc: Global, letter: u8) -> Result<TokenKind, Fail> {
         b'(' => TokenKind::Symbol(Symbol::OpenRound),
         b')' => TokenKind::Symbol(Symbol::CloseRound),
         b';' => TokenKind::Symbol(Symbol::Semicolon),
-        b'7' => TokenKind::Number(7),
+        b'7' => TokenKind::Number(Whole::fitting(7)),
         b'A' => TokenKind::Name(Line::of(Vec::from_slice(alloc, b"A")?)),
         _ => TokenKind::End,
     })
