@@ -5,7 +5,7 @@ use Rattle.algol_tree.specs.declared.tree.EventAct.{EventAct}
 use Rattle.algol_tree.specs.declared.tree.EventAct.TheVariants as act
 use Rattle.algol_meaning.specs.Value as plain
 use Rattle.algol_meaning.specs.World as world
-use Rattle.algol_meaning.specs.World.{World, Part, Process, process_at, with_process}
+use Rattle.algol_meaning.specs.World.{World, Part, process_at, with_process}
 use Rattle.algol_meaning.specs.Rest.{Answer, done, entered}
 use Rattle.algol_meaning.specs.Asks.{resume}
 use Rattle.algol_meaning.specs.Actions as actions

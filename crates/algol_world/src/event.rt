@@ -1,6 +1,6 @@
 //! What the event actions do to an event, and whom they release.
 
-ghost use Rattle.std.specs.Prelude.{◌≡◌, ◌∷◌, [], IfOk};
+ghost use Rattle.std.specs.Prelude.{◌≡◌, IfOk};
 ghost use Rattle.algol_meaning.specs.World as world;
 ghost use Rattle.algol_meaning.specs.Events as events;
 ghost use Rattle.algol_meaning.specs.SeenExpression as seen;
