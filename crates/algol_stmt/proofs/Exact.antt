@@ -10,30 +10,15 @@ use Rattle.algol_tree.specs.Programs.{IsProgram}
 use Rattle.algol_tree.specs.Refused.{Programs, IsUnexpected, IsBehind}
 use Rattle.algol_tree.specs.Due.{Value, whole_program, program}
 use Rattle.algol_tree.specs.Reading.{Count, Step, goes, over, stops, step, to, refused, read_on, read_end, judged, unjudged, nowhere, reading, read}
-use Rattle.algol_expr.proofs.Turns.{read_nothing}
 use Rattle.algol_expr.proofs.Steps.{strict, judged_strict}
-use Rattle.algol_stmt.proofs.Complete.{program_read}
 use Rattle.algol_stmt.specs.ReadExactly.{IsExact}
-use Rattle.algol_stmt.proofs.Meant.{Gives, gives, IsAll, nil, cons}
-use Rattle.algol_stmt.proofs.Places.{Place, out, count, stack, Placed}
+use Rattle.algol_stmt.proofs.Places.{Place, count, stack, Placed}
 use Rattle.algol_stmt.proofs.Sound.{place_next, place_over, program_sound}
 use Rattle.algol_stmt.proofs.Feed.{Fed, nothing_fed, fed, fed_placed, fed_any, fed_back, RefusedAt, refused_at, stop_any, stops_here}
 use Rattle.algol_stmt.proofs.Texts.{text_at, complete}
 use Rattle.algol_stmt.proofs.Idle.{cut_short, over_idle}
-
--- where a program begins
-abbrev pub start : Place
-start = out (program ∷ [])
-
-made_program : (free : ℕ) (from : List Token) (ws : List Value) → IsAll free (program ∷ []) [] from ws [] → Programs free from
-made_program free from ws (cons _ _ _ _ _ _ _ _ x (nil _ _)) = of_gives ws [] x
-  where
-    of_gives : (ws : List Value) (rest : List Token) → Gives (IsProgram free) whole_program from [] ws rest → (tree : PProgram) × IsProgram free from tree rest
-    of_gives _ _ (gives tree rest x) = (tree, x)
-
--- a program is read, whatever its limits
-program_reads : (free : ℕ) (text : List Token) (x : Programs free text) → read free text (program ∷ []) [] ≡ to [] (whole_program x.0 ∷ [])
-program_reads free text x = program_read free text x.0 [] x.1 [] [] ∙ read_nothing free [] (whole_program x.0 ∷ [])
+use Rattle.algol_stmt.proofs.Start.{start, made_program, program_reads}
+use Rattle.algol_stmt.proofs.Deep.{deep_exact, step_code}
 
 module _ (front : List Token) (t : Token) (q : Place) (us : List Value) (f : Fed start [] front q us) where
   placed : Placed q
@@ -159,6 +144,8 @@ pub exact : (tokens : List Token) → IsExact tokens
 exact tokens = record {
   reads = λ tree rest e. reads_tree tree rest e;
   unexpected = λ left spot e. unexpected_exact tokens left spot (refused_at tokens start [] left spot codes.Unexpected refl e);
+  too_deep = λ left spot e. deep_exact tokens left spot (refused_at tokens start [] left spot codes.TooDeep refl e);
+  only = λ left spot code e. let r = refused_at tokens start [] left spot code refl e in step_code strict (stack r.q) r.t.spot r.t.kind (count r.q) r.us spot code r.stops_so;
   behind = λ token rest tree e other. behind_exact tokens token rest (whole_program tree ∷ []) e other;
 }
   where

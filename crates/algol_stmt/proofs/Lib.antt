@@ -17,5 +17,8 @@ pub mod Sound
 pub mod Feed
 pub mod Texts
 pub mod Idle
+pub mod Start
+pub mod Labels
+pub mod Deep
 pub mod Exact
 mod OneTree

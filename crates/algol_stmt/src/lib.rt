@@ -14,8 +14,8 @@ pub fn texts_have_one_tree()
     ensures { OneTreeOfText }
 {}
 
-/// Law: what tokens are read as is what the grammar has, and a token is refused as of no program, or as
-/// behind one, where the grammar has it so.
+/// Law: what tokens are read as is what the grammar has, and a token is refused as of no program, as the one
+/// that breaks a limit, or as behind a program, where the grammar has it so.
 pub fn reading_is_exact()
     ensures { ReadExactly }
 {}
