@@ -1,0 +1,12 @@
+//! The first image of a code, with which every run begins.
+//!
+//! [`load`] builds it on an empty store, with a kernel and a machine's other parts.
+#![tactic(auto)]
+
+mod first;
+mod opening;
+#[cfg(test)]
+mod tests;
+mod words;
+
+pub use first::load;
