@@ -34,7 +34,9 @@ longer_there numbers v n least some great is =
     (λ (other : n ≢ 10 * v).
     ⊎_elim (λ (taken : numbers.except ≡ Some (10 * v)).
     inr record {
-      fits = omega (arith, is.fits); least = omega arith; most = omega (arith, is.most);
+      fits = omega (arith, is.fits);
+      least = omega arith;
+      most = omega (arith, is.most);
       other = λ h. let apart : 10 * v ≡ 10 * v + 1 = cc in omega arith;
     })
     (λ (free : numbers.except ≢ Some (10 * v)). inl record { fits = omega (arith, is.fits); least = omega arith; most = omega (arith, is.most); other = free }) (cases_option numbers.except (10 * v)))

@@ -117,13 +117,24 @@ word_stops word bytes at next i inside st other =
     }
 
 -- fields
-field_ahead : (n v end : ℕ) (a b : List ℕ) → n < 2 ^ 64 → v < 2 ^ 64 → (IsDigit end → ⊥) → decimal n ++ end ∷ a ≡ decimal v ++ end ∷ b → n ≡ v
+pub field_ahead : (n v end : ℕ) (a b : List ℕ) → n < 2 ^ 64 → v < 2 ^ 64 → (IsDigit end → ⊥) → decimal n ++ end ∷ a ≡ decimal v ++ end ∷ b → n ≡ v
 field_ahead n v end a b p q past e =
     ⊎_elim (λ (h : AtEnd n (Some v) end a (end ∷ b)). let is = h.all in cc)
     (λ (h : GoesOn n (Some v) (end ∷ b)).
     let first : end ≡ h.digit = let r = h.next in cc in
     absurd (past (subst IsDigit (sym first) (digits n (decimal v) h.more h.digit (wide n p) h.spelled_is))))
     (ahead n (Some v) end a (end ∷ b) (wide n p) (λ w is. let same : v ≡ w = cc in subst (λ m. m < 10 ^ 64) same (wide v q)) past e)
+
+-- what ends with the same byte is the same number, with the same rest
+pub record FieldsAlike (n v : ℕ) (a b : List ℕ) : Type 0 where
+  pub numbers : n ≡ v
+  pub rests : a ≡ b
+
+pub fields_alike : (n v end : ℕ) (a b : List ℕ) → n < 2 ^ 64 → v < 2 ^ 64 → (IsDigit end → ⊥) → decimal n ++ end ∷ a ≡ decimal v ++ end ∷ b → FieldsAlike n v a b
+fields_alike n v end a b p q past e =
+    let same : n ≡ v = field_ahead n v end a b p q past e in
+    let tails : end ∷ a ≡ end ∷ b = append_cancel_left (decimal v) (end ∷ a) (end ∷ b) (ap (λ m. decimal m ++ end ∷ a) (sym same) ∙ e) in
+    record { numbers = same; rests = (cc) }
 
 pub field_apart : (numbers : Numbers) (end : ℕ) → (IsDigit end → ⊥) → AreApart (IsField numbers end)
 field_apart numbers end past part other a b p q e =

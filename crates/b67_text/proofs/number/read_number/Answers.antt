@@ -7,11 +7,12 @@ use Rattle.b67_text.proofs.Fronts.{stands_more, field_stops}
 use Rattle.b67_text.proofs.number.read_number.Goals as goal
 
 pub returns-in-Some-clause-read : goal.returns-in-Some-clause-read
-returns-in-Some-clause-read c =
-    (c.if-contains.ensures.0 refl,
-    stands_more (decimal c.in-Some.number) c.args.bytes.now c.args.at c.read_digits-digits.result.1 c.args.end
-    (subst (λ o. Stands (spelled o) c.args.bytes.now c.args.at c.read_digits-digits.result.1) c.in-Some.is c.read_digits-digits.ensures.stand)
-    (c.if-stands_at.ensures.0 refl))
+returns-in-Some-clause-read c = (
+  c.if-contains.ensures.0 refl,
+  stands_more (decimal c.in-Some.number) c.args.bytes.now c.args.at c.read_digits-digits.result.1 c.args.end
+      (subst (λ o. Stands (spelled o) c.args.bytes.now c.args.at c.read_digits-digits.result.1) c.in-Some.is c.read_digits-digits.ensures.stand)
+      (c.if-stands_at.ensures.0 refl),
+)
 
 pub returns-in_default-clause-refused : goal.returns-in_default-clause-refused
 returns-in_default-clause-refused c =
