@@ -4,12 +4,18 @@
 //! ended, how many operators each process did, how many actions each processor did, and the schedule.
 #![tactic(auto)]
 
+mod ends;
+mod reading;
+mod refusal;
+
 ghost use Rattle.std.specs.Prelude.{◌≡◌, ◌++◌, IfOk, OnOk, codes};
 ghost use Rattle.b67_report.specs.Texts.{line_text, head_text, lines_text, count_text, counts_text, end_words, fault_words, ReportText};
 
 use b67_list::{Line, List, push_number};
 use b67_num::FaultKind;
 use b67_schedule::Schedule;
+pub use reading::read_report;
+pub use refusal::ReadReport;
 use std::alloc::{AllocError, Global};
 
 /// How a run ended.

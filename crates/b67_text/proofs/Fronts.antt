@@ -96,7 +96,7 @@ stops_at Is front bytes at next apart st ends =
 abbrev pub IsWord : List ℕ → List ℕ → Type 0
 IsWord word text = text ≡ word
 
-word_apart : (word : List ℕ) → AreApart (IsWord word)
+pub word_apart : (word : List ℕ) → AreApart (IsWord word)
 word_apart word part other a b p q e = p ∙ sym q
 
 word_split : (word : List ℕ) (i : ℕ) → i < length word → word ≡ take i word ++ get_or word i 0 ∷ drop (i + 1) word

@@ -4,9 +4,11 @@
 //! answered. A refusal names the place where the longest beginning ends of anything that could be read there.
 #![tactic(auto)]
 
+mod choice;
 mod number;
 mod word;
 
+pub use choice::either;
 pub use number::{Numbers, read_number};
 pub use word::read_word;
 
