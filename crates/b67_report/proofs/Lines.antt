@@ -27,7 +27,7 @@ line_more line bytes at end byte is here small other =
     record { is_line = All-push IsLineByte line byte is.is_line (small, other); stands = stands_more line bytes at end byte is.stands here }
 
 -- a line ends at its first LF
-feeds_alike : (x y a b : List ℕ) → IsLine x → IsLine y → x ++ line_end ∷ a ≡ y ++ line_end ∷ b → x ≡ y
+pub feeds_alike : (x y a b : List ℕ) → IsLine x → IsLine y → x ++ line_end ∷ a ≡ y ++ line_end ∷ b → x ≡ y
 feeds_alike [] [] a b p q e = refl
 feeds_alike [] (c ∷ y) a b p q e = let first : line_end ≡ c = cc in absurd ((All-head IsLineByte c y q).1 (sym first))
 feeds_alike (c ∷ x) [] a b p q e = let first : c ≡ line_end = cc in absurd ((All-head IsLineByte c x p).1 first)

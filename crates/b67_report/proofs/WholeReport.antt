@@ -1,34 +1,36 @@
 -- The text of a report whole.
-use Rattle.std.proofs.Common.{◌≡◌, ◌≢◌, ℕ, ◌+◌, ◌-◌, ◌<◌, ◌≤◌, ◌^◌, ◌==◌, zero, suc, Bool, true, false, not, ◌&&◌, List, [], ◌∷◌, ◌++◌, length, take, drop, codes, refl, sym, ap, subst, arith, ◌∙◌, append_assoc}
+use Rattle.std.proofs.Common.{◌≡◌, ◌≢◌, ℕ, ◌+◌, ◌-◌, ◌<◌, ◌≤◌, ◌^◌, ◌==◌, zero, suc, Bool, true, false, cond, not, ◌&&◌, Result, Ok, Err, List, [], ◌∷◌, ◌++◌, length, get_or, take, drop, codes, refl, sym, ap, subst, arith, ◌∙◌, append_assoc}
 use Rattle.std.specs.List.{All, flat_map, enumerate_from}
+use Rattle.std.specs.Result.{IsErr, IfErr, MatchResult}
 use Rattle.std.specs.Fmt.{decimal}
 use Rattle.std.specs.Str.Parse.{AllDigits}
-use Rattle.std.proofs.lemmas.Fmt.{decimal_is_IsNumeral}
+use Rattle.std.proofs.lemmas.Fmt.{decimal_is_IsNumeral, decimal_injective}
 use Rattle.std.proofs.lemmas.Str.Parse.{digit_from_value}
-use Rattle.std.proofs.lemmas.List.{append-nil, length-append, drop_all}
-use Rattle.std.proofs.lemmas.List.Elements.{All-cons, All-nil}
+use Rattle.std.proofs.lemmas.List.{append-nil, length-append, drop_all, append_cancel_left, append_cancel_right}
+use Rattle.std.proofs.lemmas.List.Elements.{All-cons, All-nil, All-head, All-tail}
 use Rattle.b67_num.specs.declared.FaultKind.{FaultKind}
 use Rattle.b67_num.specs.declared.FaultKind.TheVariants.{RealResult, DivideByZero, InvalidIndex, CriticalBlockExit, BadGoTo, ProcessLimit, CoreFull, ArraySize, NotAVariable, CaseIndex}
 use Rattle.std.proofs.lemmas.Bool.Decides.{nat_tests}
 use Rattle.b67_text.specs.Texts.{IsRefused, StopsAt, Stands, AreApart}
+use Rattle.b67_text.proofs.Fronts.{FieldsAlike, fields_alike}
 use Rattle.b67_text.proofs.Parts.{stands_on, refused_where_it_stops, refused_behind}
 use Rattle.b67_schedule.specs.declared.reading.ReadSchedule.{ReadSchedule}
 use Rattle.b67_schedule.specs.declared.reading.ReadSchedule.TheVariants as schedule
 use Rattle.b67_schedule.specs.Schedules.{IsSchedule, ScheduleText, Kept}
 use Rattle.b67_schedule.specs.Reading.{IsScheduleText}
 use Rattle.b67_schedule.specs.Reading as runs
-use Rattle.b67_schedule.proofs.WholeText.{schedules_apart}
+use Rattle.b67_schedule.proofs.WholeText.{schedules_apart, one_text}
 use Rattle.b67_report.specs.declared.EndWords.{EndWords}
 use Rattle.b67_report.specs.declared.EndWords.TheVariants.{Finished, Fault, AllWaiting, BudgetSpent, StackLimit, ScheduleEnded, Illegal}
 use Rattle.b67_report.specs.declared.Report.{Report}
 use Rattle.b67_report.specs.declared.refusal.ReadReport.{ReadReport}
 use Rattle.b67_report.specs.declared.refusal.ReadReport.TheVariants.{BadReport, NoMemory}
 use Rattle.b67_report.specs.Texts.{line_text, head_text, lines_text, count_text, counts_text, fault_words, end_words, ReportText}
-use Rattle.b67_report.specs.Reading.{IsLine, AreLines, AreCounts, IsEnd, IsReport, IsReportText, Refuses, RefusesAt, of_schedule}
+use Rattle.b67_report.specs.Reading.{IsLine, AreLines, AreCounts, IsEnd, IsReport, IsReportText, SaySame, Refuses, RefusesAt, of_schedule}
 use Rattle.b67_report.specs.Parts.{Joined, Many, IsHeaded, IsLineText, IsCountText, IsEndText}
-use Rattle.b67_report.proofs.Sequences.{HasOne, stops_same, joined_first, joined_second, joined_apart, line_end, headed_apart, headed_some}
-use Rattle.b67_report.proofs.EndLines.{count_apart, some_joined}
-use Rattle.b67_report.proofs.Lines.{line_apart, lines_many, counts_many, count_lines, IsSmallCount}
+use Rattle.b67_report.proofs.Sequences.{HasOne, stops_same, joined_first, joined_second, joined_apart, line_end, line_ends, headed_apart, headed_some}
+use Rattle.b67_report.proofs.EndLines.{count_apart, some_joined, same_kind}
+use Rattle.b67_report.proofs.Lines.{line_apart, feeds_alike as first_lines_alike, lines_many, counts_many, count_lines, IsSmallCount}
 
 -- no LF stands in a list
 abbrev no_feed : List ℕ → Bool
@@ -432,3 +434,156 @@ same_lists l o end n a kept bytes l' o' n' a' pl po pn pa is e =
     (subst (λ x. IsReportOf bytes (report_of l' x end n a kept)) (sym po)
     (subst (λ x. IsReportOf bytes (report_of l' o' end x a kept)) (sym pn)
     (subst (λ x. IsReportOf bytes (report_of l' o' end n' x kept)) (sym pa) (is, e))))
+
+-- lines and counts are those of their text
+count_on : (from n : ℕ) (rest : List ℕ) → count_text (from, n) ++ rest ≡ (decimal from ++ codes " ") ++ (decimal n ++ line_end ∷ rest)
+count_on from n rest =
+    append_assoc ((decimal from ++ codes " ") ++ decimal n) (line_end ∷ []) rest ∙ append_assoc (decimal from ++ codes " ") (decimal n) (line_end ∷ rest)
+
+lines_alike : (xs ys : List (List ℕ)) (a b : List ℕ) → All IsLine xs → All IsLine ys → length xs ≡ length ys → flat_map line_text xs ++ a ≡ flat_map line_text ys ++ b → xs ≡ ys
+lines_alike [] [] a b p q long e = refl
+lines_alike [] (y ∷ ys) a b p q long e = absurd (omega arith)
+lines_alike (x ∷ xs) [] a b p q long e = absurd (omega arith)
+lines_alike (x ∷ xs) (y ∷ ys) a b p q long e =
+    let joined : line_text x ++ (flat_map line_text xs ++ a) ≡ line_text y ++ (flat_map line_text ys ++ b) =
+    sym (append_assoc (line_text x) (flat_map line_text xs) a) ∙ e ∙ append_assoc (line_text y) (flat_map line_text ys) b in
+    let same : x ≡ y = first_lines_alike x y (flat_map line_text xs ++ a) (flat_map line_text ys ++ b) (All-head IsLine x xs p) (All-head IsLine y ys q)
+    (sym (append_assoc x (line_end ∷ []) (flat_map line_text xs ++ a)) ∙ joined ∙ append_assoc y (line_end ∷ []) (flat_map line_text ys ++ b)) in
+    let rest = lines_alike xs ys a b (All-tail IsLine x xs p) (All-tail IsLine y ys q) (omega arith)
+    (append_cancel_left (line_text y) (flat_map line_text xs ++ a) (flat_map line_text ys ++ b) (ap (λ l. line_text l ++ (flat_map line_text xs ++ a)) (sym same) ∙ joined)) in
+    ap (λ h. h ∷ xs) same ∙ ap (λ t. y ∷ t) rest
+
+counts_alike : (from : ℕ) (xs ys : List ℕ) (a b : List ℕ) → All IsSmallCount xs → All IsSmallCount ys → length xs ≡ length ys →
+    flat_map count_text (enumerate_from from xs) ++ a ≡ flat_map count_text (enumerate_from from ys) ++ b → xs ≡ ys
+counts_alike from [] [] a b p q long e = refl
+counts_alike from [] (y ∷ ys) a b p q long e = absurd (omega arith)
+counts_alike from (x ∷ xs) [] a b p q long e = absurd (omega arith)
+counts_alike from (x ∷ xs) (y ∷ ys) a b p q long e =
+    let xs_text = flat_map count_text (enumerate_from (from + 1) xs) in
+    let ys_text = flat_map count_text (enumerate_from (from + 1) ys) in
+    let joined : count_text (from, x) ++ (xs_text ++ a) ≡ count_text (from, y) ++ (ys_text ++ b) =
+    sym (append_assoc (count_text (from, x)) xs_text a) ∙ e ∙ append_assoc (count_text (from, y)) ys_text b in
+    let alike = fields_alike x y line_end (xs_text ++ a) (ys_text ++ b) (All-head IsSmallCount x xs p) (All-head IsSmallCount y ys q) line_ends
+    (append_cancel_left (decimal from ++ codes " ") (decimal x ++ line_end ∷ (xs_text ++ a)) (decimal y ++ line_end ∷ (ys_text ++ b))
+    (sym (count_on from x (xs_text ++ a)) ∙ joined ∙ count_on from y (ys_text ++ b))) in
+    let rest = counts_alike (from + 1) xs ys a b (All-tail IsSmallCount x xs p) (All-tail IsSmallCount y ys q) (omega arith) alike.rests in
+    ap (λ h. h ∷ xs) alike.numbers ∙ ap (λ t. y ∷ t) rest
+
+-- heads with a number
+head_on : (head : List ℕ) (n : ℕ) (rest : List ℕ) → head_text head n ++ rest ≡ head ++ (decimal n ++ line_end ∷ rest)
+head_on head n rest = append_assoc (head ++ decimal n) (line_end ∷ []) rest ∙ append_assoc head (decimal n) (line_end ∷ rest)
+
+regroup_three : (a b c d : List ℕ) → ((a ++ b) ++ c) ++ d ≡ a ++ (b ++ (c ++ d))
+regroup_three a b c d = simp append_assoc
+
+heads_alike : (head : List ℕ) (n m : ℕ) (a b : List ℕ) → n < 2 ^ 64 → m < 2 ^ 64 → head_text head n ++ a ≡ head_text head m ++ b → FieldsAlike n m a b
+heads_alike head n m a b p q e =
+    fields_alike n m line_end a b p q line_ends
+    (append_cancel_left head (decimal n ++ line_end ∷ a) (decimal m ++ line_end ∷ b) (sym (head_on head n a) ∙ e ∙ head_on head m b))
+
+lines_part : (head : List ℕ) (xs ys : List (List ℕ)) → AreLines xs → AreLines ys → lines_text head xs ≡ lines_text head ys → xs ≡ ys
+lines_part head xs ys p q e =
+    let alike = heads_alike head (length xs) (length ys) (flat_map line_text xs) (flat_map line_text ys) p.few q.few e in
+    lines_alike xs ys [] [] p.each q.each alike.numbers (ap (λ t. t ++ []) alike.rests)
+
+counts_part : (head xs ys : List ℕ) → AreCounts xs → AreCounts ys → counts_text head xs ≡ counts_text head ys → xs ≡ ys
+counts_part head xs ys p q e =
+    let alike = heads_alike head (length xs) (length ys) (count_lines xs) (count_lines ys) p.few q.few e in
+    counts_alike 1 xs ys [] [] p.each q.each alike.numbers (ap (λ t. t ++ []) alike.rests)
+
+-- what two texts of two parts have in common
+record PartsAlike (first second other rest : List ℕ) : Type 0 where
+  pub firsts : first ≡ other
+  pub seconds : second ≡ rest
+
+parts_alike : (First : List ℕ → Type 0) (first second other rest : List ℕ) → AreApart First → First first → First other → first ++ second ≡ other ++ rest → PartsAlike first second other rest
+parts_alike First first second other rest apart p q e =
+    let same : first ≡ other = apart first other second rest p q e in
+    record { firsts = same; seconds = append_cancel_left other second rest (ap (λ f. f ++ second) (sym same) ∙ e) }
+
+-- ends that read alike are one: the letters behind END tell their forms apart
+abbrev form_at : ℕ → ℕ → ℕ
+form_at x y = cond (x == 83) (cond (y == 84) 1 2) (cond (x == 70) (cond (y == 73) 3 4) (cond (x == 65) 5 (cond (x == 66) 6 7)))
+
+abbrev form_of : EndWords → ℕ
+form_of (StackLimit process words) = 1
+form_of ScheduleEnded = 2
+form_of Finished = 3
+form_of (Fault kind process) = 4
+form_of AllWaiting = 5
+form_of BudgetSpent = 6
+form_of (Illegal entry) = 7
+
+form_read : (end : EndWords) → form_at (get_or (end_words end) 4 0) (get_or (end_words end) 5 0) ≡ form_of end
+form_read (StackLimit process words) = refl
+form_read ScheduleEnded = refl
+form_read Finished = refl
+form_read (Fault kind process) = refl
+form_read AllWaiting = refl
+form_read BudgetSpent = refl
+form_read (Illegal entry) = refl
+
+same_form : (end other : EndWords) → end_words end ≡ end_words other → form_of end ≡ form_of other
+same_form end other e = sym (form_read end) ∙ ap (λ t. form_at (get_or t 4 0) (get_or t 5 0)) e ∙ form_read other
+
+ends_alike : (end other : EndWords) → IsEnd end → IsEnd other → form_of end ≡ form_of other → end_words end ≡ end_words other → end ≡ other
+ends_alike Finished Finished p q f e = refl
+ends_alike AllWaiting AllWaiting p q f e = refl
+ends_alike BudgetSpent BudgetSpent p q f e = refl
+ends_alike ScheduleEnded ScheduleEnded p q f e = refl
+ends_alike (Illegal entry) (Illegal other) p q f e = ap Illegal (decimal_injective entry other p q (append_cancel_left (codes "END ILLEGAL ENTRY ") (decimal entry) (decimal other) e))
+ends_alike (Fault kind process) (Fault other number) p q f e =
+    let behind : fault_words kind ++ (codes " IN " ++ decimal process) ≡ fault_words other ++ (codes " IN " ++ decimal number) =
+    append_cancel_left (codes "END FAULT ") (fault_words kind ++ (codes " IN " ++ decimal process)) (fault_words other ++ (codes " IN " ++ decimal number))
+    (sym (regroup_three (codes "END FAULT ") (fault_words kind) (codes " IN ") (decimal process)) ∙ e ∙ regroup_three (codes "END FAULT ") (fault_words other) (codes " IN ") (decimal number)) in
+    let kinds : kind ≡ other = same_kind kind other (codes " IN " ++ decimal process) (codes " IN " ++ decimal number) behind in
+    let numbers : process ≡ number = decimal_injective process number (omega arith) (omega arith)
+    (append_cancel_left (codes " IN ") (decimal process) (decimal number)
+    (append_cancel_left (fault_words other) (codes " IN " ++ decimal process) (codes " IN " ++ decimal number) (ap (λ k. fault_words k ++ (codes " IN " ++ decimal process)) (sym kinds) ∙ behind))) in
+    ap (λ k. Fault k process) kinds ∙ ap (λ n. Fault other n) numbers
+ends_alike (StackLimit process words) (StackLimit number others) p q f e =
+    let behind : decimal process ++ (codes " WORDS " ++ decimal words) ≡ decimal number ++ (codes " WORDS " ++ decimal others) =
+    append_cancel_left (codes "END STACK LIMIT IN ") (decimal process ++ (codes " WORDS " ++ decimal words)) (decimal number ++ (codes " WORDS " ++ decimal others))
+    (sym (regroup_three (codes "END STACK LIMIT IN ") (decimal process) (codes " WORDS ") (decimal words)) ∙ e ∙ regroup_three (codes "END STACK LIMIT IN ") (decimal number) (codes " WORDS ") (decimal others)) in
+    let alike = fields_alike process number 32 (codes "WORDS " ++ decimal words) (codes "WORDS " ++ decimal others) (omega (arith, p.0)) (omega (arith, q.0)) (λ d. omega (arith, d.0)) behind in
+    let counts : words ≡ others = decimal_injective words others (omega (arith, p.1)) (omega (arith, q.1)) (append_cancel_left (codes "WORDS ") (decimal words) (decimal others) alike.rests) in
+    ap (λ n. StackLimit n words) alike.numbers ∙ ap (λ n. StackLimit number n) counts
+ends_alike Finished _ p q f e = cc
+ends_alike AllWaiting _ p q f e = cc
+ends_alike BudgetSpent _ p q f e = cc
+ends_alike ScheduleEnded _ p q f e = cc
+ends_alike (Illegal entry) _ p q f e = cc
+ends_alike (Fault kind process) _ p q f e = cc
+ends_alike (StackLimit process words) _ p q f e = cc
+
+pub one_report : (report other : Report) → IsReport report → IsReport other → ReportText report ≡ ReportText other → SaySame report other
+one_report report other p q e =
+    let parts = sym (report_parts report) ∙ e ∙ report_parts other in
+    let one = parts_alike (IsHeaded listing_word IsLineText) (lines_text listing_word report.listing) _ (lines_text listing_word other.listing) _ (headed_apart listing_word IsLineText line_apart)
+    (headed_lines listing_word report.listing p.listing) (headed_lines listing_word other.listing q.listing) parts in
+    let two = parts_alike (IsHeaded output_word IsLineText) (lines_text output_word report.output) _ (lines_text output_word other.output) _ (headed_apart output_word IsLineText line_apart)
+    (headed_lines output_word report.output p.output) (headed_lines output_word other.output q.output) one.seconds in
+    let three = parts_alike IsEndText (line_text (end_words report.end)) _ (line_text (end_words other.end)) _ end_apart
+    record { end = report.end; is_end = p.end; text_is = refl } record { end = other.end; is_end = q.end; text_is = refl } two.seconds in
+    let four = parts_alike (IsHeaded operators_word IsCountText) (counts_text operators_word report.operators) _ (counts_text operators_word other.operators) _ (headed_apart operators_word IsCountText count_apart)
+    (headed_counts operators_word report.operators p.operators) (headed_counts operators_word other.operators q.operators) three.seconds in
+    let five = parts_alike (IsHeaded acts_word IsCountText) (counts_text acts_word report.acts) _ (counts_text acts_word other.acts) _ (headed_apart acts_word IsCountText count_apart)
+    (headed_counts acts_word report.acts p.acts) (headed_counts acts_word other.acts q.acts) four.seconds in
+    let words : end_words report.end ≡ end_words other.end = append_cancel_right (end_words report.end) (end_words other.end) (line_end ∷ []) three.firsts in
+    record {
+      listing = lines_part listing_word report.listing other.listing p.listing q.listing one.firsts;
+      output = lines_part output_word report.output other.output p.output q.output two.firsts;
+      end = ends_alike report.end other.end p.end q.end (same_form report.end other.end words) words;
+      operators = counts_part operators_word report.operators other.operators p.operators q.operators four.firsts;
+      acts = counts_part acts_word report.acts other.acts p.acts q.acts five.firsts;
+      runs = one_text report.schedule.runs other.schedule.runs p.schedule q.schedule five.seconds;
+    }
+
+text_not_refused : (e : ReadReport) (bytes : List ℕ) → Refuses e bytes → IsReportText bytes → e ≡ NoMemory
+text_not_refused (BadReport byte) bytes refused is = absurd (refused.none is)
+text_not_refused NoMemory bytes refused is = refl
+
+pub again_at_err : (r : Result Report ReadReport) (bytes : List ℕ) (report : Report) → IsErr r → IfErr r (λ e. Refuses e bytes) → IsReport report → bytes ≡ ReportText report →
+    MatchResult r (λ found. SaySame found report) (λ e. e ≡ NoMemory)
+again_at_err (Ok x) bytes report err refused is e = cc
+again_at_err (Err x) bytes report err refused is e = text_not_refused x bytes refused record { report = report; is_report = is; text_is = e }

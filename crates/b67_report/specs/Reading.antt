@@ -63,3 +63,12 @@ RefusesAt NoMemory Is bytes at = Unit {0}
 abbrev pub of_schedule : ReadSchedule → ReadReport
 of_schedule (schedule.Bad bad) = BadReport bad.byte
 of_schedule schedule.NoMemory = NoMemory
+
+-- two reports say the same: they differ in the room of their schedules at most
+pub record SaySame (report other : Report) : Type 0 where
+  pub listing : report.listing ≡ other.listing
+  pub output : report.output ≡ other.output
+  pub end : report.end ≡ other.end
+  pub operators : report.operators ≡ other.operators
+  pub acts : report.acts ≡ other.acts
+  pub runs : report.schedule.runs ≡ other.schedule.runs

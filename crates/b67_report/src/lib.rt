@@ -14,7 +14,7 @@ ghost use Rattle.b67_report.specs.Texts.{line_text, head_text, lines_text, count
 use b67_list::{Line, List, push_number};
 use b67_num::FaultKind;
 use b67_schedule::Schedule;
-pub use reading::read_report;
+pub use reading::{read_report, reports_have_own_texts};
 pub use refusal::ReadReport;
 use std::alloc::{AllocError, Global};
 

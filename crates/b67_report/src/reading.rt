@@ -1,9 +1,9 @@
 //! A report from its text.
 
-ghost use Rattle.std.specs.Prelude.{◌≡◌, ℕ, ◌<◌, ◌≤◌, ◌^◌, ◌-◌, List, length, IfOk, IfErr};
+ghost use Rattle.std.specs.Prelude.{◌≡◌, ℕ, ◌<◌, ◌≤◌, ◌^◌, ◌-◌, List, length, IfOk, IfErr, MatchResult};
 ghost use Rattle.b67_text.specs.Texts.{Stands, StopsAt, HasByte};
 ghost use Rattle.b67_report.specs.Texts.{line_text, lines_text, count_text, counts_text, ReportText};
-ghost use Rattle.b67_report.specs.Reading.{IsLine, AreLines, AreCounts, IsReport, Refuses, RefusesAt};
+ghost use Rattle.b67_report.specs.Reading.{IsLine, AreLines, AreCounts, IsReport, SaySame, Refuses, RefusesAt};
 ghost use Rattle.b67_report.specs.Parts.{up_to, IsHeaded, IsLineText, IsCountText, LineStands};
 
 use crate::ends::read_end;
@@ -18,6 +18,8 @@ use std::alloc::Global;
 /// front that some more bytes make such a text. The numbers of a report have 64 bits, those of processes and words 32.
 pub fn read_report(alloc: Global, bytes: &[u8]) -> Result<Report, ReadReport>
     ensures read { IfOk result (λ report. IsReport report × (bytes.now ≡ ReportText report)) }
+    ensures again { (report : Report) → IsReport report → bytes.now ≡ ReportText report →
+        MatchResult result (λ found. SaySame found report) (λ e. e ≡ ReadReport.NoMemory) }
     ensures refused { IfErr result (λ e. Refuses e bytes.now) }
 {
     let (listing, next) = read_lines(alloc, bytes, 0, b"LISTING ")?;
@@ -143,3 +145,9 @@ pub fn numbers_of_32_bits() -> Numbers
         except: None,
     }
 }
+
+/// Reports that say different things have different texts: equal texts are of reports that differ in the room of their
+/// schedules at most.
+pub fn reports_have_own_texts()
+    ensures { (report other : Report) → IsReport report → IsReport other → ReportText report ≡ ReportText other → SaySame report other }
+{}

@@ -1,9 +1,10 @@
 use Rattle.std.proofs.Common.{◌≡◌, ◌≢◌, ℕ, ◌+◌, ◌-◌, ◌<◌, ◌≤◌, List, length, refl, sym, subst, ap, arith, ◌∙◌}
 use Rattle.std.proofs.lemmas.Result.{err_from_is_err_and}
-use Rattle.b67_text.specs.Texts.{StopsAt, Stands}
+use Rattle.b67_text.specs.Texts.{IsRefused, StopsAt, Stands}
 use Rattle.b67_report.specs.declared.Report.{Report}
 use Rattle.b67_report.specs.Texts.{ReportText}
-use Rattle.b67_report.proofs.WholeReport.{Front, Middle, listing_refused, output_refused, end_refused, operators_refused, acts_refused, schedule_refused, report_stands, report_is, behind_refused, stands_whole, same_lists}
+use Rattle.b67_report.specs.Reading.{IsReportText}
+use Rattle.b67_report.proofs.WholeReport.{Front, Middle, listing_refused, output_refused, end_refused, operators_refused, acts_refused, schedule_refused, report_stands, report_is, behind_refused, stands_whole, same_lists, again_at_err, one_report}
 use Rattle.b67_report.proofs.reading.read_report.Goals as goal
 
 pub returns-in_err-listing-clause-refused : goal.returns-in_err-listing-clause-refused
@@ -116,3 +117,29 @@ returns-clause-read c =
     let whole = stands_whole (ReportText report) c.args.bytes.now c.in_ok-schedule.next stands (omega arith) in
     same_lists c.of.result c.of-2.result c.in_ok-end.end c.of-3.result c.of-4.result c.in_ok-schedule.schedule c.args.bytes.now c.in_ok-listing.listing.items c.in_ok-output.output.items c.in_ok-operators.operators.items c.in_ok-acts.acts.items
     c.of.ensures c.of-2.ensures c.of-3.ensures c.of-4.ensures is whole
+
+pub returns-in_err-listing-clause-again : goal.returns-in_err-listing-clause-again
+returns-in_err-listing-clause-again c report is e = again_at_err c.from_residual.result c.args.bytes.now report c.from_residual.ensures.0 (returns-in_err-listing-clause-refused c) is e
+
+pub returns-in_err-output-clause-again : goal.returns-in_err-output-clause-again
+returns-in_err-output-clause-again c report is e = again_at_err c.from_residual-in_err-output.result c.args.bytes.now report c.from_residual-in_err-output.ensures.0 (returns-in_err-output-clause-refused c) is e
+
+pub returns-in_err-end-clause-again : goal.returns-in_err-end-clause-again
+returns-in_err-end-clause-again c report is e = again_at_err c.from_residual-in_err-end.result c.args.bytes.now report c.from_residual-in_err-end.ensures.0 (returns-in_err-end-clause-refused c) is e
+
+pub returns-in_err-operators-clause-again : goal.returns-in_err-operators-clause-again
+returns-in_err-operators-clause-again c report is e = again_at_err c.from_residual-in_err-operators.result c.args.bytes.now report c.from_residual-in_err-operators.ensures.0 (returns-in_err-operators-clause-refused c) is e
+
+pub returns-in_err-acts-clause-again : goal.returns-in_err-acts-clause-again
+returns-in_err-acts-clause-again c report is e = again_at_err c.from_residual-in_err-acts.result c.args.bytes.now report c.from_residual-in_err-acts.ensures.0 (returns-in_err-acts-clause-refused c) is e
+
+pub returns-in_err-schedule-clause-again : goal.returns-in_err-schedule-clause-again
+returns-in_err-schedule-clause-again c report is e = again_at_err c.from_residual-in_err-schedule.result c.args.bytes.now report c.from_residual-in_err-schedule.ensures.0 (returns-in_err-schedule-clause-refused c) is e
+
+pub returns-then-next-bytes-clause-again : goal.returns-then-next-bytes-clause-again
+returns-then-next-bytes-clause-again c report is e =
+    let refused : IsRefused IsReportText c.args.bytes.now c.in_ok-schedule.next = returns-then-next-bytes-clause-refused c in
+    absurd (refused.none record { report = report; is_report = is; text_is = e })
+
+pub returns-clause-again : goal.returns-clause-again
+returns-clause-again c report is e = let read = returns-clause-read c in one_report _ report read.0 is (sym read.1 ∙ e)
