@@ -152,4 +152,25 @@ mod tests {
         );
         Ok(())
     }
+
+    #[test]
+    fn texts_of_schedules(rt: HostRuntime) -> Result<(), Fail> {
+        let bad = |byte| Err(ReadSchedule::Bad(BadText { byte }));
+        let cases: [(&[u8], Result<u64, ReadSchedule>); 6] = [
+            (b"SCHEDULE 1 2\n1*2\n2*1\n", Ok(3)),
+            (b"", bad(0)),
+            (b"SCHEDULE 1 01\n", bad(12)),
+            (b"SCHEDULE 1 2\n1*2\n1*1\n", bad(18)),
+            (b"SCHEDULE 1 2\n999999999*1\n999999999*1\n", bad(33)),
+            (b"SCHEDULE 1 1\n1*2\n2*1\n", bad(17)),
+        ];
+        for (bytes, wanted) in cases {
+            let answer = match read(rt.alloc(), bytes) {
+                Ok(schedule) => Ok(schedule.len()),
+                Err(refusal) => Err(refusal),
+            };
+            assert_eq!(rt; answer, wanted);
+        }
+        Ok(())
+    }
 }
