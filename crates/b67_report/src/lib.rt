@@ -4,12 +4,18 @@
 //! ended, how many operators each process did, how many actions each processor did, and the schedule.
 #![tactic(auto)]
 
+mod ends;
+mod reading;
+mod refusal;
+
 ghost use Rattle.std.specs.Prelude.{◌≡◌, ◌++◌, IfOk, OnOk, codes};
 ghost use Rattle.b67_report.specs.Texts.{line_text, head_text, lines_text, count_text, counts_text, end_words, fault_words, ReportText};
 
 use b67_list::{Line, List, push_number};
 use b67_num::FaultKind;
 use b67_schedule::Schedule;
+pub use reading::{read_report, reports_have_own_texts};
+pub use refusal::ReadReport;
 use std::alloc::{AllocError, Global};
 
 /// How a run ended.
@@ -182,6 +188,14 @@ mod tests {
         let wanted =
             b"LISTING 1\nSEGMENT 0 1\nOUTPUT 1\n  10\nEND FAULT REAL RESULT IN 1\nOPERATORS 2\n1 7\n2 3\nACTS 1\n1 2\nSCHEDULE 1 2\n1*1\n2*1\n";
         assert_eq!(rt; text(alloc, &report)?.as_slice(), wanted.as_slice());
+        match read_report(alloc, wanted.as_slice()) {
+            Ok(again) => assert_eq!(rt; again.end, report.end),
+            Err(refusal) => assert_eq!(rt; refusal, ReadReport::NoMemory),
+        }
+        match read_report(alloc, b"X") {
+            Ok(other) => assert_ne!(rt; other.end, other.end),
+            Err(refusal) => assert_eq!(rt; refusal, ReadReport::BadReport { byte: 0 }),
+        }
         Ok(())
     }
 }

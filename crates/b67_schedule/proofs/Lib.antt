@@ -1,1 +1,3 @@
 pub mod Pushes
+pub mod RunLines
+pub mod WholeText

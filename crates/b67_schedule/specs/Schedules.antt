@@ -2,6 +2,7 @@
 use Rattle.std.specs.Prelude.{◌≡◌, ℕ, ◌-◌, ◌<◌, ◌≤◌, ◌≢◌, slice_index_or, List, ◌++◌, length, replicate, codes}
 use Rattle.std.specs.List.{All, AllAdjacentBelow, flat_map}
 use Rattle.std.specs.Fmt.{decimal}
+use Rattle.b67_schedule.specs.declared.TheConstants.{MOST_NUMBER}
 use Rattle.b67_schedule.specs.declared.Run.{Run}
 
 -- what contracts see of a schedule: its runs, and for how many there is room
@@ -11,7 +12,7 @@ pub record Kept : Type 0 where
 
 -- the greatest number in a schedule
 abbrev pub most : ℕ
-most = 999999999
+most = MOST_NUMBER
 
 -- the process of each action, in order
 abbrev pub entries : List Run → List ℕ

@@ -1,14 +1,21 @@
 //! Schedules: which process did each action of a run, in order, and the text of that.
 #![tactic(auto)]
 
+mod reading;
+
 ghost use Rattle.std.specs.Prelude.{◌≡◌, ℕ, ◌+◌, ◌<◌, ◌≤◌, [], ◌∷◌, ◌++◌, ◌↔◌, length, IsTrue, IfOk, OnOk};
 ghost use Rattle.std.specs.Fmt.{decimal};
 ghost use Rattle.std.specs.List.{flat_map};
 ghost use Rattle.b67_schedule.specs.Schedules.{most, entries, IsSchedule, IsLast, run_line, ScheduleText};
 
 use b67_list::push_number;
+pub use b67_text::BadText;
+pub use reading::{ReadSchedule, read, read_from, schedules_have_own_texts};
 use std::alloc::{AllocError, Global};
 use std::marker::Model;
+
+/// The greatest number in the text of a schedule.
+pub const MOST_NUMBER: u32 = 999_999_999;
 
 /// So many actions of one process, one after another. Both numbers are from 1 to 999,999,999.
 #[derive(Clone, Copy, PartialEq, Eq, Debug)]
@@ -143,6 +150,27 @@ mod tests {
             schedule.text()?.as_slice(),
             b"SCHEDULE 1 2\n1*2\n2*1\n".as_slice()
         );
+        Ok(())
+    }
+
+    #[test]
+    fn texts_of_schedules(rt: HostRuntime) -> Result<(), Fail> {
+        let bad = |byte| Err(ReadSchedule::Bad(BadText { byte }));
+        let cases: [(&[u8], Result<u64, ReadSchedule>); 6] = [
+            (b"SCHEDULE 1 2\n1*2\n2*1\n", Ok(3)),
+            (b"", bad(0)),
+            (b"SCHEDULE 1 01\n", bad(12)),
+            (b"SCHEDULE 1 2\n1*2\n1*1\n", bad(18)),
+            (b"SCHEDULE 1 2\n999999999*1\n999999999*1\n", bad(33)),
+            (b"SCHEDULE 1 1\n1*2\n2*1\n", bad(17)),
+        ];
+        for (bytes, wanted) in cases {
+            let answer = match read(rt.alloc(), bytes) {
+                Ok(schedule) => Ok(schedule.len()),
+                Err(refusal) => Err(refusal),
+            };
+            assert_eq!(rt; answer, wanted);
+        }
         Ok(())
     }
 }

@@ -1,0 +1,9 @@
+use Rattle.std.proofs.Common.{◌≡◌, ℕ, ◌+◌, ◌<◌, ◌≤◌, ◌^◌, length, take, get_or, arith}
+use Rattle.b67_schedule.specs.Schedules.{most, entries}
+use Rattle.b67_schedule.proofs.WholeText.{actions_fit}
+use Rattle.b67_schedule.proofs.reading.actions_of.Goals as goal
+
+pub overflow_add-actions : goal.overflow_add-actions
+overflow_add-actions c =
+    let fits = actions_fit c.args.runs.now c.runs.run-index record { process = 0; times = 0 } c.requires c.runs-test.true in
+    omega (arith, c.runs.invariant, c.from-actions.ensures, fits)

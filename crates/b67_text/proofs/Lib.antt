@@ -1,0 +1,4 @@
+pub mod Decimals
+pub mod Beginnings
+pub mod Fronts
+pub mod Parts
