@@ -1,0 +1,4 @@
+pub mod Tables
+pub mod Notes
+pub mod Parts
+pub mod Actuals

@@ -1,0 +1,4 @@
+pub mod Noting
+pub mod Seen
+pub mod Wanting
+pub mod Expressing

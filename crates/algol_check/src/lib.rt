@@ -1,0 +1,10 @@
+//! The rules of types, counts, lines and labels.
+//!
+//! A tree is walked once, in the order of the text. What a name is declared as is found through ordered maps of the open blocks.
+#![tactic(auto)]
+
+mod class;
+mod expression;
+mod known;
+mod types;
+mod wanted;
