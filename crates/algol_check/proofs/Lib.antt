@@ -2,3 +2,5 @@ pub mod Tables
 pub mod Notes
 pub mod Parts
 pub mod Actuals
+pub mod Lines
+pub mod Specs

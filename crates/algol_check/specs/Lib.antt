@@ -2,3 +2,5 @@ pub mod Noting
 pub mod Seen
 pub mod Wanting
 pub mod Expressing
+pub mod Lining
+pub mod Headings

@@ -5,6 +5,8 @@
 
 mod class;
 mod expression;
+mod heading;
 mod known;
+mod line;
 mod types;
 mod wanted;

@@ -2,6 +2,7 @@
 
 ghost use Rattle.std.specs.Prelude.{◌≡◌};
 ghost use Rattle.algol_tree.specs.Accepted.{noted_all};
+ghost use Rattle.algol_check.specs.Noting.{broken_if};
 ghost use Rattle.algol_check.specs.Seen.{class_seen, seen};
 ghost use Rattle.algol_check.specs.Wanting.{is_met, unfit, unfit_event};
 
@@ -9,7 +10,7 @@ use crate::class::Class;
 use crate::known::{Names, class_of};
 use crate::types::read_type;
 use algol_rules::Faults;
-use algol_tree::{Code, EventName, Kind, Named};
+use algol_tree::{Code, EventName, Kind, Named, Spot};
 
 /// What a name has to be where it stands.
 #[derive(Clone, Copy)]
@@ -58,6 +59,15 @@ impl Wanted {
                 _ => false,
             },
         }
+    }
+}
+
+/// Notes the rule where it is broken.
+pub fn note_if(is_broken: bool, spot: Spot, code: Code, faults: &mut Faults)
+    ensures { faults.new.first ≡ noted_all faults.old.first (broken_if code is_broken spot) }
+{
+    if is_broken {
+        faults.note(spot, code);
     }
 }
 
