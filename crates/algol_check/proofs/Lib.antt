@@ -4,3 +4,4 @@ pub mod Parts
 pub mod Actuals
 pub mod Lines
 pub mod Specs
+pub mod Places

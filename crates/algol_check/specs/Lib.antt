@@ -4,3 +4,4 @@ pub mod Wanting
 pub mod Expressing
 pub mod Lining
 pub mod Headings
+pub mod Labelling

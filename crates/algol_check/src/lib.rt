@@ -7,6 +7,7 @@ mod class;
 mod expression;
 mod heading;
 mod known;
+mod label;
 mod line;
 mod types;
 mod wanted;
