@@ -5,3 +5,4 @@ pub mod Actuals
 pub mod Lines
 pub mod Specs
 pub mod Places
+pub mod Sameness

@@ -5,3 +5,4 @@ pub mod Expressing
 pub mod Lining
 pub mod Headings
 pub mod Labelling
+pub mod Same

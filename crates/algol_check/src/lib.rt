@@ -9,5 +9,6 @@ mod heading;
 mod known;
 mod label;
 mod line;
+mod same;
 mod types;
 mod wanted;
