@@ -6,3 +6,4 @@ pub mod Lines
 pub mod Specs
 pub mod Places
 pub mod Sameness
+pub mod Whole
