@@ -7,3 +7,4 @@ pub mod Specs
 pub mod Places
 pub mod Sameness
 pub mod Whole
+pub mod Surrounded

@@ -1,5 +1,5 @@
 -- Faults that are noted one list after the other.
-use Rattle.std.proofs.Common.{rules, ◌≡◌, List, [], ◌∷◌, ◌++◌, Option, Some, None, refl}
+use Rattle.std.proofs.Common.{◌≡◌, List, [], ◌∷◌, ◌++◌, Option, refl}
 use Rattle.algol_tree.specs.declared.refusal.Fault.{Fault}
 use Rattle.algol_tree.specs.Accepted.{noted, noted_all}
 use Rattle.algol_tree.specs.Blocks.{Block}

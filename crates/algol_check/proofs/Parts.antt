@@ -1,14 +1,13 @@
 -- What the rules say of each form of expression, as the walk notes it.
-use Rattle.std.proofs.Common.{rules, ◌≡◌, ℕ, ◌+◌, Bool, true, false, List, [], ◌∷◌, ◌++◌, map, length, drop, Option, Some, None, refl, ap, sym, ◌∙◌, arith}
+use Rattle.std.proofs.Common.{rules, ◌≡◌, ℕ, ◌+◌, List, [], ◌∷◌, ◌++◌, length, Option, Some, None, refl, ap, sym, ◌∙◌, arith}
 use Rattle.std.proofs.lemmas.List.{map-append}
-use Rattle.std.specs.Prelude.{◌==◌, ◌&&◌, not}
+use Rattle.std.specs.Prelude.{◌&&◌, not}
 use Rattle.algol_tree.specs.declared.token.Spot.{Spot}
 use Rattle.algol_tree.specs.declared.refusal.Fault.{Fault}
 use Rattle.algol_tree.specs.declared.refusal.Code.TheVariants as codes
 use Rattle.algol_tree.specs.declared.tree.Named.{Named}
 use Rattle.algol_tree.specs.declared.tree.Kind.{Kind}
 use Rattle.algol_tree.specs.declared.tree.Kind.TheVariants as kinds
-use Rattle.algol_tree.specs.declared.tree.EventName.{EventName}
 use Rattle.algol_tree.specs.declared.tree.Op.{Op}
 use Rattle.std.specs.declared.boxed.Box.{Box}
 use Rattle.std.specs.declared.alloc.Global.{Global}
@@ -20,8 +19,8 @@ use Rattle.algol_tree.specs.declared.tree.Call.{Call}
 use Rattle.algol_tree.specs.declared.tree.Call as calls
 use Rattle.algol_tree.specs.Plain as tree
 use Rattle.algol_tree.specs.Plain.{PExpr, PExprs}
-use Rattle.algol_tree.specs.Image.{expr, exprs, variable, call}
-use Rattle.algol_tree.specs.Classes.{same_kind, is_array, is_unspecified}
+use Rattle.algol_tree.specs.Image.{expr, exprs, variable}
+use Rattle.algol_tree.specs.Classes.{is_array, is_unspecified}
 use Rattle.algol_tree.specs.Cells.{first_spot}
 use Rattle.algol_tree.specs.Types.{type_of, taken_by}
 use Rattle.algol_tree.specs.Names.{if_so}
@@ -29,10 +28,10 @@ use Rattle.algol_tree.specs.Surroundings.{Surroundings, class_of, formals_at}
 use Rattle.algol_tree.specs.Sites as site
 use Rattle.algol_tree.specs.Sites.{Site}
 use Rattle.algol_tree.specs.Checks.{wrong_types}
-use Rattle.algol_tree.specs.Accepted.{noted, noted_all}
+use Rattle.algol_tree.specs.Accepted.{noted_all}
 use Rattle.algol_check.specs.declared.wanted.Wanted.TheVariants as wanted
-use Rattle.algol_check.specs.Noting.{broken, noted_at, noted_in, mistyped, mistyped_for, mistyped_list, differs}
-use Rattle.algol_check.specs.Wanting.{unfit, unfit_event}
+use Rattle.algol_check.specs.Noting.{broken, noted_in, mistyped, mistyped_for, mistyped_list, differs}
+use Rattle.algol_check.specs.Wanting.{unfit}
 use Rattle.algol_check.specs.Expressing.{miscounted_subscripts, noted_name, noted_element, noted_here, noted_call}
 use Rattle.algol_check.proofs.Notes.{noted_all-append, noted_along-append}
 

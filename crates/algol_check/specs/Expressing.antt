@@ -1,6 +1,5 @@
 -- The faults of names, of variables and of actuals, as the walk finds them.
-use Rattle.std.specs.Prelude.{◌==◌, ◌&&◌, not, Bool, true, false, ℕ, List, [], ◌∷◌, ◌++◌, length, Option, Some, None}
-use Rattle.algol_tree.specs.declared.token.Spot.{Spot}
+use Rattle.std.specs.Prelude.{◌==◌, ◌&&◌, not, Bool, true, false, ℕ, List, [], ◌∷◌, length, Option, Some}
 use Rattle.algol_tree.specs.declared.refusal.Code.TheVariants as codes
 use Rattle.algol_tree.specs.declared.refusal.Fault.{Fault}
 use Rattle.algol_tree.specs.declared.tree.Named.{Named}

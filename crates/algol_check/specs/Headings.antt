@@ -9,13 +9,11 @@ use Rattle.algol_tree.specs.declared.refusal.Fault.{Fault}
 use Rattle.algol_tree.specs.declared.tree.Named.{Named}
 use Rattle.algol_tree.specs.declared.tree.Spec.{Spec}
 use Rattle.algol_tree.specs.declared.tree.Spec.TheVariants as specs
-use Rattle.algol_tree.specs.Classes as class
 use Rattle.algol_tree.specs.Classes.{Class, is_array, is_event, is_unspecified}
 use Rattle.algol_tree.specs.Sorts.{class_in, specified_by}
 use Rattle.algol_check.specs.declared.class.Formal.{Formal}
 use Rattle.algol_check.specs.declared.class.Formal.TheVariants as formal
 use Rattle.algol_check.specs.Noting.{broken_if}
-use Rattle.algol_check.specs.Seen.{formal_seen}
 
 abbrev pub formal_by : Spec → Formal
 formal_by (specs.Simple kind ns) = formal.Simple kind

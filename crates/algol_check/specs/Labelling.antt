@@ -1,5 +1,5 @@
 -- Where labels stand, and where they are bad.
-use Rattle.std.specs.Prelude.{◌≡◌, if◌then◌else◌, not, List, [], ◌∷◌, ◌++◌, Option, Some, None}
+use Rattle.std.specs.Prelude.{if◌then◌else◌, not, List, [], ◌∷◌, ◌++◌, Option, Some, None}
 use Rattle.std.specs.declared.cmp.Ordering.{Ordering}
 use Rattle.std.specs.declared.alloc.Global.{Global}
 use Rattle.std.specs.declared.vec.Vec.{Vec}
@@ -10,7 +10,7 @@ use Rattle.algol_tree.specs.declared.refusal.Code.TheVariants as codes
 use Rattle.algol_tree.specs.declared.refusal.Fault.{Fault}
 use Rattle.algol_tree.specs.Blocks.{same_spot}
 use Rattle.algol_check.specs.declared.label.Standing.{Standing}
-use Rattle.algol_check.specs.Noting.{broken, broken_if}
+use Rattle.algol_check.specs.Noting.{broken_if}
 
 -- the order of places that a table has
 abbrev pub order : Spot → Spot → Ordering

@@ -6,3 +6,4 @@ pub mod Lining
 pub mod Headings
 pub mod Labelling
 pub mod Same
+pub mod Assigning

@@ -1,5 +1,5 @@
 -- The phrases of a format as the program has them, and what is noted of their line.
-use Rattle.std.specs.Prelude.{ℕ, ◌-◌, ◌^◌, ◌==◌, ◌||◌, min, if◌then◌else◌, nat_lt, not, Bool, true, false, List, [], ◌∷◌, Option, Some, None}
+use Rattle.std.specs.Prelude.{ℕ, ◌-◌, ◌^◌, ◌==◌, ◌||◌, min, if◌then◌else◌, nat_lt, not, Bool, true, false, List, Option, Some, None}
 use Rattle.std.specs.List.{list_any}
 use Rattle.algol_tree.specs.declared.TheConstants.{MOST_LINE_WIDTH}
 use Rattle.algol_tree.specs.declared.token.Spot.{Spot}

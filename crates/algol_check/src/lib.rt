@@ -3,6 +3,7 @@
 //! A tree is walked once, in the order of the text. What a name is declared as is found through ordered maps of the open blocks.
 #![tactic(auto)]
 
+mod assign;
 mod class;
 mod expression;
 mod heading;

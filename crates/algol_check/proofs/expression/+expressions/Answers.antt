@@ -1,4 +1,4 @@
-use Rattle.std.proofs.Common.{◌≡◌, ◌∙◌, sym, ap, refl, true, false, map, drop}
+use Rattle.std.proofs.Common.{◌∙◌, sym, ap, refl, map, drop}
 use Rattle.algol_tree.specs.Image.{expr, exprs}
 use Rattle.algol_rules.specs.declared.fault.Faults.{Faults}
 use Rattle.algol_check.specs.Seen.{seen, formal_as}

@@ -1,7 +1,7 @@
 use Rattle.std.specs.Prelude.{◌||◌}
-use Rattle.std.proofs.Common.{◌≡◌, ◌+◌, ◌≤◌, ◌<◌, ◌^◌, ◌∙◌, ap, sym, arith, drop}
+use Rattle.std.proofs.Common.{◌≡◌, ◌+◌, ◌≤◌, ◌∙◌, ap, sym, arith, drop}
 use Rattle.algol_tree.specs.Phrases.{items_of, columns_of}
-use Rattle.algol_check.specs.Lining.{capped, any_bad, items_seen, columns_seen, is_none_seen}
+use Rattle.algol_check.specs.Lining.{capped, any_bad, columns_seen, is_none_seen}
 use Rattle.algol_check.proofs.Lines.{phrases_step, or_on, columns_on}
 use Rattle.algol_check.proofs.line.check_line.Goals as goal
 

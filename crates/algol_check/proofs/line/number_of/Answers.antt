@@ -1,4 +1,4 @@
-use Rattle.std.proofs.Common.{◌≡◌, ◌+◌, ◌*◌, ◌<◌, ◌^◌, ◌∙◌, arith}
+use Rattle.std.proofs.Common.{◌≡◌, ◌+◌, ◌*◌, ◌∙◌, arith}
 use Rattle.algol_check.specs.Lining.{capped}
 use Rattle.algol_check.proofs.Lines.{digits_step}
 use Rattle.algol_check.proofs.line.number_of.Goals as goal

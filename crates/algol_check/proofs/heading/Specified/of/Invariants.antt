@@ -1,4 +1,4 @@
-use Rattle.std.proofs.Common.{◌≡◌, ℕ, List, drop}
+use Rattle.std.proofs.Common.{drop}
 use Rattle.algol_check.specs.Headings.{Specifies}
 use Rattle.algol_check.proofs.heading.Specified.of.Given as goal
 
