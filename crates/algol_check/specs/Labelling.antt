@@ -1,0 +1,48 @@
+-- Where labels stand, and where they are bad.
+use Rattle.std.specs.Prelude.{if◌then◌else◌, not, List, [], ◌∷◌, ◌++◌, Option, Some, None}
+use Rattle.std.specs.declared.cmp.Ordering.{Ordering}
+use Rattle.std.specs.declared.alloc.Global.{Global}
+use Rattle.std.specs.declared.vec.Vec.{Vec}
+use Rattle.std.specs.Ordering.{nat_cmp, ordering_then}
+use Rattle.std.specs.BTreeMap.{BTreeMap, get_by}
+use Rattle.algol_tree.specs.declared.token.Spot.{Spot}
+use Rattle.algol_tree.specs.declared.refusal.Code.TheVariants as codes
+use Rattle.algol_tree.specs.declared.refusal.Fault.{Fault}
+use Rattle.algol_tree.specs.Blocks.{same_spot}
+use Rattle.algol_check.specs.declared.label.Standing.{Standing}
+use Rattle.algol_check.specs.Noting.{broken_if}
+
+-- the order of places that a table has
+abbrev pub order : Spot → Spot → Ordering
+order a b = ordering_then (nat_cmp a.line b.line) (nat_cmp a.column b.column)
+
+abbrev pub items_or : Option (Vec Standing Global) → List Standing
+items_or None = []
+items_or (Some v) = v.items
+
+-- the places of the label that is declared there
+abbrev pub places_in : BTreeMap Spot (Vec Standing Global) → Spot → List Standing
+places_in table spot = items_or (get_by (order spot) table)
+
+abbrev pub those_of : List Standing → Spot → List Standing
+those_of [] spot = []
+those_of (s ∷ ss) spot = if same_spot s.declared spot then s ∷ those_of ss spot else those_of ss spot
+
+-- where it stands away from the list of its block
+abbrev pub away : List Standing → List Fault
+away [] = []
+away (s ∷ ss) = broken_if codes.BadLabel (not s.at_home) s.spot ++ away ss
+
+-- where it stands again
+abbrev pub again : List Standing → List Fault
+again [] = []
+again (s ∷ ss) = record { spot = s.spot; code = codes.BadLabel } ∷ again ss
+
+-- where the label is bad that is declared there and stands so
+abbrev pub bad_at : Spot → List Standing → List Fault
+bad_at spot [] = record { spot = spot; code = codes.BadLabel } ∷ []
+bad_at spot (s ∷ ss) = away (s ∷ ss) ++ again ss
+
+abbrev pub bad_in : List Standing → List Spot → List Fault
+bad_in all [] = []
+bad_in all (spot ∷ spots) = bad_at spot (those_of all spot) ++ bad_in all spots

@@ -1,0 +1,9 @@
+pub mod Noting
+pub mod Seen
+pub mod Wanting
+pub mod Expressing
+pub mod Lining
+pub mod Headings
+pub mod Labelling
+pub mod Same
+pub mod Assigning
