@@ -1,8 +1,6 @@
 -- The lines that say how a run ended, and the lines of counts.
-use Rattle.std.proofs.Common.{◌≡◌, ℕ, ◌+◌, ◌-◌, ◌<◌, ◌≤◌, ◌^◌, ◌==◌, max, cond, zero, suc, Option, None, Some, Result, Ok, Err, List, [], ◌∷◌, ◌++◌, length, get_or, take, drop, codes, refl, sym, ap, subst, arith, ◌∙◌, inl, inr, ⊎_elim, append_assoc}
-use Rattle.std.specs.Prelude.{◌⊎◌}
+use Rattle.std.proofs.Common.{◌≡◌, ℕ, ◌-◌, ◌^◌, ◌==◌, cond, Result, Ok, Err, List, [], ◌∷◌, ◌++◌, get_or, codes, refl, sym, ap, arith, ◌∙◌, inl, inr, ⊎_elim, append_assoc}
 use Rattle.std.specs.Fmt.{decimal}
-use Rattle.std.proofs.lemmas.List.{append-nil, length-append}
 use Rattle.b67_num.specs.declared.FaultKind.{FaultKind}
 use Rattle.b67_num.specs.declared.FaultKind.TheVariants.{RealResult, DivideByZero, InvalidIndex, CriticalBlockExit, BadGoTo, ProcessLimit, CoreFull, ArraySize, NotAVariable, CaseIndex}
 use Rattle.b67_text.specs.declared.BadText.{BadText}
@@ -13,7 +11,7 @@ use Rattle.b67_text.proofs.Fronts.{field_apart, IsWord, word_apart}
 use Rattle.b67_text.proofs.Parts.{Either}
 use Rattle.b67_report.specs.declared.EndWords.{EndWords}
 use Rattle.b67_report.specs.declared.EndWords.TheVariants.{Finished, Fault, AllWaiting, BudgetSpent, StackLimit, ScheduleEnded, Illegal}
-use Rattle.b67_report.specs.Texts.{line_text, count_text, fault_words, end_words}
+use Rattle.b67_report.specs.Texts.{line_text, fault_words, end_words}
 use Rattle.b67_report.specs.Reading.{IsEnd}
 use Rattle.b67_report.specs.Parts.{up_to, Joined, IsCountText, IsEndText, IsFaultText, IsStackLimitText, IsIllegalText, IsKindText, IsAmong, ReadsEnd, ReadsKind}
 use Rattle.b67_report.proofs.Sequences.{HasOne, stops_same, joined_first, joined_second, joined_apart, choice_stops, line_end, line_ends, in_up_to}

@@ -1,15 +1,13 @@
 -- Parts of texts one behind another.
-use Rattle.std.proofs.Common.{◌≡◌, ℕ, ◌+◌, ◌-◌, ◌<◌, ◌≤◌, ◌^◌, max, zero, suc, Option, None, Some, Result, Ok, Err, List, [], ◌∷◌, ◌++◌, length, take, drop, refl, sym, ap, subst, arith, ◌∙◌, inl, inr, ⊎_elim, append_assoc}
-use Rattle.std.specs.Prelude.{◌⊎◌}
+use Rattle.std.proofs.Common.{◌≡◌, ℕ, ◌+◌, ◌-◌, ◌<◌, ◌≤◌, ◌^◌, max, zero, suc, None, Some, List, [], ◌∷◌, ◌++◌, take, drop, refl, sym, ap, subst, arith, ◌∙◌, inl, inr, ⊎_elim, append_assoc}
 use Rattle.std.specs.Fmt.{decimal}
-use Rattle.std.proofs.lemmas.List.{append-nil, length-append, append_cancel_left}
+use Rattle.std.proofs.lemmas.List.{append-nil, append_cancel_left}
 use Rattle.std.proofs.lemmas.Bool.{cases_lt}
-use Rattle.b67_text.specs.declared.number.Numbers.{Numbers}
-use Rattle.b67_text.specs.Texts.{Begins, IsLongest, HasNone, StopsAt, Stands, AreApart}
+use Rattle.b67_text.specs.Texts.{Begins, StopsAt, Stands, AreApart}
 use Rattle.b67_text.specs.Numerals.{IsDigit, IsIn, IsField}
-use Rattle.b67_text.proofs.Fronts.{FieldsAlike, fields_alike, field_apart, IsWord}
-use Rattle.b67_text.proofs.Parts.{Parted, first_stops, GoesOnWith, Leads, second_stops, stands_on, Either}
-use Rattle.b67_report.specs.Texts.{line_text, head_text}
+use Rattle.b67_text.proofs.Fronts.{fields_alike, IsWord}
+use Rattle.b67_text.proofs.Parts.{first_stops, Leads, second_stops, stands_on, Either}
+use Rattle.b67_report.specs.Texts.{head_text}
 use Rattle.b67_report.specs.Parts.{up_to, Joined, Many, IsHeaded}
 
 -- some text of a kind

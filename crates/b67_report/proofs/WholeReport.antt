@@ -1,12 +1,12 @@
 -- The text of a report whole.
-use Rattle.std.proofs.Common.{◌≡◌, ◌≢◌, ℕ, ◌+◌, ◌-◌, ◌<◌, ◌≤◌, ◌^◌, ◌==◌, zero, suc, Bool, true, false, cond, not, ◌&&◌, Result, Ok, Err, List, [], ◌∷◌, ◌++◌, length, get_or, take, drop, codes, refl, sym, ap, subst, arith, ◌∙◌, append_assoc}
+use Rattle.std.proofs.Common.{◌≡◌, ◌≢◌, ℕ, ◌+◌, ◌<◌, ◌≤◌, ◌^◌, ◌==◌, zero, suc, Bool, true, false, cond, not, ◌&&◌, Result, Ok, Err, List, [], ◌∷◌, ◌++◌, length, get_or, codes, refl, sym, ap, subst, arith, ◌∙◌, append_assoc}
 use Rattle.std.specs.List.{All, flat_map, enumerate_from}
 use Rattle.std.specs.Result.{IsErr, IfErr, MatchResult}
 use Rattle.std.specs.Fmt.{decimal}
 use Rattle.std.specs.Str.Parse.{AllDigits}
 use Rattle.std.proofs.lemmas.Fmt.{decimal_is_IsNumeral, decimal_injective}
 use Rattle.std.proofs.lemmas.Str.Parse.{digit_from_value}
-use Rattle.std.proofs.lemmas.List.{append-nil, length-append, drop_all, append_cancel_left, append_cancel_right}
+use Rattle.std.proofs.lemmas.List.{append-nil, drop_all, append_cancel_left, append_cancel_right}
 use Rattle.std.proofs.lemmas.List.Elements.{All-cons, All-nil, All-head, All-tail}
 use Rattle.b67_num.specs.declared.FaultKind.{FaultKind}
 use Rattle.b67_num.specs.declared.FaultKind.TheVariants.{RealResult, DivideByZero, InvalidIndex, CriticalBlockExit, BadGoTo, ProcessLimit, CoreFull, ArraySize, NotAVariable, CaseIndex}

@@ -1,5 +1,5 @@
 -- The parts of the text of a report.
-use Rattle.std.specs.Prelude.{◌≡◌, ℕ, zero, suc, ◌+◌, ◌<◌, ◌^◌, Option, None, Result, MatchResult, List, [], ◌∷◌, ◌++◌, codes, ◌⊎◌}
+use Rattle.std.specs.Prelude.{◌≡◌, ℕ, zero, suc, ◌+◌, ◌<◌, ◌^◌, None, Result, MatchResult, List, [], ◌∷◌, ◌++◌, ◌⊎◌}
 use Rattle.b67_num.specs.declared.FaultKind.{FaultKind}
 use Rattle.b67_num.specs.declared.FaultKind.TheVariants.{RealResult}
 use Rattle.b67_text.specs.declared.BadText.{BadText}

@@ -1,19 +1,16 @@
 -- Lines of runs that are read, and where they stop.
-use Rattle.std.proofs.Common.{◌≡◌, ◌≢◌, ℕ, ◌+◌, ◌-◌, ◌*◌, ◌^◌, ◌<◌, ◌≤◌, zero, suc, Option, None, Some, Bool, true, false, cond, List, [], ◌∷◌, ◌++◌, length, get_or, take, drop, replicate, codes, refl, sym, ap, subst, arith, ◌∙◌, ⊎_elim, append_assoc}
-use Rattle.std.specs.List.{All, flat_map}
+use Rattle.std.proofs.Common.{◌≡◌, ◌≢◌, ℕ, ◌-◌, ◌^◌, ◌<◌, ◌≤◌, zero, suc, Option, None, Some, List, [], ◌∷◌, ◌++◌, length, refl, sym, ap, subst, arith, ◌∙◌, append_assoc}
+use Rattle.std.specs.List.{flat_map}
 use Rattle.std.specs.Fmt.{decimal}
-use Rattle.std.proofs.lemmas.List.{append-nil, length-append, length-replicate, nil_from_length, append_cancel_left, take_more}
+use Rattle.std.proofs.lemmas.List.{append-nil, length-append}
 use Rattle.std.proofs.lemmas.List.Concat.{flat_map-append}
-use Rattle.std.proofs.lemmas.List.Elements.{All-head, All-tail, All-cons, All-nil}
-use Rattle.std.proofs.lemmas.Bool.{cases_eq, cases_lt}
-use Rattle.b67_text.specs.declared.number.Numbers.{Numbers}
-use Rattle.b67_text.specs.Texts.{Begins, StopsAt, Stands, AreApart}
+use Rattle.b67_text.specs.Texts.{StopsAt, Stands}
 use Rattle.b67_text.specs.Numerals.{IsDigit, IsIn, IsField}
-use Rattle.b67_text.proofs.Fronts.{FieldsAlike, fields_alike, IsWord}
-use Rattle.b67_text.proofs.Parts.{Parted, first_stops, GoesOnWith, Leads, second_stops, stands_on}
+use Rattle.b67_text.proofs.Fronts.{fields_alike}
+use Rattle.b67_text.proofs.Parts.{Parted, first_stops, Leads, second_stops, stands_on}
 use Rattle.b67_schedule.specs.declared.Run.{Run}
-use Rattle.b67_schedule.specs.Schedules.{most, entries, IsRun, IsSchedule, run_line, ScheduleText}
-use Rattle.b67_schedule.specs.Reading.{IsScheduleText, numbers, CanFollow, IsRunLine, Follow, last_process, AreRunLines}
+use Rattle.b67_schedule.specs.Schedules.{IsRun, run_line}
+use Rattle.b67_schedule.specs.Reading.{numbers, CanFollow, IsRunLine, Follow, last_process, AreRunLines}
 
 abbrev pub star : ℕ
 star = 42

@@ -1,20 +1,19 @@
 -- The text of a schedule whole: that it is one schedule's, and where it stops.
-use Rattle.std.proofs.Common.{◌≡◌, ◌≢◌, ℕ, ◌+◌, ◌-◌, ◌*◌, ◌^◌, ◌<◌, ◌≤◌, zero, suc, Option, None, Some, List, [], ◌∷◌, ◌++◌, length, get_or, take, drop, replicate, codes, refl, sym, ap, subst, arith, ◌∙◌, ⊎_elim, append_assoc}
+use Rattle.std.proofs.Common.{◌≡◌, ◌≢◌, ℕ, ◌+◌, ◌*◌, ◌^◌, ◌<◌, ◌≤◌, zero, suc, Option, None, Some, List, [], ◌∷◌, ◌++◌, length, get_or, take, codes, refl, sym, ap, subst, arith, ◌∙◌, append_assoc}
 use Rattle.std.specs.List.{All, flat_map, AllAdjacentBelow}
 use Rattle.std.specs.Fmt.{decimal}
-use Rattle.std.specs.Result.{MatchResult}
 use Rattle.std.proofs.lemmas.List.{append-nil, length-append, length-replicate, length-take-le, drop_all, nil_from_length, append_cancel_left}
 use Rattle.std.proofs.lemmas.List.Elements.{All-head, All-tail, All-cons, All-nil, All-take, All-get_or}
-use Rattle.b67_text.specs.Texts.{Begins, IsRefused, StopsAt, Stands, AreApart}
+use Rattle.b67_text.specs.Texts.{IsRefused, StopsAt, Stands, AreApart}
 use Rattle.b67_text.specs.Numerals.{IsIn, IsField}
 use Rattle.b67_text.proofs.Fronts.{FieldsAlike, fields_alike, IsWord}
-use Rattle.b67_text.proofs.Parts.{Parted, first_stops, GoesOnWith, Leads, second_stops, stands_on, refused_where_it_stops, refused_behind}
+use Rattle.b67_text.proofs.Parts.{first_stops, Leads, second_stops, stands_on, refused_where_it_stops, refused_behind}
 use Rattle.b67_schedule.specs.declared.Run.{Run}
 use Rattle.b67_schedule.specs.declared.reading.ReadSchedule.{ReadSchedule}
 use Rattle.b67_schedule.specs.declared.reading.ReadSchedule.TheVariants.{Bad, NoMemory}
 use Rattle.b67_schedule.specs.Schedules.{most, entries, IsRun, IsSchedule, run_line, ScheduleText}
-use Rattle.b67_schedule.specs.Reading.{IsScheduleText, numbers, CanFollow, IsRunLine, Follow, last_process, AreRunLines, Refuses, RefusesAt}
-use Rattle.b67_schedule.proofs.RunLines.{star, line_end, line_ends, none_some, BeginsWithRuns, runs_ahead, in_turn, in_turn_follow, in_turn_count}
+use Rattle.b67_schedule.specs.Reading.{IsScheduleText, numbers, Follow, AreRunLines, Refuses, RefusesAt}
+use Rattle.b67_schedule.proofs.RunLines.{line_end, line_ends, none_some, runs_ahead, in_turn, in_turn_follow, in_turn_count}
 
 abbrev Differ : Run → Run → Type 0
 Differ run next = run.process ≢ next.process

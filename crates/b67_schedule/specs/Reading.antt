@@ -1,5 +1,5 @@
 -- The text of a schedule, part by part.
-use Rattle.std.specs.Prelude.{◌≡◌, ◌≢◌, ℕ, ◌≤◌, Option, Some, None, List, [], ◌∷◌, length}
+use Rattle.std.specs.Prelude.{◌≡◌, ◌≢◌, ℕ, Option, Some, List, [], ◌∷◌, length}
 use Rattle.std.specs.List.{flat_map}
 use Rattle.b67_text.specs.Texts.{IsRefused, StopsAt}
 use Rattle.b67_text.specs.declared.number.Numbers.{Numbers}

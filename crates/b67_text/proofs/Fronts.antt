@@ -1,13 +1,13 @@
 -- What stands at a place, and where it stops.
-use Rattle.std.proofs.Common.{◌≡◌, ◌≢◌, ℕ, ◌+◌, ◌-◌, ◌<◌, ◌≤◌, ◌^◌, zero, suc, Option, None, Some, List, [], ◌∷◌, ◌++◌, length, get_or, take, drop, refl, sym, ap, subst, arith, ◌∙◌, inl, inr, ⊎_elim, append_assoc}
-use Rattle.std.specs.Prelude.{◌⊎◌, slice_get}
+use Rattle.std.proofs.Common.{◌≡◌, ℕ, ◌+◌, ◌-◌, ◌<◌, ◌≤◌, ◌^◌, zero, suc, Option, None, Some, List, [], ◌∷◌, ◌++◌, length, get_or, take, drop, refl, sym, ap, subst, arith, ◌∙◌, ⊎_elim, append_assoc}
+use Rattle.std.specs.Prelude.{slice_get}
 use Rattle.std.specs.Fmt.{decimal}
-use Rattle.std.proofs.lemmas.Option.{slice_get_within, slice_get-get_or}
-use Rattle.std.proofs.lemmas.List.{append-nil, length-append, length-drop, length-take-le, take_at, drop_at, take_all, take_more, take-append-drop, drop_more, append_cancel_left, get_or_at, get_or_append_left, get_or_default}
+use Rattle.std.proofs.lemmas.Option.{slice_get_within}
+use Rattle.std.proofs.lemmas.List.{append-nil, length-append, length-take-le, take_at, take-append-drop, drop_more, append_cancel_left}
 use Rattle.std.proofs.lemmas.Bool.{cases_lt}
 use Rattle.b67_text.specs.declared.number.Numbers.{Numbers}
 use Rattle.b67_text.specs.Texts.{Begins, HasNone, StopsAt, Stands, AreApart}
-use Rattle.b67_text.specs.Numerals.{IsDigit, IsIn, IsField, IsSmall, spelled, BeginsOne, AreDigits}
+use Rattle.b67_text.specs.Numerals.{IsDigit, IsIn, IsField, IsSmall, spelled, AreDigits}
 use Rattle.b67_text.proofs.Decimals.{Longer, Shorter, compare_fronts, digits, AtEnd, GoesOn, ahead}
 use Rattle.b67_text.proofs.Beginnings.{wide}
 

@@ -1,9 +1,3 @@
-use Rattle.std.proofs.Common.{◌≡◌, ◌≢◌, ℕ, ◌+◌, ◌-◌, ◌<◌, ◌≤◌, List, ◌++◌, ◌∷◌, [], Some, length, get_or, refl, sym, subst, ap, take, drop, arith, ◌∙◌}
-use Rattle.std.proofs.lemmas.Result.{err_from_is_err_and, MatchResult-weaker}
-use Rattle.b67_text.specs.declared.number.Numbers.{Numbers}
-use Rattle.b67_text.specs.Texts.{StopsAt, Stands}
-use Rattle.b67_text.specs.Numerals.{IsIn, IsField}
-use Rattle.b67_report.specs.Parts.{IsEndText, ReadsEnd}
 use Rattle.b67_report.proofs.EndLines.{every_end}
 use Rattle.b67_report.proofs.ends.read_end.Goals as goal
 

@@ -1,5 +1,4 @@
-use Rattle.std.proofs.Common.{◌≡◌, ℕ, ◌+◌, ◌<◌, ◌≤◌, ◌^◌, length, take, get_or, arith}
-use Rattle.b67_schedule.specs.Schedules.{most, entries}
+use Rattle.std.proofs.Common.{arith}
 use Rattle.b67_schedule.proofs.WholeText.{actions_fit}
 use Rattle.b67_schedule.proofs.reading.actions_of.Goals as goal
 

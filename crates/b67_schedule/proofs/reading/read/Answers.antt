@@ -1,8 +1,6 @@
-use Rattle.std.proofs.Common.{◌≡◌, ℕ, ◌≤◌, ◌<◌, List, Some, None, refl, sym, ap, subst, ◌∙◌, arith, length}
+use Rattle.std.proofs.Common.{sym, ◌∙◌, arith}
 use Rattle.std.proofs.lemmas.Result.{err_from_is_err_and}
-use Rattle.b67_text.specs.Texts.{StopsAt, Stands}
-use Rattle.b67_schedule.specs.declared.Run.{Run}
-use Rattle.b67_schedule.specs.Schedules.{IsSchedule, ScheduleText}
+use Rattle.b67_schedule.specs.Schedules.{ScheduleText}
 use Rattle.b67_schedule.proofs.WholeText.{one_text, schedule_refused, text_not_refused, behind_refused, stands_whole}
 use Rattle.b67_schedule.proofs.reading.read.Goals as goal
 

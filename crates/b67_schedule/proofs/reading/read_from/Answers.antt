@@ -1,11 +1,10 @@
-use Rattle.std.proofs.Common.{◌≡◌, ℕ, ◌≤◌, Some, None, refl, sym, ap, subst, ◌∙◌, arith, length, List}
+use Rattle.std.proofs.Common.{sym, ap, subst, ◌∙◌, arith, length, List}
 use Rattle.std.proofs.lemmas.Result.{err_from_is_err_and}
 use Rattle.b67_text.specs.declared.number.Numbers.{Numbers}
-use Rattle.b67_text.specs.Texts.{StopsAt, Stands}
+use Rattle.b67_text.specs.Texts.{StopsAt}
 use Rattle.b67_text.specs.Numerals.{IsIn, IsField}
 use Rattle.b67_schedule.specs.declared.Run.{Run}
-use Rattle.b67_schedule.specs.Schedules.{most, entries, IsSchedule}
-use Rattle.b67_schedule.specs.Reading.{numbers}
+use Rattle.b67_schedule.specs.Schedules.{entries, IsSchedule}
 use Rattle.b67_schedule.proofs.WholeText.{head_stops, count_stops, runs_refused, follows_schedule, schedule_stands}
 use Rattle.b67_schedule.proofs.reading.read_from.Goals as goal
 

@@ -1,9 +1,8 @@
-use Rattle.std.proofs.Common.{◌≡◌, ℕ, Some, None, refl, sym, subst}
+use Rattle.std.proofs.Common.{ℕ, sym, subst}
 use Rattle.std.proofs.lemmas.Result.{err_from_is_err_and}
 use Rattle.b67_text.specs.declared.number.Numbers.{Numbers}
 use Rattle.b67_text.specs.Texts.{StopsAt}
 use Rattle.b67_text.specs.Numerals.{IsIn, IsField}
-use Rattle.b67_schedule.specs.Reading.{numbers}
 use Rattle.b67_schedule.proofs.RunLines.{process_stops, times_stop, some_number}
 use Rattle.b67_schedule.proofs.reading.read_run.Goals as goal
 

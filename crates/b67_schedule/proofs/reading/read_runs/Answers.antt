@@ -1,10 +1,6 @@
-use Rattle.std.proofs.Common.{◌≡◌, ℕ, ◌∷◌, [], ◌++◌, ◌+◌, ◌<◌, ◌≤◌, ◌∙◌, length, Some, None, refl, sym, ap, subst, arith}
-use Rattle.std.specs.List.{flat_map}
+use Rattle.std.proofs.Common.{◌≡◌, ◌∷◌, [], ◌++◌, ◌+◌, ◌≤◌, ◌∙◌, length, Some, ap, subst, arith}
 use Rattle.std.proofs.lemmas.Result.{err_from_is_err_and}
 use Rattle.std.proofs.lemmas.List.{length_push}
-use Rattle.b67_text.specs.Texts.{Stands}
-use Rattle.b67_schedule.specs.Schedules.{run_line}
-use Rattle.b67_schedule.specs.Reading.{Follow, last_process}
 use Rattle.b67_schedule.proofs.RunLines.{run_stops, runs_more}
 use Rattle.b67_schedule.proofs.reading.read_runs.Goals as goal
 

@@ -1,4 +1,4 @@
-use Rattle.std.proofs.Common.{◌≡◌, ◌-◌, ◌≤◌, Option, Some, None, length}
+use Rattle.std.proofs.Common.{◌≡◌, ◌-◌, ◌≤◌, None, length}
 use Rattle.std.specs.List.{flat_map}
 use Rattle.b67_text.specs.Texts.{Stands}
 use Rattle.b67_schedule.specs.Schedules.{run_line}

@@ -1,5 +1,4 @@
-use Rattle.std.proofs.Common.{◌≡◌, ℕ, ◌+◌, ◌<◌, ◌∷◌, [], ◌++◌, ap, sym, subst, ◌∙◌, refl, arith, Some}
-use Rattle.std.specs.Prelude.{slice_get}
+use Rattle.std.proofs.Common.{◌≡◌, subst, refl}
 use Rattle.std.specs.Fmt.{decimal}
 use Rattle.b67_text.specs.Texts.{Stands}
 use Rattle.b67_text.specs.Numerals.{IsIn, spelled}

@@ -1,5 +1,4 @@
-use Rattle.std.proofs.Common.{◌≡◌, ◌≢◌, ◌+◌, ◌<◌, ◌∷◌, [], ◌++◌, ap, sym, subst, ◌∙◌, refl, arith, take, get_or, Some}
-use Rattle.std.specs.Prelude.{slice_get}
+use Rattle.std.proofs.Common.{◌+◌, sym, subst, refl, arith, take, get_or}
 use Rattle.std.proofs.lemmas.List.{take_more}
 use Rattle.b67_text.specs.Texts.{Stands}
 use Rattle.b67_text.proofs.Fronts.{word_stops, stands_more}

@@ -1,6 +1,6 @@
-use Rattle.std.proofs.Common.{◌≡◌, ℕ, ◌+◌, ◌-◌, ◌<◌, ◌≤◌, ◌∷◌, [], ◌++◌, Some, None, ap, sym, subst, refl, ◌∙◌, arith}
+use Rattle.std.proofs.Common.{◌≡◌, ◌+◌, ◌-◌, ◌∷◌, [], ◌++◌, ap, sym, subst, refl, ◌∙◌, arith}
 use Rattle.std.specs.Fmt.{decimal}
-use Rattle.b67_text.specs.Numerals.{IsIn, spelled, BeginsOne, lengthened}
+use Rattle.b67_text.specs.Numerals.{spelled, BeginsOne, lengthened}
 use Rattle.b67_text.proofs.Beginnings.{next_digit, lengthens, not_lengthened, begins_by, can_begin_by}
 use Rattle.b67_text.proofs.number.Numbers.with_digit.Goals as goal
 
