@@ -7,6 +7,7 @@ mod deciding;
 mod effect;
 mod entering;
 mod evaluating;
+mod heads;
 mod lists;
 mod making;
 mod stating;
@@ -19,6 +20,7 @@ pub use entering::{decide_enter_block, decide_select};
 pub use evaluating::{
     decide_happened, decide_index, decide_pass, decide_read_element, decide_resolve,
 };
+pub use heads::{decide, decide_part};
 pub use making::decide_arrays;
 pub use stating::{
     decide_act, decide_event, decide_fault, decide_giving, decide_giving_place, decide_go_to,
