@@ -1,6 +1,5 @@
 -- Laws of the cells and elements of new arrays.
 use Rattle.std.proofs.Common.{◌≡◌, refl, ℕ, zero, suc, List, [], ◌∷◌, ◌++◌, map, ap, replicate}
-use Rattle.algol_meaning.specs.Value as plain
 use Rattle.algol_meaning.specs.SeenValue.{value}
 use Rattle.algol_meaning.specs.SeenExpression as seen
 use Rattle.algol_meaning.specs.declared.value.Value.{Value}

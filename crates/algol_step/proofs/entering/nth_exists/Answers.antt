@@ -1,4 +1,4 @@
-use Rattle.std.proofs.Common.{arith, ◌≡◌, ◌∙◌, ℕ, ap, length, nat_lt, pos, ◌≤ℤ◌}
+use Rattle.std.proofs.Common.{arith, ◌∙◌, ℕ, ap, length, nat_lt, pos, ◌≤ℤ◌}
 use Rattle.std.proofs.lemmas.Int.{ints, to_z-of_z}
 use Rattle.algol_step.proofs.Cases.{exists_within}
 use Rattle.algol_step.proofs.entering.nth_exists.Goals as goal
