@@ -1,2 +1,4 @@
 pub mod Trees
 pub mod Parameters
+pub mod Cases
+pub mod Elements

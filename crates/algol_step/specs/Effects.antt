@@ -1,5 +1,5 @@
 -- What the actions do to a world, as the code first decides it and then does it.
-use Rattle.std.specs.Prelude.{ℕ, List, [], ◌∷◌, map, Option, Some, None}
+use Rattle.std.specs.Prelude.{ℕ, List, [], ◌∷◌, ◌++◌, map, Option, Some, None}
 use Rattle.algol_tree.specs.Scopes.{Scopes, use_of}
 use Rattle.algol_tree.specs.declared.tree.Named.{Named}
 use Rattle.algol_meaning.specs.Value as plain
@@ -16,6 +16,7 @@ use Rattle.algol_meaning.specs.SeenExpression as seen
 use Rattle.algol_meaning.specs.SeenExpression.{reference}
 use Rattle.algol_meaning.specs.SeenStatement.{answered}
 use Rattle.algol_world.specs.SeenAction.{action}
+use Rattle.algol_world.specs.SeenInstance.{named_cells}
 use Rattle.algol_world.specs.SeenWorld as views
 use Rattle.algol_world.specs.SeenWorld.{world_of, process_of}
 use Rattle.algol_world.specs.declared.world.World.{World}
@@ -35,15 +36,19 @@ outer_of (part ∷ outer) = outer
 module _ (sc : Scopes) (w : world.World) (p : ℕ) (q : world.Process) (part : world.Part) (outer : List world.Part) where
   -- the choice that an effect stands for
   abbrev pub choice_by : Effect → Choice
+  choice_by effects.Nothing = choices.chosen sc w p q part outer actions.Fault w
   choice_by (effects.Goes a x) = choices.goes sc w p q part outer (action a) w (answered x)
   choice_by (effects.Stores r v) = choices.goes sc w p q part outer actions.Store (world.set_cell w (reference r) (simple (value v))) rest.done
   choice_by (effects.StoresElement r ks v) = choices.stored sc w p q part outer (rest.element_of (reference r) ks) (value v)
   choice_by (effects.Evaluates inner) = choices.opens sc w p q part outer w (views.part sc inner)
   choice_by (effects.EntersProcedure j parent cells) = choices.entered_procedure sc w p q part outer j parent (map seen.cell cells.items)
+  choice_by (effects.EntersBlock j) = choices.entered_block sc w p q part outer j
   choice_by (effects.Leaves x) = choices.left sc w p q part outer (answered x)
   choice_by (effects.GoesTo n i) = choices.goes_to sc w p q part outer n.now i
   choice_by (effects.Starts j parent cells task) = choices.starts sc w p q part outer j parent (map seen.cell cells.items) (views.task task)
   choice_by (effects.Acts act r) = choices.acted sc w p q part outer act (reference r)
+  choice_by (effects.Writes l) = choices.goes sc w p q part outer actions.Line (record w { output = w.output ++ l ∷ [] }) rest.done
+  choice_by (effects.MakesArrays cells) = choices.goes sc w p q part outer actions.MakeArrays (world.add_cells w part.instance (named_cells cells.items)) rest.done
   choice_by (effects.MakesEvent n) = choices.made_event sc w p q part outer n.now
   choice_by (effects.Fails kind) = choices.fails sc w p q part outer kind
 

@@ -1,13 +1,15 @@
 //! What an action does, once all that it reads is known.
 
 use algol_meaning::{Answer, Cell, Reference, Value};
-use algol_tree::{EventAct, List, Named};
-use algol_world::{Action, Part};
+use algol_tree::{EventAct, Line, List, Named};
+use algol_world::{Action, NamedCell, Part};
 use b67_num::FaultKind;
 
 /// What the action of a part does to the world.
 #[derive(Drop)]
 pub enum Effect<'p> {
+    /// Nothing: a part inside is in progress. A run comes to no such head.
+    Nothing,
     /// The part goes on with this answer.
     Goes(Action, Answer<'p>),
     Stores(Reference<'p>, Value),
@@ -17,12 +19,18 @@ pub enum Effect<'p> {
     Evaluates(Part<'p>),
     /// The entry of a procedure: its block, the instance around it, and what its parameters hold.
     EntersProcedure(usize, usize, Vec<Cell<'p>>),
+    /// The entry of a block, by its number.
+    EntersBlock(usize),
     Leaves(Answer<'p>),
     /// To a label that an instance's block has.
     GoesTo(&'p Named, usize),
     /// The start of a process: its block, the instance around it, what its parameters hold, and its task.
     Starts(usize, usize, Vec<Cell<'p>>, Option<Reference<'p>>),
     Acts(EventAct, Reference<'p>),
+    /// A line of the output.
+    Writes(Line),
+    /// Arrays, with all their elements.
+    MakesArrays(Vec<NamedCell<'p>>),
     MakesEvent(&'p Named),
     Fails(FaultKind),
 }

@@ -5,17 +5,25 @@ mod calling;
 mod copying;
 mod deciding;
 mod effect;
+mod entering;
 mod evaluating;
+mod heads;
 mod lists;
+mod making;
 mod stating;
+mod writing;
 
 pub use calling::{decide_enter, decide_start};
 pub use deciding::{decide_read, decide_read_result};
 pub use effect::Effect;
+pub use entering::{decide_enter_block, decide_select};
 pub use evaluating::{
     decide_happened, decide_index, decide_pass, decide_read_element, decide_resolve,
 };
+pub use heads::{decide, decide_part};
+pub use making::decide_arrays;
 pub use stating::{
     decide_act, decide_event, decide_fault, decide_giving, decide_giving_place, decide_go_to,
     decide_leaving, decide_store, decide_turn,
 };
+pub use writing::decide_line;

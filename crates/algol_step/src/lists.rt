@@ -20,3 +20,10 @@ pub fn has_items<T>(list: &List<T>) -> bool
 {
     list.items().len() > 0
 }
+
+/// A slice, out of what holds it. It is generic because the items may hold references of their own.
+pub fn held<'a, T>(slice: &&'a [T]) -> &'a [T]
+    ensures { result.now ≡ slice.now.now }
+{
+    *slice
+}

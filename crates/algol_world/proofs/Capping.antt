@@ -69,3 +69,9 @@ flat-next before s k bs ks =
     last u = omega arith
 
 pub ruleset capping = (capped-mul, flat-next)
+
+-- a sum that has come so far, and one more
+pub capped-more : (so_far one others : ℕ) → capped (min (so_far + capped one) (2 ^ 64 - 1) + others) ≡ capped (so_far + (one + others))
+capped-more so_far one others = omega arith
+
+pub ruleset adding = capped-more

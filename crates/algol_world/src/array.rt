@@ -1,5 +1,5 @@
-//! Subscripts, elements, and the sizes of arrays. Sizes and numbers of elements that are too great for a `usize` are
-//! its greatest value, which no list has as its length.
+//! Subscripts and elements. Numbers of elements that are too great for a `usize` are its greatest value, which no list
+//! has as its length.
 
 ghost use Rattle.std.specs.Prelude.{◌≡◌, map, Some};
 ghost use Rattle.algol_meaning.specs.Value as plain;
@@ -12,20 +12,10 @@ ghost use Rattle.algol_world.specs.SeenInstance.{cell_or_none};
 ghost use Rattle.algol_world.specs.SeenArray.{capped, base_of};
 
 use crate::lists::{item, no_items};
+use crate::size::size_of;
 use algol_meaning::{ArrayCell, Bounds, Cell, Sort, Value};
 use algol_tree::Whole;
 use std::alloc::Global;
-
-/// How many subscripts lie within bounds.
-fn size_of(b: &Bounds) -> usize
-    ensures { result ≡ capped (arrays.size_of (seen.bounds b.now)) }
-{
-    if b.low <= b.high {
-        (b.high.abs_diff(b.low) as usize).saturating_add(1)
-    } else {
-        0
-    }
-}
 
 /// The number of an element, row by row, before which so many rows lie.
 #[tactic(auto, using(crate::proofs::Capping::capping))]

@@ -11,6 +11,7 @@ mod instance;
 mod leaving;
 mod lists;
 mod process;
+mod size;
 mod storing;
 mod world;
 
@@ -19,4 +20,5 @@ pub use action::Action;
 pub use array::{element_at, subscript_place};
 pub use eventful::has_happened;
 pub use instance::{Instance, NamedCell, ancestor, cell_at};
+pub use size::{elements_of, some_empty};
 pub use world::{Part, Process, Purpose, State, World, WorldFault};

@@ -1,0 +1,22 @@
+-- Laws of the cells and elements of new arrays.
+use Rattle.std.proofs.Common.{◌≡◌, refl, ℕ, zero, suc, List, [], ◌∷◌, ◌++◌, map, ap, replicate}
+use Rattle.algol_meaning.specs.SeenValue.{value}
+use Rattle.algol_meaning.specs.SeenExpression as seen
+use Rattle.algol_meaning.specs.declared.value.Value.{Value}
+use Rattle.algol_meaning.specs.declared.cell.Bounds.{Bounds}
+use Rattle.algol_world.specs.SeenInstance.{named_cell, named_cells}
+use Rattle.algol_world.specs.declared.instance.NamedCell.{NamedCell}
+
+pub bounds-append : (bs : List Bounds) (b : Bounds) → map seen.bounds (bs ++ b ∷ []) ≡ map seen.bounds bs ++ seen.bounds b ∷ []
+bounds-append [] b = refl
+bounds-append (c ∷ bs) b = ap (λ (x : _). seen.bounds c ∷ x) (bounds-append bs b)
+
+pub named-append : (cs : List NamedCell) (c : NamedCell) → named_cells (cs ++ c ∷ []) ≡ named_cells cs ++ named_cell c ∷ []
+named-append [] c = refl
+named-append (d ∷ cs) c = ap (λ (x : _). named_cell d ∷ x) (named-append cs c)
+
+pub same-values : (n : ℕ) (v : Value) → map value (replicate n v) ≡ replicate n (value v)
+same-values zero v = refl
+same-values (suc n) v = ap (λ (x : _). value v ∷ x) (same-values n v)
+
+pub ruleset making = (bounds-append, named-append, same-values)

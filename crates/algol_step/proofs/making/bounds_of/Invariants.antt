@@ -1,0 +1,11 @@
+use Rattle.std.proofs.Common.{◌≡◌, ◌++◌, drop, map}
+use Rattle.algol_meaning.specs.Arrays as arrays
+use Rattle.algol_meaning.specs.SeenTree.{pairs}
+use Rattle.algol_meaning.specs.SeenValue.{value}
+use Rattle.algol_meaning.specs.SeenExpression as seen
+use Rattle.algol_step.proofs.making.bounds_of.Given as goal
+
+abbrev pub invariant-pairing : goal.invariant-pairing
+invariant-pairing l =
+    map seen.bounds l.bounds.items ++ arrays.bounds_of (pairs (drop l.pair-index l.pairs)) (map value l.left)
+    ≡ arrays.bounds_of (pairs l.pairs) (map value l.highs)

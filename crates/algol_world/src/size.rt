@@ -1,0 +1,93 @@
+//! How many elements arrays have. Numbers that are too great for a `usize` are its greatest value.
+
+ghost use Rattle.std.specs.Prelude.{◌≡◌, map};
+ghost use Rattle.algol_meaning.specs.Arrays as arrays;
+ghost use Rattle.algol_meaning.specs.SeenExpression as seen;
+ghost use Rattle.algol_world.specs.SeenArray.{capped};
+ghost use Rattle.algol_world.specs.SeenInstance.{named_cells, instance};
+ghost use Rattle.algol_world.specs.SeenWorld.{world_of};
+
+use crate::instance::{Instance, NamedCell};
+use crate::world::World;
+use algol_meaning::{Bounds, Cell};
+
+/// How many subscripts lie within bounds.
+pub fn size_of(b: &Bounds) -> usize
+    ensures { result ≡ capped (arrays.size_of (seen.bounds b.now)) }
+{
+    if b.low <= b.high {
+        (b.high.abs_diff(b.low) as usize).saturating_add(1)
+    } else {
+        0
+    }
+}
+
+/// How many elements an array with these bounds has.
+#[tactic(auto, using(crate::proofs::Capping::capping))]
+pub fn elements_of(bounds: &[Bounds]) -> usize
+    ensures { result ≡ capped (arrays.elements_of (map seen.bounds bounds.now)) }
+{
+    match bounds.split_first() {
+        None => 1,
+        Some((b, further)) => size_of(b).saturating_mul(elements_of(further)),
+    }
+}
+
+/// Tests that some upper bound is below its lower bound.
+pub fn some_empty(bounds: &[Bounds]) -> bool
+    ensures { result ≡ arrays.some_empty (map seen.bounds bounds.now) }
+{
+    'asking: for b in bounds {
+        if b.high < b.low {
+            return true;
+        }
+    }
+    false
+}
+
+/// How many elements a cell has: none where it is no array.
+fn size_of_cell(cell: &Cell<'_>) -> usize
+    ensures { result ≡ capped (arrays.size_of_cell (seen.cell cell.now)) }
+{
+    match cell {
+        Cell::Array(array) => elements_of(array.bounds.items()),
+        _ => 0,
+    }
+}
+
+/// How many elements cells have.
+#[tactic(auto, using(crate::proofs::Capping::adding))]
+fn size_of_cells(cells: &[NamedCell<'_>]) -> usize
+    ensures { result ≡ capped (arrays.size_of_cells (named_cells cells.now)) }
+{
+    let mut size: usize = 0;
+    'adding: for c in cells {
+        size = size.saturating_add(size_of_cell(&c.cell));
+    }
+    size
+}
+
+/// How many elements the arrays of an instance have that live: none where it is left.
+fn live_in(x: &Instance<'_>) -> usize
+    ensures { result ≡ capped (arrays.size_unless x.now.left (arrays.size_of_cells (named_cells x.now.cells))) }
+{
+    if x.left {
+        0
+    } else {
+        size_of_cells(x.cells.items())
+    }
+}
+
+impl<'p> World<'p> {
+    /// How many elements the arrays have that live.
+    #[tactic(auto, using(crate::proofs::Capping::adding))]
+    pub fn live_elements(&self) -> usize
+        ensures { result ≡ capped (arrays.live_elements ((world_of self.now).instances)) }
+    {
+        let mut size: usize = 0;
+        'adding: for x in self.instances.items() {
+            size = size.saturating_add(live_in(x));
+        }
+        size
+    }
+}
