@@ -18,7 +18,7 @@ able_after (x ∷ xs) (suc zero) (suc (suc m)) q e s = e
 able_after (x ∷ xs) (suc (suc n)) (suc zero) q e s = e
 able_after (x ∷ xs) (suc (suc n)) (suc (suc m)) q e s = able_after xs (suc n) (suc m) q e s
 
-able_stays :
+pub able_stays :
     (w : World) (ps : List ℕ) (p : ℕ) (q : Process) → numbered w.processes p ≡ Some q → q.state ≡ world.able
     → numbered ((set_all_able w ps).processes) p ≡ Some q
 able_stays w [] p q e s = e

@@ -102,7 +102,10 @@ impl<'p> Instance<'p> {
 }
 
 /// The instance of that number, from 1.
-fn instance_at<'a, 'p>(instances: &'a List<Instance<'p>>, number: usize) -> Option<&'a Instance<'p>>
+pub fn instance_at<'a, 'p>(
+    instances: &'a List<Instance<'p>>,
+    number: usize,
+) -> Option<&'a Instance<'p>>
     ensures { instance_or_none result ≡ world.or_no_instance (numbering.numbered (map instance instances.now) number) }
 {
     match place(number) {

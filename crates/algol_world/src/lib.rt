@@ -19,6 +19,7 @@ pub use acted::Acted;
 pub use action::Action;
 pub use array::{element_at, subscript_place};
 pub use eventful::has_happened;
-pub use instance::{Instance, NamedCell, ancestor, cell_at};
+pub use instance::{Instance, NamedCell, ancestor, cell_at, instance_at, place};
+pub use leaving::is_evaluation;
 pub use size::{elements_of, some_empty};
 pub use world::{Part, Process, Purpose, State, World, WorldFault};

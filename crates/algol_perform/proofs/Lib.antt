@@ -1,0 +1,9 @@
+pub mod Effects
+pub mod Acts
+pub mod Fresh
+pub mod Entries
+pub mod Paths
+pub mod Starts
+pub mod Newer
+pub mod Jumps
+pub mod Joins

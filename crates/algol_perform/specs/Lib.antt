@@ -1,0 +1,3 @@
+pub mod Performing
+pub mod Making
+pub mod Going

@@ -1,0 +1,19 @@
+-- What an effect makes of a world, by the number of the process: its innermost part is the one that acts.
+use Rattle.std.specs.Prelude.{ℕ, List, [], ◌∷◌}
+use Rattle.algol_tree.specs.Scopes.{Scopes}
+use Rattle.algol_meaning.specs.World.{World, Part, Process, process_at}
+use Rattle.algol_meaning.specs.Actions as actions
+use Rattle.algol_meaning.specs.Choice.{Choice}
+use Rattle.algol_world.specs.Going.{chosen}
+use Rattle.algol_world.specs.Leaving.{is_nil}
+use Rattle.algol_step.specs.Effects.{choice_by}
+use Rattle.algol_step.specs.declared.effect.Effect.{Effect}
+
+module _ (sc : Scopes) (w : World) (p : ℕ) where
+  -- a process without parts has no choice
+  abbrev pub performed_by : Process → List Part → Effect → Choice
+  performed_by q [] e = chosen actions.Fault w
+  performed_by q (part ∷ outer) e = choice_by sc w p q part outer e
+
+  abbrev pub performed : Effect → Choice
+  performed e = performed_by (process_at w p) ((process_at w p).todo) e

@@ -1,0 +1,167 @@
+//! The effects that change cells, events and parts.
+
+ghost use Rattle.std.specs.Prelude.{◌≡◌, false, IfOk};
+ghost use Rattle.algol_meaning.specs.World as plain;
+ghost use Rattle.algol_meaning.specs.SeenScope.{scoped};
+ghost use Rattle.algol_world.specs.SeenWorld.{world_of, process_of};
+ghost use Rattle.algol_world.specs.SeenActed.{acted_choice};
+ghost use Rattle.algol_world.specs.Leaving.{is_nil};
+ghost use Rattle.algol_step.specs.declared.effect.Effect.TheVariants as effects;
+ghost use Rattle.algol_perform.specs.Performing.{performed};
+
+use crate::parts::innermost;
+use algol_meaning::{Answer, Reference, Value, append};
+use algol_tree::{EventAct, Line, List};
+use algol_world::{Acted, Action, NamedCell, Part, World};
+use b67_num::FaultKind;
+use std::alloc::{AllocError, Global};
+
+/// The innermost part of a process goes on with this answer.
+#[tactic(auto, using(crate::proofs::Effects::effect_laws))]
+pub fn perform_goes<'p>(
+    world: &mut World<'p>,
+    alloc: Global,
+    process: usize,
+    action: Action,
+    answer: Answer<'p>,
+) -> Result<Acted, AllocError>
+    requires acts { is_nil ((process_of world.old process).todo) ≡ false }
+    ensures performed { IfOk result (λ a. acted_choice a (world_of world.new) ≡ performed (scoped world.old.scopes) (world_of world.old) process (effects.Goes action answer.entry)) }
+    ensures same { world.new.scopes ≡ world.old.scopes }
+{
+    world.goes(alloc, process, answer)?;
+    Ok(Acted::alone(alloc, action))
+}
+
+/// A value is stored in a simple cell.
+#[tactic(auto, using(crate::proofs::Effects::effect_laws))]
+pub fn perform_store<'p>(
+    world: &mut World<'p>,
+    alloc: Global,
+    process: usize,
+    r: Reference<'p>,
+    v: Value,
+) -> Result<Acted, AllocError>
+    requires acts { is_nil ((process_of world.old process).todo) ≡ false }
+    ensures performed { IfOk result (λ a. acted_choice a (world_of world.new) ≡ performed (scoped world.old.scopes) (world_of world.old) process (effects.Stores r.entry v)) }
+    ensures same { world.new.scopes ≡ world.old.scopes }
+{
+    world.store(alloc, process, r, v)?;
+    Ok(Acted::alone(alloc, Action::Store))
+}
+
+/// A value is stored in an element.
+#[tactic(auto, using(crate::proofs::Effects::effect_laws))]
+pub fn perform_store_element<'p>(
+    world: &mut World<'p>,
+    alloc: Global,
+    process: usize,
+    r: Reference<'p>,
+    subscripts: List<usize>,
+    v: Value,
+) -> Result<Acted, AllocError>
+    requires acts { is_nil ((process_of world.old process).todo) ≡ false }
+    ensures performed { IfOk result (λ a. acted_choice a (world_of world.new) ≡ performed (scoped world.old.scopes) (world_of world.old) process (effects.StoresElement r.entry subscripts v)) }
+    ensures same { world.new.scopes ≡ world.old.scopes }
+{
+    world.store_element(alloc, process, r, subscripts.items(), v)?;
+    Ok(Acted::alone(alloc, Action::ElementStore))
+}
+
+/// A part that evaluates a name comes to be inside the innermost part.
+#[tactic(auto, using(crate::proofs::Effects::effect_laws))]
+pub fn perform_evaluation<'p>(
+    world: &mut World<'p>,
+    alloc: Global,
+    process: usize,
+    inner: Part<'p>,
+) -> Result<Acted, AllocError>
+    requires acts { is_nil ((process_of world.old process).todo) ≡ false }
+    ensures performed { IfOk result (λ a. acted_choice a (world_of world.new) ≡ performed (scoped world.old.scopes) (world_of world.old) process (effects.Evaluates inner.entry)) }
+    ensures same { world.new.scopes ≡ world.old.scopes }
+{
+    world.opens(alloc, process, inner)?;
+    Ok(Acted::alone(alloc, Action::Enter))
+}
+
+/// The innermost part of a process, which is able, is left with what it gives; the last one ends the process.
+#[tactic(auto, using(crate::proofs::Effects::effect_laws))]
+pub fn perform_leaving<'p>(
+    world: &mut World<'p>,
+    alloc: Global,
+    process: usize,
+    answer: Answer<'p>,
+) -> Result<Acted, AllocError>
+    requires able { (process_of world.old process).state ≡ plain.able }
+    ensures performed { IfOk result (λ a. acted_choice a (world_of world.new) ≡ performed (scoped world.old.scopes) (world_of world.old) process (effects.Leaves answer.entry)) }
+    ensures same { world.new.scopes ≡ world.old.scopes }
+{
+    world.leaves(alloc, process, answer)
+}
+
+/// A statement on an event, by a process that is able.
+#[tactic(auto, using(crate::proofs::Acts::act_laws))]
+pub fn perform_act<'p>(
+    world: &mut World<'p>,
+    alloc: Global,
+    process: usize,
+    act: EventAct,
+    r: Reference<'p>,
+) -> Result<Acted, AllocError>
+    requires able { (process_of world.old process).state ≡ plain.able }
+    requires acts { is_nil ((process_of world.old process).todo) ≡ false }
+    ensures performed { IfOk result (λ a. acted_choice a (world_of world.new) ≡ performed (scoped world.old.scopes) (world_of world.old) process (effects.Acts act r.entry)) }
+    ensures same { world.new.scopes ≡ world.old.scopes }
+{
+    world.act(alloc, process, act, r)
+}
+
+/// A line is written.
+#[tactic(auto, using(crate::proofs::Effects::effect_laws))]
+pub fn perform_line<'p>(
+    world: &mut World<'p>,
+    alloc: Global,
+    process: usize,
+    line: Line,
+) -> Result<Acted, AllocError>
+    requires acts { is_nil ((process_of world.old process).todo) ≡ false }
+    ensures performed { IfOk result (λ a. acted_choice a (world_of world.new) ≡ performed (scoped world.old.scopes) (world_of world.old) process (effects.Writes line)) }
+    ensures same { world.new.scopes ≡ world.old.scopes }
+{
+    append(&mut world.output, line)?;
+    world.goes(alloc, process, Answer::Done)?;
+    Ok(Acted::alone(alloc, Action::Line))
+}
+
+/// Arrays are made in the instance in which the innermost part goes on.
+#[tactic(auto, using(crate::proofs::Effects::effect_laws))]
+pub fn perform_arrays<'p>(
+    world: &mut World<'p>,
+    alloc: Global,
+    process: usize,
+    cells: Vec<NamedCell<'p>>,
+) -> Result<Acted, AllocError>
+    requires acts { is_nil ((process_of world.old process).todo) ≡ false }
+    ensures performed { IfOk result (λ a. acted_choice a (world_of world.new) ≡ performed (scoped world.old.scopes) (world_of world.old) process (effects.MakesArrays cells.entry)) }
+    ensures same { world.new.scopes ≡ world.old.scopes }
+{
+    let instance = innermost(world, process);
+    world.make(alloc, process, instance, cells)?;
+    Ok(Acted::alone(alloc, Action::MakeArrays))
+}
+
+/// A fault ends the run.
+#[tactic(auto, using(crate::proofs::Effects::effect_laws))]
+pub fn perform_fault<'p>(
+    world: &mut World<'p>,
+    alloc: Global,
+    process: usize,
+    kind: FaultKind,
+) -> Acted
+    requires acts { is_nil ((process_of world.old process).todo) ≡ false }
+    ensures performed { acted_choice result (world_of world.new) ≡ performed (scoped world.old.scopes) (world_of world.old) process (effects.Fails kind) }
+    ensures same { world.new.scopes ≡ world.old.scopes }
+{
+    world.fail(process, kind);
+    Acted::alone(alloc, Action::Fault)
+}
