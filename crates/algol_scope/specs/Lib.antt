@@ -1,0 +1,5 @@
+pub mod Naming
+pub mod Resolved
+pub mod Looking
+pub mod Seeing
+pub mod Noting
