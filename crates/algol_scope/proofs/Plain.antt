@@ -1,5 +1,5 @@
 -- The plain trees of expressions, and which actuals have no cell.
-use Rattle.std.proofs.Common.{rules, ◌≡◌, ℕ, Bool, true, false, not, List, [], ◌∷◌, length, reverse, Option, Some, None, refl, ap, sym, ◌∙◌, arith, suc}
+use Rattle.std.proofs.Common.{rules, ◌≡◌, ℕ, Bool, true, false, not, List, [], ◌∷◌, length, Option, Some, None, refl, ap, sym, ◌∙◌, arith, suc}
 use Rattle.std.specs.Bool.{◌==◌}
 use Rattle.std.specs.declared.boxed.Box.{Box}
 use Rattle.std.specs.declared.alloc.Global.{Global}
@@ -25,7 +25,7 @@ use Rattle.algol_scope.specs.declared.known.Entry.{Entry}
 use Rattle.algol_scope.specs.declared.known.Seen.{Seen}
 use Rattle.algol_scope.specs.declared.around.Around.{Around}
 use Rattle.algol_scope.specs.declared.around.Procedure.{Procedure}
-use Rattle.algol_scope.specs.Looking.{looked_up}
+use Rattle.algol_scope.specs.Looking.{looked_up, open_blocks}
 use Rattle.algol_scope.specs.Seeing.{Sees, IsFound, is_simple, name_parameter}
 
 pub variable_is : (v : Variable) → variable v ≡ tree.subscripted v.name (exprs v.subs)
@@ -97,11 +97,11 @@ simple_found ps (Some g) None e i h = absurd i
 
 pub plain_as : (k : Around) (seen : Seen) (e : Expr) (v : Variable) (items : List Expr) (b : Bool) (name : List ℕ) (entry : Entry) (a : Surroundings) →
     e ≡ expression.Variable v → items ≡ v.subs → b ≡ (length items == 0) → b ≡ true → name ≡ v.name.name →
-    looked_up (reverse k.blocks.items) seen name ≡ Some entry → Sees k seen a →
+    looked_up (open_blocks k) seen name ≡ Some entry → Sees k seen a →
     has_cell (expr e) name_parameter a ≡ not (is_simple entry.class)
 plain_as k seen e v items b name entry a h i l f n u s =
     ap (λ x. has_cell x name_parameter a) (expr_variable e v h)
     ∙ bare v.name v.subs a (look_up a.known v.name.name) (ap (λ z. length z == 0) (sym i) ∙ sym l ∙ f) refl
     ∙ ap not
-    (simple_found k.procedures.items (looked_up (reverse k.blocks.items) seen v.name.name) (look_up a.known v.name.name) entry (s.names v.name.name)
-    (ap (λ z. looked_up (reverse k.blocks.items) seen z) (sym n) ∙ u))
+    (simple_found k.procedures.items (looked_up (open_blocks k) seen v.name.name) (look_up a.known v.name.name) entry (s.names v.name.name)
+    (ap (λ z. looked_up (open_blocks k) seen z) (sym n) ∙ u))

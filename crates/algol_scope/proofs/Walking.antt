@@ -17,12 +17,13 @@ use Rattle.algol_tree.specs.Plain as tree
 use Rattle.algol_tree.specs.Plain.{PExpr, PExprs}
 use Rattle.algol_tree.specs.Classes as classes
 use Rattle.algol_tree.specs.Classes.{Class, Formal}
-use Rattle.algol_tree.specs.Image.{expr, exprs}
+use Rattle.algol_tree.specs.Image.{expr, exprs, pairs}
 use Rattle.algol_tree.specs.declared.tree.Expr.{Expr}
+use Rattle.algol_tree.specs.declared.tree.Pair.{Pair}
 use Rattle.algol_tree.specs.Blocks.{Block}
 use Rattle.algol_tree.specs.Surroundings.{Surroundings, formals_at}
 use Rattle.algol_tree.specs.Sites as site
-use Rattle.algol_tree.specs.Sites.{Site, sites, inside_list, inside_actuals}
+use Rattle.algol_tree.specs.Sites.{Site, sites, inside_list, inside_actuals, sites_in_pairs}
 use Rattle.algol_tree.specs.Cells as cells
 use Rattle.algol_tree.specs.Cells.{cells_of, cells_at}
 use Rattle.algol_tree.specs.Accepted.{noted_all}
@@ -99,15 +100,6 @@ leads-end blocks block old now all l = record { faults = l.faults; cells = sym (
 pub record Follows (k : Around) (seen : Seen) (old now : Findings) (all rest : Surroundings → List Site) : Type 0 where
   pub leads : (blocks : List Block) (a : Surroundings) → Sees k seen a → Leads blocks a.block old (all a) now (rest a)
 
-pub follows-all : (k : Around) (seen : Seen) (old : Findings) (es fs : List Expr) → fs ≡ es →
-    Follows k seen old old (inside_list (exprs es)) (inside_list (exprs fs))
-follows-all k seen old es fs h =
-    record {
-      leads =
-          λ blocks a s.
-          rw h (leads-all blocks a.block old (inside_list (exprs es) a));
-    }
-
 follows-step : (k : Around) (seen : Seen) (old now new : Findings) (all f g : Surroundings → List Site) →
     Follows k seen old now all (λ a. f a ++ g a) → Walks k seen now new f → Follows k seen old new all g
 follows-step k seen old now new all f g l w =
@@ -125,15 +117,19 @@ follows-item k seen old now new all es i e h same l w =
     record { leads = λ blocks a s. let m = moved.leads blocks a s in record { faults = m.faults; cells = m.cells } })
     w)
 
-pub follows-end : (k : Around) (seen : Seen) (old now : Findings) (all : Surroundings → List Site) (es : List Expr) → es ≡ [] →
-    Follows k seen old now all (inside_list (exprs es)) → Walks k seen old now all
-follows-end k seen old now all es h l =
-    record {
-      finds =
-          λ blocks a s.
-          let P : List Expr → Type 0 = λ z. Leads blocks a.block old (all a) now (inside_list (exprs z) a) in
-          leads-end blocks a.block old now (all a) (subst P h (l.leads blocks a s));
-    }
+-- ---- the bounds of an array
+
+pub follows-bound : (k : Around) (seen : Seen) (old now new : Findings) (all : Surroundings → List Site) (ps : List Pair) (i : ℕ) (p : Pair) → i < length ps →
+    p ≡ get_or ps i p → Follows k seen old now all (sites_in_pairs (pairs (drop i ps))) → Walks k seen now new (sites (expr p.high)) →
+    Follows k seen old new all (sites_in_pairs (pairs (drop (i + 1) ps)))
+follows-bound k seen old now new all ps i p h same l w =
+    rw add-one
+    (follows-step k seen old now new all (sites (expr p.high)) (sites_in_pairs (pairs (drop (suc i) ps)))
+    (let at : drop i ps ≡ p ∷ drop (suc i) ps = drop-cons ps i p h ∙ ap (λ z. z ∷ drop (suc i) ps) (sym same) in
+    let P : List Pair → Type 0 = λ z. Follows k seen old now all (sites_in_pairs (pairs z)) in
+    let moved : P (p ∷ drop (suc i) ps) = subst P at l in
+    record { leads = λ blocks a s. let m = moved.leads blocks a s in record { faults = m.faults; cells = m.cells } })
+    w)
 
 -- ---- actuals, with the parameters that are left
 
@@ -215,23 +211,6 @@ get-within xs i (Some x) P m = m.0
 pub record Passing (k : Around) (seen : Seen) (old now : Findings) (modes : List Mode) (es : PExprs) (i : ℕ) (rest : PExprs) : Type 0 where
   pub leads : (blocks : List Block) (a : Surroundings) (fs : List Formal) → Sees k seen a → modes ≡ map mode_of fs →
       Leads blocks a.block old (inside_actuals es fs a) now (inside_actuals rest (drop i fs) a)
-
-from-first : (fs : List Formal) → drop 0 fs ≡ fs
-from-first [] = refl
-from-first (f ∷ fs) = refl
-
-pub passing-all : (k : Around) (seen : Seen) (old : Findings) (modes : List Mode) (es fs : List Expr) → fs ≡ es →
-    Passing k seen old old modes (exprs es) 0 (exprs fs)
-passing-all k seen old modes es fs h =
-    record {
-      leads =
-          λ blocks a gs s m.
-          let P : List Formal → Type 0 =
-          λ z. Leads blocks a.block old (inside_actuals (exprs es) gs a) old (inside_actuals (exprs fs) z a) in
-          let Q : List Expr → Type 0 = λ z. Leads blocks a.block old (inside_actuals (exprs es) gs a) old (inside_actuals (exprs z) gs a) in
-          let here : Q fs = subst Q (sym h) (leads-all blocks a.block old (inside_actuals (exprs es) gs a)) in
-          subst P (sym (from-first gs)) here;
-    }
 
 leads-split : (blocks : List Block) (block : ℕ) (old now : Findings) (all : List Site) (e : PExpr) (es : PExprs) (fs : List Formal) (a : Surroundings) →
     Leads blocks block old all now (inside_actuals (tree.more e es) fs a) → Leads blocks block old all now (one_by_one e es fs a)

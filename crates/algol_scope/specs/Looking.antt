@@ -1,5 +1,5 @@
 -- What is known around a place, as the walk over a tree keeps it.
-use Rattle.std.specs.Prelude.{ℕ, ◌+◌, min, List, [], ◌∷◌, length, slice_get, Option, Some, None}
+use Rattle.std.specs.Prelude.{ℕ, ◌+◌, min, List, [], ◌∷◌, length, reverse, slice_get, Option, Some, None}
 use Rattle.algol_scope.specs.declared.known.Class.{Class}
 use Rattle.algol_scope.specs.declared.known.Class.TheVariants as class
 use Rattle.algol_scope.specs.declared.known.Entry.{Entry}
@@ -16,6 +16,9 @@ abbrev pub looked_up : List Names → Seen → List ℕ → Option Entry
 looked_up [] sees name = None
 looked_up (b ∷ bs) sees name = or_else (seen_under b.declared b.parameters sees name) (looked_up bs seen.All name)
 
+abbrev pub open_blocks : Around → List Names
+open_blocks k = k.innermost ∷ reverse k.outer.items
+
 abbrev modes_of : Option Procedure → List Mode
 modes_of None = []
 modes_of (Some p) = p.modes.items
@@ -27,4 +30,4 @@ modes_in ps _ = []
 
 -- the level of the innermost block, as far as a byte can say it
 abbrev pub level_within : Around → ℕ
-level_within k = min (length k.blocks.items + 1) 255
+level_within k = min (length k.outer.items + 2) 255

@@ -10,6 +10,10 @@ use Rattle.algol_scope.specs.declared.known.Entry.{Entry}
 use Rattle.algol_scope.specs.declared.known.Seen.{Seen}
 use Rattle.algol_scope.specs.declared.known.Seen.TheVariants as seen
 
+-- what a table has under a name
+abbrev pub under : {X : Type 0} → BTreeMap (Bor (List ℕ)) X → List ℕ → Option X
+under table name = get_by (λ k. slice_cmp nat_cmp name k.now) table
+
 -- declarations by their names
 abbrev pub Table : Type 0
 Table = BTreeMap (Bor (List ℕ)) Entry

@@ -4,10 +4,11 @@ ghost use Rattle.std.specs.Prelude.{◌≡◌, OnOk, IfOk, List, Option, true, [
 ghost use Rattle.algol_tree.specs.Classes.{Formal};
 ghost use Rattle.algol_tree.specs.Blocks.{Block};
 ghost use Rattle.algol_tree.specs.Surroundings.{Surroundings, class_of, formals_at};
-ghost use Rattle.algol_tree.specs.Sites.{sites, inside_list, inside_actuals, actual};
+ghost use Rattle.algol_tree.specs.Sites.{sites, inside_list, inside_actuals, sites_in_pairs, actual};
 ghost use Rattle.algol_tree.specs.Cells as cells;
-ghost use Rattle.algol_tree.specs.Image.{expr, exprs};
+ghost use Rattle.algol_tree.specs.Image.{expr, exprs, pairs};
 ghost use Rattle.algol_scope.specs.declared.known.Seen.{Seen};
+ghost use Rattle.algol_scope.specs.declared.known.Seen.TheVariants as seens;
 ghost use Rattle.algol_scope.specs.Seeing.{Sees, IsClass, mode_given};
 ghost use Rattle.algol_scope.specs.Noting.{Finds, Walks, Passes, at_name};
 
@@ -16,7 +17,7 @@ use crate::findings::{Cell, Content, Findings};
 use crate::formal::Mode;
 use crate::known::{Class, Seen};
 use algol_rules::first_spot;
-use algol_tree::{Call, Code, Expr, List, MOST_LEVEL, Named, Variable};
+use algol_tree::{Call, Code, Expr, List, MOST_LEVEL, Named, Pair, Variable};
 use std::alloc::AllocError;
 
 impl Findings {
@@ -131,5 +132,15 @@ impl Findings {
                 self.expr(b, around, seen)
             }
         }
+    }
+
+    /// A bound sees what is known before the declarations of its block.
+    pub fn bounds(&mut self, ps: &List<Pair>, around: &Around) -> Result<(), AllocError>
+        ensures { OnOk result (Walks around.now seens.BeforeDeclarations self.old self.new (sites_in_pairs (pairs ps.now))) }
+    {
+        'pairs: for pair in ps.items() {
+            self.expr(&pair.high, around, Seen::BeforeDeclarations)?;
+        }
+        Ok(())
     }
 }

@@ -1,15 +1,20 @@
 //! The walk over statements and declarations, in the order of the text.
 
-use crate::around::{Around, Procedure};
+ghost use Rattle.std.specs.Prelude.{◌≡◌, IfOk, OnOk};
+ghost use Rattle.algol_tree.specs.Classes as classes;
+ghost use Rattle.algol_scope.specs.declared.known.Class.TheVariants as class;
+ghost use Rattle.algol_scope.specs.Seeing.{IsClass, Grows};
+
+use crate::around::Around;
 use crate::findings::{Cell, Content, Findings};
 use crate::formal::{Mode, modes};
-use crate::known::{Class, Entry, Names, Seen};
+use crate::known::{Class, Entry, Seen};
 use crate::layout::{declare, lay_out};
 use crate::scopes::Scopes;
 use algol_rules::{names_of, procedure_tokens, program_tokens};
 use algol_tree::{
     Body, Code, Decl, Heading, List, MOST_BLOCK_CELLS, MOST_LEVEL, MOST_PROCEDURES,
-    MOST_SEGMENT_TOKENS, Named, Pair, Program, Refusal, Spot, Stmt,
+    MOST_SEGMENT_TOKENS, Named, Program, Refusal, Spot, Stmt,
 };
 use std::alloc::{AllocError, Global};
 use std::collections::BTreeMap;
@@ -55,29 +60,36 @@ impl<'p> Resolver<'p> {
 
     // ---- blocks
 
-    /// A block begins, which is the procedure's that has a result of this name. Answers the cells of the block around.
-    fn open(&mut self, spot: Spot, typed: Option<&'p [u8]>) -> Result<Vec<Cell>, AllocError> {
-        self.around.blocks.push(Names::new(self.alloc, typed))?;
+    /// The innermost block has just been opened.
+    fn enter(&mut self, spot: Spot) -> Result<(), AllocError> {
         let level = self.around.level();
         if level > MOST_LEVEL {
             self.note(spot, Code::TooManyLevels);
         }
         self.findings.scopes.levels.push(level)?;
+        Ok(())
+    }
+
+    /// The innermost block, which has these cells, is at its end.
+    fn leave(&mut self, cells: &[Cell]) -> Result<(), AllocError> {
+        if let Some(cell) = cells.get(MOST_BLOCK_CELLS) {
+            self.note(cell.spot, Code::TooManyCells);
+        }
+        lay_out(cells, self.around.level(), &mut self.findings.scopes)
+    }
+
+    /// A block begins, which is the procedure's that has a result of this name. Answers the cells of the block around.
+    fn open(&mut self, spot: Spot, typed: Option<&'p [u8]>) -> Result<Vec<Cell>, AllocError> {
+        self.around.open(self.alloc, typed)?;
+        self.enter(spot)?;
         Ok(mem::replace(&mut self.findings.cells, Vec::new(self.alloc)))
     }
 
     /// The innermost block ends, and the cells are again those of the block around.
     fn close(&mut self, outer: Vec<Cell>) -> Result<(), AllocError> {
         let cells = mem::replace(&mut self.findings.cells, outer);
-        if let Some(cell) = cells.get(MOST_BLOCK_CELLS) {
-            self.note(cell.spot, Code::TooManyCells);
-        }
-        lay_out(
-            cells.as_slice(),
-            self.around.level(),
-            &mut self.findings.scopes,
-        )?;
-        self.around.blocks.pop();
+        self.leave(cells.as_slice())?;
+        self.around.close();
         Ok(())
     }
 
@@ -97,25 +109,12 @@ impl<'p> Resolver<'p> {
 
     /// Whether the innermost block has the name before: as a declaration, or as its result.
     fn is_here(&self, name: &[u8]) -> bool {
-        match self.around.blocks.last() {
-            None => false,
-            Some(block) => {
-                if let Some(typed) = block.typed {
-                    if typed == name {
-                        return true;
-                    }
-                }
-                block.here(name, Seen::All).is_some()
+        if let Some(typed) = self.around.innermost.typed {
+            if typed == name {
+                return true;
             }
         }
-    }
-
-    /// The innermost block declares the name.
-    fn make_known(&mut self, name: &'p [u8], spot: Spot, class: Class) -> Result<(), AllocError> {
-        match self.around.blocks.last_mut() {
-            None => Ok(()),
-            Some(block) => block.declare(name, Entry { spot, class }),
-        }
+        self.around.innermost.here(name, Seen::All).is_some()
     }
 
     /// The innermost block declares the names.
@@ -129,7 +128,11 @@ impl<'p> Resolver<'p> {
             if self.is_here(n.name.bytes()) {
                 self.note(n.spot, Code::DeclaredTwice);
             }
-            self.make_known(n.name.bytes(), n.spot, class)?;
+            let entry = Entry {
+                spot: n.spot,
+                class,
+            };
+            self.around.declare(n.name.bytes(), entry)?;
             self.findings.scopes.names.insert(n.spot, n.spot)?;
             match content {
                 None => declare(&mut self.findings.scopes, n.spot, self.around.level(), None)?,
@@ -272,10 +275,15 @@ impl<'p> Resolver<'p> {
         Ok(found)
     }
 
-    fn add_procedure(&mut self, heading: &'p Heading) -> Result<usize, AllocError> {
+    fn add_procedure(&mut self, heading: &'p Heading) -> Result<usize, AllocError>
+        ensures kept { OnOk result (Grows self.old.around self.new.around) }
+        ensures class { IfOk result (λ number. IsClass self.new.around.procedures.items (class.Procedure number) (classes.procedure heading.now)) }
+        ensures innermost { self.new.around.innermost ≡ self.old.around.innermost }
+        ensures outer { self.new.around.outer ≡ self.old.around.outer }
+        ensures findings { self.new.findings ≡ self.old.findings }
+    {
         let modes = modes(self.alloc, heading)?;
-        self.around.procedures.push(Procedure { heading, modes })?;
-        Ok(self.around.procedures.len() - 1)
+        self.around.add(heading, modes)
     }
 
     #[cycle(statements)]
@@ -288,20 +296,11 @@ impl<'p> Resolver<'p> {
             Decl::Labels(ns) => self.declare_all(ns, Class::Other, None),
             Decl::Arrays(_, ns, pairs) => {
                 self.declare_all(ns, Class::Other, Some(Content::Made))?;
-                self.bounds(pairs)
+                self.findings.bounds(pairs, &self.around)
             }
             Decl::Forward(h) => self.forward(h, ahead),
             Decl::Procedure(h, s) => self.procedure(h, s, ahead),
         }
-    }
-
-    /// A bound sees what is known before the declarations of its body.
-    fn bounds(&mut self, pairs: &'p List<Pair>) -> Result<(), AllocError> {
-        for pair in pairs.items() {
-            self.findings
-                .expr(&pair.high, &self.around, Seen::BeforeDeclarations)?;
-        }
-        Ok(())
     }
 
     fn forward(&mut self, h: &'p Heading, ahead: Ahead) -> Result<(), AllocError> {
@@ -316,19 +315,17 @@ impl<'p> Resolver<'p> {
             None => h.name.spot,
             Some(p) => p.heading.name.spot,
         };
-        self.make_known(name, spot, Class::Procedure(ahead.procedure))?;
+        let class = Class::Procedure(ahead.procedure);
+        self.around.declare(name, Entry { spot, class })?;
         self.findings.scopes.names.insert(h.name.spot, spot)?;
         self.heading(h)
     }
 
     /// Whether the last that this block says of the name is the FORWARD of this heading.
     fn is_announced(&self, h: &Heading) -> bool {
-        match self.around.blocks.last() {
+        match self.around.innermost.here(h.name.name.bytes(), Seen::All) {
             None => false,
-            Some(block) => match block.here(h.name.name.bytes(), Seen::All) {
-                None => false,
-                Some(entry) => entry.spot == h.name.spot,
-            },
+            Some(entry) => entry.spot == h.name.spot,
         }
     }
 
@@ -338,7 +335,11 @@ impl<'p> Resolver<'p> {
         if !self.is_announced(h) && self.is_here(name) {
             self.note(h.name.spot, Code::DeclaredTwice);
         }
-        self.make_known(name, h.name.spot, Class::Procedure(ahead.procedure))?;
+        let entry = Entry {
+            spot: h.name.spot,
+            class: Class::Procedure(ahead.procedure),
+        };
+        self.around.declare(name, entry)?;
         self.findings.scopes.names.insert(h.name.spot, h.name.spot)?;
         self.cell(Content::Procedure, h.name.spot)?;
         self.heading(h)?;
@@ -368,15 +369,11 @@ impl<'p> Resolver<'p> {
         }
         for (at, n) in h.params.items().iter().enumerate().rev() {
             let class = self.class_of_parameter(ahead.procedure, at);
-            if let Some(block) = self.around.blocks.last_mut() {
-                block.declare_parameter(
-                    n.name.bytes(),
-                    Entry {
-                        spot: n.spot,
-                        class,
-                    },
-                )?;
-            }
+            let entry = Entry {
+                spot: n.spot,
+                class,
+            };
+            self.around.declare_parameter(n.name.bytes(), entry)?;
         }
         for n in h.params.items() {
             self.cell(Content::Parameter, n.spot)?;
@@ -406,16 +403,10 @@ impl<'p> Resolver<'p> {
 
     /// A parameter's name in the heading of the procedure whose block is the innermost.
     fn parameter(&mut self, n: &'p Named) -> Result<(), AllocError> {
-        match self.around.blocks.last() {
-            None => Ok(()),
-            Some(block) => match block.parameter(n.name.bytes()) {
-                None => Ok(()),
-                Some(entry) => {
-                    self.findings.scopes.names.insert(n.spot, entry.spot)?;
-                    Ok(())
-                }
-            },
+        if let Some(entry) = self.around.innermost.parameter(n.name.bytes()) {
+            self.findings.scopes.names.insert(n.spot, entry.spot)?;
         }
+        Ok(())
     }
 
     /// The rules of a heading: its parameters are distinct, and apart from the name of a typed procedure; VALUE and the
@@ -464,8 +455,9 @@ pub fn resolve(alloc: Global, program: &Program) -> Result<Scopes, Refusal> {
 
 impl<'p> Resolver<'p> {
     fn whole(&mut self, b: &'p Body) -> Result<(), AllocError> {
-        let outer = self.open(b.spot, None)?;
+        self.enter(b.spot)?;
         self.body(b)?;
-        self.close(outer)
+        let cells = mem::replace(&mut self.findings.cells, Vec::new(self.alloc));
+        self.leave(cells.as_slice())
     }
 }
