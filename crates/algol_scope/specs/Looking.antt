@@ -1,0 +1,33 @@
+-- What is known around a place, as the walk over a tree keeps it.
+use Rattle.std.specs.Prelude.{ℕ, ◌+◌, min, List, [], ◌∷◌, length, reverse, slice_get, Option, Some, None}
+use Rattle.algol_scope.specs.declared.known.Class.{Class}
+use Rattle.algol_scope.specs.declared.known.Class.TheVariants as class
+use Rattle.algol_scope.specs.declared.known.Entry.{Entry}
+use Rattle.algol_scope.specs.declared.known.Names.{Names}
+use Rattle.algol_scope.specs.declared.known.Seen.{Seen}
+use Rattle.algol_scope.specs.declared.known.Seen.TheVariants as seen
+use Rattle.algol_scope.specs.declared.formal.Mode.{Mode}
+use Rattle.algol_scope.specs.declared.around.Around.{Around}
+use Rattle.algol_scope.specs.declared.around.Procedure.{Procedure}
+use Rattle.algol_scope.specs.Naming.{or_else, seen_under}
+
+-- which declaration a use of a name sees, the innermost block first
+abbrev pub looked_up : List Names → Seen → List ℕ → Option Entry
+looked_up [] sees name = None
+looked_up (b ∷ bs) sees name = or_else (seen_under b.declared b.parameters sees name) (looked_up bs seen.All name)
+
+abbrev pub open_blocks : Around → List Names
+open_blocks k = k.innermost ∷ reverse k.outer.items
+
+abbrev modes_of : Option Procedure → List Mode
+modes_of None = []
+modes_of (Some p) = p.modes.items
+
+-- how what is declared so takes its actuals
+abbrev pub modes_in : List Procedure → Class → List Mode
+modes_in ps (class.Procedure number) = modes_of (slice_get ps number)
+modes_in ps _ = []
+
+-- the level of the innermost block, as far as a byte can say it
+abbrev pub level_within : Around → ℕ
+level_within k = min (length k.outer.items + 2) 255

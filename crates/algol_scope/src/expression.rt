@@ -1,0 +1,146 @@
+//! The names, the levels and the cells of expressions.
+
+ghost use Rattle.std.specs.Prelude.{◌≡◌, OnOk, IfOk, List, Option, true, [], ◌∷◌};
+ghost use Rattle.algol_tree.specs.Classes.{Formal};
+ghost use Rattle.algol_tree.specs.Blocks.{Block};
+ghost use Rattle.algol_tree.specs.Surroundings.{Surroundings, class_of, formals_at};
+ghost use Rattle.algol_tree.specs.Sites.{sites, inside_list, inside_actuals, sites_in_pairs, actual};
+ghost use Rattle.algol_tree.specs.Cells as cells;
+ghost use Rattle.algol_tree.specs.Image.{expr, exprs, pairs};
+ghost use Rattle.algol_scope.specs.declared.known.Seen.{Seen};
+ghost use Rattle.algol_scope.specs.declared.known.Seen.TheVariants as seens;
+ghost use Rattle.algol_scope.specs.Seeing.{Sees, IsClass, mode_given};
+ghost use Rattle.algol_scope.specs.Noting.{Finds, Walks, Passes, at_name};
+
+use crate::around::Around;
+use crate::findings::{Cell, Content, Findings};
+use crate::formal::Mode;
+use crate::known::{Class, Seen};
+use algol_rules::first_spot;
+use algol_tree::{Call, Code, Expr, List, MOST_LEVEL, Named, Pair, Variable};
+use std::alloc::AllocError;
+
+impl Findings {
+    /// A use of the name, and what the name is declared as.
+    pub fn name(&mut self, n: &Named, around: &Around, seen: Seen) -> Result<Class, AllocError>
+        ensures walks { OnOk result (Walks around.now seen self.old self.new (λ a. at_name n.now a ∷ [])) }
+        ensures class { IfOk result (λ class. (a : Surroundings) → Sees around.now seen a → IsClass around.now.procedures.items class (class_of a n.now)) }
+    {
+        match around.find(n.name.bytes(), seen) {
+            None => {
+                self.faults.note(n.spot, Code::UnknownName);
+                Ok(Class::Other)
+            }
+            Some(entry) => {
+                self.scopes.names.insert(n.spot, entry.spot)?;
+                Ok(entry.class)
+            }
+        }
+    }
+
+    /// An actual that is given so: where it has a cell, its code is one level deeper than where it stands.
+    fn actual(
+        &mut self,
+        e: &Expr,
+        mode: Option<Mode>,
+        around: &Around,
+        seen: Seen,
+    ) -> Result<(), AllocError>
+        ensures { OnOk result ((blocks : List Block) (a : Surroundings) (f : Option Formal) → Sees around.now seen a → mode ≡ mode_given f → Finds blocks a.block self.old (record { part = actual (expr e.now) f; around = a } ∷ []) self.new) }
+    {
+        if !around.has_cell(e, mode, seen) {
+            return Ok(());
+        }
+        let spot = first_spot(e);
+        if around.level() >= MOST_LEVEL {
+            self.faults.note(spot, Code::TooManyLevels);
+        }
+        self.cells.push(Cell {
+            spot,
+            content: Content::Actual,
+        })?;
+        Ok(())
+    }
+
+    #[cycle(expressions)]
+    fn actuals(
+        &mut self,
+        es: &List<Expr>,
+        modes: &[Mode],
+        around: &Around,
+        seen: Seen,
+    ) -> Result<(), AllocError>
+        ensures { OnOk result (Passes around.now seen self.old self.new modes.now (exprs es.now)) }
+    {
+        'actuals: for (at, e) in es.items().iter().enumerate() {
+            self.actual(e, modes.get(at).copied(), around, seen)?;
+            self.expr(e, around, seen)?;
+        }
+        Ok(())
+    }
+
+    #[cycle(expressions)]
+    pub fn call(&mut self, c: &Call, around: &Around, seen: Seen) -> Result<(), AllocError>
+        ensures { OnOk result (Walks around.now seen self.old self.new (λ a. at_name c.now.name a ∷ inside_actuals (exprs c.now.actuals) (formals_at a c.now.name) a)) }
+    {
+        let class = self.name(&c.name, around, seen)?;
+        self.actuals(&c.actuals, around.modes(class), around, seen)
+    }
+
+    #[cycle(expressions)]
+    pub fn variable(&mut self, v: &Variable, around: &Around, seen: Seen) -> Result<(), AllocError>
+        ensures { OnOk result (Walks around.now seen self.old self.new (λ a. at_name v.now.name a ∷ inside_list (exprs v.now.subs) a)) }
+    {
+        self.name(&v.name, around, seen)?;
+        self.list(&v.subs, around, seen)
+    }
+
+    #[cycle(expressions)]
+    pub fn list(&mut self, es: &List<Expr>, around: &Around, seen: Seen) -> Result<(), AllocError>
+        ensures { OnOk result (Walks around.now seen self.old self.new (inside_list (exprs es.now))) }
+    {
+        'expressions: for e in es.items() {
+            self.expr(e, around, seen)?;
+        }
+        Ok(())
+    }
+
+    #[cycle(expressions)]
+    pub fn expr(&mut self, e: &Expr, around: &Around, seen: Seen) -> Result<(), AllocError>
+        ensures { OnOk result (Walks around.now seen self.old self.new (sites (expr e.now))) }
+    {
+        match e {
+            Expr::Number(_, _) => Ok(()),
+            Expr::Truth(_, _) => Ok(()),
+            Expr::Variable(v) => self.variable(v, around, seen),
+            Expr::Call(c) => self.call(c, around, seen),
+            Expr::Happened(event, _) => {
+                self.name(&event.name, around, seen)?;
+                Ok(())
+            }
+            Expr::Paren(e, _) => self.expr(e, around, seen),
+            Expr::Plus(e, _) => self.expr(e, around, seen),
+            Expr::Neg(e, _) => self.expr(e, around, seen),
+            Expr::Not(e, _) => self.expr(e, around, seen),
+            Expr::Two(_, a, b) => {
+                self.expr(a, around, seen)?;
+                self.expr(b, around, seen)
+            }
+            Expr::If(c, a, b, _) => {
+                self.expr(c, around, seen)?;
+                self.expr(a, around, seen)?;
+                self.expr(b, around, seen)
+            }
+        }
+    }
+
+    /// A bound sees what is known before the declarations of its block.
+    pub fn bounds(&mut self, ps: &List<Pair>, around: &Around) -> Result<(), AllocError>
+        ensures { OnOk result (Walks around.now seens.BeforeDeclarations self.old self.new (sites_in_pairs (pairs ps.now))) }
+    {
+        'pairs: for pair in ps.items() {
+            self.expr(&pair.high, around, Seen::BeforeDeclarations)?;
+        }
+        Ok(())
+    }
+}
