@@ -19,3 +19,10 @@ pub mod Texts
 pub mod Idle
 pub mod Exact
 mod OneTree
+mod Chains
+mod Firsts
+mod Loops
+mod Tails
+mod Specs
+mod Begun
+mod Folds
