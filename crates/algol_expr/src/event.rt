@@ -36,8 +36,8 @@ pub(crate) fn read_happened<'a>(
     Ok((happened(event, first.spot), rest))
 }
 
-/// event = name [ "." EXCEPTIONEVENT ]
-fn read_event(alloc: Global, tokens: &[Token]) -> Result<(EventName, &[Token]), Stop>
+/// event = name [ "." EXCEPTIONEVENT ]. Its refusal is `Unexpected`, at the first token that it does not go through.
+pub fn read_event(alloc: Global, tokens: &[Token]) -> Result<(EventName, &[Token]), Stop>
     requires ended { EndsOnce tokens.now }
     ensures found { IfOk result (λ r. Finds due.event tokens.now (event_named r.0) r.1.now) }
     ensures refused { IfErr result (λ e. Fails (due.event ∷ []) [] tokens.now e.left e.refusal) }

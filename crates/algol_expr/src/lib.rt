@@ -14,4 +14,10 @@ mod take;
 mod tests;
 mod whole;
 
+pub use event::read_event;
+pub use make::named;
+pub use stop::Stop;
+pub use take::{
+    expect_spelled, expect_symbol, expect_word, first_of, is_symbol, is_word, name_in, opened,
+};
 pub use whole::{read_expr, read_whole};

@@ -88,7 +88,8 @@ pub(crate) fn call(name: Named, actuals: List<Expr>) -> Expr
     Expr::Call(Call { name, actuals })
 }
 
-pub(crate) fn named(alloc: Global, name: &Line, spot: Spot) -> Result<Named, Stop>
+/// That name, at that place.
+pub fn named(alloc: Global, name: &Line, spot: Spot) -> Result<Named, Stop>
     ensures built { IfOk result (λ n. (n.name ≡ name.now) × (n.spot ≡ spot)) }
     ensures memory { IfErr result (λ e. e.refusal ≡ NoMemory) }
 {

@@ -8,9 +8,9 @@ use std::alloc::{AllocError, AllocFailed};
 
 /// A refusal, and how many tokens were left from the one that showed it on; or want of memory.
 #[derive(Clone, Copy)]
-pub(crate) struct Stop {
-    pub(crate) left: usize,
-    pub(crate) refusal: Refusal,
+pub struct Stop {
+    pub left: usize,
+    pub refusal: Refusal,
 }
 
 impl From<AllocError> for Stop {
@@ -32,5 +32,13 @@ impl<T: Drop> From<AllocFailed<T>> for Stop {
             left: 0,
             refusal: Refusal::NoMemory,
         }
+    }
+}
+
+impl From<Stop> for Refusal {
+    ghost from_gives = { λ stop e. e ≡ stop.refusal };
+
+    fn from(stop: Stop) -> Refusal {
+        stop.refusal
     }
 }

@@ -12,14 +12,15 @@ use crate::stop::Stop;
 use algol_tree::{Code, Line, MOST_NESTING, Refusal, Reserved, Symbol, Token, TokenKind};
 
 /// The first token, and those behind it.
-pub(crate) fn first_of(tokens: &[Token]) -> (&Token, &[Token])
+pub fn first_of(tokens: &[Token]) -> (&Token, &[Token])
     requires ended { EndsOnce tokens.now }
     ensures { tokens.now ≡ result.0.now ∷ result.1.now }
 {
     tokens.split_first().unwrap()
 }
 
-pub(crate) fn is_word(token: &Token, word: Reserved) -> bool
+/// The token is that word.
+pub fn is_word(token: &Token, word: Reserved) -> bool
     ensures { result ≡ is_word word token.now.kind }
 {
     match token.kind {
@@ -28,7 +29,8 @@ pub(crate) fn is_word(token: &Token, word: Reserved) -> bool
     }
 }
 
-pub(crate) fn is_symbol(token: &Token, symbol: Symbol) -> bool
+/// The token is that symbol.
+pub fn is_symbol(token: &Token, symbol: Symbol) -> bool
     ensures { result ≡ is_symbol symbol token.now.kind }
 {
     match token.kind {
@@ -38,7 +40,7 @@ pub(crate) fn is_symbol(token: &Token, symbol: Symbol) -> bool
 }
 
 /// The name that the token is.
-pub(crate) fn name_in(token: &Token) -> Option<&Line>
+pub fn name_in(token: &Token) -> Option<&Line>
     ensures some { IfSome result (λ name. name_in token.now.kind ≡ Some name.now) }
     ensures none { IfNone result (name_in token.now.kind ≡ None) }
 {
@@ -63,8 +65,9 @@ pub(crate) fn refused(first: &Token, behind: &[Token], code: Code) -> Stop
     }
 }
 
-/// How many levels are open behind a first token that opens one.
-pub(crate) fn opened(first: &Token, behind: &[Token], depth: u32) -> Result<u32, Stop>
+/// How many levels are open behind a first token that opens one, where `depth` are open before it. It is refused as
+/// `TooDeep` at that token where those are as many as may be.
+pub fn opened(first: &Token, behind: &[Token], depth: u32) -> Result<u32, Stop>
     ensures opens { IfOk result (λ inner. (depth < MOST_NESTING) × (inner ≡ depth + 1)) }
     ensures deep { IfErr result (λ e. (MOST_NESTING ≤ depth) × (e.left ≡ length (first.now ∷ behind.now)) × (e.refusal ≡ refusals.At first.now.spot codes.TooDeep)) }
 {
@@ -75,9 +78,9 @@ pub(crate) fn opened(first: &Token, behind: &[Token], depth: u32) -> Result<u32,
     }
 }
 
-/// What follows the word that is due.
+/// What follows the word that is due. Another token is refused as `Unexpected`.
 #[tactic(auto, using(crate::proofs::Taken::word_passes, crate::proofs::Taken::word_fails))]
-pub(crate) fn expect_word(tokens: &[Token], word: Reserved) -> Result<&[Token], Stop>
+pub fn expect_word(tokens: &[Token], word: Reserved) -> Result<&[Token], Stop>
     requires ended { EndsOnce tokens.now }
     ensures passes { IfOk result (λ rest. Passes (due.word word) tokens.now rest.now) }
     ensures fails { IfErr result (λ e. Fails (due.word word ∷ []) [] tokens.now e.left e.refusal) }
@@ -90,9 +93,9 @@ pub(crate) fn expect_word(tokens: &[Token], word: Reserved) -> Result<&[Token], 
     }
 }
 
-/// What follows the symbol that is due.
+/// What follows the symbol that is due. Another token is refused as `Unexpected`.
 #[tactic(auto, using(crate::proofs::Taken::symbol_passes, crate::proofs::Taken::symbol_fails))]
-pub(crate) fn expect_symbol(tokens: &[Token], symbol: Symbol) -> Result<&[Token], Stop>
+pub fn expect_symbol(tokens: &[Token], symbol: Symbol) -> Result<&[Token], Stop>
     requires ended { EndsOnce tokens.now }
     ensures passes { IfOk result (λ rest. Passes (due.symbol symbol) tokens.now rest.now) }
     ensures fails { IfErr result (λ e. Fails (due.symbol symbol ∷ []) [] tokens.now e.left e.refusal) }
@@ -115,8 +118,8 @@ pub(crate) fn is_spelled(token: &Token, name: &[u8]) -> bool
     }
 }
 
-/// What follows the name that has to stand there as it is.
-pub(crate) fn expect_spelled<'a>(tokens: &'a [Token], name: &[u8]) -> Result<&'a [Token], Stop>
+/// What follows the name that has to stand there as it is. Another token is refused as `Unexpected`.
+pub fn expect_spelled<'a>(tokens: &'a [Token], name: &[u8]) -> Result<&'a [Token], Stop>
     requires ended { EndsOnce tokens.now }
     ensures passes { IfOk result (λ rest. Passes (due.spelled name.now) tokens.now rest.now) }
     ensures fails { IfErr result (λ e. Fails (due.spelled name.now ∷ []) [] tokens.now e.left e.refusal) }

@@ -22,3 +22,10 @@ pub mod Labels
 pub mod Deep
 pub mod Exact
 mod OneTree
+mod Chains
+mod Firsts
+mod Loops
+mod Tails
+mod Specs
+mod Begun
+mod Folds

@@ -1,2 +1,5 @@
+pub mod Brings
 pub mod OneTree
+pub mod Phrases
 pub mod ReadExactly
+pub mod Starts

@@ -1,5 +1,15 @@
-//! What holds of all texts, tokens and programs, by the grammar alone.
+//! Programs from tokens, and what holds of all texts, tokens and programs by the grammar alone.
 #![tactic(auto)]
+
+mod declaration;
+mod exprs;
+mod heading;
+mod line;
+mod make;
+mod names;
+mod simple;
+mod start;
+mod take;
 
 ghost use Rattle.algol_stmt.specs.OneTree.{OneTree, OneTreeOfText};
 ghost use Rattle.algol_stmt.specs.ReadExactly.{ReadExactly};
