@@ -8,3 +8,5 @@ pub mod Places
 pub mod Sameness
 pub mod Whole
 pub mod Surrounded
+pub mod Labelled
+pub mod Within

@@ -7,3 +7,4 @@ pub mod Headings
 pub mod Labelling
 pub mod Same
 pub mod Assigning
+pub mod Placing
