@@ -10,3 +10,4 @@ pub mod Whole
 pub mod Surrounded
 pub mod Labelled
 pub mod Within
+pub mod Statements

@@ -60,7 +60,7 @@ module _ (blocks : List Block) where
       ∙ ap (λ (m : ℕ). (m == n) || list_any (λ (i : ℕ). i == n) (map (number_at blocks) (reverse place.around.items))) (sym p.number)
       ∙ ap (λ (ns : List ℕ). (a.block == n) || list_any (λ (i : ℕ). i == n) ns) (sym p.outer)
 
-  abbrev is_assignable : Class → Surroundings → Bool
+  abbrev pub is_assignable : Class → Surroundings → Bool
   is_assignable (class.simple k) a = true
   is_assignable (class.procedure h) a = is_some h.kind && is_around h a
   is_assignable class.unknown a = true

@@ -8,3 +8,5 @@ pub mod Labelling
 pub mod Same
 pub mod Assigning
 pub mod Placing
+pub mod Seeing
+pub mod Stating

@@ -11,5 +11,6 @@ mod known;
 mod label;
 mod line;
 mod same;
+mod statement;
 mod types;
 mod wanted;
