@@ -11,3 +11,6 @@ pub mod Surrounded
 pub mod Labelled
 pub mod Within
 pub mod Statements
+pub mod Declaring
+pub mod Opened
+pub mod Headed

@@ -10,3 +10,4 @@ pub mod Assigning
 pub mod Placing
 pub mod Seeing
 pub mod Stating
+pub mod Declaring

@@ -5,6 +5,7 @@
 
 mod assign;
 mod class;
+mod declare;
 mod expression;
 mod heading;
 mod known;
