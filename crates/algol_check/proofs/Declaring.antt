@@ -1,5 +1,5 @@
 -- What is known after a declaration.
-use Rattle.std.proofs.Common.{◌≡◌, ℕ, ◌+◌, ◌-◌, ◌<◌, ◌≤◌, Bool, true, false, cond, List, [], ◌∷◌, ◌++◌, length, drop, map, get_or, reverse, Option, Some, None, refl, ap, sym, ◌∙◌, subst, arith, drop-cons, suc, zero}
+use Rattle.std.proofs.Common.{◌≡◌, ℕ, ◌+◌, ◌-◌, ◌<◌, ◌≤◌, Bool, true, false, cond, List, [], ◌∷◌, ◌++◌, length, drop, map, get_or, reverse, Option, Some, refl, ap, sym, ◌∙◌, subst, arith, drop-cons, suc, zero}
 use Rattle.std.proofs.lemmas.List.{reverse-append}
 use Rattle.std.specs.Prelude.{◌==◌, ◌&&◌, if◌then◌else◌}
 use Rattle.std.specs.Borrow.{Bor}
@@ -10,7 +10,6 @@ use Rattle.std.specs.declared.vec.Vec.{Vec}
 use Rattle.algol_tree.specs.declared.token.Spot.{Spot}
 use Rattle.algol_tree.specs.declared.tree.Heading.{Heading}
 use Rattle.algol_tree.specs.declared.tree.Named.{Named}
-use Rattle.algol_tree.specs.declared.tree.Spec.{Spec}
 use Rattle.algol_tree.specs.Sorts.{same_name, Declared, Sort, look_up, formals_of, class_in, sort_in, is_named_in}
 use Rattle.algol_tree.specs.Sorts as sort
 use Rattle.algol_tree.specs.Blocks.{Block, number_at}

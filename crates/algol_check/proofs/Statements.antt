@@ -1,7 +1,6 @@
 -- What the walk notes of a statement is what the rules have for it, in all surroundings that the walk's names stand for.
-use Rattle.std.proofs.Common.{rules, ◌≡◌, ℕ, ◌+◌, ◌<◌, ◌≤◌, Bool, true, false, List, [], ◌∷◌, ◌++◌, length, drop, get_or, Option, Some, None, refl, ap, sym, ◌∙◌, arith, drop-cons, suc}
-use Rattle.std.specs.Prelude.{◌==◌, ◌&&◌, not, if◌then◌else◌, is_some, reverse}
-use Rattle.std.specs.List.{list_any}
+use Rattle.std.proofs.Common.{rules, ◌≡◌, ℕ, ◌+◌, ◌<◌, Bool, true, false, List, [], ◌∷◌, ◌++◌, length, drop, get_or, Option, Some, None, refl, ap, sym, ◌∙◌, arith, drop-cons, suc}
+use Rattle.std.specs.Prelude.{◌==◌, ◌&&◌, not, if◌then◌else◌, reverse}
 use Rattle.algol_tree.specs.declared.token.Spot.{Spot}
 use Rattle.algol_tree.specs.declared.refusal.Code.{Code}
 use Rattle.algol_tree.specs.declared.refusal.Code.TheVariants as codes
@@ -23,10 +22,10 @@ use Rattle.algol_tree.specs.Image.{expr, exprs, call, pairs, variable}
 use Rattle.algol_tree.specs.Classes as class
 use Rattle.algol_tree.specs.Classes.{Class, is_event, is_task, is_unspecified}
 use Rattle.algol_tree.specs.Cells.{first_spot}
-use Rattle.algol_tree.specs.Types.{type_of, read_type, element_type}
+use Rattle.algol_tree.specs.Types.{read_type, element_type}
 use Rattle.algol_tree.specs.Names.{if_so}
 use Rattle.algol_tree.specs.Sorts.{Declared, look_up}
-use Rattle.algol_tree.specs.Blocks.{Block, number_at, around}
+use Rattle.algol_tree.specs.Blocks.{Block}
 use Rattle.algol_tree.specs.Surroundings.{Surroundings, class_of, class_of_declared, formals_at, formals_of_class}
 use Rattle.algol_tree.specs.Sites as site
 use Rattle.algol_tree.specs.Sites.{Site, sites, inside_list, inside_actuals, sites_in_pairs}

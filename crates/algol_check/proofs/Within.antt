@@ -1,5 +1,5 @@
 -- The places of blocks and their numbers: which names can be assigned to, by either.
-use Rattle.std.proofs.Common.{◌≡◌, ℕ, ◌+◌, ◌<◌, Bool, true, false, List, [], ◌∷◌, map, length, Option, Some, None, refl, ap, sym, ◌∙◌, arith}
+use Rattle.std.proofs.Common.{◌≡◌, ℕ, ◌+◌, ◌<◌, Bool, true, false, List, [], ◌∷◌, map, length, refl, ap, sym, ◌∙◌, arith}
 use Rattle.std.proofs.lemmas.List.Sorted.{list_any-IsPermutation, IsPermutation-reverse}
 use Rattle.std.specs.Prelude.{◌==◌, ◌&&◌, ◌||◌, is_some, if◌then◌else◌, reverse}
 use Rattle.std.specs.List.{list_any}
@@ -11,7 +11,7 @@ use Rattle.algol_tree.specs.Blocks.{Block, same_spot, number_at, around}
 use Rattle.algol_tree.specs.Surroundings.{Surroundings}
 use Rattle.algol_check.specs.declared.assign.Place.{Place}
 use Rattle.algol_check.specs.Assigning.{is_within, can_take}
-use Rattle.algol_check.specs.Placing.{AreBlocks, IsBlock, IsPlaced, outer_of}
+use Rattle.algol_check.specs.Placing.{AreBlocks, IsPlaced}
 
 -- ---- places are the same where their numbers are
 

@@ -1,5 +1,5 @@
 -- Where a place stands among the blocks of a program.
-use Rattle.std.specs.Prelude.{◌≡◌, ◌<◌, List, [], ◌∷◌, map, length, reverse, slice_get, Option, Some}
+use Rattle.std.specs.Prelude.{◌≡◌, ◌<◌, List, [], ◌∷◌, map, length, reverse, slice_get, Some}
 use Rattle.algol_tree.specs.declared.token.Spot.{Spot}
 use Rattle.algol_tree.specs.Blocks.{Block, number_at, around}
 use Rattle.algol_tree.specs.Surroundings.{Surroundings}

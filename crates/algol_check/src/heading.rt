@@ -117,12 +117,22 @@ fn check_body(heading: &Heading, body: Option<&Heading>, faults: &mut Faults)
     ensures { faults.new.first ≡ noted_all faults.old.first (unlike heading.now (option_copied body.entry)) }
 {
     if let Some(body) = body {
-        note_if(!same_heading(heading, body), body.name.spot, Code::WrongType, faults);
+        note_if(
+            !same_heading(heading, body),
+            body.name.spot,
+            Code::WrongType,
+            faults,
+        );
     }
 }
 
 /// The rules of a FORWARD, whose procedure has its body behind that heading.
-pub fn check_forward(heading: &Heading, specified: &Specified, body: Option<&Heading>, faults: &mut Faults)
+pub fn check_forward(
+    heading: &Heading,
+    specified: &Specified,
+    body: Option<&Heading>,
+    faults: &mut Faults,
+)
     requires { Specifies specified.now.formals heading.now.specs }
     ensures { (blocks : List Block) (a : Surroundings) (later : PDecls) → body_of heading.now.name.name later ≡ option_copied body.entry → faults.new.first ≡ noted_at blocks faults.old.first (forward_site heading.now later a) }
 {

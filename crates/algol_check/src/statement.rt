@@ -19,7 +19,9 @@ ghost use Rattle.algol_check.specs.Stating.{is_truth, noted_control, noted_eleme
 
 use crate::assign::Place;
 use crate::class::Class;
-use crate::expression::{actuals, called, count_actuals, count_subscripts, expression, expressions, subscripts};
+use crate::expression::{
+    actuals, called, count_actuals, count_subscripts, expression, expressions, subscripts,
+};
 use crate::known::{Names, class_of};
 use crate::line::check_line;
 use crate::types::{element_type, read_type, want, want_if, want_numbers};
@@ -121,7 +123,14 @@ pub fn process(known: &[Names], c: &Call, task: &Option<Named>, faults: &mut Fau
 }
 
 /// WRITE.
-pub fn write(known: &[Names], file: &Named, spot: Spot, phrases: &[PhraseText], items: &[Expr], faults: &mut Faults)
+pub fn write(
+    known: &[Names],
+    file: &Named,
+    spot: Spot,
+    phrases: &[PhraseText],
+    items: &[Expr],
+    faults: &mut Faults,
+)
     requires { HaveFormals known.now }
     ensures { (listed : Bool) → Notes known.now faults.old.first faults.new.first (stmt_parts (tree.write file.now spot phrases.now (exprs items.now)) listed) }
 {
@@ -151,7 +160,12 @@ fn is_truth(class: Class) -> bool
 fn control(known: &[Names], v: &Named, x: &Expr, step: &Expr, last: &Expr, faults: &mut Faults)
     ensures { faults.new.first ≡ noted_control faults.old.first v.now (expr x.now) (expr step.now) (expr last.now) (seen known.now) }
 {
-    note_if(is_truth(class_of(known, v)), v.spot, Code::WrongType, faults);
+    note_if(
+        is_truth(class_of(known, v)),
+        v.spot,
+        Code::WrongType,
+        faults,
+    );
     want(known, Kind::Number, x, faults);
     want(known, Kind::Number, step, faults);
     want(known, Kind::Number, last, faults);
