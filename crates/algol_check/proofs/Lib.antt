@@ -14,3 +14,4 @@ pub mod Statements
 pub mod Declaring
 pub mod Opened
 pub mod Headed
+pub mod Stood

@@ -31,7 +31,7 @@ compared b s t bs false true p q r h =
 compared b s t bs false false p q r h =
     let e : (number_at bs s + 1 == number_at bs t + 1) ≡ (number_at bs s == number_at bs t) = grind arith in e ∙ r (omega arith)
 
-numbered : (bs : List Block) (s t : Spot) → number_at bs s < length bs → (number_at bs s == number_at bs t) ≡ same_spot s t
+pub numbered : (bs : List Block) (s t : Spot) → number_at bs s < length bs → (number_at bs s == number_at bs t) ≡ same_spot s t
 numbered [] s t h = absurd (omega arith)
 numbered (b ∷ bs) s t h =
     compared b.spot s t bs (same_spot b.spot s) (same_spot b.spot t) refl refl (numbered bs s t)

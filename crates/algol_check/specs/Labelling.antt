@@ -10,6 +10,7 @@ use Rattle.algol_tree.specs.declared.refusal.Code.TheVariants as codes
 use Rattle.algol_tree.specs.declared.refusal.Fault.{Fault}
 use Rattle.algol_tree.specs.declared.tree.Named.{Named}
 use Rattle.algol_tree.specs.Plain as tree
+use Rattle.algol_tree.specs.Plain.{PStmt}
 use Rattle.algol_tree.specs.Sorts.{Declared}
 use Rattle.algol_tree.specs.Blocks.{same_spot}
 use Rattle.algol_tree.specs.Surroundings.{Surroundings, declared_as}
@@ -79,3 +80,12 @@ labels_part _ = []
 -- the labels that are declared there
 abbrev pub labels_at : Site → List Spot
 labels_at x = labels_part x.part
+
+-- what is kept of a label before a statement, where there is something
+abbrev pub standings_of : Option Standing → List rules.Standing
+standings_of None = []
+standings_of (Some s) = standing_as s ∷ []
+
+-- a label before a statement
+abbrev pub label_site : Named → PStmt → Bool → Surroundings → Site
+label_site n s listed a = record { part = site.statement (tree.label n s) listed; around = a }
