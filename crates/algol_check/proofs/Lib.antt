@@ -15,3 +15,4 @@ pub mod Declaring
 pub mod Opened
 pub mod Headed
 pub mod Stood
+pub mod Checked
