@@ -8,3 +8,11 @@ pub mod Places
 pub mod Sameness
 pub mod Whole
 pub mod Surrounded
+pub mod Labelled
+pub mod Within
+pub mod Statements
+pub mod Declaring
+pub mod Opened
+pub mod Headed
+pub mod Stood
+pub mod Checked

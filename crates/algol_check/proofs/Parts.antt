@@ -79,7 +79,7 @@ pub here_element : (first : Option Fault) (n : Named) (e : PExpr) (es : PExprs) 
 here_element first n e es a =
     ap (λ (f : Option Fault). noted_all f (miscounted_subscripts n (count_of (tree.more e es)) a)) (element_noted first n (tree.more e es) a)
 
-variable_is : (v : Variable) → variable v ≡ tree.subscripted v.name (exprs v.subs)
+pub variable_is : (v : Variable) → variable v ≡ tree.subscripted v.name (exprs v.subs)
 variable_is v = search (rules, variables.the_lemmas)
 
 pub reading_none : (first : Option Fault) (v : Variable) (a : Surroundings) → v.subs ≡ [] →
@@ -114,20 +114,20 @@ two_image op x y = search (rules, expressions.the_lemmas)
 if_image : (c x y : Box Expr Global) (spot : Spot) → expr (expressions.If c x y spot) ≡ tree.if (expr c.value) (expr x.value) (expr y.value) spot
 if_image c x y spot = search (rules, expressions.the_lemmas)
 
-broken_pair : (first : Option Fault) (xs ys : List Spot) →
+pub broken_pair : (first : Option Fault) (xs ys : List Spot) →
     noted_all first (broken codes.WrongType (xs ++ ys)) ≡ noted_all (noted_all first (broken codes.WrongType xs)) (broken codes.WrongType ys)
 broken_pair first xs ys =
     ap (noted_all first) (map-append (λ (spot : Spot). record { spot = spot; code = codes.WrongType }) xs ys)
     ∙ noted_all-append first (broken codes.WrongType xs) (broken codes.WrongType ys)
 
-abbrev differing : Kind → PExpr → Surroundings → List Spot
+abbrev pub differing : Kind → PExpr → Surroundings → List Spot
 differing k e a = if_so (differs k (type_of e a)) (first_spot e)
 
-abbrev differing_for : Option Kind → PExpr → Surroundings → List Spot
+abbrev pub differing_for : Option Kind → PExpr → Surroundings → List Spot
 differing_for None e a = []
 differing_for (Some k) e a = differing k e a
 
-differing_noted : (k : Option Kind) (e : PExpr) (a : Surroundings) → broken codes.WrongType (differing_for k e a) ≡ mistyped_for k e a
+pub differing_noted : (k : Option Kind) (e : PExpr) (a : Surroundings) → broken codes.WrongType (differing_for k e a) ≡ mistyped_for k e a
 differing_noted None e a = refl
 differing_noted (Some k) e a = refl
 

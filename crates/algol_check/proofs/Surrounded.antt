@@ -224,12 +224,12 @@ module _ (blocks : List Block) (a b : Surroundings) (same : (n : Named) → clas
         (λ g. paired (sites c a) (sites x a) (sites c b) (sites x b) g (sites_from c (inside_alike c)) (sites_from x (inside_alike x)))
         (sites_from y (inside_alike y))
 
-    list_alike : (es : PExprs) (f : Option Fault) → noted_along blocks f (inside_list es a) ≡ noted_in f (inside_list es b)
+    pub list_alike : (es : PExprs) (f : Option Fault) → noted_along blocks f (inside_list es a) ≡ noted_in f (inside_list es b)
     list_alike tree.none f = refl
     list_alike (tree.more e es) f =
         paired (sites e a) (inside_list es a) (sites e b) (inside_list es b) f (sites_from e (inside_alike e)) (list_alike es)
 
-    actuals_alike : (es : PExprs) (fs : List Formal) (f : Option Fault) → noted_along blocks f (inside_actuals es fs a) ≡ noted_in f (inside_actuals es fs b)
+    pub actuals_alike : (es : PExprs) (fs : List Formal) (f : Option Fault) → noted_along blocks f (inside_actuals es fs a) ≡ noted_in f (inside_actuals es fs b)
     actuals_alike tree.none fs f = refl
     actuals_alike (tree.more e es) fs f =
         paired (inside_expr e a) (inside_actuals es (others_of fs) a) (inside_expr e b) (inside_actuals es (others_of fs) b)

@@ -1,16 +1,23 @@
 -- What a heading specifies, and its faults.
-use Rattle.std.specs.Prelude.{◌≡◌, ◌||◌, ℕ, Bool, true, false, if◌then◌else◌, List, [], ◌∷◌, ◌++◌, length, Option, Some, None}
+use Rattle.std.specs.Prelude.{◌≡◌, ◌||◌, ℕ, Bool, true, false, if◌then◌else◌, not, List, [], ◌∷◌, ◌++◌, length, Option, Some, None}
 use Rattle.std.specs.Borrow.{Bor}
 use Rattle.std.specs.Ordering.{nat_cmp}
 use Rattle.std.specs.Cmp.Lexicographic.{slice_cmp}
 use Rattle.std.specs.BTreeMap.{BTreeMap, get_by}
 use Rattle.algol_tree.specs.declared.refusal.Code.TheVariants as codes
 use Rattle.algol_tree.specs.declared.refusal.Fault.{Fault}
+use Rattle.algol_tree.specs.declared.tree.Heading.{Heading}
 use Rattle.algol_tree.specs.declared.tree.Named.{Named}
 use Rattle.algol_tree.specs.declared.tree.Spec.{Spec}
 use Rattle.algol_tree.specs.declared.tree.Spec.TheVariants as specs
 use Rattle.algol_tree.specs.Classes.{Class, is_array, is_event, is_unspecified}
+use Rattle.algol_tree.specs.Plain as tree
+use Rattle.algol_tree.specs.Plain.{PDecls}
 use Rattle.algol_tree.specs.Sorts.{class_in, specified_by}
+use Rattle.algol_tree.specs.Forwards.{same_heading}
+use Rattle.algol_tree.specs.Surroundings.{Surroundings}
+use Rattle.algol_tree.specs.Sites as site
+use Rattle.algol_tree.specs.Sites.{Site}
 use Rattle.algol_check.specs.declared.class.Formal.{Formal}
 use Rattle.algol_check.specs.declared.class.Formal.TheVariants as formal
 use Rattle.algol_check.specs.Noting.{broken_if}
@@ -61,3 +68,12 @@ missing ss ns = faulty (λ (n : Named). is_unspecified (class_in ss n.name)) ns
 -- arrays and events in VALUE
 abbrev pub referring : List Spec → List Named → List Fault
 referring ss ns = faulty (λ (n : Named). is_reference (class_in ss n.name)) ns
+
+-- the heading with the body, where it is another
+abbrev pub unlike : Heading → Option Heading → List Fault
+unlike h None = []
+unlike h (Some g) = broken_if codes.WrongType (not (same_heading h g)) g.name.spot
+
+-- FORWARD, before these declarations
+abbrev pub forward_site : Heading → PDecls → Surroundings → Site
+forward_site h later a = record { part = site.declaration (tree.forward h) later; around = a }

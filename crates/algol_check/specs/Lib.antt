@@ -7,3 +7,7 @@ pub mod Headings
 pub mod Labelling
 pub mod Same
 pub mod Assigning
+pub mod Placing
+pub mod Seeing
+pub mod Stating
+pub mod Declaring

@@ -1,11 +1,15 @@
 //! Which names can be assigned to.
 
-ghost use Rattle.std.specs.Prelude.{◌≡◌};
+ghost use Rattle.std.specs.Prelude.{◌≡◌, [], ◌∷◌, ◌++◌, List, OnOk};
+ghost use Rattle.algol_tree.specs.Blocks.{Block, number_at};
+ghost use Rattle.algol_tree.specs.Surroundings.{Surroundings};
 ghost use Rattle.algol_check.specs.Assigning.{can_take, is_within};
+ghost use Rattle.algol_check.specs.Placing.{IsFound, IsPlaced, outer_of};
 ghost use Rattle.algol_check.specs.Seen.{class_seen};
 
 use crate::class::Class;
 use algol_tree::Spot;
+use std::alloc::{AllocError, Global};
 
 /// The block of a place, by the places where blocks begin, a procedure's at its name.
 #[derive(Drop)]
@@ -16,6 +20,35 @@ pub struct Place {
 }
 
 impl Place {
+    /// The outer block of a program whose BEGIN stands there.
+    pub fn outermost(alloc: Global, begin: Spot) -> Place
+        ensures { (blocks : List Block) (b : Block) (a : Surroundings) → IsFound blocks b → b.spot ≡ begin → b.outer ≡ [] → a.block ≡ number_at blocks begin → IsPlaced blocks result a }
+    {
+        Place {
+            block: begin,
+            around: Vec::new(alloc),
+        }
+    }
+
+    /// A block begins there.
+    pub fn open(&mut self, spot: Spot) -> Result<(), AllocError>
+        ensures around { OnOk result (self.new.around.items ≡ self.old.around.items ++ self.old.block ∷ []) }
+        ensures placed { OnOk result ((blocks : List Block) (b : Block) (a c : Surroundings) → IsPlaced blocks self.old a → IsFound blocks b → b.spot ≡ spot → b.outer ≡ outer_of self.old → c.block ≡ number_at blocks spot → IsPlaced blocks self.new c) }
+    {
+        self.around.push(self.block)?;
+        self.block = spot;
+        Ok(())
+    }
+
+    /// The innermost block ends.
+    pub fn close(&mut self)
+        ensures { (block : Spot) (around : List Spot) → self.old.around.items ≡ around ++ block ∷ [] → (self.new.block ≡ block) × (self.new.around.items ≡ around) }
+    {
+        if let Some(outer) = self.around.pop() {
+            self.block = outer;
+        }
+    }
+
     /// Whether the place is inside the procedure whose heading has its name there.
     fn is_inside(&self, procedure: Spot) -> bool
         ensures { result ≡ is_within self.now.block self.now.around.items procedure }

@@ -29,7 +29,7 @@ pub fn count_subscripts(known: &[Names], name: &Named, count: usize, faults: &mu
 }
 
 /// Notes where a procedure takes another number of actuals.
-fn count_actuals(known: &[Names], name: &Named, count: usize, faults: &mut Faults)
+pub fn count_actuals(known: &[Names], name: &Named, count: usize, faults: &mut Faults)
     ensures { faults.new.first ≡ noted_all faults.old.first (miscounted_actuals name.now count (seen known.now)) }
 {
     if let Class::Procedure(heading) = class_of(known, name) {

@@ -1,12 +1,17 @@
 //! The headings of procedures.
 
-ghost use Rattle.std.specs.Prelude.{◌≡◌, ℕ, List, OnOk, IfOk, if◌then◌else◌, map};
+ghost use Rattle.std.specs.Prelude.{◌≡◌, ℕ, List, OnOk, IfOk, if◌then◌else◌, map, option_copied};
 ghost use Rattle.algol_tree.specs.Accepted.{noted_all};
+ghost use Rattle.algol_tree.specs.Blocks.{Block};
+ghost use Rattle.algol_tree.specs.Plain.{PDecls};
 ghost use Rattle.algol_tree.specs.Sorts as sorts;
+ghost use Rattle.algol_tree.specs.Surroundings.{Surroundings, body_of};
 ghost use Rattle.algol_check.specs.Seen.{classes_of, formal_seen};
-ghost use Rattle.algol_check.specs.Headings.{Specifies, formal_by, formal_in, is_reference_seen, is_unspecified_seen, missing, referring};
+ghost use Rattle.algol_check.specs.Headings.{Specifies, formal_by, formal_in, forward_site, is_reference_seen, is_unspecified_seen, missing, referring, unlike};
+ghost use Rattle.algol_check.specs.Noting.{noted_at};
 
 use crate::class::Formal;
+use crate::same::same_heading;
 use crate::wanted::note_if;
 use algol_rules::{Faults, names_of};
 use algol_tree::{Code, Heading, Spec};
@@ -105,4 +110,32 @@ pub fn check_heading(heading: &Heading, specified: &Specified, faults: &mut Faul
         let refers = is_reference(specified.formal(named.name.bytes()));
         note_if(refers, named.spot, Code::WrongType, faults);
     }
+}
+
+/// Notes the heading with the body where it is another.
+fn check_body(heading: &Heading, body: Option<&Heading>, faults: &mut Faults)
+    ensures { faults.new.first ≡ noted_all faults.old.first (unlike heading.now (option_copied body.entry)) }
+{
+    if let Some(body) = body {
+        note_if(
+            !same_heading(heading, body),
+            body.name.spot,
+            Code::WrongType,
+            faults,
+        );
+    }
+}
+
+/// The rules of a FORWARD, whose procedure has its body behind that heading.
+pub fn check_forward(
+    heading: &Heading,
+    specified: &Specified,
+    body: Option<&Heading>,
+    faults: &mut Faults,
+)
+    requires { Specifies specified.now.formals heading.now.specs }
+    ensures { (blocks : List Block) (a : Surroundings) (later : PDecls) → body_of heading.now.name.name later ≡ option_copied body.entry → faults.new.first ≡ noted_at blocks faults.old.first (forward_site heading.now later a) }
+{
+    check_heading(heading, specified, faults);
+    check_body(heading, body, faults);
 }

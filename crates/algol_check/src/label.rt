@@ -1,14 +1,21 @@
 //! The rule of labels: a declared label stands exactly once, before a statement of the list of its own block.
 
-ghost use Rattle.std.specs.Prelude.{◌≡◌, OnOk, IfOk, if◌then◌else◌, [], not};
+ghost use Rattle.std.specs.Prelude.{◌≡◌, ◌&&◌, OnOk, IfOk, if◌then◌else◌, List, [], not};
 ghost use Rattle.algol_tree.specs.declared.token.Spot.{Spot};
 ghost use Rattle.algol_tree.specs.Accepted.{noted_all};
-ghost use Rattle.algol_tree.specs.Blocks.{same_spot};
-ghost use Rattle.algol_check.specs.Labelling.{away, bad_at, bad_in, places_in, those_of};
+ghost use Rattle.algol_tree.specs.Blocks.{Block, same_spot};
+ghost use Rattle.algol_tree.specs.Plain.{PStmt};
+ghost use Rattle.algol_tree.specs.Surroundings.{Surroundings};
+ghost use Rattle.algol_check.specs.Labelling.{away, bad_at, bad_in, label_site, places_in, standings_at, standings_of, those_of};
+ghost use Rattle.algol_check.specs.Placing.{IsPlaced};
+ghost use Rattle.algol_check.specs.Seeing.{Sees};
 
+use crate::assign::Place;
+use crate::class::Entry;
+use crate::known::{Names, look_up};
 use crate::wanted::note_if;
 use algol_rules::Faults;
-use algol_tree::{Code, Spot};
+use algol_tree::{Code, Named, Spot};
 use std::alloc::{AllocError, Global};
 use std::collections::BTreeMap;
 
@@ -18,6 +25,27 @@ pub struct Standing {
     pub declared: Spot,
     pub spot: Spot,
     pub at_home: bool,
+}
+
+/// Whether a label in that place is in the list of statements of the block that declares it.
+fn is_home(listed: bool, place: &Place, entry: &Entry) -> bool
+    ensures { result ≡ (listed && same_spot place.now.block entry.now.block) }
+{
+    listed && place.block == entry.block
+}
+
+/// A label before a statement, which is in the list of statements of its block or is not; none where its name is not declared.
+pub fn standing_at(known: &[Names], place: &Place, name: &Named, listed: bool) -> Option<Standing>
+    ensures { (blocks : List Block) (a : Surroundings) (s : PStmt) → Sees blocks known.now a → IsPlaced blocks place.now a → standings_of result ≡ standings_at (label_site name.now s listed a) }
+{
+    match look_up(known, name.name.bytes()) {
+        None => None,
+        Some(entry) => Some(Standing {
+            declared: entry.spot,
+            spot: name.spot,
+            at_home: is_home(listed, place, entry),
+        }),
+    }
 }
 
 /// Notes where a label stands away from the list of its block.

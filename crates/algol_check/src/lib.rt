@@ -5,11 +5,13 @@
 
 mod assign;
 mod class;
+mod declare;
 mod expression;
 mod heading;
 mod known;
 mod label;
 mod line;
 mod same;
+mod statement;
 mod types;
 mod wanted;
