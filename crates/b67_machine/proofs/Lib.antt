@@ -1,0 +1,5 @@
+pub mod Ends
+pub mod Failures
+pub mod Plainly
+pub mod Going
+pub mod Raised
