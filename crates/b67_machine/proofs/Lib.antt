@@ -3,3 +3,4 @@ pub mod Failures
 pub mod Plainly
 pub mod Going
 pub mod Raised
+pub mod Begun

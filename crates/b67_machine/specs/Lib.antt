@@ -3,3 +3,4 @@ pub mod Machines
 pub mod Tables
 pub mod Stepping
 pub mod Reads
+pub mod Beginning

@@ -1,11 +1,12 @@
 //! The machine over the whole operator table, for any code.
 //!
-//! A [`Machine`] performs operators of a process one by one ([`Machine::step`])
-//! and entries of a schedule ([`Machine::perform_entry`]).
+//! A [`Machine`] begins with the first image of a code ([`Machine::load`]). It performs operators of a process one by one
+//! ([`Machine::step`]) and entries of a schedule ([`Machine::perform_entry`]).
 #![tactic(auto)]
 
 mod counting;
 mod entry;
+mod load;
 mod reads;
 mod step;
 mod stretch;
