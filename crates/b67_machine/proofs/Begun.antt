@@ -1,9 +1,9 @@
 -- A machine before its first operator.
 use Rattle.std.specs.Prelude.{slice_get, replicate}
-use Rattle.std.proofs.Common.{◌≡◌, refl, ℕ, zero, suc, ◌+◌, List, [], ◌∷◌, Option, Some, None, arith}
+use Rattle.std.proofs.Common.{◌≡◌, refl, ℕ, zero, suc, []}
 use Rattle.b67_segment.specs.declared.code.Code.{Code}
 use Rattle.b67_machine.specs.Kept.{or_none, counted}
-use Rattle.b67_machine.specs.Tables.{Operators, AreTables}
+use Rattle.b67_machine.specs.Tables.{AreTables}
 
 zero_at : (n k : ℕ) → or_none (slice_get (replicate n 0) k) ≡ 0
 zero_at zero k = refl

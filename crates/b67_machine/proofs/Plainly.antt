@@ -1,6 +1,6 @@
 -- What plain operators of a process leave as it is.
-use Rattle.std.specs.Prelude.{◌&&◌, is_some}
-use Rattle.std.proofs.Common.{◌≡◌, refl, sym, ap, subst, ◌∙◌, ℕ, ◌+◌, ◌-◌, ◌<◌, ◌≤◌, Bool, true, false, cond, List, length, set, take, drop, ◌++◌, Option, Some, None, IsSome, arith, length-append}
+use Rattle.std.specs.Prelude.{◌&&◌}
+use Rattle.std.proofs.Common.{◌≡◌, refl, sym, ap, subst, ◌∙◌, ℕ, ◌+◌, ◌-◌, ◌<◌, ◌≤◌, Bool, true, false, List, length, set, take, ◌++◌, Option, Some, None, IsSome, arith, length-append}
 use Rattle.std.specs.Prelude.{reverse}
 use Rattle.std.proofs.lemmas.List.{length-reverse, length-take-le}
 use Rattle.b67_list.specs.Numbered.{numbered, set_numbered}
@@ -8,11 +8,11 @@ use Rattle.b67_word.specs.Word.{Word}
 use Rattle.b67_control.specs.declared.Registers.{Registers}
 use Rattle.b67_segment.specs.declared.code.Code.{Code}
 use Rattle.b67_operators.proofs.Leaves.{set_here}
-use Rattle.b67_store.specs.Store.{Stacks, Rows, words_of, with_stack, stack_at, stack_limit}
+use Rattle.b67_store.specs.Store.{Stacks, Rows, words_of, with_stack, stack_limit}
 use Rattle.b67_table.specs.declared.ProcessState.{ProcessState}
 use Rattle.b67_table.specs.declared.ProcessState.TheVariants as states
 use Rattle.b67_table.specs.declared.Private.{Private}
-use Rattle.b67_table.specs.Image.{Image, Failure, with_private, private_of, is_able, is_live}
+use Rattle.b67_table.specs.Image.{Image, with_private, private_of, is_able, is_live}
 use Rattle.b67_table.specs.Outcome.{gives}
 use Rattle.b67_table.specs.Private.{floor}
 use Rattle.b67_table.specs.Runs.{Plains, stay, go}
@@ -100,8 +100,15 @@ module _ (code : Code) (img : Image) (p : ℕ) (r : Registers) (v : IsValid code
       ∙ words_here code img p r v live has (take (floor r) (words_of img.stacks p) ++ reverse part.words)
 
   pub room : floor r + length part.words ≤ stack_limit
-  room = omega (arith, process.size, process.room, ap length here, length-append (take (floor r) (words_of img.stacks p)) (reverse part.words),
-      length-reverse part.words, length-take-le (floor r) (words_of img.stacks p) (subst (λ (k : ℕ). floor r ≤ k) own.size own.above))
+  room = omega (
+    arith,
+    process.size,
+    process.room,
+    ap length here,
+    length-append (take (floor r) (words_of img.stacks p)) (reverse part.words),
+    length-reverse part.words,
+    length-take-le (floor r) (words_of img.stacks p) (subst (λ (k : ℕ). floor r ≤ k) own.size own.above),
+  )
 
   pub put_is : (st : Stacks) (rows : Rows) (q : Registers) (base : ℕ) → base ≡ floor r
       → st ≡ with_stack img.stacks part.regs.stack (take base (words_of img.stacks part.regs.stack) ++ reverse part.words) → rows ≡ img.rows → q ≡ part.regs

@@ -1,7 +1,7 @@
 -- More operators of one process.
-use Rattle.std.proofs.Common.{◌≡◌, ◌≢◌, sym, ap, subst, ◌∙◌, ℕ, zero, suc, ◌+◌, ◌-◌, ◌≤◌, List, length, get_or, set, arith}
+use Rattle.std.proofs.Common.{◌≡◌, sym, ap, subst, ◌∙◌, ℕ, zero, suc, ◌+◌, ◌-◌, ◌≤◌, List, length, get_or, set, arith}
 use Rattle.std.proofs.lemmas.Option.{slice_get-get_or}
-use Rattle.b67_list.specs.Numbered.{numbered, set_numbered}
+use Rattle.b67_list.specs.Numbered.{set_numbered}
 use Rattle.b67_table.proofs.Lists.{numbered_set}
 use Rattle.b67_table.proofs.Stacks.{get_numbered_other}
 use Rattle.b67_machine.specs.Kept.{or_none, counted, Counts}

@@ -1,8 +1,6 @@
 -- What holds of every machine.
-use Rattle.std.specs.Prelude.{◌≡◌, ℕ, ◌<◌, Bool, true, false, List, length, Option, Some, None}
-use Rattle.b67_segment.specs.declared.code.Code.{Code}
+use Rattle.std.specs.Prelude.{Option, Some, None}
 use Rattle.b67_table.specs.Image.{Image, Failure as Fault}
-use Rattle.b67_table.specs.Limits.{most_processes}
 use Rattle.b67_machine.specs.declared.Failure.{Failure}
 
 abbrev pub failure : Option Failure → Option Fault

@@ -1,9 +1,8 @@
 -- What an operator does to a machine.
-use Rattle.std.specs.Prelude.{◌≡◌, ℕ, ◌+◌, ◌≤◌, ◌<◌, Bool, true, false, List, [], Option, Some, None}
-use Rattle.b67_list.specs.Numbered.{numbered}
+use Rattle.std.specs.Prelude.{◌≡◌, ℕ, ◌<◌, Bool, true, false, List, [], Option, Some, None}
 use Rattle.b67_segment.specs.declared.code.Code.{Code}
-use Rattle.b67_table.specs.Image.{Image, is_able}
-use Rattle.b67_table.specs.Ending.{image_end, failed}
+use Rattle.b67_table.specs.Image.{Image}
+use Rattle.b67_table.specs.Ending.{failed}
 use Rattle.b67_table.specs.Runs.{Plains}
 use Rattle.b67_table.specs.Table.{plain}
 use Rattle.b67_table.specs.Valid.{IsValid}

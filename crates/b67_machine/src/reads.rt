@@ -34,7 +34,12 @@ impl<C: Core> Machine<C> {
         ensures { result ≡ machine_end self.now }
     {
         let states = self.parts.states.as_slice();
-        match ended_by(first_ended(states), self.failure, some_able(states), some_lives(states)) {
+        match ended_by(
+            first_ended(states),
+            self.failure,
+            some_able(states),
+            some_lives(states),
+        ) {
             Some(end) => Some(end),
             None => limit_end(self.limit, &self.parts.regs),
         }
@@ -98,13 +103,17 @@ impl<C: Core> Machine<C> {
 fn some_able(states: &[ProcessState]) -> bool
     ensures { result ≡ list_any is_able_state states.now }
 {
-    states.iter().any(|state| matches!(state, ProcessState::Able))
+    states
+        .iter()
+        .any(|state| matches!(state, ProcessState::Able))
 }
 
 fn some_lives(states: &[ProcessState]) -> bool
     ensures { result ≡ list_any lives states.now }
 {
-    states.iter().any(|state| !matches!(state, ProcessState::Ended))
+    states
+        .iter()
+        .any(|state| !matches!(state, ProcessState::Ended))
 }
 
 fn first_ended(states: &[ProcessState]) -> bool

@@ -62,5 +62,10 @@ pub fn prepare(segments: &mut Vec<Levels>, code: &Code, segment: u16, level: u8)
             return;
         }
     }
-    decode(&mut segments[usize::from(segment)].tables, code, segment, level);
+    decode(
+        &mut segments[usize::from(segment)].tables,
+        code,
+        segment,
+        level,
+    );
 }

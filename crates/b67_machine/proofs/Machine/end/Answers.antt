@@ -1,4 +1,4 @@
-use Rattle.std.proofs.Common.{◌≡◌, refl, sym, subst, ◌∙◌, Option, Some, None}
+use Rattle.std.proofs.Common.{◌≡◌, refl, subst, ◌∙◌, Some}
 use Rattle.b67_table.specs.Ending.{image_end}
 use Rattle.b67_reach.specs.Images.{image_of}
 use Rattle.b67_machine.specs.Kept.{Kept}

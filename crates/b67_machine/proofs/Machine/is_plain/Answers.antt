@@ -1,8 +1,7 @@
-use Rattle.std.specs.Prelude.{nat_eq}
-use Rattle.std.proofs.Common.{◌≡◌, sym, ap, subst, ◌∙◌, ℕ, true, Option, None}
+use Rattle.std.proofs.Common.{◌≡◌, sym, ap, subst, ◌∙◌, true, Option, None}
 use Rattle.b67_list.specs.Numbered.{numbered}
 use Rattle.b67_table.specs.declared.Private.{Private}
-use Rattle.b67_table.specs.Image.{Image, is_able}
+use Rattle.b67_table.specs.Image.{is_able}
 use Rattle.b67_table.specs.Table.{plain}
 use Rattle.b67_linkage.proofs.Linked.{live_are_linked}
 use Rattle.b67_private.specs.Parts.{IsPart, PlainParts}
@@ -35,7 +34,7 @@ returns-clause-value g c =
     let able = subst (λ (k : Kept). is_able (numbered k.image.states c.args.process) ≡ true) (sym c.self.view_is) c.requires.able in
     let base = image_of (g.C.Core.stacks c.self.inside.core) (g.C.Core.rows c.self.inside.core) c.self.inside.kernel.events c.self.inside.parts in
     let none : c.self.inside.failure ≡ None =
-        none_kept c.self.inside.failure (ap (λ (k : Kept). k.image.fault) c.self.view_is ∙ (goes_on c.args.self.now c.requires.going).fault) in
+    none_kept c.self.inside.failure (ap (λ (k : Kept). k.image.fault) c.self.view_is ∙ (goes_on c.args.self.now c.requires.going).fault) in
     plain_by_one c.self.inside.parts.code base c.args.process c.registers-regs.result.now c.burst.new.p c.burst.result c.self.invariant.0
     (live_of (numbered c.self.inside.parts.states.items c.args.process) able) c.registers-regs.ensures
     (subst (λ (q : Private). PlainParts c.self.inside.parts.code q c.burst.result c.burst.new.p) c.take_part.ensures c.burst.ensures.plain) c.burst.ensures.most c.burst.ensures.stops

@@ -28,7 +28,7 @@ loaded code stacks rows kernel parts short image same =
 pub index-requires : goal.index-requires
 index-requires g c =
     let valid = loaded c.args.code (g.C.Core.stacks c.load.new.core) (g.C.Core.rows c.load.new.core) c.in_ok-kernel.kernel c.in_ok-kernel.parts c.requires.segments
-        c.in_ok-kernel.ensures.image c.in_ok-kernel.ensures.code in
+    c.in_ok-kernel.ensures.image c.in_ok-kernel.ensures.code in
     omega (arith, valid.registers, valid.some)
 
 pub invariant_of-result-2 : goal.invariant_of-result-2

@@ -1,12 +1,12 @@
 use Rattle.std.specs.Prelude.{IfSome}
-use Rattle.std.proofs.Common.{◌≡◌, refl, sym, ap, subst, ◌∙◌, ℕ, ◌≤◌, Bool, true, false, List, Option, Some, None, arith}
+use Rattle.std.proofs.Common.{◌≡◌, refl, sym, ap, subst, ◌∙◌, true, Option, None, arith}
 use Rattle.b67_list.specs.Numbered.{numbered}
 use Rattle.b67_control.specs.declared.Registers.{Registers}
 use Rattle.b67_segment.specs.declared.code.Code.{Code}
 use Rattle.b67_segment.specs.Decoded.{AreDecoded}
-use Rattle.b67_table.specs.Image.{Image, is_able}
+use Rattle.b67_table.specs.Image.{is_able}
 use Rattle.b67_table.specs.Valid.{IsValid}
-use Rattle.b67_table.proofs.Lists.{numbered_from, numbered_within}
+use Rattle.b67_table.proofs.Lists.{numbered_within}
 use Rattle.b67_linkage.proofs.Linked.{live_are_linked}
 use Rattle.b67_reach.specs.Images.{image_of}
 use Rattle.b67_action.proofs.Ready.{registers_there, if_some}
@@ -30,9 +30,12 @@ registers-regs-requires g c =
 pub prepare-requires-clause-level : goal.prepare-requires-clause-level
 prepare-requires-clause-level g c =
     let able = subst (λ (k : Kept). is_able (numbered k.image.states c.args.process) ≡ true) (sym c.self.view_is) c.requires.able in
-    omega (arith, (live_are_linked c.self.inside.parts.code
-        (image_of (g.C.Core.stacks c.self.inside.core) (g.C.Core.rows c.self.inside.core) c.self.inside.kernel.events c.self.inside.parts) c.args.process c.registers-regs.result.now
-        c.self.invariant.0 (live_of (numbered c.self.inside.parts.states.items c.args.process) able) c.registers-regs.ensures).level)
+    omega (
+      arith,
+      (live_are_linked c.self.inside.parts.code
+          (image_of (g.C.Core.stacks c.self.inside.core) (g.C.Core.rows c.self.inside.core) c.self.inside.kernel.events c.self.inside.parts) c.args.process c.registers-regs.result.now
+          c.self.invariant.0 (live_of (numbered c.self.inside.parts.states.items c.args.process) able) c.registers-regs.ensures).level,
+    )
 
 pub perform_stretch-performed-requires-clause-valid : goal.perform_stretch-performed-requires-clause-valid
 perform_stretch-performed-requires-clause-valid g c = (c.self.inside.kernel.events, c.self.invariant.0)
@@ -52,7 +55,7 @@ returns-clause-goes g c =
     let old = c.args.self.now in
     let base = image_of (g.C.Core.stacks c.self.inside.core) (g.C.Core.rows c.self.inside.core) c.self.inside.kernel.events c.self.inside.parts in
     let acted = image_of (g.C.Core.stacks c.perform_stretch-performed.new.core) (g.C.Core.rows c.perform_stretch-performed.new.core) c.self.inside.kernel.events
-        c.perform_stretch-performed.new.parts in
+    c.perform_stretch-performed.new.parts in
     let none : c.self.inside.failure ≡ None = none_kept c.self.inside.failure (ap (λ (k : Kept). k.image.fault) c.self.view_is ∙ (goes_on old c.requires.going).fault) in
     let image : old.image ≡ base = ap (λ (k : Kept). k.image) (sym c.self.view_is) ∙ ap (λ (f : Option Failure). with_failure base f) none in
     let new : Kept = record {
@@ -76,9 +79,9 @@ returns-clause-goes g c =
 pub returns-clause-stops : goal.returns-clause-stops
 returns-clause-stops g c = λ less.
     let acted = image_of (g.C.Core.stacks c.perform_stretch-performed.new.core) (g.C.Core.rows c.perform_stretch-performed.new.core) c.self.inside.kernel.events
-        c.perform_stretch-performed.new.parts in
+    c.perform_stretch-performed.new.parts in
     let none : c.self.inside.failure ≡ None =
-        none_kept c.self.inside.failure (ap (λ (k : Kept). k.image.fault) c.self.view_is ∙ (goes_on c.args.self.now c.requires.going).fault) in
+    none_kept c.self.inside.failure (ap (λ (k : Kept). k.image.fault) c.self.view_is ∙ (goes_on c.args.self.now c.requires.going).fault) in
     ap (λ (k : Kept). plain k.code (with_failure acted c.self.inside.failure) c.args.process) (sym c.self.view_is)
     ∙ ap (λ (f : Option Failure). plain c.self.inside.parts.code (with_failure acted f) c.args.process) none
     ∙ (c.perform_stretch-performed.ensures.stretched c.self.inside.kernel.events c.self.invariant.0).stops less
@@ -86,7 +89,7 @@ returns-clause-stops g c = λ less.
 pub returns-clause-valid : goal.returns-clause-valid
 returns-clause-valid g c =
     let acted = image_of (g.C.Core.stacks c.perform_stretch-performed.new.core) (g.C.Core.rows c.perform_stretch-performed.new.core) c.self.inside.kernel.events
-        c.perform_stretch-performed.new.parts in
+    c.perform_stretch-performed.new.parts in
     valid_with c.perform_stretch-performed.new.parts.code acted c.self.inside.failure refl
     (subst (λ (k : Code). IsValid k acted) (ap (λ (q : Parts). q.code) (sym c.perform_stretch-performed.ensures.others))
     (c.perform_stretch-performed.ensures.stretched c.self.inside.kernel.events c.self.invariant.0).valid)

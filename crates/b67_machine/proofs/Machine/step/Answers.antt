@@ -1,9 +1,9 @@
 use Rattle.std.specs.Prelude.{IfSome}
-use Rattle.std.proofs.Common.{◌≡◌, refl, sym, ap, subst, ◌∙◌, ℕ, ◌≤◌, Bool, true, false, List, [], Option, Some, None, arith}
+use Rattle.std.proofs.Common.{◌≡◌, refl, sym, ap, subst, ◌∙◌, ℕ, Bool, true, Option, None, arith}
 use Rattle.b67_list.specs.Numbered.{numbered}
-use Rattle.b67_table.specs.Image.{Image, is_able}
+use Rattle.b67_table.specs.Image.{is_able}
 use Rattle.b67_table.specs.Valid.{IsValid}
-use Rattle.b67_table.proofs.Lists.{numbered_from, numbered_within}
+use Rattle.b67_table.proofs.Lists.{numbered_within}
 use Rattle.b67_linkage.proofs.Linked.{live_are_linked}
 use Rattle.b67_reach.specs.Images.{image_of}
 use Rattle.b67_action.proofs.Ready.{registers_there, if_some}
@@ -34,9 +34,12 @@ registers-regs-requires g c =
 pub prepare-requires-clause-level : goal.prepare-requires-clause-level
 prepare-requires-clause-level g c =
     let able = subst (λ (k : Kept). is_able (numbered k.image.states c.args.process) ≡ true) (sym c.self.view_is) c.requires.able in
-    omega (arith, (live_are_linked c.self.inside.parts.code
-        (image_of (g.C.Core.stacks c.self.inside.core) (g.C.Core.rows c.self.inside.core) c.self.inside.kernel.events c.self.inside.parts) c.args.process c.registers-regs.result.now
-        c.self.invariant.0 (live_of (numbered c.self.inside.parts.states.items c.args.process) able) c.registers-regs.ensures).level)
+    omega (
+      arith,
+      (live_are_linked c.self.inside.parts.code
+          (image_of (g.C.Core.stacks c.self.inside.core) (g.C.Core.rows c.self.inside.core) c.self.inside.kernel.events c.self.inside.parts) c.args.process c.registers-regs.result.now
+          c.self.invariant.0 (live_of (numbered c.self.inside.parts.states.items c.args.process) able) c.registers-regs.ensures).level,
+    )
 
 pub action-done-requires-clause-table : goal.action-done-requires-clause-table
 action-done-requires-clause-table g c =

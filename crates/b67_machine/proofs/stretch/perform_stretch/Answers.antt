@@ -1,19 +1,14 @@
 use Rattle.std.specs.Prelude.{IsSome}
 use Rattle.std.specs.Vec.{with_item}
-use Rattle.std.proofs.Common.{◌≡◌, refl, sym, ap, subst, ◌∙◌, ℕ, ◌-◌, ◌<◌, true, false, List, Option, Some, None, arith}
+use Rattle.std.proofs.Common.{sym, ap, subst, ℕ, ◌-◌, arith}
 use Rattle.b67_list.specs.Numbered.{numbered}
-use Rattle.b67_events.specs.Events.{Event}
 use Rattle.b67_store.specs.Store.{stack_at}
-use Rattle.b67_table.specs.Image.{Image, is_able}
-use Rattle.b67_table.specs.Table.{plain}
-use Rattle.b67_table.specs.Valid.{IsValid}
 use Rattle.b67_table.proofs.Lists.{numbered_from, numbered_within}
 use Rattle.b67_linkage.proofs.Linked.{live_are_linked}
 use Rattle.b67_table.specs.declared.Private.{Private}
 use Rattle.b67_private.specs.Parts.{IsPart, PlainParts}
 use Rattle.b67_private.proofs.ValidParts.{valid_part}
 use Rattle.b67_reach.specs.Images.{image_of}
-use Rattle.b67_machine.specs.Stepping.{IsStretched}
 use Rattle.b67_machine.proofs.Plainly.{live_of, ends_at_stack, room, put_is, stretched}
 use Rattle.b67_machine.proofs.stretch.perform_stretch.Goals as goal
 
