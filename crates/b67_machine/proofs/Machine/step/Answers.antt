@@ -1,0 +1,84 @@
+use Rattle.std.specs.Prelude.{IfSome}
+use Rattle.std.proofs.Common.{◌≡◌, refl, sym, ap, subst, ◌∙◌, ℕ, Bool, true, Option, None, arith}
+use Rattle.b67_list.specs.Numbered.{numbered}
+use Rattle.b67_table.specs.Image.{is_able}
+use Rattle.b67_table.specs.Valid.{IsValid}
+use Rattle.b67_table.proofs.Lists.{numbered_within}
+use Rattle.b67_linkage.proofs.Linked.{live_are_linked}
+use Rattle.b67_reach.specs.Images.{image_of}
+use Rattle.b67_action.proofs.Ready.{registers_there, if_some}
+use Rattle.b67_control.specs.declared.Registers.{Registers}
+use Rattle.b67_segment.specs.declared.code.Code.{Code}
+use Rattle.b67_segment.specs.Decoded.{AreDecoded}
+use Rattle.b67_action.specs.Done.{is_performed}
+use Rattle.b67_machine.specs.declared.Failure.{Failure}
+use Rattle.b67_machine.specs.Kept.{Kept, Counts}
+use Rattle.b67_machine.specs.Machines.{with_failure}
+use Rattle.b67_machine.specs.Stepping.{StepsBy}
+use Rattle.b67_machine.proofs.Ends.{goes_on}
+use Rattle.b67_machine.proofs.Failures.{none_kept, valid_with, releases, acts_by}
+use Rattle.b67_machine.proofs.Plainly.{live_of}
+use Rattle.b67_machine.proofs.Machine.step.Goals as goal
+
+pub returns-then-self-clause-valid : goal.returns-then-self-clause-valid
+returns-then-self-clause-valid g c =
+    subst (λ (k : Kept). IsValid k.code k.image) c.self.view_is
+    (valid_with c.self.inside.parts.code (image_of (g.C.Core.stacks c.self.inside.core) (g.C.Core.rows c.self.inside.core) c.self.inside.kernel.events c.self.inside.parts)
+    c.self.inside.failure refl c.self.invariant.0)
+
+pub registers-regs-requires : goal.registers-regs-requires
+registers-regs-requires g c =
+    registers_there c.self.inside.parts.code (image_of (g.C.Core.stacks c.self.inside.core) (g.C.Core.rows c.self.inside.core) c.self.inside.kernel.events c.self.inside.parts) c.args.process
+    c.self.invariant.0 (subst (λ (k : Kept). is_able (numbered k.image.states c.args.process) ≡ true) (sym c.self.view_is) c.requires.able)
+
+pub prepare-requires-clause-level : goal.prepare-requires-clause-level
+prepare-requires-clause-level g c =
+    let able = subst (λ (k : Kept). is_able (numbered k.image.states c.args.process) ≡ true) (sym c.self.view_is) c.requires.able in
+    omega (
+      arith,
+      (live_are_linked c.self.inside.parts.code
+          (image_of (g.C.Core.stacks c.self.inside.core) (g.C.Core.rows c.self.inside.core) c.self.inside.kernel.events c.self.inside.parts) c.args.process c.registers-regs.result.now
+          c.self.invariant.0 (live_of (numbered c.self.inside.parts.states.items c.args.process) able) c.registers-regs.ensures).level,
+    )
+
+pub action-done-requires-clause-table : goal.action-done-requires-clause-table
+action-done-requires-clause-table g c =
+    if_some (λ (r : Registers). IfSome c.decoded.result (λ t. AreDecoded c.self.inside.parts.code r.segment r.ll t.now)) (numbered c.self.inside.parts.regs.items c.args.process)
+    c.registers-regs.result.now c.registers-regs.ensures (c.decoded.ensures c.self.inside.parts.code c.prepare.ensures)
+
+pub count-requires-clause-most : goal.count-requires-clause-most
+count-requires-clause-most g c =
+    let v = c.self.invariant.0 in
+    omega (arith, numbered_within c.self.inside.parts.regs.items c.args.process c.registers-regs.result.now c.registers-regs.ensures, v.registers, v.most, c.self.invariant.2)
+
+pub returns-clause-steps : goal.returns-clause-steps
+returns-clause-steps g c =
+    let old = c.args.self.now in
+    let new : Kept = record {
+      code = c.action-done.new.parts.code;
+      image = with_failure (image_of (g.C.Core.stacks c.action-done.new.core) (g.C.Core.rows c.action-done.new.core) c.action-done.new.kernel.events c.action-done.new.parts)
+          c.failure_of-self-inside.result;
+      counts = c.count.new.counts.items;
+      released = c.settle.new.released.items;
+      limit = c.limit_of-self-inside.result;
+      lacked = c.lacks-self-inside.result;
+    } in
+    let base = image_of (g.C.Core.stacks c.self.inside.core) (g.C.Core.rows c.self.inside.core) c.self.inside.kernel.events c.self.inside.parts in
+    let acted = image_of (g.C.Core.stacks c.action-done.new.core) (g.C.Core.rows c.action-done.new.core) c.action-done.new.kernel.events c.action-done.new.parts in
+    let done = c.action-done.result in
+    let none : c.self.inside.failure ≡ None = none_kept c.self.inside.failure (ap (λ (k : Kept). k.image.fault) c.self.view_is ∙ (goes_on old c.requires.going).fault) in
+    let image : old.image ≡ base = ap (λ (k : Kept). k.image) (sym c.self.view_is) ∙ ap (λ (f : Option Failure). with_failure base f) none in
+    subst (λ (b : Bool). StepsBy b old c.args.process done new) (sym c.if-self.false ∙ ap (λ (k : Kept). k.lacked) c.self.view_is)
+    (acts_by old new c.self.inside.parts.code base acted c.args.process done (ap (λ (k : Kept). k.code) (sym c.self.view_is)) image refl c.action-done.ensures.came
+    (ap (λ (f : Option Failure). with_failure acted f) c.failure_of-self-inside.ensures)
+    (subst (λ (n : ℕ). Counts old.counts c.args.process n c.count.new.counts.items) c.operators_in.ensures
+    (subst (λ (k : Kept). Counts k.counts c.args.process c.operators_in.result c.count.new.counts.items) c.self.view_is c.count.ensures.counts))
+    (releases (is_performed done) c.self.inside.parts.code base c.args.process c.action-done.new.parts.woken.processes.items c.settle.new.released.items
+    c.action-done.ensures.woken c.settle.ensures.kept c.settle.ensures.none)
+    c.limit_of-self-inside.ensures c.lacks-self-inside.ensures c.action-done.ensures.code)
+
+pub returns-clause-valid : goal.returns-clause-valid
+returns-clause-valid g c =
+    let acted = image_of (g.C.Core.stacks c.action-done.new.core) (g.C.Core.rows c.action-done.new.core) c.action-done.new.kernel.events c.action-done.new.parts in
+    valid_with c.action-done.new.parts.code acted c.failure_of-self-inside.result refl
+    (subst (λ (k : Code). IsValid k acted) (sym c.action-done.ensures.code) c.action-done.ensures.valid)

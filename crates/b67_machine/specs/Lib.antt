@@ -1,0 +1,6 @@
+pub mod Kept
+pub mod Machines
+pub mod Tables
+pub mod Stepping
+pub mod Reads
+pub mod Beginning

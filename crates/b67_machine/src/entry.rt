@@ -1,0 +1,44 @@
+// One entry of a schedule.
+ghost use Rattle.std.specs.Prelude.{◌≡◌, ◌+◌, ◌<◌, ◌^◌, None, true};
+ghost use Rattle.b67_list.specs.Numbered.{numbered};
+ghost use Rattle.b67_table.specs.Image.{is_able};
+ghost use Rattle.b67_table.specs.Valid.{IsValid};
+ghost use Rattle.b67_machine.specs.Kept.{counted};
+ghost use Rattle.b67_machine.specs.Reads.{machine_end};
+ghost use Rattle.b67_machine.specs.Stepping.{Performs};
+
+use crate::Machine;
+use b67_action::Done;
+use b67_store::Core;
+
+/// What was performed of an entry.
+#[derive(Clone, Copy, PartialEq, Eq, Debug)]
+pub struct Performed {
+    /// How many plain operators came first.
+    pub plain: u32,
+    /// What the operator after them came to; none where no more operators were allowed.
+    pub done: Option<Done>,
+}
+
+impl<C: Core> Machine<C> {
+    /// Performs one entry of a process: its plain operators and the operator after them, at most so many operators in all. The
+    /// last one is tried only where it is within that number.
+    pub fn perform_entry(&mut self, process: u32, most: u32) -> Performed
+        requires able { is_able (numbered self.old.image.states process) ≡ true }
+        requires going { machine_end self.old ≡ None }
+        requires count { counted self.old.counts process + most < 2 ^ 64 }
+        ensures performs { Performs self.old process most result self.new }
+        ensures valid { IsValid self.new.code self.new.image }
+    {
+        let plain = self.perform_plain(process, most);
+        if plain < most {
+            let done = self.step(process);
+            Performed {
+                plain,
+                done: Some(done),
+            }
+        } else {
+            Performed { plain, done: None }
+        }
+    }
+}

@@ -1,0 +1,79 @@
+//! The machine over the whole operator table, for any code.
+//!
+//! A [`Machine`] begins with the first image of a code ([`Machine::load`]). It performs operators of a process one by one
+//! ([`Machine::step`]) and entries of a schedule ([`Machine::perform_entry`]).
+#![tactic(auto)]
+
+mod counting;
+mod entry;
+mod load;
+mod reads;
+mod step;
+mod stretch;
+mod tables;
+
+use b67_events::Kernel;
+use b67_num::FaultKind;
+use b67_reach::Parts;
+use b67_store::Core;
+use b67_table::Private;
+pub use entry::Performed;
+pub use reads::End;
+use std::marker::Model;
+use tables::Levels;
+
+/// The fault that ended a run, and whose it was.
+#[derive(Clone, Copy, PartialEq, Eq, Debug)]
+pub struct Failure {
+    pub kind: FaultKind,
+    pub process: u32,
+}
+
+/// A machine with its code. Contracts see its code and its image, how many operators each process has performed, whom
+/// the last operator released, and what the last operator that was tried came to.
+#[derive(Drop)]
+pub struct Machine<C: Core> {
+    core: C,
+    kernel: Kernel,
+    parts: Parts,
+    // How many operators each process has performed.
+    counts: Vec<u64>,
+    // The operators of segments, by segment and level.
+    tables: Vec<Levels>,
+    // Where plain operators are performed.
+    part: Private,
+    failure: Option<Failure>,
+    // The process whose operator came to the stack limit, where that was the last that was tried.
+    limit: Option<u32>,
+    // Whether an operator found no memory.
+    lacked: bool,
+}
+
+impl<C: Core> Model for Machine<C> {
+    ghost use Rattle.b67_machine.specs.Kept.{Kept};
+
+    ghost Value = { Kept };
+
+    ghost use Rattle.std.specs.Prelude.{◌≡◌, length};
+    ghost use Rattle.b67_reach.specs.Images.{image_of};
+    ghost use Rattle.b67_action.specs.Done.{HasRoom};
+    ghost use Rattle.b67_table.specs.Limits.{most_processes};
+    ghost use Rattle.b67_table.specs.Valid.{IsValid};
+    ghost use Rattle.b67_machine.specs.Machines.{with_failure};
+    ghost use Rattle.b67_machine.specs.Tables.{AreTables};
+
+    ghost view = { λ m. record {
+      code = m.parts.code;
+      image = with_failure (image_of (C.Core.stacks m.core) (C.Core.rows m.core) m.kernel.events m.parts) m.failure;
+      counts = m.counts.items;
+      released = m.parts.woken.processes.items;
+      limit = m.limit;
+      lacked = m.lacked;
+    } };
+
+    ghost invariant = { λ m.
+        IsValid m.parts.code (image_of (C.Core.stacks m.core) (C.Core.rows m.core) m.kernel.events m.parts)
+        × HasRoom m.kernel m.parts
+        × (length m.counts.items ≡ most_processes)
+        × AreTables m.parts.code m.tables.items };
+}

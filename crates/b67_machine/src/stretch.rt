@@ -1,0 +1,88 @@
+// Plain operators of a process, on the machine.
+ghost use Rattle.std.specs.Prelude.{◌≡◌, ◌+◌, ◌<◌, ◌≤◌, ◌^◌, List, IfSome, None, false, true};
+ghost use Rattle.b67_list.specs.Numbered.{numbered};
+ghost use Rattle.b67_events.specs.Events.{Event};
+ghost use Rattle.b67_segment.specs.Decoded.{AreDecoded};
+ghost use Rattle.b67_table.specs.Image.{is_able};
+ghost use Rattle.b67_table.specs.Runs.{Plains};
+ghost use Rattle.b67_table.specs.Table.{plain};
+ghost use Rattle.b67_table.specs.Valid.{IsValid};
+ghost use Rattle.b67_reach.specs.Images.{image_of};
+ghost use Rattle.b67_machine.specs.Kept.{counted};
+ghost use Rattle.b67_machine.specs.Reads.{machine_end};
+ghost use Rattle.b67_machine.specs.Stepping.{Goes, IsStretched};
+
+use crate::Machine;
+use crate::counting::count;
+use crate::tables::{decoded, prepare};
+use b67_action::{put_part, take_part};
+use b67_intrinsics::registers;
+use b67_private::burst;
+use b67_reach::{Parts, floor};
+use b67_segment::Decoded;
+use b67_store::Core;
+use b67_table::Private;
+
+// The plain operators that come next in a process, at most so many, performed on a copy of its private part.
+fn perform_stretch<C: Core>(
+    core: &mut C,
+    parts: &mut Parts,
+    process: u32,
+    table: Option<&Decoded>,
+    part: &mut Private,
+    most: u32,
+) -> u32
+    requires valid { (events : List Event) × IsValid parts.old.code (image_of (C.Core.stacks core.old) (C.Core.rows core.old) events parts.old) }
+    requires able { is_able (numbered parts.old.states.items process) ≡ true }
+    requires table { IfSome (numbered parts.old.regs.items process) (λ r. IfSome table (λ t. AreDecoded parts.old.code r.segment r.ll t.now)) }
+    ensures stretched { (events : List Event) → IsValid parts.old.code (image_of (C.Core.stacks core.old) (C.Core.rows core.old) events parts.old) → IsStretched parts.old.code process result most (image_of (C.Core.stacks core.old) (C.Core.rows core.old) events parts.old) (image_of (C.Core.stacks core.new) (C.Core.rows core.new) events parts.new) }
+    ensures most { result ≤ most }
+    ensures others { parts.new ≡ record parts.old { regs = parts.new.regs } }
+{
+    let regs = registers(&parts.regs, process);
+    let base = floor(regs);
+    take_part(core, regs, part);
+    let performed = burst(part, &parts.code, table, most);
+    put_part(core, &mut parts.regs[process as usize - 1], base, part);
+    performed
+}
+
+impl<C: Core> Machine<C> {
+    /// Performs the plain operators of a process that come next, at most so many, and answers how many it performed. Fewer
+    /// are performed only where the next operator is not plain. Takes no memory that it needs.
+    pub fn perform_plain(&mut self, process: u32, most: u32) -> u32
+        requires able { is_able (numbered self.old.image.states process) ≡ true }
+        requires going { machine_end self.old ≡ None }
+        requires count { counted self.old.counts process + most < 2 ^ 64 }
+        ensures goes { Goes self.old process result self.new }
+        ensures most { result ≤ most }
+        ensures stops { result < most → plain self.old.code self.new.image process ≡ false }
+        ensures valid { IsValid self.new.code self.new.image }
+    {
+        let regs = registers(&self.parts.regs, process);
+        let (segment, level) = (regs.segment, regs.ll);
+        prepare(&mut self.tables, &self.parts.code, segment, level);
+        let performed = perform_stretch(
+            &mut self.core,
+            &mut self.parts,
+            process,
+            decoded(&self.tables, segment, level),
+            &mut self.part,
+            most,
+        );
+        count(&mut self.counts, process, performed);
+        performed
+    }
+
+    /// Tests that the next operator of a process is plain: it is private, and the operator table gives a new image.
+    pub fn is_plain(&mut self, process: u32) -> bool
+        requires able { is_able (numbered self.old.image.states process) ≡ true }
+        requires going { machine_end self.old ≡ None }
+        ensures value { result ≡ plain self.old.code self.old.image process }
+        ensures same { self.new ≡ self.old }
+    {
+        let regs = registers(&self.parts.regs, process);
+        take_part(&self.core, regs, &mut self.part);
+        burst(&mut self.part, &self.parts.code, None, 1) == 1
+    }
+}
