@@ -17,7 +17,7 @@ pub mod Sound
 pub mod Feed
 pub mod Texts
 pub mod Idle
-pub mod Start
+pub mod Outset
 pub mod Labels
 pub mod Deep
 pub mod Exact
