@@ -29,3 +29,4 @@ mod Tails
 mod Specs
 mod Begun
 mod Folds
+mod Openings

@@ -28,6 +28,9 @@ closed_wholes closing = wholes_in ++ symbol closing ∷ []
 abbrev pub whole_before : Reserved → List Due
 whole_before w = whole 0 ∷ word w ∷ []
 
+abbrev pub whole_behind : Reserved → List Due
+whole_behind w = word w ∷ whole 0 ∷ []
+
 -- a heading behind its "("
 abbrev pub parameters_in : Option Kind → List Due
 parameters_in kind = names_in ++ symbol symbols.CloseRound ∷ symbol symbols.Semicolon ∷ values_part ∷ make (put (specified [])) ∷ spec ∷ specs_more
