@@ -97,7 +97,10 @@ fn read_behind_name(
     let (first, behind) = first_of(tokens);
     if is_symbol(first, Symbol::Colon) {
         let inner = labelled_level(name.spot, depth)?;
-        Ok((Beginning::Open(Opening::Led(Lead::Label(name)), inner), behind))
+        Ok((
+            Beginning::Open(Opening::Led(Lead::Label(name)), inner),
+            behind,
+        ))
     } else if is_symbol(first, Symbol::Becomes) {
         let (value, rest) = read_whole(alloc, behind, 0)?;
         let subs = List::of(Vec::new(alloc));
