@@ -1,5 +1,5 @@
 -- The first token of a statement and of a declaration.
-use Rattle.std.proofs.Common.{◌≡◌, ◌≤◌, ◌<◌, ◌+◌, ℕ, Bool, true, false, ◌||◌, List, [], ◌∷◌, ◌++◌, length, Option, Some, None, refl, sym, subst, ap, ◌∙◌, inl, append_assoc, arith}
+use Rattle.std.proofs.Common.{◌≡◌, ◌≤◌, ◌<◌, ◌+◌, ℕ, Bool, true, false, List, [], ◌∷◌, ◌++◌, length, Option, Some, None, refl, sym, subst, ap, ◌∙◌, inl, append_assoc, arith}
 use Rattle.algol_tree.specs.declared.TheConstants.{MOST_NESTING}
 use Rattle.algol_tree.specs.declared.token.Spot.{Spot}
 use Rattle.algol_tree.specs.declared.token.Token.{Token}
@@ -10,7 +10,6 @@ use Rattle.algol_tree.specs.declared.token.Symbol.TheVariants as symbols
 use Rattle.algol_tree.specs.declared.tree.Named.{Named}
 use Rattle.algol_tree.specs.declared.tree.Kind.{Kind}
 use Rattle.algol_tree.specs.declared.tree.Kind.TheVariants as types
-use Rattle.algol_tree.specs.declared.tree.EventAct.{EventAct}
 use Rattle.algol_tree.specs.declared.refusal.Code.TheVariants as codes
 use Rattle.algol_tree.specs.declared.refusal.Refusal.{Refusal}
 use Rattle.algol_tree.specs.declared.refusal.Refusal.TheVariants.{At}
@@ -19,18 +18,19 @@ use Rattle.algol_tree.specs.Plain.{called, none, no_decls}
 use Rattle.algol_tree.specs.Tokens.{is_word, is_symbol, name_in}
 use Rattle.algol_tree.specs.Headings.{type_of}
 use Rattle.algol_tree.specs.Due as due
-use Rattle.algol_tree.specs.Due.{Value, Make, put, stmt, list, declared, Due, make, word, symbol, named, whole, statement, else_part, behind_start, actuals_part, stmts_more, declarations, typed, procedure_body, plain, nests, label, takes, makes, skips, refuses, Turn, followed, either, optional}
-use Rattle.algol_tree.specs.DueStmt.{compound, looping, repeating, counting, so_often, choosing, going, processing, acting, written, body_in, stmts_in, labelled, assigned, assigned_element, calling, wholes_in, turn_statement, turn_behind_start, turn_declaration, turn_declarations, turn_typed, two_armed, one_armed, turn_else_part, stmt_added, names_declared, segment_in, procedure_in, with_body, announced, turn_procedure_body}
+use Rattle.algol_tree.specs.Due.{Value, put, stmt, list, declared, Due, make, word, symbol, whole, statement, else_part, behind_start, actuals_part, stmts_more, declarations, typed, procedure_body, plain, nests, label, takes, makes, skips, refuses, Turn, followed, either}
+use Rattle.algol_tree.specs.DueStmt.{labelled, assigned, calling, wholes_in, turn_statement, turn_behind_start, turn_declarations, turn_typed, two_armed, one_armed, stmt_added, names_declared, segment_in, procedure_in, with_body, announced, turn_procedure_body, programmed}
 use Rattle.algol_tree.specs.Reading.{turn, outside, read}
-use Rattle.algol_tree.specs.Found.{IsRest, Finds, Completes, Refuses}
+use Rattle.algol_tree.specs.Found.{Refuses}
 use Rattle.algol_expr.proofs.Turns.{word_from, symbol_from, opens_step, label_step, deep_label_step, makes_step, make_step, takes_step, symbol_step}
 use Rattle.algol_expr.proofs.Chain.{Reaches}
 use Rattle.algol_stmt.specs.declared.start.Start.{Start}
 use Rattle.algol_stmt.specs.declared.start.Start.TheVariants as starts
 use Rattle.algol_stmt.specs.Starts.{start_of, begins_body}
+use Rattle.algol_stmt.specs.Openings.{behind_word, behind_verb}
 use Rattle.algol_tree.specs.Plain.{PDecl}
 use Rattle.algol_tree.specs.DueDecl.{names_in, files_in}
-use Rattle.algol_stmt.specs.Phrases.{acted, element_in, lists_names, listing}
+use Rattle.algol_stmt.specs.Phrases.{element_in, lists_names, listing}
 use Rattle.algol_expr.proofs.Reading.{Takes, taken, read-at}
 use Rattle.algol_stmt.proofs.Chains.{here, too_deep_here}
 use Rattle.algol_stmt.proofs.Specs.{names_there}
@@ -42,48 +42,9 @@ opens_with {tokens = tokens} {t = t} {ts = ts} at_ d i s es {us = us} q o is = s
   run = λ due_ vs. ap (λ x. read 0 x (s ∷ due_) (us ++ vs)) at_ ∙ opens_step 0 d t ts s (es (d + 1)) due_ (us ++ vs) q (inl o);
 })
 
--- what a word makes due, where i levels are open behind it
-
-abbrev pub after_begin : Spot → ℕ → List Due
-after_begin spot i = body_in i (compound spot)
-
-abbrev pub after_if : ℕ → List Due
-after_if i = whole 0 ∷ word reserved.Then ∷ statement i ∷ else_part i ∷ []
-
-abbrev pub after_while : ℕ → List Due
-after_while i = whole 0 ∷ word reserved.Do ∷ statement i ∷ make looping ∷ []
-
-abbrev pub after_do : ℕ → List Due
-after_do i = statement i ∷ word reserved.Until ∷ whole 0 ∷ make repeating ∷ []
-
-abbrev pub after_for : ℕ → List Due
-after_for i = named ∷ symbol symbols.Becomes ∷ whole 0 ∷ word reserved.Step ∷ whole 0 ∷ word reserved.Until ∷ whole 0 ∷ word reserved.Do ∷ statement i
-    ∷ make counting ∷ []
-
-abbrev pub after_thru : ℕ → List Due
-after_thru i = whole 0 ∷ word reserved.Do ∷ statement i ∷ make so_often ∷ []
-
-abbrev pub after_case : ℕ → List Due
-after_case i = whole 0 ∷ word reserved.Of ∷ word reserved.Begin ∷ stmts_in i choosing
-
-abbrev pub after_go : List Due
-after_go = due.to_part ∷ named ∷ make going ∷ []
-
-abbrev pub after_process : List Due
-after_process = named ∷ actuals_part ∷ due.task_part ∷ make processing ∷ []
-
 abbrev pub by_start : ℕ → Spot → Start → Option Turn
-by_start d spot starts.Begin = Some (takes (nests d) (after_begin spot (d + 1)))
-by_start d spot starts.If = Some (takes (nests d) (after_if (d + 1)))
-by_start d spot starts.While = Some (takes (nests d) (after_while (d + 1)))
-by_start d spot starts.Do = Some (takes (nests d) (after_do (d + 1)))
-by_start d spot starts.For = Some (takes (nests d) (after_for (d + 1)))
-by_start d spot starts.Thru = Some (takes (nests d) (after_thru (d + 1)))
-by_start d spot starts.Case = Some (takes (nests d) (after_case (d + 1)))
-by_start d spot starts.Go = Some (takes plain after_go)
-by_start d spot starts.Process = Some (takes plain after_process)
-by_start d spot starts.Write = Some (takes plain written)
-by_start d spot (starts.Act act) = Some (takes plain (acted act))
+by_start d spot (starts.Opens opener) = Some (takes (nests d) (behind_word opener spot (d + 1)))
+by_start d spot (starts.Acts verb) = Some (takes plain (behind_verb verb))
 by_start d spot starts.Nothing = None
 
 start_turn : (d : ℕ) (spot : Spot) (k : TokenKind) (x : Turn) → by_start d spot (start_of k) ≡ Some x → turn_statement d spot k ≡ x
@@ -174,21 +135,25 @@ call_there n d {us = us} {t = t} {ts = ts} at_ a b c = subst (λ x. Reaches (beh
 
 -- a label's colon
 
-module _ (n : Named) (d : ℕ) (t : Token) (ts : List Token) (e : t.kind ≡ kinds.Symbol symbols.Colon) where
+module _ (n : Named) (d : ℕ) {tokens : List Token} {t : Token} {ts : List Token} (at_ : tokens ≡ t ∷ ts) (e : is_symbol symbols.Colon t.kind ≡ true) where
   colon_turn : turn (behind_start n d) t.spot t.kind ≡ takes (label d n.spot) (statement (d + 1) ∷ make (labelled n) ∷ [])
-  colon_turn = ap (turn_behind_start n d) e
+  colon_turn = ap (turn_behind_start n d) (symbol_from t.kind symbols.Colon e)
 
-  pub colon_opens : (i : ℕ) → d < MOST_NESTING → i ≡ d + 1 → Reaches (behind_start n d ∷ []) [] (t ∷ ts) (statement i ∷ make (labelled n) ∷ []) [] ts
-  colon_opens i o is = subst (λ i. Reaches (behind_start n d ∷ []) [] (t ∷ ts) (statement i ∷ make (labelled n) ∷ []) [] ts) (sym is)
-      (record { run = λ due_ vs. label_step 0 d t t ts (behind_start n d) n.spot (statement (d + 1) ∷ make (labelled n) ∷ []) due_ vs colon_turn (inl o) })
+  pub colon_opens : (i : ℕ) → d < MOST_NESTING → i ≡ d + 1 → Reaches (behind_start n d ∷ []) [] tokens (statement i ∷ make (labelled n) ∷ []) [] ts
+  colon_opens i o is = subst (λ i. Reaches (behind_start n d ∷ []) [] tokens (statement i ∷ make (labelled n) ∷ []) [] ts) (sym is) (record {
+    run = λ due_ vs.
+        ap (λ x. read 0 x (behind_start n d ∷ due_) vs) at_
+        ∙ label_step 0 d t t ts (behind_start n d) n.spot (statement (d + 1) ∷ make (labelled n) ∷ []) due_ vs colon_turn (inl o);
+  })
 
-  pub colon_too_deep : (e : Refusal) → MOST_NESTING ≤ d → e ≡ At n.spot codes.TooDeep → Refuses (behind_start n d ∷ []) [] (t ∷ ts) e
+  pub colon_too_deep : (e : Refusal) → MOST_NESTING ≤ d → e ≡ At n.spot codes.TooDeep → Refuses (behind_start n d ∷ []) [] tokens e
   colon_too_deep e o r = record {
     left = length (t ∷ ts);
     fails = record {
       run = λ spot code at due_ vs.
           let same : At n.spot codes.TooDeep ≡ At spot code = sym r ∙ at in
-          deep_label_step d t ts (behind_start n d) n.spot (statement (d + 1) ∷ make (labelled n) ∷ []) due_ vs colon_turn o ∙ cc;
+          ap (λ x. read 0 x (behind_start n d ∷ due_) vs) at_
+          ∙ deep_label_step d t ts (behind_start n d) n.spot (statement (d + 1) ∷ make (labelled n) ∷ []) due_ vs colon_turn o ∙ cc;
     };
   }
 
@@ -298,3 +263,125 @@ typed_list kind d us {t = t} {ts = ts} at_ a b =
     subst (λ x. Reaches (typed kind d ∷ []) us x (names_in ++ make (names_declared (trees.simple kind)) ∷ symbol symbols.Semicolon ∷ []) us x) (sym at_)
     (names_there (typed kind d) (make (names_declared (trees.simple kind)) ∷ symbol symbols.Semicolon ∷ []) t ts (λ name q. ap (turn_typed kind d t.spot) q)
     (λ q. typed_refused kind d t.spot t.kind a b q) us)
+
+-- the body of a procedure
+
+abbrev pub behind_body : List Due
+behind_body = make with_body ∷ symbol symbols.Semicolon ∷ []
+
+-- a body's first token, to the statement that it is and to the body
+data Enters (d : ℕ) : Turn → Turn → Type 0 where
+  flat : (ds : List Due) → Enters d (takes plain ds) (takes (nests d) (ds ++ behind_body))
+  nested : (ds : List Due) → Enters d (takes (nests (d + 1)) ds) (takes (nests (d + 1)) (ds ++ behind_body))
+
+enters : (d : ℕ) (spot : Spot) (k : TokenKind) → is_symbol symbols.Semicolon k ≡ false → begins_body k ≡ true → Enters d (turn_statement (d + 1) spot k) (turn_procedure_body d spot k)
+enters d spot (kinds.Name n) a b = flat _
+enters d spot (kinds.Word reserved.Begin) a b = nested _
+enters d spot (kinds.Word reserved.If) a b = nested _
+enters d spot (kinds.Word reserved.While) a b = nested _
+enters d spot (kinds.Word reserved.Do) a b = nested _
+enters d spot (kinds.Word reserved.For) a b = nested _
+enters d spot (kinds.Word reserved.Thru) a b = nested _
+enters d spot (kinds.Word reserved.Case) a b = nested _
+enters d spot (kinds.Word reserved.Go) a b = flat _
+enters d spot (kinds.Word reserved.Process) a b = flat _
+enters d spot (kinds.Word reserved.Write) a b = flat _
+enters d spot (kinds.Word reserved.Cause) a b = flat _
+enters d spot (kinds.Word reserved.Reset) a b = flat _
+enters d spot (kinds.Word reserved.Wait) a b = flat _
+enters d spot (kinds.Word reserved.Procure) a b = flat _
+enters d spot (kinds.Word reserved.Liberate) a b = flat _
+enters d spot (kinds.Symbol symbols.Semicolon) a b = cc
+enters d spot k a b = cc
+
+module _ (d : ℕ) (t : Token) (ts : List Token) where
+  entered_read : (x y : Turn) → Enters d x y → turn (statement (d + 1)) t.spot t.kind ≡ x → turn (procedure_body d) t.spot t.kind ≡ y → d < MOST_NESTING →
+      (due_ : List Due) (vs : List Value) → read 0 (t ∷ ts) (procedure_body d ∷ due_) vs ≡ read 0 (t ∷ ts) (statement (d + 1) ∷ (behind_body ++ due_)) vs
+  entered_read _ _ (flat ds) p q o due_ vs = opens_step 0 d t ts (procedure_body d) (ds ++ behind_body) due_ vs q (inl o)
+      ∙ ap (λ x. read 0 ts x vs) (append_assoc ds behind_body due_) ∙ sym (takes_step 0 t ts (statement (d + 1)) ds (behind_body ++ due_) vs p)
+  entered_read _ _ (nested ds) p q o due_ vs = read-at 0 outside (procedure_body d) (statement (d + 1)) behind_body due_ t ts vs
+      (subst Takes (sym p) (taken (nests (d + 1)) ds)) (q ∙ ap (λ x. followed x behind_body) (sym p))
+
+  entered_deep : (x y : Turn) → Enters d x y → turn (procedure_body d) t.spot t.kind ≡ y → MOST_NESTING ≤ d → (us : List Value) (e : Refusal) → e ≡ At t.spot codes.TooDeep →
+      Refuses (procedure_body d ∷ []) us (t ∷ ts) e
+  entered_deep _ _ (flat ds) q o us e r = too_deep_here (here t ts) d (procedure_body d) (ds ++ behind_body) {ds = []} {us = us} e q o r
+  entered_deep _ _ (nested ds) q o us e r =
+      let deeper : MOST_NESTING ≤ d + 1 = omega (arith, o) in too_deep_here (here t ts) (d + 1) (procedure_body d) (ds ++ behind_body) {ds = []} {us = us} e q deeper r
+
+  empty_body : turn (procedure_body d) t.spot (kinds.Symbol symbols.Semicolon) ≡ takes (nests d) (make (put (stmt trees.empty)) ∷ make with_body ∷ [])
+  empty_body = refl
+
+  semicolon_read : is_symbol symbols.Semicolon t.kind ≡ true → d < MOST_NESTING → (due_ : List Due) (vs : List Value) →
+      read 0 (t ∷ ts) (procedure_body d ∷ due_) vs ≡ read 0 (t ∷ ts) (statement (d + 1) ∷ (behind_body ++ due_)) vs
+  semicolon_read e o due_ vs =
+      let k = symbol_from t.kind symbols.Semicolon e in
+      opens_step 0 d t ts (procedure_body d) (make (put (stmt trees.empty)) ∷ make with_body ∷ []) due_ vs (ap (turn (procedure_body d) t.spot) k) (inl o)
+      ∙ make_step 0 ts (put (stmt trees.empty)) (make with_body ∷ due_) vs
+      ∙ make_step 0 ts with_body due_ (stmt trees.empty ∷ vs)
+      ∙ sym (makes_step 0 t ts (statement (d + 1)) (behind_body ++ due_) vs (put (stmt trees.empty)) (ap (turn_statement (d + 1) t.spot) k)
+      ∙ make_step 0 (t ∷ ts) with_body (symbol symbols.Semicolon ∷ due_) (stmt trees.empty ∷ vs)
+      ∙ symbol_step 0 t ts symbols.Semicolon due_ (with_body (stmt trees.empty ∷ vs)) k)
+
+  body_read : (b : Bool) → is_symbol symbols.Semicolon t.kind ≡ b → begins_body t.kind ≡ true → d < MOST_NESTING → (due_ : List Due) (vs : List Value) →
+      read 0 (t ∷ ts) (procedure_body d ∷ due_) vs ≡ read 0 (t ∷ ts) (statement (d + 1) ∷ (behind_body ++ due_)) vs
+  body_read true s e o due_ vs = semicolon_read s o due_ vs
+  body_read false s e o due_ vs = entered_read _ _ (enters d t.spot t.kind s e) refl refl o due_ vs
+
+  body_deep : (b : Bool) → is_symbol symbols.Semicolon t.kind ≡ b → begins_body t.kind ≡ true → MOST_NESTING ≤ d → (us : List Value) (e : Refusal) → e ≡ At t.spot codes.TooDeep →
+      Refuses (procedure_body d ∷ []) us (t ∷ ts) e
+  body_deep true s q o us e r = too_deep_here (here t ts) d (procedure_body d) (make (put (stmt trees.empty)) ∷ make with_body ∷ []) {ds = []} {us = us} e
+      (ap (turn (procedure_body d) t.spot) (symbol_from t.kind symbols.Semicolon s)) o r
+  body_deep false s q o us e r = entered_deep _ _ (enters d t.spot t.kind s q) refl o us e r
+
+pub body_starts : (d i : ℕ) {us : List Value} {tokens : List Token} {t : Token} {ts : List Token} → tokens ≡ t ∷ ts → begins_body t.kind ≡ true → d < MOST_NESTING → i ≡ d + 1 →
+    Reaches (procedure_body d ∷ []) us tokens (statement i ∷ behind_body) us tokens
+body_starts d i {us = us} {t = t} {ts = ts} at_ e o is = subst (λ x. Reaches (procedure_body d ∷ []) us x (statement i ∷ behind_body) us x) (sym at_)
+    (subst (λ i. Reaches (procedure_body d ∷ []) us (t ∷ ts) (statement i ∷ behind_body) us (t ∷ ts)) (sym is)
+    (record { run = λ due_ vs. body_read d t ts (is_symbol symbols.Semicolon t.kind) refl e o due_ (us ++ vs) }))
+
+pub body_too_deep : (d : ℕ) (us : List Value) {tokens : List Token} {t : Token} {ts : List Token} → tokens ≡ t ∷ ts → (e : Refusal) → begins_body t.kind ≡ true → MOST_NESTING ≤ d →
+    e ≡ At t.spot codes.TooDeep → Refuses (procedure_body d ∷ []) us tokens e
+body_too_deep d us {t = t} {ts = ts} at_ e b o r = subst (λ x. Refuses (procedure_body d ∷ []) us x e) (sym at_) (body_deep d t ts (is_symbol symbols.Semicolon t.kind) refl b o us e r)
+
+pub forward_takes : (d : ℕ) {tokens : List Token} {t : Token} {ts : List Token} → tokens ≡ t ∷ ts → is_word reserved.Forward t.kind ≡ true →
+    turn (procedure_body d) t.spot t.kind ≡ takes plain (make announced ∷ symbol symbols.Semicolon ∷ [])
+forward_takes d {t = t} at_ e = ap (turn_procedure_body d t.spot) (word_from t.kind reserved.Forward e)
+
+body_refused : (d : ℕ) (spot : Spot) (k : TokenKind) → is_word reserved.Forward k ≡ false → begins_body k ≡ false → turn_procedure_body d spot k ≡ refuses
+body_refused d spot (kinds.Word reserved.Forward) a b = cc
+body_refused d spot (kinds.Symbol symbols.Semicolon) a b = cc
+body_refused d spot (kinds.Name n) a b = cc
+body_refused d spot (kinds.Word reserved.Begin) a b = cc
+body_refused d spot (kinds.Word reserved.If) a b = cc
+body_refused d spot (kinds.Word reserved.While) a b = cc
+body_refused d spot (kinds.Word reserved.Do) a b = cc
+body_refused d spot (kinds.Word reserved.For) a b = cc
+body_refused d spot (kinds.Word reserved.Thru) a b = cc
+body_refused d spot (kinds.Word reserved.Case) a b = cc
+body_refused d spot (kinds.Word reserved.Go) a b = cc
+body_refused d spot (kinds.Word reserved.Process) a b = cc
+body_refused d spot (kinds.Word reserved.Write) a b = cc
+body_refused d spot (kinds.Word reserved.Cause) a b = cc
+body_refused d spot (kinds.Word reserved.Reset) a b = cc
+body_refused d spot (kinds.Word reserved.Wait) a b = cc
+body_refused d spot (kinds.Word reserved.Procure) a b = cc
+body_refused d spot (kinds.Word reserved.Liberate) a b = cc
+body_refused d spot k a b = refl
+
+pub body_refuses : (d : ℕ) {tokens : List Token} {t : Token} {ts : List Token} → tokens ≡ t ∷ ts → is_word reserved.Forward t.kind ≡ false → begins_body t.kind ≡ false →
+    turn (procedure_body d) t.spot t.kind ≡ refuses
+body_refuses d {t = t} at_ a b = body_refused d t.spot t.kind a b
+
+-- a program
+
+abbrev pub after_program : Spot → ℕ → List Due
+after_program spot i = make (put (declared no_decls)) ∷ declarations i ∷ make (put (list trees.no_stmts)) ∷ statement i ∷ make stmt_added ∷ stmts_more i
+    ∷ word reserved.End ∷ symbol symbols.Period ∷ make (programmed spot) ∷ []
+
+pub program_begins : {tokens : List Token} {t : Token} {ts : List Token} → tokens ≡ t ∷ ts → is_word reserved.Begin t.kind ≡ true →
+    turn due.program t.spot t.kind ≡ takes (nests 0) (after_program t.spot 1)
+program_begins {t = t} at_ e = ap (λ b. either b (takes (nests 0) (after_program t.spot 1)) refuses) e
+
+pub program_refuses : {tokens : List Token} {t : Token} {ts : List Token} → tokens ≡ t ∷ ts → is_word reserved.Begin t.kind ≡ false →
+    turn due.program t.spot t.kind ≡ refuses
+program_refuses {t = t} at_ e = ap (λ b. either b (takes (nests 0) (after_program t.spot 1)) refuses) e

@@ -1,12 +1,10 @@
 -- How far a reader of statements has come, and where it is refused.
-use Rattle.std.proofs.Common.{◌≡◌, ◌≤◌, ◌<◌, ℕ, Bool, true, false, List, [], ◌∷◌, ◌++◌, length, Result, Ok, Err, IfErr, Some, None, Option, refl, sym, subst, ap, ◌∙◌, inl, append_assoc, arith}
-use Rattle.std.specs.Result.{IsErrAnd, IfOk}
+use Rattle.std.proofs.Common.{◌≡◌, ◌≤◌, ◌<◌, ℕ, true, List, [], ◌∷◌, ◌++◌, length, Result, Ok, Err, IfErr, refl, sym, subst, ap, ◌∙◌, inl, append_assoc, arith}
+use Rattle.std.specs.Result.{IsErrAnd}
 use Rattle.algol_tree.specs.declared.TheConstants.{MOST_NESTING}
 use Rattle.algol_tree.specs.declared.token.Token.{Token}
-use Rattle.algol_tree.specs.declared.token.TokenKind.{TokenKind}
 use Rattle.algol_tree.specs.declared.token.TokenKind.TheVariants as kinds
 use Rattle.algol_tree.specs.declared.token.Symbol.{Symbol}
-use Rattle.algol_tree.specs.declared.token.Symbol.TheVariants as symbols
 use Rattle.algol_tree.specs.declared.token.Reserved.{Reserved}
 use Rattle.algol_tree.specs.declared.refusal.Code.TheVariants as codes
 use Rattle.algol_tree.specs.declared.refusal.Refusal.{Refusal}
@@ -15,11 +13,10 @@ use Rattle.algol_tree.specs.Ended.{EndsOnce}
 use Rattle.algol_tree.specs.Tokens.{is_word, is_symbol}
 use Rattle.algol_tree.specs.Due.{Value, Make, Due, make, plain, nests, takes, makes, skips, refuses}
 use Rattle.algol_tree.specs.Reading.{turn, read}
-use Rattle.algol_tree.specs.Found.{IsRest, Passes, Finds, Completes, Extends, Lists, Fails, Refuses}
-use Rattle.algol_expr.specs.declared.stop.Stop.{Stop}
+use Rattle.algol_tree.specs.Found.{IsRest, Finds, Completes, Lists, Fails, Refuses}
 use Rattle.algol_expr.proofs.Turns.{takes_step, opens_step, skips_step, makes_step, make_step, fails_step, deep_step, word_from, symbol_from}
-use Rattle.algol_expr.proofs.Chain.{Reaches, behind_first, making}
-use Rattle.algol_stmt.specs.Brings.{Brings, Adds, AddsNone, Skips, Repeats}
+use Rattle.algol_expr.proofs.Chain.{Reaches, behind_first}
+use Rattle.algol_stmt.specs.Brings.{Brings, Adds, Skips}
 
 -- nothing is read yet
 pub begun : (from : List Due) (us : List Value) (tokens : List Token) → Reaches from us tokens from us tokens

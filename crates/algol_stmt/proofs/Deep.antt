@@ -19,7 +19,7 @@ use Rattle.algol_stmt.proofs.Places.{Place, out, within, count, stack, Placed}
 use Rattle.algol_stmt.proofs.Sound.{place_next}
 use Rattle.algol_stmt.proofs.Feed.{Fed, nothing_fed, fed, fed_placed, fed_any, fed_back, step_any, RefusedAt}
 use Rattle.algol_stmt.proofs.Texts.{text_at, complete}
-use Rattle.algol_stmt.proofs.Start.{start, made_program, program_reads}
+use Rattle.algol_stmt.proofs.Outset.{start, made_program, program_reads}
 
 -- the limits are lifted for a token, and not for the one before it
 abbrev lifted : Judged

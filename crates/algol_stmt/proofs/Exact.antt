@@ -17,7 +17,7 @@ use Rattle.algol_stmt.proofs.Sound.{place_next, place_over, program_sound}
 use Rattle.algol_stmt.proofs.Feed.{Fed, nothing_fed, fed, fed_placed, fed_any, fed_back, RefusedAt, refused_at, stop_any, stops_here}
 use Rattle.algol_stmt.proofs.Texts.{text_at, complete}
 use Rattle.algol_stmt.proofs.Idle.{cut_short, over_idle}
-use Rattle.algol_stmt.proofs.Start.{start, made_program, program_reads}
+use Rattle.algol_stmt.proofs.Outset.{start, made_program, program_reads}
 use Rattle.algol_stmt.proofs.Deep.{deep_exact, step_code}
 
 module _ (front : List Token) (t : Token) (q : Place) (us : List Value) (f : Fed start [] front q us) where

@@ -17,7 +17,7 @@ pub mod Sound
 pub mod Feed
 pub mod Texts
 pub mod Idle
-pub mod Start
+pub mod Outset
 pub mod Labels
 pub mod Deep
 pub mod Exact
@@ -29,3 +29,4 @@ mod Tails
 mod Specs
 mod Begun
 mod Folds
+mod Openings

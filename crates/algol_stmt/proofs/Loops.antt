@@ -1,9 +1,9 @@
 -- Lists that readers go through item by item.
-use Rattle.std.proofs.Common.{◌≡◌, ◌≤◌, ℤ, List, [], ◌∷◌, ◌++◌, length, map, refl, sym, ap, ◌∙◌, true, false, arith}
+use Rattle.std.proofs.Common.{◌≡◌, ◌≤◌, ℤ, List, [], ◌∷◌, ◌++◌, length, map, refl, sym, subst, ap, ◌∙◌, true, arith}
 use Rattle.std.proofs.lemmas.List.{map-append}
 use Rattle.algol_tree.specs.declared.token.Token.{Token}
+use Rattle.algol_tree.specs.declared.refusal.Refusal.{Refusal}
 use Rattle.algol_tree.specs.declared.token.Symbol.{Symbol}
-use Rattle.algol_tree.specs.declared.token.Symbol.TheVariants as symbols
 use Rattle.algol_tree.specs.declared.tree.Expr.{Expr}
 use Rattle.algol_tree.specs.Ended.{EndsOnce}
 use Rattle.algol_tree.specs.Tokens.{is_symbol}
@@ -15,11 +15,11 @@ use Rattle.algol_tree.specs.DueExpr.{behind}
 use Rattle.algol_tree.specs.Image as image
 use Rattle.algol_tree.specs.Image.{listed_exprs, listed_decls, exprs as plain_list}
 use Rattle.algol_tree.specs.Due.{Value, Due, plain, takes, skips}
-use Rattle.algol_tree.specs.Found.{IsRest}
-use Rattle.algol_tree.specs.Reading.{turn}
+use Rattle.algol_tree.specs.Found.{IsRest, Extends, Refuses}
+use Rattle.algol_tree.specs.Reading.{turn, read}
 use Rattle.algol_expr.proofs.Chain.{Reaches}
-use Rattle.algol_stmt.specs.Brings.{Brings}
-use Rattle.algol_stmt.proofs.Chains.{then, takes_all, skips_it, behind_symbol, brought}
+use Rattle.algol_stmt.specs.Brings.{Repeats}
+use Rattle.algol_stmt.proofs.Chains.{then, takes_all, skips_it, behind_symbol}
 
 -- From these tokens the reader has come to `rest`, where `loop` is due and this value is made.
 pub record GoesOn (from : List Due) (us : List Value) (tokens : List Token) (loop : List Due) (v : Value) (rest : List Token) : Type 0 where
@@ -93,3 +93,31 @@ pair_of high z = record { low = z; high = high }
 
 pub pair_as : {p : PPair} {low z : ℤ} {high : PExpr} → p ≡ record { low = z; high = high } → z ≡ low → p ≡ record { low = low; high = high }
 pair_as {low = low} {high = high} e r = e ∙ ap (pair_of high) r
+
+-- declarations go on
+
+module _ {from : List Due} {us : List Value} {tokens : List Token} {s : Due} {v : Value} {rest : List Token} where
+  pub goes_to : {w : Value} {after : List Token} → GoesOn from us tokens (s ∷ []) v rest → Reaches from us tokens (s ∷ []) (w ∷ []) after → IsRest rest after →
+      GoesOn from us tokens (s ∷ []) w after
+  goes_to g r b = record { run = r; ended = b.ended; no_longer = omega (arith, g.no_longer, b.shorter) }
+
+  pub goes_as : {w : Value} {other after : List Token} → GoesOn from us tokens (s ∷ []) v rest → rest ≡ other → Repeats s other v w after → GoesOn from us tokens (s ∷ []) w after
+  goes_as g is p = record {
+    run = record { run = λ due vs. g.run.run due vs ∙ ap (λ x. read 0 x (s ∷ due) (v ∷ vs)) is ∙ p.run due vs };
+    ended = p.behind.ended;
+    no_longer = omega (arith, g.no_longer, p.behind.shorter, ap length is);
+  }
+
+  pub refused_as_other : {other : List Token} {e : Refusal} → GoesOn from us tokens (s ∷ []) v rest → rest ≡ other → Refuses (s ∷ []) (v ∷ []) other e → Refuses from us tokens e
+  refused_as_other g is p = record {
+    left = p.left;
+    fails = record { run = λ spot code q due vs. g.run.run due vs ∙ ap (λ x. read 0 x (s ∷ due) (v ∷ vs)) is ∙ p.fails.run spot code q due vs };
+  }
+
+pub extends_all : {s : Due} {left v w : Value} {tokens rest : List Token} {t : Token} {ts : List Token} → GoesOn (s ∷ []) (left ∷ []) tokens (s ∷ []) v rest → rest ≡ t ∷ ts →
+    turn s t.spot t.kind ≡ skips → w ≡ v → Extends s tokens left w rest
+extends_all {s = s} {left = left} {v = v} {tokens = tokens} {rest = rest} g is q e = subst (λ x. Extends s tokens left x rest) (sym e) (record {
+  run = λ due vs. (then g.run (skips_it is s {ds = []} {us = v ∷ []} q)).run due vs;
+  ended = g.ended;
+  no_longer = g.no_longer;
+})

@@ -1,14 +1,14 @@
 -- Results that are returned as they are.
-use Rattle.std.proofs.Common.{◌≡◌, ◌≤◌, ℕ, sym, subst, List, [], ◌∷◌, ◌++◌, length, Result, Ok, Err, IfErr, arith}
+use Rattle.std.proofs.Common.{◌≡◌, ℕ, sym, subst, List, [], ◌∷◌, ◌++◌, Result, Ok, Err, IfErr, arith}
 use Rattle.std.specs.Result.{IfOk}
 use Rattle.std.proofs.lemmas.Result.{IfOk-weaker}
 use Rattle.algol_tree.specs.declared.token.Token.{Token}
 use Rattle.algol_tree.specs.declared.refusal.Refusal.{Refusal}
 use Rattle.algol_tree.specs.Due.{Value, Due, declarations}
-use Rattle.algol_tree.specs.Found.{IsRest, Finds, Completes, Extends, Lists, Refuses}
+use Rattle.algol_tree.specs.Found.{IsRest, Finds, Completes, Lists, Refuses}
 use Rattle.algol_expr.proofs.Chain.{Reaches, via, completing}
 use Rattle.algol_stmt.specs.Brings.{Brings, Adds, AddsNone, Repeats}
-use Rattle.algol_stmt.proofs.Chains.{bringing, listing, adding, refusing_all, refusing_on, rest_of, rest_on}
+use Rattle.algol_stmt.proofs.Chains.{bringing, listing, adding, refusing_all, refusing_on, rest_of}
 
 pub if_err : {T E : Type 0} (r : Result T E) (P Q : E → Type 0) → ((e : E) → P e → Q e) → IfErr r P → IfErr r Q
 if_err (Ok x) P Q f h = h

@@ -3,3 +3,4 @@ pub mod OneTree
 pub mod Phrases
 pub mod ReadExactly
 pub mod Starts
+pub mod Openings

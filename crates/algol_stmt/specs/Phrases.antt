@@ -9,10 +9,10 @@ use Rattle.algol_tree.specs.declared.token.Symbol.TheVariants as symbols
 use Rattle.algol_tree.specs.declared.tree.Kind.{Kind}
 use Rattle.algol_tree.specs.declared.tree.Named.{Named}
 use Rattle.algol_tree.specs.declared.tree.EventAct.{EventAct}
-use Rattle.algol_tree.specs.Plain.{PDecl, events, tasks, labels, no_stmts, no_decls}
+use Rattle.algol_tree.specs.Plain.{PDecl, events, tasks, labels, no_stmts}
 use Rattle.algol_tree.specs.Tokens.{is_word}
 use Rattle.algol_tree.specs.Headings.{type_of}
-use Rattle.algol_tree.specs.Due.{put, pairs, lows, specified, phrases, list, declared, Due, make, word, symbol, event, whole, literal, lows_more, values_part, spec, specs_more, pairs_more, phrase, phrases_more, statement, stmts_more, declarations}
+use Rattle.algol_tree.specs.Due.{put, pairs, lows, specified, phrases, list, Due, make, word, symbol, event, whole, literal, lows_more, values_part, spec, specs_more, pairs_more, phrase, phrases_more, statement, stmts_more}
 use Rattle.algol_tree.specs.DueDecl.{names_in, files_in, low_added, headed_with}
 use Rattle.algol_tree.specs.DueStmt.{wholes_in, pair_in, segment_in, rows_declared, assigned_element, acting, stmt_added}
 
@@ -27,6 +27,9 @@ closed_wholes closing = wholes_in ++ symbol closing ∷ []
 
 abbrev pub whole_before : Reserved → List Due
 whole_before w = whole 0 ∷ word w ∷ []
+
+abbrev pub whole_behind : Reserved → List Due
+whole_behind w = word w ∷ whole 0 ∷ []
 
 -- a heading behind its "("
 abbrev pub parameters_in : Option Kind → List Due

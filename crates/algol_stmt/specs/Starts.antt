@@ -8,24 +8,26 @@ use Rattle.algol_tree.specs.declared.tree.EventAct.TheVariants as acts
 use Rattle.algol_tree.specs.Tokens.{is_symbol}
 use Rattle.algol_stmt.specs.declared.start.Start.{Start}
 use Rattle.algol_stmt.specs.declared.start.Start.TheVariants as starts
+use Rattle.algol_stmt.specs.declared.start.Opener.TheVariants as openers
+use Rattle.algol_stmt.specs.declared.start.Verb.TheVariants as verbs
 
 -- the statement that a token begins as a word
 abbrev pub start_of : TokenKind → Start
-start_of (kinds.Word reserved.Begin) = starts.Begin
-start_of (kinds.Word reserved.If) = starts.If
-start_of (kinds.Word reserved.While) = starts.While
-start_of (kinds.Word reserved.Do) = starts.Do
-start_of (kinds.Word reserved.For) = starts.For
-start_of (kinds.Word reserved.Thru) = starts.Thru
-start_of (kinds.Word reserved.Case) = starts.Case
-start_of (kinds.Word reserved.Go) = starts.Go
-start_of (kinds.Word reserved.Process) = starts.Process
-start_of (kinds.Word reserved.Write) = starts.Write
-start_of (kinds.Word reserved.Cause) = starts.Act acts.Cause
-start_of (kinds.Word reserved.Reset) = starts.Act acts.Reset
-start_of (kinds.Word reserved.Wait) = starts.Act acts.Wait
-start_of (kinds.Word reserved.Procure) = starts.Act acts.Procure
-start_of (kinds.Word reserved.Liberate) = starts.Act acts.Liberate
+start_of (kinds.Word reserved.Begin) = starts.Opens openers.Begin
+start_of (kinds.Word reserved.If) = starts.Opens openers.If
+start_of (kinds.Word reserved.While) = starts.Opens openers.While
+start_of (kinds.Word reserved.Do) = starts.Opens openers.Do
+start_of (kinds.Word reserved.For) = starts.Opens openers.For
+start_of (kinds.Word reserved.Thru) = starts.Opens openers.Thru
+start_of (kinds.Word reserved.Case) = starts.Opens openers.Case
+start_of (kinds.Word reserved.Go) = starts.Acts verbs.Go
+start_of (kinds.Word reserved.Process) = starts.Acts verbs.Process
+start_of (kinds.Word reserved.Write) = starts.Acts verbs.Write
+start_of (kinds.Word reserved.Cause) = starts.Acts (verbs.Act acts.Cause)
+start_of (kinds.Word reserved.Reset) = starts.Acts (verbs.Act acts.Reset)
+start_of (kinds.Word reserved.Wait) = starts.Acts (verbs.Act acts.Wait)
+start_of (kinds.Word reserved.Procure) = starts.Acts (verbs.Act acts.Procure)
+start_of (kinds.Word reserved.Liberate) = starts.Acts (verbs.Act acts.Liberate)
 start_of k = starts.Nothing
 
 abbrev pub is_name : TokenKind → Bool

@@ -7,6 +7,7 @@ mod heading;
 mod line;
 mod make;
 mod names;
+mod opening;
 mod simple;
 mod start;
 mod take;

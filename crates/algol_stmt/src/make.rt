@@ -5,7 +5,9 @@ ghost use Rattle.algol_tree.specs.declared.refusal.Refusal.TheVariants.{NoMemory
 ghost use Rattle.algol_tree.specs.Plain as trees;
 ghost use Rattle.algol_tree.specs.Image as image;
 ghost use Rattle.algol_tree.specs.Image.{stmt as plain};
+ghost use Rattle.algol_stmt.specs.Openings.{led};
 
+use crate::opening::Lead;
 use algol_tree::{
     Body, Decl, EventAct, EventName, Expr, Heading, Kind, List, Named, Pair, PhraseText, Program,
     Refusal, Spot, Stmt,
@@ -36,7 +38,7 @@ pub(crate) fn writing(file: Named, spot: Spot, phrases: List<PhraseText>, items:
     Stmt::Write(file, spot, phrases, items)
 }
 
-pub(crate) fn labelled(alloc: Global, name: Named, statement: Stmt) -> Result<Stmt, Refusal>
+fn labelled(alloc: Global, name: Named, statement: Stmt) -> Result<Stmt, Refusal>
     ensures built { IfOk result (λ s. plain s ≡ trees.label name (plain statement)) }
     ensures memory { IfErr result (λ e. e ≡ NoMemory) }
 {
@@ -64,7 +66,7 @@ pub(crate) fn two_armed(
     Ok(Stmt::If(condition, yes, Some(otherwise)))
 }
 
-pub(crate) fn looping(alloc: Global, condition: Expr, statement: Stmt) -> Result<Stmt, Refusal>
+fn looping(alloc: Global, condition: Expr, statement: Stmt) -> Result<Stmt, Refusal>
     ensures built { IfOk result (λ s. plain s ≡ trees.while (image.expr condition) (plain statement)) }
     ensures memory { IfErr result (λ e. e ≡ NoMemory) }
 {
@@ -78,7 +80,7 @@ pub(crate) fn repeating(alloc: Global, statement: Stmt, condition: Expr) -> Resu
     Ok(Stmt::Until(Box::new(alloc, statement)?, condition))
 }
 
-pub(crate) fn so_often(alloc: Global, count: Expr, statement: Stmt) -> Result<Stmt, Refusal>
+fn so_often(alloc: Global, count: Expr, statement: Stmt) -> Result<Stmt, Refusal>
     ensures built { IfOk result (λ s. plain s ≡ trees.thru (image.expr count) (plain statement)) }
     ensures memory { IfErr result (λ e. e ≡ NoMemory) }
 {
@@ -86,7 +88,7 @@ pub(crate) fn so_often(alloc: Global, count: Expr, statement: Stmt) -> Result<St
 }
 
 /// A FOR over that name, from the first value of the range by the second up to the third.
-pub(crate) fn counting(
+fn counting(
     alloc: Global,
     name: Named,
     range: (Expr, Expr, Expr),
@@ -97,6 +99,21 @@ pub(crate) fn counting(
 {
     let statement = Box::new(alloc, statement)?;
     Ok(Stmt::For(name, range.0, range.1, range.2, statement))
+}
+
+/// The statement, led by what stands before it.
+pub(crate) fn led(alloc: Global, lead: Lead, statement: Stmt) -> Result<Stmt, Refusal>
+    ensures built { IfOk result (λ s. plain s ≡ led lead (plain statement)) }
+    ensures memory { IfErr result (λ e. e ≡ NoMemory) }
+{
+    match lead {
+        Lead::Label(name) => labelled(alloc, name, statement),
+        Lead::While(condition) => looping(alloc, condition, statement),
+        Lead::Thru(count) => so_often(alloc, count, statement),
+        Lead::For(name, from, step, limit) => {
+            counting(alloc, name, (from, step, limit), statement)
+        }
+    }
 }
 
 pub(crate) fn choosing(choice: Expr, stmts: List<Stmt>) -> Stmt

@@ -2,6 +2,7 @@
 
 ghost use Rattle.std.specs.Prelude.{◌≡◌, [], ◌∷◌, IfOk, IfErr};
 ghost use Rattle.algol_tree.specs.Ended.{EndsOnce};
+ghost use Rattle.algol_tree.specs.declared.token.Reserved.TheVariants as reserved;
 ghost use Rattle.algol_tree.specs.Due as due;
 ghost use Rattle.algol_tree.specs.Due.{one, stmt, make};
 ghost use Rattle.algol_tree.specs.DueStmt.{going, processing};
@@ -10,7 +11,7 @@ ghost use Rattle.algol_tree.specs.Image as image;
 ghost use Rattle.algol_tree.specs.Image.{stmt as plain};
 ghost use Rattle.algol_tree.specs.Found.{Completes, Refuses};
 ghost use Rattle.algol_stmt.specs.Brings.{Brings, Skips};
-ghost use Rattle.algol_stmt.specs.Phrases.{acted, element_in, whole_before};
+ghost use Rattle.algol_stmt.specs.Phrases.{acted, element_in, whole_before, whole_behind};
 
 use crate::exprs::{read_actuals, read_closed_exprs};
 use crate::make::{acting, going};
@@ -139,5 +140,16 @@ pub(crate) fn read_before(
 {
     let (expr, rest) = read_whole(alloc, tokens, 0)?;
     let rest = expect_word(rest, word)?;
+    Ok((expr, rest))
+}
+
+/// UNTIL expr
+pub(crate) fn read_until(alloc: Global, tokens: &[Token]) -> Result<(Expr, &[Token]), Refusal>
+    requires ended { EndsOnce tokens.now }
+    ensures found { IfOk result (λ r. Brings (whole_behind reserved.Until) tokens.now (one (image.expr r.0)) r.1.now) }
+    ensures refused { IfErr result (λ e. Refuses (whole_behind reserved.Until) [] tokens.now e) }
+{
+    let rest = expect_word(tokens, Reserved::Until)?;
+    let (expr, rest) = read_whole(alloc, rest, 0)?;
     Ok((expr, rest))
 }

@@ -2,14 +2,14 @@
 
 ghost use Rattle.std.specs.Prelude.{◌≡◌};
 ghost use Rattle.algol_tree.specs.declared.token.TokenKind.TheVariants as kinds;
-ghost use Rattle.algol_stmt.specs.Starts.{start_of, is_name, begins_body};
+ghost use Rattle.algol_stmt.specs.Starts.{start_of, starts_some, is_name, begins_body};
 
 use algol_expr::is_symbol;
 use algol_tree::{EventAct, Reserved, Symbol, Token, TokenKind};
 
-/// The statement that a word begins, or nothing.
-#[derive(Clone, Copy, PartialEq, Eq)]
-pub(crate) enum Start {
+/// The first word of a statement in which others stand.
+#[derive(Clone, Copy)]
+pub(crate) enum Opener {
     Begin,
     If,
     While,
@@ -17,10 +17,22 @@ pub(crate) enum Start {
     For,
     Thru,
     Case,
+}
+
+/// The first word of a statement in which no other stands.
+#[derive(Clone, Copy)]
+pub(crate) enum Verb {
     Go,
     Process,
     Write,
     Act(EventAct),
+}
+
+/// The statement that a word begins, or nothing.
+#[derive(Clone, Copy)]
+pub(crate) enum Start {
+    Opens(Opener),
+    Acts(Verb),
     Nothing,
 }
 
@@ -38,21 +50,21 @@ fn start_of_word(word: Reserved) -> Start
     ensures { result ≡ start_of (kinds.Word word) }
 {
     match word {
-        Reserved::Begin => Start::Begin,
-        Reserved::If => Start::If,
-        Reserved::While => Start::While,
-        Reserved::Do => Start::Do,
-        Reserved::For => Start::For,
-        Reserved::Thru => Start::Thru,
-        Reserved::Case => Start::Case,
-        Reserved::Go => Start::Go,
-        Reserved::Process => Start::Process,
-        Reserved::Write => Start::Write,
-        Reserved::Cause => Start::Act(EventAct::Cause),
-        Reserved::Reset => Start::Act(EventAct::Reset),
-        Reserved::Wait => Start::Act(EventAct::Wait),
-        Reserved::Procure => Start::Act(EventAct::Procure),
-        Reserved::Liberate => Start::Act(EventAct::Liberate),
+        Reserved::Begin => Start::Opens(Opener::Begin),
+        Reserved::If => Start::Opens(Opener::If),
+        Reserved::While => Start::Opens(Opener::While),
+        Reserved::Do => Start::Opens(Opener::Do),
+        Reserved::For => Start::Opens(Opener::For),
+        Reserved::Thru => Start::Opens(Opener::Thru),
+        Reserved::Case => Start::Opens(Opener::Case),
+        Reserved::Go => Start::Acts(Verb::Go),
+        Reserved::Process => Start::Acts(Verb::Process),
+        Reserved::Write => Start::Acts(Verb::Write),
+        Reserved::Cause => Start::Acts(Verb::Act(EventAct::Cause)),
+        Reserved::Reset => Start::Acts(Verb::Act(EventAct::Reset)),
+        Reserved::Wait => Start::Acts(Verb::Act(EventAct::Wait)),
+        Reserved::Procure => Start::Acts(Verb::Act(EventAct::Procure)),
+        Reserved::Liberate => Start::Acts(Verb::Act(EventAct::Liberate)),
         _ => Start::Nothing,
     }
 }
@@ -61,7 +73,18 @@ fn start_of_word(word: Reserved) -> Start
 pub(crate) fn begins_body(token: &Token) -> bool
     ensures { result ≡ begins_body token.now.kind }
 {
-    is_symbol(token, Symbol::Semicolon) || is_name(token) || start_of(token) != Start::Nothing
+    is_symbol(token, Symbol::Semicolon) || is_name(token) || begins_statement(token)
+}
+
+/// A statement begins with the token as a word.
+fn begins_statement(token: &Token) -> bool
+    ensures { result ≡ starts_some (start_of token.now.kind) }
+{
+    match start_of(token) {
+        Start::Opens(_) => true,
+        Start::Acts(_) => true,
+        Start::Nothing => false,
+    }
 }
 
 fn is_name(token: &Token) -> bool

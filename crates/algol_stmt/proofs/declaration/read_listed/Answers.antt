@@ -2,8 +2,8 @@ use Rattle.std.proofs.Common.{[], ◌∷◌, ◌++◌, refl, sym, ap, ◌∙◌}
 use Rattle.algol_expr.proofs.Chain.{past, making}
 use Rattle.algol_stmt.proofs.Chains.{bringing, failing, refusing_all, left_as, behind_it, rest_of, valued, takes_all, here}
 use Rattle.algol_stmt.proofs.Begun.{array_declared, file_declared, files_due, lister, some_same, not_end_lists}
-use Rattle.algol_tree.specs.DueDecl.{files_in, names_in}
-use Rattle.algol_tree.specs.DueStmt.{segment_in, names_declared, decl_behind}
+use Rattle.algol_tree.specs.DueDecl.{names_in}
+use Rattle.algol_tree.specs.DueStmt.{names_declared, decl_behind}
 use Rattle.algol_stmt.specs.Phrases.{arrays_in}
 use Rattle.algol_tree.specs.declared.tree.Kind.TheVariants as types
 use Rattle.algol_tree.specs.Plain as trees

@@ -1,8 +1,7 @@
 use Rattle.std.proofs.Common.{[], ◌∷◌, ◌++◌, refl, sym, ◌∙◌}
 use Rattle.algol_expr.proofs.Chain.{making}
 use Rattle.algol_stmt.proofs.Chains.{bringing, refusing_all, left_as, behind_word, takes_all, added}
-use Rattle.algol_tree.specs.DueDecl.{rows_specified, spec_simple}
-use Rattle.algol_stmt.specs.Phrases.{closed_names}
+use Rattle.algol_tree.specs.DueDecl.{rows_specified}
 use Rattle.algol_stmt.proofs.Tails.{adds_by, adds_none}
 use Rattle.algol_stmt.proofs.Specs.{typed_array, typed_names}
 use Rattle.algol_tree.specs.declared.token.Reserved.TheVariants as reserved
