@@ -14,6 +14,7 @@ pub use beginning::start;
 pub use going::{perform_event, perform_go_to};
 pub use joining::perform;
 pub use making::{perform_block, perform_enter};
+pub use parts::part_under;
 pub use performing::{
     perform_act, perform_arrays, perform_evaluation, perform_fault, perform_goes, perform_leaving,
     perform_line, perform_store, perform_store_element,
