@@ -1,0 +1,2 @@
+pub mod SeenEnd
+pub mod Stepping

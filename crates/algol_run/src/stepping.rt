@@ -1,0 +1,68 @@
+//! One step of a process.
+
+ghost use Rattle.std.specs.Prelude.{◌≡◌, ◌&&◌, not, false, IfOk};
+ghost use Rattle.algol_meaning.specs.World as plain;
+ghost use Rattle.algol_meaning.specs.Choice.{choice};
+ghost use Rattle.algol_meaning.specs.SeenScope.{scoped};
+ghost use Rattle.algol_world.specs.SeenWorld.{world_of, process_of};
+ghost use Rattle.algol_world.specs.SeenActed.{acted_choice};
+ghost use Rattle.algol_run.specs.Stepping.{told, step_of, is_going, is_over};
+
+use crate::ending::{end_of, is_able, is_finished};
+use algol_perform::{part_under, perform};
+use algol_step::decide_part;
+use algol_world::{Acted, Action, World};
+use std::alloc::{AllocError, Global};
+
+/// What came of a step.
+#[derive(Drop)]
+pub enum Stepped {
+    /// The process went: its action, the processes that it released and the one that it started.
+    Went(Acted),
+    /// The process is not able, or there is none of its number.
+    NotAble,
+    /// The world has an end.
+    Ended,
+}
+
+/// Tests that a process goes: it is able, process 1 lives and no fault is kept.
+fn goes(world: &World<'_>, process: usize) -> bool
+    ensures { result ≡ (plain.is_able (process_of world.now process).state && not (is_over (world_of world.now))) }
+{
+    is_able(world, process) && !is_finished(world)
+}
+
+/// The action of a process that is able.
+#[tactic(auto, using(crate::proofs::Steps::act_laws))]
+fn act<'p>(world: &mut World<'p>, alloc: Global, process: usize) -> Result<Acted, AllocError>
+    requires able { (process_of world.old process).state ≡ plain.able }
+    ensures acted { IfOk result (λ a. acted_choice a (world_of world.new) ≡ choice (scoped world.old.scopes) (world_of world.old) process) }
+    ensures same { world.new.scopes ≡ world.old.scopes }
+{
+    let effect = match part_under(world, process, 0) {
+        None => return Ok(Acted::alone(alloc, Action::Fault)),
+        Some(part) => decide_part(world, alloc, process, part)?,
+    };
+    perform(world, alloc, process, effect)
+}
+
+/// One step of a process. It costs what its action costs; only where the process is not able, each process is looked at.
+///
+/// # Errors
+///
+/// Want of memory; then nothing is said of the world.
+#[tactic(auto, using(crate::proofs::Steps::step_laws))]
+pub fn step<'p>(world: &mut World<'p>, alloc: Global, process: usize) -> Result<Stepped, AllocError>
+    ensures stepped { IfOk result (λ s. told s (world_of world.new) ≡ step_of (scoped world.old.scopes) (world_of world.old) process) }
+    ensures still { IfOk result (λ s. is_going s ≡ false → world.new ≡ world.old) }
+    ensures same { world.new.scopes ≡ world.old.scopes }
+{
+    if goes(world, process) {
+        let acted = act(world, alloc, process)?;
+        return Ok(Stepped::Went(acted));
+    }
+    match end_of(world) {
+        Some(_) => Ok(Stepped::Ended),
+        None => Ok(Stepped::NotAble),
+    }
+}
