@@ -65,16 +65,16 @@ pub record Cell : Type 0 where
   pub spot : Spot
   pub content : Content
 
-abbrev cells_for : ℕ → Content → List Named → List Cell
+abbrev pub cells_for : ℕ → Content → List Named → List Cell
 cells_for block content ns = map (λ (n : Named). record { block = block; spot = n.spot; content = content }) ns
 
 -- The name of a simple variable or of a simple parameter stands for itself; for any other actual of a name parameter the block in which
 -- it stands has a cell.
-abbrev is_plain_variable : PExpr → Surroundings → Bool
+abbrev pub is_plain_variable : PExpr → Surroundings → Bool
 is_plain_variable (tree.variable (tree.subscripted n tree.none)) a = is_simple (class_of a n)
 is_plain_variable _ a = false
 
-abbrev is_by_name : Option Formal → Bool
+abbrev pub is_by_name : Option Formal → Bool
 is_by_name None = false
 is_by_name (Some f) = is_simple f.class && not f.by_value
 
@@ -83,10 +83,10 @@ has_cell e f a = is_by_name f && not (is_plain_variable e a)
 
 module _ (blocks : List Block) where
   -- the result of a typed procedure stands at its name
-  abbrev result_cells : Heading → List Cell
+  abbrev pub result_cells : Heading → List Cell
   result_cells h = if is_some h.kind then cells_for (number_at blocks h.name.spot) result (h.name ∷ []) else []
 
-  abbrev cells_of_decl : PDecl → ℕ → List Cell
+  abbrev pub cells_of_decl : PDecl → ℕ → List Cell
   cells_of_decl (tree.simple kind ns) block = cells_for block variable ns
   cells_of_decl (tree.events ns) block = cells_for block made ns
   cells_of_decl (tree.tasks ns) block = cells_for block made ns
@@ -95,7 +95,7 @@ module _ (blocks : List Block) where
       cells_for block procedure (h.name ∷ []) ++ result_cells h ++ cells_for (number_at blocks h.name.spot) parameter h.params
   cells_of_decl _ block = []
 
-  abbrev cells_of_part : Part → Surroundings → List Cell
+  abbrev pub cells_of_part : Part → Surroundings → List Cell
   cells_of_part (site.declaration d later) a = cells_of_decl d a.block
   cells_of_part (site.actual e f) a =
       if has_cell e f a then record { block = a.block; spot = first_spot e; content = actual } ∷ [] else []
@@ -110,7 +110,7 @@ module _ (blocks : List Block) where
 
 -- ---- the layout of a frame
 
-abbrev holding : Content → List Cell → List Cell
+abbrev pub holding : Content → List Cell → List Cell
 holding content cs = filter (λ (c : Cell). content_number c.content == content_number content) cs
 
 -- The cells of a block in the order in which they lie: first those that need no action, then those that actions make, in the order of
@@ -127,11 +127,11 @@ abbrev FIRST_INDEX : ℕ
 FIRST_INDEX = 2
 
 -- the index of the cell that stands there, the first of the list having this one
-abbrev index_from : ℕ → List Cell → Spot → Option ℕ
+abbrev pub index_from : ℕ → List Cell → Spot → Option ℕ
 index_from i [] spot = None
 index_from i (c ∷ cs) spot = if same_spot c.spot spot then Some i else index_from (i + 1) cs spot
 
-abbrev couple_at : ℕ → Option ℕ → Option Couple
+abbrev pub couple_at : ℕ → Option ℕ → Option Couple
 couple_at level None = None
 couple_at level (Some i) = Some (record { level = level; index = i })
 

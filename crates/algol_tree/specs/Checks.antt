@@ -60,7 +60,7 @@ is_untyped c = is_procedure c && not (is_read c)
 abbrev wrong_event : EventName → Surroundings → List Spot
 wrong_event e a = if e.task then wrong_name is_task e.name a else wrong_name is_event e.name a
 
-abbrev wrong_in_expr : PExpr → Surroundings → List Spot
+abbrev pub wrong_in_expr : PExpr → Surroundings → List Spot
 wrong_in_expr (tree.variable (tree.subscripted n tree.none)) a = wrong_name is_read n a
 wrong_in_expr (tree.variable (tree.subscripted n (tree.more e es))) a = wrong_name is_array n a ++ wrong_list types.Number (tree.more e es) a
 wrong_in_expr (tree.call (tree.called n es)) a = wrong_name is_function n a
@@ -89,7 +89,7 @@ wrong_actual_for (class.array k subscripts) e a = wrong_reference (is_such_array
 wrong_actual_for class.event e a = wrong_reference is_event e a
 wrong_actual_for _ e a = []
 
-abbrev wrong_actual : Option Formal → PExpr → Surroundings → List Spot
+abbrev pub wrong_actual : Option Formal → PExpr → Surroundings → List Spot
 wrong_actual None e a = []
 wrong_actual (Some f) e a = wrong_actual_for f.class e a
 
@@ -108,7 +108,7 @@ abbrev wrong_body : Heading → Option Heading → List Spot
 wrong_body h None = []
 wrong_body h (Some g) = if_so (not (same_heading h g)) g.name.spot
 
-abbrev wrong_in_decl : PDecl → PDecls → Surroundings → List Spot
+abbrev pub wrong_in_decl : PDecl → PDecls → Surroundings → List Spot
 wrong_in_decl (tree.forward h) later a = wrong_in_heading h ++ wrong_body h (body_of h.name.name later)
 wrong_in_decl (tree.procedure h s) later a = wrong_in_heading h
 wrong_in_decl _ later a = []
@@ -138,7 +138,7 @@ module _ (blocks : List Block) where
   abbrev left_type : Named → Surroundings → Option Kind
   left_type n a = if is_assignable (class_of a n) a then read_type (class_of a n) else None
 
-  abbrev wrong_in_stmt : PStmt → Surroundings → List Spot
+  abbrev pub wrong_in_stmt : PStmt → Surroundings → List Spot
   wrong_in_stmt (tree.label n s) a = wrong_name is_label n a
   wrong_in_stmt (tree.assign (tree.subscripted n tree.none) e) a = wrong_for (left_type n a) e a
   wrong_in_stmt (tree.assign (tree.subscripted n (tree.more e es)) v) a =
@@ -157,7 +157,7 @@ module _ (blocks : List Block) where
   wrong_in_stmt (tree.write n spot phrases es) a = wrong_name is_file n a ++ wrong_list types.Number es a
   wrong_in_stmt _ a = []
 
-  abbrev wrong_in_part : Part → Surroundings → List Spot
+  abbrev pub wrong_in_part : Part → Surroundings → List Spot
   wrong_in_part (site.name n) a = []
   wrong_in_part (site.expression e) a = wrong_in_expr e a
   wrong_in_part (site.actual e f) a = wrong_actual f e a
@@ -168,12 +168,12 @@ module _ (blocks : List Block) where
   abbrev pub wrong_types : Site → List Spot
   wrong_types x = wrong_in_part x.part x.around
 
-  abbrev not_assignable_in : PStmt → Surroundings → List Spot
+  abbrev pub not_assignable_in : PStmt → Surroundings → List Spot
   not_assignable_in (tree.assign (tree.subscripted n tree.none) e) a = if_so (not (is_assignable (class_of a n) a)) n.spot
   not_assignable_in (tree.for v x s l b) a = wrong_name is_simple v a
   not_assignable_in _ a = []
 
-  abbrev not_assignable_part : Part → Surroundings → List Spot
+  abbrev pub not_assignable_part : Part → Surroundings → List Spot
   not_assignable_part (site.statement s listed) a = not_assignable_in s a
   not_assignable_part _ a = []
 

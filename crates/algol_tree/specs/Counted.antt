@@ -17,7 +17,7 @@ use Rattle.algol_tree.specs.Names.{if_so}
 use Rattle.algol_tree.specs.Checks.{is_function}
 use Rattle.algol_tree.specs.Phrases.{phrase_of, is_no_phrase, items_of, columns_of}
 
-abbrev exprs_count : PExprs → ℕ
+abbrev pub exprs_count : PExprs → ℕ
 exprs_count tree.none = 0
 exprs_count (tree.more e es) = 1 + exprs_count es
 
@@ -39,18 +39,18 @@ miscounted_variable n (tree.more e es) a = if_so (has_others (class_of a n) (exp
 abbrev miscounted_call : Named → PExprs → Surroundings → List Spot
 miscounted_call n es a = if_so (takes_others (class_of a n) (exprs_count es)) n.spot
 
-abbrev miscounted_in_expr : PExpr → Surroundings → List Spot
+abbrev pub miscounted_in_expr : PExpr → Surroundings → List Spot
 miscounted_in_expr (tree.variable (tree.subscripted n es)) a = miscounted_variable n es a
 miscounted_in_expr (tree.call (tree.called n es)) a = miscounted_call n es a
 miscounted_in_expr _ a = []
 
-abbrev miscounted_in_stmt : PStmt → Surroundings → List Spot
+abbrev pub miscounted_in_stmt : PStmt → Surroundings → List Spot
 miscounted_in_stmt (tree.assign (tree.subscripted n (tree.more e es)) v) a = miscounted_variable n (tree.more e es) a
 miscounted_in_stmt (tree.call_of (tree.called n es)) a = miscounted_call n es a
 miscounted_in_stmt (tree.process (tree.called n es) task) a = miscounted_call n es a
 miscounted_in_stmt _ a = []
 
-abbrev miscounted_part : Part → Surroundings → List Spot
+abbrev pub miscounted_part : Part → Surroundings → List Spot
 miscounted_part (site.expression e) a = miscounted_in_expr e a
 miscounted_part (site.statement s listed) a = miscounted_in_stmt s a
 miscounted_part _ a = []
@@ -63,14 +63,14 @@ wrong_counts x = miscounted_part x.part x.around
 abbrev is_bad_list : List PhraseText → PExprs → Bool
 is_bad_list ps es = list_any (λ (p : PhraseText). is_no_phrase (phrase_of p)) ps || not (items_of ps == exprs_count es)
 
-abbrev bad_list_part : Part → List Spot
+abbrev pub bad_list_part : Part → List Spot
 bad_list_part (site.statement (tree.write n spot ps es) listed) = if_so (is_bad_list ps es) spot
 bad_list_part _ = []
 
 abbrev pub bad_lists : Site → List Spot
 bad_lists x = bad_list_part x.part
 
-abbrev wide_part : Part → List Spot
+abbrev pub wide_part : Part → List Spot
 wide_part (site.statement (tree.write n spot ps es) listed) = if_so (nat_lt MOST_LINE_WIDTH (columns_of ps)) spot
 wide_part _ = []
 

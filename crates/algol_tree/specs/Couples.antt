@@ -1,6 +1,6 @@
 -- What the scopes of a tree say of a place in the text: the declaration of the name that stands there, and the couple of the cell that
 -- is made for it.
-use Rattle.std.specs.Prelude.{ℕ, ◌==◌, if◌then◌else◌, List, [], ◌∷◌, ◌++◌, map, filter, slice_get, Option, Some, None}
+use Rattle.std.specs.Prelude.{ℕ, ◌==◌, if◌then◌else◌, List, [], ◌∷◌, ◌++◌, filter, slice_get, Option, Some, None}
 use Rattle.std.specs.List.{flat_map}
 use Rattle.algol_tree.specs.declared.token.Spot.{Spot}
 use Rattle.algol_tree.specs.declared.tree.Named.{Named}
@@ -21,20 +21,20 @@ pub record Known : Type 0 where
   pub spot : Spot
   pub declared : Declared
 
-abbrev known_by : Spot → Option Declared → List Known
+abbrev pub known_by : Spot → Option Declared → List Known
 known_by spot None = []
 known_by spot (Some d) = record { spot = spot; declared = d } ∷ []
 
-abbrev known_names : Surroundings → List Named → List Known
+abbrev pub known_names : Surroundings → List Named → List Known
 known_names a ns = flat_map (λ (n : Named). known_by n.spot (declared_as a n)) ns
 
 -- the names of a heading in its procedure: its parameters, and where VALUE and specifications name them
-abbrev known_in_heading : Heading → Surroundings → List Known
+abbrev pub known_in_heading : Heading → Surroundings → List Known
 known_in_heading h a = known_names a h.params ++ known_names a h.values ++ known_names a (specified h)
 
 module _ (blocks : List Block) where
   -- the names that a declaration declares, seen from behind it
-  abbrev known_in_decl : PDecl → Surroundings → List Known
+  abbrev pub known_in_decl : PDecl → Surroundings → List Known
   known_in_decl (tree.simple kind ns) a = known_names a ns
   known_in_decl (tree.files ns) a = known_names a ns
   known_in_decl (tree.events ns) a = known_names a ns
@@ -44,14 +44,14 @@ module _ (blocks : List Block) where
   known_in_decl (tree.forward h) a = known_names a (h.name ∷ [])
   known_in_decl (tree.procedure h s) a = known_names a (h.name ∷ []) ++ known_in_heading h (inside_procedure blocks h a)
 
-  abbrev known_in_part : Part → Surroundings → List Known
+  abbrev pub known_in_part : Part → Surroundings → List Known
   known_in_part (site.declaration d later) a = known_in_decl d (knowing blocks d later a)
   known_in_part p a = known_names a (names_in p)
 
   abbrev pub known_at : Site → List Known
   known_at x = known_in_part x.part x.around
 
-abbrev known_there : List Known → Spot → Option Declared
+abbrev pub known_there : List Known → Spot → Option Declared
 known_there [] spot = None
 known_there (k ∷ ks) spot = if same_spot k.spot spot then Some k.declared else known_there ks spot
 
@@ -62,12 +62,12 @@ pub record Located : Type 0 where
   pub level : ℕ
   pub couple : Option Couple
 
-abbrev located : List Block → List Site → Option Declared → Option Located
+abbrev pub located : List Block → List Site → Option Declared → Option Located
 located blocks ss None = None
 located blocks ss (Some d) =
     Some (record { spot = d.spot; level = level_at d.depth; couple = couple_in blocks ss d.block d.spot })
 
-abbrev declaration_in : List Block → List Site → Spot → Option Located
+abbrev pub declaration_in : List Block → List Site → Spot → Option Located
 declaration_in blocks ss spot = located blocks ss (known_there (flat_map (known_at blocks) ss) spot)
 
 -- the declaration of the name that is used or declared there
@@ -79,11 +79,11 @@ unfoldable pub result_at : PProgram → Spot → Option Couple
 result_at p spot =
     couple_in (blocks_of_program p) (sites_by p (blocks_of_program p)) (number_at (blocks_of_program p) spot) spot
 
-abbrev couple_of_cells : List Block → List Site → List Cell → Spot → Option Couple
+abbrev pub couple_of_cells : List Block → List Site → List Cell → Spot → Option Couple
 couple_of_cells blocks ss [] spot = None
 couple_of_cells blocks ss (c ∷ cs) spot = if same_spot c.spot spot then couple_in blocks ss c.block spot else couple_of_cells blocks ss cs spot
 
-abbrev actual_cells : List Block → List Site → List Cell
+abbrev pub actual_cells : List Block → List Site → List Cell
 actual_cells blocks ss = filter (λ (c : Cell). content_number c.content == content_number actual) (flat_map (cells_at blocks) ss)
 
 -- the couple of the actual that has a cell and whose first token stands there
@@ -92,7 +92,7 @@ actual_at p spot =
     couple_of_cells (blocks_of_program p) (sites_by p (blocks_of_program p))
     (actual_cells (blocks_of_program p) (sites_by p (blocks_of_program p))) spot
 
-abbrev level_if : Option Block → Option ℕ
+abbrev pub level_if : Option Block → Option ℕ
 level_if None = None
 level_if (Some b) = Some (level_of b)
 

@@ -16,28 +16,28 @@ pub record Standing : Type 0 where
   pub spot : Spot
   pub at_home : Bool
 
-abbrev standing_of : Named → Bool → Surroundings → Option Declared → List Standing
+abbrev pub standing_of : Named → Bool → Surroundings → Option Declared → List Standing
 standing_of n listed a None = []
 standing_of n listed a (Some d) = record { declared = d.spot; spot = n.spot; at_home = listed && (d.block == a.block) } ∷ []
 
-abbrev standings_part : Part → Surroundings → List Standing
+abbrev pub standings_part : Part → Surroundings → List Standing
 standings_part (site.statement (tree.label n s) listed) a = standing_of n listed a (declared_as a n)
 standings_part _ a = []
 
-abbrev standings_at : Site → List Standing
+abbrev pub standings_at : Site → List Standing
 standings_at x = standings_part x.part x.around
 
-abbrev labels_part : Part → List Spot
+abbrev pub labels_part : Part → List Spot
 labels_part (site.declaration (tree.labels ns) later) = map (λ (n : Named). n.spot) ns
 labels_part _ = []
 
 -- the places at which a label is bad: its declaration where it stands nowhere; where it stands away from its block's list; where it stands again
-abbrev bad_standings : Spot → List Standing → List Spot
+abbrev pub bad_standings : Spot → List Standing → List Spot
 bad_standings spot [] = spot ∷ []
 bad_standings spot (s ∷ ss) =
     map (λ (t : Standing). t.spot) (filter (λ (t : Standing). not t.at_home) (s ∷ ss)) ++ map (λ (t : Standing). t.spot) ss
 
-abbrev bad_label : List Standing → Spot → List Spot
+abbrev pub bad_label : List Standing → Spot → List Spot
 bad_label all spot = bad_standings spot (filter (λ (t : Standing). same_spot t.declared spot) all)
 
 abbrev pub bad_labels : List Site → List Spot

@@ -36,6 +36,7 @@ pub mod Checks
 pub mod Counted
 pub mod Labels
 pub mod Accepted
+pub mod Ascending
 pub mod First
 pub mod Couples
 pub mod Ends

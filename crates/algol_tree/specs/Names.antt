@@ -23,7 +23,7 @@ if_so true spot = spot ∷ []
 if_so false spot = []
 
 -- the places of those names
-abbrev places_if : (Named → Bool) → List Named → List Spot
+abbrev pub places_if : (Named → Bool) → List Named → List Spot
 places_if test ns = flat_map (λ (n : Named). if_so (test n) n.spot) ns
 
 abbrev pub names_of_spec : Spec → List Named
@@ -38,18 +38,18 @@ specified h = flat_map names_of_spec h.specs
 -- ---- unknown names: a name that no declaration makes known where it stands, a FORWARD without its body, and a name of VALUE or of a
 -- specification that is no parameter
 
-abbrev is_no_parameter : Heading → Named → Bool
+abbrev pub is_no_parameter : Heading → Named → Bool
 is_no_parameter h n = not (is_named_in h.params n.name)
 
-abbrev unknown_in_heading : Heading → List Spot
+abbrev pub unknown_in_heading : Heading → List Spot
 unknown_in_heading h = places_if (is_no_parameter h) h.values ++ places_if (is_no_parameter h) (specified h)
 
-abbrev unknown_in_decl : PDecl → PDecls → List Spot
+abbrev pub unknown_in_decl : PDecl → PDecls → List Spot
 unknown_in_decl (tree.forward h) later = if_so (not (is_some (body_of h.name.name later))) h.name.spot ++ unknown_in_heading h
 unknown_in_decl (tree.procedure h s) later = unknown_in_heading h
 unknown_in_decl _ later = []
 
-abbrev unknown_in_part : Part → Surroundings → List Spot
+abbrev pub unknown_in_part : Part → Surroundings → List Spot
 unknown_in_part (site.declaration d later) a = unknown_in_decl d later
 unknown_in_part p a = places_if (λ (n : Named). not (is_some (declared_as a n))) (names_in p)
 
@@ -59,38 +59,38 @@ unknown_names x = unknown_in_part x.part x.around
 -- ---- names declared twice in one block: among its parameters, the name of a typed procedure whose block it is, and its
 -- declarations; a procedure whose FORWARD stands before is one declaration with it. Also a parameter that is specified twice.
 
+abbrev pub is_one_of : List (List ℕ) → List ℕ → Bool
+is_one_of [] name = false
+is_one_of (m ∷ ms) name = if same_name m name then true else is_one_of ms name
+
 -- the names that stand in the list before, or are among these
-abbrev repeated : List (List ℕ) → List Named → List Spot
+abbrev pub repeated : List (List ℕ) → List Named → List Spot
 repeated seen [] = []
 repeated seen (n ∷ ns) = if_so (is_one_of seen n.name) n.spot ++ repeated (n.name ∷ seen) ns
-  where
-    is_one_of : List (List ℕ) → List ℕ → Bool
-    is_one_of [] name = false
-    is_one_of (m ∷ ms) name = if same_name m name then true else is_one_of ms name
 
-abbrev result_names : Heading → List (List ℕ)
+abbrev pub result_names : Heading → List (List ℕ)
 result_names h = if is_some h.kind then h.name.name ∷ [] else []
 
-abbrev twice_in_heading : Heading → List Spot
+abbrev pub twice_in_heading : Heading → List Spot
 twice_in_heading h = repeated (result_names h) h.params ++ repeated [] (specified h)
 
 -- the names that this block has before the place
-abbrev names_here : Surroundings → List (List ℕ)
+abbrev pub names_here : Surroundings → List (List ℕ)
 names_here a = map (λ (d : Declared). d.name) (filter (λ (d : Declared). d.block == a.block) a.known)
 
-abbrev result_names_of : Block → List (List ℕ)
+abbrev pub result_names_of : Block → List (List ℕ)
 result_names_of b = if is_some b.result then b.name ∷ [] else []
 
 -- a FORWARD of this heading is the last that its block says of the name
-abbrev is_announced_by : ℕ → Heading → Option Declared → Bool
+abbrev pub is_announced_by : ℕ → Heading → Option Declared → Bool
 is_announced_by block h None = false
 is_announced_by block h (Some d) = (d.block == block) && same_spot d.spot h.name.spot
 
 module _ (blocks : List Block) where
-  abbrev twice_here : Surroundings → List Named → List Spot
+  abbrev pub twice_here : Surroundings → List Named → List Spot
   twice_here a ns = repeated (result_names_of (block_numbered blocks a.block) ++ names_here a) ns
 
-  abbrev twice_in_decl : PDecl → Surroundings → List Spot
+  abbrev pub twice_in_decl : PDecl → Surroundings → List Spot
   twice_in_decl (tree.simple kind ns) a = twice_here a ns
   twice_in_decl (tree.files ns) a = twice_here a ns
   twice_in_decl (tree.events ns) a = twice_here a ns
@@ -101,7 +101,7 @@ module _ (blocks : List Block) where
   twice_in_decl (tree.procedure h s) a =
       (if is_announced_by a.block h (declared_as a h.name) then [] else twice_here a (h.name ∷ [])) ++ twice_in_heading h
 
-  abbrev twice_in_part : Part → Surroundings → List Spot
+  abbrev pub twice_in_part : Part → Surroundings → List Spot
   twice_in_part (site.declaration d later) a = twice_in_decl d a
   twice_in_part _ a = []
 
@@ -110,13 +110,13 @@ module _ (blocks : List Block) where
 
 -- ---- too many levels: of a block or a procedure, or of an actual with a cell, which is evaluated one level deeper than where it stands
 
-abbrev is_too_deep : ℕ → Bool
+abbrev pub is_too_deep : ℕ → Bool
 is_too_deep level = nat_lt MOST_LEVEL level
 
 abbrev pub deep_blocks : List Block → List Spot
 deep_blocks bs = flat_map (λ (b : Block). if_so (is_too_deep (level_of b)) b.spot) bs
 
-abbrev deep_part : Part → Surroundings → List Spot
+abbrev pub deep_part : Part → Surroundings → List Spot
 deep_part (site.actual e f) a = if_so (has_cell e f a && is_too_deep (level_at (a.depth + 1))) (first_spot e)
 deep_part _ a = []
 
@@ -125,12 +125,12 @@ deep_actuals x = deep_part x.part x.around
 
 -- ---- too many cells of a block, and too many procedures: the place of the first beyond the limit
 
-abbrev place_beyond : ℕ → List Spot → List Spot
-place_beyond most spots = found (slice_get spots most)
-  where
-    found : Option Spot → List Spot
-    found None = []
-    found (Some spot) = spot ∷ []
+abbrev pub found_place : Option Spot → List Spot
+found_place None = []
+found_place (Some spot) = spot ∷ []
+
+abbrev pub place_beyond : ℕ → List Spot → List Spot
+place_beyond most spots = found_place (slice_get spots most)
 
 abbrev pub cells_beyond : List Block → List Site → List Spot
 cells_beyond blocks ss =
@@ -152,12 +152,12 @@ pub record Segment : Type 0 where
   pub spot : Spot
   pub tokens : ℕ
 
-abbrev segments_of_part : Part → List Segment
+abbrev pub segments_of_part : Part → List Segment
 segments_of_part (site.declaration (tree.procedure h s) later) =
     record { spot = h.name.spot; tokens = heading_tokens h + stmt_tokens s } ∷ []
 segments_of_part _ = []
 
-abbrev program_segment : PProgram → Segment
+abbrev pub program_segment : PProgram → Segment
 program_segment (tree.program b) = record { spot = spot_of b; tokens = program_tokens (tree.program b) }
 
 -- the program's, then those of the procedures in the order of the text

@@ -39,17 +39,17 @@ left_uses (u ∷ us) = left_use u u.sort ∷ us
 
 -- ---- the names that a part of the tree uses itself
 
-abbrev names_in_expr : PExpr → List Named
+abbrev pub names_in_expr : PExpr → List Named
 names_in_expr (tree.variable (tree.subscripted n es)) = n ∷ []
 names_in_expr (tree.call (tree.called n es)) = n ∷ []
 names_in_expr (tree.happened e spot) = e.name ∷ []
 names_in_expr _ = []
 
-abbrev if_named : Option Named → List Named
+abbrev pub if_named : Option Named → List Named
 if_named None = []
 if_named (Some n) = n ∷ []
 
-abbrev names_in_stmt : PStmt → List Named
+abbrev pub names_in_stmt : PStmt → List Named
 names_in_stmt (tree.label n s) = n ∷ []
 names_in_stmt (tree.assign (tree.subscripted n es) e) = n ∷ []
 names_in_stmt (tree.call_of (tree.called n es)) = n ∷ []
@@ -68,11 +68,11 @@ names_in (site.bound e) = []
 names_in (site.statement s listed) = names_in_stmt s
 names_in (site.declaration d later) = []
 
-abbrev stmt_uses : PStmt → Surroundings → List Use
+abbrev pub stmt_uses : PStmt → Surroundings → List Use
 stmt_uses (tree.assign (tree.subscripted n es) e) a = left_uses (used a n)
 stmt_uses s a = flat_map (used a) (names_in_stmt s)
 
-abbrev part_uses : Part → Surroundings → List Use
+abbrev pub part_uses : Part → Surroundings → List Use
 part_uses (site.statement s listed) a = stmt_uses s a
 part_uses p a = flat_map (used a) (names_in p)
 

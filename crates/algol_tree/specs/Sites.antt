@@ -28,33 +28,33 @@ pub record Site : Type 0 where
   pub part : Part
   pub around : Surroundings
 
-abbrev here : PExpr → Surroundings → Site
+abbrev pub here : PExpr → Surroundings → Site
 here e a = record { part = expression e; around = a }
 
 -- ---- expressions
 
-abbrev first_formal : List Formal → Option Formal
+abbrev pub first_formal : List Formal → Option Formal
 first_formal [] = None
 first_formal (f ∷ fs) = Some f
 
-abbrev other_formals : List Formal → List Formal
+abbrev pub other_formals : List Formal → List Formal
 other_formals [] = []
 other_formals (f ∷ fs) = fs
 
-abbrev is_of_value : Class → Bool
+abbrev pub is_of_value : Class → Bool
 is_of_value (class.simple kind) = true
 is_of_value _ = false
 
 -- a value is wanted of an actual for a simple parameter
-abbrev wants_value : Option Formal → Bool
+abbrev pub wants_value : Option Formal → Bool
 wants_value None = false
 wants_value (Some f) = is_of_value f.class
 
-abbrev name_part : Named → Bool → Part
+abbrev pub name_part : Named → Bool → Part
 name_part n true = expression (tree.variable (tree.subscripted n tree.none))
 name_part n false = name n
 
-abbrev actual_part : PExpr → Option Formal → Part
+abbrev pub actual_part : PExpr → Option Formal → Part
 actual_part (tree.variable (tree.subscripted n tree.none)) f = name_part n (wants_value f)
 actual_part e f = expression e
 
@@ -90,7 +90,7 @@ sites_in_pairs (p ∷ ps) a = record { part = bound p.high; around = a } ∷ (si
 
 -- ---- statements and declarations
 
-abbrev here_stmt : PStmt → Bool → Surroundings → Site
+abbrev pub here_stmt : PStmt → Bool → Surroundings → Site
 here_stmt s listed a = record { part = statement s listed; around = a }
 
 abbrev pub has_decls : PDecls → Bool

@@ -45,7 +45,7 @@ body_of name tree.no_decls = None
 body_of name (tree.decls (tree.procedure h s) ds) = if same_name h.name.name name then Some h else body_of name ds
 body_of name (tree.decls _ ds) = body_of name ds
 
-abbrev heading_or : Heading → Option Heading → Heading
+abbrev pub heading_or : Heading → Option Heading → Heading
 heading_or h None = h
 heading_or h (Some g) = g
 
