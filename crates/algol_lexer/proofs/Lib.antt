@@ -10,3 +10,4 @@ mod LexOnly
 pub mod LexReach
 mod LexRecords
 mod LexTexts
+pub mod LexOrder

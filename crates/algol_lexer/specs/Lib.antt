@@ -3,3 +3,4 @@ pub mod Symbols
 pub mod Shown
 pub mod Records
 pub mod Outcome
+pub mod Order

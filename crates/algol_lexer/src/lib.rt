@@ -11,4 +11,11 @@ mod runs;
 mod symbols;
 mod words;
 
+ghost use Rattle.algol_lexer.specs.Order.{TokensAscend};
+
 pub use lexer::lex;
+
+/// Law: the tokens of a text stand in its order.
+pub fn tokens_ascend()
+    ensures { TokensAscend }
+{}

@@ -30,3 +30,6 @@ mod Specs
 mod Begun
 mod Folds
 mod Openings
+mod Public
+mod Picks
+pub mod InOrder

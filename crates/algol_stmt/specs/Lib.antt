@@ -4,3 +4,4 @@ pub mod Phrases
 pub mod ReadExactly
 pub mod Starts
 pub mod Openings
+pub mod InOrder

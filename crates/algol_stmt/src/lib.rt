@@ -8,12 +8,17 @@ mod line;
 mod make;
 mod names;
 mod opening;
+mod program;
 mod simple;
 mod start;
+mod statement;
 mod take;
 
+ghost use Rattle.algol_stmt.specs.InOrder.{ProgramsInOrder};
 ghost use Rattle.algol_stmt.specs.OneTree.{OneTree, OneTreeOfText};
 ghost use Rattle.algol_stmt.specs.ReadExactly.{ReadExactly};
+
+pub use program::read_program;
 
 /// Law: tokens read as one program at most.
 pub fn tokens_have_one_tree()
@@ -29,4 +34,9 @@ pub fn texts_have_one_tree()
 /// that breaks a limit, or as behind a program, where the grammar has it so.
 pub fn reading_is_exact()
     ensures { ReadExactly }
+{}
+
+/// Law: a program that is read from tokens in the order of their text is in that order too.
+pub fn programs_are_in_order()
+    ensures { ProgramsInOrder }
 {}

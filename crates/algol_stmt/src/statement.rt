@@ -1,0 +1,215 @@
+//! Statements, and declarations in which they stand.
+
+ghost use Rattle.std.specs.Prelude.{◌≡◌, [], ◌∷◌, IfOk, IfErr};
+ghost use Rattle.algol_tree.specs.Ended.{EndsOnce};
+ghost use Rattle.algol_tree.specs.Plain.{no_decls};
+ghost use Rattle.algol_tree.specs.Due as due;
+ghost use Rattle.algol_tree.specs.Due.{stmt, list, declared, one, statement, else_part};
+ghost use Rattle.algol_tree.specs.DueStmt.{decl_behind, procedure_in};
+ghost use Rattle.algol_tree.specs.Image as image;
+ghost use Rattle.algol_tree.specs.Image.{stmt as plain, stmts as stmts_of, decls as decls_of};
+ghost use Rattle.algol_tree.specs.Found.{Completes, Extends, Lists, Refuses};
+ghost use Rattle.algol_stmt.specs.Brings.{Brings, Adds, AddsNone};
+ghost use Rattle.algol_stmt.specs.Openings.{still_due, so_far, ComesTo};
+ghost use Rattle.algol_stmt.specs.Phrases.{statements_in};
+
+use crate::declaration::{lists_names, read_arrays, read_listed};
+use crate::heading::read_heading;
+use crate::make::{
+    block, choosing, forward, led, one_armed, procedure, repeating, simple, two_armed,
+};
+use crate::names::read_names;
+use crate::opening::{Beginning, Opening, read_beginning};
+use crate::simple::read_until;
+use crate::start::begins_body;
+use crate::take::{type_of, unexpected};
+use algol_expr::{expect_symbol, expect_word, first_of, is_symbol, is_word, opened};
+use algol_tree::{Decl, Expr, Kind, List, Refusal, Reserved, Stmt, Symbol, Token};
+use std::alloc::Global;
+
+/// A statement, or nothing, which is the empty one
+#[cycle(statements)]
+pub(crate) fn read_statement(
+    alloc: Global,
+    tokens: &[Token],
+    depth: u32,
+) -> Result<(Stmt, &[Token]), Refusal>
+    requires ended { EndsOnce tokens.now }
+    ensures found { IfOk result (λ r. Completes (due.statement depth) tokens.now (stmt (plain r.0)) r.1.now) }
+    ensures refused { IfErr result (λ e. Refuses (due.statement depth ∷ []) [] tokens.now e) }
+{
+    let (beginning, rest) = read_beginning(alloc, tokens, depth)?;
+    match beginning {
+        Beginning::Whole(statement) => Ok((statement, rest)),
+        Beginning::Open(opening, inner) => read_opened(alloc, opening, rest, inner),
+    }
+}
+
+/// What follows in a statement that is opened so, where `depth` levels are open
+#[cycle(statements)]
+fn read_opened(
+    alloc: Global,
+    opening: Opening,
+    tokens: &[Token],
+    depth: u32,
+) -> Result<(Stmt, &[Token]), Refusal>
+    requires ended { EndsOnce tokens.now }
+    ensures found { IfOk result (λ r. ComesTo (still_due opening depth) (so_far opening) tokens.now [] (stmt (plain r.0) ∷ []) r.1.now) }
+    ensures refused { IfErr result (λ e. Refuses (still_due opening depth) (so_far opening) tokens.now e) }
+{
+    match opening {
+        Opening::Led(lead) => {
+            let (statement, rest) = read_statement(alloc, tokens, depth)?;
+            Ok((led(alloc, lead, statement)?, rest))
+        }
+        Opening::Begin(spot) => {
+            let (decls, rest) = read_declarations(alloc, tokens, depth)?;
+            let (stmts, rest) = read_statements(alloc, rest, depth)?;
+            Ok((block(spot, decls, stmts), rest))
+        }
+        Opening::If(condition) => read_arms(alloc, condition, tokens, depth),
+        Opening::Do => {
+            let (body, rest) = read_statement(alloc, tokens, depth)?;
+            let (end, rest) = read_until(alloc, rest)?;
+            Ok((repeating(alloc, body, end)?, rest))
+        }
+        Opening::Case(choice) => {
+            let (cases, rest) = read_statements(alloc, tokens, depth)?;
+            Ok((choosing(choice, cases), rest))
+        }
+    }
+}
+
+/// statement [ ELSE statement ], behind IF, this condition and THEN
+#[cycle(statements)]
+fn read_arms(
+    alloc: Global,
+    condition: Expr,
+    tokens: &[Token],
+    depth: u32,
+) -> Result<(Stmt, &[Token]), Refusal>
+    requires ended { EndsOnce tokens.now }
+    ensures found { IfOk result (λ r. ComesTo (statement depth ∷ else_part depth ∷ []) (one (image.expr condition) ∷ []) tokens.now [] (stmt (plain r.0) ∷ []) r.1.now) }
+    ensures refused { IfErr result (λ e. Refuses (statement depth ∷ else_part depth ∷ []) (one (image.expr condition) ∷ []) tokens.now e) }
+{
+    let (yes, rest) = read_statement(alloc, tokens, depth)?;
+    let (next, after) = first_of(rest);
+    if is_word(next, Reserved::Else) {
+        let (otherwise, rest) = read_statement(alloc, after, depth)?;
+        Ok((two_armed(alloc, condition, yes, otherwise)?, rest))
+    } else {
+        Ok((one_armed(alloc, condition, yes)?, rest))
+    }
+}
+
+/// statement { ";" statement } END
+#[cycle(statements)]
+pub(crate) fn read_statements(
+    alloc: Global,
+    tokens: &[Token],
+    depth: u32,
+) -> Result<(List<Stmt>, &[Token]), Refusal>
+    requires ended { EndsOnce tokens.now }
+    ensures found { IfOk result (λ r. Brings (statements_in depth) tokens.now (list (stmts_of r.0)) r.1.now) }
+    ensures refused { IfErr result (λ e. Refuses (statements_in depth) [] tokens.now e) }
+{
+    let mut stmts = Vec::new(alloc);
+    let mut rest = tokens;
+    'statements: loop {
+        let (statement, after) = read_statement(alloc, rest, depth)?;
+        stmts.push(statement)?;
+        let (first, behind) = first_of(after);
+        if is_symbol(first, Symbol::Semicolon) {
+            rest = behind;
+        } else {
+            let rest = expect_word(after, Reserved::End)?;
+            return Ok((List::of(stmts), rest));
+        }
+    }
+}
+
+/// { declaration ";" }
+#[cycle(statements)]
+pub(crate) fn read_declarations(
+    alloc: Global,
+    tokens: &[Token],
+    depth: u32,
+) -> Result<(List<Decl>, &[Token]), Refusal>
+    requires ended { EndsOnce tokens.now }
+    ensures found { IfOk result (λ r. Extends (due.declarations depth) tokens.now (declared no_decls) (declared (decls_of r.0)) r.1.now) }
+    ensures refused { IfErr result (λ e. Refuses (due.declarations depth ∷ []) (declared no_decls ∷ []) tokens.now e) }
+{
+    let mut decls = Vec::new(alloc);
+    let mut rest = tokens;
+    'declarations: loop {
+        let (first, behind) = first_of(rest);
+        if is_word(first, Reserved::Procedure) {
+            let (procedure, after) = read_procedure(alloc, None, behind, depth)?;
+            decls.push(procedure)?;
+            rest = after;
+        } else if let Some(kind) = type_of(first) {
+            let typed = read_typed(alloc, kind, &mut decls, behind, depth)?;
+            rest = typed;
+        } else if lists_names(first) {
+            let listed = read_listed(alloc, &mut decls, first, behind)?;
+            rest = listed;
+        } else {
+            return Ok((List::of(decls), rest));
+        }
+    }
+}
+
+/// names ";" | ARRAY segment { "," segment } ";" | a procedure, behind a type
+#[cycle(statements)]
+fn read_typed<'a>(
+    alloc: Global,
+    kind: Kind,
+    decls: &mut Vec<Decl>,
+    tokens: &'a [Token],
+    depth: u32,
+) -> Result<&'a [Token], Refusal>
+    requires ended { EndsOnce tokens.now }
+    ensures found { IfOk result (λ rest. Lists (due.typed kind depth ∷ []) tokens.now (declared (decls_of decls.old.items)) (declared (decls_of decls.new.items)) rest.now) }
+    ensures refused { IfErr result (λ e. Refuses (due.typed kind depth ∷ []) (declared (decls_of decls.old.items) ∷ []) tokens.now e) }
+{
+    let (first, behind) = first_of(tokens);
+    if is_word(first, Reserved::Procedure) {
+        let (procedure, rest) = read_procedure(alloc, Some(kind), behind, depth)?;
+        decls.push(procedure)?;
+        Ok(rest)
+    } else if is_word(first, Reserved::Array) {
+        read_arrays(alloc, kind, decls, behind)
+    } else {
+        let (names, rest) = read_names(alloc, tokens)?;
+        let rest = expect_symbol(rest, Symbol::Semicolon)?;
+        decls.push(simple(kind, names))?;
+        Ok(rest)
+    }
+}
+
+/// A procedure behind its word: its heading, and ( FORWARD | statement ) ";"
+#[cycle(statements)]
+fn read_procedure(
+    alloc: Global,
+    kind: Option<Kind>,
+    tokens: &[Token],
+    depth: u32,
+) -> Result<(Decl, &[Token]), Refusal>
+    requires ended { EndsOnce tokens.now }
+    ensures found { IfOk result (λ r. Adds (procedure_in kind depth) declared tokens.now (λ ds. decl_behind ds (image.decl r.0)) r.1.now) }
+    ensures refused { IfErr result (λ e. AddsNone (procedure_in kind depth) declared tokens.now e) }
+{
+    let (heading, rest) = read_heading(alloc, kind, tokens)?;
+    let (first, behind) = first_of(rest);
+    if is_word(first, Reserved::Forward) {
+        let rest = expect_symbol(behind, Symbol::Semicolon)?;
+        Ok((forward(heading), rest))
+    } else if begins_body(first) {
+        let inner = opened(first, behind, depth)?;
+        let (statement, rest) = read_statement(alloc, rest, inner)?;
+        let rest = expect_symbol(rest, Symbol::Semicolon)?;
+        Ok((procedure(alloc, heading, statement)?, rest))
+    } else {
+        Err(unexpected(first))
+    }
+}
