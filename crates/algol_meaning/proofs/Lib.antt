@@ -9,3 +9,4 @@ pub mod Answering
 pub mod Declaring
 pub mod Labels
 pub mod Naming
+pub mod Tables

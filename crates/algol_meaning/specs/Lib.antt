@@ -18,6 +18,7 @@ pub mod Turns
 pub mod SeenTree
 pub mod SeenValue
 pub mod SeenStack
+pub mod Placed
 pub mod SeenScope
 pub mod SeenExpression
 pub mod SeenStatement

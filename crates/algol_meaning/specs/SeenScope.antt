@@ -36,6 +36,10 @@ sorted (Some s) = Some (sort s)
 abbrev pub used : Use → scoping.Use
 used u = record { spot = u.spot; block = u.block; up = u.up; sort = sort u.sort }
 
+abbrev pub used_or_none : Option Use → Option scoping.Use
+used_or_none None = None
+used_or_none (Some u) = Some (used u)
+
 abbrev pub parameter : Parameter → plain.Parameter
 parameter p = record { name = p.name.now; sort = sort p.sort }
 
@@ -70,4 +74,4 @@ block_or_none None = blocks.block_numbered [] 0
 block_or_none (Some b) = block b.now
 
 abbrev pub scoped : Scopes → scoping.Scopes
-scoped sc = record { blocks = map block sc.blocks.items; uses = map used sc.uses.items }
+scoped sc = record { blocks = map block sc.blocks.list.items; uses = map used sc.uses.list.items }

@@ -6,6 +6,7 @@ ghost use Rattle.algol_tree.specs.Scopes as scoping;
 ghost use Rattle.algol_meaning.specs.Settle as settling;
 ghost use Rattle.algol_meaning.specs.SeenScope.{sort, used, scoped, sorted, parameter, result_of, block_or_none};
 
+use crate::table::{Blocks, Uses};
 use algol_tree::{Decl, Kind, Line, List, Named, Spot, Stmt};
 
 /// What a name is declared as.
@@ -70,8 +71,8 @@ pub struct Block<'p> {
 /// The blocks of a tree in the order of the text, and the uses of names.
 #[derive(Drop)]
 pub struct Scopes<'p> {
-    pub blocks: Vec<Block<'p>>,
-    pub uses: Vec<Use<'p>>,
+    pub blocks: Blocks<'p>,
+    pub uses: Uses<'p>,
 }
 
 impl<'p> Scopes<'p> {
@@ -79,16 +80,14 @@ impl<'p> Scopes<'p> {
     pub fn use_of(&self, n: &Named) -> Use<'p>
         ensures { used result ≡ scoping.use_of (scoped self.now) n.now }
     {
-        'searching: for u in &self.uses {
-            if u.spot.column == n.spot.column && u.spot.line == n.spot.line {
-                return *u;
-            }
-        }
-        Use {
-            spot: n.spot,
-            block: 0,
-            up: 0,
-            sort: Sort::Variable,
+        match self.uses.first_at(n.spot) {
+            Some(found) => found,
+            None => Use {
+                spot: n.spot,
+                block: 0,
+                up: 0,
+                sort: Sort::Variable,
+            },
         }
     }
 

@@ -1,17 +1,15 @@
 //! CASE, and the entry of a block.
 
-ghost use Rattle.std.specs.Prelude.{◌≡◌, map};
-ghost use Rattle.algol_tree.specs.Blocks as numbering;
+ghost use Rattle.std.specs.Prelude.{◌≡◌};
 ghost use Rattle.algol_meaning.specs.Asks as asks;
 ghost use Rattle.algol_meaning.specs.Choice as choices;
 ghost use Rattle.algol_meaning.specs.SeenTree.{stmts, body};
-ghost use Rattle.algol_meaning.specs.SeenScope.{block};
 ghost use Rattle.algol_meaning.specs.SeenValue.{value};
 ghost use Rattle.algol_step.specs.Effects.{asked_choice, effect_choice};
 
 use crate::effect::Effect;
-use algol_meaning::{Answer, Block, Value, whole_of};
-use algol_tree::{Body, Spot, Stmt};
+use algol_meaning::{Answer, Value, whole_of};
+use algol_tree::{Body, Stmt};
 use algol_world::{Action, Part, World};
 use b67_num::FaultKind;
 
@@ -39,20 +37,6 @@ pub fn decide_select<'p>(
     }
 }
 
-/// The number of the block that stands there.
-fn number_at(blocks: &[Block<'_>], spot: Spot) -> usize
-    ensures { result ≡ numbering.number_at (map block blocks.now) spot }
-{
-    let mut number = 0;
-    'searching: for b in blocks {
-        if b.spot.column == spot.column && b.spot.line == spot.line {
-            return number;
-        }
-        number += 1;
-    }
-    number
-}
-
 /// The entry of a block.
 pub fn decide_enter_block<'p>(
     world: &World<'p>,
@@ -62,5 +46,5 @@ pub fn decide_enter_block<'p>(
 ) -> Effect<'p>
     ensures { asked_choice world.now process part.now (asks.enters_block (body b.now)) ≡ effect_choice world.now process part.now result }
 {
-    Effect::EntersBlock(number_at(world.scopes.blocks.as_slice(), b.spot))
+    Effect::EntersBlock(world.scopes.blocks.number_at(b.spot))
 }
