@@ -9,3 +9,5 @@ pub mod Storing
 pub mod Standing
 pub mod Running
 pub mod Again
+pub mod Bared
+pub mod Reading

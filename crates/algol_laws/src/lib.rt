@@ -5,6 +5,7 @@ ghost use Rattle.algol_laws.specs.Again.{EachRestIsQuiet};
 ghost use Rattle.algol_laws.specs.Heads.{EachPartActs};
 ghost use Rattle.algol_laws.specs.Quiet.{SilentStepsAreTabled};
 ghost use Rattle.algol_laws.specs.Kept.{EachActionKeeps, OnlyStoresStore, EachRunGrows};
+ghost use Rattle.algol_laws.specs.Reading.{EachActionReads};
 
 /// Law: an action leaves the world as it is but for what it names. Instances, processes, cells and lines only
 /// come to be; other processes keep their parts, their critical instances and their tasks, and those that are
@@ -17,6 +18,13 @@ pub fn each_action_keeps()
 /// r, p, l and X leaves every cell that is there as it is.
 pub fn only_stores_store()
     ensures { OnlyStoresStore }
+{}
+
+/// Law: what an action comes to depends on no cell but those that it reads, and on how many elements the arrays
+/// have that live. Where other cells hold something else, its letter, whom it releases and starts, and the world
+/// after it but for what cells hold are the same.
+pub fn each_action_reads()
+    ensures { EachActionReads }
 {}
 
 /// Law: along a run nothing that was there is lost. An instance keeps its block, its parent and its stack, and
