@@ -1,0 +1,5 @@
+pub mod Straight
+pub mod Built
+pub mod Shape
+pub mod Resolver
+pub mod Steps
