@@ -1,5 +1,0 @@
-use Rattle.algol_check.proofs.Statements.{event_notes}
-use Rattle.algol_check.proofs.statement.event.Goals as goal
-
-pub returns : goal.returns
-returns c = λ act listed. event_notes c.args.known.now act c.args.e.now listed c.args.faults.now.first c.want_event.new.faults.first c.want_event.ensures

@@ -1,0 +1,176 @@
+-- Expressions in lists, and actuals with their parameters, as the walk notes them.
+use Rattle.std.proofs.Common.{◌≡◌, ℕ, ◌+◌, ◌<◌, ◌≤◌, Bool, true, false, List, [], ◌∷◌, map, length, drop, get_or, Option, Some, None, refl, ap, sym, ◌∙◌, arith, drop-cons, zero, suc}
+use Rattle.std.specs.Prelude.{if◌then◌else◌, slice_get}
+use Rattle.algol_tree.specs.declared.refusal.Fault.{Fault}
+use Rattle.algol_tree.specs.declared.tree.Named.{Named}
+use Rattle.algol_tree.specs.declared.tree.Expr.{Expr}
+use Rattle.algol_tree.specs.Plain as tree
+use Rattle.algol_tree.specs.Plain.{PExpr, PExprs}
+use Rattle.algol_tree.specs.Image.{expr, exprs}
+use Rattle.algol_tree.specs.Classes as rules'
+use Rattle.algol_tree.specs.Surroundings.{Surroundings}
+use Rattle.algol_tree.specs.Sites as site
+use Rattle.algol_tree.specs.Sites.{Part, sites, inside_expr, inside_list, inside_actuals}
+use Rattle.algol_sites.specs.declared.class.Formal.{Formal}
+use Rattle.algol_sites.specs.declared.class.Formal.TheVariants as formal
+use Rattle.algol_sites.specs.Seen.{classes_of, formal_seen, formal_as, formal_for}
+use Rattle.algol_sites.specs.Noting.{noted_at, noted_in}
+use Rattle.algol_sites.specs.Expressing.{is_alone, noted_actual}
+use Rattle.algol_sites.proofs.Notes.{noted_along-append}
+
+split : {A : Type 0} (xs : List A) (i : ℕ) (x : A) → i < length xs → x ≡ get_or xs i x → drop i xs ≡ x ∷ drop (i + 1) xs
+split xs i x h e =
+    let next : suc i ≡ i + 1 = omega arith in
+    drop-cons xs i x h ∙ ap (λ y. y ∷ drop (suc i) xs) (sym e) ∙ ap (λ n. x ∷ drop n xs) next
+
+-- one more expression of a list
+pub list_step : (es : List Expr) (i : ℕ) (e : Expr) (a : Surroundings) (f g : Option Fault) → i < length es → e ≡ get_or es i e →
+    g ≡ noted_in f (sites (expr e) a) → noted_in g (inside_list (exprs (drop (i + 1) es)) a) ≡ noted_in f (inside_list (exprs (drop i es)) a)
+list_step es i e a f g h p q =
+    ap (λ o. noted_in o (inside_list (exprs (drop (i + 1) es)) a)) q
+    ∙ sym (noted_along-append [] f (sites (expr e) a) (inside_list (exprs (drop (i + 1) es)) a))
+    ∙ sym (ap (λ xs. noted_in f (inside_list (exprs xs) a)) (split es i e h p))
+
+-- ---- whether a parameter is by value makes no difference
+
+abbrev is_of_value : rules'.Class → Bool
+is_of_value (rules'.simple kind) = true
+is_of_value _ = false
+
+abbrev wants_value : Option rules'.Formal → Bool
+wants_value None = false
+wants_value (Some f) = is_of_value f.class
+
+abbrev name_part : Named → Bool → Part
+name_part n true = site.expression (tree.variable (tree.subscripted n tree.none))
+name_part n false = site.name n
+
+abbrev part_for : PExpr → Option rules'.Formal → Part
+part_for (tree.variable (tree.subscripted n tree.none)) f = name_part n (wants_value f)
+part_for e f = site.expression e
+
+abbrev after : Option Fault → PExpr → Option rules'.Formal → Surroundings → Option Fault
+after h e f a =
+    noted_at [] (noted_at [] h (record { part = site.actual e f; around = a })) (record { part = part_for e f; around = a })
+
+abbrev of_class : rules'.Class → Option rules'.Formal
+of_class c = Some (record { class = c; by_value = false })
+
+part_alike : (e : PExpr) (f : rules'.Formal) → part_for e (Some f) ≡ part_for e (of_class f.class)
+part_alike (tree.number z spot) f = refl
+part_alike (tree.truth z spot) f = refl
+part_alike (tree.variable (tree.subscripted n tree.none)) f = refl
+part_alike (tree.variable (tree.subscripted n (tree.more e es))) f = refl
+part_alike (tree.call c) f = refl
+part_alike (tree.happened e spot) f = refl
+part_alike (tree.paren e spot) f = refl
+part_alike (tree.plus e spot) f = refl
+part_alike (tree.neg e spot) f = refl
+part_alike (tree.not e spot) f = refl
+part_alike (tree.two op x y) f = refl
+part_alike (tree.if c x y spot) f = refl
+
+after_alike : (h : Option Fault) (e : PExpr) (f : rules'.Formal) (a : Surroundings) → after h e (Some f) a ≡ after h e (of_class f.class) a
+after_alike h e f a =
+    ap (λ p. noted_at [] (noted_at [] h (record { part = site.actual e (of_class f.class); around = a })) (record { part = p; around = a })) (part_alike e f)
+
+pub alike : (es : PExprs) (fs gs : List rules'.Formal) (a : Surroundings) (h : Option Fault) → classes_of fs ≡ classes_of gs →
+    noted_in h (inside_actuals es fs a) ≡ noted_in h (inside_actuals es gs a)
+alike tree.none fs gs a h p = refl
+alike (tree.more e es) [] [] a h p = refl
+alike (tree.more e es) [] (g ∷ gs) a h p = cc
+alike (tree.more e es) (f ∷ fs) [] a h p = cc
+alike (tree.more e es) (f ∷ fs) (g ∷ gs) a h p =
+    let head : f.class ≡ g.class = cc in
+    let tail : classes_of fs ≡ classes_of gs = cc in
+    noted_along-append [] (after h e (Some f) a) (inside_expr e a) (inside_actuals es fs a)
+    ∙ alike es fs gs a (noted_in (after h e (Some f) a) (inside_expr e a)) tail
+    ∙ ap (λ o. noted_in (noted_in o (inside_expr e a)) (inside_actuals es gs a))
+    (after_alike h e f a ∙ ap (λ c. after h e (of_class c) a) head ∙ sym (after_alike h e g a))
+    ∙ sym (noted_along-append [] (after h e (Some g) a) (inside_expr e a) (inside_actuals es gs a))
+
+-- ---- one more actual
+
+abbrev first_of : List rules'.Formal → Option rules'.Formal
+first_of [] = None
+first_of (f ∷ fs) = Some f
+
+abbrev others_of : List rules'.Formal → List rules'.Formal
+others_of [] = []
+others_of (f ∷ fs) = fs
+
+first_at : (gs : List Formal) (i : ℕ) → first_of (drop i (map formal_as gs)) ≡ formal_for (slice_get gs i)
+first_at [] zero = refl
+first_at [] (suc i) = refl
+first_at (g ∷ gs) zero = refl
+first_at (g ∷ gs) (suc i) = first_at gs i
+
+others_at : (fs : List rules'.Formal) (i : ℕ) → others_of (drop i fs) ≡ drop (suc i) fs
+others_at [] zero = refl
+others_at [] (suc i) = refl
+others_at (f ∷ fs) zero = refl
+others_at (f ∷ fs) (suc i) = others_at fs i
+
+part_noted : (e : PExpr) (o : Option Formal) (h : Option Fault) (a : Surroundings) →
+    noted_in (noted_at [] h (record { part = part_for e (formal_for o); around = a })) (inside_expr e a) ≡
+    (if is_alone e o then h else noted_in h (sites e a))
+part_noted (tree.number z spot) o h a = refl
+part_noted (tree.truth z spot) o h a = refl
+part_noted (tree.variable (tree.subscripted n tree.none)) None h a = refl
+part_noted (tree.variable (tree.subscripted n tree.none)) (Some (formal.Simple k)) h a = refl
+part_noted (tree.variable (tree.subscripted n tree.none)) (Some (formal.Array k c)) h a = refl
+part_noted (tree.variable (tree.subscripted n tree.none)) (Some formal.Event) h a = refl
+part_noted (tree.variable (tree.subscripted n tree.none)) (Some formal.Unspecified) h a = refl
+part_noted (tree.variable (tree.subscripted n (tree.more e es))) o h a = refl
+part_noted (tree.call c) o h a = refl
+part_noted (tree.happened e spot) o h a = refl
+part_noted (tree.paren e spot) o h a = refl
+part_noted (tree.plus e spot) o h a = refl
+part_noted (tree.neg e spot) o h a = refl
+part_noted (tree.not e spot) o h a = refl
+part_noted (tree.two op x y) o h a = refl
+part_noted (tree.if c x y spot) o h a = refl
+
+one_more : (e : PExpr) (es : PExprs) (fs : List rules'.Formal) (o : Option Formal) (h : Option Fault) (a : Surroundings) → first_of fs ≡ formal_for o →
+    noted_in h (inside_actuals (tree.more e es) fs a) ≡
+    noted_in (if is_alone e o then noted_actual h e o a else noted_in (noted_actual h e o a) (sites e a)) (inside_actuals es (others_of fs) a)
+one_more e es fs o h a p =
+    noted_along-append [] (after h e (first_of fs) a) (inside_expr e a) (inside_actuals es (others_of fs) a)
+    ∙ ap (λ f. noted_in (noted_in (after h e f a) (inside_expr e a)) (inside_actuals es (others_of fs) a)) p
+    ∙ ap (λ f. noted_in f (inside_actuals es (others_of fs) a)) (part_noted e o (noted_actual h e o a) a)
+
+pub actual_step : (es : List Expr) (i : ℕ) (e : Expr) (gs : List Formal) (o : Option Formal) (a : Surroundings) (f g : Option Fault) →
+    i < length es → e ≡ get_or es i e → o ≡ slice_get gs i →
+    g ≡ (if is_alone (expr e) o then noted_actual f (expr e) o a else noted_in (noted_actual f (expr e) o a) (sites (expr e) a)) →
+    noted_in g (inside_actuals (exprs (drop (i + 1) es)) (drop (i + 1) (map formal_as gs)) a) ≡
+    noted_in f (inside_actuals (exprs (drop i es)) (drop i (map formal_as gs)) a)
+actual_step es i e gs o a f g h p q r =
+    let next : suc i ≡ i + 1 = omega arith in
+    ap (λ x. noted_in x (inside_actuals (exprs (drop (i + 1) es)) (drop (i + 1) (map formal_as gs)) a)) r
+    ∙ ap (λ fs. noted_in (if is_alone (expr e) o then noted_actual f (expr e) o a else noted_in (noted_actual f (expr e) o a) (sites (expr e) a))
+    (inside_actuals (exprs (drop (i + 1) es)) fs a)) (sym (others_at (map formal_as gs) i ∙ ap (λ n. drop n (map formal_as gs)) next))
+    ∙ sym (one_more (expr e) (exprs (drop (i + 1) es)) (drop i (map formal_as gs)) o f a (first_at gs i ∙ ap formal_for (sym q)))
+    ∙ sym (ap (λ xs. noted_in f (inside_actuals (exprs xs) (drop i (map formal_as gs)) a)) (split es i e h p))
+
+-- the two ways on
+pub valued : (b : Bool) (h v : Option Fault) → b ≡ false → v ≡ (if b then h else v)
+valued b h v p = ap (λ c. if c then h else v) (sym p)
+
+pub alone : (b : Bool) (h v : Option Fault) → b ≡ true → h ≡ (if b then h else v)
+alone b h v p = ap (λ c. if c then h else v) (sym p)
+
+pub as_classes : (gs : List Formal) → classes_of (map formal_as gs) ≡ map formal_seen gs
+as_classes [] = refl
+as_classes (g ∷ gs) = ap (λ cs. formal_seen g ∷ cs) (as_classes gs)
+
+-- ---- after the last
+
+dropped : {A : Type 0} (xs : List A) (i : ℕ) → length xs ≤ i → drop i xs ≡ []
+dropped [] zero h = refl
+dropped [] (suc i) h = refl
+dropped (x ∷ xs) zero h = absurd (omega arith)
+dropped (x ∷ xs) (suc i) h = dropped xs i (omega arith)
+
+pub none_left : (es : List Expr) (i : ℕ) (fs : List rules'.Formal) (a : Surroundings) (f : Option Fault) → length es ≤ i →
+    f ≡ noted_in f (inside_actuals (exprs (drop i es)) fs a)
+none_left es i fs a f h = sym (ap (λ xs. noted_in f (inside_actuals (exprs xs) fs a)) (dropped es i h))
