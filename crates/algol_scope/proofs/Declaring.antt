@@ -37,12 +37,13 @@ named : (d : Declared) (name q : List ℕ) → d.name ≡ name → same_name d.n
 named d name q h = ap (λ z. same_name z q) h ∙ same name q
 
 pub declares : (k : Around) (m : Names) (name : List ℕ) (entry : Entry) → Puts k.innermost.declared m.declared name entry →
-    m.parameters ≡ k.innermost.parameters → Declares k (record k { innermost = m }) name entry
-declares k m name entry p parameters =
+    m.parameters ≡ k.innermost.parameters → m.block ≡ k.innermost.block → Declares k (record k { innermost = m }) name entry
+declares k m name entry p parameters block =
     record {
       sees =
           λ a d s n e.
           record {
+            block = block ∙ s.block;
             depth = s.depth;
             names =
                 λ q.
@@ -82,12 +83,13 @@ still-bare : (old new : Table) → new ≡ old → IsBare old → IsBare new
 still-bare old new h b = λ q. ap (λ z. entry_in z q) h ∙ b q
 
 pub introduces : (k : Around) (m : Names) (name : List ℕ) (entry : Entry) → Puts k.innermost.parameters m.parameters name entry →
-    m.declared ≡ k.innermost.declared → Introduces k (record k { innermost = m }) name entry
-introduces k m name entry p same_declared =
+    m.declared ≡ k.innermost.declared → m.block ≡ k.innermost.block → Introduces k (record k { innermost = m }) name entry
+introduces k m name entry p same_declared block =
     record {
       sees =
           λ sees a d b s n e.
           record {
+            block = block ∙ s.block;
             depth = s.depth;
             names =
                 λ q.

@@ -3,3 +3,17 @@ pub mod Plain
 pub mod Walking
 pub mod Declaring
 pub mod Formals
+pub mod Visiting
+pub mod Bodies
+pub mod Opening
+pub mod Statements
+pub mod Making
+pub mod Procedures
+pub mod Headings
+pub mod FirstFault
+pub mod Numbering
+pub mod Names
+pub mod Faults
+pub mod Looking
+pub mod Found
+pub mod Processes

@@ -1,11 +1,9 @@
 -- What the walk finds at parts one after another.
-use Rattle.std.proofs.Common.{◌≡◌, ℕ, ◌+◌, ◌<◌, ◌≤◌, Bool, List, [], ◌∷◌, ◌++◌, map, filter, length, drop, get_or, Option, Some, None, refl, ap, sym, ◌∙◌, append_assoc, append-nil, drop-cons, subst, add-one, zero, suc, slice_get, Result, Ok, Err, OnOk}
+use Rattle.std.proofs.Common.{◌≡◌, ℕ, ◌+◌, ◌<◌, ◌≤◌, Bool, List, [], ◌∷◌, ◌++◌, map, length, drop, get_or, Option, Some, None, refl, ap, sym, ◌∙◌, append_assoc, append-nil, drop-cons, subst, add-one, zero, suc, slice_get, Result, Ok, Err, OnOk, IfOk}
 use Rattle.std.proofs.lemmas.Option.{slice_get_past, slice_get-get_or}
 use Rattle.std.proofs.lemmas.Grind.{flat_map-append}
 use Rattle.std.proofs.lemmas.List.{map-append}
-use Rattle.std.proofs.lemmas.List.Elements.{filter-append}
 use Rattle.std.specs.List.{flat_map}
-use Rattle.std.specs.Bool.{◌==◌}
 use Rattle.std.specs.Borrow.{Bor}
 use Rattle.std.specs.Option.{option_copied, MatchOption, IfSome}
 use Rattle.algol_tree.specs.declared.refusal.Fault.{Fault}
@@ -25,85 +23,90 @@ use Rattle.algol_tree.specs.Surroundings.{Surroundings, formals_at}
 use Rattle.algol_tree.specs.Sites as site
 use Rattle.algol_tree.specs.Sites.{Site, sites, inside_list, inside_actuals, sites_in_pairs}
 use Rattle.algol_tree.specs.Cells as cells
-use Rattle.algol_tree.specs.Cells.{cells_of, cells_at}
+use Rattle.algol_tree.specs.Cells.{cells_at}
+use Rattle.algol_tree.specs.Couples.{Known, known_at}
 use Rattle.algol_tree.specs.Accepted.{noted_all}
 use Rattle.algol_rules.proofs.Order.{noted_all-append}
 use Rattle.algol_scope.specs.declared.known.Seen.{Seen}
+use Rattle.algol_scope.specs.declared.known.Seen.TheVariants as seens
 use Rattle.algol_scope.specs.declared.formal.Mode.{Mode}
 use Rattle.algol_scope.specs.declared.around.Around.{Around}
-use Rattle.algol_scope.specs.declared.findings.Cell.{Cell}
 use Rattle.algol_scope.specs.declared.findings.Findings.{Findings}
 use Rattle.algol_scope.specs.Seeing.{Sees, mode_of, mode_given}
-use Rattle.algol_scope.specs.Noting.{Finds, Walks, Passes, at_name, faults_at, cell_of}
+use Rattle.algol_scope.specs.Noting.{Adds, Finds, Walks, Passes, at_name, faults_at, cell_of, task_parts, use_of}
 
 -- ---- parts one after another
 
-cells-append : (blocks : List Block) (block : ℕ) (xs ys : List Site) → cells_of blocks (xs ++ ys) block ≡ cells_of blocks xs block ++ cells_of blocks ys block
-cells-append blocks block xs ys = simp (flat_map-append, filter-append)
+noted_append : (first now : Option Fault) (fs gs : List Fault) → now ≡ noted_all first fs → noted_all now gs ≡ noted_all first (fs ++ gs)
+noted_append first now fs gs h = ap (λ z. noted_all z gs) h ∙ sym (noted_all-append first fs gs)
 
-abbrev found : List Block → ℕ → List Site → List Cell
-found blocks block xs = map cell_of (cells_of blocks xs block)
+pub added : {A B : Type 0} (f : A → B) (old mid new : List B) (xs ys : List A) → mid ≡ old ++ map f xs → new ≡ mid ++ map f ys → new ≡ old ++ map f (xs ++ ys)
+added f old mid new xs ys h k =
+    k ∙ ap (λ z. z ++ map f ys) h ∙ append_assoc old (map f xs) (map f ys) ∙ ap (λ z. old ++ z) (sym (map-append f xs ys))
 
-found-append : (blocks : List Block) (block : ℕ) (xs ys : List Site) → found blocks block (xs ++ ys) ≡ found blocks block xs ++ found blocks block ys
-found-append blocks block xs ys =
-    ap (map cell_of) (cells-append blocks block xs ys) ∙ map-append cell_of (cells_of blocks xs block) (cells_of blocks ys block)
-
-faults-append : (blocks : List Block) (first : Option Fault) (xs ys : List Site) →
-    noted_all first (flat_map (faults_at blocks) (xs ++ ys)) ≡ noted_all (noted_all first (flat_map (faults_at blocks) xs)) (flat_map (faults_at blocks) ys)
-faults-append blocks first xs ys =
-    ap (λ z. noted_all first z) (flat_map-append (faults_at blocks) xs ys)
-    ∙ noted_all-append first (flat_map (faults_at blocks) xs) (flat_map (faults_at blocks) ys)
-
-pub finds-then : (blocks : List Block) (block : ℕ) (old mid new : Findings) (xs ys : List Site) →
-    Finds blocks block old xs mid → Finds blocks block mid ys new → Finds blocks block old (xs ++ ys) new
-finds-then blocks block old mid new xs ys f g =
+pub adds-then : (old mid new : Findings) (fs gs : List Fault) (cs ds : List cells.Cell) (us vs : List Known) → Adds old fs cs us mid → Adds mid gs ds vs new →
+    Adds old (fs ++ gs) (cs ++ ds) (us ++ vs) new
+adds-then old mid new fs gs cs ds us vs a b =
     record {
-      faults =
-          g.faults ∙ ap (λ z. noted_all z (flat_map (faults_at blocks) ys)) f.faults ∙ sym (faults-append blocks old.faults.first xs ys);
-      cells =
-          g.cells ∙ ap (λ z. z ++ found blocks block ys) f.cells
-          ∙ append_assoc old.cells.items (found blocks block xs) (found blocks block ys)
-          ∙ ap (λ z. old.cells.items ++ z) (sym (found-append blocks block xs ys));
+      faults = b.faults ∙ noted_append old.faults.first mid.faults.first fs gs a.faults;
+      cells = added cell_of old.cells.items mid.cells.items new.cells.items cs ds a.cells b.cells;
+      uses = added use_of old.uses.items mid.uses.items new.uses.items us vs a.uses b.uses;
     }
+
+pub adds-as : (old new : Findings) (fs gs : List Fault) (cs ds : List cells.Cell) (us vs : List Known) → fs ≡ gs → cs ≡ ds → us ≡ vs → Adds old fs cs us new →
+    Adds old gs ds vs new
+adds-as old new fs gs cs ds us vs f c u a =
+    record {
+      faults = a.faults ∙ ap (λ z. noted_all old.faults.first z) f;
+      cells = a.cells ∙ ap (λ z. old.cells.items ++ map cell_of z) c;
+      uses = a.uses ∙ ap (λ z. old.uses.items ++ map use_of z) u;
+    }
+
+pub adds-none : (old : Findings) → Adds old [] [] [] old
+adds-none old = record { faults = refl; cells = sym (append-nil old.cells.items); uses = sym (append-nil old.uses.items) }
+
+pub finds-then : (blocks : List Block) (old mid new : Findings) (xs ys : List Site) → Finds blocks old xs mid → Finds blocks mid ys new → Finds blocks old (xs ++ ys) new
+finds-then blocks old mid new xs ys f g =
+    adds-as old new (flat_map (faults_at blocks) xs ++ flat_map (faults_at blocks) ys) (flat_map (faults_at blocks) (xs ++ ys))
+    (flat_map (cells_at blocks) xs ++ flat_map (cells_at blocks) ys) (flat_map (cells_at blocks) (xs ++ ys))
+    (flat_map (known_at blocks) xs ++ flat_map (known_at blocks) ys) (flat_map (known_at blocks) (xs ++ ys))
+    (sym (flat_map-append (faults_at blocks) xs ys)) (sym (flat_map-append (cells_at blocks) xs ys)) (sym (flat_map-append (known_at blocks) xs ys))
+    (adds-then old mid new (flat_map (faults_at blocks) xs) (flat_map (faults_at blocks) ys) (flat_map (cells_at blocks) xs) (flat_map (cells_at blocks) ys)
+    (flat_map (known_at blocks) xs) (flat_map (known_at blocks) ys) f g)
+
+pub again : (blocks : List Block) (old new : Findings) (xs ys : List Site) → flat_map (faults_at blocks) xs ≡ flat_map (faults_at blocks) ys →
+    flat_map (cells_at blocks) xs ≡ flat_map (cells_at blocks) ys → flat_map (known_at blocks) xs ≡ flat_map (known_at blocks) ys → Finds blocks old xs new →
+    Finds blocks old ys new
+again blocks old new xs ys f c u h =
+    adds-as old new (flat_map (faults_at blocks) xs) (flat_map (faults_at blocks) ys) (flat_map (cells_at blocks) xs) (flat_map (cells_at blocks) ys)
+    (flat_map (known_at blocks) xs) (flat_map (known_at blocks) ys) f c u h
 
 pub walks-then : (k : Around) (seen : Seen) (old mid new : Findings) (f g : Surroundings → List Site) →
     Walks k seen old mid f → Walks k seen mid new g → Walks k seen old new (λ a. f a ++ g a)
 walks-then k seen old mid new f g v w =
-    record { finds = λ blocks a s. finds-then blocks a.block old mid new (f a) (g a) (v.finds blocks a s) (w.finds blocks a s) }
+    record { finds = λ blocks a s. finds-then blocks old mid new (f a) (g a) (v.finds blocks a s) (w.finds blocks a s) }
 
--- ---- a walk that has come so far: what it found and what there is at the rest make what there is at all parts
+-- ---- a walk that has come so far: with what there is at the rest it finds what there is at all parts
 
-pub record Leads (blocks : List Block) (block : ℕ) (old : Findings) (all : List Site) (now : Findings) (rest : List Site) : Type 0 where
-  pub faults : noted_all now.faults.first (flat_map (faults_at blocks) rest) ≡ noted_all old.faults.first (flat_map (faults_at blocks) all)
-  pub cells : now.cells.items ++ found blocks block rest ≡ old.cells.items ++ found blocks block all
+abbrev pub Leads : List Block → Findings → List Site → Findings → List Site → Type 0
+Leads blocks old all now rest = (new : Findings) → Finds blocks now rest new → Finds blocks old all new
 
-pub leads-all : (blocks : List Block) (block : ℕ) (old : Findings) (all : List Site) → Leads blocks block old all old all
-leads-all blocks block old all = record { faults = refl; cells = refl }
+pub leads-step : (blocks : List Block) (old now new : Findings) (all xs ys : List Site) → Leads blocks old all now (xs ++ ys) → Finds blocks now xs new →
+    Leads blocks old all new ys
+leads-step blocks old now new all xs ys l f = λ last g. l last (finds-then blocks now new last xs ys f g)
 
-pub leads-step : (blocks : List Block) (block : ℕ) (old now new : Findings) (all xs ys : List Site) →
-    Leads blocks block old all now (xs ++ ys) → Finds blocks block now xs new → Leads blocks block old all new ys
-leads-step blocks block old now new all xs ys l f =
-    record {
-      faults =
-          ap (λ z. noted_all z (flat_map (faults_at blocks) ys)) f.faults ∙ sym (faults-append blocks now.faults.first xs ys) ∙ l.faults;
-      cells =
-          ap (λ z. z ++ found blocks block ys) f.cells ∙ append_assoc now.cells.items (found blocks block xs) (found blocks block ys)
-          ∙ ap (λ z. now.cells.items ++ z) (sym (found-append blocks block xs ys)) ∙ l.cells;
-    }
-
-pub leads-end : (blocks : List Block) (block : ℕ) (old now : Findings) (all : List Site) →
-    Leads blocks block old all now [] → Finds blocks block old all now
-leads-end blocks block old now all l = record { faults = l.faults; cells = sym (append-nil now.cells.items) ∙ l.cells }
+pub leads-end : (blocks : List Block) (old now : Findings) (all : List Site) → Leads blocks old all now [] → Finds blocks old all now
+leads-end blocks old now all l = l now (adds-none now)
 
 -- ---- a list of expressions
 
 pub record Follows (k : Around) (seen : Seen) (old now : Findings) (all rest : Surroundings → List Site) : Type 0 where
-  pub leads : (blocks : List Block) (a : Surroundings) → Sees k seen a → Leads blocks a.block old (all a) now (rest a)
+  pub leads : (blocks : List Block) (a : Surroundings) → Sees k seen a → Leads blocks old (all a) now (rest a)
 
 follows-step : (k : Around) (seen : Seen) (old now new : Findings) (all f g : Surroundings → List Site) →
     Follows k seen old now all (λ a. f a ++ g a) → Walks k seen now new f → Follows k seen old new all g
 follows-step k seen old now new all f g l w =
-    record { leads = λ blocks a s. leads-step blocks a.block old now new (all a) (f a) (g a) (l.leads blocks a s) (w.finds blocks a s) }
+    record { leads = λ blocks a s. leads-step blocks old now new (all a) (f a) (g a) (l.leads blocks a s) (w.finds blocks a s) }
 
 pub follows-item : (k : Around) (seen : Seen) (old now new : Findings) (all : Surroundings → List Site) (es : List Expr) (i : ℕ) (e : Expr) → i < length es →
     e ≡ get_or es i e → Follows k seen old now all (inside_list (exprs (drop i es))) → Walks k seen now new (sites (expr e)) →
@@ -114,10 +117,30 @@ follows-item k seen old now new all es i e h same l w =
     (let at : drop i es ≡ e ∷ drop (suc i) es = drop-cons es i e h ∙ ap (λ z. z ∷ drop (suc i) es) (sym same) in
     let P : List Expr → Type 0 = λ z. Follows k seen old now all (inside_list (exprs z)) in
     let moved : P (e ∷ drop (suc i) es) = subst P at l in
-    record { leads = λ blocks a s. let m = moved.leads blocks a s in record { faults = m.faults; cells = m.cells } })
+    record { leads = λ blocks a s. moved.leads blocks a s })
     w)
 
+pub follows-end : (k : Around) (seen : Seen) (old now : Findings) (all : Surroundings → List Site) (es : List Expr) → es ≡ [] →
+    Follows k seen old now all (inside_list (exprs es)) → Walks k seen old now all
+follows-end k seen old now all es h l =
+    record {
+      finds =
+          λ blocks a s.
+          let P : List Expr → Type 0 = λ z. Leads blocks old (all a) now (inside_list (exprs z) a) in
+          leads-end blocks old now (all a) (subst P h (l.leads blocks a s));
+    }
+
 -- ---- the bounds of an array
+
+pub bounds-end : (k : Around) (seen : Seen) (old now : Findings) (all : Surroundings → List Site) (ps : List Pair) → ps ≡ [] →
+    Follows k seen old now all (sites_in_pairs (pairs ps)) → Walks k seen old now all
+bounds-end k seen old now all ps h l =
+    record {
+      finds =
+          λ blocks a s.
+          let P : List Pair → Type 0 = λ z. Leads blocks old (all a) now (sites_in_pairs (pairs z) a) in
+          leads-end blocks old now (all a) (subst P h (l.leads blocks a s));
+    }
 
 pub follows-bound : (k : Around) (seen : Seen) (old now new : Findings) (all : Surroundings → List Site) (ps : List Pair) (i : ℕ) (p : Pair) → i < length ps →
     p ≡ get_or ps i p → Follows k seen old now all (sites_in_pairs (pairs (drop i ps))) → Walks k seen now new (sites (expr p.high)) →
@@ -128,7 +151,7 @@ follows-bound k seen old now new all ps i p h same l w =
     (let at : drop i ps ≡ p ∷ drop (suc i) ps = drop-cons ps i p h ∙ ap (λ z. z ∷ drop (suc i) ps) (sym same) in
     let P : List Pair → Type 0 = λ z. Follows k seen old now all (sites_in_pairs (pairs z)) in
     let moved : P (p ∷ drop (suc i) ps) = subst P at l in
-    record { leads = λ blocks a s. let m = moved.leads blocks a s in record { faults = m.faults; cells = m.cells } })
+    record { leads = λ blocks a s. moved.leads blocks a s })
     w)
 
 -- ---- actuals, with the parameters that are left
@@ -184,6 +207,13 @@ bare-cells : (blocks : List Block) (n : Named) (es : PExprs) (c : Class) (v : Bo
 bare-cells blocks n es (classes.simple kind) v fs a = refl
 bare-cells blocks n es _ v fs a = refl
 
+bare-known : (blocks : List Block) (n : Named) (es : PExprs) (c : Class) (v : Bool) (fs : List Formal) (a : Surroundings) →
+    let f : Formal = record { class = c; by_value = v } in
+    flat_map (known_at blocks) (inside_actuals (tree.more (tree.variable (tree.subscripted n tree.none)) es) (f ∷ fs) a)
+    ≡ flat_map (known_at blocks) (one_by_one (tree.variable (tree.subscripted n tree.none)) es (f ∷ fs) a)
+bare-known blocks n es (classes.simple kind) v fs a = refl
+bare-known blocks n es _ v fs a = refl
+
 actual-faults : (blocks : List Block) (e : PExpr) (es : PExprs) (fs : List Formal) (a : Surroundings) →
     flat_map (faults_at blocks) (inside_actuals (tree.more e es) fs a) ≡ flat_map (faults_at blocks) (one_by_one e es fs a)
 actual-faults blocks (tree.variable (tree.subscripted n tree.none)) es [] a = refl
@@ -210,21 +240,27 @@ get-within xs i (Some x) P m = m.0
 
 pub record Passing (k : Around) (seen : Seen) (old now : Findings) (modes : List Mode) (es : PExprs) (i : ℕ) (rest : PExprs) : Type 0 where
   pub leads : (blocks : List Block) (a : Surroundings) (fs : List Formal) → Sees k seen a → modes ≡ map mode_of fs →
-      Leads blocks a.block old (inside_actuals es fs a) now (inside_actuals rest (drop i fs) a)
+      Leads blocks old (inside_actuals es fs a) now (inside_actuals rest (drop i fs) a)
 
-leads-split : (blocks : List Block) (block : ℕ) (old now : Findings) (all : List Site) (e : PExpr) (es : PExprs) (fs : List Formal) (a : Surroundings) →
-    Leads blocks block old all now (inside_actuals (tree.more e es) fs a) → Leads blocks block old all now (one_by_one e es fs a)
-leads-split blocks block old now all e es fs a l =
-    record {
-      faults = ap (λ z. noted_all now.faults.first z) (sym (actual-faults blocks e es fs a)) ∙ l.faults;
-      cells =
-          ap (λ z. now.cells.items ++ map cell_of (filter (λ (c : cells.Cell). c.block == block) z)) (sym (actual-cells blocks e es fs a)) ∙ l.cells;
-    }
+actual-known : (blocks : List Block) (e : PExpr) (es : PExprs) (fs : List Formal) (a : Surroundings) →
+    flat_map (known_at blocks) (inside_actuals (tree.more e es) fs a) ≡ flat_map (known_at blocks) (one_by_one e es fs a)
+actual-known blocks (tree.variable (tree.subscripted n tree.none)) es [] a = refl
+actual-known blocks (tree.variable (tree.subscripted n tree.none)) es (f ∷ fs) a = bare-known blocks n es f.class f.by_value fs a
+actual-known blocks _ es [] a = refl
+actual-known blocks _ es (f ∷ fs) a = refl
+
+leads-split : (blocks : List Block) (old now : Findings) (all : List Site) (e : PExpr) (es : PExprs) (fs : List Formal) (a : Surroundings) →
+    Leads blocks old all now (inside_actuals (tree.more e es) fs a) → Leads blocks old all now (one_by_one e es fs a)
+leads-split blocks old now all e es fs a l =
+    λ new f.
+    l new
+    (again blocks now new (one_by_one e es fs a) (inside_actuals (tree.more e es) fs a) (sym (actual-faults blocks e es fs a)) (sym (actual-cells blocks e es fs a))
+    (sym (actual-known blocks e es fs a)) f)
 
 pub passing-item : (k : Around) (seen : Seen) (old now mid new : Findings) (modes : List Mode) (all : PExprs) (es : List Expr) (i : ℕ) (e : Expr) (mode : Option Mode) →
     i < length es → e ≡ get_or es i e → mode ≡ slice_get modes i → Passing k seen old now modes all i (exprs (drop i es)) →
     ((blocks : List Block) (a : Surroundings) (f : Option Formal) → Sees k seen a → mode ≡ mode_given f →
-    Finds blocks a.block now (record { part = site.actual (expr e) f; around = a } ∷ []) mid) →
+    Finds blocks now (record { part = site.actual (expr e) f; around = a } ∷ []) mid) →
     Walks k seen mid new (sites (expr e)) → Passing k seen old new modes all (i + 1) (exprs (drop (i + 1) es))
 passing-item k seen old now mid new modes all es i e mode h same m l f w =
     rw add-one
@@ -234,17 +270,17 @@ passing-item k seen old now mid new modes all es i e mode h same m l f w =
           let at : drop i es ≡ e ∷ drop (suc i) es = drop-cons es i e h ∙ ap (λ z. z ∷ drop (suc i) es) (sym same) in
           let rest : PExprs = exprs (drop (suc i) es) in
           let P : List Expr → Type 0 =
-          λ z. Leads blocks a.block old (inside_actuals all fs a) now (inside_actuals (exprs z) (drop i fs) a) in
-          let split : Leads blocks a.block old (inside_actuals all fs a) now (one_by_one (expr e) rest (drop i fs) a) =
-          leads-split blocks a.block old now (inside_actuals all fs a) (expr e) rest (drop i fs) a (subst P at (l.leads blocks a fs s given)) in
-          let passed : Leads blocks a.block old (inside_actuals all fs a) mid (sites (expr e) a ++ inside_actuals rest (others (drop i fs)) a) =
-          leads-step blocks a.block old now mid (inside_actuals all fs a) (actual_at (expr e) (first (drop i fs)) a ∷ [])
+          λ z. Leads blocks old (inside_actuals all fs a) now (inside_actuals (exprs z) (drop i fs) a) in
+          let split : Leads blocks old (inside_actuals all fs a) now (one_by_one (expr e) rest (drop i fs) a) =
+          leads-split blocks old now (inside_actuals all fs a) (expr e) rest (drop i fs) a (subst P at (l.leads blocks a fs s given)) in
+          let passed : Leads blocks old (inside_actuals all fs a) mid (sites (expr e) a ++ inside_actuals rest (others (drop i fs)) a) =
+          leads-step blocks old now mid (inside_actuals all fs a) (actual_at (expr e) (first (drop i fs)) a ∷ [])
           (sites (expr e) a ++ inside_actuals rest (others (drop i fs)) a) split
           (f blocks a (first (drop i fs)) s (m ∙ mode-at fs modes i given)) in
-          let walked : Leads blocks a.block old (inside_actuals all fs a) new (inside_actuals rest (others (drop i fs)) a) =
-          leads-step blocks a.block old mid new (inside_actuals all fs a) (sites (expr e) a)
+          let walked : Leads blocks old (inside_actuals all fs a) new (inside_actuals rest (others (drop i fs)) a) =
+          leads-step blocks old mid new (inside_actuals all fs a) (sites (expr e) a)
           (inside_actuals rest (others (drop i fs)) a) passed (w.finds blocks a s) in
-          let Q : List Formal → Type 0 = λ z. Leads blocks a.block old (inside_actuals all fs a) new (inside_actuals rest z a) in
+          let Q : List Formal → Type 0 = λ z. Leads blocks old (inside_actuals all fs a) new (inside_actuals rest z a) in
           subst Q (others-drop i fs) walked;
     })
 
@@ -255,8 +291,8 @@ passing-end k seen old now modes all i es h l =
       finds =
           λ blocks a fs s given.
           let P : List Expr → Type 0 =
-          λ z. Leads blocks a.block old (inside_actuals all fs a) now (inside_actuals (exprs z) (drop i fs) a) in
-          leads-end blocks a.block old now (inside_actuals all fs a) (subst P h (l.leads blocks a fs s given));
+          λ z. Leads blocks old (inside_actuals all fs a) now (inside_actuals (exprs z) (drop i fs) a) in
+          leads-end blocks old now (inside_actuals all fs a) (subst P h (l.leads blocks a fs s given));
     }
 
 -- ---- expressions of each form
@@ -265,13 +301,9 @@ pub on_ok : {A E : Type 0} (r : Result A E) {P Q : Type 0} → (P → Q) → OnO
 on_ok (Ok x) f h = f h
 on_ok (Err e) f h = tt
 
-again : (blocks : List Block) (block : ℕ) (old new : Findings) (xs ys : List Site) → flat_map (faults_at blocks) xs ≡ flat_map (faults_at blocks) ys →
-    flat_map (cells_at blocks) xs ≡ flat_map (cells_at blocks) ys → Finds blocks block old xs new → Finds blocks block old ys new
-again blocks block old new xs ys f c h =
-    record {
-      faults = h.faults ∙ ap (λ z. noted_all old.faults.first z) f;
-      cells = h.cells ∙ ap (λ z. old.cells.items ++ map cell_of (filter (λ (c : cells.Cell). c.block == block) z)) c;
-    }
+pub if_ok : {A E : Type 0} (r : Result A E) {P Q : A → Type 0} → ((x : A) → P x → Q x) → IfOk r P → IfOk r Q
+if_ok (Ok x) f h = f x h
+if_ok (Err e) f h = tt
 
 pub walks-happened : (k : Around) (seen : Seen) (old new : Findings) (e : EventName) (spot : Spot) →
     Walks k seen old new (λ a. at_name e.name a ∷ []) → Walks k seen old new (sites (tree.happened e spot))
@@ -279,7 +311,7 @@ walks-happened k seen old new e spot w =
     record {
       finds =
           λ blocks a s.
-          again blocks a.block old new (at_name e.name a ∷ []) (sites (tree.happened e spot) a) refl refl (w.finds blocks a s);
+          again blocks old new (at_name e.name a ∷ []) (sites (tree.happened e spot) a) refl refl refl (w.finds blocks a s);
     }
 
 pub walks-two : (k : Around) (seen : Seen) (old mid new : Findings) (op : Op) (x y : PExpr) → Walks k seen old mid (sites x) →
@@ -288,7 +320,7 @@ walks-two k seen old mid new op x y v w =
     record {
       finds =
           λ blocks a s.
-          again blocks a.block old new (sites x a ++ sites y a) (sites (tree.two op x y) a) refl refl
+          again blocks old new (sites x a ++ sites y a) (sites (tree.two op x y) a) refl refl refl
           ((walks-then k seen old mid new (sites x) (sites y) v w).finds blocks a s);
     }
 
@@ -298,7 +330,7 @@ walks-if k seen old one two new x y z spot u v w =
     record {
       finds =
           λ blocks a s.
-          again blocks a.block old new ((sites x a ++ sites y a) ++ sites z a) (sites (tree.if x y z spot) a) refl refl
+          again blocks old new ((sites x a ++ sites y a) ++ sites z a) (sites (tree.if x y z spot) a) refl refl refl
           ((walks-then k seen old two new (λ b. sites x b ++ sites y b) (sites z) (walks-then k seen old one two (sites x) (sites y) u v) w).finds
           blocks a s);
     }
@@ -310,9 +342,13 @@ walks-call k seen old mid new n modes es v m w =
     record {
       finds =
           λ blocks a s.
-          finds-then blocks a.block old mid new (at_name n a ∷ []) (inside_actuals es (formals_at a n) a) (v.finds blocks a s)
+          finds-then blocks old mid new (at_name n a ∷ []) (inside_actuals es (formals_at a n) a) (v.finds blocks a s)
           (w.finds blocks a (formals_at a n) s (m a s));
     }
 
 pub walks-of : (k : Around) (seen : Seen) (old new : Findings) (e f : PExpr) → e ≡ f → Walks k seen old new (sites f) → Walks k seen old new (sites e)
 walks-of k seen old new e f h w = let P : PExpr → Type 0 = λ z. Walks k seen old new (sites z) in subst P (sym h) w
+
+pub walks-task : (k : Around) (old new : Findings) (task : Option Named) (n : Named) → task ≡ Some n → Walks k seens.All old new (λ a. at_name n a ∷ []) →
+    Walks k seens.All old new (task_parts task)
+walks-task k old new task n h w = let P : Option Named → Type 0 = λ z. Walks k seens.All old new (task_parts z) in subst P (sym h) w

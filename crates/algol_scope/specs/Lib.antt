@@ -4,3 +4,7 @@ pub mod Looking
 pub mod Passing
 pub mod Seeing
 pub mod Noting
+pub mod Stating
+pub mod Declaring
+pub mod Framing
+pub mod Finding

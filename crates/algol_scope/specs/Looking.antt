@@ -1,5 +1,7 @@
 -- What is known around a place, as the walk over a tree keeps it.
-use Rattle.std.specs.Prelude.{ℕ, ◌+◌, min, List, [], ◌∷◌, length, reverse, slice_get, Option, Some, None}
+use Rattle.std.specs.Prelude.{ℕ, ◌+◌, ◌==◌, ◌&&◌, min, Bool, false, List, [], ◌∷◌, length, reverse, slice_get, Option, Some, None}
+use Rattle.algol_tree.specs.declared.token.Spot.{Spot}
+use Rattle.algol_tree.specs.Blocks.{same_spot}
 use Rattle.algol_scope.specs.declared.known.Class.{Class}
 use Rattle.algol_scope.specs.declared.known.Class.TheVariants as class
 use Rattle.algol_scope.specs.declared.known.Entry.{Entry}
@@ -7,6 +9,7 @@ use Rattle.algol_scope.specs.declared.known.Names.{Names}
 use Rattle.algol_scope.specs.declared.known.Seen.{Seen}
 use Rattle.algol_scope.specs.declared.known.Seen.TheVariants as seen
 use Rattle.algol_scope.specs.declared.formal.Mode.{Mode}
+use Rattle.algol_scope.specs.declared.formal.Mode.TheVariants as mode
 use Rattle.algol_scope.specs.declared.around.Around.{Around}
 use Rattle.algol_scope.specs.declared.around.Procedure.{Procedure}
 use Rattle.algol_scope.specs.Naming.{or_else, seen_under}
@@ -19,7 +22,7 @@ looked_up (b ∷ bs) sees name = or_else (seen_under b.declared b.parameters see
 abbrev pub open_blocks : Around → List Names
 open_blocks k = k.innermost ∷ reverse k.outer.items
 
-abbrev modes_of : Option Procedure → List Mode
+abbrev pub modes_of : Option Procedure → List Mode
 modes_of None = []
 modes_of (Some p) = p.modes.items
 
@@ -31,3 +34,15 @@ modes_in ps _ = []
 -- the level of the innermost block, as far as a byte can say it
 abbrev pub level_within : Around → ℕ
 level_within k = min (length k.outer.items + 2) 255
+
+-- what is found is the FORWARD, in this block, of the heading whose name stands there
+abbrev pub is_announced : Option Entry → ℕ → Spot → Bool
+is_announced None block spot = false
+is_announced (Some e) block spot = (e.block == block) && same_spot e.spot spot
+
+-- what a parameter is in its procedure that takes its actual so
+abbrev pub class_for : Option Mode → Class
+class_for None = class.Other
+class_for (Some mode.ByValue) = class.Simple
+class_for (Some mode.ByName) = class.Simple
+class_for (Some mode.ByReference) = class.Other

@@ -1,5 +1,5 @@
 -- The names that a block makes known, as tables of them.
-use Rattle.std.specs.Prelude.{◌≡◌, ℕ, List, Option, Some, None}
+use Rattle.std.specs.Prelude.{◌≡◌, ℕ, Bool, false, ◌||◌, is_some, List, Option, Some, None}
 use Rattle.std.specs.Borrow.{Bor}
 use Rattle.std.specs.Ordering.{nat_cmp}
 use Rattle.std.specs.Cmp.Lexicographic.{slice_cmp}
@@ -37,3 +37,11 @@ or_else (Some entry) other = Some entry
 abbrev pub seen_under : Table → Table → Seen → List ℕ → Option Entry
 seen_under declared parameters seen.All name = or_else (entry_in declared name) (entry_in parameters name)
 seen_under declared parameters seen.BeforeDeclarations name = entry_in parameters name
+
+abbrev pub is_typed : Option (Bor (List ℕ)) → List ℕ → Bool
+is_typed None name = false
+is_typed (Some typed) name = bytes_eq typed.now name
+
+-- whether a block has the name: of its result, or declared in it
+abbrev pub has_name : Option (Bor (List ℕ)) → Table → Table → List ℕ → Bool
+has_name typed declared parameters name = is_typed typed name || is_some (seen_under declared parameters seen.All name)

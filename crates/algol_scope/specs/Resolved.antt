@@ -29,12 +29,8 @@ IsRefused p refusals.NoMemory = Unit {0}
 
 -- ---- what is found in the scopes
 
-abbrev declared_where : Scopes → Option Spot → Option Declared
-declared_where s None = None
-declared_where s (Some spot) = get ghosts.cmp s.declared spot
-
 abbrev pub declaration_of : Scopes → Spot → Option Declared
-declaration_of s spot = declared_where s (get ghosts.cmp s.names spot)
+declaration_of s spot = get ghosts.cmp s.declared spot
 
 abbrev pub actual_of : Scopes → Spot → Option Couple
 actual_of s spot = get ghosts.cmp s.actuals spot

@@ -1,10 +1,11 @@
 -- When what the walk keeps stands for the surroundings of a place.
-use Rattle.std.specs.Prelude.{◌≡◌, ℕ, Bool, true, false, List, map, filter, length, ◌==◌, ◌∷◌, ◌<◌, Option, Some, None}
+use Rattle.std.specs.Prelude.{◌≡◌, ℕ, Bool, true, false, List, [], map, filter, length, slice_get, min, ◌==◌, ◌+◌, ◌++◌, ◌∷◌, ◌<◌, ◌≤◌, Option, Some, None}
 use Rattle.algol_tree.specs.declared.tree.Kind.TheVariants as types
 use Rattle.algol_tree.specs.Classes as classes
 use Rattle.algol_tree.specs.Classes.{Formal}
 use Rattle.algol_tree.specs.Sorts.{Declared, look_up}
 use Rattle.algol_tree.specs.Surroundings.{Surroundings, formals_of_class}
+use Rattle.algol_tree.specs.Cells.{level_at}
 use Rattle.algol_scope.specs.declared.known.Class.{Class}
 use Rattle.algol_scope.specs.declared.known.Class.TheVariants as class
 use Rattle.algol_scope.specs.declared.known.Entry.{Entry}
@@ -47,6 +48,8 @@ pub record IsClass (ps : List Procedure) (c : Class) (d : classes.Class) : Type 
 -- The entry stands for the declaration.
 pub record IsEntry (ps : List Procedure) (e : Entry) (d : Declared) : Type 0 where
   pub spot : e.spot ≡ d.spot
+  pub block : e.block ≡ d.block
+  pub level : e.level ≡ min (level_at d.depth) 255
   pub class : IsClass ps e.class d.class
 
 -- What is found under a name is what the definitions find.
@@ -57,6 +60,7 @@ IsFound ps _ _ = ⊥
 
 -- What is seen of what the walk keeps is what is around that place.
 pub record Sees (k : Around) (seen : Seen) (a : Surroundings) : Type 0 where
+  pub block : k.innermost.block ≡ a.block
   pub depth : length k.outer.items ≡ a.depth
   pub names : (name : List ℕ) → IsFound k.procedures.items (looked_up (open_blocks k) seen name) (look_up a.known name)
 
@@ -83,7 +87,25 @@ pub record Introduces (old new : Around) (name : List ℕ) (entry : Entry) : Typ
   pub holds : (a : Surroundings) (d : Declared) → IsBare old.innermost.declared → Holds old a → d.name ≡ name → d.block ≡ a.block →
       IsEntry old.procedures.items entry d → Holds new (record a { known = d ∷ a.known })
 
--- There are more procedures, and what was known is known.
-pub record Grows (old new : Around) : Type 0 where
-  pub sees : (sees : Seen) (a : Surroundings) → Sees old sees a → Sees new sees a
-  pub holds : (a : Surroundings) → Holds old a → Holds new a
+-- These procedures are among those, with the same numbers.
+pub record Extends (old new : List Procedure) : Type 0 where
+  pub longer : length old ≤ length new
+  pub same : (i : ℕ) → i < length old → slice_get new i ≡ slice_get old i
+
+-- The same names are known, and of procedures maybe more.
+pub record Keeps (old new : Around) : Type 0 where
+  pub innermost : new.innermost ≡ old.innermost
+  pub outer : new.outer.items ≡ old.outer.items
+  pub procedures : Extends old.procedures.items new.procedures.items
+
+-- a block that has just begun inside these surroundings
+abbrev pub begun : ℕ → Surroundings → Surroundings
+begun block a = record { block = block; depth = a.depth + 1; known = a.known }
+
+-- The block with this number begins.
+pub record Opens (old new : Around) (block : ℕ) : Type 0 where
+  pub sees : (sees : Seen) (a : Surroundings) → Sees old seens.All a → Sees new sees (begun block a)
+  pub holds : (a : Surroundings) → own (begun block a) ≡ [] → Holds new (begun block a)
+  pub bare : IsBare new.innermost.declared
+  pub outer : new.outer.items ≡ old.outer.items ++ old.innermost ∷ []
+  pub procedures : new.procedures ≡ old.procedures

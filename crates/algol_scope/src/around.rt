@@ -1,6 +1,6 @@
 //! What is known around a place in the text.
 
-ghost use Rattle.std.specs.Prelude.{◌≡◌, ℕ, ◌+◌, List, [], ◌∷◌, ◌++◌, Option, OnOk, IfOk, map, reverse, not};
+ghost use Rattle.std.specs.Prelude.{◌≡◌, List, [], ◌∷◌, ◌++◌, Option, None, OnOk, IfOk, map, reverse, not, slice_get};
 ghost use Rattle.algol_tree.specs.Classes as classes;
 ghost use Rattle.algol_tree.specs.Classes.{Formal};
 ghost use Rattle.algol_tree.specs.Sorts.{formals_of};
@@ -12,22 +12,21 @@ ghost use Rattle.algol_scope.specs.declared.known.Seen.{Seen};
 ghost use Rattle.algol_scope.specs.declared.known.Seen.TheVariants as seens;
 ghost use Rattle.algol_scope.specs.declared.known.Class.TheVariants as class;
 ghost use Rattle.algol_scope.specs.declared.known.Names.{Names};
-ghost use Rattle.algol_scope.specs.Looking.{looked_up, open_blocks, modes_in, level_within};
-ghost use Rattle.algol_scope.specs.Seeing.{Sees, Declares, Introduces, Grows, IsClass, mode_of, mode_given, name_parameter};
+ghost use Rattle.algol_scope.specs.Looking.{looked_up, open_blocks, modes_in, level_within, is_announced, class_for};
+ghost use Rattle.algol_scope.specs.Seeing.{Sees, Holds, Declares, Introduces, Extends, Opens, IsClass, mode_of, mode_given, name_parameter};
 
 use crate::formal::Mode;
 use crate::known::{Class, Entry, Names, Seen};
-use algol_tree::{Expr, Heading};
+use algol_tree::{Expr, Heading, Spot};
 use std::alloc::{AllocError, Global};
 use std::mem;
 
 /// The lexical level of the outer block.
 const OUTER_LEVEL: u8 = 2;
 
-/// A procedure as its calls see it: the heading with its body, where there is one, and how it takes its actuals.
+/// A procedure as its calls see it: how it takes its actuals.
 #[derive(Drop)]
-pub struct Procedure<'p> {
-    pub heading: &'p Heading,
+pub struct Procedure {
     pub modes: Vec<Mode>,
 }
 
@@ -37,7 +36,7 @@ pub struct Procedure<'p> {
 pub struct Around<'p> {
     pub innermost: Names<'p>,
     pub outer: Vec<Names<'p>>,
-    pub procedures: Vec<Procedure<'p>>,
+    pub procedures: Vec<Procedure>,
 }
 
 /// The declaration of the name in these blocks.
@@ -54,22 +53,30 @@ fn look_up(blocks: &[Names], name: &[u8]) -> Option<Entry>
 impl<'p> Around<'p> {
     /// The outer block.
     pub fn new(alloc: Global) -> Around<'p>
-        ensures { (seen : Seen) → Sees result seen outermost }
+        ensures sees { (seen : Seen) → Sees result seen outermost }
+        ensures holds { Holds result outermost }
+        ensures typed { result.innermost.typed ≡ None }
+        ensures outer { result.outer.items ≡ [] }
+        ensures procedures { result.procedures.items ≡ [] }
     {
         Around {
-            innermost: Names::new(alloc, None),
+            innermost: Names::new(alloc, 0, None),
             outer: Vec::new(alloc),
             procedures: Vec::new(alloc),
         }
     }
 
-    /// A block begins, which is the procedure's that has a result of this name.
-    pub fn open(&mut self, alloc: Global, typed: Option<&'p [u8]>) -> Result<(), AllocError>
-        ensures inside { OnOk result ((seen : Seen) (a : Surroundings) (block : ℕ) → Sees self.old seens.All a → Sees self.new seen (record a { block = block; depth = a.depth + 1 })) }
-        ensures kept { OnOk result (self.new.outer.items ≡ self.old.outer.items ++ self.old.innermost ∷ []) }
-        ensures procedures { self.new.procedures ≡ self.old.procedures }
+    /// The block with this number begins, which is the procedure's that has a result of this name.
+    pub fn open(
+        &mut self,
+        alloc: Global,
+        block: usize,
+        typed: Option<&'p [u8]>,
+    ) -> Result<(), AllocError>
+        ensures opens { OnOk result (Opens self.old self.new block) }
+        ensures typed { OnOk result (self.new.innermost.typed ≡ typed.entry) }
     {
-        let outer = mem::replace(&mut self.innermost, Names::new(alloc, typed));
+        let outer = mem::replace(&mut self.innermost, Names::new(alloc, block, typed));
         self.outer.push(outer)?;
         Ok(())
     }
@@ -90,6 +97,7 @@ impl<'p> Around<'p> {
         ensures before { (a : Surroundings) → Sees self.old seens.BeforeDeclarations a → Sees self.new seens.BeforeDeclarations a }
         ensures outer { self.new.outer ≡ self.old.outer }
         ensures procedures { self.new.procedures ≡ self.old.procedures }
+        ensures typed { self.new.innermost.typed ≡ self.old.innermost.typed }
     {
         self.innermost.declare(name, entry)
     }
@@ -100,20 +108,40 @@ impl<'p> Around<'p> {
         ensures declared { self.new.innermost.declared ≡ self.old.innermost.declared }
         ensures outer { self.new.outer ≡ self.old.outer }
         ensures procedures { self.new.procedures ≡ self.old.procedures }
+        ensures typed { self.new.innermost.typed ≡ self.old.innermost.typed }
     {
         self.innermost.declare_parameter(name, entry)
     }
 
     /// One more procedure. Answers its number.
-    pub fn add(&mut self, heading: &'p Heading, modes: Vec<Mode>) -> Result<usize, AllocError>
-        ensures kept { OnOk result (Grows self.old self.new) }
+    pub fn add(&mut self, modes: Vec<Mode>) -> Result<usize, AllocError>
+        ensures more { OnOk result (Extends self.old.procedures.items self.new.procedures.items) }
         ensures class { IfOk result (λ number. (h : Heading) → modes.items ≡ map mode_of (formals_of h) → IsClass self.new.procedures.items (class.Procedure number) (classes.procedure h)) }
         ensures innermost { self.new.innermost ≡ self.old.innermost }
         ensures outer { self.new.outer ≡ self.old.outer }
     {
         let number = self.procedures.len();
-        self.procedures.push(Procedure { heading, modes })?;
+        self.procedures.push(Procedure { modes })?;
         Ok(number)
+    }
+
+    /// The number of the innermost block.
+    pub fn block(&self) -> usize
+        ensures { result ≡ self.now.innermost.block }
+    {
+        self.innermost.block
+    }
+
+    /// A declaration of the innermost block.
+    pub fn entry(&self, spot: Spot, class: Class) -> Entry
+        ensures { result ≡ record { spot = spot; block = self.now.innermost.block; level = level_within self.now; class = class } }
+    {
+        Entry {
+            spot,
+            block: self.innermost.block,
+            level: self.level(),
+            class,
+        }
     }
 
     /// The level of the innermost block, or the greatest number of a byte where it is beyond that.
@@ -146,6 +174,27 @@ impl<'p> Around<'p> {
                 Some(procedure) => procedure.modes.as_slice(),
             },
             _ => &[],
+        }
+    }
+
+    /// Whether what is known under the name of this heading is its FORWARD, in the innermost block.
+    pub fn is_announced(&self, h: &Heading) -> bool
+        ensures { result ≡ is_announced (looked_up (open_blocks self.now) seens.All h.now.name.name) self.now.innermost.block h.now.name.spot }
+    {
+        match self.find(h.name.name.bytes(), Seen::All) {
+            None => false,
+            Some(entry) => entry.block == self.innermost.block && entry.spot == h.name.spot,
+        }
+    }
+
+    /// What the parameter with this index, of the procedure with this number, is in the procedure.
+    pub fn class_of_parameter(&self, procedure: usize, at: usize) -> Class
+        ensures { result ≡ class_for (slice_get (modes_in self.now.procedures.items (class.Procedure procedure)) at) }
+    {
+        match self.modes(Class::Procedure(procedure)).get(at) {
+            Some(Mode::ByValue) => Class::Simple,
+            Some(Mode::ByName) => Class::Simple,
+            _ => Class::Other,
         }
     }
 

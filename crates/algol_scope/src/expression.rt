@@ -10,15 +10,28 @@ ghost use Rattle.algol_tree.specs.Image.{expr, exprs, pairs};
 ghost use Rattle.algol_scope.specs.declared.known.Seen.{Seen};
 ghost use Rattle.algol_scope.specs.declared.known.Seen.TheVariants as seens;
 ghost use Rattle.algol_scope.specs.Seeing.{Sees, IsClass, mode_given};
-ghost use Rattle.algol_scope.specs.Noting.{Finds, Walks, Passes, at_name};
+ghost use Rattle.algol_scope.specs.Noting.{Finds, Knows, Walks, Passes, at_name, process_parts, task_parts};
+ghost use Rattle.algol_tree.specs.Couples.{known_names};
 
 use crate::around::Around;
-use crate::findings::{Cell, Content, Findings};
+use crate::findings::{Cell, Content, Findings, Use};
 use crate::formal::Mode;
-use crate::known::{Class, Seen};
+use crate::known::{Class, Entry, Seen};
 use algol_rules::first_spot;
-use algol_tree::{Call, Code, Expr, List, MOST_LEVEL, Named, Pair, Variable};
+use algol_tree::{Call, Code, Expr, List, MOST_LEVEL, Named, Pair, Spot, Variable};
 use std::alloc::AllocError;
+
+/// A name that stands there and means this declaration.
+fn use_by(spot: Spot, entry: Entry) -> Use
+    ensures { result ≡ record { spot = spot; declared = entry.spot; block = entry.block; level = entry.level } }
+{
+    Use {
+        spot,
+        declared: entry.spot,
+        block: entry.block,
+        level: entry.level,
+    }
+}
 
 impl Findings {
     /// A use of the name, and what the name is declared as.
@@ -32,10 +45,20 @@ impl Findings {
                 Ok(Class::Other)
             }
             Some(entry) => {
-                self.scopes.names.insert(n.spot, entry.spot)?;
+                self.uses.push(use_by(n.spot, entry))?;
                 Ok(entry.class)
             }
         }
+    }
+
+    /// A name that stands there, and what it means where it is known.
+    pub fn known(&mut self, n: &Named, around: &Around) -> Result<(), AllocError>
+        ensures { OnOk result (Knows around.now self.old self.new (λ a. known_names a (n.now ∷ []))) }
+    {
+        if let Some(entry) = around.find(n.name.bytes(), Seen::All) {
+            self.uses.push(use_by(n.spot, entry))?;
+        }
+        Ok(())
     }
 
     /// An actual that is given so: where it has a cell, its code is one level deeper than where it stands.
@@ -46,7 +69,7 @@ impl Findings {
         around: &Around,
         seen: Seen,
     ) -> Result<(), AllocError>
-        ensures { OnOk result ((blocks : List Block) (a : Surroundings) (f : Option Formal) → Sees around.now seen a → mode ≡ mode_given f → Finds blocks a.block self.old (record { part = actual (expr e.now) f; around = a } ∷ []) self.new) }
+        ensures { OnOk result ((blocks : List Block) (a : Surroundings) (f : Option Formal) → Sees around.now seen a → mode ≡ mode_given f → Finds blocks self.old (record { part = actual (expr e.now) f; around = a } ∷ []) self.new) }
     {
         if !around.has_cell(e, mode, seen) {
             return Ok(());
@@ -56,6 +79,7 @@ impl Findings {
             self.faults.note(spot, Code::TooManyLevels);
         }
         self.cells.push(Cell {
+            block: around.block(),
             spot,
             content: Content::Actual,
         })?;
@@ -132,6 +156,33 @@ impl Findings {
                 self.expr(b, around, seen)
             }
         }
+    }
+
+    /// The name of a task, where there is one.
+    fn task(&mut self, task: &Option<Named>, around: &Around) -> Result<(), AllocError>
+        ensures { OnOk result (Walks around.now seens.All self.old self.new (task_parts task.now)) }
+    {
+        match task {
+            None => Ok(()),
+            Some(n) => {
+                self.name(n, around, Seen::All)?;
+                Ok(())
+            }
+        }
+    }
+
+    /// PROCESS: the procedure's name, the task's, and the actuals.
+    pub fn process(
+        &mut self,
+        c: &Call,
+        task: &Option<Named>,
+        around: &Around,
+    ) -> Result<(), AllocError>
+        ensures { OnOk result (Walks around.now seens.All self.old self.new (process_parts c.now.name task.now (exprs c.now.actuals))) }
+    {
+        let class = self.name(&c.name, around, Seen::All)?;
+        self.task(task, around)?;
+        self.actuals(&c.actuals, around.modes(class), around, Seen::All)
     }
 
     /// A bound sees what is known before the declarations of its block.

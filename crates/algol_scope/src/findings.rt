@@ -1,6 +1,7 @@
 //! What is found on the walk over a tree.
 
-use crate::scopes::Scopes;
+ghost use Rattle.std.specs.Prelude.{◌≡◌, None, []};
+
 use algol_rules::Faults;
 use algol_tree::Spot;
 use std::alloc::Global;
@@ -17,28 +18,42 @@ pub enum Content {
     Made,
 }
 
-/// A cell: where it stands in the text, and what it holds.
+/// A cell: the number of its block, where it stands in the text, and what it holds.
 #[derive(Clone, Copy)]
 pub struct Cell {
+    pub block: usize,
     pub spot: Spot,
     pub content: Content,
 }
 
-/// What is found so far.
+/// A name that stands in the text, and its declaration: where that stands, and the number and the level of its block.
+#[derive(Clone, Copy)]
+pub struct Use {
+    pub spot: Spot,
+    pub declared: Spot,
+    pub block: usize,
+    pub level: u8,
+}
+
+/// What is found so far: the first fault, and the cells and the names in the order of the text.
 #[derive(Drop)]
 pub struct Findings {
     pub faults: Faults,
-    pub scopes: Scopes,
-    /// The cells of the innermost open block, in the order of the text.
     pub cells: Vec<Cell>,
+    pub uses: Vec<Use>,
 }
 
 impl Findings {
-    pub fn new(alloc: Global) -> Findings {
+    /// Nothing.
+    pub fn new(alloc: Global) -> Findings
+        ensures faults { result.faults.first ≡ None }
+        ensures cells { result.cells.items ≡ [] }
+        ensures uses { result.uses.items ≡ [] }
+    {
         Findings {
             faults: Faults::none(),
-            scopes: Scopes::new(alloc),
             cells: Vec::new(alloc),
+            uses: Vec::new(alloc),
         }
     }
 }

@@ -1,6 +1,6 @@
 //! Parameters, as a call sees them.
 
-ghost use Rattle.std.specs.Prelude.{◌≡◌, ℕ, List, if◌then◌else◌, false, map, is_some, IfOk, OnOk};
+ghost use Rattle.std.specs.Prelude.{◌≡◌, ℕ, List, if◌then◌else◌, false, map, is_some, None, IfOk, OnOk};
 ghost use Rattle.std.specs.Str.{bytes_eq};
 ghost use Rattle.algol_tree.specs.Classes as classes;
 ghost use Rattle.algol_tree.specs.Sorts.{is_named_in, class_in, formals_of};
@@ -24,10 +24,10 @@ pub enum Mode {
 }
 
 /// A table of names, with what is said of each.
-type Said<'p> = BTreeMap<&'p [u8], bool>;
+pub type Said<'p> = BTreeMap<&'p [u8], bool>;
 
 /// The name has this, unless something is said of it before.
-fn say<'p>(table: &mut Said<'p>, name: &'p [u8], value: bool) -> Result<(), AllocError>
+pub fn say<'p>(table: &mut Said<'p>, name: &'p [u8], value: bool) -> Result<(), AllocError>
     ensures { OnOk result ((q : List ℕ) → under table.new q ≡ kept (under table.old q) (bytes_eq name.now q) value) }
 {
     if table.contains_key(name) {
@@ -38,7 +38,7 @@ fn say<'p>(table: &mut Said<'p>, name: &'p [u8], value: bool) -> Result<(), Allo
 }
 
 /// The same of each name of a list.
-fn say_all<'p>(table: &mut Said<'p>, names: &'p [Named], value: bool) -> Result<(), AllocError>
+pub fn say_all<'p>(table: &mut Said<'p>, names: &'p [Named], value: bool) -> Result<(), AllocError>
     ensures { OnOk result ((q : List ℕ) → under table.new q ≡ kept (under table.old q) (is_named_in names.now q) value) }
 {
     'names: for n in names {
@@ -64,17 +64,24 @@ fn simple_names<'p>(alloc: Global, heading: &'p Heading) -> Result<Said<'p>, All
     Ok(simple)
 }
 
-/// The names that VALUE speaks of.
-fn values<'p>(alloc: Global, heading: &'p Heading) -> Result<Said<'p>, AllocError>
-    ensures { IfOk result (λ table. (q : List ℕ) → said (under table q) false ≡ is_named_in heading.now.values q) }
+/// A table of these names.
+pub fn named_in<'p>(alloc: Global, names: &'p [Named]) -> Result<Said<'p>, AllocError>
+    ensures { IfOk result (λ table. (q : List ℕ) → said (under table q) false ≡ is_named_in names.now q) }
 {
-    let mut by_value = BTreeMap::new(alloc);
-    say_all(&mut by_value, heading.values.items().as_slice(), true)?;
-    Ok(by_value)
+    let mut table = BTreeMap::new(alloc);
+    say_all(&mut table, names, true)?;
+    Ok(table)
+}
+
+/// No names.
+pub fn no_names<'p>(alloc: Global) -> Said<'p>
+    ensures { (q : List ℕ) → under result q ≡ None }
+{
+    BTreeMap::new(alloc)
 }
 
 /// What is said of the name, `false` where nothing is.
-fn is_said(table: &Said, name: &[u8]) -> bool
+pub fn is_said(table: &Said, name: &[u8]) -> bool
     ensures { result ≡ said (under table.now name.now) false }
 {
     match table.get(name) {
@@ -101,7 +108,7 @@ pub fn modes(alloc: Global, heading: &Heading) -> Result<Vec<Mode>, AllocError>
     ensures { IfOk result (λ found. found.items ≡ map mode_of (formals_of heading.now)) }
 {
     let simple = simple_names(alloc, heading)?;
-    let by_value = values(alloc, heading)?;
+    let by_value = named_in(alloc, heading.values.items().as_slice())?;
     let mut found = Vec::new(alloc);
     'params: for n in heading.params.items() {
         let name = n.name.bytes();

@@ -1,7 +1,7 @@
 //! The names that a block makes known.
 
 ghost use Rattle.std.specs.Prelude.{◌≡◌, OnOk, Some};
-ghost use Rattle.algol_scope.specs.Naming.{IsBare, Puts, entry_in, seen_under};
+ghost use Rattle.algol_scope.specs.Naming.{IsBare, Puts, entry_in, seen_under, has_name};
 
 use algol_tree::Spot;
 use std::alloc::{AllocError, Global};
@@ -17,10 +17,13 @@ pub enum Class {
     Other,
 }
 
-/// A declaration: where it stands (of a procedure, the heading with its body), and what it declares.
+/// A declaration: where it stands (of a procedure, the heading with its body), the number and the level of its block, and what
+/// it declares.
 #[derive(Clone, Copy)]
 pub struct Entry {
     pub spot: Spot,
+    pub block: usize,
+    pub level: u8,
     pub class: Class,
 }
 
@@ -31,21 +34,25 @@ pub enum Seen {
     BeforeDeclarations,
 }
 
-/// The names of a block: that of the typed procedure whose block it is, its parameters, and what its declarations declare. Of two
-/// declarations of a name the later counts.
+/// The names of the block with this number: that of the typed procedure whose block it is, its parameters, and what its
+/// declarations declare. Of two declarations of a name the later counts.
 #[derive(Drop)]
 pub struct Names<'p> {
+    pub block: usize,
     pub typed: Option<&'p [u8]>,
     pub parameters: BTreeMap<&'p [u8], Entry>,
     pub declared: BTreeMap<&'p [u8], Entry>,
 }
 
 impl<'p> Names<'p> {
-    pub fn new(alloc: Global, typed: Option<&'p [u8]>) -> Names<'p>
+    pub fn new(alloc: Global, block: usize, typed: Option<&'p [u8]>) -> Names<'p>
         ensures parameters { IsBare result.parameters }
         ensures declared { IsBare result.declared }
+        ensures block { result.block ≡ block }
+        ensures typed { result.typed ≡ typed.entry }
     {
         Names {
+            block,
             typed,
             parameters: BTreeMap::new(alloc),
             declared: BTreeMap::new(alloc),
@@ -57,6 +64,8 @@ impl<'p> Names<'p> {
     pub fn declare(&mut self, name: &'p [u8], entry: Entry) -> Result<(), AllocError>
         ensures puts { OnOk result (Puts self.old.declared self.new.declared name.now entry) }
         ensures parameters { self.new.parameters ≡ self.old.parameters }
+        ensures block { self.new.block ≡ self.old.block }
+        ensures typed { self.new.typed ≡ self.old.typed }
     {
         self.declared.insert(name, entry)?;
         Ok(())
@@ -67,6 +76,8 @@ impl<'p> Names<'p> {
     pub fn declare_parameter(&mut self, name: &'p [u8], entry: Entry) -> Result<(), AllocError>
         ensures puts { OnOk result (Puts self.old.parameters self.new.parameters name.now entry) }
         ensures declared { self.new.declared ≡ self.old.declared }
+        ensures block { self.new.block ≡ self.old.block }
+        ensures typed { self.new.typed ≡ self.old.typed }
     {
         self.parameters.insert(name, entry)?;
         Ok(())
@@ -89,6 +100,16 @@ impl<'p> Names<'p> {
                 Some(entry) => Some(*entry),
                 None => self.parameter(name),
             },
+        }
+    }
+
+    /// Whether the block has the name: as a declaration, or as its result.
+    pub fn has(&self, name: &[u8]) -> bool
+        ensures { result ≡ has_name self.now.typed self.now.declared self.now.parameters name.now }
+    {
+        match self.typed {
+            Some(typed) if typed == name => true,
+            _ => self.here(name, Seen::All).is_some(),
         }
     }
 }

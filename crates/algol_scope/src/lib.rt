@@ -1,17 +1,23 @@
 //! The scopes of a tree: which declaration each name means, where its cell lies, and the rules of names and limits.
 //!
-//! A name is known from its declaration to the end of its block, as in the ALGOL 60 report. Names are found through ordered
+//! A name is known from its declaration to the end of its block, as in the ALGOL 60 report. The walk over the tree lists what it
+//! finds in the order of the text; then the limits are looked at, and the frames are laid out. Names are found through ordered
 //! maps, so that the whole takes time linear in the text but for a logarithm.
 #![tactic(auto)]
 
 mod around;
+mod declaration;
 mod expression;
 mod findings;
 mod formal;
+mod heading;
 mod known;
 mod layout;
+mod limits;
 mod resolver;
 mod scopes;
+mod walk;
+mod whole;
 
-pub use resolver::resolve;
 pub use scopes::{Couple, Declared, Scopes};
+pub use whole::resolve;

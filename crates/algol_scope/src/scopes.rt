@@ -4,7 +4,6 @@ ghost use Rattle.std.specs.Prelude.{◌≡◌, option_copied};
 ghost use Rattle.algol_scope.specs.Resolved.{declaration_of, actual_of, result_of, level_in};
 
 use algol_tree::Spot;
-use std::alloc::Global;
 use std::collections::BTreeMap;
 
 /// Where a cell lies: the level of its block, and its index in the frame, from 2 on.
@@ -22,10 +21,9 @@ pub struct Declared {
     pub couple: Option<Couple>,
 }
 
-/// The declaration of each name, and where the cells lie.
+/// The declaration of each name, by the place of the name, and where the cells lie.
 #[derive(Drop)]
 pub struct Scopes {
-    pub(crate) names: BTreeMap<Spot, Spot>,
     pub(crate) declared: BTreeMap<Spot, Declared>,
     pub(crate) actuals: BTreeMap<Spot, Couple>,
     pub(crate) results: BTreeMap<Spot, Couple>,
@@ -33,22 +31,11 @@ pub struct Scopes {
 }
 
 impl Scopes {
-    pub(crate) fn new(alloc: Global) -> Scopes {
-        Scopes {
-            names: BTreeMap::new(alloc),
-            declared: BTreeMap::new(alloc),
-            actuals: BTreeMap::new(alloc),
-            results: BTreeMap::new(alloc),
-            levels: Vec::new(alloc),
-        }
-    }
-
     /// The declaration of the name that is used or declared there.
     pub fn declaration(&self, spot: Spot) -> Option<&Declared>
         ensures { option_copied result ≡ declaration_of self.now spot }
     {
-        let declared = self.names.get(&spot)?;
-        self.declared.get(declared)
+        self.declared.get(&spot)
     }
 
     /// The couple of the actual that has a cell and whose first token stands there.

@@ -4,7 +4,7 @@ use Rattle.algol_tree.specs.Image.{exprs}
 use Rattle.algol_tree.specs.Sites.{inside_list}
 use Rattle.algol_scope.specs.Noting.{at_name}
 use Rattle.algol_scope.proofs.Plain.{expr_happened, expr_two, expr_if}
-use Rattle.algol_scope.proofs.Walking.{follows-item, passing-item, passing-end, walks-then, walks-happened, walks-two, walks-if, walks-call, walks-of, on_ok, copied-get, get-within}
+use Rattle.algol_scope.proofs.Walking.{follows-item, follows-end, passing-item, passing-end, walks-then, walks-happened, walks-two, walks-if, walks-call, walks-of, on_ok, copied-get, get-within}
 use Rattle.algol_scope.proofs.findings.Findings.+expressions.Goals as goal
 
 pub list-expressions-preserved : goal.list-expressions-preserved
@@ -12,6 +12,11 @@ list-expressions-preserved t c =
     follows-item c.args.around.now c.args.seen c.args.self.now c.expressions.self c.expr.new.self (inside_list (exprs c.args.es.now))
     c.deref-e-items.result.now c.expressions.e-index c.e-item.result c.expressions-test.true c.e-item.is c.expressions.invariant
     c.in_ok-expr.ensures
+
+pub list-returns : goal.list-returns
+list-returns t c =
+    follows-end c.args.around.now c.args.seen c.args.self.now c.expressions.self (inside_list (exprs c.args.es.now)) _
+    (drop_all c.expressions.e-index c.deref-e-items.result.now c.expressions-test.false) c.expressions.invariant
 
 pub actuals-actuals-preserved : goal.actuals-actuals-preserved
 actuals-actuals-preserved t c =

@@ -1,0 +1,273 @@
+-- Declarations, one step after the other.
+use Rattle.std.proofs.Common.{◌≡◌, ℕ, ◌+◌, ◌<◌, Bool, true, false, List, [], ◌∷◌, ◌++◌, map, length, Option, Some, None, refl, ap, sym, ◌∙◌, subst, append-nil}
+use Rattle.std.specs.Prelude.{min, is_some, ◌||◌, if◌then◌else◌}
+use Rattle.algol_tree.specs.declared.token.Spot.{Spot}
+use Rattle.algol_tree.specs.declared.refusal.Fault.{Fault}
+use Rattle.algol_tree.specs.Plain.{PDecl, PDecls, PPair}
+use Rattle.algol_tree.specs.Sorts.{Declared, look_up, same_name}
+use Rattle.algol_tree.specs.Blocks.{Block, block_numbered}
+use Rattle.algol_tree.specs.Surroundings.{Surroundings}
+use Rattle.algol_tree.specs.Sites.{Site, sites_in_pairs}
+use Rattle.algol_tree.specs.Cells as cells
+use Rattle.algol_tree.specs.Cells.{cells_at, level_at}
+use Rattle.algol_tree.specs.Couples.{Known, known_at}
+use Rattle.algol_tree.specs.Names.{is_one_of, names_here, result_names_of}
+use Rattle.algol_scope.specs.declared.known.Entry.{Entry}
+use Rattle.algol_scope.specs.declared.known.Seen.{Seen}
+use Rattle.algol_scope.specs.declared.known.Seen.TheVariants as seens
+use Rattle.algol_scope.specs.declared.around.Around.{Around}
+use Rattle.algol_scope.specs.declared.around.Procedure.{Procedure}
+use Rattle.algol_scope.specs.declared.findings.Findings.{Findings}
+use Rattle.algol_scope.specs.declared.resolver.Resolver.{Resolver}
+use Rattle.algol_scope.specs.Naming.{has_name, is_typed, seen_under}
+use Rattle.algol_scope.specs.Looking.{level_within}
+use Rattle.algol_scope.specs.Seeing.{Sees, Declares, Extends, IsEntry, IsFound, own}
+use Rattle.algol_scope.specs.Noting.{Adds, Knows, Walks, faults_at}
+use Rattle.algol_scope.specs.Stating.{AreBefore, Settles, Enters, no_blocks}
+use Rattle.algol_scope.specs.Declaring.{Makes, Widens, decl_site, no_cells, no_faults, no_uses, nothing_so}
+use Rattle.algol_scope.proofs.Walking.{adds-then, adds-as, adds-none}
+use Rattle.algol_scope.proofs.Visiting.{comes-then, extends-none, extends-then, keeps-same, numbered-left, numbered-right, settles-kept}
+
+-- ---- one step after the other
+
+pub makes-then : (old mid new : Resolver) (f g : List Block → Surroundings → List Fault) (c d : List Block → Surroundings → List cells.Cell)
+    (u v : List Block → Surroundings → List Known) (p q : List Block → Surroundings → Surroundings) → Makes old mid f c u p → Makes mid new g d v q →
+    Makes old new (λ blocks a. f blocks a ++ g blocks (p blocks a)) (λ blocks a. c blocks a ++ d blocks (p blocks a))
+    (λ blocks a. u blocks a ++ v blocks (p blocks a)) (λ blocks a. q blocks (p blocks a))
+makes-then old mid new f g c d u v p q x y =
+    record {
+      outer = y.outer ∙ x.outer;
+      procedures = y.procedures ∙ x.procedures;
+      blocks = y.blocks ∙ x.blocks;
+      adds =
+          λ blocks a spots first s.
+          adds-then old.findings mid.findings new.findings (f blocks a) (g blocks (p blocks a)) (c blocks a) (d blocks (p blocks a)) (u blocks a)
+          (v blocks (p blocks a)) (x.adds blocks a spots first s) (y.adds blocks (p blocks a) spots first (x.settles blocks a spots first s));
+      settles = λ blocks a spots first s. y.settles blocks (p blocks a) spots first (x.settles blocks a spots first s);
+    }
+
+pub makes-as : (old new : Resolver) (f g : List Block → Surroundings → List Fault) (c d : List Block → Surroundings → List cells.Cell)
+    (u v : List Block → Surroundings → List Known) (p : List Block → Surroundings → Surroundings) →
+    ((blocks : List Block) (a : Surroundings) → f blocks a ≡ g blocks a) → ((blocks : List Block) (a : Surroundings) → c blocks a ≡ d blocks a) →
+    ((blocks : List Block) (a : Surroundings) → u blocks a ≡ v blocks a) → Makes old new f c u p → Makes old new g d v p
+makes-as old new f g c d u v p e h k x =
+    record {
+      outer = x.outer;
+      procedures = x.procedures;
+      blocks = x.blocks;
+      adds =
+          λ blocks a spots first s.
+          adds-as old.findings new.findings (f blocks a) (g blocks a) (c blocks a) (d blocks a) (u blocks a) (v blocks a) (e blocks a) (h blocks a)
+          (k blocks a) (x.adds blocks a spots first s);
+      settles = x.settles;
+    }
+
+-- only findings change
+pub makes-adds : (old new : Resolver) (f : List Block → Surroundings → List Fault) (c : List Block → Surroundings → List cells.Cell)
+    (u : List Block → Surroundings → List Known) → new.around ≡ old.around → new.blocks ≡ old.blocks →
+    ((blocks : List Block) (a : Surroundings) (spots : List Spot) (first : List Declared) → Settles blocks old a spots first →
+    Adds old.findings (f blocks a) (c blocks a) (u blocks a) new.findings) → Makes old new f c u nothing_so
+makes-adds old new f c u around same h =
+    record {
+      outer = (let e : new.around.outer.items ≡ old.around.outer.items = cc in e);
+      procedures = (let e : new.around.procedures ≡ old.around.procedures = cc in e);
+      blocks = same;
+      adds = h;
+      settles =
+          λ blocks a spots first s.
+          settles-kept blocks old new a spots first [] (keeps-same old.around new.around around)
+          (let e : new.blocks.items ≡ old.blocks.items = cc in e ∙ sym (append-nil old.blocks.items)) s;
+    }
+
+pub makes-knows : (old new : Resolver) (names : Surroundings → List Known) → Knows old.around old.findings new.findings names → new.around ≡ old.around →
+    new.blocks ≡ old.blocks → Makes old new no_faults no_cells (λ blocks. names) nothing_so
+makes-knows old new names k around same =
+    makes-adds old new no_faults no_cells (λ blocks. names) around same (λ blocks a spots first s. k.knows a s.stands.sees)
+
+-- ---- what is declared
+
+-- these declarations are of this block
+abbrev pub AreOf : ℕ → List Declared → Type 0
+AreOf block [] = Unit {0}
+AreOf block (d ∷ ds) = (d.block ≡ block) × AreOf block ds
+
+pub before-append : (n block : ℕ) (ds es : List Declared) → AreOf block ds → block < n → AreBefore n es → AreBefore n (ds ++ es)
+before-append n block [] es o h b = b
+before-append n block (d ∷ ds) es o h b =
+    (let P : ℕ → Type 0 = λ z. z < n in subst P (sym o.0) h, before-append n block ds es o.1 h b)
+
+pub makes-widens : (old new : Resolver) (made : List Block → Surroundings → List Declared) →
+    ((blocks : List Block) → Widens old.around new.around (λ a. record a { known = made blocks a ++ a.known })) →
+    ((blocks : List Block) (a : Surroundings) → AreOf a.block (made blocks a)) → new.findings ≡ old.findings → new.blocks ≡ old.blocks →
+    Makes old new no_faults no_cells no_uses (λ blocks a. record a { known = made blocks a ++ a.known })
+makes-widens old new made w o f same =
+    let count : length new.blocks.items ≡ length old.blocks.items = (let e : new.blocks.items ≡ old.blocks.items = cc in ap (λ z. length z) e) in
+    record {
+      outer = (let h = (w []).outer in let e : new.around.outer.items ≡ old.around.outer.items = cc in e);
+      procedures = (w []).procedures;
+      blocks = same;
+      adds =
+          λ blocks a spots first s.
+          let P : Findings → Type 0 = λ z. Adds old.findings [] [] [] z in subst P (sym f) (adds-none old.findings);
+      settles =
+          λ blocks a spots first s.
+          let known : ℕ → Type 0 = λ z. AreBefore z (made blocks a ++ a.known) in
+          let block : ℕ → Type 0 = λ z. a.block < z in
+          record {
+            stands =
+                record {
+                  sees = (w blocks).sees a s.stands.sees;
+                  known =
+                      subst known (sym count)
+                      (before-append (length old.blocks.items) a.block (made blocks a) a.known (o blocks a) s.stands.block s.stands.known);
+                  block = subst block (sym count) s.stands.block;
+                  outer = s.stands.outer;
+                };
+            holds = (w blocks).holds a s.stands.sees s.holds;
+            bounds = (w blocks).before (record a { known = first }) s.bounds;
+            typed = λ q. ap (λ z. is_typed z q) (w blocks).typed ∙ s.typed q;
+          };
+    }
+
+pub widens-then : (k l m : Around) (f g : Surroundings → Surroundings) → Widens k l f → Widens l m g → Widens k m (λ a. g (f a))
+widens-then k l m f g x y =
+    record {
+      outer = y.outer ∙ x.outer;
+      procedures = y.procedures ∙ x.procedures;
+      typed = y.typed ∙ x.typed;
+      before = λ a s. y.before a (x.before a s);
+      sees = λ a s. y.sees (f a) (x.sees a s);
+      holds = λ a s h. y.holds (f a) (x.sees a s) (x.holds a s h);
+    }
+
+pub widens-none : (k : Around) → Widens k k (λ a. a)
+widens-none k = record { outer = refl; procedures = refl; typed = refl; before = λ a s. s; sees = λ a s. s; holds = λ a s h. h }
+
+-- one more declaration
+pub widens-one : (k m : Around) (name : List ℕ) (entry : Entry) (d : Surroundings → Declared) → Declares k m name entry → m.outer ≡ k.outer →
+    m.procedures ≡ k.procedures → m.innermost.typed ≡ k.innermost.typed →
+    ((a : Surroundings) → Sees k seens.BeforeDeclarations a → Sees m seens.BeforeDeclarations a) → ((a : Surroundings) → (d a).name ≡ name) →
+    ((a : Surroundings) → (d a).block ≡ a.block) → ((a : Surroundings) → Sees k seens.All a → IsEntry k.procedures.items entry (d a)) →
+    Widens k m (λ a. record a { known = d a ∷ a.known })
+widens-one k m name entry d declares o p t before named in_block is =
+    record {
+      outer = o;
+      procedures = p;
+      typed = t;
+      before = before;
+      sees = λ a s. declares.sees a (d a) s (named a) (is a s);
+      holds = λ a s h. declares.holds a (d a) h (named a) (in_block a) (is a s);
+    }
+
+pub level-here : (k : Around) (seen : Seen) (a : Surroundings) → Sees k seen a → level_within k ≡ min (level_at a.depth) 255
+level-here k seen a s = ap (λ z. min (z + 2) 255) s.depth
+
+-- ---- which names the block has
+
+is_one_of-append : (xs ys : List (List ℕ)) (q : List ℕ) → is_one_of (xs ++ ys) q ≡ (is_one_of xs q || is_one_of ys q)
+is_one_of-append [] ys q = refl
+is_one_of-append (x ∷ xs) ys q = step (same_name x q) (is_one_of-append xs ys q)
+  where
+    step : (b : Bool) → is_one_of (xs ++ ys) q ≡ (is_one_of xs q || is_one_of ys q) →
+        (if b then true else is_one_of (xs ++ ys) q) ≡ ((if b then true else is_one_of xs q) || is_one_of ys q)
+    step true h = refl
+    step false h = h
+
+named_or_not : (ds : List Declared) (q : List ℕ) → is_one_of (map (λ (d : Declared). d.name) ds) q ≡ is_some (look_up ds q)
+named_or_not [] q = refl
+named_or_not (d ∷ ds) q = step (same_name d.name q) (named_or_not ds q)
+  where
+    step : (b : Bool) → is_one_of (map (λ (d : Declared). d.name) ds) q ≡ is_some (look_up ds q) →
+        (if b then true else is_one_of (map (λ (d : Declared). d.name) ds) q) ≡ is_some (if b then Some d else look_up ds q)
+    step true h = refl
+    step false h = h
+
+some_found : (ps : List Procedure) (e : Option Entry) (d : Option Declared) → IsFound ps e d → is_some d ≡ is_some e
+some_found ps None None f = refl
+some_found ps (Some e) (Some d) f = refl
+some_found ps None (Some d) f = absurd f
+some_found ps (Some e) None f = absurd f
+
+pub has-told : (blocks : List Block) (r : Resolver) (a : Surroundings) (spots : List Spot) (first : List Declared) (q : List ℕ) → Settles blocks r a spots first →
+    is_one_of (result_names_of (block_numbered blocks a.block) ++ names_here a) q ≡
+    has_name r.around.innermost.typed r.around.innermost.declared r.around.innermost.parameters q
+has-told blocks r a spots first q s =
+    let m = r.around.innermost in
+    is_one_of-append (result_names_of (block_numbered blocks a.block)) (names_here a) q
+    ∙ ap (λ b. b || is_one_of (names_here a) q) (sym (s.typed q))
+    ∙ ap (λ b. is_typed m.typed q || b)
+    (named_or_not (own a) q
+    ∙ some_found r.around.procedures.items (seen_under m.declared m.parameters seens.All q) (look_up (own a) q) (s.holds.here q))
+
+-- ---- a declaration alone, and declarations one after the other
+
+pub enters-made : (old new : Resolver) (d : PDecl) (later : PDecls) (f : List Block → Surroundings → List Fault) (c : List Block → Surroundings → List cells.Cell)
+    (u : List Block → Surroundings → List Known) (p : List Block → Surroundings → Surroundings) →
+    ((blocks : List Block) (a : Surroundings) → f blocks a ≡ faults_at blocks (decl_site d later a)) →
+    ((blocks : List Block) (a : Surroundings) → c blocks a ≡ cells_at blocks (decl_site d later a)) →
+    ((blocks : List Block) (a : Surroundings) → u blocks a ≡ known_at blocks (decl_site d later a)) → Makes old new f c u p →
+    Enters old new (λ blocks a first. decl_site d later a ∷ []) no_blocks p
+enters-made old new d later f c u p e h k m =
+    record {
+      outer = m.outer;
+      procedures =
+          (let same : new.around.procedures.items ≡ old.around.procedures.items = (let x = m.procedures in cc) in
+          let P : List Procedure → Type 0 = λ z. Extends old.around.procedures.items z in
+          subst P (sym same) (extends-none old.around.procedures.items));
+      comes =
+          λ blocks a spots first s n.
+          record {
+            finds =
+                adds-as old.findings new.findings (f blocks a) (faults_at blocks (decl_site d later a) ++ []) (c blocks a)
+                (cells_at blocks (decl_site d later a) ++ []) (u blocks a) (known_at blocks (decl_site d later a) ++ [])
+                (e blocks a ∙ sym (append-nil (faults_at blocks (decl_site d later a)))) (h blocks a ∙ sym (append-nil (cells_at blocks (decl_site d later a))))
+                (k blocks a ∙ sym (append-nil (known_at blocks (decl_site d later a)))) (m.adds blocks a spots first s);
+            begins =
+                (let b = m.blocks in let same : new.blocks.items ≡ old.blocks.items = cc in same ∙ sym (append-nil old.blocks.items));
+          };
+      settles = λ blocks a spots first s n. m.settles blocks a spots first s;
+    }
+
+pub enters-then : (old mid new : Resolver) (f g : List Block → Surroundings → List Declared → List Site) (b c : List Spot → List Block)
+    (p q : List Block → Surroundings → Surroundings) → Enters old mid f b p → Enters mid new g c q →
+    Enters old new (λ blocks a first. f blocks a first ++ g blocks (p blocks a) first) (λ spots. b spots ++ c spots) (λ blocks a. q blocks (p blocks a))
+enters-then old mid new f g b c p q x y =
+    record {
+      outer = y.outer ∙ x.outer;
+      procedures = extends-then old.around.procedures.items mid.around.procedures.items new.around.procedures.items x.procedures y.procedures;
+      comes =
+          λ blocks a spots first s n.
+          let l = numbered-left blocks (length old.blocks.items) (b spots) (c spots) n in
+          let one = x.comes blocks a spots first s l in
+          comes-then blocks old mid new (f blocks a first) (g blocks (p blocks a) first) (b spots) (c spots) one
+          (y.comes blocks (p blocks a) spots first (x.settles blocks a spots first s l)
+          (numbered-right blocks old mid (b spots) (c spots) one.begins n));
+      settles =
+          λ blocks a spots first s n.
+          let l = numbered-left blocks (length old.blocks.items) (b spots) (c spots) n in
+          let one = x.comes blocks a spots first s l in
+          y.settles blocks (p blocks a) spots first (x.settles blocks a spots first s l) (numbered-right blocks old mid (b spots) (c spots) one.begins n);
+    }
+
+pub enters-none : (r : Resolver) → Enters r r (λ blocks a first. []) no_blocks nothing_so
+enters-none r =
+    record {
+      outer = refl;
+      procedures = extends-none r.around.procedures.items;
+      comes = λ blocks a spots first s n. record { finds = adds-none r.findings; begins = sym (append-nil r.blocks.items) };
+      settles = λ blocks a spots first s n. s;
+    }
+
+-- bounds see what was known at the begin of the block
+pub enters-bounds : (old new : Resolver) (ps : List PPair) → Walks old.around seens.BeforeDeclarations old.findings new.findings (sites_in_pairs ps) →
+    new.around ≡ old.around → new.blocks ≡ old.blocks →
+    Enters old new (λ blocks a first. sites_in_pairs ps (record a { known = first })) no_blocks nothing_so
+enters-bounds old new ps w around same =
+    let begins : new.blocks.items ≡ old.blocks.items ++ [] =
+    (let e : new.blocks.items ≡ old.blocks.items = cc in e ∙ sym (append-nil old.blocks.items)) in
+    record {
+      outer = (let e : new.around.outer.items ≡ old.around.outer.items = cc in e);
+      procedures = (keeps-same old.around new.around around).procedures;
+      comes = λ blocks a spots first s n. record { finds = w.finds blocks (record a { known = first }) s.bounds; begins = begins };
+      settles = λ blocks a spots first s n. settles-kept blocks old new a spots first [] (keeps-same old.around new.around around) begins s;
+    }

@@ -1,0 +1,26 @@
+-- PROCESS: a name, a task's name, and actuals.
+use Rattle.std.proofs.Common.{◌≡◌, List, [], ◌∷◌, ◌++◌, map, Option}
+use Rattle.algol_tree.specs.declared.tree.Named.{Named}
+use Rattle.algol_tree.specs.Plain.{PExprs}
+use Rattle.algol_tree.specs.Surroundings.{Surroundings, formals_at}
+use Rattle.algol_tree.specs.Sites.{inside_actuals}
+use Rattle.algol_scope.specs.declared.known.Seen.TheVariants as seens
+use Rattle.algol_scope.specs.declared.formal.Mode.{Mode}
+use Rattle.algol_scope.specs.declared.around.Around.{Around}
+use Rattle.algol_scope.specs.declared.findings.Findings.{Findings}
+use Rattle.algol_scope.specs.Seeing.{Sees, mode_of}
+use Rattle.algol_scope.specs.Noting.{Passes, Walks, at_name, process_parts, task_parts}
+use Rattle.algol_scope.proofs.Walking.{finds-then}
+
+pub walks-process : (k : Around) (old one two new : Findings) (n : Named) (task : Option Named) (modes : List Mode) (es : PExprs) →
+    Walks k seens.All old one (λ a. at_name n a ∷ []) → Walks k seens.All one two (task_parts task) →
+    ((a : Surroundings) → Sees k seens.All a → modes ≡ map mode_of (formals_at a n)) → Passes k seens.All two new modes es →
+    Walks k seens.All old new (process_parts n task es)
+walks-process k old one two new n task modes es v w m p =
+    record {
+      finds =
+          λ blocks a s.
+          finds-then blocks old one new (at_name n a ∷ []) (task_parts task a ++ inside_actuals es (formals_at a n) a) (v.finds blocks a s)
+          (finds-then blocks one two new (task_parts task a) (inside_actuals es (formals_at a n) a) (w.finds blocks a s)
+          (p.finds blocks a (formals_at a n) s (m a s)));
+    }

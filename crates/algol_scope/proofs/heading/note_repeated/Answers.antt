@@ -1,0 +1,41 @@
+use Rattle.std.proofs.Common.{◌∙◌, ap, drop, refl, true}
+use Rattle.std.specs.Str.{bytes_eq}
+use Rattle.std.proofs.lemmas.List.{drop_all}
+use Rattle.algol_tree.specs.Sorts.{is_named_in}
+use Rattle.algol_scope.specs.Naming.{has_name, under}
+use Rattle.algol_scope.specs.Passing.{kept}
+use Rattle.algol_scope.proofs.Formals.{say-step}
+use Rattle.algol_scope.proofs.Headings.{repeats-start, repeats-item, repeats-end}
+use Rattle.algol_scope.proofs.heading.note_repeated.Goals as goal
+
+pub names-init : goal.names-init
+names-init c =
+    record {
+      noted =
+          λ seen known.
+          repeats-start (has_name c.args.names.now.typed c.args.names.now.declared c.args.names.now.parameters) (under c.args.before.now)
+          c.args.faults.now.first seen c.args.ns.now known;
+      before = λ q. refl;
+    }
+
+pub names-preserved : goal.names-preserved
+names-preserved c =
+    record {
+      noted =
+          λ seen known.
+          repeats-item (has_name c.args.names.now.typed c.args.names.now.declared c.args.names.now.parameters) (under c.names.before)
+          (under c.say.new.table) c.names.faults.first c.note_if.new.faults.first _ c.args.ns.now c.names.n-index c.n-item.result c.bytes-name.result.now
+          c.is_before.result c.names-test.true c.n-item.is c.bytes-name.ensures c.is_before.ensures c.note_if.ensures c.in_ok-say.ensures
+          (c.names.invariant.noted seen known);
+      before =
+          λ q.
+          say-step (under c.names.before q) (kept (under c.args.before.now q) (is_named_in c.args.ns.now q) true) (under c.say.new.table q) c.args.ns.now
+          c.names.n-index c.n-item.result q true c.names-test.true c.n-item.is (c.names.invariant.before q)
+          (c.in_ok-say.ensures q ∙ ap (λ z. kept (under c.names.before q) (bytes_eq z q) true) c.bytes-name.ensures);
+    }
+
+pub returns-clause-noted : goal.returns-clause-noted
+returns-clause-noted c =
+    λ seen known.
+    repeats-end (has_name c.args.names.now.typed c.args.names.now.declared c.args.names.now.parameters) (under c.names.before) c.names.faults.first _
+    (drop c.names.n-index c.args.ns.now) (drop_all c.names.n-index c.args.ns.now c.names-test.false) (c.names.invariant.noted seen known)

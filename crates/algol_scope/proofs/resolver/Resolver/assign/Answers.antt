@@ -1,0 +1,11 @@
+use Rattle.algol_scope.proofs.Walking.{on_ok}
+use Rattle.algol_scope.proofs.Statements.{visits-assign}
+use Rattle.algol_scope.proofs.resolver.Resolver.assign.Goals as goal
+
+pub returns : goal.returns
+returns c =
+    on_ok c.expr.result
+    (λ z listed.
+    visits-assign c.args.self.now c.name.new.self c.list.new.self c.expr.new.self c.args.v.now c.args.e.now listed c.in_ok-name.ensures
+    c.in_ok-list.ensures z)
+    c.expr.ensures

@@ -1,0 +1,6 @@
+use Rattle.algol_scope.proofs.Walking.{on_ok}
+use Rattle.algol_scope.proofs.Procedures.{declares-events}
+use Rattle.algol_scope.proofs.resolver.Resolver.events.Goals as goal
+
+pub returns : goal.returns
+returns c = on_ok c.cells.result (λ m later. declares-events c.args.self.now c.cells.new.self c.args.ns.now later m) c.cells.ensures

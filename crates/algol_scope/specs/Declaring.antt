@@ -1,0 +1,168 @@
+-- What the walk makes of declarations.
+use Rattle.std.specs.Prelude.{◌≡◌, ℕ, ◌++◌, true, List, [], ◌∷◌, length, is_some, if◌then◌else◌, Option, Some, None}
+use Rattle.std.specs.Borrow.{Bor}
+use Rattle.std.specs.BTreeMap.{BTreeMap}
+use Rattle.algol_tree.specs.declared.token.Spot.{Spot}
+use Rattle.algol_tree.specs.declared.tree.Heading.{Heading}
+use Rattle.algol_tree.specs.declared.tree.Named.{Named}
+use Rattle.algol_tree.specs.declared.refusal.Code.TheVariants as codes
+use Rattle.algol_tree.specs.declared.refusal.Fault.{Fault}
+use Rattle.algol_tree.specs.Plain as tree
+use Rattle.algol_tree.specs.Plain.{PStmt, PDecl, PDecls}
+use Rattle.algol_tree.specs.Classes as classes
+use Rattle.algol_tree.specs.Sorts.{Declared, Sort, declare, declared_parameters}
+use Rattle.algol_tree.specs.Blocks as rules
+use Rattle.algol_tree.specs.Blocks.{number_at, block_numbered, procedure_block}
+use Rattle.algol_tree.specs.Surroundings.{Surroundings, announced, body_of, declare_procedure, knowing, inside_procedure}
+use Rattle.algol_tree.specs.Sites as site
+use Rattle.algol_tree.specs.Sites.{Site, inside_decl}
+use Rattle.algol_tree.specs.Cells as cells
+use Rattle.algol_tree.specs.Cells.{cells_for, result_cells}
+use Rattle.algol_tree.specs.Couples.{Known, known_names, known_in_heading}
+use Rattle.algol_tree.specs.Names.{twice_here}
+use Rattle.algol_tree.specs.Accepted.{broken}
+use Rattle.algol_scope.specs.declared.known.Class.{Class}
+use Rattle.algol_scope.specs.declared.known.Class.TheVariants as class
+use Rattle.algol_scope.specs.declared.known.Seen.{Seen}
+use Rattle.algol_scope.specs.declared.known.Seen.TheVariants as seens
+use Rattle.algol_scope.specs.declared.around.Around.{Around}
+use Rattle.algol_scope.specs.declared.around.Procedure.{Procedure}
+use Rattle.algol_scope.specs.declared.declaration.Ahead.{Ahead}
+use Rattle.algol_scope.specs.declared.resolver.Resolver.{Resolver}
+use Rattle.algol_scope.specs.Seeing.{IsClass, Sees, Holds}
+use Rattle.algol_scope.specs.Naming.{IsBare, under}
+use Rattle.algol_scope.specs.Noting.{Adds, faults_at}
+use Rattle.algol_scope.specs.Stating.{Settles, block_of}
+
+-- ---- what stands ahead
+
+-- the procedure is that of this heading with its body
+pub record IsOf (ps : List Procedure) (x : Ahead) (h : Heading) : Type 0 where
+  pub class : IsClass ps (class.Procedure x.procedure) (classes.procedure h)
+  pub spot : x.spot ≡ h.name.spot
+
+-- what is found ahead of a declaration is that of the procedure which it declares
+abbrev pub IsAhead : List Procedure → PDecl → PDecls → Ahead → Type 0
+IsAhead ps (tree.forward h) later x = IsOf ps x (announced h later) × (x.has_body ≡ is_some (body_of h.name.name later))
+IsAhead ps (tree.procedure h s) later x = IsOf ps x h
+IsAhead ps _ later x = Unit {0}
+
+abbrev pub AreAhead : List Procedure → PDecls → List Ahead → Type 0
+AreAhead ps tree.no_decls [] = Unit {0}
+AreAhead ps (tree.decls d ds) (x ∷ xs) = IsAhead ps d ds x × AreAhead ps ds xs
+AreAhead ps _ _ = ⊥
+
+-- ---- names
+
+-- the place behind a declaration of these names
+abbrev pub declaring : Sort → classes.Class → List Named → Surroundings → Surroundings
+declaring sort c ns a = record a { known = declare a.block a.depth sort c ns ++ a.known }
+
+-- The innermost block declares more, of which this is found, and behind which the surroundings are these.
+pub record Makes (old new : Resolver) (faults : List rules.Block → Surroundings → List Fault) (cs : List rules.Block → Surroundings → List cells.Cell)
+    (uses : List rules.Block → Surroundings → List Known) (after : List rules.Block → Surroundings → Surroundings) : Type 0 where
+  pub outer : new.around.outer.items ≡ old.around.outer.items
+  pub procedures : new.around.procedures ≡ old.around.procedures
+  pub blocks : new.blocks ≡ old.blocks
+  pub adds : (blocks : List rules.Block) (a : Surroundings) (spots : List Spot) (first : List Declared) → Settles blocks old a spots first →
+      Adds old.findings (faults blocks a) (cs blocks a) (uses blocks a) new.findings
+  pub settles : (blocks : List rules.Block) (a : Surroundings) (spots : List Spot) (first : List Declared) → Settles blocks old a spots first →
+      Settles blocks new (after blocks a) spots first
+
+-- the names that the block has before are declared twice
+abbrev pub twice_among : List Named → List rules.Block → Surroundings → List Fault
+twice_among ns blocks a = broken codes.DeclaredTwice (twice_here blocks a ns)
+
+abbrev pub no_faults : List rules.Block → Surroundings → List Fault
+no_faults blocks a = []
+
+abbrev pub no_cells : List rules.Block → Surroundings → List cells.Cell
+no_cells blocks a = []
+
+abbrev pub no_uses : List rules.Block → Surroundings → List Known
+no_uses blocks a = []
+
+abbrev pub cells_here : cells.Content → List Named → List rules.Block → Surroundings → List cells.Cell
+cells_here content ns blocks a = cells_for a.block content ns
+
+-- the places behind declarations
+abbrev pub declared_so : Sort → classes.Class → List Named → List rules.Block → Surroundings → Surroundings
+declared_so sort c ns blocks a = declaring sort c ns a
+
+abbrev pub procedure_so : Heading → List rules.Block → Surroundings → Surroundings
+procedure_so h blocks a = record a { known = declare_procedure blocks h a ++ a.known }
+
+abbrev pub parameters_so : Heading → Surroundings → Surroundings
+parameters_so h a = record a { known = declared_parameters a.block a.depth h ++ a.known }
+
+abbrev pub nothing_so : List rules.Block → Surroundings → Surroundings
+nothing_so blocks a = a
+
+-- the names as they are known behind declarations
+abbrev pub known_so : (List rules.Block → Surroundings → Surroundings) → List Named → List rules.Block → Surroundings → List Known
+known_so after ns blocks a = known_names (after blocks a) ns
+
+-- what the class of a name that is no procedure stands for
+abbrev pub StandsFor : Class → classes.Class → Type 0
+StandsFor class c = (ps : List Procedure) → IsClass ps class c
+
+-- The innermost block declares more names, behind which the surroundings are these.
+pub record Widens (old new : Around) (after : Surroundings → Surroundings) : Type 0 where
+  pub outer : new.outer ≡ old.outer
+  pub procedures : new.procedures ≡ old.procedures
+  pub typed : new.innermost.typed ≡ old.innermost.typed
+  pub before : (a : Surroundings) → Sees old seens.BeforeDeclarations a → Sees new seens.BeforeDeclarations a
+  pub sees : (a : Surroundings) → Sees old seens.All a → Sees new seens.All (after a)
+  pub holds : (a : Surroundings) → Sees old seens.All a → Holds old a → Holds new (after a)
+
+-- The innermost block, which declares nothing yet, has parameters, behind which the surroundings are these.
+pub record Admits (old new : Around) (after : Surroundings → Surroundings) : Type 0 where
+  pub outer : new.outer ≡ old.outer
+  pub procedures : new.procedures ≡ old.procedures
+  pub typed : new.innermost.typed ≡ old.innermost.typed
+  pub declared : new.innermost.declared ≡ old.innermost.declared
+  pub sees : (sees : Seen) (a : Surroundings) → IsBare old.innermost.declared → Sees old seens.All a → Sees old sees a → Sees new sees (after a)
+  pub holds : (a : Surroundings) → IsBare old.innermost.declared → Sees old seens.All a → Holds old a → Holds new (after a)
+
+-- ---- bodies that stand ahead
+
+abbrev pub IsBody : List Procedure → Option Ahead → Option Heading → Type 0
+IsBody ps None None = Unit {0}
+IsBody ps (Some x) (Some h) = IsOf ps x h × (x.has_body ≡ true)
+IsBody ps _ _ = ⊥
+
+-- the table has the procedures with a body among these declarations
+pub record HasBodies (ps : List Procedure) (table : BTreeMap (Bor (List ℕ)) Ahead) (later : PDecls) : Type 0 where
+  pub bodies : (name : List ℕ) → IsBody ps (under table name) (body_of name later)
+
+-- ---- procedures
+
+-- the declaration is the only part
+abbrev pub decl_site : PDecl → PDecls → Surroundings → Site
+decl_site d later a = record { part = site.declaration d later; around = a }
+
+-- a name that the walk declares as a procedure
+abbrev pub cell_of_procedure : Heading → List rules.Block → Surroundings → List cells.Cell
+cell_of_procedure h blocks a = cells_for a.block cells.procedure (h.name ∷ [])
+
+abbrev pub faults_of_decl : PDecl → PDecls → List rules.Block → Surroundings → List Fault
+faults_of_decl d later blocks a = faults_at blocks (decl_site d later a)
+
+-- the cell of the result of a typed procedure, in this block
+abbrev pub result_in : ℕ → Heading → List cells.Cell
+result_in block h = if is_some h.kind then cells_for block cells.result (h.name ∷ []) else []
+
+-- The block of a procedure begins, with its result and its parameters.
+pub record Starts (old new : Resolver) (h : Heading) : Type 0 where
+  pub outer : new.around.outer.items ≡ old.around.outer.items ++ old.around.innermost ∷ []
+  pub procedures : new.around.procedures ≡ old.around.procedures
+  pub comes : (blocks : List rules.Block) (a : Surroundings) (spots : List Spot) (first : List Declared) (s : PStmt) → Settles blocks old a spots first →
+      number_at blocks h.name.spot ≡ length old.blocks.items → block_numbered blocks (length old.blocks.items) ≡ procedure_block h s spots →
+      (new.blocks.items ≡ old.blocks.items ++ block_of (procedure_block h s spots) ∷ []) ×
+      (Adds old.findings [] (result_cells blocks h ++ cells_for (number_at blocks h.name.spot) cells.parameter h.params)
+      (known_in_heading h (inside_procedure blocks h a)) new.findings ×
+      Settles blocks new (inside_procedure blocks h a) (h.name.spot ∷ spots) (inside_procedure blocks h a).known)
+
+-- a declaration, and what is in it
+abbrev pub decl_parts : PDecl → PDecls → List rules.Block → Surroundings → List Declared → List Site
+decl_parts d later blocks a first = decl_site d later a ∷ inside_decl blocks d (knowing blocks d later a) first

@@ -1,0 +1,141 @@
+//! The walk over statements and declarations, in the order of the text.
+
+use crate::declaration::Ahead;
+use crate::resolver::Resolver;
+use algol_tree::{Body, Decl, Expr, Heading, List, Named, Stmt};
+use std::alloc::AllocError;
+
+impl<'p> Resolver<'p> {
+    #[cycle(statements)]
+    fn stmt(&mut self, s: &'p Stmt) -> Result<(), AllocError> {
+        match s {
+            Stmt::Empty => Ok(()),
+            Stmt::Label(n, s) => self.labelled(n, s),
+            Stmt::Assign(v, e) => self.assign(v, e),
+            Stmt::Call(c) => self.call(c),
+            Stmt::GoTo(n) => self.name(n),
+            Stmt::Block(b) => self.begin(b),
+            Stmt::If(c, a, b) => {
+                self.guarded(a, c)?;
+                match b {
+                    None => Ok(()),
+                    Some(b) => self.stmt(b),
+                }
+            }
+            Stmt::While(c, b) => self.guarded(b, c),
+            Stmt::Until(b, c) => self.until(b, c),
+            Stmt::For(v, a, s, l, b) => self.counted(b, v, a, s, l),
+            Stmt::Thru(e, b) => self.guarded(b, e),
+            Stmt::Case(e, ss) => self.case(ss, e),
+            Stmt::Process(c, task) => self.process(c, task),
+            Stmt::Event(_, event) => self.name(&event.name),
+            Stmt::Write(n, _, _, items) => self.write(n, items),
+        }
+    }
+
+    #[cycle(statements)]
+    fn labelled(&mut self, n: &'p Named, s: &'p Stmt) -> Result<(), AllocError> {
+        self.name(n)?;
+        self.stmt(s)
+    }
+
+    /// A statement behind its condition or its count.
+    #[cycle(statements)]
+    fn guarded(&mut self, s: &'p Stmt, c: &'p Expr) -> Result<(), AllocError> {
+        self.expr(c)?;
+        self.stmt(s)
+    }
+
+    #[cycle(statements)]
+    fn until(&mut self, s: &'p Stmt, c: &'p Expr) -> Result<(), AllocError> {
+        self.stmt(s)?;
+        self.expr(c)
+    }
+
+    #[cycle(statements)]
+    fn counted(
+        &mut self,
+        s: &'p Stmt,
+        v: &'p Named,
+        first: &'p Expr,
+        step: &'p Expr,
+        last: &'p Expr,
+    ) -> Result<(), AllocError> {
+        self.counting(v, first, step, last)?;
+        self.stmt(s)
+    }
+
+    #[cycle(statements)]
+    fn case(&mut self, ss: &'p List<Stmt>, e: &'p Expr) -> Result<(), AllocError> {
+        self.expr(e)?;
+        self.stmts(ss)
+    }
+
+    #[cycle(statements)]
+    fn stmts(&mut self, ss: &'p List<Stmt>) -> Result<(), AllocError> {
+        'statements: for s in ss.items() {
+            self.stmt(s)?;
+        }
+        Ok(())
+    }
+
+    /// A BEGIN, which is a block of its own where it has declarations.
+    #[cycle(statements)]
+    fn begin(&mut self, b: &'p Body) -> Result<(), AllocError> {
+        if b.decls.items().as_slice().is_empty() {
+            return self.stmts(&b.stmts);
+        }
+        self.open(b.spot, None, false)?;
+        self.body(b)?;
+        self.around.close();
+        Ok(())
+    }
+
+    /// The declarations and the statements of the innermost block, which has just begun.
+    #[cycle(statements)]
+    pub fn body(&mut self, b: &'p Body) -> Result<(), AllocError> {
+        self.decls(b.decls.items().as_slice())?;
+        self.stmts(&b.stmts)
+    }
+
+    #[cycle(statements)]
+    fn decls(&mut self, ds: &'p [Decl]) -> Result<(), AllocError> {
+        let ahead = self.look_ahead(ds)?;
+        'declarations: for at in 0..ds.len() {
+            self.decl(&ds[at], ahead[at])?;
+        }
+        Ok(())
+    }
+
+    #[cycle(statements)]
+    fn decl(&mut self, d: &'p Decl, ahead: Ahead) -> Result<(), AllocError> {
+        match d {
+            Decl::Simple(_, ns) => self.simple(ns),
+            Decl::Files(ns) => self.files(ns),
+            Decl::Events(ns) => self.events(ns),
+            Decl::Tasks(ns) => self.tasks(ns),
+            Decl::Labels(ns) => self.labels(ns),
+            Decl::Arrays(_, ns, pairs) => self.arrays(ns, pairs),
+            Decl::Forward(h) => self.forward(h, ahead),
+            Decl::Procedure(h, s) => self.procedure(h, s, ahead),
+        }
+    }
+
+    #[cycle(statements)]
+    fn procedure(&mut self, h: &'p Heading, s: &'p Stmt, ahead: Ahead) -> Result<(), AllocError> {
+        self.declare_procedure(h, s, ahead)?;
+        self.begin_procedure(h, ahead)?;
+        self.procedure_body(s)?;
+        self.around.close();
+        Ok(())
+    }
+
+    /// The body of a procedure. Where it is a BEGIN, its declarations are those of the procedure's own block.
+    #[cycle(statements)]
+    fn procedure_body(&mut self, s: &'p Stmt) -> Result<(), AllocError> {
+        match s {
+            Stmt::Block(b) => self.body(b),
+            _ => self.stmt(s),
+        }
+    }
+}

@@ -1,0 +1,83 @@
+//! Scopes, from the walk over a tree.
+
+ghost use Rattle.std.specs.Prelude.{◌≡◌, IfErr, OnOk};
+ghost use Rattle.algol_tree.specs.Accepted.{broken, noted_all};
+ghost use Rattle.algol_tree.specs.Image as image;
+ghost use Rattle.algol_tree.specs.Names.{program_segment};
+ghost use Rattle.algol_tree.specs.declared.refusal.Code.TheVariants as codes;
+ghost use Rattle.algol_tree.specs.declared.refusal.Refusal.TheVariants as refusals;
+ghost use Rattle.algol_scope.specs.Finding.{limit_faults};
+ghost use Rattle.algol_scope.specs.Noting.{long_segment};
+
+use crate::heading::note_if;
+use crate::layout::{actuals, declared, frames_of, levels, results};
+use crate::limits::{Cells, by_block, note_cells, note_levels, note_procedures};
+use crate::resolver::Resolver;
+use crate::scopes::Scopes;
+use algol_rules::{Faults, program_tokens};
+use algol_tree::{Code, MOST_SEGMENT_TOKENS, Program, Refusal};
+use std::alloc::{AllocError, Global};
+
+/// What is found in a whole program.
+fn found_in<'p>(alloc: Global, program: &'p Program) -> Result<Resolver<'p>, AllocError> {
+    let mut resolver = Resolver::new(alloc);
+    resolver.begun(program.body.spot, false)?;
+    resolver.body(&program.body)?;
+    Ok(resolver)
+}
+
+/// Notes whether the text of the program itself is too long.
+fn note_program(program: &Program, faults: &mut Faults)
+    ensures { faults.new.first ≡ noted_all faults.old.first (broken codes.SegmentTooLong (long_segment (program_segment (image.program program.now)))) }
+{
+    note_if(
+        program_tokens(program) > MOST_SEGMENT_TOKENS,
+        program.body.spot,
+        Code::SegmentTooLong,
+        faults,
+    );
+}
+
+/// Notes the limits that are passed by blocks with these cells, and by the program's text.
+fn note_limits(
+    alloc: Global,
+    program: &Program,
+    found: &mut Resolver,
+    cells: &Cells,
+) -> Result<(), AllocError>
+    ensures { OnOk result (found.new.findings.faults.first ≡ noted_all found.old.findings.faults.first (limit_faults (image.program program.now) found.old.blocks.items cells.now)) }
+{
+    let blocks = found.blocks.as_slice();
+    let faults = &mut found.findings.faults;
+    note_levels(blocks, faults);
+    note_cells(blocks, cells, faults);
+    note_procedures(alloc, blocks, faults)?;
+    note_program(program, faults);
+    Ok(())
+}
+
+/// The scopes of a program, or the first rule of names and limits that it breaks. `NoMemory` comes where memory is
+/// wanting.
+pub fn resolve(alloc: Global, program: &Program) -> Result<Scopes, Refusal> {
+    let mut found = found_in(alloc, program)?;
+    let cells = by_block(alloc, found.findings.cells.as_slice())?;
+    note_limits(alloc, program, &mut found, &cells)?;
+    match found.findings.faults.refusal() {
+        Err(refusal) => Err(refusal),
+        Ok(()) => scopes_of(alloc, &found, &cells),
+    }
+}
+
+/// The scopes that the walk found.
+fn scopes_of(alloc: Global, found: &Resolver, cells: &Cells) -> Result<Scopes, Refusal>
+    ensures { IfErr result (λ refusal. refusal ≡ refusals.NoMemory) }
+{
+    let blocks = found.blocks.as_slice();
+    let frames = frames_of(alloc, blocks, cells)?;
+    Ok(Scopes {
+        declared: declared(alloc, frames.as_slice(), found.findings.uses.as_slice())?,
+        actuals: actuals(alloc, frames.as_slice(), found.findings.cells.as_slice())?,
+        results: results(alloc, frames.as_slice(), blocks)?,
+        levels: levels(alloc, blocks)?,
+    })
+}
