@@ -1,0 +1,123 @@
+-- Tables of bodies, and what declarations announce.
+use Rattle.std.proofs.Common.{rules, ◌≡◌, ℕ, ◌+◌, ◌-◌, ◌<◌, ◌≤◌, Bool, true, false, List, [], ◌∷◌, ◌++◌, map, length, drop, get_or, reverse, Option, Some, None, refl, ap, sym, ◌∙◌, subst, arith, drop-cons, suc, zero}
+use Rattle.std.proofs.lemmas.List.{reverse-append}
+use Rattle.std.specs.Prelude.{◌==◌, ◌&&◌, if◌then◌else◌, cond, option_copied}
+use Rattle.std.specs.Borrow.{Bor}
+use Rattle.std.specs.Ordering.{nat_cmp}
+use Rattle.std.specs.Cmp.Lexicographic.{slice_cmp}
+use Rattle.std.specs.Str.{bytes_eq}
+use Rattle.std.specs.BTreeMap as maps
+use Rattle.std.specs.BTreeMap.{BTreeMap}
+use Rattle.std.specs.declared.boxed.Box.{Box}
+use Rattle.std.specs.declared.alloc.Global.{Global}
+use Rattle.std.proofs.lemmas.Map.Text.{btree_map_updates_str}
+use Rattle.algol_tree.specs.declared.tree.Heading.{Heading}
+use Rattle.algol_tree.specs.declared.tree.Decl.{Decl, the_lemmas}
+use Rattle.algol_tree.specs.declared.tree.Decl.TheVariants as shapes
+use Rattle.algol_tree.specs.declared.tree.Stmt.{Stmt}
+use Rattle.algol_tree.specs.Image.{decl, decls, stmt}
+use Rattle.algol_tree.specs.Plain as tree
+use Rattle.algol_tree.specs.Plain.{PDecl, PDecls}
+use Rattle.algol_tree.specs.Sorts.{same_name}
+use Rattle.algol_tree.specs.Surroundings.{body_of}
+use Rattle.algol_check.specs.Announced.{HasBodies, bodies_for, body_at, body_for, heading_in}
+
+straight : (xs ys : List ℕ) → bytes_eq xs ys ≡ same_name xs ys
+straight [] [] = refl
+straight [] (y ∷ ys) = refl
+straight (x ∷ xs) [] = refl
+straight (x ∷ xs) (y ∷ ys) = ap (λ b. (x == y) && b) (straight xs ys)
+
+-- a table after one more heading
+pub put_heading : (name : Bor (List ℕ)) (old new : BTreeMap (Bor (List ℕ)) (Bor Heading)) (h : Bor Heading) →
+    maps.UpdatesBy (λ x y. slice_cmp nat_cmp x.now y.now) (λ k. slice_cmp nat_cmp name.now k.now) old new (Some h) → (q : List ℕ) →
+    heading_in new q ≡ (if same_name name.now q then Some h.now else heading_in old q)
+put_heading name old new h u q =
+    ap option_copied (btree_map_updates_str name.now old new (Some h) u q)
+    ∙ chosen (bytes_eq name.now q) h (maps.get_by (λ k. slice_cmp nat_cmp q k.now) old)
+    ∙ ap (λ b. if b then Some h.now else heading_in old q) (straight name.now q)
+  where
+    chosen : (b : Bool) (f : Bor Heading) (o : Option (Bor Heading)) → option_copied (cond b (Some f) o) ≡ (if b then Some f.now else option_copied o)
+    chosen true f o = refl
+    chosen false f o = refl
+
+pub ruleset putting = put_heading
+
+-- ---- one declaration
+
+procedure_is : (h : Heading) (s : Box Stmt Global) → decl (shapes.Procedure h s) ≡ tree.procedure h (stmt s.value)
+procedure_is h s = search (rules, the_lemmas)
+
+forward_is : (h : Heading) → decl (shapes.Forward h) ≡ tree.forward h
+forward_is h = search (rules, the_lemmas)
+
+pub procedure_bodies : (d : Decl) (h : Heading) (s : Box Stmt Global) (old new : BTreeMap (Bor (List ℕ)) (Bor Heading)) (later : PDecls) → d ≡ shapes.Procedure h s →
+    ((name : List ℕ) → heading_in new name ≡ (if same_name h.name.name name then Some h else heading_in old name)) → HasBodies old later →
+    HasBodies new (tree.decls (decl d) later)
+procedure_bodies d h s old new later is put had = λ name.
+    put name ∙ ap (λ o. if same_name h.name.name name then Some h else o) (had name)
+    ∙ sym (ap (λ (x : PDecl). body_of name (tree.decls x later)) (ap decl is ∙ procedure_is h s))
+
+pub procedure_announces : (d : Decl) (h : Heading) (s : Box Stmt Global) (later : PDecls) → d ≡ shapes.Procedure h s → None ≡ body_for (decl d) later
+procedure_announces d h s later is = sym (ap (λ (x : PDecl). body_for x later) (ap decl is ∙ procedure_is h s))
+
+pub forward_bodies : (d : Decl) (h : Heading) (table : BTreeMap (Bor (List ℕ)) (Bor Heading)) (later : PDecls) → d ≡ shapes.Forward h → HasBodies table later →
+    HasBodies table (tree.decls (decl d) later)
+forward_bodies d h table later is had = λ name. had name ∙ sym (ap (λ (x : PDecl). body_of name (tree.decls x later)) (ap decl is ∙ forward_is h))
+
+pub forward_announces : (d : Decl) (h : Heading) (table : BTreeMap (Bor (List ℕ)) (Bor Heading)) (bytes : List ℕ) (found : Option (Bor Heading)) (later : PDecls) →
+    d ≡ shapes.Forward h → bytes ≡ h.name.name → option_copied found ≡ heading_in table bytes → HasBodies table later → option_copied found ≡ body_for (decl d) later
+forward_announces d h table bytes found later is b f had =
+    f ∙ had bytes ∙ ap (λ (name : List ℕ). body_of name later) b ∙ sym (ap (λ (x : PDecl). body_for x later) (ap decl is ∙ forward_is h))
+
+-- ---- all declarations, the last first
+
+split : {A : Type 0} (xs : List A) (i : ℕ) (x : A) → i < length xs → drop i xs ≡ get_or xs i x ∷ drop (i + 1) xs
+split xs i x h = let next : suc i ≡ i + 1 = omega arith in drop-cons xs i x h ∙ ap (λ n. get_or xs i x ∷ drop n xs) next
+
+back : (ds : List Decl) (at : ℕ) (d : Decl) → 0 < at → at ≤ length ds → d ≡ get_or ds (at - 1) d → drop (at - 1) ds ≡ d ∷ drop at ds
+back ds at d low high e =
+    let next : (at - 1) + 1 ≡ at = omega (arith, low) in
+    let h : at - 1 < length ds = omega (arith, low, high) in
+    split ds (at - 1) d h ∙ ap (λ x. x ∷ drop ((at - 1) + 1) ds) (sym e) ∙ ap (λ (n : ℕ). d ∷ drop n ds) next
+
+pub bodies_back : (ds : List Decl) (at : ℕ) (d : Decl) (old new : BTreeMap (Bor (List ℕ)) (Bor Heading)) → 0 < at → at ≤ length ds → d ≡ get_or ds (at - 1) d →
+    ((later : PDecls) → HasBodies old later → HasBodies new (tree.decls (decl d) later)) → HasBodies old (decls (drop at ds)) → HasBodies new (decls (drop (at - 1) ds))
+bodies_back ds at d old new low high e h had =
+    let P : List Decl → Type 0 = λ xs. HasBodies new (decls xs) in subst P (sym (back ds at d low high e)) (h (decls (drop at ds)) had)
+
+pub found_back : (ds : List Decl) (at : ℕ) (d : Decl) (body : Option (Bor Heading)) (old new : List (Option (Bor Heading))) → 0 < at → at ≤ length ds → d ≡ get_or ds (at - 1) d →
+    option_copied body ≡ body_for (decl d) (decls (drop at ds)) → new ≡ old ++ body ∷ [] → map option_copied (reverse old) ≡ bodies_for (decls (drop at ds)) →
+    map option_copied (reverse new) ≡ bodies_for (decls (drop (at - 1) ds))
+found_back ds at d body old new low high e b n h =
+    ap (λ (xs : List (Option (Bor Heading))). map option_copied xs) (ap reverse n ∙ reverse-append old (body ∷ []))
+    ∙ ap (λ os. option_copied body ∷ os) h ∙ ap (λ o. o ∷ bodies_for (decls (drop at ds))) b
+    ∙ sym (ap (λ (xs : List Decl). bodies_for (decls xs)) (back ds at d low high e))
+
+dropped : {A : Type 0} (xs : List A) (i : ℕ) → length xs ≤ i → drop i xs ≡ []
+dropped [] zero h = refl
+dropped [] (suc i) h = refl
+dropped (x ∷ xs) zero h = absurd (omega arith)
+dropped (x ∷ xs) (suc i) h = dropped xs i (omega arith)
+
+pub bodies_none : (ds : List Decl) (i : ℕ) (table : BTreeMap (Bor (List ℕ)) (Bor Heading)) → length ds ≤ i → ((name : List ℕ) → heading_in table name ≡ None) →
+    HasBodies table (decls (drop i ds))
+bodies_none ds i table h none =
+    let P : List Decl → Type 0 = λ xs. HasBodies table (decls xs) in subst P (sym (dropped ds i h)) (λ name. none name)
+
+pub found_none : (ds : List Decl) (i : ℕ) (found : List (Option (Bor Heading))) → length ds ≤ i → found ≡ [] → map option_copied (reverse found) ≡ bodies_for (decls (drop i ds))
+found_none ds i found h e =
+    ap (λ (xs : List (Option (Bor Heading))). map option_copied (reverse xs)) e ∙ sym (ap (λ (xs : List Decl). bodies_for (decls xs)) (dropped ds i h))
+
+pub found_all : (ds : List Decl) (at : ℕ) (found : List (Option (Bor Heading))) → at ≤ 0 → map option_copied (reverse found) ≡ bodies_for (decls (drop at ds)) →
+    map option_copied (reverse found) ≡ bodies_for (decls ds)
+found_all ds at found h e = let z : at ≡ 0 = omega arith in e ∙ ap (λ (n : ℕ). bodies_for (decls (drop n ds))) z
+
+-- ---- the body of one of them
+
+pub announced_at : (ds : List Decl) (i : ℕ) (d : Decl) → i < length ds → d ≡ get_or ds i d → body_at (bodies_for (decls ds)) i ≡ body_for (decl d) (decls (drop (i + 1) ds))
+announced_at [] i d h e = absurd (omega arith)
+announced_at (x ∷ xs) zero d h e = ap (λ (y : Decl). body_for (decl y) (decls xs)) (sym e)
+announced_at (x ∷ xs) (suc i) d h e =
+    let next : suc i + 1 ≡ suc (i + 1) = omega arith in
+    announced_at xs i d (omega arith) e ∙ sym (ap (λ (n : ℕ). body_for (decl d) (decls (drop n (x ∷ xs)))) next)

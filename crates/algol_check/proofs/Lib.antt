@@ -1,0 +1,9 @@
+pub mod Bodies
+pub mod Silent
+pub mod Walked
+pub mod Stated
+pub mod Named
+pub mod Bodied
+pub mod Arms
+pub mod Ordered
+pub mod Entire

@@ -1,0 +1,109 @@
+-- Walks one after the other.
+use Rattle.std.proofs.Common.{◌≡◌, List, [], ◌∷◌, ◌++◌, map, reverse, refl, ap, sym, ◌∙◌, subst, append_assoc, append-nil}
+use Rattle.std.proofs.lemmas.Grind.{flat_map-append}
+use Rattle.std.specs.List.{flat_map}
+use Rattle.algol_tree.specs.declared.token.Spot.{Spot}
+use Rattle.algol_tree.specs.Blocks.{Block, number_at}
+use Rattle.algol_tree.specs.Surroundings.{Surroundings}
+use Rattle.algol_tree.specs.Sites.{Site}
+use Rattle.algol_rules.specs.declared.fault.Faults.{Faults}
+use Rattle.algol_sites.specs.declared.place.Place.{Place}
+use Rattle.algol_sites.specs.declared.known.Names.{Names}
+use Rattle.algol_sites.specs.Labelling.{standing_as, standings_at, labels_at}
+use Rattle.algol_sites.specs.Noting.{noted_along}
+use Rattle.algol_sites.specs.Placing.{AreBlocks, AreFound, IsPlaced, outer_of}
+use Rattle.algol_sites.specs.Seeing.{Sees}
+use Rattle.algol_sites.proofs.Notes.{noted_along-append}
+use Rattle.algol_check.specs.declared.checker.Checker.{Checker}
+use Rattle.algol_check.specs.Walking.{IsAt, Noted, Stays, Walks, no_blocks}
+use Rattle.algol_check.proofs.Silent.{IsSilent}
+
+-- ---- the same place, in other words
+
+pub outer_alike : (p q : Place) → q.block ≡ p.block → q.around.items ≡ p.around.items → outer_of q ≡ outer_of p
+outer_alike p q b o = ap (λ (s : Spot). s ∷ reverse q.around.items) b ∙ ap (λ (ss : List Spot). p.block ∷ reverse ss) o
+
+pub placed_alike : (blocks : List Block) (a : Surroundings) (p q : Place) → q.block ≡ p.block → q.around.items ≡ p.around.items → IsPlaced blocks p a → IsPlaced blocks q a
+placed_alike blocks a p q b o h =
+    let P : List Spot → Type 0 = AreBlocks blocks in
+    record {
+      number = h.number ∙ ap (number_at blocks) (sym b);
+      outer = h.outer ∙ ap (λ (ss : List Spot). map (number_at blocks) (reverse ss)) (sym o);
+      are_blocks = subst P (sym (outer_alike p q b o)) h.are_blocks;
+    }
+
+pub at_alike : (blocks : List Block) (a : Surroundings) (c d : Checker) → d.known.items ≡ c.known.items → d.place.block ≡ c.place.block →
+    d.place.around.items ≡ c.place.around.items → IsAt blocks c a → IsAt blocks d a
+at_alike blocks a c d k b o h =
+    let P : List Names → Type 0 = λ ts. Sees blocks ts a in
+    record { sees = subst P (sym k) h.sees; placed = placed_alike blocks a c.place d.place b o h.placed }
+
+pub stays_at : (blocks : List Block) (a : Surroundings) (c d : Checker) → Stays c d → IsAt blocks c a → IsAt blocks d a
+stays_at blocks a c d s h = at_alike blocks a c d s.known s.block s.outer h
+
+pub stays_both : (c d e : Checker) → Stays c d → Stays d e → Stays c e
+stays_both c d e s t = record { known = t.known ∙ s.known; block = t.block ∙ s.block; outer = t.outer ∙ s.outer }
+
+-- ---- what is noted
+
+pub noted_none : (blocks : List Block) (c : Checker) → Noted blocks c c []
+noted_none blocks c =
+    record { faults = refl; labels = sym (append-nil c.labels.items); standings = sym (append-nil (map standing_as c.standings.items)) }
+
+pub noted_both : (blocks : List Block) (c d e : Checker) (xs ys : List Site) → Noted blocks c d xs → Noted blocks d e ys → Noted blocks c e (xs ++ ys)
+noted_both blocks c d e xs ys h k =
+    record {
+      faults = k.faults ∙ ap (λ f. noted_along blocks f ys) h.faults ∙ sym (noted_along-append blocks c.faults.first xs ys);
+      labels =
+          k.labels ∙ ap (λ ls. ls ++ flat_map labels_at ys) h.labels ∙ append_assoc c.labels.items (flat_map labels_at xs) (flat_map labels_at ys)
+          ∙ ap (λ ls. c.labels.items ++ ls) (sym (flat_map-append labels_at xs ys));
+      standings =
+          k.standings ∙ ap (λ ss. ss ++ flat_map standings_at ys) h.standings
+          ∙ append_assoc (map standing_as c.standings.items) (flat_map standings_at xs) (flat_map standings_at ys)
+          ∙ ap (λ ss. map standing_as c.standings.items ++ ss) (sym (flat_map-append standings_at xs ys));
+    }
+
+-- only faults were noted
+pub noted_silent : (blocks : List Block) (c : Checker) (f : Faults) (xs : List Site) → IsSilent xs → f.first ≡ noted_along blocks c.faults.first xs →
+    Noted blocks c (record c { faults = f }) xs
+noted_silent blocks c f xs s h =
+    record {
+      faults = h;
+      labels = sym (append-nil c.labels.items) ∙ ap (λ ls. c.labels.items ++ ls) (sym s.labels);
+      standings = sym (append-nil (map standing_as c.standings.items)) ∙ ap (λ ss. map standing_as c.standings.items ++ ss) (sym s.standings);
+    }
+
+-- ---- walks
+
+pub found_both : (blocks xs ys : List Block) → AreFound blocks (xs ++ ys) → AreFound blocks xs × AreFound blocks ys
+found_both blocks [] ys h = (tt, h)
+found_both blocks (x ∷ xs) ys h = let k = found_both blocks xs ys h.1 in ((h.0, k.0), k.1)
+
+pub found_alike : (blocks xs ys : List Block) → xs ≡ ys → AreFound blocks xs → AreFound blocks ys
+found_alike blocks xs ys e h = let P : List Block → Type 0 = AreFound blocks in subst P e h
+
+pub walks_none : (c : Checker) → Walks c c no_blocks (λ blocks a. [])
+walks_none c = record { stays = record { known = refl; block = refl; outer = refl }; notes = λ blocks a at f. noted_none blocks c }
+
+pub walks_both : (c d e : Checker) (i j : List Spot → List Block) (xs ys : List Block → Surroundings → List Site) → Walks c d i xs → Walks d e j ys →
+    Walks c e (λ outer. i outer ++ j outer) (λ blocks a. xs blocks a ++ ys blocks a)
+walks_both c d e i j xs ys h k =
+    record {
+      stays = stays_both c d e h.stays k.stays;
+      notes =
+          λ blocks a at f.
+          let same = outer_alike c.place d.place h.stays.block h.stays.outer in
+          let fs = found_both blocks (i (outer_of c.place)) (j (outer_of c.place)) f in
+          noted_both blocks c d e (xs blocks a) (ys blocks a) (h.notes blocks a at fs.0)
+          (k.notes blocks a (stays_at blocks a c d h.stays at) (found_alike blocks (j (outer_of c.place)) (j (outer_of d.place)) (ap j (sym same)) fs.1));
+    }
+
+-- parts that no block begins in, at which only faults are noted
+pub walks_silent : (c : Checker) (f : Faults) (xs : List Block → Surroundings → List Site) → ((blocks : List Block) (a : Surroundings) → IsSilent (xs blocks a)) →
+    ((blocks : List Block) (a : Surroundings) → IsAt blocks c a → f.first ≡ noted_along blocks c.faults.first (xs blocks a)) →
+    Walks c (record c { faults = f }) no_blocks xs
+walks_silent c f xs s h =
+    record {
+      stays = record { known = refl; block = refl; outer = refl };
+      notes = λ blocks a at found. noted_silent blocks c f (xs blocks a) (s blocks a) (h blocks a at);
+    }

@@ -1,0 +1,230 @@
+use Rattle.std.proofs.Common.{rules, ◌∙◌, ◌+◌, drop, ap, false, length, refl, sym}
+use Rattle.std.specs.Prelude.{option_copied}
+use Rattle.algol_tree.specs.declared.tree.Body as bodies'
+use Rattle.algol_tree.specs.declared.tree.Decl as decls'
+use Rattle.algol_tree.specs.declared.tree.Stmt as stmts'
+use Rattle.algol_tree.specs.Image.{decls}
+use Rattle.algol_tree.specs.Plain as tree
+use Rattle.algol_check.specs.declared.checker.Checker.{Checker}
+use Rattle.algol_check.specs.Walking.{begin_as}
+use Rattle.algol_check.proofs.Arms.{announced_here, arrays_arm, assign_arm, begins_in, block_arm, body_arm, call_arm, case_arm, decls_less, decls_remain, empty_arm, event_arm, events_arm, files_arm, for_arm, forward_arm, go_to_arm, if_else_arm, if_then_arm, label_arm, labels_arm, procedure_arm, process_arm, remains_all, remains_less, remains_none, simple_arm, tasks_arm, thru_arm, until_arm, while_arm, write_arm}
+use Rattle.algol_check.proofs.Stated.{formals_kept, formals_stay}
+use Rattle.algol_check.proofs.checker.Checker.+statements.Goals as goal
+
+pub stmt-returns-in-Empty : goal.stmt-returns-in-Empty
+stmt-returns-in-Empty t c =
+    empty_arm c.args.s.now c.args.self.now (begin_as c.args.begin) c.args.listed c.in-Empty.is
+
+pub stmt-stmt-requires : goal.stmt-stmt-requires
+stmt-stmt-requires t c =
+    let h = formals_stay c.args.self.now c.label.new.self (c.in_ok-label-in-Label.ensures tree.empty).stays c.requires in
+    search (rules, stmts'.the_lemmas, decls'.the_lemmas, bodies'.the_lemmas, h)
+
+pub stmt-returns-in_ok-stmt-in-Label : goal.stmt-returns-in_ok-stmt-in-Label
+stmt-returns-in_ok-stmt-in-Label t c =
+    label_arm c.args.s.now c.in-Label.n c.in-Label.s c.deref.result.now c.args.self.now c.label.new.self c.stmt.new.self (begin_as c.args.begin) c.args.listed c.in-Label.is
+    c.deref.ensures c.in_ok-label-in-Label.ensures c.in_ok-stmt-in-Label.ensures
+
+pub stmt-returns-in-Assign : goal.stmt-returns-in-Assign
+stmt-returns-in-Assign t c =
+    assign_arm c.args.s.now c.in-Assign.v c.in-Assign.e c.args.self.now c.assign.new.self (begin_as c.args.begin) c.args.listed c.in-Assign.is
+    (c.assign.ensures (begin_as c.args.begin) c.args.listed)
+
+pub stmt-returns-in-Call : goal.stmt-returns-in-Call
+stmt-returns-in-Call t c =
+    call_arm c.args.s.now c.in-Call.c c.args.self.now c.call.new.self (begin_as c.args.begin) c.args.listed c.in-Call.is
+    (c.call.ensures (begin_as c.args.begin) c.args.listed)
+
+pub stmt-returns-in-GoTo : goal.stmt-returns-in-GoTo
+stmt-returns-in-GoTo t c =
+    go_to_arm c.args.s.now c.in-GoTo.n c.args.self.now c.go_to.new.self (begin_as c.args.begin) c.args.listed c.in-GoTo.is
+    (c.go_to.ensures (begin_as c.args.begin) c.args.listed)
+
+pub stmt-returns-in-Process : goal.stmt-returns-in-Process
+stmt-returns-in-Process t c =
+    process_arm c.args.s.now c.in-Process.c c.in-Process.task c.args.self.now c.process.new.self (begin_as c.args.begin) c.args.listed c.in-Process.is
+    (c.process.ensures (begin_as c.args.begin) c.args.listed)
+
+pub stmt-returns-in-Event : goal.stmt-returns-in-Event
+stmt-returns-in-Event t c =
+    event_arm c.args.s.now c.in-Event.field-0 c.in-Event.e c.args.self.now c.event.new.self (begin_as c.args.begin) c.args.listed c.in-Event.is
+    (c.event.ensures c.in-Event.field-0 (begin_as c.args.begin) c.args.listed)
+
+pub stmt-returns-in-Write : goal.stmt-returns-in-Write
+stmt-returns-in-Write t c =
+    write_arm c.args.s.now c.in-Write.file c.in-Write.spot c.in-Write.phrases c.deref-in-Write.result.now c.in-Write.items c.deref-in-Write-2.result.now c.args.self.now c.write.new.self
+    (begin_as c.args.begin) c.args.listed c.in-Write.is (c.deref-in-Write.ensures.value ∙ c.items-in-Write.ensures) (c.deref-in-Write-2.ensures.value ∙ c.items-in-Write-2.ensures)
+    (c.write.ensures (begin_as c.args.begin) c.args.listed)
+
+pub stmt-body-requires : goal.stmt-body-requires
+stmt-body-requires t c =
+    let h = formals_kept c.args.self.now.known.items c.begin.new.self.known.items (ap (λ (x : Checker). x.known.items) c.begin.ensures.rest) c.requires in
+    search (rules, stmts'.the_lemmas, decls'.the_lemmas, bodies'.the_lemmas, h)
+
+pub stmt-returns-in_ok-body-in-Block : goal.stmt-returns-in_ok-body-in-Block
+stmt-returns-in_ok-body-in-Block t c =
+    block_arm c.args.s.now c.in-Block.b c.args.self.now c.begin.new.self c.body.new.self c.end.new.self c.in_ok-opened-in-Block.opened (begin_as c.args.begin) c.args.listed c.in-Block.is
+    c.begin.ensures.rest c.in_ok-opened-in-Block.ensures.opens c.in_ok-opened-in-Block.ensures.enters c.in_ok-body-in-Block.ensures c.end.ensures.rest c.end.ensures.ends
+
+pub stmt-returns-in-None : goal.stmt-returns-in-None
+stmt-returns-in-None t c =
+    if_then_arm c.args.s.now c.in-If.c c.in-If.x c.in-If.other c.deref-in-If.result.now c.args.self.now c.stmt-in-If.new.self c.typed.new.faults c.as_slice.result.now (begin_as c.args.begin) c.args.listed
+    c.in-If.is c.in-None.is c.deref-in-If.ensures c.as_slice.ensures.value c.typed.ensures c.in_ok-stmt-in-If.ensures
+
+pub stmt-returns-in_ok-stmt-in-Some : goal.stmt-returns-in_ok-stmt-in-Some
+stmt-returns-in_ok-stmt-in-Some t c =
+    if_else_arm c.args.s.now c.in-If.c c.in-If.x c.in-If.other c.in-Some.y c.deref-in-If.result.now c.deref-in-Some.result.now c.args.self.now c.stmt-in-If.new.self
+    c.stmt-in-Some.new.self c.typed.new.faults c.as_slice.result.now (begin_as c.args.begin) c.args.listed c.in-If.is c.in-Some.is c.deref-in-If.ensures c.deref-in-Some.ensures c.as_slice.ensures.value
+    c.typed.ensures c.in_ok-stmt-in-If.ensures c.in_ok-stmt-in-Some.ensures
+
+pub stmt-stmt-requires-in-Some : goal.stmt-stmt-requires-in-Some
+stmt-stmt-requires-in-Some t c =
+    let h = formals_stay (record c.args.self.now { faults = c.typed.new.faults }) c.stmt-in-If.new.self c.in_ok-stmt-in-If.ensures.stays c.requires in
+    search (rules, stmts'.the_lemmas, decls'.the_lemmas, bodies'.the_lemmas, h)
+
+pub stmt-returns-in_ok-stmt-in-While : goal.stmt-returns-in_ok-stmt-in-While
+stmt-returns-in_ok-stmt-in-While t c =
+    while_arm c.args.s.now c.in-While.c c.in-While.b c.deref-in-While.result.now c.args.self.now c.stmt-in-While.new.self c.typed-in-While.new.faults c.as_slice-in-While.result.now
+    (begin_as c.args.begin) c.args.listed c.in-While.is c.deref-in-While.ensures c.as_slice-in-While.ensures.value c.typed-in-While.ensures c.in_ok-stmt-in-While.ensures
+
+pub stmt-returns-in_ok-stmt-in-Thru : goal.stmt-returns-in_ok-stmt-in-Thru
+stmt-returns-in_ok-stmt-in-Thru t c =
+    thru_arm c.args.s.now c.in-Thru.e c.in-Thru.b c.deref-in-Thru.result.now c.args.self.now c.stmt-in-Thru.new.self c.typed-in-Thru.new.faults c.as_slice-in-Thru.result.now
+    (begin_as c.args.begin) c.args.listed c.in-Thru.is c.deref-in-Thru.ensures c.as_slice-in-Thru.ensures.value c.typed-in-Thru.ensures c.in_ok-stmt-in-Thru.ensures
+
+pub stmt-typed-requires-in-Until : goal.stmt-typed-requires-in-Until
+stmt-typed-requires-in-Until t c =
+    formals_kept c.stmt-in-Until.new.self.known.items c.as_slice-in-Until.result.now c.as_slice-in-Until.ensures.value
+    (formals_stay c.args.self.now c.stmt-in-Until.new.self c.in_ok-stmt-in-Until.ensures.stays c.requires)
+
+pub stmt-returns-in_ok-stmt-in-Until : goal.stmt-returns-in_ok-stmt-in-Until
+stmt-returns-in_ok-stmt-in-Until t c =
+    until_arm c.args.s.now c.in-Until.b c.in-Until.c c.deref-in-Until.result.now c.args.self.now c.stmt-in-Until.new.self c.typed-in-Until.new.faults c.as_slice-in-Until.result.now
+    (begin_as c.args.begin) c.args.listed c.in-Until.is c.deref-in-Until.ensures c.as_slice-in-Until.ensures.value c.in_ok-stmt-in-Until.ensures c.typed-in-Until.ensures
+
+pub stmt-returns-in_ok-stmt-in-For : goal.stmt-returns-in_ok-stmt-in-For
+stmt-returns-in_ok-stmt-in-For t c =
+    for_arm c.args.s.now c.in-For.v c.in-For.x c.in-For.step c.in-For.last c.in-For.b c.deref-in-For.result.now c.args.self.now c.stmt-in-For.new.self c.counting.new.faults
+    c.as_slice-in-For.result.now (begin_as c.args.begin) c.args.listed c.in-For.is c.deref-in-For.ensures c.as_slice-in-For.ensures.value c.counting.ensures c.in_ok-stmt-in-For.ensures
+
+pub stmt-cases-init : goal.stmt-cases-init
+stmt-cases-init t c =
+    let ss = c.deref-s-items.result.now in
+    (c.requires, remains_all (record c.args.self.now { faults = c.typed-in-Case.new.faults }) ss ss false refl)
+
+pub stmt-cases-preserved : goal.stmt-cases-preserved
+stmt-cases-preserved t c =
+    let ss = c.deref-s-items.result.now in (
+      formals_stay c.cases.self c.stmt-in-cases.new.self c.in_ok-stmt-in-Case.ensures.stays c.cases.invariant.0,
+      remains_less (record c.args.self.now { faults = c.typed-in-Case.new.faults }) c.cases.self c.stmt-in-cases.new.self ss ss c.cases.s-index c.s-item.result false
+          c.cases-test.true c.s-item.is c.in_ok-stmt-in-Case.ensures c.cases.invariant.1,
+    )
+
+pub stmt-returns-after-cases : goal.stmt-returns-after-cases
+stmt-returns-after-cases t c =
+    let ss = c.deref-s-items.result.now in
+    case_arm c.args.s.now c.in-Case.e c.in-Case.ss ss c.args.self.now c.cases.self c.typed-in-Case.new.faults c.as_slice-in-Case.result.now (begin_as c.args.begin) c.args.listed c.in-Case.is
+    (c.deref-s-items.ensures.value ∙ c.items.ensures) c.as_slice-in-Case.ensures.value c.typed-in-Case.ensures
+    (remains_none (record c.args.self.now { faults = c.typed-in-Case.new.faults }) c.cases.self ss ss c.cases.s-index false c.cases-test.false c.cases.invariant.1)
+
+pub decl-returns-in_ok-names-in-Simple : goal.decl-returns-in_ok-names-in-Simple
+decl-returns-in_ok-names-in-Simple t c =
+    λ around later e h.
+    simple_arm c.args.d.now c.in-Simple.kind c.in-Simple.ns c.deref.result.now c.args.self.now c.names.new.self around later c.in-Simple.is
+    (c.deref.ensures.value ∙ c.items.ensures) c.names.ensures.rest c.in_ok-names-in-Simple.ensures.made h
+
+pub decl-returns-in_ok-names-in-Files : goal.decl-returns-in_ok-names-in-Files
+decl-returns-in_ok-names-in-Files t c =
+    λ around later e h.
+    files_arm c.args.d.now c.in-Files.ns c.deref-in-Files.result.now c.args.self.now c.names-in-Files.new.self around later c.in-Files.is
+    (c.deref-in-Files.ensures.value ∙ c.items-in-Files.ensures) c.names-in-Files.ensures.rest c.in_ok-names-in-Files.ensures.made h
+
+pub decl-returns-in_ok-names-in-Events : goal.decl-returns-in_ok-names-in-Events
+decl-returns-in_ok-names-in-Events t c =
+    λ around later e h.
+    events_arm c.args.d.now c.in-Events.ns c.deref-in-Events.result.now c.args.self.now c.names-in-Events.new.self around later c.in-Events.is
+    (c.deref-in-Events.ensures.value ∙ c.items-in-Events.ensures) c.names-in-Events.ensures.rest c.in_ok-names-in-Events.ensures.made h
+
+pub decl-returns-in_ok-names-in-Tasks : goal.decl-returns-in_ok-names-in-Tasks
+decl-returns-in_ok-names-in-Tasks t c =
+    λ around later e h.
+    tasks_arm c.args.d.now c.in-Tasks.ns c.deref-in-Tasks.result.now c.args.self.now c.names-in-Tasks.new.self around later c.in-Tasks.is
+    (c.deref-in-Tasks.ensures.value ∙ c.items-in-Tasks.ensures) c.names-in-Tasks.ensures.rest c.in_ok-names-in-Tasks.ensures.made h
+
+pub decl-returns-in_ok-names-in-Labels : goal.decl-returns-in_ok-names-in-Labels
+decl-returns-in_ok-names-in-Labels t c =
+    λ around later e h.
+    labels_arm c.args.d.now c.in-Labels.ns c.deref-in-Labels-2.result.now c.deref-in-Labels.result.now c.args.self.now c.keep_labels.new.self c.names-in-Labels.new.self around later
+    c.in-Labels.is (c.deref-in-Labels-2.ensures.value ∙ c.items-in-Labels-2.ensures) (c.deref-in-Labels.ensures.value ∙ c.items-in-Labels.ensures) c.keep_labels.ensures.rest
+    c.in_ok-keep_labels-in-Labels.ensures.labels c.names-in-Labels.ensures.rest c.in_ok-names-in-Labels.ensures.made h
+
+pub decl-returns-in_ok-names-in-Arrays : goal.decl-returns-in_ok-names-in-Arrays
+decl-returns-in_ok-names-in-Arrays t c =
+    λ around later e h.
+    arrays_arm c.args.d.now c.in-Arrays.kind c.in-Arrays.ns c.deref-in-Arrays-2.result.now c.in-Arrays.pairs c.deref-in-Arrays.result.now (length c.as_slice.result.now) c.args.self.now c.bounds.new.self
+    c.names-in-Arrays.new.self around later c.in-Arrays.is (c.deref-in-Arrays-2.ensures.value ∙ c.items-in-Arrays-2.ensures) (c.deref-in-Arrays.ensures.value ∙ c.items-in-Arrays.ensures)
+    (ap length (c.as_slice.ensures.value ∙ c.items-in-Arrays-3.ensures)) c.bounds.ensures.rest c.bounds.ensures.faults c.names-in-Arrays.ensures.rest
+    c.in_ok-names-in-Arrays.ensures.made h
+
+pub decl-returns-in_ok-forward-in-Forward : goal.decl-returns-in_ok-forward-in-Forward
+decl-returns-in_ok-forward-in-Forward t c =
+    λ around later e h.
+    forward_arm c.args.d.now c.in-Forward.h (option_copied c.args.body) c.args.self.now c.forward.new.self around later c.in-Forward.is c.forward.ensures.rest e
+    (c.in_ok-forward-in-Forward.ensures.made around h) c.in_ok-forward-in-Forward.ensures.faults
+
+pub decl-returns-in_ok-stmt-in-Procedure : goal.decl-returns-in_ok-stmt-in-Procedure
+decl-returns-in_ok-stmt-in-Procedure t c =
+    λ around later e h.
+    procedure_arm c.args.d.now c.in-Procedure.h c.in-Procedure.s c.deref-in-Procedure.result.now c.args.self.now c.heading.new.self c.enter.new.self c.stmt.new.self c.leave.new.self around
+    later c.in-Procedure.is c.deref-in-Procedure.ensures c.heading.ensures.rest (c.in_ok-heading-in-Procedure.ensures.made around h) c.in_ok-heading-in-Procedure.ensures.faults
+    c.enter.ensures.rest c.in_ok-enter-in-Procedure.ensures.enters c.in_ok-stmt-in-Procedure.ensures c.leave.ensures.rest c.leave.ensures.known c.leave.ensures.place
+
+pub decl-stmt-requires : goal.decl-stmt-requires
+decl-stmt-requires t c =
+    let h = c.in_ok-enter-in-Procedure.ensures.enters.formals (c.in_ok-heading-in-Procedure.ensures.made c.requires.0 c.requires.1).in_body.formals in
+    search (rules, stmts'.the_lemmas, decls'.the_lemmas, bodies'.the_lemmas, h)
+
+pub body-declarations-init : goal.body-declarations-init
+body-declarations-init t c =
+    let ds = c.deref-d-items.result.now in (
+      begins_in c.args.self.now.known.items c.push.new.self.items c.none.result c.in_ok-push.ensures.items c.none.ensures c.requires,
+      decls_remain (record c.args.self.now { known = c.push.new.self }) c.args.self.now.known.items ds ds refl,
+    )
+
+pub body-decl-requires : goal.body-decl-requires
+body-decl-requires t c =
+    let h = c.declarations.invariant.0 in
+    search (rules, stmts'.the_lemmas, decls'.the_lemmas, bodies'.the_lemmas, h)
+
+pub body-declarations-preserved : goal.body-declarations-preserved
+body-declarations-preserved t c =
+    let ds = c.deref-d-items.result.now in
+    let whole = c.deref.ensures.value ∙ c.items.ensures ∙ sym (c.deref-d-items.ensures.value ∙ c.items-2.ensures) in
+    let announced = announced_here ds c.deref.result.now c.declarations.at c.d-item.result c.body_at.result c.as_slice.result.now c.in_ok-bodies.bodies.items c.declarations-test.true c.d-item.is
+    c.body_at.ensures c.as_slice.ensures.value c.in_ok-bodies.ensures whole in
+    let walked = c.in_ok-decl.ensures c.args.self.now.known.items (decls (drop (c.declarations.at + 1) ds)) announced c.declarations.invariant.0 in (
+      walked.in_body,
+      decls_less (record c.args.self.now { known = c.push.new.self }) c.declarations.self c.decl.new.self c.args.self.now.known.items ds ds c.declarations.at c.d-item.result
+          c.declarations-test.true c.d-item.is walked c.declarations.invariant.1,
+    )
+
+pub body-statements-init : goal.body-statements-init
+body-statements-init t c =
+    let ss = c.deref-s-items.result.now in
+    (c.declarations.invariant.0.formals, remains_all c.declarations.self ss ss c.has_declarations-listed.result refl)
+
+pub body-statements-preserved : goal.body-statements-preserved
+body-statements-preserved t c =
+    let ss = c.deref-s-items.result.now in (
+      formals_stay c.statements.self c.stmt.new.self c.in_ok-stmt.ensures.stays c.statements.invariant.0,
+      remains_less c.declarations.self c.statements.self c.stmt.new.self ss ss c.statements.s-index c.s-item.result c.has_declarations-listed.result c.statements-test.true c.s-item.is
+          c.in_ok-stmt.ensures c.statements.invariant.1,
+    )
+
+pub body-returns : goal.body-returns
+body-returns t c =
+    body_arm c.args.b.now c.args.self.now (record c.args.self.now { known = c.push.new.self }) c.declarations.self c.statements.self c.pop.new.self c.none.result c.pop.result
+    c.statements.self.known.len c.pop.new.self.len c.deref-d-items.result.now c.deref-s-items.result.now c.has_declarations-listed.result c.declarations.at c.statements.s-index c.none.ensures refl
+    c.in_ok-push.ensures.items (c.deref-d-items.ensures.value ∙ c.items-2.ensures) (c.deref-s-items.ensures.value ∙ c.items-3.ensures) c.has_declarations-listed.ensures
+    c.declarations-test.false c.declarations.invariant.0 c.declarations.invariant.1 c.statements-test.false c.statements.invariant.1 c.pop.ensures.items c.pop.ensures.rest
+    c.pop.ensures.cases

@@ -1,0 +1,206 @@
+//! What a walk over a tree keeps, and the steps of the walk that lead into no statement.
+
+ghost use Rattle.std.specs.Prelude.{◌≡◌, None, [], ◌∷◌, ◌++◌, Bool, List, OnOk, IfOk};
+ghost use Rattle.algol_tree.specs.declared.tree.EventAct.{EventAct};
+ghost use Rattle.algol_tree.specs.Accepted.{noted_all};
+ghost use Rattle.algol_tree.specs.Blocks as blocks;
+ghost use Rattle.algol_tree.specs.Blocks.{Block, number_at};
+ghost use Rattle.algol_tree.specs.Image.{body, call, expr, exprs, variable};
+ghost use Rattle.algol_tree.specs.Plain as tree;
+ghost use Rattle.algol_tree.specs.Plain.{PStmt};
+ghost use Rattle.algol_tree.specs.Sites.{has_decls};
+ghost use Rattle.algol_tree.specs.Surroundings.{Surroundings};
+ghost use Rattle.algol_sites.specs.declared.place.Place.{Place};
+ghost use Rattle.algol_sites.specs.Labelling.{bad_in, label_site};
+ghost use Rattle.algol_sites.specs.Placing.{IsFound, IsPlaced};
+ghost use Rattle.algol_sites.specs.Seen.{HaveFormals};
+ghost use Rattle.algol_check.specs.Walking.{Walks, WalksStmt, begin_as, no_blocks};
+ghost use Rattle.algol_check.specs.Declaring.{Enters, Opens, begins, decls_in};
+
+use algol_rules::Faults;
+use algol_sites::{
+    Names, Place, Standing, Wanted, assign, call, check_labels, event, go_to, process, standing_at,
+    want_name, write,
+};
+use algol_tree::{Body, Call, Code, EventName, Expr, Named, PhraseText, Spot, Variable};
+use std::alloc::{AllocError, Global};
+
+/// Whose a BEGIN is. The declarations of a procedure's body belong to the procedure's own block.
+#[derive(Clone, Copy)]
+pub enum Begin {
+    OfStatement,
+    OfProcedure,
+}
+
+/// What a walk over a tree keeps.
+#[derive(Drop)]
+pub struct Checker<'p> {
+    pub alloc: Global,
+    /// The names that are known, the innermost last: of each block its parameters, and its declarations.
+    pub known: Vec<Names<'p>>,
+    pub place: Place,
+    /// Where labels are declared.
+    pub labels: Vec<Spot>,
+    pub standings: Vec<Standing>,
+    pub faults: Faults,
+}
+
+/// Whether a body has declarations.
+pub fn has_declarations(b: &Body) -> bool
+    ensures { result ≡ has_decls (decls_in (body b.now)) }
+{
+    !b.decls.items().as_slice().is_empty()
+}
+
+/// Whether a block begins at a BEGIN: it has declarations, and is no procedure's.
+fn begins_block(b: &Body, begin: Begin) -> bool
+    ensures { result ≡ begins (begin_as begin) (body b.now) }
+{
+    match begin {
+        Begin::OfProcedure => false,
+        Begin::OfStatement => has_declarations(b),
+    }
+}
+
+impl<'p> Checker<'p> {
+    /// The checks of a program whose BEGIN stands there.
+    pub fn new(alloc: Global, begin: Spot) -> Checker<'p>
+        ensures known { result.known.items ≡ [] }
+        ensures block { result.place.block ≡ begin }
+        ensures around { result.place.around.items ≡ [] }
+        ensures placed { (blocks : List Block) (b : Block) (a : Surroundings) → IsFound blocks b → b.spot ≡ begin → b.outer ≡ [] → a.block ≡ number_at blocks begin → IsPlaced blocks result.place a }
+        ensures labels { result.labels.items ≡ [] }
+        ensures standings { result.standings.items ≡ [] }
+        ensures faults { result.faults.first ≡ None }
+    {
+        Checker {
+            alloc,
+            known: Vec::new(alloc),
+            place: Place::outermost(alloc, begin),
+            labels: Vec::new(alloc),
+            standings: Vec::new(alloc),
+            faults: Faults::none(),
+        }
+    }
+
+    // ---- statements without statements in them
+
+    /// A label before a statement, which is in the list of statements of its block or is not.
+    pub fn label(&mut self, name: &Named, listed: bool) -> Result<(), AllocError>
+        ensures { OnOk result ((s : PStmt) → Walks self.old self.new no_blocks (λ blocks a. label_site name.now s listed a ∷ [])) }
+    {
+        let known = self.known.as_slice();
+        want_name(
+            known,
+            name,
+            Wanted::Label,
+            Code::WrongType,
+            &mut self.faults,
+        );
+        match standing_at(known, &self.place, name, listed) {
+            None => Ok(()),
+            Some(standing) => {
+                self.standings.push(standing)?;
+                Ok(())
+            }
+        }
+    }
+
+    /// An assignment.
+    pub fn assign(&mut self, v: &Variable, value: &Expr)
+        requires { HaveFormals self.old.known.items }
+        ensures { (begin : blocks.Begin) (listed : Bool) → WalksStmt self.old self.new (tree.assign (variable v.now) (expr value.now)) begin listed }
+    {
+        assign(
+            self.known.as_slice(),
+            &self.place,
+            v,
+            value,
+            &mut self.faults,
+        );
+    }
+
+    /// A call that is a statement.
+    pub fn call(&mut self, c: &Call)
+        requires { HaveFormals self.old.known.items }
+        ensures { (begin : blocks.Begin) (listed : Bool) → WalksStmt self.old self.new (tree.call_of (call c.now)) begin listed }
+    {
+        call(self.known.as_slice(), c, &mut self.faults);
+    }
+
+    /// GO TO.
+    pub fn go_to(&mut self, name: &Named)
+        ensures { (begin : blocks.Begin) (listed : Bool) → WalksStmt self.old self.new (tree.go_to name.now) begin listed }
+    {
+        go_to(self.known.as_slice(), name, &mut self.faults);
+    }
+
+    /// A statement on an event.
+    pub fn event(&mut self, e: &EventName)
+        ensures { (act : EventAct) (begin : blocks.Begin) (listed : Bool) → WalksStmt self.old self.new (tree.event act e.now) begin listed }
+    {
+        event(self.known.as_slice(), e, &mut self.faults);
+    }
+
+    /// PROCESS.
+    pub fn process(&mut self, c: &Call, task: &Option<Named>)
+        requires { HaveFormals self.old.known.items }
+        ensures { (begin : blocks.Begin) (listed : Bool) → WalksStmt self.old self.new (tree.process (call c.now) task.now) begin listed }
+    {
+        process(self.known.as_slice(), c, task, &mut self.faults);
+    }
+
+    /// WRITE.
+    pub fn write(&mut self, file: &Named, spot: Spot, phrases: &[PhraseText], items: &[Expr])
+        requires { HaveFormals self.old.known.items }
+        ensures { (begin : blocks.Begin) (listed : Bool) → WalksStmt self.old self.new (tree.write file.now spot phrases.now (exprs items.now)) begin listed }
+    {
+        write(
+            self.known.as_slice(),
+            file,
+            spot,
+            phrases,
+            items,
+            &mut self.faults,
+        );
+    }
+
+    // ---- blocks
+
+    /// A BEGIN, with which a block begins or not.
+    pub fn begin(&mut self, b: &Body, begin: Begin) -> Result<bool, AllocError>
+        ensures opens { IfOk result (λ opened. Opens opened self.old.place self.new.place) }
+        ensures enters { OnOk result (Enters self.old.place self.new.place (body b.now) (begin_as begin)) }
+        ensures rest { self.new ≡ record self.old { place = self.new.place } }
+    {
+        let opened = begins_block(b, begin);
+        if opened {
+            self.place.open(b.spot)?;
+        }
+        Ok(opened)
+    }
+
+    /// The END, of a block or not.
+    pub fn end(&mut self, opened: bool)
+        ensures ends { (before : Place) → Opens opened before self.old.place → (self.new.place.block ≡ before.block) × (self.new.place.around.items ≡ before.around.items) }
+        ensures rest { self.new ≡ record self.old { place = self.new.place } }
+    {
+        if opened {
+            self.place.close();
+        }
+    }
+
+    // ---- labels
+
+    /// The labels, after the walk over the whole tree.
+    pub fn finish(&mut self) -> Result<(), AllocError>
+        ensures { OnOk result (self.new.faults.first ≡ noted_all self.old.faults.first (bad_in self.old.standings.items self.old.labels.items)) }
+    {
+        check_labels(
+            self.alloc,
+            self.labels.as_slice(),
+            self.standings.as_slice(),
+            &mut self.faults,
+        )
+    }
+}

@@ -1,0 +1,193 @@
+//! The walk over a tree, in the order of the text.
+
+ghost use Rattle.std.specs.Prelude.{◌≡◌, [], List, Err, Some, OnOk, IfOk, option_copied};
+ghost use Rattle.algol_tree.specs.declared.token.Spot.{Spot};
+ghost use Rattle.algol_tree.specs.declared.refusal.Code.{Code};
+ghost use Rattle.algol_tree.specs.declared.refusal.Refusal.TheVariants.{At};
+ghost use Rattle.algol_tree.specs.Accepted.{check_faults, first_fault};
+ghost use Rattle.algol_tree.specs.Ascending.{IsInOrder};
+ghost use Rattle.algol_tree.specs.Image.{body, decl, program, stmt};
+ghost use Rattle.algol_tree.specs.Plain.{PDecls};
+ghost use Rattle.algol_sites.specs.declared.known.Names.{Names};
+ghost use Rattle.algol_sites.specs.Seen.{HaveFormals};
+ghost use Rattle.algol_check.specs.Announced.{body_for};
+ghost use Rattle.algol_check.specs.Declaring.{InBody, WalksDecl};
+ghost use Rattle.algol_check.specs.Walking.{WalksBody, WalksStmt, begin_as};
+
+use crate::announced::{announced, body_at};
+use crate::checker::{Begin, Checker, has_declarations};
+use algol_sites::{Class, Names, Specified, counting, typed};
+use algol_tree::{Body, Decl, Heading, Kind, Program, Refusal, Stmt};
+use std::alloc::{AllocError, Global};
+
+impl<'p> Checker<'p> {
+    /// A statement.
+    #[cycle(statements)]
+    fn stmt(&mut self, s: &'p Stmt, begin: Begin, listed: bool) -> Result<(), AllocError>
+        requires { HaveFormals self.old.known.items }
+        ensures { OnOk result (WalksStmt self.old self.new (stmt s.now) (begin_as begin) listed) }
+    {
+        match s {
+            Stmt::Empty => Ok(()),
+            Stmt::Label(n, s) => {
+                self.label(n, listed)?;
+                self.stmt(s, Begin::OfStatement, listed)?;
+                Ok(())
+            }
+            Stmt::Assign(v, e) => {
+                self.assign(v, e);
+                Ok(())
+            }
+            Stmt::Call(c) => {
+                self.call(c);
+                Ok(())
+            }
+            Stmt::GoTo(n) => {
+                self.go_to(n);
+                Ok(())
+            }
+            Stmt::Block(b) => {
+                let opened = self.begin(b, begin)?;
+                self.body(b)?;
+                self.end(opened);
+                Ok(())
+            }
+            Stmt::If(c, x, other) => {
+                typed(self.known.as_slice(), Kind::Truth, c, &mut self.faults);
+                self.stmt(x, Begin::OfStatement, false)?;
+                match other {
+                    None => Ok(()),
+                    Some(y) => {
+                        self.stmt(y, Begin::OfStatement, false)?;
+                        Ok(())
+                    }
+                }
+            }
+            Stmt::While(c, b) => {
+                typed(self.known.as_slice(), Kind::Truth, c, &mut self.faults);
+                self.stmt(b, Begin::OfStatement, false)?;
+                Ok(())
+            }
+            Stmt::Until(b, c) => {
+                self.stmt(b, Begin::OfStatement, false)?;
+                typed(self.known.as_slice(), Kind::Truth, c, &mut self.faults);
+                Ok(())
+            }
+            Stmt::For(v, x, step, last, b) => {
+                counting(self.known.as_slice(), v, x, step, last, &mut self.faults);
+                self.stmt(b, Begin::OfStatement, false)?;
+                Ok(())
+            }
+            Stmt::Thru(e, b) => {
+                typed(self.known.as_slice(), Kind::Number, e, &mut self.faults);
+                self.stmt(b, Begin::OfStatement, false)?;
+                Ok(())
+            }
+            Stmt::Case(e, ss) => {
+                typed(self.known.as_slice(), Kind::Number, e, &mut self.faults);
+                'cases: for s in ss.items() {
+                    self.stmt(s, Begin::OfStatement, false)?;
+                }
+                Ok(())
+            }
+            Stmt::Process(c, task) => {
+                self.process(c, task);
+                Ok(())
+            }
+            Stmt::Event(_, e) => {
+                self.event(e);
+                Ok(())
+            }
+            Stmt::Write(file, spot, phrases, items) => {
+                self.write(file, *spot, phrases.items(), items.items());
+                Ok(())
+            }
+        }
+    }
+
+    /// Declarations and statements, whose names are known in them.
+    #[cycle(statements)]
+    fn body(&mut self, b: &'p Body) -> Result<(), AllocError>
+        requires { HaveFormals self.old.known.items }
+        ensures { OnOk result (WalksBody self.old self.new (body b.now)) }
+    {
+        let bodies = announced(self.alloc, b.decls.items())?;
+        self.known.push(Names::none(self.alloc))?;
+        'declarations: for (at, d) in b.decls.items().iter().enumerate() {
+            self.decl(d, body_at(bodies.as_slice(), at))?;
+        }
+        let listed = has_declarations(b);
+        'statements: for s in b.stmts.items() {
+            self.stmt(s, Begin::OfStatement, listed)?;
+        }
+        self.known.pop();
+        Ok(())
+    }
+
+    /// A declaration, and of a FORWARD the heading with the body.
+    #[cycle(statements)]
+    fn decl(&mut self, d: &'p Decl, body: Option<&'p Heading>) -> Result<(), AllocError>
+        requires { (around : List Names) × InBody self.old.known.items around }
+        ensures { OnOk result ((around : List Names) (later : PDecls) → body_for (decl d.now) later ≡ option_copied body.entry → InBody self.old.known.items around → WalksDecl self.old self.new around (decl d.now) later) }
+    {
+        match d {
+            Decl::Simple(kind, ns) => {
+                self.names(ns.items(), Class::Simple(*kind))?;
+                Ok(())
+            }
+            Decl::Files(ns) => {
+                self.names(ns.items(), Class::File)?;
+                Ok(())
+            }
+            Decl::Events(ns) => {
+                self.names(ns.items(), Class::Event)?;
+                Ok(())
+            }
+            Decl::Tasks(ns) => {
+                self.names(ns.items(), Class::Task)?;
+                Ok(())
+            }
+            Decl::Labels(ns) => {
+                self.keep_labels(ns.items())?;
+                self.names(ns.items(), Class::Label)?;
+                Ok(())
+            }
+            Decl::Arrays(kind, ns, pairs) => {
+                self.bounds(pairs.items());
+                self.names(
+                    ns.items(),
+                    Class::Array(*kind, pairs.items().as_slice().len()),
+                )?;
+                Ok(())
+            }
+            Decl::Forward(h) => {
+                self.forward(h, body)?;
+                Ok(())
+            }
+            Decl::Procedure(h, s) => {
+                let specified = Specified::of(self.alloc, h)?;
+                self.heading(h, &specified)?;
+                self.enter(h, &specified)?;
+                self.stmt(s, Begin::OfProcedure, false)?;
+                self.leave();
+                Ok(())
+            }
+        }
+    }
+}
+
+/// Checks the rules of types, counts, lines and labels. The places in the tree are in the order of the text, so that no two
+/// blocks begin at one place: a place is known by the blocks that it is in.
+///
+/// # Errors
+/// The first fault in the order of the text, and at one place that of the rule with the lowest number; or want of memory.
+pub fn check(alloc: Global, tree: &Program) -> Result<(), Refusal>
+    requires { IsInOrder (program tree.now) }
+    ensures refused { (spot : Spot) (code : Code) → result ≡ Err (At spot code) → first_fault (check_faults (program tree.now)) ≡ Some (record { spot = spot; code = code }) }
+    ensures passed { IfOk result (λ _. check_faults (program tree.now) ≡ []) }
+{
+    let mut checker = Checker::new(alloc, tree.body.spot);
+    checker.body(&tree.body)?;
+    checker.finish()?;
+    checker.faults.refusal()
+}
