@@ -15,10 +15,16 @@ use Rattle.algol_tree.specs.declared.tree.Kind.{Kind}
 use Rattle.algol_tree.specs.declared.tree.Named.{Named}
 use Rattle.algol_tree.specs.declared.tree.Pair.{Pair}
 use Rattle.algol_tree.specs.declared.tree.Decl.TheOpen.{Stmt-F}
+use Rattle.algol_tree.specs.declared.token.Spot.{Spot}
+use Rattle.algol_tree.specs.declared.tree.Call.{Call}
+use Rattle.algol_tree.specs.declared.tree.EventAct.{EventAct}
+use Rattle.algol_tree.specs.declared.tree.EventName.{EventName}
 use Rattle.algol_tree.specs.declared.tree.Expr.{Expr}
+use Rattle.algol_tree.specs.declared.tree.PhraseText.{PhraseText}
+use Rattle.algol_tree.specs.declared.tree.Variable.{Variable}
 use Rattle.algol_tree.specs.Plain as tree
 use Rattle.algol_tree.specs.Plain.{PStmt}
-use Rattle.algol_tree.specs.Image.{body, branched, decl, decls, expr, pairs, stmt, stmts}
+use Rattle.algol_tree.specs.Image.{body, branched, call, decl, decls, expr, exprs, pairs, stmt, stmts, variable}
 
 pub body_is : (b : Body) → body b ≡ tree.body b.spot (decls b.decls) (stmts b.stmts)
 body_is b = search (rules, bodies.the_lemmas)
@@ -125,3 +131,90 @@ procedure_is d h s e = ap decl e ∙ its h s
   where
     its : (h : Heading) (s : Box Stmt Global) → decl (kinds.Procedure h s) ≡ tree.procedure h (stmt s.value)
     its h s = search (rules, declarations.the_lemmas)
+
+pub procedure_read : (d : Decl) (h : Heading) (s : Box Stmt Global) (y : Stmt) → d ≡ kinds.Procedure h s → y ≡ s.value → decl d ≡ tree.procedure h (stmt y)
+procedure_read d h s y same k = procedure_is d h s same ∙ ap (λ (z : Stmt). tree.procedure h (stmt z)) (sym k)
+
+-- ---- statements of each form
+
+pub empty_read : (whole : Stmt) → whole ≡ forms.Empty → stmt whole ≡ tree.empty
+empty_read whole same = ap stmt same ∙ its
+  where
+    its : stmt forms.Empty ≡ tree.empty
+    its = search (rules, statements.the_lemmas)
+
+pub label_read : (whole : Stmt) (n : Named) (s : Box Stmt Global) (y : Stmt) → whole ≡ (forms.Label n s) → y ≡ s.value → stmt whole ≡ tree.label n (stmt y)
+label_read whole n s y same k = ap stmt same ∙ its n s ∙ ap (λ (z : Stmt). tree.label n (stmt z)) (sym k)
+  where
+    its : (n : Named) (s : Box Stmt Global) → stmt (forms.Label n s) ≡ tree.label n (stmt s.value)
+    its n s = search (rules, statements.the_lemmas)
+
+pub assign_read : (whole : Stmt) (v : Variable) (e : Expr) → whole ≡ (forms.Assign v e) → stmt whole ≡ tree.assign (variable v) (expr e)
+assign_read whole v e same = ap stmt same ∙ its v e
+  where
+    its : (v : Variable) (e : Expr) → stmt (forms.Assign v e) ≡ tree.assign (variable v) (expr e)
+    its v e = search (rules, statements.the_lemmas)
+
+pub call_read : (whole : Stmt) (c : Call) → whole ≡ (forms.Call c) → stmt whole ≡ tree.call_of (call c)
+call_read whole c same = ap stmt same ∙ its c
+  where
+    its : (c : Call) → stmt (forms.Call c) ≡ tree.call_of (call c)
+    its c = search (rules, statements.the_lemmas)
+
+pub go_to_read : (whole : Stmt) (n : Named) → whole ≡ (forms.GoTo n) → stmt whole ≡ tree.go_to n
+go_to_read whole n same = ap stmt same ∙ its n
+  where
+    its : (n : Named) → stmt (forms.GoTo n) ≡ tree.go_to n
+    its n = search (rules, statements.the_lemmas)
+
+pub if_read : (whole : Stmt) (c : Expr) (x : Box Stmt Global) (b : Option (Box Stmt Global)) (y : Stmt) → whole ≡ (forms.If c x b) → y ≡ x.value →
+    stmt whole ≡ branched (expr c) (stmt y) b
+if_read whole c x b y same k = ap stmt same ∙ stmt_if c x b ∙ ap (λ (z : Stmt). branched (expr c) (stmt z) b) (sym k)
+
+pub while_read : (whole : Stmt) (c : Expr) (b : Box Stmt Global) (y : Stmt) → whole ≡ (forms.While c b) → y ≡ b.value → stmt whole ≡ tree.while (expr c) (stmt y)
+while_read whole c b y same k = ap stmt same ∙ its c b ∙ ap (λ (z : Stmt). tree.while (expr c) (stmt z)) (sym k)
+  where
+    its : (c : Expr) (b : Box Stmt Global) → stmt (forms.While c b) ≡ tree.while (expr c) (stmt b.value)
+    its c b = search (rules, statements.the_lemmas)
+
+pub until_read : (whole : Stmt) (b : Box Stmt Global) (c : Expr) (y : Stmt) → whole ≡ (forms.Until b c) → y ≡ b.value → stmt whole ≡ tree.until (stmt y) (expr c)
+until_read whole b c y same k = ap stmt same ∙ its b c ∙ ap (λ (z : Stmt). tree.until (stmt z) (expr c)) (sym k)
+  where
+    its : (b : Box Stmt Global) (c : Expr) → stmt (forms.Until b c) ≡ tree.until (stmt b.value) (expr c)
+    its b c = search (rules, statements.the_lemmas)
+
+pub for_read : (whole : Stmt) (v : Named) (x s l : Expr) (b : Box Stmt Global) (y : Stmt) → whole ≡ (forms.For v x s l b) → y ≡ b.value → stmt whole ≡ tree.for v (expr x) (expr s) (expr l) (stmt y)
+for_read whole v x s l b y same k = ap stmt same ∙ its v x s l b ∙ ap (λ (z : Stmt). tree.for v (expr x) (expr s) (expr l) (stmt z)) (sym k)
+  where
+    its : (v : Named) (x s l : Expr) (b : Box Stmt Global) → stmt (forms.For v x s l b) ≡ tree.for v (expr x) (expr s) (expr l) (stmt b.value)
+    its v x s l b = search (rules, statements.the_lemmas)
+
+pub thru_read : (whole : Stmt) (e : Expr) (b : Box Stmt Global) (y : Stmt) → whole ≡ (forms.Thru e b) → y ≡ b.value → stmt whole ≡ tree.thru (expr e) (stmt y)
+thru_read whole e b y same k = ap stmt same ∙ its e b ∙ ap (λ (z : Stmt). tree.thru (expr e) (stmt z)) (sym k)
+  where
+    its : (e : Expr) (b : Box Stmt Global) → stmt (forms.Thru e b) ≡ tree.thru (expr e) (stmt b.value)
+    its e b = search (rules, statements.the_lemmas)
+
+pub case_read : (whole : Stmt) (e : Expr) (ss : List Stmt) → whole ≡ (forms.Case e ss) → stmt whole ≡ tree.case (expr e) (stmts ss)
+case_read whole e ss same = ap stmt same ∙ its e ss
+  where
+    its : (e : Expr) (ss : List Stmt) → stmt (forms.Case e ss) ≡ tree.case (expr e) (stmts ss)
+    its e ss = search (rules, statements.the_lemmas)
+
+pub process_read : (whole : Stmt) (c : Call) (task : Option Named) → whole ≡ (forms.Process c task) → stmt whole ≡ tree.process (call c) task
+process_read whole c task same = ap stmt same ∙ its c task
+  where
+    its : (c : Call) (task : Option Named) → stmt (forms.Process c task) ≡ tree.process (call c) task
+    its c task = search (rules, statements.the_lemmas)
+
+pub event_read : (whole : Stmt) (act : EventAct) (e : EventName) → whole ≡ (forms.Event act e) → stmt whole ≡ tree.event act e
+event_read whole act e same = ap stmt same ∙ its act e
+  where
+    its : (act : EventAct) (e : EventName) → stmt (forms.Event act e) ≡ tree.event act e
+    its act e = search (rules, statements.the_lemmas)
+
+pub write_read : (whole : Stmt) (n : Named) (spot : Spot) (ps : List PhraseText) (es : List Expr) → whole ≡ (forms.Write n spot ps es) → stmt whole ≡ tree.write n spot ps (exprs es)
+write_read whole n spot ps es same = ap stmt same ∙ its n spot ps es
+  where
+    its : (n : Named) (spot : Spot) (ps : List PhraseText) (es : List Expr) → stmt (forms.Write n spot ps es) ≡ tree.write n spot ps (exprs es)
+    its n spot ps es = search (rules, statements.the_lemmas)

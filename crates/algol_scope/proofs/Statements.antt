@@ -224,6 +224,14 @@ pub record Heads (old now : Resolver) (all : List Block → Surroundings → Lis
     (left : List Spot → List Block) : Type 0 where
   pub heads : (last : Resolver) → Visits now last rest left → Visits old last all inner
 
+pub heads-start : (old : Resolver) (ss items : List Stmt) (listed : Bool) → items ≡ ss →
+    Heads old old (λ blocks. sites_in_stmts blocks (stmts ss) listed) (blocks_in_stmts (stmts ss)) (λ blocks. sites_in_stmts blocks (stmts items) listed)
+    (blocks_in_stmts (stmts items))
+heads-start old ss items listed e =
+    let P : List Stmt → Type 0 =
+    λ z. Heads old old (λ blocks. sites_in_stmts blocks (stmts ss) listed) (blocks_in_stmts (stmts ss)) (λ blocks. sites_in_stmts blocks (stmts z) listed) (blocks_in_stmts (stmts z)) in
+    subst P (sym e) (record { heads = λ last v. v })
+
 pub heads-item : (old now new : Resolver) (all : List Block → Surroundings → List Site) (inner : List Spot → List Block) (ss : List Stmt) (i : ℕ) (s : Stmt) (listed : Bool) →
     i < length ss → s ≡ get_or ss i s →
     Heads old now all inner (λ blocks. sites_in_stmts blocks (stmts (drop i ss)) listed) (blocks_in_stmts (stmts (drop i ss))) →
@@ -248,3 +256,10 @@ heads-end old now all inner ss listed h l =
     let P : List Stmt → Type 0 = λ z. Heads old now all inner (λ blocks. sites_in_stmts blocks (stmts z) listed) (blocks_in_stmts (stmts z)) in
     let moved : P [] = subst P h l in
     moved.heads now (visits-none now)
+
+-- ---- the statement that this is
+
+pub visits-of : (old new : Resolver) (s : Stmt) (p : PStmt) → stmt s ≡ p → ((listed : Bool) → Visits old new (stmt_parts p listed) (stmt_blocks p)) →
+    (listed : Bool) → Visits old new (stmt_parts (stmt s) listed) (stmt_blocks (stmt s))
+visits-of old new s p e h listed =
+    let P : PStmt → Type 0 = λ z. Visits old new (stmt_parts z listed) (stmt_blocks z) in subst P (sym e) (h listed)

@@ -1,13 +1,15 @@
 //! Scopes, from the walk over a tree.
 
-ghost use Rattle.std.specs.Prelude.{◌≡◌, IfErr, OnOk};
-ghost use Rattle.algol_tree.specs.Accepted.{broken, noted_all};
+ghost use Rattle.std.specs.Prelude.{◌≡◌, IfErr, IfOk, [], OnOk};
+ghost use Rattle.algol_tree.specs.Accepted.{broken, noted_all, scope_faults};
+ghost use Rattle.algol_tree.specs.Ascending.{IsInOrder};
 ghost use Rattle.algol_tree.specs.Image as image;
 ghost use Rattle.algol_tree.specs.Names.{program_segment};
 ghost use Rattle.algol_tree.specs.declared.refusal.Code.TheVariants as codes;
 ghost use Rattle.algol_tree.specs.declared.refusal.Refusal.TheVariants as refusals;
-ghost use Rattle.algol_scope.specs.Finding.{limit_faults};
+ghost use Rattle.algol_scope.specs.Finding.{Holds, limit_faults};
 ghost use Rattle.algol_scope.specs.Noting.{long_segment};
+ghost use Rattle.algol_scope.specs.Resolved.{IsRefused};
 
 use crate::heading::note_if;
 use crate::layout::{actuals, declared, frames_of, levels, results};
@@ -19,7 +21,10 @@ use algol_tree::{Code, MOST_SEGMENT_TOKENS, Program, Refusal};
 use std::alloc::{AllocError, Global};
 
 /// What is found in a whole program.
-fn found_in<'p>(alloc: Global, program: &'p Program) -> Result<Resolver<'p>, AllocError> {
+fn found_in<'p>(alloc: Global, program: &'p Program) -> Result<Resolver<'p>, AllocError>
+    requires { IsInOrder (image.program program.now) }
+    ensures { IfOk result (λ found. Holds found (image.program program.now)) }
+{
     let mut resolver = Resolver::new(alloc);
     resolver.begun(program.body.spot, false)?;
     resolver.body(&program.body)?;
@@ -58,7 +63,11 @@ fn note_limits(
 
 /// The scopes of a program, or the first rule of names and limits that it breaks. `NoMemory` comes where memory is
 /// wanting.
-pub fn resolve(alloc: Global, program: &Program) -> Result<Scopes, Refusal> {
+pub fn resolve(alloc: Global, program: &Program) -> Result<Scopes, Refusal>
+    requires { IsInOrder (image.program program.now) }
+    ensures refused { IfErr result (IsRefused (image.program program.now)) }
+    ensures unbroken { IfOk result (λ scopes. scope_faults (image.program program.now) ≡ []) }
+{
     let mut found = found_in(alloc, program)?;
     let cells = by_block(alloc, found.findings.cells.as_slice())?;
     note_limits(alloc, program, &mut found, &cells)?;
