@@ -61,8 +61,11 @@ fn note_limits(
     Ok(())
 }
 
-/// The scopes of a program, or the first rule of names and limits that it breaks. `NoMemory` comes where memory is
-/// wanting.
+/// The scopes of a program whose places are in the order of the text, so that no two blocks begin at one place.
+///
+/// # Errors
+/// The first fault by the rules of names and limits in the order of the text, and at one place that of the rule with the
+/// lowest number; or want of memory.
 pub fn resolve(alloc: Global, program: &Program) -> Result<Scopes, Refusal>
     requires { IsInOrder (image.program program.now) }
     ensures refused { IfErr result (IsRefused (image.program program.now)) }
