@@ -10,8 +10,6 @@ mod operator;
 mod reader;
 mod stop;
 mod take;
-#[cfg(test)]
-mod tests;
 mod whole;
 
 pub use event::read_event;

@@ -8,6 +8,3 @@ mod texts;
 
 pub use desk::desk_alone;
 pub use status::Status;
-
-#[cfg(test)]
-mod tests;

@@ -23,6 +23,3 @@ pub use paths::{Needs, frame_below, on_path};
 pub use processes::{Unstarted, start};
 pub use starts::{Given, MOST_CELLS, MOST_PROCESSES, first_registers};
 pub use targets::{Target, level_in, number_in, target_of};
-
-#[cfg(test)]
-mod tests;

@@ -15,8 +15,6 @@ mod lines;
 mod making;
 mod marks;
 mod selecting;
-#[cfg(test)]
-mod tests;
 mod writing;
 
 pub use all::{intrinsic, needs_frames};

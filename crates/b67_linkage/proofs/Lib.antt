@@ -7,4 +7,3 @@ pub mod Passed
 pub mod Cutting
 pub mod Linked
 pub mod Closes
-pub mod Alone

@@ -1,4 +1,3 @@
 pub mod Numbers
 pub mod Filling
 pub mod Segments
-mod SmallCode

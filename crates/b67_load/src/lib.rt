@@ -5,8 +5,6 @@
 
 mod first;
 mod opening;
-#[cfg(test)]
-mod tests;
 mod words;
 
 pub use first::load;

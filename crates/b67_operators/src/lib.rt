@@ -20,6 +20,3 @@ pub use indexing::{index, index_and_load, index_mother};
 pub use leaving::{exit, return_value};
 pub use loading::{load_through, load_value, operand_pushed};
 pub use storing::store;
-
-#[cfg(test)]
-mod tests;

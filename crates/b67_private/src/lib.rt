@@ -36,6 +36,3 @@ impl From<NumFault> for Stop {
         Stop::Fault(FaultKind::from(fault))
     }
 }
-
-#[cfg(test)]
-mod tests;

@@ -1,0 +1,13 @@
+//! Tests of the linkage of frames, of the intrinsics, and of codes that run from the first image.
+#![tactic(auto)]
+
+#[cfg(test)]
+mod going;
+#[cfg(test)]
+mod intrinsics;
+#[cfg(test)]
+mod linkage;
+#[cfg(test)]
+mod load;
+#[cfg(test)]
+mod registers;

@@ -1,0 +1,43 @@
+//! Tests of the program and of the crates of the machine below its actions, by their public functions.
+#![tactic(auto)]
+
+#[cfg(test)]
+mod compiler;
+#[cfg(test)]
+mod control;
+#[cfg(test)]
+mod descriptor;
+#[cfg(test)]
+mod desk;
+#[cfg(test)]
+mod display;
+#[cfg(test)]
+mod events;
+#[cfg(test)]
+mod io;
+#[cfg(test)]
+mod list;
+#[cfg(test)]
+mod listing;
+#[cfg(test)]
+mod machine;
+#[cfg(test)]
+mod num;
+#[cfg(test)]
+mod operators;
+#[cfg(test)]
+mod ops;
+#[cfg(test)]
+mod private;
+#[cfg(test)]
+mod report;
+#[cfg(test)]
+mod schedule;
+#[cfg(test)]
+mod segment;
+#[cfg(test)]
+mod store;
+#[cfg(test)]
+mod word;
+#[cfg(test)]
+mod words;
