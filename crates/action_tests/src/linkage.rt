@@ -103,12 +103,7 @@ fn start<C: Core>(rt: &impl Abort, core: &mut C, words: &[Word], regs: &Register
 }
 
 // What a call leaves: the stack's length, F and the counted words.
-fn after<C: Core>(
-    rt: &impl Abort,
-    core: &C,
-    regs: &Registers,
-    wanted: (Option<u32>, u16, u32),
-) {
+fn after<C: Core>(rt: &impl Abort, core: &C, regs: &Registers, wanted: (Option<u32>, u16, u32)) {
     assert_eq!(rt; core.length(1), wanted.0);
     assert_eq!(rt; regs.f, wanted.1);
     assert_eq!(rt; core.counted(), wanted.2);

@@ -1,7 +1,8 @@
 //! Sources and sinks that fail in mid-stream.
 
 use b67_io::{
-    MemorySink, MemorySource, ReadAll, Sink, Source, StdinSource, StdoutSink, WriteAll, read_all, write_all,
+    MemorySink, MemorySource, ReadAll, Sink, Source, StdinSource, StdoutSink, WriteAll, read_all,
+    write_all,
 };
 use std::io;
 use std::io::{ErrorKind, Read};

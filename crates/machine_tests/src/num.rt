@@ -1,7 +1,8 @@
 //! Whole numbers at their limits.
 
 use b67_num::{
-    Calculation, FaultKind, MOST, NumFault, Relation, add, calculate, compare, div_exact, idiv, rdiv,
+    Calculation, FaultKind, MOST, NumFault, Relation, add, calculate, compare, div_exact, idiv,
+    rdiv,
 };
 
 #[test]
