@@ -5,13 +5,13 @@ use Rattle.std.proofs.lemmas.List.{append_assoc, append-nil}
 use Rattle.std.proofs.lemmas.Fmt.{decimal_injective}
 use Rattle.b67_words.specs.declared.TheConstants.{MOST_BUDGET, MOST_PROCESSORS}
 use Rattle.b67_words.specs.declared.Words.{Words}
-use Rattle.b67_words.specs.declared.Words.TheVariants.{Run}
+use Rattle.b67_words.specs.declared.Words.TheVariants.{Run, Check}
 use Rattle.b67_words.specs.declared.UsageKind.{UsageKind}
 use Rattle.b67_words.specs.declared.UsageKind.TheVariants.{Missing, Unknown, BadNumber, Extra}
 use Rattle.b67_words.specs.declared.BadWords.{BadWords}
 use Rattle.b67_words.specs.declared.BadWords.TheVariants.{Usage}
 use Rattle.b67_words.specs.Grammar.{IsNumber, IsCommand, BeginCommand, Wants, command, numeral, nothing, Breaks, missing, wrong, WordsMean, meant, broken}
-use Rattle.b67_words.proofs.Commands.{Shape, shape_of, begin_run}
+use Rattle.b67_words.proofs.Commands.{Form, a_run, a_check, form_of, check_not_run, begin_run}
 use Rattle.b67_words.proofs.Numbers.{first_digit}
 
 -- ---- a command has one meaning
@@ -19,26 +19,36 @@ use Rattle.b67_words.proofs.Numbers.{first_digit}
 same_number : (most : ℕ) (word : List ℕ) (n k : ℕ) → most < 2 ^ 64 → IsNumber most word n → IsNumber most word k → n ≡ k
 same_number most word n k small a b = decimal_injective n k (omega (arith, a.greatest)) (omega (arith, b.greatest)) (sym a.written ∙ b.written)
 
+same_form : (words : List (List ℕ)) (a b : Words) → Form words a → Form words b → a ≡ b
+same_form words a b (a_run processors budget p n e f s m) (a_run others other q k also g t l) =
+    let same = sym e ∙ also in
+    let first : others ≡ processors = cc in
+    let second : other ≡ budget = cc in
+    let one : p ≡ q = same_number MOST_PROCESSORS processors p q (omega arith) f (subst (λ w. IsNumber MOST_PROCESSORS w q) first g) in
+    let two : n ≡ k = same_number MOST_BUDGET budget n k (omega arith) s (subst (λ w. IsNumber MOST_BUDGET w k) second t) in
+    m ∙ ap (λ x. Run x n) one ∙ ap (λ x. Run q x) two ∙ sym l
+same_form words a b (a_run processors budget p n e f s m) (a_check also l) =
+    let same = sym also ∙ e in absurd (check_not_run (let word : codes "check" ≡ codes "run" = cc in word))
+same_form words a b (a_check e m) (a_run processors budget p n also f s l) =
+    let same = sym e ∙ also in absurd (check_not_run (let word : codes "check" ≡ codes "run" = cc in word))
+same_form words a b (a_check e m) (a_check also l) = m ∙ sym l
+
 same_command : (words : List (List ℕ)) (a b : Words) → IsCommand words a → IsCommand words b → a ≡ b
-same_command words a b is also =
-    let x = shape_of words a is in
-    let y = shape_of words b also in
-    let e = sym x.are ∙ y.are in
-    let first : y.processors ≡ x.processors = cc in
-    let second : y.budget ≡ x.budget = cc in
-    let p : x.p ≡ y.p = same_number MOST_PROCESSORS x.processors x.p y.p (omega arith) x.first (subst (λ w. IsNumber MOST_PROCESSORS w y.p) first y.first) in
-    let q : x.b ≡ y.b = same_number MOST_BUDGET x.budget x.b y.b (omega arith) x.second (subst (λ w. IsNumber MOST_BUDGET w y.b) second y.second) in
-    x.meant_is ∙ ap (λ n. Run n x.b) p ∙ ap (λ n. Run y.p n) q ∙ sym y.meant_is
+same_command words a b is also = same_form words a b (form_of words a is) (form_of words b also)
 
 -- a number is no name of a command
-no_number_first : {B : Type 0} (word : List ℕ) (n : ℕ) → IsNumber MOST_BUDGET word n → BeginCommand (word ∷ []) → B
-no_number_first word n is (rest, m, begins) =
-    let words = shape_of (word ∷ rest) m begins in
-    let e = words.are in
+number_form : {B : Type 0} (word : List ℕ) (rest : List (List ℕ)) (meaning : Words) → get_or word 0 0 ≤ 57 → Form (word ∷ rest) meaning → B
+number_form word rest meaning low (a_run processors budget p b e f s m) =
     let same : word ≡ codes "run" = cc in
-    let low = (first_digit MOST_BUDGET word n (omega arith) is).1 in
     let high : get_or word 0 0 ≡ 114 = rw same refl in
     absurd (omega arith)
+number_form word rest meaning low (a_check e m) =
+    let same : word ≡ codes "check" = cc in
+    let high : get_or word 0 0 ≡ 99 = rw same refl in
+    absurd (omega arith)
+
+no_number_first : {B : Type 0} (word : List ℕ) (n : ℕ) → IsNumber MOST_BUDGET word n → BeginCommand (word ∷ []) → B
+no_number_first word n is (rest, m, begins) = number_form word rest m (first_digit MOST_BUDGET word n (omega arith) is).1 (form_of (word ∷ rest) m begins)
 
 -- ---- two ways to cut a list at a word
 

@@ -3,7 +3,7 @@ use Rattle.std.specs.Prelude.{◌≡◌, ℕ, ◌+◌, ◌≤◌, List, [], ◌�
 use Rattle.std.specs.Fmt.{decimal}
 use Rattle.b67_words.specs.declared.TheConstants.{MOST_BUDGET, MOST_PROCESSORS}
 use Rattle.b67_words.specs.declared.Words.{Words}
-use Rattle.b67_words.specs.declared.Words.TheVariants.{Run}
+use Rattle.b67_words.specs.declared.Words.TheVariants.{Run, Check}
 use Rattle.b67_words.specs.declared.UsageKind.{UsageKind}
 use Rattle.b67_words.specs.declared.UsageKind.TheVariants.{Missing, Unknown, BadNumber, Extra}
 use Rattle.b67_words.specs.declared.BadWords.{BadWords}
@@ -19,6 +19,7 @@ pub record IsNumber (most : ℕ) (word : List ℕ) (number : ℕ) : Type 0 where
 pub data IsCommand : List (List ℕ) → Words → Type 0 where
   run : (processors budget : List ℕ) (p b : ℕ) → IsNumber MOST_PROCESSORS processors p → IsNumber MOST_BUDGET budget b →
       IsCommand (codes "run" ∷ processors ∷ budget ∷ []) (Run p b)
+  check : IsCommand (codes "check" ∷ []) Check
 
 -- some command begins with these words
 abbrev pub BeginCommand : List (List ℕ) → Type 0

@@ -23,6 +23,8 @@ pub enum Words {
     /// `run P B`: run the source on P processors, from 1 to [`MOST_PROCESSORS`], with a budget of B operators, from 1 to
     /// [`MOST_BUDGET`].
     Run { processors: u32, budget: u64 },
+    /// `check`: say whether the source is accepted.
+    Check,
 }
 
 /// What is wrong with the first word that breaks the grammar.
@@ -65,6 +67,7 @@ pub fn read_words(words: &[String]) -> Result<Words, BadWords>
     };
     match command.as_str() {
         "run" => read_run(words),
+        "check" => read_check(words),
         _ => Err(BadWords::Usage {
             word: 1,
             kind: UsageKind::Unknown,
@@ -89,6 +92,20 @@ fn read_run(words: &[String]) -> Result<Words, BadWords>
         processors: processors as u32,
         budget,
     })
+}
+
+/// `check`, where it is the first word.
+fn read_check(words: &[String]) -> Result<Words, BadWords>
+    requires { slice_get (map string_bytes words.now) 0 ≡ Some (codes "check") }
+    ensures { WordsMean (map string_bytes words.now) result }
+{
+    if words.len() > 1 {
+        return Err(BadWords::Usage {
+            word: 2,
+            kind: UsageKind::Extra,
+        });
+    }
+    Ok(Words::Check)
 }
 
 /// The number from 1 to `most` that is the word after `before` others.

@@ -14,11 +14,14 @@ fn read(alloc: Global, line: &str) -> Result<Result<Words, BadWords>, AllocError
 }
 
 #[test]
-fn words_of_a_run(rt: HostRuntime) -> Result<(), Fail> {
+fn words_of_the_commands(rt: HostRuntime) -> Result<(), Fail> {
     let alloc = rt.alloc();
     let usage = |word, kind| Err(BadWords::Usage { word, kind });
     assert_eq!(rt; read(alloc, "")?, usage(1, UsageKind::Missing));
-    assert_eq!(rt; read(alloc, "check")?, usage(1, UsageKind::Unknown));
+    assert_eq!(rt; read(alloc, "list")?, usage(1, UsageKind::Unknown));
+    assert_eq!(rt; read(alloc, "CHECK")?, usage(1, UsageKind::Unknown));
+    assert_eq!(rt; read(alloc, "check X")?, usage(2, UsageKind::Extra));
+    assert_eq!(rt; read(alloc, "check")?, Ok(Words::Check));
     assert_eq!(rt; read(alloc, "run")?, usage(2, UsageKind::Missing));
     assert_eq!(rt; read(alloc, "run 9 100")?, usage(2, UsageKind::BadNumber));
     assert_eq!(rt; read(alloc, "run 01 100")?, usage(2, UsageKind::BadNumber));

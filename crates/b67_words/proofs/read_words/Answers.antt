@@ -7,4 +7,4 @@ returns-in_default c = none_given_of _ c.args.words.now (sym c.in_default.ensure
 
 pub returns-in_default-as_str : goal.returns-in_default-as_str
 returns-in_default-as_str c =
-    unknown_given_of _ c.args.words.now c.in-Some.command.now (sym c.in-Some.ensures.value) (λ e. c.in_default-as_str.not-run (c.as_str.ensures.value ∙ e))
+    unknown_given_of _ c.args.words.now c.in-Some.command.now (sym c.in-Some.ensures.value) (λ e. c.in_default-as_str.not-run (c.as_str.ensures.value ∙ e)) (λ e. c.in_default-as_str.not-check (c.as_str.ensures.value ∙ e))
