@@ -19,7 +19,7 @@ const ACCEPTED: [&[u8]; 10] = [
 ];
 
 /// Texts, and the place of an expression or a name of the wrong type or kind.
-const WRONG_TYPE: [(&[u8], u32, u32); 51] = [
+const WRONG_TYPE: [(&[u8], u32, u32); 55] = [
     (b"BEGIN INTEGER I; I:=TRUE END.", 1, 21),
     (b"BEGIN INTEGER I; I:=(TRUE) END.", 1, 21),
     (
@@ -118,6 +118,26 @@ const WRONG_TYPE: [(&[u8], u32, u32); 51] = [
         b"BEGIN PROCEDURE P; FORWARD; INTEGER PROCEDURE P; P:=1; END.",
         1,
         47,
+    ),
+    (
+        b"BEGIN ARRAY A[0:1]; PROCEDURE P(X); INTEGER X; ; P(A) END.",
+        1,
+        52,
+    ),
+    (
+        b"BEGIN LABEL L; PROCEDURE P(X); INTEGER X; ; P(L); L: END.",
+        1,
+        47,
+    ),
+    (
+        b"BEGIN FILE F; PROCEDURE P(X); INTEGER X; ; P(F) END.",
+        1,
+        46,
+    ),
+    (
+        b"BEGIN INTEGER I; PROCEDURE G; ; I:=IF TRUE THEN G ELSE TRUE END.",
+        1,
+        49,
     ),
 ];
 

@@ -73,7 +73,7 @@ const BEHIND: [(&[u8], u32, u32); 3] = [
 ];
 
 /// Parts of texts, how often the line stands in the deepest, and the place in one that is too deep.
-const DEEPEST: [([&[u8]; 5], usize, u32, u32); 18] = [
+const DEEPEST: [([&[u8]; 5], usize, u32, u32); 19] = [
     (
         [b"BEGIN\n", b"WHILE TRUE DO\n", b"", b"", b"END."],
         63,
@@ -148,6 +148,12 @@ const DEEPEST: [([&[u8]; 5], usize, u32, u32); 18] = [
         1,
     ),
     ([b"BEGIN I:=-1\n", b"+1\n", b"", b"", b"END."], 999, 1001, 1),
+    (
+        [b"BEGIN B:=\n", b"(\n", b"HAPPENED(E)", b")\n", b"END."],
+        63,
+        66,
+        9,
+    ),
 ];
 
 #[test]

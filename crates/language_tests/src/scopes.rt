@@ -42,7 +42,7 @@ const UNKNOWN: [(&[u8], u32, u32); 17] = [
 ];
 
 /// Texts, and the place of a name that is declared before in its block.
-const TWICE: [(&[u8], u32, u32); 15] = [
+const TWICE: [(&[u8], u32, u32); 16] = [
     (b"BEGIN INTEGER I,I; END.", 1, 17),
     (b"BEGIN INTEGER I; LABEL I; I: END.", 1, 24),
     (b"BEGIN FILE F; EVENT F; END.", 1, 21),
@@ -85,6 +85,11 @@ const TWICE: [(&[u8], u32, u32); 15] = [
         b"BEGIN PROCEDURE P(X); INTEGER X; BEGIN PROCEDURE X; FORWARD;\nPROCEDURE X; ; END; END.",
         1,
         50,
+    ),
+    (
+        b"BEGIN PROCEDURE P; ; PROCEDURE P; FORWARD; PROCEDURE P; ; END.",
+        1,
+        32,
     ),
 ];
 

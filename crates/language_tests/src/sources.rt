@@ -120,15 +120,15 @@ fn four_tokens_and_half_a_sum(rt: HostRuntime) -> Result<(), Fail> {
     let alloc = rt.alloc();
     let tokens = lex(alloc, b"I:=1").ok().ok_or("no tokens")?;
     assert_eq!(rt; tokens.len(), 4);
-    let tokens = lex(alloc, b"1+").ok().ok_or("no tokens of a sum")?;
+    let Ok(tokens) = lex(alloc, b"1+") else {
+        return Err("no tokens of a sum".into());
+    };
     if tokens.is_empty() {
         return Err("no end".into());
     }
-    match read_expr(alloc, tokens.as_slice(), 0, 0) {
-        Err(Refusal::At { spot, code }) => {
-            assert!(rt; (spot.line, spot.column, code) == (1, 3, Code::Unexpected));
-        }
-        _ => return Err("an expression".into()),
-    }
+    let Err(Refusal::At { spot, code }) = read_expr(alloc, tokens.as_slice(), 0, 0) else {
+        return Err("an expression".into());
+    };
+    assert!(rt; (spot.line, spot.column, code) == (1, 3, Code::Unexpected));
     Ok(())
 }
