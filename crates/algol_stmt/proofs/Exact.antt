@@ -122,23 +122,22 @@ over_at (u ∷ ts) p vs t rest ws i e = at_token (step strict (stack p) u.spot u
     at_token (over c us) is e more = let q : (u ∷ ts ≡ t ∷ rest) × (us ≡ ws) = (cc, cc) in found u ts c us q.0 q.1 is
     at_token (stops place c) is e more = cc
 
--- where a program is read and a token that is not the end of the text stands behind it, that is the first behind a program
-pub behind_exact : (tokens : List Token) (t : Token) (rest : List Token) (ws : List Value) → read 0 tokens (program ∷ []) [] ≡ to (t ∷ rest) ws → (t.kind ≡ kinds.End → ⊥) →
-    IsBehind Programs tokens t.spot
-behind_exact tokens t rest ws e other =
+-- where reading a program ends before a token, the tokens before it are one
+pub whole_before : (tokens : List Token) (t : Token) (rest : List Token) (ws : List Value) → read 0 tokens (program ∷ []) [] ≡ to (t ∷ rest) ws →
+    (front : List Token) × (tokens ≡ front ++ t ∷ rest) × Programs 0 front
+whole_before tokens t rest ws e =
     let r = over_at tokens start [] t rest ws refl e in
     let b = fed_back 0 start r.q [] r.us r.front [] r.fed_so (omega arith) tt in
     let x = place_over 0 r.q [] r.us r.n ws (fed_placed start r.q [] r.us r.front refl r.fed_so) b.0 (over_idle (stack r.q) t.spot t.kind (count r.q) r.us r.n ws r.over_so) in
     let whole : Programs 0 (r.front ++ []) = made_program 0 (r.front ++ []) ws (b.1 ws [] x) in
-    record {
-      front = r.front;
-      token = t;
-      rest = rest;
-      is = r.is;
-      place = refl;
-      good = subst (Programs 0) (append-nil r.front) whole;
-      more = other;
-    }
+    (r.front, r.is, subst (Programs 0) (append-nil r.front) whole)
+
+-- and where that token is not the end of the text, it is the first behind a program
+pub behind_exact : (tokens : List Token) (t : Token) (rest : List Token) (ws : List Value) → read 0 tokens (program ∷ []) [] ≡ to (t ∷ rest) ws → (t.kind ≡ kinds.End → ⊥) →
+    IsBehind Programs tokens t.spot
+behind_exact tokens t rest ws e other =
+    let r = whole_before tokens t rest ws e in
+    record { front = r.0; token = t; rest = rest; is = r.1; place = refl; good = r.2; more = other }
 
 pub exact : (tokens : List Token) → IsExact tokens
 exact tokens = record {

@@ -21,7 +21,7 @@ pub mod Outset
 pub mod Labels
 pub mod Deep
 pub mod Exact
-mod OneTree
+pub mod OneTree
 mod Chains
 mod Firsts
 mod Loops
@@ -33,3 +33,7 @@ mod Openings
 mod Public
 mod Picks
 pub mod InOrder
+mod Alone
+mod Laxer
+mod Ahead
+pub mod Refusals

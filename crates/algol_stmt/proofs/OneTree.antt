@@ -10,7 +10,7 @@ use Rattle.algol_expr.proofs.Turns.{read_nothing}
 use Rattle.algol_lexer.proofs.LexReach.{one_lexing}
 use Rattle.algol_stmt.proofs.Complete.{program_read}
 
-comes_to : (tokens : List Token) (tree : PProgram) (r : Reads tokens tree) → read 0 tokens (program ∷ []) [] ≡ to (r.last ∷ []) (whole_program tree ∷ [])
+pub comes_to : (tokens : List Token) (tree : PProgram) (r : Reads tokens tree) → read 0 tokens (program ∷ []) [] ≡ to (r.last ∷ []) (whole_program tree ∷ [])
 comes_to tokens tree r = program_read 0 tokens tree (r.last ∷ []) r.is [] [] ∙ read_nothing 0 (r.last ∷ []) (whole_program tree ∷ [])
 
 pub one_tree : (tokens : List Token) (tree other : PProgram) → Reads tokens tree → Reads tokens other → tree ≡ other

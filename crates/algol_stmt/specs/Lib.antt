@@ -5,3 +5,4 @@ pub mod ReadExactly
 pub mod Starts
 pub mod Openings
 pub mod InOrder
+pub mod OneRefusal

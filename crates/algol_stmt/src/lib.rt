@@ -16,6 +16,7 @@ mod take;
 
 ghost use Rattle.algol_stmt.specs.InOrder.{ProgramsInOrder};
 ghost use Rattle.algol_stmt.specs.OneTree.{OneTree, OneTreeOfText};
+ghost use Rattle.algol_stmt.specs.OneRefusal.{OneRefusal, NotRefused};
 ghost use Rattle.algol_stmt.specs.ReadExactly.{ReadExactly};
 
 pub use program::read_program;
@@ -34,6 +35,16 @@ pub fn texts_have_one_tree()
 /// that breaks a limit, or as behind a program, where the grammar has it so.
 pub fn reading_is_exact()
     ensures { ReadExactly }
+{}
+
+/// Law: tokens are refused at one place and for one reason at most.
+pub fn tokens_are_refused_once()
+    ensures { OneRefusal }
+{}
+
+/// Law: tokens that are read as a program are refused nowhere.
+pub fn programs_are_not_refused()
+    ensures { NotRefused }
 {}
 
 /// Law: a program that is read from tokens in the order of their text is in that order too.

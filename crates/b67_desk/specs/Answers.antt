@@ -8,9 +8,11 @@ use Rattle.algol_tree.specs.declared.token.Spot.{Spot}
 use Rattle.algol_tree.specs.declared.refusal.Code.{Code as RefusalCode}
 use Rattle.algol_tree.specs.declared.refusal.Code.TheVariants as refusals
 use Rattle.algol_tree.specs.Plain.{PProgram}
-use Rattle.algol_tree.specs.FirstAccepted.{Source}
+use Rattle.algol_tree.specs.First.{Source, First}
+use Rattle.algol_straight.specs.Built.{IsBuilt}
 use Rattle.b67_io.specs.Faults.{Rose}
-use Rattle.b67_words.specs.declared.Words.TheVariants.{Run}
+use Rattle.b67_words.specs.declared.Words.{Words}
+use Rattle.b67_words.specs.declared.Words.TheVariants.{Run, Check}
 use Rattle.b67_words.specs.declared.BadWords.TheVariants as bad
 use Rattle.b67_words.specs.declared.UsageKind.{UsageKind}
 use Rattle.b67_words.specs.declared.UsageKind.TheVariants as kinds
@@ -127,20 +129,47 @@ status_of (ends.StackLimit process words) = status.StackLimit process words
 status_of ends.ScheduleEnded = status.ScheduleEnded
 status_of (ends.Illegal entry) = status.Illegal entry
 
--- What these bytes are answered by on so many processors under that budget: a refusal exactly where they are no source, else a
--- report that explains each tree which the bytes are a source of.
-pub data AnswersBytes (processors budget : ℕ) (bytes : List ℕ) : List ℕ → Status → Type 0 where
-  refused : ((tree : PProgram) → Source bytes tree → ⊥) →
-      AnswersBytes processors budget bytes (refused_text (record { line = 1; column = 1 }) refusals.Unbuilt) (status.Refused (record { line = 1; column = 1 }) refusals.Unbuilt)
-  reported : (tree : PProgram) (report : Report) → Source bytes tree → ((t : PProgram) → Source bytes t → Explains t processors budget report) →
-      AnswersBytes processors budget bytes (ReportText report) (status_of report.end)
+-- What a run of this tree, on so many processors under that budget, is answered by: a refusal at 1:1 exactly where it is not built, else a
+-- report that explains it.
+pub data AnswersTree (processors budget : ℕ) (tree : PProgram) : List ℕ → Status → Type 0 where
+  unbuilt : (IsBuilt tree → ⊥) →
+      AnswersTree processors budget tree (refused_text (record { line = 1; column = 1 }) refusals.Unbuilt) (status.Refused (record { line = 1; column = 1 }) refusals.Unbuilt)
+  reported : (report : Report) → IsBuilt tree → Explains tree processors budget report →
+      AnswersTree processors budget tree (ReportText report) (status_of report.end)
 
--- What a source is answered by, from the bytes that it has left, before and after, where it tells them: too long exactly where more
--- than 262,144 are left; else it is read to its end, and its bytes are all that it had left.
-pub data AnswersSource (processors budget : ℕ) (left left_after : Option (List ℕ)) : List ℕ → Status → Type 0 where
-  too_long : IfSome left (λ bytes. MOST_SOURCE_BYTES < length bytes) → AnswersSource processors budget left left_after too_long_text status.TooLong
+-- The bytes are a source with this tree, and with no other.
+pub record IsSourceOf (bytes : List ℕ) (tree : PProgram) : Type 0 where
+  pub source : Source bytes tree
+  pub only : (other : PProgram) → Source bytes other → other ≡ tree
+
+-- The bytes are no source, and this is the first place that breaks a rule, and the rule.
+pub record IsRefusedAt (bytes : List ℕ) (place : Spot) (code : RefusalCode) : Type 0 where
+  pub first : First bytes place code
+  pub none : (tree : PProgram) → Source bytes tree → ⊥
+
+-- What these bytes are answered by: a refusal exactly where they are no source, else what answers the source.
+pub data RefusedOr (bytes : List ℕ) (AnswersIts : PProgram → List ℕ → Status → Type 0) : List ℕ → Status → Type 0 where
+  refused : (place : Spot) (code : RefusalCode) → IsRefusedAt bytes place code → RefusedOr bytes AnswersIts (refused_text place code) (status.Refused place code)
+  accepted : (tree : PProgram) (text : List ℕ) (s : Status) → IsSourceOf bytes tree → AnswersIts tree text s → RefusedOr bytes AnswersIts text s
+
+abbrev pub accepted_text : List ℕ
+accepted_text = line_text (codes "ACCEPTED")
+
+-- a source that is checked is said to be accepted
+abbrev pub SaysAccepted : List ℕ → Status → Type 0
+SaysAccepted text s = (text ≡ accepted_text) × (s ≡ status.Finished)
+
+-- what these bytes are answered by under that command
+abbrev pub AnswersBytes : Words → List ℕ → List ℕ → Status → Type 0
+AnswersBytes (Run processors budget) bytes text s = RefusedOr bytes (AnswersTree processors budget) text s
+AnswersBytes Check bytes text s = RefusedOr bytes (λ tree. SaysAccepted) text s
+
+-- What a source is answered by under that command, from the bytes that it has left, before and after, where it tells them: too long
+-- exactly where more than 262,144 are left; else it is read to its end, and its bytes are all that it had left.
+pub data AnswersSource (command : Words) (left left_after : Option (List ℕ)) : List ℕ → Status → Type 0 where
+  too_long : IfSome left (λ bytes. MOST_SOURCE_BYTES < length bytes) → AnswersSource command left left_after too_long_text status.TooLong
   read : (bytes text : List ℕ) (s : Status) → length bytes ≤ MOST_SOURCE_BYTES → IfSome left (λ all. bytes ≡ all) → IsAtEnd left_after →
-      AnswersBytes processors budget bytes text s → AnswersSource processors budget left left_after text s
+      AnswersBytes command bytes text s → AnswersSource command left left_after text s
 
 -- ---- a call
 
@@ -160,14 +189,13 @@ pub record Untouched (r : Reading) : Type 0 where
 -- break the grammar, and then nothing is read.
 pub data Answers (words : List (List ℕ)) (r : Reading) : List ℕ → Status → Type 0 where
   usage : (word : ℕ) (kind : UsageKind) → WordsMean words (Err (bad.Usage word kind)) → Untouched r → Answers words r (usage_text word kind) (status.Usage word kind)
-  answered : (processors budget : ℕ) (text : List ℕ) (s : Status) → WordsMean words (Ok (Run processors budget)) →
-      AnswersSource processors budget r.left r.left_after text s → Answers words r text s
+  answered : (command : Words) (text : List ℕ) (s : Status) → WordsMean words (Ok command) → AnswersSource command r.left r.left_after text s →
+      Answers words r text s
 
 -- the source failed: its count rose
 pub record Unreadable (words : List (List ℕ)) (r : Reading) : Type 0 where
-  pub processors : ℕ
-  pub budget : ℕ
-  pub means : WordsMean words (Ok (Run processors budget))
+  pub command : Words
+  pub means : WordsMean words (Ok command)
   pub rose : Rose r.faults r.faults_after
 
 -- what a call found and left of its sink

@@ -1,21 +1,25 @@
 -- What the parts of the top call promise one another.
-use Rattle.std.specs.Prelude.{◌≡◌, ℕ, List, Result, Ok, Err}
+use Rattle.std.specs.Prelude.{◌≡◌, ℕ, ◌≤◌, List, Result, Ok, Err}
 use Rattle.b67_io.specs.Faults.{Rose}
 use Rattle.b67_desk.specs.declared.desk.Answer.{Answer}
 use Rattle.b67_desk.specs.declared.desk.Unanswered.{Unanswered}
 use Rattle.b67_desk.specs.declared.desk.Unanswered.TheVariants as why
+use Rattle.b67_words.specs.declared.TheConstants.{MOST_BUDGET}
+use Rattle.b67_words.specs.declared.Words.{Words}
+use Rattle.b67_words.specs.declared.Words.TheVariants.{Run, Check}
 use Rattle.b67_words.specs.declared.BadWords.{BadWords}
 use Rattle.b67_words.specs.declared.BadWords.TheVariants as broken
 use Rattle.b67_words.specs.declared.UsageKind.{UsageKind}
 use Rattle.b67_desk.specs.declared.status.Status.TheVariants as statuses
-use Rattle.algol_tree.specs.declared.refusal.Code.TheVariants as refusals
+use Rattle.algol_tree.specs.declared.token.Spot.{Spot}
+use Rattle.algol_tree.specs.declared.refusal.Code.{Code as RefusalCode}
 use Rattle.b67_desk.specs.Answers.{usage_text, refused_text, AnswersSource, Answers, Reading, Unreadable}
 
 -- the source is answered, or it failed, or memory ran out
-abbrev pub SourceAnswered : ℕ → ℕ → Reading → Result Answer Unanswered → Type 0
-SourceAnswered processors budget r (Ok a) = AnswersSource processors budget r.left r.left_after a.text.items a.status
-SourceAnswered processors budget r (Err why.ReadFault) = Rose r.faults r.faults_after
-SourceAnswered processors budget r (Err why.NoMemory) = Unit {0}
+abbrev pub SourceAnswered : Words → Reading → Result Answer Unanswered → Type 0
+SourceAnswered command r (Ok a) = AnswersSource command r.left r.left_after a.text.items a.status
+SourceAnswered command r (Err why.ReadFault) = Rose r.faults r.faults_after
+SourceAnswered command r (Err why.NoMemory) = Unit {0}
 
 -- the call is answered, or its source failed, or memory ran out
 abbrev pub CallAnswered : List (List ℕ) → Reading → Result Answer Unanswered → Type 0
@@ -29,7 +33,12 @@ IsUsage bad (Ok a) = (word : ℕ) × (kind : UsageKind) × (bad ≡ broken.Usage
 IsUsage bad (Err why.ReadFault) = ⊥
 IsUsage bad (Err why.NoMemory) = Unit {0}
 
--- the refusal of a text that is not of the form that is built
-pub record IsUnbuilt (a : Answer) : Type 0 where
-  pub text : a.text.items ≡ refused_text (record { line = 1; column = 1 }) refusals.Unbuilt
-  pub status : a.status ≡ statuses.Refused (record { line = 1; column = 1 }) refusals.Unbuilt
+-- the refusal of a source at a place
+pub record IsRefusal (place : Spot) (code : RefusalCode) (a : Answer) : Type 0 where
+  pub text : a.text.items ≡ refused_text place code
+  pub status : a.status ≡ statuses.Refused place code
+
+-- what the numbers of the command are: some processors, and a budget from 1 to the greatest
+abbrev pub InRange : Words → Type 0
+InRange (Run processors budget) = (1 ≤ processors) × (1 ≤ budget) × (budget ≤ MOST_BUDGET)
+InRange Check = Unit {0}

@@ -5,8 +5,8 @@ use Rattle.b67_report.specs.declared.EndWords.{EndWords}
 use Rattle.b67_report.specs.declared.EndWords.TheVariants as ends
 use Rattle.algol_tree.specs.Plain.{PProgram}
 use Rattle.algol_tree.specs.FirstAccepted.{Accepted}
-use Rattle.algol_first.specs.declared.straight.Straight.{Straight}
-use Rattle.algol_first.specs.Straight.{Resolves}
+use Rattle.algol_straight.specs.declared.straight.Straight.{Straight}
+use Rattle.algol_straight.specs.Straight.{Resolves}
 use Rattle.std.specs.Prelude.{◌≡◌}
 
 -- the run came to an end that a report has words for

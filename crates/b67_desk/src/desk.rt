@@ -3,14 +3,16 @@
 ghost use Rattle.std.specs.Prelude.{◌≡◌, ◌≤◌, ℕ, IfOk, length, map, string_bytes};
 ghost use Rattle.b67_words.specs.declared.TheConstants.{MOST_BUDGET};
 ghost use Rattle.algol_tree.specs.declared.TheConstants.{MOST_SOURCE_BYTES};
-ghost use Rattle.b67_desk.specs.Answers.{AnswersBytes, HasAnswer, status_of};
-ghost use Rattle.b67_desk.specs.Calls.{SourceAnswered, CallAnswered, IsUsage, IsUnbuilt};
+ghost use Rattle.algol_tree.specs.Image.{program as plain};
+ghost use Rattle.b67_desk.specs.Answers.{AnswersTree, SaysAccepted, RefusedOr, AnswersBytes, HasAnswer, status_of};
+ghost use Rattle.b67_desk.specs.Calls.{InRange, SourceAnswered, CallAnswered, IsUsage, IsRefusal};
 
 use crate::report::report_of;
 use crate::status::Status;
-use crate::texts::{too_long_line, unbuilt_line, usage_line};
-use algol_first::{Unread, straight_of};
-use algol_tree::{Code as RefusalCode, MOST_SOURCE_BYTES, Spot};
+use crate::texts::{accepted_line, refused_line, too_long_line, usage_line};
+use algol_front::front;
+use algol_straight::{Unread, straight_of};
+use algol_tree::{Code as RefusalCode, MOST_SOURCE_BYTES, Program, Refusal, Spot};
 use b67_io::{ReadAll, Sink, Source, WriteAll, read_all, write_all};
 use b67_report::{EndWords, text as report_text};
 use b67_words::{BadWords, UsageKind, Words, read_words};
@@ -45,22 +47,46 @@ fn status_of(end: EndWords) -> Status
     }
 }
 
-/// The refusal of a text that is not of the form that is built.
-fn refuse_source(alloc: Global) -> Result<Answer, AllocError>
-    ensures { IfOk result IsUnbuilt }
+/// The refusal of a source at a place.
+fn refuse_source(alloc: Global, place: Spot, code: RefusalCode) -> Result<Answer, AllocError>
+    ensures { IfOk result (IsRefusal place code) }
 {
-    let place = Spot { line: 1, column: 1 };
     Ok(Answer {
-        text: unbuilt_line(alloc, place)?,
-        status: Status::Refused {
-            place,
-            code: RefusalCode::Unbuilt,
-        },
+        text: refused_line(alloc, place, code)?,
+        status: Status::Refused { place, code },
     })
 }
 
-/// The answer to a text of at most [`MOST_SOURCE_BYTES`], on so many processors under a budget.
-fn answer_bytes(
+/// The answer to the tree of a source, on so many processors under a budget.
+fn answer_tree(
+    alloc: Global,
+    processors: u32,
+    budget: u64,
+    program: &Program,
+) -> Result<Answer, AllocError>
+    requires some { 1 ≤ processors }
+    requires least { 1 ≤ budget }
+    requires most { budget ≤ MOST_BUDGET }
+    ensures { IfOk result (λ answer. AnswersTree processors budget (plain program.now) answer.text.items answer.status) }
+{
+    match straight_of(alloc, program) {
+        Ok(straight) => {
+            let report = report_of(alloc, processors, budget, &straight)?;
+            Ok(Answer {
+                text: report_text(alloc, &report)?,
+                status: status_of(report.end),
+            })
+        }
+        Err(Unread::Unbuilt) => {
+            let start = Spot { line: 1, column: 1 };
+            refuse_source(alloc, start, RefusalCode::Unbuilt)
+        }
+        Err(Unread::NoMemory) => Err(AllocError),
+    }
+}
+
+/// The answer to a text of at most [`MOST_SOURCE_BYTES`] that is run, on so many processors under a budget.
+fn answer_run(
     alloc: Global,
     processors: u32,
     budget: u64,
@@ -70,32 +96,60 @@ fn answer_bytes(
     requires some { 1 ≤ processors }
     requires least { 1 ≤ budget }
     requires most { budget ≤ MOST_BUDGET }
-    ensures { IfOk result (λ answer. AnswersBytes processors budget bytes.now answer.text.items answer.status) }
+    ensures { IfOk result (λ answer. RefusedOr bytes.now (AnswersTree processors budget) answer.text.items answer.status) }
 {
-    match straight_of(alloc, bytes) {
-        Ok(straight) => {
-            let report = report_of(alloc, processors, budget, &straight)?;
-            Ok(Answer {
-                text: report_text(alloc, &report)?,
-                status: status_of(report.end),
-            })
+    match front(alloc, bytes) {
+        Ok(checked) => answer_tree(alloc, processors, budget, &checked.program),
+        Err(Refusal::At { spot, code }) => refuse_source(alloc, spot, code),
+        Err(Refusal::NoMemory) => Err(AllocError),
+    }
+}
+
+/// The answer to a source that is accepted, which says no more.
+fn accept_source(alloc: Global) -> Result<Answer, AllocError>
+    ensures { IfOk result (λ answer. SaysAccepted answer.text.items answer.status) }
+{
+    Ok(Answer {
+        text: accepted_line(alloc)?,
+        status: Status::Finished,
+    })
+}
+
+/// The answer to a text of at most [`MOST_SOURCE_BYTES`] that is checked.
+fn answer_check(alloc: Global, bytes: &[u8]) -> Result<Answer, AllocError>
+    requires { length bytes.now ≤ MOST_SOURCE_BYTES }
+    ensures { IfOk result (λ answer. RefusedOr bytes.now (λ tree. SaysAccepted) answer.text.items answer.status) }
+{
+    match front(alloc, bytes) {
+        Ok(checked) => {
+            drop(checked);
+            accept_source(alloc)
         }
-        Err(Unread::Unbuilt) => refuse_source(alloc),
-        Err(Unread::NoMemory) => Err(AllocError),
+        Err(Refusal::At { spot, code }) => refuse_source(alloc, spot, code),
+        Err(Refusal::NoMemory) => Err(AllocError),
+    }
+}
+
+/// The answer to a text of at most [`MOST_SOURCE_BYTES`] under a command.
+fn answer_bytes(alloc: Global, command: Words, bytes: &[u8]) -> Result<Answer, AllocError>
+    requires small { length bytes.now ≤ MOST_SOURCE_BYTES }
+    requires range { InRange command }
+    ensures { IfOk result (λ answer. AnswersBytes command bytes.now answer.text.items answer.status) }
+{
+    match command {
+        Words::Run { processors, budget } => answer_run(alloc, processors, budget, bytes),
+        Words::Check => answer_check(alloc, bytes),
     }
 }
 
 /// Reads the source to its end and answers it.
 fn answer_source<S: Source>(
     alloc: Global,
-    processors: u32,
-    budget: u64,
+    command: Words,
     source: &mut S,
 ) -> Result<Answer, Unanswered>
-    requires some { 1 ≤ processors }
-    requires least { 1 ≤ budget }
-    requires most { budget ≤ MOST_BUDGET }
-    ensures { SourceAnswered processors budget (record {
+    requires { InRange command }
+    ensures { SourceAnswered command (record {
       left = S.left source.old;
       left_after = S.left source.new;
       faults = S.faults source.old;
@@ -103,7 +157,7 @@ fn answer_source<S: Source>(
     }) result }
 {
     match read_all(alloc, source, MOST_SOURCE_BYTES) {
-        Ok(bytes) => match answer_bytes(alloc, processors, budget, bytes.as_slice()) {
+        Ok(bytes) => match answer_bytes(alloc, command, bytes.as_slice()) {
             Ok(answer) => Ok(answer),
             Err(_) => Err(Unanswered::NoMemory),
         },
@@ -116,15 +170,6 @@ fn answer_source<S: Source>(
         },
         Err(ReadAll::Failed) => Err(Unanswered::ReadFault),
         Err(ReadAll::NoMemory) => Err(Unanswered::NoMemory),
-    }
-}
-
-/// The number of processors and the budget of a command.
-fn run_in(command: Words) -> (u32, u64)
-    ensures { command ≡ Words.Run result.0 result.1 }
-{
-    match command {
-        Words::Run { processors, budget } => (processors, budget),
     }
 }
 
@@ -165,29 +210,27 @@ fn answer_call<S: Source>(
     }) result }
 {
     match read_words(words) {
-        Ok(command) => {
-            let (processors, budget) = run_in(command);
-            answer_source(alloc, processors, budget, source)
-        }
+        Ok(command) => answer_source(alloc, command, source),
         Err(bad) => refuse_words(alloc, bad),
     }
 }
 
-/// The top call: reads the words of a command and a source, runs what they ask for in the caller as processor 1, and
+/// The top call: reads the words of a command and a source, does what they ask for in the caller as processor 1, and
 /// writes the answer.
 ///
-/// `words` are the words after the program's name; today the one command is `run 1 B` with a budget B of 1 to
-/// [`MOST_BUDGET`](b67_words::MOST_BUDGET) operators. `source` gives the bytes of an ALGOL source, at most
-/// [`MOST_SOURCE_BYTES`] of them, and is read to its end. `sink` gets the answer whole: the report of the run, or one
-/// line of refusal. It returns on every input.
+/// `words` are the words after the program's name; today the commands are `run 1 B` with a budget B of 1 to
+/// [`MOST_BUDGET`](b67_words::MOST_BUDGET) operators, and `check`. `source` gives the bytes of an ALGOL source, at most
+/// [`MOST_SOURCE_BYTES`] of them, and is read to its end. `sink` gets the answer whole: the report of the run, the word
+/// ACCEPTED, or one line of refusal. It returns on every input.
 ///
 /// The first of these that holds is the answer. `Usage` comes exactly where the words break the grammar, names the first
 /// word that does, and nothing is read. `ReadFault` comes only where the source's count of faults rose, and nothing is
-/// written. `TooLong` comes exactly where the source has too many bytes. `Refused` comes exactly where the text is no
-/// source that is built, at 1:1 with `Unbuilt`. Else the run is reported: `Finished` or `Fault` where the run has that end,
-/// or `BudgetSpent` where the operators came to the budget first. `WriteFault` comes only where the sink's count of faults
-/// rose, and what was written is a front of the answer. `NoMemory` may come instead of any of them, and then nothing is
-/// written.
+/// written. `TooLong` comes exactly where the source has too many bytes. `Refused` comes exactly where the text is no accepted
+/// source, with the first place that breaks a rule and the rule's code, and on `run` also exactly where it is one that is not
+/// built, at 1:1 with `Unbuilt`. Else `check` ends with `Finished`, and on `run` the run is reported: `Finished` or `Fault` where
+/// the run has that end, or `BudgetSpent` where the operators came to the budget first. `WriteFault` comes only where the sink's
+/// count of faults rose, and what was written is a front of the answer. `NoMemory` may come instead of any of them, and then
+/// nothing is written.
 ///
 /// Command, statuses and report are this project's profile.
 pub fn desk_alone<S: Source, K: Sink>(

@@ -4,12 +4,12 @@ ghost use Rattle.std.specs.Prelude.{◌≡◌, ◌≤◌, ℕ, [], ◌∷◌, If
 ghost use Rattle.b67_words.specs.declared.TheConstants.{MOST_BUDGET};
 ghost use Rattle.algol_tree.specs.Plain.{PProgram};
 ghost use Rattle.algol_tree.specs.FirstAccepted.{Accepted};
-ghost use Rattle.algol_first.specs.Straight.{Resolves};
+ghost use Rattle.algol_straight.specs.Straight.{Resolves};
 ghost use Rattle.b67_schedule.specs.Schedules.{entries, IsSchedule};
 ghost use Rattle.b67_desk.specs.Answers.{Explains};
 ghost use Rattle.b67_desk.specs.Running.{IsStraightOf, HasWords, WordsAre};
 
-use algol_first::Straight;
+use algol_straight::Straight;
 use b67_first::{RunEnd, compile, run_code};
 use b67_list::List;
 use b67_listing::listing;

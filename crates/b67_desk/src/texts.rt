@@ -1,7 +1,7 @@
 //! The lines of the answers that are no report.
 
 ghost use Rattle.std.specs.Prelude.{◌≡◌, ◌++◌, IfOk, OnOk};
-ghost use Rattle.b67_desk.specs.Answers.{usage_words, usage_text, refused_text, too_long_text};
+ghost use Rattle.b67_desk.specs.Answers.{usage_words, usage_text, code_words, refused_text, accepted_text, too_long_text};
 
 use algol_tree::{Code as RefusalCode, Spot};
 use b67_list::push_number;
@@ -33,15 +33,52 @@ pub fn usage_line(alloc: Global, word: u32, kind: UsageKind) -> Result<Vec<u8>, 
     Ok(text)
 }
 
-/// The line of a source that is not built yet.
-pub fn unbuilt_line(alloc: Global, place: Spot) -> Result<Vec<u8>, AllocError>
-    ensures { IfOk result (λ text. text.items ≡ refused_text place RefusalCode.Unbuilt) }
+/// The letter and the number of a refusal.
+fn code_words(code: RefusalCode) -> &'static [u8]
+    ensures { result.now ≡ code_words code }
 {
-    let mut text = Vec::new(alloc);
-    push_number(&mut text, b"REFUSED U0 ", place.line)?;
+    match code {
+        RefusalCode::BadCharacter => b"L1",
+        RefusalCode::LineTooLong => b"L2",
+        RefusalCode::OpenString => b"L3",
+        RefusalCode::NumberTooWide => b"L4",
+        RefusalCode::NameTooLong => b"L5",
+        RefusalCode::Unexpected => b"S1",
+        RefusalCode::TooDeep => b"S2",
+        RefusalCode::TextAfterEnd => b"S3",
+        RefusalCode::UnknownName => b"N1",
+        RefusalCode::DeclaredTwice => b"N2",
+        RefusalCode::TooManyLevels => b"N3",
+        RefusalCode::TooManyCells => b"N4",
+        RefusalCode::TooManyProcedures => b"N5",
+        RefusalCode::SegmentTooLong => b"N6",
+        RefusalCode::WrongType => b"C7",
+        RefusalCode::WrongCount => b"C8",
+        RefusalCode::NotAssignable => b"C9",
+        RefusalCode::WriteList => b"C10",
+        RefusalCode::LineTooWide => b"C11",
+        RefusalCode::BadLabel => b"C12",
+        RefusalCode::Unbuilt => b"U0",
+    }
+}
+
+/// The line of a source that is refused at a place.
+pub fn refused_line(alloc: Global, place: Spot, code: RefusalCode) -> Result<Vec<u8>, AllocError>
+    ensures { IfOk result (λ text. text.items ≡ refused_text place code) }
+{
+    let mut text = Vec::from_slice(alloc, b"REFUSED ")?;
+    text.extend_from_slice(code_words(code))?;
+    push_number(&mut text, b" ", place.line)?;
     push_number(&mut text, b":", place.column)?;
     text.extend_from_slice(b"\n")?;
     Ok(text)
+}
+
+/// The line of a source that is accepted.
+pub fn accepted_line(alloc: Global) -> Result<Vec<u8>, AllocError>
+    ensures { IfOk result (λ text. text.items ≡ accepted_text) }
+{
+    Vec::from_slice(alloc, b"ACCEPTED\n")
 }
 
 /// The line of a source that has too many bytes.

@@ -9,8 +9,8 @@ use Rattle.algol_tree.specs.declared.tree.Named.{Named}
 use Rattle.algol_tree.specs.Plain.{PProgram}
 use Rattle.algol_tree.specs.FirstAccepted.{Accepted, accepted, names_of}
 use Rattle.algol_tree.specs.Counts.{program_tokens}
-use Rattle.algol_first.specs.Straight.{Resolves, resolves}
-use Rattle.algol_first.specs.declared.straight.Straight.{Straight}
+use Rattle.algol_straight.specs.Straight.{Resolves, resolves}
+use Rattle.algol_straight.specs.declared.straight.Straight.{Straight}
 use Rattle.b67_segment.specs.declared.code.Code.{Code}
 use Rattle.b67_segment.specs.declared.code.Segment.{Segment}
 use Rattle.b67_segment.specs.Operators.{text, size, missing, filler, filled}

@@ -16,15 +16,15 @@ use Rattle.b67_ops.specs.Intrinsics.{couple_of_intrinsic}
 use Rattle.b67_segment.specs.Operators.{Placed, width, text, size, IsFit, AreFit}
 use Rattle.b67_segment.specs.Building.{Built, level_set}
 use Rattle.b67_segment.proofs.Texts.{text-append}
-use Rattle.algol_first.specs.declared.straight.Operand.{Operand}
-use Rattle.algol_first.specs.declared.straight.Operand.TheVariants as operands
-use Rattle.algol_first.specs.declared.straight.Adding.{Adding}
-use Rattle.algol_first.specs.declared.straight.Adding.TheVariants as adding
-use Rattle.algol_first.specs.declared.straight.Term.{Term}
-use Rattle.algol_first.specs.declared.straight.Sum.{Sum}
-use Rattle.algol_first.specs.declared.straight.Step.{Step}
-use Rattle.algol_first.specs.declared.straight.Step.TheVariants as steps
-use Rattle.algol_first.specs.declared.straight.Straight.{Straight}
+use Rattle.algol_straight.specs.declared.straight.Operand.{Operand}
+use Rattle.algol_straight.specs.declared.straight.Operand.TheVariants as operands
+use Rattle.algol_straight.specs.declared.straight.Adding.{Adding}
+use Rattle.algol_straight.specs.declared.straight.Adding.TheVariants as adding
+use Rattle.algol_straight.specs.declared.straight.Term.{Term}
+use Rattle.algol_straight.specs.declared.straight.Sum.{Sum}
+use Rattle.algol_straight.specs.declared.straight.Step.{Step}
+use Rattle.algol_straight.specs.declared.straight.Step.TheVariants as steps
+use Rattle.algol_straight.specs.declared.straight.Straight.{Straight}
 use Rattle.b67_first.specs.Compiler.{IsOperand, operands_in, cell, short_literal, literal, operand_code, calculation, term_code, terms_code, sum_code, assign_code, write_code, step_code, steps_code, cells_code, straight_code, placed, with_code, HasRoom}
 
 -- ---- builders with code appended

@@ -9,14 +9,14 @@ use Rattle.algol_tree.specs.declared.tree.PhraseText.TheVariants as phrases
 use Rattle.algol_tree.specs.Plain.{PExpr, number, variable, two, subscripted, none, more, PStmt, assign, write, PStmts, no_stmts, stmts, PProgram}
 use Rattle.algol_tree.specs.FirstAccepted.{names_of, Accepted, accepted}
 use Rattle.algol_tree.specs.Counts.{expr_tokens, stmt_tokens, stmts_tokens}
-use Rattle.algol_first.specs.declared.straight.Operand.{Operand}
-use Rattle.algol_first.specs.declared.straight.Operand.TheVariants as operands
-use Rattle.algol_first.specs.declared.straight.Term.{Term}
-use Rattle.algol_first.specs.declared.straight.Sum.{Sum}
-use Rattle.algol_first.specs.declared.straight.Step.{Step}
-use Rattle.algol_first.specs.declared.straight.Step.TheVariants as steps
-use Rattle.algol_first.specs.declared.straight.Straight.{Straight}
-use Rattle.algol_first.specs.Straight.{op_of, ResolvesOperand, ResolvesTerms, ResolvesExpr, ResolvesStmt, ResolvesStmts, Resolves, resolves}
+use Rattle.algol_straight.specs.declared.straight.Operand.{Operand}
+use Rattle.algol_straight.specs.declared.straight.Operand.TheVariants as operands
+use Rattle.algol_straight.specs.declared.straight.Term.{Term}
+use Rattle.algol_straight.specs.declared.straight.Sum.{Sum}
+use Rattle.algol_straight.specs.declared.straight.Step.{Step}
+use Rattle.algol_straight.specs.declared.straight.Step.TheVariants as steps
+use Rattle.algol_straight.specs.declared.straight.Straight.{Straight}
+use Rattle.algol_straight.specs.Straight.{op_of, ResolvesOperand, ResolvesTerms, ResolvesExpr, ResolvesStmt, ResolvesStmts, Resolves, resolves}
 use Rattle.b67_first.specs.Compiler.{IsOperand, IsSum, IsStep, IsInRange, operands_in}
 
 -- what is in a list has a number below its length

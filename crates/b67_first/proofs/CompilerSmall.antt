@@ -15,10 +15,10 @@ use Rattle.b67_segment.specs.Operators.{Placed, text, size, marks_after, marks_o
 use Rattle.b67_segment.proofs.Fetches.{length-syllables}
 use Rattle.b67_segment.proofs.Filling.{filled-text}
 use Rattle.b67_relate.specs.Code.{ProgramAt}
-use Rattle.algol_first.specs.Straight.{Resolves}
-use Rattle.algol_first.specs.declared.straight.Step.{Step}
-use Rattle.algol_first.specs.declared.straight.Step.TheVariants as steps
-use Rattle.algol_first.specs.declared.straight.Straight.{Straight}
+use Rattle.algol_straight.specs.Straight.{Resolves}
+use Rattle.algol_straight.specs.declared.straight.Step.{Step}
+use Rattle.algol_straight.specs.declared.straight.Step.TheVariants as steps
+use Rattle.algol_straight.specs.declared.straight.Straight.{Straight}
 use Rattle.b67_first.specs.Compiler.{IsStep, IsInRange, number_format, formats_of, straight_code, placed, IsCodeOf, IsNumberFormat, IsSmall}
 use Rattle.b67_first.proofs.CompilerTrees.{tree-at}
 use Rattle.b67_first.proofs.CompilerLayout.{straight-room, straight-some}

@@ -17,16 +17,16 @@ use Rattle.b67_segment.specs.declared.code.Format.{Format}
 use Rattle.b67_segment.specs.declared.code.Code.{Code}
 use Rattle.b67_num.specs.declared.Calculation.TheVariants as calculations
 use Rattle.b67_relate.specs.Code.{Has, IsLiteral, zero_pushed, one_pushed, byte, two_bytes, whole_word, IsWhole, LiteralAt, CalculationAt, ExprAt, AssignAt, WriteAt, StmtAt, ItemsAt, ZerosAt, BodyAt, ProgramAt, program_at}
-use Rattle.algol_first.specs.declared.straight.Operand.{Operand}
-use Rattle.algol_first.specs.declared.straight.Operand.TheVariants as operands
-use Rattle.algol_first.specs.declared.straight.Adding.{Adding}
-use Rattle.algol_first.specs.declared.straight.Adding.TheVariants as adding
-use Rattle.algol_first.specs.declared.straight.Term.{Term}
-use Rattle.algol_first.specs.declared.straight.Sum.{Sum}
-use Rattle.algol_first.specs.declared.straight.Step.{Step}
-use Rattle.algol_first.specs.declared.straight.Step.TheVariants as steps
-use Rattle.algol_first.specs.declared.straight.Straight.{Straight}
-use Rattle.algol_first.specs.Straight.{IsNumbered, op_of, ResolvesOperand, ResolvesTerms, ResolvesExpr, ResolvesStmt, ResolvesStmts, Resolves, resolves}
+use Rattle.algol_straight.specs.declared.straight.Operand.{Operand}
+use Rattle.algol_straight.specs.declared.straight.Operand.TheVariants as operands
+use Rattle.algol_straight.specs.declared.straight.Adding.{Adding}
+use Rattle.algol_straight.specs.declared.straight.Adding.TheVariants as adding
+use Rattle.algol_straight.specs.declared.straight.Term.{Term}
+use Rattle.algol_straight.specs.declared.straight.Sum.{Sum}
+use Rattle.algol_straight.specs.declared.straight.Step.{Step}
+use Rattle.algol_straight.specs.declared.straight.Step.TheVariants as steps
+use Rattle.algol_straight.specs.declared.straight.Straight.{Straight}
+use Rattle.algol_straight.specs.Straight.{IsNumbered, op_of, ResolvesOperand, ResolvesTerms, ResolvesExpr, ResolvesStmt, ResolvesStmts, Resolves, resolves}
 use Rattle.b67_first.specs.Compiler.{operands_in, cell, short_literal, literal, operand_code, calculation, term_code, terms_code, sum_code, assign_code, write_code, steps_code, number_format, formats_of, cells_code, straight_code, IsCodeOf}
 use Rattle.b67_first.proofs.CompilerRows.{RowAt, RowAt-append, row-spells}
 

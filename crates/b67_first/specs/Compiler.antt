@@ -18,15 +18,15 @@ use Rattle.b67_segment.specs.declared.code.Code.{Code}
 use Rattle.b67_segment.specs.Operators.{Placed, size, filled}
 use Rattle.b67_segment.specs.Building.{Built}
 use Rattle.b67_segment.specs.Syllables.{Spells}
-use Rattle.algol_first.specs.declared.straight.Operand.{Operand}
-use Rattle.algol_first.specs.declared.straight.Operand.TheVariants as operands
-use Rattle.algol_first.specs.declared.straight.Adding.{Adding}
-use Rattle.algol_first.specs.declared.straight.Adding.TheVariants as adding
-use Rattle.algol_first.specs.declared.straight.Term.{Term}
-use Rattle.algol_first.specs.declared.straight.Sum.{Sum}
-use Rattle.algol_first.specs.declared.straight.Step.{Step}
-use Rattle.algol_first.specs.declared.straight.Step.TheVariants as steps
-use Rattle.algol_first.specs.declared.straight.Straight.{Straight}
+use Rattle.algol_straight.specs.declared.straight.Operand.{Operand}
+use Rattle.algol_straight.specs.declared.straight.Operand.TheVariants as operands
+use Rattle.algol_straight.specs.declared.straight.Adding.{Adding}
+use Rattle.algol_straight.specs.declared.straight.Adding.TheVariants as adding
+use Rattle.algol_straight.specs.declared.straight.Term.{Term}
+use Rattle.algol_straight.specs.declared.straight.Sum.{Sum}
+use Rattle.algol_straight.specs.declared.straight.Step.{Step}
+use Rattle.algol_straight.specs.declared.straight.Step.TheVariants as steps
+use Rattle.algol_straight.specs.declared.straight.Straight.{Straight}
 
 -- ---- which straight lines have a code
 

@@ -10,10 +10,10 @@ ghost use Rattle.b67_segment.specs.Operators.{AreFit};
 ghost use Rattle.algol_tree.specs.FirstAccepted.{Accepted};
 ghost use Rattle.b67_relate.specs.Code.{ProgramAt};
 ghost use Rattle.b67_relate.specs.Faithful.{Faithful};
-ghost use Rattle.algol_first.specs.Straight.{Resolves};
+ghost use Rattle.algol_straight.specs.Straight.{Resolves};
 ghost use Rattle.b67_first.specs.Compiler.{IsOperand, IsSum, IsStep, IsInRange, operands_in, cell, short_literal, literal, operand_code, calculation, term_code, sum_code, assign_code, write_code, step_code, step_formats, steps_code, number_format, formats_of, cells_code, placed, with_code, HasRoom, IsCodeOf, IsSmall};
 
-use algol_first::{Adding, Operand, Step, Straight, Sum, Term};
+use algol_straight::{Adding, Operand, Step, Straight, Sum, Term};
 use b67_list::List;
 use b67_ops::{Couple, Intrinsic, OUTER_LEVEL, Operator, PlainKind};
 use b67_segment::{Builder, Code, Format, Phrase};

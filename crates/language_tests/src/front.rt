@@ -3,17 +3,32 @@
 ghost use Rattle.std.specs.Prelude.{◌≤◌, length};
 ghost use Rattle.algol_tree.specs.declared.TheConstants.{MOST_SOURCE_BYTES};
 
-use algol_first::{Adding, Operand, Step, Sum, Unread, straight_of};
+use algol_front::front;
+use algol_straight::{Adding, Operand, Step, Straight, Sum, Unread, straight_of};
+use algol_tree::{Code, Refusal};
 use std::alloc::Global;
 use std::test::Fail;
 
-fn is_unbuilt(alloc: Global, text: &[u8]) -> bool
+/// The code of the refusal of a text, `Unbuilt` where it is accepted and not of the first form, and none where it is.
+fn refused(alloc: Global, text: &[u8]) -> Option<Code>
     requires { length text.now ≤ MOST_SOURCE_BYTES }
 {
-    match straight_of(alloc, text) {
-        Err(Unread::Unbuilt) => true,
-        _ => false,
+    match front(alloc, text) {
+        Ok(checked) => match straight_of(alloc, &checked.program) {
+            Err(Unread::Unbuilt) => Some(Code::Unbuilt),
+            _ => None,
+        },
+        Err(Refusal::At { code, .. }) => Some(code),
+        Err(Refusal::NoMemory) => None,
     }
+}
+
+/// The steps of a text of the first form.
+fn steps_of(alloc: Global, text: &[u8]) -> Option<Straight>
+    requires { length text.now ≤ MOST_SOURCE_BYTES }
+{
+    let checked = front(alloc, text).ok()?;
+    straight_of(alloc, &checked.program).ok()
 }
 
 fn assigned(step: &Step) -> Option<(u16, &Sum)> {
@@ -23,12 +38,38 @@ fn assigned(step: &Step) -> Option<(u16, &Sum)> {
     }
 }
 
+/// Texts that are not of the first form, with the code of the refusal.
+const REFUSED: [(&[u8], Code); 13] = [
+    (b"BEGIN END.", Code::Unbuilt),
+    (b"BEGIN FILE F; INTEGER I; I:=-1 END.", Code::Unbuilt),
+    (b"BEGIN FILE F; INTEGER I; I:=I*2 END.", Code::Unbuilt),
+    (b"BEGIN FILE F; INTEGER I; K:=1 END.", Code::UnknownName),
+    (b"BEGIN FILE F; INTEGER I; I:=I+K END.", Code::UnknownName),
+    (b"BEGIN FILE F; INTEGER I; I:=I+ END.", Code::Unexpected),
+    (b"BEGIN FILE F; INTEGER I; I:=1++1 END.", Code::Unexpected),
+    (b"BEGIN FILE F; INTEGER I,I; I:=1 END.", Code::DeclaredTwice),
+    (b"BEGIN FILE F; INTEGER F; F:=1 END.", Code::DeclaredTwice),
+    (
+        b"BEGIN FILE F; INTEGER I; WRITE(G,<I5>,I) END.",
+        Code::UnknownName,
+    ),
+    (
+        b"BEGIN FILE F; INTEGER I; WRITE(F,<I0>,I) END.",
+        Code::WriteList,
+    ),
+    (
+        b"BEGIN FILE F; INTEGER I; WRITE(F,<I133>,I) END.",
+        Code::LineTooWide,
+    ),
+    (b"BEGIN FILE F; INTEGER I; I:=1 END. I", Code::TextAfterEnd),
+];
+
 #[test]
 fn small_sources(rt: HostRuntime) -> Result<(), Fail> {
     let alloc = rt.alloc();
     let text =
         b"BEGIN FILE LINE(KIND=PRINTER); INTEGER I,J;\nI:=40; J:=I-2+J; WRITE(LINE,<I5>,J) END.";
-    let straight = straight_of(alloc, text).ok().ok_or("no source")?;
+    let straight = steps_of(alloc, text).ok_or("no source")?;
     assert_eq!(rt; straight.integers, 2);
     let steps = straight.steps.items().as_slice();
     assert_eq!(rt; steps.len(), 3);
@@ -48,23 +89,13 @@ fn small_sources(rt: HostRuntime) -> Result<(), Fail> {
     assert!(rt; matches!(&steps[2], Step::Write { width: 5, item: 1 }));
 
     let text = b"BEGIN FILE F; INTEGER I; WRITE(F,<I007>,I) END.";
-    let straight = straight_of(alloc, text).ok().ok_or("no width")?;
+    let straight = steps_of(alloc, text).ok_or("no width")?;
     let steps = straight.steps.items().as_slice();
     assert_eq!(rt; steps.len(), 1);
     assert!(rt; matches!(&steps[0], Step::Write { width: 7, item: 0 }));
 
-    assert!(rt; is_unbuilt(alloc, b"BEGIN END."));
-    assert!(rt; is_unbuilt(alloc, b"BEGIN FILE F; INTEGER I; K:=1 END."));
-    assert!(rt; is_unbuilt(alloc, b"BEGIN FILE F; INTEGER I; I:=K END."));
-    assert!(rt; is_unbuilt(alloc, b"BEGIN FILE F; INTEGER I; I:=I+K END."));
-    assert!(rt; is_unbuilt(alloc, b"BEGIN FILE F; INTEGER I; I:=I+ END."));
-    assert!(rt; is_unbuilt(alloc, b"BEGIN FILE F; INTEGER I; I:=-1 END."));
-    assert!(rt; is_unbuilt(alloc, b"BEGIN FILE F; INTEGER I; I:=1++1 END."));
-    assert!(rt; is_unbuilt(alloc, b"BEGIN FILE F; INTEGER I,I; I:=1 END."));
-    assert!(rt; is_unbuilt(alloc, b"BEGIN FILE F; INTEGER F; F:=1 END."));
-    assert!(rt; is_unbuilt(alloc, b"BEGIN FILE F; INTEGER I; WRITE(G,<I5>,I) END."));
-    assert!(rt; is_unbuilt(alloc, b"BEGIN FILE F; INTEGER I; WRITE(F,<I0>,I) END."));
-    assert!(rt; is_unbuilt(alloc, b"BEGIN FILE F; INTEGER I; WRITE(F,<I133>,I) END."));
-    assert!(rt; is_unbuilt(alloc, b"BEGIN FILE F; INTEGER I; I:=1 END. I"));
+    for (text, code) in REFUSED {
+        assert!(rt; refused(alloc, text) == Some(code));
+    }
     Ok(())
 }

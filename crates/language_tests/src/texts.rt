@@ -1,12 +1,7 @@
 //! Texts of many lines, and what the front end says of a text.
 
-ghost use Rattle.std.specs.Prelude.{◌≤◌, length};
-ghost use Rattle.algol_tree.specs.declared.TheConstants.{MOST_SOURCE_BYTES};
-
-use algol_check::check;
-use algol_lexer::lex;
-use algol_scope::{Couple, Scopes, resolve};
-use algol_stmt::read_program;
+use algol_front::front;
+use algol_scope::{Couple, Scopes};
 use algol_tree::{Code, MOST_SOURCE_BYTES, Refusal};
 use b67_list::push_number;
 use std::alloc::Global;
@@ -39,17 +34,6 @@ pub fn numbered(alloc: Global, parts: [&[u8]; 4], count: u32) -> Result<Vec<u8>,
     Ok(text)
 }
 
-/// The scopes of an accepted text: it is read, its names and limits are looked at, and it is checked.
-fn front(alloc: Global, text: &[u8]) -> Result<Scopes, Refusal>
-    requires { length text.now ≤ MOST_SOURCE_BYTES }
-{
-    let tokens = lex(alloc, text)?;
-    let program = read_program(alloc, tokens.as_slice())?;
-    let scopes = resolve(alloc, &program)?;
-    check(alloc, &program)?;
-    Ok(scopes)
-}
-
 /// The line and the column at which a text is refused, and why, or none where it is accepted.
 pub fn verdict(alloc: Global, text: &[u8]) -> Result<Option<(u32, u32, Code)>, Fail> {
     if text.len() > MOST_SOURCE_BYTES {
@@ -68,7 +52,7 @@ pub fn scopes_of(alloc: Global, text: &[u8]) -> Result<Scopes, Fail> {
         return Err("a long text".into());
     }
     match front(alloc, text) {
-        Ok(scopes) => Ok(scopes),
+        Ok(checked) => Ok(checked.scopes),
         Err(_) => Err("no scopes".into()),
     }
 }

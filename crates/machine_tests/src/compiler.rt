@@ -1,6 +1,6 @@
 //! The code of a few steps.
 
-use algol_first::{Adding, Operand, Step, Straight, Sum, Term};
+use algol_straight::{Adding, Operand, Step, Straight, Sum, Term};
 use b67_first::compile;
 use b67_list::List;
 use b67_segment::Mark;

@@ -64,11 +64,11 @@ fn answered(alloc: Global, line: &str, bytes: &[u8]) -> Result<Told, AllocError>
     answered_outside(alloc, line, bytes, outside)
 }
 
-/// A refusal of a source that is not built.
-fn unbuilt() -> Status {
+/// A refusal of a source.
+fn refused(line: u32, column: u32, code: RefusalCode) -> Status {
     Status::Refused {
-        place: Spot { line: 1, column: 1 },
-        code: RefusalCode::Unbuilt,
+        place: Spot { line, column },
+        code,
     }
 }
 
@@ -181,7 +181,56 @@ fn two_thousand_tokens(rt: HostRuntime) -> Result<(), Fail> {
     assert!(rt; most.text.as_slice().ends_with(end));
     let bytes = with_terms(alloc, 989, 1)?;
     let more = answered(alloc, "run 1 4194304", bytes.as_slice())?;
-    assert!(rt; more.status == unbuilt());
+    assert!(rt; more.status == refused(1, 1, RefusalCode::SegmentTooLong));
+    Ok(())
+}
+
+/// Sources that are checked, with what is written.
+const CHECKED: [(&[u8], &[u8]); 8] = [
+    (b"", b"REFUSED S1 1:1\n"),
+    (b"BEGIN INTEGER I;", b"REFUSED S1 1:17\n"),
+    (b"BEGIN @ END.", b"REFUSED L1 1:7\n"),
+    (b"BEGIN END. X", b"REFUSED S3 1:12\n"),
+    (b"BEGIN INTEGER I; J:=1 END.", b"REFUSED N1 1:18\n"),
+    (b"BEGIN BEGIN END INNER; END OUTER.", b"ACCEPTED\n"),
+    (b"BEGIN FILE F; INTEGER I; I:=I*2 END.", b"ACCEPTED\n"),
+    (
+        b"BEGIN FILE F; INTEGER I; WRITE(F,<I5,I5>,I) END.",
+        b"REFUSED C10 1:34\n",
+    ),
+];
+
+/// A source on two cards, of which the first has this number behind its 72 columns.
+fn on_cards(alloc: Global, number: &[u8]) -> Result<Vec<u8>, AllocError> {
+    let mut bytes = Vec::from_slice(alloc, b"BEGIN")?;
+    for _ in 5..72 {
+        bytes.push(b' ')?;
+    }
+    bytes.extend_from_slice(number)?;
+    bytes.extend_from_slice(b"\nEND.\n")?;
+    Ok(bytes)
+}
+
+#[test]
+fn what_is_checked(rt: HostRuntime) -> Result<(), Fail> {
+    let alloc = rt.alloc();
+    for (source, wanted) in CHECKED {
+        let told = answered(alloc, "check", source)?;
+        assert_eq!(rt; told.text.as_slice(), wanted);
+    }
+    let numbered = on_cards(alloc, b"00000100")?;
+    let numbered = answered(alloc, "check", numbered.as_slice())?;
+    assert!(rt; numbered.status == Status::Finished);
+    assert_eq!(rt; numbered.text.as_slice(), b"ACCEPTED\n".as_slice());
+    let long = on_cards(alloc, b"000001000")?;
+    let long = answered(alloc, "check", long.as_slice())?;
+    assert!(rt; long.status == refused(1, 81, RefusalCode::LineTooLong));
+    assert_eq!(rt; long.text.as_slice(), b"REFUSED L2 1:81\n".as_slice());
+    // A source that is accepted, and not built.
+    let product = answered(alloc, "run 1 100", b"BEGIN FILE F; INTEGER I; I:=I*2 END.")?;
+    assert!(rt; product.status == refused(1, 1, RefusalCode::Unbuilt));
+    let unknown = answered(alloc, "run 1 100", b"BEGIN INTEGER I; J:=1 END.")?;
+    assert!(rt; unknown.status == refused(1, 18, RefusalCode::UnknownName));
     Ok(())
 }
 
@@ -189,7 +238,7 @@ fn two_thousand_tokens(rt: HostRuntime) -> Result<(), Fail> {
 fn what_is_refused(rt: HostRuntime) -> Result<(), Fail> {
     let alloc = rt.alloc();
     let empty = answered(alloc, "run 1 100", b"BEGIN END.")?;
-    assert!(rt; empty.status == unbuilt());
+    assert!(rt; empty.status == refused(1, 1, RefusalCode::Unbuilt));
     assert_eq!(rt; empty.text.as_slice(), b"REFUSED U0 1:1\n".as_slice());
 
     let fourth = answered(alloc, "run 1 100 fifo", SUMMED)?;
@@ -200,13 +249,19 @@ fn what_is_refused(rt: HostRuntime) -> Result<(), Fail> {
     assert!(rt; fourth.status == extra);
     assert_eq!(rt; fourth.text.as_slice(), b"USAGE 4 EXTRA\n".as_slice());
 
+    let extra = answered(alloc, "check X", SUMMED)?;
+    assert_eq!(rt; extra.text.as_slice(), b"USAGE 2 EXTRA\n".as_slice());
+
     // As many blanks as a source may have bytes, and one more.
     let mut blanks = vec![in alloc; b' '; 262144]?;
-    assert!(rt; answered(alloc, "run 1 1", blanks.as_slice())?.status == unbuilt());
+    let most = answered(alloc, "run 1 1", blanks.as_slice())?;
+    assert!(rt; most.status == refused(1, 81, RefusalCode::LineTooLong));
     blanks.push(b' ')?;
-    let long = answered(alloc, "run 1 1", blanks.as_slice())?;
-    assert!(rt; long.status == Status::TooLong);
-    assert_eq!(rt; long.text.as_slice(), b"TOO LONG\n".as_slice());
+    for command in ["run 1 1", "check"] {
+        let long = answered(alloc, command, blanks.as_slice())?;
+        assert!(rt; long.status == Status::TooLong);
+        assert_eq!(rt; long.text.as_slice(), b"TOO LONG\n".as_slice());
+    }
     Ok(())
 }
 
@@ -233,7 +288,7 @@ fn four_hundred_integers(rt: HostRuntime) -> Result<(), Fail> {
     assert!(rt; most.status == Status::Finished);
     let bytes = with_integers(alloc, 401)?;
     let more = answered(alloc, "run 1 4194304", bytes.as_slice())?;
-    assert!(rt; more.status == unbuilt());
+    assert!(rt; more.status == refused(401, 1, RefusalCode::TooManyCells));
     Ok(())
 }
 
@@ -252,6 +307,14 @@ fn faults_in_mid_stream(rt: HostRuntime) -> Result<(), Fail> {
         assert!(rt; failed.status == Status::ReadFault);
         assert!(rt; failed.text.as_slice().is_empty());
     }
+    let first = Outside {
+        reads: &[0],
+        writes: &[],
+        room: 4096,
+    };
+    let failed = answered_outside(alloc, "check", SUMMED, first)?;
+    assert!(rt; failed.status == Status::ReadFault);
+    assert!(rt; failed.text.as_slice().is_empty());
     let rooms = [0usize, 1, 300];
     for room in rooms.iter() {
         let unwritten = Outside {

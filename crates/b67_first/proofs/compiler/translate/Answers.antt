@@ -3,7 +3,7 @@ use Rattle.b67_segment.specs.declared.code.Segment.{Segment}
 use Rattle.b67_segment.specs.Building.{Built}
 use Rattle.b67_segment.specs.Operators.{Placed, filled}
 use Rattle.b67_segment.specs.Syllables.{Spells}
-use Rattle.algol_first.specs.declared.straight.Step.{Step}
+use Rattle.algol_straight.specs.declared.straight.Step.{Step}
 use Rattle.b67_first.specs.Compiler.{steps_code, with_code, formats_of, HasRoom}
 use Rattle.b67_first.proofs.CompilerLayout.{fresh, cells-room, steps-room, exit-room, whole-code}
 use Rattle.b67_first.proofs.compiler.translate.Goals as goal

@@ -1,0 +1,17 @@
+//! Programs that are accepted.
+
+ghost use Rattle.std.specs.Prelude.{ℕ, List};
+ghost use Rattle.algol_tree.specs.Image.{program as plain};
+ghost use Rattle.algol_tree.specs.First.{Source};
+
+use algol_scope::Scopes;
+use algol_tree::Program;
+
+/// The program of an accepted source, with its scopes.
+#[derive(Drop)]
+pub struct Checked {
+    pub program: Program,
+    pub scopes: Scopes,
+    /// Some text is this source.
+    pub ghost accepted: { ∥ ((bytes : List ℕ) × Source bytes (plain program)) ∥₁ },
+}
