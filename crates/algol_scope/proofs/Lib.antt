@@ -17,3 +17,5 @@ pub mod Faults
 pub mod Looking
 pub mod Found
 pub mod Processes
+pub mod Placed
+pub mod Founded
