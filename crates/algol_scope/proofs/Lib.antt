@@ -19,3 +19,6 @@ pub mod Found
 pub mod Processes
 pub mod Placed
 pub mod Founded
+pub mod Frames
+pub mod Located
+pub mod Scoped
