@@ -134,7 +134,7 @@ procedures_told (b ∷ bs) = step (not (same_name b.name [])) (procedures_told b
     step true h = ap (λ z. b.spot ∷ z) h
     step false h = h
 
-those_told : (cs : List cells.Cell) (n : ℕ) → those_in (map cell_of cs) n ≡ map cell_of (filter (λ (c : cells.Cell). c.block == n) cs)
+pub those_told : (cs : List cells.Cell) (n : ℕ) → those_in (map cell_of cs) n ≡ map cell_of (filter (λ (c : cells.Cell). c.block == n) cs)
 those_told [] n = refl
 those_told (c ∷ cs) n = step (c.block == n) (those_told cs n)
   where

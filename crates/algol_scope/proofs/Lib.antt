@@ -17,3 +17,8 @@ pub mod Faults
 pub mod Looking
 pub mod Found
 pub mod Processes
+pub mod Placed
+pub mod Founded
+pub mod Frames
+pub mod Located
+pub mod Scoped

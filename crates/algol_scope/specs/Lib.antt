@@ -8,3 +8,4 @@ pub mod Stating
 pub mod Declaring
 pub mod Framing
 pub mod Finding
+pub mod Laying

@@ -1,15 +1,18 @@
 //! Scopes, from the walk over a tree.
 
-ghost use Rattle.std.specs.Prelude.{◌≡◌, IfErr, IfOk, [], OnOk};
-ghost use Rattle.algol_tree.specs.Accepted.{broken, noted_all, scope_faults};
+ghost use Rattle.std.specs.Prelude.{◌≡◌, ℕ, ◌<◌, ◌≤◌, length, IfErr, IfOk, OnOk};
+ghost use Rattle.algol_tree.specs.Accepted.{broken, noted_all};
 ghost use Rattle.algol_tree.specs.Ascending.{IsInOrder};
 ghost use Rattle.algol_tree.specs.Image as image;
 ghost use Rattle.algol_tree.specs.Names.{program_segment};
+ghost use Rattle.algol_tree.specs.declared.TheConstants.{MOST_BLOCK_CELLS};
 ghost use Rattle.algol_tree.specs.declared.refusal.Code.TheVariants as codes;
 ghost use Rattle.algol_tree.specs.declared.refusal.Refusal.TheVariants as refusals;
 ghost use Rattle.algol_scope.specs.Finding.{Holds, limit_faults};
+ghost use Rattle.algol_scope.specs.Framing.{cells_in};
+ghost use Rattle.algol_scope.specs.Laying.{AreLaid};
 ghost use Rattle.algol_scope.specs.Noting.{long_segment};
-ghost use Rattle.algol_scope.specs.Resolved.{IsRefused};
+ghost use Rattle.algol_scope.specs.Resolved.{AreOf, IsRefused};
 
 use crate::heading::note_if;
 use crate::layout::{actuals, declared, frames_of, levels, results};
@@ -50,7 +53,10 @@ fn note_limits(
     found: &mut Resolver,
     cells: &Cells,
 ) -> Result<(), AllocError>
-    ensures { OnOk result (found.new.findings.faults.first ≡ noted_all found.old.findings.faults.first (limit_faults (image.program program.now) found.old.blocks.items cells.now)) }
+    ensures faults { OnOk result (found.new.findings.faults.first ≡ noted_all found.old.findings.faults.first (limit_faults (image.program program.now) found.old.blocks.items cells.now)) }
+    ensures kept_blocks { found.new.blocks ≡ found.old.blocks }
+    ensures kept_cells { found.new.findings.cells ≡ found.old.findings.cells }
+    ensures kept_uses { found.new.findings.uses ≡ found.old.findings.uses }
 {
     let blocks = found.blocks.as_slice();
     let faults = &mut found.findings.faults;
@@ -69,7 +75,7 @@ fn note_limits(
 pub fn resolve(alloc: Global, program: &Program) -> Result<Scopes, Refusal>
     requires { IsInOrder (image.program program.now) }
     ensures refused { IfErr result (IsRefused (image.program program.now)) }
-    ensures unbroken { IfOk result (λ scopes. scope_faults (image.program program.now) ≡ []) }
+    ensures are { IfOk result (AreOf (image.program program.now)) }
 {
     let mut found = found_in(alloc, program)?;
     let cells = by_block(alloc, found.findings.cells.as_slice())?;
@@ -80,16 +86,21 @@ pub fn resolve(alloc: Global, program: &Program) -> Result<Scopes, Refusal>
     }
 }
 
-/// The scopes that the walk found.
+/// The scopes that the walk found, of blocks with these cells.
 fn scopes_of(alloc: Global, found: &Resolver, cells: &Cells) -> Result<Scopes, Refusal>
-    ensures { IfErr result (λ refusal. refusal ≡ refusals.NoMemory) }
+    requires { (q : ℕ) → q < length found.now.blocks.items → length (cells_in cells.now q) ≤ MOST_BLOCK_CELLS }
+    ensures memory { IfErr result (λ refusal. refusal ≡ refusals.NoMemory) }
+    ensures laid { IfOk result (AreLaid found.now.blocks.items cells.now found.now.findings.cells.items found.now.findings.uses.items) }
 {
     let blocks = found.blocks.as_slice();
-    let frames = frames_of(alloc, blocks, cells)?;
+    let uses = found.findings.uses.as_slice();
+    let all_cells = found.findings.cells.as_slice();
+    let framed = frames_of(alloc, blocks, cells)?;
+    let frames = framed.as_slice();
     Ok(Scopes {
-        declared: declared(alloc, frames.as_slice(), found.findings.uses.as_slice())?,
-        actuals: actuals(alloc, frames.as_slice(), found.findings.cells.as_slice())?,
-        results: results(alloc, frames.as_slice(), blocks)?,
+        declared: declared(alloc, frames, uses)?,
+        actuals: actuals(alloc, frames, all_cells)?,
+        results: results(alloc, frames, blocks)?,
         levels: levels(alloc, blocks)?,
     })
 }
