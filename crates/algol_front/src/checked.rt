@@ -3,6 +3,7 @@
 ghost use Rattle.std.specs.Prelude.{ℕ, List};
 ghost use Rattle.algol_tree.specs.Image.{program as plain};
 ghost use Rattle.algol_tree.specs.First.{Source};
+ghost use Rattle.algol_scope.specs.Resolved.{AreOf};
 
 use algol_scope::Scopes;
 use algol_tree::Program;
@@ -14,4 +15,6 @@ pub struct Checked {
     pub scopes: Scopes,
     /// Some text is this source.
     pub ghost accepted: { ∥ ((bytes : List ℕ) × Source bytes (plain program)) ∥₁ },
+    /// The scopes are this program's.
+    pub ghost scoped: { AreOf (plain program) scopes },
 }

@@ -54,20 +54,20 @@ returns-in_err-scopes-clause-none c =
 pub returns-in_err-check-clause-refused : goal.returns-in_err-check-clause-refused
 returns-in_err-check-clause-refused c =
     left_as _ _ _ c.from_residual-in_err-check.ensures.1 (check_refuses c.args.bytes.now c.in_ok-tokens.tokens.items c.in_ok-tokens.ensures.lexes.lexes (plain c.in_ok-program.program)
-    (subst (λ (ts : List Token). Reads ts (plain c.in_ok-program.program)) c.as_slice.ensures.value c.in_ok-program.ensures.reads) c.in_ok-scopes.ensures.unbroken c.in_err-check.field-0.0
+    (subst (λ (ts : List Token). Reads ts (plain c.in_ok-program.program)) c.as_slice.ensures.value c.in_ok-program.ensures.reads) c.in_ok-scopes.ensures.are.unbroken c.in_err-check.field-0.0
     (λ spot code e. c.in_err-check.ensures.refused spot code (ap Err e)))
 
 pub returns-in_err-check-clause-none : goal.returns-in_err-check-clause-none
 returns-in_err-check-clause-none c =
     left_as _ _ _ c.from_residual-in_err-check.ensures.1 (no_source c.args.bytes.now c.in_err-check.field-0.0 (check_refuses c.args.bytes.now c.in_ok-tokens.tokens.items c.in_ok-tokens.ensures.lexes.lexes (plain c.in_ok-program.program)
-    (subst (λ (ts : List Token). Reads ts (plain c.in_ok-program.program)) c.as_slice.ensures.value c.in_ok-program.ensures.reads) c.in_ok-scopes.ensures.unbroken c.in_err-check.field-0.0
+    (subst (λ (ts : List Token). Reads ts (plain c.in_ok-program.program)) c.as_slice.ensures.value c.in_ok-program.ensures.reads) c.in_ok-scopes.ensures.are.unbroken c.in_err-check.field-0.0
     (λ spot code e. c.in_err-check.ensures.refused spot code (ap Err e))))
 
 pub returns-clause-accepted : goal.returns-clause-accepted
 returns-clause-accepted c = is_source c.args.bytes.now c.in_ok-tokens.tokens.items c.in_ok-tokens.ensures.lexes.lexes (plain c.in_ok-program.program)
-    (subst (λ (ts : List Token). Reads ts (plain c.in_ok-program.program)) c.as_slice.ensures.value c.in_ok-program.ensures.reads) c.in_ok-scopes.ensures.unbroken c.requires c.in_ok-check.ensures.passed
+    (subst (λ (ts : List Token). Reads ts (plain c.in_ok-program.program)) c.as_slice.ensures.value c.in_ok-program.ensures.reads) c.in_ok-scopes.ensures.are.unbroken c.requires c.in_ok-check.ensures.passed
 
 pub returns-clause-only : goal.returns-clause-only
 returns-clause-only c = λ tree s. one_source c.args.bytes.now tree (plain c.in_ok-program.program) s
     (is_source c.args.bytes.now c.in_ok-tokens.tokens.items c.in_ok-tokens.ensures.lexes.lexes (plain c.in_ok-program.program)
-    (subst (λ (ts : List Token). Reads ts (plain c.in_ok-program.program)) c.as_slice.ensures.value c.in_ok-program.ensures.reads) c.in_ok-scopes.ensures.unbroken c.requires c.in_ok-check.ensures.passed)
+    (subst (λ (ts : List Token). Reads ts (plain c.in_ok-program.program)) c.as_slice.ensures.value c.in_ok-program.ensures.reads) c.in_ok-scopes.ensures.are.unbroken c.requires c.in_ok-check.ensures.passed)
