@@ -1,18 +1,16 @@
 //! Small sources of the first form.
 
-ghost use Rattle.std.specs.Prelude.{◌≤◌, length};
-ghost use Rattle.algol_tree.specs.declared.TheConstants.{MOST_SOURCE_BYTES};
-
 use algol_front::front;
 use algol_straight::{Adding, Operand, Step, Straight, Sum, Unread, straight_of};
-use algol_tree::{Code, Refusal};
+use algol_tree::{Code, MOST_SOURCE_BYTES, Refusal};
 use std::alloc::Global;
 use std::test::Fail;
 
 /// The code of the refusal of a text, `Unbuilt` where it is accepted and not of the first form, and none where it is.
-fn refused(alloc: Global, text: &[u8]) -> Option<Code>
-    requires { length text.now ≤ MOST_SOURCE_BYTES }
-{
+fn refused(alloc: Global, text: &[u8]) -> Option<Code> {
+    if text.len() > MOST_SOURCE_BYTES {
+        return None;
+    }
     match front(alloc, text) {
         Ok(checked) => match straight_of(alloc, &checked.program) {
             Err(Unread::Unbuilt) => Some(Code::Unbuilt),
@@ -24,9 +22,10 @@ fn refused(alloc: Global, text: &[u8]) -> Option<Code>
 }
 
 /// The steps of a text of the first form.
-fn steps_of(alloc: Global, text: &[u8]) -> Option<Straight>
-    requires { length text.now ≤ MOST_SOURCE_BYTES }
-{
+fn steps_of(alloc: Global, text: &[u8]) -> Option<Straight> {
+    if text.len() > MOST_SOURCE_BYTES {
+        return None;
+    }
     let checked = front(alloc, text).ok()?;
     straight_of(alloc, &checked.program).ok()
 }
