@@ -1,6 +1,6 @@
 //! The layout of frames.
 
-ghost use Rattle.std.specs.Prelude.{◌≡◌, ℕ, ◌+◌, ◌*◌, ◌<◌, ◌≤◌, ◌^◌, length, slice_get, Some, OnOk, IfOk};
+ghost use Rattle.std.specs.Prelude.{◌≡◌, ℕ, ◌+◌, ◌<◌, ◌≤◌, ◌^◌, length, OnOk, IfOk};
 ghost use Rattle.std.specs.Option.{option_or};
 ghost use Rattle.std.specs.BTreeMap.{get};
 ghost use Rattle.algol_tree.specs.declared.TheConstants.{MOST_BLOCK_CELLS};
@@ -13,7 +13,7 @@ use crate::findings::{Cell, Content, Use};
 use crate::limits::{Cells, cells_of};
 use crate::resolver::Block;
 use crate::scopes::{Couple, Declared};
-use algol_tree::{MOST_BLOCK_CELLS, Spot};
+use algol_tree::Spot;
 use std::alloc::{AllocError, Global};
 use std::collections::BTreeMap;
 
@@ -70,7 +70,7 @@ fn lay_out_those(
 /// The frame of a block of this level with these cells: first those that need no action, then those that actions make.
 fn lay_out(alloc: Global, cells: &[Cell], level: u8) -> Result<Frame, AllocError>
     requires { length cells.now ≤ MOST_BLOCK_CELLS }
-    ensures { IfOk result (λ frame. (q : token.Spot) → get ghosts.cmp frame q ≡ couple_from level 2 (laid_out cells.now) q) }
+    ensures { IfOk result (λ frame. (q : token.Spot) → get ghosts.cmp frame q ≡ couple_from level FIRST_INDEX (laid_out cells.now) q) }
 {
     let mut frame = BTreeMap::new(alloc);
     let index = lay_out_those(&mut frame, cells, Content::Parameter, level, FIRST_INDEX)?;
