@@ -1,6 +1,8 @@
-//! Tests of the linkage of frames, of the intrinsics, and of codes that run from the first image.
+//! Tests of the linkage of frames, of the intrinsics, and of codes that run from the first image, by operators and by entries.
 #![tactic(auto)]
 
+#[cfg(test)]
+mod codes;
 #[cfg(test)]
 mod going;
 #[cfg(test)]
@@ -9,5 +11,7 @@ mod intrinsics;
 mod linkage;
 #[cfg(test)]
 mod load;
+#[cfg(test)]
+mod machine;
 #[cfg(test)]
 mod registers;

@@ -1,21 +1,19 @@
 //! Short codes from the first image, operator by operator.
 
-ghost use Rattle.std.specs.Prelude.{◌≡◌, ◌≤◌, [], true, All, IfOk, length};
+ghost use Rattle.std.specs.Prelude.{◌≡◌, [], true, IfOk};
 ghost use Rattle.b67_list.specs.Numbered.{numbered};
 ghost use Rattle.b67_table.specs.Image.{is_able};
-ghost use Rattle.b67_table.specs.Limits.{segment_limit};
 ghost use Rattle.b67_table.specs.Valid.{IsValid};
 ghost use Rattle.b67_reach.specs.Images.{image_of};
 ghost use Rattle.b67_action.specs.Done.{HasRoom};
 
+use crate::codes::code;
 use crate::registers::first_registers;
 use b67_action::{Done, action};
 use b67_events::Kernel;
-use b67_list::List;
 use b67_load::load;
 use b67_num::FaultKind;
 use b67_reach::{InterruptKind, Parts, ProcessState};
-use b67_segment::{Code, Format, MOST_SEGMENT_WORDS, Phrase, Segment};
 use b67_store::{Core, ListCore};
 use b67_table::{Private, Words, first_image_is_valid};
 use b67_word::Place;
@@ -35,35 +33,6 @@ struct Row<'a> {
     then: Option<(u32, u16, u16, (u8, u64))>,
     // The elements of arrays, whether an event is open in the first cell, and the lines of output.
     left: (u32, bool, usize),
-}
-
-fn segment(rt: &impl Abort, alloc: Global, words: &[u64]) -> Result<Segment, AllocError>
-    ensures { IfOk result (λ segment. length segment.words ≤ segment_limit) }
-{
-    assert!(rt; words.len() <= MOST_SEGMENT_WORDS as usize);
-    Ok(Segment {
-        words: List::of(Vec::from_slice(alloc, words)?),
-        marks: List::of(Vec::new(alloc)),
-    })
-}
-
-// A code with a format, `<I5>`.
-fn code(rt: &impl Abort, alloc: Global, row: &Row<'_>) -> Result<Code, AllocError>
-    ensures { IfOk result (λ code. All (λ segment. length segment.words ≤ segment_limit) code.segments) }
-{
-    let mut segments = Vec::new(alloc);
-    segments.push(segment(rt, alloc, row.main)?)?;
-    segments.push(segment(rt, alloc, row.procedure)?)?;
-    let mut phrases = Vec::new(alloc);
-    phrases.push(Phrase::Number(5))?;
-    let mut formats = Vec::new(alloc);
-    formats.push(Format {
-        phrases: List::of(phrases),
-    })?;
-    Ok(Code {
-        segments: List::of(segments),
-        formats: List::of(formats),
-    })
 }
 
 // A process that is able performs so many operators, each of which comes to this.
@@ -103,7 +72,7 @@ fn begin<C: Core>(
     ensures room { IfOk result (λ made. HasRoom made.0 made.1) }
 {
     first_image_is_valid();
-    let code = code(rt, alloc, row)?;
+    let code = code(rt, alloc, row.main, row.procedure)?;
     load(alloc, core, code)
 }
 

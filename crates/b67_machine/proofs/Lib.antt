@@ -4,3 +4,7 @@ pub mod Plainly
 pub mod Going
 pub mod Raised
 pub mod Begun
+pub mod Tailing
+pub mod Entering
+pub mod Finishing
+pub mod Following

@@ -4,3 +4,4 @@ pub mod Tables
 pub mod Stepping
 pub mod Reads
 pub mod Beginning
+pub mod Replaying

@@ -1,13 +1,14 @@
 //! The machine over the whole operator table, for any code.
 //!
 //! A [`Machine`] begins with the first image of a code ([`Machine::load`]). It performs operators of a process one by one
-//! ([`Machine::step`]) and entries of a schedule ([`Machine::perform_entry`]).
+//! ([`Machine::step`]), entries of a schedule ([`Machine::perform_entry`]) and whole schedules ([`Machine::replay`]).
 #![tactic(auto)]
 
 mod counting;
 mod entry;
 mod load;
 mod reads;
+mod replay;
 mod step;
 mod stretch;
 mod tables;
@@ -19,6 +20,7 @@ use b67_store::Core;
 use b67_table::Private;
 pub use entry::Performed;
 pub use reads::End;
+pub use replay::Replayed;
 use std::marker::Model;
 use tables::Levels;
 
