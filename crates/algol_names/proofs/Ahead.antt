@@ -1,7 +1,7 @@
 -- The blocks of procedures, found before their declarations are gone through.
-use Rattle.std.proofs.Common.{rules, arith, ◌≡◌, ℕ, ◌+◌, ◌-◌, ◌<◌, ◌≤◌, Bool, true, false, cond, List, [], ◌∷◌, ◌++◌, map, length, drop, get_or, reverse, Option, Some, None, refl, ap, sym, ◌∙◌, subst, drop-cons, suc, zero}
+use Rattle.std.proofs.Common.{rules, arith, ◌≡◌, ℕ, ◌+◌, ◌-◌, ◌<◌, ◌≤◌, Bool, true, false, cond, List, [], ◌∷◌, ◌++◌, length, drop, get_or, reverse, Option, Some, None, refl, ap, sym, ◌∙◌, subst, drop-cons, suc}
 use Rattle.std.proofs.lemmas.List.{reverse-append}
-use Rattle.std.specs.Prelude.{◌==◌, ◌&&◌, if◌then◌else◌}
+use Rattle.std.specs.Prelude.{if◌then◌else◌}
 use Rattle.std.specs.Borrow.{Bor}
 use Rattle.std.specs.BTreeMap.{BTreeMap}
 use Rattle.std.specs.Str.{bytes_eq}
@@ -16,7 +16,7 @@ use Rattle.algol_tree.specs.Image.{decl, decls, stmt}
 use Rattle.algol_tree.specs.Plain as tree
 use Rattle.algol_tree.specs.Plain.{PStmt, PDecl, PDecls}
 use Rattle.algol_tree.specs.Sorts.{same_name}
-use Rattle.algol_tree.specs.Surroundings.{announced, heading_or, body_of}
+use Rattle.algol_tree.specs.Surroundings.{heading_or, body_of}
 use Rattle.algol_names.specs.Tables.{under}
 use Rattle.algol_names.specs.Declaring.{Knows, numbered, number_ahead, numbers_ahead}
 use Rattle.algol_names.proofs.Tables.{same}

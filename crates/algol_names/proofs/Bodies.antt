@@ -1,8 +1,7 @@
 -- The uses in blocks, bodies and procedures, and in declarations one after the other.
-use Rattle.std.proofs.Common.{rules, arith, ◌≡◌, ℕ, ◌+◌, ◌<◌, ◌≤◌, Bool, true, false, List, [], ◌∷◌, ◌++◌, map, length, drop, get_or, Option, Some, None, refl, ap, sym, ◌∙◌, append_assoc, append-nil, drop-cons, subst, add-one, suc, zero, slice_get}
+use Rattle.std.proofs.Common.{arith, ◌≡◌, ℕ, ◌+◌, ◌<◌, Bool, true, false, List, [], ◌∷◌, ◌++◌, map, length, drop, get_or, Some, refl, ap, sym, ◌∙◌, append_assoc, append-nil, drop-cons, subst, suc, zero, slice_get}
 use Rattle.std.specs.Prelude.{unwrap_or}
 use Rattle.std.proofs.lemmas.Option.{unwrap_or-slice_get}
-use Rattle.algol_tree.specs.declared.token.Spot.{Spot}
 use Rattle.algol_tree.specs.declared.tree.Heading.{Heading}
 use Rattle.algol_tree.specs.declared.tree.Stmt.{Stmt}
 use Rattle.algol_tree.specs.declared.tree.Decl.{Decl}
@@ -10,10 +9,9 @@ use Rattle.algol_tree.specs.declared.tree.Body.{Body}
 use Rattle.algol_tree.specs.Plain as tree
 use Rattle.algol_tree.specs.Plain.{PStmt, PDecl, PDecls, PBody}
 use Rattle.algol_tree.specs.Blocks.{Block, Begin, of_statement, of_procedure, number_at, spot_of}
-use Rattle.algol_tree.specs.Image.{stmt, stmts, decl, decls, body}
-use Rattle.algol_tree.specs.Scopes as scoping
+use Rattle.algol_tree.specs.Image.{stmts, decl, decls, body}
 use Rattle.algol_tree.specs.Sorts.{Declared}
-use Rattle.algol_tree.specs.Surroundings.{Surroundings, inside, inside_begin, inside_procedure, knowing, knowing_all, made_known}
+use Rattle.algol_tree.specs.Surroundings.{Surroundings, inside, knowing, knowing_all, made_known}
 use Rattle.algol_tree.specs.Sites.{has_decls}
 use Rattle.algol_meaning.specs.SeenScope.{used}
 use Rattle.algol_meaning.specs.declared.scope.Use.{Use}
@@ -22,12 +20,12 @@ use Rattle.algol_names.specs.declared.known.Seen.{Seen}
 use Rattle.algol_names.specs.declared.known.Seen.TheVariants as seens
 use Rattle.algol_names.specs.declared.known.Around.{Around}
 use Rattle.algol_names.specs.Blocks.{is_block}
-use Rattle.algol_names.specs.Seeing.{Sees, Stays, Kept, Adds, AddsDecl, AddsDecls, at_first, stmt_uses, stmts_uses, begin_uses, body_uses, procedure_uses, pairs_uses, decl_uses, decls_uses}
+use Rattle.algol_names.specs.Seeing.{Sees, Stays, Kept, Adds, AddsDecl, AddsDecls, at_first, stmt_uses, stmts_uses, begin_uses, body_uses, procedure_uses, decl_uses, decls_uses}
 use Rattle.algol_names.specs.Declaring.{Makes, number_ahead, numbers_ahead, parameters_made}
 use Rattle.algol_names.proofs.Trees.{body_is}
-use Rattle.algol_names.proofs.Walking.{Leads, leads_step, leads_end, adds_as}
+use Rattle.algol_names.proofs.Walking.{adds_as}
 use Rattle.algol_names.proofs.Making.{stays_self, stays_then}
-use Rattle.algol_names.proofs.Stating.{before, kept_self, kept_then, kept_stays, kept_sees, whole_uses, more_uses, declared_uses}
+use Rattle.algol_names.proofs.Stating.{before, kept_stays, kept_sees, whole_uses, declared_uses}
 
 -- ---- bodies
 

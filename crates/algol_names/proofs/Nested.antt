@@ -1,5 +1,5 @@
 -- What statements add that have statements in them.
-use Rattle.std.proofs.Common.{rules, ◌≡◌, ℕ, ◌+◌, ◌<◌, ◌≤◌, Bool, true, false, List, [], ◌∷◌, ◌++◌, map, length, drop, get_or, Option, Some, None, refl, ap, sym, ◌∙◌, append_assoc, append-nil, drop-cons, subst, add-one, suc}
+use Rattle.std.proofs.Common.{rules, ◌≡◌, ℕ, ◌+◌, ◌<◌, Bool, false, List, [], ◌∷◌, ◌++◌, map, length, drop, get_or, Option, Some, None, refl, ap, sym, ◌∙◌, append_assoc, append-nil, drop-cons, subst, add-one, suc}
 use Rattle.std.specs.declared.boxed.Box.{Box}
 use Rattle.std.specs.declared.alloc.Global.{Global}
 use Rattle.algol_tree.specs.declared.tree.Named.{Named}
@@ -23,7 +23,7 @@ use Rattle.algol_meaning.specs.SeenScope.{used}
 use Rattle.algol_meaning.specs.declared.scope.Use.{Use}
 use Rattle.algol_names.specs.declared.known.Seen.TheVariants as seens
 use Rattle.algol_names.specs.declared.known.Around.{Around}
-use Rattle.algol_names.specs.Seeing.{Sees, Adds, Kept, expr_uses, list_uses, stmt_uses, stmts_uses, begin_uses, for_uses}
+use Rattle.algol_names.specs.Seeing.{Sees, Adds, Kept, expr_uses, stmt_uses, stmts_uses, begin_uses, for_uses}
 use Rattle.algol_names.proofs.Walking.{adds_none, adds_then, adds_as}
 use Rattle.algol_names.proofs.Stating.{kept_self, kept_then, kept_adds, kept_sees, label_uses, then_uses, else_uses, while_uses, until_uses, thru_uses, case_uses, counting_uses, more_uses}
 

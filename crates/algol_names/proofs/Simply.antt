@@ -1,7 +1,5 @@
 -- What statements add.
-use Rattle.std.proofs.Common.{rules, ◌≡◌, ℕ, ◌+◌, ◌<◌, ◌≤◌, Bool, true, false, List, [], ◌∷◌, ◌++◌, map, length, drop, get_or, Option, Some, None, refl, ap, sym, ◌∙◌, append_assoc, append-nil, drop-cons, subst, add-one, suc}
-use Rattle.std.specs.declared.boxed.Box.{Box}
-use Rattle.std.specs.declared.alloc.Global.{Global}
+use Rattle.std.proofs.Common.{◌≡◌, Bool, List, ◌++◌, Option, ap, sym, ◌∙◌}
 use Rattle.algol_tree.specs.declared.tree.Named.{Named}
 use Rattle.algol_tree.specs.declared.tree.Expr.{Expr}
 use Rattle.algol_tree.specs.declared.tree.EventAct.{EventAct}
@@ -9,22 +7,19 @@ use Rattle.algol_tree.specs.declared.tree.EventName.{EventName}
 use Rattle.algol_tree.specs.declared.tree.PhraseText.{PhraseText}
 use Rattle.algol_tree.specs.declared.tree.Variable.{Variable}
 use Rattle.algol_tree.specs.declared.tree.Call.{Call}
-use Rattle.algol_tree.specs.declared.tree.Body.{Body}
 use Rattle.algol_tree.specs.declared.token.Spot.{Spot}
-use Rattle.algol_tree.specs.declared.tree.Stmt.{Stmt, the_lemmas}
-use Rattle.algol_tree.specs.declared.tree.Stmt.TheVariants as shapes
 use Rattle.algol_tree.specs.Plain as tree
 use Rattle.algol_tree.specs.Plain.{PExpr, PExprs, PStmt, PStmts}
-use Rattle.algol_tree.specs.Blocks.{Block, Begin, of_statement}
-use Rattle.algol_tree.specs.Image.{expr, exprs, stmt, stmts, variable, call, body}
+use Rattle.algol_tree.specs.Blocks.{Block, Begin}
+use Rattle.algol_tree.specs.Image.{exprs, variable, call}
 use Rattle.algol_tree.specs.Scopes as scoping
 use Rattle.algol_tree.specs.Surroundings.{Surroundings}
 use Rattle.algol_meaning.specs.declared.scope.Use.{Use}
 use Rattle.algol_names.specs.declared.known.Seen.TheVariants as seens
 use Rattle.algol_names.specs.declared.known.Around.{Around}
-use Rattle.algol_names.specs.Seeing.{Adds, Kept, expr_uses, list_uses, stmt_uses, stmts_uses, begin_uses, task_uses, for_uses}
-use Rattle.algol_names.proofs.Walking.{adds_then, adds_as, variable_is, call_is, Leads, leads_step, leads_end}
-use Rattle.algol_names.proofs.Stating.{kept_self, kept_then, kept_adds, label_uses, assign_uses, called_uses, go_to_uses, event_uses, write_uses, process_uses, then_uses, else_uses, while_uses, until_uses, thru_uses, case_uses, counting_uses, more_uses}
+use Rattle.algol_names.specs.Seeing.{Adds, expr_uses, list_uses, stmt_uses, task_uses, for_uses}
+use Rattle.algol_names.proofs.Walking.{adds_then, adds_as, variable_is, call_is}
+use Rattle.algol_names.proofs.Stating.{assign_uses, called_uses, go_to_uses, event_uses, write_uses, process_uses}
 
 abbrev One : Around → List Use → List Use → (Surroundings → List scoping.Use) → Type 0
 One k us vs f = Adds k seens.All us vs f

@@ -1,38 +1,28 @@
 -- The uses in statements and declarations.
-use Rattle.std.proofs.Common.{rules, ◌≡◌, ℕ, ◌+◌, ◌<◌, ◌≤◌, Bool, true, false, List, [], ◌∷◌, ◌++◌, map, length, drop, get_or, reverse, Option, Some, None, refl, ap, sym, ◌∙◌, append_assoc, append-nil, drop-cons, subst, add-one, suc, zero}
+use Rattle.std.proofs.Common.{◌≡◌, Bool, false, List, [], ◌∷◌, ◌++◌, length, reverse, Option, Some, None, refl, ap, sym, ◌∙◌, append_assoc, append-nil, subst}
 use Rattle.std.proofs.lemmas.Grind.{flat_map-append}
 use Rattle.std.specs.List.{flat_map}
-use Rattle.std.specs.declared.boxed.Box.{Box}
-use Rattle.std.specs.declared.alloc.Global.{Global}
 use Rattle.algol_tree.specs.declared.tree.Named.{Named}
-use Rattle.algol_tree.specs.declared.tree.Heading.{Heading}
 use Rattle.algol_tree.specs.declared.tree.EventAct.{EventAct}
 use Rattle.algol_tree.specs.declared.tree.EventName.{EventName}
 use Rattle.algol_tree.specs.declared.tree.PhraseText.{PhraseText}
 use Rattle.algol_tree.specs.declared.token.Spot.{Spot}
-use Rattle.algol_tree.specs.declared.tree.Stmt.{Stmt}
-use Rattle.algol_tree.specs.declared.tree.Decl.{Decl}
-use Rattle.algol_tree.specs.declared.tree.Body.{Body}
 use Rattle.algol_tree.specs.Plain as tree
 use Rattle.algol_tree.specs.Plain.{PExpr, PExprs, PStmt, PStmts, PDecl, PDecls, PBody}
-use Rattle.algol_tree.specs.Blocks.{Block, Begin, of_statement, of_procedure, number_at, spot_of}
-use Rattle.algol_tree.specs.Image.{stmt, stmts, decl, decls}
+use Rattle.algol_tree.specs.Blocks.{Block, Begin, of_statement}
 use Rattle.algol_tree.specs.Scopes as scoping
 use Rattle.algol_tree.specs.Scopes.{uses_at}
 use Rattle.algol_tree.specs.Sorts.{Declared, look_up}
-use Rattle.algol_tree.specs.Surroundings.{Surroundings, formals_at, inside, inside_begin, inside_procedure, knowing, knowing_all, made_known}
+use Rattle.algol_tree.specs.Surroundings.{Surroundings, formals_at, knowing, knowing_all}
 use Rattle.algol_tree.specs.Sites.{Site, sites, inside_list, here_stmt, inside_stmt, sites_in_stmts, inside_decl, sites_in_decls, has_decls}
-use Rattle.algol_meaning.specs.SeenScope.{used}
 use Rattle.algol_meaning.specs.declared.scope.Use.{Use}
 use Rattle.algol_names.specs.declared.known.Names.{Names}
 use Rattle.algol_names.specs.declared.known.Seen.{Seen}
 use Rattle.algol_names.specs.declared.known.Seen.TheVariants as seens
 use Rattle.algol_names.specs.declared.known.Around.{Around}
-use Rattle.algol_names.specs.Blocks as shown
 use Rattle.algol_names.specs.Known.{looked_up, seen_names}
-use Rattle.algol_names.specs.Seeing.{Agree, Sees, Stays, Kept, Adds, AddsDecl, AddsDecls, at_first, expr_uses, list_uses, pairs_uses, stmt_uses, stmts_uses, begin_uses, body_uses, procedure_uses, decl_uses, decls_uses, task_uses, for_uses}
-use Rattle.algol_names.specs.Declaring.{Makes, number_ahead, numbers_ahead, parameters_made}
-use Rattle.algol_names.proofs.Walking.{actuals_uses, adds_then, adds_as, Leads, leads_step, leads_end}
+use Rattle.algol_names.specs.Seeing.{Agree, Sees, Stays, Kept, Adds, at_first, expr_uses, list_uses, stmt_uses, stmts_uses, body_uses, decl_uses, decls_uses, task_uses, for_uses}
+use Rattle.algol_names.proofs.Walking.{actuals_uses}
 
 -- ---- places
 

@@ -1,5 +1,5 @@
 -- The scopes of a program from its blocks and uses.
-use Rattle.std.proofs.Common.{◌≡◌, List, map, ap, sym, ◌∙◌}
+use Rattle.std.proofs.Common.{◌≡◌, List, ap, ◌∙◌}
 use Rattle.algol_tree.specs.declared.tree.Program.{Program}
 use Rattle.algol_tree.specs.Blocks.{Block, blocks_of_program}
 use Rattle.algol_tree.specs.Image.{body, program}

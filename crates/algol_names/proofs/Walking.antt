@@ -1,7 +1,6 @@
 -- Uses that come behind others.
-use Rattle.std.proofs.Common.{rules, ◌≡◌, ℕ, ◌+◌, ◌<◌, ◌≤◌, Bool, List, [], ◌∷◌, ◌++◌, map, length, drop, get_or, Option, Some, None, refl, ap, sym, ◌∙◌, append_assoc, append-nil, drop-cons, subst, add-one, suc, Result, Ok, Err, OnOk}
+use Rattle.std.proofs.Common.{rules, ◌≡◌, ℕ, ◌+◌, ◌<◌, Bool, List, [], ◌∷◌, ◌++◌, map, length, drop, get_or, Option, Some, None, refl, ap, sym, ◌∙◌, append_assoc, append-nil, drop-cons, add-one, suc, Result, Ok, Err, OnOk}
 use Rattle.std.proofs.lemmas.Grind.{flat_map-append}
-use Rattle.std.proofs.lemmas.List.{map-append}
 use Rattle.std.specs.List.{flat_map}
 use Rattle.std.specs.declared.boxed.Box.{Box}
 use Rattle.std.specs.declared.alloc.Global.{Global}
@@ -25,7 +24,7 @@ use Rattle.algol_tree.specs.Image.{expr, exprs, pairs, variable, call}
 use Rattle.algol_tree.specs.Scopes as scoping
 use Rattle.algol_tree.specs.Scopes.{uses_at}
 use Rattle.algol_tree.specs.Surroundings.{Surroundings, formals_at}
-use Rattle.algol_tree.specs.Sites.{sites, inside_expr, inside_list, inside_actuals, sites_in_pairs}
+use Rattle.algol_tree.specs.Sites.{sites, inside_list, inside_actuals, sites_in_pairs}
 use Rattle.algol_meaning.specs.SeenScope.{used}
 use Rattle.algol_meaning.specs.declared.scope.Use.{Use}
 use Rattle.algol_names.specs.declared.known.Seen.{Seen}

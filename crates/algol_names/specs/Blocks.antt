@@ -1,5 +1,5 @@
 -- The blocks of the code, whose a BEGIN is there, and the block of a BEGIN.
-use Rattle.std.specs.Prelude.{ℕ, ◌++◌, Bool, false, List, [], map, None}
+use Rattle.std.specs.Prelude.{◌++◌, Bool, false, List, [], map, None}
 use Rattle.algol_tree.specs.Sites.{has_decls}
 use Rattle.algol_tree.specs.declared.token.Spot.{Spot}
 use Rattle.algol_tree.specs.Plain as tree

@@ -56,11 +56,7 @@ pub fn declare_parameters<'p>(
 }
 
 /// What a declaration makes known; where it declares a procedure, that has the block of this number.
-pub fn declare<'p>(
-    around: &mut Around<'p>,
-    d: &'p Decl,
-    number: usize,
-) -> Result<(), AllocError>
+pub fn declare<'p>(around: &mut Around<'p>, d: &'p Decl, number: usize) -> Result<(), AllocError>
     ensures made { OnOk result ((blocks : List plain.Block) (later : PDecls) → number ≡ number_ahead blocks (decl d.now) later → Makes around.old around.new (made_known blocks (decl d.now) later)) }
     ensures stays { OnOk result (Stays around.old around.new) }
 {
@@ -101,11 +97,7 @@ fn number_of<'p>(
 }
 
 /// Of each declaration the number of the block of the procedure that it declares, 0 where it declares none.
-pub fn numbers_of(
-    alloc: Global,
-    blocks: &Blocks<'_>,
-    ds: &[Decl],
-) -> Result<Vec<usize>, AllocError>
+pub fn numbers_of(alloc: Global, blocks: &Blocks<'_>, ds: &[Decl]) -> Result<Vec<usize>, AllocError>
     ensures { IfOk result (λ numbers. numbers.items ≡ numbers_ahead (blocks_in blocks.now) (decls ds.now)) }
 {
     let mut bodies = BTreeMap::new(alloc);

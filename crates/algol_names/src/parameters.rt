@@ -35,11 +35,7 @@ fn specified_as(spec: &Spec) -> Sort<'_>
 }
 
 /// Names are specified as this, whatever was said of them before.
-fn specify<'p>(
-    table: &mut Sorts<'p>,
-    names: &'p [Named],
-    said: Sort<'p>,
-) -> Result<(), AllocError>
+fn specify<'p>(table: &mut Sorts<'p>, names: &'p [Named], said: Sort<'p>) -> Result<(), AllocError>
     ensures { OnOk result ((q : List ℕ) → under table.new q ≡ (if is_named_in names.now q then Some said.entry else under table.old q)) }
 {
     'names: for n in names {
@@ -102,10 +98,7 @@ impl<'p> Specified<'p> {
 }
 
 /// The parameters of a heading, in their order.
-pub fn parameters_of<'p>(
-    alloc: Global,
-    h: &'p Heading,
-) -> Result<List<Parameter<'p>>, AllocError>
+pub fn parameters_of<'p>(alloc: Global, h: &'p Heading) -> Result<List<Parameter<'p>>, AllocError>
     ensures { IfOk result (λ all. map parameter all ≡ plain.parameters_of h.now) }
 {
     let told = Specified::of(alloc, h)?;

@@ -1,4 +1,4 @@
-use Rattle.std.proofs.Common.{rules, ◌≡◌, ◌∙◌, ap, sym, refl, length, List}
+use Rattle.std.proofs.Common.{rules, ◌∙◌, ap, sym, refl, length}
 use Rattle.algol_tree.specs.declared.tree.Decl.{the_lemmas}
 use Rattle.algol_tree.specs.Image.{decl, pairs, stmt}
 use Rattle.algol_tree.specs.Classes as class

@@ -1,11 +1,11 @@
 use Rattle.std.proofs.Common.{◌∙◌, sym, ap, drop, get_or}
 use Rattle.std.proofs.lemmas.List.{drop_all}
-use Rattle.algol_tree.specs.Image.{stmt, stmts, decls, expr, exprs, variable, call, body}
+use Rattle.algol_tree.specs.Image.{stmt, stmts, decls, expr, variable, call}
 use Rattle.algol_tree.specs.Plain as tree
 use Rattle.algol_names.specs.Blocks as seen
 use Rattle.algol_names.specs.Blocks.{blocks_in}
 use Rattle.algol_names.proofs.Walking.{on_ok, always}
-use Rattle.algol_names.proofs.Stating.{kept_self, kept_then}
+use Rattle.algol_names.proofs.Stating.{kept_self}
 use Rattle.algol_names.proofs.Nested.{simple_whole, empty_whole, of_assign, of_call, of_go_to, of_process, of_event, write_whole, label_adds, block_whole, then_adds, else_adds, while_adds, until_adds, counting_adds, thru_adds, case_adds, led_self, led_item, led_end}
 use Rattle.algol_names.proofs.Bodies.{body_walked, closed, block_adds, compound_adds, left, procedure_adds, going_self, going_item, going_end, number_in}
 use Rattle.algol_names.proofs.Declarations.{simple_adds, files_adds, events_adds, tasks_adds, labels_adds, forward_adds, arrays_adds, procedure_decl}
