@@ -1,0 +1,13 @@
+pub mod Tables
+pub mod Specified
+pub mod Trees
+pub mod Walking
+pub mod Using
+pub mod Making
+pub mod Ahead
+pub mod Stating
+pub mod Simply
+pub mod Nested
+pub mod Bodies
+pub mod Declarations
+pub mod Together
