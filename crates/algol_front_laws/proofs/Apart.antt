@@ -1,0 +1,203 @@
+-- The names of a tree stand at places that are all different.
+use Rattle.std.proofs.Common.{◌≡◌, Bool, true, false, List, [], ◌∷◌, ◌++◌, Option, Some, None, refl, sym, subst, ap, ◌∙◌, append_assoc}
+use Rattle.std.proofs.lemmas.Grind.{flat_map-append}
+use Rattle.std.specs.List.{flat_map}
+use Rattle.algol_tree.specs.declared.token.Spot.{Spot}
+use Rattle.algol_tree.specs.declared.tree.Named.{Named}
+use Rattle.algol_tree.specs.Plain as tree
+use Rattle.algol_tree.specs.Plain.{PExpr, PExprs, PPair, PStmt, PStmts, PDecl, PDecls, PBody, PProgram}
+use Rattle.algol_tree.specs.Classes.{Formal}
+use Rattle.algol_tree.specs.Sorts.{Declared}
+use Rattle.algol_tree.specs.Blocks.{Block, Begin, of_statement, of_procedure}
+use Rattle.algol_tree.specs.Surroundings.{Surroundings, formals_at, inside, inside_procedure, knowing, knowing_all, outermost}
+use Rattle.algol_tree.specs.Sites as site
+use Rattle.algol_tree.specs.Sites.{Part, Site, actual_part, first_formal, here_stmt, inside_actuals, inside_decl, inside_expr, inside_list, inside_stmt, name_part, other_formals, sites, sites_by, sites_in_body, sites_in_decls, sites_in_pairs, sites_in_stmts, has_decls, wants_value}
+use Rattle.algol_tree.specs.Scopes.{if_named, names_in, names_in_expr}
+use Rattle.algol_tree.specs.Names.{specified}
+use Rattle.algol_tree.specs.Ascending.{IsInOrder, spots_of_body, spots_of_decl, spots_of_decls, spots_of_expr, spots_of_exprs, spots_of_heading, spots_of_names, spots_of_pairs, spots_of_stmt, spots_of_stmts, spots_of_task}
+use Rattle.algol_front_laws.proofs.Spots.{AreApart, Fits, all-fit, both-fit, flat-fit, nil-fits, none-fits, ordered, skip-fits, take-fits, turned-fit}
+
+-- the places of the names that a part uses or declares itself
+abbrev pub spots_in_decl : PDecl → List Spot
+spots_in_decl (tree.simple kind ns) = spots_of_names ns
+spots_in_decl (tree.files ns) = spots_of_names ns
+spots_in_decl (tree.events ns) = spots_of_names ns
+spots_in_decl (tree.tasks ns) = spots_of_names ns
+spots_in_decl (tree.labels ns) = spots_of_names ns
+spots_in_decl (tree.arrays kind ns pairs) = spots_of_names ns
+spots_in_decl (tree.forward h) = h.name.spot ∷ []
+spots_in_decl (tree.procedure h s) = spots_of_heading h
+
+abbrev pub spots_in_part : Part → List Spot
+spots_in_part (site.declaration d later) = spots_in_decl d
+spots_in_part p = spots_of_names (names_in p)
+
+abbrev pub spots_at : Site → List Spot
+spots_at x = spots_in_part x.part
+
+abbrev At : List Site → List Spot
+At xs = flat_map spots_at xs
+
+-- the first sites have some of the first places, and the others some of those behind
+both : (xs ys : List Site) (us vs : List Spot) → Fits (At xs) us → Fits (At ys) vs → Fits (At (xs ++ ys)) (us ++ vs)
+both xs ys us vs h k = flat-fit spots_at xs ys us vs h k
+
+-- ---- expressions
+
+module _ (a : Surroundings) where
+  name-spots : (n : Named) (b : Bool) → spots_in_part (name_part n b) ≡ n.spot ∷ []
+  name-spots n true = refl
+  name-spots n false = refl
+
+  actual-spots : (e : PExpr) (f : Option Formal) → spots_in_part (actual_part e f) ≡ spots_of_names (names_in_expr e)
+  actual-spots (tree.variable (tree.subscripted n tree.none)) f = name-spots n (wants_value f)
+  actual-spots (tree.variable (tree.subscripted n (tree.more e es))) f = refl
+  actual-spots (tree.number z spot) f = refl
+  actual-spots (tree.truth z spot) f = refl
+  actual-spots (tree.call c) f = refl
+  actual-spots (tree.happened e spot) f = refl
+  actual-spots (tree.paren e spot) f = refl
+  actual-spots (tree.plus e spot) f = refl
+  actual-spots (tree.neg e spot) f = refl
+  actual-spots (tree.not e spot) f = refl
+  actual-spots (tree.two op x y) f = refl
+  actual-spots (tree.if c x y spot) f = refl
+
+  one-actual : (e : PExpr) (f : Option Formal) (rest : List Site) (us vs : List Spot) → Fits (At (sites e a)) us → Fits (At rest) vs →
+      Fits (At (record { part = actual_part e f; around = a } ∷ (inside_expr e a ++ rest))) (us ++ vs)
+  one-actual e f rest us vs h k =
+      let P : List Spot → Type 0 = λ zs. Fits (zs ++ At (inside_expr e a ++ rest)) (us ++ vs) in
+      subst P (sym (actual-spots e f)) (both (sites e a) rest us vs h k)
+
+  mutual
+    in-expr : (e : PExpr) → Fits (At (sites e a)) (spots_of_expr e)
+    in-expr (tree.number z spot) = none-fits (spot ∷ [])
+    in-expr (tree.truth z spot) = none-fits (spot ∷ [])
+    in-expr (tree.variable (tree.subscripted n es)) = take-fits n.spot (At (inside_list es a)) (spots_of_exprs es) (in-list es)
+    in-expr (tree.call (tree.called n es)) = take-fits n.spot (At (inside_actuals es (formals_at a n) a)) (spots_of_exprs es) (in-actuals es (formals_at a n))
+    in-expr (tree.happened e spot) = skip-fits spot (e.name.spot ∷ []) (e.name.spot ∷ []) (all-fit (e.name.spot ∷ []))
+    in-expr (tree.paren e spot) = skip-fits spot (At (sites e a)) (spots_of_expr e) (in-expr e)
+    in-expr (tree.plus e spot) = skip-fits spot (At (sites e a)) (spots_of_expr e) (in-expr e)
+    in-expr (tree.neg e spot) = skip-fits spot (At (sites e a)) (spots_of_expr e) (in-expr e)
+    in-expr (tree.not e spot) = skip-fits spot (At (sites e a)) (spots_of_expr e) (in-expr e)
+    in-expr (tree.two op x y) = both (sites x a) (sites y a) (spots_of_expr x) (spots_of_expr y) (in-expr x) (in-expr y)
+    in-expr (tree.if c x y spot) =
+        skip-fits spot (At ((sites c a ++ sites x a) ++ sites y a)) ((spots_of_expr c ++ spots_of_expr x) ++ spots_of_expr y)
+        (both (sites c a ++ sites x a) (sites y a) (spots_of_expr c ++ spots_of_expr x) (spots_of_expr y)
+        (both (sites c a) (sites x a) (spots_of_expr c) (spots_of_expr x) (in-expr c) (in-expr x)) (in-expr y))
+
+    in-list : (es : PExprs) → Fits (At (inside_list es a)) (spots_of_exprs es)
+    in-list tree.none = none-fits []
+    in-list (tree.more e es) = both (sites e a) (inside_list es a) (spots_of_expr e) (spots_of_exprs es) (in-expr e) (in-list es)
+
+    in-actuals : (es : PExprs) (fs : List Formal) → Fits (At (inside_actuals es fs a)) (spots_of_exprs es)
+    in-actuals tree.none fs = none-fits []
+    in-actuals (tree.more e es) fs =
+        one-actual e (first_formal fs) (inside_actuals es (other_formals fs) a) (spots_of_expr e) (spots_of_exprs es) (in-expr e) (in-actuals es (other_formals fs))
+
+  in-pairs : (ps : List PPair) → Fits (At (sites_in_pairs ps a)) (spots_of_pairs ps)
+  in-pairs [] = none-fits []
+  in-pairs (p ∷ ps) = both (sites p.high a) (sites_in_pairs ps a) (spots_of_expr p.high) (spots_of_pairs ps) (in-expr p.high) (in-pairs ps)
+
+  -- the task of a process stands behind its actuals
+  in-process : (n : Named) (es : PExprs) (task : Option Named) (fs : List Formal) →
+      Fits (n.spot ∷ (spots_of_names (if_named task) ++ At (inside_actuals es fs a))) (n.spot ∷ (spots_of_exprs es ++ spots_of_task task))
+  in-process n es None fs =
+      take-fits n.spot (At (inside_actuals es fs a)) (spots_of_exprs es ++ [])
+      (turned-fit (At (inside_actuals es fs a)) [] (spots_of_exprs es) [] (in-actuals es fs) (none-fits []))
+  in-process n es (Some t) fs =
+      take-fits n.spot (t.spot ∷ At (inside_actuals es fs a)) (spots_of_exprs es ++ t.spot ∷ [])
+      (turned-fit (At (inside_actuals es fs a)) (t.spot ∷ []) (spots_of_exprs es) (t.spot ∷ []) (in-actuals es fs) (all-fit (t.spot ∷ [])))
+
+-- ---- statements and declarations
+
+module _ (blocks : List Block) where
+  -- a statement itself and what is inside
+  abbrev stmt_sites : PStmt → Begin → Bool → Surroundings → List Site
+  stmt_sites s begin listed a = here_stmt s listed a ∷ inside_stmt blocks s begin listed a
+
+  one-declaration : (d : PDecl) (inner rest : List Site) (us vs : List Spot) → Fits (spots_in_decl d ++ At inner) us → Fits (At rest) vs →
+      Fits (spots_in_decl d ++ At (inner ++ rest)) (us ++ vs)
+  one-declaration d inner rest us vs h k =
+      let P : List Spot → Type 0 = λ zs. Fits zs (us ++ vs) in
+      subst P (append_assoc (spots_in_decl d) (At inner) (At rest) ∙ ap (λ zs. spots_in_decl d ++ zs) (sym (flat_map-append spots_at inner rest)))
+      (both-fit (spots_in_decl d ++ At inner) (At rest) us vs h k)
+
+  mutual
+    in-stmt : (s : PStmt) (begin : Begin) (listed : Bool) (a : Surroundings) → Fits (At (stmt_sites s begin listed a)) (spots_of_stmt s)
+    in-stmt tree.empty begin listed a = none-fits []
+    in-stmt (tree.label n s) begin listed a =
+        take-fits n.spot (At (stmt_sites s of_statement listed a)) (spots_of_stmt s) (in-stmt s of_statement listed a)
+    in-stmt (tree.assign (tree.subscripted n es) x) begin listed a =
+        take-fits n.spot (At (inside_list es a ++ sites x a)) (spots_of_exprs es ++ spots_of_expr x)
+        (both (inside_list es a) (sites x a) (spots_of_exprs es) (spots_of_expr x) (in-list a es) (in-expr a x))
+    in-stmt (tree.call_of (tree.called n es)) begin listed a =
+        take-fits n.spot (At (inside_actuals es (formals_at a n) a)) (spots_of_exprs es) (in-actuals a es (formals_at a n))
+    in-stmt (tree.go_to n) begin listed a = all-fit (n.spot ∷ [])
+    in-stmt (tree.block b) begin listed a = in-body b (inside blocks begin b a)
+    in-stmt (tree.if_then c x) begin listed a =
+        both (sites c a) (stmt_sites x of_statement false a) (spots_of_expr c) (spots_of_stmt x) (in-expr a c) (in-stmt x of_statement false a)
+    in-stmt (tree.if_else c x y) begin listed a =
+        let xs : List Site = stmt_sites x of_statement false a in
+        both (sites c a ++ xs) (stmt_sites y of_statement false a) (spots_of_expr c ++ spots_of_stmt x) (spots_of_stmt y)
+        (both (sites c a) xs (spots_of_expr c) (spots_of_stmt x) (in-expr a c) (in-stmt x of_statement false a)) (in-stmt y of_statement false a)
+    in-stmt (tree.while c b) begin listed a =
+        both (sites c a) (stmt_sites b of_statement false a) (spots_of_expr c) (spots_of_stmt b) (in-expr a c) (in-stmt b of_statement false a)
+    in-stmt (tree.until b c) begin listed a =
+        both (stmt_sites b of_statement false a) (sites c a) (spots_of_stmt b) (spots_of_expr c) (in-stmt b of_statement false a) (in-expr a c)
+    in-stmt (tree.for v x y z b) begin listed a =
+        let es : List Site = (sites x a ++ sites y a) ++ sites z a in
+        let us : List Spot = (spots_of_expr x ++ spots_of_expr y) ++ spots_of_expr z in
+        let xs : List Site = stmt_sites b of_statement false a in
+        take-fits v.spot (At (es ++ xs)) (us ++ spots_of_stmt b)
+        (both es xs us (spots_of_stmt b)
+        (both (sites x a ++ sites y a) (sites z a) (spots_of_expr x ++ spots_of_expr y) (spots_of_expr z)
+        (both (sites x a) (sites y a) (spots_of_expr x) (spots_of_expr y) (in-expr a x) (in-expr a y)) (in-expr a z)) (in-stmt b of_statement false a))
+    in-stmt (tree.thru x b) begin listed a =
+        both (sites x a) (stmt_sites b of_statement false a) (spots_of_expr x) (spots_of_stmt b) (in-expr a x) (in-stmt b of_statement false a)
+    in-stmt (tree.case x ss) begin listed a =
+        both (sites x a) (sites_in_stmts blocks ss false a) (spots_of_expr x) (spots_of_stmts ss) (in-expr a x) (in-stmts ss false a)
+    in-stmt (tree.process (tree.called n es) task) begin listed a = in-process a n es task (formals_at a n)
+    in-stmt (tree.event act x) begin listed a = all-fit (x.name.spot ∷ [])
+    in-stmt (tree.write n spot phrases es) begin listed a = take-fits n.spot (At (inside_list es a)) (spots_of_exprs es) (in-list a es)
+
+    in-body : (b : PBody) (a : Surroundings) → Fits (At (sites_in_body blocks b a)) (spots_of_body b)
+    in-body (tree.body spot ds ss) a =
+        let xs : List Site = sites_in_decls blocks ds a a.known in
+        let ys : List Site = sites_in_stmts blocks ss (has_decls ds) (knowing_all blocks ds a) in
+        skip-fits spot (At (xs ++ ys)) (spots_of_decls ds ++ spots_of_stmts ss)
+        (both xs ys (spots_of_decls ds) (spots_of_stmts ss) (in-decls ds a a.known) (in-stmts ss (has_decls ds) (knowing_all blocks ds a)))
+
+    in-stmts : (ss : PStmts) (listed : Bool) (a : Surroundings) → Fits (At (sites_in_stmts blocks ss listed a)) (spots_of_stmts ss)
+    in-stmts tree.no_stmts listed a = none-fits []
+    in-stmts (tree.stmts s ss) listed a =
+        both (stmt_sites s of_statement listed a) (sites_in_stmts blocks ss listed a) (spots_of_stmt s) (spots_of_stmts ss) (in-stmt s of_statement listed a)
+        (in-stmts ss listed a)
+
+    in-decls : (ds : PDecls) (a : Surroundings) (begun : List Declared) → Fits (At (sites_in_decls blocks ds a begun)) (spots_of_decls ds)
+    in-decls tree.no_decls a begun = none-fits []
+    in-decls (tree.decls d ds) a begun =
+        let n : Surroundings = knowing blocks d ds a in
+        one-declaration d (inside_decl blocks d n begun) (sites_in_decls blocks ds n begun) (spots_of_decl d) (spots_of_decls ds) (in-decl d n begun) (in-decls ds n begun)
+
+    -- the place is behind the declaration
+    in-decl : (d : PDecl) (a : Surroundings) (begun : List Declared) → Fits (spots_in_decl d ++ At (inside_decl blocks d a begun)) (spots_of_decl d)
+    in-decl (tree.simple kind ns) a begun = nil-fits (spots_of_names ns) (spots_of_names ns) (all-fit (spots_of_names ns))
+    in-decl (tree.files ns) a begun = nil-fits (spots_of_names ns) (spots_of_names ns) (all-fit (spots_of_names ns))
+    in-decl (tree.events ns) a begun = nil-fits (spots_of_names ns) (spots_of_names ns) (all-fit (spots_of_names ns))
+    in-decl (tree.tasks ns) a begun = nil-fits (spots_of_names ns) (spots_of_names ns) (all-fit (spots_of_names ns))
+    in-decl (tree.labels ns) a begun = nil-fits (spots_of_names ns) (spots_of_names ns) (all-fit (spots_of_names ns))
+    in-decl (tree.arrays kind ns pairs) a begun =
+        both-fit (spots_of_names ns) (At (sites_in_pairs pairs (record a { known = begun }))) (spots_of_names ns) (spots_of_pairs pairs) (all-fit (spots_of_names ns))
+        (in-pairs (record a { known = begun }) pairs)
+    in-decl (tree.forward h) a begun =
+        let rest : List Spot = (spots_of_names h.params ++ spots_of_names h.values) ++ spots_of_names (specified h) in
+        take-fits h.name.spot [] rest (none-fits rest)
+    in-decl (tree.procedure h s) a begun =
+        both-fit (spots_of_heading h) (At (stmt_sites s of_procedure false (inside_procedure blocks h a))) (spots_of_heading h) (spots_of_stmt s)
+        (all-fit (spots_of_heading h)) (in-stmt s of_procedure false (inside_procedure blocks h a))
+
+-- ---- the whole program
+
+pub names-apart : (p : PProgram) (blocks : List Block) → IsInOrder p → AreApart (At (sites_by p blocks))
+names-apart (tree.program b) blocks o = (in-body blocks b outermost).apart (ordered (spots_of_body b) o)

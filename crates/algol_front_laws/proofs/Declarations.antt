@@ -1,0 +1,239 @@
+-- Each name of an accepted tree means one declaration.
+use Rattle.std.proofs.Common.{◌≡◌, ℕ, ◌+◌, ◌≤◌, Bool, true, false, List, [], ◌∷◌, ◌++◌, map, Some, refl, ap, ◌∙◌, arith}
+use Rattle.std.specs.Prelude.{if◌then◌else◌, length, not, is_some}
+use Rattle.std.specs.List.{AllByRecursion}
+use Rattle.algol_tree.specs.declared.tree.Named.{Named}
+use Rattle.algol_tree.specs.declared.tree.Heading.{Heading}
+use Rattle.algol_tree.specs.Plain as tree
+use Rattle.algol_tree.specs.Plain.{PDecl, PDecls, PProgram}
+use Rattle.algol_tree.specs.Classes as class
+use Rattle.algol_tree.specs.Classes.{Class}
+use Rattle.algol_tree.specs.Sorts as sort
+use Rattle.algol_tree.specs.Sorts.{Declared, Sort, class_in, declare, is_named_in, look_up, same_name, sort_in}
+use Rattle.algol_tree.specs.Blocks.{blocks_of_program, number_at}
+use Rattle.algol_tree.specs.Surroundings.{Surroundings, announced, declare_procedure, declared_as, inside_procedure, knowing}
+use Rattle.algol_tree.specs.Sites as site
+use Rattle.algol_tree.specs.Sites.{Part, Site}
+use Rattle.algol_tree.specs.Scopes.{names_in}
+use Rattle.algol_tree.specs.Couples.{known_in_heading, known_in_part, known_names}
+use Rattle.algol_tree.specs.Names.{if_so, is_no_parameter, places_if, specified, unknown_in_heading, unknown_in_part}
+use Rattle.algol_tree.specs.Accepted.{scope_faults, sites_of}
+use Rattle.algol_tree.specs.Ascending.{IsInOrder}
+use Rattle.algol_front_laws.specs.Couples.{cells_in}
+use Rattle.algol_front_laws.specs.Declarations.{EachHasOne, HasOne, NameAt, names_at, names_from, names_in_part}
+use Rattle.algol_front_laws.proofs.Lists.{all-append, all-both, all-left, all-right, all-weaker, none-left, none-right, of-contained, of-each}
+use Rattle.algol_front_laws.proofs.Known.{Finds, finds, name-itself}
+use Rattle.algol_front_laws.proofs.Walk.{Behind, HoldsAt}
+use Rattle.algol_front_laws.proofs.Tidy.{announced-named}
+use Rattle.algol_front_laws.proofs.Cells.{HasCell, not-unknown}
+use Rattle.algol_front_laws.proofs.Couples.{coupled}
+use Rattle.algol_front_laws.proofs.Places.{IsSo, IsThere, declared-there, names-so, names_known}
+use Rattle.algol_front_laws.proofs.Ready.{PassesIn, ReadyIn, all-pass, all-ready, one-there}
+
+-- ---- one declaration
+
+-- what stands in no block further in, and in the same block at the same place
+abbrev IsNoOther : List ℕ → Declared → Declared → Type 0
+IsNoOther name d e = e.name ≡ name → (e.depth ≤ d.depth) × (e.depth ≡ d.depth → (e.block ≡ d.block) × (e.spot ≡ d.spot))
+
+module _ (p : PProgram) where
+  -- the declaration that is found under the place of a name
+  abbrev IsFound : Surroundings → Named → Type 0
+  IsFound a n = IsSo (IsThere (names_known p)) a n
+
+  abbrev AreFound : Surroundings → List Named → Type 0
+  AreFound a ns = AllByRecursion (IsFound a) ns
+
+  abbrev AreKnown : Surroundings → List Named → Type 0
+  AreKnown a ns = AllByRecursion (λ (n : Named). is_some (declared_as a n) ≡ true) ns
+
+  one-of : (a : Surroundings) (n : Named) → ReadyIn p a → Finds a.known n.name → IsFound a n → HasOne p a n
+  one-of a n r f k =
+      let d : Declared = f.declared in
+      record {
+        declared = d;
+        found = f.found;
+        means =
+            record {
+              known = f.known;
+              named = f.named;
+              innermost = λ other c same. (of-contained (IsNoOther n.name d) a.known other f.others c same).0;
+            };
+        only =
+            λ other m.
+            let there = of-contained (IsNoOther n.name d) a.known other f.others m.known m.named in
+            let back : d.depth ≤ other.depth = m.innermost d f.known f.named in
+            let low : other.depth ≤ d.depth = there.0 in
+            one-there p a r other d m.known f.known (there.1 (omega (arith, back, low))).1;
+        held = declared-there p n.spot d (k d f.found);
+        couple =
+            λ takes.
+            let its = of-contained (HasCell (blocks_of_program p) (cells_in p)) a.known d r.cells f.known takes in
+            coupled (blocks_of_program p) (sites_of p) (record { block = d.block; spot = d.spot; content = its.0 }) its.1;
+      }
+
+  abbrev HaveOne : List NameAt → Type 0
+  HaveOne ns = AllByRecursion (λ (n : NameAt). HasOne p n.around n.name) ns
+
+  names-have-one : (a : Surroundings) → ReadyIn p a → (ns : List Named) → AreKnown a ns → AreFound a ns → HaveOne (names_from a ns)
+  names-have-one a r [] h k = tt
+  names-have-one a r (n ∷ ns) h k = (one-of a n r (finds a.known n.name r.tidy.tidied h.0) k.0, names-have-one a r ns h.1 k.1)
+
+  -- ---- names that are known
+
+  -- as the rule of unknown names has it
+  by-rule : (a : Surroundings) (ns : List Named) → places_if (λ (n : Named). not (is_some (declared_as a n))) ns ≡ [] → AreKnown a ns
+  by-rule a [] h = tt
+  by-rule a (n ∷ ns) h =
+      let here = if_so (not (is_some (declared_as a n))) n.spot in
+      let rest = places_if (λ (n : Named). not (is_some (declared_as a n))) ns in
+      (not-unknown (is_some (declared_as a n)) n.spot (none-left here rest h), by-rule a ns (none-right here rest h))
+
+  -- as one of those that are declared together
+  known-among : (f : Named → Declared) → ((n : Named) → (f n).name ≡ n.name) → (ms : List Named) (ds : List Declared) (name : List ℕ) → is_named_in ms name ≡ true →
+      is_some (look_up (map f ms ++ ds) name) ≡ true
+  known-among f e [] ds name h = absurd (let clash : false ≡ true = h in cc)
+  known-among f e (m ∷ ms) ds name h =
+      ap (λ (n : List ℕ). is_some (if same_name n name then Some (f m) else look_up (map f ms ++ ds) name)) (e m)
+      ∙ decide (same_name m.name name) h (λ k. known-among f e ms ds name k)
+    where
+      decide : (b : Bool) → (if b then true else is_named_in ms name) ≡ true → (is_named_in ms name ≡ true → is_some (look_up (map f ms ++ ds) name) ≡ true) →
+          is_some (if b then Some (f m) else look_up (map f ms ++ ds) name) ≡ true
+      decide true k on = refl
+      decide false k on = on k
+
+  -- each name of a list is named in it
+  named-later : (m : Named) (ms : List Named) (name : List ℕ) → is_named_in ms name ≡ true → is_named_in (m ∷ ms) name ≡ true
+  named-later m ms name h = decide (same_name m.name name)
+    where
+      decide : (b : Bool) → (if b then true else is_named_in ms name) ≡ true
+      decide true = refl
+      decide false = h
+
+  named-itself : (ms : List Named) → AllByRecursion (λ (n : Named). is_named_in ms n.name ≡ true) ms
+  named-itself [] = tt
+  named-itself (m ∷ ms) = (
+    ap (λ (b : Bool). if b then true else is_named_in ms m.name) (name-itself m.name),
+    all-weaker (λ (n : Named). is_named_in ms n.name ≡ true) (λ (n : Named). is_named_in (m ∷ ms) n.name ≡ true) (λ n h. named-later m ms n.name h) ms (named-itself ms),
+  )
+
+  no-others : (h : Heading) (ns : List Named) → places_if (is_no_parameter h) ns ≡ [] → AllByRecursion (λ (n : Named). is_named_in h.params n.name ≡ true) ns
+  no-others h [] e = tt
+  no-others h (n ∷ ns) e =
+      let here = if_so (is_no_parameter h n) n.spot in
+      let rest = places_if (is_no_parameter h) ns in
+      (not-unknown (is_named_in h.params n.name) n.spot (none-left here rest e), no-others h ns (none-right here rest e))
+
+  -- ---- the names of declarations
+
+  abbrev behind : (Named → Declared) → ℕ → ℕ → List Named → List Declared → Surroundings
+  behind f block depth ms ds = record { block = block; depth = depth; known = map f ms ++ ds }
+
+  module _ (f : Named → Declared) (name-of : (n : Named) → (f n).name ≡ n.name) (block depth : ℕ) (ms : List Named) (ds : List Declared)
+      (r : ReadyIn p (behind f block depth ms ds))
+    where
+      -- names that are declared there
+      among-have-one : (ns : List Named) → AllByRecursion (λ (n : Named). is_named_in ms n.name ≡ true) ns →
+          AllByRecursion (IsThere (names_known p)) (known_names (behind f block depth ms ds) ns) → HaveOne (names_from (behind f block depth ms ds) ns)
+      among-have-one ns h k =
+          names-have-one (behind f block depth ms ds) r ns
+          (all-weaker (λ (n : Named). is_named_in ms n.name ≡ true) (λ (n : Named). is_some (declared_as (behind f block depth ms ds) n) ≡ true)
+          (λ n i. known-among f name-of ms ds n.name i) ns h) (names-so (IsThere (names_known p)) (behind f block depth ms ds) ns k)
+
+      own-have-one : AllByRecursion (IsThere (names_known p)) (known_names (behind f block depth ms ds) ms) → HaveOne (names_from (behind f block depth ms ds) ms)
+      own-have-one k = among-have-one ms (named-itself ms) k
+
+  abbrev declaring : Surroundings → Sort → Class → Named → Declared
+  declaring a s c n = record { name = n.name; spot = n.spot; block = a.block; depth = a.depth; sort = s; class = c }
+
+  -- names of one sort that are declared together
+  together : (s : Sort) (c : Class) (ns : List Named) (a : Surroundings) → ReadyIn p (record a { known = declare a.block a.depth s c ns ++ a.known }) →
+      AllByRecursion (IsThere (names_known p)) (known_names (record a { known = declare a.block a.depth s c ns ++ a.known }) ns) →
+      HaveOne (names_from (record a { known = declare a.block a.depth s c ns ++ a.known }) ns)
+  together s c ns a r k = own-have-one (declaring a s c) (λ n. refl) a.block a.depth ns a.known r k
+
+  -- the procedure of a FORWARD
+  of-forward : (h g : Heading) (a : Surroundings) → g.name.name ≡ h.name.name →
+      ReadyIn p (record a { known = declare_procedure (blocks_of_program p) g a ++ a.known }) →
+      AllByRecursion (IsThere (names_known p)) (known_names (record a { known = declare_procedure (blocks_of_program p) g a ++ a.known }) (h.name ∷ [])) →
+      HaveOne (names_from (record a { known = declare_procedure (blocks_of_program p) g a ++ a.known }) (h.name ∷ []))
+  of-forward h g a e r k =
+      let named : is_named_in (g.name ∷ []) h.name.name ≡ true =
+      ap (λ (n : List ℕ). if same_name n h.name.name then true else false) e ∙ ap (λ (b : Bool). if b then true else false) (name-itself h.name.name) in
+      among-have-one (declaring a (sort.procedure (number_at (blocks_of_program p) g.name.spot)) (class.procedure g)) (λ n. refl) a.block a.depth (g.name ∷ []) a.known r
+      (h.name ∷ []) (named, tt) k
+
+  -- the names of a heading, inside its procedure
+  of-heading : (h : Heading) (b : Surroundings) → ReadyIn p (inside_procedure (blocks_of_program p) h b) → unknown_in_heading h ≡ [] →
+      AllByRecursion (IsThere (names_known p)) (known_in_heading h (inside_procedure (blocks_of_program p) h b)) →
+      HaveOne (names_from (inside_procedure (blocks_of_program p) h b) (h.params ++ h.values ++ specified h))
+  of-heading h b r u k =
+      let i : Surroundings = inside_procedure (blocks_of_program p) h b in
+      let number : ℕ = number_at (blocks_of_program p) h.name.spot in
+      let f : Named → Declared =
+      λ (n : Named).
+      record {
+        name = n.name;
+        spot = n.spot;
+        block = number;
+        depth = b.depth + 1;
+        sort = sort_in h.specs (is_named_in h.values n.name) n.name;
+        class = class_in h.specs n.name;
+      } in
+      let values = places_if (is_no_parameter h) h.values in
+      let specs = places_if (is_no_parameter h) (specified h) in
+      let known = all-left (IsThere (names_known p)) (known_names i h.params ++ known_names i h.values) (known_names i (specified h)) k in
+      let found : AreFound i (h.params ++ h.values ++ specified h) =
+      all-append (IsFound i) (h.params ++ h.values) (specified h)
+      (all-append (IsFound i) h.params h.values
+      (names-so (IsThere (names_known p)) i h.params (all-left (IsThere (names_known p)) (known_names i h.params) (known_names i h.values) known))
+      (names-so (IsThere (names_known p)) i h.values (all-right (IsThere (names_known p)) (known_names i h.params) (known_names i h.values) known)))
+      (names-so (IsThere (names_known p)) i (specified h)
+      (all-right (IsThere (names_known p)) (known_names i h.params ++ known_names i h.values) (known_names i (specified h)) k)) in
+      let among =
+      all-append (λ (n : Named). is_named_in h.params n.name ≡ true) (h.params ++ h.values) (specified h)
+      (all-append (λ (n : Named). is_named_in h.params n.name ≡ true) h.params h.values (named-itself h.params) (no-others h h.values (none-left values specs u)))
+      (no-others h (specified h) (none-right values specs u)) in
+      names-have-one i r (h.params ++ h.values ++ specified h)
+      (all-weaker (λ (n : Named). is_named_in h.params n.name ≡ true) (λ (n : Named). is_some (declared_as i n) ≡ true)
+      (λ n m. known-among f (λ n. refl) h.params b.known n.name m) (h.params ++ h.values ++ specified h) among) found
+
+  of-decl : (d : PDecl) (later : PDecls) (a : Surroundings) → Behind (blocks_of_program p) (ReadyIn p) (site.declaration d later) a →
+      unknown_in_part (site.declaration d later) a ≡ [] →
+      AllByRecursion (IsThere (names_known p)) (known_in_part (blocks_of_program p) (site.declaration d later) a) →
+      HaveOne (names_in_part (blocks_of_program p) (site.declaration d later) a)
+  of-decl (tree.simple kind ns) later a r u k = together sort.variable (class.simple kind) ns a r k
+  of-decl (tree.files ns) later a r u k = together sort.file class.file ns a r k
+  of-decl (tree.events ns) later a r u k = together sort.event class.event ns a r k
+  of-decl (tree.tasks ns) later a r u k = together sort.event class.task ns a r k
+  of-decl (tree.labels ns) later a r u k = together sort.label class.label ns a r k
+  of-decl (tree.arrays kind ns pairs) later a r u k = together sort.array (class.array kind (length pairs)) ns a r k
+  of-decl (tree.forward h) later a r u k = of-forward h (announced h later) a (announced-named h later) r k
+  of-decl (tree.procedure h s) later a r u k =
+      let b : Surroundings = knowing (blocks_of_program p) (tree.procedure h s) later a in
+      let i : Surroundings = inside_procedure (blocks_of_program p) h b in
+      all-append (λ (n : NameAt). HasOne p n.around n.name) (names_from b (h.name ∷ [])) (names_from i (h.params ++ h.values ++ specified h))
+      (of-forward h h a refl r.0 (all-left (IsThere (names_known p)) (known_names b (h.name ∷ [])) (known_in_heading h i) k))
+      (of-heading h b r.1 u (all-right (IsThere (names_known p)) (known_names b (h.name ∷ [])) (known_in_heading h i) k))
+
+  -- ---- the whole tree
+
+  in-use : (a : Surroundings) → ReadyIn p a → (ns : List Named) → places_if (λ (n : Named). not (is_some (declared_as a n))) ns ≡ [] →
+      AllByRecursion (IsThere (names_known p)) (known_names a ns) → HaveOne (names_from a ns)
+  in-use a r ns u k = names-have-one a r ns (by-rule a ns u) (names-so (IsThere (names_known p)) a ns k)
+
+  of-part : (part : Part) (a : Surroundings) → ReadyIn p a → Behind (blocks_of_program p) (ReadyIn p) part a → unknown_in_part part a ≡ [] →
+      AllByRecursion (IsThere (names_known p)) (known_in_part (blocks_of_program p) part a) → HaveOne (names_in_part (blocks_of_program p) part a)
+  of-part (site.name n) a r b u k = in-use a r (names_in (site.name n)) u k
+  of-part (site.expression e) a r b u k = in-use a r (names_in (site.expression e)) u k
+  of-part (site.actual e f) a r b u k = tt
+  of-part (site.bound e) a r b u k = tt
+  of-part (site.statement s listed) a r b u k = in-use a r (names_in (site.statement s listed)) u k
+  of-part (site.declaration d later) a r b u k = of-decl d later a b u k
+
+  pub each-has-one : scope_faults p ≡ [] → IsInOrder p → EachHasOne p
+  each-has-one h o =
+      let blocks = blocks_of_program p in
+      of-each (λ (n : NameAt). HasOne p n.around n.name) (names_at blocks) (sites_of p)
+      (all-both (HoldsAt blocks (ReadyIn p)) (PassesIn p) (λ (x : Site). HaveOne (names_at blocks x))
+      (λ x r q. of-part x.part x.around r.around r.behind q.known q.its_names) (sites_of p) (all-ready p h o) (all-pass p h o))

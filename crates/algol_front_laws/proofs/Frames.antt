@@ -1,0 +1,220 @@
+-- Each cell of a tree in order has a couple of its own.
+use Rattle.std.proofs.Common.{◌≡◌, ◌⊎◌, inl, inr, ℕ, Bool, true, false, List, [], ◌∷◌, ◌++◌, filter, Some, refl, sym, ap, ◌∙◌}
+use Rattle.std.specs.Prelude.{◌==◌, if◌then◌else◌, is_some}
+use Rattle.std.specs.List.{AllByRecursion, flat_map}
+use Rattle.algol_tree.specs.declared.token.Spot.{Spot}
+use Rattle.algol_tree.specs.declared.tree.Named.{Named}
+use Rattle.algol_tree.specs.declared.tree.Heading.{Heading}
+use Rattle.algol_tree.specs.Plain as tree
+use Rattle.algol_tree.specs.Plain.{PDecl, PDecls, PProgram}
+use Rattle.algol_tree.specs.Blocks.{Block, blocks_of_program, number_at, same_spot}
+use Rattle.algol_tree.specs.Surroundings.{Surroundings}
+use Rattle.algol_tree.specs.Sites as site
+use Rattle.algol_tree.specs.Sites.{Part, Site}
+use Rattle.algol_tree.specs.Cells as cells
+use Rattle.algol_tree.specs.Cells.{Cell, Content, Couple, cells_at, cells_for, cells_of_decl, cells_of_part, content_number, couple_in, first_spot, has_cell, result_cells}
+use Rattle.algol_tree.specs.Couples.{actual_at, actual_cells, couple_of_cells, result_at}
+use Rattle.algol_tree.specs.Accepted.{sites_of}
+use Rattle.algol_tree.specs.Ascending.{IsInOrder}
+use Rattle.algol_front_laws.specs.Couples.{HasCouple, cells_in, couple_of}
+use Rattle.algol_front_laws.proofs.Lists.{IsIn, all-append, all-both, all-in, all-weaker, each-of, false-not-true, of-each, of-in}
+use Rattle.algol_front_laws.proofs.Known.{spot-is}
+use Rattle.algol_front_laws.proofs.Spots.{AreApart, some-apart, spot-itself}
+use Rattle.algol_front_laws.proofs.Apart.{names-apart, spots_at}
+use Rattle.algol_front_laws.proofs.CellSpots.{cell_spots, cells-apart}
+use Rattle.algol_front_laws.proofs.Alone.{Picked, alone, is_other, is_result, others-of, results-of}
+use Rattle.algol_front_laws.proofs.Couples.{couple-tells, coupled, in-filter}
+
+module _ (blocks : List Block) (all : List Cell) where
+  -- the declaration of a procedure stands outside its block
+  abbrev pub IsOutside : Part → Surroundings → Type 0
+  IsOutside (site.declaration (tree.procedure h s) later) a = a.block ≡ number_at blocks h.name.spot → ⊥
+  IsOutside _ a = Unit {0}
+
+  -- a result stands in its procedure's block, where the procedure's own cell stands, which is of another block
+  pub record IsResult (c : Cell) : Type 0 where
+    pub block : c.block ≡ number_at blocks c.spot
+    pub procedure : Cell
+    pub known : IsIn all procedure
+    pub other : is_other procedure.content ≡ true
+    pub same : procedure.spot ≡ c.spot
+    pub outside : procedure.block ≡ c.block → ⊥
+
+  abbrev pub IfResult : Cell → Type 0
+  IfResult c = c.content ≡ cells.result → IsResult c
+
+  none-result : (block : ℕ) (content : Content) → is_result content ≡ false → (ns : List Named) → AllByRecursion IfResult (cells_for block content ns)
+  none-result block content e [] = tt
+  none-result block content e (n ∷ ns) = (λ r. absurd (false-not-true (sym e ∙ ap is_result r)), none-result block content e ns)
+
+  of-result : (h : Heading) (block : ℕ) → (block ≡ number_at blocks h.name.spot → ⊥) →
+      IsIn all (record { block = block; spot = h.name.spot; content = cells.procedure }) → AllByRecursion IfResult (result_cells blocks h)
+  of-result h block o i = decide (is_some h.kind)
+    where
+      decide : (b : Bool) → AllByRecursion IfResult (if b then cells_for (number_at blocks h.name.spot) cells.result (h.name ∷ []) else [])
+      decide true = (
+        λ r.
+            record {
+              block = refl;
+              procedure = record { block = block; spot = h.name.spot; content = cells.procedure };
+              known = i;
+              other = refl;
+              same = refl;
+              outside = o;
+            },
+        tt,
+      )
+      decide false = tt
+
+  of-procedure : (h : Heading) (block : ℕ) → (block ≡ number_at blocks h.name.spot → ⊥) →
+      AllByRecursion (IsIn all) (cells_for block cells.procedure (h.name ∷ []) ++ result_cells blocks h ++ cells_for (number_at blocks h.name.spot) cells.parameter h.params) →
+      AllByRecursion IfResult (cells_for block cells.procedure (h.name ∷ []) ++ result_cells blocks h ++ cells_for (number_at blocks h.name.spot) cells.parameter h.params)
+  of-procedure h block o i =
+      let its : List Cell = cells_for block cells.procedure (h.name ∷ []) in
+      let params : List Cell = cells_for (number_at blocks h.name.spot) cells.parameter h.params in
+      all-append IfResult (its ++ result_cells blocks h) params
+      (all-append IfResult its (result_cells blocks h) (none-result block cells.procedure refl (h.name ∷ [])) (of-result h block o i.0))
+      (none-result (number_at blocks h.name.spot) cells.parameter refl h.params)
+
+  of-decl : (d : PDecl) (later : PDecls) (a : Surroundings) → IsOutside (site.declaration d later) a → AllByRecursion (IsIn all) (cells_of_decl blocks d a.block) →
+      AllByRecursion IfResult (cells_of_decl blocks d a.block)
+  of-decl (tree.simple kind ns) later a o i = none-result a.block cells.variable refl ns
+  of-decl (tree.files ns) later a o i = tt
+  of-decl (tree.events ns) later a o i = none-result a.block cells.made refl ns
+  of-decl (tree.tasks ns) later a o i = none-result a.block cells.made refl ns
+  of-decl (tree.labels ns) later a o i = tt
+  of-decl (tree.arrays kind ns pairs) later a o i = none-result a.block cells.made refl ns
+  of-decl (tree.forward h) later a o i = tt
+  of-decl (tree.procedure h s) later a o i = of-procedure h a.block o i
+
+  of-actual : (b : Bool) (block : ℕ) (spot : Spot) → AllByRecursion IfResult (if b then record { block = block; spot = spot; content = cells.actual } ∷ [] else [])
+  of-actual true block spot = (λ r. absurd (false-not-true (ap is_result r)), tt)
+  of-actual false block spot = tt
+
+  of-part : (p : Part) (a : Surroundings) → IsOutside p a → AllByRecursion (IsIn all) (cells_of_part blocks p a) → AllByRecursion IfResult (cells_of_part blocks p a)
+  of-part (site.name n) a o i = tt
+  of-part (site.expression e) a o i = tt
+  of-part (site.actual e f) a o i = of-actual (has_cell e f a) a.block (first_spot e)
+  of-part (site.bound e) a o i = tt
+  of-part (site.statement s listed) a o i = tt
+  of-part (site.declaration d later) a o i = of-decl d later a o i
+
+  pub results-are : (xs : List Site) → AllByRecursion (λ (x : Site). IsOutside x.part x.around) xs → AllByRecursion (IsIn all) (flat_map (cells_at blocks) xs) →
+      AllByRecursion IfResult (flat_map (cells_at blocks) xs)
+  results-are xs o i =
+      of-each IfResult (cells_at blocks) xs
+      (all-both (λ (x : Site). IsOutside x.part x.around) (λ (x : Site). AllByRecursion (IsIn all) (cells_at blocks x))
+      (λ (x : Site). AllByRecursion IfResult (cells_at blocks x)) (λ x k j. of-part x.part x.around k j) xs o (each-of (IsIn all) (cells_at blocks) xs i))
+
+-- ---- one cell of a block at a place
+
+split : (k : Content) → (k ≡ cells.result) ⊎ (is_other k ≡ true)
+split cells.parameter = inr refl
+split cells.result = inl refl
+split cells.variable = inr refl
+split cells.procedure = inr refl
+split cells.actual = inr refl
+split cells.made = inr refl
+
+module _ (blocks : List Block) (all : List Cell) (others : AreApart (Picked is_other all)) (results : AreApart (Picked is_result all))
+    (are : AllByRecursion (IfResult blocks all) all)
+  where
+    -- a result and another cell stand not at one place of a block
+    never : (c d : Cell) → IsIn all c → IsIn all d → c.block ≡ d.block → c.spot ≡ d.spot → c.content ≡ cells.result → is_other d.content ≡ true → ⊥
+    never c d i j b s r o =
+        let its = of-in (IfResult blocks all) all c are i r in
+        let one : its.procedure ≡ d = alone is_other all its.procedure d others its.known j its.other o (its.same ∙ s) in
+        its.outside (ap (λ (z : Cell). z.block) one ∙ sym b)
+
+    pub lone : (c d : Cell) → IsIn all c → IsIn all d → c.block ≡ d.block → c.spot ≡ d.spot → c ≡ d
+    lone c d i j b s = decide (split c.content) (split d.content)
+      where
+        decide : (c.content ≡ cells.result) ⊎ (is_other c.content ≡ true) → (d.content ≡ cells.result) ⊎ (is_other d.content ≡ true) → c ≡ d
+        decide (inl r) (inl t) = alone is_result all c d results i j (ap is_result r) (ap is_result t) s
+        decide (inl r) (inr o) = absurd (never c d i j b s r o)
+        decide (inr o) (inl r) = absurd (never d c j i (sym b) (sym s) r o)
+        decide (inr o) (inr q) = alone is_other all c d others i j o q s
+
+-- ---- actuals
+
+other-actual : (k : Content) → (content_number k == content_number cells.actual) ≡ true → is_other k ≡ true
+other-actual cells.parameter h = refl
+other-actual cells.result h = absurd (let clash : false ≡ true = h in cc)
+other-actual cells.variable h = refl
+other-actual cells.procedure h = refl
+other-actual cells.actual h = refl
+other-actual cells.made h = refl
+
+kept : (P : Cell → Type 0) (test : Cell → Bool) (cs : List Cell) → AllByRecursion P cs → AllByRecursion (λ (c : Cell). P c × (test c ≡ true)) (filter test cs)
+kept P test [] h = tt
+kept P test (c ∷ cs) h = decide (test c) refl (kept P test cs h.1)
+  where
+    decide : (b : Bool) → test c ≡ b → AllByRecursion (λ (d : Cell). P d × (test d ≡ true)) (filter test cs) →
+        AllByRecursion (λ (d : Cell). P d × (test d ≡ true)) (if b then c ∷ filter test cs else filter test cs)
+    decide true e k = ((h.0, e), k)
+    decide false e k = k
+
+module _ (blocks : List Block) (ss : List Site) where
+  first-actual : (cs : List Cell) (c : Cell) → IsIn cs c → AllByRecursion (λ (d : Cell). d.spot ≡ c.spot → d ≡ c) cs →
+      couple_of_cells blocks ss cs c.spot ≡ couple_in blocks ss c.block c.spot
+  first-actual [] c i h = absurd i
+  first-actual (d ∷ cs) c i h = decide (same_spot d.spot c.spot) refl i (λ j. first-actual cs c j h.1)
+    where
+      decide : (b : Bool) → same_spot d.spot c.spot ≡ b → (d ≡ c) ⊎ IsIn cs c → (IsIn cs c → couple_of_cells blocks ss cs c.spot ≡ couple_in blocks ss c.block c.spot) →
+          (if b then couple_in blocks ss d.block c.spot else couple_of_cells blocks ss cs c.spot) ≡ couple_in blocks ss c.block c.spot
+      decide true e j on = ap (λ (z : Cell). couple_in blocks ss z.block c.spot) (h.0 (spot-is d.spot c.spot e))
+      decide false e (inl q) on = absurd (false-not-true (sym e ∙ ap (λ (z : Cell). same_spot z.spot c.spot) q ∙ spot-itself c.spot))
+      decide false e (inr j) on = on j
+
+-- ---- the whole tree
+
+module _ (p : PProgram) (order : IsInOrder p)
+    (outside : AllByRecursion (λ (x : Site). IsOutside (blocks_of_program p) (cells_in p) x.part x.around) (sites_of p))
+  where
+    others-apart : AreApart (Picked is_other (cells_in p))
+    others-apart =
+        some-apart (Picked is_other (cells_in p)) (flat_map cell_spots (sites_of p)) (others-of (blocks_of_program p) (sites_of p))
+        (cells-apart p (blocks_of_program p) order)
+
+    results-apart : AreApart (Picked is_result (cells_in p))
+    results-apart =
+        some-apart (Picked is_result (cells_in p)) (flat_map spots_at (sites_of p)) (results-of (blocks_of_program p) (sites_of p))
+        (names-apart p (blocks_of_program p) order)
+
+    if-results : AllByRecursion (IfResult (blocks_of_program p) (cells_in p)) (cells_in p)
+    if-results = results-are (blocks_of_program p) (cells_in p) (sites_of p) outside (all-in (cells_in p))
+
+    actual-there : (c : Cell) → IsIn (cells_in p) c → c.content ≡ cells.actual → actual_at p c.spot ≡ couple_of p c.block c.spot
+    unfolding actual_at
+    actual-there c i e =
+        let is : (content_number c.content == content_number cells.actual) ≡ true = ap (λ (k : Content). content_number k == content_number cells.actual) e in
+        first-actual (blocks_of_program p) (sites_of p) (actual_cells (blocks_of_program p) (sites_of p)) c
+        (in-filter (λ (d : Cell). content_number d.content == content_number cells.actual) (cells_in p) c is i)
+        (all-weaker (λ (d : Cell). IsIn (cells_in p) d × ((content_number d.content == content_number cells.actual) ≡ true)) (λ (d : Cell). d.spot ≡ c.spot → d ≡ c)
+        (λ d k s. alone is_other (cells_in p) d c others-apart k.0 i (other-actual d.content k.1) (other-actual c.content is) s)
+        (actual_cells (blocks_of_program p) (sites_of p))
+        (kept (IsIn (cells_in p)) (λ (d : Cell). content_number d.content == content_number cells.actual) (cells_in p) (all-in (cells_in p))))
+
+    result-there : (c : Cell) → IsIn (cells_in p) c → c.content ≡ cells.result → result_at p c.spot ≡ couple_of p c.block c.spot
+    unfolding result_at
+    result-there c i e =
+        let its = of-in (IfResult (blocks_of_program p) (cells_in p)) (cells_in p) c if-results i e in ap (λ (n : ℕ). couple_of p n c.spot) (sym its.block)
+
+    has-couple : (c : Cell) → IsIn (cells_in p) c → HasCouple p c
+    has-couple c i =
+        let q = coupled (blocks_of_program p) (sites_of p) c i in
+        record {
+          couple = q.0;
+          is = q.1;
+          only =
+              all-weaker (IsIn (cells_in p)) (λ (other : Cell). other.block ≡ c.block → couple_of p other.block other.spot ≡ Some q.0 → other ≡ c)
+              (λ other j b e.
+              lone (blocks_of_program p) (cells_in p) others-apart results-apart if-results other c j i b
+              (couple-tells (blocks_of_program p) (sites_of p) c.block other.spot c.spot q.0 (ap (λ (n : ℕ). couple_of p n other.spot) (sym b) ∙ e) q.1))
+              (cells_in p) (all-in (cells_in p));
+          actual = λ e. actual-there c i e ∙ q.1;
+          result = λ e. result-there c i e ∙ q.1;
+        }
+
+    pub each-has-couple : AllByRecursion (HasCouple p) (cells_in p)
+    each-has-couple = all-weaker (IsIn (cells_in p)) (HasCouple p) (λ c i. has-couple c i) (cells_in p) (all-in (cells_in p))

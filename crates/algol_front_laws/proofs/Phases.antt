@@ -1,0 +1,216 @@
+-- Which part of the front end a refusal comes from.
+use Rattle.std.proofs.Common.{◌≡◌, ℕ, Bool, true, false, List, [], ◌∷◌, ◌++◌, Option, Some, None, refl, sym, subst, ap, ◌∙◌}
+use Rattle.std.specs.Prelude.{if◌then◌else◌, nat_le, length, unsigned_abs}
+use Rattle.std.specs.List.{AllByRecursion, flat_map}
+use Rattle.b67_num.specs.Whole.{most}
+use Rattle.algol_tree.specs.declared.TheConstants.{MOST_NAME_BYTES}
+use Rattle.algol_tree.specs.declared.token.Spot.{Spot}
+use Rattle.algol_tree.specs.declared.token.Token.{Token}
+use Rattle.algol_tree.specs.declared.token.TokenKind.{TokenKind}
+use Rattle.algol_tree.specs.declared.token.TokenKind.TheVariants as kinds
+use Rattle.algol_tree.specs.declared.token.Reserved.{Reserved}
+use Rattle.algol_tree.specs.declared.token.Reserved.TheVariants as reserved
+use Rattle.algol_tree.specs.declared.refusal.Code.{Code}
+use Rattle.algol_tree.specs.declared.refusal.Code.TheVariants as codes
+use Rattle.algol_tree.specs.declared.refusal.Fault.{Fault}
+use Rattle.algol_tree.specs.declared.refusal.Refusal.{Refusal}
+use Rattle.algol_tree.specs.declared.refusal.Refusal.TheVariants.{At, NoMemory}
+use Rattle.algol_tree.specs.Plain.{PProgram}
+use Rattle.algol_tree.specs.Records.{Record}
+use Rattle.algol_tree.specs.Lexes as lexes
+use Rattle.algol_tree.specs.Lexes.{Front, Piece, Wrong, Mode, Stands, Fails, IsRefused, Lexes, front_of, remark_front, word_front, remark_word, string_or}
+use Rattle.algol_tree.specs.Programs.{Reads}
+use Rattle.algol_tree.specs.Refused.{RefusedProgram}
+use Rattle.algol_tree.specs.Blocks.{blocks_of_program}
+use Rattle.algol_tree.specs.Names.{cells_beyond, deep_actuals, deep_blocks, declared_twice, long_segments, procedures_beyond, unknown_names}
+use Rattle.algol_tree.specs.Checks.{not_assignable, wrong_types}
+use Rattle.algol_tree.specs.Counted.{bad_lists, wide_lines, wrong_counts}
+use Rattle.algol_tree.specs.Labels.{bad_labels}
+use Rattle.algol_tree.specs.Accepted.{broken, scope_faults, check_faults, sites_of, is_earlier, earlier, noted_all, first_fault, refusal_after, tree_refusal}
+use Rattle.algol_tree.specs.First.{First, in_text, in_grammar, in_tree}
+use Rattle.algol_rules.proofs.Order.{first-none}
+use Rattle.algol_lexer.proofs.LexReach.{not_both}
+use Rattle.algol_stmt.proofs.Refusals.{program_not_refused}
+use Rattle.algol_front.specs.Refusing.{RefusesFirst}
+use Rattle.algol_front_laws.specs.Phases.{Phase, text, grammar, names, checks, phase_of, InNames, InChecks, RefusedIn, TellsPart}
+use Rattle.algol_front_laws.proofs.Lists.{all-append}
+
+-- ---- the text
+
+abbrev IsOf : Phase → Code → Type 0
+IsOf p code = phase_of code ≡ Some p
+
+-- what is wrong at the front of columns is of the text
+abbrev FitsText : Front → Type 0
+FitsText (Piece size kind mode) = Unit {0}
+FitsText (Wrong skipped code) = IsOf text code
+
+word-fits : (w : Reserved) (size : ℕ) → FitsText (word_front w size)
+word-fits reserved.Comment size = tt
+word-fits reserved.End size = tt
+word-fits _ size = tt
+
+name-fits : (b : Bool) (name : List ℕ) (size : ℕ) → FitsText (if b then lexes.token_of (kinds.Name name) size else Wrong 0 codes.NameTooLong)
+name-fits true name size = tt
+name-fits false name size = refl
+
+front-fits : (k : TokenKind) (size : ℕ) → FitsText (front_of k size)
+front-fits (kinds.Word w) size = word-fits w size
+front-fits (kinds.Name name) size = name-fits (nat_le (length name) MOST_NAME_BYTES) name size
+front-fits (kinds.Number value) size = chosen (nat_le (unsigned_abs value) most)
+  where
+    chosen : (b : Bool) → FitsText (if b then lexes.token_of (kinds.Number value) size else Wrong 0 codes.NumberTooWide)
+    chosen true = tt
+    chosen false = refl
+front-fits (kinds.Text t) size = tt
+front-fits (kinds.Symbol s) size = tt
+front-fits kinds.End size = tt
+
+remark-word-fits : (w : Reserved) (size : ℕ) → FitsText (remark_word w size)
+remark-word-fits reserved.End size = tt
+remark-word-fits reserved.Else size = tt
+remark-word-fits reserved.Until size = tt
+remark-word-fits _ size = tt
+
+remark-fits : (k : TokenKind) (size : ℕ) → FitsText (remark_front k size)
+remark-fits (kinds.Word w) size = remark-word-fits w size
+remark-fits _ size = tt
+
+string-fits : (inside : List ℕ) (bad : Option ℕ) → FitsText (string_or inside bad)
+string-fits inside None = tt
+string-fits inside (Some k) = refl
+
+stands-fits : {m : Mode} {bytes : List ℕ} {f : Front} → Stands m bytes f → FitsText f
+stands-fits (lexes.blank b after h) = tt
+stands-fits (lexes.percent after) = tt
+stands-fits (lexes.spelled bytes after k s l) = front-fits k (length bytes)
+stands-fits (lexes.closed inside after h) = string-fits inside _
+stands-fits (lexes.unclosed after h) = refl
+stands-fits (lexes.none b after h) = refl
+stands-fits (lexes.closing after) = tt
+stands-fits (lexes.commented b after h) = tt
+stands-fits (lexes.remarked bytes after k s l n) = remark-fits k (length bytes)
+stands-fits (lexes.semicolon after) = tt
+stands-fits (lexes.period after) = tt
+stands-fits (lexes.passed b after h i j) = tt
+
+fails-text : {r : Record} {m : Mode} {spot : Spot} {code : Code} → Fails r m spot code → IsOf text code
+fails-text (lexes.wrong n at skipped tokens code g s) = stands-fits s
+fails-text (lexes.long n tokens g h) = refl
+
+-- ---- the grammar
+
+grammar-code : (tokens : List Token) (spot : Spot) (code : Code) → RefusedProgram tokens (At spot code) → IsOf grammar code
+grammar-code tokens spot codes.Unexpected r = refl
+grammar-code tokens spot codes.TooDeep r = refl
+grammar-code tokens spot codes.TextAfterEnd r = refl
+grammar-code tokens spot _ r = absurd r
+
+-- ---- a tree
+
+abbrev AreOf : Phase → List Fault → Type 0
+AreOf p fs = AllByRecursion (λ (f : Fault). IsOf p f.code) fs
+
+broken-of : (p : Phase) (code : Code) → IsOf p code → (spots : List Spot) → AreOf p (broken code spots)
+broken-of p code e [] = tt
+broken-of p code e (s ∷ spots) = (e, broken-of p code e spots)
+
+both-of : (p : Phase) (fs gs : List Fault) → AreOf p fs → AreOf p gs → AreOf p (fs ++ gs)
+both-of p fs gs h k = all-append (λ (f : Fault). IsOf p f.code) fs gs h k
+
+-- the faults by six rules of one part
+six-of : (p : Phase) (a b c d e f : Code) → IsOf p a → IsOf p b → IsOf p c → IsOf p d → IsOf p e → IsOf p f → (us vs ws xs ys zs : List Spot) →
+    AreOf p (broken a us ++ broken b vs ++ broken c ws ++ broken d xs ++ broken e ys ++ broken f zs)
+six-of p a b c d e f h i j k l m us vs ws xs ys zs =
+    both-of p (broken a us ++ broken b vs ++ broken c ws ++ broken d xs ++ broken e ys) (broken f zs)
+    (both-of p (broken a us ++ broken b vs ++ broken c ws ++ broken d xs) (broken e ys)
+    (both-of p (broken a us ++ broken b vs ++ broken c ws) (broken d xs)
+    (both-of p (broken a us ++ broken b vs) (broken c ws) (both-of p (broken a us) (broken b vs) (broken-of p a h us) (broken-of p b i vs)) (broken-of p c j ws))
+    (broken-of p d k xs)) (broken-of p e l ys)) (broken-of p f m zs)
+
+names-of : (p : PProgram) → AreOf names (scope_faults p)
+unfolding scope_faults
+names-of p =
+    let blocks = blocks_of_program p in
+    let ss = sites_of p in
+    six-of names codes.UnknownName codes.DeclaredTwice codes.TooManyLevels codes.TooManyCells codes.TooManyProcedures codes.SegmentTooLong refl refl refl refl
+    refl refl (flat_map unknown_names ss) (flat_map (declared_twice blocks) ss) (deep_blocks blocks ++ flat_map deep_actuals ss) (cells_beyond blocks ss)
+    (procedures_beyond blocks) (long_segments p ss)
+
+checks-of : (p : PProgram) → AreOf checks (check_faults p)
+unfolding check_faults
+checks-of p =
+    let blocks = blocks_of_program p in
+    let ss = sites_of p in
+    six-of checks codes.WrongType codes.WrongCount codes.NotAssignable codes.WriteList codes.LineTooWide codes.BadLabel refl refl refl refl refl refl
+    (flat_map (wrong_types blocks) ss) (flat_map wrong_counts ss) (flat_map (not_assignable blocks) ss) (flat_map bad_lists ss) (flat_map wide_lines ss)
+    (bad_labels ss)
+
+earlier-of : (p : Phase) (f g : Fault) → IsOf p f.code → IsOf p g.code → IsOf p (earlier f g).code
+earlier-of p f g h k = chosen (is_earlier g f)
+  where
+    chosen : (b : Bool) → IsOf p (if b then g else f).code
+    chosen true = k
+    chosen false = h
+
+noted-of : (p : Phase) (g : Fault) (fs : List Fault) (f : Fault) → IsOf p g.code → AreOf p fs → noted_all (Some g) fs ≡ Some f → IsOf p f.code
+noted-of p g [] f h k e = let same : g ≡ f = cc in subst (λ (x : Fault). IsOf p x.code) same h
+noted-of p g (x ∷ fs) f h k e = noted-of p (earlier g x) fs f (earlier-of p g x h k.0) k.1 e
+
+first-of : (p : Phase) (fs : List Fault) (f : Fault) → AreOf p fs → first_fault fs ≡ Some f → IsOf p f.code
+first-of p [] f h e = absurd (let clash : None ≡ Some f = e in cc)
+first-of p (x ∷ fs) f h e = noted-of p x fs f h.0 h.1 e
+
+-- ---- the whole
+
+abbrev told : (bytes : List ℕ) (spot : Spot) (code : Code) (p : Phase) → IsOf p code → RefusedIn (Some p) bytes spot code → RefusedIn (phase_of code) bytes spot code
+told bytes spot code p e r = subst (λ (o : Option Phase). RefusedIn o bytes spot code) (sym e) r
+
+tree-told : (bytes : List ℕ) (fault : Fault) (tokens : List Token) (tree : PProgram) → Lexes bytes tokens → Reads tokens tree →
+    (scoped checked : Option Fault) → first_fault (scope_faults tree) ≡ scoped → first_fault (check_faults tree) ≡ checked →
+    refusal_after scoped checked ≡ Some fault → RefusedIn (phase_of fault.code) bytes fault.spot fault.code
+tree-told bytes fault tokens tree l r (Some f) checked s c e =
+    let first : first_fault (scope_faults tree) ≡ Some fault = s ∙ e in
+    told bytes fault.spot fault.code names (first-of names (scope_faults tree) fault (names-of tree) first)
+    (record { tokens = tokens; tree = tree; lexes = l; reads = r; refused = first })
+tree-told bytes fault tokens tree l r None checked s c e =
+    let first : first_fault (check_faults tree) ≡ Some fault = c ∙ e in
+    told bytes fault.spot fault.code checks (first-of checks (check_faults tree) fault (checks-of tree) first)
+    (record { tokens = tokens; tree = tree; lexes = l; reads = r; scoped = first-none (scope_faults tree) s; refused = first })
+
+first-told : (bytes : List ℕ) (spot : Spot) (code : Code) → First bytes spot code → RefusedIn (phase_of code) bytes spot code
+unfolding tree_refusal
+first-told bytes _ _ (in_text spot code r) =
+    told bytes spot code text (fails-text r.fails) (record { refused = r; none = λ tokens l. not_both l r })
+first-told bytes _ _ (in_grammar spot code tokens l r) =
+    told bytes spot code grammar (grammar-code tokens spot code r)
+    (record { tokens = tokens; lexes = l; refused = r; none = λ tree reads. program_not_refused tokens tree spot code reads r })
+first-told bytes _ _ (in_tree fault tokens tree l r e) =
+    tree-told bytes fault tokens tree l r (first_fault (scope_faults tree)) (first_fault (check_faults tree)) refl refl e
+
+names-first : (bytes : List ℕ) (spot : Spot) (code : Code) → InNames bytes spot code → First bytes spot code
+unfolding tree_refusal
+names-first bytes spot code r =
+    in_tree (record { spot = spot; code = code }) r.tokens r.tree r.lexes r.reads
+    (ap (λ (f : Option Fault). refusal_after f (first_fault (check_faults r.tree))) r.refused)
+
+checks-first : (bytes : List ℕ) (spot : Spot) (code : Code) → InChecks bytes spot code → First bytes spot code
+unfolding tree_refusal
+checks-first bytes spot code r =
+    in_tree (record { spot = spot; code = code }) r.tokens r.tree r.lexes r.reads
+    (ap (λ (fs : List Fault). refusal_after (first_fault fs) (first_fault (check_faults r.tree))) r.scoped ∙ r.refused)
+
+part-first : (p : Option Phase) (bytes : List ℕ) (spot : Spot) (code : Code) → RefusedIn p bytes spot code → First bytes spot code
+part-first (Some text) bytes spot code r = in_text spot code r.refused
+part-first (Some grammar) bytes spot code r = in_grammar spot code r.tokens r.lexes r.refused
+part-first (Some names) bytes spot code r = names-first bytes spot code r
+part-first (Some checks) bytes spot code r = checks-first bytes spot code r
+part-first None bytes spot code r = absurd r
+
+pub parts_told : (bytes : List ℕ) (spot : Spot) (code : Code) →
+    (First bytes spot code → RefusedIn (phase_of code) bytes spot code) × (RefusedIn (phase_of code) bytes spot code → First bytes spot code)
+parts_told bytes spot code = (first-told bytes spot code, part-first (phase_of code) bytes spot code)
+
+pub answers_told : (bytes : List ℕ) (refusal : Refusal) → RefusesFirst bytes refusal → TellsPart bytes refusal
+answers_told bytes (At spot code) r = first-told bytes spot code r
+answers_told bytes NoMemory r = tt

@@ -1,0 +1,143 @@
+-- The surroundings of each part of an accepted tree: which rules of names hold there, and what follows from part to part.
+use Rattle.std.proofs.Common.{◌≡◌, ◌+◌, List, [], ◌∷◌, ◌++◌, Some, refl, sym, ap, ◌∙◌}
+use Rattle.std.specs.List.{AllByRecursion, Contains, flat_map}
+use Rattle.algol_tree.specs.declared.token.Spot.{Spot}
+use Rattle.algol_tree.specs.declared.tree.Heading.{Heading}
+use Rattle.algol_tree.specs.declared.refusal.Code.{Code}
+use Rattle.algol_tree.specs.declared.refusal.Code.TheVariants as codes
+use Rattle.algol_tree.specs.declared.refusal.Fault.{Fault}
+use Rattle.algol_tree.specs.Plain as tree
+use Rattle.algol_tree.specs.Plain.{PDecl, PDecls, PProgram, PStmt}
+use Rattle.algol_tree.specs.Sorts.{Declared}
+use Rattle.algol_tree.specs.Blocks.{Block, blocks_of_program, number_at}
+use Rattle.algol_tree.specs.Surroundings.{Surroundings, inside_procedure, knowing}
+use Rattle.algol_tree.specs.Sites as site
+use Rattle.algol_tree.specs.Sites.{Site, sites_in_decls}
+use Rattle.algol_tree.specs.Cells.{Cell, cells_at}
+use Rattle.algol_tree.specs.Couples.{Known, known_at, known_there}
+use Rattle.algol_tree.specs.Names.{cells_beyond, deep_actuals, deep_blocks, declared_twice, long_segments, procedures_beyond, unknown_names}
+use Rattle.algol_tree.specs.Accepted.{broken, scope_faults, sites_of}
+use Rattle.algol_tree.specs.Ascending.{IsInOrder}
+use Rattle.algol_front_laws.specs.Couples.{cells_in}
+use Rattle.algol_front_laws.proofs.Lists.{IsIn, all-both, all-in, all-weaker, each-of, none-left, none-of, none-right, of-contained}
+use Rattle.algol_front_laws.proofs.Walk.{HoldsAt, all-hold}
+use Rattle.algol_front_laws.proofs.Tidy as tidies
+use Rattle.algol_front_laws.proofs.Tidy.{Tidy}
+use Rattle.algol_front_laws.proofs.Cells as has
+use Rattle.algol_front_laws.proofs.Held as held
+use Rattle.algol_front_laws.proofs.Places.{IsThere, each-there, names_known}
+
+-- ---- what breaks no rule
+
+unbroken : (code : Code) (spots : List Spot) → broken code spots ≡ [] → spots ≡ []
+unbroken code [] h = refl
+unbroken code (s ∷ spots) h = absurd (let clash : record { spot = s; code = code } ∷ broken code spots ≡ [] = h in cc)
+
+-- the first two of six lists, of which nothing comes together
+first-two : (a b c d e f : List Fault) → a ++ b ++ c ++ d ++ e ++ f ≡ [] → (a ≡ []) × (b ≡ [])
+first-two a b c d e f h =
+    let five = none-left (a ++ b ++ c ++ d ++ e) f h in
+    let two = none-left (a ++ b) c (none-left (a ++ b ++ c) d (none-left (a ++ b ++ c ++ d) e five)) in
+    (none-left a b two, none-right a b two)
+
+pub record IsNamed (p : PProgram) : Type 0 where
+  pub known : flat_map unknown_names (sites_of p) ≡ []
+  pub once : flat_map (declared_twice (blocks_of_program p)) (sites_of p) ≡ []
+
+pub named : (p : PProgram) → scope_faults p ≡ [] → IsNamed p
+unfolding scope_faults
+named p h =
+    let blocks = blocks_of_program p in
+    let ss = sites_of p in
+    let two =
+    first-two (broken codes.UnknownName (flat_map unknown_names ss)) (broken codes.DeclaredTwice (flat_map (declared_twice blocks) ss))
+    (broken codes.TooManyLevels (deep_blocks blocks ++ flat_map deep_actuals ss)) (broken codes.TooManyCells (cells_beyond blocks ss))
+    (broken codes.TooManyProcedures (procedures_beyond blocks)) (broken codes.SegmentTooLong (long_segments p ss)) h in
+    record {
+      known = unbroken codes.UnknownName (flat_map unknown_names ss) two.0;
+      once = unbroken codes.DeclaredTwice (flat_map (declared_twice blocks) ss) two.1;
+    }
+
+-- ---- what holds of the surroundings
+
+-- `all`: the cells of the tree, and `stand`: the names that stand in it
+module _ (blocks : List Block) (all : List Cell) (stand : List Known) where
+  pub record IsReady (a : Surroundings) : Type 0 where
+    pub tidy : Tidy a
+    pub cells : has.AllHave blocks all a
+    pub held : held.AllHeld blocks stand a
+
+  -- the rules that a site keeps, with its cells and its names
+  pub record Passes (x : Site) : Type 0 where
+    pub once : declared_twice blocks x ≡ []
+    pub known : unknown_names x ≡ []
+    pub its_cells : AllByRecursion (IsIn all) (cells_at blocks x)
+    pub its_names : AllByRecursion (IsThere stand) (known_at blocks x)
+
+  as-once : (xs : List Site) → AllByRecursion Passes xs → AllByRecursion (tidies.IsOnce blocks) xs
+  as-once xs o = all-weaker Passes (tidies.IsOnce blocks) (λ x p. p.once) xs o
+
+  as-celled : (xs : List Site) → AllByRecursion Passes xs → AllByRecursion (has.Passes blocks all) xs
+  as-celled xs o = all-weaker Passes (has.Passes blocks all) (λ x p. record { its_cells = p.its_cells; known = p.known }) xs o
+
+  as-named : (xs : List Site) → AllByRecursion Passes xs → AllByRecursion (held.Passes blocks stand) xs
+  as-named xs o = all-weaker Passes (held.Passes blocks stand) (λ x p. record { its_names = p.its_names; once = p.once; known = p.known }) xs o
+
+  begins : (spot : Spot) (a : Surroundings) → IsReady a → IsReady (record { block = number_at blocks spot; depth = a.depth + 1; known = a.known })
+  begins spot a r =
+      record { tidy = tidies.begins-at blocks spot a r.tidy; cells = has.begins blocks all spot a r.cells; held = held.begins blocks stand spot a r.held }
+
+  knows : (d : PDecl) (ds : PDecls) (a : Surroundings) (begun : List Declared) → IsReady a → AllByRecursion Passes (sites_in_decls blocks (tree.decls d ds) a begun) →
+      IsReady (knowing blocks d ds a)
+  knows d ds a begun r o =
+      let xs : List Site = sites_in_decls blocks (tree.decls d ds) a begun in
+      record {
+        tidy = tidies.knows-at blocks d ds a begun r.tidy (as-once xs o);
+        cells = has.knows blocks all d ds a begun r.cells (as-celled xs o);
+        held = held.knows blocks stand d ds a begun r.held (as-named xs o);
+      }
+
+  enters : (h : Heading) (s : PStmt) (ds : PDecls) (a : Surroundings) → IsReady (knowing blocks (tree.procedure h s) ds a) →
+      Passes (record { part = site.declaration (tree.procedure h s) ds; around = a }) → IsReady (inside_procedure blocks h (knowing blocks (tree.procedure h s) ds a))
+  enters h s ds a r p =
+      record {
+        tidy = tidies.enters-at blocks h s ds a r.tidy p.once;
+        cells = has.enters blocks all h s ds a r.cells (record { its_cells = p.its_cells; known = p.known });
+        held = held.enters blocks stand h s ds a r.held (record { its_names = p.its_names; once = p.once; known = p.known });
+      }
+
+-- ---- the whole tree
+
+abbrev pub ReadyIn : PProgram → Surroundings → Type 0
+ReadyIn p a = IsReady (blocks_of_program p) (cells_in p) (names_known p) a
+
+abbrev pub PassesIn : PProgram → Site → Type 0
+PassesIn p x = Passes (blocks_of_program p) (cells_in p) (names_known p) x
+
+pub all-pass : (p : PProgram) → scope_faults p ≡ [] → IsInOrder p → AllByRecursion (PassesIn p) (sites_of p)
+all-pass p h o =
+    let blocks = blocks_of_program p in
+    let n = named p h in
+    all-both (λ (x : Site). (declared_twice blocks x ≡ []) × (unknown_names x ≡ []))
+    (λ (x : Site). AllByRecursion (IsIn (cells_in p)) (cells_at blocks x) × AllByRecursion (IsThere (names_known p)) (known_at blocks x)) (PassesIn p)
+    (λ x r i. record { once = r.0; known = r.1; its_cells = i.0; its_names = i.1 }) (sites_of p)
+    (all-both (λ (x : Site). declared_twice blocks x ≡ []) (λ (x : Site). unknown_names x ≡ []) (λ (x : Site). (declared_twice blocks x ≡ []) × (unknown_names x ≡ []))
+    (λ x d u. (d, u)) (sites_of p) (none-of (declared_twice blocks) (sites_of p) n.once) (none-of unknown_names (sites_of p) n.known))
+    (all-both (λ (x : Site). AllByRecursion (IsIn (cells_in p)) (cells_at blocks x)) (λ (x : Site). AllByRecursion (IsThere (names_known p)) (known_at blocks x))
+    (λ (x : Site). AllByRecursion (IsIn (cells_in p)) (cells_at blocks x) × AllByRecursion (IsThere (names_known p)) (known_at blocks x)) (λ x c k. (c, k))
+    (sites_of p) (each-of (IsIn (cells_in p)) (cells_at blocks) (sites_of p) (all-in (cells_in p)))
+    (each-of (IsThere (names_known p)) (known_at blocks) (sites_of p) (each-there p o)))
+
+pub all-ready : (p : PProgram) → scope_faults p ≡ [] → IsInOrder p → AllByRecursion (HoldsAt (blocks_of_program p) (ReadyIn p)) (sites_of p)
+all-ready p h o =
+    let blocks = blocks_of_program p in
+    all-hold blocks (ReadyIn p) (PassesIn p) (begins blocks (cells_in p) (names_known p)) (knows blocks (cells_in p) (names_known p))
+    (enters blocks (cells_in p) (names_known p)) p (record { tidy = record { within = tt; tidied = tt }; cells = tt; held = tt }) (all-pass p h o)
+
+-- two that are known at a place, and stand at one, are one
+pub one-there : (p : PProgram) (a : Surroundings) → ReadyIn p a → (d e : Declared) → Contains a.known d → Contains a.known e → d.spot ≡ e.spot → d ≡ e
+one-there p a r d e c k same =
+    let first : known_there (names_known p) d.spot ≡ Some d = of-contained (held.IsHeld (blocks_of_program p) (names_known p)) a.known d r.held c in
+    let second : known_there (names_known p) e.spot ≡ Some e = of-contained (held.IsHeld (blocks_of_program p) (names_known p)) a.known e r.held k in
+    let both : Some d ≡ Some e = sym first ∙ ap (known_there (names_known p)) same ∙ second in
+    cc

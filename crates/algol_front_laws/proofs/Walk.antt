@@ -1,0 +1,243 @@
+-- What holds of the surroundings of each part of a tree: what holds where the program begins, and stays so from part to part.
+use Rattle.std.proofs.Common.{◌+◌, Bool, true, false, List, [], ◌∷◌, ◌++◌, Option}
+use Rattle.std.specs.List.{AllByRecursion}
+use Rattle.algol_tree.specs.declared.token.Spot.{Spot}
+use Rattle.algol_tree.specs.declared.tree.Named.{Named}
+use Rattle.algol_tree.specs.declared.tree.Heading.{Heading}
+use Rattle.algol_tree.specs.Plain as tree
+use Rattle.algol_tree.specs.Plain.{PExpr, PExprs, PPair, PStmt, PStmts, PDecl, PDecls, PBody, PProgram}
+use Rattle.algol_tree.specs.Classes.{Formal}
+use Rattle.algol_tree.specs.Sorts.{Declared}
+use Rattle.algol_tree.specs.Blocks.{Block, Begin, of_statement, of_procedure, number_at}
+use Rattle.algol_tree.specs.Surroundings.{Surroundings, formals_at, inside_begin, inside_procedure, knowing, knowing_all, outermost}
+use Rattle.algol_tree.specs.Sites as site
+use Rattle.algol_tree.specs.Sites.{Part, Site, actual_part, first_formal, here, name_part, wants_value, sites, inside_expr, inside_list, inside_actuals, sites_in_pairs, other_formals, here_stmt, inside_stmt, inside_decl, sites_in_stmts, sites_in_decls, sites_in_body, sites_by, has_decls}
+use Rattle.algol_front_laws.proofs.Lists.{all-append, all-left, all-right}
+
+module _ (blocks : List Block) (Holds : Surroundings → Type 0) where
+  -- it holds behind a declaration too, and inside a procedure
+  abbrev pub Behind : Part → Surroundings → Type 0
+  Behind (site.declaration (tree.procedure h s) ds) a =
+      Holds (knowing blocks (tree.procedure h s) ds a) × Holds (inside_procedure blocks h (knowing blocks (tree.procedure h s) ds a))
+  Behind (site.declaration d ds) a = Holds (knowing blocks d ds a)
+  Behind _ a = Unit {0}
+
+  pub record HoldsAt (x : Site) : Type 0 where
+    pub around : Holds x.around
+    pub behind : Behind x.part x.around
+
+-- `begins`, `knows` and `enters`: it stays so where a block begins, behind a declaration, and inside a procedure, wherever the sites pass
+-- this test. `begun` is what was known where the block began, and `a` the place before a declaration.
+module _ (blocks : List Block) (Holds : Surroundings → Type 0) (Passes : Site → Type 0)
+    (begins : (spot : Spot) (a : Surroundings) → Holds a → Holds (record { block = number_at blocks spot; depth = a.depth + 1; known = a.known }))
+    (knows : (d : PDecl) (ds : PDecls) (a : Surroundings) (begun : List Declared) → Holds a →
+    AllByRecursion Passes (sites_in_decls blocks (tree.decls d ds) a begun) → Holds (knowing blocks d ds a))
+    (enters : (h : Heading) (s : PStmt) (ds : PDecls) (a : Surroundings) → Holds (knowing blocks (tree.procedure h s) ds a) →
+    Passes (record { part = site.declaration (tree.procedure h s) ds; around = a }) →
+    Holds (inside_procedure blocks h (knowing blocks (tree.procedure h s) ds a)))
+  where
+    abbrev pub Each : List Site → Type 0
+    Each xs = AllByRecursion (HoldsAt blocks Holds) xs
+
+    each : (xs ys : List Site) → Each xs → Each ys → Each (xs ++ ys)
+    each xs ys h k = all-append (HoldsAt blocks Holds) xs ys h k
+
+    -- ---- expressions
+
+    module _ (a : Surroundings) (t : Holds a) where
+      of-name : (n : Named) (value : Bool) → Behind blocks Holds (name_part n value) a
+      of-name n true = tt
+      of-name n false = tt
+
+      of-actual : (e : PExpr) (f : Option Formal) → Behind blocks Holds (actual_part e f) a
+      of-actual (tree.variable (tree.subscripted n tree.none)) f = of-name n (wants_value f)
+      of-actual (tree.variable (tree.subscripted n (tree.more e es))) f = tt
+      of-actual (tree.number z spot) f = tt
+      of-actual (tree.truth z spot) f = tt
+      of-actual (tree.call c) f = tt
+      of-actual (tree.happened e spot) f = tt
+      of-actual (tree.paren e spot) f = tt
+      of-actual (tree.plus e spot) f = tt
+      of-actual (tree.neg e spot) f = tt
+      of-actual (tree.not e spot) f = tt
+      of-actual (tree.two op x y) f = tt
+      of-actual (tree.if c x y spot) f = tt
+
+      here-expr : (e : PExpr) → HoldsAt blocks Holds (here e a)
+      here-expr e = record { around = t; behind = tt }
+
+      at-stmt : (s : PStmt) (listed : Bool) → HoldsAt blocks Holds (here_stmt s listed a)
+      at-stmt s listed = record { around = t; behind = tt }
+
+      mutual
+        in-expr : (e : PExpr) → Each (inside_expr e a)
+        in-expr (tree.number z spot) = tt
+        in-expr (tree.truth z spot) = tt
+        in-expr (tree.variable (tree.subscripted n es)) = in-list es
+        in-expr (tree.call (tree.called n es)) = in-actuals es (formals_at a n)
+        in-expr (tree.happened e spot) = tt
+        in-expr (tree.paren e spot) = (here-expr e, in-expr e)
+        in-expr (tree.plus e spot) = (here-expr e, in-expr e)
+        in-expr (tree.neg e spot) = (here-expr e, in-expr e)
+        in-expr (tree.not e spot) = (here-expr e, in-expr e)
+        in-expr (tree.two op x y) = each (sites x a) (sites y a) (here-expr x, in-expr x) (here-expr y, in-expr y)
+        in-expr (tree.if c x y spot) =
+            each (sites c a ++ sites x a) (sites y a) (each (sites c a) (sites x a) (here-expr c, in-expr c) (here-expr x, in-expr x)) (here-expr y, in-expr y)
+
+        in-list : (es : PExprs) → Each (inside_list es a)
+        in-list tree.none = tt
+        in-list (tree.more e es) = each (sites e a) (inside_list es a) (here-expr e, in-expr e) (in-list es)
+
+        in-actuals : (es : PExprs) (fs : List Formal) → Each (inside_actuals es fs a)
+        in-actuals tree.none fs = tt
+        in-actuals (tree.more e es) fs = (
+          record { around = t; behind = tt },
+          (record { around = t; behind = of-actual e (first_formal fs) }, each (inside_expr e a) (inside_actuals es (other_formals fs) a) (in-expr e) (in-actuals es (other_formals fs))),
+        )
+
+      in-sites : (e : PExpr) → Each (sites e a)
+      in-sites e = (here-expr e, in-expr e)
+
+      in-pairs : (ps : List PPair) → Each (sites_in_pairs ps a)
+      in-pairs [] = tt
+      in-pairs (p ∷ ps) = (record { around = t; behind = tt }, each (sites p.high a) (sites_in_pairs ps a) (in-sites p.high) (in-pairs ps))
+
+    -- ---- statements and declarations
+
+    abbrev AllPass : List Site → Type 0
+    AllPass xs = AllByRecursion Passes xs
+
+    first : (xs ys : List Site) → AllPass (xs ++ ys) → AllPass xs
+    first xs ys o = all-left Passes xs ys o
+
+    last : (xs ys : List Site) → AllPass (xs ++ ys) → AllPass ys
+    last xs ys o = all-right Passes xs ys o
+
+    -- the place after all declarations
+    knows-all : (ds : PDecls) (a : Surroundings) (begun : List Declared) → Holds a → AllPass (sites_in_decls blocks ds a begun) → Holds (knowing_all blocks ds a)
+    knows-all tree.no_decls a begun t o = t
+    knows-all (tree.decls d ds) a begun t o =
+        knows-all ds (knowing blocks d ds a) begun (knows d ds a begun t o)
+        (last (inside_decl blocks d (knowing blocks d ds a) begun) (sites_in_decls blocks ds (knowing blocks d ds a) begun) o.1)
+
+    behind-of : (d : PDecl) (ds : PDecls) (a : Surroundings) → Holds (knowing blocks d ds a) → Passes (record { part = site.declaration d ds; around = a }) →
+        Behind blocks Holds (site.declaration d ds) a
+    behind-of (tree.simple kind ns) ds a n h = n
+    behind-of (tree.files ns) ds a n h = n
+    behind-of (tree.events ns) ds a n h = n
+    behind-of (tree.tasks ns) ds a n h = n
+    behind-of (tree.labels ns) ds a n h = n
+    behind-of (tree.arrays kind ns pairs) ds a n h = n
+    behind-of (tree.forward g) ds a n h = n
+    behind-of (tree.procedure g s) ds a n h = (n, enters g s ds a n h)
+
+    one-declaration : (d : PDecl) (ds : PDecls) (a : Surroundings) (begun : List Declared) → Holds a → Holds (knowing blocks d ds a) →
+        Passes (record { part = site.declaration d ds; around = a }) → Each (inside_decl blocks d (knowing blocks d ds a) begun) →
+        Each (sites_in_decls blocks ds (knowing blocks d ds a) begun) → Each (sites_in_decls blocks (tree.decls d ds) a begun)
+    one-declaration d ds a begun t n p h k = (
+      record { around = t; behind = behind-of d ds a n p },
+      each (inside_decl blocks d (knowing blocks d ds a) begun) (sites_in_decls blocks ds (knowing blocks d ds a) begun) h k,
+    )
+
+    mutual
+      in-stmt : (s : PStmt) (begin : Begin) (listed : Bool) (a : Surroundings) → Holds a → AllPass (inside_stmt blocks s begin listed a) →
+          Each (inside_stmt blocks s begin listed a)
+      in-stmt tree.empty begin listed a t o = tt
+      in-stmt (tree.label n s) begin listed a t o = (at-stmt a t s listed, in-stmt s of_statement listed a t o.1)
+      in-stmt (tree.assign (tree.subscripted n es) x) begin listed a t o = each (inside_list es a) (sites x a) (in-list a t es) (in-sites a t x)
+      in-stmt (tree.call_of (tree.called n es)) begin listed a t o = in-actuals a t es (formals_at a n)
+      in-stmt (tree.go_to n) begin listed a t o = tt
+      in-stmt (tree.block b) of_statement listed a t o = in-begin b a t o
+      in-stmt (tree.block b) of_procedure listed a t o = in-body b a t o
+      in-stmt (tree.if_then c x) begin listed a t o =
+          let xs : List Site = here_stmt x false a ∷ inside_stmt blocks x of_statement false a in
+          each (sites c a) xs (in-sites a t c) (at-stmt a t x false, in-stmt x of_statement false a t (last (sites c a) xs o).1)
+      in-stmt (tree.if_else c x y) begin listed a t o =
+          let xs : List Site = here_stmt x false a ∷ inside_stmt blocks x of_statement false a in
+          let ys : List Site = here_stmt y false a ∷ inside_stmt blocks y of_statement false a in
+          each (sites c a ++ xs) ys
+          (each (sites c a) xs (in-sites a t c) (at-stmt a t x false, in-stmt x of_statement false a t (last (sites c a) xs (first (sites c a ++ xs) ys o)).1))
+          (at-stmt a t y false, in-stmt y of_statement false a t (last (sites c a ++ xs) ys o).1)
+      in-stmt (tree.while c b) begin listed a t o =
+          let xs : List Site = here_stmt b false a ∷ inside_stmt blocks b of_statement false a in
+          each (sites c a) xs (in-sites a t c) (at-stmt a t b false, in-stmt b of_statement false a t (last (sites c a) xs o).1)
+      in-stmt (tree.until b c) begin listed a t o =
+          let xs : List Site = here_stmt b false a ∷ inside_stmt blocks b of_statement false a in
+          each xs (sites c a) (at-stmt a t b false, in-stmt b of_statement false a t (first xs (sites c a) o).1) (in-sites a t c)
+      in-stmt (tree.for v x y z b) begin listed a t o =
+          let es : List Site = (sites x a ++ sites y a) ++ sites z a in
+          let xs : List Site = here_stmt b false a ∷ inside_stmt blocks b of_statement false a in
+          each es xs
+          (each (sites x a ++ sites y a) (sites z a) (each (sites x a) (sites y a) (in-sites a t x) (in-sites a t y)) (in-sites a t z))
+          (at-stmt a t b false, in-stmt b of_statement false a t (last es xs o).1)
+      in-stmt (tree.thru x b) begin listed a t o =
+          let xs : List Site = here_stmt b false a ∷ inside_stmt blocks b of_statement false a in
+          each (sites x a) xs (in-sites a t x) (at-stmt a t b false, in-stmt b of_statement false a t (last (sites x a) xs o).1)
+      in-stmt (tree.case x ss) begin listed a t o =
+          each (sites x a) (sites_in_stmts blocks ss false a) (in-sites a t x)
+          (in-stmts ss false a t (last (sites x a) (sites_in_stmts blocks ss false a) o))
+      in-stmt (tree.process (tree.called n es) task) begin listed a t o = in-actuals a t es (formals_at a n)
+      in-stmt (tree.event act x) begin listed a t o = tt
+      in-stmt (tree.write n spot phrases es) begin listed a t o = in-list a t es
+
+      in-begin : (b : PBody) (a : Surroundings) → Holds a → AllPass (sites_in_body blocks b (inside_begin blocks b a)) →
+          Each (sites_in_body blocks b (inside_begin blocks b a))
+      in-begin (tree.body spot tree.no_decls ss) a t o = in-stmts ss false a t o
+      in-begin (tree.body spot (tree.decls d ds) ss) a t o =
+          let c : Surroundings = record { block = number_at blocks spot; depth = a.depth + 1; known = a.known } in
+          let tc : Holds c = begins spot a t in
+          let xs : List Site = sites_in_decls blocks (tree.decls d ds) c c.known in
+          let k : Surroundings = knowing_all blocks (tree.decls d ds) c in
+          let ys : List Site = sites_in_stmts blocks ss true k in
+          let os : AllPass xs = first xs ys o in
+          let n : Surroundings = knowing blocks d ds c in
+          let tn : Holds n = knows d ds c c.known tc os in
+          let inner : List Site = inside_decl blocks d n c.known in
+          let more : List Site = sites_in_decls blocks ds n c.known in
+          each xs ys
+          (one-declaration d ds c c.known tc tn os.0 (in-decl d ds c c.known tn tc os.0 (first inner more os.1)) (in-decls ds n c.known tn tc (last inner more os.1)))
+          (in-stmts ss true k (knows-all (tree.decls d ds) c c.known tc os) (last xs ys o))
+
+      in-body : (b : PBody) (a : Surroundings) → Holds a → AllPass (sites_in_body blocks b a) → Each (sites_in_body blocks b a)
+      in-body (tree.body spot ds ss) a t o =
+          let xs : List Site = sites_in_decls blocks ds a a.known in
+          let k : Surroundings = knowing_all blocks ds a in
+          let ys : List Site = sites_in_stmts blocks ss (has_decls ds) k in
+          each xs ys (in-decls ds a a.known t t (first xs ys o)) (in-stmts ss (has_decls ds) k (knows-all ds a a.known t (first xs ys o)) (last xs ys o))
+
+      in-stmts : (ss : PStmts) (listed : Bool) (a : Surroundings) → Holds a → AllPass (sites_in_stmts blocks ss listed a) → Each (sites_in_stmts blocks ss listed a)
+      in-stmts tree.no_stmts listed a t o = tt
+      in-stmts (tree.stmts s ss) listed a t o =
+          let xs : List Site = inside_stmt blocks s of_statement listed a in
+          let ys : List Site = sites_in_stmts blocks ss listed a in
+          (at-stmt a t s listed, each xs ys (in-stmt s of_statement listed a t (first xs ys o.1)) (in-stmts ss listed a t (last xs ys o.1)))
+
+      in-decls : (ds : PDecls) (a : Surroundings) (begun : List Declared) → Holds a → Holds (record a { known = begun }) → AllPass (sites_in_decls blocks ds a begun) →
+          Each (sites_in_decls blocks ds a begun)
+      in-decls tree.no_decls a begun t u o = tt
+      in-decls (tree.decls d ds) a begun t u o =
+          let n : Surroundings = knowing blocks d ds a in
+          let tn : Holds n = knows d ds a begun t o in
+          let inner : List Site = inside_decl blocks d n begun in
+          let more : List Site = sites_in_decls blocks ds n begun in
+          one-declaration d ds a begun t tn o.0 (in-decl d ds a begun tn u o.0 (first inner more o.1)) (in-decls ds n begun tn u (last inner more o.1))
+
+      in-decl : (d : PDecl) (ds : PDecls) (a : Surroundings) (begun : List Declared) → Holds (knowing blocks d ds a) → Holds (record a { known = begun }) →
+          Passes (record { part = site.declaration d ds; around = a }) → AllPass (inside_decl blocks d (knowing blocks d ds a) begun) →
+          Each (inside_decl blocks d (knowing blocks d ds a) begun)
+      in-decl (tree.simple kind ns) ds a begun t u h o = tt
+      in-decl (tree.files ns) ds a begun t u h o = tt
+      in-decl (tree.events ns) ds a begun t u h o = tt
+      in-decl (tree.tasks ns) ds a begun t u h o = tt
+      in-decl (tree.labels ns) ds a begun t u h o = tt
+      in-decl (tree.arrays kind ns pairs) ds a begun t u h o = in-pairs (record a { known = begun }) u pairs
+      in-decl (tree.forward g) ds a begun t u h o = tt
+      in-decl (tree.procedure g s) ds a begun t u h o =
+          let inner : Surroundings = inside_procedure blocks g (knowing blocks (tree.procedure g s) ds a) in
+          let ti : Holds inner = enters g s ds a t h in
+          (at-stmt inner ti s false, in-stmt s of_procedure false inner ti o.1)
+
+    -- ---- the whole program
+
+    pub all-hold : (p : PProgram) → Holds outermost → AllPass (sites_by p blocks) → Each (sites_by p blocks)
+    all-hold (tree.program b) t o = in-body b outermost t o

@@ -1,0 +1,4 @@
+pub mod Phases
+pub mod Declarations
+pub mod Uses
+pub mod Couples
