@@ -1,0 +1,188 @@
+-- What is read back from lines of operators and of heads.
+use Rattle.std.proofs.Common.{◌≡◌, ℕ, zero, suc, ◌+◌, ◌-◌, ◌*◌, ◌/◌, ◌%◌, ◌^◌, ◌<◌, ◌≤◌, ltb, leb, ◌&&◌, cond, Bool, true, false, Option, Some, None, List, [], ◌∷◌, ◌++◌, length, get_or, drop, map, codes, replicate, refl, sym, ap, subst, arith, ◌∙◌, append_assoc, length-append}
+use Rattle.std.specs.Int.{w16, to_be_bytes, bytes_high_first}
+use Rattle.std.specs.Fmt.{decimal, digit_glyph}
+use Rattle.std.specs.List.{flat_map}
+use Rattle.std.proofs.lemmas.Bool.{cond-true, cond-false, lt-ltb, le-ltb, le-leb, ltb-true, ltb-false}
+use Rattle.std.proofs.lemmas.List.{append-nil}
+use Rattle.b67_ops.specs.declared.TheConstants.{OUTER_LEVEL, MOST_LEVEL}
+use Rattle.b67_ops.specs.declared.Operator.{Operator}
+use Rattle.b67_ops.specs.declared.Operator.TheVariants.{Valc, Namc, Lt8, Lt16, Lt48, Mpcw, Branch, Plain}
+use Rattle.b67_ops.specs.declared.BranchKind.{BranchKind}
+use Rattle.b67_ops.specs.declared.BranchKind.TheVariants as branches
+use Rattle.b67_ops.specs.declared.PlainKind.{PlainKind}
+use Rattle.b67_ops.specs.declared.PlainKind.TheVariants as plains
+use Rattle.b67_ops.specs.declared.table.OperatorKind.{OperatorKind}
+use Rattle.b67_ops.specs.declared.table.OperatorKind.TheVariants as kinds
+use Rattle.b67_ops.specs.Codes.{code_of}
+use Rattle.b67_ops.specs.Spelling.{spelling, Fits, filling, HasSpelling}
+use Rattle.b67_ops.proofs.Laws.{length-spelling, spelling-prefix, HasSpelling-from_fits}
+use Rattle.b67_ops.proofs.Reading.{IsBytes}
+use Rattle.b67_listing.specs.Digits.{last_digits, hexadecimal}
+use Rattle.b67_listing.specs.Operators.{Placed, operator_line, operator_text}
+use Rattle.b67_listing.specs.Listings.{segment_line}
+use Rattle.b67_listing_reader.specs.Reading.{CanStand, width, AreInOrder, two_digits, level_part, hex_value, syllables_in}
+use Rattle.b67_listing_reader.proofs.Orders.{spelled, code_text}
+
+-- bytes, one by one
+pub data AreBytes : List ℕ → Type 0 where
+  no_bytes : AreBytes []
+  more_bytes : (b : ℕ) (bs : List ℕ) → b < 256 → AreBytes bs → AreBytes (b ∷ bs)
+
+AreBytes-append : (xs ys : List ℕ) → AreBytes xs → AreBytes ys → AreBytes (xs ++ ys)
+AreBytes-append _ ys no_bytes q = q
+AreBytes-append _ ys (more_bytes b bs h p) q = more_bytes b (bs ++ ys) h (AreBytes-append bs ys p q)
+
+zeros-bytes : (count : ℕ) → AreBytes (replicate count 0)
+zeros-bytes zero = no_bytes
+zeros-bytes (suc count) = more_bytes 0 (replicate count 0) (omega arith) (zeros-bytes count)
+
+one : (a : ℕ) → a < 256 → AreBytes (a ∷ [])
+one a p = more_bytes a [] p no_bytes
+
+two : (a b : ℕ) → a < 256 → b < 256 → AreBytes (a ∷ b ∷ [])
+two a b p q = more_bytes a (b ∷ []) p (one b q)
+
+code-byte : (kind : OperatorKind) → code_of kind < 256
+unfolding code_of
+code-byte kinds.Valc = omega arith
+code-byte kinds.Namc = omega arith
+code-byte kinds.Lt8 = omega arith
+code-byte kinds.Lt16 = omega arith
+code-byte kinds.Lt48 = omega arith
+code-byte kinds.Mpcw = omega arith
+code-byte (kinds.Branch branches.Brfl) = omega arith
+code-byte (kinds.Branch kind) = omega arith
+code-byte (kinds.Plain plains.Add) = omega arith
+code-byte (kinds.Plain kind) = omega arith
+
+two-bytes : (n : ℕ) → AreBytes (to_be_bytes w16 n)
+two-bytes n = more_bytes _ _ (omega arith) (more_bytes _ _ (omega arith) no_bytes)
+
+six-bytes : (n : ℕ) → AreBytes (bytes_high_first 6 n)
+six-bytes n =
+    more_bytes _ _ (omega arith) (more_bytes _ _ (omega arith) (more_bytes _ _ (omega arith) (more_bytes _ _ (omega arith) (more_bytes _ _ (omega arith) (more_bytes _ _ (omega arith) no_bytes)))))
+
+word-spelled : (at code n : ℕ) → code < 256 → AreBytes (code ∷ (replicate (filling at) 0 ++ bytes_high_first 6 n))
+word-spelled at code n p = more_bytes code _ p (AreBytes-append (replicate (filling at) 0) (bytes_high_first 6 n) (zeros-bytes (filling at)) (six-bytes n))
+
+-- the syllables of an operator that fits are bytes
+pub spelling-bytes : (at level : ℕ) (op : Operator) → Fits level op → AreBytes (spelling at level op)
+spelling-bytes at level (Valc couple) fits = two-bytes _
+spelling-bytes at level (Namc couple) fits = two-bytes _
+spelling-bytes at level (Lt8 n) fits = two (code_of kinds.Lt8) n (code-byte kinds.Lt8) fits
+spelling-bytes at level (Lt16 n) fits = more_bytes (code_of kinds.Lt16) _ (code-byte kinds.Lt16) (two-bytes n)
+spelling-bytes at level (Lt48 n) fits = word-spelled at (code_of kinds.Lt48) n (code-byte kinds.Lt48)
+spelling-bytes at level (Mpcw n) fits = word-spelled at (code_of kinds.Mpcw) n (code-byte kinds.Mpcw)
+spelling-bytes at level (Branch kind place) fits = more_bytes (code_of (kinds.Branch kind)) _ (code-byte (kinds.Branch kind)) (two-bytes place)
+spelling-bytes at level (Plain kind) fits = one (code_of (kinds.Plain kind)) (code-byte (kinds.Plain kind))
+
+-- and so are those of operators in order
+pub code-bytes : (at : ℕ) (ps : List Placed) (end : ℕ) → AreInOrder at ps end → AreBytes (code_text ps)
+code-bytes at [] end h = no_bytes
+code-bytes at (p ∷ ps) end h = AreBytes-append (spelled p) (code_text ps) (spelling-bytes p.place p.level p.operator h.0.fits) (code-bytes (at + width p) ps end h.1)
+
+pub IsBytes-from : (bytes : List ℕ) → AreBytes bytes → IsBytes bytes
+IsBytes-from _ no_bytes i = omega arith
+IsBytes-from _ (more_bytes b bs h are) zero = h
+IsBytes-from _ (more_bytes b bs h are) (suc i) = IsBytes-from bs are i
+
+-- digits
+glyph-decimal : (d : ℕ) → d < 10 → digit_glyph true d ≡ 48 + d
+glyph-decimal d h = cond-true (ltb d 10) (48 + d) (55 + d) (lt-ltb d 10 h)
+
+glyph-letter : (d : ℕ) → 10 ≤ d → digit_glyph true d ≡ 55 + d
+glyph-letter d h = cond-false (ltb d 10) (48 + d) (55 + d) (le-ltb d 10 h)
+
+hex-low : (b : ℕ) → 48 ≤ b → b < 58 → hex_value b ≡ b - 48
+hex-low b p q = cond-false (ltb b 48) 16 _ (le-ltb b 48 p) ∙ cond-true (ltb b 58) (b - 48) _ (lt-ltb b 58 q)
+
+hex-high : (b : ℕ) → 65 ≤ b → b < 71 → hex_value b ≡ b - 55
+hex-high b p q =
+    cond-false (ltb b 48) 16 _ (le-ltb b 48 (omega arith)) ∙ cond-false (ltb b 58) (b - 48) _ (le-ltb b 58 (omega arith))
+    ∙ cond-false (ltb b 65) 16 _ (le-ltb b 65 p) ∙ cond-true (ltb b 71) (b - 55) 16 (lt-ltb b 71 q)
+
+hex-by : (d : ℕ) (b : Bool) → ltb d 10 ≡ b → d < 16 → hex_value (digit_glyph true d) ≡ d
+hex-by d true e h =
+    let small = ltb-true d 10 e in
+    ap hex_value (glyph-decimal d small) ∙ hex-low (48 + d) (omega arith) (omega arith) ∙ omega arith
+hex-by d false e h =
+    let large = ltb-false d 10 e in
+    ap hex_value (glyph-letter d large) ∙ hex-high (55 + d) (omega arith) (omega arith) ∙ omega arith
+
+hex-glyph : (d : ℕ) → d < 16 → hex_value (digit_glyph true d) ≡ d
+hex-glyph d h = hex-by d (ltb d 10) refl h
+
+pair : (high low : ℕ) (most : ℕ) (rest : List ℕ) → hex_value high < 16 → hex_value low < 16 →
+    syllables_in (suc most) (high ∷ low ∷ rest) ≡ (16 * hex_value high + hex_value low) ∷ syllables_in most rest
+pair high low most rest p q =
+    let both : (ltb (hex_value high) 16 && ltb (hex_value low) 16) ≡ true =
+    ap (λ b. b && ltb (hex_value low) 16) (lt-ltb (hex_value high) 16 p) ∙ lt-ltb (hex_value low) 16 q in
+    cond-true (ltb (hex_value high) 16 && ltb (hex_value low) 16) ((16 * hex_value high + hex_value low) ∷ syllables_in most rest) [] both
+
+-- the syllables before a blank
+blank_first : (most : ℕ) (rest : List ℕ) → syllables_in most (32 ∷ rest) ≡ []
+blank_first zero rest = refl
+blank_first (suc most) [] = refl
+blank_first (suc most) (r ∷ rest) = refl
+
+pub syllables_back : (most : ℕ) (bytes rest : List ℕ) → AreBytes bytes → length bytes ≤ most → syllables_in most (hexadecimal bytes ++ 32 ∷ rest) ≡ bytes
+syllables_back most _ rest no_bytes long = blank_first most rest
+syllables_back zero _ rest (more_bytes b bs small are) long = absurd (omega arith)
+syllables_back (suc most) _ rest (more_bytes b bs small are) long =
+    let high = digit_glyph true (b / 16 % 16) in
+    let low = digit_glyph true (b % 16) in
+    let h : hex_value high ≡ b / 16 % 16 = hex-glyph (b / 16 % 16) (omega arith) in
+    let l : hex_value low ≡ b % 16 = hex-glyph (b % 16) (omega arith) in
+    let value : 16 * hex_value high + hex_value low ≡ b = omega arith in
+    pair high low most (hexadecimal bs ++ 32 ∷ rest) (omega arith) (omega arith)
+    ∙ ap (λ v. v ∷ syllables_in most (hexadecimal bs ++ 32 ∷ rest)) value
+    ∙ ap (λ xs. b ∷ xs) (syllables_back most bs rest are (omega arith))
+
+-- what stands behind the level in the line of an operator
+abbrev pub line_tail : Placed → List ℕ
+line_tail p = hexadecimal (spelled p) ++ 32 ∷ operator_text p.operator
+
+in_range : (n : ℕ) (rest : List ℕ) → OUTER_LEVEL ≤ n → n ≤ MOST_LEVEL →
+    ◌≡◌ {A = Option (ℕ × List ℕ)} (cond (leb OUTER_LEVEL n && leb n MOST_LEVEL) (Some (n, rest)) None) (Some (n, rest))
+in_range n rest p q =
+    let both : (leb OUTER_LEVEL n && leb n MOST_LEVEL) ≡ true =
+    ap (λ b. b && leb n MOST_LEVEL) (le-leb OUTER_LEVEL n p) ∙ le-leb n MOST_LEVEL q in
+    cond-true (leb OUTER_LEVEL n && leb n MOST_LEVEL) (Some (n, rest)) None both
+
+digits_level : (level : ℕ) → level ≤ MOST_LEVEL → two_digits (digit_glyph true (level / 10 % 10)) (digit_glyph true (level % 10)) ≡ level
+digits_level level q =
+    let tens : digit_glyph true (level / 10 % 10) ≡ 48 + level / 10 % 10 = glyph-decimal (level / 10 % 10) (omega arith) in
+    let units : digit_glyph true (level % 10) ≡ 48 + level % 10 = glyph-decimal (level % 10) (omega arith) in
+    omega arith
+
+-- the level is read from the line of an operator
+pub level_back : (p : Placed) → OUTER_LEVEL ≤ p.level → p.level ≤ MOST_LEVEL → level_part (operator_line p) ≡ Some (p.level, line_tail p)
+level_back p least most =
+    let tens = digit_glyph true (p.level / 10 % 10) in
+    let units = digit_glyph true (p.level % 10) in
+    ap (λ t. cond (leb OUTER_LEVEL (two_digits tens units) && leb (two_digits tens units) MOST_LEVEL) (Some (two_digits tens units, t)) None)
+    (append_assoc (hexadecimal (spelled p)) (codes " ") (operator_text p.operator))
+    ∙ ap (λ n. cond (leb OUTER_LEVEL n && leb n MOST_LEVEL) (Some (n, line_tail p)) None) (digits_level p.level most) ∙ in_range p.level (line_tail p) least most
+
+pub text_back : (p : Placed) → Fits p.level p.operator → syllables_in 12 (line_tail p) ≡ spelled p
+text_back p fits = syllables_back 12 (spelled p) (operator_text p.operator) (spelling-bytes p.place p.level p.operator fits) (length-spelling p.place p.level p.operator).1
+
+-- two operators at a place have different lines
+pub one_operator : (at : ℕ) (p q : Placed) → CanStand at p → CanStand at q → operator_line p ≡ operator_line q → p ≡ q
+one_operator at p q a b e =
+    let lines : ◌≡◌ {A = Option (ℕ × List ℕ)} (Some (p.level, line_tail p)) (Some (q.level, line_tail q)) = sym (level_back p a.least a.most) ∙ ap level_part e ∙ level_back q b.least b.most in
+    let pairs : ◌≡◌ {A = ℕ × List ℕ} (p.level, line_tail p) (q.level, line_tail q) = cc in
+    let levels : p.level ≡ q.level = ap (λ (x : ℕ × List ℕ). x.0) pairs in
+    let tails : line_tail p ≡ line_tail q = ap (λ (x : ℕ × List ℕ). x.1) pairs in
+    let texts : spelled p ≡ spelled q = sym (text_back p a.fits) ∙ ap (syllables_in 12) tails ∙ text_back q b.fits in
+    let places : p.place ≡ q.place = a.place_is ∙ sym b.place_is in
+    let here : spelling p.place p.level p.operator ≡ spelling p.place p.level q.operator =
+    texts ∙ ap (λ k. spelling k q.level q.operator) (sym places) ∙ ap (λ l. spelling p.place l q.operator) (sym levels) in
+    let fits : Fits p.level q.operator = subst (λ l. Fits l q.operator) (sym levels) b.fits in
+    let ops : p.operator ≡ q.operator =
+    spelling-prefix p.place p.level p.operator q.operator [] [] (HasSpelling-from_fits p.level p.operator a.most a.fits) (HasSpelling-from_fits p.level q.operator a.most fits)
+    (ap (λ xs. xs ++ []) here) in
+    ap (λ k. let r : Placed = record { place = k; level = p.level; operator = p.operator } in r) places
+    ∙ ap (λ l. let r : Placed = record { place = q.place; level = l; operator = p.operator } in r) levels
+    ∙ ap (λ o. let r : Placed = record { place = q.place; level = q.level; operator = o } in r) ops
