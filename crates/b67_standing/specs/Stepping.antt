@@ -63,9 +63,9 @@ module _ (sc : Scopes) (formats : List Format) (ps : List Placed) (level most : 
         Step pc (operand (number z) ∷ operand (number d) ∷ below) next below
     past : {pc u next : ℕ} {below : List Slot} (d z : ℤ) → PastAt sc formats ps level pc u next → IsWhole d → IsWhole z → is_past d z ≡ true → HasRoom most below 4 →
         Step pc (operand (number z) ∷ operand (number d) ∷ below) u below
-    within_literal : {pc u next : ℕ} {below : List Slot} (d z : ℤ) (s : StepSign z) → SignedAt sc formats ps level s pc u next → IsWhole d → is_past d z ≡ false → HasRoom most below 2 →
+    within_literal : {pc next : ℕ} {below : List Slot} (u : ℕ) (d z : ℤ) (s : StepSign z) → SignedAt sc formats ps level s pc u next → IsWhole d → is_past d z ≡ false → HasRoom most below 2 →
         Step pc (operand (number d) ∷ below) next below
-    past_literal : {pc u next : ℕ} {below : List Slot} (d z : ℤ) (s : StepSign z) → SignedAt sc formats ps level s pc u next → IsWhole d → is_past d z ≡ true → HasRoom most below 2 →
+    past_literal : {pc u : ℕ} {below : List Slot} (next : ℕ) (d z : ℤ) (s : StepSign z) → SignedAt sc formats ps level s pc u next → IsWhole d → is_past d z ≡ true → HasRoom most below 2 →
         Step pc (operand (number d) ∷ below) u below
 
   -- such fragments one after another
