@@ -1,0 +1,15 @@
+pub mod Lists
+pub mod Clean
+pub mod Typed
+pub mod Formats
+pub mod Stated
+pub mod Listed
+pub mod Placed
+pub mod Apart
+pub mod Looked
+pub mod Aligned
+pub mod Declaring
+pub mod Settled
+pub mod Cleaned
+pub mod Coupled
+pub mod Fits

@@ -1,0 +1,3 @@
+pub mod OneBlock
+pub mod Wholes
+pub mod Fitted
