@@ -31,18 +31,18 @@ one_item (plain.blanks w) = 0
 one_item plain.no_phrase = 0
 
 -- the letter decides, where the width is a number
-of_letter : (letter : ℕ) (digits : List ℕ) (right number_like blank_like : Bool) →
+of_letter : (digits : List ℕ) (right number_like blank_like : Bool) →
     is_no_phrase (if right then (if number_like then plain.item (value_of digits) else (if blank_like then plain.blanks (value_of digits) else plain.no_phrase)) else plain.no_phrase) ≡ false →
     one_number (if number_like then parts.Number (value_of digits) else parts.Blanks (value_of digits)) ≡
     one_item (if right then (if number_like then plain.item (value_of digits) else (if blank_like then plain.blanks (value_of digits) else plain.no_phrase)) else plain.no_phrase)
-of_letter letter digits true true b h = refl
-of_letter letter digits true false true h = refl
-of_letter letter digits true false false h = refl
-of_letter letter digits false n b h = absurd (let clash : true ≡ false = h in cc)
+of_letter digits true true b h = refl
+of_letter digits true false true h = refl
+of_letter digits true false false h = refl
+of_letter digits false n b h = absurd (let clash : true ≡ false = h in cc)
 
 of_word : (letters : List ℕ) → is_no_phrase (phrase_of (phrase.Word letters)) ≡ false → one_number (word_part letters) ≡ one_item (phrase_of (phrase.Word letters))
 of_word [] h = refl
-of_word (letter ∷ digits) h = of_letter letter digits (is_number digits && nat_lt 0 (value_of digits)) (letter == 73) (letter == 88) h
+of_word (letter ∷ digits) h = of_letter digits (is_number digits && nat_lt 0 (value_of digits)) (letter == 73) (letter == 88) h
 
 of_part : (t : PhraseText) (p : Phrase) → IsPart t p → is_no_phrase (phrase_of t) ≡ false → one_number p ≡ one_item (phrase_of t)
 of_part t p (text bytes) h = refl

@@ -13,3 +13,6 @@ pub mod Settled
 pub mod Cleaned
 pub mod Coupled
 pub mod Fits
+pub mod Lexed
+pub mod Behind
+pub mod Numbered

@@ -12,7 +12,7 @@ use Rattle.algol_tree.specs.Plain as tree
 use Rattle.algol_tree.specs.Plain.{PDecls}
 use Rattle.algol_tree.specs.Sites.{sites_in_decls}
 use Rattle.algol_tree.specs.Sorts as sort
-use Rattle.algol_tree.specs.Sorts.{Sort, Declared, look_up, declare}
+use Rattle.algol_tree.specs.Sorts.{Sort, same_name, Declared, look_up, declare}
 use Rattle.algol_tree.specs.Surroundings.{Surroundings, outermost, knowing, knowing_all}
 use Rattle.b67_templates.specs.Cells.{variables}
 use Rattle.b67_fitting.specs.OneBlock.{AreSimple}
@@ -54,7 +54,7 @@ behind_files ns ds name d (as_variable k v i l) = as_variable k v (in_back d.spo
 
 file_found : (ns : List Named) (name : List ℕ) (d : Declared) → look_up (declare 0 0 sort.file class.file ns) name ≡ Some d → (d.class ≡ class.file) × (d.sort ≡ sort.file)
 file_found [] name d h = absurd (let clash : None ≡ Some d = h in cc)
-file_found (n ∷ ns) name d h = by (Rattle.algol_tree.specs.Sorts.same_name n.name name) (file_found ns name d) h
+file_found (n ∷ ns) name d h = by (same_name n.name name) (file_found ns name d) h
   where
     entry : Declared
     entry = record { name = n.name; spot = n.spot; block = 0; depth = 0; sort = sort.file; class = class.file }
