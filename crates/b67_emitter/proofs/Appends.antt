@@ -136,4 +136,3 @@ listed_behind {a} {b} xs ys h e = record {
 }
 
 pub ruleset appending = (emitted_as, size_as)
-

@@ -5,6 +5,7 @@
 
 mod aiming;
 mod appending;
+mod expressions;
 mod numbers;
 
 pub use aiming::{aim, aim_exits};
@@ -12,4 +13,5 @@ pub use appending::{
     append_all, append_branch, append_exit, append_number, append_operator, append_plain,
     append_reading, append_reference, append_turn,
 };
+pub use expressions::{ExprEmitter, couple_of};
 pub use numbers::literal;
