@@ -1,0 +1,16 @@
+pub mod PartRows
+pub mod Moving
+pub mod Bits
+pub mod Taking
+pub mod Calculating
+pub mod Operating
+pub mod Pushing
+pub mod Signs
+pub mod Looping
+pub mod Stepped
+pub mod Performing
+pub mod Placing
+pub mod Forward
+pub mod Having
+pub mod Sizes
+pub mod Deciding

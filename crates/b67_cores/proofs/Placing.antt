@@ -1,0 +1,59 @@
+-- Fragments from a core that is at a place.
+use Rattle.std.proofs.Common.{◌≡◌, refl, sym, ap, ◌∙◌, subst, ℕ, ◌+◌, ◌≤◌, List, length, arith}
+use Rattle.algol_tree.specs.Scopes.{Scopes}
+use Rattle.b67_segment.specs.Operators.{Placed}
+use Rattle.b67_segment.specs.declared.code.Code.{Code}
+use Rattle.b67_table.specs.Private.{frame}
+use Rattle.b67_standing.specs.Stepping.{Slot}
+use Rattle.b67_cores.specs.Cores.{Core, CoreSteps}
+use Rattle.b67_cores.specs.Slots.{newest}
+use Rattle.b67_cores.specs.Stretches.{CoreAt, Arrives, FragmentsArePerformed}
+use Rattle.b67_cores.proofs.Moving.{Standing, moved, Reaches}
+use Rattle.b67_cores.proofs.Stepped.{stepped, led}
+
+module _ (sc : Scopes) (code : Code) (ps : List Placed) (level most bound place : ℕ) (slots : List Slot) (core : Core) (at : CoreAt sc code ps level place slots core) where
+  standing : length core.below + most ≤ bound → Standing sc code ps level most bound core
+  standing room = record { segment = at.segment; there = at.there; spells = at.spells; level_is = at.level_is; bottom = at.is.bottom; room = room }
+
+  -- the core is the one that its place and its slots make
+  moved_is : core ≡ moved core place slots core.words
+  moved_is =
+      ap (λ n. record core { registers = record core.registers { s = n } }) at.is.top
+      ∙ ap (λ n. record core { registers = record core.registers { s = length core.below + length core.words; f = n } }) at.mark_is
+      ∙ ap (λ n. record core {
+        registers = record core.registers {
+          s = length core.below + length core.words;
+          f = newest (frame core.registers) (length core.below) slots;
+          place = n;
+        };
+      }) at.place_is
+
+  arrives : (to : ℕ) (y : List Slot) → Reaches sc code ps level most bound core place slots core.words to y → Arrives sc code ps level most bound to y core
+  arrives to y r = record {
+    count = r.count;
+    core = moved core to y r.left;
+    steps = subst (λ (c : Core). CoreSteps code bound r.count c (moved core to y r.left)) (sym moved_is) r.steps;
+    at = record {
+      segment = at.segment;
+      there = at.there;
+      spells = at.spells;
+      level_is = at.level_is;
+      place_is = refl;
+      is = record { bottom = at.is.bottom; top = refl };
+      mark_is = refl;
+      words_are = r.are;
+    };
+    moved = record { below = refl; registers = refl };
+    room = r.room;
+    few = omega (arith, r.few, at.place_is);
+  }
+
+pub fragments_are_performed : FragmentsArePerformed
+fragments_are_performed = record {
+  step = λ sc formats code ps level most bound from to x y core step at room bounded.
+      arrives sc code ps level most bound from x core at to y
+      (stepped sc formats code ps level most bound core (standing sc code ps level most bound from x core at bounded) from to x y step core.words at.words_are room);
+  leads = λ sc formats code ps level most bound from to x y core leads at room bounded.
+      arrives sc code ps level most bound from x core at to y
+      (led sc formats code ps level most bound core (standing sc code ps level most bound from x core at bounded) from to x y leads core.words at.words_are room);
+}

@@ -1,0 +1,99 @@
+-- What a fragment pushes, and operators without operands one after another.
+use Rattle.std.proofs.Common.{◌≡◌, refl, subst, ℕ, Bool, true, false, ℤ, pos, List, [], ◌∷◌, arith}
+use Rattle.algol_tree.specs.declared.tree.Kind.{Kind}
+use Rattle.algol_tree.specs.declared.tree.Named.{Named}
+use Rattle.algol_tree.specs.Scopes.{Scopes}
+use Rattle.algol_meaning.specs.Value.{number, truth}
+use Rattle.b67_word.specs.Word.{Word}
+use Rattle.b67_word.specs.Word as words
+use Rattle.b67_ops.specs.declared.Operator.{Operator}
+use Rattle.b67_ops.specs.declared.Operator.TheVariants as ops
+use Rattle.b67_ops.specs.declared.PlainKind.{PlainKind}
+use Rattle.b67_ops.specs.declared.PlainKind.TheVariants as kinds
+use Rattle.b67_ops.specs.declared.intrinsic.Intrinsic.{Intrinsic}
+use Rattle.b67_ops.specs.Intrinsics.{couple_of_intrinsic}
+use Rattle.b67_segment.specs.Operators.{Placed}
+use Rattle.b67_segment.specs.declared.code.Code.{Code}
+use Rattle.b67_segment.specs.declared.code.Format.{Format}
+use Rattle.b67_table.specs.PrivateRows as rows
+use Rattle.b67_table.specs.Rows.{row, pushes}
+use Rattle.b67_templates.specs.Fragments.{Has, AllAt, NumberAt, IntrinsicAt, IsLiteral, zero_pushed, one_pushed, byte, two_bytes, whole_word, truth_literal}
+use Rattle.b67_templates.specs.Code.{ReferenceAt}
+use Rattle.b67_standing.specs.Stepping.{Slot, operand, reference, intrinsic, mark, HasRoom}
+use Rattle.b67_cores.specs.Cores.{Core}
+use Rattle.b67_cores.specs.Slots.{IsTruth}
+use Rattle.b67_cores.proofs.Moving.{Standing, nothing, on}
+use Rattle.b67_cores.proofs.Operating.{Goes, pushed, marking}
+
+-- ---- rows
+
+literal_row : {op : Operator} {w : Word} (place : ℕ) → IsLiteral op w → row op place ≡ pushes w
+unfolding row
+literal_row place zero_pushed = refl
+literal_row place one_pushed = refl
+literal_row place (byte n) = refl
+literal_row place (two_bytes n) = refl
+literal_row place (whole_word n) = refl
+
+abbrev literal_word : Bool → Word
+literal_word true = words.operand (pos 1)
+literal_word false = words.operand (pos 0)
+
+truth_row : (b : Bool) (place : ℕ) → row (ops.Plain (truth_literal b)) place ≡ pushes (literal_word b)
+unfolding row
+truth_row true place = refl
+truth_row false place = refl
+
+literal_is : (b : Bool) → IsTruth b (literal_word b)
+unfolding words.operand
+literal_is true = record { tag = refl; bits = omega arith; lowest = refl }
+literal_is false = record { tag = refl; bits = omega arith; lowest = refl }
+
+module _ (sc : Scopes) (formats : List Format) (code : Code) (ps : List Placed) (level most bound : ℕ) (core : Core) (st : Standing sc code ps level most bound core) where
+  abbrev Gets : ℕ → List Slot → ℕ → List Slot → Type 0
+  Gets = Goes sc code ps level most bound core st
+
+  pub push_number : (from next : ℕ) (z : ℤ) (x : List Slot) → NumberAt ps level z from next → HasRoom most x 1 → Gets from x next (operand (number z) ∷ x)
+  push_number from next z x at room =
+      pushed sc code ps level most bound core st from next at.op (operand (number z)) x (words.operand z) at.stands (literal_row from at.literal)
+      (record { is = refl; whole = at.whole }) refl room
+
+  pub push_truth : (from next : ℕ) (b : Bool) (x : List Slot) → Has ps level from (ops.Plain (truth_literal b)) next → HasRoom most x 1
+      → Gets from x next (operand (truth b) ∷ x)
+  push_truth from next b x at room =
+      pushed sc code ps level most bound core st from next (ops.Plain (truth_literal b)) (operand (truth b)) x (literal_word b) at (truth_row b from)
+      (literal_is b) refl room
+
+  pub push_name : (from next : ℕ) (n : Named) (k : Kind) (x : List Slot) → ReferenceAt sc formats ps level n k from next → HasRoom most x 1
+      → Gets from x next (reference n ∷ x)
+  unfolding row
+  push_name from next n k x at room =
+      pushed sc code ps level most bound core st from next (ops.Namc at.0) (reference n) x (rows.reference at.0) at.2 refl
+      (k, at.0, at.1, refl) refl room
+
+  -- the start of a call of an intrinsic: a mark and its reference
+  pub push_intrinsic : (from next : ℕ) (name : Intrinsic) (x : List Slot) → IntrinsicAt ps level name from next → HasRoom most x 2
+      → Gets from x next (intrinsic name ∷ mark ∷ x)
+  unfolding row
+  push_intrinsic from next name x at room =
+      on sc code ps level most bound core st (marking sc code ps level most bound core st from at.0 x at.1 (omega (arith, room)))
+      (pushed sc code ps level most bound core st at.0 next (ops.Namc (couple_of_intrinsic name)) (intrinsic name) (mark ∷ x)
+      (rows.reference (couple_of_intrinsic name)) at.2 refl refl refl (omega (arith, room)))
+
+  -- ---- operators without operands
+
+  -- what each of them does to the slots, one after another
+  pub data Run : List PlainKind → List Slot → List Slot → Type 0 where
+    done : {x : List Slot} → Run [] x x
+    next : {kind : PlainKind} {more : List PlainKind} {x y z : List Slot} → ((from to : ℕ) → Has ps level from (ops.Plain kind) to → Gets from x to y)
+        → Run more y z → Run (kind ∷ more) x z
+
+  pub run_at : {kinds : List PlainKind} {x y : List Slot} (from to : ℕ) → Run kinds x y → AllAt ps level kinds from to → Gets from x to y
+  run_at from to (done {x = x}) e = subst (λ t. Gets from x t x) e (nothing sc code ps level most bound core st from x)
+  run_at from to (next p more) t = on sc code ps level most bound core st (p from t.0 t.1) (run_at t.0 to more t.2)
+
+  pub zero_at : (x : List Slot) → HasRoom most x 1 → (from to : ℕ) → Has ps level from (ops.Plain kinds.Zero) to → Gets from x to (operand (number (pos 0)) ∷ x)
+  zero_at x room from to at = push_number from to (pos 0) x (record { op = ops.Plain kinds.Zero; stands = at; literal = zero_pushed; whole = omega arith }) room
+
+  pub one_at : (x : List Slot) → HasRoom most x 1 → (from to : ℕ) → Has ps level from (ops.Plain kinds.One) to → Gets from x to (operand (number (pos 1)) ∷ x)
+  one_at x room from to at = push_number from to (pos 1) x (record { op = ops.Plain kinds.One; stands = at; literal = one_pushed; whole = omega arith }) room

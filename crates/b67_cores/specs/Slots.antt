@@ -1,0 +1,55 @@
+-- Which words slots are, above the floor of a frame.
+use Rattle.std.specs.Prelude.{◌≡◌, ℕ, ◌+◌, ◌-◌, ◌%◌, ◌^◌, ◌<◌, if◌then◌else◌, ℤ, Bool, List, [], ◌∷◌, length}
+use Rattle.algol_tree.specs.declared.tree.Kind.{Kind}
+use Rattle.algol_tree.specs.Scopes.{Scopes}
+use Rattle.algol_meaning.specs.Value.{Value, number, truth}
+use Rattle.b67_word.specs.Word.{Word}
+use Rattle.b67_word.specs.Word as words
+use Rattle.b67_ops.specs.declared.Couple.{Couple}
+use Rattle.b67_ops.specs.Intrinsics.{couple_of_intrinsic}
+use Rattle.b67_table.specs.PrivateRows.{open_mark}
+use Rattle.b67_table.specs.PrivateRows as rows
+use Rattle.b67_templates.specs.Fragments.{IsWhole}
+use Rattle.b67_templates.specs.Cells.{IsVariable}
+use Rattle.b67_standing.specs.Stepping.{Slot, operand, reference, intrinsic, mark}
+
+-- ---- values
+
+pub record IsNumber (z : ℤ) (w : Word) : Type 0 where
+  pub is : w ≡ words.operand z
+  pub whole : IsWhole z
+
+-- a word of tag 0 says a truth value by its bit 0, whatever its other bits are
+pub record IsTruth (b : Bool) (w : Word) : Type 0 where
+  pub tag : w.tag ≡ 0
+  pub bits : w.bits < 2 ^ 48
+  pub lowest : w.bits % 2 ≡ (if b then 1 else 0)
+
+abbrev pub ValueIs : Value → Word → Type 0
+ValueIs (number z) w = IsNumber z w
+ValueIs (truth b) w = IsTruth b w
+
+-- ---- slots
+
+-- where the newest mark lies, in a frame whose own mark is at `home` and whose floor is at `base`: what F says
+abbrev pub newest : ℕ → ℕ → List Slot → ℕ
+newest home base [] = home
+newest home base (operand v ∷ below) = newest home base below
+newest home base (reference n ∷ below) = newest home base below
+newest home base (intrinsic i ∷ below) = newest home base below
+newest home base (mark ∷ below) = base + length below
+
+module _ (sc : Scopes) (level home base : ℕ) where
+  -- the word of a slot above these: a mark has its distance to the newest of them, or to the frame's own
+  abbrev pub SlotIs : List Slot → Slot → Word → Type 0
+  SlotIs below (operand v) w = ValueIs v w
+  SlotIs below (reference n) w = (k : Kind) × (c : Couple) × IsVariable sc level n k c × (w ≡ rows.reference c)
+  SlotIs below (intrinsic i) w = w ≡ rows.reference (couple_of_intrinsic i)
+  SlotIs below mark w = w ≡ open_mark (base + length below - newest home base below)
+
+  -- the words of slots, the top first
+  abbrev pub SlotsAre : List Slot → List Word → Type 0
+  SlotsAre [] [] = Unit {0}
+  SlotsAre [] (w ∷ ws) = ⊥
+  SlotsAre (slot ∷ slots) [] = ⊥
+  SlotsAre (slot ∷ slots) (w ∷ ws) = SlotIs slots slot w × SlotsAre slots ws

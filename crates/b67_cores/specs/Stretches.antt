@@ -1,0 +1,103 @@
+-- Stretches of private operators: what they do in an image, and what they do in a frame whose words are slots.
+use Rattle.std.specs.Prelude.{◌≡◌, ◌≢◌, ◌↔◌, ℕ, ◌+◌, ◌≤◌, true, List, length, Some, slice_get}
+use Rattle.b67_list.specs.Numbered.{numbered}
+use Rattle.algol_tree.specs.Scopes.{Scopes}
+use Rattle.b67_control.specs.declared.Registers.{Registers}
+use Rattle.b67_ops.specs.declared.TheConstants.{MOST_LEVEL}
+use Rattle.b67_segment.specs.Operators.{Placed}
+use Rattle.b67_segment.specs.Syllables.{Spells}
+use Rattle.b67_segment.specs.declared.code.Code.{Code}
+use Rattle.b67_segment.specs.declared.code.Format.{Format}
+use Rattle.b67_segment.specs.declared.code.Segment.{Segment}
+use Rattle.b67_store.specs.Store.{stack_at, stack_limit}
+use Rattle.b67_table.specs.Private.{frame}
+use Rattle.b67_table.specs.Image.{Image, is_live}
+use Rattle.b67_table.specs.Privacy.{Keeps}
+use Rattle.b67_table.specs.Runs.{Plains}
+use Rattle.b67_table.specs.Valid.{IsValid}
+use Rattle.b67_standing.specs.Stepping.{Slot, Step, Leads}
+use Rattle.b67_cores.specs.Cores.{Core, size, IsCore, HasCore, with_core, CoreSteps}
+use Rattle.b67_cores.specs.Slots.{newest, SlotsAre}
+
+-- ---- in an image
+
+-- A process performed so many plain operators, and has this core: every other process has the core that it had, and no public part of the
+-- image is another.
+pub record Performed (code : Code) (p : ℕ) (img : Image) (n : ℕ) (a b : Core) : Type 0 where
+  pub plains : Plains code p img n (with_core img p b)
+  pub has : HasCore (with_core img p b) p b
+  pub kept : Keeps a.registers b.registers
+  pub stacks : (m : ℕ) → m ≢ p → stack_at (with_core img p b).stacks m ≡ stack_at img.stacks m
+  pub registers : (q : ℕ) → q ≢ p → numbered (with_core img p b).regs q ≡ numbered img.regs q
+  pub others : (q : ℕ) (core : Core) → q ≢ p → HasCore img q core ↔ HasCore (with_core img p b) q core
+
+-- steps of its core are performed by the process in every image in which it has the first core
+abbrev pub StepsArePerformed : Type 0
+StepsArePerformed =
+    (code : Code) (p bound n : ℕ) (img : Image) (a b : Core) → bound ≤ stack_limit → HasCore img p a → CoreSteps code bound n a b → Performed code p img n a b
+
+-- the steps of a core that plain operators in an image are
+pub record Decided (code : Code) (p : ℕ) (img : Image) (n : ℕ) (a : Core) (new : Image) : Type 0 where
+  pub core : Core
+  pub steps : CoreSteps code stack_limit n a core
+  pub is : new ≡ with_core img p core
+
+pub record HasOne (img : Image) (p : ℕ) (r : Registers) : Type 0 where
+  pub core : Core
+  pub has : HasCore img p core
+  pub registers : core.registers ≡ r
+
+-- private operators go forward
+abbrev pub StepsGoForward : Type 0
+StepsGoForward =
+    (code : Code) (bound n : ℕ) (a b : Core) → a.registers.ll ≤ MOST_LEVEL → CoreSteps code bound n a b → n + a.registers.place ≤ b.registers.place
+
+-- What a process performs is a fact of its core alone.
+pub record CoresDecide : Type 0 where
+  -- plain operators of a process are steps of its core, and leave all else of the image
+  pub steps : (code : Code) (p n : ℕ) (img new : Image) (a : Core) → HasCore img p a → size a ≤ stack_limit → Plains code p img n new → Decided code p img n a new
+  -- of steps from one core the fewer lead to a core from which the rest lead on
+  pub first : (code : Code) (bound limit n k : ℕ) (a b c : Core) → CoreSteps code bound n a b → CoreSteps code limit (n + k) a c → CoreSteps code limit k b c
+
+-- each process of a valid image that lives has a core, with its registers
+abbrev pub ValidImagesHaveCores : Type 0
+ValidImagesHaveCores =
+    (code : Code) (img : Image) (p : ℕ) (r : Registers) → IsValid code img → is_live (numbered img.states p) ≡ true → numbered img.regs p ≡ Some r → HasOne img p r
+
+-- ---- in a frame
+
+-- the core is at a place of these operators, at their level, and its words are these slots
+pub record CoreAt (sc : Scopes) (code : Code) (ps : List Placed) (level place : ℕ) (slots : List Slot) (core : Core) : Type 0 where
+  pub segment : Segment
+  pub there : slice_get code.segments core.registers.segment ≡ Some segment
+  pub spells : Spells ps segment
+  pub level_is : core.registers.ll ≡ level
+  pub place_is : core.registers.place ≡ place
+  pub is : IsCore core
+  pub mark_is : core.registers.f ≡ newest (frame core.registers) (length core.below) slots
+  pub words_are : SlotsAre sc level (frame core.registers) (length core.below) slots core.words
+
+-- the core is another one in the words above the floor and in S, F and the place of the pointer alone
+pub record IsMoved (a b : Core) : Type 0 where
+  pub below : b.below ≡ a.below
+  pub registers : b.registers ≡ record a.registers { s = b.registers.s; f = b.registers.f; place = b.registers.place }
+
+-- private operators lead from the core to one at that place with those slots, at most as many as there are syllables between
+pub record Arrives (sc : Scopes) (code : Code) (ps : List Placed) (level most bound place : ℕ) (slots : List Slot) (a : Core) : Type 0 where
+  pub count : ℕ
+  pub core : Core
+  pub steps : CoreSteps code bound count a core
+  pub at : CoreAt sc code ps level place slots core
+  pub moved : IsMoved a core
+  pub room : length slots ≤ most
+  pub few : count + a.registers.place ≤ place
+
+-- What a fragment of private operators does by the meaning of its words the machine does, in each core that stands so: where most slots
+-- lie above the floor, its stack has the most words of the bound.
+pub record FragmentsArePerformed : Type 0 where
+  pub step : (sc : Scopes) (formats : List Format) (code : Code) (ps : List Placed) (level most bound from to : ℕ) (x y : List Slot) (core : Core)
+      → Step sc formats ps level most from x to y → CoreAt sc code ps level from x core → length x ≤ most → length core.below + most ≤ bound
+      → Arrives sc code ps level most bound to y core
+  pub leads : (sc : Scopes) (formats : List Format) (code : Code) (ps : List Placed) (level most bound from to : ℕ) (x y : List Slot) (core : Core)
+      → Leads sc formats ps level most from x to y → CoreAt sc code ps level from x core → length x ≤ most → length core.below + most ≤ bound
+      → Arrives sc code ps level most bound to y core

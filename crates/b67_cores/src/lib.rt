@@ -1,0 +1,32 @@
+//! The cores of processes: what a process's private operators read and write, and what they do to it in code that
+//! stands for a source.
+#![tactic(auto)]
+
+ghost use Rattle.b67_cores.specs.Stretches.{StepsArePerformed, CoresDecide, StepsGoForward, ValidImagesHaveCores, FragmentsArePerformed};
+
+/// Law: each process of a valid image that lives has a core.
+pub fn valid_images_have_cores()
+    ensures { ValidImagesHaveCores }
+{}
+
+/// Law: what private operators do to a core a process performs in every image in which it has that core, and every
+/// other process and all that is public stays as it is.
+pub fn steps_are_performed()
+    ensures { StepsArePerformed }
+{}
+
+/// Law: what a process performs by plain operators is decided by its core alone.
+pub fn cores_decide()
+    ensures { CoresDecide }
+{}
+
+/// Law: private operators only go forward, so there are at most as many as syllables between the first and the last.
+pub fn steps_go_forward()
+    ensures { StepsGoForward }
+{}
+
+/// Law: the machine performs each fragment of private operators as the meaning of its words says, one alone or
+/// several one after another.
+pub fn fragments_are_performed()
+    ensures { FragmentsArePerformed }
+{}

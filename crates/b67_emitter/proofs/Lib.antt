@@ -1,0 +1,4 @@
+pub mod Exits
+pub mod Composing
+pub mod Patching
+pub mod Appends

@@ -1,0 +1,17 @@
+//! The calls by which code is appended to a builder, and by which branches get their targets.
+//!
+//! What a call promises of the code that it appends holds under every later call, whatever is appended or aimed elsewhere.
+#![tactic(auto)]
+
+mod aiming;
+mod appending;
+mod expressions;
+mod numbers;
+
+pub use aiming::{aim, aim_exits};
+pub use appending::{
+    append_all, append_branch, append_exit, append_number, append_operator, append_plain,
+    append_reading, append_reference, append_turn,
+};
+pub use expressions::{ExprEmitter, couple_of};
+pub use numbers::literal;

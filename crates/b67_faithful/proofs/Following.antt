@@ -1,0 +1,140 @@
+-- A code whose images picture the worlds of a source follows it.
+use Rattle.std.proofs.Common.{append_assoc, inl, inr, ◌≡◌, ℕ, zero, suc, ◌+◌, List, [], ◌∷◌, ◌++◌, Option, Some, None, Bool, true, false, refl, sym, ap, ◌∙◌, subst}
+use Rattle.std.specs.Prelude.{◌⊎◌, reverse}
+use Rattle.std.proofs.lemmas.List.{reverse-reverse}
+use Rattle.b67_list.specs.Numbered.{numbered}
+use Rattle.algol_tree.specs.Plain.{PProgram}
+use Rattle.algol_tree.specs.Scopes.{scopes_of}
+use Rattle.algol_meaning.specs.World.{World}
+use Rattle.algol_meaning.specs.Actions.{Action}
+use Rattle.algol_meaning.specs.Choice.{choice}
+use Rattle.algol_meaning.specs.Run.{start, run, Legal, may_go}
+use Rattle.b67_segment.specs.declared.code.Code.{Code}
+use Rattle.b67_table.specs.Image.{Image}
+use Rattle.b67_table.specs.Beginning.{first_image}
+use Rattle.b67_table.specs.Runs.{Plains, stay, go, Acts, Entry, Runs, begin, entry, Tails, none, next, TableRun}
+use Rattle.b67_table.specs.Sound.{Sound}
+use Rattle.b67_faithful.specs.Agreement.{Agrees}
+use Rattle.b67_faithful.specs.Correspondence.{operator_action, operator_actions, action_in, source_actions}
+use Rattle.b67_faithful.specs.Faithful.{ComesToLimit, Follows}
+use Rattle.b67_faithful.specs.Simulation.{Simulates, Acted, Comes, acts, stops}
+use Rattle.b67_faithful.proofs.Contradictions.{some_same}
+use Rattle.b67_faithful.proofs.Sources.{reverse-cons, entered, entered_back, run-later, before}
+use Rattle.b67_faithful.proofs.Ways.{may_follow, may_lead}
+
+module _ (tree : PProgram) (code : Code) (Pictures : World → Image → Type 0) (sim : Simulates tree code Pictures) where
+  -- plain operators of a process lead through images of one world
+  through : (w : World) {p : ℕ} {a : Image} {n : ℕ} {b : Image} → Pictures w a → Plains code p a n b → Pictures w b
+  through w pic stay = pic
+  through w {p} {a} pic (go {b = b} e t l) = through w (sim.plain w a b p pic e t) l
+
+  tails_through : (w : World) {p : ℕ} {a : Image} {tails : List ℕ} {b : Image} → Pictures w a → Tails code p a tails b → Pictures w b
+  tails_through w pic none = pic
+  tails_through w pic (next l after) = tails_through w (through w pic l) after
+
+  -- ---- histories
+
+  record Related (h : List ℕ) (img : Image) : Type 0 where
+    pub world : World
+    pub is : run tree (reverse h) ≡ Some world
+    pub pictures : Pictures world img
+
+  related : {h counts : List ℕ} {img : Image} → Runs code h counts img → Related h img
+  unfolding run
+  related begin = record { world = start (scopes_of tree); is = refl; pictures = sim.first }
+  related (entry {h} {a = a} {b = b} {p = p} runs e) =
+      let so_far = related runs in
+      let w = so_far.world in
+      let may : may_go w p ≡ true = may_lead code w a (sim.shows w a so_far.pictures) p e.may in
+      let quiet : Pictures w e.quiet = through w so_far.pictures e.plains in
+      let acted = sim.act w e.quiet b p quiet (may_follow code w e.quiet (sim.shows w e.quiet quiet) p may) e.action in
+      record {
+        world = (choice (scopes_of tree) w p).world;
+        is = run-later tree h p w ((choice (scopes_of tree) w p).world) so_far.is (entered (scopes_of tree) w p may);
+        pictures = acted.pictures;
+      }
+
+  agree : (schedule tails : List ℕ) (img : Image) → TableRun code schedule tails img → Agrees tree code schedule img
+  agree schedule tails img r =
+      let rel = related r.runs in
+      let pic : Pictures rel.world img = tails_through rel.world rel.pictures r.after in
+      record { world = rel.world; is = ap (run tree) r.order ∙ rel.is; shows = sim.shows rel.world img pic; fits = sim.fits rel.world img pic }
+
+  -- ---- actions
+
+  same_actions : {h counts : List ℕ} {img : Image} → (r : Runs code h counts img) → operator_actions r ≡ source_actions tree h
+  same_actions begin = refl
+  same_actions (entry {h} {a = a} {b = b} {p = p} runs e) =
+      let so_far = related runs in
+      let w = so_far.world in
+      let may : may_go w p ≡ true = may_lead code w a (sim.shows w a so_far.pictures) p e.may in
+      let quiet : Pictures w e.quiet = through w so_far.pictures e.plains in
+      let acted = sim.act w e.quiet b p quiet (may_follow code w e.quiet (sim.shows w e.quiet quiet) p may) e.action in
+      let own : operator_action code e.quiet p ≡ action_in tree (run tree (reverse h)) p = acted.action ∙ sym (ap (λ (o : Option World). action_in tree o p) so_far.is) in
+      ap (λ (x : Option Action). x ∷ operator_actions runs) own ∙ ap (λ (xs : List (Option Action)). action_in tree (run tree (reverse h)) p ∷ xs) (same_actions runs)
+
+  -- ---- legal schedules
+
+  data Performed (h : List ℕ) : Type 0 where
+    whole : (counts : List ℕ) (img : Image) → Runs code h counts img → Performed h
+    limited : ComesToLimit code (reverse h) → Performed h
+
+  longer : (h : List ℕ) (p : ℕ) → ComesToLimit code (reverse h) → ComesToLimit code (reverse (p ∷ h))
+  longer h p c =
+      record {
+        before = c.before;
+        next = c.next;
+        later = c.later ++ p ∷ [];
+        split = reverse-cons p h ∙ ap (λ (s : List ℕ). s ++ p ∷ []) c.split ∙ append_assoc c.before (c.next ∷ c.later) (p ∷ []);
+        image = c.image;
+        run = c.run;
+        plain = c.plain;
+        quiet = c.quiet;
+        plains = c.plains;
+        stops = c.stops;
+      }
+
+  run_of : {h counts : List ℕ} {img : Image} → Runs code h counts img → TableRun code (reverse h) [] img
+  run_of {h} {counts} {img} runs = record { history = h; counts = counts; before_tails = img; order = refl; runs = runs; after = none }
+
+  performed : (h : List ℕ) (w : World) → run tree (reverse h) ≡ Some w → Performed h
+  performed [] w e = whole [] first_image begin
+  performed (p ∷ h) w e =
+      let last = before tree h p w e in
+      go_on (performed h last.world last.is) last.world last.is (entered_back (scopes_of tree) last.world w p last.enters).0
+    where
+      by_coming : {counts : List ℕ} {img : Image} → Runs code h counts img → (v : World) → Pictures v img → may_go v p ≡ true → Comes tree code Pictures p img → Performed (p ∷ h)
+      by_coming {counts} {img} runs v pic may (acts {n} {quiet} {after} l x) =
+          whole ((n + 1) ∷ counts) after (entry runs (record { may = may_follow code v img (sim.shows v img pic) p may; quiet = quiet; plains = l; action = x }))
+      by_coming {counts} {img} runs v pic may (stops {n} {quiet} l x) =
+          limited (record { before = reverse h; next = p; later = []; split = reverse-cons p h; image = img; run = run_of runs; plain = n; quiet = quiet; plains = l; stops = x })
+
+      go_on : Performed h → (v : World) → run tree (reverse h) ≡ Some v → may_go v p ≡ true → Performed (p ∷ h)
+      go_on (limited c) v is may = limited (longer h p c)
+      go_on (whole counts img runs) v is may =
+          let rel = related runs in
+          let same : rel.world ≡ v = some_same (sym rel.is ∙ is) in
+          let pic : Pictures v img = subst (λ (u : World). Pictures u img) same rel.pictures in
+          by_coming runs v pic may (sim.come v img p pic (may_follow code v img (sim.shows v img pic) p may))
+
+  legal_runs : (schedule : List ℕ) → Legal tree schedule → ((image : Image) × TableRun code schedule [] image) ⊎ ComesToLimit code schedule
+  legal_runs schedule legal =
+      let back : reverse (reverse schedule) ≡ schedule = reverse-reverse schedule in
+      by_performed (performed (reverse schedule) legal.0 (ap (run tree) back ∙ legal.1)) back
+    where
+      by_performed : Performed (reverse schedule) → reverse (reverse schedule) ≡ schedule → ((image : Image) × TableRun code schedule [] image) ⊎ ComesToLimit code schedule
+      by_performed (whole counts img runs) back = inl (img, subst (λ (s : List ℕ). TableRun code s [] img) back (run_of runs))
+      by_performed (limited c) back = inr (subst (λ (s : List ℕ). ComesToLimit code s) back c)
+
+  -- ---- all of it
+
+  sound : Sound code
+  sound = record {
+    tagged = λ schedule tails img r ended p able ill.
+        let rel = related r.runs in (sim.shows rel.world img (tails_through rel.world rel.pictures r.after)).tagged p ill.0 ended able ill.1;
+    apart = λ schedule tails img r p q x regs touches lives private.
+        let rel = related r.runs in sim.apart rel.world img (tails_through rel.world rel.pictures r.after) p q x regs touches lives private;
+  }
+
+  pub simulations_follow : Follows tree code
+  simulations_follow = record { sound = sound; legal = agree; actions = λ schedule tails image r. same_actions r.runs; whole = legal_runs }

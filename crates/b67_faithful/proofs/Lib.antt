@@ -1,0 +1,4 @@
+pub mod Contradictions
+pub mod Sources
+pub mod Ways
+pub mod Following

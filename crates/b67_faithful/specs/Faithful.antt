@@ -1,0 +1,47 @@
+-- A code that is faithful to a source: for every list of choices it does what the source does.
+use Rattle.std.specs.Prelude.{◌≡◌, ◌⊎◌, ℕ, ◌+◌, ◌*◌, ◌≤◌, max, List, [], ◌∷◌, ◌++◌, length, sum, All}
+use Rattle.algol_tree.specs.Plain.{PProgram}
+use Rattle.algol_tree.specs.Counts.{program_tokens}
+use Rattle.b67_segment.specs.declared.code.Code.{Code}
+use Rattle.b67_segment.specs.declared.code.Segment.{Segment}
+use Rattle.algol_meaning.specs.Run.{Legal}
+use Rattle.b67_table.specs.Outcome.{limit}
+use Rattle.b67_table.specs.Image.{Image}
+use Rattle.b67_table.specs.Table.{table}
+use Rattle.b67_table.specs.Runs.{Plains, TableRun}
+use Rattle.b67_table.specs.Sound.{Sound}
+use Rattle.b67_faithful.specs.Agreement.{Agrees}
+use Rattle.b67_faithful.specs.Correspondence.{operator_actions, source_actions}
+
+-- after entries of the schedule the process of the next one comes to the stack limit before its next action is done
+pub record ComesToLimit (code : Code) (schedule : List ℕ) : Type 0 where
+  pub before : List ℕ
+  pub next : ℕ
+  pub later : List ℕ
+  pub split : schedule ≡ before ++ next ∷ later
+  pub image : Image
+  pub run : TableRun code before [] image
+  pub plain : ℕ
+  pub quiet : Image
+  pub plains : Plains code next image plain quiet
+  pub stops : table code quiet next ≡ limit
+
+-- a segment has at most 24 syllables for each token of the source, and 48 more
+abbrev pub IsShort : PProgram → Code → Type 0
+IsShort tree code = All (λ (segment : Segment). 6 * length segment.words ≤ 24 * program_tokens tree + 48) code.segments
+
+-- the syllables of the longest of these segments
+abbrev pub longest : List Segment → ℕ
+longest [] = 0
+longest (segment ∷ segments) = max (6 * length segment.words) (longest segments)
+
+-- what runs of the code have to do with the source
+pub record Follows (tree : PProgram) (code : Code) : Type 0 where
+  -- no operator of a run is ill-tagged, or reads or writes what is another process's own
+  pub sound : Sound code
+  -- each run of the code has a legal schedule of the source, with its output, end and able processes, on stacks within their weights
+  pub legal : (schedule tails : List ℕ) (image : Image) → TableRun code schedule tails image → Agrees tree code schedule image
+  -- the operator of each entry is the action of that entry in the source
+  pub actions : (schedule tails : List ℕ) (image : Image) → (r : TableRun code schedule tails image) → operator_actions r.runs ≡ source_actions tree r.history
+  -- each legal schedule of the source has a run of the code, or comes to the stack limit
+  pub whole : (schedule : List ℕ) → Legal tree schedule → ((image : Image) × TableRun code schedule [] image) ⊎ ComesToLimit code schedule

@@ -1,0 +1,5 @@
+pub mod Weight
+pub mod Agreement
+pub mod Correspondence
+pub mod Faithful
+pub mod Simulation

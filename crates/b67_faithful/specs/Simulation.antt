@@ -1,0 +1,40 @@
+-- What makes a code follow a source: images that picture worlds, from the first one on, through every operator.
+use Rattle.std.specs.Prelude.{◌≡◌, ℕ, ◌+◌, true, Option, Some, None}
+use Rattle.algol_tree.specs.Plain.{PProgram}
+use Rattle.algol_tree.specs.Scopes.{scopes_of}
+use Rattle.algol_meaning.specs.World.{World}
+use Rattle.algol_meaning.specs.Choice.{choice}
+use Rattle.algol_meaning.specs.Run.{start, may_go}
+use Rattle.b67_word.specs.declared.Place.{Place}
+use Rattle.b67_control.specs.declared.Registers.{Registers}
+use Rattle.b67_segment.specs.declared.code.Code.{Code}
+use Rattle.b67_table.specs.Outcome.{gives, limit}
+use Rattle.b67_table.specs.Image.{Image}
+use Rattle.b67_table.specs.Table.{table, plain}
+use Rattle.b67_table.specs.Beginning.{first_image}
+use Rattle.b67_table.specs.Ending.{may_act}
+use Rattle.b67_table.specs.Runs.{Plains, Acts}
+use Rattle.b67_table.specs.Touches.{IsPrivate}
+use Rattle.b67_table.specs.Sound.{Lives, OperatorTouches}
+use Rattle.b67_faithful.specs.Agreement.{Shows, Fits}
+use Rattle.b67_faithful.specs.Correspondence.{operator_action}
+
+module _ (tree : PProgram) (code : Code) (Pictures : World → Image → Type 0) where
+  -- an action of a process of the code is that of the source, and leads to an image of the world after it
+  pub record Acted (w : World) (p : ℕ) (quiet after : Image) : Type 0 where
+    pub action : operator_action code quiet p ≡ Some ((choice (scopes_of tree) w p).action)
+    pub pictures : Pictures ((choice (scopes_of tree) w p).world) after
+
+  -- the process comes by plain operators to its action, or to the stack limit
+  pub data Comes (p : ℕ) (img : Image) : Type 0 where
+    acts : {n : ℕ} {quiet after : Image} → Plains code p img n quiet → Acts code p quiet after → Comes p img
+    stops : {n : ℕ} {quiet : Image} → Plains code p img n quiet → table code quiet p ≡ limit → Comes p img
+
+  pub record Simulates : Type 0 where
+    pub first : Pictures (start (scopes_of tree)) first_image
+    pub plain : (w : World) (a b : Image) (p : ℕ) → Pictures w a → plain code a p ≡ true → table code a p ≡ gives b → Pictures w b
+    pub act : (w : World) (a b : Image) (p : ℕ) → Pictures w a → may_act a p ≡ true → Acts code p a b → Acted w p a b
+    pub come : (w : World) (a : Image) (p : ℕ) → Pictures w a → may_act a p ≡ true → Comes p a
+    pub shows : (w : World) (a : Image) → Pictures w a → Shows code w a
+    pub fits : (w : World) (a : Image) → Pictures w a → Fits tree code w a
+    pub apart : (w : World) (a : Image) → Pictures w a → (p q : ℕ) (x : Place) (r : Registers) → OperatorTouches code a p x → Lives a q r → IsPrivate r x → p ≡ q

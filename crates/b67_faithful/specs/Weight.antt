@@ -1,0 +1,26 @@
+-- How many words the stack of a process may have, by what the source has open in it.
+use Rattle.std.specs.Prelude.{ℕ, ◌+◌, ◌*◌, if◌then◌else◌, Bool, true, false, List, [], ◌∷◌, length}
+use Rattle.algol_tree.specs.declared.token.Spot.{Spot}
+use Rattle.algol_tree.specs.Plain.{PProgram}
+use Rattle.algol_tree.specs.Counts.{program_tokens}
+use Rattle.algol_tree.specs.Blocks.{Block, block_numbered}
+use Rattle.algol_tree.specs.Scopes.{Scopes, scopes_of}
+use Rattle.algol_meaning.specs.World.{Instance, Part, Process, World, instance_at, process_at}
+use Rattle.algol_meaning.specs.Critical.{is_evaluation}
+
+-- the tokens of the segment in whose text a block stands: today that of the program is the only one
+abbrev pub segment_tokens : PProgram → ℕ → ℕ
+segment_tokens p block = program_tokens p
+
+-- an instance of a block: 8, its cells, and 4 for each token of the segment; an evaluation of a name has no cells
+abbrev pub part_weight : PProgram → World → Part → ℕ
+part_weight p w part =
+    8 + (if is_evaluation part.purpose then 0 else length ((instance_at w part.instance).cells)) + 4 * segment_tokens p ((instance_at w part.instance).block)
+
+abbrev pub parts_weight : PProgram → World → List Part → ℕ
+parts_weight p w [] = 0
+parts_weight p w (part ∷ parts) = part_weight p w part + parts_weight p w parts
+
+-- the open parts of a process: the instances of its stack that are not left, and the evaluations of names
+abbrev pub weight : PProgram → World → ℕ → ℕ
+weight p w process = parts_weight p w ((process_at w process).todo)

@@ -1,0 +1,78 @@
+-- A line has as many items as its format has numbers.
+use Rattle.std.proofs.Common.{arith, ◌≡◌, ℕ, ◌+◌, ◌==◌, ◌&&◌, ◌||◌, nat_lt, not, Bool, true, false, List, [], ◌∷◌, map, refl, sym, ap, ◌∙◌, if◌then◌else◌}
+use Rattle.std.proofs.lemmas.Bool.{or_parts, not-false, eqb-true}
+use Rattle.std.proofs.lemmas.List.Sums.{sum_by-cons}
+use Rattle.std.specs.List.{list_any}
+use Rattle.algol_tree.specs.declared.tree.PhraseText.{PhraseText}
+use Rattle.algol_tree.specs.declared.tree.PhraseText.TheVariants as phrase
+use Rattle.algol_tree.specs.declared.token.Spot.{Spot}
+use Rattle.algol_tree.specs.Counted as counted
+use Rattle.algol_tree.specs.Names.{if_so}
+use Rattle.algol_tree.specs.Phrases as plain
+use Rattle.algol_tree.specs.Phrases.{phrase_of, is_no_phrase, items_of}
+use Rattle.algol_tree.specs.Plain as tree
+use Rattle.algol_tree.specs.Plain.{PExprs}
+use Rattle.algol_tree.specs.Spelling.{is_number, value_of}
+use Rattle.b67_segment.specs.declared.code.Phrase.{Phrase}
+use Rattle.b67_segment.specs.declared.code.Phrase.TheVariants as parts
+use Rattle.b67_fitting.proofs.Lists.{not_so}
+use Rattle.b67_templates.specs.Code.{AreParts, IsPart, text, word, word_part, numbers_in, exprs_count}
+
+-- the numbers of one phrase
+abbrev one_number : Phrase → ℕ
+one_number (parts.Number width) = 1
+one_number (parts.Text bytes) = 0
+one_number (parts.Blanks n) = 0
+
+abbrev one_item : plain.Phrase → ℕ
+one_item (plain.item w) = 1
+one_item (plain.text w) = 0
+one_item (plain.blanks w) = 0
+one_item plain.no_phrase = 0
+
+-- the letter decides, where the width is a number
+of_letter : (digits : List ℕ) (right number_like blank_like : Bool) →
+    is_no_phrase (if right then (if number_like then plain.item (value_of digits) else (if blank_like then plain.blanks (value_of digits) else plain.no_phrase)) else plain.no_phrase) ≡ false →
+    one_number (if number_like then parts.Number (value_of digits) else parts.Blanks (value_of digits)) ≡
+    one_item (if right then (if number_like then plain.item (value_of digits) else (if blank_like then plain.blanks (value_of digits) else plain.no_phrase)) else plain.no_phrase)
+of_letter digits true true b h = refl
+of_letter digits true false true h = refl
+of_letter digits true false false h = refl
+of_letter digits false n b h = absurd (let clash : true ≡ false = h in cc)
+
+of_word : (letters : List ℕ) → is_no_phrase (phrase_of (phrase.Word letters)) ≡ false → one_number (word_part letters) ≡ one_item (phrase_of (phrase.Word letters))
+of_word [] h = refl
+of_word (letter ∷ digits) h = of_letter digits (is_number digits && nat_lt 0 (value_of digits)) (letter == 73) (letter == 88) h
+
+of_part : (t : PhraseText) (p : Phrase) → IsPart t p → is_no_phrase (phrase_of t) ≡ false → one_number p ≡ one_item (phrase_of t)
+of_part t p (text bytes) h = refl
+of_part t p (word letters) h = of_word letters h
+
+one_more : (p : Phrase) (ps : List Phrase) → numbers_in (p ∷ ps) ≡ one_number p + numbers_in ps
+one_more (parts.Number width) ps = omega arith
+one_more (parts.Text bytes) ps = omega arith
+one_more (parts.Blanks n) ps = omega arith
+
+items_more : (t : PhraseText) (ts : List PhraseText) → items_of (t ∷ ts) ≡ one_item (phrase_of t) + items_of ts
+items_more t ts = sum_by-cons (λ (n : ℕ). n) (one_item (phrase_of t)) (map (λ (p : PhraseText). one_item (phrase_of p)) ts)
+
+pub as_many : (ts : List PhraseText) (ps : List Phrase) → AreParts ts ps → list_any (λ (t : PhraseText). is_no_phrase (phrase_of t)) ts ≡ false → numbers_in ps ≡ items_of ts
+as_many [] ps e h = ap numbers_in e
+as_many (t ∷ ts) ps h none =
+    let these = or_parts (is_no_phrase (phrase_of t)) (list_any (λ (t : PhraseText). is_no_phrase (phrase_of t)) ts) none in
+    ap numbers_in h.2 ∙ one_more h.0 h.1 ∙ ap (λ n. n + numbers_in h.1) (of_part t h.0 h.3 these.0) ∙ ap (λ n. one_item (phrase_of t) + n) (as_many ts h.1 h.4 these.1)
+    ∙ sym (items_more t ts)
+
+same_count : (es : PExprs) → counted.exprs_count es ≡ exprs_count es
+same_count tree.none = refl
+same_count (tree.more e es) = let rest = same_count es in omega (arith, rest)
+
+-- a list of phrases that is not bad for these items
+pub fitting_line : (ts : List PhraseText) (es : PExprs) (spot : Spot) →
+    if_so (list_any (λ (t : PhraseText). is_no_phrase (phrase_of t)) ts || not (items_of ts == counted.exprs_count es)) spot ≡ [] →
+    (ps : List Phrase) → AreParts ts ps → numbers_in ps ≡ exprs_count es
+fitting_line ts es spot h ps are =
+    let good =
+    or_parts (list_any (λ (t : PhraseText). is_no_phrase (phrase_of t)) ts) (not (items_of ts == counted.exprs_count es))
+    (not_so (list_any (λ (t : PhraseText). is_no_phrase (phrase_of t)) ts || not (items_of ts == counted.exprs_count es)) spot h) in
+    as_many ts ps are good.0 ∙ eqb-true (items_of ts) (counted.exprs_count es) (not-false (items_of ts == counted.exprs_count es) good.1) ∙ same_count es

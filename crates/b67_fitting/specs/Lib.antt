@@ -1,0 +1,4 @@
+pub mod OneBlock
+pub mod Wholes
+pub mod Fitted
+pub mod Numbers

@@ -1,0 +1,17 @@
+//! Accepted programs of one block have code: what the rules of the language leave of their trees is what the templates have code for.
+#![tactic(auto)]
+
+ghost use Rattle.b67_fitting.specs.Fitted.{AcceptedProgramsFit};
+ghost use Rattle.b67_fitting.specs.Numbers.{SourcesHaveWholeNumbers};
+
+/// Law: the statements of an accepted program of one block fit, so they have code. Each expression has the kind that its
+/// place wants, each name is a simple variable whose couple a right table has, and each line has as many items as its
+/// format prints numbers.
+pub fn accepted_programs_fit()
+    ensures { AcceptedProgramsFit }
+{}
+
+/// Law: each number in a source is whole, so that the machine has it.
+pub fn numbers_of_sources_are_whole()
+    ensures { SourcesHaveWholeNumbers }
+{}

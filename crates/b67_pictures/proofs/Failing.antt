@@ -1,0 +1,84 @@
+-- The action of an operator without a result: the fault.
+use Rattle.std.proofs.Common.{◌≡◌, refl, sym, ap, ◌∙◌, subst, ℕ, ◌+◌, List, [], ◌∷◌, length, Option, Some, None, Result, Ok, Err, arith}
+use Rattle.b67_list.specs.Numbered.{numbered}
+use Rattle.algol_tree.specs.declared.tree.Op.{Op}
+use Rattle.algol_tree.specs.declared.tree.Op.TheVariants as operators
+use Rattle.algol_tree.specs.Plain.{PProgram}
+use Rattle.algol_tree.specs.Scopes.{Scopes, scopes_of}
+use Rattle.algol_tree.specs.Types.{taken_by}
+use Rattle.algol_meaning.specs.Value.{Value}
+use Rattle.algol_meaning.specs.Operators.{result_of}
+use Rattle.algol_meaning.specs.World.{Process, Part, able, World}
+use Rattle.algol_meaning.specs.Actions.{Fault}
+use Rattle.algol_meaning.specs.Asks.{Ask, fails, ask}
+use Rattle.algol_meaning.specs.Choice.{Choice, choice, choice_of}
+use Rattle.b67_num.specs.declared.NumFault.{NumFault}
+use Rattle.b67_num.specs.Whole.{fault_of}
+use Rattle.b67_word.specs.declared.Place.{Place}
+use Rattle.b67_word.specs.Word.{Word}
+use Rattle.b67_ops.specs.declared.Operator.TheVariants as ops
+use Rattle.b67_ops.specs.declared.TheConstants.{OUTER_LEVEL}
+use Rattle.b67_segment.specs.Operators.{Placed}
+use Rattle.b67_segment.specs.declared.code.Code.{Code}
+use Rattle.b67_table.specs.Image.{Image}
+use Rattle.b67_table.specs.Ending.{failed}
+use Rattle.b67_table.specs.Outcome as outcomes
+use Rattle.b67_table.specs.Private.{frame}
+use Rattle.b67_table.specs.Table.{table, operator_at}
+use Rattle.b67_templates.specs.Fragments.{HasKind, operator_for}
+use Rattle.b67_standing.specs.Stepping.{Slot, operand, ready}
+use Rattle.b67_standing.specs.Standing.{ActionAt}
+use Rattle.b67_cores.specs.Cores.{Core}
+use Rattle.b67_cores.specs.Slots.{ValueIs}
+use Rattle.b67_pictures.specs.Acting.{Does, failed_by}
+use Rattle.b67_pictures.specs.Pictures.{PicturesBy}
+use Rattle.b67_pictures.proofs.Rows.{fault_not_plain, action_is}
+use Rattle.b67_pictures.proofs.Breaking.{break_raw}
+use Rattle.b67_pictures.proofs.Homes.{operator_there}
+use Rattle.b67_pictures.proofs.Slotted.{Top, top_slot}
+use Rattle.b67_pictures.proofs.Stage.{faults_so, choice_is, faulted}
+use Rattle.b67_pictures.proofs.Scene.{Scene}
+
+-- of an operator without a result the first operand is as it stands
+ready_same : (op : Op) (v w : Value) (f : NumFault) → result_of op v w ≡ Err f → ready op v ≡ v
+ready_same operators.Imp v w f e = cc
+ready_same operators.Add v w f e = refl
+ready_same operators.Sub v w f e = refl
+ready_same operators.Mul v w f e = refl
+ready_same operators.Over v w f e = refl
+ready_same operators.Div v w f e = refl
+ready_same operators.Mod v w f e = refl
+ready_same operators.Lss v w f e = refl
+ready_same operators.Leq v w f e = refl
+ready_same operators.Eql v w f e = refl
+ready_same operators.Neq v w f e = refl
+ready_same operators.Geq v w f e = refl
+ready_same operators.Gtr v w f e = refl
+ready_same operators.And v w f e = refl
+ready_same operators.Or v w f e = refl
+ready_same operators.Eqv v w f e = refl
+
+module _ (tree : PProgram) (code : Code) (texts : ℕ → List Placed) (w : World) (lay : List Place) (img : Image)
+    (p : ℕ) (q : Process) (part : Part) (most bound : ℕ) (core : Core) (s : Scene tree code texts w lay img p q part most bound core)
+    (fault : NumFault) (asks : ask part.rest ≡ fails fault) (a : ActionAt (scopes_of tree) code.formats (texts 0) OUTER_LEVEL most (fails fault) s.pc s.slots) where
+  there : operator_at code core.registers ≡ Ok (ops.Plain (operator_for a.0), a.3)
+  there = operator_there (scopes_of tree) code (texts 0) OUTER_LEVEL s.pc s.slots core (ops.Plain (operator_for a.0)) a.3 s.there a.5.stands
+
+  table_is : table code img p ≡ outcomes.faults (fault_of fault)
+  table_is =
+      let second : Top (scopes_of tree) OUTER_LEVEL (frame core.registers) (length core.below) (operand a.2) (operand (ready a.0 a.1) ∷ a.4) core.words =
+      top_slot (scopes_of tree) OUTER_LEVEL (frame core.registers) (length core.below) s.slots (operand a.2) (operand (ready a.0 a.1) ∷ a.4) core.words s.there.words_are a.5.lies in
+      let first : Top (scopes_of tree) OUTER_LEVEL (frame core.registers) (length core.below) (operand (ready a.0 a.1)) a.4 second.words_below =
+      top_slot (scopes_of tree) OUTER_LEVEL (frame core.registers) (length core.below) (operand (ready a.0 a.1) ∷ a.4) (operand (ready a.0 a.1)) a.4 second.words_below second.are refl in
+      faults_so code img p (fault_of fault)
+      (break_raw code img p core s.has a.0 a.3 there a.1 a.2 first.word second.word first.words_below (second.is ∙ ap (λ (ws : List Word). second.word ∷ ws) first.is) a.5.first_fits a.5.second_fits
+      (subst (λ (v : Value). ValueIs v first.word) (ready_same a.0 a.1 a.2 fault a.5.breaks) first.slot_is) second.slot_is fault a.5.breaks)
+
+  chosen : choice (scopes_of tree) w p ≡ record { action = Fault; world = record w { fault = Some (record { kind = fault_of fault; process = p }) }; released = []; started = None }
+  chosen = choice_is (scopes_of tree) w p q part s.at s.todo ∙ ap (λ (k : Ask). choice_of (scopes_of tree) w p q part [] k) asks
+
+  pub failing : Does tree code texts w lay img p
+  failing =
+      failed_by (fault_of fault) (fault_not_plain code img p core s.has (ops.Plain (operator_for a.0)) a.3 there (fault_of fault) table_is) table_is
+      (action_is code img p core s.has (ops.Plain (operator_for a.0)) a.3 there (outcomes.faults (fault_of fault)) table_is ∙ ap (λ (c : Choice). Some c.action) (sym chosen))
+      (subst (λ (c : Choice). PicturesBy tree code texts c.world lay (failed img p (fault_of fault))) (sym chosen) (faulted tree code texts w lay img s.by p q s.at (fault_of fault)))

@@ -1,0 +1,56 @@
+-- Numbers of processes, and lists by number.
+use Rattle.std.proofs.Common.{◌≡◌, ◌≢◌, ◌⊎◌, inl, inr, refl, sym, ap, ◌∙◌, ℕ, zero, suc, ◌<◌, List, [], ◌∷◌, length, set, Option, Some, None, arith}
+use Rattle.std.specs.Prelude.{slice_get, slice_set}
+use Rattle.b67_list.specs.Numbered.{numbered, set_numbered}
+
+pub same_or_not : (p q : ℕ) → (p ≡ q) ⊎ (p ≢ q)
+same_or_not zero zero = inl refl
+same_or_not zero (suc q) = inr (λ e. cc)
+same_or_not (suc p) zero = inr (λ e. cc)
+same_or_not (suc p) (suc q) = later (same_or_not p q)
+  where
+    later : (p ≡ q) ⊎ (p ≢ q) → (suc p ≡ suc q) ⊎ (suc p ≢ suc q)
+    later (inl e) = inl (ap suc e)
+    later (inr n) = inr (λ e. n (omega (arith, e)))
+
+get_set : {A : Type 0} (xs : List A) (k : ℕ) (x y : A) → slice_get xs k ≡ Some x → slice_get (slice_set xs k y) k ≡ Some y
+get_set [] k x y e = cc
+get_set (z ∷ zs) zero x y e = refl
+get_set (z ∷ zs) (suc k) x y e = get_set zs k x y e
+
+get_other : {A : Type 0} (xs : List A) (k j : ℕ) (y : A) → k ≢ j → slice_get (slice_set xs k y) j ≡ slice_get xs j
+get_other [] k j y h = refl
+get_other (z ∷ zs) zero zero y h = absurd (h refl)
+get_other (z ∷ zs) zero (suc j) y h = refl
+get_other (z ∷ zs) (suc k) zero y h = refl
+get_other (z ∷ zs) (suc k) (suc j) y h = get_other zs k j y (λ e. h (ap suc e))
+
+pub numbered_set : {A : Type 0} (xs : List A) (p : ℕ) (x y : A) → numbered xs p ≡ Some x → numbered (set_numbered xs p y) p ≡ Some y
+numbered_set xs zero x y e = cc
+numbered_set xs (suc k) x y e = get_set xs k x y e
+
+pub numbered_other : {A : Type 0} (xs : List A) (p q : ℕ) (y : A) → p ≢ q → numbered (set_numbered xs p y) q ≡ numbered xs q
+numbered_other xs zero q y h = refl
+numbered_other xs (suc k) zero y h = refl
+numbered_other xs (suc k) (suc j) y h = get_other xs k j y (λ e. h (ap suc e))
+
+length_set : {A : Type 0} (xs : List A) (k : ℕ) (y : A) → length (slice_set xs k y) ≡ length xs
+length_set [] k y = refl
+length_set (z ∷ zs) zero y = refl
+length_set (z ∷ zs) (suc k) y = ap suc (length_set zs k y)
+
+pub length_set_numbered : {A : Type 0} (xs : List A) (p : ℕ) (y : A) → length (set_numbered xs p y) ≡ length xs
+length_set_numbered xs zero y = refl
+length_set_numbered xs (suc k) y = length_set xs k y
+
+get_beyond : {A B : Type 0} (xs : List A) (ys : List B) (k : ℕ) → length ys ≡ length xs → slice_get xs k ≡ None → slice_get ys k ≡ None
+get_beyond [] [] k e n = refl
+get_beyond [] (y ∷ ys) k e n = absurd (omega (arith, e))
+get_beyond (x ∷ xs) [] k e n = absurd (omega (arith, e))
+get_beyond (x ∷ xs) (y ∷ ys) zero e n = cc
+get_beyond (x ∷ xs) (y ∷ ys) (suc k) e n = let fewer : length ys ≡ length xs = omega (arith, e) in get_beyond xs ys k fewer n
+
+-- lists of one length have items of the same numbers
+pub numbered_beyond : {A B : Type 0} (xs : List A) (ys : List B) (p : ℕ) → length ys ≡ length xs → numbered xs p ≡ None → numbered ys p ≡ None
+numbered_beyond xs ys zero e n = refl
+numbered_beyond xs ys (suc k) e n = get_beyond xs ys k e n

@@ -1,0 +1,69 @@
+-- The row of the operator at which a core stands.
+use Rattle.std.proofs.Common.{◌≡◌, refl, sym, ap, ◌∙◌, ℕ, ◌+◌, List, [], ◌∷◌, ◌++◌, Option, Some, None, Bool, true, false, Result, Ok, Err, append_assoc}
+use Rattle.std.specs.Prelude.{if◌then◌else◌, ◌&&◌, reverse}
+use Rattle.std.proofs.lemmas.List.{reverse-append}
+use Rattle.b67_list.specs.Numbered.{numbered}
+use Rattle.b67_num.specs.declared.FaultKind.{FaultKind}
+use Rattle.b67_word.specs.Word.{Word}
+use Rattle.b67_control.specs.declared.Registers.{Registers}
+use Rattle.b67_ops.specs.declared.Operator.{Operator}
+use Rattle.b67_ops.specs.declared.BadCode.{BadCode}
+use Rattle.b67_segment.specs.declared.code.Code.{Code}
+use Rattle.b67_store.specs.Store.{Stacks, words_or, words_of, with_stack}
+use Rattle.b67_table.specs.declared.Class.TheVariants as classes
+use Rattle.b67_table.specs.declared.InterruptKind.TheVariants.{BadCode as bad_code}
+use Rattle.b67_table.specs.Effect.{Effect, interrupts}
+use Rattle.b67_table.specs.Effect as effects
+use Rattle.b67_table.specs.Outcome.{Outcome, limited}
+use Rattle.b67_table.specs.Outcome as outcomes
+use Rattle.b67_table.specs.Image.{Image, with_stacks, with_registers}
+use Rattle.b67_table.specs.Program.{Program, does}
+use Rattle.b67_table.specs.Rows.{Row, row, action}
+use Rattle.b67_table.specs.Table.{table, raw, plain, by_registers, by_operator, by_row, operator_at, class_at, class_by, is_private, is_new, private_at, private_in, private_next, stack_length}
+use Rattle.b67_cores.specs.Cores.{Core, HasCore, with_core, stack_of}
+use Rattle.b67_faithful.specs.Correspondence.{action_by, fetched_action, registers_action, operator_action}
+
+module _ (code : Code) (img : Image) (p : ℕ) (core : Core) (has : HasCore img p core) (op : Operator) (next : ℕ) (at : operator_at code core.registers ≡ Ok (op, next)) where
+  pub raw_is : raw code img p ≡ by_row (row op core.registers.place) code img p core.registers next
+  unfolding raw
+  raw_is =
+      ap (λ (b : Bool). if b then by_registers code img p (numbered img.regs p) else interrupts bad_code) has.live
+      ∙ ap (λ (r : Option Registers). by_registers code img p r) has.registers
+      ∙ ap (λ (x : Result (Operator × ℕ) BadCode). by_operator code img p core.registers x) at
+
+  private_is : private_next code img p ≡ is_private (class_at op core.registers.place)
+  private_is =
+      ap (λ (r : Option Registers). private_in code r) has.registers
+      ∙ ap (λ (x : Result (Operator × ℕ) BadCode). private_at core.registers x) at
+
+  -- an action is not plain
+  pub action_not_plain : class_at op core.registers.place ≡ classes.Action → plain code img p ≡ false
+  unfolding plain
+  action_not_plain e =
+      ap (λ b. b && is_new (table code img p)) (private_is ∙ ap is_private e)
+
+  -- and what faults is not
+  pub fault_not_plain : (kind : FaultKind) → table code img p ≡ outcomes.faults kind → plain code img p ≡ false
+  unfolding plain
+  fault_not_plain kind e = ap (λ o. private_next code img p && is_new o) e ∙ never (private_next code img p)
+    where
+      never : (b : Bool) → (b && false) ≡ false
+      never true = refl
+      never false = refl
+
+  -- the action that it is
+  pub action_is : (o : Outcome Image) → table code img p ≡ o → operator_action code img p ≡ action_by o img core.registers op
+  action_is o e =
+      ap (λ (r : Option Registers). registers_action code (table code img p) img r) has.registers
+      ∙ ap (λ (x : Result (Operator × ℕ) BadCode). fetched_action (table code img p) img core.registers x) at
+      ∙ ap (λ (t : Outcome Image). action_by t img core.registers op) e
+
+-- a word more on top of the stack of a core
+pub pushed_stack : (core : Core) (w : Word) → stack_of core ++ w ∷ [] ≡ core.below ++ reverse (w ∷ core.words)
+pushed_stack core w =
+    append_assoc core.below (reverse core.words) (w ∷ [])
+    ∙ ap (λ (ws : List Word). core.below ++ ws) (sym (reverse-append (w ∷ []) core.words))
+
+-- the words of a process's stack
+pub words_are : (img : Image) (p : ℕ) (core : Core) → HasCore img p core → words_of img.stacks core.registers.stack ≡ stack_of core
+words_are img p core has = ap (λ (o : Option (List Word)). words_or o) has.stack

@@ -1,0 +1,73 @@
+-- The turn of a loop, and the choice of a case.
+use Rattle.std.proofs.Common.{◌≡◌, ◌≢◌, refl, sym, ap, ◌∙◌, subst, ℕ, zero, suc, ◌+◌, ◌*◌, ◌<◌, ◌≤◌, List, [], ◌∷◌, ◌++◌, length, Option, Some, None, Result, Ok, Bool, true, false, arith, ℤ}
+use Rattle.std.specs.Prelude.{pos, reverse}
+use Rattle.b67_list.specs.Numbered.{numbered}
+use Rattle.algol_tree.specs.Plain.{PProgram, PStmts}
+use Rattle.algol_tree.specs.Scopes.{Scopes, scopes_of}
+use Rattle.algol_meaning.specs.Rest.{Answer, Rest, done}
+use Rattle.algol_meaning.specs.World.{Process, Part, able, World, with_process}
+use Rattle.algol_meaning.specs.Actions.{Action, Turn}
+use Rattle.algol_meaning.specs.Asks.{Ask, turns, ask, resume}
+use Rattle.algol_meaning.specs.Choice.{Choice, choice, choice_of}
+use Rattle.b67_word.specs.declared.Place.{Place}
+use Rattle.b67_ops.specs.declared.Operator.TheVariants as ops
+use Rattle.b67_ops.specs.declared.BranchKind.TheVariants.{Brun}
+use Rattle.b67_ops.specs.declared.TheConstants.{OUTER_LEVEL}
+use Rattle.b67_segment.specs.Operators.{Placed}
+use Rattle.b67_segment.specs.declared.code.Code.{Code}
+use Rattle.b67_table.specs.declared.ProcessState.TheVariants.{Able}
+use Rattle.b67_table.specs.Image.{Image}
+use Rattle.b67_table.specs.Effect as effects
+use Rattle.b67_table.specs.Outcome as outcomes
+use Rattle.b67_table.specs.Table.{raw, plain, operator_at}
+use Rattle.b67_standing.specs.Stepping.{Slot}
+use Rattle.b67_standing.specs.Standing.{ActionAt, Acted, ComesTo}
+use Rattle.b67_cores.specs.Cores.{Core, IsCore, HasCore, with_core}
+use Rattle.b67_cores.specs.Stretches.{CoreAt, FragmentsArePerformed}
+use Rattle.b67_pictures.specs.Flat.{IsFlat}
+use Rattle.b67_pictures.specs.Acting.{Does}
+use Rattle.b67_pictures.proofs.Rows.{action_not_plain, action_is}
+use Rattle.b67_pictures.proofs.TurnRow.{at_place, turn_raw, turn_class}
+use Rattle.b67_pictures.proofs.Homes.{operator_there}
+use Rattle.b67_pictures.proofs.Stage.{choice_is}
+use Rattle.b67_pictures.proofs.Scene.{Scene}
+use Rattle.b67_pictures.proofs.InFrame.{SameFrame, after, does_in_frame}
+
+module _ (tree : PProgram) (code : Code) (texts : ℕ → List Placed) (flat : IsFlat (scopes_of tree)) (fragments : FragmentsArePerformed) (w : World) (lay : List Place) (img : Image)
+    (p : ℕ) (q : Process) (part : Part) (most bound : ℕ) (core : Core) (s : Scene tree code texts w lay img p q part most bound core) (able_is : q.state ≡ able) (able_p : numbered img.states p ≡ Some Able) where
+  abbrev sc : Scopes
+  sc = scopes_of tree
+
+  module _ (asks : ask part.rest ≡ turns) (a : ActionAt sc code.formats (texts 0) OUTER_LEVEL most turns s.pc s.slots)
+      (answered : (r : Answer) (at : ℕ) (left : List Slot) → Acted sc code.formats (texts 0) OUTER_LEVEL most turns s.pc s.slots a r at left →
+      ComesTo sc code.formats (texts 0) OUTER_LEVEL most (resume sc part.rest r) at left) where
+    there : operator_at code core.registers ≡ Ok (ops.Branch Brun a.0, a.1)
+    there = operator_there sc code (texts 0) OUTER_LEVEL s.pc s.slots core (ops.Branch Brun a.0) a.1 s.there a.2.stands
+
+    abbrev new : Core
+    new = at_place core a.0
+
+    back : a.0 ≤ core.registers.place
+    back = omega (arith, a.2.back, s.there.place_is)
+
+    core_at : CoreAt sc code (texts 0) OUTER_LEVEL a.0 s.slots new
+    core_at =
+        record {
+          segment = s.there.segment;
+          there = s.there.there;
+          spells = s.there.spells;
+          level_is = s.there.level_is;
+          place_is = refl;
+          is = record { bottom = s.has.is.bottom; top = s.has.is.top };
+          mark_is = s.there.mark_is;
+          words_are = s.there.words_are;
+        }
+
+    pub turning : Does tree code texts w lay img p
+    turning =
+        does_in_frame tree code texts flat fragments w lay img p q part most bound core s able_is able_p (resume sc part.rest done) w.output new refl (record { is = refl }) a.0 s.slots core_at s.few
+        (answered done a.0 s.slots (refl, refl)) Turn
+        (action_not_plain code img p core s.has (ops.Branch Brun a.0) a.1 there (turn_class code img p core s.has a.0 a.1 there back))
+        (turn_raw code img p core s.has a.0 a.1 there back ∙ ap (λ (o : List (List ℕ)). effects.gives (record (with_core img p new) { output = o })) s.by.output)
+        (choice_is sc w p q part s.at s.todo ∙ ap (λ (k : Ask). choice_of sc w p q part [] k) asks)
+        (λ t. action_is code img p core s.has (ops.Branch Brun a.0) a.1 there (outcomes.gives (record (with_core img p new) { output = w.output })) t)

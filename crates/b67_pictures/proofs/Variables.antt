@@ -1,0 +1,95 @@
+-- The cell and the word of a variable.
+use Rattle.std.proofs.Common.{◌≡◌, refl, sym, ap, ◌∙◌, subst, ℕ, zero, suc, ◌+◌, ◌<◌, List, [], ◌∷◌, length, Option, Some, None, Bool, true, false, arith}
+use Rattle.std.specs.Prelude.{slice_get, slice_set, if◌then◌else◌}
+use Rattle.algol_tree.specs.declared.tree.Kind.{Kind}
+use Rattle.algol_tree.specs.Sorts.{same_name}
+use Rattle.algol_meaning.specs.Value.{Value, Cell, simple, event, array, named, reference}
+use Rattle.algol_meaning.specs.World.{NamedCell, cell_in, cells_with}
+use Rattle.b67_word.specs.Word.{Word}
+use Rattle.b67_templates.specs.Fragments.{HasKind}
+use Rattle.b67_templates.specs.Cells.{Simple, Found, found_from}
+use Rattle.b67_cores.specs.Slots.{ValueIs}
+use Rattle.b67_pictures.specs.Frames.{CellIs, CellsAre}
+
+-- the word of the first cell of a name
+pub record Cell_of (f : Found) (from : ℕ) (name : List ℕ) (cells : List NamedCell) (words : List Word) : Type 0 where
+  pub word : Word
+  pub far : ℕ
+  pub number : f.number ≡ from + far
+  pub lies : slice_get words far ≡ Some word
+  pub is : CellIs f.cell.kind (cell_in cells name) word
+
+pub variable_cell : (ss : List Simple) (cells : List NamedCell) (words : List Word) (from : ℕ) (name : List ℕ) (f : Found) → CellsAre ss cells words → found_from from ss name ≡ Some f →
+    Cell_of f from name cells words
+variable_cell [] cells words from name f are e = cc
+variable_cell (s ∷ ss) [] words from name f are e = absurd are
+variable_cell (s ∷ ss) (c ∷ cells) [] from name f are e = absurd are
+variable_cell (s ∷ ss) (c ∷ cells) (w ∷ words) from name f are e =
+    by_name (variable_cell ss cells words (from + 1) name f are.2) (same_name s.name name) e (ap (λ (n : List ℕ). same_name n name) are.0)
+  where
+    by_name : (found_from (from + 1) ss name ≡ Some f → Cell_of f (from + 1) name cells words) → (b : Bool) → (if b then Some (record { number = from; cell = s }) else found_from (from + 1) ss name) ≡ Some f → same_name c.name name ≡ b → Cell_of f from name (c ∷ cells) (w ∷ words)
+    by_name rest true h same =
+        let is_f : record { number = from; cell = s } ≡ f = cc in
+        let cell_is : cell_in (c ∷ cells) name ≡ c.cell = ap (λ b. if b then c.cell else cell_in cells name) same in
+        record {
+          word = w;
+          far = 0;
+          number = ap (λ (x : Found). x.number) (sym is_f) ∙ omega arith;
+          lies = refl;
+          is = subst (λ (x : Found). CellIs x.cell.kind (cell_in (c ∷ cells) name) w) is_f (subst (λ (k : Cell). CellIs s.kind k w) (sym cell_is) are.1);
+        }
+    by_name rest false h same =
+        let later = rest h in
+        let cell_is : cell_in (c ∷ cells) name ≡ cell_in cells name = ap (λ b. if b then c.cell else cell_in cells name) same in
+        record {
+          word = later.word;
+          far = suc later.far;
+          number = later.number ∙ omega arith;
+          lies = later.lies;
+          is = subst (λ (k : Cell). CellIs f.cell.kind k later.word) (sym cell_is) later.is;
+        }
+
+-- a cell of a kind holds a value of that kind
+pub record Holds_value (k : Kind) (c : Cell) (w : Word) : Type 0 where
+  pub value : Value
+  pub is : c ≡ simple value
+  pub kind : HasKind k value
+  pub word : ValueIs value w
+
+pub value_of_cell : (k : Kind) (c : Cell) (w : Word) → CellIs (Some k) c w → Holds_value k c w
+value_of_cell k (simple v) w is = record { value = v; is = refl; kind = is.0; word = is.1 }
+value_of_cell k (event e) w is = absurd is
+value_of_cell k (array a) w is = absurd is
+value_of_cell k (named n) w is = absurd is
+value_of_cell k (reference r) w is = absurd is
+
+-- another value of the kind, in the cell and as its word
+pub cell_changed : (ss : List Simple) (cells : List NamedCell) (words : List Word) (from : ℕ) (name : List ℕ) (f : Found) (k : Kind) (v : Value) (w : Word) (far : ℕ) → CellsAre ss cells words →
+    found_from from ss name ≡ Some f → f.cell.kind ≡ Some k → f.number ≡ from + far → HasKind k v → ValueIs v w → CellsAre ss (cells_with cells name (simple v)) (slice_set words far w)
+cell_changed [] cells words from name f k v w far are e kind number fits is = cc
+cell_changed (s ∷ ss) [] words from name f k v w far are e kind number fits is = absurd are
+cell_changed (s ∷ ss) (c ∷ cells) [] from name f k v w far are e kind number fits is = absurd are
+cell_changed (s ∷ ss) (c ∷ cells) (x ∷ words) from name f k v w far are e kind number fits is =
+    by_name (variable_cell ss cells words (from + 1) name f are.2)
+    (λ n h m. cell_changed ss cells words (from + 1) name f k v w n are.2 h kind m fits is) (same_name s.name name) e (ap (λ (n : List ℕ). same_name n name) are.0) far number
+  where
+    by_name : (found_from (from + 1) ss name ≡ Some f → Cell_of f (from + 1) name cells words) →
+        ((n : ℕ) → found_from (from + 1) ss name ≡ Some f → f.number ≡ from + 1 + n → CellsAre ss (cells_with cells name (simple v)) (slice_set words n w)) →
+        (b : Bool) → (if b then Some (record { number = from; cell = s }) else found_from (from + 1) ss name) ≡ Some f → same_name c.name name ≡ b → (far : ℕ) → f.number ≡ from + far → CellsAre (s ∷ ss) (cells_with (c ∷ cells) name (simple v)) (slice_set (x ∷ words) far w)
+    by_name there rest true h same far number =
+        let is_f : record { number = from; cell = s } ≡ f = cc in
+        let none_far : far ≡ 0 = omega (arith, number, ap (λ (y : Found). y.number) is_f) in
+        let cells_are : cells_with (c ∷ cells) name (simple v) ≡ record c { cell = simple v } ∷ cells =
+        ap (λ b. if b then record c { cell = simple v } ∷ cells else c ∷ cells_with cells name (simple v)) same in
+        let kind_is : s.kind ≡ Some k = ap (λ (y : Found). y.cell.kind) is_f ∙ kind in
+        subst (λ (n : ℕ). CellsAre (s ∷ ss) (cells_with (c ∷ cells) name (simple v)) (slice_set (x ∷ words) n w)) (sym none_far)
+        (subst (λ (cs : List NamedCell). CellsAre (s ∷ ss) cs (w ∷ words)) (sym cells_are)
+        (are.0, subst (λ (o : Option Kind). CellIs o (simple v) w) (sym kind_is) (fits, is), are.2))
+    by_name there rest false h same zero number =
+        let later = there h in
+        absurd (omega (arith, number, later.number))
+    by_name there rest false h same (suc far) number =
+        let cells_are : cells_with (c ∷ cells) name (simple v) ≡ c ∷ cells_with cells name (simple v) =
+        ap (λ b. if b then record c { cell = simple v } ∷ cells else c ∷ cells_with cells name (simple v)) same in
+        subst (λ (cs : List NamedCell). CellsAre (s ∷ ss) cs (x ∷ slice_set words far w)) (sym cells_are)
+        (are.0, are.1, rest far h (omega (arith, number)))

@@ -1,0 +1,47 @@
+-- What the words of values, references and marks are read as.
+use Rattle.std.proofs.Common.{◌≡◌, ◌≢◌, refl, sym, ap, ◌∙◌, ℕ, ◌<◌, ◌≤◌, ◌+◌, ◌^◌, Option, Some, None, Bool, true, false, arith, lit<, ℤ}
+use Rattle.std.specs.Prelude.{if◌then◌else◌, ◌==◌, unsigned_abs, pos}
+use Rattle.algol_meaning.specs.Value.{Value, number, truth}
+use Rattle.b67_word.specs.Word.{Word, operand, as_whole}
+use Rattle.b67_word.proofs.WordLaws.{operand-tag, as_whole-operand}
+use Rattle.b67_control.specs.Kind as kind
+use Rattle.b67_control.specs.Kind.{kind_of}
+use Rattle.b67_control.specs.Control.{irw_word, as_irw, as_sirw, as_descriptor, mscw_word, as_mscw, as_pcw}
+use Rattle.b67_control.specs.declared.Descriptor.{Descriptor}
+use Rattle.b67_control.proofs.ControlLaws.{as_irw-irw_word, as_sirw-other, as_pcw-other, as_mscw-mscw_word, kind_of-irw_word, descriptor_laws}
+use Rattle.b67_ops.specs.declared.Couple.{Couple}
+use Rattle.b67_table.specs.Arrays.{as_indexed, indexed_in}
+use Rattle.b67_table.specs.PrivateRows.{reference, open_mark}
+use Rattle.b67_cores.specs.Slots.{ValueIs}
+
+-- a word of tag 0
+tag_zero : (w : Word) → w.tag ≡ 0 → kind_of w ≡ kind.operand
+unfolding kind_of
+tag_zero w e = rw e refl
+
+pub value_tag : (v : Value) (w : Word) → ValueIs v w → w.tag ≡ 0
+value_tag (number z) w is = ap (λ (x : Word). x.tag) is.is ∙ operand-tag z
+value_tag (truth b) w is = is.tag
+
+pub no_sirw : (w : Word) → w.tag ≡ 0 → as_sirw w ≡ None
+no_sirw w e = as_sirw-other w (λ k. let is = sym (tag_zero w e) ∙ k in cc)
+
+pub no_pcw : (w : Word) → w.tag ≡ 0 → as_pcw w ≡ None
+no_pcw w e = as_pcw-other w (λ k. let is = sym (tag_zero w e) ∙ k in cc)
+
+pub no_descriptor : (w : Word) → w.tag ≡ 0 → as_descriptor w ≡ None
+no_descriptor w e = descriptor_laws.other w (λ k. let is = sym (tag_zero w e) ∙ k in cc)
+
+-- ---- references
+
+pub reference_read : (c : Couple) → c.level < 32 → c.index < 2 ^ 14 → as_irw (reference c) ≡ Some (record { level = c.level; index = c.index })
+reference_read c a b = as_irw-irw_word (record { level = c.level; index = c.index }) (a, (b, tt))
+
+pub reference_unindexed : (c : Couple) → c.level < 32 → c.index < 2 ^ 14 → as_indexed (reference c) ≡ None
+reference_unindexed c a b =
+    ap indexed_in (descriptor_laws.other (reference c) (λ k. let is = sym (kind_of-irw_word (record { level = c.level; index = c.index }) (a, (b, tt))) ∙ k in cc))
+
+-- ---- marks
+
+pub mark_read : (df : ℕ) → df < 2 ^ 16 → as_mscw (open_mark df) ≡ Some (record { entered = false; stack = 0; displacement = 0; df = df })
+mark_read df a = as_mscw-mscw_word (record { entered = false; stack = 0; displacement = 0; df = df }) (lit< tt, (lit< tt, (a, tt)))

@@ -1,0 +1,4 @@
+pub mod Frames
+pub mod Pictures
+pub mod Acting
+pub mod Flat

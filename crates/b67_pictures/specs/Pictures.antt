@@ -1,0 +1,66 @@
+-- How an image pictures a world.
+use Rattle.std.specs.Prelude.{◌≡◌, ℕ, ◌+◌, ◌≤◌, List, length, Option, Some, None}
+use Rattle.b67_list.specs.Numbered.{numbered}
+use Rattle.algol_tree.specs.Plain.{PProgram}
+use Rattle.algol_tree.specs.Scopes.{scopes_of}
+use Rattle.algol_meaning.specs.World.{Instance, Process, State, able, ended, WorldFault, World}
+use Rattle.b67_word.specs.declared.Place.{Place}
+use Rattle.b67_control.specs.declared.Registers.{Registers}
+use Rattle.b67_segment.specs.Operators.{Placed}
+use Rattle.b67_segment.specs.declared.code.Code.{Code}
+use Rattle.b67_store.specs.Store.{stack_at, stack_limit}
+use Rattle.b67_control.specs.Display.{place_at}
+use Rattle.b67_table.specs.Beginning.{system_stack}
+use Rattle.b67_table.specs.Chains.{place}
+use Rattle.b67_table.specs.declared.ProcessState.{ProcessState}
+use Rattle.b67_table.specs.declared.ProcessState.TheVariants.{Able, Ended}
+use Rattle.b67_table.specs.Image.{Image, Failure}
+use Rattle.b67_cores.specs.Cores.{Core, HasCore, CoreSteps}
+use Rattle.b67_faithful.specs.Weight.{weight}
+use Rattle.b67_pictures.specs.Frames.{Frames}
+
+-- the fault that ended a world, as one of an image
+abbrev pub failure_of : Option WorldFault → Option Failure
+failure_of None = None
+failure_of (Some f) = Some (record { kind = f.kind; process = f.process })
+
+module _ (tree : PProgram) (code : Code) (texts : ℕ → List Placed) (w : World) (lay : List Place) (img : Image) where
+  -- A process that is able comes by private operators alone to where its core stands for its parts. It depends on no instance, and has
+  -- no task: that comes with PROCESS.
+  pub record Living (p : ℕ) (q : Process) : Type 0 where
+    pub independent : q.critical ≡ None
+    pub without_task : q.task ≡ None
+    pub core : Core
+    pub has : HasCore img p core
+    pub free : core.registers.critical ≡ None
+    pub idle : core.registers.task ≡ None
+    -- level 0 of its display is the system's stack
+    pub sees : place_at core.registers.display 0 ≡ Some (place 0 0)
+    pub settled : Core
+    pub most : ℕ
+    pub bound : ℕ
+    pub count : ℕ
+    pub steps : CoreSteps code bound count core settled
+    pub frames : Frames (scopes_of tree) code texts w lay p q.todo most settled
+    pub room : length settled.below + most ≤ bound
+    pub light : bound + 3 ≤ weight tree w p
+    pub small : bound ≤ stack_limit
+
+  pub data Pictured (p : ℕ) (q : Process) : Type 0 where
+    living : q.state ≡ able → numbered img.states p ≡ Some Able → Living p q → Pictured p q
+    dead : q.state ≡ ended → numbered img.states p ≡ Some Ended → Pictured p q
+
+  pub record PicturesBy : Type 0 where
+    pub laid : length lay ≡ length w.instances
+    pub output : img.output ≡ w.output
+    pub fault : img.fault ≡ failure_of w.fault
+    pub started : img.started ≡ length w.processes
+    pub states : length img.states ≡ length w.processes
+    pub system : stack_at img.stacks 0 ≡ Some system_stack
+    -- every instance is one of the outer block: others come with blocks and procedures
+    pub outermost : (i : ℕ) (x : Instance) → numbered w.instances i ≡ Some x → x.block ≡ 0
+    pub each : (p : ℕ) (q : Process) → numbered w.processes p ≡ Some q → Pictured p q
+
+-- an image pictures a world: for some layout of the frames of its instances
+abbrev pub Pictures : PProgram → Code → (ℕ → List Placed) → World → Image → Type 0
+Pictures tree code texts w img = (lay : List Place) × PicturesBy tree code texts w lay img

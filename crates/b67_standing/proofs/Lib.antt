@@ -1,0 +1,11 @@
+pub mod Leading
+pub mod Values
+pub mod Settling
+pub mod Putting
+pub mod Rests
+pub mod Loops
+pub mod Performing
+pub mod Items
+pub mod GoingOn
+pub mod Starting
+pub mod Forward

@@ -1,0 +1,136 @@
+-- From the start of its code a statement comes to where the machine stands for it, and for what comes after it.
+use Rattle.std.proofs.Common.{◌≡◌, refl, sym, ap, subst, ℕ, ◌+◌, arith, List, [], ◌∷◌, length}
+use Rattle.std.specs.Prelude.{pos}
+use Rattle.algol_tree.specs.declared.tree.Kind.TheVariants as types
+use Rattle.algol_tree.specs.declared.tree.Named.{Named}
+use Rattle.algol_tree.specs.declared.token.Spot.{Spot}
+use Rattle.algol_tree.specs.declared.tree.PhraseText.{PhraseText}
+use Rattle.algol_tree.specs.Plain as tree
+use Rattle.algol_tree.specs.Plain.{PExpr, PExprs, PStmt, PStmts}
+use Rattle.algol_tree.specs.Scopes.{Scopes}
+use Rattle.algol_meaning.specs.Rest as rests
+use Rattle.algol_meaning.specs.Rest.{Item, Rest}
+use Rattle.algol_meaning.specs.Settle.{settle}
+use Rattle.algol_meaning.specs.Statements.{items, checked_of, settle_stmt, settle_stmts}
+use Rattle.b67_ops.specs.declared.intrinsic.Intrinsic.TheVariants.{Write, Select}
+use Rattle.b67_segment.specs.Operators.{Placed}
+use Rattle.b67_segment.specs.declared.code.Format.{Format}
+use Rattle.b67_templates.specs.Fragments.{Goes, stop, over}
+use Rattle.b67_templates.specs.Code.{FormatIs, StmtAt, StmtsAt, WriteAt}
+use Rattle.b67_templates.specs.Depths.{depth, stmt_depth, stmts_depth}
+use Rattle.b67_standing.specs.Stepping.{Slot, intrinsic, mark, HasRoom, push_number, call, there, first}
+use Rattle.b67_standing.specs.Standing.{pend, Follows, WhileAt, ComesTo}
+use Rattle.b67_standing.proofs.Leading.{depth-positive, pend-length, leads_by, follows_before, follows_run}
+use Rattle.b67_standing.proofs.Settling.{settle_at}
+use Rattle.b67_standing.proofs.Rests.{after_rest, follows_turn, turning_at, assign_at, chosen_stands, looped_stands, checked_stands, selected_stands, line_at}
+use Rattle.b67_standing.proofs.Loops.{Performs, counted_stands}
+
+pub pend-items : (ss : PStmts) (k : List Item) → pend (items ss k) ≡ pend k
+pend-items tree.no_stmts k = refl
+pend-items (tree.stmts s ss) k = pend-items ss k
+
+module _ (sc : Scopes) (formats : List Format) (ps : List Placed) (level most : ℕ) where
+  abbrev Coming : Rest → ℕ → List Slot → Type 0
+  Coming = ComesTo sc formats ps level most
+
+  abbrev Following : List Item → ℕ → Type 0
+  Following = Follows sc formats ps level most
+
+  abbrev Doing : PStmt → ℕ → ℕ → Type 0
+  Doing = Performs sc formats ps level most
+
+  -- ---- loops with a test
+
+  pub while_body : (c : PExpr) (b : PStmt) (k : List Item) (f m t u : ℕ) (w : WhileAt sc formats ps level most c b f m t u) → Goes ps level t u → Following k u →
+      HasRoom most (pend k) (depth c + stmt_depth b) → Doing b w.0 w.1 →
+      Coming (settle_stmt sc b (rests.turn ∷ rests.run (tree.while c b) ∷ k) (rests.turning (rests.run (tree.while c b) ∷ k))) w.0 (pend k)
+  while_body c b k f m t u w g follows room p =
+      let again = follows_run sc formats ps level most (tree.while c b) k f t u (m, w.0, w.1, w.2, w.3, w.4, w.5) g room follows in
+      p (rests.turn ∷ rests.run (tree.while c b) ∷ k) (rests.turning (rests.run (tree.while c b) ∷ k))
+      (follows_turn sc formats ps level most (rests.run (tree.while c b) ∷ k) w.1 f t w.5 again) (omega (arith, room))
+      (turning_at sc formats ps level most (rests.run (tree.while c b) ∷ k) w.1 f t w.5 again)
+
+  -- ---- lines
+
+  write_at : (n : Named) (spot : Spot) (phrases : List PhraseText) (es : PExprs) (f t u : ℕ) → WriteAt sc formats ps level phrases es f t → Goes ps level t u →
+      Doing (tree.write n spot phrases es) f u
+  write_at n spot phrases es f t u h g k r follows room c =
+      after_rest sc formats ps level most
+      (first (call Write h.intrinsic (omega (arith, room))) (first (push_number (pos h.format) h.number (omega (arith, room))) there))
+      (line_at sc formats ps level most es phrases k h.format h.numbered h.valued t h.items h.enter (h.number).whole (follows_before sc formats ps level most k g follows) []
+      (subst (λ z. FormatIs sc formats ps level h.format phrases z) (omega arith) h.is) tt (omega (arith, room)))
+
+  -- ---- all statements
+
+  items_follow : (ss : PStmts) (k : List Item) (f t u : ℕ) → StmtsAt sc formats ps level ss f t u → Goes ps level t u → Following k u → HasRoom most (pend k) (stmts_depth ss) →
+      Following (items ss k) f
+  items_follow tree.no_stmts k f t u h g follows room = subst (Following k) (sym h) (follows_before sc formats ps level most k g follows)
+  items_follow (tree.stmts s tree.no_stmts) k f t u h g follows room = follows_run sc formats ps level most s k f t u h g (omega (arith, room)) follows
+  items_follow (tree.stmts s (tree.stmts s' ss)) k f t u h g follows room =
+      let deep : HasRoom most (pend (items (tree.stmts s' ss) k)) (stmt_depth s) = omega (arith, room, ap length (pend-items (tree.stmts s' ss) k)) in
+      follows_run sc formats ps level most s (items (tree.stmts s' ss) k) f h.0 h.0 h.1 stop deep
+      (items_follow (tree.stmts s' ss) k h.0 t u h.2 g follows (omega (arith, room)))
+
+  abbrev DoingAll : PStmts → ℕ → ℕ → Type 0
+  DoingAll ss f u =
+      (k : List Item) (r : Rest) → Following k u → HasRoom most (pend k) (stmts_depth ss) → Coming r u (pend k) → Coming (settle_stmts sc ss k r) f (pend k)
+
+  mutual
+    pub stmt_at : (s : PStmt) (f t u : ℕ) → StmtAt sc formats ps level s f t u → Goes ps level t u → Doing s f u
+    stmt_at tree.empty f t u h g k r follows room c = after_rest sc formats ps level most (leads_by sc formats ps level most (subst (λ z. Goes ps level z u) (sym h) g)) c
+    stmt_at (tree.assign (tree.subscripted n tree.none) e) f t u h g k r follows room c =
+        assign_at sc formats ps level most n e f t k h (follows_before sc formats ps level most k g follows) room
+    stmt_at (tree.block (tree.body spot tree.no_decls ss)) f t u h g k r follows room c = stmts_at ss f t u h g k r follows room c
+    stmt_at (tree.if_then e x) f t u h g k r follows room c =
+        let d = settle_at sc formats ps level most types.Truth e f h.0 h.0 h.2 stop (pend k) (omega (arith, room)) in
+        after_rest sc formats ps level most d.leads
+        (chosen_stands sc formats ps level most (settle sc e) x tree.empty k (settle_stmt sc x k r) r d.at d.with_slots h.0 h.1 t u u u d.shows h.3 h.4 g refl stop follows
+        (omega (arith, room)) (stmt_at x h.1 t u h.4 g k r follows (omega (arith, room)) c) c)
+    stmt_at (tree.if_else e x y) f t u h g k r follows room c =
+        let d = settle_at sc formats ps level most types.Truth e f h.0 h.0 h.4 stop (pend k) (omega (arith, room)) in
+        let out = over h.3 h.7 stop in
+        after_rest sc formats ps level most d.leads
+        (chosen_stands sc formats ps level most (settle sc e) x y k (settle_stmt sc x k r) (settle_stmt sc y k r) d.at d.with_slots h.0 h.1 h.2 h.3 t u d.shows h.5 h.6 out h.8 g follows
+        (omega (arith, room)) (stmt_at x h.1 h.2 u h.6 out k r follows (omega (arith, room)) c) (stmt_at y h.3 t u h.8 g k r follows (omega (arith, room)) c))
+    stmt_at (tree.while e b) f t u h g k r follows room c =
+        let d = settle_at sc formats ps level most types.Truth e f h.0 h.0 h.3 stop (pend k) (omega (arith, room)) in
+        let w : WhileAt sc formats ps level most e b f h.0 t u = (h.1, h.2, h.3, h.4, h.5, h.6) in
+        after_rest sc formats ps level most d.leads
+        (looped_stands sc formats ps level most (settle sc e) e b k (settle_stmt sc b (rests.turn ∷ rests.run (tree.while e b) ∷ k) (rests.turning (rests.run (tree.while e b) ∷ k))) r
+        d.at d.with_slots f h.0 t u d.shows w g follows room (while_body e b k f h.0 t u w g follows room (stmt_at b h.1 h.2 h.2 h.5 stop)) c)
+    stmt_at (tree.until b e) f t u h g k r follows room c =
+        let w = h.2 in
+        let d = settle_at sc formats ps level most types.Truth e h.0 w.0 w.0 w.2 stop (pend k) (omega (arith, room)) in
+        stmt_at b f h.0 h.0 h.1 stop (rests.check b e ∷ k) (checked_of (settle sc e) b e k r)
+        (record { at = (h.0, f, t, u, stop, h.1, w, g, follows.at); shallow = (omega (arith, room, pend-length k), follows.shallow); counts = follows.counts }) (omega (arith, room))
+        (after_rest sc formats ps level most d.leads
+        (checked_stands sc formats ps level most (settle sc e) b e k r d.at d.with_slots f h.0 w.0 w.1 t u d.shows h.1 w.2 w.3 w.4 g follows room c))
+    stmt_at (tree.for v a s l b) f t u h g k r follows room c =
+        let loop : rests.Loop = record { control = v; step = s; last = l; body = b } in
+        assign_at sc formats ps level most v a f h.0 (rests.test loop ∷ k) h.5
+        (record {
+          at = (h.0, t, u, stop, (h.1, h.2, h.3, h.4, h.6, h.7, h.8, h.9, h.10), follows.at);
+          shallow = (omega (arith, room, pend-length k), follows.shallow);
+          counts = follows.counts;
+        }) (omega (arith, room))
+    stmt_at (tree.thru e b) f t u h g k r follows room c =
+        let d = settle_at sc formats ps level most types.Number e f h.0 h.0 h.4 stop (pend k) (omega (arith, room)) in
+        after_rest sc formats ps level most d.leads
+        (counted_stands sc formats ps level most (settle sc e) b k r d.at d.with_slots h.0 t u d.shows (h.1, h.2, h.3, h.5, h.6, h.7, h.8) g follows (omega (arith, room))
+        (stmt_at b h.2 h.3 h.3 h.6 stop) c)
+    stmt_at (tree.case e ss) f t u h g k r follows room c =
+        let d = settle_at sc formats ps level most types.Number e h.0 h.1 h.1 h.4 stop (intrinsic Select ∷ mark ∷ pend k) (omega (arith, room)) in
+        after_rest sc formats ps level most (first (call Select h.3 (omega (arith, room))) d.leads)
+        (selected_stands sc formats ps level most (settle sc e) ss k d.at d.with_slots h.1 h.2 u d.shows h.5 h.6 follows (omega (arith, room, depth-positive e)))
+    stmt_at (tree.write n spot phrases es) f t u h g k r follows room c = write_at n spot phrases es f t u h g k r follows room c
+    stmt_at _ f t u h g k r follows room c = absurd h
+
+    pub stmts_at : (ss : PStmts) (f t u : ℕ) → StmtsAt sc formats ps level ss f t u → Goes ps level t u → DoingAll ss f u
+    stmts_at tree.no_stmts f t u h g k r follows room c = after_rest sc formats ps level most (leads_by sc formats ps level most (subst (λ z. Goes ps level z u) (sym h) g)) c
+    stmts_at (tree.stmts s tree.no_stmts) f t u h g k r follows room c = stmt_at s f t u h g k r follows (omega (arith, room)) c
+    stmts_at (tree.stmts s (tree.stmts s' ss)) f t u h g k r follows room c =
+        let more = tree.stmts s' ss in
+        let same = pend-items more k in
+        subst (λ o. Coming (settle_stmt sc s (items more k) (settle_stmts sc more k r)) f o) same
+        (stmt_at s f h.0 h.0 h.1 stop (items more k) (settle_stmts sc more k r) (items_follow more k h.0 t u h.2 g follows (omega (arith, room))) (omega (arith, room, ap length same))
+        (subst (λ o. Coming (settle_stmts sc more k r) h.0 o) (sym same) (stmts_at (tree.stmts s' ss) h.0 t u h.2 g k r follows (omega (arith, room)) c)))

@@ -1,0 +1,57 @@
+-- The laws of where the machine stands: for every list of operators, every level and every number of words that there may be.
+use Rattle.std.specs.Prelude.{ℕ, ◌<◌, ◌≤◌, List, [], length}
+use Rattle.algol_tree.specs.Blocks.{Block}
+use Rattle.algol_tree.specs.Scopes.{Scopes}
+use Rattle.algol_meaning.specs.Rest.{Item, Rest, Answer}
+use Rattle.algol_meaning.specs.Statements.{settle_items, items_of}
+use Rattle.algol_meaning.specs.Asks.{Ask}
+use Rattle.b67_segment.specs.Operators.{Placed}
+use Rattle.b67_segment.specs.declared.code.Format.{Format}
+use Rattle.b67_templates.specs.Code.{KAt}
+use Rattle.b67_templates.specs.Depths.{stmts_depth}
+use Rattle.b67_standing.specs.Stepping.{Slot, Step, Leads}
+use Rattle.b67_standing.specs.Standing.{pend, Follows, StandsFor, ComesTo, ActionAt, Acted, GoesOn}
+
+-- from where the items stand the machine comes to where it stands for them after the silent steps
+abbrev pub ItemsStand : Type 0
+ItemsStand =
+    (sc : Scopes) (formats : List Format) (ps : List Placed) (level most : ℕ) (k : List Item) (pc : ℕ) →
+    Follows sc formats ps level most k pc → ComesTo sc formats ps level most (settle_items sc k) pc (pend k)
+
+-- so it does from the start of what a block has to do, with nothing above the floor
+abbrev pub BlocksStart : Type 0
+BlocksStart =
+    (sc : Scopes) (formats : List Format) (ps : List Placed) (level most : ℕ) (b : Block) (pc : ℕ) →
+    KAt sc formats ps level (items_of b) pc → stmts_depth b.stmts ≤ most → ComesTo sc formats ps level most (settle_items sc (items_of b)) pc []
+
+-- wherever the machine stands for a rest, the action of its head stands there, and from where that leaves the machine it goes on
+abbrev pub RestsGoOn : Type 0
+RestsGoOn =
+    (sc : Scopes) (formats : List Format) (ps : List Placed) (level most : ℕ) (r : Rest) (pc : ℕ) (slots : List Slot) →
+    StandsFor sc formats ps level most r pc slots → GoesOn sc formats ps level most r pc slots
+
+-- ---- room
+
+-- what waits has room
+abbrev pub CountsHaveRoom : Type 0
+CountsHaveRoom =
+    (sc : Scopes) (formats : List Format) (ps : List Placed) (level most : ℕ) (k : List Item) (pc : ℕ) → Follows sc formats ps level most k pc → length (pend k) ≤ most
+
+-- private operators leave no more words than there may be
+abbrev pub LeadsHaveRoom : Type 0
+LeadsHaveRoom =
+    (sc : Scopes) (formats : List Format) (ps : List Placed) (level most a b : ℕ) (x y : List Slot) →
+    Leads sc formats ps level most a x b y → length x ≤ most → length y ≤ most
+
+-- nor do actions
+abbrev pub ActionsHaveRoom : Type 0
+ActionsHaveRoom =
+    (sc : Scopes) (formats : List Format) (ps : List Placed) (level most : ℕ) (q : Ask) (pc : ℕ) (slots : List Slot) (action : ActionAt sc formats ps level most q pc slots)
+    (a : Answer) (at : ℕ) (after : List Slot) → Acted sc formats ps level most q pc slots action a at after → length slots ≤ most → length after ≤ most
+
+-- ---- branches
+
+-- private operators lead forward
+abbrev pub StepsGoForward : Type 0
+StepsGoForward =
+    (sc : Scopes) (formats : List Format) (ps : List Placed) (level most a b : ℕ) (x y : List Slot) → Step sc formats ps level most a x b y → a < b

@@ -1,0 +1,223 @@
+-- Where the machine stands for what a part has still to do: the place of the code, and what lies above the floor there.
+use Rattle.std.specs.Prelude.{◌≡◌, ℕ, ◌+◌, ◌*◌, ◌<◌, pos, List, [], ◌∷◌, length, Err}
+use Rattle.algol_tree.specs.declared.tree.Op.{Op}
+use Rattle.algol_tree.specs.declared.tree.Kind.{Kind}
+use Rattle.algol_tree.specs.declared.tree.Kind.TheVariants as types
+use Rattle.algol_tree.specs.declared.tree.Named.{Named}
+use Rattle.algol_tree.specs.declared.tree.PhraseText.{PhraseText}
+use Rattle.algol_tree.specs.Plain.{PExpr, PStmt, PStmts}
+use Rattle.algol_tree.specs.Types.{given_by, taken_by}
+use Rattle.algol_tree.specs.Scopes.{Scopes}
+use Rattle.b67_num.specs.declared.NumFault.{NumFault}
+use Rattle.algol_meaning.specs.Value.{Value, number}
+use Rattle.algol_meaning.specs.Operators.{result_of}
+use Rattle.algol_meaning.specs.Rest.{own, Hole, read, broken, left, right, negated, inverted, condition, Half, val, busy, Loop, Item, count, Rest, over, store, select, turning, line, storing, choosing, looping, checking, counting, differing, stepping, selecting, writing, Answer, done, value}
+use Rattle.algol_meaning.specs.Statements.{difference_in, stepped}
+use Rattle.algol_meaning.specs.Asks.{Ask, reads, fails, leaves, stores, selects, turns, writes, ask, resume}
+use Rattle.b67_ops.specs.declared.Couple.{Couple}
+use Rattle.b67_ops.specs.declared.Operator.TheVariants as ops
+use Rattle.b67_ops.specs.declared.PlainKind.TheVariants as kinds
+use Rattle.b67_ops.specs.declared.BranchKind.TheVariants.{Brfl, Brtr, Brun}
+use Rattle.b67_ops.specs.declared.intrinsic.Intrinsic.TheVariants.{Write, Select}
+use Rattle.b67_segment.specs.Operators.{Placed}
+use Rattle.b67_segment.specs.declared.code.Format.{Format}
+use Rattle.b67_templates.specs.Fragments.{IsWhole, HasKind, Has, ReadyAt, BranchAt, TurnAt, Goes, operator_for, is_implication}
+use Rattle.b67_templates.specs.Cells.{IsVariable}
+use Rattle.b67_templates.specs.Code.{FormatIs, ReadAt, ExprAt, LineAt, TableAt, PastAt, StepAt, StmtAt, CasesAt, ThruAt, KAt, exprs_count, stmts_count}
+use Rattle.b67_templates.specs.Depths.{depth, line_depth, loop_depth, stmt_depth, stmts_depth, AreShallow}
+use Rattle.b67_standing.specs.Stepping.{Slot, operand, reference, intrinsic, mark, ready, HasRoom, Leads}
+
+-- the counts that lie there while these items wait
+abbrev pub pend : List Item → List Slot
+pend [] = []
+pend (count n b ∷ k) = operand (number n) ∷ pend k
+pend (_ ∷ k) = pend k
+
+-- each of them is a whole number
+abbrev pub AreCounts : List Item → Type 0
+AreCounts [] = Unit {0}
+AreCounts (count n b ∷ k) = IsWhole n × AreCounts k
+AreCounts (_ ∷ k) = AreCounts k
+
+-- these values, the last on top
+abbrev pub operands : List Value → List Slot → List Slot
+operands [] below = below
+operands (v ∷ vs) below = operands vs (operand v ∷ below)
+
+abbrev pub AreNumbers : List Value → Type 0
+AreNumbers [] = Unit {0}
+AreNumbers (v ∷ vs) = HasKind types.Number v × AreNumbers vs
+
+-- the start of a line: a mark, the reference of the intrinsic, the number of the format
+abbrev pub line_begun : ℕ → List Slot → List Slot
+line_begun format below = operand (number (pos format)) ∷ intrinsic Write ∷ mark ∷ below
+
+module _ (sc : Scopes) (formats : List Format) (ps : List Placed) (level most : ℕ) where
+  -- what is still to be done stands from there on, no item of it needs more words than there may be, and its counts are whole
+  pub record Follows (k : List Item) (pc : ℕ) : Type 0 where
+    pub at : KAt sc formats ps level k pc
+    pub shallow : AreShallow most k
+    pub counts : AreCounts k
+
+  -- ---- operators that are actions, and what they find there; the operator after them stands at the place `next`
+
+  -- the value, of the kind of the variable, lies on its reference
+  pub record StoreAt (n : Named) (v : Value) (pc next : ℕ) (slots below : List Slot) : Type 0 where
+    pub kind : Kind
+    pub couple : Couple
+    pub variable : IsVariable sc level n kind couple
+    pub fits : HasKind kind v
+    pub lies : slots ≡ operand v ∷ reference n ∷ below
+    pub stands : Has ps level pc (ops.Plain kinds.Stod) next
+
+  -- the operands of this operator have no result
+  pub record BreaksAt (op : Op) (v w : Value) (fault : NumFault) (pc next : ℕ) (slots below : List Slot) : Type 0 where
+    pub first_fits : HasKind (taken_by op) v
+    pub second_fits : HasKind (taken_by op) w
+    pub breaks : result_of op v w ≡ Err fault
+    pub lies : slots ≡ operand w ∷ operand (ready op v) ∷ below
+    pub stands : Has ps level pc (ops.Plain (operator_for op)) next
+
+  -- the number of a statement of CASE, how many there are, and their table, which begins behind the entry
+  pub record SelectAt (v : Value) (ss : PStmts) (pc table : ℕ) (slots below : List Slot) : Type 0 where
+    pub fits : HasKind types.Number v
+    pub many : IsWhole (pos (stmts_count ss))
+    pub place : IsWhole (pos table)
+    pub lies : slots ≡ operand (number (pos table)) ∷ operand (number (pos (stmts_count ss))) ∷ operand v ∷ intrinsic Select ∷ mark ∷ below
+    pub stands : Has ps level pc (ops.Plain kinds.Entr) table
+
+  -- the format has as many numbers as there are items
+  pub record WriteAt (phrases : List PhraseText) (vs : List Value) (pc next : ℕ) (slots below : List Slot) : Type 0 where
+    pub format : ℕ
+    pub is : FormatIs sc formats ps level format phrases (length vs)
+    pub whole : IsWhole (pos format)
+    pub fits : AreNumbers vs
+    pub lies : slots ≡ operands vs (line_begun format below)
+    pub stands : Has ps level pc (ops.Plain kinds.Entr) next
+
+  -- ---- expressions
+
+  -- Here the machine stands for an expression that is evaluated up to its head. Its value, of that kind, is to lie on `below` at the
+  -- place `to`, or at one from which branches lead there.
+  abbrev pub Holds : Kind → Hole → ℕ → List Slot → List Slot → ℕ → Type 0
+  Holds k (read n) pc slots below to =
+      (next : ℕ) × ReadAt sc formats ps level n k pc next × (slots ≡ below) × HasRoom most below 1 × Goes ps level next to
+  Holds k (broken op v w fault) pc slots below to = (next : ℕ) × (k ≡ given_by op) × BreaksAt op v w fault pc next slots below
+  Holds k (left op h b) pc slots below to =
+      (m : ℕ) × (r : ℕ) × (n : ℕ) × (next : ℕ) × (k ≡ given_by op) × Holds (taken_by op) h pc slots below m × ReadyAt ps level (is_implication op) m r
+      × ExprAt sc formats ps level (taken_by op) b r n n × HasRoom most below (1 + depth b) × Has ps level n (ops.Plain (operator_for op)) next
+      × Goes ps level next to
+  Holds k (right op v h) pc slots below to =
+      (n : ℕ) × (next : ℕ) × (k ≡ given_by op) × HasKind (taken_by op) v × Holds (taken_by op) h pc slots (operand (ready op v) ∷ below) n
+      × Has ps level n (ops.Plain (operator_for op)) next × Goes ps level next to
+  Holds k (negated h) pc slots below to =
+      (m : ℕ) × (next : ℕ) × (k ≡ types.Number) × Holds types.Number h pc slots below m × Has ps level m (ops.Plain kinds.Chsn) next × Goes ps level next to
+  Holds k (inverted h) pc slots below to =
+      (m : ℕ) × (next : ℕ) × (k ≡ types.Truth) × Holds types.Truth h pc slots below m × Has ps level m (ops.Plain kinds.Lnot) next × Goes ps level next to
+  Holds k (condition h x y) pc slots below to =
+      (m : ℕ) × (m' : ℕ) × (n : ℕ) × (n' : ℕ) × (t : ℕ) × (u : ℕ) × Holds types.Truth h pc slots below m × BranchAt ps level Brfl m n' m'
+      × ExprAt sc formats ps level k x m' n u × BranchAt ps level Brun n u n' × ExprAt sc formats ps level k y n' t u × Goes ps level t u × Goes ps level u to
+      × HasRoom most below (depth x + depth y)
+  Holds k _ pc slots below to = ⊥
+
+  -- the same of an expression after the silent steps: its value lies there already, or it has a head
+  abbrev pub Shows : Kind → Half → ℕ → List Slot → List Slot → ℕ → Type 0
+  Shows k (val v) pc slots below to = Goes ps level pc to × (slots ≡ operand v ∷ below) × HasKind k v
+  Shows k (busy h) pc slots below to = Holds k h pc slots below to
+
+  -- ---- statements
+
+  -- WHILE, whose test begins at f and ends at m
+  abbrev pub WhileAt : PExpr → PStmt → ℕ → ℕ → ℕ → ℕ → Type 0
+  WhileAt c b f m t u =
+      (m' : ℕ) × (n : ℕ) × ExprAt sc formats ps level types.Truth c f m m × BranchAt ps level Brfl m u m' × StmtAt sc formats ps level b m' n n × TurnAt ps level n f t
+
+  -- FOR behind its test, which begins at q: the body, the step, the turn
+  abbrev pub RoundAt : Loop → ℕ → ℕ → ℕ → Type 0
+  RoundAt loop q n t =
+      (w : ℕ) × (x : ℕ) × StmtAt sc formats ps level loop.body n w w × StmtAt sc formats ps level (stepped loop) w x x × TurnAt ps level x q t
+
+  -- Here the machine stands for what a part has still to do, up to its head. What comes after the head stands where the code leads.
+  abbrev pub StandsFor : Rest → ℕ → List Slot → Type 0
+  StandsFor over pc slots = (next : ℕ) × Has ps level pc (ops.Plain kinds.Exit) next × (slots ≡ [])
+  StandsFor (store (own n) v k) pc slots = (next : ℕ) × StoreAt n v pc next slots (pend k) × Follows k next
+  StandsFor (select v ss k) pc slots =
+      (table : ℕ) × (u : ℕ) × SelectAt v ss pc table slots (pend k) × CasesAt sc formats ps level ss table u × Follows k u × HasRoom most (pend k) (stmts_depth ss)
+  StandsFor (turning k) pc slots = (l : ℕ) × (next : ℕ) × TurnAt ps level pc l next × (slots ≡ pend k) × Follows k l
+  StandsFor (line phrases vs k) pc slots = (next : ℕ) × WriteAt phrases vs pc next slots (pend k) × Follows k next
+  StandsFor (storing (own n) h k) pc slots =
+      (kind : Kind) × (c : Couple) × (m : ℕ) × (next : ℕ) × IsVariable sc level n kind c × Holds kind h pc slots (reference n ∷ pend k) m
+      × Has ps level m (ops.Plain kinds.Stod) next × Follows k next
+  StandsFor (choosing h x y k) pc slots =
+      (m : ℕ) × (m' : ℕ) × (n : ℕ) × (f : ℕ) × (t : ℕ) × (u : ℕ) × Holds types.Truth h pc slots (pend k) m × BranchAt ps level Brfl m f m'
+      × StmtAt sc formats ps level x m' n u × Goes ps level n u × StmtAt sc formats ps level y f t u × Goes ps level t u × Follows k u
+      × HasRoom most (pend k) (stmt_depth x + stmt_depth y)
+  StandsFor (looping h c b k) pc slots =
+      (f : ℕ) × (m : ℕ) × (t : ℕ) × (u : ℕ) × Holds types.Truth h pc slots (pend k) m × WhileAt c b f m t u × Goes ps level t u × Follows k u
+      × HasRoom most (pend k) (depth c + stmt_depth b)
+  StandsFor (checking h b c k) pc slots =
+      (f : ℕ) × (q : ℕ) × (m : ℕ) × (m' : ℕ) × (t : ℕ) × (u : ℕ) × Holds types.Truth h pc slots (pend k) m × StmtAt sc formats ps level b f q q
+      × ExprAt sc formats ps level types.Truth c q m m × BranchAt ps level Brtr m u m' × TurnAt ps level m' f t × Goes ps level t u × Follows k u
+      × HasRoom most (pend k) (stmt_depth b + depth c)
+  StandsFor (counting h b k) pc slots =
+      (q : ℕ) × (t : ℕ) × (u : ℕ) × Holds types.Number h pc slots (pend k) q × ThruAt sc formats ps level b q t × Goes ps level t u × Follows k u
+      × HasRoom most (pend k) (3 + stmt_depth b)
+  StandsFor (differing h loop k) pc slots =
+      (q : ℕ) × (m : ℕ) × (n : ℕ) × (t : ℕ) × (u : ℕ) × Holds types.Number h pc slots (pend k) m
+      × ExprAt sc formats ps level types.Number (difference_in loop) q m m × StepAt sc formats ps level loop.step m u n × RoundAt loop q n t × Follows k u
+      × HasRoom most (pend k) (loop_depth loop.step loop.last + stmt_depth loop.body)
+  -- the difference lies below; a step that is a literal has no head
+  StandsFor (stepping d h loop k) pc slots =
+      (q : ℕ) × (m : ℕ) × (m' : ℕ) × (n : ℕ) × (t : ℕ) × (u : ℕ) × HasKind types.Number d × Holds types.Number h pc slots (operand d ∷ pend k) m'
+      × ExprAt sc formats ps level types.Number (difference_in loop) q m m × ExprAt sc formats ps level types.Number loop.step m m' m'
+      × PastAt sc formats ps level m' u n × RoundAt loop q n t × Follows k u
+      × HasRoom most (pend k) (loop_depth loop.step loop.last + stmt_depth loop.body)
+  StandsFor (selecting h ss k) pc slots =
+      (m : ℕ) × (table : ℕ) × (u : ℕ) × Holds types.Number h pc slots (intrinsic Select ∷ mark ∷ pend k) m
+      × TableAt sc formats ps level (stmts_count ss) m table × CasesAt sc formats ps level ss table u × Follows k u
+      × HasRoom most (pend k) (5 + stmts_depth ss)
+  -- vs are the items before the head, es those after it
+  StandsFor (writing phrases vs h es k) pc slots =
+      (format : ℕ) × (m : ℕ) × (n : ℕ) × (next : ℕ) × FormatIs sc formats ps level format phrases (length vs + 1 + exprs_count es) × IsWhole (pos format)
+      × AreNumbers vs × Holds types.Number h pc slots (operands vs (line_begun format (pend k))) m × LineAt sc formats ps level es m n
+      × Has ps level n (ops.Plain kinds.Entr) next × Follows k next × HasRoom most (pend k) (3 + length vs + 1 + line_depth es)
+  StandsFor _ pc slots = ⊥
+
+  -- from this place private operators lead to where the machine stands for this rest
+  pub record ComesTo (r : Rest) (pc : ℕ) (slots : List Slot) : Type 0 where
+    pub at : ℕ
+    pub with_slots : List Slot
+    pub leads : Leads sc formats ps level most pc slots at with_slots
+    pub stands : StandsFor r at with_slots
+
+  -- ---- the action of the head
+
+  -- the operator that does what the head asks for stands there, with what it takes
+  abbrev pub ActionAt : Ask → ℕ → List Slot → Type 0
+  ActionAt (reads n) pc slots = (kind : Kind) × (next : ℕ) × ReadAt sc formats ps level n kind pc next × HasRoom most slots 1
+  ActionAt (fails fault) pc slots =
+      (op : Op) × (v : Value) × (w : Value) × (next : ℕ) × (below : List Slot) × BreaksAt op v w fault pc next slots below
+  ActionAt (leaves done) pc slots = (next : ℕ) × Has ps level pc (ops.Plain kinds.Exit) next × (slots ≡ [])
+  ActionAt (stores (own n) v) pc slots = (next : ℕ) × (below : List Slot) × StoreAt n v pc next slots below
+  -- for each number of a statement a branch stands in the table
+  ActionAt (selects v ss) pc slots =
+      (table : ℕ) × (below : List Slot) × SelectAt v ss pc table slots below
+      × ((i : ℕ) → i < stmts_count ss → (target : ℕ) × (next : ℕ) × BranchAt ps level Brun (table + 3 * i) target next)
+  ActionAt turns pc slots = (l : ℕ) × (next : ℕ) × TurnAt ps level pc l next
+  ActionAt (writes phrases vs) pc slots = (next : ℕ) × (below : List Slot) × WriteAt phrases vs pc next slots below
+  ActionAt _ pc slots = ⊥
+
+  -- where an action with this answer leaves the machine, and what then lies there; after a fault and an end nothing goes on
+  abbrev pub Acted : (q : Ask) (pc : ℕ) (slots : List Slot) → ActionAt q pc slots → Answer → ℕ → List Slot → Type 0
+  Acted (reads n) pc slots a (value v) at after = (at ≡ a.1) × (after ≡ operand v ∷ slots) × HasKind a.0 v
+  Acted (stores (own n) v) pc slots a done at after = (at ≡ a.0) × (after ≡ a.1)
+  Acted (selects v ss) pc slots a done at after =
+      (i : ℕ) × (v ≡ number (pos i)) × (i < stmts_count ss) × (at ≡ a.0 + 3 * i) × (after ≡ a.1)
+  Acted turns pc slots a done at after = (at ≡ a.0) × (after ≡ slots)
+  Acted (writes phrases vs) pc slots a done at after = (at ≡ a.0) × (after ≡ a.1)
+  Acted _ pc slots a _ at after = ⊥
+
+  -- The head's action stands at this place. Whatever it answers, the machine then comes to where it stands for what is left.
+  pub record GoesOn (r : Rest) (pc : ℕ) (slots : List Slot) : Type 0 where
+    pub action : ActionAt (ask r) pc slots
+    pub answered : (a : Answer) (at : ℕ) (after : List Slot) → Acted (ask r) pc slots action a at after → ComesTo (resume sc r a) at after

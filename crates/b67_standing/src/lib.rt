@@ -1,0 +1,35 @@
+//! How the machine stands for what is still to be done in a frame: words by what they mean, and the private operators between two
+//! actions.
+//!
+//! What a part of a process has still to do ends at a head, whose action comes next. For each such rest `specs/Standing.antt` says at
+//! which place of the code the machine then is, and what lies above the floor of the frame there. By the laws private operators alone
+//! lead from one head to the next, as the silent steps of the meaning do.
+#![tactic(auto)]
+
+ghost use Rattle.b67_standing.specs.Laws.{ItemsStand, BlocksStart, RestsGoOn, CountsHaveRoom, LeadsHaveRoom, ActionsHaveRoom, StepsGoForward};
+
+/// Law: from where the code of items stands, with the counts of THRU that wait among them, private operators lead to where the machine
+/// stands for these items after the silent steps. From the start of a block's code they do so with nothing above the floor.
+pub fn items_stand()
+    ensures items { ItemsStand }
+    ensures block { BlocksStart }
+{}
+
+/// Law: wherever the machine stands for a rest, the operator of the action that its head asks for stands there, with what it takes. From
+/// where that leaves the machine, with any answer, private operators lead to where it stands for what is left after that answer.
+pub fn rests_go_on()
+    ensures { RestsGoOn }
+{}
+
+/// Law: private operators and actions leave no more words above the floor than there may be, and there is room for the counts that
+/// wait.
+pub fn slots_have_room()
+    ensures counts { CountsHaveRoom }
+    ensures private { LeadsHaveRoom }
+    ensures actions { ActionsHaveRoom }
+{}
+
+/// Law: private operators lead forward.
+pub fn steps_go_forward()
+    ensures { StepsGoForward }
+{}

@@ -1,0 +1,224 @@
+-- Where the code of each construct stands: from one place to the place after it. What is left early goes on at a third place, to which
+-- branches lead from the place after the code; so a branch never leads to a branch.
+use Rattle.std.specs.Prelude.{◌≡◌, ℕ, zero, suc, ◌+◌, ◌<◌, ◌≤◌, ℤ, pos, neg_ℤ, int_lt, ◌==◌, if◌then◌else◌, Bool, true, false, List, [], ◌∷◌, ◌++◌, length, Option, Some, None, slice_get}
+use Rattle.algol_tree.specs.declared.tree.Op.{Op}
+use Rattle.algol_tree.specs.declared.tree.Op.TheVariants as operators
+use Rattle.algol_tree.specs.declared.tree.Kind.{Kind}
+use Rattle.algol_tree.specs.declared.tree.Kind.TheVariants as types
+use Rattle.algol_tree.specs.declared.tree.Named.{Named}
+use Rattle.algol_tree.specs.declared.tree.PhraseText.{PhraseText}
+use Rattle.algol_tree.specs.declared.tree.PhraseText.TheVariants as phrase
+use Rattle.algol_tree.specs.Plain as tree
+use Rattle.algol_tree.specs.Plain.{PExpr, PExprs, PStmt, PStmts, PBody}
+use Rattle.algol_tree.specs.Spelling.{value_of}
+use Rattle.algol_tree.specs.Types.{given_by, taken_by}
+use Rattle.algol_tree.specs.Scopes.{Scopes}
+use Rattle.algol_meaning.specs.Rest.{Loop, Item, run, turn, count, check, test, result, make_arrays, make_event}
+use Rattle.algol_meaning.specs.Statements.{difference_in, stepped, alone}
+use Rattle.b67_ops.specs.declared.Couple.{Couple}
+use Rattle.b67_ops.specs.declared.Operator.TheVariants as ops
+use Rattle.b67_ops.specs.declared.PlainKind.{PlainKind}
+use Rattle.b67_ops.specs.declared.PlainKind.TheVariants as kinds
+use Rattle.b67_ops.specs.declared.BranchKind.TheVariants.{Brfl, Brtr, Brun}
+use Rattle.b67_ops.specs.declared.intrinsic.Intrinsic.TheVariants.{Write, Select}
+use Rattle.b67_segment.specs.Operators.{Placed}
+use Rattle.b67_segment.specs.declared.code.Phrase.{Phrase}
+use Rattle.b67_segment.specs.declared.code.Phrase.TheVariants as parts
+use Rattle.b67_segment.specs.declared.code.Format.{Format}
+use Rattle.b67_templates.specs.Fragments.{Has, AllAt, NumberAt, ReadyAt, BranchAt, TurnAt, Goes, IntrinsicAt, operator_for, is_implication, truth_literal}
+use Rattle.b67_templates.specs.Cells.{IsVariable}
+
+-- ---- formats
+
+-- Iw is a number in w columns, Xw are w blanks
+abbrev pub word_part : List ℕ → Phrase
+word_part [] = parts.Blanks 0
+word_part (first ∷ digits) = if first == 73 then parts.Number (value_of digits) else parts.Blanks (value_of digits)
+
+pub data IsPart : PhraseText → Phrase → Type 0 where
+  text : (bytes : List ℕ) → IsPart (phrase.Text bytes) (parts.Text bytes)
+  word : (letters : List ℕ) → IsPart (phrase.Word letters) (word_part letters)
+
+abbrev pub AreParts : List PhraseText → List Phrase → Type 0
+AreParts [] parts = parts ≡ []
+AreParts (t ∷ ts) parts = (p : Phrase) × (more : List Phrase) × (parts ≡ p ∷ more) × IsPart t p × AreParts ts more
+
+-- how many numbers a format has
+abbrev pub numbers_in : List Phrase → ℕ
+numbers_in [] = 0
+numbers_in (parts.Number width ∷ ps) = numbers_in ps + 1
+numbers_in (parts.Text bytes ∷ ps) = numbers_in ps
+numbers_in (parts.Blanks n ∷ ps) = numbers_in ps
+
+abbrev pub exprs_count : PExprs → ℕ
+exprs_count tree.none = 0
+exprs_count (tree.more e es) = exprs_count es + 1
+
+abbrev pub stmts_count : PStmts → ℕ
+stmts_count tree.no_stmts = 0
+stmts_count (tree.stmts s ss) = stmts_count ss + 1
+
+-- a number, or one behind a sign
+abbrev pub literal_of : PExpr → Option ℤ
+literal_of (tree.number z spot) = Some z
+literal_of (tree.neg (tree.number z spot) sign) = Some (neg_ℤ z)
+literal_of _ = None
+
+-- what compares the difference with 0, where the step is a number of that sign: past an upper or a lower limit
+pub data StepSign : ℤ → Type 0 where
+  up : {z : ℤ} → int_lt (pos 0) z ≡ true → StepSign z
+  down : {z : ℤ} → int_lt z (pos 0) ≡ true → StepSign z
+  still : StepSign (pos 0)
+
+module _ (sc : Scopes) (formats : List Format) (ps : List Placed) (level : ℕ) where
+  -- the format of this number has these parts, and so many numbers
+  pub record FormatIs (format : ℕ) (phrases : List PhraseText) (items : ℕ) : Type 0 where
+    pub list : List Phrase
+    pub is : slice_get formats format ≡ Some (record { phrases = list })
+    pub parts : AreParts phrases list
+    pub numbers : numbers_in list ≡ items
+
+  abbrev pub ReadAt : Named → Kind → ℕ → ℕ → Type 0
+  ReadAt n kind from to = (c : Couple) × IsVariable sc level n kind c × Has ps level from (ops.Valc c) to
+
+  abbrev pub ReferenceAt : Named → Kind → ℕ → ℕ → Type 0
+  ReferenceAt n kind from to = (c : Couple) × IsVariable sc level n kind c × Has ps level from (ops.Namc c) to
+
+  -- ---- expressions: the value stands at the place after the code, or where that leads
+
+  abbrev pub ExprAt : Kind → PExpr → ℕ → ℕ → ℕ → Type 0
+  ExprAt k (tree.number z spot) f t u = (k ≡ types.Number) × NumberAt ps level z f t
+  ExprAt k (tree.truth b spot) f t u = (k ≡ types.Truth) × Has ps level f (ops.Plain (truth_literal b)) t
+  ExprAt k (tree.variable (tree.subscripted n tree.none)) f t u = ReadAt n k f t
+  ExprAt k (tree.paren e spot) f t u = ExprAt k e f t u
+  ExprAt k (tree.plus e spot) f t u = (k ≡ types.Number) × ExprAt types.Number e f t u
+  ExprAt k (tree.neg e spot) f t u = (m : ℕ) × (k ≡ types.Number) × ExprAt types.Number e f m m × Has ps level m (ops.Plain kinds.Chsn) t
+  ExprAt k (tree.not e spot) f t u = (m : ℕ) × (k ≡ types.Truth) × ExprAt types.Truth e f m m × Has ps level m (ops.Plain kinds.Lnot) t
+  ExprAt k (tree.two op a b) f t u =
+      (m : ℕ) × (r : ℕ) × (n : ℕ) × (k ≡ given_by op) × ExprAt (taken_by op) a f m m × ReadyAt ps level (is_implication op) m r × ExprAt (taken_by op) b r n n
+      × Has ps level n (ops.Plain (operator_for op)) t
+  ExprAt k (tree.if c x y spot) f t u =
+      (m : ℕ) × (m' : ℕ) × (n : ℕ) × (n' : ℕ) × ExprAt types.Truth c f m m × BranchAt ps level Brfl m n' m' × ExprAt k x m' n u × BranchAt ps level Brun n u n'
+      × ExprAt k y n' t u
+  ExprAt k _ f t u = ⊥
+
+  -- ---- statements: what comes next stands at the place after the code, or where that leads
+
+  -- the left side's reference, the value, the store
+  abbrev pub AssignAt : Named → PExpr → ℕ → ℕ → Type 0
+  AssignAt n e f t =
+      (k : Kind) × (m : ℕ) × (r : ℕ) × ReferenceAt n k f m × ExprAt k e m r r × Has ps level r (ops.Plain kinds.Stod) t
+
+  -- items of a line
+  abbrev pub LineAt : PExprs → ℕ → ℕ → Type 0
+  LineAt tree.none f t = f ≡ t
+  LineAt (tree.more e es) f t = (m : ℕ) × ExprAt types.Number e f m m × LineAt es m t
+
+  -- a mark, the reference of the intrinsic, the format's number, the items, the entry
+  pub record WriteAt (phrases : List PhraseText) (es : PExprs) (f t : ℕ) : Type 0 where
+    pub format : ℕ
+    pub is : FormatIs format phrases (exprs_count es)
+    pub named : ℕ
+    pub numbered : ℕ
+    pub valued : ℕ
+    pub intrinsic : IntrinsicAt ps level Write f named
+    pub number : NumberAt ps level (pos format) named numbered
+    pub items : LineAt es numbered valued
+    pub enter : Has ps level valued (ops.Plain kinds.Entr) t
+
+  -- CASE behind its number: how many statements there are, the place of their table, the entry, behind which the table begins
+  abbrev pub TableAt : ℕ → ℕ → ℕ → Type 0
+  TableAt many from table =
+      (b : ℕ) × (c : ℕ) × NumberAt ps level (pos many) from b × NumberAt ps level (pos table) b c × Has ps level c (ops.Plain kinds.Entr) table
+
+  -- THRU: at q the count lies on top. One less than it lies there while the body runs; without a turn left it is dropped at l.
+  pub record CountAt (q l to : ℕ) : Type 0 where
+    pub tested : ℕ
+    pub gone : ℕ
+    pub test : AllAt ps level (kinds.Dupl ∷ kinds.One ∷ kinds.Less ∷ []) q tested
+    pub branch : BranchAt ps level Brtr tested l gone
+    pub less : AllAt ps level (kinds.One ∷ kinds.Subt ∷ []) gone to
+
+  -- FOR: the sign of the step on top times the difference below it is compared with 0
+  pub record PastAt (f u to : ℕ) : Type 0 where
+    pub tested : ℕ
+    pub test :
+      AllAt ps level
+      (kinds.Dupl ∷ kinds.Zero ∷ kinds.Grtr ∷ kinds.Exch ∷ kinds.Zero ∷ kinds.Less ∷ kinds.Subt ∷ kinds.Mult ∷ kinds.Zero ∷ kinds.Grtr ∷ [])
+      f tested
+    pub branch : BranchAt ps level Brtr tested u to
+
+  -- where the step is a literal its sign is known: the difference is compared with 0, or dropped
+  abbrev pub SignedAt : {z : ℤ} → StepSign z → ℕ → ℕ → ℕ → Type 0
+  SignedAt (up p) f u to = (m : ℕ) × AllAt ps level (kinds.Zero ∷ kinds.Grtr ∷ []) f m × BranchAt ps level Brtr m u to
+  SignedAt (down p) f u to = (m : ℕ) × AllAt ps level (kinds.Zero ∷ kinds.Less ∷ []) f m × BranchAt ps level Brtr m u to
+  SignedAt still f u to = Has ps level f (ops.Plain kinds.Dlet) to
+
+  -- what follows the difference in the test of FOR: the step and its sign, or the sign of a literal
+  pub data StepAt (step : PExpr) (f u to : ℕ) : Type 0 where
+    any : (m : ℕ) → ExprAt types.Number step f m m → PastAt m u to → StepAt step f u to
+    literal : (z : ℤ) → literal_of step ≡ Some z → (s : StepSign z) → SignedAt s f u to → StepAt step f u to
+
+  -- the test of DO .. UNTIL at q, with the body from f on
+  abbrev pub UntilAt : PExpr → ℕ → ℕ → ℕ → ℕ → Type 0
+  UntilAt c f q t u = (m : ℕ) × (m' : ℕ) × ExprAt types.Truth c q m m × BranchAt ps level Brtr m u m' × TurnAt ps level m' f t
+
+  abbrev mutual
+    pub StmtAt : PStmt → ℕ → ℕ → ℕ → Type 0
+    StmtAt tree.empty f t u = f ≡ t
+    StmtAt (tree.assign (tree.subscripted n tree.none) e) f t u = AssignAt n e f t
+    StmtAt (tree.block (tree.body spot tree.no_decls ss)) f t u = StmtsAt ss f t u
+    StmtAt (tree.if_then c x) f t u =
+        (m : ℕ) × (m' : ℕ) × ExprAt types.Truth c f m m × BranchAt ps level Brfl m u m' × StmtAt x m' t u
+    StmtAt (tree.if_else c x y) f t u =
+        (m : ℕ) × (m' : ℕ) × (n : ℕ) × (n' : ℕ) × ExprAt types.Truth c f m m × BranchAt ps level Brfl m n' m' × StmtAt x m' n u × BranchAt ps level Brun n u n'
+        × StmtAt y n' t u
+    StmtAt (tree.while c b) f t u =
+        (m : ℕ) × (m' : ℕ) × (n : ℕ) × ExprAt types.Truth c f m m × BranchAt ps level Brfl m u m' × StmtAt b m' n n × TurnAt ps level n f t
+    StmtAt (tree.until b c) f t u = (q : ℕ) × StmtAt b f q q × UntilAt c f q t u
+    StmtAt (tree.for v a s l b) f t u =
+        (q : ℕ) × (m : ℕ) × (n : ℕ) × (w : ℕ) × (x : ℕ) × AssignAt v a f q × ExprAt types.Number (tree.two operators.Sub (alone v) l) q m m × StepAt s m u n
+        × StmtAt b n w w × AssignAt v (tree.two operators.Add (alone v) s) w x × TurnAt ps level x q t
+    StmtAt (tree.thru e b) f t u =
+        (q : ℕ) × (l : ℕ) × (q' : ℕ) × (m : ℕ) × ExprAt types.Number e f q q × CountAt q l q' × StmtAt b q' m m × TurnAt ps level m q l
+        × Has ps level l (ops.Plain kinds.Dlet) t
+    StmtAt (tree.case e ss) f t u =
+        (a : ℕ) × (m : ℕ) × (table : ℕ) × IntrinsicAt ps level Select f a × ExprAt types.Number e a m m × TableAt (stmts_count ss) m table × CasesAt ss table u
+    StmtAt (tree.write n spot phrases es) f t u = WriteAt phrases es f t
+    StmtAt _ f t u = ⊥
+
+    pub StmtsAt : PStmts → ℕ → ℕ → ℕ → Type 0
+    StmtsAt tree.no_stmts f t u = f ≡ t
+    StmtsAt (tree.stmts s tree.no_stmts) f t u = StmtAt s f t u
+    StmtsAt (tree.stmts s (tree.stmts s' ss)) f t u = (m : ℕ) × StmtAt s f m m × StmtsAt (tree.stmts s' ss) m t u
+
+    -- each entry of the table is a branch to its statement
+    pub CasesAt : PStmts → ℕ → ℕ → Type 0
+    CasesAt tree.no_stmts entry u = Unit {0}
+    CasesAt (tree.stmts s ss) entry u =
+        (p : ℕ) × (x : ℕ) × BranchAt ps level Brun entry p (entry + 3) × StmtAt s p x u × Goes ps level x u × CasesAt ss (entry + 3) u
+
+  -- FOR from its test on
+  abbrev pub LoopAt : Loop → ℕ → ℕ → ℕ → Type 0
+  LoopAt loop q t u =
+      (m : ℕ) × (n : ℕ) × (w : ℕ) × (x : ℕ) × ExprAt types.Number (difference_in loop) q m m × StepAt loop.step m u n × StmtAt loop.body n w w
+      × StmtAt (stepped loop) w x x × TurnAt ps level x q t
+
+  -- THRU from its count on
+  abbrev pub ThruAt : PStmt → ℕ → ℕ → Type 0
+  ThruAt b q t =
+      (l : ℕ) × (q' : ℕ) × (m : ℕ) × CountAt q l q' × StmtAt b q' m m × TurnAt ps level m q l × Has ps level l (ops.Plain kinds.Dlet) t
+
+  -- ---- what is still to be done
+
+  abbrev pub KAt : List Item → ℕ → Type 0
+  KAt [] pc = (q : ℕ) × (to : ℕ) × Goes ps level pc q × Has ps level q (ops.Plain kinds.Exit) to
+  KAt (run s ∷ k) pc = (q : ℕ) × (t : ℕ) × (u : ℕ) × Goes ps level pc q × StmtAt s q t u × Goes ps level t u × KAt k u
+  KAt (turn ∷ k) pc = (q : ℕ) × (l : ℕ) × (to : ℕ) × Goes ps level pc q × TurnAt ps level q l to × KAt k l
+  KAt (count n b ∷ k) pc = (q : ℕ) × (t : ℕ) × (u : ℕ) × Goes ps level pc q × ThruAt b q t × Goes ps level t u × KAt k u
+  KAt (check b c ∷ k) pc =
+      (q : ℕ) × (f : ℕ) × (t : ℕ) × (u : ℕ) × Goes ps level pc q × StmtAt b f q q × UntilAt c f q t u × Goes ps level t u × KAt k u
+  KAt (test loop ∷ k) pc = (q : ℕ) × (t : ℕ) × (u : ℕ) × Goes ps level pc q × LoopAt loop q t u × KAt k u
+  KAt (result name ∷ k) pc = ⊥
+  KAt (make_arrays kind ns pairs ∷ k) pc = ⊥
+  KAt (make_event n ∷ k) pc = ⊥

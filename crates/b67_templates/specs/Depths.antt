@@ -1,0 +1,78 @@
+-- How many words lie on the stack at most while a construct is evaluated or performed, and how many syllables its code has at most.
+use Rattle.std.specs.Prelude.{◌≡◌, ℕ, ◌+◌, ◌*◌, ◌≤◌, List, [], ◌∷◌}
+use Rattle.algol_tree.specs.Plain as tree
+use Rattle.algol_tree.specs.Plain.{PExpr, PExprs, PStmt, PStmts, PBody}
+use Rattle.algol_tree.specs.Counts.{expr_tokens, stmt_tokens}
+use Rattle.algol_meaning.specs.Rest.{Loop, Item, run, turn, count, check, test, result, make_arrays, make_event}
+
+abbrev pub depth : PExpr → ℕ
+depth (tree.paren e spot) = depth e
+depth (tree.plus e spot) = depth e
+depth (tree.neg e spot) = depth e
+depth (tree.not e spot) = depth e
+depth (tree.two op a b) = depth a + depth b
+depth (tree.if c x y spot) = depth c + depth x + depth y
+depth _ = 1
+
+abbrev pub line_depth : PExprs → ℕ
+line_depth tree.none = 0
+line_depth (tree.more e es) = depth e + line_depth es
+
+-- the difference, the step, and two words more in their comparison with 0
+abbrev pub loop_depth : PExpr → PExpr → ℕ
+loop_depth step last = 4 + depth step + depth last
+
+abbrev mutual
+  pub stmt_depth : PStmt → ℕ
+  stmt_depth (tree.assign v e) = 1 + depth e
+  stmt_depth (tree.block b) = body_depth b
+  stmt_depth (tree.if_then c x) = depth c + stmt_depth x
+  stmt_depth (tree.if_else c x y) = depth c + stmt_depth x + stmt_depth y
+  stmt_depth (tree.while c b) = depth c + stmt_depth b
+  stmt_depth (tree.until b c) = stmt_depth b + depth c
+  stmt_depth (tree.for v a s l b) = 1 + depth a + loop_depth s l + stmt_depth b
+  -- the count, and two words more in its test
+  stmt_depth (tree.thru e b) = depth e + 3 + stmt_depth b
+  -- a mark, a reference, the number, how many statements, the table's place
+  stmt_depth (tree.case e ss) = 4 + depth e + stmts_depth ss
+  -- a mark, a reference, the format's number, the items
+  stmt_depth (tree.write n spot phrases es) = 3 + line_depth es
+  stmt_depth _ = 0
+
+  pub stmts_depth : PStmts → ℕ
+  stmts_depth tree.no_stmts = 0
+  stmts_depth (tree.stmts s ss) = stmt_depth s + stmts_depth ss
+
+  pub body_depth : PBody → ℕ
+  body_depth (tree.body spot ds ss) = stmts_depth ss
+
+-- how many words an item of what is to be done needs above those that lie below it
+abbrev pub item_depth : Item → ℕ
+item_depth (run s) = stmt_depth s
+item_depth turn = 0
+item_depth (count n b) = 3 + stmt_depth b
+item_depth (check b c) = stmt_depth b + depth c
+item_depth (test loop) = loop_depth loop.step loop.last + stmt_depth loop.body
+item_depth (result name) = 1
+item_depth (make_arrays kind ns pairs) = 0
+item_depth (make_event n) = 0
+
+-- a count lies on the stack while what comes before it is done
+abbrev pub counts_in : List Item → ℕ
+counts_in [] = 0
+counts_in (count n b ∷ k) = 1 + counts_in k
+counts_in (_ ∷ k) = counts_in k
+
+-- no item needs more than so many words
+abbrev pub AreShallow : ℕ → List Item → Type 0
+AreShallow most [] = Unit {0}
+AreShallow most (item ∷ k) = (counts_in k + item_depth item ≤ most) × AreShallow most k
+
+-- ---- lengths
+
+-- the code of an expression stands at most twice, that of a statement once
+abbrev pub expr_syllables : PExpr → ℕ
+expr_syllables e = 12 * expr_tokens e
+
+abbrev pub stmt_syllables : PStmt → ℕ
+stmt_syllables s = 24 * stmt_tokens s

@@ -1,0 +1,108 @@
+-- The small pieces of which templates are made, in a segment of these operators, at one level.
+use Rattle.std.specs.Prelude.{◌≡◌, ℕ, ◌<◌, ◌≤◌, unsigned_abs, ℤ, pos, Bool, true, false, List, [], ◌∷◌, length}
+use Rattle.algol_tree.specs.declared.tree.Op.{Op}
+use Rattle.algol_tree.specs.declared.tree.Op.TheVariants as operators
+use Rattle.algol_tree.specs.declared.tree.Kind.{Kind}
+use Rattle.algol_tree.specs.declared.tree.Kind.TheVariants as types
+use Rattle.algol_meaning.specs.Value.{Value, number, truth}
+use Rattle.b67_num.specs.Whole.{most}
+use Rattle.b67_word.specs.Word.{Word, word, operand}
+use Rattle.b67_ops.specs.declared.Operator.{Operator}
+use Rattle.b67_ops.specs.declared.Operator.TheVariants as ops
+use Rattle.b67_ops.specs.declared.PlainKind.{PlainKind}
+use Rattle.b67_ops.specs.declared.PlainKind.TheVariants as kinds
+use Rattle.b67_ops.specs.declared.BranchKind.{BranchKind}
+use Rattle.b67_ops.specs.declared.BranchKind.TheVariants.{Brfl, Brtr, Brun}
+use Rattle.b67_ops.specs.declared.intrinsic.Intrinsic.{Intrinsic}
+use Rattle.b67_ops.specs.Intrinsics.{couple_of_intrinsic}
+use Rattle.b67_segment.specs.Operators.{Placed, StandsAmong}
+
+-- ---- values
+
+abbrev pub IsWhole : ℤ → Type 0
+IsWhole z = unsigned_abs z ≤ most
+
+-- the value is of this kind, and a number is a whole one
+abbrev pub HasKind : Kind → Value → Type 0
+HasKind types.Number (number z) = IsWhole z
+HasKind types.Truth (truth b) = Unit {0}
+HasKind _ _ = ⊥
+
+-- an operator that pushes this word and does nothing else
+pub data IsLiteral : Operator → Word → Type 0 where
+  zero_pushed : IsLiteral (ops.Plain kinds.Zero) (operand (pos 0))
+  one_pushed : IsLiteral (ops.Plain kinds.One) (operand (pos 1))
+  byte : (n : ℕ) → IsLiteral (ops.Lt8 n) (operand (pos n))
+  two_bytes : (n : ℕ) → IsLiteral (ops.Lt16 n) (operand (pos n))
+  whole_word : (n : ℕ) → IsLiteral (ops.Lt48 n) (word 0 n)
+
+-- ---- the operators of the language
+
+abbrev pub truth_literal : Bool → PlainKind
+truth_literal true = kinds.One
+truth_literal false = kinds.Zero
+
+-- The operator that the machine has for an operator of the language: of an implication the first operand is inverted before.
+abbrev pub operator_for : Op → PlainKind
+operator_for operators.Add = kinds.Add
+operator_for operators.Sub = kinds.Subt
+operator_for operators.Mul = kinds.Mult
+operator_for operators.Over = kinds.Divd
+operator_for operators.Div = kinds.Idiv
+operator_for operators.Mod = kinds.Rdiv
+operator_for operators.Lss = kinds.Less
+operator_for operators.Leq = kinds.Lseq
+operator_for operators.Eql = kinds.Equl
+operator_for operators.Neq = kinds.Neql
+operator_for operators.Geq = kinds.Greq
+operator_for operators.Gtr = kinds.Grtr
+operator_for operators.And = kinds.Land
+operator_for operators.Or = kinds.Lor
+operator_for operators.Imp = kinds.Lor
+operator_for operators.Eqv = kinds.Leqv
+
+abbrev pub is_implication : Op → Bool
+is_implication operators.Imp = true
+is_implication _ = false
+
+-- ---- operators one after another
+
+module _ (ps : List Placed) (level : ℕ) where
+  -- this operator stands there, and the next place is that
+  abbrev pub Has : ℕ → Operator → ℕ → Type 0
+  Has at op next = StandsAmong ps at level op next
+
+  -- these operators without operands stand from one place to another
+  abbrev pub AllAt : List PlainKind → ℕ → ℕ → Type 0
+  AllAt [] from to = from ≡ to
+  AllAt (kind ∷ more) from to = (m : ℕ) × Has from (ops.Plain kind) m × AllAt more m to
+
+  pub record NumberAt (value : ℤ) (from to : ℕ) : Type 0 where
+    pub op : Operator
+    pub stands : Has from op to
+    pub literal : IsLiteral op (operand value)
+    pub whole : IsWhole value
+
+  -- the first operand of an implication is inverted
+  abbrev pub ReadyAt : Bool → ℕ → ℕ → Type 0
+  ReadyAt true from to = Has from (ops.Plain kinds.Lnot) to
+  ReadyAt false from to = from ≡ to
+
+  -- a branch to a place further on
+  pub record BranchAt (kind : BranchKind) (from target to : ℕ) : Type 0 where
+    pub stands : Has from (ops.Branch kind target) to
+    pub forward : from < target
+
+  -- the branch back to the start of a loop
+  pub record TurnAt (from target to : ℕ) : Type 0 where
+    pub stands : Has from (ops.Branch Brun target) to
+    pub back : target ≤ from
+
+  -- from one place branches forward alone lead to another
+  pub data Goes : ℕ → ℕ → Type 0 where
+    stop : {a : ℕ} → Goes a a
+    over : {a b c : ℕ} (next : ℕ) → BranchAt Brun a b next → Goes b c → Goes a c
+
+  -- a mark, and the reference of an intrinsic
+  abbrev pub IntrinsicAt : Intrinsic → ℕ → ℕ → Type 0
+  IntrinsicAt name from to = (m : ℕ) × Has from (ops.Plain kinds.Mkst) m × Has m (ops.Namc (couple_of_intrinsic name)) to
