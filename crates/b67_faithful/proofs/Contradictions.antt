@@ -1,9 +1,7 @@
 -- What two equations of one value say of each other.
-use Rattle.std.proofs.Common.{◌≡◌, Some, None, Bool, true, false, refl}
-use Rattle.std.specs.Prelude.{◌&&◌}
+use Rattle.std.proofs.Common.{◌≡◌, Some, None, Bool, true, false}
 use Rattle.b67_num.specs.declared.FaultKind.{FaultKind}
-use Rattle.b67_table.specs.declared.InterruptKind.{InterruptKind}
-use Rattle.b67_table.specs.Outcome.{Outcome, gives, faults, interrupts, limit}
+use Rattle.b67_table.specs.Outcome.{Outcome, gives, faults}
 
 pub true_false : {B : Type 0} {x : Bool} → x ≡ true → x ≡ false → B
 true_false e f = cc

@@ -1,8 +1,7 @@
 -- A code whose images picture the worlds of a source follows it.
-use Rattle.std.proofs.Common.{append_assoc, inl, inr, ◌≡◌, ℕ, zero, suc, ◌+◌, List, [], ◌∷◌, ◌++◌, Option, Some, None, Bool, true, false, refl, sym, ap, ◌∙◌, subst}
+use Rattle.std.proofs.Common.{append_assoc, inl, inr, ◌≡◌, ℕ, ◌+◌, List, [], ◌∷◌, ◌++◌, Option, Some, true, refl, sym, ap, ◌∙◌, subst}
 use Rattle.std.specs.Prelude.{◌⊎◌, reverse}
 use Rattle.std.proofs.lemmas.List.{reverse-reverse}
-use Rattle.b67_list.specs.Numbered.{numbered}
 use Rattle.algol_tree.specs.Plain.{PProgram}
 use Rattle.algol_tree.specs.Scopes.{scopes_of}
 use Rattle.algol_meaning.specs.World.{World}
@@ -12,12 +11,12 @@ use Rattle.algol_meaning.specs.Run.{start, run, Legal, may_go}
 use Rattle.b67_segment.specs.declared.code.Code.{Code}
 use Rattle.b67_table.specs.Image.{Image}
 use Rattle.b67_table.specs.Beginning.{first_image}
-use Rattle.b67_table.specs.Runs.{Plains, stay, go, Acts, Entry, Runs, begin, entry, Tails, none, next, TableRun}
+use Rattle.b67_table.specs.Runs.{Plains, stay, go, Runs, begin, entry, Tails, none, next, TableRun}
 use Rattle.b67_table.specs.Sound.{Sound}
 use Rattle.b67_faithful.specs.Agreement.{Agrees}
 use Rattle.b67_faithful.specs.Correspondence.{operator_action, operator_actions, action_in, source_actions}
 use Rattle.b67_faithful.specs.Faithful.{ComesToLimit, Follows}
-use Rattle.b67_faithful.specs.Simulation.{Simulates, Acted, Comes, acts, stops}
+use Rattle.b67_faithful.specs.Simulation.{Simulates, Comes, acts, stops}
 use Rattle.b67_faithful.proofs.Contradictions.{some_same}
 use Rattle.b67_faithful.proofs.Sources.{reverse-cons, entered, entered_back, run-later, before}
 use Rattle.b67_faithful.proofs.Ways.{may_follow, may_lead}

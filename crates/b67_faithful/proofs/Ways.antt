@@ -1,8 +1,7 @@
 -- An able process has the same say in world and image; the machine has one way to go.
-use Rattle.std.proofs.Common.{◌≡◌, ℕ, Option, Some, None, Bool, true, false, refl, sym, ap, ◌∙◌}
+use Rattle.std.proofs.Common.{◌≡◌, ℕ, Option, Some, None, Bool, true, refl, sym, ap, ◌∙◌}
 use Rattle.b67_list.specs.Numbered.{numbered}
-use Rattle.algol_meaning.specs.World.{World, process_at}
-use Rattle.algol_meaning.specs.World.{is_able as meaning_able}
+use Rattle.algol_meaning.specs.World.{World}
 use Rattle.algol_meaning.specs.Run.{End, end_of, may_go}
 use Rattle.algol_meaning.specs.Run as meaning
 use Rattle.b67_segment.specs.declared.code.Code.{Code}

@@ -1,22 +1,19 @@
 -- Which action of the source each operator that is not plain is, in the code of a tree.
 use Rattle.std.specs.Prelude.{ℕ, ◌+◌, if◌then◌else◌, nat_eq, List, [], ◌∷◌, Option, Some, None, Result, Ok, Err, reverse}
 use Rattle.b67_list.specs.Numbered.{numbered}
-use Rattle.b67_num.specs.declared.FaultKind.{FaultKind}
 use Rattle.algol_tree.specs.Plain.{PProgram}
 use Rattle.algol_tree.specs.Scopes.{scopes_of}
 use Rattle.algol_meaning.specs.World.{World}
 use Rattle.algol_meaning.specs.Actions as act
 use Rattle.algol_meaning.specs.Actions.{Action}
-use Rattle.algol_meaning.specs.Choice.{Choice, choice}
+use Rattle.algol_meaning.specs.Choice.{choice}
 use Rattle.algol_meaning.specs.Run.{run}
-use Rattle.b67_word.specs.declared.Place.{Place}
 use Rattle.b67_word.specs.Word.{Word}
 use Rattle.b67_control.specs.declared.Registers.{Registers}
 use Rattle.b67_control.specs.declared.Irw.{Irw}
 use Rattle.b67_control.specs.Control.{as_irw}
 use Rattle.b67_ops.specs.declared.Operator.{Operator}
 use Rattle.b67_ops.specs.declared.Operator.TheVariants as ops
-use Rattle.b67_ops.specs.declared.PlainKind.{PlainKind}
 use Rattle.b67_ops.specs.declared.PlainKind.TheVariants as kinds
 use Rattle.b67_ops.specs.declared.BranchKind.TheVariants.{Brun}
 use Rattle.b67_ops.specs.declared.BadCode.{BadCode}
@@ -24,7 +21,7 @@ use Rattle.b67_ops.specs.declared.intrinsic.Intrinsic.{Intrinsic}
 use Rattle.b67_ops.specs.declared.intrinsic.Intrinsic.TheVariants as names
 use Rattle.b67_segment.specs.declared.code.Code.{Code}
 use Rattle.b67_store.specs.Store.{word_at}
-use Rattle.b67_table.specs.Outcome.{Outcome, gives, faults}
+use Rattle.b67_table.specs.Outcome.{Outcome, faults}
 use Rattle.b67_table.specs.Image.{Image}
 use Rattle.b67_table.specs.Names.{intrinsic_numbered}
 use Rattle.b67_table.specs.Private.{frame}

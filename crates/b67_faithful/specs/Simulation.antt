@@ -1,10 +1,10 @@
 -- What makes a code follow a source: images that picture worlds, from the first one on, through every operator.
-use Rattle.std.specs.Prelude.{◌≡◌, ℕ, ◌+◌, true, Option, Some, None}
+use Rattle.std.specs.Prelude.{◌≡◌, ℕ, true, Some}
 use Rattle.algol_tree.specs.Plain.{PProgram}
 use Rattle.algol_tree.specs.Scopes.{scopes_of}
 use Rattle.algol_meaning.specs.World.{World}
 use Rattle.algol_meaning.specs.Choice.{choice}
-use Rattle.algol_meaning.specs.Run.{start, may_go}
+use Rattle.algol_meaning.specs.Run.{start}
 use Rattle.b67_word.specs.declared.Place.{Place}
 use Rattle.b67_control.specs.declared.Registers.{Registers}
 use Rattle.b67_segment.specs.declared.code.Code.{Code}

@@ -1,11 +1,8 @@
 -- How many words the stack of a process may have, by what the source has open in it.
-use Rattle.std.specs.Prelude.{ℕ, ◌+◌, ◌*◌, if◌then◌else◌, Bool, true, false, List, [], ◌∷◌, length}
-use Rattle.algol_tree.specs.declared.token.Spot.{Spot}
+use Rattle.std.specs.Prelude.{ℕ, ◌+◌, ◌*◌, if◌then◌else◌, List, [], ◌∷◌, length}
 use Rattle.algol_tree.specs.Plain.{PProgram}
 use Rattle.algol_tree.specs.Counts.{program_tokens}
-use Rattle.algol_tree.specs.Blocks.{Block, block_numbered}
-use Rattle.algol_tree.specs.Scopes.{Scopes, scopes_of}
-use Rattle.algol_meaning.specs.World.{Instance, Part, Process, World, instance_at, process_at}
+use Rattle.algol_meaning.specs.World.{Part, World, instance_at, process_at}
 use Rattle.algol_meaning.specs.Critical.{is_evaluation}
 
 -- the tokens of the segment in whose text a block stands: today that of the program is the only one

@@ -1,5 +1,5 @@
 -- An operator whose operands have no result.
-use Rattle.std.proofs.Common.{◌≡◌, refl, sym, ap, ◌∙◌, subst, ℕ, ◌+◌, ◌-◌, ◌<◌, ◌≤◌, List, [], ◌∷◌, ◌++◌, length, Option, Some, None, Result, Ok, Err, arith, ℤ}
+use Rattle.std.proofs.Common.{◌≡◌, refl, ap, ◌∙◌, ℕ, ◌+◌, ◌-◌, ◌<◌, List, ◌∷◌, length, Some, Result, Ok, Err, arith, ℤ}
 use Rattle.algol_tree.specs.declared.tree.Op.{Op}
 use Rattle.algol_tree.specs.declared.tree.Op.TheVariants as operators
 use Rattle.algol_tree.specs.declared.tree.Kind.TheVariants as types
@@ -23,7 +23,7 @@ use Rattle.b67_table.specs.PrivateRows.{arithmetic, onward, pointed, result_or_f
 use Rattle.b67_table.specs.Rows.{Row, row, private_part, plain_row}
 use Rattle.b67_table.specs.Table.{raw, operator_at, by_row}
 use Rattle.b67_templates.specs.Fragments.{HasKind, operator_for}
-use Rattle.b67_cores.specs.Cores.{Core, HasCore, part_of}
+use Rattle.b67_cores.specs.Cores.{Core, HasCore}
 use Rattle.b67_cores.specs.Slots.{ValueIs}
 use Rattle.b67_cores.proofs.PartRows.{part, then_is, pop_is}
 use Rattle.b67_cores.proofs.Taking.{number_read}

@@ -1,9 +1,8 @@
 -- An image with another core of a process.
-use Rattle.std.proofs.Common.{◌≡◌, ◌≢◌, refl, sym, ap, ◌∙◌, ℕ, zero, suc, ◌≤◌, List, [], ◌∷◌, Option, Some, None}
-use Rattle.b67_list.specs.Numbered.{numbered, set_numbered}
+use Rattle.std.proofs.Common.{◌≡◌, ◌≢◌, refl, sym, ap, ◌∙◌, ℕ, zero, suc, List, [], ◌∷◌, Some}
+use Rattle.b67_list.specs.Numbered.{numbered}
 use Rattle.algol_meaning.specs.World.{Process, World}
 use Rattle.b67_word.specs.Word.{Word}
-use Rattle.b67_control.specs.declared.Registers.{Registers}
 use Rattle.b67_store.specs.Store.{Stacks, stack_at, with_stack}
 use Rattle.b67_table.specs.Image.{Image}
 use Rattle.b67_cores.specs.Cores.{Core, IsCore, HasCore, with_core, stack_of}

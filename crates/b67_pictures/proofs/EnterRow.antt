@@ -1,6 +1,6 @@
 -- ENTR on an intrinsic: the intrinsic is given the words above its reference, the first one first.
-use Rattle.std.proofs.Common.{rules, length-append, ◌≡◌, refl, sym, ap, ◌∙◌, ℕ, ◌+◌, ◌-◌, ◌<◌, ◌≤◌, List, [], ◌∷◌, ◌++◌, length, take, drop, Option, Some, None, Bool, true, false, Result, Ok, arith, append_assoc}
-use Rattle.std.specs.Prelude.{if◌then◌else◌, nat_le, nat_lt, ◌&&◌, slice_get, reverse}
+use Rattle.std.proofs.Common.{length-append, ◌≡◌, sym, ap, ◌∙◌, ℕ, ◌+◌, ◌-◌, ◌<◌, List, [], ◌∷◌, ◌++◌, length, take, drop, Option, Some, None, Bool, true, false, Ok, arith, append_assoc}
+use Rattle.std.specs.Prelude.{if◌then◌else◌, nat_lt, ◌&&◌, slice_get, reverse}
 use Rattle.std.proofs.lemmas.Bool.Decides.{nat_tests}
 use Rattle.std.proofs.lemmas.List.{length-reverse}
 use Rattle.b67_word.specs.declared.Place.{Place}
@@ -16,22 +16,21 @@ use Rattle.b67_ops.specs.declared.PlainKind.TheVariants as kinds
 use Rattle.b67_segment.specs.declared.code.Code.{Code}
 use Rattle.b67_store.specs.Store.{words_of, word_at}
 use Rattle.b67_table.specs.declared.Cell.{Cell}
-use Rattle.b67_table.specs.declared.Class.TheVariants as classes
 use Rattle.b67_table.specs.declared.Reached.{Reached}
 use Rattle.b67_table.specs.Names.{intrinsic_numbered}
-use Rattle.b67_table.specs.Effect.{Effect, gives}
+use Rattle.b67_table.specs.Effect.{Effect}
 use Rattle.b67_table.specs.Image.{Image}
-use Rattle.b67_table.specs.Look.{Look, found, stops, at, ◌>->◌, valid}
+use Rattle.b67_table.specs.Look.{Look, found, at, ◌>->◌, valid}
 use Rattle.b67_table.specs.Chains.{place}
-use Rattle.b67_table.specs.Program.{Program, Test, does, effect_of, asked, see, ◌>>=◌}
+use Rattle.b67_table.specs.Program.{Program, does, effect_of, asked, see, ◌>>=◌}
 use Rattle.b67_table.specs.Private.{display_at, floor}
-use Rattle.b67_table.specs.References.{cell_in, cell_place, irw_or_sirw, reached, reached_in, one_sirw, named, invalid}
+use Rattle.b67_table.specs.References.{cell_in, irw_or_sirw, reached_in, one_sirw, invalid}
 use Rattle.b67_table.specs.Intrinsics.{intrinsic, intrinsic_row}
-use Rattle.b67_table.specs.Rows.{row, enter, enter_by, enter_procedure, not_entered}
-use Rattle.b67_table.specs.Table.{raw, operator_at, class_at}
+use Rattle.b67_table.specs.Rows.{enter, enter_by, enter_procedure, not_entered}
+use Rattle.b67_table.specs.Table.{operator_at}
 use Rattle.b67_cores.specs.Cores.{Core, HasCore}
-use Rattle.b67_pictures.proofs.Rows.{raw_is, words_are}
-use Rattle.b67_pictures.proofs.StackWords.{word-under, stack-over, drop-seam, take-all, length-stack, reverse-cons}
+use Rattle.b67_pictures.proofs.Rows.{words_are}
+use Rattle.b67_pictures.proofs.StackWords.{word-under, stack-over, drop-seam, take-all, length-stack}
 use Rattle.b67_pictures.proofs.StoreRow.{most_is}
 
 pub below_is : (m n : ℕ) → m < n → nat_lt m n ≡ true
@@ -78,8 +77,8 @@ module _ (code : Code) (img : Image) (p : ℕ) (core : Core) (has : HasCore img 
   arguments_are =
       ap (λ (ws : List Word). take (r.s - (r.f + 2)) (drop (r.f + 2) ws)) (whole ∙ stack-over core.below arguments (reference ∷ marked ∷ below))
       ∙ ap (take (r.s - (r.f + 2)))
-        (drop-seam (core.below ++ reverse (reference ∷ marked ∷ below)) (reverse arguments) (r.f + 2)
-        (omega (arith, called.mark_at, length-stack core.below (reference ∷ marked ∷ below))))
+      (drop-seam (core.below ++ reverse (reference ∷ marked ∷ below)) (reverse arguments) (r.f + 2)
+      (omega (arith, called.mark_at, length-stack core.below (reference ∷ marked ∷ below))))
       ∙ take-all (reverse arguments) (r.s - (r.f + 2)) (omega (arith, long, called.mark_at, length-reverse arguments))
 
   abbrev on_mark : Mscw → Program
@@ -97,9 +96,9 @@ module _ (code : Code) (img : Image) (p : ℕ) (core : Core) (has : HasCore img 
   pub enter_does : does p (enter code r next) img ≡ tested (intrinsic_row (intrinsic_numbered pcw.number) code r next m (reverse arguments))
   enter_does =
       ap (λ (b : Bool). tested (see (if b && nat_lt (r.f + 1) r.s then at (place r.stack r.f) (λ (w : Option Word). valid w >-> on_word) else invalid) >>= on_mark))
-        (most_is (floor r) r.f (omega (arith, called.mark_at, has.is.bottom)))
+      (most_is (floor r) r.f (omega (arith, called.mark_at, has.is.bottom)))
       ∙ ap (λ (b : Bool). tested (see (if b then at (place r.stack r.f) (λ (w : Option Word). valid w >-> on_word) else invalid) >>= on_mark))
-        (below_is (r.f + 1) r.s (omega (arith, called.mark_at, long)))
+      (below_is (r.f + 1) r.s (omega (arith, called.mark_at, long)))
       ∙ ap (λ (o : Option Word). tested (see (valid o >-> on_word) >>= on_mark)) mark_word
       ∙ ap (λ (o : Option Mscw). tested (see (valid o >-> not_entered) >>= on_mark)) reads_mark
       ∙ ap (λ (b : Bool). tested (see (if b then invalid else found m) >>= on_mark)) unentered

@@ -1,14 +1,12 @@
 -- The action of an operator without a result: the fault.
-use Rattle.std.proofs.Common.{◌≡◌, refl, sym, ap, ◌∙◌, subst, ℕ, ◌+◌, List, [], ◌∷◌, length, Option, Some, None, Result, Ok, Err, arith}
-use Rattle.b67_list.specs.Numbered.{numbered}
+use Rattle.std.proofs.Common.{◌≡◌, refl, sym, ap, ◌∙◌, subst, ℕ, List, [], ◌∷◌, length, Some, None, Ok, Err}
 use Rattle.algol_tree.specs.declared.tree.Op.{Op}
 use Rattle.algol_tree.specs.declared.tree.Op.TheVariants as operators
 use Rattle.algol_tree.specs.Plain.{PProgram}
-use Rattle.algol_tree.specs.Scopes.{Scopes, scopes_of}
-use Rattle.algol_tree.specs.Types.{taken_by}
+use Rattle.algol_tree.specs.Scopes.{scopes_of}
 use Rattle.algol_meaning.specs.Value.{Value}
 use Rattle.algol_meaning.specs.Operators.{result_of}
-use Rattle.algol_meaning.specs.World.{Process, Part, able, World}
+use Rattle.algol_meaning.specs.World.{Process, Part, World}
 use Rattle.algol_meaning.specs.Actions.{Fault}
 use Rattle.algol_meaning.specs.Asks.{Ask, fails, ask}
 use Rattle.algol_meaning.specs.Choice.{Choice, choice, choice_of}
@@ -25,8 +23,8 @@ use Rattle.b67_table.specs.Ending.{failed}
 use Rattle.b67_table.specs.Outcome as outcomes
 use Rattle.b67_table.specs.Private.{frame}
 use Rattle.b67_table.specs.Table.{table, operator_at}
-use Rattle.b67_templates.specs.Fragments.{HasKind, operator_for}
-use Rattle.b67_standing.specs.Stepping.{Slot, operand, ready}
+use Rattle.b67_templates.specs.Fragments.{operator_for}
+use Rattle.b67_standing.specs.Stepping.{operand, ready}
 use Rattle.b67_standing.specs.Standing.{ActionAt}
 use Rattle.b67_cores.specs.Cores.{Core}
 use Rattle.b67_cores.specs.Slots.{ValueIs}

@@ -1,19 +1,17 @@
 -- Where a process finds a variable: in the frame of its own part.
-use Rattle.std.proofs.Common.{◌≡◌, refl, sym, ap, ◌∙◌, subst, ℕ, suc, ◌+◌, ◌-◌, ◌<◌, ◌≤◌, ◌^◌, List, [], ◌∷◌, length, Option, Some, None, Result, Ok, arith}
+use Rattle.std.proofs.Common.{◌≡◌, sym, ap, ◌∙◌, subst, ℕ, suc, ◌+◌, ◌-◌, ◌≤◌, List, ◌∷◌, length, Option, Some, Ok, arith}
 use Rattle.std.specs.Prelude.{slice_get}
-use Rattle.b67_list.specs.Numbered.{numbered}
 use Rattle.algol_tree.specs.declared.tree.Kind.{Kind}
 use Rattle.algol_tree.specs.declared.tree.Named.{Named}
 use Rattle.algol_tree.specs.Blocks.{Block, block_numbered}
 use Rattle.algol_tree.specs.Cells.{level_of}
 use Rattle.algol_tree.specs.Scopes.{Scopes, use_of}
-use Rattle.algol_meaning.specs.Value.{Value, Cell, simple}
-use Rattle.algol_meaning.specs.World.{Instance, World, instance_at, or_no_instance, ancestor, cell_at, cell_in}
+use Rattle.algol_meaning.specs.Value.{Value, simple}
+use Rattle.algol_meaning.specs.World.{Instance, World, or_no_instance, ancestor, cell_at, cell_in}
 use Rattle.b67_word.specs.declared.Place.{Place}
 use Rattle.b67_word.specs.Word.{Word}
 use Rattle.b67_ops.specs.declared.Couple.{Couple}
 use Rattle.b67_ops.specs.declared.Operator.{Operator}
-use Rattle.b67_ops.specs.declared.BadCode.{BadCode}
 use Rattle.b67_ops.specs.declared.TheConstants.{OUTER_LEVEL}
 use Rattle.b67_segment.specs.Operators.{Placed}
 use Rattle.b67_segment.specs.Fetching.{fetched}
@@ -23,7 +21,7 @@ use Rattle.b67_table.specs.Chains.{place}
 use Rattle.b67_table.specs.Private.{display_at}
 use Rattle.b67_table.specs.Table.{operator_at}
 use Rattle.b67_templates.specs.Fragments.{HasKind, Has}
-use Rattle.b67_templates.specs.Cells.{Simple, Found, found_from, simple_cells, IsVariable}
+use Rattle.b67_templates.specs.Cells.{simple_cells, IsVariable}
 use Rattle.b67_standing.specs.Stepping.{Slot}
 use Rattle.b67_cores.specs.Cores.{Core}
 use Rattle.b67_cores.specs.Slots.{ValueIs}

@@ -1,9 +1,9 @@
 -- Actions that change nothing but what lies above the cells of the process's own frame, and the output.
-use Rattle.std.proofs.Common.{◌≡◌, ◌≢◌, refl, sym, ap, ◌∙◌, subst, ℕ, ◌+◌, ◌≤◌, List, [], ◌∷◌, length, Option, Some, None, false, arith}
+use Rattle.std.proofs.Common.{◌≡◌, ◌≢◌, refl, sym, ap, ◌∙◌, subst, ℕ, ◌+◌, ◌≤◌, List, [], ◌∷◌, length, Some, None, false, arith}
 use Rattle.b67_list.specs.Numbered.{numbered}
 use Rattle.algol_tree.specs.Plain.{PProgram}
-use Rattle.algol_tree.specs.Scopes.{Scopes, scopes_of}
-use Rattle.algol_meaning.specs.Rest.{Answer, Rest}
+use Rattle.algol_tree.specs.Scopes.{scopes_of}
+use Rattle.algol_meaning.specs.Rest.{Rest}
 use Rattle.algol_meaning.specs.World.{Process, Part, able, World, with_process}
 use Rattle.algol_meaning.specs.Actions.{Action}
 use Rattle.algol_meaning.specs.Choice.{Choice, choice}
@@ -13,7 +13,6 @@ use Rattle.b67_ops.specs.declared.TheConstants.{OUTER_LEVEL}
 use Rattle.b67_segment.specs.Operators.{Placed}
 use Rattle.b67_segment.specs.declared.code.Code.{Code}
 use Rattle.b67_store.specs.Store.{stack_limit}
-use Rattle.b67_table.specs.declared.ProcessState.{ProcessState}
 use Rattle.b67_table.specs.declared.ProcessState.TheVariants.{Able}
 use Rattle.b67_table.specs.Image.{Image}
 use Rattle.b67_table.specs.Effect as effects
@@ -24,7 +23,7 @@ use Rattle.b67_faithful.specs.Correspondence.{operator_action}
 use Rattle.b67_faithful.specs.Weight.{weight}
 use Rattle.b67_standing.specs.Stepping.{Slot}
 use Rattle.b67_standing.specs.Standing.{ComesTo}
-use Rattle.b67_cores.specs.Cores.{Core, IsCore, HasCore, with_core}
+use Rattle.b67_cores.specs.Cores.{Core, HasCore, with_core}
 use Rattle.b67_cores.specs.Stretches.{CoreAt, FragmentsArePerformed}
 use Rattle.b67_cores.proofs.Moving.{slots_length}
 use Rattle.b67_pictures.specs.Flat.{IsFlat}
@@ -33,7 +32,7 @@ use Rattle.b67_pictures.specs.Frames.{IsChained, Framed}
 use Rattle.algol_tree.specs.Blocks.{block_numbered}
 use Rattle.algol_tree.specs.Cells.{level_of}
 use Rattle.b67_pictures.specs.Pictures.{PicturesBy}
-use Rattle.b67_pictures.proofs.Cored.{registers_now, has_now, others_have, system_stays}
+use Rattle.b67_pictures.proofs.Cored.{has_now, others_have, system_stays}
 use Rattle.b67_control.specs.Display.{place_at}
 use Rattle.b67_pictures.proofs.Numbers.{numbered_set}
 use Rattle.b67_pictures.proofs.Stage.{gives_within, alike_by, goes_on}

@@ -1,6 +1,6 @@
 -- WRITE and SELECT.
-use Rattle.std.proofs.Common.{◌≡◌, refl, sym, ap, ◌∙◌, ℕ, ◌+◌, ◌-◌, ◌*◌, ◌<◌, ◌≤◌, List, [], ◌∷◌, ◌++◌, length, take, Option, Some, None, Bool, true, false, Result, Ok, arith, append_assoc, ℤ}
-use Rattle.std.specs.Prelude.{if◌then◌else◌, nat_le, nat_lt, reverse, pos}
+use Rattle.std.proofs.Common.{◌≡◌, refl, sym, ap, ◌∙◌, ℕ, ◌+◌, ◌-◌, ◌*◌, ◌≤◌, List, [], ◌∷◌, ◌++◌, take, Option, Some, None, Bool, true, false, Ok, append_assoc, ℤ}
+use Rattle.std.specs.Prelude.{if◌then◌else◌, reverse, pos}
 use Rattle.b67_num.specs.declared.FaultKind.TheVariants.{CaseIndex}
 use Rattle.b67_word.specs.declared.Place.{Place}
 use Rattle.b67_word.specs.Word.{Word}
@@ -15,18 +15,17 @@ use Rattle.b67_ops.specs.declared.intrinsic.Intrinsic.TheVariants.{Write, Select
 use Rattle.b67_segment.specs.declared.code.Code.{Code}
 use Rattle.b67_store.specs.Store.{words_of, word_at, with_stack}
 use Rattle.b67_table.specs.declared.Class.TheVariants as classes
-use Rattle.b67_table.specs.declared.InterruptKind.TheVariants.{BrokenChain}
 use Rattle.b67_table.specs.Effect.{Effect, gives, faults}
 use Rattle.b67_table.specs.Image.{Image, with_stacks, with_registers}
-use Rattle.b67_table.specs.Look.{Look, found, ◌>->◌, valid, chained, read_as}
+use Rattle.b67_table.specs.Look.{found, ◌>->◌, valid, chained, read_as}
 use Rattle.b67_table.specs.Chains.{place, mark_at, broken}
 use Rattle.b67_table.specs.Limits.{end_of_code}
 use Rattle.b67_table.specs.Lines.{line_for}
 use Rattle.b67_table.specs.Names.{intrinsic_numbered}
 use Rattle.b67_table.specs.Private.{display_at}
-use Rattle.b67_table.specs.Program.{Program, does, effect_of, asked, see, answer, ◌>>=◌, line}
+use Rattle.b67_table.specs.Program.{Program, effect_of, asked, see, answer, ◌>>=◌, line}
 use Rattle.b67_table.specs.Arguments.{Three, three_in, wholes_in, if_chained, finished_at}
-use Rattle.b67_table.specs.Intrinsics.{intrinsic_row, write, select, case_in, case_place, gone_to_case}
+use Rattle.b67_table.specs.Intrinsics.{intrinsic_row, case_in, case_place, gone_to_case}
 use Rattle.b67_table.specs.Rows.{row}
 use Rattle.b67_table.specs.Table.{raw, operator_at, class_at}
 use Rattle.b67_cores.specs.Cores.{Core, HasCore, with_core}
@@ -78,7 +77,7 @@ module _ (code : Code) (img : Image) (p : ℕ) (core : Core) (has : HasCore img 
   entered =
       raw_is code img p core has (ops.Plain kinds.Entr) next there
       ∙ enter_does code img p core has next there arguments reference marked below c.called c.m c.reads_mark c.unentered c.level c.index c.frame c.reads c.shown c.entry c.lies c.no_sirw
-        c.pcw c.reads_entry c.is_intrinsic
+      c.pcw c.reads_entry c.is_intrinsic
       ∙ ap (λ (o : Option Intrinsic). tested (intrinsic_row o code r next c.m (reverse arguments))) c.numbered
 
   cut_words : take r.f (words_of img.stacks r.stack) ≡ core.below ++ reverse below

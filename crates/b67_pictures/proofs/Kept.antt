@@ -1,25 +1,24 @@
 -- What an action of one process leaves of the picture of another.
-use Rattle.std.proofs.Common.{◌≡◌, ◌≢◌, refl, sym, ap, ◌∙◌, subst, ℕ, zero, suc, ◌+◌, ◌-◌, ◌*◌, ◌≤◌, List, [], ◌∷◌, ◌++◌, length, Option, Some, None, Bool}
+use Rattle.std.proofs.Common.{◌≡◌, refl, sym, ap, ◌∙◌, subst, ℕ, zero, suc, ◌+◌, ◌*◌, ◌≤◌, List, [], ◌∷◌, length, Option, Some}
 use Rattle.std.specs.Prelude.{if◌then◌else◌}
-use Rattle.b67_list.specs.Numbered.{numbered, set_numbered}
+use Rattle.b67_list.specs.Numbered.{numbered}
 use Rattle.algol_tree.specs.Plain.{PProgram}
-use Rattle.algol_tree.specs.Blocks.{Block, block_numbered}
+use Rattle.algol_tree.specs.Blocks.{block_numbered}
 use Rattle.algol_tree.specs.Cells.{level_of}
 use Rattle.algol_tree.specs.Scopes.{Scopes, scopes_of}
-use Rattle.algol_meaning.specs.World.{Instance, Part, Process, World, instance_at, or_no_instance, ancestor, process_at, or_no_process}
+use Rattle.algol_meaning.specs.World.{Instance, Part, Process, World, instance_at, or_no_instance, ancestor, process_at}
 use Rattle.algol_meaning.specs.Critical.{is_evaluation}
 use Rattle.b67_word.specs.declared.Place.{Place}
 use Rattle.b67_word.specs.Word.{Word}
-use Rattle.b67_control.specs.Display.{place_at}
 use Rattle.b67_segment.specs.Operators.{Placed}
 use Rattle.b67_segment.specs.declared.code.Code.{Code}
 use Rattle.b67_table.specs.Image.{Image}
 use Rattle.b67_standing.specs.Standing.{StandsFor}
 use Rattle.b67_cores.specs.Cores.{Core, HasCore}
 use Rattle.b67_cores.specs.Stretches.{CoreAt}
-use Rattle.b67_faithful.specs.Weight.{weight, parts_weight, part_weight, segment_tokens}
+use Rattle.b67_faithful.specs.Weight.{weight, parts_weight, segment_tokens}
 use Rattle.b67_pictures.specs.Frames.{IsChained, Framed, Stands, Frames}
-use Rattle.b67_pictures.specs.Pictures.{Living, Pictured, living, dead}
+use Rattle.b67_pictures.specs.Pictures.{Pictured, living, dead}
 
 -- the instances of a process are the same in two worlds, and each has the parent that it had
 pub record AreAlike (w w' : World) (r : ℕ) : Type 0 where
@@ -54,8 +53,8 @@ module _ (tree : PProgram) (code : Code) (texts : ℕ → List Placed) (w w' : W
   stands_alike : (part : Part) (at most : ℕ) (lower : List Word) (core : Core) → (s : Stands sc code texts w lay r part at most lower core) →
       (t : Stands sc code texts w' lay r part at most lower core) × (t.mark ≡ s.mark) × (t.control ≡ s.control)
   stands_alike part at most lower core s =
-      let same : instance_at w part.instance ≡ instance_at w' part.instance = same_instance part.instance at s.cells core.registers.display s.framed in
-      ( record {
+      let same : instance_at w part.instance ≡ instance_at w' part.instance = same_instance part.instance at s.cells core.registers.display s.framed in (
+        record {
           owns = s.owns;
           mark = s.mark;
           control = s.control;
@@ -70,9 +69,9 @@ module _ (tree : PProgram) (code : Code) (texts : ℕ → List Placed) (w w' : W
               subst (λ (x : Instance). StandsFor sc code.formats (texts x.block) (level_of (block_numbered sc.blocks x.block)) most part.rest s.pc s.slots) same s.stands;
           there = subst (λ (x : Instance). CoreAt sc code (texts x.block) (level_of (block_numbered sc.blocks x.block)) s.pc s.slots core) same s.there;
           few = s.few;
-        }
-      , refl
-      , refl
+        },
+        refl,
+        refl,
       )
 
   frames_alike : (parts : List Part) (most : ℕ) (core : Core) → Frames sc code texts w lay r parts most core → Frames sc code texts w' lay r parts most core

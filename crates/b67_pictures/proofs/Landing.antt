@@ -1,6 +1,5 @@
 -- A process that has a core at a place from which private operators lead to where the machine stands for what its part has still to do.
-use Rattle.std.proofs.Common.{◌≡◌, refl, sym, ap, ◌∙◌, subst, ℕ, ◌+◌, ◌≤◌, List, [], ◌∷◌, ◌++◌, length, Option, Some, None, false, arith}
-use Rattle.b67_list.specs.Numbered.{numbered}
+use Rattle.std.proofs.Common.{◌≡◌, refl, sym, ap, ◌∙◌, subst, ℕ, ◌+◌, ◌≤◌, List, [], ◌∷◌, length, Some, None, false, arith}
 use Rattle.algol_tree.specs.Plain.{PProgram}
 use Rattle.algol_tree.specs.Cells.{level_of}
 use Rattle.algol_tree.specs.Scopes.{scopes_of}
@@ -21,7 +20,7 @@ use Rattle.b67_table.specs.Image.{Image}
 use Rattle.b67_standing.specs.Stepping.{Slot}
 use Rattle.b67_standing.specs.Standing.{ComesTo}
 use Rattle.b67_cores.specs.Cores.{Core, HasCore}
-use Rattle.b67_cores.specs.Stretches.{CoreAt, IsMoved, Arrives, FragmentsArePerformed}
+use Rattle.b67_cores.specs.Stretches.{CoreAt, Arrives, FragmentsArePerformed}
 use Rattle.b67_faithful.specs.Weight.{weight}
 use Rattle.b67_pictures.specs.Frames.{block_at, Framed, Stands, Frames}
 use Rattle.b67_pictures.specs.Pictures.{Living}

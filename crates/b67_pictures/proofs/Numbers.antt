@@ -1,5 +1,5 @@
 -- Numbers of processes, and lists by number.
-use Rattle.std.proofs.Common.{◌≡◌, ◌≢◌, ◌⊎◌, inl, inr, refl, sym, ap, ◌∙◌, ℕ, zero, suc, ◌<◌, List, [], ◌∷◌, length, set, Option, Some, None, arith}
+use Rattle.std.proofs.Common.{◌≡◌, ◌≢◌, ◌⊎◌, inl, inr, refl, ap, ℕ, zero, suc, List, [], ◌∷◌, length, Some, None, arith}
 use Rattle.std.specs.Prelude.{slice_get, slice_set}
 use Rattle.b67_list.specs.Numbered.{numbered, set_numbered}
 

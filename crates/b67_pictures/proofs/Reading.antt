@@ -1,38 +1,32 @@
 -- A read.
-use Rattle.std.proofs.Common.{◌≡◌, ◌≢◌, refl, sym, ap, ◌∙◌, subst, ℕ, ◌+◌, ◌≤◌, List, [], ◌∷◌, length, Option, Some, None, Result, Ok, arith}
+use Rattle.std.proofs.Common.{◌≡◌, refl, sym, ap, ◌∙◌, subst, ℕ, ◌+◌, ◌≤◌, List, [], ◌∷◌, length, Some, None, Ok, arith}
 use Rattle.std.specs.Prelude.{slice_get}
-use Rattle.b67_list.specs.Numbered.{numbered, set_numbered}
-use Rattle.algol_tree.specs.declared.tree.Kind.{Kind}
+use Rattle.b67_list.specs.Numbered.{numbered}
 use Rattle.algol_tree.specs.declared.tree.Named.{Named}
 use Rattle.algol_tree.specs.Plain.{PProgram}
-use Rattle.algol_tree.specs.Scopes.{Scopes, scopes_of, use_of}
-use Rattle.algol_meaning.specs.Value.{Value, Cell, simple}
+use Rattle.algol_tree.specs.Scopes.{Scopes, scopes_of}
+use Rattle.algol_meaning.specs.Value.{Cell}
 use Rattle.algol_meaning.specs.Rest.{Answer, value}
-use Rattle.algol_meaning.specs.World.{Process, Part, able, World, with_process, ancestor, cell_at}
-use Rattle.algol_meaning.specs.Actions.{Action, Read}
+use Rattle.algol_meaning.specs.World.{Process, Part, able, World, with_process}
+use Rattle.algol_meaning.specs.Actions.{Read}
 use Rattle.algol_meaning.specs.Asks.{Ask, reads, ask, resume}
 use Rattle.algol_meaning.specs.Choice.{Choice, choice, choice_of, read_of}
 use Rattle.b67_word.specs.declared.Place.{Place}
 use Rattle.b67_word.specs.Word.{Word}
-use Rattle.b67_control.specs.declared.Registers.{Registers}
-use Rattle.b67_ops.specs.declared.Couple.{Couple}
 use Rattle.b67_ops.specs.declared.Operator.TheVariants as ops
 use Rattle.b67_ops.specs.declared.TheConstants.{OUTER_LEVEL}
 use Rattle.b67_segment.specs.Operators.{Placed}
 use Rattle.b67_segment.specs.declared.code.Code.{Code}
-use Rattle.b67_store.specs.Store.{word_at, stack_limit}
+use Rattle.b67_store.specs.Store.{word_at}
 use Rattle.b67_table.specs.Chains.{place}
-use Rattle.b67_table.specs.declared.ProcessState.{ProcessState}
 use Rattle.b67_table.specs.declared.ProcessState.TheVariants.{Able}
 use Rattle.b67_table.specs.Image.{Image}
 use Rattle.b67_table.specs.Effect as effects
 use Rattle.b67_table.specs.Outcome as outcomes
 use Rattle.b67_table.specs.Table.{table, raw, operator_at}
-use Rattle.b67_faithful.specs.Correspondence.{operator_action}
 use Rattle.b67_standing.specs.Stepping.{Slot, operand}
 use Rattle.b67_standing.specs.Standing.{ActionAt, Acted, ComesTo}
-use Rattle.b67_cores.specs.Cores.{Core, IsCore, HasCore, with_core, stack_of}
-use Rattle.b67_cores.specs.Slots.{ValueIs}
+use Rattle.b67_cores.specs.Cores.{Core, IsCore, with_core}
 use Rattle.b67_cores.specs.Stretches.{CoreAt, FragmentsArePerformed}
 use Rattle.b67_pictures.specs.Flat.{IsFlat}
 use Rattle.b67_pictures.specs.Acting.{Does, gave}
@@ -43,7 +37,7 @@ use Rattle.b67_pictures.proofs.ValueRow.{with_top, value_raw, value_class}
 use Rattle.b67_pictures.proofs.Words.{value_tag, no_sirw, no_pcw}
 use Rattle.b67_pictures.proofs.Cored.{registers_now, has_now, others_have, system_stays}
 use Rattle.b67_pictures.proofs.Homes.{operator_there, Home, home}
-use Rattle.b67_pictures.proofs.Stage.{gives_within, choice_is, process_is, alike_by, goes_on}
+use Rattle.b67_pictures.proofs.Stage.{gives_within, choice_is, alike_by, goes_on}
 use Rattle.b67_pictures.proofs.Landing.{living_of}
 use Rattle.b67_pictures.proofs.Scene.{Scene, landed, weight_of_one}
 use Rattle.b67_cores.proofs.Moving.{slots_length}

@@ -1,5 +1,5 @@
 -- The row of the operator at which a core stands.
-use Rattle.std.proofs.Common.{◌≡◌, refl, sym, ap, ◌∙◌, ℕ, ◌+◌, List, [], ◌∷◌, ◌++◌, Option, Some, None, Bool, true, false, Result, Ok, Err, append_assoc}
+use Rattle.std.proofs.Common.{◌≡◌, refl, sym, ap, ◌∙◌, ℕ, List, [], ◌∷◌, ◌++◌, Option, Bool, true, false, Result, Ok, append_assoc}
 use Rattle.std.specs.Prelude.{if◌then◌else◌, ◌&&◌, reverse}
 use Rattle.std.proofs.lemmas.List.{reverse-append}
 use Rattle.b67_list.specs.Numbered.{numbered}
@@ -9,18 +9,16 @@ use Rattle.b67_control.specs.declared.Registers.{Registers}
 use Rattle.b67_ops.specs.declared.Operator.{Operator}
 use Rattle.b67_ops.specs.declared.BadCode.{BadCode}
 use Rattle.b67_segment.specs.declared.code.Code.{Code}
-use Rattle.b67_store.specs.Store.{Stacks, words_or, words_of, with_stack}
+use Rattle.b67_store.specs.Store.{words_or, words_of}
 use Rattle.b67_table.specs.declared.Class.TheVariants as classes
 use Rattle.b67_table.specs.declared.InterruptKind.TheVariants.{BadCode as bad_code}
-use Rattle.b67_table.specs.Effect.{Effect, interrupts}
-use Rattle.b67_table.specs.Effect as effects
+use Rattle.b67_table.specs.Effect.{interrupts}
 use Rattle.b67_table.specs.Outcome.{Outcome, limited}
 use Rattle.b67_table.specs.Outcome as outcomes
-use Rattle.b67_table.specs.Image.{Image, with_stacks, with_registers}
-use Rattle.b67_table.specs.Program.{Program, does}
-use Rattle.b67_table.specs.Rows.{Row, row, action}
-use Rattle.b67_table.specs.Table.{table, raw, plain, by_registers, by_operator, by_row, operator_at, class_at, class_by, is_private, is_new, private_at, private_in, private_next, stack_length}
-use Rattle.b67_cores.specs.Cores.{Core, HasCore, with_core, stack_of}
+use Rattle.b67_table.specs.Image.{Image}
+use Rattle.b67_table.specs.Rows.{row}
+use Rattle.b67_table.specs.Table.{table, raw, plain, by_registers, by_operator, by_row, operator_at, class_at, is_private, is_new, private_at, private_in, private_next}
+use Rattle.b67_cores.specs.Cores.{Core, HasCore, stack_of}
 use Rattle.b67_faithful.specs.Correspondence.{action_by, fetched_action, registers_action, operator_action}
 
 module _ (code : Code) (img : Image) (p : ℕ) (core : Core) (has : HasCore img p core) (op : Operator) (next : ℕ) (at : operator_at code core.registers ≡ Ok (op, next)) where

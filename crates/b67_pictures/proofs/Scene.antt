@@ -1,6 +1,6 @@
 -- A process that stands at its action.
-use Rattle.std.proofs.Common.{◌≡◌, ◌≢◌, refl, sym, ap, ◌∙◌, subst, ℕ, ◌+◌, ◌≤◌, List, [], ◌∷◌, length, Option, Some, None, false, arith}
-use Rattle.b67_list.specs.Numbered.{numbered, set_numbered}
+use Rattle.std.proofs.Common.{◌≡◌, refl, sym, ap, ◌∙◌, subst, ℕ, ◌+◌, ◌≤◌, List, [], ◌∷◌, length, Option, Some, None, false}
+use Rattle.b67_list.specs.Numbered.{numbered}
 use Rattle.algol_tree.specs.Plain.{PProgram}
 use Rattle.algol_tree.specs.declared.token.Spot.{Spot}
 use Rattle.algol_tree.specs.Blocks.{Block, block_numbered}
@@ -25,7 +25,7 @@ use Rattle.b67_cores.specs.Cores.{Core, HasCore}
 use Rattle.b67_cores.specs.Stretches.{CoreAt}
 use Rattle.b67_faithful.specs.Weight.{weight, parts_weight}
 use Rattle.b67_pictures.specs.Flat.{IsFlat}
-use Rattle.b67_pictures.specs.Frames.{Framed, Stands, Frames, block_at}
+use Rattle.b67_pictures.specs.Frames.{Framed, Stands, Frames}
 use Rattle.b67_pictures.specs.Pictures.{Living, PicturesBy}
 use Rattle.b67_pictures.proofs.Landing.{Landed}
 use Rattle.b67_pictures.proofs.Stage.{process_is}

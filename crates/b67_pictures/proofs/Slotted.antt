@@ -1,5 +1,5 @@
 -- The words of slots, one after another.
-use Rattle.std.proofs.Common.{◌≡◌, refl, sym, ap, ◌∙◌, subst, ℕ, ◌+◌, List, [], ◌∷◌, ◌++◌, length, arith}
+use Rattle.std.proofs.Common.{◌≡◌, refl, subst, ℕ, List, [], ◌∷◌}
 use Rattle.algol_tree.specs.Scopes.{Scopes}
 use Rattle.b67_word.specs.Word.{Word}
 use Rattle.b67_standing.specs.Stepping.{Slot}

@@ -1,13 +1,13 @@
 -- What all actions share: the choice of the world, the limit, and the picture after an action.
-use Rattle.std.proofs.Common.{◌≡◌, ◌≢◌, ◌⊎◌, inl, inr, refl, sym, ap, ◌∙◌, subst, ℕ, ◌+◌, ◌≤◌, List, [], ◌∷◌, length, Option, Some, None, Bool, true, false, arith}
+use Rattle.std.proofs.Common.{◌≡◌, ◌≢◌, ◌⊎◌, inl, inr, refl, sym, ap, ◌∙◌, subst, ℕ, ◌≤◌, List, [], ◌∷◌, length, Option, Some, Bool}
 use Rattle.std.specs.Prelude.{if◌then◌else◌, nat_le}
 use Rattle.b67_list.specs.Numbered.{numbered, set_numbered}
 use Rattle.b67_num.specs.declared.FaultKind.{FaultKind}
 use Rattle.algol_tree.specs.Plain.{PProgram}
-use Rattle.algol_tree.specs.Scopes.{Scopes, scopes_of}
-use Rattle.algol_meaning.specs.World.{Instance, Part, Process, State, able, World, WorldFault, instance_at, or_no_instance, process_at, or_no_process}
+use Rattle.algol_tree.specs.Scopes.{Scopes}
+use Rattle.algol_meaning.specs.World.{Instance, Part, Process, able, World, or_no_instance, process_at, or_no_process}
 use Rattle.algol_meaning.specs.Asks.{ask}
-use Rattle.algol_meaning.specs.Choice.{Choice, choice, choice_in, choice_of}
+use Rattle.algol_meaning.specs.Choice.{choice, choice_in, choice_of}
 use Rattle.b67_word.specs.declared.Place.{Place}
 use Rattle.b67_control.specs.declared.Registers.{Registers}
 use Rattle.b67_segment.specs.Operators.{Placed}
@@ -23,7 +23,7 @@ use Rattle.b67_table.specs.Table.{table, raw, stack_length, length_in}
 use Rattle.b67_table.specs.Ending.{failed}
 use Rattle.b67_cores.specs.Cores.{Core, HasCore}
 use Rattle.b67_faithful.proofs.Contradictions.{some_same}
-use Rattle.b67_pictures.specs.Pictures.{failure_of, Living, Pictured, living, dead, PicturesBy}
+use Rattle.b67_pictures.specs.Pictures.{failure_of, Living, Pictured, living, PicturesBy}
 use Rattle.b67_pictures.proofs.Numbers.{same_or_not, numbered_set, numbered_other, length_set_numbered}
 use Rattle.b67_pictures.proofs.Kept.{AreAlike, pictured_alike}
 use Rattle.b67_pictures.proofs.StoreRow.{most_is}

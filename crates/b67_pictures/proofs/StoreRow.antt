@@ -1,19 +1,18 @@
 -- STOD on the cell of a variable of the process's own stack.
-use Rattle.std.proofs.Common.{◌≡◌, refl, sym, ap, ◌∙◌, ℕ, ◌+◌, ◌-◌, ◌<◌, ◌≤◌, List, [], ◌∷◌, ◌++◌, length, take, Option, Some, None, Bool, true, false, Result, Ok, arith}
+use Rattle.std.proofs.Common.{◌≡◌, refl, ap, ◌∙◌, ℕ, ◌+◌, ◌-◌, ◌≤◌, List, [], ◌∷◌, ◌++◌, length, take, Option, Some, None, Bool, true, false, Ok, arith}
 use Rattle.std.specs.Prelude.{if◌then◌else◌, ◌==◌, nat_le, slice_get, slice_set, reverse}
 use Rattle.std.proofs.lemmas.Bool.Decides.{nat_tests}
 use Rattle.b67_word.specs.declared.Place.{Place}
 use Rattle.b67_word.specs.Word.{Word}
 use Rattle.b67_control.specs.declared.Registers.{Registers}
 use Rattle.b67_control.specs.declared.Irw.{Irw}
-use Rattle.b67_control.specs.declared.Sirw.{Sirw}
 use Rattle.b67_control.specs.declared.Descriptor.{Descriptor}
 use Rattle.b67_control.specs.Control.{as_irw, as_sirw}
 use Rattle.b67_table.specs.Arrays.{as_indexed}
 use Rattle.b67_ops.specs.declared.Operator.TheVariants as ops
 use Rattle.b67_ops.specs.declared.PlainKind.TheVariants as kinds
 use Rattle.b67_segment.specs.declared.code.Code.{Code}
-use Rattle.b67_store.specs.Store.{Stacks, stack_at, words_of, word_at, with_stack, with_word, with_cut}
+use Rattle.b67_store.specs.Store.{Stacks, words_of, word_at, with_stack, with_word, with_cut}
 use Rattle.b67_table.specs.declared.Cell.{Cell}
 use Rattle.b67_table.specs.declared.Class.TheVariants as classes
 use Rattle.b67_table.specs.declared.Reached.{Reached}
@@ -21,12 +20,12 @@ use Rattle.b67_table.specs.declared.InterruptKind.TheVariants.{StackUnderflow}
 use Rattle.b67_table.specs.Effect.{Effect, gives}
 use Rattle.b67_table.specs.Image.{Image, with_stacks, with_registers}
 use Rattle.b67_table.specs.Look.{Look, found, stops, ◌>->◌, valid}
-use Rattle.b67_table.specs.Program.{Program, Test, Change, does, effect_of, asked, see, answer, done, ◌>>=◌, cut, save, registers}
+use Rattle.b67_table.specs.Program.{Program, does, effect_of, asked, see, answer, ◌>>=◌, save}
 use Rattle.b67_table.specs.Private.{display_at, floor}
-use Rattle.b67_table.specs.References.{Two, cell_in, cell_place, irw_or_sirw, reached_in, named, need, from_top, operand_in, invalid}
+use Rattle.b67_table.specs.References.{Two, cell_in, cell_place, irw_or_sirw, reached_in, named, from_top, operand_in, invalid}
 use Rattle.b67_table.specs.Rows.{row, store, store_by, stored}
 use Rattle.b67_table.specs.Table.{raw, operator_at, class_at}
-use Rattle.b67_cores.specs.Cores.{Core, HasCore, with_core, stack_of, size}
+use Rattle.b67_cores.specs.Cores.{Core, HasCore, with_core, stack_of}
 use Rattle.b67_pictures.proofs.Rows.{raw_is, words_are}
 use Rattle.b67_pictures.proofs.StackWords.{word-over, word-under, cut-stack, set-front, get-front, length-set, words-set, set-set}
 
@@ -85,9 +84,9 @@ module _ (code : Code) (img : Image) (p : ℕ) (core : Core) (has : HasCore img 
       ap (λ (ws : List Word). with_cut (with_stack img.stacks r.stack (slice_set ws (f + index) x)) r.stack (r.s - 2)) whole
       ∙ ap (λ (ws : List Word). with_cut (with_stack img.stacks r.stack ws) r.stack (r.s - 2)) (set-front core.below (reverse (x ∷ y ∷ words)) (f + index) x old lies)
       ∙ ap (λ (ws : List Word). with_stack (with_stack img.stacks r.stack (slice_set core.below (f + index) x ++ reverse (x ∷ y ∷ words))) r.stack (take (r.s - 2) ws))
-        (words-set img.stacks r.stack (stack_of core) (slice_set core.below (f + index) x ++ reverse (x ∷ y ∷ words)) has.stack)
+      (words-set img.stacks r.stack (stack_of core) (slice_set core.below (f + index) x ++ reverse (x ∷ y ∷ words)) has.stack)
       ∙ ap (λ (ws : List Word). with_stack (with_stack img.stacks r.stack (slice_set core.below (f + index) x ++ reverse (x ∷ y ∷ words))) r.stack ws)
-        (cut-stack (slice_set core.below (f + index) x) (x ∷ y ∷ []) words (r.s - 2) (omega (arith, long, length-set core.below (f + index) x)))
+      (cut-stack (slice_set core.below (f + index) x) (x ∷ y ∷ []) words (r.s - 2) (omega (arith, long, length-set core.below (f + index) x)))
       ∙ set-set img.stacks r.stack (slice_set core.below (f + index) x ++ reverse (x ∷ y ∷ words)) (slice_set core.below (f + index) x ++ reverse words)
 
   abbrev two : Word → Word → Two

@@ -1,7 +1,7 @@
 -- A store.
-use Rattle.std.proofs.Common.{◌≡◌, ◌≢◌, ◌⊎◌, inl, inr, refl, sym, ap, ◌∙◌, subst, ℕ, suc, ◌+◌, ◌-◌, ◌*◌, ◌<◌, ◌≤◌, ◌^◌, List, [], ◌∷◌, ◌++◌, length, Option, Some, None, Bool, true, false, Result, Ok, arith}
-use Rattle.std.specs.Prelude.{slice_get, slice_set, if◌then◌else◌}
-use Rattle.b67_list.specs.Numbered.{numbered, set_numbered}
+use Rattle.std.proofs.Common.{◌≡◌, ◌≢◌, ◌⊎◌, inl, inr, refl, sym, ap, ◌∙◌, subst, ℕ, suc, ◌+◌, ◌-◌, ◌*◌, ◌<◌, ◌≤◌, ◌^◌, List, [], ◌∷◌, length, Option, Some, None, Bool, true, false, Ok, arith}
+use Rattle.std.specs.Prelude.{slice_set, if◌then◌else◌}
+use Rattle.b67_list.specs.Numbered.{numbered}
 use Rattle.algol_tree.specs.declared.tree.Kind.{Kind}
 use Rattle.algol_tree.specs.declared.tree.Named.{Named}
 use Rattle.algol_tree.specs.Plain.{PProgram}
@@ -9,7 +9,7 @@ use Rattle.algol_tree.specs.Blocks.{block_numbered}
 use Rattle.algol_tree.specs.Cells.{level_of}
 use Rattle.algol_tree.specs.Scopes.{Scopes, scopes_of, use_of}
 use Rattle.algol_tree.specs.Sorts.{same_name}
-use Rattle.algol_meaning.specs.Value.{Value, Cell, simple, Reference}
+use Rattle.algol_meaning.specs.Value.{Value, Cell, simple}
 use Rattle.algol_meaning.specs.Rest.{Answer, done, own}
 use Rattle.algol_meaning.specs.World.{NamedCell, Instance, Process, Part, able, World, instance_at, or_no_instance, with_instance, with_process, ancestor, set_cell, cells_with}
 use Rattle.algol_meaning.specs.Actions.{Store}
@@ -18,14 +18,12 @@ use Rattle.algol_meaning.specs.Choice.{Choice, choice, choice_of}
 use Rattle.algol_meaning.specs.Critical.{is_evaluation}
 use Rattle.b67_word.specs.declared.Place.{Place}
 use Rattle.b67_word.specs.Word.{Word}
-use Rattle.b67_control.specs.declared.Registers.{Registers}
 use Rattle.b67_ops.specs.declared.Couple.{Couple}
 use Rattle.b67_ops.specs.declared.Operator.TheVariants as ops
 use Rattle.b67_ops.specs.declared.PlainKind.TheVariants as kinds
 use Rattle.b67_ops.specs.declared.TheConstants.{OUTER_LEVEL}
 use Rattle.b67_segment.specs.Operators.{Placed}
 use Rattle.b67_segment.specs.declared.code.Code.{Code}
-use Rattle.b67_store.specs.Store.{stack_limit}
 use Rattle.b67_table.specs.declared.ProcessState.TheVariants.{Able}
 use Rattle.b67_table.specs.Beginning.{base_mark}
 use Rattle.b67_table.specs.Linkage.{base_control}
@@ -36,18 +34,17 @@ use Rattle.b67_table.specs.Outcome as outcomes
 use Rattle.b67_table.specs.Private.{frame}
 use Rattle.b67_table.specs.PrivateRows as rows
 use Rattle.b67_table.specs.Table.{table, raw, operator_at}
-use Rattle.b67_faithful.specs.Weight.{weight, parts_weight, segment_tokens}
-use Rattle.b67_templates.specs.Fragments.{HasKind}
+use Rattle.b67_faithful.specs.Weight.{weight, segment_tokens}
 use Rattle.b67_templates.specs.Cells.{Simple, simple_cells, IsVariable}
 use Rattle.b67_standing.specs.Stepping.{Slot, operand, reference}
 use Rattle.b67_standing.specs.Standing.{ActionAt, Acted, ComesTo}
-use Rattle.b67_cores.specs.Cores.{Core, IsCore, HasCore, with_core}
+use Rattle.b67_cores.specs.Cores.{Core, IsCore, with_core}
 use Rattle.b67_cores.specs.Slots.{ValueIs, SlotsAre}
 use Rattle.b67_cores.specs.Stretches.{CoreAt, FragmentsArePerformed}
 use Rattle.b67_cores.proofs.Moving.{slots_length}
 use Rattle.b67_pictures.specs.Flat.{IsFlat}
 use Rattle.b67_pictures.specs.Acting.{Does, gave}
-use Rattle.b67_pictures.specs.Frames.{CellsAre, IsChained, Framed}
+use Rattle.b67_pictures.specs.Frames.{CellsAre, Framed}
 use Rattle.b67_pictures.specs.Pictures.{PicturesBy}
 use Rattle.b67_pictures.proofs.Numbers.{same_or_not, numbered_set, numbered_other, length_set_numbered}
 use Rattle.b67_pictures.proofs.Kept.{AreAlike, same_ancestor}

@@ -1,22 +1,17 @@
 -- The branch back to the start of a loop, and EXIT of a base frame.
-use Rattle.std.proofs.Common.{◌≡◌, refl, sym, ap, ◌∙◌, ℕ, zero, suc, ◌+◌, ◌<◌, ◌≤◌, List, [], ◌∷◌, ◌++◌, Option, Some, None, Bool, true, false, Result, Ok, arith}
-use Rattle.std.specs.Prelude.{if◌then◌else◌, nat_lt, nat_eq}
+use Rattle.std.proofs.Common.{◌≡◌, sym, ap, ◌∙◌, ℕ, zero, suc, ◌≤◌, List, [], ◌∷◌, Option, Some, None, Bool, false, Ok, arith}
+use Rattle.std.specs.Prelude.{if◌then◌else◌, nat_lt}
 use Rattle.std.proofs.lemmas.Bool.Decides.{nat_tests}
-use Rattle.b67_list.specs.Numbered.{set_numbered}
-use Rattle.b67_word.specs.declared.Place.{Place}
 use Rattle.b67_word.specs.Word.{Word}
-use Rattle.b67_control.specs.declared.Registers.{Registers}
 use Rattle.b67_ops.specs.declared.Operator.TheVariants as ops
-use Rattle.b67_ops.specs.declared.PlainKind.TheVariants as kinds
 use Rattle.b67_ops.specs.declared.BranchKind.TheVariants.{Brun}
 use Rattle.b67_segment.specs.declared.code.Code.{Code}
 use Rattle.b67_store.specs.Store.{Stacks, stack_at, with_stack}
 use Rattle.b67_table.specs.declared.Class.TheVariants as classes
-use Rattle.b67_table.specs.Effect.{Effect, gives}
+use Rattle.b67_table.specs.Effect.{gives}
 use Rattle.b67_table.specs.Image.{Image, with_stacks, with_registers}
-use Rattle.b67_table.specs.Program.{does}
 use Rattle.b67_table.specs.PrivateRows.{branch}
-use Rattle.b67_table.specs.Rows.{Row, row, private_part, action, acts, turn}
+use Rattle.b67_table.specs.Rows.{Row, row, private_part, acts, turn}
 use Rattle.b67_table.specs.Table.{raw, operator_at, class_at, class_by, by_row}
 use Rattle.b67_cores.specs.Cores.{Core, HasCore, with_core, stack_of}
 use Rattle.b67_pictures.proofs.Rows.{raw_is}

@@ -1,14 +1,13 @@
 -- The turn of a loop, and the choice of a case.
-use Rattle.std.proofs.Common.{◌≡◌, ◌≢◌, refl, sym, ap, ◌∙◌, subst, ℕ, zero, suc, ◌+◌, ◌*◌, ◌<◌, ◌≤◌, List, [], ◌∷◌, ◌++◌, length, Option, Some, None, Result, Ok, Bool, true, false, arith, ℤ}
-use Rattle.std.specs.Prelude.{pos, reverse}
+use Rattle.std.proofs.Common.{◌≡◌, refl, ap, ◌∙◌, ℕ, ◌≤◌, List, [], Some, Ok, arith}
 use Rattle.b67_list.specs.Numbered.{numbered}
-use Rattle.algol_tree.specs.Plain.{PProgram, PStmts}
+use Rattle.algol_tree.specs.Plain.{PProgram}
 use Rattle.algol_tree.specs.Scopes.{Scopes, scopes_of}
-use Rattle.algol_meaning.specs.Rest.{Answer, Rest, done}
-use Rattle.algol_meaning.specs.World.{Process, Part, able, World, with_process}
-use Rattle.algol_meaning.specs.Actions.{Action, Turn}
+use Rattle.algol_meaning.specs.Rest.{Answer, done}
+use Rattle.algol_meaning.specs.World.{Process, Part, able, World}
+use Rattle.algol_meaning.specs.Actions.{Turn}
 use Rattle.algol_meaning.specs.Asks.{Ask, turns, ask, resume}
-use Rattle.algol_meaning.specs.Choice.{Choice, choice, choice_of}
+use Rattle.algol_meaning.specs.Choice.{choice_of}
 use Rattle.b67_word.specs.declared.Place.{Place}
 use Rattle.b67_ops.specs.declared.Operator.TheVariants as ops
 use Rattle.b67_ops.specs.declared.BranchKind.TheVariants.{Brun}
@@ -19,10 +18,10 @@ use Rattle.b67_table.specs.declared.ProcessState.TheVariants.{Able}
 use Rattle.b67_table.specs.Image.{Image}
 use Rattle.b67_table.specs.Effect as effects
 use Rattle.b67_table.specs.Outcome as outcomes
-use Rattle.b67_table.specs.Table.{raw, plain, operator_at}
+use Rattle.b67_table.specs.Table.{operator_at}
 use Rattle.b67_standing.specs.Stepping.{Slot}
 use Rattle.b67_standing.specs.Standing.{ActionAt, Acted, ComesTo}
-use Rattle.b67_cores.specs.Cores.{Core, IsCore, HasCore, with_core}
+use Rattle.b67_cores.specs.Cores.{Core, with_core}
 use Rattle.b67_cores.specs.Stretches.{CoreAt, FragmentsArePerformed}
 use Rattle.b67_pictures.specs.Flat.{IsFlat}
 use Rattle.b67_pictures.specs.Acting.{Does}
@@ -31,7 +30,7 @@ use Rattle.b67_pictures.proofs.TurnRow.{at_place, turn_raw, turn_class}
 use Rattle.b67_pictures.proofs.Homes.{operator_there}
 use Rattle.b67_pictures.proofs.Stage.{choice_is}
 use Rattle.b67_pictures.proofs.Scene.{Scene}
-use Rattle.b67_pictures.proofs.InFrame.{SameFrame, after, does_in_frame}
+use Rattle.b67_pictures.proofs.InFrame.{does_in_frame}
 
 module _ (tree : PProgram) (code : Code) (texts : ℕ → List Placed) (flat : IsFlat (scopes_of tree)) (fragments : FragmentsArePerformed) (w : World) (lay : List Place) (img : Image)
     (p : ℕ) (q : Process) (part : Part) (most bound : ℕ) (core : Core) (s : Scene tree code texts w lay img p q part most bound core) (able_is : q.state ≡ able) (able_p : numbered img.states p ≡ Some Able) where

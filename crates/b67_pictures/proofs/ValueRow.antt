@@ -1,5 +1,5 @@
 -- VALC on the cell of a variable.
-use Rattle.std.proofs.Common.{◌≡◌, refl, sym, ap, ◌∙◌, ℕ, ◌+◌, List, [], ◌∷◌, ◌++◌, Option, Some, None, Bool, Result, Ok}
+use Rattle.std.proofs.Common.{◌≡◌, refl, ap, ◌∙◌, ℕ, ◌+◌, List, [], ◌∷◌, ◌++◌, Option, Some, None, Ok}
 use Rattle.std.specs.Prelude.{if◌then◌else◌, ◌==◌}
 use Rattle.b67_word.specs.declared.Place.{Place}
 use Rattle.b67_word.specs.Word.{Word}
@@ -10,19 +10,19 @@ use Rattle.b67_control.specs.Control.{as_sirw, as_pcw}
 use Rattle.b67_ops.specs.declared.Couple.{Couple}
 use Rattle.b67_ops.specs.declared.Operator.TheVariants as ops
 use Rattle.b67_segment.specs.declared.code.Code.{Code}
-use Rattle.b67_store.specs.Store.{words_of, word_at, with_stack}
+use Rattle.b67_store.specs.Store.{word_at, with_stack}
 use Rattle.b67_table.specs.declared.Cell.{Cell}
 use Rattle.b67_table.specs.declared.Class.TheVariants as classes
 use Rattle.b67_table.specs.declared.Reached.{Reached}
 use Rattle.b67_table.specs.Effect.{Effect, gives}
 use Rattle.b67_table.specs.Image.{Image, with_stacks, with_registers}
-use Rattle.b67_table.specs.Look.{Look, found, ◌>->◌}
-use Rattle.b67_table.specs.Program.{Program, Change, does, effect_of, asked, see, answer, done, ◌>>=◌, push as push_word, registers}
+use Rattle.b67_table.specs.Look.{found, ◌>->◌}
+use Rattle.b67_table.specs.Program.{Program, does, effect_of, asked, see, ◌>>=◌}
 use Rattle.b67_table.specs.Private.{display_at}
-use Rattle.b67_table.specs.References.{cell_in, cell_place, reached, reached_in, one_sirw, named, operand_in, invalid}
+use Rattle.b67_table.specs.References.{cell_in, reached, reached_in, one_sirw, invalid}
 use Rattle.b67_table.specs.Rows.{row, value_call, value_or_entry, value_pushed}
-use Rattle.b67_table.specs.Table.{raw, operator_at, class_at, by_row}
-use Rattle.b67_cores.specs.Cores.{Core, HasCore, with_core, stack_of}
+use Rattle.b67_table.specs.Table.{raw, operator_at, class_at}
+use Rattle.b67_cores.specs.Cores.{Core, HasCore, with_core}
 use Rattle.b67_pictures.proofs.Rows.{raw_is, pushed_stack, words_are}
 
 -- the core with a word more on top
@@ -53,7 +53,7 @@ module _ (code : Code) (img : Image) (p : ℕ) (core : Core) (has : HasCore img 
       ∙ ap (λ (o : Option Pcw). tested (value_or_entry r next (record { word = w; cell = cell }) o)) no_pcw
       ∙ ap (λ (t : ℕ). tested (see (if t == 0 then found w else invalid) >>= (λ (v : Word). value_pushed r next v))) tag
       ∙ ap (λ (ws : List Word). gives (with_registers (with_stacks img (with_stack img.stacks r.stack ws)) p (record r { s = r.s + 1; place = next })))
-        (ap (λ (ws : List Word). ws ++ w ∷ []) (words_are img p core has) ∙ pushed_stack core w)
+      (ap (λ (ws : List Word). ws ++ w ∷ []) (words_are img p core has) ∙ pushed_stack core w)
 
   pub value_raw : raw code img p ≡ gives (with_core img p (with_top core w next))
   unfolding row

@@ -1,13 +1,11 @@
 -- What the words of values, references and marks are read as.
-use Rattle.std.proofs.Common.{◌≡◌, ◌≢◌, refl, sym, ap, ◌∙◌, ℕ, ◌<◌, ◌≤◌, ◌+◌, ◌^◌, Option, Some, None, Bool, true, false, arith, lit<, ℤ}
-use Rattle.std.specs.Prelude.{if◌then◌else◌, ◌==◌, unsigned_abs, pos}
+use Rattle.std.proofs.Common.{◌≡◌, refl, sym, ap, ◌∙◌, ℕ, ◌<◌, ◌^◌, Some, None, false, lit<}
 use Rattle.algol_meaning.specs.Value.{Value, number, truth}
-use Rattle.b67_word.specs.Word.{Word, operand, as_whole}
-use Rattle.b67_word.proofs.WordLaws.{operand-tag, as_whole-operand}
+use Rattle.b67_word.specs.Word.{Word}
+use Rattle.b67_word.proofs.WordLaws.{operand-tag}
 use Rattle.b67_control.specs.Kind as kind
 use Rattle.b67_control.specs.Kind.{kind_of}
-use Rattle.b67_control.specs.Control.{irw_word, as_irw, as_sirw, as_descriptor, mscw_word, as_mscw, as_pcw}
-use Rattle.b67_control.specs.declared.Descriptor.{Descriptor}
+use Rattle.b67_control.specs.Control.{as_irw, as_sirw, as_descriptor, as_mscw, as_pcw}
 use Rattle.b67_control.proofs.ControlLaws.{as_irw-irw_word, as_sirw-other, as_pcw-other, as_mscw-mscw_word, kind_of-irw_word, descriptor_laws}
 use Rattle.b67_ops.specs.declared.Couple.{Couple}
 use Rattle.b67_table.specs.Arrays.{as_indexed, indexed_in}

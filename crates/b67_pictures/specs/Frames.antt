@@ -1,5 +1,5 @@
 -- The frames of a process: how the words of its stack stand for the parts that it has still to do.
-use Rattle.std.specs.Prelude.{◌≡◌, ℕ, ◌+◌, ◌-◌, ◌≤◌, Bool, true, false, List, [], ◌∷◌, ◌++◌, length, reverse, Option, Some, None}
+use Rattle.std.specs.Prelude.{◌≡◌, ℕ, ◌+◌, ◌-◌, ◌≤◌, false, List, [], ◌∷◌, ◌++◌, length, Option, Some}
 use Rattle.b67_list.specs.Numbered.{numbered}
 use Rattle.algol_tree.specs.declared.tree.Kind.{Kind}
 use Rattle.algol_tree.specs.Blocks.{Block, block_numbered}
@@ -71,7 +71,7 @@ module _ (sc : Scopes) (code : Code) (texts : ℕ → List Placed) (w : World) (
     pub pc : ℕ
     pub slots : List Slot
     pub stands :
-      StandsFor sc code.formats (texts ((instance_at w part.instance).block)) (level_of (block_at sc w lay part.instance)) most part.rest pc slots
+        StandsFor sc code.formats (texts ((instance_at w part.instance).block)) (level_of (block_at sc w lay part.instance)) most part.rest pc slots
     pub there : CoreAt sc code (texts ((instance_at w part.instance).block)) (level_of (block_at sc w lay part.instance)) pc slots core
     pub few : length slots ≤ most
 

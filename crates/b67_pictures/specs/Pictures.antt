@@ -3,16 +3,14 @@ use Rattle.std.specs.Prelude.{◌≡◌, ℕ, ◌+◌, ◌≤◌, List, length, 
 use Rattle.b67_list.specs.Numbered.{numbered}
 use Rattle.algol_tree.specs.Plain.{PProgram}
 use Rattle.algol_tree.specs.Scopes.{scopes_of}
-use Rattle.algol_meaning.specs.World.{Instance, Process, State, able, ended, WorldFault, World}
+use Rattle.algol_meaning.specs.World.{Instance, Process, able, ended, WorldFault, World}
 use Rattle.b67_word.specs.declared.Place.{Place}
-use Rattle.b67_control.specs.declared.Registers.{Registers}
 use Rattle.b67_segment.specs.Operators.{Placed}
 use Rattle.b67_segment.specs.declared.code.Code.{Code}
 use Rattle.b67_store.specs.Store.{stack_at, stack_limit}
 use Rattle.b67_control.specs.Display.{place_at}
 use Rattle.b67_table.specs.Beginning.{system_stack}
 use Rattle.b67_table.specs.Chains.{place}
-use Rattle.b67_table.specs.declared.ProcessState.{ProcessState}
 use Rattle.b67_table.specs.declared.ProcessState.TheVariants.{Able, Ended}
 use Rattle.b67_table.specs.Image.{Image, Failure}
 use Rattle.b67_cores.specs.Cores.{Core, HasCore, CoreSteps}

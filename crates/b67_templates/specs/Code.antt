@@ -1,7 +1,6 @@
 -- Where the code of each construct stands: from one place to the place after it. What is left early goes on at a third place, to which
 -- branches lead from the place after the code; so a branch never leads to a branch.
-use Rattle.std.specs.Prelude.{◌≡◌, ℕ, zero, suc, ◌+◌, ◌<◌, ◌≤◌, ℤ, pos, neg_ℤ, int_lt, ◌==◌, if◌then◌else◌, Bool, true, false, List, [], ◌∷◌, ◌++◌, length, Option, Some, None, slice_get}
-use Rattle.algol_tree.specs.declared.tree.Op.{Op}
+use Rattle.std.specs.Prelude.{◌≡◌, ℕ, ◌+◌, ℤ, pos, neg_ℤ, int_lt, ◌==◌, if◌then◌else◌, true, List, [], ◌∷◌, Option, Some, None, slice_get}
 use Rattle.algol_tree.specs.declared.tree.Op.TheVariants as operators
 use Rattle.algol_tree.specs.declared.tree.Kind.{Kind}
 use Rattle.algol_tree.specs.declared.tree.Kind.TheVariants as types
@@ -17,7 +16,6 @@ use Rattle.algol_meaning.specs.Rest.{Loop, Item, run, turn, count, check, test, 
 use Rattle.algol_meaning.specs.Statements.{difference_in, stepped, alone}
 use Rattle.b67_ops.specs.declared.Couple.{Couple}
 use Rattle.b67_ops.specs.declared.Operator.TheVariants as ops
-use Rattle.b67_ops.specs.declared.PlainKind.{PlainKind}
 use Rattle.b67_ops.specs.declared.PlainKind.TheVariants as kinds
 use Rattle.b67_ops.specs.declared.BranchKind.TheVariants.{Brfl, Brtr, Brun}
 use Rattle.b67_ops.specs.declared.intrinsic.Intrinsic.TheVariants.{Write, Select}
@@ -143,9 +141,9 @@ module _ (sc : Scopes) (formats : List Format) (ps : List Placed) (level : ℕ) 
   pub record PastAt (f u to : ℕ) : Type 0 where
     pub tested : ℕ
     pub test :
-      AllAt ps level
-      (kinds.Dupl ∷ kinds.Zero ∷ kinds.Grtr ∷ kinds.Exch ∷ kinds.Zero ∷ kinds.Less ∷ kinds.Subt ∷ kinds.Mult ∷ kinds.Zero ∷ kinds.Grtr ∷ [])
-      f tested
+        AllAt ps level
+        (kinds.Dupl ∷ kinds.Zero ∷ kinds.Grtr ∷ kinds.Exch ∷ kinds.Zero ∷ kinds.Less ∷ kinds.Subt ∷ kinds.Mult ∷ kinds.Zero ∷ kinds.Grtr ∷ [])
+        f tested
     pub branch : BranchAt ps level Brtr tested u to
 
   -- where the step is a literal its sign is known: the difference is compared with 0, or dropped

@@ -1,9 +1,9 @@
 -- How many words lie on the stack at most while a construct is evaluated or performed, and how many syllables its code has at most.
-use Rattle.std.specs.Prelude.{◌≡◌, ℕ, ◌+◌, ◌*◌, ◌≤◌, List, [], ◌∷◌}
+use Rattle.std.specs.Prelude.{ℕ, ◌+◌, ◌*◌, ◌≤◌, List, [], ◌∷◌}
 use Rattle.algol_tree.specs.Plain as tree
 use Rattle.algol_tree.specs.Plain.{PExpr, PExprs, PStmt, PStmts, PBody}
 use Rattle.algol_tree.specs.Counts.{expr_tokens, stmt_tokens}
-use Rattle.algol_meaning.specs.Rest.{Loop, Item, run, turn, count, check, test, result, make_arrays, make_event}
+use Rattle.algol_meaning.specs.Rest.{Item, run, turn, count, check, test, result, make_arrays, make_event}
 
 abbrev pub depth : PExpr → ℕ
 depth (tree.paren e spot) = depth e

@@ -1,5 +1,5 @@
 -- Which trees have code: each part has the kind that its place wants, and each name is a variable whose couple is known.
-use Rattle.std.specs.Prelude.{◌≡◌, ℕ, Option, Some, List, [], length, ◌≤◌}
+use Rattle.std.specs.Prelude.{◌≡◌, ℕ, Option, Some, List}
 use Rattle.algol_tree.specs.declared.token.Spot.{Spot}
 use Rattle.algol_tree.specs.declared.tree.Kind.{Kind}
 use Rattle.algol_tree.specs.declared.tree.Kind.TheVariants as types
