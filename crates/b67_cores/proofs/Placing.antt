@@ -9,6 +9,7 @@ use Rattle.b67_cores.specs.Cores.{Core, CoreSteps}
 use Rattle.b67_cores.specs.Slots.{newest}
 use Rattle.b67_cores.specs.Stretches.{CoreAt, Arrives, FragmentsArePerformed}
 use Rattle.b67_cores.proofs.Moving.{Standing, moved, Reaches}
+use Rattle.b67_cores.proofs.Faulting.{fault_is}
 use Rattle.b67_cores.proofs.Stepped.{stepped, led}
 
 module _ (sc : Scopes) (code : Code) (ps : List Placed) (level most bound place : ℕ) (slots : List Slot) (core : Core) (at : CoreAt sc code ps level place slots core) where
@@ -56,4 +57,5 @@ fragments_are_performed = record {
   leads = λ sc formats code ps level most bound from to x y core leads at room bounded.
       arrives sc code ps level most bound from x core at to y
       (led sc formats code ps level most bound core (standing sc code ps level most bound from x core at bounded) from to x y leads core.words at.words_are room);
+  fault = fault_is;
 }
