@@ -16,3 +16,4 @@ pub mod Having
 pub mod Sizes
 pub mod Deciding
 pub mod Staying
+pub mod Beginnings

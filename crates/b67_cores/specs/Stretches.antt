@@ -1,5 +1,5 @@
 -- Stretches of private operators: what they do in an image, and what they do in a frame whose words are slots.
-use Rattle.std.specs.Prelude.{◌≡◌, ◌≢◌, ◌↔◌, ℕ, ◌+◌, ◌≤◌, true, false, List, ◌∷◌, ◌++◌, length, Some, Err, slice_get}
+use Rattle.std.specs.Prelude.{◌≡◌, ◌≢◌, ◌↔◌, ℕ, ◌+◌, ◌≤◌, true, false, pos, List, [], ◌∷◌, ◌++◌, length, replicate, Some, Err, slice_get}
 use Rattle.b67_list.specs.Numbered.{numbered}
 use Rattle.algol_tree.specs.declared.tree.Op.{Op}
 use Rattle.algol_tree.specs.Scopes.{Scopes}
@@ -11,14 +11,17 @@ use Rattle.algol_meaning.specs.Value.{Value}
 use Rattle.algol_meaning.specs.Operators.{result_of}
 use Rattle.b67_control.specs.declared.Registers.{Registers}
 use Rattle.b67_word.specs.Word.{Word}
+use Rattle.b67_word.specs.Word as words
 use Rattle.b67_ops.specs.declared.TheConstants.{MOST_LEVEL}
 use Rattle.b67_ops.specs.declared.Operator.TheVariants as ops
+use Rattle.b67_ops.specs.declared.PlainKind.TheVariants as kinds
 use Rattle.b67_segment.specs.Operators.{Placed}
 use Rattle.b67_segment.specs.Syllables.{Spells}
 use Rattle.b67_segment.specs.declared.code.Code.{Code}
 use Rattle.b67_segment.specs.declared.code.Format.{Format}
 use Rattle.b67_segment.specs.declared.code.Segment.{Segment}
 use Rattle.b67_store.specs.Store.{stack_at, stack_limit}
+use Rattle.b67_table.specs.Limits.{most_cells}
 use Rattle.b67_table.specs.Private.{frame}
 use Rattle.b67_table.specs.Image.{Image, is_live}
 use Rattle.b67_table.specs.Outcome as outcomes
@@ -27,7 +30,8 @@ use Rattle.b67_table.specs.Ending.{failed}
 use Rattle.b67_table.specs.Privacy.{Keeps}
 use Rattle.b67_table.specs.Runs.{Plains}
 use Rattle.b67_table.specs.Valid.{IsValid}
-use Rattle.b67_templates.specs.Fragments.{Has, HasKind, operator_for}
+use Rattle.b67_templates.specs.Fragments.{Has, HasKind, AllAt, operator_for}
+use Rattle.b67_templates.specs.Programs.{MadeAt}
 use Rattle.b67_standing.specs.Stepping.{Slot, operand, ready, Step, Leads}
 use Rattle.b67_cores.specs.Cores.{Core, size, IsCore, over, HasCore, with_core, CoreFaults, CoreSteps}
 use Rattle.b67_cores.specs.Slots.{newest, SlotsAre}
@@ -145,3 +149,22 @@ pub record FragmentsArePerformed : Type 0 where
   pub fault : (sc : Scopes) (code : Code) (ps : List Placed) (level from to : ℕ) (op : Op) (v w : Value) (fault : NumFault) (below : List Slot) (core : Core)
       → Has ps level from (ops.Plain (operator_for op)) to → HasKind (taken_by op) v → HasKind (taken_by op) w → result_of op v w ≡ Err fault
       → CoreAt sc code ps level from (operand w ∷ operand (ready op v) ∷ below) core → CoreFaults code core (fault_of fault)
+
+-- ---- the start of a block
+
+-- Private operators lead to a core with so many cells more, each of them 0, and no words above the floor.
+pub record Begins (sc : Scopes) (code : Code) (ps : List Placed) (level bound cells place : ℕ) (a : Core) : Type 0 where
+  pub count : ℕ
+  pub core : Core
+  pub steps : CoreSteps code bound count a core
+  pub below : core.below ≡ a.below ++ replicate cells (words.operand (pos 0))
+  pub registers : core.registers ≡ record a.registers { s = size core; f = frame a.registers; cells = a.registers.cells + cells; place = place }
+  pub at : CoreAt sc code ps level place [] core
+  pub few : count + a.registers.place ≤ place
+
+-- so do the zeros of a block's variables and PUSH, where the frame has room for the cells
+abbrev pub BlocksBegin : Type 0
+BlocksBegin =
+    (sc : Scopes) (formats : List Format) (code : Code) (ps : List Placed) (level bound cells from zeroed to : ℕ) (core : Core)
+    → AllAt ps level (replicate cells kinds.Zero) from zeroed → MadeAt sc formats ps level cells zeroed to → CoreAt sc code ps level from [] core
+    → core.registers.cells + cells ≤ most_cells → length core.below + cells ≤ bound → Begins sc code ps level bound cells to core

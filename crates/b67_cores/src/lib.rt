@@ -2,7 +2,7 @@
 //! stands for a source.
 #![tactic(auto)]
 
-ghost use Rattle.b67_cores.specs.Stretches.{StepsArePerformed, FaultsArePerformed, CoresDecide, StepsGoForward, StepsStayAbove, ValidImagesHaveCores, FragmentsArePerformed};
+ghost use Rattle.b67_cores.specs.Stretches.{StepsArePerformed, FaultsArePerformed, CoresDecide, StepsGoForward, StepsStayAbove, ValidImagesHaveCores, FragmentsArePerformed, BlocksBegin};
 
 /// Law: each process of a valid image that lives has a core.
 pub fn valid_images_have_cores()
@@ -39,4 +39,9 @@ pub fn steps_stay_above()
 /// several one after another, and faults where an operator of the language has no result.
 pub fn fragments_are_performed()
     ensures { FragmentsArePerformed }
+{}
+
+/// Law: the start of a block makes a cell of 0 for each of its variables.
+pub fn blocks_begin()
+    ensures { BlocksBegin }
 {}
