@@ -71,22 +71,28 @@ logic_at kind op a b c x is law i =
 pub calculates : (op : Op) (v w x : Value) → HasKind (taken_by op) v → HasKind (taken_by op) w → result_of op v w ≡ Ok x
     → Calculates (operator_for op) (ready op v) w x
 unfolding row
-calculates operators.Add (number a) (number b) x hv hw e = calculation_at kinds.Add calculation.Sum a b x (λ place. refl) (calculated calculation.Sum a b) refl e
+calculates operators.Add (number a) (number b) x hv hw e =
+    calculation_at kinds.Add calculation.Sum a b x (λ place. refl) (calculated calculation.Sum a b) refl e
 calculates operators.Add (number a) (truth b) x hv hw e = absurd hw
 calculates operators.Add (truth a) w x hv hw e = absurd hv
-calculates operators.Sub (number a) (number b) x hv hw e = calculation_at kinds.Subt calculation.Difference a b x (λ place. refl) (calculated calculation.Difference a b) refl e
+calculates operators.Sub (number a) (number b) x hv hw e =
+    calculation_at kinds.Subt calculation.Difference a b x (λ place. refl) (calculated calculation.Difference a b) refl e
 calculates operators.Sub (number a) (truth b) x hv hw e = absurd hw
 calculates operators.Sub (truth a) w x hv hw e = absurd hv
-calculates operators.Mul (number a) (number b) x hv hw e = calculation_at kinds.Mult calculation.Product a b x (λ place. refl) (calculated calculation.Product a b) refl e
+calculates operators.Mul (number a) (number b) x hv hw e =
+    calculation_at kinds.Mult calculation.Product a b x (λ place. refl) (calculated calculation.Product a b) refl e
 calculates operators.Mul (number a) (truth b) x hv hw e = absurd hw
 calculates operators.Mul (truth a) w x hv hw e = absurd hv
-calculates operators.Over (number a) (number b) x hv hw e = calculation_at kinds.Divd calculation.WholeQuotient a b x (λ place. refl) (calculated calculation.WholeQuotient a b) refl e
+calculates operators.Over (number a) (number b) x hv hw e =
+    calculation_at kinds.Divd calculation.WholeQuotient a b x (λ place. refl) (calculated calculation.WholeQuotient a b) refl e
 calculates operators.Over (number a) (truth b) x hv hw e = absurd hw
 calculates operators.Over (truth a) w x hv hw e = absurd hv
-calculates operators.Div (number a) (number b) x hv hw e = calculation_at kinds.Idiv calculation.TruncatedQuotient a b x (λ place. refl) (calculated calculation.TruncatedQuotient a b) refl e
+calculates operators.Div (number a) (number b) x hv hw e =
+    calculation_at kinds.Idiv calculation.TruncatedQuotient a b x (λ place. refl) (calculated calculation.TruncatedQuotient a b) refl e
 calculates operators.Div (number a) (truth b) x hv hw e = absurd hw
 calculates operators.Div (truth a) w x hv hw e = absurd hv
-calculates operators.Mod (number a) (number b) x hv hw e = calculation_at kinds.Rdiv calculation.Remainder a b x (λ place. refl) (calculated calculation.Remainder a b) refl e
+calculates operators.Mod (number a) (number b) x hv hw e =
+    calculation_at kinds.Rdiv calculation.Remainder a b x (λ place. refl) (calculated calculation.Remainder a b) refl e
 calculates operators.Mod (number a) (truth b) x hv hw e = absurd hw
 calculates operators.Mod (truth a) w x hv hw e = absurd hv
 calculates operators.Lss (number a) (number b) x hv hw e = relation_at kinds.Less relations.Less a b x (λ place. refl) e
@@ -107,15 +113,19 @@ calculates operators.Geq (truth a) w x hv hw e = absurd hv
 calculates operators.Gtr (number a) (number b) x hv hw e = relation_at kinds.Grtr relations.Greater a b x (λ place. refl) e
 calculates operators.Gtr (number a) (truth b) x hv hw e = absurd hw
 calculates operators.Gtr (truth a) w x hv hw e = absurd hv
-calculates operators.And (truth a) (truth b) x hv hw e = logic_at kinds.Land bit_and a b (a && b) x (λ place. refl) (λ m n h k. (and_fits m n h k, λ i j. and_says a b m n i j)) e
+calculates operators.And (truth a) (truth b) x hv hw e =
+    logic_at kinds.Land bit_and a b (a && b) x (λ place. refl) (λ m n h k. (and_fits m n h k, λ i j. and_says a b m n i j)) e
 calculates operators.And (truth a) (number b) x hv hw e = absurd hw
 calculates operators.And (number a) w x hv hw e = absurd hv
-calculates operators.Or (truth a) (truth b) x hv hw e = logic_at kinds.Lor bit_or a b (a || b) x (λ place. refl) (λ m n h k. (or_fits m n h k, λ i j. or_says a b m n i j)) e
+calculates operators.Or (truth a) (truth b) x hv hw e =
+    logic_at kinds.Lor bit_or a b (a || b) x (λ place. refl) (λ m n h k. (or_fits m n h k, λ i j. or_says a b m n i j)) e
 calculates operators.Or (truth a) (number b) x hv hw e = absurd hw
 calculates operators.Or (number a) w x hv hw e = absurd hv
-calculates operators.Imp (truth a) (truth b) x hv hw e = logic_at kinds.Lor bit_or (not a) b (not a || b) x (λ place. refl) (λ m n h k. (or_fits m n h k, λ i j. or_says (not a) b m n i j)) e
+calculates operators.Imp (truth a) (truth b) x hv hw e =
+    logic_at kinds.Lor bit_or (not a) b (not a || b) x (λ place. refl) (λ m n h k. (or_fits m n h k, λ i j. or_says (not a) b m n i j)) e
 calculates operators.Imp (truth a) (number b) x hv hw e = absurd hw
 calculates operators.Imp (number a) w x hv hw e = absurd hv
-calculates operators.Eqv (truth a) (truth b) x hv hw e = logic_at kinds.Leqv agreement a b (same_truth a b) x (λ place. refl) (λ m n h k. (agreement_fits m n h k, λ i j. agreement_says a b m n (xor_lt 48 m n h k) i j)) e
+calculates operators.Eqv (truth a) (truth b) x hv hw e =
+    logic_at kinds.Leqv agreement a b (same_truth a b) x (λ place. refl) (λ m n h k. (agreement_fits m n h k, λ i j. agreement_says a b m n (xor_lt 48 m n h k) i j)) e
 calculates operators.Eqv (truth a) (number b) x hv hw e = absurd hw
 calculates operators.Eqv (number a) w x hv hw e = absurd hv

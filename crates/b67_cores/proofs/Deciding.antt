@@ -21,9 +21,9 @@ use Rattle.b67_table.specs.Runs.{Plains, stay, go}
 use Rattle.b67_table.proofs.Limit.{limit_comes_last}
 use Rattle.b67_table.proofs.Privacy.{Next, next_private, raw_is, Put, put_by}
 use Rattle.b67_cores.specs.Cores.{Core, stack_of, size, IsCore, HasCore, with_core, part_of, CoreStep, CoreSteps, here, onward}
-use Rattle.b67_cores.specs.Stretches.{Decided, CoresDecide}
+use Rattle.b67_cores.specs.Stretches.{Decided, Repeated, CoresDecide}
 use Rattle.b67_cores.proofs.Having.{parted, parted_stack, parted_is}
-use Rattle.b67_cores.proofs.Performing.{private_is, same_core, put_is, core_after, with_again, steps_keep}
+use Rattle.b67_cores.proofs.Performing.{private_is, same_core, put_is, core_after, with_again, steps_keep, plains_of}
 use Rattle.b67_cores.proofs.Sizes.{Lies, lies_after}
 
 -- ---- a plain operator is a step
@@ -37,7 +37,8 @@ module _ (code : Code) (a : Core) (is : IsCore a) (n : Next code a.registers) (p
 
   lies : Lies (length a.below) part
   lies =
-      lies_after (length a.below) n.op a.registers.place n.next (part_of a) part (record { size = sym is.top; above = omega (arith, is.bottom, is.top) }) row_gives
+      lies_after (length a.below) n.op a.registers.place n.next (part_of a) part
+      (record { size = sym is.top; above = omega (arith, is.bottom, is.top); low = omega (arith, is.bottom) }) row_gives
 
   long : length (a.below ++ reverse part.words) ≡ part.regs.s
   long = omega (arith, length-append a.below (reverse part.words), length-reverse part.words, lies.size)
@@ -109,6 +110,10 @@ decided code p {img = img} a has small (go {b = next} e t more) =
       is = rest.is ∙ ap (λ (i : Image). with_core i p rest.core) s.is ∙ with_again img p s.core rest.core (sym (steps_keep rest.steps).0);
     }
 
+repeated : (code : Code) (p n : ℕ) (x new y : Image) (a : Core) → HasCore y p a → Decided code p x n a new → Repeated code p n x new y
+repeated code p n x new y a has d =
+    record { core = d.core; is = d.is; plains = plains_of code p stack_limit (omega arith) y has d.steps }
+
 -- ---- each core has one step
 
 same_found : (x y : Operator × ℕ) → ◌≡◌ {A = Result (Operator × ℕ) BadCode} (Ok x) (Ok y) → x ≡ y
@@ -177,5 +182,6 @@ rest_after code limit k c (onward {n = n} {a = a} {b = b} h s more) all =
 pub cores_decide : CoresDecide
 cores_decide = record {
   steps = λ code p n img new a has small plains. decided code p a has small plains;
+  same = λ code p n x new y a has has' small plains. repeated code p n x new y a has' (decided code p a has small plains);
   first = λ code bound limit n k a b c steps all. rest_after code limit k c steps all;
 }

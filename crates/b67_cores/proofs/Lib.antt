@@ -9,8 +9,11 @@ pub mod Signs
 pub mod Looping
 pub mod Stepped
 pub mod Performing
+pub mod Faulting
 pub mod Placing
 pub mod Forward
 pub mod Having
 pub mod Sizes
 pub mod Deciding
+pub mod Staying
+pub mod Beginnings

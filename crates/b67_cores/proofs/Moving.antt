@@ -119,7 +119,8 @@ module _ (sc : Scopes) (code : Code) (ps : List Placed) (level most bound : ℕ)
     unfolding class_at
     class_is op place change e = ap class_by e
 
-    effect_is : (op : Operator) (place next : ℕ) (change : ℕ → Private → Effect Private) (p : Private) → row op place ≡ private_part change → private_op op place next p ≡ change next p
+    effect_is : (op : Operator) (place next : ℕ) (change : ℕ → Private → Effect Private) (p : Private) → row op place ≡ private_part change
+        → private_op op place next p ≡ change next p
     unfolding private_op
     effect_is op place next change p e = ap (λ (w : Row). part_by w next p) e
 

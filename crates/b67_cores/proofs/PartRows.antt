@@ -1,14 +1,15 @@
 -- What operators do to a private part whose topmost words are known.
 use Rattle.std.proofs.Common.{◌≡◌, ap, ◌∙◌, ℕ, ◌+◌, ◌-◌, ◌<◌, ℤ, List, ◌∷◌, Some, cond, arith}
 use Rattle.std.proofs.lemmas.Bool.{lt-ltb, eq-eqb}
+use Rattle.b67_num.specs.declared.FaultKind.{FaultKind}
 use Rattle.b67_num.specs.Whole.{negation_of}
 use Rattle.b67_word.specs.Word.{Word, word, operand, as_whole}
 use Rattle.b67_control.specs.declared.Registers.{Registers}
 use Rattle.b67_ops.specs.declared.BranchKind.{BranchKind}
 use Rattle.b67_table.specs.declared.InterruptKind.TheVariants.{StackUnderflow, InvalidOperand}
 use Rattle.b67_table.specs.declared.Private.{Private}
-use Rattle.b67_table.specs.Effect.{Effect, gives, interrupts, ◌>>=◌}
-use Rattle.b67_table.specs.Private.{floor, pop, whole_or, whole_of, bits_of}
+use Rattle.b67_table.specs.Effect.{Effect, gives, faults, interrupts, ◌>>=◌}
+use Rattle.b67_table.specs.Private.{floor, pop, push, whole_or, whole_of, bits_of}
 use Rattle.b67_table.specs.PrivateRows.{wholes, negated, logic, complement, complemented, dropped, exchanged, doubled, open_mark, mark, is_taken, by_bit, pointed}
 use Rattle.std.specs.Prelude.{if◌then◌else◌}
 
@@ -36,6 +37,15 @@ module _ (r : Registers) where
       ∙ then_is (whole_of v) a _ (ap whole_or iv)
       ∙ then_is (whole_of w) b _ (ap whole_or iw)
       ∙ then_is (made a b) u _ is
+
+  pub wholes_fault : (made : ℤ → ℤ → Effect Word) (s : ℕ) (v w : Word) (a b : ℤ) (kind : FaultKind) (below : List Word) → as_whole v ≡ Some a → as_whole w ≡ Some b
+      → made a b ≡ faults kind → floor r + 1 < s → wholes made (part r s (w ∷ v ∷ below)) ≡ faults kind
+  wholes_fault made s v w a b kind below iv iw is h =
+      then_is (pop (part r s (w ∷ v ∷ below))) (w, part r (s - 1) (v ∷ below)) _ (pop_is s w (v ∷ below) (omega arith))
+      ∙ then_is (pop (part r (s - 1) (v ∷ below))) (v, part r (s - 1 - 1) below) _ (pop_is (s - 1) v below (omega arith))
+      ∙ then_is (whole_of v) a _ (ap whole_or iv)
+      ∙ then_is (whole_of w) b _ (ap whole_or iw)
+      ∙ ap (λ (e : Effect Word). e >>= (λ (u : Word). gives (push u (part r (s - 1 - 1) below)))) is
 
   pub logic_is : (op : ℕ → ℕ → ℕ) (s : ℕ) (v w : Word) (below : List Word) → v.tag ≡ 0 → w.tag ≡ 0 → floor r + 1 < s
       → logic op (part r s (w ∷ v ∷ below)) ≡ gives (part r (s - 1 - 1 + 1) (word 0 (op v.bits w.bits) ∷ below))

@@ -28,11 +28,11 @@ use Rattle.b67_cores.specs.Stretches.{StepsArePerformed}
 -- ---- the operator of a step
 
 -- the row of a private operator
-record PrivateRow (w : Row) : Type 0 where
+pub record PrivateRow (w : Row) : Type 0 where
   pub change : ℕ → Private → Effect Private
   pub is : w ≡ private_part change
 
-private_row : (w : Row) → class_by w ≡ classes.Private → PrivateRow w
+pub private_row : (w : Row) → class_by w ≡ classes.Private → PrivateRow w
 private_row (private_part change) e = record { change = change; is = refl }
 private_row (action program) e = cc
 
@@ -156,11 +156,13 @@ pub last_fits : {code : Code} {bound n : ℕ} {a b : Core} → CoreSteps code bo
 last_fits (here h) = h
 last_fits (onward h s more) = last_fits more
 
-pub plains_of : (code : Code) (p bound : ℕ) → bound ≤ stack_limit → {n : ℕ} {a b : Core} → (img : Image) → HasCore img p a → CoreSteps code bound n a b → Plains code p img n (with_core img p b)
+pub plains_of : (code : Code) (p bound : ℕ) → bound ≤ stack_limit → {n : ℕ} {a b : Core} → (img : Image) → HasCore img p a → CoreSteps code bound n a b
+    → Plains code p img n (with_core img p b)
 plains_of code p bound small {b = b} img has (here h) = subst (Plains code p img 0) (sym (same_core img p b has)) stay
 plains_of code p bound small {b = c} img has (onward {n = n} {a = a} {b = b} h s more) =
     let fits_b : size b ≤ stack_limit = omega (arith, first_fits more, small) in
-    let later : Plains code p (with_core img p b) n (with_core (with_core img p b) p c) = plains_of code p bound small (with_core img p b) (core_after img p a has code b s) more in
+    let later : Plains code p (with_core img p b) n (with_core (with_core img p b) p c) =
+    plains_of code p bound small (with_core img p b) (core_after img p a has code b s) more in
     let same : b.registers.stack ≡ c.registers.stack = sym (steps_keep more).0 in
     go (is_plain img p a has code b s fits_b) (table_gives img p a has code b s fits_b)
     (subst (Plains code p (with_core img p b) n) (with_again img p b c same) later)

@@ -9,14 +9,15 @@ use Rattle.b67_cores.specs.Cores.{Core, CoreSteps}
 use Rattle.b67_cores.specs.Slots.{newest}
 use Rattle.b67_cores.specs.Stretches.{CoreAt, Arrives, FragmentsArePerformed}
 use Rattle.b67_cores.proofs.Moving.{Standing, moved, Reaches}
+use Rattle.b67_cores.proofs.Faulting.{fault_is}
 use Rattle.b67_cores.proofs.Stepped.{stepped, led}
 
 module _ (sc : Scopes) (code : Code) (ps : List Placed) (level most bound place : ℕ) (slots : List Slot) (core : Core) (at : CoreAt sc code ps level place slots core) where
-  standing : length core.below + most ≤ bound → Standing sc code ps level most bound core
+  pub standing : length core.below + most ≤ bound → Standing sc code ps level most bound core
   standing room = record { segment = at.segment; there = at.there; spells = at.spells; level_is = at.level_is; bottom = at.is.bottom; room = room }
 
   -- the core is the one that its place and its slots make
-  moved_is : core ≡ moved core place slots core.words
+  pub moved_is : core ≡ moved core place slots core.words
   moved_is =
       ap (λ n. record core { registers = record core.registers { s = n } }) at.is.top
       ∙ ap (λ n. record core { registers = record core.registers { s = length core.below + length core.words; f = n } }) at.mark_is
@@ -56,4 +57,5 @@ fragments_are_performed = record {
   leads = λ sc formats code ps level most bound from to x y core leads at room bounded.
       arrives sc code ps level most bound from x core at to y
       (led sc formats code ps level most bound core (standing sc code ps level most bound from x core at bounded) from to x y leads core.words at.words_are room);
+  fault = fault_is;
 }

@@ -1,4 +1,4 @@
--- A private operator leaves the floor no higher than S, and S the number of the words.
+-- A private operator leaves the floor no lower than it was and no higher than S, and S the number of the words.
 use Rattle.std.proofs.Common.{◌≡◌, refl, subst, ℕ, ◌+◌, ◌-◌, ◌<◌, ◌≤◌, Bool, true, false, ℤ, List, [], ◌∷◌, length, cond, arith}
 use Rattle.std.specs.Prelude.{nat_lt, nat_le}
 use Rattle.std.proofs.lemmas.Bool.{ltb-true}
@@ -30,10 +30,11 @@ by_either P true e f p q = p refl
 by_either P false e f p q = q
 
 module _ (base : ℕ) where
-  -- so many words lie below the part
+  -- so many words lie below the part, and no fewer below its floor
   pub record Lies (m : Private) : Type 0 where
     pub size : base + length m.words ≡ m.regs.s
     pub above : floor m.regs ≤ m.regs.s
+    pub low : base ≤ floor m.regs
 
   Below : Word × Private → Type 0
   Below t = Lies t.1
@@ -44,13 +45,13 @@ module _ (base : ℕ) where
   took m [] e k h = tt
   took m (w ∷ ws) e k h =
       let size : base + length (w ∷ ws) ≡ m.regs.s = subst (λ (us : List Word). base + length us ≡ m.regs.s) e k.size in
-      record { size = omega (arith, size); above = omega (arith, h) }
+      record { size = omega (arith, size); above = omega (arith, h); low = omega (arith, k.low) }
 
   popped : (m : Private) → Lies m → Gives Below (pop m)
   popped m k = by_either Below (nat_lt (floor m.regs) m.regs.s) _ (interrupts StackUnderflow) (λ b. took m m.words refl k (ltb-true (floor m.regs) m.regs.s b)) tt
 
   pushed : (w : Word) (m : Private) → Lies m → Lies (push w m)
-  pushed w m k = record { size = omega (arith, k.size); above = omega (arith, k.above) }
+  pushed w m k = record { size = omega (arith, k.size); above = omega (arith, k.above); low = omega (arith, k.low) }
 
   -- a change of a part that leaves it so
   pub Fit : (Private → Effect Private) → Type 0
@@ -110,13 +111,13 @@ module _ (base : ℕ) where
   unfolding Fit
   mark_fits m k =
       by_either Lies (nat_lt m.regs.f m.regs.s) _ (interrupts InvalidOperand)
-      (λ b. record { size = omega (arith, k.size); above = omega (arith, k.above) }) tt
+      (λ b. record { size = omega (arith, k.size); above = omega (arith, k.above); low = omega (arith, k.low) }) tt
 
   cells_fit : Fit make_cells
   unfolding Fit
   cells_fit m k =
       by_either Lies (nat_le (m.regs.s - (frame m.regs + 2)) most_cells) _ (interrupts InvalidOperand)
-      (λ b. record { size = k.size; above = omega (arith, k.above) }) tt
+      (λ b. record { size = k.size; above = omega (arith, k.above); low = omega (arith, k.low, k.size, k.above) }) tt
 
   kept_fits : Fit gives
   unfolding Fit
@@ -127,7 +128,7 @@ module _ (base : ℕ) where
   push_fits w m k = pushed w m k
 
   pointed_lies : (place : ℕ) (m : Private) → Lies m → Lies (pointed place m)
-  pointed_lies place m k = record { size = k.size; above = k.above }
+  pointed_lies place m k = record { size = k.size; above = k.above; low = k.low }
 
   -- ---- rows
 

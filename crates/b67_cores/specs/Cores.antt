@@ -1,6 +1,7 @@
 -- A process's core: all that its private operators read and write. What one of them does to it, and stretches of them.
 use Rattle.std.specs.Prelude.{◌≡◌, ℕ, ◌+◌, ◌≤◌, true, List, ◌++◌, length, reverse, Some, Ok}
 use Rattle.b67_list.specs.Numbered.{numbered}
+use Rattle.b67_num.specs.declared.FaultKind.{FaultKind}
 use Rattle.b67_word.specs.Word.{Word}
 use Rattle.b67_control.specs.declared.Registers.{Registers}
 use Rattle.b67_ops.specs.declared.Operator.{Operator}
@@ -8,7 +9,7 @@ use Rattle.b67_segment.specs.declared.code.Code.{Code}
 use Rattle.b67_store.specs.Store.{stack_at, with_stack}
 use Rattle.b67_table.specs.declared.Class.TheVariants as classes
 use Rattle.b67_table.specs.declared.Private.{Private}
-use Rattle.b67_table.specs.Effect.{gives}
+use Rattle.b67_table.specs.Effect.{gives, faults}
 use Rattle.b67_table.specs.Private.{floor}
 use Rattle.b67_table.specs.Image.{Image, with_stacks, with_registers, is_live}
 use Rattle.b67_table.specs.Table.{operator_at, class_at, private_op}
@@ -31,6 +32,10 @@ size core = length core.below + length core.words
 pub record IsCore (core : Core) : Type 0 where
   pub bottom : length core.below ≡ floor core.registers
   pub top : core.registers.s ≡ size core
+
+-- the core with other words below its floor
+abbrev pub over : List Word → Core → Core
+over lower core = record { below = lower; words = core.words; registers = core.registers }
 
 -- ---- cores in images
 
@@ -63,6 +68,14 @@ pub record CoreStep (code : Code) (a b : Core) : Type 0 where
   pub registers : b.registers ≡ part.regs
   pub stack : stack_of b ≡ a.below ++ reverse part.words
   pub is : IsCore b
+
+-- the next operator is a private one that faults
+pub record CoreFaults (code : Code) (a : Core) (kind : FaultKind) : Type 0 where
+  pub op : Operator
+  pub next : ℕ
+  pub stands : operator_at code a.registers ≡ Ok (op, next)
+  pub private : class_at op a.registers.place ≡ classes.Private
+  pub effect : private_op op a.registers.place next (part_of a) ≡ faults kind
 
 -- so many private operators lead from a core to another, and no core from the first to the last has more words than the bound
 pub data CoreSteps (code : Code) (bound : ℕ) : ℕ → Core → Core → Type 0 where

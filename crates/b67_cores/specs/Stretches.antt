@@ -1,22 +1,39 @@
 -- Stretches of private operators: what they do in an image, and what they do in a frame whose words are slots.
-use Rattle.std.specs.Prelude.{◌≡◌, ◌≢◌, ◌↔◌, ℕ, ◌+◌, ◌≤◌, true, List, length, Some, slice_get}
+use Rattle.std.specs.Prelude.{◌≡◌, ◌≢◌, ◌↔◌, ℕ, ◌+◌, ◌≤◌, true, false, pos, List, [], ◌∷◌, ◌++◌, length, replicate, Some, Err, slice_get}
 use Rattle.b67_list.specs.Numbered.{numbered}
+use Rattle.algol_tree.specs.declared.tree.Op.{Op}
 use Rattle.algol_tree.specs.Scopes.{Scopes}
+use Rattle.algol_tree.specs.Types.{taken_by}
+use Rattle.b67_num.specs.declared.FaultKind.{FaultKind}
+use Rattle.b67_num.specs.declared.NumFault.{NumFault}
+use Rattle.b67_num.specs.Whole.{fault_of}
+use Rattle.algol_meaning.specs.Value.{Value}
+use Rattle.algol_meaning.specs.Operators.{result_of}
 use Rattle.b67_control.specs.declared.Registers.{Registers}
+use Rattle.b67_word.specs.Word.{Word}
+use Rattle.b67_word.specs.Word as words
 use Rattle.b67_ops.specs.declared.TheConstants.{MOST_LEVEL}
+use Rattle.b67_ops.specs.declared.Operator.TheVariants as ops
+use Rattle.b67_ops.specs.declared.PlainKind.TheVariants as kinds
 use Rattle.b67_segment.specs.Operators.{Placed}
 use Rattle.b67_segment.specs.Syllables.{Spells}
 use Rattle.b67_segment.specs.declared.code.Code.{Code}
 use Rattle.b67_segment.specs.declared.code.Format.{Format}
 use Rattle.b67_segment.specs.declared.code.Segment.{Segment}
 use Rattle.b67_store.specs.Store.{stack_at, stack_limit}
+use Rattle.b67_table.specs.Limits.{most_cells}
 use Rattle.b67_table.specs.Private.{frame}
 use Rattle.b67_table.specs.Image.{Image, is_live}
+use Rattle.b67_table.specs.Outcome as outcomes
+use Rattle.b67_table.specs.Table.{table, plain}
+use Rattle.b67_table.specs.Ending.{failed}
 use Rattle.b67_table.specs.Privacy.{Keeps}
 use Rattle.b67_table.specs.Runs.{Plains}
 use Rattle.b67_table.specs.Valid.{IsValid}
-use Rattle.b67_standing.specs.Stepping.{Slot, Step, Leads}
-use Rattle.b67_cores.specs.Cores.{Core, size, IsCore, HasCore, with_core, CoreSteps}
+use Rattle.b67_templates.specs.Fragments.{Has, HasKind, AllAt, operator_for}
+use Rattle.b67_templates.specs.Programs.{MadeAt}
+use Rattle.b67_standing.specs.Stepping.{Slot, operand, ready, Step, Leads}
+use Rattle.b67_cores.specs.Cores.{Core, size, IsCore, over, HasCore, with_core, CoreFaults, CoreSteps}
 use Rattle.b67_cores.specs.Slots.{newest, SlotsAre}
 
 -- ---- in an image
@@ -36,11 +53,35 @@ abbrev pub StepsArePerformed : Type 0
 StepsArePerformed =
     (code : Code) (p bound n : ℕ) (img : Image) (a b : Core) → bound ≤ stack_limit → HasCore img p a → CoreSteps code bound n a b → Performed code p img n a b
 
+-- a private operator that faults
+pub record FaultsArePerformed : Type 0 where
+  -- is a fault of the process in every image in which it has that core, and no plain operator
+  pub faulting : (code : Code) (p : ℕ) (img : Image) (a : Core) (kind : FaultKind) → HasCore img p a → CoreFaults code a kind
+      → (table code img p ≡ outcomes.faults kind) × (plain code img p ≡ false)
+  -- and the image that keeps a fault has the cores that there were
+  pub kept : (p q : ℕ) (img : Image) (a : Core) (kind : FaultKind) → HasCore img q a → HasCore (failed img p kind) q a
+
 -- the steps of a core that plain operators in an image are
 pub record Decided (code : Code) (p : ℕ) (img : Image) (n : ℕ) (a : Core) (new : Image) : Type 0 where
   pub core : Core
   pub steps : CoreSteps code stack_limit n a core
   pub is : new ≡ with_core img p core
+
+-- The words below the floor stay, with those that PUSH adds to them; over any others, as many, the steps are the same.
+pub record Above (code : Code) (bound n : ℕ) (a b : Core) : Type 0 where
+  pub cells : List Word
+  pub below : b.below ≡ a.below ++ cells
+  pub same : (lower : List Word) → length lower ≡ length a.below → CoreSteps code bound n (over lower a) (over (lower ++ cells) b)
+
+-- what another process does to the words below a floor does not matter to private operators
+abbrev pub StepsStayAbove : Type 0
+StepsStayAbove = (code : Code) (bound n : ℕ) (a b : Core) → IsCore a → CoreSteps code bound n a b → Above code bound n a b
+
+-- what a process performed in one image it performs in another
+pub record Repeated (code : Code) (p n : ℕ) (x new y : Image) : Type 0 where
+  pub core : Core
+  pub is : new ≡ with_core x p core
+  pub plains : Plains code p y n (with_core y p core)
 
 pub record HasOne (img : Image) (p : ℕ) (r : Registers) : Type 0 where
   pub core : Core
@@ -56,6 +97,9 @@ StepsGoForward =
 pub record CoresDecide : Type 0 where
   -- plain operators of a process are steps of its core, and leave all else of the image
   pub steps : (code : Code) (p n : ℕ) (img new : Image) (a : Core) → HasCore img p a → size a ≤ stack_limit → Plains code p img n new → Decided code p img n a new
+  -- so a process with one core in two images performs the same in both
+  pub same : (code : Code) (p n : ℕ) (x new y : Image) (a : Core) → HasCore x p a → HasCore y p a → size a ≤ stack_limit → Plains code p x n new
+      → Repeated code p n x new y
   -- of steps from one core the fewer lead to a core from which the rest lead on
   pub first : (code : Code) (bound limit n k : ℕ) (a b c : Core) → CoreSteps code bound n a b → CoreSteps code limit (n + k) a c → CoreSteps code limit k b c
 
@@ -101,3 +145,26 @@ pub record FragmentsArePerformed : Type 0 where
   pub leads : (sc : Scopes) (formats : List Format) (code : Code) (ps : List Placed) (level most bound from to : ℕ) (x y : List Slot) (core : Core)
       → Leads sc formats ps level most from x to y → CoreAt sc code ps level from x core → length x ≤ most → length core.below + most ≤ bound
       → Arrives sc code ps level most bound to y core
+  -- an operator of the language without a result is a fault
+  pub fault : (sc : Scopes) (code : Code) (ps : List Placed) (level from to : ℕ) (op : Op) (v w : Value) (fault : NumFault) (below : List Slot) (core : Core)
+      → Has ps level from (ops.Plain (operator_for op)) to → HasKind (taken_by op) v → HasKind (taken_by op) w → result_of op v w ≡ Err fault
+      → CoreAt sc code ps level from (operand w ∷ operand (ready op v) ∷ below) core → CoreFaults code core (fault_of fault)
+
+-- ---- the start of a block
+
+-- Private operators lead to a core with so many cells more, each of them 0, and no words above the floor.
+pub record Begins (sc : Scopes) (code : Code) (ps : List Placed) (level bound cells place : ℕ) (a : Core) : Type 0 where
+  pub count : ℕ
+  pub core : Core
+  pub steps : CoreSteps code bound count a core
+  pub below : core.below ≡ a.below ++ replicate cells (words.operand (pos 0))
+  pub registers : core.registers ≡ record a.registers { s = size core; f = frame a.registers; cells = a.registers.cells + cells; place = place }
+  pub at : CoreAt sc code ps level place [] core
+  pub few : count + a.registers.place ≤ place
+
+-- so do the zeros of a block's variables and PUSH, where the frame has room for the cells
+abbrev pub BlocksBegin : Type 0
+BlocksBegin =
+    (sc : Scopes) (formats : List Format) (code : Code) (ps : List Placed) (level bound cells from zeroed to : ℕ) (core : Core)
+    → AllAt ps level (replicate cells kinds.Zero) from zeroed → MadeAt sc formats ps level cells zeroed to → CoreAt sc code ps level from [] core
+    → core.registers.cells + cells ≤ most_cells → length core.below + cells ≤ bound → Begins sc code ps level bound cells to core

@@ -2,7 +2,7 @@
 //! stands for a source.
 #![tactic(auto)]
 
-ghost use Rattle.b67_cores.specs.Stretches.{StepsArePerformed, CoresDecide, StepsGoForward, ValidImagesHaveCores, FragmentsArePerformed};
+ghost use Rattle.b67_cores.specs.Stretches.{StepsArePerformed, FaultsArePerformed, CoresDecide, StepsGoForward, StepsStayAbove, ValidImagesHaveCores, FragmentsArePerformed, BlocksBegin};
 
 /// Law: each process of a valid image that lives has a core.
 pub fn valid_images_have_cores()
@@ -15,6 +15,11 @@ pub fn steps_are_performed()
     ensures { StepsArePerformed }
 {}
 
+/// Law: where a private operator faults in a core, the process faults in every image in which it has that core.
+pub fn faults_are_performed()
+    ensures { FaultsArePerformed }
+{}
+
 /// Law: what a process performs by plain operators is decided by its core alone.
 pub fn cores_decide()
     ensures { CoresDecide }
@@ -25,8 +30,18 @@ pub fn steps_go_forward()
     ensures { StepsGoForward }
 {}
 
+/// Law: private operators neither read nor write a word below the floor; PUSH adds to those words.
+pub fn steps_stay_above()
+    ensures { StepsStayAbove }
+{}
+
 /// Law: the machine performs each fragment of private operators as the meaning of its words says, one alone or
-/// several one after another.
+/// several one after another, and faults where an operator of the language has no result.
 pub fn fragments_are_performed()
     ensures { FragmentsArePerformed }
+{}
+
+/// Law: the start of a block makes a cell of 0 for each of its variables.
+pub fn blocks_begin()
+    ensures { BlocksBegin }
 {}
