@@ -22,3 +22,5 @@ pub mod Breaking
 pub mod Slotted
 pub mod Failing
 pub mod Storing
+pub mod Dispatching
+pub mod Quiet

@@ -3,7 +3,7 @@ use Rattle.std.proofs.Common.{◌≡◌, ◌≢◌, ◌⊎◌, inl, inr, refl, s
 use Rattle.std.specs.Prelude.{if◌then◌else◌, ◌&&◌}
 use Rattle.b67_list.specs.Numbered.{numbered}
 use Rattle.algol_tree.specs.Plain.{PProgram}
-use Rattle.algol_meaning.specs.World.{Process, World}
+use Rattle.algol_meaning.specs.World.{Process, able, World}
 use Rattle.b67_word.specs.declared.Place.{Place}
 use Rattle.b67_control.specs.declared.Registers.{Registers}
 use Rattle.b67_segment.specs.Operators.{Placed}
@@ -12,7 +12,7 @@ use Rattle.b67_store.specs.Store.{stack_at, stack_limit}
 use Rattle.b67_control.specs.Display.{place_at}
 use Rattle.b67_table.specs.declared.InterruptKind.TheVariants.{BadCode as bad_code}
 use Rattle.b67_table.specs.declared.ProcessState.{ProcessState}
-use Rattle.b67_table.specs.declared.ProcessState.TheVariants.{Ended}
+use Rattle.b67_table.specs.declared.ProcessState.TheVariants.{Able, Ended}
 use Rattle.b67_table.specs.Effect.{Effect, interrupts}
 use Rattle.b67_table.specs.Outcome.{Outcome, gives}
 use Rattle.b67_table.specs.Outcome as outcomes
@@ -115,13 +115,14 @@ module _ (performed : StepsArePerformed) (tree : PProgram) (code : Code) (texts 
       , done.0.stacks 0 (λ (e : 0 ≡ p). none_some (ap (λ (n : ℕ). numbered w.processes n) e ∙ at))
       )
 
-  abbrev Quiet : Type 0
-  Quiet = (q : Process) (l : Living tree code texts w lay a p q) → HasCore a p l.settled → plain code a p ≡ false
+  abbrev pub Quiet : Type 0
+  Quiet =
+      (q : Process) → numbered w.processes p ≡ Some q → q.state ≡ able → numbered a.states p ≡ Some Able → (l : Living tree code texts w lay a p q) → HasCore a p l.settled → plain code a p ≡ false
 
   moved : (q : Process) → numbered w.processes p ≡ Some q → PicturesBy tree code texts w lay a → Quiet → Pictured tree code texts w lay a p q → PicturesBy tree code texts w lay b
   moved q at by quiet (dead e s) = no_operator code a b p (ap is_live s) gives_b
   moved q at by quiet (living able_is s l) =
-      let n = nearer q at by l (quiet q l) in
+      let n = nearer q at by l (quiet q at able_is s l) in
       subst (λ (i : Image). PicturesBy tree code texts w lay i) (sym n.1) (record {
         laid = by.laid;
         output = by.output;
