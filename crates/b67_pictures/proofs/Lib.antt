@@ -24,3 +24,5 @@ pub mod Failing
 pub mod Storing
 pub mod Dispatching
 pub mod Quiet
+pub mod Lasting
+pub mod Showing
