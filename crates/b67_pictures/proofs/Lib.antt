@@ -26,3 +26,4 @@ pub mod Dispatching
 pub mod Quiet
 pub mod Lasting
 pub mod Showing
+pub mod Simulating
