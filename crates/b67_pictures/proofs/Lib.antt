@@ -24,3 +24,8 @@ pub mod Failing
 pub mod Storing
 pub mod ExitRow
 pub mod Ending
+pub mod Dispatching
+pub mod Quiet
+pub mod Lasting
+pub mod Showing
+pub mod Simulating

@@ -1,0 +1,121 @@
+-- A process that stands at its action does it: by what its head asks for.
+use Rattle.std.proofs.Common.{◌≡◌, refl, sym, ap, ◌∙◌, ℕ, ◌+◌, ◌<◌, ◌≤◌, ◌^◌, List, [], ◌∷◌, length, Option, Some, None, Bool, true, false, arith}
+use Rattle.std.specs.Prelude.{if◌then◌else◌}
+use Rattle.b67_list.specs.Numbered.{numbered}
+use Rattle.algol_tree.specs.declared.TheConstants.{MOST_BLOCK_CELLS}
+use Rattle.algol_tree.specs.declared.tree.Kind.{Kind}
+use Rattle.algol_tree.specs.declared.tree.Named.{Named}
+use Rattle.algol_tree.specs.declared.tree.PhraseText.{PhraseText}
+use Rattle.algol_tree.specs.Blocks.{block_numbered}
+use Rattle.algol_tree.specs.Plain.{PProgram, PStmts}
+use Rattle.algol_tree.specs.Scopes.{Scopes, scopes_of, use_of}
+use Rattle.algol_tree.specs.Sorts.{same_name}
+use Rattle.algol_meaning.specs.Value.{Value}
+use Rattle.algol_meaning.specs.Rest.{own, there, element_of, Answer, done, value, cell, place, entered}
+use Rattle.algol_meaning.specs.World.{Process, Part, able, World}
+use Rattle.algol_meaning.specs.Asks.{Ask, nothing, reads, reads_element, indexes, asks_happened, fails, enters, passes, resolves, reads_result, leaves, stores, selects, turns, goes_to, enters_block, starts, acts, writes, makes_arrays, makes_event, ask, resume}
+use Rattle.b67_word.specs.declared.Place.{Place}
+use Rattle.b67_ops.specs.declared.Couple.{Couple}
+use Rattle.b67_ops.specs.declared.TheConstants.{OUTER_LEVEL}
+use Rattle.b67_segment.specs.Operators.{Placed}
+use Rattle.b67_segment.specs.declared.code.Code.{Code}
+use Rattle.b67_table.specs.declared.ProcessState.TheVariants.{Able}
+use Rattle.b67_table.specs.Image.{Image}
+use Rattle.b67_templates.specs.Cells.{Simple, Found, found_from, simple_cells, IsVariable}
+use Rattle.b67_standing.specs.Stepping.{Slot}
+use Rattle.b67_standing.specs.Standing.{ActionAt, Acted, ComesTo, GoesOn}
+use Rattle.b67_standing.specs.Laws.{RestsGoOn}
+use Rattle.b67_cores.specs.Cores.{Core}
+use Rattle.b67_cores.specs.Stretches.{FragmentsArePerformed}
+use Rattle.b67_pictures.specs.Flat.{IsFlat}
+use Rattle.b67_pictures.specs.Acting.{Does}
+use Rattle.b67_pictures.proofs.Scene.{Scene}
+use Rattle.b67_pictures.proofs.Reading.{reading}
+use Rattle.b67_pictures.proofs.Storing.{storing}
+use Rattle.b67_pictures.proofs.Failing.{failing}
+use Rattle.b67_pictures.proofs.Turning.{turning}
+
+-- ---- the cells of a block are few
+
+-- a cell that is found is one of them
+found_below : (from : ℕ) (ss : List Simple) (name : List ℕ) (f : Found) → found_from from ss name ≡ Some f → f.number < from + length ss
+found_below from [] name f e = cc
+found_below from (s ∷ ss) name f e = by_name (λ h. found_below (from + 1) ss name f h) (same_name s.name name) e
+  where
+    by_name : (found_from (from + 1) ss name ≡ Some f → f.number < from + 1 + length ss) → (b : Bool) → (if b then Some (record { number = from; cell = s }) else found_from (from + 1) ss name) ≡ Some f → f.number < from + length (s ∷ ss)
+    by_name later true h =
+        let is_f : record { number = from; cell = s } ≡ f = cc in
+        omega (arith, ap (λ (x : Found). x.number) is_f)
+    by_name later false h = omega (arith, later h)
+
+-- the outer block has no more cells than a block may have
+abbrev pub HasFewCells : Scopes → Type 0
+HasFewCells sc = length (simple_cells (block_numbered sc.blocks 0)) ≤ MOST_BLOCK_CELLS
+
+small_index : (sc : Scopes) → IsFlat sc → HasFewCells sc → (n : Named) (kind : Kind) (couple : Couple) → IsVariable sc OUTER_LEVEL n kind couple → couple.index < 2 ^ 14
+small_index sc flat few n kind couple v =
+    let here : found_from 0 (simple_cells (block_numbered sc.blocks 0)) n.name ≡ Some v.found =
+    ap (λ (b : ℕ). found_from 0 (simple_cells (block_numbered sc.blocks b)) n.name) (sym (flat.own n)) ∙ v.there in
+    omega (arith, found_below 0 (simple_cells (block_numbered sc.blocks 0)) n.name v.found here, few, v.index_is)
+
+-- ---- the actions that stand in files of their own
+
+module _ (tree : PProgram) (code : Code) (texts : ℕ → List Placed) where
+  -- what an action of a scene, which stands at what its head asks for, needs of the place to which it leads
+  abbrev pub GoesOnFrom : (w : World) (lay : List Place) (img : Image) (p : ℕ) (q : Process) (part : Part) (most bound : ℕ) (core : Core) → Scene tree code texts w lay img p q part most bound core → (k : Ask) → Type 0
+  GoesOnFrom w lay img p q part most bound core s k =
+      (a : ActionAt (scopes_of tree) code.formats (texts 0) OUTER_LEVEL most k s.pc s.slots) →
+      ((r : Answer) (at : ℕ) (left : List Slot) → Acted (scopes_of tree) code.formats (texts 0) OUTER_LEVEL most k s.pc s.slots a r at left →
+      ComesTo (scopes_of tree) code.formats (texts 0) OUTER_LEVEL most (resume (scopes_of tree) part.rest r) at left) →
+      Does tree code texts w lay img p
+
+  -- each scene whose head asks for this does its action
+  abbrev pub IsDone : Ask → Type 0
+  IsDone k =
+      (w : World) (lay : List Place) (img : Image) (p : ℕ) (q : Process) (part : Part) (most bound : ℕ) (core : Core) (s : Scene tree code texts w lay img p q part most bound core) →
+      q.state ≡ able → numbered img.states p ≡ Some Able → ask part.rest ≡ k → GoesOnFrom w lay img p q part most bound core s k
+
+  -- a line, the choice of a statement, the end
+  pub record OthersAreDone : Type 0 where
+    pub writing : (phrases : List PhraseText) (vs : List Value) → IsDone (writes phrases vs)
+    pub selecting : (v : Value) (ss : PStmts) → IsDone (selects v ss)
+    pub ending : IsDone (leaves done)
+
+  module _ (flat : IsFlat (scopes_of tree)) (few : HasFewCells (scopes_of tree)) (fragments : FragmentsArePerformed) (rests : RestsGoOn) (others : OthersAreDone) (w : World) (lay : List Place) (img : Image)
+      (p : ℕ) (q : Process) (part : Part) (most bound : ℕ) (core : Core) (s : Scene tree code texts w lay img p q part most bound core) (able_is : q.state ≡ able) (able_p : numbered img.states p ≡ Some Able) where
+    by_ask : (k : Ask) → ask part.rest ≡ k → GoesOnFrom w lay img p q part most bound core s k
+    by_ask (reads n) e a answered = reading tree code texts flat fragments w lay img p q part most bound core s able_is able_p n e a answered
+    by_ask (fails fault) e a answered = failing tree code texts w lay img p q part most bound core s fault e a
+    by_ask (stores (own n) v) e a answered =
+        storing tree code texts flat fragments w lay img p q part most bound core s able_is able_p n v e a answered
+        (small_index (scopes_of tree) flat few n a.2.kind a.2.couple a.2.variable)
+    by_ask turns e a answered = turning tree code texts flat fragments w lay img p q part most bound core s able_is able_p e a answered
+    by_ask (writes phrases vs) e a answered = others.writing phrases vs w lay img p q part most bound core s able_is able_p e a answered
+    by_ask (selects v ss) e a answered = others.selecting v ss w lay img p q part most bound core s able_is able_p e a answered
+    by_ask (leaves done) e a answered = others.ending w lay img p q part most bound core s able_is able_p e a answered
+    by_ask (leaves (value v)) e a answered = absurd a
+    by_ask (leaves (cell c)) e a answered = absurd a
+    by_ask (leaves (place x)) e a answered = absurd a
+    by_ask (leaves entered) e a answered = absurd a
+    by_ask (stores (there r) v) e a answered = absurd a
+    by_ask (stores (element_of r ks) v) e a answered = absurd a
+    by_ask nothing e a answered = absurd a
+    by_ask (reads_element n ks v) e a answered = absurd a
+    by_ask (indexes n ks v) e a answered = absurd a
+    by_ask (asks_happened n) e a answered = absurd a
+    by_ask (enters n gs) e a answered = absurd a
+    by_ask (passes n) e a answered = absurd a
+    by_ask (resolves n) e a answered = absurd a
+    by_ask (reads_result name) e a answered = absurd a
+    by_ask (goes_to n) e a answered = absurd a
+    by_ask (enters_block b) e a answered = absurd a
+    by_ask (starts n gs task) e a answered = absurd a
+    by_ask (acts x n) e a answered = absurd a
+    by_ask (makes_arrays kind ns pairs vs) e a answered = absurd a
+    by_ask (makes_event n) e a answered = absurd a
+
+    -- whatever its head asks for
+    pub scene_does : Does tree code texts w lay img p
+    scene_does =
+        let on : GoesOn (scopes_of tree) code.formats (texts 0) OUTER_LEVEL most part.rest s.pc s.slots = rests (scopes_of tree) code.formats (texts 0) OUTER_LEVEL most part.rest s.pc s.slots s.stands in
+        by_ask (ask part.rest) refl on.action on.answered

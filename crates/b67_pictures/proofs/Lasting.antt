@@ -1,0 +1,97 @@
+-- No action of a process that is pictured makes a process or takes one away.
+use Rattle.std.proofs.Common.{◌≡◌, refl, sym, ap, ◌∙◌, ℕ, List, [], ◌∷◌, length, Option, Some, None, Bool, true, false}
+use Rattle.std.specs.Prelude.{if◌then◌else◌}
+use Rattle.b67_list.specs.Numbered.{numbered}
+use Rattle.b67_num.specs.declared.FaultKind.TheVariants as fault
+use Rattle.algol_tree.specs.Plain.{PProgram}
+use Rattle.algol_tree.specs.Scopes.{Scopes, scopes_of}
+use Rattle.algol_meaning.specs.Value.{Cell, simple, event, array, named, reference, Reference, whole_of}
+use Rattle.algol_meaning.specs.Rest.{own, there, element_of, done, value, cell, place, entered}
+use Rattle.algol_meaning.specs.World.{Process, Part, World}
+use Rattle.algol_meaning.specs.Critical.{some_depends, is_evaluation}
+use Rattle.algol_meaning.specs.Events.{caused_by_end}
+use Rattle.algol_meaning.specs.Instances.{leave}
+use Rattle.algol_meaning.specs.Actions.{Select}
+use Rattle.algol_meaning.specs.Asks.{Ask, nothing, reads, reads_element, indexes, asks_happened, fails, enters, passes, resolves, reads_result, leaves, stores, selects, turns, goes_to, enters_block, starts, acts, writes, makes_arrays, makes_event, ask}
+use Rattle.algol_meaning.specs.Choice.{Choice, choice, choice_of, read_of, here, nth_exists, goes, left, left_with, left_or_ended, ended_releasing}
+use Rattle.algol_meaning.specs.Choice as choices
+use Rattle.algol_meaning.specs.World.{cell_at}
+use Rattle.b67_word.specs.declared.Place.{Place}
+use Rattle.b67_segment.specs.Operators.{Placed}
+use Rattle.b67_segment.specs.declared.code.Code.{Code}
+use Rattle.b67_segment.specs.declared.code.Format.{Format}
+use Rattle.b67_table.specs.Image.{Image}
+use Rattle.b67_standing.specs.Stepping.{Slot}
+use Rattle.b67_standing.specs.Standing.{ActionAt, GoesOn}
+use Rattle.b67_standing.specs.Laws.{RestsGoOn}
+use Rattle.b67_cores.specs.Cores.{Core}
+use Rattle.b67_pictures.specs.Frames.{Stands, Frames}
+use Rattle.b67_pictures.specs.Pictures.{Living}
+use Rattle.b67_pictures.proofs.Numbers.{length_set_numbered}
+use Rattle.b67_pictures.proofs.Stage.{choice_is}
+
+module _ (sc : Scopes) (w : World) (p : ℕ) (q : Process) (part : Part) (no_task : q.task ≡ None) where
+  -- so many processes there are after a choice
+  abbrev many : Choice → ℕ
+  many c = length c.world.processes
+
+  read_keeps : (c : Cell) → many (read_of sc w p q part [] c) ≡ length w.processes
+  read_keeps (named n) = length_set_numbered w.processes p _
+  read_keeps (reference r) = length_set_numbered w.processes p _
+  read_keeps (simple v) = length_set_numbered w.processes p _
+  read_keeps (event e) = length_set_numbered w.processes p _
+  read_keeps (array a) = length_set_numbered w.processes p _
+
+  select_keeps : (b : Bool) → many (if b then (goes sc w p q part [] Select w done) else choices.fails sc w p q part [] fault.CaseIndex) ≡ length w.processes
+  select_keeps true = length_set_numbered w.processes p _
+  select_keeps false = refl
+
+  left_keeps : (b c : Bool) → many (if b then left_with sc w p q part [] w done [] else if c then choices.fails sc w p q part [] fault.CriticalBlockExit else left_or_ended sc w p q part [] done []) ≡ length w.processes
+  left_keeps true c = refl
+  left_keeps false true = refl
+  left_keeps false false =
+      ap (λ (t : Option Reference). many (ended_releasing sc w p q part [] (caused_by_end (leave w (part.instance ∷ [])) t))) no_task
+      ∙ length_set_numbered w.processes p _
+
+  module _ (formats : List Format) (ps : List Placed) (level most pc : ℕ) (slots : List Slot) where
+    by_ask : (k : Ask) → ActionAt sc formats ps level most k pc slots → many (choice_of sc w p q part [] k) ≡ length w.processes
+    by_ask (reads n) a = read_keeps (cell_at w (here sc w p q part [] n))
+    by_ask (fails f) a = refl
+    by_ask (stores (own n) v) a = length_set_numbered w.processes p _
+    by_ask turns a = length_set_numbered w.processes p _
+    by_ask (writes phrases vs) a = length_set_numbered w.processes p _
+    by_ask (selects v ss) a = select_keeps (nth_exists (whole_of v) ss)
+    by_ask (leaves done) a = left_keeps (is_evaluation part.purpose) (some_depends w.processes part.instance)
+    by_ask (leaves (value v)) a = absurd a
+    by_ask (leaves (cell c)) a = absurd a
+    by_ask (leaves (place x)) a = absurd a
+    by_ask (leaves entered) a = absurd a
+    by_ask (stores (there r) v) a = absurd a
+    by_ask (stores (element_of r ks) v) a = absurd a
+    by_ask nothing a = absurd a
+    by_ask (reads_element n ks v) a = absurd a
+    by_ask (indexes n ks v) a = absurd a
+    by_ask (asks_happened n) a = absurd a
+    by_ask (enters n gs) a = absurd a
+    by_ask (passes n) a = absurd a
+    by_ask (resolves n) a = absurd a
+    by_ask (reads_result name) a = absurd a
+    by_ask (goes_to n) a = absurd a
+    by_ask (enters_block b) a = absurd a
+    by_ask (starts n gs task) a = absurd a
+    by_ask (acts x n) a = absurd a
+    by_ask (makes_arrays kind ns pairs vs) a = absurd a
+    by_ask (makes_event n) a = absurd a
+
+module _ (tree : PProgram) (code : Code) (texts : ℕ → List Placed) (rests : RestsGoOn) (w : World) (lay : List Place) (img : Image) where
+  pub same_number : (p : ℕ) (q : Process) → numbered w.processes p ≡ Some q → Living tree code texts w lay img p q → length (choice (scopes_of tree) w p).world.processes ≡ length w.processes
+  same_number p q at l = by_parts q.todo refl l.frames
+    where
+      by_parts : (parts : List Part) → q.todo ≡ parts → Frames (scopes_of tree) code texts w lay p parts l.most l.settled → length (choice (scopes_of tree) w p).world.processes ≡ length w.processes
+      by_parts [] todo f = absurd f
+      by_parts (part ∷ []) todo f =
+          let s : Stands (scopes_of tree) code texts w lay p part 0 l.most [] l.settled = f.0 in
+          let on = rests (scopes_of tree) code.formats _ _ l.most part.rest s.pc s.slots s.stands in
+          ap (λ (c : Choice). length c.world.processes) (choice_is (scopes_of tree) w p q part at todo)
+          ∙ by_ask (scopes_of tree) w p q part l.without_task code.formats _ _ l.most s.pc s.slots (ask part.rest) on.action
+      by_parts (part ∷ outer ∷ parts) todo f = absurd f
