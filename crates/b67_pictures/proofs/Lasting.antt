@@ -1,5 +1,5 @@
 -- No action of a process that is pictured makes a process or takes one away.
-use Rattle.std.proofs.Common.{◌≡◌, refl, sym, ap, ◌∙◌, ℕ, List, [], ◌∷◌, length, Option, Some, None, Bool, true, false}
+use Rattle.std.proofs.Common.{◌≡◌, refl, ap, ◌∙◌, ℕ, List, [], ◌∷◌, length, Option, Some, None, Bool, true, false}
 use Rattle.std.specs.Prelude.{if◌then◌else◌}
 use Rattle.b67_list.specs.Numbered.{numbered}
 use Rattle.b67_num.specs.declared.FaultKind.TheVariants as fault
@@ -22,9 +22,8 @@ use Rattle.b67_segment.specs.declared.code.Code.{Code}
 use Rattle.b67_segment.specs.declared.code.Format.{Format}
 use Rattle.b67_table.specs.Image.{Image}
 use Rattle.b67_standing.specs.Stepping.{Slot}
-use Rattle.b67_standing.specs.Standing.{ActionAt, GoesOn}
+use Rattle.b67_standing.specs.Standing.{ActionAt}
 use Rattle.b67_standing.specs.Laws.{RestsGoOn}
-use Rattle.b67_cores.specs.Cores.{Core}
 use Rattle.b67_pictures.specs.Frames.{Stands, Frames}
 use Rattle.b67_pictures.specs.Pictures.{Living}
 use Rattle.b67_pictures.proofs.Numbers.{length_set_numbered}

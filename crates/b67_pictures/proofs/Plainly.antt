@@ -1,18 +1,16 @@
 -- A plain operator leaves an image of the same world.
-use Rattle.std.proofs.Common.{◌≡◌, ◌≢◌, ◌⊎◌, inl, inr, refl, sym, ap, ◌∙◌, subst, ℕ, ◌+◌, ◌≤◌, List, length, Option, Some, None, Bool, true, false, arith}
-use Rattle.std.specs.Prelude.{if◌then◌else◌, ◌&&◌}
+use Rattle.std.proofs.Common.{◌≡◌, ◌≢◌, ◌⊎◌, inl, inr, refl, sym, ap, ◌∙◌, subst, ℕ, ◌≤◌, List, Option, Some, None, Bool, true, false, arith}
+use Rattle.std.specs.Prelude.{if◌then◌else◌}
 use Rattle.b67_list.specs.Numbered.{numbered}
 use Rattle.algol_tree.specs.Plain.{PProgram}
 use Rattle.algol_meaning.specs.World.{Process, able, World}
 use Rattle.b67_word.specs.declared.Place.{Place}
-use Rattle.b67_control.specs.declared.Registers.{Registers}
 use Rattle.b67_segment.specs.Operators.{Placed}
 use Rattle.b67_segment.specs.declared.code.Code.{Code}
 use Rattle.b67_store.specs.Store.{stack_at, stack_limit}
 use Rattle.b67_control.specs.Display.{place_at}
 use Rattle.b67_table.specs.declared.InterruptKind.TheVariants.{BadCode as bad_code}
-use Rattle.b67_table.specs.declared.ProcessState.{ProcessState}
-use Rattle.b67_table.specs.declared.ProcessState.TheVariants.{Able, Ended}
+use Rattle.b67_table.specs.declared.ProcessState.TheVariants.{Able}
 use Rattle.b67_table.specs.Effect.{Effect, interrupts}
 use Rattle.b67_table.specs.Outcome.{Outcome, gives}
 use Rattle.b67_table.specs.Outcome as outcomes
@@ -22,7 +20,7 @@ use Rattle.b67_table.specs.Runs.{Plains, stay, go}
 use Rattle.b67_cores.specs.Cores.{Core, HasCore, with_core, size, CoreStep, CoreSteps, here, onward}
 use Rattle.b67_cores.specs.Stretches.{StepsArePerformed, Performed}
 use Rattle.b67_faithful.proofs.Contradictions.{true_false, gives_same, none_some, some_same}
-use Rattle.b67_pictures.specs.Pictures.{Living, Pictured, living, dead, PicturesBy, Pictures}
+use Rattle.b67_pictures.specs.Pictures.{Living, Pictured, living, dead, PicturesBy}
 use Rattle.b67_pictures.proofs.Numbers.{same_or_not, numbered_beyond}
 
 -- one plain operator
@@ -90,10 +88,10 @@ module _ (performed : StepsArePerformed) (tree : PProgram) (code : Code) (texts 
       (stack_at (with_core a p c).stacks 0 ≡ stack_at a.stacks 0)
   nearer q at by l quiet =
       let first = first_step l.steps (λ e. true_false is_plain (quiet (subst (λ (x : Core). HasCore a p x) e l.has))) in
-      let done = stepped performed tree code texts l.bound p a l.core first.1 l.small l.has (steps_fit l.steps) (steps_fit first.3) first.2 in
-      ( first.1
-      , gives_same gives_b done.2
-      , record {
+      let done = stepped performed tree code texts l.bound p a l.core first.1 l.small l.has (steps_fit l.steps) (steps_fit first.3) first.2 in (
+        first.1,
+        gives_same gives_b done.2,
+        record {
           independent = l.independent;
           without_task = l.without_task;
           core = first.1;
@@ -110,9 +108,9 @@ module _ (performed : StepsArePerformed) (tree : PProgram) (code : Code) (texts 
           room = l.room;
           light = l.light;
           small = l.small;
-        }
-      , λ r core other has. (done.0.others r core other).0 has
-      , done.0.stacks 0 (λ (e : 0 ≡ p). none_some (ap (λ (n : ℕ). numbered w.processes n) e ∙ at))
+        },
+        λ r core other has. (done.0.others r core other).0 has,
+        done.0.stacks 0 (λ (e : 0 ≡ p). none_some (ap (λ (n : ℕ). numbered w.processes n) e ∙ at)),
       )
 
   abbrev pub Quiet : Type 0

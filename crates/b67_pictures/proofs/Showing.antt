@@ -1,5 +1,5 @@
 -- An image that pictures a world shows it, and its stacks are within their weights.
-use Rattle.std.proofs.Common.{◌≡◌, ◌⊎◌, inl, inr, refl, sym, ap, ◌∙◌, ℕ, zero, suc, ◌+◌, ◌<◌, ◌≤◌, List, [], ◌∷◌, length, Option, Some, None, Bool, true, false, arith}
+use Rattle.std.proofs.Common.{◌≡◌, ◌⊎◌, inl, inr, refl, sym, ap, ◌∙◌, ℕ, suc, ◌+◌, ◌≤◌, List, [], ◌∷◌, length, Option, Some, None, Bool, true, false, arith}
 use Rattle.std.specs.Prelude.{if◌then◌else◌, ◌&&◌, ◌||◌, not, slice_get}
 use Rattle.b67_list.specs.Numbered.{numbered}
 use Rattle.algol_tree.specs.Plain.{PProgram}
@@ -15,17 +15,15 @@ use Rattle.b67_table.specs.declared.ProcessState.{ProcessState}
 use Rattle.b67_table.specs.declared.ProcessState.TheVariants.{Able, Ended}
 use Rattle.b67_table.specs.declared.InterruptKind.TheVariants.{BadCode as bad_code}
 use Rattle.b67_table.specs.Effect.{Effect, interrupts}
-use Rattle.b67_table.specs.Outcome.{Outcome, limited, limit}
-use Rattle.b67_table.specs.Outcome as outcomes
+use Rattle.b67_table.specs.Outcome.{limited, limit}
 use Rattle.b67_table.specs.Image.{Image, Failure, is_live}
 use Rattle.b67_table.specs.Image.{is_able as image_able}
 use Rattle.b67_table.specs.Table.{table, raw, by_registers, stack_length}
 use Rattle.b67_table.specs.Ending.{ImageEnd, image_end, may_act}
 use Rattle.b67_table.specs.Ending as machine
-use Rattle.b67_cores.specs.Cores.{Core}
 use Rattle.b67_faithful.specs.Agreement.{end_as}
 use Rattle.b67_faithful.specs.Weight.{weight}
-use Rattle.b67_faithful.proofs.Contradictions.{true_false, none_some, some_same}
+use Rattle.b67_faithful.proofs.Contradictions.{true_false, some_same}
 use Rattle.b67_pictures.specs.Pictures.{failure_of, Living, Pictured, living, dead, PicturesBy}
 use Rattle.b67_pictures.proofs.Numbers.{numbered_beyond}
 use Rattle.b67_pictures.proofs.Plainly.{steps_fit}

@@ -1,5 +1,5 @@
 -- Images that picture worlds go with the source through every operator.
-use Rattle.std.proofs.Common.{◌≡◌, refl, sym, ap, ◌∙◌, subst, ℕ, ◌+◌, ◌<◌, ◌≤◌, List, [], ◌∷◌, length, Option, Some, None, Bool, true, false, arith}
+use Rattle.std.proofs.Common.{◌≡◌, refl, ap, subst, ℕ, ◌≤◌, List, length, Option, Some, None, arith}
 use Rattle.b67_list.specs.Numbered.{numbered}
 use Rattle.b67_num.specs.declared.FaultKind.{FaultKind}
 use Rattle.algol_tree.specs.Plain.{PProgram}
@@ -11,29 +11,25 @@ use Rattle.b67_word.specs.declared.Place.{Place}
 use Rattle.b67_control.specs.declared.Registers.{Registers}
 use Rattle.b67_segment.specs.Operators.{Placed}
 use Rattle.b67_segment.specs.declared.code.Code.{Code}
-use Rattle.b67_store.specs.Store.{stack_limit}
 use Rattle.b67_table.specs.declared.InterruptKind.{InterruptKind}
-use Rattle.b67_table.specs.declared.ProcessState.{ProcessState}
 use Rattle.b67_table.specs.Outcome.{Outcome, gives, faults, interrupts, limit}
-use Rattle.b67_table.specs.Image.{Image, is_live, is_able}
-use Rattle.b67_table.specs.Table.{table, plain}
+use Rattle.b67_table.specs.Image.{Image, is_live}
+use Rattle.b67_table.specs.Table.{table}
 use Rattle.b67_table.specs.Beginning.{first_image}
-use Rattle.b67_table.specs.Ending.{may_act, failed}
+use Rattle.b67_table.specs.Ending.{failed}
 use Rattle.b67_table.specs.Runs.{Plains, Acts}
 use Rattle.b67_table.specs.Runs as runs
 use Rattle.b67_table.specs.Touches.{IsPrivate}
 use Rattle.b67_table.specs.Sound.{Lives, OperatorTouches}
 use Rattle.b67_standing.specs.Laws.{RestsGoOn}
 use Rattle.b67_cores.specs.Stretches.{StepsArePerformed, FragmentsArePerformed}
-use Rattle.b67_faithful.specs.Agreement.{Shows, Fits}
 use Rattle.b67_faithful.specs.Faithful.{Follows}
 use Rattle.b67_faithful.specs.Simulation.{Acted, Comes, acts, Simulates}
-use Rattle.b67_faithful.specs.Weight.{weight}
 use Rattle.b67_faithful.proofs.Contradictions.{true_false, gives_same, faults_same, gives_faults}
 use Rattle.b67_faithful.proofs.Following.{simulations_follow}
 use Rattle.b67_pictures.specs.Flat.{IsFlat}
 use Rattle.b67_pictures.specs.Acting.{Does, gave, failed_by}
-use Rattle.b67_pictures.specs.Pictures.{Living, Pictured, living, dead, PicturesBy, Pictures}
+use Rattle.b67_pictures.specs.Pictures.{Pictured, living, dead, PicturesBy, Pictures}
 use Rattle.b67_pictures.proofs.Numbers.{numbered_beyond}
 use Rattle.b67_pictures.proofs.Dispatching.{HasFewCells, OthersAreDone}
 use Rattle.b67_pictures.proofs.Quiet.{through_plain, Operates, plainly, acting, operates, Settles, settles}
