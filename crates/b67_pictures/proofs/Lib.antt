@@ -22,3 +22,6 @@ pub mod Breaking
 pub mod Slotted
 pub mod Failing
 pub mod Storing
+pub mod Calling
+pub mod Writing
+pub mod Selecting
