@@ -24,6 +24,9 @@ pub mod Failing
 pub mod Storing
 pub mod ExitRow
 pub mod Ending
+pub mod Calling
+pub mod Writing
+pub mod Selecting
 pub mod Dispatching
 pub mod Quiet
 pub mod Lasting
