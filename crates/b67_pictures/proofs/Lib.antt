@@ -22,3 +22,7 @@ pub mod Breaking
 pub mod Slotted
 pub mod Failing
 pub mod Storing
+pub mod Touching
+pub mod TouchingRows
+pub mod TouchingCalls
+pub mod TouchingApart
