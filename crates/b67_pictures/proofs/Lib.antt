@@ -27,6 +27,10 @@ pub mod Ending
 pub mod Calling
 pub mod Writing
 pub mod Selecting
+pub mod Touching
+pub mod TouchingRows
+pub mod TouchingCalls
+pub mod TouchingApart
 pub mod Dispatching
 pub mod Quiet
 pub mod Lasting
