@@ -27,3 +27,5 @@ pub mod Quiet
 pub mod Lasting
 pub mod Showing
 pub mod Simulating
+pub mod Weighing
+pub mod Zeros
