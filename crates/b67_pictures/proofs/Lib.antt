@@ -29,3 +29,4 @@ pub mod Showing
 pub mod Simulating
 pub mod Weighing
 pub mod Zeros
+pub mod Starting
