@@ -36,3 +36,6 @@ pub mod Quiet
 pub mod Lasting
 pub mod Showing
 pub mod Simulating
+pub mod Weighing
+pub mod Zeros
+pub mod Starting
