@@ -8,10 +8,9 @@ use Rattle.b67_ops.specs.declared.Operator.TheVariants.{Valc, Namc, Lt8, Lt16, L
 use Rattle.b67_ops.specs.declared.BranchKind.{BranchKind}
 use Rattle.b67_ops.specs.Spelling.{spelling}
 use Rattle.b67_segment.specs.Operators.{Placed, StandsAmong, width, text, size, aimed, aimed_from}
-use Rattle.b67_segment.specs.Building.{Built, IsBranchAt}
+use Rattle.b67_segment.specs.Building.{Built}
 use Rattle.b67_segment.proofs.Among.{StandsAmong-aimed, StandsAmong-branch}
 use Rattle.b67_templates.specs.Emitting.{is_among, Leaves, AreExits}
-use Rattle.b67_emitter.specs.Aiming.{Aimed}
 use Rattle.b67_emitter.proofs.Exits.{is_among-append, exits_kept}
 
 -- ---- one branch
@@ -113,18 +112,6 @@ pub record Midway (done left : List ℕ) (before now : Built) : Type 0 where
   pub leaves : Leaves done (size before.operators) 0 (size before.operators) before.operators now.operators
   pub branches : AreExits now.operators left 0 (size before.operators)
 
-pub midway-first : (b : Built) (xs : List ℕ) → AreExits b.operators xs 0 (size b.operators) → Midway [] xs b b
-midway-first b xs h = record {
-  level = refl;
-  place = refl;
-  leaves = record { others = λ at level next op out lo hi s. s; aimed = λ at level next old kind among lo hi s. cc };
-  branches = h;
-}
-
-midway-branch : (done left : List ℕ) (x : ℕ) (b n : Built) → Midway done (x ∷ left) b n → IsBranchAt n.operators x
-midway-branch done left x b n m =
-    let h = m.branches.0 in record { level = h.0; kind = h.1; old = h.2; next = h.3; stands = h.6 }
-
 midway-next : (done left : List ℕ) (x : ℕ) (b n : Built) → Midway done (x ∷ left) b n →
     Midway (done ++ x ∷ []) left b (record n { operators = aimed_from 0 x (size b.operators) n.operators })
 midway-next done left x b n m = record {
@@ -142,11 +129,7 @@ module _ (xs : List ℕ) (i x : ℕ) (b n : Built) (within : i < length xs) (is 
   split : Midway (take i xs) (x ∷ drop (i + 1) xs) b n
   split = let M : List ℕ → Type 0 = λ ys. Midway (take i xs) ys b n in subst M left_are m
 
-  -- the next of them is a branch
-  pub branch_at : IsBranchAt n.operators x
-  branch_at = midway-branch (take i xs) (drop (i + 1) xs) x b n split
-
-  -- and when it is aimed
+  -- one more of them is aimed
   pub midway-more : (c : Built) (target : ℕ) → target ≡ size b.operators → c ≡ record n { operators = aimed_from 0 x target n.operators } →
       Midway (take (i + 1) xs) (drop (i + 1) xs) b c
   midway-more c target t e =
@@ -154,6 +137,3 @@ module _ (xs : List ℕ) (i x : ℕ) (b n : Built) (within : i < length xs) (is 
       let N : Built → Type 0 = λ d. Midway (take (i + 1) xs) (drop (i + 1) xs) b d in
       subst N (ap (λ y. record n { operators = aimed_from 0 x y n.operators }) (sym t) ∙ sym e)
       (subst M (ap (λ y. take i xs ++ y ∷ []) is ∙ sym (take_more xs i 0 within)) (midway-next (take i xs) (drop (i + 1) xs) x b n split))
-
-pub midway-last : (xs left : List ℕ) (b n : Built) → Midway xs left b n → Aimed xs b n
-midway-last xs left b n m = record { level = m.level; place = m.place; leaves = m.leaves }

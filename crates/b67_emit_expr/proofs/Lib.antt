@@ -1,0 +1,6 @@
+pub mod Shapes
+pub mod Couples
+pub mod Forms
+pub mod Listed
+pub mod Arms
+pub mod References
