@@ -1,5 +1,5 @@
 -- The first image pictures the first world.
-use Rattle.std.proofs.Common.{◌≡◌, refl, sym, ap, ◌∙◌, subst, ℕ, zero, suc, ◌+◌, ◌-◌, ◌*◌, ◌≤◌, List, [], ◌∷◌, ◌++◌, length, Option, Some, None, Bool, true, false, Result, Ok, arith, length-append, append-nil}
+use Rattle.std.proofs.Common.{◌≡◌, refl, sym, ap, ◌∙◌, subst, ℕ, zero, suc, ◌+◌, ◌-◌, ◌*◌, ◌≤◌, List, [], ◌∷◌, ◌++◌, length, Option, Some, None, Bool, true, false, arith, length-append, append-nil}
 use Rattle.std.specs.Prelude.{slice_get, reverse, replicate, if◌then◌else◌, nat_le}
 use Rattle.std.proofs.lemmas.List.{length-reverse}
 use Rattle.b67_list.specs.Numbered.{numbered}
@@ -26,42 +26,38 @@ use Rattle.b67_segment.specs.Operators.{Placed}
 use Rattle.b67_segment.specs.Syllables.{Spells}
 use Rattle.b67_segment.specs.declared.code.Code.{Code}
 use Rattle.b67_segment.specs.declared.code.Segment.{Segment}
-use Rattle.b67_store.specs.Store.{stack_limit}
 use Rattle.b67_table.specs.declared.Class.TheVariants as classes
 use Rattle.b67_table.specs.declared.InterruptKind.TheVariants.{InvalidOperand}
 use Rattle.b67_table.specs.declared.Private.{Private}
-use Rattle.b67_table.specs.declared.ProcessState.TheVariants.{Able}
-use Rattle.b67_table.specs.Beginning.{base_mark, base_frame, system_stack, first_registers, first_image}
+use Rattle.b67_table.specs.Beginning.{base_mark, base_frame, first_registers, first_image}
 use Rattle.b67_table.specs.Chains.{place}
-use Rattle.b67_table.specs.Effect.{Effect, gives, interrupts, ◌>>=◌}
-use Rattle.b67_table.specs.Image.{Image}
+use Rattle.b67_table.specs.Effect.{gives, interrupts, ◌>>=◌}
 use Rattle.b67_table.specs.Limits.{most_cells}
 use Rattle.b67_table.specs.Linkage.{base_control}
-use Rattle.b67_table.specs.Private.{floor, frame, at_or}
+use Rattle.b67_table.specs.Private.{frame}
 use Rattle.b67_table.specs.PrivateRows.{pointed}
 use Rattle.b67_table.specs.Rows.{row}
-use Rattle.b67_table.specs.Table.{class_at, private_op, operator_at}
-use Rattle.b67_templates.specs.Cells.{Simple, simple_cells}
+use Rattle.b67_table.specs.Table.{class_at, private_op}
+use Rattle.b67_templates.specs.Cells.{simple_cells}
 use Rattle.b67_templates.specs.Depths.{stmts_depth}
 use Rattle.b67_templates.specs.Fragments.{Has}
-use Rattle.b67_templates.specs.Programs.{MadeAt, BodyAt, ProgramAt}
+use Rattle.b67_templates.specs.Programs.{MadeAt, BodyAt}
 use Rattle.b67_standing.specs.Stepping.{Slot}
 use Rattle.b67_standing.specs.Standing.{StandsFor, ComesTo}
 use Rattle.b67_standing.specs.Laws.{BlocksStart}
 use Rattle.b67_cores.specs.Cores.{Core, IsCore, HasCore, stack_of, size, part_of, CoreStep, CoreSteps, here, onward}
-use Rattle.b67_cores.specs.Slots.{newest}
 use Rattle.b67_cores.specs.Stretches.{CoreAt, Arrives, FragmentsArePerformed}
 use Rattle.b67_cores.proofs.Moving.{steps_on, slots_length}
 use Rattle.b67_faithful.specs.Weight.{weight}
 use Rattle.b67_faithful.proofs.Contradictions.{some_same, none_some}
 use Rattle.b67_pictures.specs.Flat.{IsFlat}
-use Rattle.b67_pictures.specs.Frames.{CellsAre, IsChained, Framed, Stands, Frames, block_at}
-use Rattle.b67_pictures.specs.Pictures.{Living, Pictured, living, PicturesBy, Pictures}
+use Rattle.b67_pictures.specs.Frames.{IsChained, Framed, Frames}
+use Rattle.b67_pictures.specs.Pictures.{Living, Pictured, living, Pictures}
 use Rattle.b67_pictures.proofs.Dispatching.{HasFewCells}
 use Rattle.b67_pictures.proofs.Homes.{operator_there}
 use Rattle.b67_pictures.proofs.StoreRow.{most_is}
 use Rattle.b67_pictures.proofs.Weighing.{block_small}
-use Rattle.b67_pictures.proofs.Zeros.{nought, zero_word, AreZeros, Zeroed, zeros_led, zero_words, newest_home, none_left, zeros_reversed, outer_zeros, cells_length}
+use Rattle.b67_pictures.proofs.Zeros.{zero_word, AreZeros, Zeroed, zeros_led, zero_words, newest_home, none_left, zeros_reversed, outer_zeros, cells_length}
 
 abbrev pub first_core : Core
 first_core = record { below = base_frame; words = []; registers = first_registers }

@@ -1,11 +1,11 @@
 -- What is evaluated and performed needs no more words than four for each of its tokens.
-use Rattle.std.proofs.Common.{◌≡◌, refl, ap, ℕ, ◌+◌, ◌*◌, ◌≤◌, arith}
+use Rattle.std.proofs.Common.{◌≡◌, refl, ap, ◌*◌, ◌≤◌, arith}
 use Rattle.algol_tree.specs.Plain as tree
 use Rattle.algol_tree.specs.Plain.{PExpr, PExprs, PStmt, PStmts, PBody, PProgram}
-use Rattle.algol_tree.specs.Counts.{expr_tokens, exprs_tokens, stmt_tokens, stmts_tokens, body_tokens, program_tokens}
+use Rattle.algol_tree.specs.Counts.{expr_tokens, exprs_tokens, stmt_tokens, stmts_tokens, program_tokens}
 use Rattle.algol_tree.specs.Blocks.{Block, outer_block, blocks_of_program, block_numbered}
 use Rattle.algol_tree.specs.Scopes.{scopes_of}
-use Rattle.b67_templates.specs.Depths.{depth, line_depth, loop_depth, stmt_depth, stmts_depth, body_depth}
+use Rattle.b67_templates.specs.Depths.{depth, line_depth, stmt_depth, stmts_depth}
 
 depth_small : (e : PExpr) → depth e ≤ expr_tokens e
 depth_small (tree.number value spot) = omega arith

@@ -1,14 +1,14 @@
 -- Zeros, one for each variable of a block.
-use Rattle.std.proofs.Common.{◌≡◌, refl, sym, ap, ◌∙◌, subst, ℕ, zero, suc, ◌+◌, ◌≤◌, ◌<◌, List, [], ◌∷◌, ◌++◌, length, Option, Some, None, ℤ, arith}
+use Rattle.std.proofs.Common.{◌≡◌, refl, sym, ap, ◌∙◌, subst, ℕ, zero, suc, ◌+◌, ◌≤◌, List, [], ◌∷◌, ◌++◌, length, arith}
 use Rattle.std.specs.Prelude.{pos, reverse, replicate}
 use Rattle.algol_tree.specs.declared.tree.Kind.{Kind}
 use Rattle.algol_tree.specs.declared.tree.Kind.TheVariants as types
 use Rattle.algol_tree.specs.declared.tree.Named.{Named}
 use Rattle.algol_tree.specs.Plain as tree
 use Rattle.algol_tree.specs.Plain.{PDecls, PProgram}
-use Rattle.algol_tree.specs.Blocks.{Block, outer_block, block_numbered}
+use Rattle.algol_tree.specs.Blocks.{Block, block_numbered}
 use Rattle.algol_tree.specs.Scopes.{Scopes, scopes_of}
-use Rattle.algol_meaning.specs.Value.{number, truth, initial_value, simple}
+use Rattle.algol_meaning.specs.Value.{number, initial_value}
 use Rattle.algol_meaning.specs.World.{NamedCell}
 use Rattle.algol_meaning.specs.Instances.{initial_cells, variable_cells, fresh_cells}
 use Rattle.b67_word.specs.Word.{Word}
@@ -20,7 +20,7 @@ use Rattle.b67_segment.specs.declared.code.Format.{Format}
 use Rattle.b67_templates.specs.Fragments.{AllAt, zero_pushed, HasKind}
 use Rattle.b67_templates.specs.Cells.{Simple, of_kind, variables, simple_cells}
 use Rattle.b67_standing.specs.Stepping.{Slot, operand, Leads, push_number, there, first}
-use Rattle.b67_cores.specs.Slots.{newest, SlotIs, SlotsAre, ValueIs, IsTruth}
+use Rattle.b67_cores.specs.Slots.{newest, SlotIs, SlotsAre, ValueIs}
 use Rattle.b67_faithful.proofs.Sources.{reverse-cons}
 use Rattle.b67_pictures.specs.Frames.{CellsAre}
 use Rattle.b67_pictures.proofs.Weighing.{outer_is}
