@@ -26,3 +26,7 @@ pub mod Touching
 pub mod TouchingRows
 pub mod TouchingCalls
 pub mod TouchingApart
+pub mod Calling
+pub mod Writing
+pub mod Selecting
+pub mod TouchingScenes

@@ -1,0 +1,315 @@
+-- The call of an intrinsic, by what lies above the floor of the frame.
+use Rattle.std.proofs.Common.{◌≡◌, refl, sym, ap, ◌∙◌, subst, ℕ, ◌+◌, ◌-◌, ◌<◌, ◌≤◌, ◌^◌, List, [], ◌∷◌, ◌++◌, length, Option, Some, None, true, false, arith, lit<, append_assoc, ℤ}
+use Rattle.std.specs.Prelude.{slice_get, reverse}
+use Rattle.std.proofs.lemmas.List.{reverse-append}
+use Rattle.algol_tree.specs.declared.tree.Kind.TheVariants as types
+use Rattle.algol_tree.specs.Plain.{PProgram}
+use Rattle.algol_tree.specs.Scopes.{Scopes, scopes_of}
+use Rattle.algol_meaning.specs.Value.{Value, number, truth, whole_of}
+use Rattle.algol_meaning.specs.World.{Process, Part, World}
+use Rattle.b67_word.specs.declared.Place.{Place}
+use Rattle.b67_word.specs.Word.{Word, as_whole}
+use Rattle.b67_control.specs.declared.Mscw.{Mscw}
+use Rattle.b67_control.specs.declared.Pcw.{Pcw}
+use Rattle.b67_control.specs.declared.Irw.{Irw}
+use Rattle.b67_control.specs.Control.{as_irw, as_sirw, as_mscw, as_pcw}
+use Rattle.b67_control.proofs.ControlLaws.{as_sirw-other, as_pcw-pcw_word, as_mscw-mscw_word, kind_of-pcw_word}
+use Rattle.b67_ops.specs.declared.TheConstants.{OUTER_LEVEL}
+use Rattle.b67_ops.specs.declared.intrinsic.Intrinsic.{Intrinsic}
+use Rattle.b67_ops.specs.declared.intrinsic.Intrinsic.TheVariants as names
+use Rattle.b67_ops.specs.Intrinsics.{number_of, couple_of_intrinsic}
+use Rattle.b67_segment.specs.Operators.{Placed}
+use Rattle.b67_segment.specs.declared.code.Code.{Code}
+use Rattle.b67_store.specs.Store.{words_of, words_or, word_at}
+use Rattle.b67_table.specs.Arguments.{wholes_in, joined}
+use Rattle.b67_table.specs.Beginning.{base_mark, intrinsic_pcw, system_stack}
+use Rattle.b67_table.specs.Chains.{place}
+use Rattle.b67_table.specs.Image.{Image}
+use Rattle.b67_table.specs.Names.{intrinsic_numbered}
+use Rattle.b67_table.specs.Private.{frame}
+use Rattle.b67_faithful.specs.Correspondence.{action_of_intrinsic, if_intrinsic, called_action, irw_in, called_by}
+use Rattle.b67_templates.specs.Fragments.{HasKind}
+use Rattle.b67_standing.specs.Stepping.{Slot, operand, reference, intrinsic, mark}
+use Rattle.b67_standing.specs.Standing.{operands, AreNumbers}
+use Rattle.b67_cores.specs.Cores.{Core}
+use Rattle.b67_cores.specs.Slots.{ValueIs, newest, SlotsAre}
+use Rattle.b67_cores.specs.Stretches.{CoreAt}
+use Rattle.b67_cores.proofs.Moving.{slots_length}
+use Rattle.b67_cores.proofs.Taking.{number_read}
+use Rattle.b67_pictures.proofs.EnterRow.{Called}
+use Rattle.b67_pictures.proofs.IntrinsicRows.{CallsIntrinsic, without_call}
+use Rattle.b67_pictures.proofs.Rows.{words_are}
+use Rattle.b67_pictures.proofs.Scene.{Scene}
+use Rattle.b67_pictures.proofs.Slotted.{Top, top_slot}
+use Rattle.b67_pictures.proofs.StackWords.{word-under, get-front}
+use Rattle.b67_pictures.proofs.Words.{reference_read, mark_read}
+
+-- ---- the words of intrinsics
+
+abbrev intrinsic_in : Intrinsic → Pcw
+intrinsic_in name = record { intrinsic = true; names = false; segment = 0; psr = 0; pir = 0; level = 0; number = number_of name }
+
+-- the word of an intrinsic stands at its number in stack 0
+record IsNumbered (name : Intrinsic) : Type 0 where
+  pub small : number_of name < 2 ^ 14
+  pub lies : slice_get system_stack (0 + number_of name) ≡ Some (intrinsic_pcw (number_of name))
+  pub named : intrinsic_numbered (number_of name) ≡ Some name
+
+is_numbered : (name : Intrinsic) → IsNumbered name
+is_numbered names.GoTo = record { small = lit< tt; lies = refl; named = refl }
+is_numbered names.Select = record { small = lit< tt; lies = refl; named = refl }
+is_numbered names.Arrays = record { small = lit< tt; lies = refl; named = refl }
+is_numbered names.Event = record { small = lit< tt; lies = refl; named = refl }
+is_numbered names.Start = record { small = lit< tt; lies = refl; named = refl }
+is_numbered names.Write = record { small = lit< tt; lies = refl; named = refl }
+is_numbered names.Wait = record { small = lit< tt; lies = refl; named = refl }
+is_numbered names.Cause = record { small = lit< tt; lies = refl; named = refl }
+is_numbered names.Reset = record { small = lit< tt; lies = refl; named = refl }
+is_numbered names.Happened = record { small = lit< tt; lies = refl; named = refl }
+is_numbered names.Procure = record { small = lit< tt; lies = refl; named = refl }
+is_numbered names.Liberate = record { small = lit< tt; lies = refl; named = refl }
+
+pcw_read : (name : Intrinsic) → as_pcw (intrinsic_pcw (number_of name)) ≡ Some (intrinsic_in name)
+pcw_read name = as_pcw-pcw_word (intrinsic_in name) (lit< tt, (lit< tt, (lit< tt, (lit< tt, (omega (arith, (is_numbered name).small), tt)))))
+
+pcw_no_sirw : (name : Intrinsic) → as_sirw (intrinsic_pcw (number_of name)) ≡ None
+pcw_no_sirw name =
+    as_sirw-other (intrinsic_pcw (number_of name))
+    (λ k. let is = sym (kind_of-pcw_word (intrinsic_in name) (lit< tt, (lit< tt, (lit< tt, (lit< tt, (omega (arith, (is_numbered name).small), tt)))))) ∙ k in cc)
+
+base_read : as_mscw base_mark ≡ Some (record { entered = true; stack = 0; displacement = 0; df = 0 })
+base_read = as_mscw-mscw_word (record { entered = true; stack = 0; displacement = 0; df = 0 }) (lit< tt, (lit< tt, (lit< tt, tt)))
+
+-- ---- the arguments
+
+-- the whole numbers that values are
+abbrev pub wholes_of : List Value → List ℤ
+wholes_of [] = []
+wholes_of (v ∷ vs) = whole_of v ∷ wholes_of vs
+
+number_word : (v : Value) (w : Word) → HasKind types.Number v → ValueIs v w → as_whole w ≡ Some (whole_of v)
+number_word (number z) w fits is = number_read z w is
+number_word (truth b) w fits is = absurd fits
+
+module _ (sc : Scopes) (level home base : ℕ) where
+  -- numbers above other slots: their words, and the other words
+  pub record Given (vs : List Value) (below : List Slot) (all : List Word) : Type 0 where
+    pub arguments : List Word
+    pub others : List Word
+    pub is : all ≡ arguments ++ others
+    pub are : SlotsAre sc level home base below others
+    pub wholes : wholes_in (reverse arguments) ≡ Some (wholes_of vs)
+    pub mark_is : newest home base (operands vs below) ≡ newest home base below
+    pub many : length (operands vs below) ≡ length vs + length below
+
+  pub given : (vs : List Value) (below : List Slot) (all : List Word) → AreNumbers vs → SlotsAre sc level home base (operands vs below) all → Given vs below all
+  given [] below all fits are = record { arguments = []; others = all; is = refl; are = are; wholes = refl; mark_is = refl; many = omega arith }
+  given (v ∷ vs) below all fits are =
+      let g : Given vs (operand v ∷ below) all = given vs (operand v ∷ below) all fits.1 are in
+      let t : Top sc level home base (operand v) below g.others = top_slot sc level home base (operand v ∷ below) (operand v) below g.others g.are refl in
+      let first : as_whole t.word ≡ Some (whole_of v) = number_word v t.word fits.0 t.slot_is in
+      record {
+        arguments = g.arguments ++ t.word ∷ [];
+        others = t.words_below;
+        is = g.is ∙ ap (λ (ws : List Word). g.arguments ++ ws) t.is ∙ sym (append_assoc g.arguments (t.word ∷ []) t.words_below);
+        are = t.are;
+        wholes =
+            ap wholes_in (reverse-append g.arguments (t.word ∷ []))
+            ∙ ap (λ (o : Option ℤ). joined o (wholes_in (reverse g.arguments))) first
+            ∙ ap (λ (o : Option (List ℤ)). joined (Some (whole_of v)) o) g.wholes;
+        mark_is = g.mark_is;
+        many = omega (arith, g.many);
+      }
+
+  -- ---- marks
+
+  -- the newest mark lies below all that lies above the floor
+  pub newest_low : (slots : List Slot) → home ≤ base → newest home base slots ≤ base + length slots
+  newest_low [] low = omega (arith, low)
+  newest_low (operand v ∷ slots) low = omega (arith, newest_low slots low)
+  newest_low (reference n ∷ slots) low = omega (arith, newest_low slots low)
+  newest_low (intrinsic i ∷ slots) low = omega (arith, newest_low slots low)
+  newest_low (mark ∷ slots) low = omega arith
+
+  pub record Marked (lower : List Word) (all : List Word) (at : ℕ) : Type 0 where
+    pub word : Word
+    pub lies : slice_get (lower ++ reverse all) at ≡ Some word
+    pub m : Mscw
+    pub reads : as_mscw word ≡ Some m
+
+  module _ (lower : List Word) (long : length lower ≡ base) (own : Word) (own_lies : slice_get lower home ≡ Some own) (own_mark : Mscw) (own_reads : as_mscw own ≡ Some own_mark) where
+    under : (above : List Word) (x : Word) (ws : List Word) (at : ℕ) → Marked lower ((above ++ x ∷ []) ++ ws) at → Marked lower (above ++ x ∷ ws) at
+    under above x ws at k = subst (λ (all : List Word). Marked lower all at) (append_assoc above (x ∷ []) ws) k
+
+    -- a mark stands where the newest one lies
+    pub marked_at : (slots : List Slot) (above all : List Word) → SlotsAre sc level home base slots all → base + length slots ≤ 2 ^ 16 → Marked lower (above ++ all) (newest home base slots)
+    marked_at [] above all are small = record { word = own; lies = get-front lower (reverse (above ++ all)) home own own_lies; m = own_mark; reads = own_reads }
+    marked_at (slot ∷ slots) above [] are small = absurd are
+    marked_at (operand v ∷ slots) above (x ∷ ws) are small = under above x ws (newest home base slots) (marked_at slots (above ++ x ∷ []) ws are.1 (omega (arith, small)))
+    marked_at (reference n ∷ slots) above (x ∷ ws) are small = under above x ws (newest home base slots) (marked_at slots (above ++ x ∷ []) ws are.1 (omega (arith, small)))
+    marked_at (intrinsic i ∷ slots) above (x ∷ ws) are small = under above x ws (newest home base slots) (marked_at slots (above ++ x ∷ []) ws are.1 (omega (arith, small)))
+    marked_at (mark ∷ slots) above (x ∷ ws) are small =
+        let df = base + length slots - newest home base slots in
+        let low : df < 2 ^ 16 = omega (arith, small) in
+        record {
+          word = x;
+          lies = word-under lower above x ws (base + length slots) (omega (arith, long, slots_length sc level home base slots ws are.1));
+          m = record { entered = false; stack = 0; displacement = 0; df = df };
+          reads = ap as_mscw are.0 ∙ mark_read df low;
+        }
+
+-- ---- the call, in a scene
+
+module _ (tree : PProgram) (code : Code) (texts : ℕ → List Placed) (w : World) (lay : List Place) (img : Image)
+    (p : ℕ) (q : Process) (part : Part) (most bound : ℕ) (core : Core) (s : Scene tree code texts w lay img p q part most bound core)
+    (name : Intrinsic) (vs : List Value) (below : List Slot) (fits : AreNumbers vs) (lies : s.slots ≡ operands vs (intrinsic name ∷ mark ∷ below)) where
+  abbrev sc : Scopes
+  sc = scopes_of tree
+
+  abbrev home : ℕ
+  home = frame core.registers
+
+  abbrev base : ℕ
+  base = length core.below
+
+  -- numbers are the arguments of an intrinsic, and above the mark that gives way nothing else lies
+  pub record IsCall : Type 0 where
+    pub arguments : List Word
+    pub reference : Word
+    pub marked : Word
+    pub others : List Word
+    pub calls : CallsIntrinsic img core name arguments reference marked others
+    pub wholes : wholes_in (reverse arguments) ≡ Some (wholes_of vs)
+    pub action : called_by img core.registers ≡ Some (action_of_intrinsic name)
+    pub after_at : (pc : ℕ) → CoreAt sc code (texts 0) OUTER_LEVEL pc below (without_call core others calls.m.df pc)
+    pub few : length below ≤ most
+
+  -- the frame is at the bottom of the stack
+  home_is : home ≡ 0
+  home_is = omega (arith, s.has.is.bottom, s.counted, ap length s.below_is)
+
+  own_lies : slice_get core.below home ≡ Some base_mark
+  own_lies = ap (λ (n : ℕ). slice_get core.below n) home_is ∙ ap (λ (ws : List Word). slice_get ws 0) s.below_is
+
+  intrinsic_is : IsNumbered name
+  intrinsic_is = is_numbered name
+
+  entry_lies : word_at img.stacks (record { stack = 0; at = 0 + number_of name }) ≡ Some (intrinsic_pcw (number_of name))
+  entry_lies = ap (λ (o : Option (List Word)). slice_get (words_or o) (0 + number_of name)) s.by.system ∙ intrinsic_is.lies
+
+  module _ (g : Given sc OUTER_LEVEL home base vs (intrinsic name ∷ mark ∷ below) core.words) (i : Top sc OUTER_LEVEL home base (intrinsic name) (mark ∷ below) g.others)
+      (k : Top sc OUTER_LEVEL home base mark below i.words_below) where
+    abbrev df : ℕ
+    df = base + length below - newest home base below
+
+    many : length s.slots ≡ length vs + (length below + 2)
+    many = ap length lies ∙ g.many ∙ omega arith
+
+    room : base + length below + 2 ≤ 2 ^ 16
+    room = omega (arith, many, s.few, s.room, s.small)
+
+    long : length k.words_below ≡ length below
+    long = slots_length sc OUTER_LEVEL home base below k.words_below k.are
+
+    all_words : core.words ≡ g.arguments ++ i.word ∷ k.word ∷ k.words_below
+    all_words = g.is ∙ ap (λ (ws : List Word). g.arguments ++ ws) (i.is ∙ ap (λ (ws : List Word). i.word ∷ ws) k.is)
+
+    mark_at : core.registers.f ≡ base + length below
+    mark_at = s.there.mark_is ∙ ap (λ (l : List Slot). newest home base l) lies ∙ g.mark_is
+
+    low : newest home base below ≤ base + length below
+    low = newest_low sc OUTER_LEVEL home base below (omega (arith, home_is))
+
+    reads_reference : as_irw i.word ≡ Some (record { level = 0; index = number_of name })
+    reads_reference = ap as_irw i.slot_is ∙ reference_read (couple_of_intrinsic name) (lit< tt) intrinsic_is.small
+
+    lower : Marked sc OUTER_LEVEL home base core.below ((g.arguments ++ i.word ∷ k.word ∷ []) ++ k.words_below) (newest home base below)
+    lower =
+        marked_at sc OUTER_LEVEL home base core.below refl base_mark own_lies (record { entered = true; stack = 0; displacement = 0; df = 0 }) base_read below
+        (g.arguments ++ i.word ∷ k.word ∷ []) k.words_below k.are (omega (arith, room))
+
+    stack_is : words_of img.stacks core.registers.stack ≡ core.below ++ reverse ((g.arguments ++ i.word ∷ k.word ∷ []) ++ k.words_below)
+    stack_is =
+        words_are img p core s.has
+        ∙ ap (λ (ws : List Word). core.below ++ reverse ws) (all_words ∙ sym (append_assoc g.arguments (i.word ∷ k.word ∷ []) k.words_below))
+
+    lower_lies : word_at img.stacks (place core.registers.stack (core.registers.f - df)) ≡ Some lower.word
+    lower_lies =
+        let at : core.registers.f - df ≡ newest home base below = omega (arith, mark_at, low) in
+        ap (λ (n : ℕ). slice_get (words_of img.stacks core.registers.stack) n) at
+        ∙ ap (λ (ws : List Word). slice_get ws (newest home base below)) stack_is
+        ∙ lower.lies
+
+    called : Called core g.arguments i.word k.word k.words_below
+    called = record { words = all_words; mark_at = omega (arith, mark_at, long) }
+
+    abbrev calls : CallsIntrinsic img core name g.arguments i.word k.word k.words_below
+    calls =
+        record {
+          called = called;
+          m = record { entered = false; stack = 0; displacement = 0; df = df };
+          reads_mark = ap as_mscw k.slot_is ∙ mark_read df (omega (arith, room));
+          unentered = refl;
+          level = 0;
+          index = number_of name;
+          frame = place 0 0;
+          reads = reads_reference;
+          shown = s.sees;
+          entry = intrinsic_pcw (number_of name);
+          lies = entry_lies;
+          no_sirw = pcw_no_sirw name;
+          pcw = intrinsic_in name;
+          reads_entry = pcw_read name;
+          is_intrinsic = refl;
+          numbered = intrinsic_is.named;
+          short = omega (arith, mark_at);
+          lower = lower.word;
+          lower_lies = lower_lies;
+          lower_mark = lower.m;
+          reads_lower = lower.reads;
+        }
+
+    action_is_called : called_by img core.registers ≡ Some (action_of_intrinsic name)
+    action_is_called =
+        let at : core.registers.f + 1 ≡ base + length (k.word ∷ k.words_below) = omega (arith, mark_at, long) in
+        ap (λ (ws : List Word). called_action (irw_in (slice_get ws (core.registers.f + 1)))) (words_are img p core s.has ∙ ap (λ (ws : List Word). core.below ++ reverse ws) all_words)
+        ∙ ap (λ (o : Option Word). called_action (irw_in o)) (word-under core.below g.arguments i.word (k.word ∷ k.words_below) (core.registers.f + 1) at)
+        ∙ ap (λ (o : Option Irw). called_action o) reads_reference
+        ∙ ap (λ (o : Option Intrinsic). if_intrinsic o) intrinsic_is.named
+
+    after_call : (pc : ℕ) → CoreAt sc code (texts 0) OUTER_LEVEL pc below (without_call core k.words_below df pc)
+    after_call pc =
+        record {
+          segment = s.there.segment;
+          there = s.there.there;
+          spells = s.there.spells;
+          level_is = s.there.level_is;
+          place_is = refl;
+          is = record { bottom = s.has.is.bottom; top = omega (arith, mark_at, long) };
+          mark_is = omega (arith, mark_at, low);
+          words_are = k.are;
+        }
+
+    is_call : IsCall
+    is_call =
+        record {
+          arguments = g.arguments;
+          reference = i.word;
+          marked = k.word;
+          others = k.words_below;
+          calls = calls;
+          wholes = g.wholes;
+          action = action_is_called;
+          after_at = after_call;
+          few = omega (arith, many, s.few);
+        }
+
+  pub call : IsCall
+  call =
+      let g : Given sc OUTER_LEVEL home base vs (intrinsic name ∷ mark ∷ below) core.words =
+      given sc OUTER_LEVEL home base vs (intrinsic name ∷ mark ∷ below) core.words fits (subst (λ (l : List Slot). SlotsAre sc OUTER_LEVEL home base l core.words) lies s.there.words_are) in
+      let i : Top sc OUTER_LEVEL home base (intrinsic name) (mark ∷ below) g.others =
+      top_slot sc OUTER_LEVEL home base (intrinsic name ∷ mark ∷ below) (intrinsic name) (mark ∷ below) g.others g.are refl in
+      let k : Top sc OUTER_LEVEL home base mark below i.words_below =
+      top_slot sc OUTER_LEVEL home base (mark ∷ below) mark below i.words_below i.are refl in
+      is_call g i k

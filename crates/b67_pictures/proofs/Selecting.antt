@@ -1,0 +1,201 @@
+-- CASE: the choice of a statement.
+use Rattle.std.proofs.Common.{◌≡◌, refl, sym, ap, ◌∙◌, subst, ℕ, zero, suc, ◌+◌, ◌*◌, ◌<◌, ◌≤◌, List, [], ◌∷◌, length, Some, None, Ok, Bool, true, false, All, arith, length-append, ℤ, ◌⊎◌, inl, inr}
+use Rattle.std.specs.Prelude.{pos, negsuc, slice_get, if◌then◌else◌, ◌&&◌, int_le, int_lt, nat_lt}
+use Rattle.std.specs.List.{AllByRecursion}
+use Rattle.std.proofs.lemmas.Int.{ints}
+use Rattle.std.proofs.lemmas.Bool.Decides.{nat_tests}
+use Rattle.std.proofs.lemmas.List.Elements.{recursion_from_All}
+use Rattle.b67_list.specs.Numbered.{numbered}
+use Rattle.b67_num.specs.declared.FaultKind.TheVariants.{CaseIndex}
+use Rattle.algol_tree.specs.declared.tree.Kind.TheVariants as types
+use Rattle.algol_tree.specs.Plain as tree
+use Rattle.algol_tree.specs.Plain.{PProgram, PStmt, PStmts}
+use Rattle.algol_tree.specs.Scopes.{Scopes, scopes_of}
+use Rattle.algol_meaning.specs.Rest.{Answer, done}
+use Rattle.algol_meaning.specs.Value.{Value, number, truth, whole_of}
+use Rattle.algol_meaning.specs.World.{Process, Part, able, World}
+use Rattle.algol_meaning.specs.Actions.{Fault}
+use Rattle.algol_meaning.specs.Actions as act
+use Rattle.algol_meaning.specs.Asks.{Ask, selects, ask, resume}
+use Rattle.algol_meaning.specs.Choice.{Choice, choice, choice_of, nth_exists, goes, fails}
+use Rattle.b67_word.specs.declared.Place.{Place}
+use Rattle.b67_ops.specs.declared.Operator.{Operator}
+use Rattle.b67_ops.specs.declared.Operator.TheVariants as ops
+use Rattle.b67_ops.specs.declared.PlainKind.TheVariants as kinds
+use Rattle.b67_ops.specs.declared.TheConstants.{OUTER_LEVEL}
+use Rattle.b67_ops.specs.declared.intrinsic.Intrinsic.TheVariants.{Select}
+use Rattle.b67_segment.specs.Operators.{Placed, text, StandsAmong}
+use Rattle.b67_segment.specs.Syllables.{Spells}
+use Rattle.b67_segment.specs.declared.code.Code.{Code}
+use Rattle.b67_segment.specs.declared.code.Segment.{Segment}
+use Rattle.b67_segment.proofs.Fetches.{length-syllables}
+use Rattle.b67_segment.proofs.Texts.{text-append}
+use Rattle.b67_table.specs.declared.ProcessState.TheVariants.{Able}
+use Rattle.b67_table.specs.Effect as effects
+use Rattle.b67_table.specs.Ending.{failed}
+use Rattle.b67_table.specs.Image.{Image}
+use Rattle.b67_table.specs.Intrinsics.{case_in}
+use Rattle.b67_table.specs.Limits.{segment_limit, end_of_code}
+use Rattle.b67_table.specs.Outcome as outcomes
+use Rattle.b67_table.specs.Table.{table, operator_at}
+use Rattle.b67_templates.specs.Code.{stmts_count}
+use Rattle.b67_templates.specs.Fragments.{HasKind}
+use Rattle.b67_standing.specs.Stepping.{Slot}
+use Rattle.b67_standing.specs.Standing.{AreNumbers, ActionAt, Acted, ComesTo}
+use Rattle.b67_cores.specs.Cores.{Core, with_core}
+use Rattle.b67_cores.specs.Stretches.{FragmentsArePerformed}
+use Rattle.b67_pictures.specs.Flat.{IsFlat}
+use Rattle.b67_pictures.specs.Acting.{Does, failed_by}
+use Rattle.b67_pictures.specs.Pictures.{PicturesBy}
+use Rattle.b67_pictures.proofs.Rows.{action_not_plain, action_is, fault_not_plain}
+use Rattle.b67_pictures.proofs.Calling.{wholes_of, IsCall, call}
+use Rattle.b67_pictures.proofs.Homes.{operator_there}
+use Rattle.b67_pictures.proofs.IntrinsicRows.{without_call, enter_class, select_raw, select_faults}
+use Rattle.b67_pictures.proofs.Stage.{choice_is, faults_so, faulted}
+use Rattle.b67_pictures.proofs.Scene.{Scene}
+use Rattle.b67_pictures.proofs.InFrame.{does_in_frame}
+
+-- ---- places of a segment
+
+segment_short : (segments : List Segment) (n : ℕ) (segment : Segment) → AllByRecursion (λ (s : Segment). length s.words ≤ segment_limit) segments → slice_get segments n ≡ Some segment → length segment.words ≤ segment_limit
+segment_short [] n segment all at = cc
+segment_short (s ∷ ss) zero segment all at = subst (λ (o : Segment). length o.words ≤ segment_limit) (same_in s segment at) all.0
+  where
+    same_in : (x y : Segment) → Some x ≡ Some y → x ≡ y
+    same_in x y e = cc
+segment_short (s ∷ ss) (suc n) segment all at = segment_short ss n segment all.1 at
+
+-- an operator stands before the end of its segment
+within_segment : (ps : List Placed) (at level : ℕ) (op : Operator) (next : ℕ) (segment : Segment) → StandsAmong ps at level op next → Spells ps segment → length segment.words ≤ segment_limit → at ≤ end_of_code
+within_segment ps at level op next segment stands spells small =
+    let long : length (text 0 ps) ≡ length (text 0 stands.before) + length (text (0 + length (text 0 stands.before)) (record { level = level; operator = op } ∷ stands.after)) =
+    ap (λ (os : List Placed). length (text 0 os)) stands.parts
+    ∙ ap length (text-append 0 stands.before (record { level = level; operator = op } ∷ stands.after))
+    ∙ length-append (text 0 stands.before) (text (0 + length (text 0 stands.before)) (record { level = level; operator = op } ∷ stands.after)) in
+    let spelled : 6 * length segment.words ≡ length (text 0 ps) = sym (length-syllables segment.words) ∙ ap length spells.code in
+    omega (arith, long, spelled, small, stands.at_is)
+
+-- ---- the number of a statement
+
+abbrev within : ℤ → ℕ → Bool
+within i n = int_le (pos 0) i && int_lt i (pos n)
+
+first_of_more : (n : ℕ) → within (pos 0) (n + 1) ≡ true
+first_of_more n = grind (arith, ints)
+
+later_of_more : (i n : ℕ) → within (pos (suc i)) (n + 1) ≡ within (pos i) n
+later_of_more i n = grind (arith, ints)
+
+exists_is : (i : ℤ) (ss : PStmts) → nth_exists i ss ≡ within i (stmts_count ss)
+exists_is i tree.no_stmts = refl
+exists_is (negsuc n) (tree.stmts s ss) = refl
+exists_is (pos zero) (tree.stmts s ss) = first_of_more _ ∙ sym (first_of_more (stmts_count ss))
+exists_is (pos (suc i)) (tree.stmts s ss) = later_of_more i _ ∙ exists_is (pos i) ss ∙ sym (later_of_more i (stmts_count ss))
+
+within_low : (i n : ℕ) → i < n → within (pos i) n ≡ true
+within_low i n h = grind (arith, ints)
+
+within_high : (i n : ℕ) → n ≤ i → within (pos i) n ≡ false
+within_high i n h = grind (arith, ints)
+
+nat_low : (i n : ℕ) → i < n → nat_lt i n ≡ true
+nat_low i n h = grind (arith, nat_tests)
+
+nat_high : (i n : ℕ) → n ≤ i → nat_lt i n ≡ false
+nat_high i n h = grind (arith, nat_tests)
+
+-- a number is that of a statement, or of none, for the source and for the machine
+data IsCase (z : ℤ) (ss : PStmts) : Type 0 where
+  one_of : (i : ℕ) → z ≡ pos i → i < stmts_count ss → nth_exists z ss ≡ true → case_in z (pos (stmts_count ss)) ≡ Some i → IsCase z ss
+  none_of : nth_exists z ss ≡ false → case_in z (pos (stmts_count ss)) ≡ None → IsCase z ss
+
+below_or_not : (i n : ℕ) → (i < n) ⊎ (n ≤ i)
+below_or_not i zero = inr (omega arith)
+below_or_not zero (suc n) = inl (omega arith)
+below_or_not (suc i) (suc n) = later (below_or_not i n)
+  where
+    later : (i < n) ⊎ (n ≤ i) → (suc i < suc n) ⊎ (suc n ≤ suc i)
+    later (inl h) = inl (omega (arith, h))
+    later (inr h) = inr (omega (arith, h))
+
+case_of : (z : ℤ) (ss : PStmts) → IsCase z ss
+case_of (negsuc k) ss = none_of (exists_is (negsuc k) ss) refl
+case_of (pos i) ss = by_order (below_or_not i (stmts_count ss))
+  where
+    by_order : (i < stmts_count ss) ⊎ (stmts_count ss ≤ i) → IsCase (pos i) ss
+    by_order (inl h) =
+        one_of i refl h (exists_is (pos i) ss ∙ within_low i (stmts_count ss) h) (ap (λ (b : Bool). if b then Some i else None) (nat_low i (stmts_count ss) h))
+    by_order (inr h) = none_of (exists_is (pos i) ss ∙ within_high i (stmts_count ss) h) (ap (λ (b : Bool). if b then Some i else None) (nat_high i (stmts_count ss) h))
+
+number_is : (v : Value) (z : ℤ) → HasKind types.Number v → whole_of v ≡ z → v ≡ number z
+number_is (number y) z fits e = ap number e
+number_is (truth b) z fits e = absurd fits
+
+-- ---- the action
+
+module _ (tree : PProgram) (code : Code) (texts : ℕ → List Placed) (flat : IsFlat (scopes_of tree)) (fragments : FragmentsArePerformed)
+    (short : All (λ (o : Segment). length o.words ≤ segment_limit) code.segments) (w : World) (lay : List Place) (img : Image)
+    (p : ℕ) (q : Process) (part : Part) (most bound : ℕ) (core : Core) (s : Scene tree code texts w lay img p q part most bound core) (able_is : q.state ≡ able) (able_p : numbered img.states p ≡ Some Able)
+    (v : Value) (ss : PStmts) (asks : ask part.rest ≡ selects v ss) (a : ActionAt (scopes_of tree) code.formats (texts 0) OUTER_LEVEL most (selects v ss) s.pc s.slots)
+    (answered : (r : Answer) (at : ℕ) (left : List Slot) → Acted (scopes_of tree) code.formats (texts 0) OUTER_LEVEL most (selects v ss) s.pc s.slots a r at left →
+    ComesTo (scopes_of tree) code.formats (texts 0) OUTER_LEVEL most (resume (scopes_of tree) part.rest r) at left) where
+  abbrev sc : Scopes
+  sc = scopes_of tree
+
+  -- the arguments are the number, how many statements there are, and where their table is
+  abbrev given : List Value
+  given = v ∷ number (pos (stmts_count ss)) ∷ number (pos a.0) ∷ []
+
+  given_fit : AreNumbers given
+  given_fit = (a.2.fits, (a.2.many, (a.2.place, tt)))
+
+  there : operator_at code core.registers ≡ Ok (ops.Plain kinds.Entr, a.0)
+  there = operator_there sc code (texts 0) OUTER_LEVEL s.pc s.slots core (ops.Plain kinds.Entr) a.0 s.there a.2.stands
+
+  abbrev Called : Type 0
+  Called = IsCall tree code texts w lay img p q part most bound core s Select given a.1 given_fit a.2.lies
+
+  -- the branch of a statement stands in the segment
+  table_within : (i : ℕ) → i < stmts_count ss → a.0 + 3 * i ≤ end_of_code
+  table_within i h =
+      within_segment (texts 0) (a.0 + 3 * i) OUTER_LEVEL _ _ s.there.segment (a.3 i h).2.stands s.there.spells
+      (segment_short code.segments core.registers.segment s.there.segment (recursion_from_All (λ (o : Segment). length o.words ≤ segment_limit) code.segments short) s.there.there)
+
+  module _ (c : Called) where
+    abbrev new : ℕ → Core
+    new i = without_call core c.others c.calls.m.df (a.0 + 3 * i)
+
+    goes_to_case : (i : ℕ) → whole_of v ≡ pos i → i < stmts_count ss → nth_exists (whole_of v) ss ≡ true → case_in (whole_of v) (pos (stmts_count ss)) ≡ Some i → Does tree code texts w lay img p
+    goes_to_case i is h exists inside =
+        does_in_frame tree code texts flat fragments w lay img p q part most bound core s able_is able_p (resume sc part.rest done) w.output (new i) refl (record { is = refl }) (a.0 + 3 * i) a.1
+        (c.after_at (a.0 + 3 * i)) c.few
+        (answered done (a.0 + 3 * i) a.1 (i, number_is v (pos i) a.2.fits is, h, refl, refl)) act.Select
+        (action_not_plain code img p core s.has (ops.Plain kinds.Entr) a.0 there
+        (enter_class code img p core s.has a.0 there Select c.arguments c.reference c.marked c.others c.calls))
+        (select_raw code img p core s.has a.0 there Select c.arguments c.reference c.marked c.others c.calls (wholes_of given) c.wholes (whole_of v) (pos (stmts_count ss)) (pos a.0) refl refl
+        i a.0 inside refl (table_within i h)
+        ∙ ap (λ (o : List (List ℕ)). effects.gives (record (with_core img p (new i)) { output = o })) s.by.output)
+        (choice_is sc w p q part s.at s.todo
+        ∙ ap (λ (k : Ask). choice_of sc w p q part [] k) asks
+        ∙ ap (λ (b : Bool). if b then (goes sc w p q part [] act.Select w done) else fails sc w p q part [] CaseIndex) exists)
+        (λ t. action_is code img p core s.has (ops.Plain kinds.Entr) a.0 there (outcomes.gives (record (with_core img p (new i)) { output = w.output })) t ∙ c.action)
+
+    goes_nowhere : nth_exists (whole_of v) ss ≡ false → case_in (whole_of v) (pos (stmts_count ss)) ≡ None → Does tree code texts w lay img p
+    goes_nowhere exists inside =
+        let table_is : table code img p ≡ outcomes.faults CaseIndex =
+        faults_so code img p CaseIndex
+        (select_faults code img p core s.has a.0 there Select c.arguments c.reference c.marked c.others c.calls (wholes_of given) c.wholes (whole_of v) (pos (stmts_count ss)) (pos a.0) refl refl inside) in
+        let chosen : choice sc w p ≡ fails sc w p q part [] CaseIndex =
+        choice_is sc w p q part s.at s.todo
+        ∙ ap (λ (k : Ask). choice_of sc w p q part [] k) asks
+        ∙ ap (λ (b : Bool). if b then (goes sc w p q part [] act.Select w done) else fails sc w p q part [] CaseIndex) exists in
+        failed_by CaseIndex (fault_not_plain code img p core s.has (ops.Plain kinds.Entr) a.0 there CaseIndex table_is) table_is
+        (action_is code img p core s.has (ops.Plain kinds.Entr) a.0 there (outcomes.faults CaseIndex) table_is ∙ ap (λ (o : Choice). Some o.action) (sym chosen))
+        (subst (λ (o : Choice). PicturesBy tree code texts o.world lay (failed img p CaseIndex)) (sym chosen) (faulted tree code texts w lay img s.by p q s.at CaseIndex))
+
+    by_case : IsCase (whole_of v) ss → Does tree code texts w lay img p
+    by_case (one_of i is h exists inside) = goes_to_case i is h exists inside
+    by_case (none_of exists inside) = goes_nowhere exists inside
+
+  pub selecting : Does tree code texts w lay img p
+  selecting = by_case (call tree code texts w lay img p q part most bound core s Select given a.1 given_fit a.2.lies) (case_of (whole_of v) ss)

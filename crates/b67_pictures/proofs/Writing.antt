@@ -1,0 +1,121 @@
+-- WRITE: a line of the output.
+use Rattle.std.proofs.Common.{◌≡◌, refl, sym, ap, ◌∙◌, subst, ℕ, List, [], ◌∷◌, ◌++◌, length, Option, Some, Ok, Bool, true, false, arith}
+use Rattle.std.specs.Prelude.{pos, replicate, if◌then◌else◌, ◌==◌}
+use Rattle.b67_list.specs.Lines.{justified}
+use Rattle.b67_list.specs.Numbered.{numbered}
+use Rattle.algol_tree.specs.declared.tree.PhraseText.{PhraseText}
+use Rattle.algol_tree.specs.Plain.{PProgram}
+use Rattle.algol_tree.specs.Scopes.{Scopes, scopes_of}
+use Rattle.algol_tree.specs.Spelling.{value_of}
+use Rattle.algol_meaning.specs.Lines.{line_of, number_first}
+use Rattle.algol_meaning.specs.Rest.{Answer, done}
+use Rattle.algol_meaning.specs.Value.{Value, number, whole_of}
+use Rattle.algol_meaning.specs.World.{Process, Part, able, World}
+use Rattle.algol_meaning.specs.Actions.{Line}
+use Rattle.algol_meaning.specs.Asks.{Ask, writes, ask, resume}
+use Rattle.algol_meaning.specs.Choice.{choice_of}
+use Rattle.b67_word.specs.declared.Place.{Place}
+use Rattle.b67_ops.specs.declared.Operator.TheVariants as ops
+use Rattle.b67_ops.specs.declared.PlainKind.TheVariants as kinds
+use Rattle.b67_ops.specs.declared.TheConstants.{OUTER_LEVEL}
+use Rattle.b67_ops.specs.declared.intrinsic.Intrinsic.TheVariants.{Write}
+use Rattle.b67_segment.specs.Operators.{Placed}
+use Rattle.b67_segment.specs.declared.code.Code.{Code}
+use Rattle.b67_segment.specs.declared.code.Format.{Format}
+use Rattle.b67_segment.specs.declared.code.Phrase.{Phrase}
+use Rattle.b67_segment.specs.declared.code.Phrase.TheVariants as parts
+use Rattle.b67_table.specs.declared.ProcessState.TheVariants.{Able}
+use Rattle.b67_table.specs.Effect as effects
+use Rattle.b67_table.specs.Image.{Image}
+use Rattle.b67_table.specs.Lines.{before, format_line, line_by, line_for}
+use Rattle.b67_table.specs.Outcome as outcomes
+use Rattle.b67_table.specs.Table.{operator_at}
+use Rattle.b67_templates.specs.Code.{IsPart, text, word, AreParts, numbers_in, FormatIs}
+use Rattle.b67_standing.specs.Stepping.{Slot}
+use Rattle.b67_standing.specs.Standing.{ActionAt, Acted, ComesTo}
+use Rattle.b67_cores.specs.Cores.{Core, with_core}
+use Rattle.b67_cores.specs.Stretches.{FragmentsArePerformed}
+use Rattle.b67_pictures.specs.Flat.{IsFlat}
+use Rattle.b67_pictures.specs.Acting.{Does}
+use Rattle.b67_pictures.proofs.Rows.{action_not_plain, action_is}
+use Rattle.b67_pictures.proofs.Calling.{wholes_of, IsCall, call}
+use Rattle.b67_pictures.proofs.Homes.{operator_there}
+use Rattle.b67_pictures.proofs.IntrinsicRows.{without_call, enter_class, write_raw}
+use Rattle.b67_pictures.proofs.Stage.{choice_is}
+use Rattle.b67_pictures.proofs.Scene.{Scene}
+use Rattle.b67_pictures.proofs.InFrame.{does_in_frame}
+
+-- ---- the line
+
+-- what a format with as many numbers as there are values makes of them
+abbrev Shows : List PhraseText → List Phrase → Type 0
+Shows ts list = (vs : List Value) → numbers_in list ≡ length vs → format_line list (wholes_of vs) ≡ Some (line_of ts vs)
+
+shows_word : (b : Bool) (width : ℕ) (ts : List PhraseText) (more : List Phrase) → Shows ts more → (vs : List Value) →
+    numbers_in ((if b then parts.Number width else parts.Blanks width) ∷ more) ≡ length vs →
+    format_line ((if b then parts.Number width else parts.Blanks width) ∷ more) (wholes_of vs) ≡ Some (if b then number_first width vs (line_of ts) else replicate width 32 ++ line_of ts vs)
+shows_word true width ts more shows [] e = absurd (omega (arith, e))
+shows_word true width ts more shows (v ∷ vs) e = ap (before (justified width (whole_of v))) (shows vs (omega (arith, e)))
+shows_word false width ts more shows vs e = ap (before (replicate width 32)) (shows vs e)
+
+shows_part : (t : PhraseText) (part : Phrase) (ts : List PhraseText) (more : List Phrase) → IsPart t part → Shows ts more → Shows (t ∷ ts) (part ∷ more)
+shows_part t part ts more (text bytes) shows vs e = ap (before bytes) (shows vs e)
+shows_part t part ts more (word []) shows vs e = ap (before []) (shows vs e)
+shows_part t part ts more (word (first ∷ digits)) shows vs e = shows_word (first == 73) (value_of digits) ts more shows vs e
+
+shows_none : (vs : List Value) → 0 ≡ length vs → format_line [] (wholes_of vs) ≡ Some (line_of [] vs)
+shows_none [] e = refl
+shows_none (v ∷ vs) e = absurd (omega (arith, e))
+
+shows_all : (ts : List PhraseText) (list : List Phrase) → AreParts ts list → Shows ts list
+shows_all [] list are = subst (λ (l : List Phrase). Shows [] l) (sym are) shows_none
+shows_all (t ∷ ts) list are =
+    subst (λ (l : List Phrase). Shows (t ∷ ts) l) (sym are.2) (shows_part t are.0 ts are.1 are.3 (shows_all ts are.1 are.4))
+
+-- the machine's line is that of the source
+pub line_is : (sc : Scopes) (code : Code) (ps : List Placed) (level format : ℕ) (ts : List PhraseText) (vs : List Value) → FormatIs sc code.formats ps level format ts (length vs) →
+    line_for code (pos format ∷ wholes_of vs) ≡ Some (line_of ts vs)
+line_is sc code ps level format ts vs f =
+    ap (λ (o : Option Format). line_by o (wholes_of vs)) f.is ∙ shows_all ts f.list f.parts vs f.numbers
+
+-- ---- the action
+
+module _ (tree : PProgram) (code : Code) (texts : ℕ → List Placed) (flat : IsFlat (scopes_of tree)) (fragments : FragmentsArePerformed) (w : World) (lay : List Place) (img : Image)
+    (p : ℕ) (q : Process) (part : Part) (most bound : ℕ) (core : Core) (s : Scene tree code texts w lay img p q part most bound core) (able_is : q.state ≡ able) (able_p : numbered img.states p ≡ Some Able)
+    (ts : List PhraseText) (vs : List Value) (asks : ask part.rest ≡ writes ts vs) (a : ActionAt (scopes_of tree) code.formats (texts 0) OUTER_LEVEL most (writes ts vs) s.pc s.slots)
+    (answered : (r : Answer) (at : ℕ) (left : List Slot) → Acted (scopes_of tree) code.formats (texts 0) OUTER_LEVEL most (writes ts vs) s.pc s.slots a r at left →
+    ComesTo (scopes_of tree) code.formats (texts 0) OUTER_LEVEL most (resume (scopes_of tree) part.rest r) at left) where
+  abbrev sc : Scopes
+  sc = scopes_of tree
+
+  -- the arguments are the number of the format and the items
+  abbrev given : List Value
+  given = number (pos a.2.format) ∷ vs
+
+  there : operator_at code core.registers ≡ Ok (ops.Plain kinds.Entr, a.0)
+  there = operator_there sc code (texts 0) OUTER_LEVEL s.pc s.slots core (ops.Plain kinds.Entr) a.0 s.there a.2.stands
+
+  abbrev Called : Type 0
+  Called = IsCall tree code texts w lay img p q part most bound core s Write given a.1 (a.2.whole, a.2.fits) a.2.lies
+
+  module _ (c : Called) where
+    abbrev new : Core
+    new = without_call core c.others c.calls.m.df a.0
+
+    abbrev out : List (List ℕ)
+    out = w.output ++ line_of ts vs ∷ []
+
+    does : Does tree code texts w lay img p
+    does =
+        does_in_frame tree code texts flat fragments w lay img p q part most bound core s able_is able_p (resume sc part.rest done) out new refl (record { is = refl }) a.0 a.1 (c.after_at a.0) c.few
+        (answered done a.0 a.1 (refl, refl)) Line
+        (action_not_plain code img p core s.has (ops.Plain kinds.Entr) a.0 there
+        (enter_class code img p core s.has a.0 there Write c.arguments c.reference c.marked c.others c.calls))
+        (write_raw code img p core s.has a.0 there Write c.arguments c.reference c.marked c.others c.calls (wholes_of given) c.wholes refl (line_of ts vs)
+        (line_is sc code (texts 0) OUTER_LEVEL a.2.format ts vs a.2.is)
+        ∙ ap (λ (o : List (List ℕ)). effects.gives (record (with_core img p new) { output = o ++ line_of ts vs ∷ [] })) s.by.output)
+        (choice_is sc w p q part s.at s.todo ∙ ap (λ (k : Ask). choice_of sc w p q part [] k) asks)
+        (λ t. action_is code img p core s.has (ops.Plain kinds.Entr) a.0 there (outcomes.gives (record (with_core img p new) { output = out })) t ∙ c.action)
+
+  pub writing : Does tree code texts w lay img p
+  writing = does (call tree code texts w lay img p q part most bound core s Write given a.1 (a.2.whole, a.2.fits) a.2.lies)
