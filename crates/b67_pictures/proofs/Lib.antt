@@ -39,3 +39,4 @@ pub mod Simulating
 pub mod Weighing
 pub mod Zeros
 pub mod Starting
+pub mod TouchingScenes
