@@ -52,7 +52,7 @@ found_below from (s ∷ ss) name f e = by_name (λ h. found_below (from + 1) ss 
 abbrev pub HasFewCells : Scopes → Type 0
 HasFewCells sc = length (simple_cells (block_numbered sc.blocks 0)) ≤ MOST_BLOCK_CELLS
 
-small_index : (sc : Scopes) → IsFlat sc → HasFewCells sc → (n : Named) (kind : Kind) (couple : Couple) → IsVariable sc OUTER_LEVEL n kind couple → couple.index < 2 ^ 14
+pub small_index : (sc : Scopes) → IsFlat sc → HasFewCells sc → (n : Named) (kind : Kind) (couple : Couple) → IsVariable sc OUTER_LEVEL n kind couple → couple.index < 2 ^ 14
 small_index sc flat few n kind couple v =
     let here : found_from 0 (simple_cells (block_numbered sc.blocks 0)) n.name ≡ Some v.found =
     ap (λ (b : ℕ). found_from 0 (simple_cells (block_numbered sc.blocks b)) n.name) (sym (flat.own n)) ∙ v.there in

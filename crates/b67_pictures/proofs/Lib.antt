@@ -40,3 +40,4 @@ pub mod Weighing
 pub mod Zeros
 pub mod Starting
 pub mod TouchingScenes
+pub mod Joining

@@ -296,25 +296,25 @@ module _ (tree : PProgram) (code : Code) (texts : ℕ → List Placed) (flat : I
 
   stands_first : (b : Begun) → Frames sc code texts w first_lay 1 (first_part ∷ []) most b.settled
   unfolding start
-  stands_first b =
-      ( record {
-          owns = refl;
-          mark = base_mark;
-          control = base_control OUTER_LEVEL;
-          cells = replicate cells zero_word;
-          below_is = b.below_is;
-          high = refl;
-          counted = b.counted ∙ sym (length-replicate cells zero_word);
-          framed = framed b.settled.registers.display b.display;
-          pc = b.pc;
-          slots = b.slots;
-          stands = subst (λ (l : ℕ). StandsFor sc code.formats (texts 0) l most (settle_items sc (items_of block)) b.pc b.slots) (sym outer) b.stands;
-          there = subst (λ (l : ℕ). CoreAt sc code (texts 0) l b.pc b.slots b.settled) (sym outer) b.there;
-          few = b.fits;
-        }
-      , refl
-      , refl
-      )
+  stands_first b = (
+    record {
+      owns = refl;
+      mark = base_mark;
+      control = base_control OUTER_LEVEL;
+      cells = replicate cells zero_word;
+      below_is = b.below_is;
+      high = refl;
+      counted = b.counted ∙ sym (length-replicate cells zero_word);
+      framed = framed b.settled.registers.display b.display;
+      pc = b.pc;
+      slots = b.slots;
+      stands = subst (λ (l : ℕ). StandsFor sc code.formats (texts 0) l most (settle_items sc (items_of block)) b.pc b.slots) (sym outer) b.stands;
+      there = subst (λ (l : ℕ). CoreAt sc code (texts 0) l b.pc b.slots b.settled) (sym outer) b.there;
+      few = b.fits;
+    },
+    refl,
+    refl,
+  )
 
   first_has : HasCore first_image 1 first_core
   unfolding first_image
@@ -363,16 +363,16 @@ module _ (tree : PProgram) (code : Code) (texts : ℕ → List Placed) (flat : I
 
   pub first_pictured : Pictures tree code texts (start (scopes_of tree)) first_image
   unfolding start first_image
-  first_pictured =
-      ( first_lay
-      , record {
-          laid = refl;
-          output = refl;
-          fault = refl;
-          started = refl;
-          states = refl;
-          system = refl;
-          outermost = only_instance;
-          each = only_process;
-        }
-      )
+  first_pictured = (
+    first_lay,
+    record {
+      laid = refl;
+      output = refl;
+      fault = refl;
+      started = refl;
+      states = refl;
+      system = refl;
+      outermost = only_instance;
+      each = only_process;
+    },
+  )
