@@ -50,7 +50,7 @@ each_declared block (tree.decls (tree.simple kind ns) ds) s =
 each_declared block (tree.decls (tree.files ns) ds) s = each_declared block ds s
 each_declared block (tree.decls d ds) s = absurd s
 
-in_block : (cs : List Cell) → AllByRecursion (IsVariableCell 0) cs → filter (λ (c : Cell). c.block == 0) cs ≡ cs
+pub in_block : (cs : List Cell) → AllByRecursion (IsVariableCell 0) cs → filter (λ (c : Cell). c.block == 0) cs ≡ cs
 in_block cs h =
     filter_every (λ (c : Cell). c.block == 0) cs
     (each_of (IsVariableCell 0) (λ (c : Cell). (c.block == 0) ≡ true) cs (λ c g. ap (λ (n : ℕ). n == 0) g.0) h)

@@ -16,3 +16,6 @@ pub mod Fits
 pub mod Lexed
 pub mod Behind
 pub mod Numbered
+pub mod Inside
+pub mod Owned
+pub mod Flat

@@ -2,3 +2,4 @@ pub mod OneBlock
 pub mod Wholes
 pub mod Fitted
 pub mod Numbers
+pub mod Flat

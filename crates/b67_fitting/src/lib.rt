@@ -1,7 +1,9 @@
 //! Accepted programs of one block have code: what the rules of the language leave of their trees is what the templates have code for.
+//! And they lie flat: all their names are of the one block, within the limits of a block and of a segment.
 #![tactic(auto)]
 
 ghost use Rattle.b67_fitting.specs.Fitted.{AcceptedProgramsFit};
+ghost use Rattle.b67_fitting.specs.Flat.{OneBlockLiesFlat};
 ghost use Rattle.b67_fitting.specs.Numbers.{SourcesHaveWholeNumbers};
 
 /// Law: the statements of an accepted program of one block fit, so they have code. Each expression has the kind that its
@@ -14,4 +16,11 @@ pub fn accepted_programs_fit()
 /// Law: each number in a source is whole, so that the machine has it.
 pub fn numbers_of_sources_are_whole()
     ensures { SourcesHaveWholeNumbers }
+{}
+
+/// Law: an accepted program of one block lies flat. No block stands in its block, which declares each name that is used; it has at
+/// most `MOST_BLOCK_CELLS` cells for its variables, and its text at most `MOST_SEGMENT_TOKENS` tokens (rules TooManyCells and
+/// SegmentTooLong).
+pub fn one_block_lies_flat()
+    ensures { OneBlockLiesFlat }
 {}

@@ -1,8 +1,7 @@
 -- A process that stands at its action does it: by what its head asks for.
-use Rattle.std.proofs.Common.{◌≡◌, refl, sym, ap, ◌∙◌, ℕ, ◌+◌, ◌<◌, ◌≤◌, ◌^◌, List, [], ◌∷◌, length, Some, Bool, true, false, arith}
+use Rattle.std.proofs.Common.{◌≡◌, refl, sym, ap, ◌∙◌, ℕ, ◌+◌, ◌<◌, ◌^◌, List, [], ◌∷◌, length, Some, Bool, true, false, arith}
 use Rattle.std.specs.Prelude.{if◌then◌else◌}
 use Rattle.b67_list.specs.Numbered.{numbered}
-use Rattle.algol_tree.specs.declared.TheConstants.{MOST_BLOCK_CELLS}
 use Rattle.algol_tree.specs.declared.tree.Kind.{Kind}
 use Rattle.algol_tree.specs.declared.tree.Named.{Named}
 use Rattle.algol_tree.specs.declared.tree.PhraseText.{PhraseText}
@@ -27,7 +26,7 @@ use Rattle.b67_standing.specs.Standing.{ActionAt, Acted, ComesTo, GoesOn}
 use Rattle.b67_standing.specs.Laws.{RestsGoOn}
 use Rattle.b67_cores.specs.Cores.{Core}
 use Rattle.b67_cores.specs.Stretches.{FragmentsArePerformed}
-use Rattle.b67_pictures.specs.Flat.{IsFlat}
+use Rattle.b67_fitting.specs.Flat.{IsFlat, HasFewCells}
 use Rattle.b67_pictures.specs.Acting.{Does}
 use Rattle.b67_pictures.proofs.Scene.{Scene}
 use Rattle.b67_pictures.proofs.Reading.{reading}
@@ -47,10 +46,6 @@ found_below from (s ∷ ss) name f e = by_name (λ h. found_below (from + 1) ss 
         let is_f : record { number = from; cell = s } ≡ f = cc in
         omega (arith, ap (λ (x : Found). x.number) is_f)
     by_name later false h = omega (arith, later h)
-
--- the outer block has no more cells than a block may have
-abbrev pub HasFewCells : Scopes → Type 0
-HasFewCells sc = length (simple_cells (block_numbered sc.blocks 0)) ≤ MOST_BLOCK_CELLS
 
 pub small_index : (sc : Scopes) → IsFlat sc → HasFewCells sc → (n : Named) (kind : Kind) (couple : Couple) → IsVariable sc OUTER_LEVEL n kind couple → couple.index < 2 ^ 14
 small_index sc flat few n kind couple v =

@@ -40,7 +40,7 @@ use Rattle.b67_cores.specs.Cores.{Core, HasCore}
 use Rattle.b67_cores.proofs.Moving.{slots_length}
 use Rattle.b67_faithful.proofs.Contradictions.{none_some, some_same}
 use Rattle.b67_pictures.specs.Acting.{Does, gave}
-use Rattle.b67_pictures.specs.Flat.{IsFlat}
+use Rattle.b67_fitting.specs.Flat.{IsFlat}
 use Rattle.b67_pictures.specs.Pictures.{Pictured, living, dead, PicturesBy}
 use Rattle.b67_pictures.proofs.ExitRow.{DescribeNothing, cells_describe_nothing, IsFree, no_criticals, ended_at, exit_raw, exit_class, exit_action}
 use Rattle.b67_pictures.proofs.Homes.{operator_there}

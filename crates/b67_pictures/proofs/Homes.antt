@@ -26,7 +26,7 @@ use Rattle.b67_standing.specs.Stepping.{Slot}
 use Rattle.b67_cores.specs.Cores.{Core}
 use Rattle.b67_cores.specs.Slots.{ValueIs}
 use Rattle.b67_cores.specs.Stretches.{CoreAt}
-use Rattle.b67_pictures.specs.Flat.{IsFlat}
+use Rattle.b67_fitting.specs.Flat.{IsFlat}
 use Rattle.b67_pictures.specs.Frames.{CellIs, CellsAre, Framed}
 use Rattle.b67_pictures.proofs.Variables.{Cell_of, variable_cell, Holds_value, value_of_cell}
 

@@ -26,7 +26,7 @@ use Rattle.b67_standing.specs.Standing.{ComesTo}
 use Rattle.b67_cores.specs.Cores.{Core, HasCore, with_core}
 use Rattle.b67_cores.specs.Stretches.{CoreAt, FragmentsArePerformed}
 use Rattle.b67_cores.proofs.Moving.{slots_length}
-use Rattle.b67_pictures.specs.Flat.{IsFlat}
+use Rattle.b67_fitting.specs.Flat.{IsFlat}
 use Rattle.b67_pictures.specs.Acting.{Does, gave}
 use Rattle.b67_pictures.specs.Frames.{IsChained, Framed}
 use Rattle.algol_tree.specs.Blocks.{block_numbered}

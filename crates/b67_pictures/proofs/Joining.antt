@@ -2,6 +2,7 @@
 use Rattle.std.proofs.Common.{ℕ, ◌≤◌, List, length}
 use Rattle.std.specs.Prelude.{All}
 use Rattle.algol_tree.specs.declared.TheConstants.{MOST_SEGMENT_TOKENS}
+use Rattle.algol_tree.specs.Accepted.{Accepted}
 use Rattle.algol_tree.specs.Counts.{program_tokens}
 use Rattle.algol_tree.specs.Plain.{PProgram}
 use Rattle.algol_tree.specs.Scopes.{scopes_of}
@@ -15,8 +16,10 @@ use Rattle.b67_standing.proofs.Starting.{blocks_start}
 use Rattle.b67_cores.proofs.Performing.{steps_are_performed}
 use Rattle.b67_cores.proofs.Placing.{fragments_are_performed}
 use Rattle.b67_faithful.specs.Faithful.{Follows}
-use Rattle.b67_pictures.specs.Flat.{IsFlat}
-use Rattle.b67_pictures.proofs.Dispatching.{HasFewCells, small_index, OthersAreDone}
+use Rattle.b67_fitting.specs.OneBlock.{IsOneBlock}
+use Rattle.b67_fitting.specs.Flat.{IsFlat, HasFewCells}
+use Rattle.b67_fitting.proofs.Flat.{one_block_lies_flat}
+use Rattle.b67_pictures.proofs.Dispatching.{small_index, OthersAreDone}
 use Rattle.b67_pictures.proofs.Writing.{writing}
 use Rattle.b67_pictures.proofs.Selecting.{selecting}
 use Rattle.b67_pictures.proofs.Ending.{ending}
@@ -45,3 +48,10 @@ module _ (tree : PProgram) (code : Code) (flat : IsFlat (scopes_of tree)) (few :
       simulating.code_follows tree code texts flat few steps_are_performed fragments_are_performed rests_go_on others
       (processes_apart tree code texts flat (small_index (scopes_of tree) flat few) rests_go_on)
       (first_pictured tree code texts flat few short fragments_are_performed blocks_start there.segment there.alone there.spells there.body)
+
+-- An accepted program of one block lies flat, so a code in which it stands follows it.
+pub accepted_programs_follow : (tree : PProgram) (code : Code) → Accepted tree → IsOneBlock tree → All (λ (segment : Segment). length segment.words ≤ segment_limit) code.segments → ProgramAt code tree →
+    Follows tree code
+accepted_programs_follow tree code accepted one segments there =
+    let lies = one_block_lies_flat tree accepted one in
+    program_follows tree code lies.flat lies.few lies.short segments there

@@ -18,12 +18,12 @@ use Rattle.b67_standing.specs.Laws.{RestsGoOn}
 use Rattle.b67_cores.specs.Cores.{Core, HasCore, with_core, size, CoreSteps, here, onward}
 use Rattle.b67_cores.specs.Stretches.{StepsArePerformed, Performed, FragmentsArePerformed}
 use Rattle.b67_faithful.proofs.Contradictions.{some_same}
-use Rattle.b67_pictures.specs.Flat.{IsFlat}
+use Rattle.b67_fitting.specs.Flat.{IsFlat, HasFewCells}
 use Rattle.b67_pictures.specs.Acting.{Does, gave, failed_by}
 use Rattle.b67_pictures.specs.Pictures.{Living, PicturesBy}
 use Rattle.b67_pictures.proofs.Plainly.{steps_fit, stepped, plain_pictured}
 use Rattle.b67_pictures.proofs.Scene.{Scene, scene_of}
-use Rattle.b67_pictures.proofs.Dispatching.{HasFewCells, OthersAreDone, scene_does}
+use Rattle.b67_pictures.proofs.Dispatching.{OthersAreDone, scene_does}
 
 module _ (tree : PProgram) (code : Code) (texts : ℕ → List Placed) (flat : IsFlat (scopes_of tree)) (few : HasFewCells (scopes_of tree)) (performed : StepsArePerformed) (fragments : FragmentsArePerformed) (rests : RestsGoOn)
     (others : OthersAreDone tree code texts) where

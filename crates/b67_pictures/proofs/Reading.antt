@@ -28,7 +28,7 @@ use Rattle.b67_standing.specs.Stepping.{Slot, operand}
 use Rattle.b67_standing.specs.Standing.{ActionAt, Acted, ComesTo}
 use Rattle.b67_cores.specs.Cores.{Core, IsCore, with_core}
 use Rattle.b67_cores.specs.Stretches.{CoreAt, FragmentsArePerformed}
-use Rattle.b67_pictures.specs.Flat.{IsFlat}
+use Rattle.b67_fitting.specs.Flat.{IsFlat}
 use Rattle.b67_pictures.specs.Acting.{Does, gave}
 use Rattle.b67_pictures.specs.Pictures.{PicturesBy}
 use Rattle.b67_pictures.proofs.Rows.{action_not_plain, action_is, words_are}

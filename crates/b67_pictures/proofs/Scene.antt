@@ -24,7 +24,7 @@ use Rattle.b67_standing.specs.Standing.{StandsFor, ComesTo}
 use Rattle.b67_cores.specs.Cores.{Core, HasCore}
 use Rattle.b67_cores.specs.Stretches.{CoreAt}
 use Rattle.b67_faithful.specs.Weight.{weight, parts_weight}
-use Rattle.b67_pictures.specs.Flat.{IsFlat}
+use Rattle.b67_fitting.specs.Flat.{IsFlat}
 use Rattle.b67_pictures.specs.Frames.{Framed, Stands, Frames}
 use Rattle.b67_pictures.specs.Pictures.{Living, PicturesBy}
 use Rattle.b67_pictures.proofs.Landing.{Landed}

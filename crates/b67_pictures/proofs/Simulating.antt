@@ -27,11 +27,11 @@ use Rattle.b67_faithful.specs.Faithful.{Follows}
 use Rattle.b67_faithful.specs.Simulation.{Acted, Comes, acts, Simulates}
 use Rattle.b67_faithful.proofs.Contradictions.{true_false, gives_same, faults_same, gives_faults}
 use Rattle.b67_faithful.proofs.Following.{simulations_follow}
-use Rattle.b67_pictures.specs.Flat.{IsFlat}
+use Rattle.b67_fitting.specs.Flat.{IsFlat, HasFewCells}
 use Rattle.b67_pictures.specs.Acting.{Does, gave, failed_by}
 use Rattle.b67_pictures.specs.Pictures.{Pictured, living, dead, PicturesBy, Pictures}
 use Rattle.b67_pictures.proofs.Numbers.{numbered_beyond}
-use Rattle.b67_pictures.proofs.Dispatching.{HasFewCells, OthersAreDone}
+use Rattle.b67_pictures.proofs.Dispatching.{OthersAreDone}
 use Rattle.b67_pictures.proofs.Quiet.{through_plain, Operates, plainly, acting, operates, Settles, settles}
 use Rattle.b67_pictures.proofs.Lasting.{same_number}
 use Rattle.b67_pictures.proofs.Showing.{able_acts, no_limit, IsAble, able_one, able_alike, ends_alike, is_light}

@@ -50,10 +50,9 @@ use Rattle.b67_cores.specs.Stretches.{CoreAt, Arrives, FragmentsArePerformed}
 use Rattle.b67_cores.proofs.Moving.{steps_on, slots_length}
 use Rattle.b67_faithful.specs.Weight.{weight}
 use Rattle.b67_faithful.proofs.Contradictions.{some_same, none_some}
-use Rattle.b67_pictures.specs.Flat.{IsFlat}
+use Rattle.b67_fitting.specs.Flat.{IsFlat, HasFewCells}
 use Rattle.b67_pictures.specs.Frames.{IsChained, Framed, Frames}
 use Rattle.b67_pictures.specs.Pictures.{Living, Pictured, living, Pictures}
-use Rattle.b67_pictures.proofs.Dispatching.{HasFewCells}
 use Rattle.b67_pictures.proofs.Homes.{operator_there}
 use Rattle.b67_pictures.proofs.StoreRow.{most_is}
 use Rattle.b67_pictures.proofs.Weighing.{block_small}

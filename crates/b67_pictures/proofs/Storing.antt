@@ -42,7 +42,7 @@ use Rattle.b67_cores.specs.Cores.{Core, IsCore, with_core}
 use Rattle.b67_cores.specs.Slots.{ValueIs, SlotsAre}
 use Rattle.b67_cores.specs.Stretches.{CoreAt, FragmentsArePerformed}
 use Rattle.b67_cores.proofs.Moving.{slots_length}
-use Rattle.b67_pictures.specs.Flat.{IsFlat}
+use Rattle.b67_fitting.specs.Flat.{IsFlat}
 use Rattle.b67_pictures.specs.Acting.{Does, gave}
 use Rattle.b67_pictures.specs.Frames.{CellsAre, Framed}
 use Rattle.b67_pictures.specs.Pictures.{PicturesBy}

@@ -48,7 +48,7 @@ use Rattle.b67_standing.specs.Standing.{ActionAt, GoesOn}
 use Rattle.b67_standing.specs.Stepping.{operand, reference}
 use Rattle.b67_cores.specs.Cores.{Core, HasCore, CoreStep, CoreSteps, here, onward}
 use Rattle.b67_faithful.proofs.Contradictions.{some_same, none_some, true_false}
-use Rattle.b67_pictures.specs.Flat.{IsFlat}
+use Rattle.b67_fitting.specs.Flat.{IsFlat}
 use Rattle.b67_pictures.specs.Pictures.{Living, Pictured, living, dead, PicturesBy}
 use Rattle.b67_pictures.proofs.Homes.{operator_there, Home, home}
 use Rattle.b67_pictures.proofs.Numbers.{numbered_beyond}

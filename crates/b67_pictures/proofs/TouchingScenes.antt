@@ -24,7 +24,7 @@ use Rattle.b67_standing.specs.Laws.{RestsGoOn}
 use Rattle.b67_standing.specs.Standing.{AreNumbers, operands}
 use Rattle.b67_standing.specs.Stepping.{Slot, intrinsic, mark}
 use Rattle.b67_cores.specs.Cores.{Core}
-use Rattle.b67_pictures.specs.Flat.{IsFlat}
+use Rattle.b67_fitting.specs.Flat.{IsFlat}
 use Rattle.b67_pictures.specs.Pictures.{PicturesBy}
 use Rattle.b67_pictures.proofs.Calling.{IsCall, call}
 use Rattle.b67_pictures.proofs.Scene.{Scene}

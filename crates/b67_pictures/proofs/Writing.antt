@@ -35,7 +35,7 @@ use Rattle.b67_standing.specs.Stepping.{Slot}
 use Rattle.b67_standing.specs.Standing.{ActionAt, Acted, ComesTo}
 use Rattle.b67_cores.specs.Cores.{Core, with_core}
 use Rattle.b67_cores.specs.Stretches.{FragmentsArePerformed}
-use Rattle.b67_pictures.specs.Flat.{IsFlat}
+use Rattle.b67_fitting.specs.Flat.{IsFlat}
 use Rattle.b67_pictures.specs.Acting.{Does}
 use Rattle.b67_pictures.proofs.Rows.{action_not_plain, action_is}
 use Rattle.b67_pictures.proofs.Calling.{wholes_of, IsCall, call}

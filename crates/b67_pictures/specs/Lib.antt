@@ -1,4 +1,3 @@
 pub mod Frames
 pub mod Pictures
 pub mod Acting
-pub mod Flat
