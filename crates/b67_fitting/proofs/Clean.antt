@@ -10,7 +10,7 @@ use Rattle.algol_tree.specs.Cells.{first_spot}
 use Rattle.algol_tree.specs.Checks.{wrong_types, not_assignable}
 use Rattle.algol_tree.specs.Classes as class
 use Rattle.algol_tree.specs.Classes.{Class, same_kind, is_task, is_event, is_unspecified}
-use Rattle.algol_tree.specs.Counted.{bad_lists}
+use Rattle.algol_tree.specs.Counted.{bad_lists, wide_lines}
 use Rattle.algol_tree.specs.Names.{if_so, unknown_names, declared_twice}
 use Rattle.algol_tree.specs.Plain as tree
 use Rattle.algol_tree.specs.Plain.{PExpr, PExprs}
@@ -27,6 +27,7 @@ pub record IsClean (blocks : List Block) (x : Site) : Type 0 where
   pub typed : wrong_types blocks x ≡ []
   pub assigned : not_assignable blocks x ≡ []
   pub lined : bad_lists x ≡ []
+  pub narrow : wide_lines x ≡ []
 
 abbrev pub AreClean : List Block → List Site → Type 0
 AreClean blocks xs = AllByRecursion (IsClean blocks) xs

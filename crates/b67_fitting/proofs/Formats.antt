@@ -1,15 +1,16 @@
--- A line has as many items as its format has numbers.
-use Rattle.std.proofs.Common.{arith, ◌≡◌, ℕ, ◌+◌, ◌==◌, ◌&&◌, ◌||◌, nat_lt, not, Bool, true, false, List, [], ◌∷◌, map, refl, sym, ap, ◌∙◌, if◌then◌else◌}
-use Rattle.std.proofs.lemmas.Bool.{or_parts, not-false, eqb-true}
+-- A line has as many items as its format has numbers, and no word of the format is wider than a line.
+use Rattle.std.proofs.Common.{arith, ◌≡◌, ℕ, ◌+◌, ◌==◌, ◌&&◌, ◌||◌, ◌≤◌, nat_lt, not, Bool, true, false, List, [], ◌∷◌, map, refl, sym, ap, ◌∙◌, subst, if◌then◌else◌}
+use Rattle.std.proofs.lemmas.Bool.{or_parts, not-false, eqb-true, ltb-false}
 use Rattle.std.proofs.lemmas.List.Sums.{sum_by-cons}
 use Rattle.std.specs.List.{list_any}
+use Rattle.algol_tree.specs.declared.TheConstants.{MOST_LINE_WIDTH}
 use Rattle.algol_tree.specs.declared.tree.PhraseText.{PhraseText}
 use Rattle.algol_tree.specs.declared.tree.PhraseText.TheVariants as phrase
 use Rattle.algol_tree.specs.declared.token.Spot.{Spot}
 use Rattle.algol_tree.specs.Counted as counted
 use Rattle.algol_tree.specs.Names.{if_so}
 use Rattle.algol_tree.specs.Phrases as plain
-use Rattle.algol_tree.specs.Phrases.{phrase_of, is_no_phrase, items_of}
+use Rattle.algol_tree.specs.Phrases.{phrase_of, is_no_phrase, columns, items_of, columns_of}
 use Rattle.algol_tree.specs.Plain as tree
 use Rattle.algol_tree.specs.Plain.{PExprs}
 use Rattle.algol_tree.specs.Spelling.{is_number, value_of}
@@ -17,6 +18,7 @@ use Rattle.b67_segment.specs.declared.code.Phrase.{Phrase}
 use Rattle.b67_segment.specs.declared.code.Phrase.TheVariants as parts
 use Rattle.b67_fitting.proofs.Lists.{not_so}
 use Rattle.b67_templates.specs.Code.{AreParts, IsPart, text, word, word_part, numbers_in, exprs_count}
+use Rattle.b67_templates.specs.Fitting.{IsNarrow, AreNarrow}
 
 -- the numbers of one phrase
 abbrev one_number : Phrase → ℕ
@@ -67,12 +69,52 @@ same_count : (es : PExprs) → counted.exprs_count es ≡ exprs_count es
 same_count tree.none = refl
 same_count (tree.more e es) = let rest = same_count es in omega (arith, rest)
 
--- a list of phrases that is not bad for these items
-pub fitting_line : (ts : List PhraseText) (es : PExprs) (spot : Spot) →
-    if_so (list_any (λ (t : PhraseText). is_no_phrase (phrase_of t)) ts || not (items_of ts == counted.exprs_count es)) spot ≡ [] →
-    (ps : List Phrase) → AreParts ts ps → numbers_in ps ≡ exprs_count es
-fitting_line ts es spot h ps are =
-    let good =
+-- a list of phrases is not bad for these items
+abbrev IsGoodList : List PhraseText → PExprs → Spot → Type 0
+IsGoodList ts es spot = if_so (list_any (λ (t : PhraseText). is_no_phrase (phrase_of t)) ts || not (items_of ts == counted.exprs_count es)) spot ≡ []
+
+-- so each word is a phrase, and there are as many items as they print
+good_list : (ts : List PhraseText) (es : PExprs) (spot : Spot) → IsGoodList ts es spot →
+    (list_any (λ (t : PhraseText). is_no_phrase (phrase_of t)) ts ≡ false) × (not (items_of ts == counted.exprs_count es) ≡ false)
+good_list ts es spot h =
     or_parts (list_any (λ (t : PhraseText). is_no_phrase (phrase_of t)) ts) (not (items_of ts == counted.exprs_count es))
-    (not_so (list_any (λ (t : PhraseText). is_no_phrase (phrase_of t)) ts || not (items_of ts == counted.exprs_count es)) spot h) in
+    (not_so (list_any (λ (t : PhraseText). is_no_phrase (phrase_of t)) ts || not (items_of ts == counted.exprs_count es)) spot h)
+
+pub fitting_line : (ts : List PhraseText) (es : PExprs) (spot : Spot) → IsGoodList ts es spot → (ps : List Phrase) → AreParts ts ps → numbers_in ps ≡ exprs_count es
+fitting_line ts es spot h ps are =
+    let good = good_list ts es spot h in
     as_many ts ps are good.0 ∙ eqb-true (items_of ts) (counted.exprs_count es) (not-false (items_of ts == counted.exprs_count es) good.1) ∙ same_count es
+
+-- ---- columns
+
+-- a word that is a phrase has as many columns as its number says, whatever its letter
+number_of_letter : (digits : List ℕ) (right number_like blank_like : Bool) →
+    is_no_phrase (if right then (if number_like then plain.item (value_of digits) else (if blank_like then plain.blanks (value_of digits) else plain.no_phrase)) else plain.no_phrase) ≡ false →
+    columns (if right then (if number_like then plain.item (value_of digits) else (if blank_like then plain.blanks (value_of digits) else plain.no_phrase)) else plain.no_phrase)
+    ≡ value_of digits
+number_of_letter digits true true b h = refl
+number_of_letter digits true false true h = refl
+number_of_letter digits true false false h = absurd (let clash : true ≡ false = h in cc)
+number_of_letter digits false n b h = absurd (let clash : true ≡ false = h in cc)
+
+narrow_phrase : (t : PhraseText) → is_no_phrase (phrase_of t) ≡ false → columns (phrase_of t) ≤ MOST_LINE_WIDTH → IsNarrow t
+narrow_phrase (phrase.Text bytes) good fits = tt
+narrow_phrase (phrase.Word []) good fits = tt
+narrow_phrase (phrase.Word (letter ∷ digits)) good fits =
+    let same = number_of_letter digits (is_number digits && nat_lt 0 (value_of digits)) (letter == 73) (letter == 88) good in
+    subst (λ (n : ℕ). n ≤ MOST_LINE_WIDTH) same fits
+
+columns_more : (t : PhraseText) (ts : List PhraseText) → columns_of (t ∷ ts) ≡ columns (phrase_of t) + columns_of ts
+columns_more t ts = sum_by-cons (λ (n : ℕ). n) (columns (phrase_of t)) (map (λ (p : PhraseText). columns (phrase_of p)) ts)
+
+narrow_phrases : (ts : List PhraseText) → list_any (λ (t : PhraseText). is_no_phrase (phrase_of t)) ts ≡ false → columns_of ts ≤ MOST_LINE_WIDTH → AreNarrow ts
+narrow_phrases [] none fits = tt
+narrow_phrases (t ∷ ts) none fits =
+    let these = or_parts (is_no_phrase (phrase_of t)) (list_any (λ (t : PhraseText). is_no_phrase (phrase_of t)) ts) none in
+    let more = columns_more t ts in
+    (narrow_phrase t these.0 (omega (arith, more, fits)), narrow_phrases ts these.1 (omega (arith, more, fits)))
+
+-- where the columns of all are those of a line, those of each word are
+pub narrow_line : (ts : List PhraseText) (es : PExprs) (spot : Spot) → IsGoodList ts es spot → if_so (nat_lt MOST_LINE_WIDTH (columns_of ts)) spot ≡ [] → AreNarrow ts
+narrow_line ts es spot h w =
+    narrow_phrases ts (good_list ts es spot h).0 (ltb-false MOST_LINE_WIDTH (columns_of ts) (not_so (nat_lt MOST_LINE_WIDTH (columns_of ts)) spot w))

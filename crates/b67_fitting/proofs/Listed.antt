@@ -120,7 +120,7 @@ module _ (blocks : List Block) (a : Surroundings) (plain : KnowsPlain a) where
     listed_stmt (tree.process c task) l t = absurd t
     listed_stmt (tree.event act e) l t = absurd t
     listed_stmt (tree.write n spot phrases es) l t =
-        site (here_stmt (tree.write n spot phrases es) l a) (fair_stmt blocks a (tree.write n spot phrases es) l refl) (listed_line blocks a es t.1)
+        site (here_stmt (tree.write n spot phrases es) l a) (fair_stmt blocks a (tree.write n spot phrases es) l refl) (listed_line blocks a es t.2)
 
     pub listed_stmts : (ss : PStmts) (listed : Bool) → TypedStmts a ss → Listed blocks a (spots_of_stmts ss) (sites_in_stmts blocks ss listed a)
     listed_stmts tree.no_stmts l t = over

@@ -86,7 +86,7 @@ module _ (a : Surroundings) (sc : Scopes) (known : Spot → Option Couple) (leve
           (fits_expr types.Number e t.0 (each_front NamesPlaced (sites e a) (sites_in_stmts blocks ss false a) g.1), fits_stmts ss false t.1 (each_back NamesPlaced (sites e a) (sites_in_stmts blocks ss false a) g.1))
       fits_stmt (tree.process c task) l t g = absurd t
       fits_stmt (tree.event act e) l t g = absurd t
-      fits_stmt (tree.write n spot phrases es) l t g = (t.0, fits_line es t.1 g.1)
+      fits_stmt (tree.write n spot phrases es) l t g = (t.0, t.1, fits_line es t.2 g.1)
 
       pub fits_stmts : (ss : PStmts) (listed : Bool) → TypedStmts a ss → AllByRecursion NamesPlaced (sites_in_stmts blocks ss listed a) → StmtsFit sc known level ss
       fits_stmts tree.no_stmts l t g = tt

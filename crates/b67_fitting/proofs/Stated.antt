@@ -16,11 +16,12 @@ use Rattle.algol_tree.specs.Surroundings.{Surroundings, class_of, declared_as}
 use Rattle.algol_tree.specs.Types.{read_type}
 use Rattle.b67_segment.specs.declared.code.Phrase.{Phrase}
 use Rattle.b67_templates.specs.Code.{AreParts, numbers_in, exprs_count}
+use Rattle.b67_templates.specs.Fitting.{AreNarrow}
 use Rattle.b67_fitting.specs.OneBlock.{IsBare, AreBare}
 use Rattle.b67_fitting.specs.Wholes.{StmtWhole, StmtsWhole}
 use Rattle.b67_fitting.proofs.Lists.{each_front, each_back, nil_front, nil_back}
 use Rattle.b67_fitting.proofs.Clean.{IsClean, AreClean, IsPlain, simple, file, KnowsPlain, plain_first, misnamed, none_such, none_happens, wrong, wrong_list}
-use Rattle.b67_fitting.proofs.Formats.{fitting_line}
+use Rattle.b67_fitting.proofs.Formats.{fitting_line, narrow_line}
 use Rattle.b67_fitting.proofs.Typed.{IsOf, TypedExpr, TypedLine, HasKind, of_kind, typed, typed_line}
 
 module _ (a : Surroundings) where
@@ -38,7 +39,7 @@ module _ (a : Surroundings) where
     TypedStmt (tree.thru e b) = TypedExpr a types.Number e × TypedStmt b
     TypedStmt (tree.case e ss) = TypedExpr a types.Number e × TypedStmts ss
     TypedStmt (tree.write n spot phrases es) =
-        ((parts : List Phrase) → AreParts phrases parts → numbers_in parts ≡ exprs_count es) × TypedLine a es
+        AreNarrow phrases × ((parts : List Phrase) → AreParts phrases parts → numbers_in parts ≡ exprs_count es) × TypedLine a es
     TypedStmt _ = ⊥
 
     pub TypedStmts : PStmts → Type 0
@@ -149,7 +150,7 @@ module _ (blocks : List Block) (a : Surroundings) (plain : KnowsPlain a) where
     stated (tree.event act e) listed b w c i =
         absurd (none_happens e.task (class_of a e.name) e.name.spot (plain_first a plain e.name [] c.known) c.typed)
     stated (tree.write n spot phrases es) listed b w c i =
-        (fitting_line phrases es spot c.lined, typed_line blocks a plain es w i (nil_back (misnamed is_file (class_of a n) n.spot) (wrong_list types.Number es a) c.typed))
+        (narrow_line phrases es spot c.lined c.narrow, fitting_line phrases es spot c.lined, typed_line blocks a plain es w i (nil_back (misnamed is_file (class_of a n) n.spot) (wrong_list types.Number es a) c.typed))
 
     pub all_stated : (ss : PStmts) (listed : Bool) → AreBare ss → StmtsWhole ss → AreClean blocks (sites_in_stmts blocks ss listed a) → TypedStmts a ss
     all_stated tree.no_stmts listed b w i = tt

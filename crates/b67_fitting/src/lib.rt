@@ -7,8 +7,8 @@ ghost use Rattle.b67_fitting.specs.Flat.{OneBlockLiesFlat};
 ghost use Rattle.b67_fitting.specs.Numbers.{SourcesHaveWholeNumbers};
 
 /// Law: the statements of an accepted program of one block fit, so they have code. Each expression has the kind that its
-/// place wants, each name is a simple variable whose couple a right table has, and each line has as many items as its
-/// format prints numbers.
+/// place wants, each name is a simple variable whose couple a right table has, each line has as many items as its
+/// format prints numbers, and no word of the format is wider than a line.
 pub fn accepted_programs_fit()
     ensures { AcceptedProgramsFit }
 {}

@@ -1,10 +1,14 @@
--- Which trees have code: each part has the kind that its place wants, and each name is a variable whose couple is known.
-use Rattle.std.specs.Prelude.{◌≡◌, ℕ, Option, Some, List}
+-- Which trees have code: each part has the kind that its place wants, each name is a variable whose couple is known, and no word of
+-- a format is wider than a line.
+use Rattle.std.specs.Prelude.{◌≡◌, ℕ, Option, Some, List, [], ◌∷◌, ◌≤◌}
 use Rattle.algol_tree.specs.declared.token.Spot.{Spot}
 use Rattle.algol_tree.specs.declared.tree.Kind.{Kind}
 use Rattle.algol_tree.specs.declared.tree.Kind.TheVariants as types
 use Rattle.algol_tree.specs.declared.tree.Named.{Named}
 use Rattle.algol_tree.specs.declared.tree.PhraseText.{PhraseText}
+use Rattle.algol_tree.specs.declared.tree.PhraseText.TheVariants as phrase
+use Rattle.algol_tree.specs.declared.TheConstants.{MOST_LINE_WIDTH}
+use Rattle.algol_tree.specs.Spelling.{value_of}
 use Rattle.algol_tree.specs.Plain as tree
 use Rattle.algol_tree.specs.Plain.{PExpr, PExprs, PStmt, PStmts}
 use Rattle.algol_tree.specs.Types.{given_by, taken_by}
@@ -14,6 +18,19 @@ use Rattle.b67_segment.specs.declared.code.Phrase.{Phrase}
 use Rattle.b67_templates.specs.Fragments.{IsWhole}
 use Rattle.b67_templates.specs.Cells.{IsVariable}
 use Rattle.b67_templates.specs.Code.{AreParts, numbers_in, exprs_count}
+
+-- a word's number is of columns, no more than a line has
+abbrev pub IsNarrowWord : List ℕ → Type 0
+IsNarrowWord [] = Unit {0}
+IsNarrowWord (letter ∷ digits) = value_of digits ≤ MOST_LINE_WIDTH
+
+abbrev pub IsNarrow : PhraseText → Type 0
+IsNarrow (phrase.Text bytes) = Unit {0}
+IsNarrow (phrase.Word word) = IsNarrowWord word
+
+abbrev pub AreNarrow : List PhraseText → Type 0
+AreNarrow [] = Unit {0}
+AreNarrow (p ∷ ps) = IsNarrow p × AreNarrow ps
 
 -- `known` are the couples of names by their places in the text
 module _ (sc : Scopes) (known : Spot → Option Couple) (level : ℕ) where
@@ -39,9 +56,9 @@ module _ (sc : Scopes) (known : Spot → Option Couple) (level : ℕ) where
   LineFits tree.none = Unit {0}
   LineFits (tree.more e es) = ExprFits types.Number e × LineFits es
 
-  -- as many items as the phrases have numbers
+  -- no word is wider than a line, and there are as many items as the phrases have numbers
   abbrev pub WriteFits : List PhraseText → PExprs → Type 0
-  WriteFits phrases es = ((parts : List Phrase) → AreParts phrases parts → numbers_in parts ≡ exprs_count es) × LineFits es
+  WriteFits phrases es = AreNarrow phrases × ((parts : List Phrase) → AreParts phrases parts → numbers_in parts ≡ exprs_count es) × LineFits es
 
   abbrev mutual
     pub StmtFits : PStmt → Type 0
