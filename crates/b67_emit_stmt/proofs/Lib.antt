@@ -1,0 +1,15 @@
+pub mod Drafts
+pub mod Names
+pub mod Parts
+pub mod Steps
+pub mod Lines
+pub mod Arms
+pub mod Lists
+pub mod Cases
+pub mod Writing
+pub mod Ready
+pub mod Shapes
+pub mod Matched
+pub mod Aims
+pub mod Listed
+pub mod Tables

@@ -1,0 +1,44 @@
+-- Statements one after another.
+use Rattle.std.proofs.Common.{◌≡◌, ℕ, ◌+◌, ◌<◌, List, [], ◌∷◌, ◌++◌, length, take, drop, get_or, Option, sym, ap, ◌∙◌, subst, arith}
+use Rattle.std.proofs.lemmas.List.{take-append-drop, drop_more, take_more}
+use Rattle.algol_tree.specs.declared.token.Spot.{Spot}
+use Rattle.algol_tree.specs.declared.tree.Stmt.{Stmt}
+use Rattle.algol_tree.specs.Counts.{stmt_tokens, stmts_tokens}
+use Rattle.algol_tree.specs.Image.{stmt, stmts}
+use Rattle.algol_tree.specs.Scopes.{Scopes}
+use Rattle.b67_ops.specs.declared.Couple.{Couple}
+use Rattle.b67_segment.specs.declared.code.Format.{Format}
+use Rattle.b67_segment.specs.Operators.{Placed}
+use Rattle.b67_templates.specs.Code.{StmtAt, StmtsAt}
+use Rattle.b67_templates.specs.Fitting.{StmtFits, StmtsFit}
+
+-- a list around one of its items
+pub around : {X : Type 0} (xs : List X) (i : ℕ) (x : X) → i < length xs → x ≡ get_or xs i x → xs ≡ take i xs ++ x ∷ drop (i + 1) xs
+around xs i x h e =
+    sym (take-append-drop i xs) ∙ ap (λ l. take i xs ++ l) (drop_more xs i x h ∙ ap (λ y. y ∷ drop (i + 1) xs) (sym e))
+
+pub front_more : {X : Type 0} (xs : List X) (i : ℕ) (x : X) → i < length xs → x ≡ get_or xs i x → take (i + 1) xs ≡ take i xs ++ x ∷ []
+front_more xs i x h e = take_more xs i x h ∙ ap (λ y. take i xs ++ y ∷ []) (sym e)
+
+-- ---- tokens
+
+pub tokens-append : (xs : List Stmt) (y : Stmt) (ys : List Stmt) → stmts_tokens (stmts (xs ++ y ∷ ys)) ≡ stmts_tokens (stmts xs) + (1 + stmt_tokens (stmt y)) + stmts_tokens (stmts ys)
+tokens-append [] y ys = omega arith
+tokens-append (x ∷ xs) y ys = omega (arith, tokens-append xs y ys)
+
+-- ---- fitting
+
+pub fits-append : (sc : Scopes) (known : Spot → Option Couple) (level : ℕ) (xs : List Stmt) (y : Stmt) (ys : List Stmt) → StmtsFit sc known level (stmts (xs ++ y ∷ ys)) →
+    StmtFits sc known level (stmt y)
+fits-append sc known level [] y ys h = h.0
+fits-append sc known level (x ∷ xs) y ys h = fits-append sc known level xs y ys h.1
+
+-- ---- code
+
+pub stands-append : (sc : Scopes) (formats : List Format) (qs : List Placed) (level : ℕ) (xs : List Stmt) (y : Stmt) (f m t u : ℕ) →
+    StmtsAt sc formats qs level (stmts xs) f m m → StmtAt sc formats qs level (stmt y) m t u → StmtsAt sc formats qs level (stmts (xs ++ y ∷ [])) f t u
+stands-append sc formats qs level [] y f m t u h k =
+    let S : ℕ → Type 0 = λ x. StmtAt sc formats qs level (stmt y) x t u in subst S (sym h) k
+stands-append sc formats qs level (x ∷ []) y f m t u h k = (m, h, k)
+stands-append sc formats qs level (x ∷ x' ∷ xs) y f m t u h k =
+    (h.0, h.1, stands-append sc formats qs level (x' ∷ xs) y h.0 m t u h.2 k)

@@ -1,0 +1,63 @@
+-- The couples of names, and of intrinsics, can be spelled where they stand.
+use Rattle.std.proofs.Common.{◌≡◌, ℕ, ◌-◌, ◌^◌, ◌≤◌, ◌<◌, Bool, true, false, Option, Some, sym, ◌∙◌, subst, arith, lit≤, lit<}
+use Rattle.std.specs.Prelude.{if◌then◌else◌, nat_le}
+use Rattle.algol_tree.specs.declared.token.Spot.{Spot}
+use Rattle.algol_tree.specs.declared.tree.Kind.{Kind}
+use Rattle.algol_tree.specs.declared.tree.Named.{Named}
+use Rattle.algol_tree.specs.Scopes.{Scopes}
+use Rattle.b67_ops.specs.declared.Couple.{Couple}
+use Rattle.b67_ops.specs.declared.intrinsic.Intrinsic.{Intrinsic}
+use Rattle.b67_ops.specs.declared.intrinsic.Intrinsic.TheVariants.{GoTo, Select, Arrays, Event, Start, Write, Wait, Cause, Reset, Happened, Procure, Liberate}
+use Rattle.b67_ops.specs.Intrinsics.{couple_of_intrinsic}
+use Rattle.b67_ops.specs.Spelling.{level_bits, index_bits, IsSeen}
+use Rattle.b67_templates.specs.Cells.{IsVariable}
+use Rattle.b67_templates.specs.Fitting.{NameFits}
+
+HasRoom : ℕ → Type 0
+HasRoom bits = 512 ≤ 2 ^ (14 - bits)
+
+either : (b : Bool) (x y : ℕ) → 512 ≤ 2 ^ (14 - x) → 512 ≤ 2 ^ (14 - y) → 512 ≤ 2 ^ (14 - (if b then x else y))
+either true x y p q = p
+either false x y p q = q
+
+-- a couple has room for the cells of a block, whatever the level
+index_room : (level : ℕ) → 512 ≤ 2 ^ index_bits level
+unfolding level_bits
+index_room level =
+    either (nat_le level 1) 1 (if nat_le level 3 then 2 else (if nat_le level 7 then 3 else (if nat_le level 15 then 4 else 5))) (lit≤ tt)
+    (either (nat_le level 3) 2 (if nat_le level 7 then 3 else (if nat_le level 15 then 4 else 5)) (lit≤ tt)
+    (either (nat_le level 7) 3 (if nat_le level 15 then 4 else 5) (lit≤ tt) (either (nat_le level 15) 4 5 (lit≤ tt) (lit≤ tt))))
+
+pub seen : (level : ℕ) (c : Couple) → c.level ≤ level → c.index < 512 → IsSeen level c
+seen level c h k = record { level_seen = h; index_fits = omega (arith, index_room level) }
+
+intrinsic_near : (name : Intrinsic) → (couple_of_intrinsic name).index < 512
+intrinsic_near GoTo = lit< tt
+intrinsic_near Select = lit< tt
+intrinsic_near Arrays = lit< tt
+intrinsic_near Event = lit< tt
+intrinsic_near Start = lit< tt
+intrinsic_near Write = lit< tt
+intrinsic_near Wait = lit< tt
+intrinsic_near Cause = lit< tt
+intrinsic_near Reset = lit< tt
+intrinsic_near Happened = lit< tt
+intrinsic_near Procure = lit< tt
+intrinsic_near Liberate = lit< tt
+
+pub intrinsic_seen : (level : ℕ) (name : Intrinsic) → IsSeen level (couple_of_intrinsic name)
+intrinsic_seen level name = seen level (couple_of_intrinsic name) (omega arith) (intrinsic_near name)
+
+some_same : (c d : Couple) → Some c ≡ Some d → c ≡ d
+some_same c d e = cc
+
+-- the couple that is known is that of the variable
+pub variable_is : (sc : Scopes) (known : Spot → Option Couple) (level : ℕ) (k : Kind) (n : Named) (c : Couple) → NameFits sc known level k n → known n.spot ≡ Some c →
+    IsVariable sc level n k c
+variable_is sc known level k n c fit e =
+    let V : Couple → Type 0 = λ d. IsVariable sc level n k d in subst V (some_same fit.0 c (sym fit.1 ∙ e)) fit.2
+
+pub name_seen : (sc : Scopes) (known : Spot → Option Couple) (level : ℕ) (k : Kind) (n : Named) (c : Couple) → NameFits sc known level k n → known n.spot ≡ Some c → c.index < 512 →
+    IsSeen level c
+name_seen sc known level k n c fit e near =
+    let v = variable_is sc known level k n c fit e in seen level c (omega (arith, v.level_is)) near

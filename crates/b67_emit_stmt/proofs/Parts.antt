@@ -1,0 +1,123 @@
+-- Operators one after another, at the level that was set before all of them.
+use Rattle.std.proofs.Common.{◌≡◌, ℕ, Option, List, refl, sym, subst, arith}
+use Rattle.std.specs.Prelude.{IsSome, Result, Ok, Err, OnOk}
+use Rattle.algol_tree.specs.declared.tree.Kind.{Kind}
+use Rattle.algol_tree.specs.declared.tree.Kind.TheVariants as types
+use Rattle.algol_tree.specs.declared.tree.Op.TheVariants as operators
+use Rattle.algol_tree.specs.declared.tree.Named.{Named}
+use Rattle.algol_tree.specs.Plain as tree
+use Rattle.algol_tree.specs.Plain.{PExpr}
+use Rattle.algol_tree.specs.Scopes.{Scopes}
+use Rattle.algol_scope.specs.declared.scopes.Scopes as table
+use Rattle.algol_meaning.specs.Statements.{alone}
+use Rattle.b67_ops.specs.declared.Couple.{Couple}
+use Rattle.b67_ops.specs.declared.Operator.TheVariants as ops
+use Rattle.b67_ops.specs.declared.PlainKind.{PlainKind}
+use Rattle.b67_ops.specs.declared.PlainKind.TheVariants as kinds
+use Rattle.b67_ops.specs.declared.intrinsic.Intrinsic.{Intrinsic}
+use Rattle.b67_ops.specs.Intrinsics.{couple_of_intrinsic}
+use Rattle.b67_segment.specs.declared.code.Format.{Format}
+use Rattle.b67_segment.specs.Operators.{Placed, size}
+use Rattle.b67_segment.specs.Building.{Built, level_set}
+use Rattle.b67_templates.specs.Fragments.{Has, IntrinsicAt}
+use Rattle.b67_templates.specs.Cells.{IsVariable}
+use Rattle.b67_templates.specs.Code.{AssignAt, ExprAt, ReadAt, ReferenceAt}
+use Rattle.b67_templates.specs.Emitting.{Emitted}
+use Rattle.b67_templates.specs.Fitting.{ExprFits, NameFits}
+use Rattle.b67_emitter.specs.Values.{couples, HasCode, ValueEmitted}
+use Rattle.b67_emitter.proofs.Composing.{then, weaker}
+use Rattle.b67_emit_stmt.proofs.Drafts.{level_same}
+
+-- ---- levels
+
+pub set_same : (a b : Built) → b.level ≡ a.level → IsSome a.level → IsSome b.level
+set_same a b e h = let S : Option ℕ → Type 0 = λ o. IsSome o in subst S (sym e) h
+
+pub leveled : {b c : Built} (P : ℕ → List Placed → Type 0) (level : ℕ) → level_set b ≡ level → Emitted b c (P (level_set b)) → Emitted b c (P level)
+leveled {b} {c} P level e h = let F : ℕ → Type 0 = λ l. Emitted b c (P l) in subst F e h
+
+pub plain_at : {b c : Built} (kind : PlainKind) (level : ℕ) → level_set b ≡ level → Emitted b c (λ qs. Has qs (level_set b) (size b.operators) (ops.Plain kind) (size c.operators)) →
+    Emitted b c (λ qs. Has qs level (size b.operators) (ops.Plain kind) (size c.operators))
+plain_at {b} {c} kind level e h = leveled (λ l qs. Has qs l (size b.operators) (ops.Plain kind) (size c.operators)) level e h
+
+-- the expression has code at a level that is the same
+pub code_at : (s : table.Scopes) (level' level : ℕ) (sc : Scopes) (k : Kind) (e : PExpr) → level' ≡ level → ExprFits sc (couples s) level k e → HasCode s level' e
+code_at s level' level sc k e q fit =
+    let F : ℕ → Type 0 = λ l. ExprFits sc (couples s) l k e in record { scopes = sc; kind = k; fits = subst F (sym q) fit }
+
+pub name_at : (s : table.Scopes) (level' level : ℕ) (sc : Scopes) (k : Kind) (n : Named) → level' ≡ level → NameFits sc (couples s) level k n → NameFits sc (couples s) level' k n
+name_at s level' level sc k n q fit = let F : ℕ → Type 0 = λ l. NameFits sc (couples s) l k n in subst F (sym q) fit
+
+pub value_at : (s : table.Scopes) (b c : Built) (level : ℕ) (sc : Scopes) (formats : List Format) (k : Kind) (e : PExpr) → level_set b ≡ level →
+    ValueEmitted s (level_set b) b c e → ExprFits sc (couples s) level k e →
+    Emitted b c (λ qs. ExprAt sc formats qs level k e (size b.operators) (size c.operators) (size c.operators))
+value_at s b c level sc formats k e q v fit =
+    let F : ℕ → Type 0 = λ l. ExprFits sc (couples s) l k e in
+    leveled (λ l qs. ExprAt sc formats qs l k e (size b.operators) (size c.operators) (size c.operators)) level q
+    (v.code sc formats k (subst F (sym q) fit))
+
+-- ---- parts of statements
+
+pub intrinsic_part : (name : Intrinsic) (a b c : Built) → b.level ≡ a.level →
+    Emitted a b (λ qs. Has qs (level_set a) (size a.operators) (ops.Plain kinds.Mkst) (size b.operators)) →
+    Emitted b c (λ qs. Has qs (level_set b) (size b.operators) (ops.Namc (couple_of_intrinsic name)) (size c.operators)) →
+    Emitted a c (λ qs. IntrinsicAt qs (level_set a) name (size a.operators) (size c.operators))
+intrinsic_part name a b c e h k =
+    weaker (λ qs. IntrinsicAt qs (level_set a) name (size a.operators) (size c.operators))
+    (then h (leveled (λ l qs. Has qs l (size b.operators) (ops.Namc (couple_of_intrinsic name)) (size c.operators)) (level_set a) (level_same a b e) k))
+    (λ qs p. (size b.operators, p.0, p.1))
+
+pub reference_part : (sc : Scopes) (formats : List Format) (k : Kind) (n : Named) (c : Couple) (a b : Built) → IsVariable sc (level_set a) n k c →
+    Emitted a b (λ qs. Has qs (level_set a) (size a.operators) (ops.Namc c) (size b.operators)) →
+    Emitted a b (λ qs. ReferenceAt sc formats qs (level_set a) n k (size a.operators) (size b.operators))
+reference_part sc formats k n c a b v h =
+    weaker (λ qs. ReferenceAt sc formats qs (level_set a) n k (size a.operators) (size b.operators)) h (λ qs p. (c, v, p))
+
+pub read_part : (sc : Scopes) (formats : List Format) (k : Kind) (n : Named) (c : Couple) (a b : Built) → IsVariable sc (level_set a) n k c →
+    Emitted a b (λ qs. Has qs (level_set a) (size a.operators) (ops.Valc c) (size b.operators)) →
+    Emitted a b (λ qs. ReadAt sc formats qs (level_set a) n k (size a.operators) (size b.operators))
+read_part sc formats k n c a b v h =
+    weaker (λ qs. ReadAt sc formats qs (level_set a) n k (size a.operators) (size b.operators)) h (λ qs p. (c, v, p))
+
+module _ (sc : Scopes) (formats : List Format) (level : ℕ) where
+  pub assign_part : (k : Kind) (n : Named) (e : PExpr) (a b c d : Built) →
+      Emitted a b (λ qs. ReferenceAt sc formats qs level n k (size a.operators) (size b.operators)) →
+      Emitted b c (λ qs. ExprAt sc formats qs level k e (size b.operators) (size c.operators) (size c.operators)) →
+      Emitted c d (λ qs. Has qs level (size c.operators) (ops.Plain kinds.Stod) (size d.operators)) →
+      Emitted a d (λ qs. AssignAt sc formats qs level n e (size a.operators) (size d.operators))
+  assign_part k n e a b c d h i j =
+      weaker (λ qs. AssignAt sc formats qs level n e (size a.operators) (size d.operators)) (then (then h i) j)
+      (λ qs p. (k, size b.operators, size c.operators, p.0.0, p.0.1, p.1))
+
+  pub difference_part : (n : Named) (e : PExpr) (a b c d : Built) →
+      Emitted a b (λ qs. ReadAt sc formats qs level n types.Number (size a.operators) (size b.operators)) →
+      Emitted b c (λ qs. ExprAt sc formats qs level types.Number e (size b.operators) (size c.operators) (size c.operators)) →
+      Emitted c d (λ qs. Has qs level (size c.operators) (ops.Plain kinds.Subt) (size d.operators)) →
+      Emitted a d (λ qs. ExprAt sc formats qs level types.Number (tree.two operators.Sub (alone n) e) (size a.operators) (size d.operators) (size d.operators))
+  difference_part n e a b c d h i j =
+      weaker (λ qs. ExprAt sc formats qs level types.Number (tree.two operators.Sub (alone n) e) (size a.operators) (size d.operators) (size d.operators)) (then (then h i) j)
+      (λ qs p. (size b.operators, size b.operators, size c.operators, refl, p.0.0, refl, p.0.1, p.1))
+
+  pub advance_part : (n : Named) (e : PExpr) (a b c d x y : Built) →
+      Emitted a b (λ qs. ReferenceAt sc formats qs level n types.Number (size a.operators) (size b.operators)) →
+      Emitted b c (λ qs. ReadAt sc formats qs level n types.Number (size b.operators) (size c.operators)) →
+      Emitted c d (λ qs. ExprAt sc formats qs level types.Number e (size c.operators) (size d.operators) (size d.operators)) →
+      Emitted d x (λ qs. Has qs level (size d.operators) (ops.Plain kinds.Add) (size x.operators)) →
+      Emitted x y (λ qs. Has qs level (size x.operators) (ops.Plain kinds.Stod) (size y.operators)) →
+      Emitted a y (λ qs. AssignAt sc formats qs level n (tree.two operators.Add (alone n) e) (size a.operators) (size y.operators))
+  advance_part n e a b c d x y h i j k l =
+      weaker (λ qs. AssignAt sc formats qs level n (tree.two operators.Add (alone n) e) (size a.operators) (size y.operators))
+      (then h (then (then (then i j) k) l))
+      (λ qs p.
+      (types.Number, size b.operators, size x.operators, p.0, (size c.operators, size c.operators, size d.operators, refl, p.1.0.0.0, refl, p.1.0.0.1, p.1.0.1), p.1.1))
+
+-- ---- answers
+
+-- what two facts of a call that went well make
+pub on_ok_two : {T E P Q R : Type 0} (r : Result T E) → (P → Q → R) → OnOk r P → OnOk r Q → OnOk r R
+on_ok_two (Ok x) f p q = f p q
+on_ok_two (Err e) f p q = tt
+
+-- nothing was appended
+pub emitted_none : (a : Built) (P : List Placed → Type 0) → ((qs : List Placed) → P qs) → Emitted a a P
+emitted_none a P h = record { level = refl; grown = omega arith; kept = λ at level next op lo hi s. s; claimed = λ qs k. h qs }

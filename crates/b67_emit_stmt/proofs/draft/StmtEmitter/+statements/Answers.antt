@@ -1,0 +1,787 @@
+use Rattle.std.proofs.Common.{rules, ◌≡◌, ◌≤◌, ◌+◌, ◌∙◌, ℕ, List, [], ◌∷◌, length, refl, sym, subst, arith}
+use Rattle.std.proofs.lemmas.List.{take_all}
+use Rattle.std.proofs.lemmas.Result.{on_ok_weaker}
+use Rattle.algol_tree.specs.declared.tree.Kind.TheVariants as types
+use Rattle.algol_tree.specs.declared.tree.Body as bodies'
+use Rattle.algol_tree.specs.declared.tree.Decl as decls'
+use Rattle.algol_tree.specs.declared.tree.Stmt.{Stmt}
+use Rattle.algol_tree.specs.declared.tree.Stmt as stmts'
+use Rattle.algol_tree.specs.Image.{decls, expr, exprs, stmt, stmts}
+use Rattle.algol_tree.specs.Plain as tree
+use Rattle.b67_ops.specs.declared.BranchKind.TheVariants.{Brfl, Brtr, Brun}
+use Rattle.b67_ops.specs.declared.PlainKind.TheVariants as kinds
+use Rattle.b67_segment.specs.Operators.{size}
+use Rattle.b67_segment.specs.Building.{level_set}
+use Rattle.b67_templates.specs.Code.{CasesAt}
+use Rattle.b67_templates.specs.Depths.{expr_syllables, stmt_syllables}
+use Rattle.b67_templates.specs.Fitting.{ExprFits, StmtsFit}
+use Rattle.b67_emitter.specs.Values.{couples}
+use Rattle.b67_emit_stmt.specs.declared.draft.Draft.{Draft}
+use Rattle.b67_emit_stmt.specs.Drafts.{Emits}
+use Rattle.b67_emit_stmt.specs.Emits.{HaveFit, stmts_syllables}
+use Rattle.b67_emit_stmt.proofs.Aims.{body_closed, exits_lie, hole_as}
+use Rattle.b67_emit_stmt.proofs.Arms.{for_arm, if_then_arm, then_arm, thru_arm, until_arm, while_arm}
+use Rattle.b67_emit_stmt.proofs.Drafts.{at_level, emits_then, hole_there, level_after, level_same, piece}
+use Rattle.b67_emit_stmt.proofs.Listed.{StandTogether, done_level, next_fits, next_ready, together_more, together_none}
+use Rattle.b67_emit_stmt.proofs.Matched as matched
+use Rattle.b67_emit_stmt.proofs.Parts.{code_at, name_at, on_ok_two, plain_at, set_same}
+use Rattle.b67_emit_stmt.proofs.Ready.{all_piece, body_piece, branch_piece, fit_after, ready_after, stmt_piece, turn_piece, value_piece}
+use Rattle.b67_emit_stmt.proofs.Shapes as shaped
+use Rattle.b67_emit_stmt.proofs.Tables as tabled
+use Rattle.b67_emit_stmt.proofs.draft.StmtEmitter.+statements.Goals as goal
+
+-- ---- IF
+
+pub if_then-stmt-requires : goal.if_then-stmt-requires
+if_then-stmt-requires g t c =
+    let s = c.args.self.now.scopes.now in
+    let a = c.args.to.now in
+    let level = level_set a.out in
+    let sc = c.requires.fits.0 in
+    let x = stmt c.args.x.now in
+    let e = expr c.args.c.now in
+    let b : Draft = record a { out = c.value.new.out } in
+    let d : Draft = record a { out = c.append_exit.new.out; exits = c.append_exit.new.exits } in
+    let v = value_piece s a b level sc types.Truth e refl refl refl c.requires.ready.few c.in_ok-value.ensures.code c.in_ok-value.ensures.size c.requires.fits.1.0 in
+    let left = branch_piece sc Brfl b d level (level_same a.out b.out c.in_ok-value.ensures.level) refl v.few c.in_ok-append_exit.ensures.code c.in_ok-append_exit.ensures.size in
+    let both = emits_then v left in
+    let ready = ready_after s a (stmt_syllables (tree.if_then e x)) (stmt_syllables x) c.requires.ready both (omega arith) in
+    let fit = fit_after s sc x both c.requires.fits.1.1 in
+    search (rules, stmts'.the_lemmas, decls'.the_lemmas, bodies'.the_lemmas, ready, fit)
+
+pub if_then-returns : goal.if_then-returns
+if_then-returns g t c =
+    let s = c.args.self.now.scopes.now in
+    let a = c.args.to.now in
+    let level = level_set a.out in
+    let x = stmt c.args.x.now in
+    let e = expr c.args.c.now in
+    let b : Draft = record a { out = c.value.new.out } in
+    let d : Draft = record a { out = c.append_exit.new.out; exits = c.append_exit.new.exits } in
+    let q = level_same a.out b.out c.in_ok-value.ensures.level in
+    let r = level_same b.out d.out c.in_ok-append_exit.ensures.level ∙ q in
+    on_ok_weaker c.stmt.result
+    (λ h sc fit.
+    let v = value_piece s a b level sc types.Truth e refl refl refl c.requires.ready.few c.in_ok-value.ensures.code c.in_ok-value.ensures.size fit.0 in
+    if_then_arm sc level e x a b d c.stmt.new.to v (branch_piece sc Brfl b d level q refl v.few c.in_ok-append_exit.ensures.code c.in_ok-append_exit.ensures.size)
+    (stmt_piece s sc x d c.stmt.new.to level r h fit.1))
+    c.stmt.ensures
+
+pub then_part-stmt-requires : goal.then_part-stmt-requires
+then_part-stmt-requires g t c =
+    let s = c.args.self.now.scopes.now in
+    let a = c.args.to.now in
+    let x = stmt c.args.x.now in
+    let e = expr c.args.c.now in
+    let b : Draft = record a { out = c.value.new.out } in
+    let d : Draft = record a { out = c.append_branch.new.out } in
+    let q = level_same a.out b.out c.in_ok-value.ensures.level in
+    let r = level_same b.out d.out c.in_ok-otherwise.ensures.level ∙ q in
+    let v = value_piece s a b (level_set a.out) c.requires.fits.0 types.Truth e refl refl refl c.requires.ready.few c.in_ok-value.ensures.code c.in_ok-value.ensures.size c.requires.fits.1 in
+    let ready = matched.ready_behind s a d (expr_syllables e + stmt_syllables x + 6) (stmt_syllables x) c.requires.ready (c.in_ok-otherwise.ensures.level ∙ c.in_ok-value.ensures.level) refl
+    (omega (arith, v.code.grown, c.in_ok-otherwise.ensures.size)) (omega (arith, c.in_ok-value.ensures.size, c.in_ok-otherwise.ensures.size)) in
+    let fit = matched.fit_at s c.requires.fits.0 x d (level_set a.out) r c.requires.fits.2 in
+    search (rules, stmts'.the_lemmas, decls'.the_lemmas, bodies'.the_lemmas, ready, fit)
+
+pub then_part-append_exit-requires-clause-set : goal.then_part-append_exit-requires-clause-set
+then_part-append_exit-requires-clause-set g t c =
+    let a = c.args.to.now in
+    let x = stmt c.args.x.now in
+    let b : Draft = record a { out = c.value.new.out } in
+    let d : Draft = record a { out = c.append_branch.new.out } in
+    let r = level_same b.out d.out c.in_ok-otherwise.ensures.level ∙ level_same a.out b.out c.in_ok-value.ensures.level in
+    let part = stmt_piece c.args.self.now.scopes.now c.requires.fits.0 x d c.stmt.new.to (level_set a.out) r c.in_ok-stmt.ensures c.requires.fits.2 in
+    matched.set_behind c.args.to.now.out part (c.in_ok-otherwise.ensures.level ∙ c.in_ok-value.ensures.level) c.requires.ready.set
+
+pub then_part-append_exit-requires-clause-room : goal.then_part-append_exit-requires-clause-room
+then_part-append_exit-requires-clause-room g t c =
+    let a = c.args.to.now in
+    let x = stmt c.args.x.now in
+    let b : Draft = record a { out = c.value.new.out } in
+    let d : Draft = record a { out = c.append_branch.new.out } in
+    let r = level_same b.out d.out c.in_ok-otherwise.ensures.level ∙ level_same a.out b.out c.in_ok-value.ensures.level in
+    let part = stmt_piece c.args.self.now.scopes.now c.requires.fits.0 x d c.stmt.new.to (level_set a.out) r c.in_ok-stmt.ensures c.requires.fits.2 in
+    omega (arith, part.short, c.in_ok-otherwise.ensures.size, c.in_ok-value.ensures.size, c.requires.ready.room)
+
+pub then_part-aim-requires : goal.then_part-aim-requires
+then_part-aim-requires g t c =
+    let a = c.args.to.now in
+    let level = level_set a.out in
+    let x = stmt c.args.x.now in
+    let b : Draft = record a { out = c.value.new.out } in
+    let d : Draft = record a { out = c.append_branch.new.out } in
+    let e = c.stmt.new.to in
+    let f : Draft = record e { out = c.append_exit.new.out; exits = c.append_exit.new.exits } in
+    let q = level_same a.out b.out c.in_ok-value.ensures.level in
+    let r = level_same b.out d.out c.in_ok-otherwise.ensures.level ∙ q in
+    let part = stmt_piece c.args.self.now.scopes.now c.requires.fits.0 x d e level r c.in_ok-stmt.ensures c.requires.fits.2 in
+    let out = branch_piece c.requires.fits.0 Brun e f level (level_after part ∙ r) refl part.few c.in_ok-append_exit.ensures.code c.in_ok-append_exit.ensures.size in
+    hole_there (c.in_ok-otherwise.otherwise ∷ []) b {b = d}
+    (hole_as Brfl b.out d.out level c.in_ok-otherwise.otherwise q c.in_ok-otherwise.ensures.place c.in_ok-otherwise.ensures.code) (emits_then part out)
+
+pub then_part-returns : goal.then_part-returns
+then_part-returns g t c =
+    let s = c.args.self.now.scopes.now in
+    let a = c.args.to.now in
+    let level = level_set a.out in
+    let x = stmt c.args.x.now in
+    let p = expr c.args.c.now in
+    let b : Draft = record a { out = c.value.new.out } in
+    let d : Draft = record a { out = c.append_branch.new.out } in
+    let e = c.stmt.new.to in
+    let f : Draft = record e { out = c.append_exit.new.out; exits = c.append_exit.new.exits } in
+    let n : Draft = record f { out = c.aim.new.out } in
+    let q = level_same a.out b.out c.in_ok-value.ensures.level in
+    let r = level_same b.out d.out c.in_ok-otherwise.ensures.level ∙ q in
+    λ sc condition fit.
+    let v = value_piece s a b level sc types.Truth p refl refl refl c.requires.ready.few c.in_ok-value.ensures.code c.in_ok-value.ensures.size condition in
+    let part = stmt_piece s sc x d e level r c.in_ok-stmt.ensures fit in
+    let out = branch_piece sc Brun e f level (level_after part ∙ r) refl part.few c.in_ok-append_exit.ensures.code c.in_ok-append_exit.ensures.size in
+    then_arm sc level p x a b d e f n (c.in_ok-otherwise.otherwise ∷ []) v
+    (hole_as Brfl b.out d.out level c.in_ok-otherwise.otherwise q c.in_ok-otherwise.ensures.place c.in_ok-otherwise.ensures.code)
+    (omega (arith, c.in_ok-otherwise.ensures.size)) refl refl part out c.aim.ensures refl refl
+
+-- ---- a body, whose exits go to the place behind it
+
+pub loop_body-aim_exits-requires-clause-branches : goal.loop_body-aim_exits-requires-clause-branches
+loop_body-aim_exits-requires-clause-branches g t c =
+    let a = c.args.to.now in
+    let is : c.len-first.result ≡ length a.exits.items = omega (arith, c.len-first.ensures, a.exits.ok.0) in
+    (exits_lie a c.stmt.new.to c.len-first.result is (c.in_ok-stmt.ensures c.requires.fits.0 c.requires.fits.1)).1
+
+pub loop_body-returns : goal.loop_body-returns
+loop_body-returns g t c =
+    let a = c.args.to.now in
+    let d : Draft = record c.stmt.new.to { out = c.aim_exits.new.out; exits = c.aim_exits.new.exits } in
+    let is : c.len-first.result ≡ length a.exits.items = omega (arith, c.len-first.ensures, a.exits.ok.0) in
+    λ sc fit. body_closed sc (level_set a.out) (stmt c.args.b.now) a c.stmt.new.to d c.len-first.result is (c.in_ok-stmt.ensures sc fit) c.aim_exits.ensures.aimed c.aim_exits.ensures.list refl
+
+-- ---- WHILE
+
+pub while_loop-loop_body-requires : goal.while_loop-loop_body-requires
+while_loop-loop_body-requires g t c =
+    let s = c.args.self.now.scopes.now in
+    let a = c.args.to.now in
+    let level = level_set a.out in
+    let sc = c.requires.fits.0 in
+    let x = stmt c.args.b.now in
+    let e = expr c.args.c.now in
+    let b : Draft = record a { out = c.value.new.out } in
+    let d : Draft = record a { out = c.append_exit.new.out; exits = c.append_exit.new.exits } in
+    let v = value_piece s a b level sc types.Truth e refl refl refl c.requires.ready.few c.in_ok-value.ensures.code c.in_ok-value.ensures.size c.requires.fits.1.0 in
+    let left = branch_piece sc Brfl b d level (level_same a.out b.out c.in_ok-value.ensures.level) refl v.few c.in_ok-append_exit.ensures.code c.in_ok-append_exit.ensures.size in
+    let both = emits_then v left in
+    let ready = ready_after s a (stmt_syllables (tree.while e x)) (stmt_syllables x) c.requires.ready both (omega arith) in
+    let fit = fit_after s sc x both c.requires.fits.1.1 in
+    search (rules, stmts'.the_lemmas, decls'.the_lemmas, bodies'.the_lemmas, ready, fit)
+
+pub while_loop-append_turn-requires-clause-set : goal.while_loop-append_turn-requires-clause-set
+while_loop-append_turn-requires-clause-set g t c =
+    let a = c.args.to.now in
+    let x = stmt c.args.b.now in
+    let b : Draft = record a { out = c.value.new.out } in
+    let d : Draft = record a { out = c.append_exit.new.out; exits = c.append_exit.new.exits } in
+    let r = level_same b.out d.out c.in_ok-append_exit.ensures.level ∙ level_same a.out b.out c.in_ok-value.ensures.level in
+    let part = body_piece c.args.self.now.scopes.now c.requires.fits.0 x d c.loop_body.new.to (level_set a.out) r c.in_ok-loop_body.ensures c.requires.fits.1.1 in
+    matched.set_behind c.args.to.now.out part (c.in_ok-append_exit.ensures.level ∙ c.in_ok-value.ensures.level) c.requires.ready.set
+
+pub while_loop-append_turn-requires-clause-back : goal.while_loop-append_turn-requires-clause-back
+while_loop-append_turn-requires-clause-back g t c =
+    let s = c.args.self.now.scopes.now in
+    let a = c.args.to.now in
+    let x = stmt c.args.b.now in
+    let b : Draft = record a { out = c.value.new.out } in
+    let d : Draft = record a { out = c.append_exit.new.out; exits = c.append_exit.new.exits } in
+    let r = level_same b.out d.out c.in_ok-append_exit.ensures.level ∙ level_same a.out b.out c.in_ok-value.ensures.level in
+    let part = body_piece s c.requires.fits.0 x d c.loop_body.new.to (level_set a.out) r c.in_ok-loop_body.ensures c.requires.fits.1.1 in
+    let v = value_piece s a b (level_set a.out) c.requires.fits.0 types.Truth (expr c.args.c.now) refl refl refl c.requires.ready.few c.in_ok-value.ensures.code c.in_ok-value.ensures.size c.requires.fits.1.0 in
+    omega (arith, c.place-start.ensures, v.code.grown, c.in_ok-append_exit.ensures.size, part.code.grown)
+
+pub while_loop-append_turn-requires-clause-room : goal.while_loop-append_turn-requires-clause-room
+while_loop-append_turn-requires-clause-room g t c =
+    let a = c.args.to.now in
+    let x = stmt c.args.b.now in
+    let b : Draft = record a { out = c.value.new.out } in
+    let d : Draft = record a { out = c.append_exit.new.out; exits = c.append_exit.new.exits } in
+    let r = level_same b.out d.out c.in_ok-append_exit.ensures.level ∙ level_same a.out b.out c.in_ok-value.ensures.level in
+    let part = body_piece c.args.self.now.scopes.now c.requires.fits.0 x d c.loop_body.new.to (level_set a.out) r c.in_ok-loop_body.ensures c.requires.fits.1.1 in
+    omega (arith, part.short, c.in_ok-append_exit.ensures.size, c.in_ok-value.ensures.size, c.requires.ready.room)
+
+pub while_loop-returns : goal.while_loop-returns
+while_loop-returns g t c =
+    let s = c.args.self.now.scopes.now in
+    let a = c.args.to.now in
+    let level = level_set a.out in
+    let x = stmt c.args.b.now in
+    let p = expr c.args.c.now in
+    let b : Draft = record a { out = c.value.new.out } in
+    let d : Draft = record a { out = c.append_exit.new.out; exits = c.append_exit.new.exits } in
+    let e = c.loop_body.new.to in
+    let f : Draft = record e { out = c.append_turn.new.out } in
+    let q = level_same a.out b.out c.in_ok-value.ensures.level in
+    let r = level_same b.out d.out c.in_ok-append_exit.ensures.level ∙ q in
+    on_ok_two c.append_turn.result
+    (λ h wide sc fit.
+    let v = value_piece s a b level sc types.Truth p refl refl refl c.requires.ready.few c.in_ok-value.ensures.code c.in_ok-value.ensures.size fit.0 in
+    let left = branch_piece sc Brfl b d level q refl v.few c.in_ok-append_exit.ensures.code c.in_ok-append_exit.ensures.size in
+    let part = body_piece s sc x d e level r c.in_ok-loop_body.ensures fit.1 in
+    while_arm sc level p x a b d e f v left part (turn_piece sc a e f c.place-start.result level c.place-start.ensures (level_after part ∙ r) refl refl part.few h wide))
+    c.append_turn.ensures.code c.append_turn.ensures.size
+
+-- ---- DO with UNTIL
+
+pub until_loop-value-requires-clause-code : goal.until_loop-value-requires-clause-code
+until_loop-value-requires-clause-code g t c =
+    let part = c.in_ok-loop_body.ensures c.requires.fits.0 c.requires.fits.1.0 in
+    code_at c.args.self.now.scopes.now (level_set c.loop_body.new.to.out) (level_set c.args.to.now.out) c.requires.fits.0 types.Truth (expr c.args.c.now) (level_after part) c.requires.fits.1.1
+
+pub until_loop-append_turn-requires-clause-back : goal.until_loop-append_turn-requires-clause-back
+until_loop-append_turn-requires-clause-back g t c =
+    let d : Draft = record c.loop_body.new.to { out = c.value.new.out } in
+    let part = c.in_ok-loop_body.ensures c.requires.fits.0 c.requires.fits.1.0 in
+    let v = value_piece c.args.self.now.scopes.now c.loop_body.new.to d (level_set c.args.to.now.out) c.requires.fits.0 types.Truth (expr c.args.c.now) (level_after part) refl refl part.few c.in_ok-value.ensures.code
+    c.in_ok-value.ensures.size c.requires.fits.1.1 in
+    omega (arith, c.place-start.ensures, part.code.grown, v.code.grown, c.in_ok-append_exit.ensures.size)
+
+pub until_loop-returns : goal.until_loop-returns
+until_loop-returns g t c =
+    let a = c.args.to.now in
+    let level = level_set a.out in
+    let x = stmt c.args.b.now in
+    let p = expr c.args.c.now in
+    let b = c.loop_body.new.to in
+    let d : Draft = record b { out = c.value.new.out } in
+    let e : Draft = record b { out = c.append_exit.new.out; exits = c.append_exit.new.exits } in
+    let f : Draft = record e { out = c.append_turn.new.out } in
+    on_ok_two c.append_turn.result
+    (λ h wide sc fit.
+    let part = c.in_ok-loop_body.ensures sc fit.0 in
+    let q = level_after part in
+    let v = value_piece c.args.self.now.scopes.now b d level sc types.Truth p q refl refl part.few c.in_ok-value.ensures.code c.in_ok-value.ensures.size fit.1 in
+    let r = level_same b.out d.out c.in_ok-value.ensures.level ∙ q in
+    let left = branch_piece sc Brtr d e level r refl v.few c.in_ok-append_exit.ensures.code c.in_ok-append_exit.ensures.size in
+    until_arm sc level p x a b d e f part v left
+    (turn_piece sc a e f c.place-start.result level c.place-start.ensures (level_same d.out e.out c.in_ok-append_exit.ensures.level ∙ r) refl refl left.few h wide))
+    c.append_turn.ensures.code c.append_turn.ensures.size
+
+-- ---- FOR
+
+pub for_loop-step-requires-clause-ready : goal.for_loop-step-requires-clause-ready
+for_loop-step-requires-clause-ready g t c =
+    let s = c.args.self.now.scopes.now in
+    let a = c.args.to.now in
+    let level = level_set a.out in
+    let v = c.args.v.now in
+    let first = expr c.args.a.now in
+    let p = expr c.args.s.now in
+    let l = expr c.args.l.now in
+    let b : Draft = record a { out = c.assign.new.out } in
+    let d : Draft = record a { out = c.difference.new.out } in
+    let q = level_same a.out b.out c.in_ok-assign.ensures.level in
+    let begin = matched.assigned s c.requires.fits.0 level v first a b refl refl refl c.requires.ready.few c.in_ok-assign.ensures.code c.in_ok-assign.ensures.size
+    (types.Number, c.requires.fits.1.0, c.requires.fits.1.1) in
+    let test = matched.compared s c.requires.fits.0 level v l b d q refl refl begin.few c.in_ok-difference.ensures.code c.in_ok-difference.ensures.size c.requires.fits.1.0 c.requires.fits.1.3 in
+    ready_after s a (stmt_syllables (tree.for v first p l (stmt c.args.b.now))) (13 + expr_syllables p) c.requires.ready (emits_then begin test) (omega arith)
+
+pub for_loop-loop_body-requires : goal.for_loop-loop_body-requires
+for_loop-loop_body-requires g t c =
+    let s = c.args.self.now.scopes.now in
+    let a = c.args.to.now in
+    let level = level_set a.out in
+    let sc = c.requires.fits.0 in
+    let v = c.args.v.now in
+    let first = expr c.args.a.now in
+    let p = expr c.args.s.now in
+    let l = expr c.args.l.now in
+    let x = stmt c.args.b.now in
+    let b : Draft = record a { out = c.assign.new.out } in
+    let d : Draft = record a { out = c.difference.new.out } in
+    let q = level_same a.out b.out c.in_ok-assign.ensures.level in
+    let begin = matched.assigned s sc level v first a b refl refl refl c.requires.ready.few c.in_ok-assign.ensures.code c.in_ok-assign.ensures.size
+    (types.Number, c.requires.fits.1.0, c.requires.fits.1.1) in
+    let test = matched.compared s sc level v l b d q refl refl begin.few c.in_ok-difference.ensures.code c.in_ok-difference.ensures.size c.requires.fits.1.0 c.requires.fits.1.3 in
+    let past = matched.stepped s sc level p d c.step.new.to (level_after test ∙ q) c.in_ok-step.ensures c.requires.fits.1.2 in
+    let all = emits_then (emits_then begin test) past in
+    let ready = ready_after s a (stmt_syllables (tree.for v first p l x)) (stmt_syllables x) c.requires.ready all (omega arith) in
+    let fit = fit_after s sc x all c.requires.fits.1.4 in
+    search (rules, stmts'.the_lemmas, decls'.the_lemmas, bodies'.the_lemmas, ready, fit)
+
+pub for_loop-advance-requires-clause-set : goal.for_loop-advance-requires-clause-set
+for_loop-advance-requires-clause-set g t c =
+    let s = c.args.self.now.scopes.now in
+    let a = c.args.to.now in
+    let d : Draft = record a { out = c.difference.new.out } in
+    let q = level_same c.assign.new.out d.out c.in_ok-difference.ensures.level ∙ level_same a.out c.assign.new.out c.in_ok-assign.ensures.level in
+    let past = matched.stepped s c.requires.fits.0 (level_set a.out) (expr c.args.s.now) d c.step.new.to q c.in_ok-step.ensures c.requires.fits.1.2 in
+    let part = body_piece s c.requires.fits.0 (stmt c.args.b.now) c.step.new.to c.loop_body.new.to (level_set a.out) (level_after past ∙ q) c.in_ok-loop_body.ensures c.requires.fits.1.4 in
+    matched.set_behind c.args.to.now.out (emits_then past part) (c.in_ok-difference.ensures.level ∙ c.in_ok-assign.ensures.level) c.requires.ready.set
+
+pub for_loop-advance-requires-clause-fits : goal.for_loop-advance-requires-clause-fits
+for_loop-advance-requires-clause-fits g t c =
+    let s = c.args.self.now.scopes.now in
+    let a = c.args.to.now in
+    let level = level_set a.out in
+    let sc = c.requires.fits.0 in
+    let d : Draft = record a { out = c.difference.new.out } in
+    let f = c.loop_body.new.to in
+    let q = level_same c.assign.new.out d.out c.in_ok-difference.ensures.level ∙ level_same a.out c.assign.new.out c.in_ok-assign.ensures.level in
+    let past = matched.stepped s sc level (expr c.args.s.now) d c.step.new.to q c.in_ok-step.ensures c.requires.fits.1.2 in
+    let part = body_piece s sc (stmt c.args.b.now) c.step.new.to f level (level_after past ∙ q) c.in_ok-loop_body.ensures c.requires.fits.1.4 in
+    let there : level_set f.out ≡ level = level_after (emits_then past part) ∙ q in
+    let E : ℕ → Type 0 = λ l. ExprFits sc (couples s) l types.Number (expr c.args.s.now) in
+    (sc, name_at s (level_set f.out) level sc types.Number c.args.v.now there c.requires.fits.1.0, subst E (sym there) c.requires.fits.1.2)
+
+pub for_loop-advance-requires-clause-room : goal.for_loop-advance-requires-clause-room
+for_loop-advance-requires-clause-room g t c =
+    let s = c.args.self.now.scopes.now in
+    let a = c.args.to.now in
+    let d : Draft = record a { out = c.difference.new.out } in
+    let q = level_same c.assign.new.out d.out c.in_ok-difference.ensures.level ∙ level_same a.out c.assign.new.out c.in_ok-assign.ensures.level in
+    let past = matched.stepped s c.requires.fits.0 (level_set a.out) (expr c.args.s.now) d c.step.new.to q c.in_ok-step.ensures c.requires.fits.1.2 in
+    let part = body_piece s c.requires.fits.0 (stmt c.args.b.now) c.step.new.to c.loop_body.new.to (level_set a.out) (level_after past ∙ q) c.in_ok-loop_body.ensures c.requires.fits.1.4 in
+    omega (arith, part.short, past.short, c.in_ok-difference.ensures.size, c.in_ok-assign.ensures.size, c.requires.ready.room)
+
+pub for_loop-append_turn-requires-clause-set : goal.for_loop-append_turn-requires-clause-set
+for_loop-append_turn-requires-clause-set g t c =
+    let s = c.args.self.now.scopes.now in
+    let a = c.args.to.now in
+    let d : Draft = record a { out = c.difference.new.out } in
+    let q = level_same c.assign.new.out d.out c.in_ok-difference.ensures.level ∙ level_same a.out c.assign.new.out c.in_ok-assign.ensures.level in
+    let past = matched.stepped s c.requires.fits.0 (level_set a.out) (expr c.args.s.now) d c.step.new.to q c.in_ok-step.ensures c.requires.fits.1.2 in
+    let part = body_piece s c.requires.fits.0 (stmt c.args.b.now) c.step.new.to c.loop_body.new.to (level_set a.out) (level_after past ∙ q) c.in_ok-loop_body.ensures c.requires.fits.1.4 in
+    let both = emits_then past part in
+    matched.set_ahead c.advance.new.out both c.in_ok-advance.ensures.level
+    (set_same a.out d.out (c.in_ok-difference.ensures.level ∙ c.in_ok-assign.ensures.level) c.requires.ready.set)
+
+pub for_loop-append_turn-requires-clause-back : goal.for_loop-append_turn-requires-clause-back
+for_loop-append_turn-requires-clause-back g t c =
+    let s = c.args.self.now.scopes.now in
+    let a = c.args.to.now in
+    let level = level_set a.out in
+    let sc = c.requires.fits.0 in
+    let b : Draft = record a { out = c.assign.new.out } in
+    let d : Draft = record a { out = c.difference.new.out } in
+    let f = c.loop_body.new.to in
+    let n : Draft = record f { out = c.advance.new.out } in
+    let q = level_same a.out b.out c.in_ok-assign.ensures.level in
+    let r = level_same b.out d.out c.in_ok-difference.ensures.level ∙ q in
+    let begin = matched.assigned s sc level c.args.v.now (expr c.args.a.now) a b refl refl refl c.requires.ready.few c.in_ok-assign.ensures.code c.in_ok-assign.ensures.size
+    (types.Number, c.requires.fits.1.0, c.requires.fits.1.1) in
+    let test = matched.compared s sc level c.args.v.now (expr c.args.l.now) b d q refl refl begin.few c.in_ok-difference.ensures.code c.in_ok-difference.ensures.size c.requires.fits.1.0 c.requires.fits.1.3 in
+    let past = matched.stepped s sc level (expr c.args.s.now) d c.step.new.to r c.in_ok-step.ensures c.requires.fits.1.2 in
+    let part = body_piece s sc (stmt c.args.b.now) c.step.new.to f level (level_after past ∙ r) c.in_ok-loop_body.ensures c.requires.fits.1.4 in
+    let next = matched.advanced s sc level c.args.v.now (expr c.args.s.now) f n (level_after (emits_then past part) ∙ r) refl refl part.few c.in_ok-advance.ensures.code c.in_ok-advance.ensures.size
+    c.requires.fits.1.0 c.requires.fits.1.2 in
+    omega (arith, c.place-start.ensures, test.code.grown, past.code.grown, part.code.grown, next.code.grown)
+
+pub for_loop-append_turn-requires-clause-room : goal.for_loop-append_turn-requires-clause-room
+for_loop-append_turn-requires-clause-room g t c =
+    let s = c.args.self.now.scopes.now in
+    let a = c.args.to.now in
+    let d : Draft = record a { out = c.difference.new.out } in
+    let q = level_same c.assign.new.out d.out c.in_ok-difference.ensures.level ∙ level_same a.out c.assign.new.out c.in_ok-assign.ensures.level in
+    let past = matched.stepped s c.requires.fits.0 (level_set a.out) (expr c.args.s.now) d c.step.new.to q c.in_ok-step.ensures c.requires.fits.1.2 in
+    let part = body_piece s c.requires.fits.0 (stmt c.args.b.now) c.step.new.to c.loop_body.new.to (level_set a.out) (level_after past ∙ q) c.in_ok-loop_body.ensures c.requires.fits.1.4 in
+    omega (arith, part.short, past.short, c.in_ok-advance.ensures.size, c.in_ok-difference.ensures.size, c.in_ok-assign.ensures.size, c.requires.ready.room)
+
+pub for_loop-returns : goal.for_loop-returns
+for_loop-returns g t c =
+    let s = c.args.self.now.scopes.now in
+    let a = c.args.to.now in
+    let level = level_set a.out in
+    let v = c.args.v.now in
+    let first = expr c.args.a.now in
+    let p = expr c.args.s.now in
+    let l = expr c.args.l.now in
+    let x = stmt c.args.b.now in
+    let b : Draft = record a { out = c.assign.new.out } in
+    let d : Draft = record a { out = c.difference.new.out } in
+    let e = c.step.new.to in
+    let f = c.loop_body.new.to in
+    let n : Draft = record f { out = c.advance.new.out } in
+    let o : Draft = record f { out = c.append_turn.new.out } in
+    let q = level_same a.out b.out c.in_ok-assign.ensures.level in
+    let r = level_same b.out d.out c.in_ok-difference.ensures.level ∙ q in
+    on_ok_two c.append_turn.result
+    (λ h wide sc fit.
+    let begin = matched.assigned s sc level v first a b refl refl refl c.requires.ready.few c.in_ok-assign.ensures.code c.in_ok-assign.ensures.size (types.Number, fit.0, fit.1) in
+    let test = matched.compared s sc level v l b d q refl refl begin.few c.in_ok-difference.ensures.code c.in_ok-difference.ensures.size fit.0 fit.3 in
+    let past = matched.stepped s sc level p d e r c.in_ok-step.ensures fit.2 in
+    let part = body_piece s sc x e f level (level_after past ∙ r) c.in_ok-loop_body.ensures fit.4 in
+    let u = level_after (emits_then past part) ∙ r in
+    let next = matched.advanced s sc level v p f n u refl refl part.few c.in_ok-advance.ensures.code c.in_ok-advance.ensures.size fit.0 fit.2 in
+    for_arm sc level v first p l x a b d e f n o begin test past part next
+    (turn_piece sc b n o c.place-start.result level c.place-start.ensures (level_same f.out n.out c.in_ok-advance.ensures.level ∙ u) refl refl next.few h wide))
+    c.append_turn.ensures.code c.append_turn.ensures.size
+
+-- ---- THRU
+
+pub thru_loop-loop_body-requires : goal.thru_loop-loop_body-requires
+thru_loop-loop_body-requires g t c =
+    let s = c.args.self.now.scopes.now in
+    let a = c.args.to.now in
+    let x = stmt c.args.b.now in
+    let p = expr c.args.e.now in
+    let b : Draft = record a { out = c.value.new.out } in
+    let f : Draft = record a { out = c.append_all-2.new.out } in
+    let v = value_piece s a b (level_set a.out) c.requires.fits.0 types.Number p refl refl refl c.requires.ready.few c.in_ok-value.ensures.code c.in_ok-value.ensures.size c.requires.fits.1.0 in
+    let same = c.in_ok-append_all-2.ensures.level ∙ c.in_ok-over.ensures.level ∙ c.in_ok-append_all.ensures.level ∙ c.in_ok-value.ensures.level in
+    let ready = matched.ready_behind s a f (stmt_syllables (tree.thru p x)) (stmt_syllables x) c.requires.ready same refl
+    (omega (arith, v.code.grown, c.in_ok-append_all.ensures.size, c.in_ok-over.ensures.size, c.in_ok-append_all-2.ensures.size))
+    (omega (arith, c.in_ok-value.ensures.size, c.in_ok-append_all.ensures.size, c.in_ok-over.ensures.size, c.in_ok-append_all-2.ensures.size)) in
+    let fit = matched.fit_at s c.requires.fits.0 x f (level_set a.out) (level_same a.out f.out same) c.requires.fits.1.1 in
+    search (rules, stmts'.the_lemmas, decls'.the_lemmas, bodies'.the_lemmas, ready, fit)
+
+pub thru_loop-append_turn-requires-clause-set : goal.thru_loop-append_turn-requires-clause-set
+thru_loop-append_turn-requires-clause-set g t c =
+    let a = c.args.to.now in
+    let f : Draft = record a { out = c.append_all-2.new.out } in
+    let same = c.in_ok-append_all-2.ensures.level ∙ c.in_ok-over.ensures.level ∙ c.in_ok-append_all.ensures.level ∙ c.in_ok-value.ensures.level in
+    let part = body_piece c.args.self.now.scopes.now c.requires.fits.0 (stmt c.args.b.now) f c.loop_body.new.to (level_set a.out) (level_same a.out f.out same) c.in_ok-loop_body.ensures c.requires.fits.1.1 in
+    matched.set_behind c.args.to.now.out part same c.requires.ready.set
+
+pub thru_loop-append_turn-requires-clause-back : goal.thru_loop-append_turn-requires-clause-back
+thru_loop-append_turn-requires-clause-back g t c =
+    let a = c.args.to.now in
+    let f : Draft = record a { out = c.append_all-2.new.out } in
+    let same = c.in_ok-append_all-2.ensures.level ∙ c.in_ok-over.ensures.level ∙ c.in_ok-append_all.ensures.level ∙ c.in_ok-value.ensures.level in
+    let part = body_piece c.args.self.now.scopes.now c.requires.fits.0 (stmt c.args.b.now) f c.loop_body.new.to (level_set a.out) (level_same a.out f.out same) c.in_ok-loop_body.ensures c.requires.fits.1.1 in
+    omega (arith, c.place-start.ensures, c.in_ok-append_all.ensures.size, c.in_ok-over.ensures.size, c.in_ok-append_all-2.ensures.size, part.code.grown)
+
+pub thru_loop-append_turn-requires-clause-room : goal.thru_loop-append_turn-requires-clause-room
+thru_loop-append_turn-requires-clause-room g t c =
+    let a = c.args.to.now in
+    let f : Draft = record a { out = c.append_all-2.new.out } in
+    let same = c.in_ok-append_all-2.ensures.level ∙ c.in_ok-over.ensures.level ∙ c.in_ok-append_all.ensures.level ∙ c.in_ok-value.ensures.level in
+    let part = body_piece c.args.self.now.scopes.now c.requires.fits.0 (stmt c.args.b.now) f c.loop_body.new.to (level_set a.out) (level_same a.out f.out same) c.in_ok-loop_body.ensures c.requires.fits.1.1 in
+    omega (arith, part.short, c.in_ok-value.ensures.size, c.in_ok-append_all.ensures.size, c.in_ok-over.ensures.size, c.in_ok-append_all-2.ensures.size, c.requires.ready.room)
+
+pub thru_loop-aim-requires : goal.thru_loop-aim-requires
+thru_loop-aim-requires g t c =
+    let s = c.args.self.now.scopes.now in
+    let a = c.args.to.now in
+    let level = level_set a.out in
+    let sc = c.requires.fits.0 in
+    let b : Draft = record a { out = c.value.new.out } in
+    let d : Draft = record a { out = c.append_all.new.out } in
+    let e : Draft = record a { out = c.append_branch.new.out } in
+    let f : Draft = record a { out = c.append_all-2.new.out } in
+    let n = c.loop_body.new.to in
+    let o : Draft = record n { out = c.append_turn.new.out } in
+    let q = level_same b.out d.out c.in_ok-append_all.ensures.level ∙ level_same a.out b.out c.in_ok-value.ensures.level in
+    let r = level_same d.out e.out c.in_ok-over.ensures.level ∙ q in
+    let u = level_same e.out f.out c.in_ok-append_all-2.ensures.level ∙ r in
+    let v = value_piece s a b level sc types.Number (expr c.args.e.now) refl refl refl c.requires.ready.few c.in_ok-value.ensures.code c.in_ok-value.ensures.size c.requires.fits.1.0 in
+    let few : length a.formats.items ≤ size e.out.operators = omega (arith, v.few, c.in_ok-append_all.ensures.size, c.in_ok-over.ensures.size) in
+    let less = all_piece 2 (kinds.One ∷ kinds.Subt ∷ []) e f level r refl refl few c.in_ok-append_all-2.ensures.code (omega (arith, c.in_ok-append_all-2.ensures.size)) in
+    let part = body_piece s sc (stmt c.args.b.now) f n level u c.in_ok-loop_body.ensures c.requires.fits.1.1 in
+    let turn = turn_piece sc b n o c.place-start.result level c.place-start.ensures (level_after part ∙ u) refl refl part.few c.in_ok-append_turn.ensures.code c.in_ok-append_turn.ensures.size in
+    hole_there (c.in_ok-over.over ∷ []) d {b = e} (hole_as Brtr d.out e.out level c.in_ok-over.over q c.in_ok-over.ensures.place c.in_ok-over.ensures.code) (emits_then (emits_then less part) turn)
+
+pub thru_loop-append_plain-requires-clause-set : goal.thru_loop-append_plain-requires-clause-set
+thru_loop-append_plain-requires-clause-set g t c =
+    let a = c.args.to.now in
+    let f : Draft = record a { out = c.append_all-2.new.out } in
+    let same = c.in_ok-append_all-2.ensures.level ∙ c.in_ok-over.ensures.level ∙ c.in_ok-append_all.ensures.level ∙ c.in_ok-value.ensures.level in
+    let part = body_piece c.args.self.now.scopes.now c.requires.fits.0 (stmt c.args.b.now) f c.loop_body.new.to (level_set a.out) (level_same a.out f.out same) c.in_ok-loop_body.ensures c.requires.fits.1.1 in
+    matched.set_ahead c.aim.new.out part (c.aim.ensures.level ∙ c.in_ok-append_turn.ensures.level) (set_same a.out f.out same c.requires.ready.set)
+
+pub thru_loop-append_plain-requires-clause-room : goal.thru_loop-append_plain-requires-clause-room
+thru_loop-append_plain-requires-clause-room g t c =
+    let a = c.args.to.now in
+    let f : Draft = record a { out = c.append_all-2.new.out } in
+    let same = c.in_ok-append_all-2.ensures.level ∙ c.in_ok-over.ensures.level ∙ c.in_ok-append_all.ensures.level ∙ c.in_ok-value.ensures.level in
+    let part = body_piece c.args.self.now.scopes.now c.requires.fits.0 (stmt c.args.b.now) f c.loop_body.new.to (level_set a.out) (level_same a.out f.out same) c.in_ok-loop_body.ensures c.requires.fits.1.1 in
+    omega (arith, part.short, c.aim.ensures.place, c.in_ok-append_turn.ensures.size, c.in_ok-value.ensures.size, c.in_ok-append_all.ensures.size, c.in_ok-over.ensures.size, c.in_ok-append_all-2.ensures.size, c.requires.ready.room)
+
+pub thru_loop-returns : goal.thru_loop-returns
+thru_loop-returns g t c =
+    let s = c.args.self.now.scopes.now in
+    let a = c.args.to.now in
+    let level = level_set a.out in
+    let p = expr c.args.e.now in
+    let x = stmt c.args.b.now in
+    let b : Draft = record a { out = c.value.new.out } in
+    let d : Draft = record a { out = c.append_all.new.out } in
+    let e : Draft = record a { out = c.append_branch.new.out } in
+    let f : Draft = record a { out = c.append_all-2.new.out } in
+    let n = c.loop_body.new.to in
+    let o : Draft = record n { out = c.append_turn.new.out } in
+    let j : Draft = record n { out = c.aim.new.out } in
+    let k : Draft = record n { out = c.append_plain.new.out } in
+    let q = level_same a.out b.out c.in_ok-value.ensures.level in
+    let r = level_same b.out d.out c.in_ok-append_all.ensures.level ∙ q in
+    let u = level_same d.out e.out c.in_ok-over.ensures.level ∙ r in
+    let w = level_same e.out f.out c.in_ok-append_all-2.ensures.level ∙ u in
+    on_ok_two c.append_plain.result
+    (λ h wide sc fit.
+    let v = value_piece s a b level sc types.Number p refl refl refl c.requires.ready.few c.in_ok-value.ensures.code c.in_ok-value.ensures.size fit.0 in
+    let test = all_piece 3 (kinds.Dupl ∷ kinds.One ∷ kinds.Less ∷ []) b d level q refl refl v.few c.in_ok-append_all.ensures.code (omega (arith, c.in_ok-append_all.ensures.size)) in
+    let few : length a.formats.items ≤ size e.out.operators = omega (arith, test.few, c.in_ok-over.ensures.size) in
+    let less = all_piece 2 (kinds.One ∷ kinds.Subt ∷ []) e f level u refl refl few c.in_ok-append_all-2.ensures.code (omega (arith, c.in_ok-append_all-2.ensures.size)) in
+    let part = body_piece s sc x f n level w c.in_ok-loop_body.ensures fit.1 in
+    let z = level_after part ∙ w in
+    let turn = turn_piece sc b n o c.place-start.result level c.place-start.ensures z refl refl part.few c.in_ok-append_turn.ensures.code c.in_ok-append_turn.ensures.size in
+    let there : level_set j.out ≡ level = level_same o.out j.out c.aim.ensures.level ∙ level_same n.out o.out c.in_ok-append_turn.ensures.level ∙ z in
+    let lots : length n.formats.items ≤ size j.out.operators = omega (arith, turn.few, c.aim.ensures.place) in
+    let last = piece {n = 1} {d = j} {e = k} refl refl lots (λ formats. plain_at kinds.Dlet level there h) (omega (arith, wide)) in
+    thru_arm sc level p x a b d e f n o j k (c.in_ok-over.over ∷ []) v test
+    (hole_as Brtr d.out e.out level c.in_ok-over.over r c.in_ok-over.ensures.place c.in_ok-over.ensures.code) (omega (arith, c.in_ok-over.ensures.size)) refl refl less part turn c.aim.ensures refl
+    refl last)
+    c.append_plain.ensures.code c.append_plain.ensures.size
+
+-- ---- CASE
+
+pub case-select-requires-clause-few : goal.case-select-requires-clause-few
+case-select-requires-clause-few g t c = omega (arith, tabled.few_statements c.args.ss.now, c.requires.ready.room)
+
+pub case-cases-requires : goal.case-cases-requires
+case-cases-requires g t c =
+    let s = c.args.self.now.scopes.now in
+    let a = c.args.to.now in
+    let ss = stmts c.args.ss.now in
+    let e = expr c.args.e.now in
+    let b : Draft = record a { out = c.select.new.out } in
+    let q = level_same a.out b.out c.in_ok-select.ensures.level in
+    let grown = (c.in_ok-select.ensures.code c.requires.fits.0 [] c.requires.fits.1.0).grown in
+    let ready = matched.ready_behind s a b (stmt_syllables (tree.case e ss)) (stmts_syllables ss) c.requires.ready c.in_ok-select.ensures.level refl grown
+    (omega (arith, c.in_ok-select.ensures.size)) in
+    let F : ℕ → Type 0 = λ l. StmtsFit c.requires.fits.0 (couples s) l ss in
+    let fit : HaveFit s b ss = (c.requires.fits.0, subst F (sym q) c.requires.fits.1.1) in
+    search (rules, stmts'.the_lemmas, decls'.the_lemmas, bodies'.the_lemmas, ready, fit)
+
+pub case-returns : goal.case-returns
+case-returns g t c =
+    let a = c.args.to.now in
+    let level = level_set a.out in
+    let ss = c.args.ss.now in
+    let e = expr c.args.e.now in
+    let b : Draft = record a { out = c.select.new.out } in
+    let d = c.cases.new.to in
+    let q = level_same a.out b.out c.in_ok-select.ensures.level in
+    on_ok_weaker c.cases.result
+    (λ h sc fit.
+    let F : ℕ → Type 0 = λ l. StmtsFit sc (couples c.args.self.now.scopes.now) l (stmts ss) in
+    let first = piece {n = 19 + expr_syllables e} {d = a} {e = b} refl refl c.requires.ready.few (λ formats. c.in_ok-select.ensures.code sc formats fit.0) c.in_ok-select.ensures.size in
+    let rest = at_level level (λ l formats qs target. CasesAt sc formats qs l (stmts ss) (size b.out.operators) target) q (h sc (subst F (sym q) fit.1)) in
+    tabled.case_arm sc level e ss a b d first rest)
+    c.cases.ensures
+
+pub cases-append_entries-requires-clause-room : goal.cases-append_entries-requires-clause-room
+cases-append_entries-requires-clause-room g t c = omega (arith, tabled.few_statements c.args.ss.now, c.requires.ready.room)
+
+pub cases-statements-init : goal.cases-statements-init
+cases-statements-init g t c =
+    let a = c.args.to.now in
+    let b : Draft = record a { out = c.append_entries.new.out } in
+    record {
+      entry = omega (arith, c.place-entry.ensures);
+      code = λ sc fit. tabled.cases_begun sc (level_set a.out) (length c.args.ss.now) c.args.ss.now a b refl c.requires.ready.few refl refl c.in_ok-append_entries.ensures.code;
+    }
+
+pub cases-aim-requires : goal.cases-aim-requires
+cases-aim-requires g t c =
+    let a = c.args.to.now in
+    let u : Draft = record a { out = c.append_entries.new.out } in
+    let m = c.statements.invariant.code c.requires.fits.0 c.requires.fits.1 in
+    tabled.entry_lies c.args.self.now.scopes.now c.requires.fits.0 (level_set a.out) c.args.ss.now c.statements.s-index c.s-item.result c.statements-test.true c.s-item.is a u c.statements.to c.statements.entry
+    c.statements.invariant.entry m
+
+pub cases-stmt-requires : goal.cases-stmt-requires
+cases-stmt-requires g t c =
+    let s = c.args.self.now.scopes.now in
+    let a = c.args.to.now in
+    let level = level_set a.out in
+    let sc = c.requires.fits.0 in
+    let ss = c.args.ss.now in
+    let x = c.s-item.result in
+    let u : Draft = record a { out = c.append_entries.new.out } in
+    let b = c.statements.to in
+    let d : Draft = record b { out = c.aim.new.out } in
+    let m = c.statements.invariant.code sc c.requires.fits.1 in
+    let r = tabled.next_ready s sc level ss c.statements.s-index x c.statements-test.true c.s-item.is a u b c.statements.entry c.statements.invariant.entry m d (stmts_syllables (stmts ss)) c.aim.ensures refl (omega arith)
+    c.requires.ready in
+    let ready = matched.ready_less s d (stmt_syllables (stmt x) + 3) (stmt_syllables (stmt x)) r (omega arith) in
+    let q = level_same b.out d.out c.aim.ensures.level ∙ level_same a.out b.out m.level_is in
+    let fit = matched.fit_at s sc (stmt x) d level q (next_fits s sc level ss c.statements.s-index x c.statements-test.true c.s-item.is c.requires.fits.1) in
+    search (rules, stmts'.the_lemmas, decls'.the_lemmas, bodies'.the_lemmas, ready, fit)
+
+pub cases-append_exit-requires-clause-set : goal.cases-append_exit-requires-clause-set
+cases-append_exit-requires-clause-set g t c =
+    let s = c.args.self.now.scopes.now in
+    let level = level_set c.args.to.now.out in
+    let sc = c.requires.fits.0 in
+    let b = c.statements.to in
+    let d : Draft = record b { out = c.aim.new.out } in
+    let m = c.statements.invariant.code sc c.requires.fits.1 in
+    let q = level_same b.out d.out c.aim.ensures.level ∙ level_same c.args.to.now.out b.out m.level_is in
+    let part = stmt_piece s sc (stmt c.s-item.result) d c.stmt.new.to level q c.in_ok-stmt.ensures (next_fits s sc level c.args.ss.now c.statements.s-index c.s-item.result c.statements-test.true c.s-item.is c.requires.fits.1) in
+    matched.set_behind c.args.to.now.out part (c.aim.ensures.level ∙ m.level_is) c.requires.ready.set
+
+pub cases-append_exit-requires-clause-room : goal.cases-append_exit-requires-clause-room
+cases-append_exit-requires-clause-room g t c =
+    let s = c.args.self.now.scopes.now in
+    let a = c.args.to.now in
+    let level = level_set a.out in
+    let sc = c.requires.fits.0 in
+    let ss = c.args.ss.now in
+    let x = c.s-item.result in
+    let u : Draft = record a { out = c.append_entries.new.out } in
+    let b = c.statements.to in
+    let d : Draft = record b { out = c.aim.new.out } in
+    let m = c.statements.invariant.code sc c.requires.fits.1 in
+    let r = tabled.next_ready s sc level ss c.statements.s-index x c.statements-test.true c.s-item.is a u b c.statements.entry c.statements.invariant.entry m d (stmts_syllables (stmts ss)) c.aim.ensures refl (omega arith)
+    c.requires.ready in
+    let q = level_same b.out d.out c.aim.ensures.level ∙ level_same a.out b.out m.level_is in
+    let part = stmt_piece s sc (stmt x) d c.stmt.new.to level q c.in_ok-stmt.ensures (next_fits s sc level ss c.statements.s-index x c.statements-test.true c.s-item.is c.requires.fits.1) in
+    omega (arith, part.short, r.room)
+
+pub cases-overflow_add-entry : goal.cases-overflow_add-entry
+cases-overflow_add-entry g t c =
+    let a = c.args.to.now in
+    let u : Draft = record a { out = c.append_entries.new.out } in
+    let m = c.statements.invariant.code c.requires.fits.0 c.requires.fits.1 in
+    let below = tabled.entry_below c.args.self.now.scopes.now c.requires.fits.0 (level_set a.out) c.args.ss.now c.statements.s-index c.s-item.result c.statements-test.true c.s-item.is a u c.statements.to c.statements.entry
+    c.statements.invariant.entry m in
+    omega (arith, below, c.in_ok-append_entries.ensures.size, tabled.few_statements c.args.ss.now, c.requires.ready.room)
+
+pub cases-statements-preserved : goal.cases-statements-preserved
+cases-statements-preserved g t c =
+    let s = c.args.self.now.scopes.now in
+    let a = c.args.to.now in
+    let level = level_set a.out in
+    let u : Draft = record a { out = c.append_entries.new.out } in
+    let d : Draft = record c.statements.to { out = c.aim.new.out } in
+    let f : Draft = record c.stmt.new.to { out = c.append_exit.new.out; exits = c.append_exit.new.exits } in
+    record {
+      entry = omega (arith, c.statements.invariant.entry);
+      code = λ sc fit.
+          tabled.cases_more s sc level c.args.ss.now c.statements.s-index c.s-item.result c.statements-test.true c.s-item.is a u c.statements.to c.statements.entry c.statements.invariant.entry (c.statements.invariant.code sc fit) d c.stmt.new.to f refl
+          c.aim.ensures refl refl (next_fits s sc level c.args.ss.now c.statements.s-index c.s-item.result c.statements-test.true c.s-item.is fit) c.in_ok-stmt.ensures refl c.in_ok-append_exit.ensures.code c.in_ok-append_exit.ensures.size;
+    }
+
+pub cases-returns : goal.cases-returns
+cases-returns g t c =
+    let a = c.args.to.now in
+    let u : Draft = record a { out = c.append_entries.new.out } in
+    λ sc fit. tabled.cases_ended sc (level_set a.out) c.args.ss.now c.statements.s-index a u c.statements.to (take_all c.statements.s-index c.args.ss.now c.statements-test.false) c.statements-test.false (c.statements.invariant.code sc fit)
+
+-- ---- statements one after another
+
+pub stmts-statements-init : goal.stmts-statements-init
+stmts-statements-init g t c = λ sc fit. together_none sc (level_set c.args.to.now.out) c.args.ss.now c.args.to.now c.requires.ready.few
+
+pub stmts-aim_exits-requires-clause-list : goal.stmts-aim_exits-requires-clause-list
+stmts-aim_exits-requires-clause-list g t c =
+    let a = c.args.to.now in
+    let is : c.len-first.result ≡ length a.exits.items = omega (arith, c.len-first.ensures, a.exits.ok.0) in
+    (exits_lie a c.statements.to c.len-first.result is (c.statements.invariant c.requires.fits.0 c.requires.fits.1)).0
+
+pub stmts-aim_exits-requires-clause-branches : goal.stmts-aim_exits-requires-clause-branches
+stmts-aim_exits-requires-clause-branches g t c =
+    let a = c.args.to.now in
+    let is : c.len-first.result ≡ length a.exits.items = omega (arith, c.len-first.ensures, a.exits.ok.0) in
+    (exits_lie a c.statements.to c.len-first.result is (c.statements.invariant c.requires.fits.0 c.requires.fits.1)).1
+
+pub stmts-stmt-requires : goal.stmts-stmt-requires
+stmts-stmt-requires g t c =
+    let s = c.args.self.now.scopes.now in
+    let a = c.args.to.now in
+    let level = level_set a.out in
+    let sc = c.requires.fits.0 in
+    let ss = c.args.ss.now in
+    let i = c.statements.s-index in
+    let x = c.s-item.result in
+    let b = c.statements.to in
+    let d : Draft = record b { out = c.aim_exits.new.out; exits = c.aim_exits.new.exits } in
+    let is : c.len-first.result ≡ length a.exits.items = omega (arith, c.len-first.ensures, a.exits.ok.0) in
+    let h = c.statements.invariant sc c.requires.fits.1 in
+    let ready = next_ready s sc level ss i x c.statements-test.true c.s-item.is a b d c.len-first.result is h c.aim_exits.ensures.aimed c.aim_exits.ensures.list refl (stmts_syllables (stmts ss))
+    (omega arith) c.requires.ready in
+    let q = done_level s sc level ss i x c.statements-test.true c.s-item.is a b d c.len-first.result is h c.aim_exits.ensures.aimed c.aim_exits.ensures.list refl in
+    let fit = matched.fit_at s sc (stmt x) d level q (next_fits s sc level ss i x c.statements-test.true c.s-item.is c.requires.fits.1) in
+    search (rules, stmts'.the_lemmas, decls'.the_lemmas, bodies'.the_lemmas, ready, fit)
+
+pub stmts-statements-preserved : goal.stmts-statements-preserved
+stmts-statements-preserved g t c =
+    let s = c.args.self.now.scopes.now in
+    let a = c.args.to.now in
+    let level = level_set a.out in
+    let d : Draft = record c.statements.to { out = c.aim_exits.new.out; exits = c.aim_exits.new.exits } in
+    let is : c.len-first.result ≡ length a.exits.items = omega (arith, c.len-first.ensures, a.exits.ok.0) in
+    λ sc fit.
+    together_more s sc level c.args.ss.now c.statements.s-index c.s-item.result c.statements-test.true c.s-item.is a c.statements.to d c.len-first.result is (c.statements.invariant sc fit) c.aim_exits.ensures.aimed c.aim_exits.ensures.list refl
+    c.stmt.new.to refl (next_fits s sc level c.args.ss.now c.statements.s-index c.s-item.result c.statements-test.true c.s-item.is fit) c.in_ok-stmt.ensures
+
+pub stmts-returns : goal.stmts-returns
+stmts-returns g t c =
+    let a = c.args.to.now in
+    let b = c.statements.to in
+    λ sc fit.
+    let E : List Stmt → Type 0 = λ l. Emits (stmts_syllables (stmts l)) a b (StandTogether sc (level_set a.out) l a b) in
+    subst E (take_all c.statements.s-index c.args.ss.now c.statements-test.false) (c.statements.invariant sc fit)
+
+-- ---- a statement
+
+pub stmt-returns-in-Empty : goal.stmt-returns-in-Empty
+stmt-returns-in-Empty g t c =
+    let s = c.args.self.now.scopes.now in
+    let a = c.args.to.now in
+    matched.emits_as s a a (stmt c.args.s.now) tree.empty (shaped.empty_as c.args.s.now c.in-Empty.is) (matched.empty_emitted s a c.requires.ready.few)
+
+pub stmt-returns-in-Assign : goal.stmt-returns-in-Assign
+stmt-returns-in-Assign g t c =
+    let a = c.args.to.now in
+    let v = c.in-Assign.v in
+    let e = expr c.in-Assign.e in
+    let b : Draft = record a { out = c.assign.new.out } in
+    on_ok_two c.assign.result
+    (λ h short. matched.assign_emitted c.args.self.now.scopes.now a b (stmt c.args.s.now) v.name (exprs v.subs) e (shaped.assign_as c.args.s.now v c.in-Assign.e c.in-Assign.is) refl refl c.requires.ready.few h short)
+    c.assign.ensures.code c.assign.ensures.size
+
+pub stmt-returns-in-Block : goal.stmt-returns-in-Block
+stmt-returns-in-Block g t c =
+    let b = c.in-Block.b in
+    let ss = c.deref.result.now in
+    on_ok_weaker c.stmts.result
+    (λ h. matched.block_emitted c.args.self.now.scopes.now c.args.to.now c.stmts.new.to (stmt c.args.s.now) b.spot (decls b.decls) (stmts ss)
+    (shaped.block_as c.args.s.now b ss c.in-Block.is (c.deref.ensures.value ∙ c.items.ensures)) h)
+    c.stmts.ensures
+
+pub stmt-returns-in_ok-then_part-in-Some : goal.stmt-returns-in_ok-then_part-in-Some
+stmt-returns-in_ok-then_part-in-Some g t c =
+    let x = c.deref-in-Some.result.now in
+    let y = c.deref-in-Some-2.result.now in
+    let e = expr c.in-If.c in
+    on_ok_weaker c.stmt.result
+    (λ h. matched.else_emitted c.args.self.now.scopes.now c.args.to.now c.then_part.new.to c.stmt.new.to (stmt c.args.s.now) e (stmt x) (stmt y)
+    (shaped.if_else_as c.args.s.now x y c.in-If.c c.in-If.x c.in-If.other c.in-Some.y c.in-If.is c.in-Some.is c.deref-in-Some.ensures c.deref-in-Some-2.ensures)
+    c.in_ok-then_part-in-Some.ensures h)
+    c.stmt.ensures
+
+pub stmt-stmt-requires : goal.stmt-stmt-requires
+stmt-stmt-requires g t c =
+    let s = c.args.self.now.scopes.now in
+    let a = c.args.to.now in
+    let x = c.deref-in-Some.result.now in
+    let y = c.deref-in-Some-2.result.now in
+    let e = expr c.in-If.c in
+    let shape = shaped.if_else_as c.args.s.now x y c.in-If.c c.in-If.x c.in-If.other c.in-Some.y c.in-If.is c.in-Some.is c.deref-in-Some.ensures c.deref-in-Some-2.ensures in
+    let p = tree.if_else e (stmt x) (stmt y) in
+    let whole = matched.ready_as s a (stmt c.args.s.now) p shape c.requires.ready in
+    let fits = matched.fit_as s a (stmt c.args.s.now) p shape c.requires.fits in
+    let first = c.in_ok-then_part-in-Some.ensures fits.0 fits.1.0 fits.1.1 in
+    let ready = ready_after s a (stmt_syllables p) (stmt_syllables (stmt y)) whole first (omega arith) in
+    let fit = fit_after s fits.0 (stmt y) first fits.1.2 in
+    search (rules, stmts'.the_lemmas, decls'.the_lemmas, bodies'.the_lemmas, ready, fit)
+
+pub stmt-returns-in-Write : goal.stmt-returns-in-Write
+stmt-returns-in-Write g t c =
+    let w = c.in-Write in
+    let ps = c.deref-in-Write.result.now in
+    let es = c.deref-in-Write-2.result.now in
+    on_ok_weaker c.write.result
+    (λ h. matched.write_emitted c.args.self.now.scopes.now c.args.to.now c.write.new.to (stmt c.args.s.now) w.field-0 w.field-1 ps (exprs es)
+    (shaped.write_as c.args.s.now w.field-0 w.field-1 w.phrases ps w.items es w.is (c.deref-in-Write.ensures.value ∙ c.items-in-Write.ensures) (c.deref-in-Write-2.ensures.value ∙ c.items-in-Write-2.ensures))
+    h)
+    c.write.ensures

@@ -1,0 +1,55 @@
+use Rattle.std.proofs.Common.{◌≡◌, ◌+◌, ◌∙◌, ℤ, pos, length, refl, subst, arith}
+use Rattle.std.proofs.lemmas.Int.{ints}
+use Rattle.algol_tree.specs.declared.tree.Kind.TheVariants as types
+use Rattle.algol_tree.specs.Image.{expr}
+use Rattle.b67_ops.specs.declared.Operator.TheVariants as ops
+use Rattle.b67_ops.specs.declared.PlainKind.TheVariants as kinds
+use Rattle.b67_ops.specs.Spelling.{spelling}
+use Rattle.b67_segment.specs.Operators.{size}
+use Rattle.b67_segment.specs.Building.{level_set}
+use Rattle.b67_templates.specs.Fragments.{Has, NumberAt}
+use Rattle.b67_templates.specs.Emitting.{Emitted}
+use Rattle.b67_emit_stmt.proofs.Drafts.{level_same}
+use Rattle.b67_emit_stmt.proofs.Parts.{code_at, leveled, on_ok_two, plain_at, set_same, value_at}
+use Rattle.b67_emit_stmt.proofs.Tables.{select_part}
+use Rattle.b67_emit_stmt.proofs.draft.StmtEmitter.select.Goals as goal
+
+pub value-requires-clause-set : goal.value-requires-clause-set
+value-requires-clause-set g c = set_same c.args.out.now c.append_intrinsic.new.out c.in_ok-append_intrinsic.ensures.code.level c.requires.set
+
+pub value-requires-clause-code : goal.value-requires-clause-code
+value-requires-clause-code g c =
+    let a = c.args.out.now in
+    let b = c.append_intrinsic.new.out in
+    code_at c.args.self.now.scopes.now (level_set b) (level_set a) c.requires.fits.0 types.Number (expr c.args.e.now) (level_same a b c.in_ok-append_intrinsic.ensures.code.level)
+    c.requires.fits.1
+
+pub returns-clause-code : goal.returns-clause-code
+returns-clause-code g c =
+    let s = c.args.self.now.scopes.now in
+    let a = c.args.out.now in
+    let b = c.append_intrinsic.new.out in
+    let d = c.value.new.out in
+    let x = c.append_number.new.out in
+    let y = c.append_operator.new.out in
+    let z = c.append_plain.new.out in
+    let e = expr c.args.e.now in
+    let many = c.args.many in
+    let place = c.place-table.result + 4 in
+    let level = level_set a in
+    let q = level_same a b c.in_ok-append_intrinsic.ensures.code.level in
+    let r = level_same b d c.in_ok-value.ensures.level ∙ q in
+    let t = level_same d x c.in_ok-append_number.ensures.level ∙ r in
+    let u = level_same x y c.in_ok-append_operator.ensures.level ∙ t in
+    let number : c.fitting.result ≡ pos many = omega (arith, ints, c.fitting.ensures, c.requires.few) in
+    let three : length (spelling (size x.operators) (level_set x) (ops.Lt16 place)) ≡ 3 = refl in
+    let N : ℤ → Type 0 = λ v. Emitted d x (λ qs. NumberAt qs level v (size d.operators) (size x.operators)) in
+    on_ok_two c.append_plain.result
+    (λ h wide sc formats fit.
+    select_part sc formats level many e a b d x y z place (omega (arith, c.place-table.ensures, three, c.in_ok-append_operator.ensures.size, wide))
+    (omega (arith, c.place-table.ensures, c.in_ok-append_number.ensures.size, c.in_ok-value.ensures.size, c.in_ok-append_intrinsic.ensures.size, c.requires.room))
+    c.in_ok-append_intrinsic.ensures.code (value_at s b d level sc formats types.Number e q c.in_ok-value.ensures.code fit)
+    (subst N number (leveled (λ l qs. NumberAt qs l c.fitting.result (size d.operators) (size x.operators)) level r c.in_ok-append_number.ensures.code))
+    (leveled (λ l qs. Has qs l (size x.operators) (ops.Lt16 place) (size y.operators)) level t c.in_ok-append_operator.ensures.code)
+    (plain_at kinds.Entr level u h))
+    c.append_plain.ensures.code c.append_plain.ensures.size

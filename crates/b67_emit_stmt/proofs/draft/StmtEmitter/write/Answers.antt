@@ -1,0 +1,43 @@
+use Rattle.std.proofs.Common.{◌≡◌, ◌∙◌, ℕ, ℤ, pos, length, refl, sym, subst, arith}
+use Rattle.std.proofs.lemmas.Int.{ints}
+use Rattle.algol_tree.specs.Image.{exprs}
+use Rattle.b67_ops.specs.declared.PlainKind.TheVariants as kinds
+use Rattle.b67_segment.specs.Operators.{size}
+use Rattle.b67_segment.specs.Building.{level_set}
+use Rattle.b67_templates.specs.Code.{LineAt}
+use Rattle.b67_templates.specs.Fitting.{LineFits}
+use Rattle.b67_templates.specs.Fragments.{NumberAt}
+use Rattle.b67_templates.specs.Emitting.{Emitted}
+use Rattle.b67_emitter.specs.Values.{couples}
+use Rattle.b67_emit_stmt.specs.declared.draft.Draft.{Draft}
+use Rattle.b67_emit_stmt.specs.Emits.{write_syllables}
+use Rattle.b67_emit_stmt.proofs.Drafts.{level_same}
+use Rattle.b67_emit_stmt.proofs.Parts.{leveled, plain_at}
+use Rattle.b67_emit_stmt.proofs.Writing.{write_part}
+use Rattle.b67_emit_stmt.proofs.draft.StmtEmitter.write.Goals as goal
+
+pub returns : goal.returns
+returns g c =
+    let s = c.args.self.now.scopes.now in
+    let es = exprs c.args.items.now in
+    let a = c.args.to.now in
+    let b : Draft = record a { out = c.append_intrinsic.new.out } in
+    let d : Draft = record a { out = c.append_number.new.out } in
+    let e : Draft = record a { out = c.items.new.out } in
+    let f : Draft = record a { out = c.append_plain.new.out; formats = c.push.new.self } in
+    let level = level_set a.out in
+    let q = level_same a.out b.out c.in_ok-append_intrinsic.ensures.code.level in
+    let r = level_same b.out d.out c.in_ok-append_number.ensures.level ∙ q in
+    let t = level_same d.out e.out c.in_ok-items.ensures.level ∙ r in
+    let number : c.fitting.result ≡ pos (length a.formats.items) =
+    omega (arith, ints, c.fitting.ensures, c.len-number.ensures, c.requires.ready.few, c.requires.ready.room) in
+    λ sc fit.
+    let N : ℤ → Type 0 = λ z. Emitted b.out d.out (λ qs. NumberAt qs level z (size b.out.operators) (size d.out.operators)) in
+    let F : ℕ → Type 0 = λ l. LineFits sc (couples s) l es in
+    write_part sc level c.args.phrases.now es a b d e f c.in_ok-format.format (write_syllables es) refl c.in_ok-push.ensures.items c.requires.ready.few
+    (omega (arith, c.in_ok-append_intrinsic.ensures.size, (c.in_ok-append_number.ensures.code).grown, (c.in_ok-items.ensures.code sc a.formats.items (subst F (sym r) fit.2)).grown, c.in_ok-append_plain.ensures.size))
+    (omega (arith, c.in_ok-append_intrinsic.ensures.size, c.in_ok-append_number.ensures.size, c.in_ok-items.ensures.size, c.in_ok-append_plain.ensures.size))
+    c.in_ok-format.ensures (fit.1 c.in_ok-format.format.phrases c.in_ok-format.ensures) c.in_ok-append_intrinsic.ensures.code
+    (subst N number (leveled (λ l qs. NumberAt qs l c.fitting.result (size b.out.operators) (size d.out.operators)) level q c.in_ok-append_number.ensures.code))
+    (λ formats. leveled (λ l qs. LineAt sc formats qs l es (size d.out.operators) (size e.out.operators)) level r (c.in_ok-items.ensures.code sc formats (subst F (sym r) fit.2)))
+    (plain_at kinds.Entr level t c.in_ok-append_plain.ensures.code)

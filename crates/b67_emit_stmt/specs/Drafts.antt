@@ -1,0 +1,34 @@
+-- What a call that adds code to a draft promises of it.
+use Rattle.std.specs.Prelude.{◌≡◌, ℕ, ◌+◌, ◌*◌, ◌≤◌, List, ◌++◌, length, IsSome}
+use Rattle.algol_scope.specs.declared.scopes.Scopes.{Scopes}
+use Rattle.b67_segment.specs.declared.TheConstants.{MOST_SEGMENT_WORDS}
+use Rattle.b67_segment.specs.declared.code.Format.{Format}
+use Rattle.b67_segment.specs.Operators.{Placed, size}
+use Rattle.b67_templates.specs.Emitting.{EmittedWithExits}
+use Rattle.b67_emitter.specs.Values.{AreNear}
+use Rattle.b67_emit_stmt.specs.declared.draft.Draft.{Draft}
+
+-- the formats are the first of these
+abbrev pub IsFront : List Format → List Format → Type 0
+IsFront xs ys = (more : List Format) × (ys ≡ xs ++ more)
+
+-- the line of each format has more code than a syllable
+abbrev pub HasFew : Draft → Type 0
+HasFew d = length d.formats.items ≤ size d.out.operators
+
+-- A level is set, what is known of names can be spelled, and there is room for so many syllables.
+pub record IsReady (scopes : Scopes) (d : Draft) (syllables : ℕ) : Type 0 where
+  pub set : IsSome d.out.level
+  pub near : AreNear scopes
+  pub few : HasFew d
+  pub room : size d.out.operators + syllables ≤ 6 * MOST_SEGMENT_WORDS
+
+-- At most so many syllables were added. The claim holds wherever they are kept, the exits go to that target behind them, and the formats
+-- are the first of these.
+pub record Emits (most : ℕ) (before after : Draft) (claim : List Format → List Placed → ℕ → Type 0) : Type 0 where
+  pub code :
+      EmittedWithExits before.out after.out before.exits.items after.exits.items
+      (λ qs target. (formats : List Format) → IsFront after.formats.items formats → claim formats qs target)
+  pub short : size after.out.operators ≤ size before.out.operators + most
+  pub formats : IsFront before.formats.items after.formats.items
+  pub few : HasFew after

@@ -1,0 +1,102 @@
+//! CASE: the number selects a branch of a table, and the branch goes to its statement.
+
+ghost use Rattle.std.specs.Prelude.{◌≡◌, ◌+◌, ◌*◌, ◌≤◌, OnOk};
+ghost use Rattle.algol_tree.specs.Image.{expr, stmt, stmts};
+ghost use Rattle.algol_tree.specs.Plain as tree;
+ghost use Rattle.b67_templates.specs.Depths.{stmt_syllables, expr_syllables};
+ghost use Rattle.b67_emit_stmt.specs.Drafts.{IsReady};
+ghost use Rattle.b67_emit_stmt.specs.Emits.{HasFit, HaveFit, EmitsStmt, EmitsCases, stmts_syllables};
+ghost use Rattle.std.specs.Prelude.{ℕ, List, length, pos};
+ghost use Rattle.std.specs.Prelude.{IsSome};
+ghost use Rattle.algol_tree.specs.declared.tree.Kind.TheVariants as types;
+ghost use Rattle.algol_tree.specs.Scopes as names;
+ghost use Rattle.b67_ops.specs.declared.intrinsic.Intrinsic.TheVariants as intrinsics;
+ghost use Rattle.b67_segment.specs.declared.TheConstants.{MOST_SEGMENT_WORDS};
+ghost use Rattle.b67_segment.specs.declared.code.Format.{Format};
+ghost use Rattle.b67_segment.specs.Operators.{size};
+ghost use Rattle.b67_segment.specs.Building.{level_set};
+ghost use Rattle.b67_templates.specs.Fragments.{IntrinsicAt};
+ghost use Rattle.b67_templates.specs.Code.{ExprAt, TableAt};
+ghost use Rattle.b67_templates.specs.Fitting.{ExprFits};
+ghost use Rattle.b67_templates.specs.Emitting.{Emitted};
+ghost use Rattle.b67_emitter.specs.Values.{couples, AreNear};
+ghost use Rattle.b67_emit_stmt.specs.Cases.{EntriesAt, SelectAt};
+
+use crate::draft::{Draft, StmtEmitter};
+use crate::simple::append_intrinsic;
+use algol_tree::{Expr, Stmt, Whole};
+use b67_emitter::{ExprEmitter, aim, append_exit, append_number, append_operator, append_plain};
+use b67_ops::{BranchKind, Intrinsic, Operator, PlainKind};
+use b67_segment::Builder;
+use std::alloc::AllocError;
+
+/// The syllables of a branch, and so of an entry of the table.
+const ENTRY: u16 = 3;
+
+/// The syllables of the table's place as a literal and of ENTR behind it.
+const TO_TABLE: u16 = 4;
+
+/// A branch for each of so many statements, to be aimed when the statement begins.
+fn append_entries(many: usize, out: &mut Builder) -> Result<(), AllocError>
+    requires set { IsSome out.old.level }
+    requires room { size out.old.operators + 3 * many ≤ 6 * MOST_SEGMENT_WORDS }
+    ensures code { OnOk result (Emitted out.old out.new (λ qs. EntriesAt qs (level_set out.old) many (size out.old.operators) (size out.new.operators))) }
+    ensures level { OnOk result (out.new.level ≡ out.old.level) }
+    ensures size { OnOk result (size out.new.operators ≡ size out.old.operators + 3 * many) }
+{
+    'entries: for _ in 0..many {
+        append_operator(out, &Operator::Branch(BranchKind::Brun, 0))?;
+    }
+    Ok(())
+}
+
+impl<'a, E: ExprEmitter> StmtEmitter<'a, E> {
+    /// The mark, the reference of SELECT, the number, how many statements there are, the place of their table, and ENTR, behind
+    /// which the table begins.
+    fn select(&self, e: &Expr, many: usize, out: &mut Builder) -> Result<(), AllocError>
+        requires set { IsSome out.old.level }
+        requires near { AreNear self.now.scopes.now }
+        requires few { many ≤ 6 * MOST_SEGMENT_WORDS }
+        requires fits { (sc : names.Scopes) × ExprFits sc (couples self.now.scopes.now) (level_set out.old) types.Number (expr e.now) }
+        requires room { size out.old.operators + (19 + expr_syllables (expr e.now)) ≤ 6 * MOST_SEGMENT_WORDS }
+        ensures code { OnOk result ((sc : names.Scopes) (formats : List Format) → ExprFits sc (couples self.now.scopes.now) (level_set out.old) types.Number (expr e.now) → Emitted out.old out.new (λ qs. SelectAt sc formats qs (level_set out.old) (expr e.now) many (size out.old.operators) (size out.new.operators))) }
+        ensures level { OnOk result (out.new.level ≡ out.old.level) }
+        ensures size { OnOk result (size out.new.operators ≤ size out.old.operators + (19 + expr_syllables (expr e.now))) }
+    {
+        append_intrinsic(out, Intrinsic::Select)?;
+        self.exprs.value(e, self.scopes, out)?;
+        append_number(out, Whole::fitting(many as i64))?;
+        let table = out.place() + TO_TABLE;
+        append_operator(out, &Operator::Lt16(table))?;
+        append_plain(out, PlainKind::Entr)
+    }
+
+    /// The table of branches, and behind it the statements to which they go.
+    #[cycle(statements)]
+    fn cases(&self, ss: &[Stmt], to: &mut Draft) -> Result<(), AllocError>
+        requires ready { IsReady self.now.scopes.now to.old (stmts_syllables (stmts ss.now)) }
+        requires fits { HaveFit self.now.scopes.now to.old (stmts ss.now) }
+        ensures { OnOk result (EmitsCases self.now.scopes.now to.old to.new (stmts ss.now)) }
+    {
+        let mut entry = to.out.place();
+        append_entries(ss.len(), &mut to.out)?;
+        'statements: for s in ss {
+            aim(&mut to.out, &[entry]);
+            self.stmt(s, to)?;
+            append_exit(&mut to.out, BranchKind::Brun, &mut to.exits)?;
+            entry += ENTRY;
+        }
+        Ok(())
+    }
+
+    /// CASE.
+    #[cycle(statements)]
+    pub fn case(&self, ss: &[Stmt], e: &Expr, to: &mut Draft) -> Result<(), AllocError>
+        requires ready { IsReady self.now.scopes.now to.old (stmt_syllables (tree.case (expr e.now) (stmts ss.now))) }
+        requires fits { HasFit self.now.scopes.now to.old (tree.case (expr e.now) (stmts ss.now)) }
+        ensures { OnOk result (EmitsStmt self.now.scopes.now to.old to.new (tree.case (expr e.now) (stmts ss.now))) }
+    {
+        self.select(e, ss.len(), &mut to.out)?;
+        self.cases(ss, to)
+    }
+}

@@ -1,0 +1,116 @@
+//! Lines: their formats, and the statement that writes one.
+
+ghost use Rattle.std.specs.Prelude.{◌≡◌, ◌+◌, ◌*◌, ◌≤◌, List, IsSome, IfOk, OnOk};
+ghost use Rattle.algol_tree.specs.declared.TheConstants.{MOST_LINE_WIDTH};
+ghost use Rattle.algol_tree.specs.Image.{exprs};
+ghost use Rattle.algol_tree.specs.Counts.{exprs_tokens};
+ghost use Rattle.algol_tree.specs.Scopes as names;
+ghost use Rattle.algol_tree.specs.Spelling.{value_of};
+ghost use Rattle.b67_segment.specs.declared.TheConstants.{MOST_SEGMENT_WORDS};
+ghost use Rattle.b67_segment.specs.declared.code.Format.{Format};
+ghost use Rattle.b67_segment.specs.Operators.{size};
+ghost use Rattle.b67_segment.specs.Building.{level_set};
+ghost use Rattle.b67_templates.specs.Code.{AreParts, IsPart, LineAt, WriteAt, word_part};
+ghost use Rattle.b67_templates.specs.Fitting.{IsNarrow, IsNarrowWord, AreNarrow, LineFits, WriteFits};
+ghost use Rattle.b67_templates.specs.Emitting.{Emitted};
+ghost use Rattle.b67_emitter.specs.Values.{couples, AreNear};
+ghost use Rattle.b67_emit_stmt.specs.Drafts.{Emits, IsReady};
+ghost use Rattle.b67_emit_stmt.specs.Emits.{write_syllables};
+
+use crate::draft::{Draft, StmtEmitter};
+use crate::simple::append_intrinsic;
+use algol_tree::{Expr, PhraseText, Whole};
+use b67_emitter::{ExprEmitter, append_number, append_plain};
+use b67_list::{Line, List};
+use b67_ops::{Intrinsic, PlainKind};
+use b67_segment::{Builder, Format, Phrase};
+use std::alloc::{AllocError, Global};
+
+/// The number of decimal digits.
+fn width_of(digits: &[u8]) -> u32
+    requires { value_of digits.now ≤ MOST_LINE_WIDTH }
+    ensures { result ≡ value_of digits.now }
+{
+    let mut width: u32 = 0;
+    'digits: for digit in digits {
+        width = width * 10 + u32::from(digit.saturating_sub(b'0'));
+    }
+    width
+}
+
+/// `Iw` is a number in w columns, `Xw` are w blanks.
+fn word_phrase(word: &[u8]) -> Phrase
+    requires { IsNarrowWord word.now }
+    ensures { result ≡ word_part word.now }
+{
+    match word.split_first() {
+        None => Phrase::Blanks(0),
+        Some((letter, digits)) => match *letter {
+            b'I' => Phrase::Number(width_of(digits)),
+            _ => Phrase::Blanks(width_of(digits)),
+        },
+    }
+}
+
+fn phrase_of(alloc: Global, text: &PhraseText) -> Result<Phrase, AllocError>
+    requires { IsNarrow text.now }
+    ensures { IfOk result (IsPart text.now) }
+{
+    match text {
+        PhraseText::Text(line) => Ok(Phrase::Text(Line::of(Vec::from_slice(alloc, line.bytes())?))),
+        PhraseText::Word(word) => Ok(word_phrase(word.bytes())),
+    }
+}
+
+/// The format of a line of these phrases.
+fn format_of(alloc: Global, texts: &[PhraseText]) -> Result<Format, AllocError>
+    requires { AreNarrow texts.now }
+    ensures { IfOk result (λ format. AreParts texts.now format.phrases) }
+{
+    let mut phrases = Vec::with_capacity(alloc, texts.len())?;
+    'texts: for text in texts {
+        phrases.push(phrase_of(alloc, text)?)?;
+    }
+    Ok(Format {
+        phrases: List::of(phrases),
+    })
+}
+
+impl<'a, E: ExprEmitter> StmtEmitter<'a, E> {
+    /// The values of items.
+    fn items(&self, items: &[Expr], out: &mut Builder) -> Result<(), AllocError>
+        requires set { IsSome out.old.level }
+        requires near { AreNear self.now.scopes.now }
+        requires fits { (sc : names.Scopes) × LineFits sc (couples self.now.scopes.now) (level_set out.old) (exprs items.now) }
+        requires room { size out.old.operators + 12 * exprs_tokens (exprs items.now) ≤ 6 * MOST_SEGMENT_WORDS }
+        ensures code { OnOk result ((sc : names.Scopes) (formats : List Format) → LineFits sc (couples self.now.scopes.now) (level_set out.old) (exprs items.now) → Emitted out.old out.new (λ qs. LineAt sc formats qs (level_set out.old) (exprs items.now) (size out.old.operators) (size out.new.operators))) }
+        ensures level { OnOk result (out.new.level ≡ out.old.level) }
+        ensures size { OnOk result (size out.new.operators ≤ size out.old.operators + 12 * exprs_tokens (exprs items.now)) }
+    {
+        'items: for item in items {
+            self.exprs.value(item, self.scopes, out)?;
+        }
+        Ok(())
+    }
+
+    /// WRITE: a mark, the reference of the intrinsic, the format's number, the items, the entry.
+    pub fn write(
+        &self,
+        phrases: &[PhraseText],
+        items: &[Expr],
+        to: &mut Draft,
+    ) -> Result<(), AllocError>
+        requires ready { IsReady self.now.scopes.now to.old (write_syllables (exprs items.now)) }
+        requires fits { (sc : names.Scopes) × WriteFits sc (couples self.now.scopes.now) (level_set to.old.out) phrases.now (exprs items.now) }
+        ensures { OnOk result ((sc : names.Scopes) → WriteFits sc (couples self.now.scopes.now) (level_set to.old.out) phrases.now (exprs items.now) → Emits (write_syllables (exprs items.now)) to.old to.new (λ formats qs target. WriteAt sc formats qs (level_set to.old.out) phrases.now (exprs items.now) (size to.old.out.operators) (size to.new.out.operators))) }
+    {
+        let number = to.formats.len();
+        let format = format_of(*to.formats.allocator(), phrases)?;
+        append_intrinsic(&mut to.out, Intrinsic::Write)?;
+        append_number(&mut to.out, Whole::fitting(number as i64))?;
+        self.items(items, &mut to.out)?;
+        append_plain(&mut to.out, PlainKind::Entr)?;
+        to.formats.push(format)?;
+        Ok(())
+    }
+}

@@ -1,0 +1,91 @@
+//! Statements.
+
+ghost use Rattle.std.specs.Prelude.{◌≡◌, ◌+◌, ◌*◌, ◌≤◌, OnOk};
+ghost use Rattle.algol_tree.specs.Image.{expr, stmt, stmts};
+ghost use Rattle.algol_tree.specs.Plain as tree;
+ghost use Rattle.b67_templates.specs.Depths.{stmt_syllables, expr_syllables};
+ghost use Rattle.b67_emit_stmt.specs.Drafts.{IsReady};
+ghost use Rattle.b67_emit_stmt.specs.Emits.{HasFit, HaveFit, EmitsStmt, EmitsStmts, EmitsBody, EmitsThen, HasFitThen, stmts_syllables};
+
+use crate::draft::{Draft, StmtEmitter};
+use algol_tree::{Expr, Stmt};
+use b67_emitter::{ExprEmitter, aim, aim_exits, append_branch, append_exit};
+use b67_ops::BranchKind;
+use std::alloc::AllocError;
+
+impl<'a, E: ExprEmitter> StmtEmitter<'a, E> {
+    /// IF without ELSE.
+    #[cycle(statements)]
+    fn if_then(&self, x: &Stmt, c: &Expr, to: &mut Draft) -> Result<(), AllocError>
+        requires ready { IsReady self.now.scopes.now to.old (stmt_syllables (tree.if_then (expr c.now) (stmt x.now))) }
+        requires fits { HasFit self.now.scopes.now to.old (tree.if_then (expr c.now) (stmt x.now)) }
+        ensures { OnOk result (EmitsStmt self.now.scopes.now to.old to.new (tree.if_then (expr c.now) (stmt x.now))) }
+    {
+        self.exprs.value(c, self.scopes, &mut to.out)?;
+        append_exit(&mut to.out, BranchKind::Brfl, &mut to.exits)?;
+        self.stmt(x, to)
+    }
+
+    /// IF with ELSE, up to its second statement.
+    #[cycle(statements)]
+    fn then_part(&self, x: &Stmt, c: &Expr, to: &mut Draft) -> Result<(), AllocError>
+        requires ready { IsReady self.now.scopes.now to.old (expr_syllables (expr c.now) + stmt_syllables (stmt x.now) + 6) }
+        requires fits { HasFitThen self.now.scopes.now to.old (expr c.now) (stmt x.now) }
+        ensures { OnOk result (EmitsThen self.now.scopes.now to.old to.new (expr c.now) (stmt x.now)) }
+    {
+        self.exprs.value(c, self.scopes, &mut to.out)?;
+        let otherwise = append_branch(&mut to.out, BranchKind::Brfl)?;
+        self.stmt(x, to)?;
+        append_exit(&mut to.out, BranchKind::Brun, &mut to.exits)?;
+        aim(&mut to.out, &[otherwise]);
+        Ok(())
+    }
+
+    /// A statement.
+    #[cycle(statements)]
+    pub fn stmt(&self, s: &Stmt, to: &mut Draft) -> Result<(), AllocError>
+        requires ready { IsReady self.now.scopes.now to.old (stmt_syllables (stmt s.now)) }
+        requires fits { HasFit self.now.scopes.now to.old (stmt s.now) }
+        ensures { OnOk result (EmitsStmt self.now.scopes.now to.old to.new (stmt s.now)) }
+    {
+        match s {
+            Stmt::Empty => Ok(()),
+            Stmt::Assign(v, e) => self.assign(&v.name, e, &mut to.out),
+            Stmt::Block(b) => self.stmts(b.stmts.items(), to),
+            Stmt::If(c, x, other) => match other {
+                None => self.if_then(x, c, to),
+                Some(y) => {
+                    self.then_part(x, c, to)?;
+                    self.stmt(y, to)
+                }
+            },
+            Stmt::While(c, b) => self.while_loop(b, c, to),
+            Stmt::Until(b, c) => self.until_loop(b, c, to),
+            Stmt::For(v, a, s, l, b) => self.for_loop(b, v, a, s, l, to),
+            Stmt::Thru(e, b) => self.thru_loop(b, e, to),
+            Stmt::Case(e, ss) => self.case(ss.items(), e, to),
+            Stmt::Write(_, _, phrases, items) => self.write(phrases.items(), items.items(), to),
+            // None of these fits.
+            Stmt::Label(_, _) => Ok(()),
+            Stmt::Call(_) => Ok(()),
+            Stmt::GoTo(_) => Ok(()),
+            Stmt::Process(_, _) => Ok(()),
+            Stmt::Event(_, _) => Ok(()),
+        }
+    }
+
+    /// Statements one after another. Each but the last goes on at the next.
+    #[cycle(statements)]
+    pub fn stmts(&self, ss: &[Stmt], to: &mut Draft) -> Result<(), AllocError>
+        requires ready { IsReady self.now.scopes.now to.old (stmts_syllables (stmts ss.now)) }
+        requires fits { HaveFit self.now.scopes.now to.old (stmts ss.now) }
+        ensures { OnOk result (EmitsStmts self.now.scopes.now to.old to.new (stmts ss.now)) }
+    {
+        let first = to.exits.len();
+        'statements: for s in ss {
+            aim_exits(&mut to.out, &mut to.exits, first);
+            self.stmt(s, to)?;
+        }
+        Ok(())
+    }
+}
