@@ -1,0 +1,253 @@
+-- The report of a machine after a run of a faithful code explains it.
+use Rattle.std.proofs.Common.{◌≡◌, ◌⊎◌, inl, inr, ℕ, zero, suc, ◌+◌, ◌*◌, ◌<◌, ◌≤◌, Bool, true, false, List, [], ◌∷◌, ◌++◌, length, Option, Some, None, refl, sym, ap, ◌∙◌, subst, arith}
+use Rattle.std.specs.Prelude.{◌≢◌, reverse, sum}
+use Rattle.std.specs.List.{AllByRecursion}
+use Rattle.std.proofs.lemmas.List.{length-append}
+use mathlib.Core.List.{reverse-cons}
+use Rattle.b67_list.specs.Numbered.{numbered}
+use Rattle.algol_tree.specs.Plain.{PProgram}
+use Rattle.algol_tree.specs.Scopes.{scopes_of}
+use Rattle.algol_meaning.specs.World.{World, process_at}
+use Rattle.algol_meaning.specs.Run.{run, start}
+use Rattle.algol_laws.specs.Kept.{EachRunGrows}
+use Rattle.b67_schedule.specs.Schedules.{entries, IsSchedule, Kept as Schedule}
+use Rattle.b67_report.specs.declared.Report.{Report}
+use Rattle.b67_report.specs.declared.EndWords.{EndWords}
+use Rattle.b67_listing.specs.Listings.{ListingText}
+use Rattle.b67_segment.specs.declared.code.Code.{Code}
+use Rattle.b67_table.specs.Image.{Image, is_able}
+use Rattle.b67_table.specs.Ending.{ImageEnd, image_end, may_act}
+use Rattle.b67_table.specs.Runs.{TableRun, Runs, begin, entry, count_of, none}
+use Rattle.b67_faithful.specs.Agreement.{Agrees}
+use Rattle.b67_faithful.specs.Faithful.{Faithful, longest}
+use Rattle.b67_machine.specs.declared.replay.Replayed.{Replayed}
+use Rattle.b67_machine.specs.declared.replay.Replayed.TheVariants.{Ended, Ran, Illegal, BudgetSpent, NoMemory}
+use Rattle.b67_machine.specs.Kept.{Kept, counted}
+use Rattle.b67_machine.specs.Reads.{machine_end, end_by, shown, limit_end}
+use Rattle.b67_machine.specs.Replaying.{Replays, Answers, MayGo, AtLimit, Stands, is_lacking, tails_of, tail_of}
+use Rattle.b67_words.specs.declared.TheConstants.{MOST_STRETCH}
+use Rattle.b67_explain.specs.Explaining.{EndIs, IsLeft, IsTail, Explains, ExplainsReplay}
+use Rattle.b67_explain.specs.Telling.{CanBeTold, Tells, IsReportOf}
+use Rattle.b67_explain.proofs.Naming.{IsOneOf, able_is_one, entries_are_there}
+use Rattle.b67_explain.proofs.Summing.{from_on, from_on_equal, from_on_sum, entries_by_process, sum_by_number}
+use Rattle.b67_explain.proofs.Tailed.{IsTailOf, tail_counted, tail_sum, sum_tails, tails_are_few, more_room}
+use Rattle.b67_explain.proofs.Ending.{acting, Said, said_of}
+
+all_split : (P : ℕ → Type 0) (xs ys : List ℕ) → AllByRecursion P (xs ++ ys) → AllByRecursion P xs × AllByRecursion P ys
+all_split P [] ys h = (tt, h)
+all_split P (x ∷ xs) ys h = let rest = all_split P xs ys h.1 in ((h.0, rest.0), rest.1)
+
+all_back : (P : ℕ → Type 0) (xs : List ℕ) → AllByRecursion P (reverse xs) → AllByRecursion P xs
+all_back P [] h = tt
+all_back P (x ∷ xs) h = let both = all_split P (reverse xs) (x ∷ []) (subst (AllByRecursion P) (reverse-cons x xs) h) in (both.1.0, all_back P xs both.0)
+
+count_for_each : {code : Code} {h counts : List ℕ} {img : Image} → Runs code h counts img → length counts ≡ length h
+count_for_each begin = refl
+count_for_each (entry runs e) = ap suc (count_for_each runs)
+
+-- a run that is told did not lack memory
+not_lacking : (answer : Replayed) (m : Kept) (end : EndWords) → Tells answer (machine_end m) end → is_lacking answer ≡ false
+not_lacking Ended m end tells = refl
+not_lacking Ran m end tells = refl
+not_lacking (Illegal number) m end tells = refl
+not_lacking BudgetSpent m end tells = refl
+not_lacking NoMemory m end tells = absurd tells
+
+-- where there is a tail, the next entry may go
+tail_may_go : (code : Code) (budget spent : ℕ) (done left : List ℕ) (tail : ℕ) (img : Image) (m : Kept) (answer : Replayed) →
+    Answers code budget spent done left tail img m answer → (tail ≡ 0) ⊎ MayGo left img
+tail_may_go code budget spent done left tail img m Ended (inl a) = inl a.0
+tail_may_go code budget spent done left tail img m Ended (inr a) = inr a.1
+tail_may_go code budget spent done left tail img m Ran a = inl a.0
+tail_may_go code budget spent done left tail img m (Illegal number) a = inl a.0
+tail_may_go code budget spent done left tail img m BudgetSpent a = a.2
+tail_may_go code budget spent done left tail img m NoMemory a = inr a.1
+
+bound_without : (tree : PProgram) (code : Code) (n : ℕ) (done tails : List ℕ) (tail : ℕ) (img : Image) → Faithful tree code → (r : TableRun code done tails img) → tail ≡ 0 →
+    sum r.counts + tail ≤ (length done + n) * longest code.segments
+bound_without tree code n done tails tail img faithful r none_there =
+    let few = faithful.few done [] r.before_tails
+    (record { history = r.history; counts = r.counts; before_tails = r.before_tails; order = r.order; runs = r.runs; after = none }) in
+    let more = more_room (length done + 0) (length done + n) (longest code.segments) (omega arith) in
+    omega (arith, few, more, none_there)
+
+-- the longest segment bounds the operators of a run
+bound_of : (tree : PProgram) (code : Code) (n : ℕ) (done left : List ℕ) (tail : ℕ) (img : Image) → Faithful tree code → (r : TableRun code done (tails_of left tail) img) → IsTailOf n left tail →
+    sum r.counts + tail ≤ (length done + n) * longest code.segments
+bound_of tree code n done [] tail img faithful r none_there = bound_without tree code n done (tails_of [] tail) tail img faithful r none_there
+bound_of tree code n done (q ∷ left) tail img faithful r (inl none_there) = bound_without tree code n done (tails_of (q ∷ left) tail) tail img faithful r none_there
+bound_of tree code n done (q ∷ left) tail img faithful r (inr there) =
+    let few = faithful.few done (tails_of (q ∷ left) tail) img r in
+    let short = tails_are_few n q left tail there.0 there.1 in
+    let more = more_room (length done + length (tails_of (q ∷ left) tail)) (length done + n) (longest code.segments) (omega (arith, short)) in
+    let all_tails = sum_tails q left tail in
+    omega (arith, few, more, all_tails)
+
+module _ (grows : EachRunGrows) (tree : PProgram) (code : Code) (faithful : Faithful tree code) (given : List ℕ) (budget : ℕ) (m : Kept) (answer : Replayed) (schedule : Schedule)
+    (replays : Replays code given budget (entries schedule.runs) m answer) (processors : ℕ) (lines : List (List ℕ)) (report : Report)
+    (is : IsReportOf m answer lines processors schedule report) where
+  abbrev done : List ℕ
+  done = entries schedule.runs
+
+  abbrev agrees : Agrees tree code done replays.image
+  agrees = faithful.follows.legal done (tails_of replays.left replays.tail) replays.image replays.run
+
+  stands_there : (lacking : Bool) → lacking ≡ false → Stands lacking replays.image m.image → m.image ≡ replays.image
+  stands_there false e stands = stands
+  stands_there true e stands = cc
+
+  same : m.image ≡ replays.image
+  same = stands_there (is_lacking answer) (not_lacking answer m report.end is.end) replays.stands
+
+  number_is : replays.image.started ≡ length agrees.world.processes
+  number_is = agrees.shows.started
+
+  each_there : AllByRecursion (IsOneOf replays.image.started) done
+  unfolding run
+  each_there =
+      subst (λ (n : ℕ). AllByRecursion (IsOneOf n) done) (sym number_is)
+      (entries_are_there (scopes_of tree) grows done (start (scopes_of tree)) agrees.world agrees.is)
+
+  history_there : AllByRecursion (IsOneOf replays.image.started) replays.run.history
+  history_there = all_back (IsOneOf replays.image.started) replays.run.history (subst (AllByRecursion (IsOneOf replays.image.started)) replays.run.order each_there)
+
+  may_is_one : (p : ℕ) → may_act replays.image p ≡ true → IsOneOf replays.image.started p
+  may_is_one p h =
+      subst (λ (n : ℕ). IsOneOf n p) (sym number_is) (able_is_one agrees.world p (agrees.shows.able p ∙ (acting replays.image p h).1))
+
+  tail_is : (left : List ℕ) → (replays.tail ≡ 0) ⊎ MayGo left replays.image → IsTailOf replays.image.started left replays.tail
+  tail_is [] (inl none_there) = none_there
+  tail_is [] (inr goes) = absurd goes
+  tail_is (q ∷ left) (inl none_there) = inl none_there
+  tail_is (q ∷ left) (inr goes) = inr (may_is_one q goes)
+
+  tailed : IsTailOf replays.image.started replays.left replays.tail
+  tailed =
+      tail_is replays.left
+      (tail_may_go code budget (sum replays.run.counts + replays.tail) done replays.left replays.tail replays.image m answer replays.answers)
+
+  number_of : length report.operators ≡ replays.image.started
+  number_of = is.operators.each ∙ ap (λ (i : Image). i.started) same
+
+  abbrev own : ℕ → ℕ
+  own p = count_of p replays.run.history replays.run.counts + tail_of replays.left replays.tail p
+
+  -- each count is the process's
+  count_is : (p : ℕ) → 1 ≤ p → p ≤ length report.operators → counted report.operators p ≡ own p
+  count_is p one most = is.operators.are p one most ∙ replays.counts p
+
+  -- and together they are all operators of the run
+  all_operators : sum report.operators ≡ sum replays.run.counts + replays.tail
+  all_operators =
+      let n = replays.image.started in
+      let by_number = sum_by_number own report.operators count_is in
+      let by_length : from_on own 1 (length report.operators) ≡ from_on own 1 n = ap (from_on own 1) number_of in
+      let both = from_on_sum (λ p. count_of p replays.run.history replays.run.counts) (tail_of replays.left replays.tail) n in
+      let first = entries_by_process n replays.run.history replays.run.counts (count_for_each replays.run.runs) history_there in
+      let second = tail_sum n replays.left replays.tail tailed in
+      omega (arith, by_number, by_length, both, first, second)
+
+  bound : sum replays.run.counts + replays.tail ≤ (length done + replays.image.started) * longest code.segments
+  bound = bound_of tree code replays.image.started done replays.left replays.tail replays.image faithful replays.run tailed
+
+  abbrev said : Said tree code agrees.world replays.image agrees.shows agrees.fits budget (sum replays.run.counts + replays.tail) (length done) replays.left replays.tail report.end
+  said =
+      said_of tree code agrees.world replays.image agrees.shows agrees.fits m budget (sum replays.run.counts + replays.tail) (length done) done replays.left replays.tail
+      report.end same answer refl replays.answers is.end
+
+  module _ (valid : IsSchedule schedule.runs) (listed : ListingText code lines) where
+    schedule_is : report.schedule.runs ≡ schedule.runs
+    schedule_is = ap (λ (x : Schedule). x.runs) is.performed
+
+    entries_are : entries report.schedule.runs ≡ done
+    entries_are = ap entries schedule_is
+
+    bounded_is : sum report.operators ≤ (length (entries report.schedule.runs) + length report.operators) * longest code.segments
+    bounded_is =
+        let room : (length done + replays.image.started) * longest code.segments ≡ (length (entries report.schedule.runs) + length report.operators) * longest code.segments =
+        ap (λ n. (n + replays.image.started) * longest code.segments) (ap length (sym entries_are))
+        ∙ ap (λ n. (length (entries report.schedule.runs) + n) * longest code.segments) (sym number_of) in
+        omega (arith, all_operators, bound, room)
+
+    pub explained : Explains tree processors budget report
+    explained = record {
+      world = agrees.world;
+      schedule = subst IsSchedule (sym schedule_is) valid;
+      legal = ap (run tree) entries_are ∙ agrees.is;
+      output = is.output ∙ ap (λ (i : Image). i.output) same ∙ agrees.shows.output;
+      processors_are = is.acts.each;
+      acts = is.acts.sum_is ∙ ap length (sym entries_are);
+      code = code;
+      listed = subst (ListingText code) (sym is.listing) listed;
+      faithful = faithful;
+      tails = tails_of replays.left replays.tail;
+      image = replays.image;
+      table_run = record {
+        history = replays.run.history;
+        counts = replays.run.counts;
+        before_tails = replays.run.before_tails;
+        order = entries_are ∙ replays.run.order;
+        runs = replays.run.runs;
+        after = replays.run.after;
+      };
+      shown = sym (is.output ∙ ap (λ (i : Image). i.output) same);
+      same_end = agrees.shows.ends;
+      processes = number_of;
+      counts = λ p one most.
+          count_is p one (omega (arith, number_of, most))
+          ∙ ap (λ n. count_of p replays.run.history replays.run.counts + n) (sym (tail_counted replays.image.started p replays.left replays.tail one tailed));
+      few = omega (arith, all_operators, replays.within);
+      bounded = bounded_is;
+      ended = subst (λ n. EndIs tree code agrees.world replays.image budget n report.end) (sym all_operators) said.ended;
+    }
+
+    -- and what is left of the given schedule
+    pub left_split : given ≡ entries report.schedule.runs ++ replays.left
+    left_split = replays.split ∙ ap (λ (xs : List ℕ). xs ++ replays.left) (sym entries_are)
+
+    pub left_said : IsLeft agrees.world (length (entries report.schedule.runs)) report.end replays.left
+    left_said = subst (λ (xs : List ℕ). IsLeft agrees.world (length xs) report.end replays.left) (sym entries_are) said.leaves
+
+    pub tail_alone : IsTail report.end replays.tail
+    tail_alone = said.alone
+
+pub replay_explained : (grows : EachRunGrows) (tree : PProgram) (code : Code) → Faithful tree code → (given : List ℕ) (budget : ℕ) (m : Kept) (answer : Replayed) (schedule : Schedule) →
+    Replays code given budget (entries schedule.runs) m answer → (lines : List (List ℕ)) (report : Report) → IsReportOf m answer lines 1 schedule report → IsSchedule schedule.runs →
+    ListingText code lines → ExplainsReplay tree given budget report
+unfolding explained
+replay_explained grows tree code faithful given budget m answer schedule replays lines report is valid listed = record {
+  explains = explained grows tree code faithful given budget m answer schedule replays 1 lines report is valid listed;
+  left = replays.left;
+  split = left_split grows tree code faithful given budget m answer schedule replays 1 lines report is valid listed;
+  leaves = left_said grows tree code faithful given budget m answer schedule replays 1 lines report is valid listed;
+  tail = replays.tail;
+  tails = refl;
+  alone = tail_alone grows tree code faithful given budget m answer schedule replays 1 lines report is valid listed;
+}
+
+-- ---- a run that can be told
+
+ended_can : (m : Kept) (img : Image) (o : Option ImageEnd) → m.image ≡ img → image_end img ≡ o → image_end img ≢ None → CanBeTold Ended (machine_end m)
+ended_can m img None there_is is some = absurd (some is)
+ended_can m img (Some e) there_is is some =
+    let there : machine_end m ≡ Some (shown e) = ap (λ o. end_by o m) (ap image_end there_is ∙ is) in
+    subst (CanBeTold Ended) (sym there) tt
+
+limit_can : (code : Code) (m : Kept) (img : Image) (left : List ℕ) → m.image ≡ img → MayGo left img → AtLimit code left img m.limit → CanBeTold Ended (machine_end m)
+limit_can code m img [] there_is goes at = absurd goes
+limit_can code m img (p ∷ left) there_is goes at =
+    let there : machine_end m ≡ limit_end (Some p) m.image.regs =
+    ap (λ o. end_by o m) (ap image_end there_is ∙ (acting img p goes).0) ∙ ap (λ o. limit_end o m.image.regs) at.1 in
+    subst (CanBeTold Ended) (sym there) tt
+
+pub can_be_told : (code : Code) (given : List ℕ) (budget : ℕ) (performed : List ℕ) (m : Kept) (answer : Replayed) → Replays code given budget performed m answer → answer ≢ NoMemory →
+    CanBeTold answer (machine_end m)
+can_be_told code given budget performed m Ended r some = by r.answers
+  where
+    by : Answers code budget (sum r.run.counts + r.tail) performed r.left r.tail r.image m Ended → CanBeTold Ended (machine_end m)
+    by (inl a) = ended_can m r.image (image_end r.image) r.stands refl a.2
+    by (inr a) = limit_can code m r.image r.left r.stands a.1 a.2
+can_be_told code given budget performed m Ran r some = tt
+can_be_told code given budget performed m (Illegal number) r some = tt
+can_be_told code given budget performed m BudgetSpent r some = tt
+can_be_told code given budget performed m NoMemory r some = absurd (some refl)

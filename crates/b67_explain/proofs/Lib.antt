@@ -1,0 +1,6 @@
+mod Counts
+mod Naming
+mod Summing
+mod Tailed
+mod Ending
+pub mod Explained

@@ -1,0 +1,9 @@
+use Rattle.std.proofs.Common.{◌≡◌, ◌≤◌, ℕ, length}
+use Rattle.b67_machine.specs.Kept.{counted}
+use Rattle.b67_explain.proofs.report.operators_of.Given as goal
+
+abbrev pub invariant-processes : goal.invariant-processes
+invariant-processes g l = record {
+  each : length l.operators.items ≡ l.before;
+  are : (p : ℕ) → 1 ≤ p → p ≤ length l.operators.items → counted l.operators.items p ≡ counted l.machine.counts p;
+}

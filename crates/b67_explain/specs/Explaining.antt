@@ -1,0 +1,128 @@
+-- What the report of a run says: of the source under the printed schedule, and of the printed code under the operator table.
+use Rattle.std.specs.Prelude.{◌≡◌, ◌≢◌, ◌⊎◌, ℕ, ◌+◌, ◌*◌, ◌<◌, ◌≤◌, false, List, [], ◌∷◌, ◌++◌, length, sum, Option, Some, None}
+use Rattle.b67_list.specs.Numbered.{numbered}
+use Rattle.b67_words.specs.declared.TheConstants.{MOST_STRETCH}
+use Rattle.algol_tree.specs.Plain.{PProgram}
+use Rattle.algol_meaning.specs.World.{World}
+use Rattle.algol_meaning.specs.Run.{run, may_go, end_of, End, finished, fault, all_waiting}
+use Rattle.b67_schedule.specs.Schedules.{entries, IsSchedule}
+use Rattle.b67_report.specs.declared.Report.{Report}
+use Rattle.b67_report.specs.declared.EndWords.{EndWords}
+use Rattle.b67_report.specs.declared.EndWords.TheVariants as ends
+use Rattle.b67_listing.specs.Listings.{ListingText}
+use Rattle.b67_segment.specs.declared.code.Code.{Code}
+use Rattle.b67_store.specs.Store.{stack_limit}
+use Rattle.b67_table.specs.Image.{Image}
+use Rattle.b67_table.specs.Outcome.{limit}
+use Rattle.b67_table.specs.Table.{table, length_in}
+use Rattle.b67_table.specs.Ending.{image_end}
+use Rattle.b67_table.specs.Runs.{TableRun, count_of}
+use Rattle.b67_machine.specs.Kept.{counted}
+use Rattle.b67_machine.specs.Replaying.{tails_of}
+use Rattle.b67_faithful.specs.Weight.{weight}
+use Rattle.b67_faithful.specs.Agreement.{end_as}
+use Rattle.b67_faithful.specs.Faithful.{Faithful, longest}
+
+-- ---- the end
+
+-- The next operator of the process would make its stack too long. It has so many words, and the source has more open in it than a
+-- stack has room for.
+pub record AtLimit (tree : PProgram) (code : Code) (world : World) (image : Image) (process words : ℕ) : Type 0 where
+  pub next : table code image process ≡ limit
+  pub has : words ≡ length_in (numbered image.regs process)
+  pub heavy : stack_limit < weight tree world process
+
+-- The printed end is that of the world. Or the world has none, and the operators came to the budget, the stack limit, or the end of the
+-- schedule, the latter two before the budget was spent. Or an entry is illegal: there was an end before it, or its process is not able.
+module _ (tree : PProgram) (code : Code) (world : World) (image : Image) (budget operators : ℕ) where
+  abbrev pub EndIs : EndWords → Type 0
+  EndIs ends.Finished = end_of world ≡ Some finished
+  EndIs (ends.Fault kind process) = end_of world ≡ Some (fault kind process)
+  EndIs ends.AllWaiting = end_of world ≡ Some all_waiting
+  EndIs ends.BudgetSpent = (end_of world ≡ None) × (budget ≤ operators)
+  EndIs (ends.StackLimit process words) = (end_of world ≡ None) × (operators < budget) × AtLimit tree code world image process words
+  EndIs ends.ScheduleEnded = (end_of world ≡ None) × (operators < budget)
+  EndIs (ends.Illegal entry) = (end_of world ≢ None) ⊎ (operators < budget)
+
+-- ---- a report
+
+-- The report is one of a run of this source on so many processors under that budget.
+pub record Explains (tree : PProgram) (processors budget : ℕ) (report : Report) : Type 0 where
+  pub world : World
+  -- the printed schedule is one: each of its runs has an entry at least, and neighbours are of different processes
+  pub schedule : IsSchedule report.schedule.runs
+  -- it is legal for the source, and the output is that of the source under it
+  pub legal : run tree (entries report.schedule.runs) ≡ Some world
+  pub output : report.output ≡ world.output
+  -- there is one number of acts for each processor, and they add up to the entries
+  pub processors_are : length report.acts ≡ processors
+  pub acts : sum report.acts ≡ length (entries report.schedule.runs)
+  -- the listing is that of a code that does what the source does for every list of choices
+  pub code : Code
+  pub listed : ListingText code report.listing
+  pub faithful : Faithful tree code
+  -- that code, run under the operator table with the printed schedule, has this output and end
+  pub tails : List ℕ
+  pub image : Image
+  pub table_run : TableRun code (entries report.schedule.runs) tails image
+  pub shown : image.output ≡ report.output
+  pub same_end : end_of world ≡ end_as (image_end image)
+  -- there is one count of operators for each process that there has been: those of its entries, and its tail
+  pub processes : length report.operators ≡ image.started
+  pub counts : (p : ℕ) → 1 ≤ p → p ≤ image.started → counted report.operators p ≡ count_of p table_run.history table_run.counts + counted tails p
+  -- they add up to less than a stretch more than the budget; and, for each entry and for each process after the last one, to at most as
+  -- many operators as the longest segment has syllables
+  pub few : sum report.operators < budget + MOST_STRETCH
+  pub bounded : sum report.operators ≤ (length (entries report.schedule.runs) + length report.operators) * longest code.segments
+  pub ended : EndIs tree code world image budget (sum report.operators) report.end
+
+-- ---- without a given schedule
+
+-- a run that follows no given schedule has no end by it
+abbrev pub IsOwnEnd : EndWords → Type 0
+IsOwnEnd ends.ScheduleEnded = ⊥
+IsOwnEnd (ends.Illegal entry) = ⊥
+IsOwnEnd end = Unit {0}
+
+pub record ExplainsRun (tree : PProgram) (processors budget : ℕ) (report : Report) : Type 0 where
+  pub explains : Explains tree processors budget report
+  pub own : IsOwnEnd report.end
+
+-- ---- with one
+
+-- its next entry is of this process
+abbrev pub NextIs : ℕ → List ℕ → Type 0
+NextIs process [] = ⊥
+NextIs process (p ∷ left) = p ≡ process
+
+-- the process of its next entry is not able, or there is an end
+abbrev pub NextIsIllegal : World → List ℕ → Type 0
+NextIsIllegal world [] = ⊥
+NextIsIllegal world (p ∷ left) = may_go world p ≡ false
+
+-- what is left of the given schedule after so many entries where a run ends so
+abbrev pub IsLeft : World → ℕ → EndWords → List ℕ → Type 0
+IsLeft world performed ends.Finished left = left ≡ []
+IsLeft world performed (ends.Fault kind process) left = left ≡ []
+IsLeft world performed ends.AllWaiting left = left ≡ []
+IsLeft world performed ends.BudgetSpent left = Unit {0}
+IsLeft world performed (ends.StackLimit process words) left = NextIs process left
+IsLeft world performed ends.ScheduleEnded left = left ≡ []
+IsLeft world performed (ends.Illegal entry) left = (entry ≡ performed + 1) × NextIsIllegal world left
+
+-- only the budget and the stack limit end a run within an entry
+abbrev pub IsTail : EndWords → ℕ → Type 0
+IsTail ends.BudgetSpent tail = Unit {0}
+IsTail (ends.StackLimit process words) tail = Unit {0}
+IsTail end tail = tail ≡ 0
+
+-- The report is one of a run of this source on one processor that follows the given schedule. Its printed schedule is the part that
+-- was performed, and after it the process of the next entry alone may have performed operators.
+pub record ExplainsReplay (tree : PProgram) (given : List ℕ) (budget : ℕ) (report : Report) : Type 0 where
+  pub explains : Explains tree 1 budget report
+  pub left : List ℕ
+  pub split : given ≡ entries report.schedule.runs ++ left
+  pub leaves : IsLeft explains.world (length (entries report.schedule.runs)) report.end left
+  pub tail : ℕ
+  pub tails : explains.tails ≡ tails_of left tail
+  pub alone : IsTail report.end tail

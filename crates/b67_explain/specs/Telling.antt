@@ -1,0 +1,52 @@
+-- The report of a machine after a run.
+use Rattle.std.specs.Prelude.{◌≡◌, ℕ, ◌≤◌, List, length, sum, Option, Some, None}
+use Rattle.b67_schedule.specs.Schedules.{entries, Kept as Schedule}
+use Rattle.b67_report.specs.declared.Report.{Report}
+use Rattle.b67_report.specs.declared.EndWords.{EndWords}
+use Rattle.b67_report.specs.declared.EndWords.TheVariants as words
+use Rattle.b67_machine.specs.declared.reads.End.{End}
+use Rattle.b67_machine.specs.declared.reads.End.TheVariants as ends
+use Rattle.b67_machine.specs.declared.replay.Replayed.{Replayed}
+use Rattle.b67_machine.specs.declared.replay.Replayed.TheVariants.{Ended, Ran, Illegal, BudgetSpent, NoMemory}
+use Rattle.b67_machine.specs.Kept.{Kept, counted}
+use Rattle.b67_machine.specs.Reads.{machine_end}
+
+abbrev pub words_of_end : End → EndWords
+words_of_end ends.Finished = words.Finished
+words_of_end (ends.Fault kind process) = words.Fault kind process
+words_of_end ends.AllWaiting = words.AllWaiting
+words_of_end (ends.StackLimit process count) = words.StackLimit process count
+
+-- the machine has an end where the run says so, and did not lack memory
+abbrev pub CanBeTold : Replayed → Option End → Type 0
+CanBeTold Ended None = ⊥
+CanBeTold NoMemory end = ⊥
+CanBeTold answer end = Unit {0}
+
+-- these words tell how a run ended
+abbrev pub Tells : Replayed → Option End → EndWords → Type 0
+Tells Ended (Some end) told = told ≡ words_of_end end
+Tells Ended None told = ⊥
+Tells Ran end told = told ≡ words.ScheduleEnded
+Tells (Illegal entry) end told = told ≡ words.Illegal entry
+Tells BudgetSpent end told = told ≡ words.BudgetSpent
+Tells NoMemory end told = ⊥
+
+-- one count for each process that there has been
+pub record AreCounts (machine : Kept) (operators : List ℕ) : Type 0 where
+  pub each : length operators ≡ machine.image.started
+  pub are : (p : ℕ) → 1 ≤ p → p ≤ length operators → counted operators p ≡ counted machine.counts p
+
+-- one number of acts for each processor, and they add up to so many
+pub record AreActs (processors count : ℕ) (acts : List ℕ) : Type 0 where
+  pub each : length acts ≡ processors
+  pub sum_is : sum acts ≡ count
+
+-- the report of the machine after a run that ended so
+pub record IsReportOf (machine : Kept) (answer : Replayed) (lines : List (List ℕ)) (processors : ℕ) (schedule : Schedule) (report : Report) : Type 0 where
+  pub listing : report.listing ≡ lines
+  pub output : report.output ≡ machine.image.output
+  pub end : Tells answer (machine_end machine) report.end
+  pub operators : AreCounts machine report.operators
+  pub acts : AreActs processors (length (entries schedule.runs)) report.acts
+  pub performed : report.schedule ≡ schedule

@@ -1,0 +1,73 @@
+//! The report of a machine after a run.
+
+ghost use Rattle.std.specs.Prelude.{◌≡◌, ◌≤◌, IfOk, length};
+ghost use Rattle.b67_schedule.specs.Schedules.{entries};
+ghost use Rattle.b67_machine.specs.Reads.{machine_end};
+ghost use Rattle.b67_explain.specs.Telling.{CanBeTold, AreCounts, AreActs, IsReportOf};
+
+use crate::ends::words_of;
+use b67_list::{Line, List};
+use b67_machine::{Machine, Replayed};
+use b67_report::Report;
+use b67_schedule::Schedule;
+use b67_store::Core;
+use std::alloc::{AllocError, Global};
+
+/// The same lines once more.
+fn copied(alloc: Global, lines: &[Line]) -> Result<List<Line>, AllocError>
+    ensures { IfOk result (λ copy. copy ≡ lines.now) }
+{
+    let mut copy = Vec::with_capacity(alloc, lines.len())?;
+    'lines: for line in lines {
+        copy.push(Line::of(Vec::from_slice(alloc, line.bytes())?))?;
+    }
+    Ok(List::of(copy))
+}
+
+/// How many operators each process performed, from process 1 on.
+fn operators_of<C: Core>(alloc: Global, machine: &Machine<C>) -> Result<List<u64>, AllocError>
+    ensures { IfOk result (AreCounts machine.now) }
+{
+    let mut operators = Vec::new(alloc);
+    'processes: for before in 0..machine.started() {
+        operators.push(machine.count(before + 1))?;
+    }
+    Ok(List::of(operators))
+}
+
+/// The acts of so many processors, where the first one made so many and the others none.
+fn acts_of(alloc: Global, processors: u32, count: u64) -> Result<List<u64>, AllocError>
+    requires { 1 ≤ processors }
+    ensures { IfOk result (AreActs processors count) }
+{
+    let mut acts = Vec::new(alloc);
+    acts.push(count)?;
+    'others: for _ in 1..processors {
+        acts.push(0)?;
+    }
+    Ok(List::of(acts))
+}
+
+/// The report of a machine after a run in the caller, as the first of so many processors, whose code has these lines. The schedule is
+/// what was performed.
+pub fn report_of<C: Core>(
+    alloc: Global,
+    processors: u32,
+    machine: &Machine<C>,
+    answer: Replayed,
+    lines: List<Line>,
+    schedule: Schedule,
+) -> Result<Report, AllocError>
+    requires some { 1 ≤ processors }
+    requires told { CanBeTold answer (machine_end machine.now) }
+    ensures { IfOk result (IsReportOf machine.now answer lines processors schedule) }
+{
+    Ok(Report {
+        output: copied(alloc, machine.output())?,
+        end: words_of(answer, machine.end()),
+        operators: operators_of(alloc, machine)?,
+        acts: acts_of(alloc, processors, schedule.len())?,
+        listing: lines,
+        schedule,
+    })
+}
