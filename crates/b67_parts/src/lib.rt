@@ -3,7 +3,7 @@
 //! A record ends with an LF, or with a CR and an LF, and the last one may end with the input. A mark holds neither.
 #![tactic(auto)]
 
-ghost use Rattle.std.specs.Prelude.{◌≡◌, ℕ, ◌≤◌, List, codes, length, option_copied, MatchOption, Option, ◌≢◌, slice_index, EachIndex};
+ghost use Rattle.std.specs.Prelude.{◌≡◌, ◌≢◌, ℕ, List, codes, slice_index, option_copied, EachIndex, MatchOption, Option};
 ghost use Rattle.b67_parts.specs.Parts.{Begins, Ends, IsFirstLineFeed, Parts};
 
 /// The most bytes of an input that has two parts.
