@@ -5,19 +5,26 @@ use Rattle.std.proofs.lemmas.List.{append_assoc, append-nil}
 use Rattle.std.proofs.lemmas.Fmt.{decimal_injective}
 use Rattle.b67_words.specs.declared.TheConstants.{MOST_BUDGET, MOST_PROCESSORS}
 use Rattle.b67_words.specs.declared.Words.{Words}
-use Rattle.b67_words.specs.declared.Words.TheVariants.{Run, Check}
+use Rattle.b67_words.specs.declared.Words.TheVariants.{Run, Replay}
 use Rattle.b67_words.specs.declared.UsageKind.{UsageKind}
 use Rattle.b67_words.specs.declared.UsageKind.TheVariants.{Missing, Unknown, BadNumber, Extra}
 use Rattle.b67_words.specs.declared.BadWords.{BadWords}
 use Rattle.b67_words.specs.declared.BadWords.TheVariants.{Usage}
 use Rattle.b67_words.specs.Grammar.{IsNumber, IsCommand, BeginCommand, Wants, command, numeral, nothing, Breaks, missing, wrong, WordsMean, meant, broken}
-use Rattle.b67_words.proofs.Commands.{Form, a_run, a_check, form_of, check_not_run, begin_run}
+use Rattle.b67_words.proofs.Commands.{IsAlone, is_check, is_list, Form, a_run, a_replay, a_word, form_of, alone_letter, run_not_alone, replay_not_alone, run_not_replay, check_not_list, begin_check}
+use Rattle.b67_words.proofs.Reading.{begins}
 use Rattle.b67_words.proofs.Numbers.{first_digit}
 
 -- ---- a command has one meaning
 
 same_number : (most : ℕ) (word : List ℕ) (n k : ℕ) → most < 2 ^ 64 → IsNumber most word n → IsNumber most word k → n ≡ k
 same_number most word n k small a b = decimal_injective n k (omega (arith, a.greatest)) (omega (arith, b.greatest)) (sym a.written ∙ b.written)
+
+same_alone : (name other : List ℕ) (a b : Words) → name ≡ other → IsAlone name a → IsAlone other b → a ≡ b
+same_alone name other a b same (is_check e m) (is_check f n) = m ∙ sym n
+same_alone name other a b same (is_check e m) (is_list f n) = check_not_list (sym e ∙ same ∙ f)
+same_alone name other a b same (is_list e m) (is_check f n) = check_not_list (sym f ∙ sym same ∙ e)
+same_alone name other a b same (is_list e m) (is_list f n) = m ∙ sym n
 
 same_form : (words : List (List ℕ)) (a b : Words) → Form words a → Form words b → a ≡ b
 same_form words a b (a_run processors budget p n e f s m) (a_run others other q k also g t l) =
@@ -27,11 +34,25 @@ same_form words a b (a_run processors budget p n e f s m) (a_run others other q 
     let one : p ≡ q = same_number MOST_PROCESSORS processors p q (omega arith) f (subst (λ w. IsNumber MOST_PROCESSORS w q) first g) in
     let two : n ≡ k = same_number MOST_BUDGET budget n k (omega arith) s (subst (λ w. IsNumber MOST_BUDGET w k) second t) in
     m ∙ ap (λ x. Run x n) one ∙ ap (λ x. Run q x) two ∙ sym l
-same_form words a b (a_run processors budget p n e f s m) (a_check also l) =
-    let same = sym also ∙ e in absurd (check_not_run (let word : codes "check" ≡ codes "run" = cc in word))
-same_form words a b (a_check e m) (a_run processors budget p n also f s l) =
-    let same = sym e ∙ also in absurd (check_not_run (let word : codes "check" ≡ codes "run" = cc in word))
-same_form words a b (a_check e m) (a_check also l) = m ∙ sym l
+same_form words a b (a_run processors budget p n e f s m) (a_replay other k also t l) =
+    let same = sym e ∙ also in run_not_replay (let word : codes "run" ≡ codes "replay" = cc in word)
+same_form words a b (a_run processors budget p n e f s m) (a_word name also is) =
+    let same = sym e ∙ also in run_not_alone name b is (let word : name ≡ codes "run" = cc in word)
+same_form words a b (a_replay budget n e s m) (a_run others other q k also g t l) =
+    let same = sym e ∙ also in run_not_replay (let word : codes "run" ≡ codes "replay" = cc in word)
+same_form words a b (a_replay budget n e s m) (a_replay other k also t l) =
+    let same = sym e ∙ also in
+    let first : other ≡ budget = cc in
+    let one : n ≡ k = same_number MOST_BUDGET budget n k (omega arith) s (subst (λ w. IsNumber MOST_BUDGET w k) first t) in
+    m ∙ ap (λ x. Replay x) one ∙ sym l
+same_form words a b (a_replay budget n e s m) (a_word name also is) =
+    let same = sym e ∙ also in replay_not_alone name b is (let word : name ≡ codes "replay" = cc in word)
+same_form words a b (a_word name e is) (a_run others other q k also g t l) =
+    let same = sym e ∙ also in run_not_alone name a is (let word : name ≡ codes "run" = cc in word)
+same_form words a b (a_word name e is) (a_replay other k also t l) =
+    let same = sym e ∙ also in replay_not_alone name a is (let word : name ≡ codes "replay" = cc in word)
+same_form words a b (a_word name e is) (a_word other also too) =
+    let same = sym e ∙ also in same_alone name other a b (let word : name ≡ other = cc in word) is too
 
 same_command : (words : List (List ℕ)) (a b : Words) → IsCommand words a → IsCommand words b → a ≡ b
 same_command words a b is also = same_form words a b (form_of words a is) (form_of words b also)
@@ -42,9 +63,14 @@ number_form word rest meaning low (a_run processors budget p b e f s m) =
     let same : word ≡ codes "run" = cc in
     let high : get_or word 0 0 ≡ 114 = rw same refl in
     absurd (omega arith)
-number_form word rest meaning low (a_check e m) =
-    let same : word ≡ codes "check" = cc in
-    let high : get_or word 0 0 ≡ 99 = rw same refl in
+number_form word rest meaning low (a_replay budget b e s m) =
+    let same : word ≡ codes "replay" = cc in
+    let high : get_or word 0 0 ≡ 114 = rw same refl in
+    absurd (omega arith)
+number_form word rest meaning low (a_word name e is) =
+    let same : word ≡ name = cc in
+    let first : get_or word 0 0 ≡ get_or name 0 0 = ap (λ (w : List ℕ). get_or w 0 0) same in
+    let high = (alone_letter name meaning is).0 in
     absurd (omega arith)
 
 no_number_first : {B : Type 0} (word : List ℕ) (n : ℕ) → IsNumber MOST_BUDGET word n → BeginCommand (word ∷ []) → B
@@ -74,9 +100,6 @@ cuts (x ∷ before) word after (y ∷ others) other rest e =
 
 -- ---- what breaks the grammar, case by case
 
-begins : (front more : List (List ℕ)) → BeginCommand (front ++ more) → BeginCommand front
-begins front more (rest, m, is) = (more ++ rest, m, subst (λ ws. IsCommand ws m) (append_assoc front more rest) is)
-
 data Wanted (words : List (List ℕ)) : UsageKind → Type 0 where
   a_command : words ≡ [] → Wanted words Unknown
   a_number : (word : List ℕ) (n : ℕ) → IsNumber MOST_BUDGET word n → BeginCommand (words ++ word ∷ []) → Wanted words BadNumber
@@ -91,7 +114,7 @@ number_or_command : {B : Type 0} (words : List (List ℕ)) (word : List ℕ) (n 
 number_or_command words word n e is starts = no_number_first word n is (subst (λ ws. BeginCommand (ws ++ word ∷ [])) e starts)
 
 command_or_none : {B : Type 0} (words : List (List ℕ)) → words ≡ [] → ((word : List ℕ) → BeginCommand (words ++ word ∷ []) → ⊥) → B
-command_or_none words e none = absurd (none (codes "run") (subst (λ ws. BeginCommand (ws ++ codes "run" ∷ [])) (sym e) begin_run))
+command_or_none words e none = absurd (none (codes "check") (subst (λ ws. BeginCommand (ws ++ codes "check" ∷ [])) (sym e) begin_check))
 
 same_want : (words : List (List ℕ)) (a b : UsageKind) → Wanted words a → Wanted words b → a ≡ b
 same_want words _ _ (a_command e) (a_command f) = refl

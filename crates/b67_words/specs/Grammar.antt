@@ -1,9 +1,10 @@
 -- The grammar of the command words, and which word of a list is the first that breaks it. A word is the list of its bytes.
-use Rattle.std.specs.Prelude.{◌≡◌, ℕ, ◌+◌, ◌≤◌, List, [], ◌∷◌, ◌++◌, length, codes, slice_get, Option, Some, None, Result, Ok, Err}
+use Rattle.std.specs.Prelude.{◌≡◌, ℕ, ◌+◌, ◌≤◌, List, [], ◌∷◌, ◌++◌, length, take, codes, slice_get, Option, Some, None, Result, Ok, Err}
 use Rattle.std.specs.Fmt.{decimal}
 use Rattle.b67_words.specs.declared.TheConstants.{MOST_BUDGET, MOST_PROCESSORS}
 use Rattle.b67_words.specs.declared.Words.{Words}
-use Rattle.b67_words.specs.declared.Words.TheVariants.{Run, Check}
+use Rattle.b67_words.specs.declared.Words.TheVariants as commands
+use Rattle.b67_words.specs.declared.Words.TheVariants.{Run, Check, Replay}
 use Rattle.b67_words.specs.declared.UsageKind.{UsageKind}
 use Rattle.b67_words.specs.declared.UsageKind.TheVariants.{Missing, Unknown, BadNumber, Extra}
 use Rattle.b67_words.specs.declared.BadWords.{BadWords}
@@ -20,10 +21,22 @@ pub data IsCommand : List (List ℕ) → Words → Type 0 where
   run : (processors budget : List ℕ) (p b : ℕ) → IsNumber MOST_PROCESSORS processors p → IsNumber MOST_BUDGET budget b →
       IsCommand (codes "run" ∷ processors ∷ budget ∷ []) (Run p b)
   check : IsCommand (codes "check" ∷ []) Check
+  list : IsCommand (codes "list" ∷ []) commands.List
+  replay : (budget : List ℕ) (b : ℕ) → IsNumber MOST_BUDGET budget b → IsCommand (codes "replay" ∷ budget ∷ []) (Replay b)
 
 -- some command begins with these words
 abbrev pub BeginCommand : List (List ℕ) → Type 0
 BeginCommand words = (rest : List (List ℕ)) × (meaning : Words) × IsCommand (words ++ rest) meaning
+
+-- the words are that command, and no word may follow them
+pub record IsWhole (words : List (List ℕ)) (meaning : Words) : Type 0 where
+  pub is : IsCommand words meaning
+  pub last : (word : List ℕ) → BeginCommand (words ++ word ∷ []) → ⊥
+
+-- so many of the words are that command, and no word may follow them
+pub record BeginWhole (words : List (List ℕ)) (count : ℕ) (meaning : Words) : Type 0 where
+  pub given : count ≤ length words
+  pub whole : IsWhole (take count words) meaning
 
 -- what is wrong with a word after these, if it is wrong: what should stand there
 pub data Wants : List (List ℕ) → UsageKind → Type 0 where

@@ -3,7 +3,7 @@
 
 ghost use Rattle.std.specs.Prelude.{◌≡◌, ◌<◌, ◌≤◌, ℕ, List, Result, map, length, codes, slice_get, slice_index, Some, IsTrue, ◌↔◌};
 ghost use Rattle.std.specs.String.{string_bytes};
-ghost use Rattle.b67_words.specs.Grammar.{WordsMean, IsNumberOrNone, NumberStandsAt};
+ghost use Rattle.b67_words.specs.Grammar.{WordsMean, BeginWhole, IsNumberOrNone, NumberStandsAt};
 
 use thiserror::Error;
 
@@ -25,6 +25,11 @@ pub enum Words {
     Run { processors: u32, budget: u64 },
     /// `check`: say whether the source is accepted.
     Check,
+    /// `list`: print the listing of the source's code.
+    List,
+    /// `replay B`: run the source under the schedule of the input, with a budget of B operators, from 1 to
+    /// [`MOST_BUDGET`].
+    Replay { budget: u64 },
 }
 
 /// What is wrong with the first word that breaks the grammar.
@@ -67,7 +72,9 @@ pub fn read_words(words: &[String]) -> Result<Words, BadWords>
     };
     match command.as_str() {
         "run" => read_run(words),
-        "check" => read_check(words),
+        "check" => whole(words, 1, Words::Check),
+        "list" => whole(words, 1, Words::List),
+        "replay" => read_replay(words),
         _ => Err(BadWords::Usage {
             word: 1,
             kind: UsageKind::Unknown,
@@ -82,30 +89,35 @@ fn read_run(words: &[String]) -> Result<Words, BadWords>
 {
     let processors = number_at(words, 1, MOST_PROCESSORS)?;
     let budget = number_at(words, 2, MOST_BUDGET)?;
-    if words.len() > 3 {
-        return Err(BadWords::Usage {
-            word: 4,
-            kind: UsageKind::Extra,
-        });
-    }
-    Ok(Words::Run {
+    let command = Words::Run {
         processors: processors as u32,
         budget,
-    })
+    };
+    whole(words, 3, command)
 }
 
-/// `check`, where it is the first word.
-fn read_check(words: &[String]) -> Result<Words, BadWords>
-    requires { slice_get (map string_bytes words.now) 0 ≡ Some (codes "check") }
+/// `replay B`, where the first word is `replay`.
+fn read_replay(words: &[String]) -> Result<Words, BadWords>
+    requires { slice_get (map string_bytes words.now) 0 ≡ Some (codes "replay") }
     ensures { WordsMean (map string_bytes words.now) result }
 {
-    if words.len() > 1 {
+    let budget = number_at(words, 1, MOST_BUDGET)?;
+    whole(words, 2, Words::Replay { budget })
+}
+
+/// The command that so many of the first words are, if no other word follows them.
+fn whole(words: &[String], count: u32, command: Words) -> Result<Words, BadWords>
+    requires few { count < 9 }
+    requires whole { BeginWhole (map string_bytes words.now) count command }
+    ensures { WordsMean (map string_bytes words.now) result }
+{
+    if words.len() > count as usize {
         return Err(BadWords::Usage {
-            word: 2,
+            word: count + 1,
             kind: UsageKind::Extra,
         });
     }
-    Ok(Words::Check)
+    Ok(command)
 }
 
 /// The number from 1 to `most` that is the word after `before` others.

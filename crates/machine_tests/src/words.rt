@@ -18,10 +18,16 @@ fn words_of_the_commands(rt: HostRuntime) -> Result<(), Fail> {
     let alloc = rt.alloc();
     let usage = |word, kind| Err(BadWords::Usage { word, kind });
     assert_eq!(rt; read(alloc, "")?, usage(1, UsageKind::Missing));
-    assert_eq!(rt; read(alloc, "list")?, usage(1, UsageKind::Unknown));
+    assert_eq!(rt; read(alloc, "lists")?, usage(1, UsageKind::Unknown));
     assert_eq!(rt; read(alloc, "CHECK")?, usage(1, UsageKind::Unknown));
     assert_eq!(rt; read(alloc, "check X")?, usage(2, UsageKind::Extra));
     assert_eq!(rt; read(alloc, "check")?, Ok(Words::Check));
+    assert_eq!(rt; read(alloc, "list")?, Ok(Words::List));
+    assert_eq!(rt; read(alloc, "list 1")?, usage(2, UsageKind::Extra));
+    assert_eq!(rt; read(alloc, "replay")?, usage(2, UsageKind::Missing));
+    assert_eq!(rt; read(alloc, "replay 0")?, usage(2, UsageKind::BadNumber));
+    assert_eq!(rt; read(alloc, "replay 7 7")?, usage(3, UsageKind::Extra));
+    assert_eq!(rt; read(alloc, "replay 7")?, Ok(Words::Replay { budget: 7 }));
     assert_eq!(rt; read(alloc, "run")?, usage(2, UsageKind::Missing));
     assert_eq!(rt; read(alloc, "run 9 100")?, usage(2, UsageKind::BadNumber));
     assert_eq!(rt; read(alloc, "run 01 100")?, usage(2, UsageKind::BadNumber));

@@ -1,24 +1,19 @@
-use Rattle.std.proofs.Common.{map, Global, arith}
-use Rattle.std.proofs.lemmas.List.{length-map}
+use Rattle.std.proofs.Common.{map, Global}
 use Rattle.std.specs.String.{string_bytes}
 use Rattle.std.proofs.lemmas.Result.{err_from_is_err_and}
 use Rattle.b67_words.proofs.read_run.Goals as goal
-use Rattle.b67_words.proofs.Commands.{first_broken, second_broken, none_follows, is_run}
+use Rattle.b67_words.proofs.Reading.{run_first_broken, run_second_broken, begin_run_whole}
 
 pub returns-in_err-processors : goal.returns-in_err-processors
 returns-in_err-processors c =
     let p = err_from_is_err_and c.from_residual.result c.from_residual.ensures.1 in
-    rw (p.1, p.2) (first_broken (map (string_bytes {Z = Global}) c.args.words.now) c.in_err-processors.field-0.0 c.requires c.in_err-processors.ensures)
+    rw (p.1, p.2) (run_first_broken (map (string_bytes {Z = Global}) c.args.words.now) c.in_err-processors.field-0.0 c.requires c.in_err-processors.ensures)
 
 pub returns-in_err-budget : goal.returns-in_err-budget
 returns-in_err-budget c =
     let p = err_from_is_err_and c.from_residual-in_err-budget.result c.from_residual-in_err-budget.ensures.1 in
-    rw (p.1, p.2) (second_broken (map (string_bytes {Z = Global}) c.args.words.now) c.in_ok-processors.processors c.in_err-budget.field-0.0 c.requires c.in_ok-processors.ensures c.in_err-budget.ensures)
+    rw (p.1, p.2) (run_second_broken (map (string_bytes {Z = Global}) c.args.words.now) c.in_ok-processors.processors c.in_err-budget.field-0.0 c.requires c.in_ok-processors.ensures c.in_err-budget.ensures)
 
-pub returns-then-words-gt3 : goal.returns-then-words-gt3
-returns-then-words-gt3 c =
-    none_follows (map (string_bytes {Z = Global}) c.args.words.now) c.in_ok-processors.processors c.in_ok-budget.budget c.requires c.in_ok-processors.ensures c.in_ok-budget.ensures (rw length-map (omega arith))
-
-pub returns : goal.returns
-returns c =
-    is_run (map (string_bytes {Z = Global}) c.args.words.now) c.in_ok-processors.processors c.in_ok-budget.budget c.requires c.in_ok-processors.ensures c.in_ok-budget.ensures (rw length-map (omega arith))
+pub whole-requires-clause-whole : goal.whole-requires-clause-whole
+whole-requires-clause-whole c =
+    begin_run_whole (map (string_bytes {Z = Global}) c.args.words.now) c.in_ok-processors.processors c.in_ok-budget.budget c.requires c.in_ok-processors.ensures c.in_ok-budget.ensures

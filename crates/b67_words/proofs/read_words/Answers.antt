@@ -1,10 +1,24 @@
 use Rattle.std.proofs.Common.{sym, ◌∙◌}
+use Rattle.std.specs.Prelude.{codes}
 use Rattle.b67_words.proofs.read_words.Goals as goal
-use Rattle.b67_words.proofs.Commands.{none_given_of, unknown_given_of}
+use Rattle.b67_words.proofs.Reading.{none_given_of, unknown_given_of, named, begin_check_whole, begin_list_whole}
 
 pub returns-in_default : goal.returns-in_default
 returns-in_default c = none_given_of _ c.args.words.now (sym c.in_default.ensures.value)
 
 pub returns-in_default-as_str : goal.returns-in_default-as_str
 returns-in_default-as_str c =
-    unknown_given_of _ c.args.words.now c.in-Some.command.now (sym c.in-Some.ensures.value) (λ e. c.in_default-as_str.not-run (c.as_str.ensures.value ∙ e)) (λ e. c.in_default-as_str.not-check (c.as_str.ensures.value ∙ e))
+    unknown_given_of _ c.args.words.now c.in-Some.command.now (sym c.in-Some.ensures.value) (record {
+      not_run = λ e. c.in_default-as_str.not-run (c.as_str.ensures.value ∙ e);
+      not_check = λ e. c.in_default-as_str.not-check (c.as_str.ensures.value ∙ e);
+      not_list = λ e. c.in_default-as_str.not-list (c.as_str.ensures.value ∙ e);
+      not_replay = λ e. c.in_default-as_str.not-replay (c.as_str.ensures.value ∙ e);
+    })
+
+pub whole-requires-clause-whole : goal.whole-requires-clause-whole
+whole-requires-clause-whole c =
+    begin_check_whole _ (named _ c.args.words.now c.in-Some.command.now (codes "check") (sym c.in-Some.ensures.value) (sym c.as_str.ensures.value ∙ c.in-check.is))
+
+pub whole-requires-in-list-clause-whole : goal.whole-requires-in-list-clause-whole
+whole-requires-in-list-clause-whole c =
+    begin_list_whole _ (named _ c.args.words.now c.in-Some.command.now (codes "list") (sym c.in-Some.ensures.value) (sym c.as_str.ensures.value ∙ c.in-list.is))

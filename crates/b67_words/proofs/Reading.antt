@@ -1,0 +1,215 @@
+-- Words that are read one by one, and the first that breaks the grammar.
+use Rattle.std.proofs.Common.{◌≡◌, ◌≢◌, ℕ, ◌+◌, ◌≤◌, ◌<◌, List, [], ◌∷◌, ◌++◌, length, take, drop, map, Some, None, Ok, Err, sym, ap, ◌∙◌, subst, arith}
+use Rattle.std.specs.Prelude.{slice_get, codes}
+use Rattle.std.proofs.lemmas.List.{append_assoc, append-nil, length-append, take-append-drop, length-take-le}
+use Rattle.std.proofs.lemmas.Option.{get_or_from_slice_get, slice_get_within}
+use Rattle.std.proofs.Math.Seq.{get_or-append_seam, take-append_seam, take-length}
+use Rattle.b67_words.specs.declared.TheConstants.{MOST_BUDGET, MOST_PROCESSORS}
+use Rattle.b67_words.specs.declared.Words.{Words}
+use Rattle.b67_words.specs.declared.Words.TheVariants as commands
+use Rattle.b67_words.specs.declared.Words.TheVariants.{Run, Check, Replay}
+use Rattle.b67_words.specs.declared.BadWords.{BadWords}
+use Rattle.b67_words.specs.declared.BadWords.TheVariants.{Usage}
+use Rattle.b67_words.specs.declared.UsageKind.TheVariants.{Missing, Unknown, BadNumber, BadRule, Extra}
+use Rattle.b67_words.specs.Grammar.{IsNumber, IsCommand, BeginCommand, IsWhole, BeginWhole, command, numeral, nothing, missing, wrong, WordsMean, meant, broken, IsNumberOrNone, NumberStandsAt}
+use Rattle.b67_words.proofs.Commands.{Form, a_run, a_replay, a_word, IsAlone, is_check, is_list, form_of, begin_nothing, begin_run, one, after_run, after_replay, whole_run, whole_replay, whole_check, whole_list}
+
+-- the words begin with these
+abbrev pub GoOn : List (List ℕ) → List (List ℕ) → Type 0
+GoOn front words = (rest : List (List ℕ)) × (words ≡ front ++ rest)
+
+pub begins : (front more : List (List ℕ)) → BeginCommand (front ++ more) → BeginCommand front
+begins front more (rest, m, is) = (more ++ rest, m, subst (λ ws. IsCommand ws m) (append_assoc front more rest) is)
+
+-- ---- a number that has to follow
+
+-- a number up to this has to follow the words
+pub record Awaits (front : List (List ℕ)) (most : ℕ) : Type 0 where
+  pub unfinished : (meaning : Words) → IsCommand front meaning → ⊥
+  pub begun : BeginCommand (front ++ codes "1" ∷ [])
+  pub only : (word : List ℕ) → BeginCommand (front ++ word ∷ []) → (n : ℕ) × IsNumber most word n
+
+number_missing : (front rest : List (List ℕ)) (most : ℕ) → Awaits front most → length (front ++ rest) ≤ length front →
+    WordsMean (front ++ rest) (Err (Usage (length front + 1) Missing))
+number_missing front [] most awaits short =
+    subst (λ ws. WordsMean ws (Err (Usage (length front + 1) Missing))) (sym (append-nil front))
+    (broken front (length front + 1) Missing (missing front (begins front (codes "1" ∷ []) awaits.begun) awaits.unfinished))
+number_missing front (word ∷ rest) most awaits short = let sum = length-append front (word ∷ rest) in absurd (omega arith)
+
+number_bad : (front rest : List (List ℕ)) (most : ℕ) (word : List ℕ) → Awaits front most → slice_get (front ++ rest) (length front) ≡ Some word →
+    IsNumberOrNone most word None → WordsMean (front ++ rest) (Err (Usage (length front + 1) BadNumber))
+number_bad front [] most word awaits at bad =
+    let within = slice_get_within (front ++ []) (length front) word at in let sum = length-append front [] in absurd (omega arith)
+number_bad front (other ∷ rest) most word awaits at bad =
+    let same : other ≡ word = sym (get_or-append_seam front other rest []) ∙ get_or_from_slice_get (front ++ other ∷ rest) (length front) word [] at in
+    broken (front ++ other ∷ rest) (length front + 1) BadNumber
+    (wrong front other rest BadNumber (begins front (codes "1" ∷ []) awaits.begun)
+    (λ begun. let is = awaits.only other begun in bad is.0 (subst (λ w. IsNumber most w is.0) same is.1))
+    (numeral front (codes "1") 1 (one MOST_BUDGET (omega arith)) awaits.begun))
+
+broken_after : (front rest : List (List ℕ)) (most : ℕ) (bad : BadWords) → Awaits front most → NumberStandsAt (front ++ rest) (length front) most (Err bad) →
+    WordsMean (front ++ rest) (Err bad)
+broken_after front rest most (Usage k Missing) awaits n = rw (n.0) (number_missing front rest most awaits n.1)
+broken_after front rest most (Usage k BadNumber) awaits n = rw (n.0) (number_bad front rest most n.1 awaits n.2 n.3)
+broken_after front rest most (Usage k Unknown) awaits n = absurd n
+broken_after front rest most (Usage k BadRule) awaits n = absurd n
+broken_after front rest most (Usage k Extra) awaits n = absurd n
+
+-- where no number stands behind the words, they break the grammar there
+pub number_broken : (front words : List (List ℕ)) (most : ℕ) (bad : BadWords) → Awaits front most → GoOn front words →
+    NumberStandsAt words (length front) most (Err bad) → WordsMean words (Err bad)
+number_broken front words most bad awaits (rest, e) n =
+    subst (λ ws. WordsMean ws (Err bad)) (sym e) (broken_after front rest most bad awaits (subst (λ ws. NumberStandsAt ws (length front) most (Err bad)) e n))
+
+-- the number that stands behind the words, and that they go on with it
+pub record ReadNumber (front words : List (List ℕ)) (most n : ℕ) : Type 0 where
+  pub word : List ℕ
+  pub is : IsNumber most word n
+  pub on : GoOn (front ++ word ∷ []) words
+
+read_after : (front rest : List (List ℕ)) (most n : ℕ) → NumberStandsAt (front ++ rest) (length front) most (Ok n) → ReadNumber front (front ++ rest) most n
+read_after front [] most n (word, at, is) =
+    let within = slice_get_within (front ++ []) (length front) word at in let sum = length-append front [] in absurd (omega arith)
+read_after front (other ∷ rest) most n (word, at, is) =
+    let same : word ≡ other = sym (get_or_from_slice_get (front ++ other ∷ rest) (length front) word [] at) ∙ get_or-append_seam front other rest [] in
+    record { word = other; is = subst (λ w. IsNumber most w n) same is; on = (rest, sym (append_assoc front (other ∷ []) rest)) }
+
+pub number_read : (front words : List (List ℕ)) (most n : ℕ) → GoOn front words → NumberStandsAt words (length front) most (Ok n) → ReadNumber front words most n
+number_read front words most n (rest, e) is =
+    subst (λ ws. ReadNumber front ws most n) (sym e) (read_after front rest most n (subst (λ ws. NumberStandsAt ws (length front) most (Ok n)) e is))
+
+-- ---- the commands
+
+awaits_processors : Awaits (codes "run" ∷ []) MOST_PROCESSORS
+awaits_processors = record {
+  unfinished = λ m is. let e = (after_run [] m is).are in cc;
+  begun = begin_run (codes "1") 1 (one MOST_PROCESSORS (omega arith));
+  only = λ word (more, m, is). let words = after_run (word ∷ more) m is in let e = words.are in let same : words.processors ≡ word = cc in
+      (words.p, subst (λ w. IsNumber MOST_PROCESSORS w words.p) same words.first);
+}
+
+awaits_budget : (processors : List ℕ) (p : ℕ) → IsNumber MOST_PROCESSORS processors p → Awaits (codes "run" ∷ processors ∷ []) MOST_BUDGET
+awaits_budget processors p f = record {
+  unfinished = λ m is. let e = (after_run (processors ∷ []) m is).are in cc;
+  begun = ([], Run p 1, (whole_run processors (codes "1") p 1 f (one MOST_BUDGET (omega arith))).is);
+  only = λ word (more, m, is). let words = after_run (processors ∷ word ∷ more) m is in let e = words.are in let same : words.budget ≡ word = cc in
+      (words.b, subst (λ w. IsNumber MOST_BUDGET w words.b) same words.second);
+}
+
+awaits_replay : Awaits (codes "replay" ∷ []) MOST_BUDGET
+awaits_replay = record {
+  unfinished = λ m is. let e = (after_replay [] m is).are in cc;
+  begun = ([], Replay 1, (whole_replay (codes "1") 1 (one MOST_BUDGET (omega arith))).is);
+  only = λ word (more, m, is). let words = after_replay (word ∷ more) m is in let e = words.are in let same : words.budget ≡ word = cc in
+      (words.b, subst (λ w. IsNumber MOST_BUDGET w words.b) same words.first);
+}
+
+-- the words go on from their first
+starts : (word : List ℕ) (words : List (List ℕ)) → slice_get words 0 ≡ Some word → GoOn (word ∷ []) words
+starts word [] h = let e : None ≡ Some word = h in cc
+starts word (first ∷ rest) h = let e : first ≡ word = cc in (rest, ap (λ w. w ∷ rest) e)
+
+pub run_first_broken : (words : List (List ℕ)) (bad : BadWords) → slice_get words 0 ≡ Some (codes "run") → NumberStandsAt words 1 MOST_PROCESSORS (Err bad) →
+    WordsMean words (Err bad)
+run_first_broken words bad h n = number_broken (codes "run" ∷ []) words MOST_PROCESSORS bad awaits_processors (starts (codes "run") words h) n
+
+pub run_second_broken : (words : List (List ℕ)) (p : ℕ) (bad : BadWords) → slice_get words 0 ≡ Some (codes "run") → NumberStandsAt words 1 MOST_PROCESSORS (Ok p) →
+    NumberStandsAt words 2 MOST_BUDGET (Err bad) → WordsMean words (Err bad)
+run_second_broken words p bad h f n =
+    let first = number_read (codes "run" ∷ []) words MOST_PROCESSORS p (starts (codes "run") words h) f in
+    number_broken (codes "run" ∷ first.word ∷ []) words MOST_BUDGET bad (awaits_budget first.word p first.is) first.on n
+
+pub replay_broken : (words : List (List ℕ)) (bad : BadWords) → slice_get words 0 ≡ Some (codes "replay") → NumberStandsAt words 1 MOST_BUDGET (Err bad) →
+    WordsMean words (Err bad)
+replay_broken words bad h n = number_broken (codes "replay" ∷ []) words MOST_BUDGET bad awaits_replay (starts (codes "replay") words h) n
+
+begin_whole : (front words : List (List ℕ)) (meaning : Words) → GoOn front words → IsWhole front meaning → BeginWhole words (length front) meaning
+begin_whole front words meaning (rest, e) is =
+    let sum = length-append front rest in
+    subst (λ ws. BeginWhole ws (length front) meaning) (sym e)
+    record { given = omega arith; whole = subst (λ ws. IsWhole ws meaning) (sym (take-append_seam front rest)) is }
+
+pub begin_run_whole : (words : List (List ℕ)) (p b : ℕ) → slice_get words 0 ≡ Some (codes "run") → NumberStandsAt words 1 MOST_PROCESSORS (Ok p) →
+    NumberStandsAt words 2 MOST_BUDGET (Ok b) → BeginWhole words 3 (Run p b)
+begin_run_whole words p b h f s =
+    let first = number_read (codes "run" ∷ []) words MOST_PROCESSORS p (starts (codes "run") words h) f in
+    let second = number_read (codes "run" ∷ first.word ∷ []) words MOST_BUDGET b first.on s in
+    begin_whole (codes "run" ∷ first.word ∷ second.word ∷ []) words (Run p b) second.on (whole_run first.word second.word p b first.is second.is)
+
+pub begin_replay_whole : (words : List (List ℕ)) (b : ℕ) → slice_get words 0 ≡ Some (codes "replay") → NumberStandsAt words 1 MOST_BUDGET (Ok b) →
+    BeginWhole words 2 (Replay b)
+begin_replay_whole words b h f =
+    let first = number_read (codes "replay" ∷ []) words MOST_BUDGET b (starts (codes "replay") words h) f in
+    begin_whole (codes "replay" ∷ first.word ∷ []) words (Replay b) first.on (whole_replay first.word b first.is)
+
+pub begin_check_whole : (words : List (List ℕ)) → slice_get words 0 ≡ Some (codes "check") → BeginWhole words 1 Check
+begin_check_whole words h = begin_whole (codes "check" ∷ []) words Check (starts (codes "check") words h) whole_check
+
+pub begin_list_whole : (words : List (List ℕ)) → slice_get words 0 ≡ Some (codes "list") → BeginWhole words 1 commands.List
+begin_list_whole words h = begin_whole (codes "list" ∷ []) words commands.List (starts (codes "list") words h) whole_list
+
+-- ---- behind a whole command
+
+extra_after : (front after : List (List ℕ)) (count : ℕ) (meaning : Words) → IsWhole front meaning → length front ≡ count → count < length (front ++ after) →
+    WordsMean (front ++ after) (Err (Usage (count + 1) Extra))
+extra_after front [] count meaning is e more = let sum = length-append front [] in absurd (omega arith)
+extra_after front (word ∷ rest) count meaning is e more =
+    let begun : BeginCommand front = ([], meaning, subst (λ ws. IsCommand ws meaning) (sym (append-nil front)) is.is) in
+    subst (λ k. WordsMean (front ++ word ∷ rest) (Err (Usage (k + 1) Extra))) e
+    (broken (front ++ word ∷ rest) (length front + 1) Extra (wrong front word rest Extra begun (is.last word) (nothing front begun is.last)))
+
+pub extra : (words : List (List ℕ)) (count : ℕ) (meaning : Words) → IsWhole (take count words) meaning → count < length words →
+    WordsMean words (Err (Usage (count + 1) Extra))
+extra words count meaning is more =
+    let all = take-append-drop count words in
+    let longer : count < length (take count words ++ drop count words) = subst (λ ws. count < length ws) (sym all) more in
+    subst (λ ws. WordsMean ws (Err (Usage (count + 1) Extra))) all
+    (extra_after (take count words) (drop count words) count meaning is (length-take-le count words (omega arith)) longer)
+
+pub exact : (words : List (List ℕ)) (count : ℕ) (meaning : Words) → IsWhole (take count words) meaning → count ≡ length words → WordsMean words (Ok meaning)
+exact words count meaning is e =
+    let whole : take count words ≡ words = rw e (take-length words) in meant words meaning (subst (λ ws. IsCommand ws meaning) whole is.is)
+
+-- ---- the first word
+
+-- the word is no name of a command
+pub record NamesNone (word : List ℕ) : Type 0 where
+  pub not_run : word ≢ codes "run"
+  pub not_check : word ≢ codes "check"
+  pub not_list : word ≢ codes "list"
+  pub not_replay : word ≢ codes "replay"
+
+not_alone : (word : List ℕ) (meaning : Words) → NamesNone word → IsAlone word meaning → ⊥
+not_alone word meaning none (is_check e m) = none.not_check e
+not_alone word meaning none (is_list e m) = none.not_list e
+
+no_command : (word : List ℕ) (rest : List (List ℕ)) (meaning : Words) → NamesNone word → Form (word ∷ rest) meaning → ⊥
+no_command word rest meaning none (a_run processors budget p b e f s m) = none.not_run cc
+no_command word rest meaning none (a_replay budget b e s m) = none.not_replay cc
+no_command word rest meaning none (a_word name e is) = let same : name ≡ word = cc in not_alone word meaning none (subst (λ w. IsAlone w meaning) same is)
+
+unknown_given : (word : List ℕ) (rest : List (List ℕ)) → NamesNone word → WordsMean (word ∷ rest) (Err (Usage 1 Unknown))
+unknown_given word rest none =
+    broken (word ∷ rest) 1 Unknown (wrong [] word rest Unknown begin_nothing (λ (more, m, is). no_command word more m none (form_of (word ∷ more) m is)) command)
+
+no_words : (meaning : Words) → Form [] meaning → ⊥
+no_words meaning (a_run processors budget p b e f s m) = cc
+no_words meaning (a_replay budget b e s m) = cc
+no_words meaning (a_word name e is) = cc
+
+none_given : WordsMean [] (Err (Usage 1 Missing))
+none_given = broken [] 1 Missing (missing [] begin_nothing (λ m is. no_words m (form_of [] m is)))
+
+-- the same of the first word of texts that are seen as their bytes
+pub none_given_of : {X : Type 0} (f : X → List ℕ) (xs : List X) → slice_get xs 0 ≡ None → WordsMean (map f xs) (Err (Usage 1 Missing))
+none_given_of f [] h = none_given
+none_given_of f (x ∷ xs) h = let e : Some x ≡ None = h in cc
+
+pub unknown_given_of : {X : Type 0} (f : X → List ℕ) (xs : List X) (x : X) → slice_get xs 0 ≡ Some x → NamesNone (f x) → WordsMean (map f xs) (Err (Usage 1 Unknown))
+unknown_given_of f [] x h none = let e : None ≡ Some x = h in cc
+unknown_given_of f (y ∷ ys) x h none = let e : x ≡ y = cc in unknown_given (f y) (map f ys) (subst (λ z. NamesNone (f z)) e none)
+
+-- the name of a command that the first is
+pub named : {X : Type 0} (f : X → List ℕ) (xs : List X) (x : X) (name : List ℕ) → slice_get xs 0 ≡ Some x → f x ≡ name → slice_get (map f xs) 0 ≡ Some name
+named f [] x name h is = let e : None ≡ Some x = h in cc
+named f (y ∷ ys) x name h is = let e : y ≡ x = cc in let same : f y ≡ name = ap f e ∙ is in ap Some same
