@@ -2,35 +2,34 @@
 use Rattle.std.specs.Prelude.{◌≡◌, ℕ, ◌+◌, ◌*◌, ◌<◌, ◌≤◌, List, [], ◌∷◌, ◌++◌, length, sum, codes, Option, Some, None, IfSome, Ok, Err, take}
 use Rattle.std.specs.Fmt.{decimal}
 use Rattle.std.specs.Io.KnownBytes.{Appends, IsAtEnd}
-use Rattle.b67_words.specs.declared.TheConstants.{MOST_STRETCH}
 use Rattle.algol_tree.specs.declared.TheConstants.{MOST_SOURCE_BYTES}
 use Rattle.algol_tree.specs.declared.token.Spot.{Spot}
 use Rattle.algol_tree.specs.declared.refusal.Code.{Code as RefusalCode}
 use Rattle.algol_tree.specs.declared.refusal.Code.TheVariants as refusals
 use Rattle.algol_tree.specs.Plain.{PProgram}
 use Rattle.algol_tree.specs.First.{Source, First}
-use Rattle.algol_straight.specs.Built.{IsBuilt}
 use Rattle.b67_io.specs.Faults.{Rose}
 use Rattle.b67_words.specs.declared.Words.{Words}
-use Rattle.b67_words.specs.declared.Words.TheVariants.{Run, Check}
+use Rattle.b67_words.specs.declared.Words.TheVariants.{Run, Check, Replay}
+use Rattle.b67_words.specs.declared.Words.TheVariants.{List as ListCode}
 use Rattle.b67_words.specs.declared.BadWords.TheVariants as bad
 use Rattle.b67_words.specs.declared.UsageKind.{UsageKind}
 use Rattle.b67_words.specs.declared.UsageKind.TheVariants as kinds
 use Rattle.b67_words.specs.Grammar.{WordsMean}
-use Rattle.b67_schedule.specs.Schedules.{entries, IsSchedule}
+use Rattle.b67_text.specs.Texts.{IsRefused}
+use Rattle.b67_schedule.specs.Schedules.{entries}
+use Rattle.b67_schedule.specs.Reading.{IsScheduleText}
 use Rattle.b67_report.specs.declared.Report.{Report}
 use Rattle.b67_report.specs.declared.EndWords.{EndWords}
 use Rattle.b67_report.specs.declared.EndWords.TheVariants as ends
-use Rattle.b67_report.specs.Texts.{ReportText, line_text}
+use Rattle.b67_report.specs.Texts.{ReportText, line_text, lines_text}
 use Rattle.b67_listing.specs.Listings.{ListingText}
 use Rattle.b67_segment.specs.declared.code.Code.{Code}
-use Rattle.algol_first_meaning.specs.World.{World}
-use Rattle.algol_first_meaning.specs.Run.{run, end_of, End, finished, fault}
-use Rattle.b67_first_table.specs.Image.{Image}
-use Rattle.b67_first_table.specs.Table.{image_end}
-use Rattle.b67_relate.specs.Agreement.{end_as}
-use Rattle.b67_relate.specs.Faithful.{Faithful, longest}
-use Rattle.b67_first_table.specs.Runs.{TableRun, count_of}
+use Rattle.b67_faithful.specs.Faithful.{Faithful}
+use Rattle.b67_fitting.specs.OneBlock.{IsOneBlock}
+use Rattle.b67_parts.specs.declared.TheConstants.{MOST_INPUT_BYTES}
+use Rattle.b67_parts.specs.Parts.{Parts}
+use Rattle.b67_explain.specs.Explaining.{ExplainsRun, ExplainsReplay}
 use Rattle.b67_desk.specs.declared.status.Status.{Status}
 use Rattle.b67_desk.specs.declared.status.Status.TheVariants as status
 
@@ -76,49 +75,16 @@ refused_text place code = line_text (codes "REFUSED " ++ code_words code ++ code
 abbrev pub too_long_text : List ℕ
 too_long_text = line_text (codes "TOO LONG")
 
--- ---- a report of a run
+abbrev pub bad_schedule_text : ℕ → List ℕ
+bad_schedule_text byte = line_text (codes "BAD SCHEDULE " ++ decimal byte)
 
--- the printed end is the end of the world, or the budget is spent in a world without an end
-abbrev pub EndIs : EndWords → Option End → ℕ → ℕ → Type 0
-EndIs ends.Finished (Some finished) budget operators = Unit {0}
-EndIs (ends.Fault kind process) (Some (fault k p)) budget operators = (kind ≡ k) × (process ≡ p)
-EndIs ends.BudgetSpent None budget operators = budget ≤ operators
-EndIs _ _ budget operators = ⊥
+abbrev pub accepted_text : List ℕ
+accepted_text = line_text (codes "ACCEPTED")
 
--- the counts of the processes from p on: those over the schedule, and the tails
-abbrev pub printed_counts : ℕ → List ℕ → List ℕ → List ℕ → List ℕ
-printed_counts p history counts [] = []
-printed_counts p history counts (tail ∷ tails) = (count_of p history counts + tail) ∷ printed_counts (p + 1) history counts tails
+abbrev pub listing_text : List (List ℕ) → List ℕ
+listing_text lines = lines_text (codes "LISTING ") lines
 
--- The report is one of a run of this source on so many processors.
-pub record Explains (tree : PProgram) (processors budget : ℕ) (report : Report) : Type 0 where
-  pub world : World
-  -- the printed schedule is one: each of its runs has an entry at least, and neighbours are of different processes
-  pub schedule : IsSchedule report.schedule.runs
-  -- it is legal for the source, and the output is that of the source under it
-  pub legal : run tree (entries report.schedule.runs) ≡ Some world
-  pub output : report.output ≡ world.output
-  -- the end is the source's, or the budget is spent: then the operators come to the budget, and to less than a stretch more
-  pub ended : EndIs report.end (end_of world) budget (sum report.operators)
-  pub few : sum report.operators < budget + MOST_STRETCH
-  -- there is one number of acts for each processor, and they add up to the entries
-  pub processors_are : length report.acts ≡ processors
-  pub acts : sum report.acts ≡ length (entries report.schedule.runs)
-  -- the listing is that of a code that does what the source does for every list of choices
-  pub code : Code
-  pub listed : ListingText code report.listing
-  pub faithful : Faithful tree code
-  -- that code, run under the operator table with the printed schedule, has this output and end and performed these operators
-  pub tails : List ℕ
-  pub image : Image
-  pub table_run : TableRun code (entries report.schedule.runs) tails image
-  pub shown : image.output ≡ report.output
-  pub same_end : end_of world ≡ end_as (image_end image)
-  -- there is one count of operators for each process that there has been, and it is that of this run
-  pub processes : length report.operators ≡ image.started
-  pub counted : report.operators ≡ printed_counts 1 table_run.history table_run.counts tails
-  -- for each entry, and for each process after the last one, at most as many operators as the longest segment has syllables
-  pub bounded : sum report.operators ≤ (length (entries report.schedule.runs) + length report.operators) * longest code.segments
+-- ---- a source
 
 abbrev pub status_of : EndWords → Status
 status_of ends.Finished = status.Finished
@@ -129,13 +95,50 @@ status_of (ends.StackLimit process words) = status.StackLimit process words
 status_of ends.ScheduleEnded = status.ScheduleEnded
 status_of (ends.Illegal entry) = status.Illegal entry
 
--- What a run of this tree, on so many processors under that budget, is answered by: a refusal at 1:1 exactly where it is not built, else a
--- report that explains it.
-pub data AnswersTree (processors budget : ℕ) (tree : PProgram) : List ℕ → Status → Type 0 where
-  unbuilt : (IsBuilt tree → ⊥) →
-      AnswersTree processors budget tree (refused_text (record { line = 1; column = 1 }) refusals.Unbuilt) (status.Refused (record { line = 1; column = 1 }) refusals.Unbuilt)
-  reported : (report : Report) → IsBuilt tree → Explains tree processors budget report →
-      AnswersTree processors budget tree (ReportText report) (status_of report.end)
+-- what a source that is checked is answered by: it is said to be accepted
+abbrev pub SaysAccepted : List ℕ → Status → Type 0
+SaysAccepted text s = (text ≡ accepted_text) × (s ≡ status.Finished)
+
+-- `run`: a report that explains a run on so many processors under that budget
+pub data Runs (processors budget : ℕ) (tree : PProgram) : List ℕ → Status → Type 0 where
+  ran : (report : Report) → ExplainsRun tree processors budget report → Runs processors budget tree (ReportText report) (status_of report.end)
+
+-- `list`: the listing of a code that does what the source does for every list of choices
+pub data Lists (tree : PProgram) : List ℕ → Status → Type 0 where
+  listed : (code : Code) (lines : List (List ℕ)) → Faithful tree code → ListingText code lines → Lists tree (listing_text lines) status.Finished
+
+-- the first place at which a schedule text is bad; where the input has none, that is said at the input's end
+abbrev pub IsBadSchedule : Option (List ℕ) → ℕ → ℕ → Type 0
+IsBadSchedule None input byte = byte ≡ input
+IsBadSchedule (Some text) input byte = IsRefused IsScheduleText text byte
+
+-- the entries of the schedule of a text
+abbrev pub AreGiven : Option (List ℕ) → List ℕ → Type 0
+AreGiven None given = ⊥
+AreGiven (Some text) given = (is : IsScheduleText text) × (given ≡ entries is.runs)
+
+-- `replay`: a refusal exactly where the schedule text is bad, else a report that explains a run that follows it
+pub data Replays (budget : ℕ) (schedule : Option (List ℕ)) (input : ℕ) (tree : PProgram) : List ℕ → Status → Type 0 where
+  bad_schedule : (byte : ℕ) → IsBadSchedule schedule input byte → Replays budget schedule input tree (bad_schedule_text byte) (status.BadSchedule byte)
+  replayed : (given : List ℕ) (report : Report) → AreGiven schedule given → ExplainsReplay tree given budget report →
+      Replays budget schedule input tree (ReportText report) (status_of report.end)
+
+-- the start of a source
+abbrev pub at_start : Spot
+at_start = record { line = 1; column = 1 }
+
+-- What a source with this tree is answered by under a command that wants its code: a refusal at 1:1 exactly where it is not built, as
+-- all programs are but those of one block, else what answers a built one.
+pub data BuiltOr (tree : PProgram) (AnswersIt : List ℕ → Status → Type 0) : List ℕ → Status → Type 0 where
+  unbuilt : (IsOneBlock tree → ⊥) → BuiltOr tree AnswersIt (refused_text at_start refusals.Unbuilt) (status.Refused at_start refusals.Unbuilt)
+  built : (text : List ℕ) (s : Status) → IsOneBlock tree → AnswersIt text s → BuiltOr tree AnswersIt text s
+
+-- what a source with this tree is answered by under that command, with the schedule text beside it and the bytes of both
+abbrev pub AnswersTree : Words → Option (List ℕ) → ℕ → PProgram → List ℕ → Status → Type 0
+AnswersTree (Run processors budget) schedule input tree = BuiltOr tree (Runs processors budget tree)
+AnswersTree Check schedule input tree = SaysAccepted
+AnswersTree ListCode schedule input tree = BuiltOr tree (Lists tree)
+AnswersTree (Replay budget) schedule input tree = BuiltOr tree (Replays budget schedule input tree)
 
 -- The bytes are a source with this tree, and with no other.
 pub record IsSourceOf (bytes : List ℕ) (tree : PProgram) : Type 0 where
@@ -152,23 +155,28 @@ pub data RefusedOr (bytes : List ℕ) (AnswersIts : PProgram → List ℕ → St
   refused : (place : Spot) (code : RefusalCode) → IsRefusedAt bytes place code → RefusedOr bytes AnswersIts (refused_text place code) (status.Refused place code)
   accepted : (tree : PProgram) (text : List ℕ) (s : Status) → IsSourceOf bytes tree → AnswersIts tree text s → RefusedOr bytes AnswersIts text s
 
-abbrev pub accepted_text : List ℕ
-accepted_text = line_text (codes "ACCEPTED")
+-- the source in the bytes that are read, and the schedule text behind it: under `replay` those of its two parts, else all is the source
+abbrev pub IsDivided : Words → List ℕ → List ℕ → Option (List ℕ) → Type 0
+IsDivided (Replay budget) bytes source schedule = Parts (codes "%%SCHEDULE") bytes source schedule
+IsDivided command bytes source schedule = (source ≡ bytes) × (schedule ≡ None)
 
--- a source that is checked is said to be accepted
-abbrev pub SaysAccepted : List ℕ → Status → Type 0
-SaysAccepted text s = (text ≡ accepted_text) × (s ≡ status.Finished)
+-- what these bytes are answered by under that command: too long exactly where the source in them has more than 262,144 bytes
+pub data AnswersBytes (command : Words) (bytes : List ℕ) : List ℕ → Status → Type 0 where
+  long_part : (source : List ℕ) (schedule : Option (List ℕ)) → IsDivided command bytes source schedule → MOST_SOURCE_BYTES < length source →
+      AnswersBytes command bytes too_long_text status.TooLong
+  divided : (source : List ℕ) (schedule : Option (List ℕ)) (text : List ℕ) (s : Status) → IsDivided command bytes source schedule →
+      length source ≤ MOST_SOURCE_BYTES → RefusedOr source (AnswersTree command schedule (length bytes)) text s → AnswersBytes command bytes text s
 
--- what these bytes are answered by under that command
-abbrev pub AnswersBytes : Words → List ℕ → List ℕ → Status → Type 0
-AnswersBytes (Run processors budget) bytes text s = RefusedOr bytes (AnswersTree processors budget) text s
-AnswersBytes Check bytes text s = RefusedOr bytes (λ tree. SaysAccepted) text s
+-- how many bytes are read under that command
+abbrev pub most_bytes : Words → ℕ
+most_bytes (Replay budget) = MOST_INPUT_BYTES
+most_bytes _ = MOST_SOURCE_BYTES
 
 -- What a source is answered by under that command, from the bytes that it has left, before and after, where it tells them: too long
--- exactly where more than 262,144 are left; else it is read to its end, and its bytes are all that it had left.
+-- exactly where more than 262,144 are left, or 16,777,216 under `replay`; else it is read to its end, and its bytes are all that it had left.
 pub data AnswersSource (command : Words) (left left_after : Option (List ℕ)) : List ℕ → Status → Type 0 where
-  too_long : IfSome left (λ bytes. MOST_SOURCE_BYTES < length bytes) → AnswersSource command left left_after too_long_text status.TooLong
-  read : (bytes text : List ℕ) (s : Status) → length bytes ≤ MOST_SOURCE_BYTES → IfSome left (λ all. bytes ≡ all) → IsAtEnd left_after →
+  too_long : IfSome left (λ bytes. most_bytes command < length bytes) → AnswersSource command left left_after too_long_text status.TooLong
+  read : (bytes text : List ℕ) (s : Status) → length bytes ≤ most_bytes command → IfSome left (λ all. bytes ≡ all) → IsAtEnd left_after →
       AnswersBytes command bytes text s → AnswersSource command left left_after text s
 
 -- ---- a call

@@ -6,14 +6,17 @@ use Rattle.b67_desk.specs.declared.desk.Unanswered.{Unanswered}
 use Rattle.b67_desk.specs.declared.desk.Unanswered.TheVariants as why
 use Rattle.b67_words.specs.declared.TheConstants.{MOST_BUDGET}
 use Rattle.b67_words.specs.declared.Words.{Words}
-use Rattle.b67_words.specs.declared.Words.TheVariants.{Run, Check}
+use Rattle.b67_words.specs.declared.Words.TheVariants.{Run, Check, Replay}
+use Rattle.b67_words.specs.declared.Words.TheVariants.{List as ListCode}
 use Rattle.b67_words.specs.declared.BadWords.{BadWords}
 use Rattle.b67_words.specs.declared.BadWords.TheVariants as broken
 use Rattle.b67_words.specs.declared.UsageKind.{UsageKind}
 use Rattle.b67_desk.specs.declared.status.Status.TheVariants as statuses
+use Rattle.b67_report.specs.declared.Report.{Report}
+use Rattle.b67_report.specs.Texts.{ReportText}
 use Rattle.algol_tree.specs.declared.token.Spot.{Spot}
 use Rattle.algol_tree.specs.declared.refusal.Code.{Code as RefusalCode}
-use Rattle.b67_desk.specs.Answers.{usage_text, refused_text, AnswersSource, Answers, Reading, Unreadable}
+use Rattle.b67_desk.specs.Answers.{usage_text, refused_text, too_long_text, bad_schedule_text, status_of, AnswersSource, Answers, Reading, Unreadable}
 
 -- the source is answered, or it failed, or memory ran out
 abbrev pub SourceAnswered : Words → Reading → Result Answer Unanswered → Type 0
@@ -42,3 +45,20 @@ pub record IsRefusal (place : Spot) (code : RefusalCode) (a : Answer) : Type 0 w
 abbrev pub InRange : Words → Type 0
 InRange (Run processors budget) = (1 ≤ processors) × (1 ≤ budget) × (budget ≤ MOST_BUDGET)
 InRange Check = Unit {0}
+InRange ListCode = Unit {0}
+InRange (Replay budget) = (1 ≤ budget) × (budget ≤ MOST_BUDGET)
+
+-- the refusal of a text that is too long
+pub record IsTooLong (a : Answer) : Type 0 where
+  pub text : a.text.items ≡ too_long_text
+  pub status : a.status ≡ statuses.TooLong
+
+-- the refusal of a schedule text that is bad from a byte on
+pub record IsBadAt (byte : ℕ) (a : Answer) : Type 0 where
+  pub text : a.text.items ≡ bad_schedule_text byte
+  pub status : a.status ≡ statuses.BadSchedule byte
+
+-- the answer that is a report
+pub record IsReport (report : Report) (a : Answer) : Type 0 where
+  pub text : a.text.items ≡ ReportText report
+  pub status : a.status ≡ status_of report.end

@@ -1,4 +1,3 @@
 pub mod Answers
-pub mod Running
 pub mod Calls
 pub mod Exits

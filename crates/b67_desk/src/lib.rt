@@ -1,10 +1,12 @@
-//! The top call: words and a source in, a report and a status out.
+//! The top call: words and a source in, an answer and a status out.
 #![tactic(auto)]
 
+mod code;
 mod desk;
-mod report;
+mod running;
 mod status;
 mod texts;
+mod tree;
 
 pub use desk::desk_alone;
 pub use status::Status;

@@ -1,10 +1,11 @@
 //! The lines of the answers that are no report.
 
 ghost use Rattle.std.specs.Prelude.{◌≡◌, ◌++◌, IfOk, OnOk};
-ghost use Rattle.b67_desk.specs.Answers.{usage_words, usage_text, code_words, refused_text, accepted_text, too_long_text};
+ghost use Rattle.b67_desk.specs.Answers.{usage_words, usage_text, code_words, refused_text, accepted_text, too_long_text, bad_schedule_text, listing_text};
 
 use algol_tree::{Code as RefusalCode, Spot};
-use b67_list::push_number;
+use b67_list::{Line, List, push_number};
+use b67_report::push_lines;
 use b67_words::UsageKind;
 use std::alloc::{AllocError, Global};
 
@@ -85,7 +86,24 @@ pub fn accepted_line(alloc: Global) -> Result<Vec<u8>, AllocError>
 pub fn too_long_line(alloc: Global) -> Result<Vec<u8>, AllocError>
     ensures { IfOk result (λ text. text.items ≡ too_long_text) }
 {
+    Vec::from_slice(alloc, b"TOO LONG\n")
+}
+
+/// The line of a schedule text that is bad from a byte on.
+pub fn bad_schedule_line(alloc: Global, byte: u64) -> Result<Vec<u8>, AllocError>
+    ensures { IfOk result (λ text. text.items ≡ bad_schedule_text byte) }
+{
     let mut text = Vec::new(alloc);
-    text.extend_from_slice(b"TOO LONG\n")?;
+    push_number(&mut text, b"BAD SCHEDULE ", byte)?;
+    text.extend_from_slice(b"\n")?;
+    Ok(text)
+}
+
+/// The lines of a listing, with their number before them.
+pub fn listing_lines(alloc: Global, lines: &List<Line>) -> Result<Vec<u8>, AllocError>
+    ensures { IfOk result (λ text. text.items ≡ listing_text lines.now) }
+{
+    let mut text = Vec::new(alloc);
+    push_lines(&mut text, b"LISTING ", lines)?;
     Ok(text)
 }
