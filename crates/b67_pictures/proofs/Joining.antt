@@ -2,7 +2,6 @@
 use Rattle.std.proofs.Common.{ℕ, ◌≤◌, List, length}
 use Rattle.std.specs.Prelude.{All}
 use Rattle.algol_tree.specs.declared.TheConstants.{MOST_SEGMENT_TOKENS}
-use Rattle.algol_tree.specs.Accepted.{Accepted}
 use Rattle.algol_tree.specs.Counts.{program_tokens}
 use Rattle.algol_tree.specs.Plain.{PProgram}
 use Rattle.algol_tree.specs.Scopes.{scopes_of}
@@ -17,7 +16,6 @@ use Rattle.b67_cores.proofs.Performing.{steps_are_performed}
 use Rattle.b67_cores.proofs.Placing.{fragments_are_performed}
 use Rattle.b67_listing.specs.Listings.{HasOperators, IsListable}
 use Rattle.b67_faithful.specs.Faithful.{IsShort, Faithful}
-use Rattle.b67_fitting.specs.OneBlock.{IsOneBlock}
 use Rattle.b67_fitting.specs.Flat.{IsFlat, HasFewCells}
 use Rattle.b67_fitting.proofs.Flat.{one_block_lies_flat}
 use Rattle.b67_pictures.specs.Programs.{OneBlockProgramsAreFaithful}
