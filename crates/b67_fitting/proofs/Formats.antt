@@ -108,7 +108,8 @@ fitting_phrase (phrase.Word (letter ∷ digits)) plain good fits =
 columns_more : (t : PhraseText) (ts : List PhraseText) → columns_of (t ∷ ts) ≡ columns (phrase_of t) + columns_of ts
 columns_more t ts = sum_by-cons (λ (n : ℕ). n) (columns (phrase_of t)) (map (λ (p : PhraseText). columns (phrase_of p)) ts)
 
-all_fitting : (ts : List PhraseText) → PhrasesPlain ts → list_any (λ (t : PhraseText). is_no_phrase (phrase_of t)) ts ≡ false → columns_of ts ≤ MOST_LINE_WIDTH → PhrasesFit ts
+all_fitting : (ts : List PhraseText) → PhrasesPlain ts → list_any (λ (t : PhraseText). is_no_phrase (phrase_of t)) ts ≡ false →
+    columns_of ts ≤ MOST_LINE_WIDTH → PhrasesFit ts
 all_fitting [] plain none fits = tt
 all_fitting (t ∷ ts) plain none fits =
     let these = or_parts (is_no_phrase (phrase_of t)) (list_any (λ (t : PhraseText). is_no_phrase (phrase_of t)) ts) none in
@@ -116,6 +117,7 @@ all_fitting (t ∷ ts) plain none fits =
     (fitting_phrase t plain.0 these.0 (omega (arith, more, fits)), all_fitting ts plain.1 these.1 (omega (arith, more, fits)))
 
 -- where the texts are plain, and the columns of all are those of a line, the phrases fit
-pub fitting_phrases : (ts : List PhraseText) (es : PExprs) (spot : Spot) → PhrasesPlain ts → IsGoodList ts es spot → if_so (nat_lt MOST_LINE_WIDTH (columns_of ts)) spot ≡ [] → PhrasesFit ts
+pub fitting_phrases : (ts : List PhraseText) (es : PExprs) (spot : Spot) → PhrasesPlain ts → IsGoodList ts es spot →
+    if_so (nat_lt MOST_LINE_WIDTH (columns_of ts)) spot ≡ [] → PhrasesFit ts
 fitting_phrases ts es spot plain h w =
     all_fitting ts plain (good_list ts es spot h).0 (ltb-false MOST_LINE_WIDTH (columns_of ts) (not_so (nat_lt MOST_LINE_WIDTH (columns_of ts)) spot w))

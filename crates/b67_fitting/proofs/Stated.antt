@@ -100,7 +100,8 @@ module _ (blocks : List Block) (a : Surroundings) (plain : KnowsPlain a) where
   no_such_alone test n s f g h = none_such test (class_of a n) n.spot s f (plain_first a plain n [] g) h
 
   mutual
-    stated : (s : PStmt) (listed : Bool) → IsBare s → StmtWhole s → StmtPlain s → IsClean blocks (here_stmt s listed a) → AreClean blocks (inside_stmt blocks s of_statement listed a) → TypedStmt a s
+    stated : (s : PStmt) (listed : Bool) → IsBare s → StmtWhole s → StmtPlain s → IsClean blocks (here_stmt s listed a) →
+        AreClean blocks (inside_stmt blocks s of_statement listed a) → TypedStmt a s
     stated tree.empty listed b w t c i = tt
     stated (tree.label n s) listed b w t c i = absurd (no_such_alone is_label n (λ k. refl) refl c.known c.typed)
     stated (tree.assign (tree.subscripted n tree.none) e) listed b w t c i = assigned n e listed c (typed blocks a plain e w.1 i)
