@@ -103,7 +103,7 @@ module _ (place : ℕ) where
   given_forward : (e : Effect Private) (new : Private) → Gives Behind e → e ≡ gives new → Behind new
   given_forward e new k i = subst (Gives Behind) i k
 
-step_forward : {code : Code} {a b : Core} → a.registers.ll ≤ MOST_LEVEL → CoreStep code a b → a.registers.place < b.registers.place
+pub step_forward : {code : Code} {a b : Core} → a.registers.ll ≤ MOST_LEVEL → CoreStep code a b → a.registers.place < b.registers.place
 unfolding private_op Forward Behind
 step_forward {code} {a} {b} most s =
     let at : Pointer = record { segment = a.registers.segment; place = a.registers.place } in

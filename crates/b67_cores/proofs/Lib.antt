@@ -15,5 +15,6 @@ pub mod Forward
 pub mod Having
 pub mod Sizes
 pub mod Deciding
+pub mod Counting
 pub mod Staying
 pub mod Beginnings

@@ -19,9 +19,9 @@ use Rattle.b67_templates.specs.Emitting.{Keeps, Emitted, is_among, Leaves, AreEx
 use Rattle.b67_emitter.specs.Aiming.{Aimed}
 use Rattle.b67_emitter.proofs.Exits.{next-behind, is_among-append, or-left, or-right, none_before, none_behind, exits_kept, exits-append}
 use Rattle.b67_emit_stmt.specs.declared.draft.Draft.{Draft}
-use Rattle.b67_emit_stmt.specs.Drafts.{IsFront, HasFew, Emits}
+use Rattle.b67_emit_stmt.specs.Drafts.{AreListed, IsFront, HasFew, Emits}
 use Rattle.b67_emit_stmt.specs.Cases.{EntriesAt}
-use Rattle.b67_emit_stmt.proofs.Drafts.{front_equal, front_trans}
+use Rattle.b67_emit_stmt.proofs.Drafts.{front_equal, front_trans, listed_equal}
 use Rattle.b67_emit_stmt.proofs.Lists.{tokens-append}
 
 -- ---- tables
@@ -84,6 +84,7 @@ pub record Midcase (sc : Scopes) (level : ℕ) (done : List Stmt) (left : ℕ) (
   pub short : size c.out.operators + 21 * length done ≤ size t.out.operators + 24 * stmts_tokens (stmts done)
   pub formats : IsFront a.formats.items c.formats.items
   pub few : HasFew c
+  pub listed : AreListed a.formats.items → AreListed c.formats.items
   pub kept : Keeps 0 (size a.out.operators) a.out.operators c.out.operators
   pub exits : List ℕ
   pub added : c.exits.items ≡ a.exits.items ++ exits
@@ -106,6 +107,7 @@ midcase-first sc level many a t few es fs h =
       short = omega arith;
       formats = front_equal fs;
       few = omega (arith, few, ap length fs, h.grown);
+      listed = listed_equal fs;
       kept = h.kept;
       exits = [];
       added = es ∙ sym (append-nil a.exits.items);
@@ -227,6 +229,7 @@ module _ (sc : Scopes) (level : ℕ) (done : List Stmt) (left : ℕ) (a t c d e 
         short = omega (arith, m.short, g.short, aim.place, narrow, length-append done (s ∷ []), tokens-append done s []);
         formats = front_trans a.formats.items c.formats.items f.formats.items m.formats more;
         few = g.few;
+        listed = λ l. g.listed (listed_equal fs (m.listed l));
         kept = λ at l next op lo hi st.
             let behind = next-behind a.out.operators at l next op st in
             through at l next op (λ q. omega (arith, q)) (omega (arith, m.begun, m.grown)) (m.kept at l next op lo hi st);
@@ -263,4 +266,5 @@ midcase-last sc level done a t c n m short =
       short = short;
       formats = m.formats;
       few = m.few;
+      listed = m.listed;
     }

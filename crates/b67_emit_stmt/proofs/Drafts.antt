@@ -11,7 +11,7 @@ use Rattle.b67_emitter.specs.Aiming.{Aimed}
 use Rattle.b67_emitter.proofs.Exits.{exits_kept}
 use Rattle.b67_emitter.proofs.Composing.{weaker_exits, no_exits, then_exits, all_aimed, aimed_later}
 use Rattle.b67_emit_stmt.specs.declared.draft.Draft.{Draft}
-use Rattle.b67_emit_stmt.specs.Drafts.{IsFront, HasFew, Emits}
+use Rattle.b67_emit_stmt.specs.Drafts.{AreListed, IsFront, HasFew, Emits}
 
 -- ---- formats
 
@@ -23,6 +23,9 @@ front_equal {xs} {ys} e = ([], e ∙ sym (append-nil xs))
 
 pub front_trans : (xs ys zs : List Format) → IsFront xs ys → IsFront ys zs → IsFront xs zs
 front_trans xs ys zs h k = (h.0 ++ k.0, k.1 ∙ ap (λ l. l ++ k.0) h.1 ∙ append_assoc xs h.0 k.0)
+
+pub listed_equal : {xs ys : List Format} → ys ≡ xs → AreListed xs → AreListed ys
+listed_equal {xs} {ys} e h = subst AreListed (sym e) h
 
 -- ---- levels
 
@@ -54,6 +57,7 @@ piece {n} {d} {e} {P} same fs few h short =
       short = short;
       formats = front_equal fs;
       few = omega (arith, ap length fs, few, first.grown);
+      listed = listed_equal fs;
     }
 
 -- a branch that leaves early
@@ -64,6 +68,7 @@ exit_piece {n} {d} {e} {P} fs few h short = record {
   short = short;
   formats = front_equal fs;
   few = omega (arith, ap length fs, few, h.grown);
+  listed = listed_equal fs;
 }
 
 -- ---- one after the other
@@ -81,6 +86,7 @@ emits_then {m} {n} {a} {b} {c} {P} {Q} e f =
       short = omega (arith, e.short, f.short);
       formats = front_trans a.formats.items b.formats.items c.formats.items e.formats f.formats;
       few = f.few;
+      listed = λ l. f.listed (e.listed l);
     }
 
 pub emits_weaker : {m n : ℕ} {a b : Draft} {P : List Format → List Placed → ℕ → Type 0} (Q : List Format → List Placed → ℕ → Type 0) → Emits m a b P → m ≤ n →
@@ -92,6 +98,7 @@ emits_weaker {m} {n} {a} {b} {P} Q e le f = record {
   short = omega (arith, e.short, le);
   formats = e.formats;
   few = e.few;
+  listed = e.listed;
 }
 
 -- nothing was added
@@ -109,6 +116,7 @@ emits_none a few = record {
   short = omega arith;
   formats = front_self a.formats.items;
   few = few;
+  listed = λ l. l;
 }
 
 -- ---- branches that are aimed
@@ -132,6 +140,7 @@ closed {n} {a} {b} {c} {P} e g es fs =
       short = omega (arith, e.short, g.place);
       formats = subst F (sym fs) e.formats;
       few = omega (arith, e.few, ap length fs, g.place);
+      listed = λ l. listed_equal fs (e.listed l);
     }
 
 -- branches of code before go to the place behind it
@@ -154,6 +163,7 @@ hole_closed m {n} {a} {b} {c} {d} {holes} {P} {Q} e wide es fs f g es' fs' =
       short = omega (arith, wide, f.short, g.place);
       formats = front_trans a.formats.items c.formats.items d.formats.items (subst F fs f.formats) (front_equal fs');
       few = omega (arith, f.few, ap length fs', g.place);
+      listed = λ l. listed_equal fs' (f.listed (listed_equal fs l));
     }
 
 -- the exits of code are branches, among those of the whole

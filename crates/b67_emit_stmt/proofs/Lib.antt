@@ -6,6 +6,7 @@ pub mod Lines
 pub mod Arms
 pub mod Lists
 pub mod Cases
+pub mod Formats
 pub mod Writing
 pub mod Ready
 pub mod Shapes

@@ -16,7 +16,7 @@ use Rattle.b67_templates.specs.Emitting.{Emitted}
 use Rattle.b67_emitter.proofs.Composing.{then, weaker}
 use Rattle.b67_segment.specs.declared.code.Phrase.{Phrase}
 use Rattle.b67_templates.specs.Code.{AreParts, IsPart, ExprAt, LineAt}
-use Rattle.b67_templates.specs.Fitting.{AreNarrow, IsNarrow, ExprFits, LineFits}
+use Rattle.b67_templates.specs.Fitting.{PhraseFits, PhrasesFit, ExprFits, LineFits}
 
 -- a number is no less for more digits
 pub value_grows : (n : ℕ) (digits : List ℕ) → n ≤ value_after n digits
@@ -31,9 +31,9 @@ parts_more (x ∷ ts) ps t p h k =
 
 -- ---- what holds of a list holds of its items
 
-pub narrow_at : (ts : List PhraseText) (t : PhraseText) (us : List PhraseText) → AreNarrow (ts ++ t ∷ us) → IsNarrow t
-narrow_at [] t us h = h.0
-narrow_at (x ∷ ts) t us h = narrow_at ts t us h.1
+pub phrase_fits : (ts : List PhraseText) (t : PhraseText) (us : List PhraseText) → PhrasesFit (ts ++ t ∷ us) → PhraseFits t
+phrase_fits [] t us h = h.0
+phrase_fits (x ∷ ts) t us h = phrase_fits ts t us h.1
 
 pub line_fits : (sc : Scopes) (known : Spot → Option Couple) (level : ℕ) (xs : List Expr) (y : Expr) (ys : List Expr) → LineFits sc known level (exprs (xs ++ y ∷ ys)) →
     ExprFits sc known level types.Number (expr y)

@@ -1,9 +1,11 @@
 -- What a call that adds code to a draft promises of it.
 use Rattle.std.specs.Prelude.{◌≡◌, ℕ, ◌+◌, ◌*◌, ◌≤◌, List, ◌++◌, length, IsSome}
+use Rattle.std.specs.List.{All}
 use Rattle.algol_scope.specs.declared.scopes.Scopes.{Scopes}
 use Rattle.b67_segment.specs.declared.TheConstants.{MOST_SEGMENT_WORDS}
 use Rattle.b67_segment.specs.declared.code.Format.{Format}
 use Rattle.b67_segment.specs.Operators.{Placed, size}
+use Rattle.b67_listing.specs.Listings.{IsPhrase}
 use Rattle.b67_templates.specs.Emitting.{EmittedWithExits}
 use Rattle.b67_emitter.specs.Values.{AreNear}
 use Rattle.b67_emit_stmt.specs.declared.draft.Draft.{Draft}
@@ -16,6 +18,10 @@ IsFront xs ys = (more : List Format) × (ys ≡ xs ++ more)
 abbrev pub HasFew : Draft → Type 0
 HasFew d = length d.formats.items ≤ size d.out.operators
 
+-- the formats can be listed: their texts can stand between quotes
+abbrev pub AreListed : List Format → Type 0
+AreListed formats = All (λ (format : Format). All IsPhrase format.phrases) formats
+
 -- A level is set, what is known of names can be spelled, and there is room for so many syllables.
 pub record IsReady (scopes : Scopes) (d : Draft) (syllables : ℕ) : Type 0 where
   pub set : IsSome d.out.level
@@ -24,7 +30,7 @@ pub record IsReady (scopes : Scopes) (d : Draft) (syllables : ℕ) : Type 0 wher
   pub room : size d.out.operators + syllables ≤ 6 * MOST_SEGMENT_WORDS
 
 -- At most so many syllables were added. The claim holds wherever they are kept, the exits go to that target behind them, and the formats
--- are the first of these.
+-- are the first of these. If the formats could be listed before, they can be now.
 pub record Emits (most : ℕ) (before after : Draft) (claim : List Format → List Placed → ℕ → Type 0) : Type 0 where
   pub code :
       EmittedWithExits before.out after.out before.exits.items after.exits.items
@@ -32,3 +38,4 @@ pub record Emits (most : ℕ) (before after : Draft) (claim : List Format → Li
   pub short : size after.out.operators ≤ size before.out.operators + most
   pub formats : IsFront before.formats.items after.formats.items
   pub few : HasFew after
+  pub listed : AreListed before.formats.items → AreListed after.formats.items

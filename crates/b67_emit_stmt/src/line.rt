@@ -11,7 +11,7 @@ ghost use Rattle.b67_segment.specs.declared.code.Format.{Format};
 ghost use Rattle.b67_segment.specs.Operators.{size};
 ghost use Rattle.b67_segment.specs.Building.{level_set};
 ghost use Rattle.b67_templates.specs.Code.{AreParts, IsPart, LineAt, WriteAt, word_part};
-ghost use Rattle.b67_templates.specs.Fitting.{IsNarrow, IsNarrowWord, AreNarrow, LineFits, WriteFits};
+ghost use Rattle.b67_templates.specs.Fitting.{IsNarrowWord, PhraseFits, PhrasesFit, LineFits, WriteFits};
 ghost use Rattle.b67_templates.specs.Emitting.{Emitted};
 ghost use Rattle.b67_emitter.specs.Values.{couples, AreNear};
 ghost use Rattle.b67_emit_stmt.specs.Drafts.{Emits, IsReady};
@@ -53,7 +53,7 @@ fn word_phrase(word: &[u8]) -> Phrase
 }
 
 fn phrase_of(alloc: Global, text: &PhraseText) -> Result<Phrase, AllocError>
-    requires { IsNarrow text.now }
+    requires { PhraseFits text.now }
     ensures { IfOk result (IsPart text.now) }
 {
     match text {
@@ -64,7 +64,7 @@ fn phrase_of(alloc: Global, text: &PhraseText) -> Result<Phrase, AllocError>
 
 /// The format of a line of these phrases.
 fn format_of(alloc: Global, texts: &[PhraseText]) -> Result<Format, AllocError>
-    requires { AreNarrow texts.now }
+    requires { PhrasesFit texts.now }
     ensures { IfOk result (λ format. AreParts texts.now format.phrases) }
 {
     let mut phrases = Vec::with_capacity(alloc, texts.len())?;

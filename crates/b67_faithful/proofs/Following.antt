@@ -23,22 +23,22 @@ use Rattle.b67_faithful.proofs.Ways.{may_follow, may_lead}
 
 module _ (tree : PProgram) (code : Code) (Pictures : World → Image → Type 0) (sim : Simulates tree code Pictures) where
   -- plain operators of a process lead through images of one world
-  through : (w : World) {p : ℕ} {a : Image} {n : ℕ} {b : Image} → Pictures w a → Plains code p a n b → Pictures w b
+  pub through : (w : World) {p : ℕ} {a : Image} {n : ℕ} {b : Image} → Pictures w a → Plains code p a n b → Pictures w b
   through w pic stay = pic
   through w {p} {a} pic (go {b = b} e t l) = through w (sim.plain w a b p pic e t) l
 
-  tails_through : (w : World) {p : ℕ} {a : Image} {tails : List ℕ} {b : Image} → Pictures w a → Tails code p a tails b → Pictures w b
+  pub tails_through : (w : World) {p : ℕ} {a : Image} {tails : List ℕ} {b : Image} → Pictures w a → Tails code p a tails b → Pictures w b
   tails_through w pic none = pic
   tails_through w pic (next l after) = tails_through w (through w pic l) after
 
   -- ---- histories
 
-  record Related (h : List ℕ) (img : Image) : Type 0 where
+  pub record Related (h : List ℕ) (img : Image) : Type 0 where
     pub world : World
     pub is : run tree (reverse h) ≡ Some world
     pub pictures : Pictures world img
 
-  related : {h counts : List ℕ} {img : Image} → Runs code h counts img → Related h img
+  pub related : {h counts : List ℕ} {img : Image} → Runs code h counts img → Related h img
   unfolding run
   related begin = record { world = start (scopes_of tree); is = refl; pictures = sim.first }
   related (entry {h} {a = a} {b = b} {p = p} runs e) =

@@ -2,3 +2,4 @@ pub mod Contradictions
 pub mod Sources
 pub mod Ways
 pub mod Following
+pub mod Counting

@@ -1,16 +1,16 @@
 -- A code that is faithful to a source: for every list of choices it does what the source does.
-use Rattle.std.specs.Prelude.{◌≡◌, ◌⊎◌, ℕ, ◌+◌, ◌*◌, ◌≤◌, max, sum, List, [], ◌∷◌, ◌++◌, length, All}
+use Rattle.std.specs.Prelude.{◌≡◌, ◌⊎◌, ℕ, ◌+◌, ◌*◌, ◌≤◌, max, List, [], ◌∷◌, ◌++◌, length, sum, All}
 use Rattle.algol_tree.specs.Plain.{PProgram}
 use Rattle.algol_tree.specs.Counts.{program_tokens}
 use Rattle.b67_segment.specs.declared.code.Code.{Code}
 use Rattle.b67_segment.specs.declared.code.Segment.{Segment}
-use Rattle.b67_listing.specs.Listings.{IsListable}
 use Rattle.algol_meaning.specs.Run.{Legal}
 use Rattle.b67_table.specs.Outcome.{limit}
 use Rattle.b67_table.specs.Image.{Image}
 use Rattle.b67_table.specs.Table.{table}
 use Rattle.b67_table.specs.Runs.{Plains, TableRun}
 use Rattle.b67_table.specs.Sound.{Sound}
+use Rattle.b67_listing.specs.Listings.{IsListable}
 use Rattle.b67_faithful.specs.Agreement.{Agrees}
 use Rattle.b67_faithful.specs.Correspondence.{operator_actions, source_actions}
 
@@ -47,11 +47,11 @@ pub record Follows (tree : PProgram) (code : Code) : Type 0 where
   -- each legal schedule of the source has a run of the code, or comes to the stack limit
   pub whole : (schedule : List ℕ) → Legal tree schedule → ((image : Image) × TableRun code schedule [] image) ⊎ ComesToLimit code schedule
 
--- a code that is faithful to a source: it follows it, each segment is short, it can be listed, and for each entry and for each tail at
--- most as many operators are performed as the longest segment has syllables
+-- A code that does what the source does, is short and can be listed.
 pub record Faithful (tree : PProgram) (code : Code) : Type 0 where
   pub follows : Follows tree code
   pub short : IsShort tree code
   pub listable : IsListable code
+  -- for each entry and for each tail at most as many operators are performed as the longest segment has syllables
   pub few : (schedule tails : List ℕ) (image : Image) → (r : TableRun code schedule tails image) →
       sum r.counts + sum tails ≤ (length schedule + length tails) * longest code.segments

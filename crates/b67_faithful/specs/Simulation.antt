@@ -1,5 +1,5 @@
--- What makes a code follow a source: images that picture worlds, from the first one on, through every operator.
-use Rattle.std.specs.Prelude.{◌≡◌, ℕ, true, Some}
+-- What makes a code faithful to a source: images that picture worlds, from the first one on, through every operator.
+use Rattle.std.specs.Prelude.{◌≡◌, ℕ, ◌+◌, ◌≤◌, true, Some}
 use Rattle.algol_tree.specs.Plain.{PProgram}
 use Rattle.algol_tree.specs.Scopes.{scopes_of}
 use Rattle.algol_meaning.specs.World.{World}
@@ -18,6 +18,13 @@ use Rattle.b67_table.specs.Touches.{IsPrivate}
 use Rattle.b67_table.specs.Sound.{Lives, OperatorTouches}
 use Rattle.b67_faithful.specs.Agreement.{Shows, Fits}
 use Rattle.b67_faithful.specs.Correspondence.{operator_action}
+use Rattle.b67_faithful.specs.Faithful.{longest}
+
+-- So many plain operators of a process led to this image. They, with an action after them, are at most as many as the longest segment has
+-- syllables.
+pub record AreFew (code : Code) (p n : ℕ) (quiet : Image) : Type 0 where
+  pub plain : n ≤ longest code.segments
+  pub acting : (after : Image) → Acts code p quiet after → n + 1 ≤ longest code.segments
 
 module _ (tree : PProgram) (code : Code) (Pictures : World → Image → Type 0) where
   -- an action of a process of the code is that of the source, and leads to an image of the world after it
@@ -35,6 +42,7 @@ module _ (tree : PProgram) (code : Code) (Pictures : World → Image → Type 0)
     pub plain : (w : World) (a b : Image) (p : ℕ) → Pictures w a → plain code a p ≡ true → table code a p ≡ gives b → Pictures w b
     pub act : (w : World) (a b : Image) (p : ℕ) → Pictures w a → may_act a p ≡ true → Acts code p a b → Acted w p a b
     pub come : (w : World) (a : Image) (p : ℕ) → Pictures w a → may_act a p ≡ true → Comes p a
+    pub few : (w : World) (a b : Image) (p n : ℕ) → Pictures w a → Plains code p a n b → AreFew code p n b
     pub shows : (w : World) (a : Image) → Pictures w a → Shows code w a
     pub fits : (w : World) (a : Image) → Pictures w a → Fits tree code w a
     pub apart : (w : World) (a : Image) → Pictures w a → (p q : ℕ) (x : Place) (r : Registers) → OperatorTouches code a p x → Lives a q r → IsPrivate r x → p ≡ q

@@ -1,4 +1,4 @@
--- A line has as many items as its format has numbers, and no word of the format is wider than a line.
+-- A line has as many items as its format has numbers, and its phrases fit: no word of the format is wider than a line.
 use Rattle.std.proofs.Common.{arith, ◌≡◌, ℕ, ◌+◌, ◌==◌, ◌&&◌, ◌||◌, ◌≤◌, nat_lt, not, Bool, true, false, List, [], ◌∷◌, map, refl, sym, ap, ◌∙◌, subst, if◌then◌else◌}
 use Rattle.std.proofs.lemmas.Bool.{or_parts, not-false, eqb-true, ltb-false}
 use Rattle.std.proofs.lemmas.List.Sums.{sum_by-cons}
@@ -18,7 +18,8 @@ use Rattle.b67_segment.specs.declared.code.Phrase.{Phrase}
 use Rattle.b67_segment.specs.declared.code.Phrase.TheVariants as parts
 use Rattle.b67_fitting.proofs.Lists.{not_so}
 use Rattle.b67_templates.specs.Code.{AreParts, IsPart, text, word, word_part, numbers_in, exprs_count}
-use Rattle.b67_templates.specs.Fitting.{IsNarrow, AreNarrow}
+use Rattle.b67_templates.specs.Fitting.{PhraseFits, PhrasesFit}
+use Rattle.b67_fitting.specs.Texts.{PhrasePlain, PhrasesPlain}
 
 -- the numbers of one phrase
 abbrev one_number : Phrase → ℕ
@@ -97,24 +98,26 @@ number_of_letter digits true false true h = refl
 number_of_letter digits true false false h = absurd (let clash : true ≡ false = h in cc)
 number_of_letter digits false n b h = absurd (let clash : true ≡ false = h in cc)
 
-narrow_phrase : (t : PhraseText) → is_no_phrase (phrase_of t) ≡ false → columns (phrase_of t) ≤ MOST_LINE_WIDTH → IsNarrow t
-narrow_phrase (phrase.Text bytes) good fits = tt
-narrow_phrase (phrase.Word []) good fits = tt
-narrow_phrase (phrase.Word (letter ∷ digits)) good fits =
+fitting_phrase : (t : PhraseText) → PhrasePlain t → is_no_phrase (phrase_of t) ≡ false → columns (phrase_of t) ≤ MOST_LINE_WIDTH → PhraseFits t
+fitting_phrase (phrase.Text bytes) plain good fits = plain
+fitting_phrase (phrase.Word []) plain good fits = tt
+fitting_phrase (phrase.Word (letter ∷ digits)) plain good fits =
     let same = number_of_letter digits (is_number digits && nat_lt 0 (value_of digits)) (letter == 73) (letter == 88) good in
     subst (λ (n : ℕ). n ≤ MOST_LINE_WIDTH) same fits
 
 columns_more : (t : PhraseText) (ts : List PhraseText) → columns_of (t ∷ ts) ≡ columns (phrase_of t) + columns_of ts
 columns_more t ts = sum_by-cons (λ (n : ℕ). n) (columns (phrase_of t)) (map (λ (p : PhraseText). columns (phrase_of p)) ts)
 
-narrow_phrases : (ts : List PhraseText) → list_any (λ (t : PhraseText). is_no_phrase (phrase_of t)) ts ≡ false → columns_of ts ≤ MOST_LINE_WIDTH → AreNarrow ts
-narrow_phrases [] none fits = tt
-narrow_phrases (t ∷ ts) none fits =
+all_fitting : (ts : List PhraseText) → PhrasesPlain ts → list_any (λ (t : PhraseText). is_no_phrase (phrase_of t)) ts ≡ false →
+    columns_of ts ≤ MOST_LINE_WIDTH → PhrasesFit ts
+all_fitting [] plain none fits = tt
+all_fitting (t ∷ ts) plain none fits =
     let these = or_parts (is_no_phrase (phrase_of t)) (list_any (λ (t : PhraseText). is_no_phrase (phrase_of t)) ts) none in
     let more = columns_more t ts in
-    (narrow_phrase t these.0 (omega (arith, more, fits)), narrow_phrases ts these.1 (omega (arith, more, fits)))
+    (fitting_phrase t plain.0 these.0 (omega (arith, more, fits)), all_fitting ts plain.1 these.1 (omega (arith, more, fits)))
 
--- where the columns of all are those of a line, those of each word are
-pub narrow_line : (ts : List PhraseText) (es : PExprs) (spot : Spot) → IsGoodList ts es spot → if_so (nat_lt MOST_LINE_WIDTH (columns_of ts)) spot ≡ [] → AreNarrow ts
-narrow_line ts es spot h w =
-    narrow_phrases ts (good_list ts es spot h).0 (ltb-false MOST_LINE_WIDTH (columns_of ts) (not_so (nat_lt MOST_LINE_WIDTH (columns_of ts)) spot w))
+-- where the texts are plain, and the columns of all are those of a line, the phrases fit
+pub fitting_phrases : (ts : List PhraseText) (es : PExprs) (spot : Spot) → PhrasesPlain ts → IsGoodList ts es spot →
+    if_so (nat_lt MOST_LINE_WIDTH (columns_of ts)) spot ≡ [] → PhrasesFit ts
+fitting_phrases ts es spot plain h w =
+    all_fitting ts plain (good_list ts es spot h).0 (ltb-false MOST_LINE_WIDTH (columns_of ts) (not_so (nat_lt MOST_LINE_WIDTH (columns_of ts)) spot w))

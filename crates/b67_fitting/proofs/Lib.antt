@@ -16,6 +16,7 @@ pub mod Fits
 pub mod Lexed
 pub mod Behind
 pub mod Numbered
+pub mod Written
 pub mod Inside
 pub mod Owned
 pub mod Flat

@@ -16,12 +16,13 @@ use Rattle.algol_tree.specs.Surroundings.{Surroundings, class_of, declared_as}
 use Rattle.algol_tree.specs.Types.{read_type}
 use Rattle.b67_segment.specs.declared.code.Phrase.{Phrase}
 use Rattle.b67_templates.specs.Code.{AreParts, numbers_in, exprs_count}
-use Rattle.b67_templates.specs.Fitting.{AreNarrow}
+use Rattle.b67_templates.specs.Fitting.{PhrasesFit}
 use Rattle.b67_fitting.specs.OneBlock.{IsBare, AreBare}
+use Rattle.b67_fitting.specs.Texts.{StmtPlain, StmtsPlain}
 use Rattle.b67_fitting.specs.Wholes.{StmtWhole, StmtsWhole}
 use Rattle.b67_fitting.proofs.Lists.{each_front, each_back, nil_front, nil_back}
 use Rattle.b67_fitting.proofs.Clean.{IsClean, AreClean, IsPlain, simple, file, KnowsPlain, plain_first, misnamed, none_such, none_happens, wrong, wrong_list}
-use Rattle.b67_fitting.proofs.Formats.{fitting_line, narrow_line}
+use Rattle.b67_fitting.proofs.Formats.{fitting_line, fitting_phrases}
 use Rattle.b67_fitting.proofs.Typed.{IsOf, TypedExpr, TypedLine, HasKind, of_kind, typed, typed_line}
 
 module _ (a : Surroundings) where
@@ -39,7 +40,7 @@ module _ (a : Surroundings) where
     TypedStmt (tree.thru e b) = TypedExpr a types.Number e × TypedStmt b
     TypedStmt (tree.case e ss) = TypedExpr a types.Number e × TypedStmts ss
     TypedStmt (tree.write n spot phrases es) =
-        AreNarrow phrases × ((parts : List Phrase) → AreParts phrases parts → numbers_in parts ≡ exprs_count es) × TypedLine a es
+        PhrasesFit phrases × ((parts : List Phrase) → AreParts phrases parts → numbers_in parts ≡ exprs_count es) × TypedLine a es
     TypedStmt _ = ⊥
 
     pub TypedStmts : PStmts → Type 0
@@ -99,37 +100,38 @@ module _ (blocks : List Block) (a : Surroundings) (plain : KnowsPlain a) where
   no_such_alone test n s f g h = none_such test (class_of a n) n.spot s f (plain_first a plain n [] g) h
 
   mutual
-    stated : (s : PStmt) (listed : Bool) → IsBare s → StmtWhole s → IsClean blocks (here_stmt s listed a) → AreClean blocks (inside_stmt blocks s of_statement listed a) → TypedStmt a s
-    stated tree.empty listed b w c i = tt
-    stated (tree.label n s) listed b w c i = absurd (no_such_alone is_label n (λ k. refl) refl c.known c.typed)
-    stated (tree.assign (tree.subscripted n tree.none) e) listed b w c i = assigned n e listed c (typed blocks a plain e w.1 i)
-    stated (tree.assign (tree.subscripted n (tree.more e es)) v) listed b w c i =
+    stated : (s : PStmt) (listed : Bool) → IsBare s → StmtWhole s → StmtPlain s → IsClean blocks (here_stmt s listed a) →
+        AreClean blocks (inside_stmt blocks s of_statement listed a) → TypedStmt a s
+    stated tree.empty listed b w t c i = tt
+    stated (tree.label n s) listed b w t c i = absurd (no_such_alone is_label n (λ k. refl) refl c.known c.typed)
+    stated (tree.assign (tree.subscripted n tree.none) e) listed b w t c i = assigned n e listed c (typed blocks a plain e w.1 i)
+    stated (tree.assign (tree.subscripted n (tree.more e es)) v) listed b w t c i =
         absurd (no_such is_array n [] (wrong_list types.Number (tree.more e es) a) (λ k. refl) refl c.known (nil_front _ _ c.typed))
-    stated (tree.call_of (tree.called n es)) listed b w c i = absurd (no_such_alone is_procedure n (λ k. refl) refl c.known c.typed)
-    stated (tree.go_to n) listed b w c i = absurd (no_such_alone is_label n (λ k. refl) refl c.known c.typed)
-    stated (tree.block (tree.body spot tree.no_decls ss)) listed b w c i = all_stated ss false b w.1 i
-    stated (tree.block (tree.body spot (tree.decls d ds) ss)) listed b w c i = absurd b
-    stated (tree.if_then e x) listed b w c i =
+    stated (tree.call_of (tree.called n es)) listed b w t c i = absurd (no_such_alone is_procedure n (λ k. refl) refl c.known c.typed)
+    stated (tree.go_to n) listed b w t c i = absurd (no_such_alone is_label n (λ k. refl) refl c.known c.typed)
+    stated (tree.block (tree.body spot tree.no_decls ss)) listed b w t c i = all_stated ss false b w.1 t.1 i
+    stated (tree.block (tree.body spot (tree.decls d ds) ss)) listed b w t c i = absurd b
+    stated (tree.if_then e x) listed b w t c i =
         let front = each_front (IsClean blocks) (sites e a) (here_stmt x false a ∷ inside_stmt blocks x of_statement false a) i in
         let back = each_back (IsClean blocks) (sites e a) (here_stmt x false a ∷ inside_stmt blocks x of_statement false a) i in
-        (of_kind a types.Truth e (typed blocks a plain e w.0 front) c.typed, stated x false b w.1 back.0 back.1)
-    stated (tree.if_else e x y) listed b w c i =
+        (of_kind a types.Truth e (typed blocks a plain e w.0 front) c.typed, stated x false b w.1 t back.0 back.1)
+    stated (tree.if_else e x y) listed b w t c i =
         let these = here_stmt x false a ∷ inside_stmt blocks x of_statement false a in
         let those = here_stmt y false a ∷ inside_stmt blocks y of_statement false a in
         let front = each_front (IsClean blocks) (sites e a ++ these) those i in
         let back = each_back (IsClean blocks) (sites e a ++ these) those i in
         let first = each_front (IsClean blocks) (sites e a) these front in
         let second = each_back (IsClean blocks) (sites e a) these front in
-        (of_kind a types.Truth e (typed blocks a plain e w.0 first) c.typed, stated x false b.0 w.1 second.0 second.1, stated y false b.1 w.2 back.0 back.1)
-    stated (tree.while e x) listed b w c i =
+        (of_kind a types.Truth e (typed blocks a plain e w.0 first) c.typed, stated x false b.0 w.1 t.0 second.0 second.1, stated y false b.1 w.2 t.1 back.0 back.1)
+    stated (tree.while e x) listed b w t c i =
         let front = each_front (IsClean blocks) (sites e a) (here_stmt x false a ∷ inside_stmt blocks x of_statement false a) i in
         let back = each_back (IsClean blocks) (sites e a) (here_stmt x false a ∷ inside_stmt blocks x of_statement false a) i in
-        (of_kind a types.Truth e (typed blocks a plain e w.0 front) c.typed, stated x false b w.1 back.0 back.1)
-    stated (tree.until x e) listed b w c i =
+        (of_kind a types.Truth e (typed blocks a plain e w.0 front) c.typed, stated x false b w.1 t back.0 back.1)
+    stated (tree.until x e) listed b w t c i =
         let front = each_front (IsClean blocks) (here_stmt x false a ∷ inside_stmt blocks x of_statement false a) (sites e a) i in
         let back = each_back (IsClean blocks) (here_stmt x false a ∷ inside_stmt blocks x of_statement false a) (sites e a) i in
-        (stated x false b w.0 front.0 front.1, of_kind a types.Truth e (typed blocks a plain e w.1 back) c.typed)
-    stated (tree.for v x s l d) listed b w c i =
+        (stated x false b w.0 t front.0 front.1, of_kind a types.Truth e (typed blocks a plain e w.1 back) c.typed)
+    stated (tree.for v x s l d) listed b w t c i =
         let these = here_stmt d false a ∷ inside_stmt blocks d of_statement false a in
         let three = each_front (IsClean blocks) (sites x a ++ sites s a ++ sites l a) these i in
         let two = each_front (IsClean blocks) (sites x a ++ sites s a) (sites l a) three in
@@ -138,23 +140,23 @@ module _ (blocks : List Block) (a : Surroundings) (plain : KnowsPlain a) where
         (typed blocks a plain x w.0 (each_front (IsClean blocks) (sites x a) (sites s a) two))
         (typed blocks a plain s w.1 (each_back (IsClean blocks) (sites x a) (sites s a) two))
         (typed blocks a plain l w.2 (each_back (IsClean blocks) (sites x a ++ sites s a) (sites l a) three))
-        (stated d false b w.3 back.0 back.1)
-    stated (tree.thru e x) listed b w c i =
+        (stated d false b w.3 t back.0 back.1)
+    stated (tree.thru e x) listed b w t c i =
         let front = each_front (IsClean blocks) (sites e a) (here_stmt x false a ∷ inside_stmt blocks x of_statement false a) i in
         let back = each_back (IsClean blocks) (sites e a) (here_stmt x false a ∷ inside_stmt blocks x of_statement false a) i in
-        (of_kind a types.Number e (typed blocks a plain e w.0 front) c.typed, stated x false b w.1 back.0 back.1)
-    stated (tree.case e ss) listed b w c i =
-        (of_kind a types.Number e (typed blocks a plain e w.0 (each_front (IsClean blocks) (sites e a) (sites_in_stmts blocks ss false a) i)) c.typed, all_stated ss false b w.1 (each_back (IsClean blocks) (sites e a) (sites_in_stmts blocks ss false a) i))
-    stated (tree.process (tree.called n es) task) listed b w c i =
+        (of_kind a types.Number e (typed blocks a plain e w.0 front) c.typed, stated x false b w.1 t back.0 back.1)
+    stated (tree.case e ss) listed b w t c i =
+        (of_kind a types.Number e (typed blocks a plain e w.0 (each_front (IsClean blocks) (sites e a) (sites_in_stmts blocks ss false a) i)) c.typed, all_stated ss false b w.1 t (each_back (IsClean blocks) (sites e a) (sites_in_stmts blocks ss false a) i))
+    stated (tree.process (tree.called n es) task) listed b w t c i =
         absurd (no_such (λ d. is_procedure d && not (is_some (read_type d))) n _ _ (λ k. refl) refl c.known c.typed)
-    stated (tree.event act e) listed b w c i =
+    stated (tree.event act e) listed b w t c i =
         absurd (none_happens e.task (class_of a e.name) e.name.spot (plain_first a plain e.name [] c.known) c.typed)
-    stated (tree.write n spot phrases es) listed b w c i =
-        (narrow_line phrases es spot c.lined c.narrow, fitting_line phrases es spot c.lined, typed_line blocks a plain es w i (nil_back (misnamed is_file (class_of a n) n.spot) (wrong_list types.Number es a) c.typed))
+    stated (tree.write n spot phrases es) listed b w t c i =
+        (fitting_phrases phrases es spot t c.lined c.narrow, fitting_line phrases es spot c.lined, typed_line blocks a plain es w i (nil_back (misnamed is_file (class_of a n) n.spot) (wrong_list types.Number es a) c.typed))
 
-    pub all_stated : (ss : PStmts) (listed : Bool) → AreBare ss → StmtsWhole ss → AreClean blocks (sites_in_stmts blocks ss listed a) → TypedStmts a ss
-    all_stated tree.no_stmts listed b w i = tt
-    all_stated (tree.stmts s ss) listed b w i =
+    pub all_stated : (ss : PStmts) (listed : Bool) → AreBare ss → StmtsWhole ss → StmtsPlain ss → AreClean blocks (sites_in_stmts blocks ss listed a) → TypedStmts a ss
+    all_stated tree.no_stmts listed b w t i = tt
+    all_stated (tree.stmts s ss) listed b w t i =
         let inside = inside_stmt blocks s of_statement listed a in
         let others = sites_in_stmts blocks ss listed a in
-        (stated s listed b.0 w.0 i.0 (each_front (IsClean blocks) inside others i.1), all_stated ss listed b.1 w.1 (each_back (IsClean blocks) inside others i.1))
+        (stated s listed b.0 w.0 t.0 i.0 (each_front (IsClean blocks) inside others i.1), all_stated ss listed b.1 w.1 t.1 (each_back (IsClean blocks) inside others i.1))

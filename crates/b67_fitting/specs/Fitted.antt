@@ -12,6 +12,7 @@ use Rattle.b67_ops.specs.declared.Couple.{Couple}
 use Rattle.b67_ops.specs.declared.TheConstants.{OUTER_LEVEL}
 use Rattle.b67_templates.specs.Fitting.{StmtsFit}
 use Rattle.b67_fitting.specs.OneBlock.{IsOneBlock}
+use Rattle.b67_fitting.specs.Texts.{HasPlainTexts}
 use Rattle.b67_fitting.specs.Wholes.{HasWholeNumbers}
 
 -- the couple of a name by its place is that of the cell that its declaration has
@@ -22,5 +23,5 @@ AreCouples p known =
 
 abbrev pub AcceptedProgramsFit : Type 0
 AcceptedProgramsFit =
-    (p : PProgram) (known : Spot → Option Couple) → Accepted p → IsInOrder p → IsOneBlock p → HasWholeNumbers p → AreCouples p known →
+    (p : PProgram) (known : Spot → Option Couple) → Accepted p → IsInOrder p → IsOneBlock p → HasWholeNumbers p → HasPlainTexts p → AreCouples p known →
     StmtsFit (scopes_of p) known OUTER_LEVEL ((block_numbered ((scopes_of p).blocks) 0).stmts)

@@ -5,10 +5,11 @@
 ghost use Rattle.b67_fitting.specs.Fitted.{AcceptedProgramsFit};
 ghost use Rattle.b67_fitting.specs.Flat.{OneBlockLiesFlat};
 ghost use Rattle.b67_fitting.specs.Numbers.{SourcesHaveWholeNumbers};
+ghost use Rattle.b67_fitting.specs.Texts.{SourcesHavePlainTexts};
 
 /// Law: the statements of an accepted program of one block fit, so they have code. Each expression has the kind that its
 /// place wants, each name is a simple variable whose couple a right table has, each line has as many items as its
-/// format prints numbers, and no word of the format is wider than a line.
+/// format prints numbers, and of the format no word is wider than a line, and each text can stand between quotes.
 pub fn accepted_programs_fit()
     ensures { AcceptedProgramsFit }
 {}
@@ -16,6 +17,11 @@ pub fn accepted_programs_fit()
 /// Law: each number in a source is whole, so that the machine has it.
 pub fn numbers_of_sources_are_whole()
     ensures { SourcesHaveWholeNumbers }
+{}
+
+/// Law: each text that a source writes has only printable bytes and no quote.
+pub fn texts_of_sources_are_plain()
+    ensures { SourcesHavePlainTexts }
 {}
 
 /// Law: an accepted program of one block lies flat. No block stands in its block, which declares each name that is used; it has at

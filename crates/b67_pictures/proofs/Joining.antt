@@ -1,8 +1,7 @@
--- A code in which a program of one block stands follows its source.
+-- A code in which a program of one block stands, and which is short and can be listed, is faithful to it.
 use Rattle.std.proofs.Common.{ℕ, ◌≤◌, List, length}
 use Rattle.std.specs.Prelude.{All}
 use Rattle.algol_tree.specs.declared.TheConstants.{MOST_SEGMENT_TOKENS}
-use Rattle.algol_tree.specs.Accepted.{Accepted}
 use Rattle.algol_tree.specs.Counts.{program_tokens}
 use Rattle.algol_tree.specs.Plain.{PProgram}
 use Rattle.algol_tree.specs.Scopes.{scopes_of}
@@ -15,10 +14,11 @@ use Rattle.b67_standing.proofs.GoingOn.{rests_go_on}
 use Rattle.b67_standing.proofs.Starting.{blocks_start}
 use Rattle.b67_cores.proofs.Performing.{steps_are_performed}
 use Rattle.b67_cores.proofs.Placing.{fragments_are_performed}
-use Rattle.b67_faithful.specs.Faithful.{Follows}
-use Rattle.b67_fitting.specs.OneBlock.{IsOneBlock}
+use Rattle.b67_listing.specs.Listings.{HasOperators, IsListable}
+use Rattle.b67_faithful.specs.Faithful.{IsShort, Faithful}
 use Rattle.b67_fitting.specs.Flat.{IsFlat, HasFewCells}
 use Rattle.b67_fitting.proofs.Flat.{one_block_lies_flat}
+use Rattle.b67_pictures.specs.Programs.{OneBlockProgramsAreFaithful}
 use Rattle.b67_pictures.proofs.Dispatching.{small_index, OthersAreDone}
 use Rattle.b67_pictures.proofs.Writing.{writing}
 use Rattle.b67_pictures.proofs.Selecting.{selecting}
@@ -26,6 +26,7 @@ use Rattle.b67_pictures.proofs.Ending.{ending}
 use Rattle.b67_pictures.proofs.Simulating as simulating
 use Rattle.b67_pictures.proofs.Starting.{first_pictured}
 use Rattle.b67_pictures.proofs.TouchingScenes.{processes_apart}
+use Rattle.b67_pictures.proofs.Counting.{operators_are_few}
 
 module _ (tree : PProgram) (code : Code) (flat : IsFlat (scopes_of tree)) (few : HasFewCells (scopes_of tree)) (short : program_tokens tree ≤ MOST_SEGMENT_TOKENS)
     (segments : All (λ (segment : Segment). length segment.words ≤ segment_limit) code.segments) (there : ProgramAt code tree) where
@@ -43,15 +44,19 @@ module _ (tree : PProgram) (code : Code) (flat : IsFlat (scopes_of tree)) (few :
             ending tree code texts flat w lay img p q part most bound core s able_p asks a;
       }
 
-  pub program_follows : Follows tree code
-  program_follows =
-      simulating.code_follows tree code texts flat few steps_are_performed fragments_are_performed rests_go_on others
+  program_is_faithful : IsShort tree code → IsListable code → Faithful tree code
+  program_is_faithful =
+      simulating.code_is_faithful tree code texts flat few steps_are_performed fragments_are_performed rests_go_on others
       (processes_apart tree code texts flat (small_index (scopes_of tree) flat few) rests_go_on)
+      (operators_are_few tree code texts flat)
       (first_pictured tree code texts flat few short fragments_are_performed blocks_start there.segment there.alone there.spells there.body)
 
--- An accepted program of one block lies flat, so a code in which it stands follows it.
-pub accepted_programs_follow : (tree : PProgram) (code : Code) → Accepted tree → IsOneBlock tree → All (λ (segment : Segment). length segment.words ≤ segment_limit) code.segments → ProgramAt code tree →
-    Follows tree code
-accepted_programs_follow tree code accepted one segments there =
+-- segments that can be listed have no more words than a segment may have
+within_limit : (segments : List Segment) → All HasOperators segments → All (λ (segment : Segment). length segment.words ≤ segment_limit) segments
+within_limit segments all k first inside = (all k first inside).1.few
+
+-- An accepted program of one block lies flat, so a code in which it stands is faithful to it.
+pub one_block_programs_are_faithful : OneBlockProgramsAreFaithful
+one_block_programs_are_faithful tree code accepted one there short listable =
     let lies = one_block_lies_flat tree accepted one in
-    program_follows tree code lies.flat lies.few lies.short segments there
+    program_is_faithful tree code lies.flat lies.few lies.short (within_limit code.segments listable.segments) there short listable

@@ -40,4 +40,5 @@ pub mod Weighing
 pub mod Zeros
 pub mod Starting
 pub mod TouchingScenes
+pub mod Counting
 pub mod Joining

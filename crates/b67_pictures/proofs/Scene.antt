@@ -60,7 +60,7 @@ module _ (tree : PProgram) (code : Code) (texts : ℕ → List Placed) (w : Worl
     pub light : bound + 3 ≤ weight tree w p
     pub small : bound ≤ stack_limit
 
-  outer_level : IsFlat sc → level_of (block_numbered sc.blocks 0) ≡ OUTER_LEVEL
+  pub outer_level : IsFlat sc → level_of (block_numbered sc.blocks 0) ≡ OUTER_LEVEL
   outer_level flat = ap (λ (bs : List Block). level_of (block_numbered bs 0)) flat.alone ∙ ap (λ (o : List Spot). length o + 2) flat.outer
 
   module _ (flat : IsFlat sc) where

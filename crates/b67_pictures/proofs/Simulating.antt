@@ -23,10 +23,11 @@ use Rattle.b67_table.specs.Touches.{IsPrivate}
 use Rattle.b67_table.specs.Sound.{Lives, OperatorTouches}
 use Rattle.b67_standing.specs.Laws.{RestsGoOn}
 use Rattle.b67_cores.specs.Stretches.{StepsArePerformed, FragmentsArePerformed}
-use Rattle.b67_faithful.specs.Faithful.{Follows}
-use Rattle.b67_faithful.specs.Simulation.{Acted, Comes, acts, Simulates}
+use Rattle.b67_listing.specs.Listings.{IsListable}
+use Rattle.b67_faithful.specs.Faithful.{IsShort, Faithful}
+use Rattle.b67_faithful.specs.Simulation.{AreFew, Acted, Comes, acts, Simulates}
 use Rattle.b67_faithful.proofs.Contradictions.{true_false, gives_same, faults_same, gives_faults}
-use Rattle.b67_faithful.proofs.Following.{simulations_follow}
+use Rattle.b67_faithful.proofs.Counting.{simulations_are_faithful}
 use Rattle.b67_fitting.specs.Flat.{IsFlat, HasFewCells}
 use Rattle.b67_pictures.specs.Acting.{Does, gave, failed_by}
 use Rattle.b67_pictures.specs.Pictures.{Pictured, living, dead, PicturesBy, Pictures}
@@ -58,6 +59,11 @@ PicturesSome tree code texts w img = Pictures tree code texts w img × (1 ≤ le
 abbrev pub StandApart : PProgram → Code → (ℕ → List Placed) → Type 0
 StandApart tree code texts =
     (w : World) (lay : List Place) (a : Image) → PicturesBy tree code texts w lay a → (p q : ℕ) (x : Place) (r : Registers) → OperatorTouches code a p x → Lives a q r → IsPrivate r x → p ≡ q
+
+-- the plain operators of a process of a pictured image are few
+abbrev pub OperatorsAreFew : PProgram → Code → (ℕ → List Placed) → Type 0
+OperatorsAreFew tree code texts =
+    (w : World) (lay : List Place) (a : Image) → PicturesBy tree code texts w lay a → (b : Image) (p n : ℕ) → Plains code p a n b → AreFew code p n b
 
 module _ (tree : PProgram) (code : Code) (texts : ℕ → List Placed) (flat : IsFlat (scopes_of tree)) (few : HasFewCells (scopes_of tree)) (performed : StepsArePerformed) (fragments : FragmentsArePerformed) (rests : RestsGoOn)
     (others : OthersAreDone tree code texts) where
@@ -126,7 +132,7 @@ module _ (tree : PProgram) (code : Code) (texts : ℕ → List Placed) (flat : I
 
   -- ---- all of it
 
-  module _ (apart : StandApart tree code texts) (first : Pictures tree code texts (start (scopes_of tree)) first_image) where
+  module _ (apart : StandApart tree code texts) (few_operators : OperatorsAreFew tree code texts) (first : Pictures tree code texts (start (scopes_of tree)) first_image) where
     some_first : 1 ≤ length (start (scopes_of tree)).processes
     unfolding start
     some_first = omega arith
@@ -140,6 +146,7 @@ module _ (tree : PProgram) (code : Code) (texts : ℕ → List Placed) (flat : I
               let one : IsAble tree code texts w pic.0.0 a pic.0.1 p = able_one tree code texts w pic.0.0 a pic.0.1 p (able_acts a p may) in
               as_action w pic.0.0 a pic.0.1 p (some_after w pic.0.0 a pic.0.1 p pic.1 one) x (operator_of w pic.0.0 a pic.0.1 p one);
           come = λ w a p pic may. comes w pic.0.0 a pic.0.1 p (able_one tree code texts w pic.0.0 a pic.0.1 p (able_acts a p may));
+          few = λ w a b p n pic plains. few_operators w pic.0.0 a pic.0.1 b p n plains;
           shows = λ w a pic.
               record {
                 output = pic.0.1.output;
@@ -156,6 +163,6 @@ module _ (tree : PProgram) (code : Code) (texts : ℕ → List Placed) (flat : I
           apart = λ w a pic p q x r touches lives private. apart w pic.0.0 a pic.0.1 p q x r touches lives private;
         }
 
-    -- so the code follows the source
-    pub code_follows : Follows tree code
-    code_follows = simulations_follow tree code (PicturesSome tree code texts) simulation
+    -- so the code is faithful to the source
+    pub code_is_faithful : IsShort tree code → IsListable code → Faithful tree code
+    code_is_faithful = simulations_are_faithful tree code (PicturesSome tree code texts) simulation

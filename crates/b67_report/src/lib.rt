@@ -70,7 +70,7 @@ pub fn text(alloc: Global, report: &Report) -> Result<Vec<u8>, AllocError>
 }
 
 /// Appends a head line with the number of lines, and the lines.
-fn push_lines(text: &mut Vec<u8>, head: &[u8], lines: &List<Line>) -> Result<(), AllocError>
+pub fn push_lines(text: &mut Vec<u8>, head: &[u8], lines: &List<Line>) -> Result<(), AllocError>
     ensures { OnOk result (text.new.items ≡ text.old.items ++ lines_text head.now lines.now) }
 {
     push_head(text, head, lines.items().len())?;

@@ -1,6 +1,7 @@
--- Which trees have code: each part has the kind that its place wants, each name is a variable whose couple is known, and no word of
--- a format is wider than a line.
-use Rattle.std.specs.Prelude.{◌≡◌, ℕ, Option, Some, List, [], ◌∷◌, ◌≤◌}
+-- Which trees have code: each part has the kind that its place wants, each name is a variable whose couple is known, and of a format
+-- no word is wider than a line, and each text can stand between quotes.
+use Rattle.std.specs.Prelude.{◌≡◌, ℕ, not, IsTrue, Option, Some, List, [], ◌∷◌, ◌≤◌}
+use Rattle.std.specs.List.{All}
 use Rattle.algol_tree.specs.declared.token.Spot.{Spot}
 use Rattle.algol_tree.specs.declared.tree.Kind.{Kind}
 use Rattle.algol_tree.specs.declared.tree.Kind.TheVariants as types
@@ -8,6 +9,7 @@ use Rattle.algol_tree.specs.declared.tree.Named.{Named}
 use Rattle.algol_tree.specs.declared.tree.PhraseText.{PhraseText}
 use Rattle.algol_tree.specs.declared.tree.PhraseText.TheVariants as phrase
 use Rattle.algol_tree.specs.declared.TheConstants.{MOST_LINE_WIDTH}
+use Rattle.algol_tree.specs.Lexes.{is_printable, is_quote}
 use Rattle.algol_tree.specs.Spelling.{value_of}
 use Rattle.algol_tree.specs.Plain as tree
 use Rattle.algol_tree.specs.Plain.{PExpr, PExprs, PStmt, PStmts}
@@ -19,18 +21,22 @@ use Rattle.b67_templates.specs.Fragments.{IsWhole}
 use Rattle.b67_templates.specs.Cells.{IsVariable}
 use Rattle.b67_templates.specs.Code.{AreParts, numbers_in, exprs_count}
 
+-- each byte of the text is printable and no quote
+abbrev pub IsPlainText : List ℕ → Type 0
+IsPlainText bytes = All (λ (b : ℕ). IsTrue (is_printable b) × IsTrue (not (is_quote b))) bytes
+
 -- a word's number is of columns, no more than a line has
 abbrev pub IsNarrowWord : List ℕ → Type 0
 IsNarrowWord [] = Unit {0}
 IsNarrowWord (letter ∷ digits) = value_of digits ≤ MOST_LINE_WIDTH
 
-abbrev pub IsNarrow : PhraseText → Type 0
-IsNarrow (phrase.Text bytes) = Unit {0}
-IsNarrow (phrase.Word word) = IsNarrowWord word
+abbrev pub PhraseFits : PhraseText → Type 0
+PhraseFits (phrase.Text bytes) = IsPlainText bytes
+PhraseFits (phrase.Word word) = IsNarrowWord word
 
-abbrev pub AreNarrow : List PhraseText → Type 0
-AreNarrow [] = Unit {0}
-AreNarrow (p ∷ ps) = IsNarrow p × AreNarrow ps
+abbrev pub PhrasesFit : List PhraseText → Type 0
+PhrasesFit [] = Unit {0}
+PhrasesFit (p ∷ ps) = PhraseFits p × PhrasesFit ps
 
 -- `known` are the couples of names by their places in the text
 module _ (sc : Scopes) (known : Spot → Option Couple) (level : ℕ) where
@@ -56,9 +62,9 @@ module _ (sc : Scopes) (known : Spot → Option Couple) (level : ℕ) where
   LineFits tree.none = Unit {0}
   LineFits (tree.more e es) = ExprFits types.Number e × LineFits es
 
-  -- no word is wider than a line, and there are as many items as the phrases have numbers
+  -- the phrases fit, and there are as many items as they have numbers
   abbrev pub WriteFits : List PhraseText → PExprs → Type 0
-  WriteFits phrases es = AreNarrow phrases × ((parts : List Phrase) → AreParts phrases parts → numbers_in parts ≡ exprs_count es) × LineFits es
+  WriteFits phrases es = PhrasesFit phrases × ((parts : List Phrase) → AreParts phrases parts → numbers_in parts ≡ exprs_count es) × LineFits es
 
   abbrev mutual
     pub StmtFits : PStmt → Type 0

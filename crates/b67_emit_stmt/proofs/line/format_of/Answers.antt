@@ -1,6 +1,6 @@
 use Rattle.std.proofs.Common.{◌+◌, drop, take, subst}
-use Rattle.b67_templates.specs.Fitting.{AreNarrow}
-use Rattle.b67_emit_stmt.proofs.Lines.{narrow_at, parts_more}
+use Rattle.b67_templates.specs.Fitting.{PhrasesFit}
+use Rattle.b67_emit_stmt.proofs.Lines.{phrase_fits, parts_more}
 use Rattle.b67_emit_stmt.proofs.Lists.{around, front_more}
 use Rattle.b67_emit_stmt.proofs.line.format_of.Goals as goal
 
@@ -9,7 +9,7 @@ phrase_of-requires c =
     let ts = c.args.texts.now in
     let i = c.texts.text-index in
     let t = c.text-item.result in
-    narrow_at (take i ts) t (drop (i + 1) ts) (subst AreNarrow (around ts i t c.texts-test.true c.text-item.is) c.requires)
+    phrase_fits (take i ts) t (drop (i + 1) ts) (subst PhrasesFit (around ts i t c.texts-test.true c.text-item.is) c.requires)
 
 pub texts-preserved : goal.texts-preserved
 texts-preserved c =

@@ -37,7 +37,7 @@ returns g c =
     write_part sc level c.args.phrases.now es a b d e f c.in_ok-format.format (write_syllables es) refl c.in_ok-push.ensures.items c.requires.ready.few
     (omega (arith, c.in_ok-append_intrinsic.ensures.size, (c.in_ok-append_number.ensures.code).grown, (c.in_ok-items.ensures.code sc a.formats.items (subst F (sym r) fit.2)).grown, c.in_ok-append_plain.ensures.size))
     (omega (arith, c.in_ok-append_intrinsic.ensures.size, c.in_ok-append_number.ensures.size, c.in_ok-items.ensures.size, c.in_ok-append_plain.ensures.size))
-    c.in_ok-format.ensures (fit.1 c.in_ok-format.format.phrases c.in_ok-format.ensures) c.in_ok-append_intrinsic.ensures.code
+    c.in_ok-format.ensures fit.0 (fit.1 c.in_ok-format.format.phrases c.in_ok-format.ensures) c.in_ok-append_intrinsic.ensures.code
     (subst N number (leveled (λ l qs. NumberAt qs l c.fitting.result (size b.out.operators) (size d.out.operators)) level q c.in_ok-append_number.ensures.code))
     (λ formats. leveled (λ l qs. LineAt sc formats qs l es (size d.out.operators) (size e.out.operators)) level r (c.in_ok-items.ensures.code sc formats (subst F (sym r) fit.2)))
     (plain_at kinds.Entr level t c.in_ok-append_plain.ensures.code)

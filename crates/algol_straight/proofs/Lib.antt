@@ -1,7 +1,0 @@
-mod ResolveNames
-mod ResolveWidth
-mod Sums
-mod Listing
-mod Making
-mod MakingSteps
-mod MakingProgram

@@ -1,5 +1,0 @@
-pub mod Straight
-pub mod Built
-pub mod Shape
-pub mod Resolver
-pub mod Steps

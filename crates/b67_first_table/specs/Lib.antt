@@ -1,9 +1,0 @@
-pub mod Effect
-pub mod Operators
-pub mod Private
-pub mod Image
-pub mod Program
-pub mod Rows
-pub mod Table
-pub mod Runs
-pub mod Sound
