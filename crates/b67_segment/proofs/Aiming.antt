@@ -76,7 +76,7 @@ module _ (before after : List Placed) (level : ℕ) (kind : BranchKind) where
       record {
         code = text_is;
         marks = b.marks ∙ branch-marks old target;
-        fit = AreFit-append before (branch target ∷ after) parts.0 (record { known = parts.1.known; fits = fits }, parts.2);
+        fit = AreFit-append before (branch target ∷ after) parts.0 (record { outer = parts.1.outer; known = parts.1.known; fits = fits }, parts.2);
         room = omega (
           arith,
           b.room,

@@ -5,7 +5,7 @@ use Rattle.std.specs.Option.{ForSome}
 use Rattle.std.specs.Prelude.{Result, Ok, Err, OnOk, OnErr}
 use Rattle.std.specs.declared.alloc.AllocError.{AllocError}
 use Rattle.b67_segment.specs.declared.TheConstants.{MOST_SEGMENT_WORDS}
-use Rattle.b67_ops.specs.declared.TheConstants.{MOST_LEVEL}
+use Rattle.b67_ops.specs.declared.TheConstants.{OUTER_LEVEL, MOST_LEVEL}
 use Rattle.b67_ops.specs.declared.Operator.{Operator}
 use Rattle.b67_ops.specs.Spelling.{spelling, Fits}
 use Rattle.b67_segment.specs.declared.code.Mark.{Mark}
@@ -23,7 +23,7 @@ operators_of-none = operators_of-built Builds-none
 
 -- what is built is kept
 pub IsBuilt-from : {ps : List Placed} {bytes : List ℕ} {ms : List Mark} (level : Option ℕ) (room : ℕ) → Builds ps bytes ms
-    → ForSome level (λ l. l ≤ MOST_LEVEL) → (marked None ms ≢ level → 0 < room) → IsBuilt bytes ms level room
+    → ForSome level (λ l. (OUTER_LEVEL ≤ l) × (l ≤ MOST_LEVEL)) → (marked None ms ≢ level → 0 < room) → IsBuilt bytes ms level room
 IsBuilt-from {ps} {bytes} {ms} level room b known marking = record {
   builds = subst (λ qs. Builds qs bytes ms) (sym (operators_of-built b)) b;
   known = known;
@@ -39,10 +39,10 @@ marks_with-append true m ms = append-nil ms
 marks_with-append false m ms = refl
 
 -- one more operator is built by its syllables, and by its mark
-pub Builds-append : {ps : List Placed} {bytes : List ℕ} {ms : List Mark} (level : ℕ) (op : Operator) → Builds ps bytes ms → level ≤ MOST_LEVEL → Fits level op
+pub Builds-append : {ps : List Placed} {bytes : List ℕ} {ms : List Mark} (level : ℕ) (op : Operator) → Builds ps bytes ms → OUTER_LEVEL ≤ level → level ≤ MOST_LEVEL → Fits level op
     → length bytes + length (spelling (length bytes) level op) ≤ 6 * MOST_SEGMENT_WORDS
     → Builds (ps ++ record { level = level; operator = op } ∷ []) (bytes ++ spelling (length bytes) level op) (marks_with ms (length bytes) level)
-Builds-append {ps} {bytes} {ms} level op b most fits room =
+Builds-append {ps} {bytes} {ms} level op b outer most fits room =
     let p : Placed = record { level = level; operator = op } in
     let at = length bytes in
     let sp = spelling at level op in
@@ -60,7 +60,7 @@ Builds-append {ps} {bytes} {ms} level op b most fits room =
     record {
       code = sym all;
       marks = sym told;
-      fit = AreFit-append ps (p ∷ []) b.fit (record { known = most; fits = fits }, tt);
+      fit = AreFit-append ps (p ∷ []) b.fit (record { outer = outer; known = most; fits = fits }, tt);
       room = omega (arith, length-append bytes sp);
     }
 
@@ -79,7 +79,7 @@ marked-with ms at level = marked-cases (is_level (marked None ms) level) ms at l
 
 module _ (bytes : List ℕ) (ms : List Mark) (room level : ℕ) (op : Operator) (built : IsBuilt bytes ms (Some level) room) (fits : Fits level op)
     (short : length bytes + length (spelling (length bytes) level op) ≤ 6 * MOST_SEGMENT_WORDS) where
-  known : level ≤ MOST_LEVEL
+  known : (OUTER_LEVEL ≤ level) × (level ≤ MOST_LEVEL)
   known = built.known level refl
 
   -- what a call of append leaves is kept, whether or not there was memory
@@ -87,7 +87,7 @@ module _ (bytes : List ℕ) (ms : List Mark) (room level : ℕ) (op : Operator) 
       → OnOk r (bytes' ≡ bytes ++ spelling (length bytes) level op) → OnOk r (ms' ≡ marks_with ms (length bytes) level)
       → OnErr r ((bytes' ≡ bytes) × (ms' ≡ ms) × (room' ≡ room)) → IsBuilt bytes' ms' (Some level) room'
   append-keeps bytes' ms' room' (Ok place) p q e =
-      rw (p, q) (IsBuilt-from (Some level) room' (Builds-append level op built.builds known fits short) (λ l e. built.known l e)
+      rw (p, q) (IsBuilt-from (Some level) room' (Builds-append level op built.builds known.0 known.1 fits short) (λ l e. built.known l e)
       (λ other. absurd (other (marked-with ms (length bytes) level))))
   append-keeps bytes' ms' room' (Err none) p q e = rw (e.0, e.1, e.2) built
 
@@ -95,7 +95,7 @@ module _ (bytes : List ℕ) (ms : List Mark) (room level : ℕ) (op : Operator) 
   pub append-adds : (bytes' : List ℕ) (ms' : List Mark) (r : Result ℕ AllocError)
       → OnOk r (bytes' ≡ bytes ++ spelling (length bytes) level op) → OnOk r (ms' ≡ marks_with ms (length bytes) level)
       → OnOk r (operators_of bytes' ms' ≡ operators_of bytes ms ++ record { level = level; operator = op } ∷ [])
-  append-adds bytes' ms' (Ok place) p q = rw (p, q) (operators_of-built (Builds-append level op built.builds known fits short))
+  append-adds bytes' ms' (Ok place) p q = rw (p, q) (operators_of-built (Builds-append level op built.builds known.0 known.1 fits short))
   append-adds bytes' ms' (Err none) p q = tt
 
 -- so the builder is seen with one operator more

@@ -7,7 +7,7 @@ use Rattle.std.proofs.Math.Seq.{take-add}
 use Rattle.std.proofs.lemmas.Grind.{flat_map-append}
 use Rattle.std.proofs.lemmas.Bool.{eq-eqb, cond-true}
 use Rattle.std.proofs.lemmas.List.{append-nil, take-replicate}
-use Rattle.b67_ops.specs.declared.TheConstants.{MOST_LEVEL}
+use Rattle.b67_ops.specs.declared.TheConstants.{OUTER_LEVEL, MOST_LEVEL}
 use Rattle.b67_ops.specs.declared.Operator.TheVariants.{Plain}
 use Rattle.b67_ops.specs.declared.PlainKind.TheVariants.{Noop}
 use Rattle.b67_ops.proofs.Reading.{word-bytes}
@@ -39,14 +39,15 @@ marks-noops at level zero = refl
 marks-noops at level (suc count) =
     cond-true (eqb level level) _ _ (eq-eqb level level refl) ∙ marks-noops (at + 1) level count
 
-AreFit-noops : (level count : ℕ) → level ≤ MOST_LEVEL → AreFit (replicate count (noop level))
-AreFit-noops level zero h = tt
-AreFit-noops level (suc count) h = (record { known = h; fits = tt }, AreFit-noops level count h)
+AreFit-noops : (level count : ℕ) → OUTER_LEVEL ≤ level → level ≤ MOST_LEVEL → AreFit (replicate count (noop level))
+AreFit-noops level zero outer known = tt
+AreFit-noops level (suc count) outer known = (record { outer = outer; known = known; fits = tt }, AreFit-noops level count outer known)
 
 -- the last operator has a level, which is known
-last-some : (level : ℕ) (ps : List Placed) → level ≤ MOST_LEVEL → AreFit ps → (last : ℕ) × (last_level (Some level) ps ≡ Some last) × (last ≤ 31)
-last-some level [] h fit = (level, refl, h)
-last-some level (p ∷ ps) h fit = last-some p.level ps fit.0.known fit.1
+last-some : (level : ℕ) (ps : List Placed) → OUTER_LEVEL ≤ level → level ≤ MOST_LEVEL → AreFit ps →
+    (last : ℕ) × (last_level (Some level) ps ≡ Some last) × (OUTER_LEVEL ≤ last) × (last ≤ MOST_LEVEL)
+last-some level [] outer known fit = (level, refl, outer, known)
+last-some level (p ∷ ps) outer known fit = last-some p.level ps fit.0.outer fit.0.known fit.1
 
 -- the NOOPs that fill a segment stand at the last operator's level, so they have no mark
 pub filled-text : (ps : List Placed) → AreFit ps
@@ -54,7 +55,7 @@ pub filled-text : (ps : List Placed) → AreFit ps
 filled-text [] fit = (refl, refl, tt)
 filled-text (p ∷ ps) fit =
     let all = p ∷ ps in
-    let last = last-some p.level ps fit.0.known fit.1 in
+    let last = last-some p.level ps fit.0.outer fit.0.known fit.1 in
     let count = missing (size all) in
     let level : unwrap_or (last_level None all) 0 ≡ last.0 = ap (λ k. unwrap_or k 0) last.1 in
     let fills : filled all ≡ all ++ replicate count (noop last.0) = ap (λ k. all ++ replicate count (noop k)) level in
@@ -63,7 +64,7 @@ filled-text (p ∷ ps) fit =
     ap (λ k. marks_after at k (replicate count (noop last.0))) last.1 ∙ marks-noops at last.0 count in (
       ap (text 0) fills ∙ text-append 0 all (replicate count (noop last.0)) ∙ ap (λ xs. text 0 all ++ xs) (text-noops at last.0 count),
       ap marks_of fills ∙ marks_after-append 0 None all (replicate count (noop last.0)) ∙ ap (λ xs. marks_of all ++ xs) told ∙ append-nil (marks_of all),
-      subst AreFit (sym fills) (AreFit-append all (replicate count (noop last.0)) fit (AreFit-noops last.0 count last.2)),
+      subst AreFit (sym fills) (AreFit-append all (replicate count (noop last.0)) fit (AreFit-noops last.0 count last.2 last.3)),
     )
 
 -- one more word is six more syllables

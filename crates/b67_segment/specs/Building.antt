@@ -3,7 +3,7 @@ use Rattle.std.specs.Prelude.{◌*◌, ◌≡◌, ◌≢◌, ℕ, ◌<◌, zero,
 use Rattle.std.specs.Option.{ForSome}
 use Rattle.std.specs.Int.{w16, to_be_bytes}
 use Rattle.b67_segment.specs.declared.TheConstants.{MOST_SEGMENT_WORDS}
-use Rattle.b67_ops.specs.declared.TheConstants.{MOST_LEVEL}
+use Rattle.b67_ops.specs.declared.TheConstants.{OUTER_LEVEL, MOST_LEVEL}
 use Rattle.b67_ops.specs.declared.Operator.{Operator}
 use Rattle.b67_ops.specs.declared.Operator.TheVariants.{Branch}
 use Rattle.b67_ops.specs.declared.BranchKind.{BranchKind}
@@ -69,7 +69,7 @@ marks_with ms at level = if is_level (marked None ms) level then ms else (ms ++ 
 -- what a builder keeps: its syllables and marks are those of operators, and there is room for the next mark
 pub record IsBuilt (bytes : List ℕ) (ms : List Mark) (level : Option ℕ) (room : ℕ) : Type 0 where
   pub builds : Builds (operators_of bytes ms) bytes ms
-  pub known : ForSome level (λ l. l ≤ MOST_LEVEL)
+  pub known : ForSome level (λ l. (OUTER_LEVEL ≤ l) × (l ≤ MOST_LEVEL))
   pub marking : marked None ms ≢ level → 0 < room
 
 -- a branch stands at this place

@@ -1,6 +1,6 @@
 -- Operators that stand one after another, each at a level: their syllables, their marks, and which stands where.
 use Rattle.std.specs.Prelude.{◌≡◌, ℕ, ◌+◌, ◌-◌, ◌%◌, ◌≤◌, nat_eq, Bool, false, Option, Some, None, unwrap_or, List, [], ◌∷◌, ◌++◌, length, replicate, if◌then◌else◌}
-use Rattle.b67_ops.specs.declared.TheConstants.{MOST_LEVEL}
+use Rattle.b67_ops.specs.declared.TheConstants.{OUTER_LEVEL, MOST_LEVEL}
 use Rattle.b67_ops.specs.declared.Operator.{Operator}
 use Rattle.b67_ops.specs.declared.Operator.TheVariants.{Valc, Namc, Lt8, Lt16, Lt48, Mpcw, Branch, Plain}
 use Rattle.b67_ops.specs.declared.PlainKind.TheVariants.{Noop}
@@ -42,8 +42,9 @@ marks_after at before (p ∷ ps) =
 abbrev pub marks_of : List Placed → List Mark
 marks_of ps = marks_after 0 None ps
 
--- an operator fits the level at which it stands
+-- an operator fits the level at which it stands, which is that of a block
 pub record IsFit (p : Placed) : Type 0 where
+  pub outer : OUTER_LEVEL ≤ p.level
   pub known : p.level ≤ MOST_LEVEL
   pub fits : Fits p.level p.operator
 

@@ -1,7 +1,7 @@
 ghost use Rattle.std.specs.Prelude.{◌≡◌, ◌≢◌, ◌+◌, ◌-◌, ◌*◌, ◌/◌, ◌%◌, ◌^◌, replicate, All, ◌<◌, ◌≤◌, ◌++◌, Some, None, [], ◌∷◌, length, vec_len, vec_capacity, IsSome, IfOk, OnOk, OnErr};
 ghost use Rattle.std.specs.Int.{bytes_high_first};
 ghost use Rattle.b67_segment.specs.declared.TheConstants.{MOST_SEGMENT_WORDS};
-ghost use Rattle.b67_ops.specs.declared.TheConstants.{MOST_LEVEL};
+ghost use Rattle.b67_ops.specs.declared.TheConstants.{OUTER_LEVEL, MOST_LEVEL};
 ghost use Rattle.b67_ops.specs.Spelling.{spelling, Fits};
 ghost use Rattle.b67_segment.specs.Operators.{is_level, size, aimed_from, missing, filler, filled};
 ghost use Rattle.b67_segment.specs.Building.{level_set, appended, marked, marks_with, spliced, IsBranchAt};
@@ -137,10 +137,11 @@ impl Builder {
         }
     }
 
-    /// Sets the level of the operators that follow, and makes room for its mark. On `Err` nothing
+    /// Sets the level of the operators that follow, that of a block, and makes room for its mark. On `Err` nothing
     /// changes.
     pub fn level(&mut self, level: u8) -> Result<(), AllocError>
-        requires { level ≤ MOST_LEVEL }
+        requires outer { OUTER_LEVEL ≤ level }
+        requires most { level ≤ MOST_LEVEL }
         ensures ok { OnOk result (self.new ≡ record self.old { level = Some level }) }
         ensures err { OnErr result (self.new ≡ self.old) }
     {
