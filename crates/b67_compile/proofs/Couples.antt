@@ -1,0 +1,49 @@
+-- What the scopes of a tree tell of couples is what its declarations say.
+use Rattle.std.proofs.Common.{◌≡◌, ◌+◌, ◌<◌, Option, Some, None, refl, sym, ap, ◌∙◌, subst}
+use Rattle.algol_tree.specs.declared.TheConstants.{MOST_BLOCK_CELLS}
+use Rattle.algol_tree.specs.declared.token.Spot.{Spot}
+use Rattle.algol_tree.specs.Cells as cells
+use Rattle.algol_tree.specs.Couples.{Located, declaration_at}
+use Rattle.algol_tree.specs.Plain.{PProgram}
+use Rattle.algol_scope.specs.declared.scopes.Couple as found
+use Rattle.algol_scope.specs.declared.scopes.Declared.{Declared}
+use Rattle.algol_scope.specs.declared.scopes.Scopes.{Scopes}
+use Rattle.algol_scope.specs.Resolved.{couple, located, declaration_of, AreOf}
+use Rattle.b67_ops.specs.declared.Couple.{Couple}
+use Rattle.b67_emitter.specs.Values.{couple_found, couple_declared, couples, AreNear}
+use Rattle.b67_fitting.specs.Fitted.{AreCouples}
+
+same_couple : (o : Option found.Couple) (c : cells.Couple) → couple o ≡ Some c → couple_found o ≡ Some (record { level = c.level; index = c.index })
+same_couple None c h = absurd (let clash : None ≡ Some c = h in cc)
+same_couple (Some y) c h =
+    let same : record { level = y.level; index = y.index } ≡ c = cc in
+    ap (λ (z : cells.Couple). Some (record { level = z.level; index = z.index })) same
+
+same_declared : (o : Option Declared) (d : Located) (c : cells.Couple) → located o ≡ Some d → d.couple ≡ Some c →
+    couple_declared o ≡ Some (record { level = c.level; index = c.index })
+same_declared None d c h g = absurd (let clash : None ≡ Some d = h in cc)
+same_declared (Some x) d c h g =
+    let same : record { spot = x.spot; level = x.level; couple = couple x.couple } ≡ d = cc in
+    same_couple x.couple c (ap (λ (z : Located). z.couple) same ∙ g)
+
+-- the cell of a couple that is found, as its declaration tells it
+index_of : (o : Option found.Couple) (c : Couple) → couple_found o ≡ Some c → (e : cells.Couple) × (couple o ≡ Some e) × (e.index ≡ c.index)
+index_of None c h = absurd (let clash : None ≡ Some c = h in cc)
+index_of (Some y) c h =
+    let same : record { level = y.level; index = y.index } ≡ c = cc in
+    (record { level = y.level; index = y.index }, refl, ap (λ (z : Couple). z.index) same)
+
+module _ (p : PProgram) (s : Scopes) (are : AreOf p s) where
+  pub couples_known : AreCouples p (couples s)
+  couples_known spot d c h g = same_declared (declaration_of s spot) d c (are.declarations spot ∙ h) g
+
+  pub couples_near : ((spot : Spot) (d : Located) (c : cells.Couple) → declaration_at p spot ≡ Some d → d.couple ≡ Some c → c.index < 2 + MOST_BLOCK_CELLS) →
+      AreNear s
+  couples_near near spot c h = by (declaration_of s spot) refl h
+    where
+      by : (o : Option Declared) → declaration_of s spot ≡ o → couple_declared o ≡ Some c → c.index < 2 + MOST_BLOCK_CELLS
+      by None e g = absurd (let clash : None ≡ Some c = g in cc)
+      by (Some x) e g =
+          let i = index_of x.couple c g in
+          let there = sym (are.declarations spot) ∙ ap located e in
+          subst (λ n. n < 2 + MOST_BLOCK_CELLS) i.2 (near spot (record { spot = x.spot; level = x.level; couple = couple x.couple }) i.0 there i.1)

@@ -1,0 +1,48 @@
+//! The code of a program.
+
+ghost use Rattle.std.specs.Prelude.{IfOk};
+ghost use Rattle.algol_tree.specs.Accepted.{Accepted};
+ghost use Rattle.algol_tree.specs.Ascending.{IsInOrder};
+ghost use Rattle.algol_tree.specs.Image as plain;
+ghost use Rattle.algol_scope.specs.Resolved.{AreOf};
+ghost use Rattle.b67_listing.specs.Listings.{IsListable};
+ghost use Rattle.b67_templates.specs.Programs.{ProgramAt};
+ghost use Rattle.b67_fitting.specs.OneBlock.{IsOneBlock};
+ghost use Rattle.b67_fitting.specs.Texts.{HasPlainTexts};
+ghost use Rattle.b67_fitting.specs.Wholes.{HasWholeNumbers};
+ghost use Rattle.b67_faithful.specs.Faithful.{IsShort};
+
+use algol_scope::Scopes;
+use algol_tree::Program;
+use b67_emit_stmt::emit_body;
+use b67_emitter::ExprEmitter;
+use b67_list::List;
+use b67_segment::Code;
+use std::alloc::{AllocError, Global};
+
+/// The code of a program whose declarations are all simple variables and files of its outer block: one segment, and a format for
+/// each line that is written, in order.
+pub fn compile<E: ExprEmitter>(
+    alloc: Global,
+    exprs: &E,
+    program: &Program,
+    scopes: &Scopes,
+) -> Result<Code, AllocError>
+    requires resolved { AreOf (plain.program program.now) scopes.now }
+    requires accepted { Accepted (plain.program program.now) }
+    requires order { IsInOrder (plain.program program.now) }
+    requires whole { HasWholeNumbers (plain.program program.now) }
+    requires texts { HasPlainTexts (plain.program program.now) }
+    requires one { IsOneBlock (plain.program program.now) }
+    ensures code { IfOk result (λ code. ProgramAt code (plain.program program.now)) }
+    ensures short { IfOk result (IsShort (plain.program program.now)) }
+    ensures listable { IfOk result IsListable }
+{
+    let (segment, formats) = emit_body(alloc, exprs, scopes, &program.body)?;
+    let mut segments = Vec::new(alloc);
+    segments.push(segment)?;
+    Ok(Code {
+        segments: List::of(segments),
+        formats: List::of(formats),
+    })
+}
