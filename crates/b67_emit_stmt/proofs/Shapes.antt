@@ -69,7 +69,7 @@ event_is act e = search (rules, stmts'.the_lemmas)
 write_is : (n : Named) (spot : Spot) (ps : List PhraseText) (es : List Expr) → stmt (shapes.Write n spot ps es) ≡ tree.write n spot ps (exprs es)
 write_is n spot ps es = search (rules, stmts'.the_lemmas)
 
-body_is : (b : Body) → body b ≡ tree.body b.spot (decls b.decls) (stmts b.stmts)
+pub body_is : (b : Body) → body b ≡ tree.body b.spot (decls b.decls) (stmts b.stmts)
 body_is b = search (rules, bodies.the_lemmas)
 
 variable_is : (v : Variable) → variable v ≡ tree.subscripted v.name (exprs v.subs)
