@@ -2,7 +2,7 @@
 use Rattle.std.proofs.Common.{◌≡◌, ℕ, ◌+◌, ◌*◌, ◌≤◌, List, [], ◌∷◌, ◌++◌, length, take, drop, replicate, refl, sym, ap, ◌∙◌, subst, arith}
 use Rattle.std.specs.Prelude.{unwrap_or, Option, Some, None, IsSome}
 use Rattle.algol_tree.specs.declared.tree.Body.{Body}
-use Rattle.algol_tree.specs.Counts.{body_tokens, decls_tokens, stmts_tokens}
+use Rattle.algol_tree.specs.Counts.{body_tokens}
 use Rattle.algol_tree.specs.declared.tree.Stmt.{Stmt}
 use Rattle.algol_tree.specs.Image.{body as tree_of, decls, stmts}
 use Rattle.algol_tree.specs.Plain.{PStmts}
@@ -30,7 +30,7 @@ use Rattle.b67_emit_stmt.specs.declared.draft.Draft.{Draft}
 use Rattle.b67_emit_stmt.specs.Bodies.{CellsAt, OuterAt}
 use Rattle.b67_emit_stmt.specs.Drafts.{Emits, HasFew, IsReady}
 use Rattle.b67_emit_stmt.specs.Emits.{EmitsStmts, stmts_syllables}
-use Rattle.b67_emit_stmt.proofs.Drafts.{at_level, closed, emits_then, exits_there, front_self, level_after, level_same, piece}
+use Rattle.b67_emit_stmt.proofs.Drafts.{at_level, closed, emits_then, exits_there, front_self, level_after, piece}
 use Rattle.b67_emit_stmt.proofs.Parts.{plain_at}
 use Rattle.b67_emit_stmt.proofs.Ready.{ready_after}
 use Rattle.b67_emit_stmt.proofs.Shapes.{body_is}

@@ -1,5 +1,5 @@
 -- The code of the program's outer block.
-use Rattle.std.specs.Prelude.{◌≡◌, ℕ, List, replicate}
+use Rattle.std.specs.Prelude.{ℕ, List, replicate}
 use Rattle.algol_tree.specs.Plain.{PStmts}
 use Rattle.algol_tree.specs.Scopes.{Scopes}
 use Rattle.b67_ops.specs.declared.Operator.TheVariants as ops

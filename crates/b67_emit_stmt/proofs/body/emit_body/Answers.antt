@@ -2,7 +2,6 @@ use Rattle.std.proofs.Common.{◌≡◌, ◌∙◌, ap, refl, subst, sym, arith}
 use Rattle.std.specs.Prelude.{ℕ, length}
 use Rattle.algol_tree.specs.Image.{decls, stmts}
 use Rattle.algol_tree.specs.Plain.{PStmts}
-use Rattle.algol_tree.specs.Scopes.{Scopes}
 use Rattle.b67_ops.specs.declared.TheConstants.{OUTER_LEVEL}
 use Rattle.b67_segment.specs.Building.{level_set}
 use Rattle.b67_segment.proofs.Filling.{words-few}
@@ -11,10 +10,8 @@ use Rattle.b67_templates.specs.Fitting.{StmtsFit}
 use Rattle.b67_emitter.specs.Values.{couples}
 use Rattle.b67_emit_stmt.specs.declared.draft.Draft.{Draft}
 use Rattle.b67_emit_stmt.specs.Bodies.{OuterAt}
-use Rattle.b67_emit_stmt.specs.Emits.{EmitsStmts}
 use Rattle.b67_emit_stmt.proofs.Drafts.{level_after, set_after}
 use Rattle.b67_emit_stmt.proofs.Outer.{body_short, gone_through, is_new, new_level, new_set, outer_code, outer_exits, stmts_ready}
-use Rattle.b67_emit_stmt.proofs.Parts.{set_same}
 use Rattle.b67_emit_stmt.proofs.body.emit_body.Goals as goal
 
 pub stmts-requires-clause-ready : goal.stmts-requires-clause-ready
@@ -53,7 +50,7 @@ append_plain-requires-clause-set g c =
     let S : PStmts → Type 0 = λ ss. StmtsFit sc (couples c.args.scopes.now) OUTER_LEVEL ss in
     let fit = subst S (sym (ap stmts (c.deref-2.ensures.value ∙ c.items-2.ensures))) c.requires.fits.1 in
     let through = gone_through c.args.scopes.now sc c.variables.result (stmts c.deref-2.result.now) a c.cells.new.to c.stmts.new.to new (c.in_ok-cells.ensures sc) c.in_ok-stmts.ensures fit d
-        c.aim_exits.ensures.aimed c.aim_exits.ensures.list refl in
+    c.aim_exits.ensures.aimed c.aim_exits.ensures.list refl in
     set_after through (new_set new)
 
 pub append_plain-requires-clause-room : goal.append_plain-requires-clause-room
@@ -65,9 +62,9 @@ append_plain-requires-clause-room g c =
     let S : PStmts → Type 0 = λ ss. StmtsFit sc (couples c.args.scopes.now) OUTER_LEVEL ss in
     let fit = subst S (sym (ap stmts (c.deref-2.ensures.value ∙ c.items-2.ensures))) c.requires.fits.1 in
     let through = gone_through c.args.scopes.now sc c.variables.result (stmts c.deref-2.result.now) a c.cells.new.to c.stmts.new.to new (c.in_ok-cells.ensures sc) c.in_ok-stmts.ensures fit d
-        c.aim_exits.ensures.aimed c.aim_exits.ensures.list refl in
+    c.aim_exits.ensures.aimed c.aim_exits.ensures.list refl in
     let short = body_short c.args.body.now c.variables.result c.deref-2.result.now a d new
-        (c.variables.ensures ∙ ap (λ ds. length (variables (decls ds))) (c.deref.ensures.value ∙ c.items.ensures)) (c.deref-2.ensures.value ∙ c.items-2.ensures) through in
+    (c.variables.ensures ∙ ap (λ ds. length (variables (decls ds))) (c.deref.ensures.value ∙ c.items.ensures)) (c.deref-2.ensures.value ∙ c.items-2.ensures) through in
     omega (arith, short, c.requires.room)
 
 pub returns-clause-code : goal.returns-clause-code
@@ -97,7 +94,7 @@ returns-clause-short g c =
     let S : PStmts → Type 0 = λ ss. StmtsFit sc (couples c.args.scopes.now) OUTER_LEVEL ss in
     let fit = subst S (sym (ap stmts (c.deref-2.ensures.value ∙ c.items-2.ensures))) c.requires.fits.1 in
     let through = gone_through c.args.scopes.now sc c.variables.result (stmts c.deref-2.result.now) a c.cells.new.to c.stmts.new.to new (c.in_ok-cells.ensures sc) c.in_ok-stmts.ensures fit d
-        c.aim_exits.ensures.aimed c.aim_exits.ensures.list refl in
+    c.aim_exits.ensures.aimed c.aim_exits.ensures.list refl in
     let short = body_short c.args.body.now c.variables.result c.deref-2.result.now a d new
-        (c.variables.ensures ∙ ap (λ ds. length (variables (decls ds))) (c.deref.ensures.value ∙ c.items.ensures)) (c.deref-2.ensures.value ∙ c.items-2.ensures) through in
+    (c.variables.ensures ∙ ap (λ ds. length (variables (decls ds))) (c.deref.ensures.value ∙ c.items.ensures)) (c.deref-2.ensures.value ∙ c.items-2.ensures) through in
     omega (arith, short, c.in_ok-append_plain.ensures.size, words-few c.append_plain.new.out.operators c.in_ok-finish.field-0 c.in_ok-finish.ensures)
