@@ -14,3 +14,6 @@ pub mod Matched
 pub mod Aims
 pub mod Listed
 pub mod Tables
+pub mod Zeros
+pub mod Variables
+pub mod Outer

@@ -62,10 +62,6 @@ fit_at s sc x b level q fit = let F : ℕ → Type 0 = λ l. StmtFits sc (couple
 pub empty_emitted : (s : table.Scopes) (a : Draft) → HasFew a → EmitsStmt s a a tree.empty
 empty_emitted s a few = λ sc fit. emits_weaker (Stands sc (level_set a.out) tree.empty a a) (emits_none a few) (omega arith) (λ formats qs target hi p. refl)
 
--- a statement that has no code here
-pub unfit : (s : table.Scopes) (a b : Draft) (p q : PStmt) → p ≡ q → ((sc : Scopes) → StmtFits sc (couples s) (level_set a.out) q → ⊥) → EmitsStmt s a b p
-unfit s a b p q is none = λ sc fit. let F : PStmt → Type 0 = λ x. StmtFits sc (couples s) (level_set a.out) x in absurd (none sc (subst F is fit))
-
 module _ (s : table.Scopes) (sc : Scopes) (level : ℕ) where
   -- the variable is a name alone
   pub alone : (n : Named) (es : PExprs) (e : PExpr) → StmtFits sc (couples s) level (tree.assign (tree.subscripted n es) e) → es ≡ tree.none

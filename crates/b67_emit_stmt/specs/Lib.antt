@@ -1,3 +1,4 @@
 pub mod Drafts
 pub mod Emits
 pub mod Cases
+pub mod Bodies

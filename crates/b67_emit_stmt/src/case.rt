@@ -1,22 +1,17 @@
 //! CASE: the number selects a branch of a table, and the branch goes to its statement.
 
-ghost use Rattle.std.specs.Prelude.{◌≡◌, ◌+◌, ◌*◌, ◌≤◌, OnOk};
-ghost use Rattle.algol_tree.specs.Image.{expr, stmt, stmts};
+ghost use Rattle.std.specs.Prelude.{◌≡◌, ◌+◌, ◌*◌, ◌≤◌, List, IsSome, OnOk};
+ghost use Rattle.algol_tree.specs.Image.{expr, stmts};
 ghost use Rattle.algol_tree.specs.Plain as tree;
 ghost use Rattle.b67_templates.specs.Depths.{stmt_syllables, expr_syllables};
 ghost use Rattle.b67_emit_stmt.specs.Drafts.{IsReady};
 ghost use Rattle.b67_emit_stmt.specs.Emits.{HasFit, HaveFit, EmitsStmt, EmitsCases, stmts_syllables};
-ghost use Rattle.std.specs.Prelude.{ℕ, List, length, pos};
-ghost use Rattle.std.specs.Prelude.{IsSome};
 ghost use Rattle.algol_tree.specs.declared.tree.Kind.TheVariants as types;
 ghost use Rattle.algol_tree.specs.Scopes as names;
-ghost use Rattle.b67_ops.specs.declared.intrinsic.Intrinsic.TheVariants as intrinsics;
 ghost use Rattle.b67_segment.specs.declared.TheConstants.{MOST_SEGMENT_WORDS};
 ghost use Rattle.b67_segment.specs.declared.code.Format.{Format};
 ghost use Rattle.b67_segment.specs.Operators.{size};
 ghost use Rattle.b67_segment.specs.Building.{level_set};
-ghost use Rattle.b67_templates.specs.Fragments.{IntrinsicAt};
-ghost use Rattle.b67_templates.specs.Code.{ExprAt, TableAt};
 ghost use Rattle.b67_templates.specs.Fitting.{ExprFits};
 ghost use Rattle.b67_templates.specs.Emitting.{Emitted};
 ghost use Rattle.b67_emitter.specs.Values.{couples, AreNear};
@@ -91,7 +86,7 @@ impl<'a, E: ExprEmitter> StmtEmitter<'a, E> {
 
     /// CASE.
     #[cycle(statements)]
-    pub fn case(&self, ss: &[Stmt], e: &Expr, to: &mut Draft) -> Result<(), AllocError>
+    pub(crate) fn case(&self, ss: &[Stmt], e: &Expr, to: &mut Draft) -> Result<(), AllocError>
         requires ready { IsReady self.now.scopes.now to.old (stmt_syllables (tree.case (expr e.now) (stmts ss.now))) }
         requires fits { HasFit self.now.scopes.now to.old (tree.case (expr e.now) (stmts ss.now)) }
         ensures { OnOk result (EmitsStmt self.now.scopes.now to.old to.new (tree.case (expr e.now) (stmts ss.now))) }

@@ -4,6 +4,7 @@
 //! where they go, so no branch leads to a branch. A loop's body goes on at the branch back to its test.
 #![tactic(auto)]
 
+mod body;
 mod case;
 mod draft;
 mod line;
@@ -12,4 +13,5 @@ mod simple;
 mod stepping;
 mod stmt;
 
+pub use body::emit_body;
 pub use draft::{Draft, StmtEmitter};

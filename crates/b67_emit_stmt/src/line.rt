@@ -94,7 +94,7 @@ impl<'a, E: ExprEmitter> StmtEmitter<'a, E> {
     }
 
     /// WRITE: a mark, the reference of the intrinsic, the format's number, the items, the entry.
-    pub fn write(
+    pub(crate) fn write(
         &self,
         phrases: &[PhraseText],
         items: &[Expr],

@@ -1,11 +1,11 @@
 //! Loops. Each turn of a loop ends with a branch back to its test.
 
-ghost use Rattle.std.specs.Prelude.{◌≡◌, ◌+◌, ◌*◌, ◌≤◌, OnOk};
-ghost use Rattle.algol_tree.specs.Image.{expr, stmt, stmts};
+ghost use Rattle.std.specs.Prelude.{OnOk};
+ghost use Rattle.algol_tree.specs.Image.{expr, stmt};
 ghost use Rattle.algol_tree.specs.Plain as tree;
-ghost use Rattle.b67_templates.specs.Depths.{stmt_syllables, expr_syllables};
+ghost use Rattle.b67_templates.specs.Depths.{stmt_syllables};
 ghost use Rattle.b67_emit_stmt.specs.Drafts.{IsReady};
-ghost use Rattle.b67_emit_stmt.specs.Emits.{HasFit, HaveFit, EmitsStmt, EmitsStmts, EmitsBody, EmitsThen, HasFitThen, stmts_syllables};
+ghost use Rattle.b67_emit_stmt.specs.Emits.{HasFit, EmitsStmt, EmitsBody};
 
 use crate::draft::{Draft, StmtEmitter};
 use algol_tree::{Expr, Named, Stmt};
@@ -31,7 +31,7 @@ impl<'a, E: ExprEmitter> StmtEmitter<'a, E> {
 
     /// WHILE.
     #[cycle(statements)]
-    pub fn while_loop(&self, b: &Stmt, c: &Expr, to: &mut Draft) -> Result<(), AllocError>
+    pub(crate) fn while_loop(&self, b: &Stmt, c: &Expr, to: &mut Draft) -> Result<(), AllocError>
         requires ready { IsReady self.now.scopes.now to.old (stmt_syllables (tree.while (expr c.now) (stmt b.now))) }
         requires fits { HasFit self.now.scopes.now to.old (tree.while (expr c.now) (stmt b.now)) }
         ensures { OnOk result (EmitsStmt self.now.scopes.now to.old to.new (tree.while (expr c.now) (stmt b.now))) }
@@ -45,7 +45,7 @@ impl<'a, E: ExprEmitter> StmtEmitter<'a, E> {
 
     /// DO with UNTIL.
     #[cycle(statements)]
-    pub fn until_loop(&self, b: &Stmt, c: &Expr, to: &mut Draft) -> Result<(), AllocError>
+    pub(crate) fn until_loop(&self, b: &Stmt, c: &Expr, to: &mut Draft) -> Result<(), AllocError>
         requires ready { IsReady self.now.scopes.now to.old (stmt_syllables (tree.until (stmt b.now) (expr c.now))) }
         requires fits { HasFit self.now.scopes.now to.old (tree.until (stmt b.now) (expr c.now)) }
         ensures { OnOk result (EmitsStmt self.now.scopes.now to.old to.new (tree.until (stmt b.now) (expr c.now))) }
@@ -59,7 +59,7 @@ impl<'a, E: ExprEmitter> StmtEmitter<'a, E> {
 
     /// FOR: the first value, the test of each turn, the body, the next value.
     #[cycle(statements)]
-    pub fn for_loop(
+    pub(crate) fn for_loop(
         &self,
         b: &Stmt,
         v: &Named,
@@ -83,7 +83,7 @@ impl<'a, E: ExprEmitter> StmtEmitter<'a, E> {
 
     /// THRU: one is taken off the count before the body.
     #[cycle(statements)]
-    pub fn thru_loop(&self, b: &Stmt, e: &Expr, to: &mut Draft) -> Result<(), AllocError>
+    pub(crate) fn thru_loop(&self, b: &Stmt, e: &Expr, to: &mut Draft) -> Result<(), AllocError>
         requires ready { IsReady self.now.scopes.now to.old (stmt_syllables (tree.thru (expr e.now) (stmt b.now))) }
         requires fits { HasFit self.now.scopes.now to.old (tree.thru (expr e.now) (stmt b.now)) }
         ensures { OnOk result (EmitsStmt self.now.scopes.now to.old to.new (tree.thru (expr e.now) (stmt b.now))) }

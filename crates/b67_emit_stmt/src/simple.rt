@@ -23,7 +23,7 @@ use b67_segment::Builder;
 use std::alloc::AllocError;
 
 /// A mark, and the reference of an intrinsic.
-pub fn append_intrinsic(out: &mut Builder, intrinsic: Intrinsic) -> Result<(), AllocError>
+pub(crate) fn append_intrinsic(out: &mut Builder, intrinsic: Intrinsic) -> Result<(), AllocError>
     requires set { IsSome out.old.level }
     requires room { size out.old.operators + 3 ≤ 6 * MOST_SEGMENT_WORDS }
     ensures code { OnOk result (Emitted out.old out.new (λ qs. IntrinsicAt qs (level_set out.old) intrinsic (size out.old.operators) (size out.new.operators))) }
@@ -35,7 +35,7 @@ pub fn append_intrinsic(out: &mut Builder, intrinsic: Intrinsic) -> Result<(), A
 
 impl<'a, E: ExprEmitter> StmtEmitter<'a, E> {
     /// The reference of a variable.
-    pub fn reference(&self, v: &Named, out: &mut Builder) -> Result<(), AllocError>
+    pub(crate) fn reference(&self, v: &Named, out: &mut Builder) -> Result<(), AllocError>
         requires set { IsSome out.old.level }
         requires near { AreNear self.now.scopes.now }
         requires fits { (sc : names.Scopes) × (k : Kind) × NameFits sc (couples self.now.scopes.now) (level_set out.old) k v.now }
@@ -48,7 +48,7 @@ impl<'a, E: ExprEmitter> StmtEmitter<'a, E> {
     }
 
     /// The value of a variable.
-    pub fn read(&self, v: &Named, out: &mut Builder) -> Result<(), AllocError>
+    pub(crate) fn read(&self, v: &Named, out: &mut Builder) -> Result<(), AllocError>
         requires set { IsSome out.old.level }
         requires near { AreNear self.now.scopes.now }
         requires fits { (sc : names.Scopes) × (k : Kind) × NameFits sc (couples self.now.scopes.now) (level_set out.old) k v.now }
@@ -61,7 +61,7 @@ impl<'a, E: ExprEmitter> StmtEmitter<'a, E> {
     }
 
     /// The reference of a variable, the value, the store.
-    pub fn assign(&self, v: &Named, e: &Expr, out: &mut Builder) -> Result<(), AllocError>
+    pub(crate) fn assign(&self, v: &Named, e: &Expr, out: &mut Builder) -> Result<(), AllocError>
         requires set { IsSome out.old.level }
         requires near { AreNear self.now.scopes.now }
         requires fits { (sc : names.Scopes) × AssignFits sc (couples self.now.scopes.now) (level_set out.old) v.now (expr e.now) }

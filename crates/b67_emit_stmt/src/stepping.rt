@@ -1,6 +1,6 @@
 //! The variable of FOR: how far it is from its limit, and its next value.
 
-ghost use Rattle.std.specs.Prelude.{◌≡◌, ◌≢◌, ◌+◌, ◌*◌, ◌≤◌, ℕ, List, [], ◌∷◌, IsSome, OnOk};
+ghost use Rattle.std.specs.Prelude.{◌≡◌, ◌+◌, ◌*◌, ◌≤◌, ℕ, List, [], ◌∷◌, IsSome, OnOk};
 ghost use Rattle.b67_ops.specs.declared.PlainKind.TheVariants as kinds;
 ghost use Rattle.b67_ops.specs.declared.BranchKind.TheVariants.{Brtr};
 ghost use Rattle.algol_tree.specs.declared.tree.Kind.TheVariants as types;
@@ -94,7 +94,12 @@ fn append_past(to: &mut Draft) -> Result<(), AllocError>
 
 impl<'a, E: ExprEmitter> StmtEmitter<'a, E> {
     /// The difference of a variable and a limit.
-    pub fn difference(&self, v: &Named, l: &Expr, out: &mut Builder) -> Result<(), AllocError>
+    pub(crate) fn difference(
+        &self,
+        v: &Named,
+        l: &Expr,
+        out: &mut Builder,
+    ) -> Result<(), AllocError>
         requires set { IsSome out.old.level }
         requires near { AreNear self.now.scopes.now }
         requires fits { (sc : names.Scopes) × NameFits sc (couples self.now.scopes.now) (level_set out.old) types.Number v.now × ExprFits sc (couples self.now.scopes.now) (level_set out.old) types.Number (expr l.now) }
@@ -109,7 +114,7 @@ impl<'a, E: ExprEmitter> StmtEmitter<'a, E> {
     }
 
     /// The next value of a variable.
-    pub fn advance(&self, v: &Named, s: &Expr, out: &mut Builder) -> Result<(), AllocError>
+    pub(crate) fn advance(&self, v: &Named, s: &Expr, out: &mut Builder) -> Result<(), AllocError>
         requires set { IsSome out.old.level }
         requires near { AreNear self.now.scopes.now }
         requires fits { (sc : names.Scopes) × NameFits sc (couples self.now.scopes.now) (level_set out.old) types.Number v.now × ExprFits sc (couples self.now.scopes.now) (level_set out.old) types.Number (expr s.now) }
@@ -126,7 +131,7 @@ impl<'a, E: ExprEmitter> StmtEmitter<'a, E> {
     }
 
     /// Leaves the loop where the difference on top is past the limit. Where the step is a literal, its sign is known.
-    pub fn step(&self, s: &Expr, to: &mut Draft) -> Result<(), AllocError>
+    pub(crate) fn step(&self, s: &Expr, to: &mut Draft) -> Result<(), AllocError>
         requires ready { IsReady self.now.scopes.now to.old (13 + expr_syllables (expr s.now)) }
         requires fits { (sc : names.Scopes) × ExprFits sc (couples self.now.scopes.now) (level_set to.old.out) types.Number (expr s.now) }
         ensures { OnOk result ((sc : names.Scopes) → ExprFits sc (couples self.now.scopes.now) (level_set to.old.out) types.Number (expr s.now) → Emits (13 + expr_syllables (expr s.now)) to.old to.new (λ formats qs target. StepAt sc formats qs (level_set to.old.out) (expr s.now) (size to.old.out.operators) target (size to.new.out.operators))) }

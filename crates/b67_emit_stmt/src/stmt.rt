@@ -1,11 +1,11 @@
 //! Statements.
 
-ghost use Rattle.std.specs.Prelude.{◌≡◌, ◌+◌, ◌*◌, ◌≤◌, OnOk};
+ghost use Rattle.std.specs.Prelude.{◌+◌, OnOk};
 ghost use Rattle.algol_tree.specs.Image.{expr, stmt, stmts};
 ghost use Rattle.algol_tree.specs.Plain as tree;
 ghost use Rattle.b67_templates.specs.Depths.{stmt_syllables, expr_syllables};
 ghost use Rattle.b67_emit_stmt.specs.Drafts.{IsReady};
-ghost use Rattle.b67_emit_stmt.specs.Emits.{HasFit, HaveFit, EmitsStmt, EmitsStmts, EmitsBody, EmitsThen, HasFitThen, stmts_syllables};
+ghost use Rattle.b67_emit_stmt.specs.Emits.{HasFit, HaveFit, EmitsStmt, EmitsStmts, EmitsThen, HasFitThen, stmts_syllables};
 
 use crate::draft::{Draft, StmtEmitter};
 use algol_tree::{Expr, Stmt};
@@ -66,11 +66,11 @@ impl<'a, E: ExprEmitter> StmtEmitter<'a, E> {
             Stmt::Case(e, ss) => self.case(ss.items(), e, to),
             Stmt::Write(_, _, phrases, items) => self.write(phrases.items(), items.items(), to),
             // None of these fits.
-            Stmt::Label(_, _) => Ok(()),
-            Stmt::Call(_) => Ok(()),
-            Stmt::GoTo(_) => Ok(()),
-            Stmt::Process(_, _) => Ok(()),
-            Stmt::Event(_, _) => Ok(()),
+            Stmt::Label(_, _) => unreachable!(),
+            Stmt::Call(_) => unreachable!(),
+            Stmt::GoTo(_) => unreachable!(),
+            Stmt::Process(_, _) => unreachable!(),
+            Stmt::Event(_, _) => unreachable!(),
         }
     }
 

@@ -1,20 +1,22 @@
 -- Code that is filled up to a whole word.
-use Rattle.std.proofs.Common.{◌≡◌, ℕ, zero, suc, ◌+◌, ◌-◌, ◌*◌, ◌^◌, ◌<◌, ◌≤◌, eqb, Some, None, List, [], ◌∷◌, ◌++◌, length, take, drop, replicate, refl, sym, ap, ◌∙◌, subst, arith}
+use Rattle.std.proofs.Common.{◌≡◌, ℕ, zero, suc, ◌+◌, ◌-◌, ◌*◌, ◌^◌, ◌<◌, ◌≤◌, eqb, Some, None, List, [], ◌∷◌, ◌++◌, length, take, drop, replicate, refl, sym, ap, ◌∙◌, subst, arith, length-append}
 use Rattle.std.specs.Prelude.{unwrap_or}
 use Rattle.std.specs.Int.{w64, from_be_bytes, bytes_high_first}
 use Rattle.std.specs.Prelude.{All}
 use Rattle.std.proofs.Math.Seq.{take-add}
 use Rattle.std.proofs.lemmas.Grind.{flat_map-append}
 use Rattle.std.proofs.lemmas.Bool.{eq-eqb, cond-true}
-use Rattle.std.proofs.lemmas.List.{append-nil, take-replicate}
+use Rattle.std.proofs.lemmas.List.{append-nil, length-replicate, take-replicate}
 use Rattle.b67_ops.specs.declared.TheConstants.{OUTER_LEVEL, MOST_LEVEL}
 use Rattle.b67_ops.specs.declared.Operator.TheVariants.{Plain}
 use Rattle.b67_ops.specs.declared.PlainKind.TheVariants.{Noop}
 use Rattle.b67_ops.proofs.Reading.{word-bytes}
 use Rattle.b67_segment.specs.declared.code.Mark.{Mark}
+use Rattle.b67_segment.specs.declared.code.Segment.{Segment}
 use Rattle.b67_segment.specs.Operators.{Placed, text, size, marks_after, marks_of, AreFit, last_level, missing, filler, filled}
 use Rattle.b67_segment.specs.Building.{Builds}
 use Rattle.b67_segment.specs.Syllables.{syllables, Spells}
+use Rattle.b67_segment.proofs.Fetches.{length-syllables}
 use Rattle.b67_segment.proofs.Texts.{text-append, marks_after-append, AreFit-append}
 
 -- the first of five NOOPs
@@ -66,6 +68,16 @@ filled-text (p ∷ ps) fit =
       ap marks_of fills ∙ marks_after-append 0 None all (replicate count (noop last.0)) ∙ ap (λ xs. marks_of all ++ xs) told ∙ append-nil (marks_of all),
       subst AreFit (sym fills) (AreFit-append all (replicate count (noop last.0)) fit (AreFit-noops last.0 count last.2 last.3)),
     )
+
+-- the words of a segment have the syllables of its operators, and at most five more
+pub words-few : (ps : List Placed) (segment : Segment) → Spells (filled ps) segment → 6 * length segment.words ≤ size ps + 5
+words-few ps segment s =
+    let level = unwrap_or (last_level None ps) 0 in
+    let count = missing (size ps) in
+    let noops = replicate count (noop level) in
+    let wide : size (filled ps) ≡ size ps + length (text (0 + size ps) noops) = ap length (text-append 0 ps noops) ∙ length-append (text 0 ps) (text (0 + size ps) noops) in
+    let narrow : length (text (0 + size ps) noops) ≡ count = ap length (text-noops (0 + size ps) level count) ∙ length-replicate {A = ℕ} count filler in
+    omega (arith, sym (length-syllables segment.words) ∙ ap length s.code, wide, narrow)
 
 -- one more word is six more syllables
 pub words-more : (words : List ℕ) (word index : ℕ) (code : List ℕ) → syllables words ≡ take (6 * index) code
