@@ -96,7 +96,7 @@ one_segment segment other ps qs is also same =
     ap (λ ws. let s : Segment = record { words = ws; marks = segment.marks } in s) words ∙ ap (λ ms. let s : Segment = record { words = other.words; marks = ms } in s) marks
 
 -- head lines of one segment with the same words
-one_count : (number w v : ℕ) → w ≤ MOST_SEGMENT_WORDS → v ≤ MOST_SEGMENT_WORDS → segment_line number w ≡ segment_line number v → w ≡ v
+pub one_count : (number w v : ℕ) → w ≤ MOST_SEGMENT_WORDS → v ≤ MOST_SEGMENT_WORDS → segment_line number w ≡ segment_line number v → w ≡ v
 one_count number w v p q e =
     let a : decimal number ++ (codes " " ++ decimal w) ≡ decimal number ++ (codes " " ++ decimal v) =
     append_cancel_left (codes "SEGMENT ") (decimal number ++ (codes " " ++ decimal w)) (decimal number ++ (codes " " ++ decimal v)) e in

@@ -1,10 +1,11 @@
-//! The listing of a small code.
+//! The listing of a small code, and what is read of such lines.
 
-ghost use Rattle.std.specs.Prelude.{IfOk};
+ghost use Rattle.std.specs.Prelude.{◌≡◌, IfOk, length};
 ghost use Rattle.b67_listing.specs.Listings.{IsListable};
 
-use b67_list::List;
+use b67_list::{Line, List};
 use b67_listing::listing;
+use b67_listing_reader::{ReadListing, read_listing};
 use b67_segment::{Code, Format, Mark, Phrase, Segment};
 use std::alloc::{AllocError, Global};
 use std::test::Fail;
@@ -32,17 +33,72 @@ fn small_code(alloc: Global) -> Result<Code, AllocError>
     })
 }
 
+/// The text of its listing, each line with LF.
+const LISTING: &[u8] =
+    b"SEGMENT 0 2\n00000 02 B0 ZERO\n00001 02 B5 DLET\n00002 02 BE000000007FFFFFFFFF LT48 007FFFFFFFFF\nFORMAT 0 <I5>\n";
+
+/// The text of the listing of a code.
+fn listed(alloc: Global, code: &Code) -> Result<Vec<u8>, AllocError>
+    requires { IsListable code.now }
+{
+    let mut text = Vec::new(alloc);
+    for line in listing(alloc, code)?.items() {
+        text.extend_from_slice(line.bytes())?;
+        text.extend_from_slice(b"\n")?;
+    }
+    Ok(text)
+}
+
+/// The lines of that listing, with another text in place of the line with this number, from 0.
+fn five_lines(alloc: Global, other: usize, text: &[u8]) -> Result<Vec<Line>, AllocError>
+    ensures { IfOk result (λ lines. length lines.items ≡ 5) }
+{
+    let texts: [&[u8]; 5] = [
+        b"SEGMENT 0 2",
+        b"00000 02 B0 ZERO",
+        b"00001 02 B5 DLET",
+        b"00002 02 BE000000007FFFFFFFFF LT48 007FFFFFFFFF",
+        b"FORMAT 0 <I5>",
+    ];
+    let mut lines = Vec::new(alloc);
+    for at in 0..5 {
+        let line = if at == other { text } else { texts[at] };
+        lines.push(Line::of(Vec::from_slice(alloc, line)?))?;
+    }
+    Ok(lines)
+}
+
 #[test]
 fn listing_of_a_literal(rt: HostRuntime) -> Result<(), Fail> {
     let alloc = rt.alloc();
     let code = small_code(alloc)?;
-    let mut text = Vec::new(alloc);
-    for line in listing(alloc, &code)?.items() {
-        text.extend_from_slice(line.bytes())?;
-        text.extend_from_slice(b"\n")?;
+    assert_eq!(rt; listed(alloc, &code)?.as_slice(), LISTING);
+    Ok(())
+}
+
+#[test]
+fn lines_of_listings(rt: HostRuntime) -> Result<(), Fail> {
+    let alloc = rt.alloc();
+    let bad = |line| Err(ReadListing::BadListing { line });
+    let cases: [(usize, &[u8], Result<bool, ReadListing>); 10] = [
+        (5, b"", Ok(true)),
+        (1, b"00000 02 B1 ONE", Ok(false)),
+        (0, b"SEGMENT 1 2", bad(1)),
+        (0, b"SEGMENT 0 02", bad(1)),
+        (0, b"SEGMENT 0 3", bad(5)),
+        (1, b"00000 02 B1 ZERO", bad(2)),
+        (1, b"0000 02 B0 ZERO", bad(2)),
+        (3, b"00002 02 B0 ZERO", bad(5)),
+        (3, b"00002 02 BE000000007FFFFFFFFF LT48 7FFFFFFFFF", bad(4)),
+        (4, b"FORMAT 0 <I05>", bad(5)),
+    ];
+    for (other, text, wanted) in cases {
+        let lines = five_lines(alloc, other, text)?;
+        let answer = match read_listing(alloc, lines.as_slice()) {
+            Ok(code) => Ok(listed(alloc, &code)?.as_slice() == LISTING),
+            Err(refusal) => Err(refusal),
+        };
+        assert_eq!(rt; answer, wanted);
     }
-    let wanted =
-        b"SEGMENT 0 2\n00000 02 B0 ZERO\n00001 02 B5 DLET\n00002 02 BE000000007FFFFFFFFF LT48 007FFFFFFFFF\nFORMAT 0 <I5>\n";
-    assert_eq!(rt; text.as_slice(), wanted.as_slice());
     Ok(())
 }
