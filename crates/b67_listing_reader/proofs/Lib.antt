@@ -9,6 +9,7 @@ pub mod Heads
 pub mod PhraseReading
 pub mod Quoted
 pub mod Widths
+pub mod FormatLines
 pub mod Firsts
 pub mod Telling
 pub mod Built

@@ -29,6 +29,12 @@ pub behind_head : (line : List ℕ) (part lines : List (List ℕ)) (at next : �
 behind_head line part lines at next inside here s =
     record { within = s.within; next_is = omega (arith, s.next_is); part_is = here ∙ ap (λ t. line ∷ t) s.part_is }
 
+-- the head line of the next segment stands at a place
+pub head_here : (segments : List Segment) (lines : List (List ℕ)) (at number words : ℕ) (line : List ℕ) → number ≡ length segments → drop at lines ≡ line ∷ drop (at + 1) lines →
+    IsWordCount words × (line ≡ segment_line number words) → IsWordCount words × (drop at lines ≡ segment_line (length segments) words ∷ drop (at + 1) lines)
+head_here segments lines at number words line same here head =
+    (head.0, here ∙ ap (λ l. l ∷ drop (at + 1) lines) (head.1 ∙ ap (λ k. segment_line k words) same))
+
 -- one more segment
 pub segment_more : (segments : List Segment) (lines : List (List ℕ)) (at next words : ℕ) (segment : Segment) → SegmentsText 0 segments (take at lines) → at < length lines →
     drop at lines ≡ segment_line (length segments) words ∷ drop (at + 1) lines → ReadsBody words lines (at + 1) segment next → SegmentsText 0 (segments ++ segment ∷ []) (take next lines)
@@ -96,12 +102,17 @@ formats_refused (BadListing line) segments lines at r f =
     )
 
 -- a code whose listing is read
-pub code_read : (segments : List Segment) (formats : List Format) (lines : List (List ℕ)) (at : ℕ) (code : Code) → ReadsSegments lines segments at → ReadsFormats lines at formats →
-    code ≡ record { segments = segments; formats = formats } → IsReadable code × ListingText code lines
-code_read segments formats lines at code r f is = subst (λ (c : Code). IsReadable c × ListingText c lines) (sym is) (
+code_of : (segments : List Segment) (formats : List Format) (lines : List (List ℕ)) (at : ℕ) → ReadsSegments lines segments at → ReadsFormats lines at formats →
+    IsReadable record { segments = segments; formats = formats } × ListingText record { segments = segments; formats = formats } lines
+code_of segments formats lines at r f = (
   readable segments formats (are_listable 0 segments (take at lines) r.listed) f.are,
   record { segments = take at lines; listed = r.listed; are = sym (take-append-drop at lines) ∙ ap (λ t. take at lines ++ t) f.listed },
 )
+
+pub code_read : (segments read : List Segment) (formats others : List Format) (lines : List (List ℕ)) (at : ℕ) → read ≡ segments → others ≡ formats → ReadsSegments lines segments at →
+    ReadsFormats lines at formats → IsReadable record { segments = read; formats = others } × ListingText record { segments = read; formats = others } lines
+code_read segments read formats others lines at same alike r f =
+    code_of read others lines at (subst (λ ss. ReadsSegments lines ss at) (sym same) r) (subst (λ fs. ReadsFormats lines at fs) (sym alike) f)
 
 -- a listing is not refused
 pub not_refused : (e : ReadListing) (code : Code) (lines : List (List ℕ)) → Refuses e lines → IsReadable code → ListingText code lines → e ≡ NoMemory

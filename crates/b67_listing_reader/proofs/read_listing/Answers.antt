@@ -22,7 +22,12 @@ returns-in_err-formats-clause-refused c =
     rw (p.1, p.2) (formats_refused c.in_err-formats.field-0.0 c.in_ok-segments.segments.items c.args.lines.now c.in_ok-segments.at c.in_ok-segments.ensures.read c.in_err-formats.ensures.refused)
 
 pub returns-clause-read : goal.returns-clause-read
-returns-clause-read c = ?
+returns-clause-read c =
+    code_read c.in_ok-segments.segments.items c.of.result c.in_ok-formats.formats.items c.of-2.result c.args.lines.now c.in_ok-segments.at c.of.ensures c.of-2.ensures
+    c.in_ok-segments.ensures.read c.in_ok-formats.ensures.read
 
 pub returns-clause-again : goal.returns-clause-again
-returns-clause-again c code is listed = ?
+returns-clause-again c code is listed =
+    let read = code_read c.in_ok-segments.segments.items c.of.result c.in_ok-formats.formats.items c.of-2.result c.args.lines.now c.in_ok-segments.at c.of.ensures c.of-2.ensures
+    c.in_ok-segments.ensures.read c.in_ok-formats.ensures.read in
+    one_code (record { segments = c.of.result; formats = c.of-2.result }) code c.args.lines.now read.0 is read.1 listed
