@@ -1,8 +1,7 @@
 -- The operators of a segment, as far as their lines tell them.
-use Rattle.std.proofs.Common.{◌≡◌, ℕ, zero, suc, ◌+◌, ◌-◌, ◌*◌, ◌%◌, ◌^◌, ◌<◌, ◌≤◌, ◌⊎◌, ⊎_elim, inl, inr, List, [], ◌∷◌, ◌++◌, length, get_or, take, drop, map, replicate, refl, sym, ap, subst, arith, ◌∙◌, append_assoc, length-append, length-drop}
-use Rattle.std.specs.List.{All}
+use Rattle.std.proofs.Common.{◌≡◌, ℕ, zero, suc, ◌+◌, ◌-◌, ◌*◌, ◌<◌, ◌≤◌, ⊎_elim, List, [], ◌∷◌, ◌++◌, length, get_or, take, drop, replicate, refl, sym, ap, subst, arith, ◌∙◌, append_assoc, length-append, length-drop}
 use Rattle.std.proofs.lemmas.Bool.{cases_lt}
-use Rattle.std.proofs.lemmas.List.{append-nil, map-append, take-append-drop, drop-drop, drop_at, take_at, take_all, take-take, take-append-le, drop-append-le, drop_more, length-map, length-take}
+use Rattle.std.proofs.lemmas.List.{append-nil, map-append, take-append-drop, drop-drop, drop_at, take_at, take_all, take-append-le, drop-append-le, drop_more, length-map, length-take}
 use Rattle.b67_text.specs.Texts.{Stands}
 use Rattle.b67_segment.specs.declared.TheConstants.{MOST_SEGMENT_WORDS}
 use Rattle.b67_segment.specs.declared.code.Segment.{Segment}
@@ -12,9 +11,9 @@ use Rattle.b67_segment.proofs.Fetches.{length-syllables}
 use Rattle.b67_listing.specs.Operators.{Placed, operator_line}
 use Rattle.b67_listing.specs.Listings.{IsSegment}
 use Rattle.b67_listing_reader.specs.declared.operators.Told.{Told}
-use Rattle.b67_listing_reader.specs.Reading.{CanStand, width, AreInOrder, IsWordCount, unplaced, operator_lines, TellsNone, TellsOne, told_at, Tells, TellEach, IsNoOperator, TellSoFar, TellsOperators, AreOperators, IsFirstOther, IsRelisted, ReadsBody, StopsInBody}
+use Rattle.b67_listing_reader.specs.Reading.{CanStand, width, AreInOrder, IsWordCount, operator_lines, TellsNone, TellsOne, told_at, Tells, TellEach, IsNoOperator, TellSoFar, TellsOperators, AreOperators, IsRelisted, ReadsBody, StopsInBody}
 use Rattle.b67_listing_reader.proofs.Orders.{code_text, order-push, order-grows, length-code, width-some, filled}
-use Rattle.b67_listing_reader.proofs.Built.{bare, size_is, Front, front_of}
+use Rattle.b67_listing_reader.proofs.Built.{bare, size_is, front_of}
 
 -- no operators yet
 pub tell_none : (lines : List (List ℕ)) (at most : ℕ) (operators : List building.Placed) → at ≤ length lines → operators ≡ [] → TellSoFar lines at most operators at

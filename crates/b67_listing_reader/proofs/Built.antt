@@ -1,5 +1,5 @@
 -- Operators with their places, and as a builder has them.
-use Rattle.std.proofs.Common.{◌≡◌, ◌≢◌, ℕ, zero, suc, ◌+◌, ◌-◌, ◌*◌, ◌%◌, ◌<◌, ◌≤◌, Bool, true, false, eqb, cond, Option, Some, None, unwrap_or, List, [], ◌∷◌, ◌++◌, length, drop, map, replicate, refl, sym, ap, subst, arith, ◌∙◌}
+use Rattle.std.proofs.Common.{◌≡◌, ◌≢◌, ℕ, zero, suc, ◌+◌, ◌≤◌, Bool, true, false, eqb, cond, Option, Some, None, unwrap_or, List, [], ◌∷◌, ◌++◌, length, replicate, refl, sym, ap, subst, arith, ◌∙◌}
 use Rattle.std.proofs.lemmas.Bool.{eqb-true, eq-eqb, ne_eqb, cond-true, cond-false}
 use Rattle.std.proofs.lemmas.List.{map-append}
 use Rattle.b67_ops.specs.declared.TheConstants.{OUTER_LEVEL, MOST_LEVEL}
@@ -16,7 +16,7 @@ use Rattle.b67_segment.proofs.Fetches.{length-syllables}
 use Rattle.b67_segment.proofs.Parsing.{operators_of-built}
 use Rattle.b67_listing.specs.Operators.{Placed}
 use Rattle.b67_listing.specs.Listings.{marks_of, IsSegment}
-use Rattle.b67_listing_reader.specs.Reading.{CanStand, width, AreInOrder, unplaced}
+use Rattle.b67_listing_reader.specs.Reading.{width, AreInOrder, unplaced}
 use Rattle.b67_listing_reader.proofs.Orders.{spelled, code_text, mark_of, width-some, order-grows, order-append, length-code, fills, filled, noops, noops-order}
 
 -- one without its place

@@ -1,17 +1,17 @@
 -- Head lines of segments and of formats.
-use Rattle.std.proofs.Common.{◌≡◌, ℕ, zero, suc, ◌+◌, ◌-◌, ◌^◌, ◌<◌, ◌≤◌, Option, Some, None, List, [], ◌∷◌, ◌++◌, length, drop, codes, refl, sym, ap, subst, arith, ◌∙◌, append_assoc, length-append, length-drop}
+use Rattle.std.proofs.Common.{◌≡◌, ℕ, None, List, [], ◌∷◌, ◌++◌, length, drop, codes, refl, sym, ap, arith, ◌∙◌, append_assoc, length-drop}
 use Rattle.std.specs.Fmt.{decimal}
 use Rattle.std.specs.List.{All}
-use Rattle.std.proofs.lemmas.List.{append-nil, append_cancel_left, append_cancel_right, drop_all, drop_at}
+use Rattle.std.proofs.lemmas.List.{append-nil, append_cancel_left, append_cancel_right, drop_all}
 use Rattle.b67_text.specs.declared.number.Numbers.{Numbers}
 use Rattle.b67_text.specs.Texts.{StopsAt, Stands}
 use Rattle.b67_text.specs.Numerals.{IsDigit, IsIn, IsField}
-use Rattle.b67_text.proofs.Fronts.{FieldsAlike, fields_alike}
+use Rattle.b67_text.proofs.Fronts.{fields_alike}
 use Rattle.b67_segment.specs.declared.code.Phrase.{Phrase}
 use Rattle.b67_segment.specs.declared.code.Format.{Format}
 use Rattle.b67_listing.specs.Formats.{phrases_text, format_line}
 use Rattle.b67_listing.specs.Listings.{segment_line}
-use Rattle.b67_listing_reader.specs.Reading.{IsShown, IsWordCount, IsNoHead, IsFormat, IsNoFormat}
+use Rattle.b67_listing_reader.specs.Reading.{IsShown, IsWordCount, IsNoHead, IsNoFormat}
 use Rattle.b67_listing_reader.proofs.OneFormat.{format_head, headed}
 
 -- the numbers of words

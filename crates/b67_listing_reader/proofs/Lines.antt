@@ -1,26 +1,21 @@
 -- What is read back from lines of operators and of heads.
-use Rattle.std.proofs.Common.{◌≡◌, ℕ, zero, suc, ◌+◌, ◌-◌, ◌*◌, ◌/◌, ◌%◌, ◌^◌, ◌<◌, ◌≤◌, ltb, leb, ◌&&◌, cond, Bool, true, false, Option, Some, None, List, [], ◌∷◌, ◌++◌, length, get_or, drop, map, codes, replicate, refl, sym, ap, subst, arith, ◌∙◌, append_assoc, length-append}
+use Rattle.std.proofs.Common.{◌≡◌, ℕ, zero, suc, ◌+◌, ◌-◌, ◌*◌, ◌/◌, ◌%◌, ◌<◌, ◌≤◌, ltb, leb, ◌&&◌, cond, Bool, true, false, Option, Some, None, List, [], ◌∷◌, ◌++◌, length, get_or, drop, codes, replicate, refl, sym, ap, subst, arith, ◌∙◌, append_assoc}
 use Rattle.std.specs.Int.{w16, to_be_bytes, bytes_high_first}
-use Rattle.std.specs.Fmt.{decimal, digit_glyph}
-use Rattle.std.specs.List.{flat_map}
+use Rattle.std.specs.Fmt.{digit_glyph}
 use Rattle.std.proofs.lemmas.Bool.{cond-true, cond-false, lt-ltb, le-ltb, le-leb, ltb-true, ltb-false}
-use Rattle.std.proofs.lemmas.List.{append-nil}
 use Rattle.b67_ops.specs.declared.TheConstants.{OUTER_LEVEL, MOST_LEVEL}
 use Rattle.b67_ops.specs.declared.Operator.{Operator}
 use Rattle.b67_ops.specs.declared.Operator.TheVariants.{Valc, Namc, Lt8, Lt16, Lt48, Mpcw, Branch, Plain}
-use Rattle.b67_ops.specs.declared.BranchKind.{BranchKind}
 use Rattle.b67_ops.specs.declared.BranchKind.TheVariants as branches
-use Rattle.b67_ops.specs.declared.PlainKind.{PlainKind}
 use Rattle.b67_ops.specs.declared.PlainKind.TheVariants as plains
 use Rattle.b67_ops.specs.declared.table.OperatorKind.{OperatorKind}
 use Rattle.b67_ops.specs.declared.table.OperatorKind.TheVariants as kinds
 use Rattle.b67_ops.specs.Codes.{code_of}
-use Rattle.b67_ops.specs.Spelling.{spelling, Fits, filling, HasSpelling}
+use Rattle.b67_ops.specs.Spelling.{spelling, Fits, filling}
 use Rattle.b67_ops.proofs.Laws.{length-spelling, spelling-prefix, HasSpelling-from_fits}
 use Rattle.b67_ops.proofs.Reading.{IsBytes}
-use Rattle.b67_listing.specs.Digits.{last_digits, hexadecimal}
+use Rattle.b67_listing.specs.Digits.{hexadecimal}
 use Rattle.b67_listing.specs.Operators.{Placed, operator_line, operator_text}
-use Rattle.b67_listing.specs.Listings.{segment_line}
 use Rattle.b67_listing_reader.specs.Reading.{CanStand, width, AreInOrder, two_digits, level_part, hex_value, with_syllable, syllables_in}
 use Rattle.b67_listing_reader.proofs.Orders.{spelled, code_text}
 

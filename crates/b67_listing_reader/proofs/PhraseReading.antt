@@ -1,6 +1,6 @@
 -- The phrases of a format, as far as they are read.
-use Rattle.std.proofs.Common.{◌≡◌, ℕ, zero, suc, ◌+◌, ◌-◌, ◌^◌, ◌<◌, ◌≤◌, ◌⊎◌, ⊎_elim, inl, inr, Bool, true, false, ◌==◌, List, [], ◌∷◌, ◌++◌, length, get_or, drop, codes, refl, sym, ap, subst, arith, ◌∙◌, append_assoc, length-append, length-drop}
-use Rattle.std.specs.List.{All, flat_map}
+use Rattle.std.proofs.Common.{◌≡◌, ℕ, suc, ◌+◌, ◌<◌, ◌≤◌, ◌⊎◌, ⊎_elim, inr, Bool, true, false, ◌==◌, List, [], ◌∷◌, ◌++◌, length, get_or, drop, codes, refl, sym, ap, subst, arith, ◌∙◌, append_assoc, length-append, length-drop}
+use Rattle.std.specs.List.{All}
 use Rattle.std.proofs.lemmas.Bool.{ne_eqb}
 use Rattle.std.proofs.lemmas.Grind.{flat_map-append}
 use Rattle.std.proofs.lemmas.List.{append-nil, drop-drop, drop_at, drop_all}
@@ -9,7 +9,7 @@ use Rattle.b67_text.specs.Texts.{Stands, HasByte}
 use Rattle.b67_text.proofs.Fronts.{at_byte}
 use Rattle.b67_segment.specs.declared.code.Phrase.{Phrase}
 use Rattle.b67_listing.specs.Formats.{phrase_text, phrases_text}
-use Rattle.b67_listing_reader.specs.Reading.{IsShown, IsTextByte, IsEnded, ReadsPhrase}
+use Rattle.b67_listing_reader.specs.Reading.{IsShown, IsEnded, ReadsPhrase}
 use Rattle.b67_listing_reader.proofs.OneFormat.{further, closed, closed_ended, opened, phrase_first, phrases_alike}
 
 -- what is left of phrases behind others

@@ -1,5 +1,5 @@
 -- Texts between quotes, as far as they are read, and as phrases.
-use Rattle.std.proofs.Common.{◌≡◌, ℕ, zero, suc, ◌+◌, ◌-◌, ◌<◌, ◌≤◌, Option, Some, None, Result, Ok, Err, IfOk, MatchOption, List, [], ◌∷◌, ◌++◌, length, get_or, drop, refl, sym, ap, subst, arith, ◌∙◌, append_assoc, length-append}
+use Rattle.std.proofs.Common.{◌≡◌, ℕ, suc, ◌+◌, ◌-◌, ◌<◌, ◌≤◌, Option, Some, None, Result, Ok, Err, IfOk, MatchOption, List, [], ◌∷◌, ◌++◌, length, get_or, drop, sym, ap, subst, arith, ◌∙◌, append_assoc, length-append}
 use Rattle.std.specs.List.{All}
 use Rattle.std.proofs.lemmas.Option.{slice_get_within}
 use Rattle.std.proofs.lemmas.List.{append-nil, drop_all, drop_more}
@@ -127,8 +127,10 @@ phrase_text_read text at (Text quoted) next here r =
     let tail : drop (next - 1) text ≡ 34 ∷ drop next text = ap (λ k. drop k text) (sym place) ∙ s.tail_is in (
       quoted,
       next - 1,
-      (record { bytes = r.is_phrase.0; stands = subst (λ k. Stands quoted text (at + 1) k) place s.stands; quote = byte_at text (next - 1) 34 (drop next text) tail },
-      subst (λ k. IsEnded (drop k text)) (sym behind) r.ended),
+      (
+        record { bytes = r.is_phrase.0; stands = subst (λ k. Stands quoted text (at + 1) k) place s.stands; quote = byte_at text (next - 1) 34 (drop next text) tail },
+        subst (λ k. IsEnded (drop k text)) (sym behind) r.ended,
+      ),
     )
 phrase_text_read text at (Number width) next here r =
     let f : ◌≡◌ {A = ℕ} 34 73 = ap (λ (xs : List ℕ). get_or xs 0 0) (sym (at_byte text at 34 here) ∙ r.stands.part_is) in
@@ -140,7 +142,7 @@ phrase_text_read text at (Blanks width) next here r =
 -- what is read behind a quote is what is read at it
 pub quoted_phrase : {E : Type 0} (text : List ℕ) (at : ℕ) (result : Result (Option (Phrase × ℕ)) E) → HasByte 34 text at →
     IfOk result (λ found. MatchOption found ((quoted : List ℕ) (end : ℕ) → ReadsText text (at + 1) quoted end → ⊥)
-        (λ found. (quoted : List ℕ) × (end : ℕ) × ReadsText text (at + 1) quoted end × (found.0 ≡ Text quoted) × (found.1 ≡ end + 1))) →
+    (λ found. (quoted : List ℕ) × (end : ℕ) × ReadsText text (at + 1) quoted end × (found.0 ≡ Text quoted) × (found.1 ≡ end + 1))) →
     IfOk result (λ found. MatchOption found ((phrase : Phrase) (next : ℕ) → ReadsPhrase text at phrase next → ⊥) (λ found. ReadsPhrase text at found.0 found.1))
 quoted_phrase text at (Err e) here h = tt
 quoted_phrase text at (Ok None) here h = λ phrase next r.

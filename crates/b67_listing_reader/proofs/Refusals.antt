@@ -1,27 +1,26 @@
 -- Where lines stop being the beginning of a listing.
-use Rattle.std.proofs.Common.{◌≡◌, ℕ, zero, suc, ◌+◌, ◌-◌, ◌*◌, ◌^◌, ◌<◌, ◌≤◌, ⊎_elim, inl, inr, List, [], ◌∷◌, ◌++◌, length, get_or, take, drop, map, codes, refl, sym, ap, subst, arith, ◌∙◌, append_assoc, length-append}
+use Rattle.std.proofs.Common.{◌≡◌, ℕ, suc, ◌+◌, ◌-◌, ◌*◌, ◌<◌, ◌≤◌, ⊎_elim, List, [], ◌∷◌, ◌++◌, length, get_or, take, drop, map, refl, sym, ap, subst, arith, ◌∙◌, append_assoc}
 use Rattle.std.specs.List.{All, enumerate_from}
 use Rattle.std.proofs.Math.Seq.{take-add}
 use Rattle.std.proofs.lemmas.Bool.{cases_lt}
 use Rattle.std.proofs.lemmas.List.{append-nil, take-append-drop, drop_more, map-append}
 use Rattle.std.proofs.lemmas.List.Elements.{All-cons, All-nil, All-head}
-use Rattle.b67_text.specs.Texts.{Begins, IsLongest, IsRefused, Stands}
+use Rattle.b67_text.specs.Texts.{Begins, IsRefused}
 use Rattle.b67_ops.specs.declared.TheConstants.{OUTER_LEVEL}
 use Rattle.b67_segment.specs.declared.code.Segment.{Segment}
 use Rattle.b67_segment.specs.declared.code.Format.{Format}
-use Rattle.b67_segment.specs.declared.code.Code.{Code}
 use Rattle.b67_segment.specs.Syllables.{syllables}
 use Rattle.b67_segment.proofs.Fetches.{length-syllables}
 use Rattle.b67_listing.specs.Operators.{Placed, operator_line}
 use Rattle.b67_listing.specs.Formats.{format_line, format_lines}
-use Rattle.b67_listing.specs.Listings.{IsSegment, HasOperators, AreListable, SegmentsText, none, more, segment_line, segment_lines, ListingText, marks_of}
-use Rattle.b67_listing_reader.specs.Reading.{CanStand, width, AreInOrder, IsWordCount, operator_lines, IsFormat, IsNoOperator, IsNoHead, IsNoFormat}
+use Rattle.b67_listing.specs.Listings.{IsSegment, HasOperators, AreListable, SegmentsText, none, more, segment_line, segment_lines, marks_of}
+use Rattle.b67_listing_reader.specs.Reading.{AreInOrder, IsWordCount, operator_lines, IsFormat, IsNoOperator, IsNoHead, IsNoFormat}
 use Rattle.b67_listing_reader.specs.Codes.{IsListing}
-use Rattle.b67_listing_reader.proofs.Orders.{code_text, spelled, fills, order-append, order-grows, length-code, noops, noops-order}
+use Rattle.b67_listing_reader.proofs.Orders.{code_text, fills, order-append, length-code, noops, noops-order}
 use Rattle.b67_listing_reader.proofs.Words.{worded}
-use Rattle.b67_listing_reader.proofs.Lines.{AreBytes, code-bytes, IsBytes-from}
+use Rattle.b67_listing_reader.proofs.Lines.{code-bytes, IsBytes-from}
 use Rattle.b67_listing_reader.proofs.Segments.{SegmentsText-push}
-use Rattle.b67_listing_reader.proofs.Ahead.{shown, readable, head_of, tail_of, GoesOn, next_operator, body, one_count, HasNoHead, formats_first, Ahead, ahead, FormatsAhead, formats_ahead}
+use Rattle.b67_listing_reader.proofs.Ahead.{shown, readable, head_of, tail_of, GoesOn, next_operator, body, one_count, HasNoHead, formats_first, ahead, formats_ahead}
 
 -- what stands behind so many lines makes them no beginning of a listing
 pub record Stops (lines : List (List ℕ)) (count : ℕ) : Type 0 where

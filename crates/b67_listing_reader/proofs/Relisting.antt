@@ -1,20 +1,17 @@
 -- A segment that is listed again.
-use Rattle.std.proofs.Common.{◌≡◌, ℕ, zero, suc, ◌+◌, ◌-◌, ◌*◌, ◌%◌, ◌<◌, ◌≤◌, List, [], ◌∷◌, ◌++◌, length, drop, refl, sym, ap, subst, arith, ◌∙◌}
+use Rattle.std.proofs.Common.{◌≡◌, ℕ, ◌+◌, ◌*◌, List, [], ◌∷◌, ◌++◌, length, drop, sym, ap, subst, arith, ◌∙◌}
 use Rattle.std.proofs.lemmas.List.{append-nil}
 use Rattle.std.proofs.lemmas.List.Elements.{All-cons, All-nil}
-use Rattle.b67_segment.specs.declared.TheConstants.{MOST_SEGMENT_WORDS}
 use Rattle.b67_segment.specs.declared.code.Segment.{Segment}
 use Rattle.b67_segment.specs.declared.code.Format.{Format}
 use Rattle.b67_segment.specs.declared.code.Code.{Code}
 use Rattle.b67_segment.specs.Operators as building
-use Rattle.b67_segment.specs.Syllables.{syllables, Spells}
+use Rattle.b67_segment.specs.Syllables.{Spells}
 use Rattle.b67_segment.proofs.Fetches.{length-syllables}
-use Rattle.b67_listing.specs.Operators.{Placed}
 use Rattle.b67_listing.specs.Formats.{format_lines}
-use Rattle.b67_listing.specs.Listings.{IsSegment, HasOperators, IsListable, ListingText, segment_line}
-use Rattle.b67_listing_reader.specs.Reading.{AreInOrder, unplaced, operator_lines, AreOperators, IsFirstOther, IsRelisted, IsFormat}
-use Rattle.b67_listing_reader.specs.Codes.{IsReadable}
-use Rattle.b67_listing_reader.proofs.Orders.{code_text, length-code}
+use Rattle.b67_listing.specs.Listings.{HasOperators, IsListable, ListingText, segment_line}
+use Rattle.b67_listing_reader.specs.Reading.{unplaced, operator_lines, AreOperators, IsFirstOther, IsRelisted, IsFormat}
+use Rattle.b67_listing_reader.proofs.Orders.{length-code}
 use Rattle.b67_listing_reader.proofs.Ahead.{readable}
 use Rattle.b67_listing_reader.proofs.Segments.{one_listed}
 use Rattle.b67_listing_reader.proofs.Built.{text_is, built_segment, spelled_ones, with_noops, order-some}

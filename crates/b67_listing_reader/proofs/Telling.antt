@@ -1,5 +1,5 @@
 -- An operator that is told by its line.
-use Rattle.std.proofs.Common.{◌≡◌, ℕ, ◌+◌, ◌-◌, ◌%◌, ◌<◌, ◌≤◌, Option, Some, None, List, [], ◌∷◌, ◌++◌, length, drop, replicate, refl, sym, ap, subst, arith, ◌∙◌, length-append}
+use Rattle.std.proofs.Common.{◌≡◌, ℕ, ◌+◌, ◌-◌, ◌%◌, ◌≤◌, Option, Some, None, List, ◌∷◌, ◌++◌, length, replicate, refl, sym, ap, subst, arith, ◌∙◌, length-append}
 use Rattle.std.specs.Int.{bytes_high_first}
 use Rattle.b67_ops.specs.declared.TheConstants.{OUTER_LEVEL, MOST_LEVEL}
 use Rattle.b67_ops.specs.declared.Operator.{Operator}
@@ -10,7 +10,7 @@ use Rattle.b67_ops.specs.Spelling.{spelling, Fits, filling, Stands}
 use Rattle.b67_ops.proofs.Laws.{Stands-appended, Stands-unique}
 use Rattle.b67_listing.specs.Operators.{Placed, operator_line}
 use Rattle.b67_listing_reader.specs.declared.operators.Told.{Told}
-use Rattle.b67_listing_reader.specs.Reading.{CanStand, width, level_part, syllables_in, TellsNone, told_at, Tells}
+use Rattle.b67_listing_reader.specs.Reading.{CanStand, width, level_part, syllables_in, TellsNone, Tells}
 use Rattle.b67_listing_reader.proofs.Lines.{line_tail, level_back, text_back}
 
 -- places that are filled alike spell alike

@@ -1,22 +1,20 @@
 -- A listing, as far as it is read.
-use Rattle.std.proofs.Common.{◌≡◌, ℕ, ◌+◌, ◌-◌, ◌*◌, ◌<◌, ◌≤◌, List, [], ◌∷◌, ◌++◌, length, take, drop, refl, sym, ap, subst, arith, ◌∙◌, append_assoc, length-append}
-use Rattle.std.specs.List.{All}
+use Rattle.std.proofs.Common.{◌≡◌, ℕ, ◌+◌, ◌-◌, ◌<◌, List, [], ◌∷◌, ◌++◌, length, take, drop, refl, sym, ap, subst, arith, ◌∙◌}
 use Rattle.std.proofs.Math.Seq.{take-add}
 use Rattle.std.proofs.lemmas.List.{take_at, take-append-drop}
-use Rattle.b67_text.specs.Texts.{Stands, IsRefused}
+use Rattle.b67_text.specs.Texts.{Stands}
 use Rattle.b67_segment.specs.declared.code.Segment.{Segment}
 use Rattle.b67_segment.specs.declared.code.Format.{Format}
 use Rattle.b67_segment.specs.declared.code.Code.{Code}
 use Rattle.b67_listing_reader.specs.declared.refusal.ReadListing.{ReadListing}
 use Rattle.b67_listing_reader.specs.declared.refusal.ReadListing.TheVariants.{BadListing, NoMemory}
-use Rattle.b67_listing.specs.Operators.{operator_line}
 use Rattle.b67_listing.specs.Formats.{format_lines}
 use Rattle.b67_listing.specs.Listings.{SegmentsText, segment_line, segment_lines, ListingText}
-use Rattle.b67_listing_reader.specs.Codes.{IsReadable, IsListing, Refuses}
+use Rattle.b67_listing_reader.specs.Codes.{IsReadable, Refuses}
 use Rattle.b67_listing_reader.specs.Reading.{operator_lines, RefusesBody, RefusesFormats, ReadsBody, ReadsSegments, ReadsFormats, IsWordCount, IsNoHead}
 use Rattle.b67_listing_reader.proofs.Segments.{SegmentsText-push}
-use Rattle.b67_listing_reader.proofs.Ahead.{readable, one_code}
-use Rattle.b67_listing_reader.proofs.Refusals.{InPart, part_refused, BehindFormats, behind_refused, are_listable}
+use Rattle.b67_listing_reader.proofs.Ahead.{readable}
+use Rattle.b67_listing_reader.proofs.Refusals.{part_refused, behind_refused, are_listable}
 
 -- the items before a place, and what stands there
 pub taken : {A : Type 0} (part items : List A) (at next : ℕ) → Stands part items at next → take next items ≡ take at items ++ part

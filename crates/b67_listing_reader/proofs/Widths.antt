@@ -1,12 +1,12 @@
 -- Numbers of 32 bits in phrases.
-use Rattle.std.proofs.Common.{◌≡◌, ℕ, suc, ◌+◌, ◌-◌, ◌^◌, ◌<◌, ◌≤◌, ⊎_elim, inl, inr, Option, Some, None, MatchOption, List, [], ◌∷◌, ◌++◌, length, drop, refl, sym, ap, subst, arith, ◌∙◌, append_assoc, length-append}
+use Rattle.std.proofs.Common.{◌≡◌, ℕ, suc, ◌+◌, ◌-◌, ◌^◌, ◌<◌, ⊎_elim, inr, Option, Some, None, MatchOption, List, [], ◌∷◌, ◌++◌, length, drop, refl, sym, ap, arith, ◌∙◌, append_assoc, length-append}
 use Rattle.std.specs.Fmt.{decimal}
 use Rattle.std.proofs.lemmas.List.{drop-drop, drop_at}
-use Rattle.b67_text.specs.Texts.{StopsAt, Stands, HasByte}
+use Rattle.b67_text.specs.Texts.{StopsAt, Stands}
 use Rattle.b67_text.specs.declared.number.Numbers.{Numbers}
 use Rattle.b67_text.specs.Numerals.{IsDigit, IsIn, IsField}
 use Rattle.b67_text.proofs.Fronts.{at_byte, byte_at}
-use Rattle.b67_listing_reader.specs.Reading.{EndsPhrase, IsEnded, ReadsWidth, HasNoWidth, HasWidthBefore}
+use Rattle.b67_listing_reader.specs.Reading.{EndsPhrase, ReadsWidth, HasNoWidth, HasWidthBefore}
 
 -- the numbers of 32 bits
 abbrev pub widths : Numbers

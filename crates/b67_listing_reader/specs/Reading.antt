@@ -1,9 +1,8 @@
 -- What the parts of a listing are read as.
-use Rattle.std.specs.Prelude.{◌≡◌, ℕ, ◌+◌, ◌-◌, ◌*◌, ◌<◌, ◌≤◌, ◌≢◌, ◌^◌, ◌⊎◌, nat_le, nat_lt, ◌==◌, ◌&&◌, if◌then◌else◌, zero, suc, Option, Some, None, List, [], ◌∷◌, ◌++◌, length, map, take, drop}
+use Rattle.std.specs.Prelude.{◌≡◌, ℕ, ◌+◌, ◌-◌, ◌*◌, ◌<◌, ◌≤◌, ◌≢◌, ◌^◌, ◌⊎◌, nat_le, nat_lt, ◌&&◌, if◌then◌else◌, zero, suc, Option, Some, None, List, [], ◌∷◌, ◌++◌, length, map, take, drop}
 use Rattle.std.specs.List.{All}
 use Rattle.std.specs.Fmt.{decimal}
 use Rattle.b67_ops.specs.declared.TheConstants.{OUTER_LEVEL, MOST_LEVEL}
-use Rattle.b67_ops.specs.declared.Operator.{Operator}
 use Rattle.b67_ops.specs.Spelling.{spelling, Fits}
 use Rattle.b67_text.specs.Texts.{Stands, HasByte}
 use Rattle.b67_segment.specs.declared.code.Segment.{Segment}

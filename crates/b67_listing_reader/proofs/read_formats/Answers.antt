@@ -1,4 +1,4 @@
-use Rattle.std.proofs.Common.{◌≡◌, ◌+◌, ◌∷◌, drop, length, sym, subst, ◌∙◌}
+use Rattle.std.proofs.Common.{◌+◌, sym, subst, ◌∙◌}
 use Rattle.b67_listing_reader.proofs.Bodies.{line_at}
 use Rattle.b67_listing_reader.proofs.FormatLines.{FormatsSoFar, formats_none, formats_end, formats_more, formats_stop}
 use Rattle.b67_listing_reader.proofs.read_formats.Goals as goal

@@ -1,4 +1,3 @@
-use Rattle.std.proofs.Common.{◌∙◌, ap}
 use Rattle.std.proofs.lemmas.Result.{err_from_is_err_and}
 use Rattle.b67_listing_reader.proofs.Ahead.{one_code}
 use Rattle.b67_listing_reader.proofs.WholeListing.{formats_refused, code_read, not_refused}

@@ -1,7 +1,6 @@
-use Rattle.std.proofs.Common.{◌≡◌, ◌+◌, [], ◌∷◌, drop, take, length, sym, ap, subst, ◌∙◌, arith}
+use Rattle.std.proofs.Common.{[], take, sym, subst, ◌∙◌, arith}
 use Rattle.std.proofs.lemmas.Result.{err_from_is_err_and}
-use Rattle.b67_listing.specs.Listings.{SegmentsText, none, segment_line}
-use Rattle.b67_listing_reader.specs.Reading.{IsWordCount}
+use Rattle.b67_listing.specs.Listings.{SegmentsText, none}
 use Rattle.b67_listing_reader.proofs.Bodies.{line_at}
 use Rattle.b67_listing_reader.proofs.WholeListing.{head_here, body_refused, segment_more}
 use Rattle.b67_listing_reader.proofs.read_segments.Goals as goal

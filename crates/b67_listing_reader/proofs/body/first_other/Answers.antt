@@ -1,4 +1,4 @@
-use Rattle.std.proofs.Common.{◌≡◌, ◌∙◌, sym, arith}
+use Rattle.std.proofs.Common.{◌∙◌, sym, arith}
 use Rattle.b67_listing_reader.proofs.Firsts.{alike_more, lines_differ, lines_same, lines_other}
 use Rattle.b67_listing_reader.proofs.body.first_other.Goals as goal
 

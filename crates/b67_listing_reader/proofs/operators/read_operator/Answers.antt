@@ -1,4 +1,4 @@
-use Rattle.std.proofs.Common.{◌≡◌, ℕ, ◌-◌, ◌≤◌, ◌∙◌, ◌%◌, List, length, ap, sym, subst, refl, arith, ◌++◌}
+use Rattle.std.proofs.Common.{◌≡◌, ◌-◌, ◌≤◌, ◌∙◌, ◌%◌, length, ap, sym, subst, refl, arith}
 use Rattle.std.proofs.lemmas.List.{length-take}
 use Rattle.b67_ops.specs.Spelling.{Stands}
 use Rattle.b67_listing_reader.specs.Reading.{Tells}

@@ -1,4 +1,4 @@
-use Rattle.std.proofs.Common.{◌≡◌, ◌∷◌, [], ◌++◌, ◌∙◌, ap, arith, MatchOption, subst}
+use Rattle.std.proofs.Common.{◌∷◌, [], ◌++◌, ◌∙◌, ap, arith}
 use Rattle.b67_segment.specs.Building.{Built, level_set}
 use Rattle.b67_listing_reader.specs.Reading.{TellsNone, Tells}
 use Rattle.b67_listing_reader.proofs.Bodies.{line_at, tells_all, tells_no_more, tells_too_much, tell_more}

@@ -1,4 +1,4 @@
-use Rattle.std.proofs.Common.{◌+◌, get_or, refl, arith}
+use Rattle.std.proofs.Common.{get_or, arith}
 use Rattle.b67_listing_reader.proofs.Quoted.{byte_here, quoted_more, quoted_stops, quoted_ends}
 use Rattle.b67_listing_reader.proofs.phrases.quote_place.Goals as goal
 

@@ -1,4 +1,4 @@
-use Rattle.std.proofs.Common.{◌≡◌, ◌<◌, ◌∙◌, subst, sym, length, ltb-true}
+use Rattle.std.proofs.Common.{◌<◌, ◌∙◌, subst, sym, length, ltb-true}
 use Rattle.b67_text.specs.Texts.{HasByte}
 use Rattle.b67_listing_reader.proofs.Quoted.{byte_here, quoted_phrase}
 use Rattle.b67_listing_reader.proofs.phrases.read_phrase.Goals as goal

@@ -1,4 +1,4 @@
-use Rattle.std.proofs.Common.{◌≡◌, ◌+◌, ◌∷◌, length, get_or, drop, sym, ap, subst, arith, ◌∙◌}
+use Rattle.std.proofs.Common.{◌+◌, ◌∷◌, get_or, drop, sym, ap, subst, arith, ◌∙◌}
 use Rattle.std.proofs.lemmas.List.{drop_more}
 use Rattle.b67_text.specs.Texts.{HasByte}
 use Rattle.b67_listing_reader.proofs.Quoted.{byte_here}

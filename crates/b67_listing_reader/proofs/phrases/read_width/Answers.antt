@@ -1,5 +1,5 @@
-use Rattle.std.proofs.Common.{◌≡◌, inl, inr, refl}
-use Rattle.b67_listing_reader.proofs.Widths.{reads_width, reads_none, width_or_none}
+use Rattle.std.proofs.Common.{inl, refl}
+use Rattle.b67_listing_reader.proofs.Widths.{reads_width, width_or_none}
 use Rattle.b67_listing_reader.proofs.phrases.read_width.Goals as goal
 
 pub returns-in-Some : goal.returns-in-Some

@@ -1,4 +1,3 @@
-use Rattle.std.proofs.Common.{◌≡◌}
 use Rattle.b67_listing_reader.proofs.Quoted.{text_not_ended}
 use Rattle.b67_listing_reader.proofs.phrases.text_end.Goals as goal
 
