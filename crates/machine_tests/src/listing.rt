@@ -1,6 +1,6 @@
 //! The listing of a small code, and what is read of such lines.
 
-ghost use Rattle.std.specs.Prelude.{◌≡◌, IfOk, length};
+ghost use Rattle.std.specs.Prelude.{◌≡◌, ◌<◌, IfOk, length};
 ghost use Rattle.b67_listing.specs.Listings.{IsListable};
 
 use b67_list::{Line, List};
@@ -49,23 +49,67 @@ fn listed(alloc: Global, code: &Code) -> Result<Vec<u8>, AllocError>
     Ok(text)
 }
 
+/// Lines of these texts.
+fn lines_of(alloc: Global, texts: &[&[u8]]) -> Result<Vec<Line>, AllocError>
+    ensures { IfOk result (λ lines. length lines.items ≡ length texts.now) }
+{
+    let mut lines = Vec::with_capacity(alloc, texts.len())?;
+    'texts: for text in texts {
+        lines.push(Line::of(Vec::from_slice(alloc, text)?))?;
+    }
+    Ok(lines)
+}
+
 /// The lines of that listing, with another text in place of the line with this number, from 0.
 fn five_lines(alloc: Global, other: usize, text: &[u8]) -> Result<Vec<Line>, AllocError>
     ensures { IfOk result (λ lines. length lines.items ≡ 5) }
 {
-    let texts: [&[u8]; 5] = [
+    let mut texts: [&[u8]; 5] = [
         b"SEGMENT 0 2",
         b"00000 02 B0 ZERO",
         b"00001 02 B5 DLET",
         b"00002 02 BE000000007FFFFFFFFF LT48 007FFFFFFFFF",
         b"FORMAT 0 <I5>",
     ];
-    let mut lines = Vec::new(alloc);
-    for at in 0..5 {
-        let line = if at == other { text } else { texts[at] };
-        lines.push(Line::of(Vec::from_slice(alloc, line)?))?;
+    if other < 5 {
+        texts[other] = text;
     }
-    Ok(lines)
+    lines_of(alloc, &texts)
+}
+
+/// Tests that the code has one segment, of these words, and all of it at level 2.
+fn has_words(code: &Code, words: &[u64]) -> bool {
+    match code.segments.items().as_slice() {
+        [segment] => {
+            segment.words.items().as_slice() == words
+                && segment.marks.items().as_slice() == [Mark { place: 0, level: 2 }].as_slice()
+        }
+        _ => false,
+    }
+}
+
+/// Tests that these lines are read as a code of one segment of these words, and are the listing of a copy of it.
+fn are_read_back(
+    alloc: Global,
+    texts: &[&[u8]],
+    words: &[u64],
+) -> Result<Result<bool, ReadListing>, AllocError>
+    requires { length texts.now < 100 }
+{
+    let lines = lines_of(alloc, texts)?;
+    let code = match read_listing(alloc, lines.as_slice()) {
+        Ok(code) => code,
+        Err(refusal) => return Ok(Err(refusal)),
+    };
+    let mut wanted = Vec::new(alloc);
+    for text in texts {
+        wanted.extend_from_slice(text)?;
+        wanted.extend_from_slice(b"\n")?;
+    }
+    let again = listed(alloc, &code.copy()?)?;
+    Ok(Ok(
+        has_words(&code, words) && again.as_slice() == wanted.as_slice()
+    ))
 }
 
 #[test]
@@ -100,5 +144,51 @@ fn lines_of_listings(rt: HostRuntime) -> Result<(), Fail> {
         };
         assert_eq!(rt; answer, wanted);
     }
+    Ok(())
+}
+
+#[test]
+fn codes_of_listings(rt: HostRuntime) -> Result<(), Fail> {
+    let alloc = rt.alloc();
+    let shortest: [&[u8]; 7] = [
+        b"SEGMENT 0 1",
+        b"00000 02 A3 EXIT",
+        b"00001 02 FE NOOP",
+        b"00002 02 FE NOOP",
+        b"00003 02 FE NOOP",
+        b"00004 02 FE NOOP",
+        b"00005 02 FE NOOP",
+    ];
+    assert_eq!(rt; are_read_back(alloc, &shortest, &[0xa3fe_fefe_fefe])?, Ok(true));
+    let sum: [&[u8]; 19] = [
+        b"SEGMENT 0 4",
+        b"00000 02 B0 ZERO",
+        b"00001 02 B0 ZERO",
+        b"00002 02 B4 PUSH",
+        b"00003 02 6002 NAMC 2,2",
+        b"00005 02 B228 LT8 40",
+        b"00007 02 B8 STOD",
+        b"00008 02 6003 NAMC 2,3",
+        b"00010 02 2002 VALC 2,2",
+        b"00012 02 B202 LT8 2",
+        b"00014 02 80 ADD",
+        b"00015 02 B8 STOD",
+        b"00016 02 AE MKST",
+        b"00017 02 4007 NAMC 0,7",
+        b"00019 02 B0 ZERO",
+        b"00020 02 2003 VALC 2,3",
+        b"00022 02 AB ENTR",
+        b"00023 02 A3 EXIT",
+        b"FORMAT 0 <I5>",
+    ];
+    let words = [
+        0xb0b0_b460_02b2,
+        0x28b8_6003_2002,
+        0xb202_80b8_ae40,
+        0x07b0_2003_aba3,
+    ];
+    assert_eq!(rt; are_read_back(alloc, &sum, &words)?, Ok(true));
+    let second: [&[u8]; 1] = [b"SEGMENT 1 1"];
+    assert_eq!(rt; are_read_back(alloc, &second, &[])?, Err(ReadListing::BadListing { line: 1 }));
     Ok(())
 }
