@@ -155,7 +155,8 @@ pub record IsFirstOther (lines others : List (List ℕ)) (same : ℕ) : Type 0 w
   pub alike : take same lines ≡ take same others
   pub within : same ≤ length lines
   pub inside : same ≤ length others
-  pub differ : (line other : List ℕ) (rest more : List (List ℕ)) → drop same lines ≡ line ∷ rest → drop same others ≡ other ∷ more → line ≡ other → ⊥
+  pub differ : (line other : List ℕ) (rest more : List (List ℕ)) → drop same lines ≡ line ∷ rest → drop same others ≡ other ∷ more →
+      line ≡ other → ⊥
 
 -- the segment of operators and of what fills its last word, and how many of the lines are those of its operators
 pub record IsRelisted (operators : List building.Placed) (lines : List (List ℕ)) (segment : Segment) (same : ℕ) : Type 0 where

@@ -163,7 +163,8 @@ fn is_text_byte(byte: u8) -> bool
 /// The number of 32 bits that stands at a place before the byte that ends a phrase, and the place of that byte.
 fn read_width(text: &[u8], at: usize) -> Option<(u32, usize)>
     requires { at ≤ length text.now }
-    ensures { MatchOption result ((width next : ℕ) → ReadsWidth text.now at width next → ⊥) (λ found. ReadsWidth text.now at found.0 found.1) }
+    ensures { MatchOption result ((width next : ℕ) → ReadsWidth text.now at width next → ⊥)
+        (λ found. ReadsWidth text.now at found.0 found.1) }
 {
     match width_before(text, at, b',') {
         Some(found) => Some(found),

@@ -107,9 +107,7 @@ fn are_read_back(
         wanted.extend_from_slice(b"\n")?;
     }
     let again = listed(alloc, &code.copy()?)?;
-    Ok(Ok(
-        has_words(&code, words) && again.as_slice() == wanted.as_slice()
-    ))
+    Ok(Ok(has_words(&code, words) && again.as_slice() == wanted.as_slice()))
 }
 
 #[test]
@@ -159,7 +157,10 @@ fn codes_of_listings(rt: HostRuntime) -> Result<(), Fail> {
         b"00004 02 FE NOOP",
         b"00005 02 FE NOOP",
     ];
-    assert_eq!(rt; are_read_back(alloc, &shortest, &[0xa3fe_fefe_fefe])?, Ok(true));
+    assert_eq!(rt;
+        are_read_back(alloc, &shortest, &[0xa3fe_fefe_fefe])?,
+        Ok(true)
+    );
     let sum: [&[u8]; 19] = [
         b"SEGMENT 0 4",
         b"00000 02 B0 ZERO",
@@ -189,6 +190,9 @@ fn codes_of_listings(rt: HostRuntime) -> Result<(), Fail> {
     ];
     assert_eq!(rt; are_read_back(alloc, &sum, &words)?, Ok(true));
     let second: [&[u8]; 1] = [b"SEGMENT 1 1"];
-    assert_eq!(rt; are_read_back(alloc, &second, &[])?, Err(ReadListing::BadListing { line: 1 }));
+    assert_eq!(rt;
+        are_read_back(alloc, &second, &[])?,
+        Err(ReadListing::BadListing { line: 1 })
+    );
     Ok(())
 }
