@@ -1,9 +1,9 @@
 -- Two listings that begin alike go on alike.
-use Rattle.std.proofs.Common.{◌≡◌, ℕ, zero, suc, ◌+◌, ◌*◌, ◌^◌, ◌<◌, ◌≤◌, List, [], ◌∷◌, ◌++◌, length, get_or, drop, map, codes, refl, sym, ap, subst, arith, ◌∙◌, append_assoc, length-append}
+use Rattle.std.proofs.Common.{◌≡◌, ℕ, ◌+◌, ◌*◌, ◌<◌, ◌≤◌, List, [], ◌∷◌, ◌++◌, length, get_or, drop, map, codes, refl, sym, ap, subst, arith, ◌∙◌, append_assoc}
 use Rattle.std.specs.Fmt.{decimal}
 use Rattle.std.specs.List.{All, enumerate_from}
 use Rattle.std.proofs.lemmas.List.{append-nil, append_cancel_left}
-use Rattle.std.proofs.lemmas.List.Elements.{All-cons, All-nil, All-head, All-tail}
+use Rattle.std.proofs.lemmas.List.Elements.{All-head, All-tail}
 use Rattle.b67_text.proofs.Decimals.{decimal_same}
 use Rattle.b67_text.proofs.Beginnings.{wide}
 use Rattle.b67_segment.specs.declared.TheConstants.{MOST_SEGMENT_WORDS}
@@ -14,8 +14,8 @@ use Rattle.b67_segment.specs.Syllables.{syllables}
 use Rattle.b67_segment.proofs.Fetches.{length-syllables}
 use Rattle.b67_listing.specs.Operators.{Placed, operator_line}
 use Rattle.b67_listing.specs.Formats.{format_line, format_lines}
-use Rattle.b67_listing.specs.Listings.{IsSegment, marks_of, HasOperators, AreListable, SegmentsText, none, more, segment_line, segment_lines, ListingText}
-use Rattle.b67_listing_reader.specs.Reading.{CanStand, width, AreInOrder, operator_lines, IsWordCount, IsFormat}
+use Rattle.b67_listing.specs.Listings.{IsSegment, marks_of, AreListable, SegmentsText, none, more, segment_line, segment_lines, ListingText}
+use Rattle.b67_listing_reader.specs.Reading.{CanStand, width, AreInOrder, operator_lines, IsFormat}
 use Rattle.b67_listing_reader.specs.Codes.{IsReadable}
 use Rattle.b67_listing_reader.proofs.Orders.{code_text, filled, order-grows, width-some}
 use Rattle.b67_listing_reader.proofs.Words.{one_words}
@@ -96,7 +96,7 @@ one_segment segment other ps qs is also same =
     ap (λ ws. let s : Segment = record { words = ws; marks = segment.marks } in s) words ∙ ap (λ ms. let s : Segment = record { words = other.words; marks = ms } in s) marks
 
 -- head lines of one segment with the same words
-one_count : (number w v : ℕ) → w ≤ MOST_SEGMENT_WORDS → v ≤ MOST_SEGMENT_WORDS → segment_line number w ≡ segment_line number v → w ≡ v
+pub one_count : (number w v : ℕ) → w ≤ MOST_SEGMENT_WORDS → v ≤ MOST_SEGMENT_WORDS → segment_line number w ≡ segment_line number v → w ≡ v
 one_count number w v p q e =
     let a : decimal number ++ (codes " " ++ decimal w) ≡ decimal number ++ (codes " " ++ decimal v) =
     append_cancel_left (codes "SEGMENT ") (decimal number ++ (codes " " ++ decimal w)) (decimal number ++ (codes " " ++ decimal v)) e in

@@ -3,3 +3,16 @@ pub mod Words
 pub mod Lines
 pub mod OneFormat
 pub mod Ahead
+pub mod Segments
+pub mod Refusals
+pub mod Heads
+pub mod PhraseReading
+pub mod Quoted
+pub mod Widths
+pub mod FormatLines
+pub mod Firsts
+pub mod Telling
+pub mod Built
+pub mod Relisting
+pub mod Bodies
+pub mod WholeListing

@@ -1,27 +1,22 @@
 -- What is read back from lines of operators and of heads.
-use Rattle.std.proofs.Common.{◌≡◌, ℕ, zero, suc, ◌+◌, ◌-◌, ◌*◌, ◌/◌, ◌%◌, ◌^◌, ◌<◌, ◌≤◌, ltb, leb, ◌&&◌, cond, Bool, true, false, Option, Some, None, List, [], ◌∷◌, ◌++◌, length, get_or, drop, map, codes, replicate, refl, sym, ap, subst, arith, ◌∙◌, append_assoc, length-append}
+use Rattle.std.proofs.Common.{◌≡◌, ℕ, zero, suc, ◌+◌, ◌-◌, ◌*◌, ◌/◌, ◌%◌, ◌<◌, ◌≤◌, ltb, leb, ◌&&◌, cond, Bool, true, false, Option, Some, None, List, [], ◌∷◌, ◌++◌, length, get_or, drop, codes, replicate, refl, sym, ap, subst, arith, ◌∙◌, append_assoc}
 use Rattle.std.specs.Int.{w16, to_be_bytes, bytes_high_first}
-use Rattle.std.specs.Fmt.{decimal, digit_glyph}
-use Rattle.std.specs.List.{flat_map}
+use Rattle.std.specs.Fmt.{digit_glyph}
 use Rattle.std.proofs.lemmas.Bool.{cond-true, cond-false, lt-ltb, le-ltb, le-leb, ltb-true, ltb-false}
-use Rattle.std.proofs.lemmas.List.{append-nil}
 use Rattle.b67_ops.specs.declared.TheConstants.{OUTER_LEVEL, MOST_LEVEL}
 use Rattle.b67_ops.specs.declared.Operator.{Operator}
 use Rattle.b67_ops.specs.declared.Operator.TheVariants.{Valc, Namc, Lt8, Lt16, Lt48, Mpcw, Branch, Plain}
-use Rattle.b67_ops.specs.declared.BranchKind.{BranchKind}
 use Rattle.b67_ops.specs.declared.BranchKind.TheVariants as branches
-use Rattle.b67_ops.specs.declared.PlainKind.{PlainKind}
 use Rattle.b67_ops.specs.declared.PlainKind.TheVariants as plains
 use Rattle.b67_ops.specs.declared.table.OperatorKind.{OperatorKind}
 use Rattle.b67_ops.specs.declared.table.OperatorKind.TheVariants as kinds
 use Rattle.b67_ops.specs.Codes.{code_of}
-use Rattle.b67_ops.specs.Spelling.{spelling, Fits, filling, HasSpelling}
+use Rattle.b67_ops.specs.Spelling.{spelling, Fits, filling}
 use Rattle.b67_ops.proofs.Laws.{length-spelling, spelling-prefix, HasSpelling-from_fits}
 use Rattle.b67_ops.proofs.Reading.{IsBytes}
-use Rattle.b67_listing.specs.Digits.{last_digits, hexadecimal}
+use Rattle.b67_listing.specs.Digits.{hexadecimal}
 use Rattle.b67_listing.specs.Operators.{Placed, operator_line, operator_text}
-use Rattle.b67_listing.specs.Listings.{segment_line}
-use Rattle.b67_listing_reader.specs.Reading.{CanStand, width, AreInOrder, two_digits, level_part, hex_value, syllables_in}
+use Rattle.b67_listing_reader.specs.Reading.{CanStand, width, AreInOrder, two_digits, level_part, hex_value, with_syllable, syllables_in}
 use Rattle.b67_listing_reader.proofs.Orders.{spelled, code_text}
 
 -- bytes, one by one
@@ -94,31 +89,26 @@ glyph-decimal d h = cond-true (ltb d 10) (48 + d) (55 + d) (lt-ltb d 10 h)
 glyph-letter : (d : ℕ) → 10 ≤ d → digit_glyph true d ≡ 55 + d
 glyph-letter d h = cond-false (ltb d 10) (48 + d) (55 + d) (le-ltb d 10 h)
 
-hex-low : (b : ℕ) → 48 ≤ b → b < 58 → hex_value b ≡ b - 48
-hex-low b p q = cond-false (ltb b 48) 16 _ (le-ltb b 48 p) ∙ cond-true (ltb b 58) (b - 48) _ (lt-ltb b 58 q)
+hex-low : (b : ℕ) → 48 ≤ b → b < 58 → hex_value b ≡ Some (b - 48)
+hex-low b p q = cond-false (ltb b 48) None _ (le-ltb b 48 p) ∙ cond-true (ltb b 58) (Some (b - 48)) _ (lt-ltb b 58 q)
 
-hex-high : (b : ℕ) → 65 ≤ b → b < 71 → hex_value b ≡ b - 55
+hex-high : (b : ℕ) → 65 ≤ b → b < 71 → hex_value b ≡ Some (b - 55)
 hex-high b p q =
-    cond-false (ltb b 48) 16 _ (le-ltb b 48 (omega arith)) ∙ cond-false (ltb b 58) (b - 48) _ (le-ltb b 58 (omega arith))
-    ∙ cond-false (ltb b 65) 16 _ (le-ltb b 65 p) ∙ cond-true (ltb b 71) (b - 55) 16 (lt-ltb b 71 q)
+    cond-false (ltb b 48) None _ (le-ltb b 48 (omega arith)) ∙ cond-false (ltb b 58) (Some (b - 48)) _ (le-ltb b 58 (omega arith))
+    ∙ cond-false (ltb b 65) None _ (le-ltb b 65 p) ∙ cond-true (ltb b 71) (Some (b - 55)) None (lt-ltb b 71 q)
 
-hex-by : (d : ℕ) (b : Bool) → ltb d 10 ≡ b → d < 16 → hex_value (digit_glyph true d) ≡ d
+hex-by : (d : ℕ) (b : Bool) → ltb d 10 ≡ b → d < 16 → hex_value (digit_glyph true d) ≡ Some d
 hex-by d true e h =
     let small = ltb-true d 10 e in
-    ap hex_value (glyph-decimal d small) ∙ hex-low (48 + d) (omega arith) (omega arith) ∙ omega arith
+    let same : 48 + d - 48 ≡ d = omega arith in
+    ap hex_value (glyph-decimal d small) ∙ hex-low (48 + d) (omega arith) (omega arith) ∙ ap Some same
 hex-by d false e h =
     let large = ltb-false d 10 e in
-    ap hex_value (glyph-letter d large) ∙ hex-high (55 + d) (omega arith) (omega arith) ∙ omega arith
+    let same : 55 + d - 55 ≡ d = omega arith in
+    ap hex_value (glyph-letter d large) ∙ hex-high (55 + d) (omega arith) (omega arith) ∙ ap Some same
 
-hex-glyph : (d : ℕ) → d < 16 → hex_value (digit_glyph true d) ≡ d
+hex-glyph : (d : ℕ) → d < 16 → hex_value (digit_glyph true d) ≡ Some d
 hex-glyph d h = hex-by d (ltb d 10) refl h
-
-pair : (high low : ℕ) (most : ℕ) (rest : List ℕ) → hex_value high < 16 → hex_value low < 16 →
-    syllables_in (suc most) (high ∷ low ∷ rest) ≡ (16 * hex_value high + hex_value low) ∷ syllables_in most rest
-pair high low most rest p q =
-    let both : (ltb (hex_value high) 16 && ltb (hex_value low) 16) ≡ true =
-    ap (λ b. b && ltb (hex_value low) 16) (lt-ltb (hex_value high) 16 p) ∙ lt-ltb (hex_value low) 16 q in
-    cond-true (ltb (hex_value high) 16 && ltb (hex_value low) 16) ((16 * hex_value high + hex_value low) ∷ syllables_in most rest) [] both
 
 -- the syllables before a blank
 blank_first : (most : ℕ) (rest : List ℕ) → syllables_in most (32 ∷ rest) ≡ []
@@ -132,10 +122,9 @@ syllables_back zero _ rest (more_bytes b bs small are) long = absurd (omega arit
 syllables_back (suc most) _ rest (more_bytes b bs small are) long =
     let high = digit_glyph true (b / 16 % 16) in
     let low = digit_glyph true (b % 16) in
-    let h : hex_value high ≡ b / 16 % 16 = hex-glyph (b / 16 % 16) (omega arith) in
-    let l : hex_value low ≡ b % 16 = hex-glyph (b % 16) (omega arith) in
-    let value : 16 * hex_value high + hex_value low ≡ b = omega arith in
-    pair high low most (hexadecimal bs ++ 32 ∷ rest) (omega arith) (omega arith)
+    let value : 16 * (b / 16 % 16) + b % 16 ≡ b = omega arith in
+    ap (λ h. with_syllable h (hex_value low) (syllables_in most (hexadecimal bs ++ 32 ∷ rest))) (hex-glyph (b / 16 % 16) (omega arith))
+    ∙ ap (λ l. with_syllable (Some (b / 16 % 16)) l (syllables_in most (hexadecimal bs ++ 32 ∷ rest))) (hex-glyph (b % 16) (omega arith))
     ∙ ap (λ v. v ∷ syllables_in most (hexadecimal bs ++ 32 ∷ rest)) value
     ∙ ap (λ xs. b ∷ xs) (syllables_back most bs rest are (omega arith))
 
@@ -186,3 +175,15 @@ one_operator at p q a b e =
     ap (λ k. let r : Placed = record { place = k; level = p.level; operator = p.operator } in r) places
     ∙ ap (λ l. let r : Placed = record { place = q.place; level = l; operator = p.operator } in r) levels
     ∙ ap (λ o. let r : Placed = record { place = q.place; level = q.level; operator = o } in r) ops
+
+-- the syllable of two digits before others
+pub syllable_more : (most : ℕ) (text : List ℕ) (high low : ℕ) (old middle new : List ℕ) → (most ≡ 0 → ⊥) → 2 ≤ length text → Some high ≡ hex_value (get_or text 0 0) → Some low ≡ hex_value (get_or text 1 0) →
+    middle ≡ old ++ (16 * high + low) ∷ [] → new ≡ middle ++ syllables_in (most - 1) (drop 2 text) → new ≡ old ++ syllables_in most text
+syllable_more zero text high low old middle new some long h l first rest = absurd (some refl)
+syllable_more (suc most) [] high low old middle new some long h l first rest = absurd (omega arith)
+syllable_more (suc most) (a ∷ []) high low old middle new some long h l first rest = absurd (omega arith)
+syllable_more (suc most) (a ∷ b ∷ text) high low old middle new some long h l first rest =
+    let less : suc most - 1 ≡ most = omega arith in
+    rest ∙ ap (λ m. m ++ syllables_in (suc most - 1) text) first ∙ append_assoc old ((16 * high + low) ∷ []) (syllables_in (suc most - 1) text)
+    ∙ ap (λ n. old ++ (16 * high + low) ∷ syllables_in n text) less
+    ∙ ap (λ x. old ++ with_syllable x (Some low) (syllables_in most text)) h ∙ ap (λ x. old ++ with_syllable (hex_value a) x (syllables_in most text)) l

@@ -1,15 +1,15 @@
 -- Operators one after another, and the syllables that they are.
-use Rattle.std.proofs.Common.{◌≡◌, ℕ, zero, suc, ◌+◌, ◌-◌, ◌*◌, ◌<◌, ◌≤◌, List, [], ◌∷◌, ◌++◌, length, drop, map, replicate, refl, sym, ap, subst, arith, ◌∙◌, append_assoc, length-append}
+use Rattle.std.proofs.Common.{◌≡◌, ℕ, zero, suc, ◌+◌, ◌≤◌, List, [], ◌∷◌, ◌++◌, length, drop, refl, sym, ap, subst, arith, ◌∙◌, length-append}
 use Rattle.std.specs.List.{flat_map}
-use Rattle.std.proofs.lemmas.List.{append-nil, drop-drop, drop_at, drop_all}
+use Rattle.std.proofs.lemmas.List.{drop-drop, drop_at, drop_all}
 use Rattle.b67_ops.specs.declared.TheConstants.{OUTER_LEVEL, MOST_LEVEL}
 use Rattle.b67_ops.specs.declared.Operator.TheVariants.{Plain}
 use Rattle.b67_ops.specs.declared.PlainKind.TheVariants.{Noop}
 use Rattle.b67_ops.specs.Spelling.{spelling, Stands}
-use Rattle.b67_ops.proofs.Laws.{Stands-within, length-spelling}
+use Rattle.b67_ops.proofs.Laws.{length-spelling}
 use Rattle.b67_segment.specs.declared.code.Mark.{Mark}
-use Rattle.b67_listing.specs.Operators.{Placed, operator_line}
-use Rattle.b67_listing.specs.Listings.{StandInOrder, marks_of}
+use Rattle.b67_listing.specs.Operators.{Placed}
+use Rattle.b67_listing.specs.Listings.{StandInOrder}
 use Rattle.b67_listing_reader.specs.Reading.{CanStand, width, AreInOrder}
 
 -- the syllables of an operator, and of operators

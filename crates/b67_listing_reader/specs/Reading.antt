@@ -1,18 +1,21 @@
 -- What the parts of a listing are read as.
-use Rattle.std.specs.Prelude.{◌≡◌, ℕ, ◌+◌, ◌-◌, ◌*◌, ◌<◌, ◌≤◌, ◌≢◌, ◌^◌, ◌⊎◌, nat_le, nat_lt, ◌==◌, ◌&&◌, if◌then◌else◌, zero, suc, Option, Some, None, List, [], ◌∷◌, ◌++◌, length, map, take, drop}
+use Rattle.std.specs.Prelude.{◌≡◌, ℕ, ◌+◌, ◌-◌, ◌*◌, ◌<◌, ◌≤◌, ◌≢◌, ◌^◌, ◌⊎◌, nat_le, nat_lt, ◌&&◌, if◌then◌else◌, zero, suc, Option, Some, None, List, [], ◌∷◌, ◌++◌, length, map, take, drop}
 use Rattle.std.specs.List.{All}
 use Rattle.std.specs.Fmt.{decimal}
 use Rattle.b67_ops.specs.declared.TheConstants.{OUTER_LEVEL, MOST_LEVEL}
-use Rattle.b67_ops.specs.declared.Operator.{Operator}
 use Rattle.b67_ops.specs.Spelling.{spelling, Fits}
 use Rattle.b67_text.specs.Texts.{Stands, HasByte}
 use Rattle.b67_segment.specs.declared.code.Segment.{Segment}
 use Rattle.b67_segment.specs.declared.code.Phrase.{Phrase}
 use Rattle.b67_segment.specs.declared.code.Format.{Format}
 use Rattle.b67_segment.specs.declared.TheConstants.{MOST_SEGMENT_WORDS}
+use Rattle.b67_segment.specs.Operators as building
 use Rattle.b67_listing.specs.Operators.{Placed, operator_line}
 use Rattle.b67_listing.specs.Formats.{phrase_text, format_line, format_lines}
 use Rattle.b67_listing.specs.Listings.{IsPhrase, IsSegment, SegmentsText, segment_line}
+use Rattle.b67_listing_reader.specs.declared.refusal.ReadListing.{ReadListing}
+use Rattle.b67_listing_reader.specs.declared.refusal.ReadListing.TheVariants.{BadListing, NoMemory}
+use Rattle.b67_listing_reader.specs.declared.operators.Told.{Told}
 use Rattle.b67_listing_reader.specs.Codes.{HasWidth}
 
 -- an operator that can stand at this place: it fits its level, which is from the outer block's to the deepest
@@ -50,18 +53,24 @@ level_part (a ∷ b ∷ c ∷ d ∷ e ∷ f ∷ tens ∷ units ∷ g ∷ rest) =
     if nat_le OUTER_LEVEL (two_digits tens units) && nat_le (two_digits tens units) MOST_LEVEL then Some (two_digits tens units, rest) else None
 level_part line = None
 
--- the value of a hexadecimal digit, and 16 for another byte
-abbrev pub hex_value : ℕ → ℕ
+-- the value of a hexadecimal digit
+abbrev pub hex_value : ℕ → Option ℕ
 hex_value byte =
-    if nat_lt byte 48 then 16
-    else (if nat_lt byte 58 then byte - 48 else (if nat_lt byte 65 then 16 else (if nat_lt byte 71 then byte - 55 else 16)))
+    if nat_lt byte 48 then None
+    else (if nat_lt byte 58 then Some (byte - 48) else (if nat_lt byte 65 then None else (if nat_lt byte 71 then Some (byte - 55) else None)))
+
+-- the syllable of two digits before others, or none where one is no digit
+abbrev pub with_syllable : Option ℕ → Option ℕ → List ℕ → List ℕ
+with_syllable None low rest = []
+with_syllable (Some high) None rest = []
+with_syllable (Some high) (Some low) rest = (16 * high + low) ∷ rest
 
 -- the syllables whose hexadecimal digits stand at the front, so many at most
 abbrev pub syllables_in : ℕ → List ℕ → List ℕ
 syllables_in zero text = []
-syllables_in (suc most) (high ∷ low ∷ rest) =
-    if nat_lt (hex_value high) 16 && nat_lt (hex_value low) 16 then (16 * hex_value high + hex_value low) ∷ syllables_in most rest else []
-syllables_in (suc most) text = []
+syllables_in (suc most) [] = []
+syllables_in (suc most) (high ∷ []) = []
+syllables_in (suc most) (high ∷ low ∷ rest) = with_syllable (hex_value high) (hex_value low) (syllables_in most rest)
 
 -- a phrase that can stand in a listing
 abbrev pub IsShown : Phrase → Type 0
@@ -85,3 +94,158 @@ pub record IsEnded (rest : List ℕ) : Type 0 where
   pub more : List ℕ
   pub ends : EndsPhrase byte
   pub rest_is : rest ≡ byte ∷ more
+
+-- the operators as a builder has them, without their places
+abbrev pub unplaced : List Placed → List building.Placed
+unplaced ps = map (λ (p : Placed). record { level = p.level; operator = p.operator }) ps
+
+-- the line is that of no operator at this place
+abbrev pub TellsNone : List ℕ → ℕ → Type 0
+TellsNone line at = (placed : Placed) → CanStand at placed → line ≡ operator_line placed → ⊥
+
+-- if the line is that of an operator at the place of this one, it is that of this one
+pub record TellsOne (line : List ℕ) (placed : Placed) : Type 0 where
+  pub stands : CanStand placed.place placed
+  pub only : (other : Placed) → CanStand placed.place other → line ≡ operator_line other → other ≡ placed
+
+-- what was told at a place
+abbrev pub told_at : ℕ → Told → Placed
+told_at at told = record { place = at; level = told.level; operator = told.operator }
+
+abbrev pub Tells : List ℕ → ℕ → Told → Type 0
+Tells line at told = (told.width ≡ width (told_at at told)) × TellsOne line (told_at at told)
+
+-- the first of the lines tell these operators
+abbrev pub TellEach : List (List ℕ) → List Placed → Type 0
+TellEach lines [] = Unit {0}
+TellEach [] (p ∷ ps) = ⊥
+TellEach (line ∷ lines) (p ∷ ps) = TellsOne line p × TellEach lines ps
+
+-- the line is that of no operator that stands at this place and ends before the other
+abbrev pub IsNoOperator : List ℕ → ℕ → ℕ → Type 0
+IsNoOperator line at most = (placed : Placed) → CanStand at placed → at + width placed ≤ most → line ≡ operator_line placed → ⊥
+
+-- the lines from one place to another tell these operators, of no more than so many syllables
+pub record TellSoFar (lines : List (List ℕ)) (at most : ℕ) (operators : List building.Placed) (next : ℕ) : Type 0 where
+  pub placed : List Placed
+  pub operators_are : operators ≡ unplaced placed
+  pub end : ℕ
+  pub order : AreInOrder 0 placed end
+  pub within : end ≤ most
+  pub told : TellEach (drop at lines) placed
+  pub next_is : next ≡ at + length placed
+  pub inside : next ≤ length lines
+
+-- and the line behind them is that of no operator that could go on
+pub record TellsOperators (lines : List (List ℕ)) (at most : ℕ) (operators : List building.Placed) (next : ℕ) : Type 0 where
+  pub front : TellSoFar lines at most operators next
+  pub stops : (line : List ℕ) (rest : List (List ℕ)) → drop next lines ≡ line ∷ rest → IsNoOperator line front.end most
+
+-- some operators that stand one after another from the start of a segment, and are no more than fit into one
+pub record AreOperators (operators : List building.Placed) : Type 0 where
+  pub placed : List Placed
+  pub operators_are : operators ≡ unplaced placed
+  pub end : ℕ
+  pub order : AreInOrder 0 placed end
+  pub some : 1 ≤ length placed
+  pub few : end ≤ 6 * MOST_SEGMENT_WORDS
+
+-- so many lines from the first on are the same in both, and the next two are not
+pub record IsFirstOther (lines others : List (List ℕ)) (same : ℕ) : Type 0 where
+  pub alike : take same lines ≡ take same others
+  pub within : same ≤ length lines
+  pub inside : same ≤ length others
+  pub differ : (line other : List ℕ) (rest more : List (List ℕ)) → drop same lines ≡ line ∷ rest → drop same others ≡ other ∷ more →
+      line ≡ other → ⊥
+
+-- the segment of operators and of what fills its last word, and how many of the lines are those of its operators
+pub record IsRelisted (operators : List building.Placed) (lines : List (List ℕ)) (segment : Segment) (same : ℕ) : Type 0 where
+  pub all : List Placed
+  pub segment_is : IsSegment segment all
+  pub all_are : unplaced all ≡ building.filled operators
+  pub same_are : IsFirstOther lines (operator_lines all) same
+
+-- a segment of so many words, whose operators' lines stand at a place among lines
+pub record ReadsBody (words : ℕ) (lines : List (List ℕ)) (at : ℕ) (segment : Segment) (next : ℕ) : Type 0 where
+  pub operators : List Placed
+  pub segment_is : IsSegment segment operators
+  pub words_are : length segment.words ≡ words
+  pub stands : Stands (operator_lines operators) lines at next
+
+-- operators' lines stand at a place among lines, they leave a part of so many words, and the line behind them is that of no operator that could go on
+pub record StopsInBody (words : ℕ) (lines : List (List ℕ)) (at next : ℕ) : Type 0 where
+  pub operators : List Placed
+  pub end : ℕ
+  pub order : AreInOrder 0 operators end
+  pub left : end < 6 * words
+  pub stands : Stands (operator_lines operators) lines at next
+  pub stops : (line : List ℕ) (rest : List (List ℕ)) → drop next lines ≡ line ∷ rest → IsNoOperator line end (6 * words)
+
+abbrev pub RefusesBody : ReadListing → ℕ → List (List ℕ) → ℕ → Type 0
+RefusesBody (BadListing line) words lines at = (1 ≤ line) × StopsInBody words lines at (line - 1)
+RefusesBody NoMemory words lines at = Unit {0}
+
+-- a phrase and what ends it stand at a place
+pub record ReadsPhrase (text : List ℕ) (at : ℕ) (phrase : Phrase) (next : ℕ) : Type 0 where
+  pub is_phrase : IsShown phrase
+  pub stands : Stands (phrase_text phrase) text at next
+  pub ended : IsEnded (drop next text)
+
+-- a number of 32 bits and what ends it stand at a place
+pub record ReadsWidth (text : List ℕ) (at width next : ℕ) : Type 0 where
+  pub fits : width < 2 ^ 32
+  pub stands : Stands (decimal width) text at next
+  pub ended : IsEnded (drop next text)
+
+-- a number of 32 bits stands at a place, and this byte behind it
+pub record HasWidthBefore (text : List ℕ) (at end width next : ℕ) : Type 0 where
+  pub fits : width < 2 ^ 32
+  pub stands : Stands (decimal width) text at next
+  pub ended : HasByte end text next
+
+-- no number of 32 bits stands at a place before this byte
+abbrev pub HasNoWidth : List ℕ → ℕ → ℕ → Type 0
+HasNoWidth text at end = (width : ℕ) (rest : List ℕ) → width < 2 ^ 32 → drop at text ≡ decimal width ++ end ∷ rest → ⊥
+
+-- bytes of texts and a quote behind them stand at a place, the quote at the other
+pub record ReadsQuoted (text : List ℕ) (at : ℕ) (quoted : List ℕ) (end : ℕ) : Type 0 where
+  pub bytes : All IsTextByte quoted
+  pub stands : Stands quoted text at end
+  pub quote : HasByte 34 text end
+
+-- and behind the quote stands what ends a phrase
+abbrev pub ReadsText : List ℕ → ℕ → List ℕ → ℕ → Type 0
+ReadsText text at quoted end = ReadsQuoted text at quoted end × IsEnded (drop (end + 1) text)
+
+-- the line is no head line of the segment of this number
+abbrev pub IsNoHead : List ℕ → ℕ → Type 0
+IsNoHead line number = (words : ℕ) → IsWordCount words → line ≡ segment_line number words → ⊥
+
+-- the line is that of no format with this number
+abbrev pub IsNoFormat : List ℕ → ℕ → Type 0
+IsNoFormat line number = (format : Format) → IsFormat format → line ≡ format_line (number, format) → ⊥
+
+-- the lines of segments stand first, and at the place behind them no head line of a further one
+pub record ReadsSegments (lines : List (List ℕ)) (segments : List Segment) (at : ℕ) : Type 0 where
+  pub within : at ≤ length lines
+  pub listed : SegmentsText 0 segments (take at lines)
+  pub ended : (line : List ℕ) (rest : List (List ℕ)) → drop at lines ≡ line ∷ rest → IsNoHead line (length segments)
+
+-- the lines of formats are all that stand from a place on
+pub record ReadsFormats (lines : List (List ℕ)) (at : ℕ) (formats : List Format) : Type 0 where
+  pub are : All IsFormat formats
+  pub listed : drop at lines ≡ format_lines formats
+
+-- the lines of formats stand at a place, and behind them one that is no line of a further one
+pub record StopsInFormats (lines : List (List ℕ)) (at next : ℕ) : Type 0 where
+  pub formats : List Format
+  pub are : All IsFormat formats
+  pub stands : Stands (format_lines formats) lines at next
+  pub line : List ℕ
+  pub rest : List (List ℕ)
+  pub line_is : drop next lines ≡ line ∷ rest
+  pub stops : IsNoFormat line (length formats)
+
+abbrev pub RefusesFormats : ReadListing → List (List ℕ) → ℕ → Type 0
+RefusesFormats (BadListing line) lines at = (1 ≤ line) × StopsInFormats lines at (line - 1)
+RefusesFormats NoMemory lines at = Unit {0}
