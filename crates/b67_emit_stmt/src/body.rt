@@ -12,7 +12,7 @@ ghost use Rattle.b67_segment.specs.Building.{level_set};
 ghost use Rattle.b67_templates.specs.Cells as frames;
 ghost use Rattle.b67_templates.specs.Fitting.{StmtsFit};
 ghost use Rattle.b67_emitter.specs.Values.{couples, AreNear};
-ghost use Rattle.b67_emit_stmt.specs.Drafts.{Emits, HasFew};
+ghost use Rattle.b67_emit_stmt.specs.Drafts.{AreListed, Emits, HasFew};
 ghost use Rattle.b67_emit_stmt.specs.Bodies.{CellsAt, OuterAt};
 
 use crate::draft::{Draft, StmtEmitter};
@@ -66,6 +66,7 @@ pub fn emit_body<E: ExprEmitter>(
     requires fits { (sc : names.Scopes) × StmtsFit sc (couples scopes.now) machine.OUTER_LEVEL (plain.stmts body.now.stmts) }
     requires room { 24 * body_tokens (plain.body body.now) + 48 ≤ 6 * MOST_SEGMENT_WORDS }
     ensures code { IfOk result (λ made. (sc : names.Scopes) → StmtsFit sc (couples scopes.now) machine.OUTER_LEVEL (plain.stmts body.now.stmts) → OuterAt sc made.1.items made.0 (length (frames.variables (plain.decls body.now.decls))) (plain.stmts body.now.stmts)) }
+    ensures formats { IfOk result (λ made. AreListed made.1.items) }
     ensures short { IfOk result (λ made. 6 * length made.0.words ≤ 24 * body_tokens (plain.body body.now) + 48) }
 {
     let mut to = Draft {

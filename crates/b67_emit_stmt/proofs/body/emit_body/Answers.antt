@@ -11,6 +11,7 @@ use Rattle.b67_emitter.specs.Values.{couples}
 use Rattle.b67_emit_stmt.specs.declared.draft.Draft.{Draft}
 use Rattle.b67_emit_stmt.specs.Bodies.{OuterAt}
 use Rattle.b67_emit_stmt.proofs.Drafts.{level_after, set_after}
+use Rattle.b67_emit_stmt.proofs.Formats.{none_listed}
 use Rattle.b67_emit_stmt.proofs.Outer.{body_short, gone_through, is_new, new_level, new_set, outer_code, outer_exits, stmts_ready}
 use Rattle.b67_emit_stmt.proofs.body.emit_body.Goals as goal
 
@@ -84,6 +85,18 @@ returns-clause-code g c =
     (subst S (sym (ap stmts ss_are)) fit) d e c.in_ok-finish.field-0 c.aim_exits.ensures.aimed c.aim_exits.ensures.list refl refl refl c.in_ok-append_plain.ensures.code
     c.in_ok-append_plain.ensures.size c.in_ok-finish.ensures in
     subst (O many) (ap stmts ss_are) (subst (λ n. O n (stmts c.deref-2.result.now)) many_is there)
+
+pub returns-clause-formats : goal.returns-clause-formats
+returns-clause-formats g c =
+    let a : Draft = record { out = c.level.new.self; exits = c.new-2.result; formats = c.new-3.result } in
+    let d : Draft = record c.stmts.new.to { out = c.aim_exits.new.out; exits = c.aim_exits.new.exits } in
+    let new = is_new c.new.result a c.new.ensures c.in_ok-level.ensures.ok c.new-2.ensures.items c.new-3.ensures.items in
+    let sc = c.requires.fits.0 in
+    let S : PStmts → Type 0 = λ ss. StmtsFit sc (couples c.args.scopes.now) OUTER_LEVEL ss in
+    let fit = subst S (sym (ap stmts (c.deref-2.ensures.value ∙ c.items-2.ensures))) c.requires.fits.1 in
+    let through = gone_through c.args.scopes.now sc c.variables.result (stmts c.deref-2.result.now) a c.cells.new.to c.stmts.new.to new (c.in_ok-cells.ensures sc) c.in_ok-stmts.ensures fit d
+    c.aim_exits.ensures.aimed c.aim_exits.ensures.list refl in
+    through.listed (none_listed c.new-3.ensures.items)
 
 pub returns-clause-short : goal.returns-clause-short
 returns-clause-short g c =
