@@ -1,6 +1,6 @@
 -- From what a part of the top call found to the answer.
-use Rattle.std.proofs.Common.{◌≡◌, ℕ, ◌<◌, ◌≤◌, List, length, Option, Result, Ok, Err, sym, subst}
-use Rattle.std.specs.Prelude.{IfSome, IfOk}
+use Rattle.std.proofs.Common.{◌≡◌, ℕ, ◌<◌, ◌≤◌, List, length, Option, Result, Ok, Err, refl, sym, subst}
+use Rattle.std.specs.Prelude.{◌≢◌, IfSome, IfOk}
 use Rattle.std.specs.declared.alloc.AllocError.{AllocError}
 use Rattle.std.specs.Io.KnownBytes.{IsAtEnd}
 use Rattle.algol_tree.specs.declared.TheConstants.{MOST_SOURCE_BYTES}
@@ -8,39 +8,78 @@ use Rattle.algol_tree.specs.declared.token.Spot.{Spot}
 use Rattle.algol_tree.specs.declared.refusal.Code.{Code as RefusalCode}
 use Rattle.algol_tree.specs.Plain.{PProgram}
 use Rattle.algol_tree.specs.First.{Source, First}
-use Rattle.algol_straight.specs.Built.{IsBuilt}
+use Rattle.b67_fitting.specs.OneBlock.{IsOneBlock}
 use Rattle.algol_tree.specs.declared.refusal.Code.TheVariants as refusals
 use Rattle.b67_io.specs.Faults.{Rose}
 use Rattle.b67_io.specs.Writing.{WroteFront}
 use Rattle.b67_io.specs.declared.writing.WriteAll.{WriteAll}
 use Rattle.b67_io.specs.declared.writing.WriteAll.TheVariants as writes
-use Rattle.b67_words.specs.Grammar.{WordsMean, run as run_command, check as check_command, meant}
+use Rattle.b67_words.specs.Grammar.{WordsMean, run as run_command, check as check_command, list as list_command, replay as replay_command, meant}
 use Rattle.b67_words.specs.declared.Words.{Words}
+use Rattle.b67_words.specs.declared.Words.TheVariants as commands
 use Rattle.b67_words.specs.declared.BadWords.{BadWords}
 use Rattle.b67_report.specs.declared.Report.{Report}
 use Rattle.b67_report.specs.Texts.{ReportText}
+use Rattle.b67_listing.specs.Listings.{ListingText}
+use Rattle.b67_segment.specs.declared.code.Code.{Code}
+use Rattle.b67_faithful.specs.Faithful.{Faithful}
+use Rattle.b67_explain.specs.Explaining.{ExplainsRun, ExplainsReplay}
 use Rattle.b67_desk.specs.declared.status.Status.{Status}
 use Rattle.b67_desk.specs.declared.status.Status.TheVariants as status
 use Rattle.b67_desk.specs.declared.desk.Answer.{Answer}
 use Rattle.b67_desk.specs.declared.desk.Unanswered.{Unanswered}
 use Rattle.b67_desk.specs.declared.desk.Unanswered.TheVariants as why
-use Rattle.b67_desk.specs.Answers.{usage_text, refused_text, status_of, Explains, AnswersTree, unbuilt, reported, IsRefusedAt, RefusedOr, refused, accepted, AnswersBytes, AnswersSource, too_long, too_long_text, read, Reading, Untouched, Answers, usage, answered, Writing, HasAnswer, write_fault}
-use Rattle.b67_desk.specs.Calls.{InRange, SourceAnswered, CallAnswered, IsUsage, IsRefusal}
+use Rattle.b67_desk.specs.Answers.{usage_text, refused_text, bad_schedule_text, listing_text, status_of, at_start, Runs, ran, Lists, listed, IsBadSchedule, AreGiven, Replays, bad_schedule, replayed, BuiltOr, unbuilt, built, AnswersTree, IsRefusedAt, RefusedOr, refused, accepted, IsDivided, AnswersBytes, long_part, divided, most_bytes, AnswersSource, too_long, too_long_text, read, Reading, Untouched, Answers, usage, answered, Writing, HasAnswer, write_fault}
+use Rattle.b67_desk.specs.Calls.{InRange, SourceAnswered, CallAnswered, IsUsage, IsRefusal, IsReport, IsBadAt, IsTooLong}
 
-pub reported_is : (processors budget : ℕ) (tree : PProgram) (report : Report) (text : List ℕ) (s : Status) → IsBuilt tree → Explains tree processors budget report → text ≡ ReportText report → s ≡ status_of report.end →
-    AnswersTree processors budget tree text s
-reported_is processors budget tree report text s built explains is said =
-    subst (λ (t : List ℕ). AnswersTree processors budget tree t s) (sym is) (subst (λ (u : Status). AnswersTree processors budget tree (ReportText report) u) (sym said) (reported report built explains))
+-- a report is the answer to a run, and to a replay
+pub ran_is : (processors budget : ℕ) (tree : PProgram) (report : Report) (a : Answer) → ExplainsRun tree processors budget report → IsReport report a →
+    Runs processors budget tree a.text.items a.status
+ran_is processors budget tree report a explains is =
+    subst (λ (t : List ℕ). Runs processors budget tree t a.status) (sym is.text)
+    (subst (λ (s : Status). Runs processors budget tree (ReportText report) s) (sym is.status) (ran report explains))
 
-unbuilt_is : (processors budget : ℕ) (tree : PProgram) (a : Answer) → (IsBuilt tree → ⊥) → IsRefusal (record { line = 1; column = 1 }) refusals.Unbuilt a → AnswersTree processors budget tree a.text.items a.status
-unbuilt_is processors budget tree a none is =
-    subst (λ (t : List ℕ). AnswersTree processors budget tree t a.status) (sym is.text)
-    (subst (λ (s : Status). AnswersTree processors budget tree (refused_text (record { line = 1; column = 1 }) refusals.Unbuilt) s) (sym is.status) (unbuilt none))
+pub replayed_is : (budget : ℕ) (schedule : Option (List ℕ)) (input : ℕ) (tree : PProgram) (given : List ℕ) (report : Report) (a : Answer) → AreGiven schedule given →
+    ExplainsReplay tree given budget report → IsReport report a → Replays budget schedule input tree a.text.items a.status
+replayed_is budget schedule input tree given report a are explains is =
+    subst (λ (t : List ℕ). Replays budget schedule input tree t a.status) (sym is.text)
+    (subst (λ (s : Status). Replays budget schedule input tree (ReportText report) s) (sym is.status) (replayed given report are explains))
 
-pub unbuilt_answered : (processors budget : ℕ) (tree : PProgram) (result : Result Answer AllocError) → (IsBuilt tree → ⊥) → IfOk result (IsRefusal (record { line = 1; column = 1 }) refusals.Unbuilt) →
-    IfOk result (λ a. AnswersTree processors budget tree a.text.items a.status)
-unbuilt_answered processors budget tree (Ok a) none is = unbuilt_is processors budget tree a none is
-unbuilt_answered processors budget tree (Err e) none is = is
+pub bad_is : (budget : ℕ) (schedule : Option (List ℕ)) (input : ℕ) (tree : PProgram) (byte : ℕ) (result : Result Answer AllocError) → IsBadSchedule schedule input byte →
+    IfOk result (IsBadAt byte) → IfOk result (λ a. Replays budget schedule input tree a.text.items a.status)
+bad_is budget schedule input tree byte (Ok a) bad is =
+    subst (λ (t : List ℕ). Replays budget schedule input tree t a.status) (sym is.text)
+    (subst (λ (s : Status). Replays budget schedule input tree (bad_schedule_text byte) s) (sym is.status) (bad_schedule byte bad))
+bad_is budget schedule input tree byte (Err e) bad is = is
+
+pub listed_is : (tree : PProgram) (code : Code) (lines : List (List ℕ)) (text : List ℕ) → Faithful tree code → ListingText code lines → text ≡ listing_text lines →
+    Lists tree text status.Finished
+listed_is tree code lines text faithful are is = subst (λ (t : List ℕ). Lists tree t status.Finished) (sym is) (listed code lines faithful are)
+
+-- a source that is not built, and one that is
+unbuilt_is : (tree : PProgram) (Its : List ℕ → Status → Type 0) (a : Answer) → (IsOneBlock tree → ⊥) → IsRefusal at_start refusals.Unbuilt a →
+    BuiltOr tree Its a.text.items a.status
+unbuilt_is tree Its a none is =
+    subst (λ (t : List ℕ). BuiltOr tree Its t a.status) (sym is.text)
+    (subst (λ (s : Status). BuiltOr tree Its (refused_text at_start refusals.Unbuilt) s) (sym is.status) (unbuilt none))
+
+pub unbuilt_answered : (tree : PProgram) (Its : List ℕ → Status → Type 0) (result : Result Answer AllocError) → (IsOneBlock tree → ⊥) →
+    IfOk result (IsRefusal at_start refusals.Unbuilt) → IfOk result (λ a. BuiltOr tree Its a.text.items a.status)
+unbuilt_answered tree Its (Ok a) none is = unbuilt_is tree Its a none is
+unbuilt_answered tree Its (Err e) none is = is
+
+pub built_answered : (tree : PProgram) (Its : List ℕ → Status → Type 0) (result : Result Answer AllocError) → IsOneBlock tree →
+    IfOk result (λ a. Its a.text.items a.status) → IfOk result (λ a. BuiltOr tree Its a.text.items a.status)
+built_answered tree Its (Ok a) one is = built a.text.items a.status one is
+built_answered tree Its (Err e) one is = is
+
+-- under each command but `check`
+pub unbuilt_tree : (command : Words) (schedule : Option (List ℕ)) (input : ℕ) (tree : PProgram) (result : Result Answer AllocError) → command ≢ commands.Check →
+    (IsOneBlock tree → ⊥) → IfOk result (IsRefusal at_start refusals.Unbuilt) → IfOk result (λ a. AnswersTree command schedule input tree a.text.items a.status)
+unbuilt_tree (commands.Run processors budget) schedule input tree result other none is = unbuilt_answered tree (Runs processors budget tree) result none is
+unbuilt_tree commands.Check schedule input tree result other none is = absurd (other refl)
+unbuilt_tree commands.List schedule input tree result other none is = unbuilt_answered tree (Lists tree) result none is
+unbuilt_tree (commands.Replay budget) schedule input tree result other none is = unbuilt_answered tree (Replays budget schedule input tree) result none is
 
 -- a text that is refused, and one that is accepted
 module _ (bytes : List ℕ) (Its : PProgram → List ℕ → Status → Type 0) where
@@ -62,6 +101,8 @@ module _ (bytes : List ℕ) (Its : PProgram → List ℕ → Status → Type 0) 
 pub in_range : (words : List (List ℕ)) (command : Words) → WordsMean words (Ok command) → InRange command
 in_range words command (meant ws meaning (run_command first second p b f s)) = (f.least, s.least, s.greatest)
 in_range words command (meant ws meaning check_command) = tt
+in_range words command (meant ws meaning list_command) = tt
+in_range words command (meant ws meaning (replay_command first b f)) = (f.least, f.greatest)
 
 pub command_answered : (words : List (List ℕ)) (r : Reading) (command : Words) (result : Result Answer Unanswered) → WordsMean words (Ok command) →
     SourceAnswered command r result → CallAnswered words r result
@@ -80,9 +121,26 @@ pub not_written : (words : List (List ℕ)) (r : Reading) (w : Writing) (text : 
     HasAnswer words r w status.WriteFault
 not_written words r w text s (writes.Failed count) a front rose = write_fault text s count a front.0 front.1 rose
 
-pub read_is : (command : Words) (left left_after : Option (List ℕ)) (items bytes text : List ℕ) (s : Status) → bytes ≡ items → length items ≤ MOST_SOURCE_BYTES → IfSome left (λ all. items ≡ all) → IsAtEnd left_after → AnswersBytes command bytes text s →
+pub read_is : (command : Words) (left left_after : Option (List ℕ)) (items bytes text : List ℕ) (s : Status) → bytes ≡ items → length items ≤ most_bytes command → IfSome left (λ all. items ≡ all) → IsAtEnd left_after → AnswersBytes command bytes text s →
     AnswersSource command left left_after text s
 read_is command left left_after items bytes text s is small all end a = read items text s small all end (subst (λ (b : List ℕ). AnswersBytes command b text s) is a)
 
-pub too_long_is : (command : Words) (left left_after : Option (List ℕ)) (text : List ℕ) → IfSome left (λ bytes. MOST_SOURCE_BYTES < length bytes) → text ≡ too_long_text → AnswersSource command left left_after text status.TooLong
-too_long_is command left left_after text more is = subst (λ (t : List ℕ). AnswersSource command left left_after t status.TooLong) (sym is) (too_long more)
+pub too_long_is : (command : Words) (left left_after : Option (List ℕ)) (a : Answer) → IfSome left (λ bytes. most_bytes command < length bytes) → IsTooLong a →
+    AnswersSource command left left_after a.text.items a.status
+too_long_is command left left_after a more is =
+    subst (λ (t : List ℕ). AnswersSource command left left_after t a.status) (sym is.text)
+    (subst (λ (s : Status). AnswersSource command left left_after too_long_text s) (sym is.status) (too_long more))
+
+-- the bytes that were read, by their parts
+pub long_part_is : (command : Words) (bytes source : List ℕ) (schedule : Option (List ℕ)) (result : Result Answer AllocError) → IsDivided command bytes source schedule →
+    MOST_SOURCE_BYTES < length source → IfOk result IsTooLong → IfOk result (λ a. AnswersBytes command bytes a.text.items a.status)
+long_part_is command bytes source schedule (Ok a) parts more is =
+    subst (λ (t : List ℕ). AnswersBytes command bytes t a.status) (sym is.text)
+    (subst (λ (s : Status). AnswersBytes command bytes too_long_text s) (sym is.status) (long_part source schedule parts more))
+long_part_is command bytes source schedule (Err e) parts more is = is
+
+pub divided_is : (command : Words) (bytes source : List ℕ) (schedule : Option (List ℕ)) (result : Result Answer AllocError) → IsDivided command bytes source schedule →
+    length source ≤ MOST_SOURCE_BYTES → IfOk result (λ a. RefusedOr source (AnswersTree command schedule (length bytes)) a.text.items a.status) →
+    IfOk result (λ a. AnswersBytes command bytes a.text.items a.status)
+divided_is command bytes source schedule (Ok a) parts small is = divided source schedule a.text.items a.status parts small is
+divided_is command bytes source schedule (Err e) parts small is = is

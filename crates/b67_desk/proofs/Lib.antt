@@ -1,3 +1,2 @@
-pub mod Explained
+pub mod Laws
 pub mod Answering
-mod Started

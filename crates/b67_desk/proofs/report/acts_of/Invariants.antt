@@ -1,9 +1,0 @@
-use Rattle.std.proofs.Common.{◌≡◌, length}
-use Rattle.std.specs.Prelude.{sum}
-use Rattle.b67_desk.proofs.report.acts_of.Given as goal
-
-abbrev pub invariant-others : goal.invariant-others
-invariant-others l = record {
-  processors : length l.acts.items ≡ l.counter;
-  sum : sum l.acts.items ≡ l.count;
-}
