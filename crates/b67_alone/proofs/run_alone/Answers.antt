@@ -14,8 +14,7 @@ pub entries-init : goal.entries-init
 entries-init g c =
     let code = c.args.machine.now.code in
     let none = ap entries c.requires.empty in
-    let has = first_has c.args.machine.now.image c.requires.fresh.image in
-    (
+    let has = first_has c.args.machine.now.image c.requires.fresh.image in (
       subst (λ (xs : List ℕ). Between code xs 0 c.args.machine.now) (sym none) (begins c.args.machine.now c.requires.fresh),
       omega arith,
       subst (AreFirstAble code) (sym none) (no_entries code),
@@ -103,12 +102,11 @@ entries-preserved g c =
     c.if-spent-budget.false c.perform_entry-performed.ensures.performs) in
     let has = valid_has new.code new.image c.perform_entry-performed.ensures.valid in
     let added = sym c.push.ensures.added in
-    let more = ap length c.push.ensures.added in
-    (
+    let more = ap length c.push.ensures.added in (
       subst (λ (xs : List ℕ). Between code xs (c.entries.spent + performed.plain + 1) new) added k.0,
       k.1,
       subst (AreFirstAble code) added
-      (one_more code done p before.image c.entries.invariant.2 (run_between code done c.entries.spent before c.entries.invariant.0) c.first_able-process.ensures),
+          (one_more code done p before.image c.entries.invariant.2 (run_between code done c.entries.spent before c.entries.invariant.0) c.first_able-process.ensures),
       has.0,
       has.1,
       omega (arith, more, length-append done (p ∷ []), c.push.ensures.longer, c.entries.invariant.5),
