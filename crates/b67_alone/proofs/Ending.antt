@@ -45,11 +45,13 @@ end_seen m seen b s i e n = true≢false (sym e ∙ i ∙ ap is_some (s ∙ n))
 -- ---- the run
 
 pub run_between : (code : Code) (done : List ℕ) (spent : ℕ) (m : Kept) → Between code done spent m → TableRun code done [] m.image
-run_between code done spent m b = record { history = b.history; counts = b.numbers; before_tails = m.image; order = b.order; runs = b.runs; after = none }
+run_between code done spent m b =
+    record { history = b.history; counts = b.numbers; before_tails = m.image; order = b.order; runs = b.runs; after = none }
 
 module _ (code : Code) (budget : ℕ) (done : List ℕ) (new : Kept) where
   -- it ends between two entries
-  pub ends_between : (answer : Replayed) → IsRunEnd answer → AreFirstAble code done → Replays code done budget done new answer → RunsAlone code budget done new answer
+  pub ends_between : (answer : Replayed) → IsRunEnd answer → AreFirstAble code done
+      → Replays code done budget done new answer → RunsAlone code budget done new answer
   ends_between answer ends first replays =
       let same = sym (append-nil done) in
       record {

@@ -11,6 +11,7 @@ use Rattle.b67_table.specs.Ending as ending
 use Rattle.b67_table.specs.Runs.{TableRun}
 use Rattle.b67_alone.specs.Alone.{IsFirstAble, AreFirstAble}
 
+-- the place of one that is able, from 0
 able_from : (ss : List ProcessState) → some_able ss ≡ true → (k : ℕ) × (k < length ss) × (is_able (slice_get ss k) ≡ true)
 able_from [] e = cc
 able_from (states.Able ∷ ss) e = (0, omega arith, refl)
@@ -38,7 +39,7 @@ able_unless None ss lives e = by (some_lives ss) (some_able ss) lives e
     by true false l e = cc
     by false b l e = cc
 
--- the end of an image of these states
+-- the end of an image with this fault and these states
 end_of : (f : Option Failure) → List ProcessState → Option ending.ImageEnd
 end_of f ss = if ending.has_ended (numbered ss 1) then Some ending.finished else ending.end_by f ss
 
@@ -63,8 +64,9 @@ nothing_split (x ∷ before) after p e = cc
 pub no_entries : (code : Code) → AreFirstAble code []
 no_entries code before after p e = absurd (nothing_split before after p e)
 
--- a part of a list with an item at its end: it ends there, or before
-split_end : (xs before after : List ℕ) (p q : ℕ) → xs ++ p ∷ [] ≡ before ++ q ∷ after → ((xs ≡ before) × (p ≡ q)) ⊎ ((rest : List ℕ) × (xs ≡ before ++ q ∷ rest))
+-- a part of a list and the item after it, where the list has an item more at its end: it is that item, or one before it
+split_end : (xs before after : List ℕ) (p q : ℕ) → xs ++ p ∷ [] ≡ before ++ q ∷ after
+    → ((xs ≡ before) × (p ≡ q)) ⊎ ((rest : List ℕ) × (xs ≡ before ++ q ∷ rest))
 split_end [] [] after p q e = inl (refl, cc)
 split_end [] (y ∷ before) after p q e =
     let none : [] ≡ before ++ q ∷ after = cc in absurd (nothing_split before after q none)
@@ -80,7 +82,8 @@ split_end (x ∷ xs) (y ∷ before) after p q e =
     longer x y same xs before p q (inl (e, f)) = inl (cc, f)
     longer x y same xs before p q (inr (rest, e)) = inr (rest, cc)
 
-module _ (code : Code) (done : List ℕ) (p : ℕ) (img : Image) (all : AreFirstAble code done) (run : TableRun code done [] img) (first : IsFirstAble img p) where
+module _ (code : Code) (done : List ℕ) (p : ℕ) (img : Image) (all : AreFirstAble code done)
+    (run : TableRun code done [] img) (first : IsFirstAble img p) where
   next_of : (before after : List ℕ) (q : ℕ) → ((done ≡ before) × (p ≡ q)) ⊎ ((rest : List ℕ) × (done ≡ before ++ q ∷ rest))
       → (x : Image) × TableRun code before [] x × IsFirstAble x q
   next_of before after q (inl (d, s)) = (img, subst (λ (xs : List ℕ). TableRun code xs [] img) d run, subst (IsFirstAble img) s first)

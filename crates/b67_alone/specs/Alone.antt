@@ -14,12 +14,12 @@ pub record IsFirstAble (img : Image) (p : ℕ) : Type 0 where
   pub able : is_able (numbered img.states p) ≡ true
   pub none_lower : (q : ℕ) → q < p → is_able (numbered img.states q) ≡ false
 
--- each entry is of the first process that is able when the entries before it are performed
+-- each entry is of the first process that is able in the image to which the entries before it lead
 abbrev pub AreFirstAble : Code → List ℕ → Type 0
 AreFirstAble code schedule =
     (before after : List ℕ) (p : ℕ) → schedule ≡ before ++ p ∷ after → (img : Image) × TableRun code before [] img × IsFirstAble img p
 
--- it ends a run, and not only a schedule
+-- a run ends so; a replay may also come to the end of its schedule, or to an entry that can not be performed
 abbrev pub IsRunEnd : Replayed → Type 0
 IsRunEnd Ended = Unit {0}
 IsRunEnd Ran = ⊥
@@ -27,10 +27,9 @@ IsRunEnd (Illegal number) = ⊥
 IsRunEnd BudgetSpent = Unit {0}
 IsRunEnd NoMemory = Unit {0}
 
--- These entries are performed, each of the first process that is able, and then so many plain operators of the next one, as a
--- replay of just these entries would, and the run ends there.
+-- It is a replay of the entries that one processor makes, each of the first process that is able, up to the end of the run: of
+-- those on the schedule, and of the one within which the run ended, where it did.
 pub record RunsAlone (code : Code) (budget : ℕ) (done : List ℕ) (new : Kept) (answer : Replayed) : Type 0 where
-  -- the entry within which the run ended, or none
   pub next : List ℕ
   pub one : length next ≤ 1
   pub first : AreFirstAble code (done ++ next)

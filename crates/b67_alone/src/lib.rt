@@ -21,11 +21,7 @@ use b67_store::Core;
 /// memory lacks; `done` gets the entries that were performed. Before an entry it looks at the end of the run, then at the
 /// budget; the entry is then of the first process, by number, that is able. Where the budget, the stack limit or want of memory
 /// ends an entry, its plain operators stay performed. The answer is Ended, BudgetSpent or NoMemory.
-pub fn run_alone<C: Core>(
-    machine: &mut Machine<C>,
-    budget: u32,
-    done: &mut Schedule,
-) -> Replayed
+pub fn run_alone<C: Core>(machine: &mut Machine<C>, budget: u32, done: &mut Schedule) -> Replayed
     requires sound { Sound machine.old.code }
     requires fresh { IsFresh machine.old }
     requires empty { done.old.runs ≡ [] }
