@@ -119,7 +119,7 @@ fn answer_replay(
     requires most { budget ≤ MOST_BUDGET }
     requires source { (bytes : List ℕ) × Source bytes (plain checked.now.program) }
     requires built { IsOneBlock (plain checked.now.program) }
-    ensures { IfOk result (λ answer. Replays budget (option_copied schedule) input (plain checked.now.program) answer.text.items answer.status) }
+    ensures { IfOk result (λ answer. Replays budget (option_copied schedule.entry) input (plain checked.now.program) answer.text.items answer.status) }
 {
     let Some(text) = schedule else {
         return refuse_schedule(alloc, input as u64);
@@ -144,7 +144,7 @@ pub fn answer_tree(
 ) -> Result<Answer, AllocError>
     requires range { InRange command }
     requires source { (bytes : List ℕ) × Source bytes (plain checked.now.program) }
-    ensures { IfOk result (λ answer. AnswersTree command (option_copied schedule) input (plain checked.now.program) answer.text.items answer.status) }
+    ensures { IfOk result (λ answer. AnswersTree command (option_copied schedule.entry) input (plain checked.now.program) answer.text.items answer.status) }
 {
     if let Words::Check = command {
         return accept_source(alloc);
