@@ -1,5 +1,5 @@
 -- From what a part of the top call found to the answer.
-use Rattle.std.proofs.Common.{◌≡◌, ℕ, ◌<◌, ◌≤◌, List, length, Option, Result, Ok, Err, refl, sym, subst}
+use Rattle.std.proofs.Common.{◌≡◌, ℕ, ◌<◌, ◌≤◌, List, length, Option, Some, Result, Ok, Err, refl, sym, subst}
 use Rattle.std.specs.Prelude.{◌≢◌, IfSome, IfOk}
 use Rattle.std.specs.declared.alloc.AllocError.{AllocError}
 use Rattle.std.specs.Io.KnownBytes.{IsAtEnd}
@@ -20,7 +20,13 @@ use Rattle.b67_words.specs.declared.Words.TheVariants as commands
 use Rattle.b67_words.specs.declared.BadWords.{BadWords}
 use Rattle.b67_report.specs.declared.Report.{Report}
 use Rattle.b67_report.specs.Texts.{ReportText}
-use Rattle.b67_listing.specs.Listings.{ListingText}
+use Rattle.algol_tree.specs.Accepted.{Accepted}
+use Rattle.b67_templates.specs.Programs.{ProgramAt}
+use Rattle.b67_faithful.specs.Faithful.{IsShort}
+use Rattle.b67_schedule.specs.declared.Run.{Run}
+use Rattle.b67_schedule.specs.Schedules.{entries, IsSchedule, ScheduleText}
+use Rattle.b67_desk.proofs.Laws.{programs_are_faithful}
+use Rattle.b67_listing.specs.Listings.{ListingText, IsListable}
 use Rattle.b67_segment.specs.declared.code.Code.{Code}
 use Rattle.b67_faithful.specs.Faithful.{Faithful}
 use Rattle.b67_explain.specs.Explaining.{ExplainsRun, ExplainsReplay}
@@ -33,24 +39,48 @@ use Rattle.b67_desk.specs.Answers.{usage_text, refused_text, bad_schedule_text, 
 use Rattle.b67_desk.specs.Calls.{InRange, SourceAnswered, CallAnswered, IsUsage, IsRefusal, IsReport, IsBadAt, IsTooLong}
 
 -- a report is the answer to a run, and to a replay
-pub ran_is : (processors budget : ℕ) (tree : PProgram) (report : Report) (a : Answer) → ExplainsRun tree processors budget report → IsReport report a →
+ran_is : (processors budget : ℕ) (tree : PProgram) (report : Report) (a : Answer) → ExplainsRun tree processors budget report → IsReport report a →
     Runs processors budget tree a.text.items a.status
 ran_is processors budget tree report a explains is =
     subst (λ (t : List ℕ). Runs processors budget tree t a.status) (sym is.text)
     (subst (λ (s : Status). Runs processors budget tree (ReportText report) s) (sym is.status) (ran report explains))
 
-pub replayed_is : (budget : ℕ) (schedule : Option (List ℕ)) (input : ℕ) (tree : PProgram) (given : List ℕ) (report : Report) (a : Answer) → AreGiven schedule given →
+replayed_is : (budget : ℕ) (schedule : Option (List ℕ)) (input : ℕ) (tree : PProgram) (given : List ℕ) (report : Report) (a : Answer) → AreGiven schedule given →
     ExplainsReplay tree given budget report → IsReport report a → Replays budget schedule input tree a.text.items a.status
 replayed_is budget schedule input tree given report a are explains is =
     subst (λ (t : List ℕ). Replays budget schedule input tree t a.status) (sym is.text)
     (subst (λ (s : Status). Replays budget schedule input tree (ReportText report) s) (sym is.status) (replayed given report are explains))
 
-pub bad_is : (budget : ℕ) (schedule : Option (List ℕ)) (input : ℕ) (tree : PProgram) (byte : ℕ) (result : Result Answer AllocError) → IsBadSchedule schedule input byte →
+pub ran_answered : (processors budget : ℕ) (tree : PProgram) (report : Report) (result : Result Answer AllocError) → ExplainsRun tree processors budget report →
+    IfOk result (IsReport report) → IfOk result (λ a. Runs processors budget tree a.text.items a.status)
+ran_answered processors budget tree report (Ok a) explains is = ran_is processors budget tree report a explains is
+ran_answered processors budget tree report (Err e) explains is = is
+
+pub replayed_answered : (budget : ℕ) (schedule : Option (List ℕ)) (text : List ℕ) (input : ℕ) (tree : PProgram) (runs : List Run) (report : Report)
+    (result : Result Answer AllocError) → schedule ≡ Some text → IsSchedule runs × (text ≡ ScheduleText runs) → ExplainsReplay tree (entries runs) budget report →
+    IfOk result (IsReport report) → IfOk result (λ a. Replays budget schedule input tree a.text.items a.status)
+replayed_answered budget schedule text input tree runs report (Ok a) is_text are explains is =
+    subst (λ (o : Option (List ℕ)). Replays budget o input tree a.text.items a.status) (sym is_text)
+    (replayed_is budget (Some text) input tree (entries runs) report a (record { runs = runs; schedule = are.0; text_is = are.1 }, refl) explains is)
+replayed_answered budget schedule text input tree runs report (Err e) is_text are explains is = is
+
+bad_is : (budget : ℕ) (schedule : Option (List ℕ)) (input : ℕ) (tree : PProgram) (byte : ℕ) (result : Result Answer AllocError) → IsBadSchedule schedule input byte →
     IfOk result (IsBadAt byte) → IfOk result (λ a. Replays budget schedule input tree a.text.items a.status)
 bad_is budget schedule input tree byte (Ok a) bad is =
     subst (λ (t : List ℕ). Replays budget schedule input tree t a.status) (sym is.text)
     (subst (λ (s : Status). Replays budget schedule input tree (bad_schedule_text byte) s) (sym is.status) (bad_schedule byte bad))
 bad_is budget schedule input tree byte (Err e) bad is = is
+
+pub bad_answered : (budget : ℕ) (schedule kept : Option (List ℕ)) (input : ℕ) (tree : PProgram) (byte : ℕ) (result : Result Answer AllocError) → schedule ≡ kept →
+    IsBadSchedule kept input byte → IfOk result (IsBadAt byte) → IfOk result (λ a. Replays budget schedule input tree a.text.items a.status)
+bad_answered budget schedule kept input tree byte result same bad is =
+    subst (λ (o : Option (List ℕ)). IfOk result (λ a. Replays budget o input tree a.text.items a.status)) (sym same) (bad_is budget kept input tree byte result bad is)
+
+-- the code of an accepted program of one block
+pub code_is_faithful : (tree : PProgram) (result : Result Code AllocError) → Accepted tree → IsOneBlock tree → IfOk result (λ code. ProgramAt code tree) → IfOk result (IsShort tree) →
+    IfOk result IsListable → IfOk result (Faithful tree)
+code_is_faithful tree (Ok code) a one there short listable = programs_are_faithful tree code a one there short listable
+code_is_faithful tree (Err e) a one there short listable = there
 
 pub listed_is : (tree : PProgram) (code : Code) (lines : List (List ℕ)) (text : List ℕ) → Faithful tree code → ListingText code lines → text ≡ listing_text lines →
     Lists tree text status.Finished
@@ -80,6 +110,25 @@ unbuilt_tree (commands.Run processors budget) schedule input tree result other n
 unbuilt_tree commands.Check schedule input tree result other none is = absurd (other refl)
 unbuilt_tree commands.List schedule input tree result other none is = unbuilt_answered tree (Lists tree) result none is
 unbuilt_tree (commands.Replay budget) schedule input tree result other none is = unbuilt_answered tree (Replays budget schedule input tree) result none is
+
+module _ (command : Words) (schedule : Option (List ℕ)) (input : ℕ) (tree : PProgram) where
+  Told : Result Answer AllocError → Words → Type 0
+  Told result w = IfOk result (λ a. AnswersTree w schedule input tree a.text.items a.status)
+
+  pub run_tree : (processors budget : ℕ) (result : Result Answer AllocError) → command ≡ commands.Run processors budget → IsOneBlock tree →
+      IfOk result (λ a. Runs processors budget tree a.text.items a.status) → IfOk result (λ a. AnswersTree command schedule input tree a.text.items a.status)
+  unfolding Told
+  run_tree processors budget result is one told = subst (Told result) (sym is) (built_answered tree (Runs processors budget tree) result one told)
+
+  pub list_tree : (result : Result Answer AllocError) → command ≡ commands.List → IsOneBlock tree →
+      IfOk result (λ a. Lists tree a.text.items a.status) → IfOk result (λ a. AnswersTree command schedule input tree a.text.items a.status)
+  unfolding Told
+  list_tree result is one told = subst (Told result) (sym is) (built_answered tree (Lists tree) result one told)
+
+  pub replay_tree : (budget : ℕ) (result : Result Answer AllocError) → command ≡ commands.Replay budget → IsOneBlock tree →
+      IfOk result (λ a. Replays budget schedule input tree a.text.items a.status) → IfOk result (λ a. AnswersTree command schedule input tree a.text.items a.status)
+  unfolding Told
+  replay_tree budget result is one told = subst (Told result) (sym is) (built_answered tree (Replays budget schedule input tree) result one told)
 
 -- a text that is refused, and one that is accepted
 module _ (bytes : List ℕ) (Its : PProgram → List ℕ → Status → Type 0) where
@@ -125,11 +174,12 @@ pub read_is : (command : Words) (left left_after : Option (List ℕ)) (items byt
     AnswersSource command left left_after text s
 read_is command left left_after items bytes text s is small all end a = read items text s small all end (subst (λ (b : List ℕ). AnswersBytes command b text s) is a)
 
-pub too_long_is : (command : Words) (left left_after : Option (List ℕ)) (a : Answer) → IfSome left (λ bytes. most_bytes command < length bytes) → IsTooLong a →
+pub too_long_is : (command : Words) (most : ℕ) (left left_after : Option (List ℕ)) (a : Answer) → most ≡ most_bytes command → IfSome left (λ bytes. most < length bytes) → IsTooLong a →
     AnswersSource command left left_after a.text.items a.status
-too_long_is command left left_after a more is =
+too_long_is command most left left_after a most_is more is =
     subst (λ (t : List ℕ). AnswersSource command left left_after t a.status) (sym is.text)
-    (subst (λ (s : Status). AnswersSource command left left_after too_long_text s) (sym is.status) (too_long more))
+    (subst (λ (s : Status). AnswersSource command left left_after too_long_text s) (sym is.status)
+     (too_long (subst (λ (n : ℕ). IfSome left (λ bytes. n < length bytes)) most_is more)))
 
 -- the bytes that were read, by their parts
 pub long_part_is : (command : Words) (bytes source : List ℕ) (schedule : Option (List ℕ)) (result : Result Answer AllocError) → IsDivided command bytes source schedule →

@@ -1,6 +1,8 @@
 -- From a run of a machine to what its report explains.
-use Rattle.std.proofs.Common.{◌≡◌, ℕ, ◌≤◌, List, ◌++◌, length, Option, Some, None, refl, subst, sym}
+use Rattle.std.proofs.Common.{◌≡◌, ℕ, ◌≤◌, List, ◌++◌, length, Option, Some, None, Result, Ok, Err, refl, subst, sym}
+use Rattle.std.specs.Prelude.{IfOk}
 use Rattle.std.specs.List.{All}
+use Rattle.std.specs.declared.alloc.AllocError.{AllocError}
 use Rattle.algol_tree.specs.Plain.{PProgram}
 use Rattle.b67_listing.specs.Listings.{ListingText, IsListable}
 use Rattle.b67_segment.specs.declared.TheConstants.{MOST_SEGMENT_WORDS}
@@ -53,3 +55,18 @@ pub replay_told : (tree : PProgram) (code : Code) → Faithful tree code → (gi
     Replays code given budget (entries schedule.runs) m answer → (lines : List (List ℕ)) (report : Report) → IsReportOf m answer lines 1 schedule report →
     IsSchedule schedule.runs → ListingText code lines → ExplainsReplay tree given budget report
 replay_told = replay_explained runs_grow
+
+-- the same of what was answered
+pub run_answered : (code : Code) (processors budget : ℕ) (m : Kept) (answer : Replayed) (schedule : Schedule) → RunsAlone code budget (entries schedule.runs) m answer →
+    (lines : List (List ℕ)) (result : Result Report AllocError) → IfOk result (IsReportOf m answer lines processors schedule) → IsSchedule schedule.runs → ListingText code lines →
+    IfOk result (λ report. (tree : PProgram) → Faithful tree code → ExplainsRun tree processors budget report)
+run_answered code processors budget m answer schedule alone lines (Ok report) is valid listed =
+    λ tree faithful. run_told tree code faithful processors budget m answer schedule alone lines report is valid listed
+run_answered code processors budget m answer schedule alone lines (Err e) is valid listed = is
+
+pub replay_answered : (code : Code) (given : List ℕ) (budget : ℕ) (m : Kept) (answer : Replayed) (schedule : Schedule) → Replays code given budget (entries schedule.runs) m answer →
+    (lines : List (List ℕ)) (result : Result Report AllocError) → IfOk result (IsReportOf m answer lines 1 schedule) → IsSchedule schedule.runs → ListingText code lines →
+    IfOk result (λ report. (tree : PProgram) → Faithful tree code → ExplainsReplay tree given budget report)
+replay_answered code given budget m answer schedule replays lines (Ok report) is valid listed =
+    λ tree faithful. replay_told tree code faithful given budget m answer schedule replays lines report is valid listed
+replay_answered code given budget m answer schedule replays lines (Err e) is valid listed = is
