@@ -1,11 +1,14 @@
 -- Laws of the path of a process.
-use Rattle.std.proofs.Common.{arith, ◌≡◌, refl, ℕ, zero, suc, ◌+◌, ◌-◌, ◌<◌, ◌≤◌, ◌&&◌, ◌||◌, ◌==◌, not, if◌then◌else◌, Bool, true, false, List, [], ◌∷◌, ◌++◌, length, map, take, get_or, ap, sym, subst, ◌∙◌, append_assoc}
-use Rattle.algol_meaning.specs.World.{Instance, World, process_at}
-use Rattle.algol_world.specs.SeenInstance.{instance}
-use Rattle.algol_world.specs.declared.instance.Instance as code
+use Rattle.std.proofs.Common.{arith, ◌≡◌, ◌⊎◌, inl, inr, refl, ℕ, zero, suc, ◌+◌, ◌-◌, ◌<◌, ◌≤◌, ◌&&◌, ◌||◌, ◌==◌, not, if◌then◌else◌, Bool, true, false, List, [], ◌∷◌, ◌++◌, length, map, take, ap, sym, ◌∙◌, append_assoc, Option, Some, None, slice_get}
+use Rattle.std.specs.Prelude.{nat_lt}
+use Rattle.std.proofs.lemmas.Bool.Decides.{nat_tests, leb_tells, eqb_tells}
+use Rattle.algol_meaning.specs.World.{Instance, or_no_instance, World, instance_at, process_at}
 use Rattle.algol_meaning.specs.Critical.{NumberedInstance, newest_first, first_on_path, is_one_of, is_this}
+use Rattle.algol_perform.specs.Path.{critical_below, is_own, newer_own, newest_own}
 
 pub ruleset referring = append_assoc
+
+-- ---- the newest first
 
 newest_more :
     (n m : ℕ) (xs : List Instance) (x : Instance) (older : List NumberedInstance) → m ≡ n + length xs
@@ -13,79 +16,285 @@ newest_more :
 newest_more n m [] x older e = let f : n ≡ m = omega arith in ap (λ (k : ℕ). record { number = k; of = x } ∷ older) f
 newest_more n m (y ∷ xs) x older e = newest_more (n + 1) m xs x (record { number = n; of = y } ∷ older) (omega arith)
 
-take_more : (xs : List Instance) (k : ℕ) (x : Instance) → k < length xs → x ≡ get_or xs k x → take (suc k) xs ≡ take k xs ++ x ∷ []
-take_more [] k x l e = absurd (omega arith)
-take_more (y ∷ xs) zero x l e = let p : x ≡ y = e in ap (λ (z : Instance). z ∷ []) (sym p)
-take_more (y ∷ xs) (suc k) x l e = ap (λ (zs : List Instance). y ∷ zs) (take_more xs k x (omega arith) e)
+take_more : (xs : List Instance) (k : ℕ) → k < length xs → take (suc k) xs ≡ take k xs ++ or_no_instance (slice_get xs k) ∷ []
+take_more [] k l = absurd (omega arith)
+take_more (y ∷ xs) zero l = refl
+take_more (y ∷ xs) (suc k) l = ap (λ (zs : List Instance). y ∷ zs) (take_more xs k (omega arith))
 
 take_length : (xs : List Instance) (k : ℕ) → k < length xs → length (take k xs) ≡ k
 take_length [] k l = absurd (omega arith)
 take_length (y ∷ xs) zero l = refl
 take_length (y ∷ xs) (suc k) l = ap suc (take_length xs k (omega arith))
 
-pub newest_step :
-    (xs : List Instance) (k : ℕ) (x : Instance) → k < length xs → x ≡ get_or xs k x
-    → newest_first 1 (take (suc k) xs) [] ≡ record { number = suc k; of = x } ∷ newest_first 1 (take k xs) []
-newest_step xs k x l e =
-    ap (λ (ys : List Instance). newest_first 1 ys []) (take_more xs k x l e)
-    ∙ newest_more 1 (suc k) (take k xs) x [] (let f : length (take k xs) ≡ k = take_length xs k l in omega arith)
+newest_step :
+    (xs : List Instance) (k : ℕ) → k < length xs
+    → newest_first 1 (take (suc k) xs) [] ≡ record { number = suc k; of = or_no_instance (slice_get xs k) } ∷ newest_first 1 (take k xs) []
+newest_step xs k l =
+    ap (λ (ys : List Instance). newest_first 1 ys []) (take_more xs k l)
+    ∙ newest_more 1 (suc k) (take k xs) (or_no_instance (slice_get xs k)) [] (let f : length (take k xs) ≡ k = take_length xs k l in omega arith)
 
-take_all : (xs : List Instance) → take (length xs) xs ≡ xs
-take_all [] = refl
-take_all (x ∷ xs) = ap (λ (ys : List Instance). x ∷ ys) (take_all xs)
+-- ---- tests
 
-map_length : (is : List code.Instance) → length (map instance is) ≡ length is
-map_length [] = refl
-map_length (i ∷ is) = ap suc (map_length is)
+above : (a b : ℕ) → nat_lt a b ≡ false → b ≤ a
+above a b e = grind (arith, nat_tests, e)
 
-map_get : (is : List code.Instance) (k : ℕ) (x : code.Instance) → k < length is → x ≡ get_or is k x → instance x ≡ get_or (map instance is) k (instance x)
-map_get [] k x l e = absurd (omega arith)
-map_get (i ∷ is) zero x l e = let p : x ≡ i = e in ap instance p
-map_get (i ∷ is) (suc k) x l e = map_get is k x (omega arith) e
+under : (a b : ℕ) → nat_lt a b ≡ true → a < b
+under a b e = grind (arith, nat_tests, e)
 
-pub take_count : (is : List code.Instance) (k : ℕ) → k ≡ length is → take k (map instance is) ≡ map instance is
-take_count is k e = ap (λ (n : ℕ). take n (map instance is)) (e ∙ sym (map_length is)) ∙ take_all (map instance is)
+same_number : (a b : ℕ) → (a == b) ≡ true → a ≡ b
+same_number a b e = grind (arith, nat_tests, e)
 
-module _ (w : World) (is : List code.Instance) (at : ℕ) (wanted : List ℕ) where
+less_number : (a b : ℕ) → a < b → (a == b) ≡ false
+less_number a b l = grind (arith, nat_tests, l)
+
+more_number : (a b : ℕ) → b < a → (a == b) ≡ false
+more_number a b l = grind (arith, nat_tests, l)
+
+itself : (a : ℕ) → (a == a) ≡ true
+itself a = grind (arith, nat_tests)
+
+own_process : (a b : ℕ) (left : Bool) → ((a == b) && not left) ≡ true → a ≡ b
+own_process a b left e = by (a == b) refl e
+  where
+    by : (t : Bool) → (a == b) ≡ t → (t && not left) ≡ true → a ≡ b
+    by true f g = same_number a b f
+    by false f g = cc
+
+or_right : (a b : Bool) → b ≡ true → (a || b) ≡ true
+or_right true b e = refl
+or_right false b e = e
+
+never : (a : Bool) → (a && false) ≡ false
+never true = refl
+never false = refl
+
+-- ---- the newest of one's own
+
+module _ (w : World) (p : ℕ) (below : ℕ) where
+  newer_so :
+      (newest n : ℕ)
+      → ((newest < n) × (n < below) × (is_own w p n ≡ true) × (newer_own w p below newest n ≡ n))
+      ⊎ ((newer_own w p below newest n ≡ newest) × (newest < n → n < below → is_own w p n ≡ false))
+  newer_so newest n = by (nat_lt newest n) (nat_lt n below) (is_own w p n) refl refl refl
+    where
+      by :
+          (a b c : Bool) → nat_lt newest n ≡ a → nat_lt n below ≡ b → is_own w p n ≡ c
+          → ((newest < n) × (n < below) × (is_own w p n ≡ true) × ((if (a && b) && c then n else newest) ≡ n))
+          ⊎ (((if (a && b) && c then n else newest) ≡ newest) × (newest < n → n < below → is_own w p n ≡ false))
+      by true true true d e f = inl (under newest n d, under n below e, f, refl)
+      by true true false d e f = inr (refl, λ _ _. f)
+      by true false c d e f = inr (refl, λ _ l. let m : below ≤ n = above n below e in absurd (omega arith))
+      by false b c d e f = inr (refl, λ l _. let m : n ≤ newest = above newest n d in absurd (omega arith))
+
+  least_step :
+      (newest n m r : ℕ)
+      → ((newest < n) × (n < below) × (is_own w p n ≡ true) × (m ≡ n)) ⊎ ((m ≡ newest) × (newest < n → n < below → is_own w p n ≡ false))
+      → m ≤ r → newest ≤ r
+  least_step newest n m r (inl (l, k, own, e)) h = omega arith
+  least_step newest n m r (inr (e, f)) h = omega arith
+
+  least : (newest : ℕ) (ns : List ℕ) → newest ≤ newest_own w p below newest ns
+  least newest [] = omega arith
+  least newest (n ∷ ns) =
+      least_step newest n (newer_own w p below newest n) (newest_own w p below (newer_own w p below newest n) ns) (newer_so newest n)
+      (least (newer_own w p below newest n) ns)
+
+  found_step :
+      (newest n m r : ℕ) (ns : List ℕ)
+      → ((newest < n) × (n < below) × (is_own w p n ≡ true) × (m ≡ n)) ⊎ ((m ≡ newest) × (newest < n → n < below → is_own w p n ≡ false))
+      → newest < r → m ≤ r → (m < r → (r < below) × (is_own w p r ≡ true) × (is_one_of ns r ≡ true))
+      → (r < below) × (is_own w p r ≡ true) × (((n == r) || is_one_of ns r) ≡ true)
+  found_step newest n m r ns s l t h = by (nat_lt m r) refl s
+    where
+      by :
+          (b : Bool) → nat_lt m r ≡ b
+          → ((newest < n) × (n < below) × (is_own w p n ≡ true) × (m ≡ n)) ⊎ ((m ≡ newest) × (newest < n → n < below → is_own w p n ≡ false))
+          → (r < below) × (is_own w p r ≡ true) × (((n == r) || is_one_of ns r) ≡ true)
+      by true e s = let g = h (under m r e) in (g.0, g.1, or_right (n == r) (is_one_of ns r) g.2)
+      by false e (inl (a, b, own, q)) =
+          let u : r ≤ m = above m r e in
+          let v : r ≡ n = omega arith in (
+            omega arith,
+            ap (is_own w p) v ∙ own,
+            ap (λ (k : ℕ). (n == k) || is_one_of ns k) v ∙ ap (λ (t : Bool). t || is_one_of ns n) (itself n),
+          )
+      by false e (inr (q, f)) = let u : r ≤ m = above m r e in absurd (omega arith)
+
+  -- what is newer than the first is one of these, and its own
+  found :
+      (newest : ℕ) (ns : List ℕ) → newest < newest_own w p below newest ns
+      → (newest_own w p below newest ns < below) × (is_own w p (newest_own w p below newest ns) ≡ true)
+      × (is_one_of ns (newest_own w p below newest ns) ≡ true)
+  found newest [] l = absurd (omega arith)
+  found newest (n ∷ ns) l =
+      found_step newest n (newer_own w p below newest n) (newest_own w p below (newer_own w p below newest n) ns) ns (newer_so newest n) l
+      (least (newer_own w p below newest n) ns) (found (newer_own w p below newest n) ns)
+
+  others_step :
+      (newest n m r j : ℕ) (ns : List ℕ)
+      → ((newest < n) × (n < below) × (is_own w p n ≡ true) × (m ≡ n)) ⊎ ((m ≡ newest) × (newest < n → n < below → is_own w p n ≡ false))
+      → m ≤ r → r < j → j < below → (is_own w p j && is_one_of ns j) ≡ false → (is_own w p j && ((n == j) || is_one_of ns j)) ≡ false
+  others_step newest n m r j ns s t l k h = by (n == j) refl s
+    where
+      by :
+          (b : Bool) → (n == j) ≡ b
+          → ((newest < n) × (n < below) × (is_own w p n ≡ true) × (m ≡ n)) ⊎ ((m ≡ newest) × (newest < n → n < below → is_own w p n ≡ false))
+          → (is_own w p j && (b || is_one_of ns j)) ≡ false
+      by true e (inl (a, b, own, q)) = let v : n ≡ j = same_number n j e in absurd (omega arith)
+      by true e (inr (q, f)) =
+          let v : n ≡ j = same_number n j e in
+          ap (λ (b : Bool). b && true) (ap (is_own w p) (sym v) ∙ f (omega arith) (omega arith))
+      by false e s = h
+
+  -- none of these that is its own is newer
+  others :
+      (newest : ℕ) (ns : List ℕ) (j : ℕ) → newest_own w p below newest ns < j → j < below → (is_own w p j && is_one_of ns j) ≡ false
+  others newest [] j l k = never (is_own w p j)
+  others newest (n ∷ ns) j l k =
+      others_step newest n (newer_own w p below newest n) (newest_own w p below (newer_own w p below newest n) ns) j ns (newer_so newest n)
+      (least (newer_own w p below newest n) ns) l k (others (newer_own w p below newest n) ns j l k)
+
+-- ---- the critical instance
+
+pub critical_less : (o : Option ℕ) (below c : ℕ) → c ≡ critical_below o below → 0 < below → c < below
+critical_less None below c e l = let f : c ≡ 0 = e in omega arith
+critical_less (Some d) below c e l = by (nat_lt d below) refl e
+  where
+    by : (t : Bool) → nat_lt d below ≡ t → c ≡ (if t then d else 0) → c < below
+    by true f g = let h : d < below = under d below f in let q : c ≡ d = g in omega arith
+    by false f g = let q : c ≡ 0 = g in omega arith
+
+critical_not : (o : Option ℕ) (below c j : ℕ) → c ≡ critical_below o below → c < j → j < below → is_this o j ≡ false
+critical_not None below c j e l m = refl
+critical_not (Some d) below c j e l m = by (nat_lt d below) refl e
+  where
+    by : (t : Bool) → nat_lt d below ≡ t → c ≡ (if t then d else 0) → (d == j) ≡ false
+    by true f g = let q : c ≡ d = g in less_number d j (omega arith)
+    by false f g = let h : below ≤ d = above d below f in more_number d j (omega arith)
+
+critical_is : (o : Option ℕ) (below c : ℕ) → c ≡ critical_below o below → 0 < c → is_this o c ≡ true
+critical_is None below c e l = let q : c ≡ 0 = e in absurd (omega arith)
+critical_is (Some d) below c e l = by (nat_lt d below) refl e
+  where
+    by : (t : Bool) → nat_lt d below ≡ t → c ≡ (if t then d else 0) → (d == c) ≡ true
+    by true f g = let q : c ≡ d = g in ap (λ (k : ℕ). d == k) q ∙ itself d
+    by false f g = let q : c ≡ 0 = g in absurd (omega arith)
+
+-- ---- the walk
+
+module _ (w : World) (wanted : List ℕ) where
+  -- the walk down from that instance
   abbrev pub walk : ℕ → ℕ → ℕ
-  walk n from = first_on_path w (newest_first 1 (take n (map instance is)) []) from wanted
-
-  abbrev pub on : code.Instance → ℕ → Bool
-  on x n = (((instance x).process == at) && not (instance x).left) || is_this ((process_at w at).critical) n
+  walk n from = first_on_path w (newest_first 1 (take n w.instances) []) from wanted
 
   step :
-      (k : ℕ) (x : code.Instance) → k < length is → x ≡ get_or is k x
-      → walk (suc k) at ≡ (if on x (suc k) then (if is_one_of wanted (suc k) then suc k else walk k ((instance x).process)) else walk k at)
-  step k x l e =
-      ap (λ (ns : List NumberedInstance). first_on_path w ns at wanted)
-      (newest_step (map instance is) k (instance x) (let m : length (map instance is) ≡ length is = map_length is in omega arith) (map_get is k x l e))
+      (k from : ℕ) → k < length w.instances
+      → walk (suc k) from
+      ≡ (if is_own w from (suc k) || is_this ((process_at w from).critical) (suc k)
+      then (if is_one_of wanted (suc k) then suc k else walk k ((instance_at w (suc k)).process)) else walk k from)
+  step k from l = ap (λ (ns : List NumberedInstance). first_on_path w ns from wanted) (newest_step w.instances k l)
 
-  found_at : (b c : Bool) (n u v : ℕ) → (b && c) ≡ true → (if b then (if c then n else u) else v) ≡ n
-  found_at true true n u v e = refl
-  found_at true false n u v e = cc
-  found_at false c n u v e = cc
+  passed :
+      (own critical one : Bool) (n u v : ℕ) → critical ≡ false → (own && one) ≡ false → (own ≡ true → u ≡ v)
+      → (if own || critical then (if one then n else u) else v) ≡ v
+  passed true critical true n u v e f g = cc
+  passed true critical false n u v e f g = g refl
+  passed false true one n u v e f g = cc
+  passed false false one n u v e f g = refl
 
-  further_at : (b c : Bool) (n : ℕ) (f : ℕ → ℕ) (u v : ℕ) → (b && c) ≡ false → (if b then (if c then n else f u) else f v) ≡ f (if b then u else v)
-  further_at true true n f u v e = cc
-  further_at true false n f u v e = refl
-  further_at false c n f u v e = refl
+  stops : (on one : Bool) (n u v : ℕ) → on ≡ true → one ≡ true → (if on then (if one then n else u) else v) ≡ n
+  stops true true n u v e f = refl
+  stops true false n u v e f = cc
+  stops false one n u v e f = cc
 
-  pub walk_found :
-      (n : ℕ) (x : code.Instance) → 0 < n → n ≤ length is → x ≡ get_or is (n - 1) x → (on x n && is_one_of wanted n) ≡ true → walk n at ≡ n
-  walk_found zero x z l e t = absurd (omega arith)
-  walk_found (suc k) x z l e t =
-      let same : suc k - 1 ≡ k = omega arith in
-      let here : x ≡ get_or is k x = subst (λ (j : ℕ). x ≡ get_or is j x) same e in
-      step k x (omega arith) here ∙ found_at (on x (suc k)) (is_one_of wanted (suc k)) (suc k) (walk k ((instance x).process)) (walk k at) t
+  turns : (on one : Bool) (n u v : ℕ) → on ≡ true → one ≡ false → (if on then (if one then n else u) else v) ≡ u
+  turns true true n u v e f = cc
+  turns true false n u v e f = refl
+  turns false one n u v e f = cc
 
-  pub walk_further :
-      (n : ℕ) (x : code.Instance) → 0 < n → n ≤ length is → x ≡ get_or is (n - 1) x → (on x n && is_one_of wanted n) ≡ false
-      → walk n at ≡ walk (n - 1) (if on x n then (instance x).process else at)
-  walk_further zero x z l e t = absurd (omega arith)
-  walk_further (suc k) x z l e t =
-      let same : suc k - 1 ≡ k = omega arith in
-      let here : x ≡ get_or is k x = subst (λ (j : ℕ). x ≡ get_or is j x) same e in
-      step k x (omega arith) here ∙ further_at (on x (suc k)) (is_one_of wanted (suc k)) (suc k) (walk k) ((instance x).process) at t
-      ∙ ap (λ (j : ℕ). walk j (if on x (suc k) then (instance x).process else at)) (sym same)
+  module _ (from : ℕ) where
+    pass :
+        (k : ℕ) → k < length w.instances → is_this ((process_at w from).critical) (suc k) ≡ false
+        → (is_own w from (suc k) && is_one_of wanted (suc k)) ≡ false → walk (suc k) from ≡ walk k from
+    pass k l e f =
+        step k from l
+        ∙ passed (is_own w from (suc k)) (is_this ((process_at w from).critical) (suc k)) (is_one_of wanted (suc k)) (suc k)
+        (walk k ((instance_at w (suc k)).process)) (walk k from) e f
+        (λ own. ap (walk k) (own_process ((instance_at w (suc k)).process) from ((instance_at w (suc k)).left) own))
 
-pub ruleset walking = (take_count, walk_found, walk_further)
+    -- the walk down over instances that neither it stops at nor leaves the stack by
+    pass_all :
+        (m k n : ℕ) → n ≡ k + m → n ≤ length w.instances
+        → ((j : ℕ) → m < j → j ≤ n → (is_this ((process_at w from).critical) j ≡ false) × ((is_own w from j && is_one_of wanted j) ≡ false))
+        → walk n from ≡ walk m from
+    pass_all m zero n e l q = let f : n ≡ m = omega arith in ap (λ (j : ℕ). walk j from) f
+    pass_all m (suc k) zero e l q = absurd (omega arith)
+    pass_all m (suc k) (suc j) e l q =
+        let h = q (suc j) (omega arith) (omega arith) in
+        pass j (omega arith) h.0 h.1 ∙ pass_all m k j (omega arith) (omega arith) (λ i a b. q i a (omega arith))
+
+    stop_at :
+        (n : ℕ) → 0 < n → n ≤ length w.instances → (is_own w from n || is_this ((process_at w from).critical) n) ≡ true
+        → is_one_of wanted n ≡ true → walk n from ≡ n
+    stop_at zero z l e f = absurd (omega arith)
+    stop_at (suc k) z l e f =
+        step k from (omega arith)
+        ∙ stops (is_own w from (suc k) || is_this ((process_at w from).critical) (suc k)) (is_one_of wanted (suc k)) (suc k)
+        (walk k ((instance_at w (suc k)).process)) (walk k from) e f
+
+    turn_at :
+        (n : ℕ) → 0 < n → n ≤ length w.instances → (is_own w from n || is_this ((process_at w from).critical) n) ≡ true
+        → is_one_of wanted n ≡ false → walk n from ≡ walk (n - 1) ((instance_at w n).process)
+    turn_at zero z l e f = absurd (omega arith)
+    turn_at (suc k) z l e f =
+        let same : k ≡ suc k - 1 = omega arith in
+        step k from (omega arith)
+        ∙ turns (is_own w from (suc k) || is_this ((process_at w from).critical) (suc k)) (is_one_of wanted (suc k)) (suc k)
+        (walk k ((instance_at w (suc k)).process)) (walk k from) e f
+        ∙ ap (λ (j : ℕ). walk j ((instance_at w (suc k)).process)) same
+
+    -- a stack, down to the critical instance of its process
+    module _ (below c : ℕ) (some : 0 < below) (within : below ≤ length w.instances + 1) (is : c ≡ critical_below ((process_at w from).critical) below) where
+      pub path_found :
+          c < newest_own w from below c wanted → walk (below - 1) from ≡ newest_own w from below c wanted
+      path_found l =
+          let n = newest_own w from below c wanted in
+          let f = found w from below c wanted l in
+          let less : n < below = f.0 in
+          pass_all n ((below - 1) - n) (below - 1) (omega arith) (omega arith)
+          (λ j a b. (critical_not ((process_at w from).critical) below c j is (omega arith) (omega arith), others w from below c wanted j a (omega arith)))
+          ∙ stop_at n (omega arith) (omega arith)
+          (ap (λ (own : Bool). own || is_this ((process_at w from).critical) n) f.1) f.2
+
+      down : newest_own w from below c wanted ≤ c → walk (below - 1) from ≡ walk c from
+      down l =
+          let less : c < below = critical_less ((process_at w from).critical) below c is some in
+          pass_all c ((below - 1) - c) (below - 1) (omega arith) (omega arith)
+          (λ j a b. (critical_not ((process_at w from).critical) below c j is a (omega arith), others w from below c wanted j (omega arith) (omega arith)))
+
+      critical_on : 0 < c → (is_own w from c || is_this ((process_at w from).critical) c) ≡ true
+      critical_on z = or_right (is_own w from c) (is_this ((process_at w from).critical) c) (critical_is ((process_at w from).critical) below c is z)
+
+      pub path_ends : newest_own w from below c wanted ≤ c → is_one_of wanted c ≡ true → walk (below - 1) from ≡ c
+      path_ends l e = down l ∙ by (nat_lt 0 c) refl
+        where
+          by : (t : Bool) → nat_lt 0 c ≡ t → walk c from ≡ c
+          by true f =
+              let z : 0 < c = under 0 c f in
+              let less : c < below = critical_less ((process_at w from).critical) below c is some in stop_at c z (omega arith) (critical_on z) e
+          by false f = let u : c ≤ 0 = above 0 c f in let z : c ≡ 0 = omega arith in ap (λ (j : ℕ). walk j from) z ∙ sym z
+
+      pub path_goes_on :
+          newest_own w from below c wanted ≤ c → is_one_of wanted c ≡ false
+          → walk (below - 1) from ≡ walk (c - 1) ((instance_at w c).process)
+      path_goes_on l e = down l ∙ by (nat_lt 0 c) refl
+        where
+          by : (t : Bool) → nat_lt 0 c ≡ t → walk c from ≡ walk (c - 1) ((instance_at w c).process)
+          by true f =
+              let z : 0 < c = under 0 c f in
+              let less : c < below = critical_less ((process_at w from).critical) below c is some in turn_at c z (omega arith) (critical_on z) e
+          by false f =
+              let u : c ≤ 0 = above 0 c f in
+              let z : c ≡ 0 = omega arith in
+              let y : 0 ≡ c - 1 = omega arith in
+              ap (λ (j : ℕ). walk j from) z ∙ ap (λ (j : ℕ). walk j ((instance_at w c).process)) y

@@ -1,3 +1,4 @@
 pub mod Performing
 pub mod Making
 pub mod Going
+pub mod Path

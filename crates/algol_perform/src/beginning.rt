@@ -8,7 +8,7 @@ ghost use Rattle.algol_world.specs.SeenWorld.{world_of};
 use crate::making::{add_instance, add_process, part_in};
 use algol_meaning::Scopes;
 use algol_tree::List;
-use algol_world::{Purpose, World};
+use algol_world::{Instances, Purpose, World};
 use std::alloc::{AllocError, Global};
 
 /// The world in which a run of the tree begins whose scopes these are: process 1 alone at the head of the outer block,
@@ -24,7 +24,7 @@ pub fn start<'p>(alloc: Global, scopes: Scopes<'p>) -> Result<World<'p>, AllocEr
 {
     let mut world = World {
         scopes,
-        instances: List::of(Vec::new(alloc)),
+        instances: Instances::new(alloc),
         processes: List::of(Vec::new(alloc)),
         output: List::of(Vec::new(alloc)),
         fault: None,

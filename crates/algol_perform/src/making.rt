@@ -104,7 +104,7 @@ pub fn add_instance<'p>(
     ensures same { world.new.scopes ≡ world.old.scopes }
 {
     let instance = instance_of(&world.scopes, alloc, number, parent, process, given)?;
-    append(&mut world.instances, instance)
+    world.instances.add(instance)
 }
 
 /// The part that goes on in the next instance, which is of that block.

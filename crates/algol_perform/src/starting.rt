@@ -1,6 +1,6 @@
 //! The start of a process: the instance on whose life it depends, its own first instance, and its part.
 
-ghost use Rattle.std.specs.Prelude.{◌≡◌, ◌&&◌, ◌||◌, ◌==◌, not, if◌then◌else◌, [], ◌∷◌, ◌++◌, false, map, IfOk};
+ghost use Rattle.std.specs.Prelude.{◌≡◌, [], ◌∷◌, ◌++◌, false, map, IfOk};
 ghost use Rattle.algol_meaning.specs.World as plain;
 ghost use Rattle.algol_meaning.specs.Critical as critical;
 ghost use Rattle.algol_meaning.specs.SeenExpression as seen;
@@ -11,12 +11,13 @@ ghost use Rattle.algol_world.specs.SeenWorld.{world_of, process_of};
 ghost use Rattle.algol_world.specs.SeenActed.{acted_choice};
 ghost use Rattle.algol_world.specs.Leaving.{is_nil};
 ghost use Rattle.algol_step.specs.declared.effect.Effect.TheVariants as effects;
+ghost use Rattle.algol_perform.specs.Path as path;
 ghost use Rattle.algol_perform.specs.Performing.{performed};
 
 use crate::making::{add_instance, add_process, part_in};
 use algol_meaning::{Answer, Cell, Reference};
 use algol_tree::List;
-use algol_world::{Acted, Action, Instance, Purpose, World};
+use algol_world::{Acted, Action, Purpose, World, instance_at};
 use std::alloc::{AllocError, Global};
 
 /// The instance that a cell refers to, after others.
@@ -74,65 +75,87 @@ fn is_one_of(numbers: &[usize], number: usize) -> bool
     false
 }
 
-/// Tests that a process has this instance as its critical instance.
-fn is_critical(world: &World<'_>, process: usize, number: usize) -> bool
-    ensures { result ≡ critical.is_this (process_of world.now process).critical number }
+/// Tests that an instance stands in the stack of a process and is not left.
+fn is_own(world: &World<'_>, process: usize, number: usize) -> bool
+    ensures { result ≡ path.is_own (world_of world.now) process number }
+{
+    match instance_at(&world.instances, number) {
+        None => false,
+        Some(instance) => instance.process == process && !instance.left,
+    }
+}
+
+/// The instance of that number where it is newer than another, older than a third and in the stack of a process, else the
+/// other.
+fn newer_own(world: &World<'_>, process: usize, newest: usize, below: usize, number: usize) -> usize
+    ensures { result ≡ path.newer_own (world_of world.now) process below newest number }
+{
+    if newest < number && number < below && is_own(world, process, number) {
+        number
+    } else {
+        newest
+    }
+}
+
+/// The newest of these instances that stands in the stack of a process between two others, the older of the two where none
+/// does.
+fn newest_own(
+    world: &World<'_>,
+    process: usize,
+    above: usize,
+    below: usize,
+    wanted: &[usize],
+) -> usize
+    ensures { result ≡ path.newest_own (world_of world.now) process below above wanted.now }
+{
+    let mut newest = above;
+    'choosing: for number in wanted {
+        newest = newer_own(world, process, newest, below, *number);
+    }
+    newest
+}
+
+/// The critical instance of a process where it is older than that one, else 0.
+fn critical_below(world: &World<'_>, process: usize, below: usize) -> usize
+    ensures { result ≡ path.critical_below (process_of world.now process).critical below }
 {
     match world.process(process) {
-        None => false,
+        None => 0,
         Some(q) => match q.critical {
-            None => false,
-            Some(instance) => instance == number,
+            Some(instance) if instance < below => instance,
+            _ => 0,
         },
     }
 }
 
-/// Tests that an instance lies on the path of a process: in its stack, or as its critical instance.
-fn is_on_path(world: &World<'_>, process: usize, number: usize, instance: &Instance<'_>) -> bool
-    ensures { result ≡ ((((shown.instance instance.now).process == process) && not (shown.instance instance.now).left) || critical.is_this (process_of world.now process).critical number) }
+/// The process in whose stack an instance stands, 0 where there is none.
+fn stack_of(world: &World<'_>, number: usize) -> usize
+    ensures { result ≡ (plain.instance_at (world_of world.now) number).process }
 {
-    (instance.process == process && !instance.left) || is_critical(world, process, number)
-}
-
-/// Tests that an instance lies on the path of a process and is one of these.
-fn is_found(
-    world: &World<'_>,
-    process: usize,
-    number: usize,
-    instance: &Instance<'_>,
-    wanted: &[usize],
-) -> bool
-    ensures { result ≡ (((((shown.instance instance.now).process == process) && not (shown.instance instance.now).left) || critical.is_this (process_of world.now process).critical number) && critical.is_one_of wanted.now number) }
-{
-    is_on_path(world, process, number, instance) && is_one_of(wanted, number)
-}
-
-/// The process in whose stack the path goes on behind an instance.
-fn path_from(world: &World<'_>, process: usize, number: usize, instance: &Instance<'_>) -> usize
-    ensures { result ≡ (if (((shown.instance instance.now).process == process) && not (shown.instance instance.now).left) || critical.is_this (process_of world.now process).critical number then (shown.instance instance.now).process else process) }
-{
-    if is_on_path(world, process, number, instance) {
-        instance.process
-    } else {
-        process
+    match instance_at(&world.instances, number) {
+        None => 0,
+        Some(instance) => instance.process,
     }
 }
 
-/// The newest of these instances that lies on the path of a process, 0 where none does.
-#[tactic(auto, using(crate::proofs::Paths::walking))]
+/// The newest of these instances that lies on the path of a process, 0 where none does. The path leads from stack to
+/// stack by critical instances, and in each stack only these instances are looked at.
 fn first_on_path(world: &World<'_>, process: usize, wanted: &[usize]) -> usize
     ensures { result ≡ critical.first_on_path (world_of world.now) (critical.newest_first 1 (map shown.instance world.now.instances) []) process wanted.now }
 {
-    let instances = world.instances.items().as_slice();
-    let mut number = instances.len();
     let mut at = process;
-    'walking: while number > 0 {
-        let instance = &instances[number - 1];
-        if is_found(world, at, number, instance, wanted) {
-            return number;
+    let mut below = world.instances.items().len() + 1;
+    'following: while below > 1 {
+        let critical = critical_below(world, at, below);
+        let newest = newest_own(world, at, critical, below, wanted);
+        if newest > critical {
+            return newest;
         }
-        at = path_from(world, at, number, instance);
-        number -= 1;
+        if is_one_of(wanted, critical) {
+            return critical;
+        }
+        at = stack_of(world, critical);
+        below = critical;
     }
     0
 }

@@ -5,6 +5,7 @@ use Rattle.std.proofs.Math.Nat.{le-mul_of_pos_right, mul_comm}
 use Rattle.algol_meaning.specs.Value.{Bounds}
 use Rattle.algol_meaning.specs.Arrays.{size_of, flat}
 use Rattle.algol_world.specs.SeenArray.{capped}
+use Rattle.algol_world.specs.Counting.{Adjusts}
 
 module _ (m : ℕ) (positive : 0 < m) where
   both : (a b : ℕ) → a ≤ m → b ≤ m → min (min a m * min b m) m ≡ min (a * b) m
@@ -75,3 +76,21 @@ pub capped-more : (so_far one others : ℕ) → capped (min (so_far + capped one
 capped-more so_far one others = omega arith
 
 pub ruleset adding = capped-more
+
+-- what lived, what is gone and what has come make what lives now, where they are not too great together
+pub adjusted_so :
+    (lived gone come now : ℕ) → Adjusts lived gone come now → min (lived + come) (2 ^ 64 - 1) < 2 ^ 64 - 1 → min (lived + come) (2 ^ 64 - 1) - gone ≡ capped now
+adjusted_so lived gone come now a l =
+    let e = a.lived_is in
+    let f = a.gone_is in
+    let g = a.come_is in
+    let h = a.now_is in omega arith
+
+pub adjusted_fits : (lived gone come now : ℕ) → Adjusts lived gone come now → min (lived + come) (2 ^ 64 - 1) < 2 ^ 64 - 1 → gone ≤ min (lived + come) (2 ^ 64 - 1)
+adjusted_fits lived gone come now a l =
+    let e = a.lived_is in
+    let f = a.gone_is in
+    let g = a.come_is in
+    let h = a.now_is in omega arith
+
+pub ruleset adjusting = (adjusted_so, adjusted_fits)

@@ -7,10 +7,11 @@ use Rattle.algol_meaning.specs.World.{cells_with}
 use Rattle.algol_meaning.specs.SeenExpression as seen
 use Rattle.algol_meaning.specs.declared.cell.Cell.{Cell}
 use Rattle.b67_list.specs.Numbered.{numbered, set_numbered}
-use Rattle.algol_world.specs.SeenInstance.{named_cell, named_cells, instance, place_of_number, place_in, further, zero_cell}
+use Rattle.algol_world.specs.SeenInstance.{named_cell, named_cells, instance, place_of_number, place_in, further}
+use Rattle.algol_world.specs.Counting.{displaced}
 use Rattle.algol_world.specs.declared.instance.NamedCell.{NamedCell}
 use Rattle.algol_world.specs.declared.instance.Instance.{Instance}
-use Rattle.algol_world.proofs.Numbering.{get_place, set_place}
+use Rattle.algol_world.proofs.Numbering.{get_place, set_place, set_same}
 
 -- ---- the place of a name
 
@@ -101,40 +102,40 @@ place_below (c ∷ cs) name k e = by (same_name c.name.now name) e (place_below 
 pub place_within : (cs : List NamedCell) (name : List ℕ) (k : ℕ) → Some k ≡ place_in cs name → k < length cs
 place_within cs name k e = place_below cs name k (sym e)
 
--- ---- what a cell holds
+-- ---- what a cell held before it has another content
 
-in_at :
-    (cs : List NamedCell) (name : List ℕ) (k : ℕ) (x : NamedCell) → place_in cs name ≡ Some k → x ≡ get_or cs k x
-    → seen.cell x.cell ≡ world.cell_in (named_cells cs) name
-in_at [] name k x e is = cc
-in_at (c ∷ cs) name k x e is = by (same_name c.name.now name) k e is (in_at cs name)
+displaced_at_place :
+    (cs : List NamedCell) (name : List ℕ) (k : ℕ) (x : NamedCell) (cell : plain.Cell) → place_in cs name ≡ Some k → x ≡ get_or cs k x
+    → seen.cell x.cell ≡ displaced (named_cells cs) name cell
+displaced_at_place [] name k x cell e is = cc
+displaced_at_place (c ∷ cs) name k x cell e is = by (same_name c.name.now name) k e is (λ i y. displaced_at_place cs name i y cell)
   where
     by :
         (b : Bool) (j : ℕ) → (if b then Some 0 else further 1 (place_in cs name)) ≡ Some j → x ≡ get_or (c ∷ cs) j x
-        → ((i : ℕ) (y : NamedCell) → place_in cs name ≡ Some i → y ≡ get_or cs i y → seen.cell y.cell ≡ world.cell_in (named_cells cs) name)
-        → seen.cell x.cell ≡ (if b then seen.cell c.cell else world.cell_in (named_cells cs) name)
+        → ((i : ℕ) (y : NamedCell) → place_in cs name ≡ Some i → y ≡ get_or cs i y → seen.cell y.cell ≡ displaced (named_cells cs) name cell)
+        → seen.cell x.cell ≡ (if b then seen.cell c.cell else displaced (named_cells cs) name cell)
     by true zero p q g = let r : x ≡ c = q in ap (λ (y : NamedCell). seen.cell y.cell) r
     by true (suc j) p q g = cc
     by false j p q g = under (place_in cs name) j p q g
       where
         under :
             (o : Option ℕ) (j : ℕ) → further 1 o ≡ Some j → x ≡ get_or (c ∷ cs) j x
-            → ((i : ℕ) (y : NamedCell) → o ≡ Some i → y ≡ get_or cs i y → seen.cell y.cell ≡ world.cell_in (named_cells cs) name)
-            → seen.cell x.cell ≡ world.cell_in (named_cells cs) name
+            → ((i : ℕ) (y : NamedCell) → o ≡ Some i → y ≡ get_or cs i y → seen.cell y.cell ≡ displaced (named_cells cs) name cell)
+            → seen.cell x.cell ≡ displaced (named_cells cs) name cell
         under None j p q g = cc
         under (Some i) j p q g =
             let r : 1 + i ≡ j = cc in
             let t : suc i ≡ j = omega arith in
             let here : x ≡ get_or cs i x = subst (λ (n : ℕ). x ≡ get_or (c ∷ cs) n x) (sym t) q in g i x refl here
 
-pub cell_in_at :
-    (cs : List NamedCell) (name : List ℕ) (k : ℕ) (x : NamedCell) → Some k ≡ place_in cs name → x ≡ get_or cs k x
-    → seen.cell x.cell ≡ world.cell_in (named_cells cs) name
-cell_in_at cs name k x e is = in_at cs name k x (sym e) is
+pub displaced_in :
+    (cs : List NamedCell) (name : List ℕ) (k : ℕ) (x : NamedCell) (cell : plain.Cell) → Some k ≡ place_in cs name → x ≡ get_or cs k x
+    → seen.cell x.cell ≡ displaced (named_cells cs) name cell
+displaced_in cs name k x cell e is = displaced_at_place cs name k x cell (sym e) is
 
-in_none : (cs : List NamedCell) (name : List ℕ) → place_in cs name ≡ None → zero_cell ≡ world.cell_in (named_cells cs) name
-in_none [] name e = refl
-in_none (c ∷ cs) name e = by (same_name c.name.now name) e (in_none cs name)
+no_displaced : (cs : List NamedCell) (name : List ℕ) (cell : plain.Cell) → place_in cs name ≡ None → cell ≡ displaced (named_cells cs) name cell
+no_displaced [] name cell e = refl
+no_displaced (c ∷ cs) name cell e = by (same_name c.name.now name) e (no_displaced cs name cell)
   where
     further_none : (o : Option ℕ) → further 1 o ≡ None → o ≡ None
     further_none None p = refl
@@ -142,13 +143,13 @@ in_none (c ∷ cs) name e = by (same_name c.name.now name) e (in_none cs name)
 
     by :
         (b : Bool) → (if b then Some 0 else further 1 (place_in cs name)) ≡ None
-        → (place_in cs name ≡ None → zero_cell ≡ world.cell_in (named_cells cs) name)
-        → zero_cell ≡ (if b then seen.cell c.cell else world.cell_in (named_cells cs) name)
+        → (place_in cs name ≡ None → cell ≡ displaced (named_cells cs) name cell)
+        → cell ≡ (if b then seen.cell c.cell else displaced (named_cells cs) name cell)
     by true p g = cc
     by false p g = g (further_none (place_in cs name) p)
 
-pub cell_in_none : (cs : List NamedCell) (name : List ℕ) → None ≡ place_in cs name → zero_cell ≡ world.cell_in (named_cells cs) name
-cell_in_none cs name e = in_none cs name (sym e)
+pub displaced_none : (cs : List NamedCell) (name : List ℕ) (cell : plain.Cell) → None ≡ place_in cs name → cell ≡ displaced (named_cells cs) name cell
+displaced_none cs name cell e = no_displaced cs name cell (sym e)
 
 -- ---- a change of one instance
 
@@ -160,3 +161,10 @@ changed xs n k x y change e within is c =
     set_place xs instance n k y e
     ∙ ap (set_numbered (map instance xs) n)
     (c ∙ ap (λ (i : _). change (world.or_no_instance i)) (sym (get_place xs instance n k x e within is)))
+
+pub unchanged_at :
+    (xs : List Instance) (n k : ℕ) (x y : Instance) → Some k ≡ place_of_number n → k < length xs → x ≡ get_or xs k x → instance y ≡ instance x
+    → map instance (slice_set xs k y) ≡ map instance xs
+unchanged_at xs n k x y e within is c =
+    set_place xs instance n k y e ∙ ap (set_numbered (map instance xs) n) c
+    ∙ set_same (map instance xs) n (instance x) (get_place xs instance n k x e within is)

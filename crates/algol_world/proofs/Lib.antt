@@ -8,3 +8,4 @@ pub mod Setting
 pub mod Releasing
 pub mod Innermosts
 pub mod Exits
+pub mod Counting

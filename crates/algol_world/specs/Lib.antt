@@ -5,3 +5,4 @@ pub mod SeenArray
 pub mod Going
 pub mod SeenActed
 pub mod Leaving
+pub mod Counting

@@ -8,7 +8,6 @@ ghost use Rattle.algol_meaning.specs.SeenExpression.{reference};
 ghost use Rattle.algol_world.specs.SeenInstance.{zero_cell};
 ghost use Rattle.algol_world.specs.SeenWorld.{world_of};
 
-use crate::instance::{set_cell, take_cell};
 use crate::lists::{no_items, one_item, take_first};
 use crate::world::World;
 use algol_meaning::{Cell, EventCell, Reference, append};
@@ -21,7 +20,7 @@ impl<'p> World<'p> {
         ensures after { world_of self.new ≡ world.set_cell (world_of self.old) (reference r.entry) (seen.cell cell.entry) }
         ensures same { self.new.scopes ≡ self.old.scopes }
     {
-        set_cell(&mut self.instances, r, cell);
+        self.instances.set_cell(r, cell);
     }
 
     /// An event, out of its cell; one that has not happened where it is none.
@@ -30,7 +29,7 @@ impl<'p> World<'p> {
         ensures after { world_of self.new ≡ world.set_cell (world_of self.old) (reference r.entry) zero_cell }
         ensures same { self.new.scopes ≡ self.old.scopes }
     {
-        match take_cell(&mut self.instances, r) {
+        match self.instances.take_cell(r) {
             Cell::Event(event) => event,
             _ => EventCell {
                 happened: false,

@@ -12,7 +12,7 @@ ghost use Rattle.algol_world.specs.Going as going;
 
 use crate::acted::Acted;
 use crate::action::Action;
-use crate::instance::cell_at;
+use crate::instances::cell_at;
 use crate::world::{State, World};
 use algol_meaning::{Answer, Cell, Reference};
 use algol_tree::EventAct;

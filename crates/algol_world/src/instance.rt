@@ -1,6 +1,6 @@
 //! Instances of blocks, and their cells.
 
-ghost use Rattle.std.specs.Prelude.{◌≡◌, [], ◌∷◌, ◌++◌, map, true, IfOk};
+ghost use Rattle.std.specs.Prelude.{◌≡◌, [], ◌∷◌, ◌++◌, map, true, IfOk, OnErr};
 ghost use Rattle.b67_list.specs.Numbered as numbering;
 ghost use Rattle.algol_meaning.specs.World as world;
 ghost use Rattle.algol_meaning.specs.World.{cells_with};
@@ -8,6 +8,7 @@ ghost use Rattle.algol_meaning.specs.Instances as leaving;
 ghost use Rattle.algol_meaning.specs.SeenExpression as seen;
 ghost use Rattle.algol_meaning.specs.SeenExpression.{reference};
 ghost use Rattle.algol_world.specs.SeenInstance.{named_cells, instance, instance_or_none, holding, place_of_number, place_in, zero_cell, cell_or_none};
+ghost use Rattle.algol_world.specs.Counting.{displaced, displaced_at};
 
 use algol_meaning::{Cell, Reference, Value, same_name};
 use algol_tree::{Line, List, Whole};
@@ -33,7 +34,7 @@ pub struct Instance<'p> {
 }
 
 /// The cell of a number 0.
-fn zero<'p>() -> Cell<'p>
+pub fn zero<'p>() -> Cell<'p>
     ensures { seen.cell result ≡ zero_cell }
 {
     Cell::Simple(Value::Number(Whole::zero()))
@@ -61,34 +62,24 @@ fn place_of<'p>(cells: &List<NamedCell<'p>>, name: &Line) -> Option<usize>
 }
 
 impl<'p> Instance<'p> {
-    /// Another content of the first cell of this name.
-    fn set(&mut self, name: &'p Line, cell: Cell<'p>)
-        ensures { instance self.new ≡ record (instance self.old) { cells = cells_with ((instance self.old).cells) name.now (seen.cell cell.entry) } }
-    {
-        if let Some(at) = place_of(&self.cells, name) {
-            if let Some(named) = self.cells.items_mut().get_mut(at) {
-                named.cell = cell;
-            }
-        }
-    }
-
-    /// What the first cell of this name holds, a number 0 where there is none; a number 0 stays in its place.
-    fn take(&mut self, name: &'p Line) -> Cell<'p>
-        ensures value { seen.cell result ≡ world.cell_in ((instance self.old).cells) name.now }
-        ensures after { instance self.new ≡ record (instance self.old) { cells = cells_with ((instance self.old).cells) name.now zero_cell } }
+    /// Another content of the first cell of this name, for what that held; for the content itself where there is none.
+    fn set(&mut self, name: &'p Line, cell: Cell<'p>) -> Cell<'p>
+        ensures displaced { seen.cell result ≡ displaced ((instance self.old).cells) name.now (seen.cell cell.entry) }
+        ensures after { instance self.new ≡ record (instance self.old) { cells = cells_with ((instance self.old).cells) name.now (seen.cell cell.entry) } }
     {
         match place_of(&self.cells, name) {
-            None => zero(),
+            None => cell,
             Some(at) => match self.cells.items_mut().get_mut(at) {
-                None => zero(),
-                Some(named) => mem::replace(&mut named.cell, zero()),
+                None => cell,
+                Some(named) => mem::replace(&mut named.cell, cell),
             },
         }
     }
 
     /// More cells, after those that it has.
     fn add(&mut self, mut cells: Vec<NamedCell<'p>>) -> Result<(), AllocError>
-        ensures { IfOk result (λ _. instance self.new ≡ record (instance self.old) { cells = (instance self.old).cells ++ named_cells cells.entry.items }) }
+        ensures added { IfOk result (λ _. instance self.new ≡ record (instance self.old) { cells = (instance self.old).cells ++ named_cells cells.entry.items }) }
+        ensures err { OnErr result (instance self.new ≡ instance self.old) }
     {
         self.cells.items_mut().append(&mut cells)
     }
@@ -102,10 +93,7 @@ impl<'p> Instance<'p> {
 }
 
 /// The instance of that number, from 1.
-pub fn instance_at<'a, 'p>(
-    instances: &'a List<Instance<'p>>,
-    number: usize,
-) -> Option<&'a Instance<'p>>
+pub fn item_at<'a, 'p>(instances: &'a List<Instance<'p>>, number: usize) -> Option<&'a Instance<'p>>
     ensures { instance_or_none result ≡ world.or_no_instance (numbering.numbered (map instance instances.now) number) }
 {
     match place(number) {
@@ -114,31 +102,8 @@ pub fn instance_at<'a, 'p>(
     }
 }
 
-/// The instance around an instance by the text, 0 where there is none.
-fn parent<'p>(instances: &List<Instance<'p>>, number: usize) -> usize
-    ensures { result ≡ (world.instance_at (holding (map instance instances.now)) number).parent }
-{
-    match instance_at(instances, number) {
-        None => 0,
-        Some(instance) => instance.parent,
-    }
-}
-
-/// The number of the instance that is so many static parents up.
-pub fn ancestor<'p>(instances: &List<Instance<'p>>, up: usize, number: usize) -> usize
-    ensures { result ≡ world.ancestor (holding (map instance instances.now)) up number }
-{
-    let mut at = number;
-    let mut left = up;
-    'climbing: while left > 0 {
-        at = parent(instances, at);
-        left -= 1;
-    }
-    at
-}
-
 /// The cell of that name in an instance, none where there is none.
-fn cell_in<'a, 'p>(cells: &'a List<NamedCell<'p>>, name: &Line) -> Option<&'a Cell<'p>>
+pub fn cell_in<'a, 'p>(cells: &'a List<NamedCell<'p>>, name: &Line) -> Option<&'a Cell<'p>>
     ensures { cell_or_none result ≡ world.cell_in (named_cells cells.now) name.now }
 {
     'searching: for c in cells.items() {
@@ -149,37 +114,20 @@ fn cell_in<'a, 'p>(cells: &'a List<NamedCell<'p>>, name: &Line) -> Option<&'a Ce
     None
 }
 
-/// The cell that is referred to, none where there is none.
-pub fn cell_at<'a, 'p>(instances: &'a List<Instance<'p>>, r: Reference<'p>) -> Option<&'a Cell<'p>>
-    ensures { cell_or_none result ≡ world.cell_at (holding (map instance instances.now)) (reference r.entry) }
-{
-    match instance_at(instances, r.instance) {
-        None => None,
-        Some(instance) => cell_in(&instance.cells, r.name),
-    }
-}
-
-/// Another content of a cell, nothing where there is no such cell.
-pub fn set_cell<'p>(instances: &mut List<Instance<'p>>, r: Reference<'p>, cell: Cell<'p>)
-    ensures { map instance instances.new ≡ (world.set_cell (holding (map instance instances.old)) (reference r.entry) (seen.cell cell.entry)).instances }
-{
-    if let Some(at) = place(r.instance) {
-        if let Some(instance) = instances.items_mut().get_mut(at) {
-            instance.set(r.name, cell);
-        }
-    }
-}
-
-/// What a cell holds, a number 0 where there is no such cell; a number 0 stays in its place.
-pub fn take_cell<'p>(instances: &mut List<Instance<'p>>, r: Reference<'p>) -> Cell<'p>
-    ensures value { seen.cell result ≡ world.cell_at (holding (map instance instances.old)) (reference r.entry) }
-    ensures after { map instance instances.new ≡ (world.set_cell (holding (map instance instances.old)) (reference r.entry) zero_cell).instances }
+/// Another content of a cell, for what that held; for the content itself where there is no such cell.
+pub fn set_cell<'p>(
+    instances: &mut List<Instance<'p>>,
+    r: Reference<'p>,
+    cell: Cell<'p>,
+) -> Cell<'p>
+    ensures displaced { seen.cell result ≡ displaced_at (holding (map instance instances.old)) (reference r.entry) (seen.cell cell.entry) }
+    ensures after { map instance instances.new ≡ (world.set_cell (holding (map instance instances.old)) (reference r.entry) (seen.cell cell.entry)).instances }
 {
     match place(r.instance) {
-        None => zero(),
+        None => cell,
         Some(at) => match instances.items_mut().get_mut(at) {
-            None => zero(),
-            Some(instance) => instance.take(r.name),
+            None => cell,
+            Some(instance) => instance.set(r.name, cell),
         },
     }
 }
@@ -190,14 +138,16 @@ pub fn add_cells<'p>(
     number: usize,
     cells: Vec<NamedCell<'p>>,
 ) -> Result<(), AllocError>
-    ensures { IfOk result (λ _. map instance instances.new ≡ (world.add_cells (holding (map instance instances.old)) number (named_cells cells.entry.items)).instances) }
+    ensures added { IfOk result (λ _. map instance instances.new ≡ (world.add_cells (holding (map instance instances.old)) number (named_cells cells.entry.items)).instances) }
+    ensures err { OnErr result (map instance instances.new ≡ map instance instances.old) }
 {
-    if let Some(at) = place(number) {
-        if let Some(instance) = instances.items_mut().get_mut(at) {
-            instance.add(cells)?;
-        }
+    match place(number) {
+        None => Ok(()),
+        Some(at) => match instances.items_mut().get_mut(at) {
+            None => Ok(()),
+            Some(instance) => instance.add(cells),
+        },
     }
-    Ok(())
 }
 
 /// An instance is left.

@@ -9,7 +9,7 @@ ghost use Rattle.algol_meaning.specs.SeenStatement.{answered};
 ghost use Rattle.algol_world.specs.SeenWorld.{purpose, process, state, world_of, process_of, process_or_none};
 ghost use Rattle.algol_world.specs.Leaving.{left_todo, leaving_with, failing, ending};
 
-use crate::instance::{leave, place};
+use crate::instance::place;
 use crate::lists::item;
 use crate::world::{Part, Process, Purpose, State, World, WorldFault};
 use algol_meaning::{Answer, Scopes};
@@ -149,6 +149,6 @@ impl<'p> World<'p> {
         ensures left { world_of self.new ≡ leaving.leave (world_of self.old) (instance ∷ []) }
         ensures same { self.new.scopes ≡ self.old.scopes }
     {
-        leave(&mut self.instances, instance);
+        self.instances.leave(instance);
     }
 }

@@ -5,11 +5,14 @@ ghost use Rattle.algol_meaning.specs.Arrays as arrays;
 ghost use Rattle.algol_meaning.specs.SeenExpression as seen;
 ghost use Rattle.algol_world.specs.SeenArray.{capped};
 ghost use Rattle.algol_world.specs.SeenInstance.{named_cells, instance};
+ghost use Rattle.algol_world.specs.Counting as counting;
+ghost use Rattle.algol_world.specs.Counting.{Adjusts};
 ghost use Rattle.algol_world.specs.SeenWorld.{world_of};
 
 use crate::instance::{Instance, NamedCell};
 use crate::world::World;
 use algol_meaning::{Bounds, Cell};
+use algol_tree::List;
 
 /// How many subscripts lie within bounds.
 pub fn size_of(b: &Bounds) -> usize
@@ -45,8 +48,18 @@ pub fn some_empty(bounds: &[Bounds]) -> bool
     false
 }
 
+/// Tests that a cell is an array.
+pub fn is_array(cell: &Cell<'_>) -> bool
+    ensures { result ≡ counting.is_array (seen.cell cell.now) }
+{
+    match cell {
+        Cell::Array(_) => true,
+        _ => false,
+    }
+}
+
 /// How many elements a cell has: none where it is no array.
-fn size_of_cell(cell: &Cell<'_>) -> usize
+pub fn size_of_cell(cell: &Cell<'_>) -> usize
     ensures { result ≡ capped (arrays.size_of_cell (seen.cell cell.now)) }
 {
     match cell {
@@ -57,7 +70,7 @@ fn size_of_cell(cell: &Cell<'_>) -> usize
 
 /// How many elements cells have.
 #[tactic(auto, using(crate::proofs::Capping::adding))]
-fn size_of_cells(cells: &[NamedCell<'_>]) -> usize
+pub fn size_of_cells(cells: &[NamedCell<'_>]) -> usize
     ensures { result ≡ capped (arrays.size_of_cells (named_cells cells.now)) }
 {
     let mut size: usize = 0;
@@ -68,8 +81,8 @@ fn size_of_cells(cells: &[NamedCell<'_>]) -> usize
 }
 
 /// How many elements the arrays of an instance have that live: none where it is left.
-fn live_in(x: &Instance<'_>) -> usize
-    ensures { result ≡ capped (arrays.size_unless x.now.left (arrays.size_of_cells (named_cells x.now.cells))) }
+pub fn live_in(x: &Instance<'_>) -> usize
+    ensures { result ≡ capped (counting.live_in (instance x.now)) }
 {
     if x.left {
         0
@@ -78,16 +91,38 @@ fn live_in(x: &Instance<'_>) -> usize
     }
 }
 
+/// How many elements the arrays of instances have that live.
+#[tactic(auto, using(crate::proofs::Capping::adding))]
+pub fn live_in_all(instances: &[Instance<'_>]) -> usize
+    ensures { result ≡ capped (arrays.live_elements (map instance instances.now)) }
+{
+    let mut size: usize = 0;
+    'adding: for x in instances {
+        size = size.saturating_add(live_in(x));
+    }
+    size
+}
+
+/// How many elements live after so many are gone and so many have come. They are counted anew where there may be too many
+/// for a `usize`.
+#[tactic(auto, using(crate::proofs::Capping::adjusting))]
+pub fn adjusted(lived: usize, gone: usize, come: usize, instances: &List<Instance<'_>>) -> usize
+    requires { Adjusts lived gone come (arrays.live_elements (map instance instances.now)) }
+    ensures { result ≡ capped (arrays.live_elements (map instance instances.now)) }
+{
+    let most = lived.saturating_add(come);
+    if most < usize::MAX {
+        most - gone
+    } else {
+        live_in_all(instances.items())
+    }
+}
+
 impl<'p> World<'p> {
     /// How many elements the arrays have that live.
-    #[tactic(auto, using(crate::proofs::Capping::adding))]
     pub fn live_elements(&self) -> usize
         ensures { result ≡ capped (arrays.live_elements ((world_of self.now).instances)) }
     {
-        let mut size: usize = 0;
-        'adding: for x in self.instances.items() {
-            size = size.saturating_add(live_in(x));
-        }
-        size
+        self.instances.live_elements()
     }
 }

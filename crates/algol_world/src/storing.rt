@@ -7,28 +7,17 @@ ghost use Rattle.algol_meaning.specs.Arrays as arrays;
 ghost use Rattle.algol_meaning.specs.Value as plain;
 ghost use Rattle.algol_meaning.specs.SeenScope.{scoped};
 ghost use Rattle.algol_meaning.specs.SeenValue.{value};
-ghost use Rattle.algol_meaning.specs.SeenExpression as seen;
 ghost use Rattle.algol_meaning.specs.SeenExpression.{reference};
-ghost use Rattle.algol_world.specs.SeenInstance.{zero_cell, named_cells};
+ghost use Rattle.algol_world.specs.SeenInstance.{named_cells};
 ghost use Rattle.algol_world.specs.SeenWorld.{world_of};
 ghost use Rattle.algol_world.specs.Going.{going};
 
-use crate::array::with_element;
-use crate::instance::{NamedCell, add_cells, take_cell};
+use crate::instance::NamedCell;
 use crate::world::World;
 use algol_meaning::{Answer, Cell, Reference, Value};
 use std::alloc::{AllocError, Global};
 
 impl<'p> World<'p> {
-    /// What a cell holds, out of it; a number 0 stays in its place.
-    fn take_cell(&mut self, r: Reference<'p>) -> Cell<'p>
-        ensures value { seen.cell result ≡ world.cell_at (world_of self.old) (reference r.entry) }
-        ensures after { world_of self.new ≡ world.set_cell (world_of self.old) (reference r.entry) zero_cell }
-        ensures same { self.new.scopes ≡ self.old.scopes }
-    {
-        take_cell(&mut self.instances, r)
-    }
-
     /// The storing of a value in a simple cell.
     pub fn store(
         &mut self,
@@ -45,13 +34,11 @@ impl<'p> World<'p> {
     }
 
     /// Another value of an element.
-    #[tactic(auto, using(crate::proofs::Setting::setting))]
     fn set_element(&mut self, alloc: Global, r: Reference<'p>, subscripts: &[usize], v: Value)
         ensures after { world_of self.new ≡ world.set_cell (world_of self.old) (reference r.entry) (plain.array (arrays.with_element (world.array_in (world.cell_at (world_of self.old) (reference r.entry))) subscripts.now (value v))) }
         ensures same { self.new.scopes ≡ self.old.scopes }
     {
-        let cell = self.take_cell(r);
-        self.set_cell(r, with_element(alloc, cell, subscripts, v));
+        self.instances.set_element(alloc, r, subscripts, v);
     }
 
     /// The storing of a value in an element.
@@ -75,7 +62,7 @@ impl<'p> World<'p> {
         ensures added { IfOk result (λ _. world_of self.new ≡ world.add_cells (world_of self.old) instance (named_cells cells.entry.items)) }
         ensures same { self.new.scopes ≡ self.old.scopes }
     {
-        add_cells(&mut self.instances, instance, cells)
+        self.instances.add_cells(instance, cells)
     }
 
     /// The making of cells in the instance in which a part goes on.

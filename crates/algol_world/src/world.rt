@@ -1,6 +1,6 @@
 //! The world of a run.
 
-use crate::instance::Instance;
+use crate::instances::Instances;
 use algol_meaning::{Reference, Rest, Scopes, Stack};
 use algol_tree::{Line, List};
 use b67_num::FaultKind;
@@ -56,7 +56,7 @@ pub struct WorldFault {
 #[derive(Drop)]
 pub struct World<'p> {
     pub scopes: Scopes<'p>,
-    pub instances: List<Instance<'p>>,
+    pub instances: Instances<'p>,
     pub processes: List<Process<'p>>,
     pub output: List<Line>,
     pub fault: Option<WorldFault>,

@@ -1,24 +1,48 @@
-use Rattle.std.proofs.Common.{arith, ◌≡◌, ◌<◌, ◌≤◌, ◌-◌, ◌&&◌, ℕ, false, List, length, get_or, ap, sym, subst, ◌∙◌}
-use Rattle.algol_meaning.specs.Critical.{is_one_of}
+use Rattle.std.proofs.Common.{arith, ◌≡◌, ◌<◌, ◌≤◌, ◌-◌, ap, sym, ◌∙◌}
+use Rattle.algol_meaning.specs.World.{process_at}
 use Rattle.algol_world.specs.SeenWorld.{world_of}
-use Rattle.algol_world.specs.declared.instance.Instance.{Instance}
-use Rattle.algol_perform.proofs.Paths.{walk, on, walk_further}
+use Rattle.algol_perform.specs.Path.{newest_own}
+use Rattle.algol_perform.proofs.Paths.{walk, critical_less, path_found, path_ends, path_goes_on}
 use Rattle.algol_perform.proofs.starting.first_on_path.Goals as goal
 
-pub walking-preserved : goal.walking-preserved
-walking-preserved c =
+pub returns-then-newest-critical : goal.returns-then-newest-critical
+returns-then-newest-critical c =
     let w = world_of c.args.world.now in
-    let is = c.args.world.now.instances in
-    let at = c.walking.at in
-    let n = c.walking.number in
     let wanted = c.args.wanted.now in
-    let x = c.index-instances-number.result in
-    let same = c.as_slice-instances.ensures.value ∙ c.items.ensures in
-    let here : x ≡ get_or is (n - 1) x = c.index-instances-number.is ∙ ap (λ (ys : List Instance). get_or ys (n - 1) x) same in
-    let within : n ≤ length is = subst (λ (ys : List Instance). n ≤ length ys) same c.walking.invariant.1 in
-    let further : (on w is at wanted x n && is_one_of wanted n) ≡ false = sym c.is_found.ensures ∙ c.if-is_found.false in
-    let below = c.walking.invariant.1 in (
-      ap (walk w is at wanted (n - 1)) c.path_from-at.ensures ∙ sym (walk_further w is at wanted n x c.walking-test.true within here further)
-          ∙ c.walking.invariant.0,
-      omega arith,
-    )
+    let critical = c.critical_below-critical.result in
+    let newer : critical < newest_own w c.following.at c.following.below critical wanted =
+    omega (arith, c.newest_own-newest.ensures, c.if-newest-critical.true) in
+    c.newest_own-newest.ensures
+    ∙ sym (path_found w wanted c.following.at c.following.below critical (omega (arith, c.following-test.true)) c.following.invariant.within
+    c.critical_below-critical.ensures newer)
+    ∙ c.following.invariant.rest
+
+pub returns-then-is_one_of : goal.returns-then-is_one_of
+returns-then-is_one_of c =
+    let w = world_of c.args.world.now in
+    let wanted = c.args.wanted.now in
+    let critical = c.critical_below-critical.result in
+    let none : newest_own w c.following.at c.following.below critical wanted ≤ critical =
+    omega (arith, c.newest_own-newest.ensures, c.if-newest-critical.false) in
+    sym (path_ends w wanted c.following.at c.following.below critical (omega (arith, c.following-test.true)) c.following.invariant.within
+    c.critical_below-critical.ensures none (sym c.is_one_of.ensures ∙ c.if-is_one_of.true))
+    ∙ c.following.invariant.rest
+
+pub following-preserved : goal.following-preserved
+following-preserved c =
+    let w = world_of c.args.world.now in
+    let wanted = c.args.wanted.now in
+    let critical = c.critical_below-critical.result in
+    let some : 0 < c.following.below = omega (arith, c.following-test.true) in
+    let none : newest_own w c.following.at c.following.below critical wanted ≤ critical =
+    omega (arith, c.newest_own-newest.ensures, c.if-newest-critical.false) in
+    let less : critical < c.following.below =
+    critical_less ((process_at w c.following.at).critical) c.following.below critical c.critical_below-critical.ensures some in
+    record {
+      rest =
+          ap (walk w wanted (critical - 1)) c.stack_of-at.ensures
+          ∙ sym (path_goes_on w wanted c.following.at c.following.below critical some c.following.invariant.within
+          c.critical_below-critical.ensures none (sym c.is_one_of.ensures ∙ c.if-is_one_of.false))
+          ∙ c.following.invariant.rest;
+      within = omega (arith, less, c.following.invariant.within);
+    }

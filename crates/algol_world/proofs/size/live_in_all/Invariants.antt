@@ -2,10 +2,10 @@ use Rattle.std.proofs.Common.{◌≡◌, ◌+◌, ◌-◌, ◌^◌, ◌≤◌, d
 use Rattle.algol_meaning.specs.Arrays.{live_elements}
 use Rattle.algol_world.specs.SeenArray.{capped}
 use Rattle.algol_world.specs.SeenInstance.{instance}
-use Rattle.algol_world.proofs.world.World.live_elements.Given as goal
+use Rattle.algol_world.proofs.size.live_in_all.Given as goal
 
 abbrev pub invariant-adding : goal.invariant-adding
 invariant-adding l = record {
-  sum : capped (l.size + live_elements (map instance (drop l.x-index l.self.instances))) ≡ capped (live_elements (map instance l.self.instances));
+  sum : capped (l.size + live_elements (map instance (drop l.x-index l.instances))) ≡ capped (live_elements (map instance l.instances));
   fits : l.size ≤ 2 ^ 64 - 1;
 }

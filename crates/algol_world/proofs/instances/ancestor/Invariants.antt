@@ -1,7 +1,7 @@
 use Rattle.std.proofs.Common.{◌≡◌, map}
 use Rattle.algol_meaning.specs.World.{ancestor}
 use Rattle.algol_world.specs.SeenInstance.{instance, holding}
-use Rattle.algol_world.proofs.instance.ancestor.Given as goal
+use Rattle.algol_world.proofs.instances.ancestor.Given as goal
 
 abbrev pub invariant-climbing : goal.invariant-climbing
 invariant-climbing l = ancestor (holding (map instance l.instances)) l.left l.at ≡ ancestor (holding (map instance l.instances)) l.up l.number
