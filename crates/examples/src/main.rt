@@ -11,7 +11,7 @@ use std::{fs, io};
 const ROOM: usize = 65_536;
 
 /// The examples' names.
-const NAMES: [&str; 4] = ["first", "copies", "widest", "limits"];
+const NAMES: [&str; 6] = ["first", "copies", "widest", "limits", "loop", "divisor"];
 
 /// The words of the command under which the reports are.
 fn words(rt: &HostRuntime) -> io::Result<Vec<String>> {

@@ -2,8 +2,6 @@
 #![tactic(auto)]
 
 #[cfg(test)]
-mod compiler;
-#[cfg(test)]
 mod control;
 #[cfg(test)]
 mod descriptor;
@@ -14,13 +12,15 @@ mod display;
 #[cfg(test)]
 mod events;
 #[cfg(test)]
+mod failing;
+#[cfg(test)]
 mod io;
+#[cfg(test)]
+mod lengths;
 #[cfg(test)]
 mod list;
 #[cfg(test)]
 mod listing;
-#[cfg(test)]
-mod machine;
 #[cfg(test)]
 mod num;
 #[cfg(test)]
@@ -30,13 +30,23 @@ mod ops;
 #[cfg(test)]
 mod private;
 #[cfg(test)]
+mod replays;
+#[cfg(test)]
 mod report;
+#[cfg(test)]
+mod rows;
+#[cfg(test)]
+mod runs;
 #[cfg(test)]
 mod schedule;
 #[cfg(test)]
 mod segment;
 #[cfg(test)]
+mod shortest;
+#[cfg(test)]
 mod store;
+#[cfg(test)]
+mod told;
 #[cfg(test)]
 mod word;
 #[cfg(test)]

@@ -1,0 +1,16 @@
+BEGIN
+  FILE LINE(KIND=PRINTER);
+  INTEGER A, B, REST;
+  BOOLEAN ODD;
+  A := 1071;
+  B := 462;
+  WHILE B > 0 DO
+    BEGIN
+      REST := A MOD B;
+      A := B;
+      B := REST;
+      WRITE(LINE, <I6, X1, I6>, A, B)
+    END;
+  ODD := A MOD 2 = 1;
+  WRITE(LINE, <"COMMON DIVISOR", I4, X1, I1>, A, IF ODD THEN 1 ELSE 0)
+END.
