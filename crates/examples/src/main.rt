@@ -11,7 +11,19 @@ use std::{fs, io};
 const ROOM: usize = 65_536;
 
 /// The examples' names.
-const NAMES: [&str; 6] = ["first", "copies", "widest", "limits", "loop", "divisor"];
+const NAMES: [&str; 11] = [
+    "first",
+    "copies",
+    "widest",
+    "limits",
+    "loop",
+    "divisor",
+    "collatz",
+    "weekday",
+    "palindrome",
+    "truth",
+    "powers",
+];
 
 /// The words of the command under which the reports are.
 fn words(rt: &HostRuntime) -> io::Result<Vec<String>> {

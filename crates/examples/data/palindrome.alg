@@ -1,0 +1,19 @@
+BEGIN
+  FILE LINE(KIND=PRINTER);
+  INTEGER NUMBER, REST, BACK;
+  BACK := 79;
+  DO
+    BEGIN
+      NUMBER := NUMBER + BACK;
+      REST := NUMBER;
+      BACK := 0;
+      DO
+        BEGIN
+          BACK := BACK * 10 + REST MOD 10;
+          REST := REST DIV 10
+        END
+      UNTIL REST = 0;
+      WRITE(LINE, <I6, X1, I6>, NUMBER, BACK)
+    END
+  UNTIL NUMBER = BACK
+END.
