@@ -36,7 +36,7 @@ size_is ps end h = omega (arith, ap length (text_is 0 ps end h), length-code 0 p
 
 are_fit : (at : ℕ) (ps : List Placed) (end : ℕ) → AreInOrder at ps end → building.AreFit (unplaced ps)
 are_fit at [] end h = tt
-are_fit at (p ∷ ps) end h = (record { known = h.0.most; fits = h.0.fits }, are_fit (at + width p) ps end h.1)
+are_fit at (p ∷ ps) end h = (record { outer = h.0.least; known = h.0.most; fits = h.0.fits }, are_fit (at + width p) ps end h.1)
 
 -- the marks of the two are the same
 mark_step : (at before : ℕ) (p : Placed) (rest other : List Mark) (b : Bool) → eqb p.level before ≡ b → p.place ≡ at → rest ≡ other →
