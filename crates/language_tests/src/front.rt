@@ -56,7 +56,7 @@ fn push_value(expr: &Expr, text: &mut Vec<u8>) -> Result<(), AllocError> {
         }
         _ => text.extend_from_slice(b"(?")?,
     }
-    text.push(b')')
+    text.extend_from_slice(b")")
 }
 
 /// The letter of a declaration.
@@ -76,12 +76,12 @@ fn push_statement(statement: &Stmt, text: &mut Vec<u8>) -> Result<(), AllocError
             text.push(b':')?;
             push_value(value, text)
         }
-        Stmt::Empty => text.push(b'E'),
-        Stmt::Block(_) => text.push(b'B'),
-        Stmt::If(_, _, _) => text.push(b'I'),
-        Stmt::For(_, _, _, _, _) => text.push(b'R'),
-        Stmt::Write(_, _, _, _) => text.push(b'W'),
-        _ => text.push(b'?'),
+        Stmt::Empty => text.extend_from_slice(b"E"),
+        Stmt::Block(_) => text.extend_from_slice(b"B"),
+        Stmt::If(_, _, _) => text.extend_from_slice(b"I"),
+        Stmt::For(_, _, _, _, _) => text.extend_from_slice(b"R"),
+        Stmt::Write(_, _, _, _) => text.extend_from_slice(b"W"),
+        _ => text.extend_from_slice(b"?"),
     }
 }
 

@@ -19,10 +19,12 @@ const REAL_RESULT: EndWords = EndWords::Fault {
     kind: FaultKind::RealResult,
     process: 1,
 };
+
 const DIVIDE_BY_ZERO: EndWords = EndWords::Fault {
     kind: FaultKind::DivideByZero,
     process: 1,
 };
+
 const CASE_INDEX: EndWords = EndWords::Fault {
     kind: FaultKind::CaseIndex,
     process: 1,
@@ -40,7 +42,8 @@ pub(crate) const ROWS: [Row; 31] = [
     },
     // Quotients of negative numbers, and one that is not whole.
     Row {
-        source: b"BEGIN FILE LINE; INTEGER I;\nWRITE(LINE,<I3,I4,I4>,8/2,(-7) DIV 2,(-7) MOD 2); I:=7/2 END.",
+        source: b"BEGIN FILE LINE; INTEGER I;
+WRITE(LINE,<I3,I4,I4>,8/2,(-7) DIV 2,(-7) MOD 2); I:=7/2 END.",
         words: "run 1 100000",
         output: b"|  4  -3  -1",
         end: REAL_RESULT,
@@ -133,7 +136,8 @@ pub(crate) const ROWS: [Row; 31] = [
     },
     // DIV and MOD by both signs, and the sign of a first term.
     Row {
-        source: b"BEGIN FILE L; WRITE(L,<I3,I3,I3,I3,I3>,\n7 DIV (-2),7 MOD (-2),(-7) DIV (-2),(-7) MOD (-2),-7 DIV 2) END.",
+        source: b"BEGIN FILE L; WRITE(L,<I3,I3,I3,I3,I3>,
+7 DIV (-2),7 MOD (-2),(-7) DIV (-2),(-7) MOD (-2),-7 DIV 2) END.",
         words: "run 1 100000",
         output: b"| -3  1  3 -1 -3",
         end: EndWords::Finished,
@@ -151,7 +155,11 @@ pub(crate) const ROWS: [Row; 31] = [
     },
     // All relations, as words and as symbols.
     Row {
-        source: b"BEGIN FILE L; INTEGER A,B; A:=1; B:=2;\nWRITE(L,<I1,I1,I1,I1,I1,I1>,IF A<B THEN 1 ELSE 0,\nIF A GEQ B THEN 1 ELSE 0,IF A>B THEN 1 ELSE 0,\nIF A LEQ B THEN 1 ELSE 0,IF A EQL B THEN 1 ELSE 0,\nIF A^=B THEN 1 ELSE 0) END.",
+        source: b"BEGIN FILE L; INTEGER A,B; A:=1; B:=2;
+WRITE(L,<I1,I1,I1,I1,I1,I1>,IF A<B THEN 1 ELSE 0,
+IF A GEQ B THEN 1 ELSE 0,IF A>B THEN 1 ELSE 0,
+IF A LEQ B THEN 1 ELSE 0,IF A EQL B THEN 1 ELSE 0,
+IF A^=B THEN 1 ELSE 0) END.",
         words: "run 1 100000",
         output: b"|100101",
         end: EndWords::Finished,
@@ -160,7 +168,10 @@ pub(crate) const ROWS: [Row; 31] = [
     },
     // Truths: NOT, AND, OR, IMP and EQV, and both operands of each are evaluated.
     Row {
-        source: b"BEGIN FILE L; INTEGER I; BOOLEAN P,Q;\nFOR I:=0 STEP 1 UNTIL 3 DO BEGIN P:=I MOD 2=1; Q:=I DIV 2=1;\nWRITE(L,<I1,I1,I1,I1>,IF P IMP Q THEN 1 ELSE 0,IF P EQV Q THEN 1 ELSE 0,\nIF P AND NOT Q THEN 1 ELSE 0,IF P OR Q THEN 1 ELSE 0) END END.",
+        source: b"BEGIN FILE L; INTEGER I; BOOLEAN P,Q;
+FOR I:=0 STEP 1 UNTIL 3 DO BEGIN P:=I MOD 2=1; Q:=I DIV 2=1;
+WRITE(L,<I1,I1,I1,I1>,IF P IMP Q THEN 1 ELSE 0,IF P EQV Q THEN 1 ELSE 0,
+IF P AND NOT Q THEN 1 ELSE 0,IF P OR Q THEN 1 ELSE 0) END END.",
         words: "run 1 100000",
         output: b"|1100|0011|1001|1101",
         end: EndWords::Finished,
@@ -177,7 +188,11 @@ pub(crate) const ROWS: [Row; 31] = [
     },
     // Conditional expressions, one within the other, of numbers and of truths.
     Row {
-        source: b"BEGIN FILE L; INTEGER I; BOOLEAN P;\nFOR I:=0 STEP 1 UNTIL 2 DO BEGIN\nP:=IF I=1 THEN FALSE ELSE IF I=2 THEN TRUE ELSE P;\nWRITE(L,<I3,I2>,IF I=0 THEN 10 ELSE IF I=1 THEN 20 ELSE 30,\nIF P THEN 1 ELSE 0) END END.",
+        source: b"BEGIN FILE L; INTEGER I; BOOLEAN P;
+FOR I:=0 STEP 1 UNTIL 2 DO BEGIN
+P:=IF I=1 THEN FALSE ELSE IF I=2 THEN TRUE ELSE P;
+WRITE(L,<I3,I2>,IF I=0 THEN 10 ELSE IF I=1 THEN 20 ELSE 30,
+IF P THEN 1 ELSE 0) END END.",
         words: "run 1 100000",
         output: b"| 10 0| 20 0| 30 1",
         end: EndWords::Finished,
@@ -186,7 +201,10 @@ pub(crate) const ROWS: [Row; 31] = [
     },
     // IF with and without ELSE, which belongs to the nearest THEN.
     Row {
-        source: b"BEGIN FILE L; INTEGER I;\nFOR I:=0 STEP 1 UNTIL 2 DO\nIF I>0 THEN IF I=1 THEN WRITE(L,<\"ONE\">) ELSE WRITE(L,<\"MORE\">);\nIF I=3 THEN I:=4; WRITE(L,<I1>,I) END.",
+        source: b"BEGIN FILE L; INTEGER I;
+FOR I:=0 STEP 1 UNTIL 2 DO
+IF I>0 THEN IF I=1 THEN WRITE(L,<\"ONE\">) ELSE WRITE(L,<\"MORE\">);
+IF I=3 THEN I:=4; WRITE(L,<I1>,I) END.",
         words: "run 1 100000",
         output: b"|ONE|MORE|4",
         end: EndWords::Finished,
@@ -195,7 +213,8 @@ pub(crate) const ROWS: [Row; 31] = [
     },
     // CASE, whose semicolon before END adds an empty statement, and indexes without a statement.
     Row {
-        source: b"BEGIN FILE L; INTEGER I; FOR I:=0 STEP 1 UNTIL 2 DO\nCASE I OF BEGIN WRITE(L,<\"A\">); WRITE(L,<\"B\">); END END.",
+        source: b"BEGIN FILE L; INTEGER I; FOR I:=0 STEP 1 UNTIL 2 DO
+CASE I OF BEGIN WRITE(L,<\"A\">); WRITE(L,<\"B\">); END END.",
         words: "run 1 100000",
         output: b"|A|B",
         end: EndWords::Finished,
@@ -228,7 +247,9 @@ pub(crate) const ROWS: [Row; 31] = [
     },
     // WHILE, and DO UNTIL, whose body is performed before its condition.
     Row {
-        source: b"BEGIN FILE L; INTEGER I; WHILE I<3 DO I:=I+1;\nDO BEGIN I:=I-1; WRITE(L,<I1>,I) END UNTIL I<2;\nDO I:=9 UNTIL TRUE; WRITE(L,<I1>,I) END.",
+        source: b"BEGIN FILE L; INTEGER I; WHILE I<3 DO I:=I+1;
+DO BEGIN I:=I-1; WRITE(L,<I1>,I) END UNTIL I<2;
+DO I:=9 UNTIL TRUE; WRITE(L,<I1>,I) END.",
         words: "run 1 100000",
         output: b"|2|1|9",
         end: EndWords::Finished,
@@ -237,7 +258,8 @@ pub(crate) const ROWS: [Row; 31] = [
     },
     // THRU, whose count is evaluated once, and at most 0.
     Row {
-        source: b"BEGIN FILE L; INTEGER I; I:=2; THRU I DO I:=I+1; THRU 0 DO I:=I+10;\nTHRU -5 DO I:=I+20; THRU 2 DO THRU 3 DO I:=I+100; WRITE(L,<I4>,I) END.",
+        source: b"BEGIN FILE L; INTEGER I; I:=2; THRU I DO I:=I+1; THRU 0 DO I:=I+10;
+THRU -5 DO I:=I+20; THRU 2 DO THRU 3 DO I:=I+100; WRITE(L,<I4>,I) END.",
         words: "run 1 100000",
         output: b"| 604",
         end: EndWords::Finished,
@@ -246,7 +268,8 @@ pub(crate) const ROWS: [Row; 31] = [
     },
     // FOR up, down, not at all, with a step and a limit that are evaluated again at each turn, and its variable behind it.
     Row {
-        source: b"BEGIN FILE LINE; INTEGER I,S; FOR I:=1 STEP 1 UNTIL 3 DO S:=S+I;\nWRITE(LINE,<I2>,S) END.",
+        source: b"BEGIN FILE LINE; INTEGER I,S; FOR I:=1 STEP 1 UNTIL 3 DO S:=S+I;
+WRITE(LINE,<I2>,S) END.",
         words: "run 1 100000",
         output: b"| 6",
         end: EndWords::Finished,
@@ -254,7 +277,9 @@ pub(crate) const ROWS: [Row; 31] = [
         status: 0,
     },
     Row {
-        source: b"BEGIN FILE L; INTEGER I,S; FOR I:=3 STEP -1 UNTIL 1 DO S:=S*10+I;\nWRITE(L,<I4,I2>,S,I);\nFOR I:=1 STEP 1 UNTIL 0 DO S:=0; WRITE(L,<I4,I2>,S,I) END.",
+        source: b"BEGIN FILE L; INTEGER I,S; FOR I:=3 STEP -1 UNTIL 1 DO S:=S*10+I;
+WRITE(L,<I4,I2>,S,I);
+FOR I:=1 STEP 1 UNTIL 0 DO S:=0; WRITE(L,<I4,I2>,S,I) END.",
         words: "run 1 100000",
         output: b"| 321 0| 321 1",
         end: EndWords::Finished,
@@ -262,7 +287,10 @@ pub(crate) const ROWS: [Row; 31] = [
         status: 0,
     },
     Row {
-        source: b"BEGIN FILE L; INTEGER I,S,D,M; D:=1; M:=5;\nFOR I:=0 STEP D UNTIL M DO BEGIN S:=S*10+I; D:=D+1; M:=M+2;\nIF M>9 THEN M:=9 END;\nWRITE(L,<I4,I3>,S,I) END.",
+        source: b"BEGIN FILE L; INTEGER I,S,D,M; D:=1; M:=5;
+FOR I:=0 STEP D UNTIL M DO BEGIN S:=S*10+I; D:=D+1; M:=M+2;
+IF M>9 THEN M:=9 END;
+WRITE(L,<I4,I3>,S,I) END.",
         words: "run 1 100000",
         output: b"| 259 14",
         end: EndWords::Finished,
@@ -279,7 +307,9 @@ pub(crate) const ROWS: [Row; 31] = [
     },
     // Lines of strings, blanks and numbers, on two files, and one without a phrase for a number.
     Row {
-        source: b"BEGIN FILE L,M(KIND=PRINTER); REAL R; R:=-45;\nWRITE(L,<\"A\",X2,I4,\"%;\",I1>,R,R);\nWRITE(M,<X3>); WRITE(L,<\"a b\">) END.",
+        source: b"BEGIN FILE L,M(KIND=PRINTER); REAL R; R:=-45;
+WRITE(L,<\"A\",X2,I4,\"%;\",I1>,R,R);
+WRITE(M,<X3>); WRITE(L,<\"a b\">) END.",
         words: "run 1 100000",
         output: b"|A   -45%;*|   |a b",
         end: EndWords::Finished,
@@ -288,7 +318,8 @@ pub(crate) const ROWS: [Row; 31] = [
     },
     // Compounds and empty statements, and what begins at 0 and FALSE.
     Row {
-        source: b"BEGIN FILE L; INTEGER I; REAL R; BOOLEAN B; ; BEGIN ; BEGIN END END;\nWRITE(L,<I1,I1,I1>,I,R,IF B THEN 1 ELSE 0) END.",
+        source: b"BEGIN FILE L; INTEGER I; REAL R; BOOLEAN B; ; BEGIN ; BEGIN END END;
+WRITE(L,<I1,I1,I1>,I,R,IF B THEN 1 ELSE 0) END.",
         words: "run 1 100000",
         output: b"|000",
         end: EndWords::Finished,

@@ -13,7 +13,7 @@ use b67_emit_expr::Exprs;
 use b67_listing::listing;
 use b67_listing_reader::read_listing;
 use b67_machine::{End, Machine, Replayed};
-use b67_schedule::Schedule;
+use b67_schedule::{Schedule, read};
 use b67_segment::Code;
 use b67_store::ListCore;
 use std::alloc::{AllocError, Global};
@@ -28,43 +28,59 @@ fn code_of(alloc: Global, checked: &Checked) -> Result<Code, AllocError>
     compile(alloc, &Exprs { alloc }, &checked.program, &checked.scopes)
 }
 
-/// What a code comes to that follows so many entries of process 1 within 100 operators, the end, and how many operators it made.
+/// What a code comes to that follows a schedule within 100 operators, the end, and how many operators process 1 performed.
 fn followed(
     alloc: Global,
     code: Code,
-    entries: u32,
+    given: &Schedule,
 ) -> Result<(Replayed, Option<End>, u64), AllocError>
     requires faithful { (tree : PProgram) × Faithful tree code }
 {
     let mut machine = Machine::load(alloc, code, ListCore::new(alloc))?;
-    let mut given = Schedule::with_room(alloc, 9)?;
-    for _ in 0..entries.min(9) {
-        given.push(1);
-    }
-    let mut done = Schedule::with_room(alloc, 9)?;
-    let answer = machine.replay(&given, 100, &mut done);
+    let mut done = Schedule::with_room(alloc, 100)?;
+    let answer = machine.replay(given, 100, &mut done);
     Ok((answer, machine.end(), machine.count(1)))
 }
 
-/// Tests that the code has the one segment of the shortest source, and that the listings of it and of a copy are read back as it.
-fn is_shortest(alloc: Global, code: &Code) -> Result<bool, AllocError>
+/// Tests that the code is one segment of the operator EXIT, without a format.
+fn is_exit(code: &Code) -> bool {
+    match code.segments.items().as_slice() {
+        [segment] => {
+            segment.words.items().as_slice() == [0xA3FE_FEFE_FEFE].as_slice()
+                && code.formats.items().is_empty()
+        }
+        _ => false,
+    }
+}
+
+/// Tests that the listing of a copy of the code is read back as such a code.
+fn is_read_back(alloc: Global, code: &Code) -> Result<bool, AllocError>
     requires faithful { (tree : PProgram) × Faithful tree code.now }
 {
-    let lines = listing(alloc, code)?;
-    let Ok(again) = read_listing(alloc, lines.items().as_slice()) else {
-        return Ok(false);
-    };
-    let word = 0xA3FE_FEFE_FEFE;
-    let mut whole = true;
-    for code in [code, &again] {
-        whole = whole
-            && match code.segments.items().as_slice() {
-                [segment] => segment.words.items().as_slice() == [word].as_slice(),
-                _ => false,
-            };
-    }
-    Ok(whole && code.formats.items().is_empty())
+    let copy = code.copy()?;
+    let lines = listing(alloc, &copy)?;
+    Ok(match read_listing(alloc, lines.items().as_slice()) {
+        Ok(again) => is_exit(&again),
+        Err(_) => false,
+    })
 }
+
+/// Schedules of no entry, of one and of two, with what the shortest source's code comes to.
+const FOLLOWED: [(&[u8], Replayed, Option<End>, u64); 3] = [
+    (b"SCHEDULE 1 0\n", Replayed::Ran, None, 0),
+    (
+        b"SCHEDULE 1 1\n1*1\n",
+        Replayed::Ended,
+        Some(End::Finished),
+        1,
+    ),
+    (
+        b"SCHEDULE 1 1\n1*2\n",
+        Replayed::Illegal { entry: 2 },
+        Some(End::Finished),
+        1,
+    ),
+];
 
 #[test]
 fn the_shortest_source(rt: HostRuntime) -> Result<(), Fail> {
@@ -76,17 +92,13 @@ fn the_shortest_source(rt: HostRuntime) -> Result<(), Fail> {
         return Err("not of one block".into());
     }
     let code = code_of(alloc, &checked)?;
-    assert!(rt; is_shortest(alloc, &code)?);
-    let copy = code.copy()?;
-    let nothing = followed(alloc, copy, 0)?;
-    assert_eq!(rt; nothing, (Replayed::Ran, None, 0));
-    let copy = code.copy()?;
-    let whole = followed(alloc, copy, 1)?;
-    assert_eq!(rt; whole, (Replayed::Ended, Some(End::Finished), 1));
-    let more = followed(alloc, code, 2)?;
-    assert_eq!(rt;
-        more,
-        (Replayed::Illegal { entry: 2 }, Some(End::Finished), 1)
-    );
+    assert!(rt; is_exit(&code));
+    assert!(rt; is_read_back(alloc, &code)?);
+    for (text, answer, end, count) in FOLLOWED {
+        let given = read(alloc, text).ok().ok_or("no schedule")?;
+        let copy = code.copy()?;
+        let came = followed(alloc, copy, &given)?;
+        assert_eq!(rt; came, (answer, end, count));
+    }
     Ok(())
 }
