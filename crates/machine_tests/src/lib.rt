@@ -42,8 +42,6 @@ mod schedule;
 #[cfg(test)]
 mod segment;
 #[cfg(test)]
-mod shortest;
-#[cfg(test)]
 mod store;
 #[cfg(test)]
 mod told;
