@@ -27,7 +27,7 @@ PROCESS P[T];
 PROCURE(E); PROCURE(F); LIBERATE(F); LIBERATE(E);
 WAIT(T.EXCEPTIONEVENT) END.";
 
-pub(crate) const ROWS: [Row; 23] = [
+pub(crate) const ROWS: [Row; 26] = [
     // Entries of a process 0 and of one that there is not, and one behind the end.
     Row {
         source: b"BEGIN END.",
@@ -251,5 +251,35 @@ CASE I+1 OF BEGIN ; END END.",
         letters: b"VEAEPSLLRChRWRF",
         output: b"|2",
         end: Some(End::Fault(FaultKind::CaseIndex, 1)),
+    },
+    // Elements of a formal array, whose first is the actual's first.
+    Row {
+        source: b"BEGIN FILE LINE; ARRAY A[3:5]; INTEGER N;
+PROCEDURE P(B); ARRAY B[0]; B[2]:=7;
+P(A); WRITE(LINE,<I2>,A[5]); N:=A[2] END.",
+        schedule: &[(1, 8)],
+        letters: b"MEITLQWF",
+        output: b"| 7",
+        end: Some(End::Fault(FaultKind::InvalidIndex, 1)),
+    },
+    // A FOR, with a turn after each body.
+    Row {
+        source: b"BEGIN FILE LINE; INTEGER I,S;
+FOR I:=1 STEP 1 UNTIL 3 DO S:=S+I; WRITE(LINE,<I2>,S) END.",
+        schedule: &[(1, 26)],
+        letters: b"SRRRSRSURRRSRSURRRSRSURRWX",
+        output: b"| 6",
+        end: Some(End::Finished),
+    },
+    // Process 1 ends while a process lives that depends on the outer block.
+    Row {
+        source: b"BEGIN FILE LINE; EVENT E; TASK T;
+PROCEDURE P; BEGIN WAIT(E); WRITE(LINE,<\"GO\",X2,\"ON\">) END;
+PROCESS P[T]; CAUSE(E); RESET(E);
+IF HAPPENED(E) THEN WAIT(T.EXCEPTIONEVENT) END.",
+        schedule: &[(1, 3), (2, 1), (1, 2), (2, 1), (1, 2)],
+        letters: b"VVBwcrWhF",
+        output: b"|GO  ON",
+        end: Some(End::Fault(FaultKind::CriticalBlockExit, 1)),
     },
 ];
