@@ -179,7 +179,7 @@ pub too_long_is : (command : Words) (most : ℕ) (left left_after : Option (List
 too_long_is command most left left_after a most_is more is =
     subst (λ (t : List ℕ). AnswersSource command left left_after t a.status) (sym is.text)
     (subst (λ (s : Status). AnswersSource command left left_after too_long_text s) (sym is.status)
-     (too_long (subst (λ (n : ℕ). IfSome left (λ bytes. n < length bytes)) most_is more)))
+    (too_long (subst (λ (n : ℕ). IfSome left (λ bytes. n < length bytes)) most_is more)))
 
 -- the bytes that were read, by their parts
 pub long_part_is : (command : Words) (bytes source : List ℕ) (schedule : Option (List ℕ)) (result : Result Answer AllocError) → IsDivided command bytes source schedule →

@@ -19,7 +19,7 @@ returns-in-Ok c =
     let small : length source ≤ MOST_SOURCE_BYTES = omega (arith, c.if-source-gt-MOST_SOURCE_BYTES.false) in
     divided_is c.args.command bytes source schedule c.answer_tree.result c.divided.ensures small
     (accepted_answered source (AnswersTree c.args.command schedule (length bytes)) (plain c.in-Ok.checked.program) c.answer_tree.result c.in-Ok.ensures.accepted c.in-Ok.ensures.only
-     c.answer_tree.ensures)
+    c.answer_tree.ensures)
 
 pub returns-in-Err-At : goal.returns-in-Err-At
 returns-in-Err-At c =
@@ -29,5 +29,5 @@ returns-in-Err-At c =
     let small : length source ≤ MOST_SOURCE_BYTES = omega (arith, c.if-source-gt-MOST_SOURCE_BYTES.false) in
     divided_is c.args.command bytes source schedule c.refuse_source.result c.divided.ensures small
     (refused_answered source (AnswersTree c.args.command schedule (length bytes)) c.in-Err-At.spot c.in-Err-At.code c.refuse_source.result
-     (rw c.in-Err-At.field-0-is at c.in-Err-At.ensures.refused) (rw c.in-Err-At.field-0-is at c.in-Err-At.ensures.none)
-     (rw (c.in-Err-At.spot-is, c.in-Err-At.code-is) at c.refuse_source.ensures))
+    (rw c.in-Err-At.field-0-is at c.in-Err-At.ensures.refused) (rw c.in-Err-At.field-0-is at c.in-Err-At.ensures.none)
+    (rw (c.in-Err-At.spot-is, c.in-Err-At.code-is) at c.refuse_source.ensures))
