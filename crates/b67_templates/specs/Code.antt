@@ -1,6 +1,6 @@
 -- Where the code of each construct stands: from one place to the place after it. What is left early goes on at a third place, to which
 -- branches lead from the place after the code; so a branch never leads to a branch.
-use Rattle.std.specs.Prelude.{◌≡◌, ℕ, ◌+◌, ℤ, pos, neg_ℤ, int_lt, ◌==◌, if◌then◌else◌, true, List, [], ◌∷◌, Option, Some, None, slice_get}
+use Rattle.std.specs.Prelude.{◌≡◌, ℕ, zero, suc, ◌+◌, ℤ, pos, neg_ℤ, int_lt, ◌==◌, if◌then◌else◌, true, List, [], ◌∷◌, length, replicate, Option, Some, None, slice_get}
 use Rattle.algol_tree.specs.declared.tree.Op.TheVariants as operators
 use Rattle.algol_tree.specs.declared.tree.Kind.{Kind}
 use Rattle.algol_tree.specs.declared.tree.Kind.TheVariants as types
@@ -8,7 +8,7 @@ use Rattle.algol_tree.specs.declared.tree.Named.{Named}
 use Rattle.algol_tree.specs.declared.tree.PhraseText.{PhraseText}
 use Rattle.algol_tree.specs.declared.tree.PhraseText.TheVariants as phrase
 use Rattle.algol_tree.specs.Plain as tree
-use Rattle.algol_tree.specs.Plain.{PExpr, PExprs, PStmt, PStmts, PBody}
+use Rattle.algol_tree.specs.Plain.{PExpr, PExprs, PStmt, PStmts, PDecls}
 use Rattle.algol_tree.specs.Spelling.{value_of}
 use Rattle.algol_tree.specs.Types.{given_by, taken_by}
 use Rattle.algol_tree.specs.Scopes.{Scopes}
@@ -23,8 +23,8 @@ use Rattle.b67_segment.specs.Operators.{Placed}
 use Rattle.b67_segment.specs.declared.code.Phrase.{Phrase}
 use Rattle.b67_segment.specs.declared.code.Phrase.TheVariants as parts
 use Rattle.b67_segment.specs.declared.code.Format.{Format}
-use Rattle.b67_templates.specs.Fragments.{Has, AllAt, NumberAt, ReadyAt, BranchAt, TurnAt, Goes, IntrinsicAt, operator_for, is_implication, truth_literal}
-use Rattle.b67_templates.specs.Cells.{IsVariable}
+use Rattle.b67_templates.specs.Fragments.{Has, AllAt, NumberAt, ReadyAt, BranchAt, TurnAt, Goes, IntrinsicAt, EntryAt, operator_for, is_implication, truth_literal}
+use Rattle.b67_templates.specs.Cells.{variables, IsVariable}
 
 -- ---- formats
 
@@ -161,61 +161,83 @@ module _ (sc : Scopes) (formats : List Format) (ps : List Placed) (level : ℕ) 
   abbrev pub UntilAt : PExpr → ℕ → ℕ → ℕ → ℕ → Type 0
   UntilAt c f q t u = (m : ℕ) × (m' : ℕ) × ExprAt types.Truth c q m m × BranchAt ps level Brtr m u m' × TurnAt ps level m' f t
 
-  abbrev mutual
-    pub StmtAt : PStmt → ℕ → ℕ → ℕ → Type 0
-    StmtAt tree.empty f t u = f ≡ t
-    StmtAt (tree.assign (tree.subscripted n tree.none) e) f t u = AssignAt n e f t
-    StmtAt (tree.block (tree.body spot tree.no_decls ss)) f t u = StmtsAt ss f t u
-    StmtAt (tree.if_then c x) f t u =
-        (m : ℕ) × (m' : ℕ) × ExprAt types.Truth c f m m × BranchAt ps level Brfl m u m' × StmtAt x m' t u
-    StmtAt (tree.if_else c x y) f t u =
-        (m : ℕ) × (m' : ℕ) × (n : ℕ) × (n' : ℕ) × ExprAt types.Truth c f m m × BranchAt ps level Brfl m n' m' × StmtAt x m' n u × BranchAt ps level Brun n u n'
-        × StmtAt y n' t u
-    StmtAt (tree.while c b) f t u =
-        (m : ℕ) × (m' : ℕ) × (n : ℕ) × ExprAt types.Truth c f m m × BranchAt ps level Brfl m u m' × StmtAt b m' n n × TurnAt ps level n f t
-    StmtAt (tree.until b c) f t u = (q : ℕ) × StmtAt b f q q × UntilAt c f q t u
-    StmtAt (tree.for v a s l b) f t u =
-        (q : ℕ) × (m : ℕ) × (n : ℕ) × (w : ℕ) × (x : ℕ) × AssignAt v a f q × ExprAt types.Number (tree.two operators.Sub (alone v) l) q m m × StepAt s m u n
-        × StmtAt b n w w × AssignAt v (tree.two operators.Add (alone v) s) w x × TurnAt ps level x q t
-    StmtAt (tree.thru e b) f t u =
-        (q : ℕ) × (l : ℕ) × (q' : ℕ) × (m : ℕ) × ExprAt types.Number e f q q × CountAt q l q' × StmtAt b q' m m × TurnAt ps level m q l
-        × Has ps level l (ops.Plain kinds.Dlet) t
-    StmtAt (tree.case e ss) f t u =
-        (a : ℕ) × (m : ℕ) × (table : ℕ) × IntrinsicAt ps level Select f a × ExprAt types.Number e a m m × TableAt (stmts_count ss) m table × CasesAt ss table u
-    StmtAt (tree.write n spot phrases es) f t u = WriteAt phrases es f t
-    StmtAt _ f t u = ⊥
+  -- cells are made of what was pushed, where that is anything
+  abbrev pub MadeAt : ℕ → ℕ → ℕ → Type 0
+  MadeAt zero f t = f ≡ t
+  MadeAt (suc n) f t = Has ps level f (ops.Plain kinds.Push) t
 
-    pub StmtsAt : PStmts → ℕ → ℕ → ℕ → Type 0
-    StmtsAt tree.no_stmts f t u = f ≡ t
-    StmtsAt (tree.stmts s tree.no_stmts) f t u = StmtAt s f t u
-    StmtsAt (tree.stmts s (tree.stmts s' ss)) f t u = (m : ℕ) × StmtAt s f m m × StmtsAt (tree.stmts s' ss) m t u
+  -- a zero for each variable, and their making into cells
+  abbrev pub CellsAt : ℕ → ℕ → ℕ → Type 0
+  CellsAt many f t = (m : ℕ) × AllAt ps level (replicate many kinds.Zero) f m × MadeAt many m t
+
+module _ (sc : Scopes) (formats : List Format) (ps : List Placed) where
+  abbrev mutual
+    pub StmtAt : ℕ → PStmt → ℕ → ℕ → ℕ → Type 0
+    StmtAt level tree.empty f t u = f ≡ t
+    StmtAt level (tree.assign (tree.subscripted n tree.none) e) f t u = AssignAt sc formats ps level n e f t
+    StmtAt level (tree.block (tree.body spot tree.no_decls ss)) f t u = StmtsAt level ss f t u
+    -- the code of an inner block, `InnerAt`, stands before its entry
+    StmtAt level (tree.block (tree.body spot (tree.decls d ds) ss)) f t u =
+        (o : ℕ) × (at : ℕ) × Goes ps level f o
+        × ((b : ℕ) × (e : ℕ) × (v : ℕ) × CellsAt sc formats ps (level + 1) (length (variables (tree.decls d ds))) at b × StmtsAt (level + 1) ss b e e
+        × Has ps (level + 1) e (ops.Plain kinds.Exit) v)
+        × EntryAt ps level at o t
+    StmtAt level (tree.if_then c x) f t u =
+        (m : ℕ) × (m' : ℕ) × ExprAt sc formats ps level types.Truth c f m m × BranchAt ps level Brfl m u m' × StmtAt level x m' t u
+    StmtAt level (tree.if_else c x y) f t u =
+        (m : ℕ) × (m' : ℕ) × (n : ℕ) × (n' : ℕ) × ExprAt sc formats ps level types.Truth c f m m × BranchAt ps level Brfl m n' m' × StmtAt level x m' n u × BranchAt ps level Brun n u n'
+        × StmtAt level y n' t u
+    StmtAt level (tree.while c b) f t u =
+        (m : ℕ) × (m' : ℕ) × (n : ℕ) × ExprAt sc formats ps level types.Truth c f m m × BranchAt ps level Brfl m u m' × StmtAt level b m' n n × TurnAt ps level n f t
+    StmtAt level (tree.until b c) f t u = (q : ℕ) × StmtAt level b f q q × UntilAt sc formats ps level c f q t u
+    StmtAt level (tree.for v a s l b) f t u =
+        (q : ℕ) × (m : ℕ) × (n : ℕ) × (w : ℕ) × (x : ℕ) × AssignAt sc formats ps level v a f q × ExprAt sc formats ps level types.Number (tree.two operators.Sub (alone v) l) q m m × StepAt sc formats ps level s m u n
+        × StmtAt level b n w w × AssignAt sc formats ps level v (tree.two operators.Add (alone v) s) w x × TurnAt ps level x q t
+    StmtAt level (tree.thru e b) f t u =
+        (q : ℕ) × (l : ℕ) × (q' : ℕ) × (m : ℕ) × ExprAt sc formats ps level types.Number e f q q × CountAt sc formats ps level q l q' × StmtAt level b q' m m × TurnAt ps level m q l
+        × Has ps level l (ops.Plain kinds.Dlet) t
+    StmtAt level (tree.case e ss) f t u =
+        (a : ℕ) × (m : ℕ) × (table : ℕ) × IntrinsicAt ps level Select f a × ExprAt sc formats ps level types.Number e a m m × TableAt sc formats ps level (stmts_count ss) m table × CasesAt level ss table u
+    StmtAt level (tree.write n spot phrases es) f t u = WriteAt sc formats ps level phrases es f t
+    StmtAt level _ f t u = ⊥
+
+    pub StmtsAt : ℕ → PStmts → ℕ → ℕ → ℕ → Type 0
+    StmtsAt level tree.no_stmts f t u = f ≡ t
+    StmtsAt level (tree.stmts s tree.no_stmts) f t u = StmtAt level s f t u
+    StmtsAt level (tree.stmts s (tree.stmts s' ss)) f t u = (m : ℕ) × StmtAt level s f m m × StmtsAt level (tree.stmts s' ss) m t u
 
     -- each entry of the table is a branch to its statement
-    pub CasesAt : PStmts → ℕ → ℕ → Type 0
-    CasesAt tree.no_stmts entry u = Unit {0}
-    CasesAt (tree.stmts s ss) entry u =
-        (p : ℕ) × (x : ℕ) × BranchAt ps level Brun entry p (entry + 3) × StmtAt s p x u × Goes ps level x u × CasesAt ss (entry + 3) u
+    pub CasesAt : ℕ → PStmts → ℕ → ℕ → Type 0
+    CasesAt level tree.no_stmts entry u = Unit {0}
+    CasesAt level (tree.stmts s ss) entry u =
+        (p : ℕ) × (x : ℕ) × BranchAt ps level Brun entry p (entry + 3) × StmtAt level s p x u × Goes ps level x u × CasesAt level ss (entry + 3) u
 
+  -- the cells of an inner block, its statements, EXIT
+  abbrev pub InnerAt : ℕ → PDecls → PStmts → ℕ → Type 0
+  InnerAt level ds ss at =
+      (b : ℕ) × (e : ℕ) × (v : ℕ) × CellsAt sc formats ps level (length (variables ds)) at b × StmtsAt level ss b e e × Has ps level e (ops.Plain kinds.Exit) v
+
+module _ (sc : Scopes) (formats : List Format) (ps : List Placed) (level : ℕ) where
   -- FOR from its test on
   abbrev pub LoopAt : Loop → ℕ → ℕ → ℕ → Type 0
   LoopAt loop q t u =
-      (m : ℕ) × (n : ℕ) × (w : ℕ) × (x : ℕ) × ExprAt types.Number (difference_in loop) q m m × StepAt loop.step m u n × StmtAt loop.body n w w
-      × StmtAt (stepped loop) w x x × TurnAt ps level x q t
+      (m : ℕ) × (n : ℕ) × (w : ℕ) × (x : ℕ) × ExprAt sc formats ps level types.Number (difference_in loop) q m m × StepAt sc formats ps level loop.step m u n × StmtAt sc formats ps level loop.body n w w
+      × StmtAt sc formats ps level (stepped loop) w x x × TurnAt ps level x q t
 
   -- THRU from its count on
   abbrev pub ThruAt : PStmt → ℕ → ℕ → Type 0
   ThruAt b q t =
-      (l : ℕ) × (q' : ℕ) × (m : ℕ) × CountAt q l q' × StmtAt b q' m m × TurnAt ps level m q l × Has ps level l (ops.Plain kinds.Dlet) t
+      (l : ℕ) × (q' : ℕ) × (m : ℕ) × CountAt sc formats ps level q l q' × StmtAt sc formats ps level b q' m m × TurnAt ps level m q l × Has ps level l (ops.Plain kinds.Dlet) t
 
   -- ---- what is still to be done
 
   abbrev pub KAt : List Item → ℕ → Type 0
   KAt [] pc = (q : ℕ) × (to : ℕ) × Goes ps level pc q × Has ps level q (ops.Plain kinds.Exit) to
-  KAt (run s ∷ k) pc = (q : ℕ) × (t : ℕ) × (u : ℕ) × Goes ps level pc q × StmtAt s q t u × Goes ps level t u × KAt k u
+  KAt (run s ∷ k) pc = (q : ℕ) × (t : ℕ) × (u : ℕ) × Goes ps level pc q × StmtAt sc formats ps level s q t u × Goes ps level t u × KAt k u
   KAt (turn ∷ k) pc = (q : ℕ) × (l : ℕ) × (to : ℕ) × Goes ps level pc q × TurnAt ps level q l to × KAt k l
   KAt (count n b ∷ k) pc = (q : ℕ) × (t : ℕ) × (u : ℕ) × Goes ps level pc q × ThruAt b q t × Goes ps level t u × KAt k u
   KAt (check b c ∷ k) pc =
-      (q : ℕ) × (f : ℕ) × (t : ℕ) × (u : ℕ) × Goes ps level pc q × StmtAt b f q q × UntilAt c f q t u × Goes ps level t u × KAt k u
+      (q : ℕ) × (f : ℕ) × (t : ℕ) × (u : ℕ) × Goes ps level pc q × StmtAt sc formats ps level b f q q × UntilAt sc formats ps level c f q t u × Goes ps level t u × KAt k u
   KAt (test loop ∷ k) pc = (q : ℕ) × (t : ℕ) × (u : ℕ) × Goes ps level pc q × LoopAt loop q t u × KAt k u
   KAt (result name ∷ k) pc = ⊥
   KAt (make_arrays kind ns pairs ∷ k) pc = ⊥

@@ -43,8 +43,10 @@ abbrev mutual
   stmts_depth tree.no_stmts = 0
   stmts_depth (tree.stmts s ss) = stmt_depth s + stmts_depth ss
 
+  -- of an inner block a mark and its control word lie there, until it is entered
   pub body_depth : PBody → ℕ
-  body_depth (tree.body spot ds ss) = stmts_depth ss
+  body_depth (tree.body spot tree.no_decls ss) = stmts_depth ss
+  body_depth (tree.body spot (tree.decls d ds) ss) = 2 + stmts_depth ss
 
 -- how many words an item of what is to be done needs above those that lie below it
 abbrev pub item_depth : Item → ℕ

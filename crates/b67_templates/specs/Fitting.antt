@@ -1,6 +1,6 @@
 -- Which trees have code: each part has the kind that its place wants, each name is a variable whose couple is known, and of a format
 -- no word is wider than a line, and each text can stand between quotes.
-use Rattle.std.specs.Prelude.{◌≡◌, ℕ, not, IsTrue, Option, Some, List, [], ◌∷◌, ◌≤◌}
+use Rattle.std.specs.Prelude.{◌≡◌, ℕ, ◌+◌, ◌≤◌, not, IsTrue, Option, Some, List, [], ◌∷◌, length}
 use Rattle.std.specs.List.{All}
 use Rattle.algol_tree.specs.declared.token.Spot.{Spot}
 use Rattle.algol_tree.specs.declared.tree.Kind.{Kind}
@@ -8,17 +8,18 @@ use Rattle.algol_tree.specs.declared.tree.Kind.TheVariants as types
 use Rattle.algol_tree.specs.declared.tree.Named.{Named}
 use Rattle.algol_tree.specs.declared.tree.PhraseText.{PhraseText}
 use Rattle.algol_tree.specs.declared.tree.PhraseText.TheVariants as phrase
-use Rattle.algol_tree.specs.declared.TheConstants.{MOST_LINE_WIDTH}
+use Rattle.algol_tree.specs.declared.TheConstants.{MOST_BLOCK_CELLS, MOST_LINE_WIDTH}
 use Rattle.algol_tree.specs.Lexes.{is_printable, is_quote}
 use Rattle.algol_tree.specs.Spelling.{value_of}
 use Rattle.algol_tree.specs.Plain as tree
-use Rattle.algol_tree.specs.Plain.{PExpr, PExprs, PStmt, PStmts}
+use Rattle.algol_tree.specs.Plain.{PExpr, PExprs, PStmt, PStmts, PDecls}
 use Rattle.algol_tree.specs.Types.{given_by, taken_by}
 use Rattle.algol_tree.specs.Scopes.{Scopes}
 use Rattle.b67_ops.specs.declared.Couple.{Couple}
+use Rattle.b67_ops.specs.declared.TheConstants.{MOST_LEVEL}
 use Rattle.b67_segment.specs.declared.code.Phrase.{Phrase}
 use Rattle.b67_templates.specs.Fragments.{IsWhole}
-use Rattle.b67_templates.specs.Cells.{IsVariable}
+use Rattle.b67_templates.specs.Cells.{variables, IsVariable}
 use Rattle.b67_templates.specs.Code.{AreParts, numbers_in, exprs_count}
 
 -- each byte of the text is printable and no quote
@@ -66,22 +67,28 @@ module _ (sc : Scopes) (known : Spot → Option Couple) (level : ℕ) where
   abbrev pub WriteFits : List PhraseText → PExprs → Type 0
   WriteFits phrases es = PhrasesFit phrases × ((parts : List Phrase) → AreParts phrases parts → numbers_in parts ≡ exprs_count es) × LineFits es
 
-  abbrev mutual
-    pub StmtFits : PStmt → Type 0
-    StmtFits tree.empty = Unit {0}
-    StmtFits (tree.assign (tree.subscripted n tree.none) e) = AssignFits n e
-    StmtFits (tree.block (tree.body spot tree.no_decls ss)) = StmtsFit ss
-    StmtFits (tree.if_then c x) = ExprFits types.Truth c × StmtFits x
-    StmtFits (tree.if_else c x y) = ExprFits types.Truth c × StmtFits x × StmtFits y
-    StmtFits (tree.while c b) = ExprFits types.Truth c × StmtFits b
-    StmtFits (tree.until b c) = StmtFits b × ExprFits types.Truth c
-    StmtFits (tree.for v a s l b) =
-        NameFits types.Number v × ExprFits types.Number a × ExprFits types.Number s × ExprFits types.Number l × StmtFits b
-    StmtFits (tree.thru e b) = ExprFits types.Number e × StmtFits b
-    StmtFits (tree.case e ss) = ExprFits types.Number e × StmtsFit ss
-    StmtFits (tree.write n spot phrases es) = WriteFits phrases es
-    StmtFits _ = ⊥
+-- an inner block has a level that the machine has, and no more variables than a block may have cells
+abbrev pub BlockFits : ℕ → PDecls → Type 0
+BlockFits level ds = (level + 1 ≤ MOST_LEVEL) × (length (variables ds) ≤ MOST_BLOCK_CELLS)
 
-    pub StmtsFit : PStmts → Type 0
-    StmtsFit tree.no_stmts = Unit {0}
-    StmtsFit (tree.stmts s ss) = StmtFits s × StmtsFit ss
+module _ (sc : Scopes) (known : Spot → Option Couple) where
+  abbrev mutual
+    pub StmtFits : ℕ → PStmt → Type 0
+    StmtFits level tree.empty = Unit {0}
+    StmtFits level (tree.assign (tree.subscripted n tree.none) e) = AssignFits sc known level n e
+    StmtFits level (tree.block (tree.body spot tree.no_decls ss)) = StmtsFit level ss
+    StmtFits level (tree.block (tree.body spot (tree.decls d ds) ss)) = BlockFits level (tree.decls d ds) × StmtsFit (level + 1) ss
+    StmtFits level (tree.if_then c x) = ExprFits sc known level types.Truth c × StmtFits level x
+    StmtFits level (tree.if_else c x y) = ExprFits sc known level types.Truth c × StmtFits level x × StmtFits level y
+    StmtFits level (tree.while c b) = ExprFits sc known level types.Truth c × StmtFits level b
+    StmtFits level (tree.until b c) = StmtFits level b × ExprFits sc known level types.Truth c
+    StmtFits level (tree.for v a s l b) =
+        NameFits sc known level types.Number v × ExprFits sc known level types.Number a × ExprFits sc known level types.Number s × ExprFits sc known level types.Number l × StmtFits level b
+    StmtFits level (tree.thru e b) = ExprFits sc known level types.Number e × StmtFits level b
+    StmtFits level (tree.case e ss) = ExprFits sc known level types.Number e × StmtsFit level ss
+    StmtFits level (tree.write n spot phrases es) = WriteFits sc known level phrases es
+    StmtFits level _ = ⊥
+
+    pub StmtsFit : ℕ → PStmts → Type 0
+    StmtsFit level tree.no_stmts = Unit {0}
+    StmtsFit level (tree.stmts s ss) = StmtFits level s × StmtsFit level ss

@@ -1,5 +1,5 @@
 -- The small pieces of which templates are made, in a segment of these operators, at one level.
-use Rattle.std.specs.Prelude.{◌≡◌, ℕ, ◌<◌, ◌≤◌, unsigned_abs, ℤ, pos, Bool, true, false, List, [], ◌∷◌}
+use Rattle.std.specs.Prelude.{◌≡◌, ℕ, ◌+◌, ◌/◌, ◌%◌, ◌<◌, ◌≤◌, unsigned_abs, ℤ, pos, Bool, true, false, List, [], ◌∷◌}
 use Rattle.algol_tree.specs.declared.tree.Op.{Op}
 use Rattle.algol_tree.specs.declared.tree.Op.TheVariants as operators
 use Rattle.algol_tree.specs.declared.tree.Kind.{Kind}
@@ -7,6 +7,8 @@ use Rattle.algol_tree.specs.declared.tree.Kind.TheVariants as types
 use Rattle.algol_meaning.specs.Value.{Value, number, truth}
 use Rattle.b67_num.specs.Whole.{most}
 use Rattle.b67_word.specs.Word.{Word, word, operand}
+use Rattle.b67_control.specs.declared.Pcw.{Pcw}
+use Rattle.b67_control.specs.Control.{Fits_pcw, pcw_word}
 use Rattle.b67_ops.specs.declared.Operator.{Operator}
 use Rattle.b67_ops.specs.declared.Operator.TheVariants as ops
 use Rattle.b67_ops.specs.declared.PlainKind.{PlainKind}
@@ -65,6 +67,17 @@ abbrev pub is_implication : Op → Bool
 is_implication operators.Imp = true
 is_implication _ = false
 
+-- ---- code that is entered
+
+-- the segment of the program's own text: today it is the only one
+abbrev pub program_segment : ℕ
+program_segment = 0
+
+-- the control word of code that begins at a place of a segment and runs at a level
+abbrev pub code_at : ℕ → ℕ → ℕ → Pcw
+code_at segment place level =
+    record { intrinsic = false; names = false; segment = segment; psr = place % 6; pir = place / 6; level = level; number = 0 }
+
 -- ---- operators one after another
 
 module _ (ps : List Placed) (level : ℕ) where
@@ -106,3 +119,12 @@ module _ (ps : List Placed) (level : ℕ) where
   -- a mark, and the reference of an intrinsic
   abbrev pub IntrinsicAt : Intrinsic → ℕ → ℕ → Type 0
   IntrinsicAt name from to = (m : ℕ) × Has from (ops.Plain kinds.Mkst) m × Has m (ops.Namc (couple_of_intrinsic name)) to
+
+  -- a mark, the control word of the code that begins at a place one level further in, and the entry of it
+  pub record EntryAt (begin from to : ℕ) : Type 0 where
+    pub marked : ℕ
+    pub named : ℕ
+    pub mark : Has from (ops.Plain kinds.Mkst) marked
+    pub control : Has marked (ops.Mpcw (pcw_word (code_at program_segment begin (level + 1))).bits) named
+    pub fits : Fits_pcw (code_at program_segment begin (level + 1))
+    pub enter : Has named (ops.Plain kinds.Entr) to
