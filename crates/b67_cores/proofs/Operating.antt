@@ -19,7 +19,7 @@ use Rattle.b67_table.specs.Private.{frame, push}
 use Rattle.b67_table.specs.PrivateRows.{pointed, onward, dropped, exchanged, doubled, open_mark, mark as mark_row, is_taken, branch}
 use Rattle.b67_table.specs.Rows.{private_part, row, own, pushes, acts, turn}
 use Rattle.b67_templates.specs.Fragments.{Has, BranchAt}
-use Rattle.b67_standing.specs.Stepping.{Slot, operand, reference, intrinsic, mark, HasRoom}
+use Rattle.b67_standing.specs.Stepping.{Slot, operand, reference, intrinsic, control, mark, HasRoom}
 use Rattle.b67_cores.specs.Cores.{Core}
 use Rattle.b67_cores.specs.Slots.{IsTruth, newest, SlotIs}
 use Rattle.b67_cores.proofs.PartRows.{part, dropped_is, doubled_is, exchanged_is, mark_is, by_bit_is}
@@ -51,6 +51,7 @@ newest_low home base [] h = omega (arith, h)
 newest_low home base (operand v ∷ below) h = omega (arith, newest_low home base below h)
 newest_low home base (reference n ∷ below) h = omega (arith, newest_low home base below h)
 newest_low home base (intrinsic i ∷ below) h = omega (arith, newest_low home base below h)
+newest_low home base (control c ∷ below) h = omega (arith, newest_low home base below h)
 newest_low home base (mark ∷ below) h = omega arith
 
 mark_row_is : (place : ℕ) → row (ops.Plain kinds.Mkst) place ≡ own mark_row

@@ -1,7 +1,8 @@
--- Steps of a core, performed in an image.
-use Rattle.std.proofs.Common.{◌≡◌, ◌≢◌, refl, sym, ap, ◌∙◌, subst, ℕ, zero, suc, ◌≤◌, true, List, ◌++◌, take, drop, set, Some, arith}
+-- Steps of a core, performed in an image, and one that comes to the stack limit.
+use Rattle.std.proofs.Common.{◌≡◌, ◌≢◌, refl, sym, ap, ◌∙◌, subst, ℕ, zero, suc, ◌<◌, ◌≤◌, true, false, List, ◌++◌, take, drop, set, Some, arith}
 use Rattle.std.specs.Prelude.{◌↔◌, ◌&&◌, reverse}
 use Rattle.std.proofs.Math.Seq.{drop-append_seam, take-append_seam}
+use Rattle.std.proofs.lemmas.Bool.{and_right}
 use Rattle.std.proofs.lemmas.List.{reverse-reverse}
 use Rattle.b67_list.specs.Numbered.{numbered, set_numbered}
 use Rattle.b67_control.specs.declared.Registers.{Registers}
@@ -20,10 +21,10 @@ use Rattle.b67_table.specs.Privacy.{Keeps}
 use Rattle.b67_table.specs.Runs.{Plains, stay, go}
 use Rattle.b67_table.proofs.Stacks.{set_here, set_other, set_set_here, get_numbered_other}
 use Rattle.b67_table.proofs.Lists.{set_there, numbered_same, numbered_set, numbered_from, numbered_within}
-use Rattle.b67_table.proofs.Limit.{fits}
+use Rattle.b67_table.proofs.Limit.{fits, limit_comes_last}
 use Rattle.b67_table.proofs.Privacy.{Next, raw_is, part_keeps}
 use Rattle.b67_cores.specs.Cores.{Core, stack_of, size, IsCore, HasCore, with_core, part_of, CoreStep, CoreSteps, here, onward}
-use Rattle.b67_cores.specs.Stretches.{StepsArePerformed}
+use Rattle.b67_cores.specs.Stretches.{StepsArePerformed, StepsComeToLimit}
 
 -- ---- the operator of a step
 
@@ -113,11 +114,20 @@ module _ (img : Image) (p : ℕ) (a : Core) (has : HasCore img p a) where
       is = s.is;
     }
 
+    long : length_in (numbered (with_core img p b).regs p) ≡ size b
+    long = ap length_in there ∙ s.is.top
+
     pub table_gives : size b ≤ stack_limit → table code img p ≡ outcomes.gives (with_core img p b)
     unfolding table
     table_gives h =
-        let long : length_in (numbered (with_core img p b).regs p) ≡ size b = ap length_in there ∙ s.is.top in
         ap (limited (stack_length p)) raw_gives ∙ fits (stack_length p) (with_core img p b) (subst (λ n. n ≤ stack_limit) (sym long) h)
+
+    table_limit : stack_limit < size b → table code img p ≡ outcomes.limit
+    table_limit h = (limit_comes_last.limit code img p).1 (with_core img p b, raw_gives, subst (λ n. stack_limit < n) (sym long) h)
+
+    not_plain : stack_limit < size b → plain code img p ≡ false
+    unfolding plain
+    not_plain h = and_right (private_next code img p) (is_new (table code img p)) (ap is_new (table_limit h))
 
     next_private : private_next code img p ≡ true
     next_private = ap (private_in code) has.registers ∙ ap (private_at a.registers) s.stands ∙ ap is_private s.private
@@ -206,6 +216,9 @@ module _ (img : Image) (p : ℕ) (a b : Core) (has : HasCore img p a) (kept : Ke
       is = k.is;
     },
   )
+
+pub steps_come_to_limit : StepsComeToLimit
+steps_come_to_limit code p img a b has s h = (table_limit img p a has code b s h, not_plain img p a has code b s h)
 
 pub steps_are_performed : StepsArePerformed
 steps_are_performed code p bound n img a b small has steps =

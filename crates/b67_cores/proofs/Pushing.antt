@@ -1,11 +1,13 @@
 -- What a fragment pushes, and operators without operands one after another.
-use Rattle.std.proofs.Common.{◌≡◌, refl, subst, ℕ, Bool, true, false, ℤ, pos, List, [], ◌∷◌, arith}
+use Rattle.std.proofs.Common.{◌≡◌, refl, subst, ℕ, ◌+◌, Bool, true, false, ℤ, pos, List, [], ◌∷◌, arith}
 use Rattle.algol_tree.specs.declared.tree.Kind.{Kind}
 use Rattle.algol_tree.specs.declared.tree.Named.{Named}
 use Rattle.algol_tree.specs.Scopes.{Scopes}
 use Rattle.algol_meaning.specs.Value.{number, truth}
 use Rattle.b67_word.specs.Word.{Word}
 use Rattle.b67_word.specs.Word as words
+use Rattle.b67_control.specs.declared.Pcw.{Pcw}
+use Rattle.b67_control.specs.Control.{pcw_word}
 use Rattle.b67_ops.specs.declared.Operator.{Operator}
 use Rattle.b67_ops.specs.declared.Operator.TheVariants as ops
 use Rattle.b67_ops.specs.declared.PlainKind.{PlainKind}
@@ -17,9 +19,9 @@ use Rattle.b67_segment.specs.declared.code.Code.{Code}
 use Rattle.b67_segment.specs.declared.code.Format.{Format}
 use Rattle.b67_table.specs.PrivateRows as rows
 use Rattle.b67_table.specs.Rows.{row, pushes}
-use Rattle.b67_templates.specs.Fragments.{Has, AllAt, NumberAt, IntrinsicAt, IsLiteral, zero_pushed, one_pushed, byte, two_bytes, whole_word, truth_literal}
+use Rattle.b67_templates.specs.Fragments.{Has, AllAt, NumberAt, IntrinsicAt, EntryAt, code_at, program_segment, IsLiteral, zero_pushed, one_pushed, byte, two_bytes, whole_word, truth_literal}
 use Rattle.b67_templates.specs.Code.{ReferenceAt}
-use Rattle.b67_standing.specs.Stepping.{Slot, operand, reference, intrinsic, mark, HasRoom}
+use Rattle.b67_standing.specs.Stepping.{Slot, operand, reference, intrinsic, control, mark, HasRoom}
 use Rattle.b67_cores.specs.Cores.{Core}
 use Rattle.b67_cores.specs.Slots.{IsTruth}
 use Rattle.b67_cores.proofs.Moving.{Standing, nothing, on}
@@ -48,6 +50,11 @@ literal_is : (b : Bool) → IsTruth b (literal_word b)
 unfolding words.operand
 literal_is true = record { tag = refl; bits = omega arith; lowest = refl }
 literal_is false = record { tag = refl; bits = omega arith; lowest = refl }
+
+-- MPCW has the bits of the control word
+control_row : (c : Pcw) (place : ℕ) → row (ops.Mpcw (pcw_word c).bits) place ≡ pushes (pcw_word c)
+unfolding row pcw_word
+control_row c place = refl
 
 module _ (sc : Scopes) (formats : List Format) (code : Code) (ps : List Placed) (level most bound : ℕ) (core : Core) (st : Standing sc code ps level most bound core) where
   abbrev Gets : ℕ → List Slot → ℕ → List Slot → Type 0
@@ -79,6 +86,15 @@ module _ (sc : Scopes) (formats : List Format) (code : Code) (ps : List Placed) 
       on sc code ps level most bound core st (marking sc code ps level most bound core st from at.0 x at.1 (omega (arith, room)))
       (pushed sc code ps level most bound core st at.0 next (ops.Namc (couple_of_intrinsic name)) (intrinsic name) (mark ∷ x)
       (rows.reference (couple_of_intrinsic name)) at.2 refl refl refl (omega (arith, room)))
+
+  -- the start of the entry of a block: a mark and the control word of its code
+  pub push_control : (from to begin : ℕ) (x : List Slot) (e : EntryAt ps level begin from to) → HasRoom most x 2
+      → Gets from x e.named (control (code_at program_segment begin (level + 1)) ∷ mark ∷ x)
+  push_control from to begin x e room =
+      let c : Pcw = code_at program_segment begin (level + 1) in
+      on sc code ps level most bound core st (marking sc code ps level most bound core st from e.marked x e.mark (omega (arith, room)))
+      (pushed sc code ps level most bound core st e.marked e.named (ops.Mpcw (pcw_word c).bits) (control c) (mark ∷ x) (pcw_word c) e.control
+      (control_row c e.marked) refl refl (omega (arith, room)))
 
   -- ---- operators without operands
 

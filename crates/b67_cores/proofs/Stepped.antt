@@ -12,7 +12,7 @@ use Rattle.b67_segment.specs.declared.code.Format.{Format}
 use Rattle.b67_table.specs.PrivateRows.{negated, complemented}
 use Rattle.b67_table.specs.Rows.{row}
 use Rattle.b67_templates.specs.Fragments.{operator_for}
-use Rattle.b67_standing.specs.Stepping.{Slot, ready, Step, Leads, push_number, push_truth, push_name, calculate, negate, invert, false_stays, false_goes, true_stays, true_goes, go, call, drop, counts, spent, within, past, within_literal, past_literal, there, first}
+use Rattle.b67_standing.specs.Stepping.{Slot, ready, Step, Leads, push_number, push_truth, push_name, calculate, negate, invert, false_stays, false_goes, true_stays, true_goes, go, call, announce, drop, counts, spent, within, past, within_literal, past_literal, there, first}
 use Rattle.b67_cores.specs.Cores.{Core}
 use Rattle.b67_cores.proofs.Taking.{negated_turns, complemented_turns}
 use Rattle.b67_cores.proofs.Calculating.{calculates}
@@ -46,6 +46,7 @@ module _ (sc : Scopes) (formats : List Format) (code : Code) (ps : List Placed) 
   stepped from to x y (true_goes {next = next} at) = if_true sc code ps level most bound core st from to next true y at
   stepped from to x y (go {next = next} at) = going sc code ps level most bound core st from to next x at
   stepped from to x y (call name at room) = pushing.push_intrinsic sc formats code ps level most bound core st from to name x at room
+  stepped from to x y (announce {to = end} begin e room) = pushing.push_control sc formats code ps level most bound core st from end begin x e room
   stepped from to x y (drop v at) = dropping sc code ps level most bound core st from to v y at
   stepped from to x y (counts {l = l} {below = below} z at h e room) = counts_on sc formats code ps level most bound core st from l to z below at room h e
   stepped from to x y (spent {next = next} {below = below} z at h e room) = count_spent sc formats code ps level most bound core st from to next z below at room e

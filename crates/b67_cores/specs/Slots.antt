@@ -5,13 +5,14 @@ use Rattle.algol_tree.specs.Scopes.{Scopes}
 use Rattle.algol_meaning.specs.Value.{Value, number, truth}
 use Rattle.b67_word.specs.Word.{Word}
 use Rattle.b67_word.specs.Word as words
+use Rattle.b67_control.specs.Control.{pcw_word}
 use Rattle.b67_ops.specs.declared.Couple.{Couple}
 use Rattle.b67_ops.specs.Intrinsics.{couple_of_intrinsic}
 use Rattle.b67_table.specs.PrivateRows.{open_mark}
 use Rattle.b67_table.specs.PrivateRows as rows
 use Rattle.b67_templates.specs.Fragments.{IsWhole}
 use Rattle.b67_templates.specs.Cells.{IsVariable}
-use Rattle.b67_standing.specs.Stepping.{Slot, operand, reference, intrinsic, mark}
+use Rattle.b67_standing.specs.Stepping.{Slot, operand, reference, intrinsic, control, mark}
 
 -- ---- values
 
@@ -37,6 +38,7 @@ newest home base [] = home
 newest home base (operand v ∷ below) = newest home base below
 newest home base (reference n ∷ below) = newest home base below
 newest home base (intrinsic i ∷ below) = newest home base below
+newest home base (control c ∷ below) = newest home base below
 newest home base (mark ∷ below) = base + length below
 
 module _ (sc : Scopes) (level home base : ℕ) where
@@ -45,6 +47,7 @@ module _ (sc : Scopes) (level home base : ℕ) where
   SlotIs below (operand v) w = ValueIs v w
   SlotIs below (reference n) w = (k : Kind) × (c : Couple) × IsVariable sc level n k c × (w ≡ rows.reference c)
   SlotIs below (intrinsic i) w = w ≡ rows.reference (couple_of_intrinsic i)
+  SlotIs below (control c) w = w ≡ pcw_word c
   SlotIs below mark w = w ≡ open_mark (base + length below - newest home base below)
 
   -- the words of slots, the top first

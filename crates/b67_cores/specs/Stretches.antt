@@ -1,5 +1,5 @@
 -- Stretches of private operators: what they do in an image, and what they do in a frame whose words are slots.
-use Rattle.std.specs.Prelude.{◌≡◌, ◌≢◌, ◌↔◌, ℕ, ◌+◌, ◌≤◌, true, false, pos, List, [], ◌∷◌, ◌++◌, length, replicate, Some, Err, slice_get}
+use Rattle.std.specs.Prelude.{◌≡◌, ◌≢◌, ◌↔◌, ℕ, ◌+◌, ◌<◌, ◌≤◌, true, false, pos, List, [], ◌∷◌, ◌++◌, length, replicate, Some, Err, slice_get}
 use Rattle.b67_list.specs.Numbered.{numbered}
 use Rattle.algol_tree.specs.declared.tree.Op.{Op}
 use Rattle.algol_tree.specs.Scopes.{Scopes}
@@ -31,9 +31,9 @@ use Rattle.b67_table.specs.Privacy.{Keeps}
 use Rattle.b67_table.specs.Runs.{Plains}
 use Rattle.b67_table.specs.Valid.{IsValid}
 use Rattle.b67_templates.specs.Fragments.{Has, HasKind, AllAt, operator_for}
-use Rattle.b67_templates.specs.Programs.{MadeAt}
+use Rattle.b67_templates.specs.Code.{MadeAt}
 use Rattle.b67_standing.specs.Stepping.{Slot, operand, ready, Step, Leads}
-use Rattle.b67_cores.specs.Cores.{Core, size, IsCore, over, HasCore, with_core, CoreFaults, CoreSteps}
+use Rattle.b67_cores.specs.Cores.{Core, size, IsCore, over, HasCore, with_core, CoreFaults, CoreStep, CoreSteps}
 use Rattle.b67_cores.specs.Slots.{newest, SlotsAre}
 
 -- ---- in an image
@@ -52,6 +52,12 @@ pub record Performed (code : Code) (p : ℕ) (img : Image) (n : ℕ) (a b : Core
 abbrev pub StepsArePerformed : Type 0
 StepsArePerformed =
     (code : Code) (p bound n : ℕ) (img : Image) (a b : Core) → bound ≤ stack_limit → HasCore img p a → CoreSteps code bound n a b → Performed code p img n a b
+
+-- a step to more words than a stack may have is no plain operator: it comes to the stack limit
+abbrev pub StepsComeToLimit : Type 0
+StepsComeToLimit =
+    (code : Code) (p : ℕ) (img : Image) (a b : Core) → HasCore img p a → CoreStep code a b → stack_limit < size b →
+    (table code img p ≡ outcomes.limit) × (plain code img p ≡ false)
 
 -- a private operator that faults
 pub record FaultsArePerformed : Type 0 where

@@ -2,7 +2,7 @@
 //! stands for a source.
 #![tactic(auto)]
 
-ghost use Rattle.b67_cores.specs.Stretches.{StepsArePerformed, FaultsArePerformed, CoresDecide, StepsGoForward, StepsStayAbove, ValidImagesHaveCores, FragmentsArePerformed, BlocksBegin};
+ghost use Rattle.b67_cores.specs.Stretches.{StepsArePerformed, StepsComeToLimit, FaultsArePerformed, CoresDecide, StepsGoForward, StepsStayAbove, ValidImagesHaveCores, FragmentsArePerformed, BlocksBegin};
 
 /// Law: each process of a valid image that lives has a core.
 pub fn valid_images_have_cores()
@@ -10,9 +10,11 @@ pub fn valid_images_have_cores()
 {}
 
 /// Law: what private operators do to a core a process performs in every image in which it has that core, and every
-/// other process and all that is public stays as it is.
+/// other process and all that is public stays as it is. Where the stack would have more words than it may, the process
+/// comes to the stack limit.
 pub fn steps_are_performed()
-    ensures { StepsArePerformed }
+    ensures steps { StepsArePerformed }
+    ensures limit { StepsComeToLimit }
 {}
 
 /// Law: where a private operator faults in a core, the process faults in every image in which it has that core.

@@ -16,7 +16,7 @@ use Rattle.b67_segment.specs.Operators.{Placed}
 use Rattle.b67_segment.specs.declared.code.Format.{Format}
 use Rattle.b67_templates.specs.Fragments.{Has, AllAt}
 use Rattle.b67_templates.specs.Code.{StepSign, up, down, still, SignedAt}
-use Rattle.b67_standing.specs.Stepping.{Slot, Step, push_number, push_truth, push_name, calculate, negate, invert, false_stays, false_goes, true_stays, true_goes, go, call, drop, counts, spent, within, past, within_literal, past_literal}
+use Rattle.b67_standing.specs.Stepping.{Slot, Step, push_number, push_truth, push_name, calculate, negate, invert, false_stays, false_goes, true_stays, true_goes, go, call, announce, drop, counts, spent, within, past, within_literal, past_literal}
 use Rattle.b67_standing.specs.Standing.{line_begun, ActionAt, Acted}
 use Rattle.b67_standing.specs.Laws.{LeadsHaveRoom, ActionsHaveRoom, StepsGoForward}
 use Rattle.b67_standing.proofs.Leading.{leads_within}
@@ -65,6 +65,7 @@ module _ (sc : Scopes) (formats : List Format) (ps : List Placed) (level most : 
   step_forward (true_goes h) = h.forward
   step_forward (go h) = h.forward
   step_forward (call name h room) = omega (arith, forward ps level h.1, forward ps level h.2)
+  step_forward (announce begin e room) = omega (arith, forward ps level e.mark, forward ps level e.control)
   step_forward (drop v h) = forward ps level h
   step_forward {a} {b} (counts z h w e room) =
       omega (arith, all_forward ps level count_kinds a h.tested h.test, forward ps level (h.branch).stands, all_forward ps level (kinds.One ∷ kinds.Subt ∷ []) h.gone b h.less)

@@ -1,17 +1,18 @@
--- Wherever the machine stands for something, the head acts, and from where it leaves the machine the rest goes on.
-use Rattle.std.proofs.Common.{◌≡◌, sym, ◌∙◌, subst, ℕ, zero, suc, ◌+◌, ◌*◌, ◌<◌, ◌≤◌, arith, List, ◌∷◌}
+-- Wherever the machine stands for something, the head acts, and from where it leaves the machine the rest goes on. What waits for a
+-- part inside goes on when that has left.
+use Rattle.std.proofs.Common.{◌≡◌, refl, sym, ◌∙◌, subst, ℕ, zero, suc, ◌+◌, ◌*◌, ◌<◌, ◌≤◌, arith, List, ◌∷◌}
 use Rattle.std.specs.Prelude.{nat_abs}
 use Rattle.algol_tree.specs.declared.tree.Kind.TheVariants as types
 use Rattle.algol_tree.specs.declared.tree.PhraseText.{PhraseText}
 use Rattle.algol_tree.specs.Plain as tree
-use Rattle.algol_tree.specs.Plain.{PStmt, PStmts}
+use Rattle.algol_tree.specs.Plain.{PStmt, PStmts, PBody}
 use Rattle.algol_tree.specs.Scopes.{Scopes}
 use Rattle.algol_meaning.specs.Value.{Value, whole_of}
 use Rattle.algol_meaning.specs.Rest as rests
 use Rattle.algol_meaning.specs.Rest.{own, Item, Rest, Answer}
 use Rattle.algol_meaning.specs.Settle.{put}
 use Rattle.algol_meaning.specs.Statements.{settle_stmt, settle_items}
-use Rattle.algol_meaning.specs.Asks.{leaves, stores, selects, turns, writes, nth_stmt}
+use Rattle.algol_meaning.specs.Asks.{nothing, leaves, stores, selects, turns, writes, ask, nth_stmt, resume}
 use Rattle.b67_ops.specs.declared.BranchKind.TheVariants.{Brun}
 use Rattle.b67_ops.specs.declared.intrinsic.Intrinsic.TheVariants.{Select}
 use Rattle.b67_segment.specs.Operators.{Placed}
@@ -20,8 +21,8 @@ use Rattle.b67_templates.specs.Fragments.{BranchAt, Goes, stop}
 use Rattle.b67_templates.specs.Code.{StmtAt, CasesAt, any, stmts_count}
 use Rattle.b67_templates.specs.Depths.{stmt_depth, stmts_depth}
 use Rattle.b67_standing.specs.Stepping.{Slot, operand, reference, intrinsic, mark, HasRoom, go, there, first}
-use Rattle.b67_standing.specs.Standing.{pend, operands, line_begun, Follows, StandsFor, ComesTo, ActionAt, Acted, GoesOn}
-use Rattle.b67_standing.specs.Laws.{RestsGoOn}
+use Rattle.b67_standing.specs.Standing.{pend, operands, line_begun, Follows, StandsFor, ComesTo, ActionAt, Acted, Returned, GoesOn}
+use Rattle.b67_standing.specs.Laws.{RestsGoOn, WaitingGoesOn}
 use Rattle.b67_standing.proofs.Putting.{puts_on}
 use Rattle.b67_standing.proofs.Rests.{after_rest, assigned_stands, chosen_stands, looped_stands, checked_stands, selected_stands, item_stands, line_at}
 use Rattle.b67_standing.proofs.Loops.{counted_stands, again_at, tested_stands, differed_stands}
@@ -53,7 +54,7 @@ module _ (sc : Scopes) (formats : List Format) (ps : List Placed) (level most : 
       Going (rests.store n v k) pc slots
   stored (rests.there x) v k pc slots s = absurd s
   stored (rests.element_of x ks) v k pc slots s = absurd s
-  stored (own n) v k pc slots s = record { action = (s.0, pend k, s.1); answered = answer }
+  stored (own n) v k pc slots s = record { action = (s.0, pend k, s.1); answered = answer; entered = λ at left l. absurd l }
     where
       answer : (a : Answer) (at : ℕ) (after : List Slot) → Acted sc formats ps level most (stores (own n) v) pc slots (s.0, pend k, s.1) a at after → Coming (settle_items sc k) at after
       answer rests.done at after l = next_at k (settle_items sc k) s.0 at after l.0 l.1 (items_at sc formats ps level most k s.0 s.2)
@@ -64,7 +65,7 @@ module _ (sc : Scopes) (formats : List Format) (ps : List Placed) (level most : 
 
   written : (phrases : List PhraseText) (vs : List Value) (k : List Item) (pc : ℕ) (slots : List Slot) → StandsFor sc formats ps level most (rests.line phrases vs k) pc slots →
       Going (rests.line phrases vs k) pc slots
-  written phrases vs k pc slots s = record { action = (s.0, pend k, s.1); answered = answer }
+  written phrases vs k pc slots s = record { action = (s.0, pend k, s.1); answered = answer; entered = λ at left l. absurd l }
     where
       answer : (a : Answer) (at : ℕ) (after : List Slot) → Acted sc formats ps level most (writes phrases vs) pc slots (s.0, pend k, s.1) a at after → Coming (settle_items sc k) at after
       answer rests.done at after l = next_at k (settle_items sc k) s.0 at after l.0 l.1 (items_at sc formats ps level most k s.0 s.2)
@@ -74,7 +75,7 @@ module _ (sc : Scopes) (formats : List Format) (ps : List Placed) (level most : 
       answer rests.entered at after l = absurd l
 
   turned : (k : List Item) (pc : ℕ) (slots : List Slot) → StandsFor sc formats ps level most (rests.turning k) pc slots → Going (rests.turning k) pc slots
-  turned k pc slots s = record { action = (s.0, s.1, s.2); answered = answer }
+  turned k pc slots s = record { action = (s.0, s.1, s.2); answered = answer; entered = λ at left l. absurd l }
     where
       answer : (a : Answer) (at : ℕ) (after : List Slot) → Acted sc formats ps level most turns pc slots (s.0, s.1, s.2) a at after → Coming (settle_items sc k) at after
       answer rests.done at after l = next_at k (settle_items sc k) s.0 at after l.0 (l.1 ∙ s.3) (items_at sc formats ps level most k s.0 s.4)
@@ -84,7 +85,7 @@ module _ (sc : Scopes) (formats : List Format) (ps : List Placed) (level most : 
       answer rests.entered at after l = absurd l
 
   ended : (pc : ℕ) (slots : List Slot) → StandsFor sc formats ps level most rests.over pc slots → Going rests.over pc slots
-  ended pc slots s = record { action = s; answered = answer }
+  ended pc slots s = record { action = s; answered = answer; entered = λ at left l. absurd l }
     where
       answer : (a : Answer) (at : ℕ) (after : List Slot) → Acted sc formats ps level most (leaves rests.done) pc slots s a at after → Coming rests.over at after
       answer rests.done at after l = absurd l
@@ -92,6 +93,16 @@ module _ (sc : Scopes) (formats : List Format) (ps : List Placed) (level most : 
       answer (rests.cell c) at after l = absurd l
       answer (rests.place p) at after l = absurd l
       answer rests.entered at after l = absurd l
+
+  -- ---- inner blocks
+
+  block_entered : (b : PBody) (k : List Item) (pc : ℕ) (slots : List Slot) → StandsFor sc formats ps level most (rests.entering_block b k) pc slots →
+      Going (rests.entering_block b k) pc slots
+  block_entered (tree.body spot ds ss) k pc slots s = record {
+    action = (s.0, pend k, s.1);
+    answered = λ a at left l. absurd l;
+    entered = λ at left l. ((l.1, subst (Following k) (sym l.0) s.2), refl);
+  }
 
   -- ---- CASE
 
@@ -127,7 +138,7 @@ module _ (sc : Scopes) (formats : List Format) (ps : List Placed) (level most : 
 
   chosen : (v : Value) (ss : PStmts) (k : List Item) (pc : ℕ) (slots : List Slot) → StandsFor sc formats ps level most (rests.select v ss k) pc slots →
       Going (rests.select v ss k) pc slots
-  chosen v ss k pc slots s = record { action = case_action v ss k pc slots s; answered = answer }
+  chosen v ss k pc slots s = record { action = case_action v ss k pc slots s; answered = answer; entered = λ at left l. absurd l }
     where
       answer : (a : Answer) (at : ℕ) (after : List Slot) → Acted sc formats ps level most (selects v ss) pc slots (case_action v ss k pc slots s) a at after →
           Coming (settle_stmt sc (nth_stmt ss (nat_abs (whole_of v))) k (settle_items sc k)) at after
@@ -150,24 +161,28 @@ module _ (sc : Scopes) (formats : List Format) (ps : List Placed) (level most : 
       let p = puts_on sc formats ps level most s.0 h pc slots (reference n ∷ pend k) s.2 s.5 in
       record {
         action = p.action;
+        entered = λ at left l. absurd (p.not_entered at left l);
         answered = λ a at left l.
             let c = p.answered a at left l in
             after_rest sc formats ps level most c.leads (assigned_stands sc formats ps level most n s.0 s.1 (put sc h a) c.at c.with_slots k s.2 s.3 s.4 c.shows s.6 s.7);
       }
 
-  pub goes_on_at : (r : Rest) (pc : ℕ) (slots : List Slot) → StandsFor sc formats ps level most r pc slots → Going r pc slots
-  goes_on_at rests.over pc slots s = ended pc slots s
-  goes_on_at (rests.store n v k) pc slots s = stored n v k pc slots s
-  goes_on_at (rests.select v ss k) pc slots s = chosen v ss k pc slots s
-  goes_on_at (rests.turning k) pc slots s = turned k pc slots s
-  goes_on_at (rests.line phrases vs k) pc slots s = written phrases vs k pc slots s
-  goes_on_at (rests.storing n h k) pc slots s = storing_on n h k pc slots s
-  goes_on_at (rests.choosing h x y k) pc slots s =
+  pub goes_on_at : (r : Rest) (pc : ℕ) (slots : List Slot) → StandsFor sc formats ps level most r pc slots → (ask r ≡ nothing → ⊥) → Going r pc slots
+  goes_on_at rests.over pc slots s asks = ended pc slots s
+  goes_on_at (rests.store n v k) pc slots s asks = stored n v k pc slots s
+  goes_on_at (rests.select v ss k) pc slots s asks = chosen v ss k pc slots s
+  goes_on_at (rests.turning k) pc slots s asks = turned k pc slots s
+  goes_on_at (rests.line phrases vs k) pc slots s asks = written phrases vs k pc slots s
+  goes_on_at (rests.entering_block b k) pc slots s asks = block_entered b k pc slots s
+  goes_on_at (rests.within k) pc slots s asks = absurd (asks refl)
+  goes_on_at (rests.storing n h k) pc slots s asks = storing_on n h k pc slots s
+  goes_on_at (rests.choosing h x y k) pc slots s asks =
       let p = puts_on sc formats ps level most types.Truth h pc slots (pend k) s.0 s.6 in
       let r = settle_items sc k in
       let more = items_at sc formats ps level most k s.5 s.12 in
       record {
         action = p.action;
+        entered = λ at left l. absurd (p.not_entered at left l);
         answered = λ a at left l.
             let c = p.answered a at left l in
             after_rest sc formats ps level most c.leads
@@ -175,11 +190,12 @@ module _ (sc : Scopes) (formats : List Format) (ps : List Placed) (level most : 
             (stmt_at sc formats ps level most x s.1 s.2 s.5 s.8 s.9 k r s.12 (omega (arith, s.13)) more)
             (stmt_at sc formats ps level most y s.3 s.4 s.5 s.10 s.11 k r s.12 (omega (arith, s.13)) more));
       }
-  goes_on_at (rests.looping h e b k) pc slots s =
+  goes_on_at (rests.looping h e b k) pc slots s asks =
       let p = puts_on sc formats ps level most types.Truth h pc slots (pend k) s.1 s.4 in
       let w = s.5 in
       record {
         action = p.action;
+        entered = λ at left l. absurd (p.not_entered at left l);
         answered = λ a at left l.
             let c = p.answered a at left l in
             after_rest sc formats ps level most c.leads
@@ -187,32 +203,35 @@ module _ (sc : Scopes) (formats : List Format) (ps : List Placed) (level most : 
             (settle_items sc k) c.at c.with_slots s.0 s.1 s.2 s.3 c.shows w s.6 s.7 s.8
             (while_body sc formats ps level most e b k s.0 s.1 s.2 s.3 w s.6 s.7 s.8 (stmt_at sc formats ps level most b w.0 w.1 w.1 w.4 stop)) (items_at sc formats ps level most k s.3 s.7));
       }
-  goes_on_at (rests.checking h b e k) pc slots s =
+  goes_on_at (rests.checking h b e k) pc slots s asks =
       let p = puts_on sc formats ps level most types.Truth h pc slots (pend k) s.2 s.6 in
       record {
         action = p.action;
+        entered = λ at left l. absurd (p.not_entered at left l);
         answered = λ a at left l.
             let c = p.answered a at left l in
             after_rest sc formats ps level most c.leads
             (checked_stands sc formats ps level most (put sc h a) b e k (settle_items sc k) c.at c.with_slots s.0 s.1 s.2 s.3 s.4 s.5 c.shows s.7 s.8 s.9 s.10 s.11 s.12 s.13
             (items_at sc formats ps level most k s.5 s.12));
       }
-  goes_on_at (rests.counting h b k) pc slots s =
+  goes_on_at (rests.counting h b k) pc slots s asks =
       let p = puts_on sc formats ps level most types.Number h pc slots (pend k) s.0 s.3 in
       let t = s.4 in
       record {
         action = p.action;
+        entered = λ at left l. absurd (p.not_entered at left l);
         answered = λ a at left l.
             let c = p.answered a at left l in
             after_rest sc formats ps level most c.leads
             (counted_stands sc formats ps level most (put sc h a) b k (settle_items sc k) c.at c.with_slots s.0 s.1 s.2 c.shows t s.5 s.6 s.7
             (stmt_at sc formats ps level most b t.1 t.2 t.2 t.4 stop) (items_at sc formats ps level most k s.2 s.6));
       }
-  goes_on_at (rests.differing h loop k) pc slots s =
+  goes_on_at (rests.differing h loop k) pc slots s asks =
       let p = puts_on sc formats ps level most types.Number h pc slots (pend k) s.1 s.5 in
       let o = s.8 in
       record {
         action = p.action;
+        entered = λ at left l. absurd (p.not_entered at left l);
         answered = λ a at left l.
             let c = p.answered a at left l in
             after_rest sc formats ps level most c.leads
@@ -220,11 +239,12 @@ module _ (sc : Scopes) (formats : List Format) (ps : List Placed) (level most : 
             (items_at sc formats ps level most k s.4 s.9)
             (again_at sc formats ps level most loop k s.0 s.1 s.2 s.3 s.4 s.6 s.7 o s.9 s.10 (stmt_at sc formats ps level most loop.body s.2 o.0 o.0 o.2 stop)));
       }
-  goes_on_at (rests.stepping d h loop k) pc slots s =
+  goes_on_at (rests.stepping d h loop k) pc slots s asks =
       let p = puts_on sc formats ps level most types.Number h pc slots (operand d ∷ pend k) s.2 s.7 in
       let o = s.11 in
       record {
         action = p.action;
+        entered = λ at left l. absurd (p.not_entered at left l);
         answered = λ a at left l.
             let c = p.answered a at left l in
             after_rest sc formats ps level most c.leads
@@ -232,25 +252,42 @@ module _ (sc : Scopes) (formats : List Format) (ps : List Placed) (level most : 
             (items_at sc formats ps level most k s.5 s.12)
             (again_at sc formats ps level most loop k s.0 s.1 s.3 s.4 s.5 s.8 (any s.2 s.9 s.10) o s.12 s.13 (stmt_at sc formats ps level most loop.body s.3 o.0 o.0 o.2 stop)));
       }
-  goes_on_at (rests.selecting h ss k) pc slots s =
+  goes_on_at (rests.selecting h ss k) pc slots s asks =
       let p = puts_on sc formats ps level most types.Number h pc slots (intrinsic Select ∷ mark ∷ pend k) s.0 s.3 in
       record {
         action = p.action;
+        entered = λ at left l. absurd (p.not_entered at left l);
         answered = λ a at left l.
             let c = p.answered a at left l in
             after_rest sc formats ps level most c.leads (selected_stands sc formats ps level most (put sc h a) ss k c.at c.with_slots s.0 s.1 s.2 c.shows s.4 s.5 s.6 s.7);
       }
-  goes_on_at (rests.writing phrases vs h es k) pc slots s =
+  goes_on_at (rests.writing phrases vs h es k) pc slots s asks =
       let p = puts_on sc formats ps level most types.Number h pc slots (operands vs (line_begun s.0 (pend k))) s.1 s.7 in
       record {
         action = p.action;
+        entered = λ at left l. absurd (p.not_entered at left l);
         answered = λ a at left l.
             let c = p.answered a at left l in
             after_rest sc formats ps level most c.leads
             (item_stands sc formats ps level most phrases vs (put sc h a) es k s.0 s.1 s.2 s.3 c.at c.with_slots c.shows s.8 s.9 s.4 s.5 s.6 s.10 s.11
             (line_at sc formats ps level most es phrases k s.0 s.1 s.2 s.3 s.8 s.9 s.5 s.10));
       }
-  goes_on_at _ pc slots s = absurd s
+  goes_on_at _ pc slots s asks = absurd s
+
+  -- ---- what waits for a part inside
+
+  pub waiting_at : (r : Rest) (a : Answer) (pc : ℕ) (slots after : List Slot) → StandsFor sc formats ps level most r pc slots →
+      Returned sc formats ps level most r a slots after → Coming (resume sc r a) pc after
+  waiting_at (rests.within k) rests.done pc slots after s l =
+      subst (λ o. Coming (settle_items sc k) pc o) (sym (l ∙ s.0)) (items_at sc formats ps level most k pc s.1)
+  waiting_at (rests.within k) (rests.value v) pc slots after s l = absurd l
+  waiting_at (rests.within k) (rests.cell c) pc slots after s l = absurd l
+  waiting_at (rests.within k) (rests.place p) pc slots after s l = absurd l
+  waiting_at (rests.within k) rests.entered pc slots after s l = absurd l
+  waiting_at _ a pc slots after s l = absurd l
 
 pub rests_go_on : RestsGoOn
-rests_go_on sc formats ps level most r pc slots s = goes_on_at sc formats ps level most r pc slots s
+rests_go_on sc formats ps level most r pc slots s asks = goes_on_at sc formats ps level most r pc slots s asks
+
+pub waiting_goes_on : WaitingGoesOn
+waiting_goes_on sc formats ps level most r a pc slots after s l = waiting_at sc formats ps level most r a pc slots after s l

@@ -14,6 +14,7 @@ use Rattle.b67_standing.specs.Stepping.{HasRoom}
 use Rattle.b67_standing.specs.Standing.{pend, Follows, RoundAt, ComesTo}
 use Rattle.b67_standing.specs.Laws.{ItemsStand}
 use Rattle.b67_standing.proofs.Leading.{pend-length, leads_by}
+use Rattle.b67_standing.proofs.Asking.{leaves_asks}
 use Rattle.b67_standing.proofs.Settling.{settle_at}
 use Rattle.b67_standing.proofs.Rests.{after_rest, stays_here, turning_at, checked_stands}
 use Rattle.b67_standing.proofs.Loops.{RoundRoom, repeated_at, again_at, differed_stands}
@@ -22,7 +23,7 @@ use Rattle.b67_standing.proofs.Performing.{stmt_at}
 module _ (sc : Scopes) (formats : List Format) (ps : List Placed) (level most : ℕ) where
   pub items_at : (k : List Item) (pc : ℕ) → Follows sc formats ps level most k pc → ComesTo sc formats ps level most (settle_items sc k) pc (pend k)
   items_at [] pc s =
-      let h = s.at in after_rest sc formats ps level most (leads_by sc formats ps level most h.2) (stays_here sc formats ps level most h.0 [] rests.over (h.1, h.3, refl))
+      let h = s.at in after_rest sc formats ps level most (leads_by sc formats ps level most h.2) (stays_here sc formats ps level most h.0 [] rests.over (leaves_asks rests.done) (h.1, h.3, refl))
   items_at (rests.run x ∷ k) pc s =
       let h = s.at in
       let more : Follows sc formats ps level most k h.2 = record { at = h.6; shallow = (s.shallow).1; counts = s.counts } in

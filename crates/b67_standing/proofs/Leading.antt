@@ -11,7 +11,7 @@ use Rattle.b67_segment.specs.declared.code.Format.{Format}
 use Rattle.b67_templates.specs.Fragments.{Goes, stop, over}
 use Rattle.b67_templates.specs.Code.{StmtAt, KAt}
 use Rattle.b67_templates.specs.Depths.{depth, stmt_depth, counts_in}
-use Rattle.b67_standing.specs.Stepping.{Slot, operand, HasRoom, Step, push_number, push_truth, push_name, calculate, negate, invert, false_stays, false_goes, true_stays, true_goes, go, call, drop, counts, spent, within, past, within_literal, past_literal, Leads, there, first}
+use Rattle.b67_standing.specs.Stepping.{Slot, operand, HasRoom, Step, push_number, push_truth, push_name, calculate, negate, invert, false_stays, false_goes, true_stays, true_goes, go, call, announce, drop, counts, spent, within, past, within_literal, past_literal, Leads, there, first}
 use Rattle.b67_standing.specs.Standing.{pend, Follows}
 
 -- an expression needs a word at least
@@ -93,6 +93,7 @@ module _ (sc : Scopes) (formats : List Format) (ps : List Placed) (level most : 
   within_most (true_goes h) l = omega (arith, l)
   within_most (go h) l = l
   within_most (call name h room) l = omega (arith, room)
+  within_most (announce begin e room) l = omega (arith, room)
   within_most (drop v h) l = omega (arith, l)
   within_most (counts z h w e room) l = omega (arith, l)
   within_most (spent z h w e room) l = omega (arith, l)

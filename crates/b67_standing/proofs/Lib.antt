@@ -1,5 +1,6 @@
 pub mod Leading
 pub mod Values
+pub mod Asking
 pub mod Settling
 pub mod Putting
 pub mod Rests

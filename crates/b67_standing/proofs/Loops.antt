@@ -19,6 +19,7 @@ use Rattle.b67_templates.specs.Depths.{loop_depth, stmt_depth}
 use Rattle.b67_standing.specs.Stepping.{Slot, operand, HasRoom, counts, spent, drop, within, past, within_literal, past_literal, there, first}
 use Rattle.b67_standing.specs.Standing.{pend, Follows, Shows, RoundAt, ComesTo}
 use Rattle.b67_standing.proofs.Leading.{depth-positive, pend-length, leads_by, valued_at, follows_run}
+use Rattle.b67_standing.proofs.Asking.{holds_asks}
 use Rattle.b67_standing.proofs.Settling.{settle_at}
 use Rattle.b67_standing.proofs.Rests.{after_rest, stays_here, follows_turn, turning_at, assign_at}
 use Rattle.b67_standing.proofs.Values.{less_whole, literal_settles}
@@ -68,7 +69,8 @@ module _ (sc : Scopes) (formats : List Format) (ps : List Placed) (level most : 
   counted_stands (val (number z)) b k r pc slots q t u sh h g follows room p y =
       after_rest sc formats ps level most (valued_at sc formats ps level most pc slots (number z) (pend k) q sh.0 sh.1) (repeated_at b k r q t u h g follows room p y z sh.2)
   counted_stands (val (truth v)) b k r pc slots q t u sh h g follows room p y = absurd sh.2
-  counted_stands (busy x) b k r pc slots q t u sh h g follows room p y = stays_here sc formats ps level most pc slots (rests.counting x b k) (q, t, u, sh, h, g, follows, room)
+  counted_stands (busy x) b k r pc slots q t u sh h g follows room p y =
+      stays_here sc formats ps level most pc slots (rests.counting x b k) (holds_asks sc formats ps level most types.Number x pc slots (pend k) q sh) (q, t, u, sh, h, g, follows, room)
 
   -- ---- FOR
 
@@ -116,7 +118,8 @@ module _ (sc : Scopes) (formats : List Format) (ps : List Placed) (level most : 
   tested_stands (number d) (val (truth z)) loop k r pc slots q m m' n t u kd sh e s h o follows room a b = absurd sh.2
   tested_stands (truth d) x loop k r pc slots q m m' n t u kd sh e s h o follows room a b = absurd kd
   tested_stands (number d) (busy x) loop k r pc slots q m m' n t u kd sh e s h o follows room a b =
-      stays_here sc formats ps level most pc slots (rests.stepping (number d) x loop k) (q, m, m', n, t, u, kd, sh, e, s, h, o, follows, room)
+      stays_here sc formats ps level most pc slots (rests.stepping (number d) x loop k)
+      (holds_asks sc formats ps level most types.Number x pc slots (operand (number d) ∷ pend k) m' sh) (q, m, m', n, t, u, kd, sh, e, s, h, o, follows, room)
 
   -- the difference lies there
   differed_by : (d : ℤ) (loop : Loop) (k : List Item) (r : Rest) (q m n t u : ℕ) → IsWhole d → ExprAt sc formats ps level types.Number (difference_in loop) q m m →
@@ -139,4 +142,4 @@ module _ (sc : Scopes) (formats : List Format) (ps : List Placed) (level most : 
       (differed_by d loop k r q m n t u sh.2 e s o follows room a b)
   differed_stands (val (truth d)) loop k r pc slots q m n t u sh e s o follows room a b = absurd sh.2
   differed_stands (busy x) loop k r pc slots q m n t u sh e s o follows room a b =
-      stays_here sc formats ps level most pc slots (rests.differing x loop k) (q, m, n, t, u, sh, e, s, o, follows, room)
+      stays_here sc formats ps level most pc slots (rests.differing x loop k) (holds_asks sc formats ps level most types.Number x pc slots (pend k) m sh) (q, m, n, t, u, sh, e, s, o, follows, room)

@@ -6,7 +6,7 @@ use Rattle.algol_tree.specs.declared.tree.Named.{Named}
 use Rattle.algol_tree.specs.declared.token.Spot.{Spot}
 use Rattle.algol_tree.specs.declared.tree.PhraseText.{PhraseText}
 use Rattle.algol_tree.specs.Plain as tree
-use Rattle.algol_tree.specs.Plain.{PExpr, PExprs, PStmt, PStmts}
+use Rattle.algol_tree.specs.Plain.{PExpr, PExprs, PStmt, PStmts, PDecl, PDecls}
 use Rattle.algol_tree.specs.Scopes.{Scopes}
 use Rattle.algol_meaning.specs.Rest as rests
 use Rattle.algol_meaning.specs.Rest.{Item, Rest}
@@ -15,14 +15,15 @@ use Rattle.algol_meaning.specs.Statements.{items, checked_of, settle_stmt, settl
 use Rattle.b67_ops.specs.declared.intrinsic.Intrinsic.TheVariants.{Write, Select}
 use Rattle.b67_segment.specs.Operators.{Placed}
 use Rattle.b67_segment.specs.declared.code.Format.{Format}
-use Rattle.b67_templates.specs.Fragments.{Goes, stop, over}
+use Rattle.b67_templates.specs.Fragments.{Goes, stop, over, code_at, program_segment}
 use Rattle.b67_templates.specs.Code.{FormatIs, StmtAt, StmtsAt, WriteAt}
 use Rattle.b67_templates.specs.Depths.{depth, stmt_depth, stmts_depth}
-use Rattle.b67_standing.specs.Stepping.{Slot, intrinsic, mark, HasRoom, push_number, call, there, first}
+use Rattle.b67_standing.specs.Stepping.{Slot, intrinsic, control, mark, HasRoom, push_number, call, announce, there, first}
 use Rattle.b67_standing.specs.Standing.{pend, Follows, WhileAt, ComesTo}
 use Rattle.b67_standing.proofs.Leading.{depth-positive, pend-length, leads_by, follows_before, follows_run}
+use Rattle.b67_standing.proofs.Asking.{enters_asks}
 use Rattle.b67_standing.proofs.Settling.{settle_at}
-use Rattle.b67_standing.proofs.Rests.{after_rest, follows_turn, turning_at, assign_at, chosen_stands, looped_stands, checked_stands, selected_stands, line_at}
+use Rattle.b67_standing.proofs.Rests.{after_rest, stays_here, follows_turn, turning_at, assign_at, chosen_stands, looped_stands, checked_stands, selected_stands, line_at}
 use Rattle.b67_standing.proofs.Loops.{Performs, counted_stands}
 
 pub pend-items : (ss : PStmts) (k : List Item) → pend (items ss k) ≡ pend k
@@ -60,9 +61,26 @@ module _ (sc : Scopes) (formats : List Format) (ps : List Placed) (level most : 
       (line_at sc formats ps level most es phrases k h.format h.numbered h.valued t h.items h.enter (h.number).whole (follows_before sc formats ps level most k g follows) []
       (subst (λ z. FormatIs sc formats ps level h.format phrases z) (omega arith) h.is) tt (omega (arith, room)))
 
+  -- ---- inner blocks
+
+  -- over the block's code to its entry, which its control word and a mark announce
+  inner_at : (spot : Spot) (d : PDecl) (ds : PDecls) (ss : PStmts) (f t u : ℕ) → StmtAt sc formats ps level (tree.block (tree.body spot (tree.decls d ds) ss)) f t u →
+      Goes ps level t u → Doing (tree.block (tree.body spot (tree.decls d ds) ss)) f u
+  inner_at spot d ds ss f t u h g k r follows room c =
+      let e = h.4 in
+      let word = code_at program_segment h.1 (level + 1) in
+      after_rest sc formats ps level most (leads_by sc formats ps level most h.2)
+      (after_rest sc formats ps level most (first (announce h.1 e (omega (arith, room))) there)
+      (stays_here sc formats ps level most e.named (control word ∷ mark ∷ pend k) (rests.entering_block (tree.body spot (tree.decls d ds) ss) k)
+      (enters_asks (tree.body spot (tree.decls d ds) ss)) (
+        t,
+        record { begin = h.1; fits = e.fits; code = h.3; shallow = omega (arith, room); lies = refl; stands = e.enter },
+        follows_before sc formats ps level most k g follows,
+      )))
+
   -- ---- all statements
 
-  items_follow : (ss : PStmts) (k : List Item) (f t u : ℕ) → StmtsAt sc formats ps level ss f t u → Goes ps level t u → Following k u → HasRoom most (pend k) (stmts_depth ss) →
+  pub items_follow : (ss : PStmts) (k : List Item) (f t u : ℕ) → StmtsAt sc formats ps level ss f t u → Goes ps level t u → Following k u → HasRoom most (pend k) (stmts_depth ss) →
       Following (items ss k) f
   items_follow tree.no_stmts k f t u h g follows room = subst (Following k) (sym h) (follows_before sc formats ps level most k g follows)
   items_follow (tree.stmts s tree.no_stmts) k f t u h g follows room = follows_run sc formats ps level most s k f t u h g (omega (arith, room)) follows
@@ -81,6 +99,7 @@ module _ (sc : Scopes) (formats : List Format) (ps : List Placed) (level most : 
     stmt_at (tree.assign (tree.subscripted n tree.none) e) f t u h g k r follows room c =
         assign_at sc formats ps level most n e f t k h (follows_before sc formats ps level most k g follows) room
     stmt_at (tree.block (tree.body spot tree.no_decls ss)) f t u h g k r follows room c = stmts_at ss f t u h g k r follows room c
+    stmt_at (tree.block (tree.body spot (tree.decls d ds) ss)) f t u h g k r follows room c = inner_at spot d ds ss f t u h g k r follows room c
     stmt_at (tree.if_then e x) f t u h g k r follows room c =
         let d = settle_at sc formats ps level most types.Truth e f h.0 h.0 h.2 stop (pend k) (omega (arith, room)) in
         after_rest sc formats ps level most d.leads

@@ -1,5 +1,5 @@
 -- The action at the head of an expression stands where the machine stands for it, and from where it leaves the machine the rest of the
--- expression goes on.
+-- expression goes on. It enters no block.
 use Rattle.std.proofs.Common.{◌≡◌, sym, ap, ◌∙◌, subst, ℕ, arith, List, ◌∷◌}
 use Rattle.algol_tree.specs.declared.tree.Kind.{Kind}
 use Rattle.algol_tree.specs.declared.tree.Kind.TheVariants as types
@@ -16,7 +16,7 @@ use Rattle.b67_segment.specs.declared.code.Format.{Format}
 use Rattle.b67_templates.specs.Fragments.{Goes, stop, over}
 use Rattle.b67_templates.specs.Code.{ReadAt}
 use Rattle.b67_standing.specs.Stepping.{Slot, operand, ready, HasRoom}
-use Rattle.b67_standing.specs.Standing.{Holds, ActionAt, Acted}
+use Rattle.b67_standing.specs.Standing.{Holds, ActionAt, Acted, Entered}
 use Rattle.b67_standing.proofs.Settling.{Comes, here, after, of_kind, right_at, left_at, negated_at, inverted_at, condition_at, settle_at}
 
 -- the head acts, and whatever it answers, the machine then comes to where it stands for the expression
@@ -24,6 +24,7 @@ pub record PutsOn (sc : Scopes) (formats : List Format) (ps : List Placed) (leve
   pub action : ActionAt sc formats ps level most (ask_hole h) pc slots
   pub answered : (a : Answer) (at : ℕ) (after : List Slot) → Acted sc formats ps level most (ask_hole h) pc slots action a at after →
       Comes sc formats ps level most k at after (put sc h a) below to
+  pub not_entered : (at : ℕ) (after : List Slot) → Entered sc formats ps level most (ask_hole h) pc slots action at after → ⊥
 
 module _ (sc : Scopes) (formats : List Format) (ps : List Placed) (level most : ℕ) where
   abbrev Putting : Kind → Hole → ℕ → List Slot → List Slot → ℕ → Type 0
@@ -53,15 +54,17 @@ module _ (sc : Scopes) (formats : List Format) (ps : List Placed) (level most : 
   pub puts_on : (k : Kind) (h : Hole) (pc : ℕ) (slots below : List Slot) (to : ℕ) → Holds sc formats ps level most k h pc slots below to → Putting k h pc slots below to
   puts_on k (rests.read n) pc slots below to s =
       let room : HasRoom most slots 1 = subst (λ o. HasRoom most o 1) (sym s.2) s.3 in
-      record { action = (k, s.0, s.1, room); answered = read_answered k n pc s.0 slots below to s.1 room s.2 s.4 }
+      record { action = (k, s.0, s.1, room); answered = read_answered k n pc s.0 slots below to s.1 room s.2 s.4; not_entered = λ at left l. l }
   puts_on k (rests.broken op v w fault) pc slots below to s = record {
     action = (op, v, w, s.0, below, s.2);
     answered = λ a at left l. absurd (no_answer fault pc slots (op, v, w, s.0, below, s.2) a at left l);
+    not_entered = λ at left l. l;
   }
   puts_on k (rests.left op h b) pc slots below to s =
       let p = puts_on (taken_by op) h pc slots below s.0 s.5 in
       record {
         action = p.action;
+        not_entered = p.not_entered;
         answered = λ a at left l.
             let c = p.answered a at left l in
             of_kind sc formats ps level most at left (put sc (rests.left op h b) a) below to s.4
@@ -73,6 +76,7 @@ module _ (sc : Scopes) (formats : List Format) (ps : List Placed) (level most : 
       let p = puts_on (taken_by op) h pc slots (operand (ready op v) ∷ below) s.0 s.4 in
       record {
         action = p.action;
+        not_entered = p.not_entered;
         answered = λ a at left l.
             let c = p.answered a at left l in
             of_kind sc formats ps level most at left (put sc (rests.right op v h) a) below to s.2
@@ -82,6 +86,7 @@ module _ (sc : Scopes) (formats : List Format) (ps : List Placed) (level most : 
       let p = puts_on types.Number h pc slots below s.0 s.3 in
       record {
         action = p.action;
+        not_entered = p.not_entered;
         answered = λ a at left l.
             let c = p.answered a at left l in
             of_kind sc formats ps level most at left (put sc (rests.negated h) a) below to s.2
@@ -91,6 +96,7 @@ module _ (sc : Scopes) (formats : List Format) (ps : List Placed) (level most : 
       let p = puts_on types.Truth h pc slots below s.0 s.3 in
       record {
         action = p.action;
+        not_entered = p.not_entered;
         answered = λ a at left l.
             let c = p.answered a at left l in
             of_kind sc formats ps level most at left (put sc (rests.inverted h) a) below to s.2
@@ -100,6 +106,7 @@ module _ (sc : Scopes) (formats : List Format) (ps : List Placed) (level most : 
       let p = puts_on types.Truth h pc slots below s.0 s.6 in
       record {
         action = p.action;
+        not_entered = p.not_entered;
         answered = λ a at left l.
             let c = p.answered a at left l in
             after sc formats ps level most k c.leads

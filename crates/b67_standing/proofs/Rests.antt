@@ -10,9 +10,10 @@ use Rattle.algol_tree.specs.Plain.{PExpr, PExprs, PStmt, PStmts}
 use Rattle.algol_tree.specs.Scopes.{Scopes}
 use Rattle.algol_meaning.specs.Value.{Value, number, truth}
 use Rattle.algol_meaning.specs.Rest as rests
-use Rattle.algol_meaning.specs.Rest.{own, Half, val, busy, Item, Rest}
+use Rattle.algol_meaning.specs.Rest.{own, Hole, Half, val, busy, Item, Rest}
 use Rattle.algol_meaning.specs.Settle.{sort_at, settle, settle_place}
 use Rattle.algol_meaning.specs.Statements.{assigned_of, aimed_at, chosen_of, looped_of, checked_of, selected_of, item_of, run_and, settle_line}
+use Rattle.algol_meaning.specs.Asks.{nothing, ask_hole, ask}
 use Rattle.b67_ops.specs.declared.Couple.{Couple}
 use Rattle.b67_ops.specs.declared.Operator.TheVariants as ops
 use Rattle.b67_ops.specs.declared.PlainKind.TheVariants as kinds
@@ -25,8 +26,9 @@ use Rattle.b67_templates.specs.Cells.{IsVariable}
 use Rattle.b67_templates.specs.Code.{FormatIs, ExprAt, AssignAt, LineAt, TableAt, StmtAt, CasesAt, exprs_count, stmts_count}
 use Rattle.b67_templates.specs.Depths.{depth, line_depth, stmt_depth, stmts_depth, counts_in, AreShallow}
 use Rattle.b67_standing.specs.Stepping.{Slot, operand, reference, intrinsic, mark, HasRoom, push_number, push_name, false_stays, false_goes, true_stays, true_goes, Leads, there, first}
-use Rattle.b67_standing.specs.Standing.{pend, operands, AreNumbers, line_begun, Follows, Shows, WhileAt, StandsFor, ComesTo}
+use Rattle.b67_standing.specs.Standing.{pend, operands, AreNumbers, line_begun, Follows, Holds, Shows, WhileAt, StandsFor, ComesTo}
 use Rattle.b67_standing.proofs.Leading.{depth-positive, on, valued_at, follows_run}
+use Rattle.b67_standing.proofs.Asking.{stores_asks, selects_asks, turns_asks, writes_asks, holds_asks}
 use Rattle.b67_standing.proofs.Settling.{settle_at}
 use Rattle.b67_standing.proofs.Values.{variable_place}
 
@@ -65,10 +67,13 @@ module _ (sc : Scopes) (formats : List Format) (ps : List Placed) (level most : 
   Showing = Shows sc formats ps level most
 
   pub after_rest : {a b : ℕ} {x y : List Slot} {r : Rest} → Leads sc formats ps level most a x b y → Coming r b y → Coming r a x
-  after_rest l c = record { at = c.at; with_slots = c.with_slots; leads = on sc formats ps level most l c.leads; stands = c.stands }
+  after_rest l c = record { at = c.at; with_slots = c.with_slots; leads = on sc formats ps level most l c.leads; stands = c.stands; asks = c.asks }
 
-  pub stays_here : (pc : ℕ) (slots : List Slot) (r : Rest) → StandsFor sc formats ps level most r pc slots → Coming r pc slots
-  stays_here pc slots r s = record { at = pc; with_slots = slots; leads = there; stands = s }
+  pub stays_here : (pc : ℕ) (slots : List Slot) (r : Rest) → (ask r ≡ nothing → ⊥) → StandsFor sc formats ps level most r pc slots → Coming r pc slots
+  stays_here pc slots r a s = record { at = pc; with_slots = slots; leads = there; stands = s; asks = a }
+
+  heads_ask : (k : Kind) (h : Hole) (pc : ℕ) (slots below : List Slot) (to : ℕ) → Holds sc formats ps level most k h pc slots below to → ask_hole h ≡ nothing → ⊥
+  heads_ask = holds_asks sc formats ps level most
 
   value_at : (pc : ℕ) (slots : List Slot) (v : Value) (below : List Slot) (to : ℕ) → Goes ps level pc to → slots ≡ operand v ∷ below →
       Leads sc formats ps level most pc slots to (operand v ∷ below)
@@ -84,7 +89,7 @@ module _ (sc : Scopes) (formats : List Format) (ps : List Placed) (level most : 
   }
 
   pub turning_at : (k : List Item) (pc l next : ℕ) → TurnAt ps level pc l next → Following k l → Coming (rests.turning k) pc (pend k)
-  turning_at k pc l next h f = stays_here pc (pend k) (rests.turning k) (l, next, h, refl, f)
+  turning_at k pc l next h f = stays_here pc (pend k) (rests.turning k) turns_asks (l, next, h, refl, f)
 
   -- ---- assignments
 
@@ -92,9 +97,10 @@ module _ (sc : Scopes) (formats : List Format) (ps : List Placed) (level most : 
       Showing kind x pc slots (reference n ∷ pend k) m → Has ps level m (ops.Plain kinds.Stod) next → Following k next → Coming (assigned_of (own n) x k) pc slots
   assigned_stands n kind couple (val v) pc slots k m next i s h f =
       after_rest (value_at pc slots v (reference n ∷ pend k) m s.0 s.1)
-      (stays_here m (operand v ∷ reference n ∷ pend k) (rests.store (own n) v k)
+      (stays_here m (operand v ∷ reference n ∷ pend k) (rests.store (own n) v k) (stores_asks (own n) v)
       (next, record { kind = kind; couple = couple; variable = i; fits = s.2; lies = refl; stands = h }, f))
-  assigned_stands n kind couple (busy x) pc slots k m next i s h f = stays_here pc slots (rests.storing (own n) x k) (kind, couple, m, next, i, s, h, f)
+  assigned_stands n kind couple (busy x) pc slots k m next i s h f =
+      stays_here pc slots (rests.storing (own n) x k) (heads_ask kind x pc slots (reference n ∷ pend k) m s) (kind, couple, m, next, i, s, h, f)
 
   pub assign_at : (n : Named) (e : PExpr) (f t : ℕ) (k : List Item) → AssignAt sc formats ps level n e f t → Following k t → HasRoom most (pend k) (1 + depth e) →
       Coming (aimed_at (settle_place sc (tree.subscripted n tree.none)) e (settle sc e) k) f (pend k)
@@ -118,7 +124,7 @@ module _ (sc : Scopes) (formats : List Format) (ps : List Placed) (level most : 
       after_rest (value_at pc slots (truth c) (pend k) m sh.0 sh.1) (rest_parted c s r m f m' (pend k) h y z)
   chosen_stands (val (number c)) a b k s r pc slots m m' n f t u sh h i g j l follows room y z = absurd sh.2
   chosen_stands (busy x) a b k s r pc slots m m' n f t u sh h i g j l follows room y z =
-      stays_here pc slots (rests.choosing x a b k) (m, m', n, f, t, u, sh, h, i, g, j, l, follows, room)
+      stays_here pc slots (rests.choosing x a b k) (heads_ask types.Truth x pc slots (pend k) m sh) (m, m', n, f, t, u, sh, h, i, g, j, l, follows, room)
 
   pub looped_stands : (x : Half) (c : PExpr) (b : PStmt) (k : List Item) (s r : Rest) (pc : ℕ) (slots : List Slot) (f m t u : ℕ) → Showing types.Truth x pc slots (pend k) m →
       (w : WhileAt sc formats ps level most c b f m t u) → Goes ps level t u → Following k u → HasRoom most (pend k) (depth c + stmt_depth b) → Coming s w.0 (pend k) →
@@ -127,7 +133,7 @@ module _ (sc : Scopes) (formats : List Format) (ps : List Placed) (level most : 
       after_rest (value_at pc slots (truth v) (pend k) m sh.0 sh.1) (rest_parted v s r m u w.0 (pend k) w.3 y z)
   looped_stands (val (number v)) c b k s r pc slots f m t u sh w g follows room y z = absurd sh.2
   looped_stands (busy x) c b k s r pc slots f m t u sh w g follows room y z =
-      stays_here pc slots (rests.looping x c b k) (f, m, t, u, sh, w, g, follows, room)
+      stays_here pc slots (rests.looping x c b k) (heads_ask types.Truth x pc slots (pend k) m sh) (f, m, t, u, sh, w, g, follows, room)
 
   pub checked_stands : (x : Half) (b : PStmt) (c : PExpr) (k : List Item) (r : Rest) (pc : ℕ) (slots : List Slot) (f q m m' t u : ℕ) → Showing types.Truth x pc slots (pend k) m →
       StmtAt sc formats ps level b f q q → ExprAt sc formats ps level types.Truth c q m m → BranchAt ps level Brtr m u m' → TurnAt ps level m' f t → Goes ps level t u →
@@ -140,7 +146,7 @@ module _ (sc : Scopes) (formats : List Format) (ps : List Placed) (level most : 
       (after_rest (first (true_stays h) there) (turning_at (run_and (tree.until b c) k) m' f t j again))
   checked_stands (val (number v)) b c k r pc slots f q m m' t u sh i e h j g follows room y = absurd sh.2
   checked_stands (busy x) b c k r pc slots f q m m' t u sh i e h j g follows room y =
-      stays_here pc slots (rests.checking x b c k) (f, q, m, m', t, u, sh, i, e, h, j, g, follows, room)
+      stays_here pc slots (rests.checking x b c k) (heads_ask types.Truth x pc slots (pend k) m sh) (f, q, m, m', t, u, sh, i, e, h, j, g, follows, room)
 
   -- ---- the number of a CASE
 
@@ -152,9 +158,10 @@ module _ (sc : Scopes) (formats : List Format) (ps : List Placed) (level most : 
       let counted = operand (number (pos (stmts_count ss))) ∷ operand v ∷ begun in
       after_rest (value_at pc slots v begun m sh.0 sh.1)
       (after_rest (first (push_number (pos (stmts_count ss)) h.2 (omega (arith, room))) (first (push_number (pos table) h.3 (omega (arith, room))) there))
-      (stays_here h.1 (operand (number (pos table)) ∷ counted) (rests.select v ss k)
+      (stays_here h.1 (operand (number (pos table)) ∷ counted) (rests.select v ss k) (selects_asks v ss)
       (table, u, record { fits = sh.2; many = (h.2).whole; place = (h.3).whole; lies = refl; stands = h.4 }, c, follows, omega (arith, room))))
-  selected_stands (busy x) ss k pc slots m table u sh h c follows room = stays_here pc slots (rests.selecting x ss k) (m, table, u, sh, h, c, follows, room)
+  selected_stands (busy x) ss k pc slots m table u sh h c follows room =
+      stays_here pc slots (rests.selecting x ss k) (heads_ask types.Number x pc slots (intrinsic Select ∷ mark ∷ pend k) m sh) (m, table, u, sh, h, c, follows, room)
 
   -- ---- lines
 
@@ -177,14 +184,15 @@ module _ (sc : Scopes) (formats : List Format) (ps : List Placed) (level most : 
       (c us (subst (λ z. FormatIs sc formats ps level format phrases (z + exprs_count es)) (sym longer) is) (are_numbers-more vs v fits sh.2)
       (omega (arith, room, longer))))
   item_stands phrases vs (busy x) es k format m n next pc slots sh l h is whole fits follows room c =
-      stays_here pc slots (rests.writing phrases vs x es k) (format, m, n, next, is, whole, fits, sh, l, h, follows, room)
+      stays_here pc slots (rests.writing phrases vs x es k) (heads_ask types.Number x pc slots (operands vs (line_begun format (pend k))) m sh)
+      (format, m, n, next, is, whole, fits, sh, l, h, follows, room)
 
   pub line_at : (es : PExprs) (phrases : List PhraseText) (k : List Item) (format f n next : ℕ) → LineAt sc formats ps level es f n → Has ps level n (ops.Plain kinds.Entr) next →
       IsWhole (pos format) → Following k next → LineOn es phrases k format f
   line_at tree.none phrases k format f n next l h whole follows vs is fits room =
       let begun = line_begun format (pend k) in
       let same : length vs + 0 ≡ length vs = omega arith in
-      stays_here f (operands vs begun) (rests.line phrases vs k) (
+      stays_here f (operands vs begun) (rests.line phrases vs k) (writes_asks phrases vs) (
         next,
         record {
           format = format;

@@ -1,4 +1,4 @@
--- The items of a block follow where their code stands.
+-- The items of a block follow where their code stands, and so do the statements of an inner block.
 use Rattle.std.proofs.Common.{◌≡◌, refl, sym, ap, ◌∙◌, subst, ℕ, ◌≤◌, arith, List, [], ◌∷◌, ◌++◌, append_assoc, Option, Some, None}
 use Rattle.algol_tree.specs.declared.tree.Kind.{Kind}
 use Rattle.algol_tree.specs.declared.tree.Named.{Named}
@@ -11,13 +11,14 @@ use Rattle.algol_meaning.specs.Rest.{Item}
 use Rattle.algol_meaning.specs.Statements.{items, event_items, decl_items, decls_items, ending, items_of, settle_items}
 use Rattle.b67_segment.specs.Operators.{Placed}
 use Rattle.b67_segment.specs.declared.code.Format.{Format}
+use Rattle.b67_templates.specs.Fragments.{stop}
 use Rattle.b67_templates.specs.Code.{KAt}
 use Rattle.b67_templates.specs.Depths.{stmts_depth, counts_in, AreShallow}
 use Rattle.b67_standing.specs.Standing.{pend, AreCounts, Follows, ComesTo}
-use Rattle.b67_standing.specs.Laws.{BlocksStart, CountsHaveRoom}
+use Rattle.b67_standing.specs.Laws.{BlocksStart, InnerBlocksStart, CountsHaveRoom}
 use Rattle.b67_standing.proofs.Leading.{pend-length}
 use Rattle.b67_standing.proofs.Rests.{counts_within}
-use Rattle.b67_standing.proofs.Performing.{pend-items}
+use Rattle.b67_standing.proofs.Performing.{pend-items, items_follow}
 use Rattle.b67_standing.proofs.Items.{items_at}
 
 items-counts : (ss : PStmts) → counts_in (items ss []) ≡ 0
@@ -79,6 +80,12 @@ blocks_start sc formats ps level most b pc h l =
       counts = subst AreCounts (sym same) (items-waiting b.stmts);
     } in
     subst (λ o. ComesTo sc formats ps level most (settle_items sc (items_of b)) pc o) (ap pend same ∙ pend-items b.stmts []) (items_at sc formats ps level most (items_of b) pc follows)
+
+pub inner_blocks_start : InnerBlocksStart
+inner_blocks_start sc formats ps level most ss pc end over h exit l =
+    let last : Follows sc formats ps level most [] end = record { at = (end, over, stop, exit); shallow = tt; counts = tt } in
+    let follows = items_follow sc formats ps level most ss [] pc end end h stop last (omega (arith, l)) in
+    subst (λ o. ComesTo sc formats ps level most (settle_items sc (items ss [])) pc o) (pend-items ss []) (items_at sc formats ps level most (items ss []) pc follows)
 
 pub counts_have_room : CountsHaveRoom
 counts_have_room sc formats ps level most k pc f = omega (arith, pend-length k, counts_within most k f.shallow)

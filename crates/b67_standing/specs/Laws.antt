@@ -1,16 +1,20 @@
 -- The laws of where the machine stands: for every list of operators, every level and every number of words that there may be.
-use Rattle.std.specs.Prelude.{ℕ, ◌<◌, ◌≤◌, List, [], length}
+use Rattle.std.specs.Prelude.{◌≡◌, ℕ, ◌<◌, ◌≤◌, List, [], length}
 use Rattle.algol_tree.specs.Blocks.{Block}
 use Rattle.algol_tree.specs.Scopes.{Scopes}
 use Rattle.algol_meaning.specs.Rest.{Item, Rest, Answer}
-use Rattle.algol_meaning.specs.Statements.{settle_items, items_of}
-use Rattle.algol_meaning.specs.Asks.{Ask}
+use Rattle.algol_tree.specs.Plain.{PStmts}
+use Rattle.algol_meaning.specs.Statements.{settle_items, items, items_of}
+use Rattle.algol_meaning.specs.Asks.{Ask, nothing, ask, resume}
 use Rattle.b67_segment.specs.Operators.{Placed}
 use Rattle.b67_segment.specs.declared.code.Format.{Format}
-use Rattle.b67_templates.specs.Code.{KAt}
+use Rattle.b67_ops.specs.declared.Operator.TheVariants as ops
+use Rattle.b67_ops.specs.declared.PlainKind.TheVariants as kinds
+use Rattle.b67_templates.specs.Fragments.{Has}
+use Rattle.b67_templates.specs.Code.{StmtsAt, KAt}
 use Rattle.b67_templates.specs.Depths.{stmts_depth}
 use Rattle.b67_standing.specs.Stepping.{Slot, Step, Leads}
-use Rattle.b67_standing.specs.Standing.{pend, Follows, StandsFor, ComesTo, ActionAt, Acted, GoesOn}
+use Rattle.b67_standing.specs.Standing.{pend, Follows, StandsFor, ComesTo, ActionAt, Acted, Returned, GoesOn}
 
 -- from where the items stand the machine comes to where it stands for them after the silent steps
 abbrev pub ItemsStand : Type 0
@@ -24,11 +28,24 @@ BlocksStart =
     (sc : Scopes) (formats : List Format) (ps : List Placed) (level most : ℕ) (b : Block) (pc : ℕ) →
     KAt sc formats ps level (items_of b) pc → stmts_depth b.stmts ≤ most → ComesTo sc formats ps level most (settle_items sc (items_of b)) pc []
 
--- wherever the machine stands for a rest, the action of its head stands there, and from where that leaves the machine it goes on
+-- so it does from the statements of an inner block, behind which its EXIT stands
+abbrev pub InnerBlocksStart : Type 0
+InnerBlocksStart =
+    (sc : Scopes) (formats : List Format) (ps : List Placed) (level most : ℕ) (ss : PStmts) (pc end over : ℕ) →
+    StmtsAt sc formats ps level ss pc end end → Has ps level end (ops.Plain kinds.Exit) over → stmts_depth ss ≤ most →
+    ComesTo sc formats ps level most (settle_items sc (items ss [])) pc []
+
+-- wherever the machine stands for a rest whose head asks for an action, that stands there, and from where it leaves the machine it goes on
 abbrev pub RestsGoOn : Type 0
 RestsGoOn =
     (sc : Scopes) (formats : List Format) (ps : List Placed) (level most : ℕ) (r : Rest) (pc : ℕ) (slots : List Slot) →
-    StandsFor sc formats ps level most r pc slots → GoesOn sc formats ps level most r pc slots
+    StandsFor sc formats ps level most r pc slots → (ask r ≡ nothing → ⊥) → GoesOn sc formats ps level most r pc slots
+
+-- where a part inside has left, what waited for it goes on
+abbrev pub WaitingGoesOn : Type 0
+WaitingGoesOn =
+    (sc : Scopes) (formats : List Format) (ps : List Placed) (level most : ℕ) (r : Rest) (a : Answer) (pc : ℕ) (slots after : List Slot) →
+    StandsFor sc formats ps level most r pc slots → Returned sc formats ps level most r a slots after → ComesTo sc formats ps level most (resume sc r a) pc after
 
 -- ---- room
 

@@ -1,19 +1,21 @@
 -- Where the machine stands for what a part has still to do: the place of the code, and what lies above the floor there.
-use Rattle.std.specs.Prelude.{◌≡◌, ℕ, ◌+◌, ◌*◌, ◌<◌, pos, List, [], ◌∷◌, length, Err}
+use Rattle.std.specs.Prelude.{◌≡◌, ℕ, ◌+◌, ◌*◌, ◌<◌, ◌≤◌, pos, List, [], ◌∷◌, length, Err}
 use Rattle.algol_tree.specs.declared.tree.Op.{Op}
 use Rattle.algol_tree.specs.declared.tree.Kind.{Kind}
 use Rattle.algol_tree.specs.declared.tree.Kind.TheVariants as types
 use Rattle.algol_tree.specs.declared.tree.Named.{Named}
 use Rattle.algol_tree.specs.declared.tree.PhraseText.{PhraseText}
-use Rattle.algol_tree.specs.Plain.{PExpr, PStmt, PStmts}
+use Rattle.algol_tree.specs.Plain as tree
+use Rattle.algol_tree.specs.Plain.{PExpr, PStmt, PStmts, PDecls}
 use Rattle.algol_tree.specs.Types.{given_by, taken_by}
 use Rattle.algol_tree.specs.Scopes.{Scopes}
 use Rattle.b67_num.specs.declared.NumFault.{NumFault}
 use Rattle.algol_meaning.specs.Value.{Value, number}
 use Rattle.algol_meaning.specs.Operators.{result_of}
-use Rattle.algol_meaning.specs.Rest.{own, Hole, read, broken, left, right, negated, inverted, condition, Half, val, busy, Loop, Item, count, Rest, over, store, select, turning, line, storing, choosing, looping, checking, counting, differing, stepping, selecting, writing, Answer, done, value}
+use Rattle.algol_meaning.specs.Rest.{own, Hole, read, broken, left, right, negated, inverted, condition, Half, val, busy, Loop, Item, count, Rest, over, store, select, turning, line, storing, choosing, looping, checking, counting, differing, stepping, selecting, writing, entering_block, within, Answer, done, value, entered}
 use Rattle.algol_meaning.specs.Statements.{difference_in, stepped}
-use Rattle.algol_meaning.specs.Asks.{Ask, reads, fails, leaves, stores, selects, turns, writes, ask, resume}
+use Rattle.algol_meaning.specs.Asks.{Ask, nothing, reads, fails, leaves, stores, selects, turns, writes, enters_block, ask, resume}
+use Rattle.b67_control.specs.Control.{Fits_pcw}
 use Rattle.b67_ops.specs.declared.Couple.{Couple}
 use Rattle.b67_ops.specs.declared.Operator.TheVariants as ops
 use Rattle.b67_ops.specs.declared.PlainKind.TheVariants as kinds
@@ -21,11 +23,11 @@ use Rattle.b67_ops.specs.declared.BranchKind.TheVariants.{Brfl, Brtr, Brun}
 use Rattle.b67_ops.specs.declared.intrinsic.Intrinsic.TheVariants.{Write, Select}
 use Rattle.b67_segment.specs.Operators.{Placed}
 use Rattle.b67_segment.specs.declared.code.Format.{Format}
-use Rattle.b67_templates.specs.Fragments.{IsWhole, HasKind, Has, ReadyAt, BranchAt, TurnAt, Goes, operator_for, is_implication}
+use Rattle.b67_templates.specs.Fragments.{IsWhole, HasKind, Has, ReadyAt, BranchAt, TurnAt, Goes, code_at, program_segment, operator_for, is_implication}
 use Rattle.b67_templates.specs.Cells.{IsVariable}
-use Rattle.b67_templates.specs.Code.{FormatIs, ReadAt, ExprAt, LineAt, TableAt, PastAt, StepAt, StmtAt, CasesAt, ThruAt, KAt, exprs_count, stmts_count}
+use Rattle.b67_templates.specs.Code.{FormatIs, ReadAt, ExprAt, LineAt, TableAt, PastAt, StepAt, StmtAt, CasesAt, InnerAt, ThruAt, KAt, exprs_count, stmts_count}
 use Rattle.b67_templates.specs.Depths.{depth, line_depth, loop_depth, stmt_depth, stmts_depth, AreShallow}
-use Rattle.b67_standing.specs.Stepping.{Slot, operand, reference, intrinsic, mark, ready, HasRoom, Leads}
+use Rattle.b67_standing.specs.Stepping.{Slot, operand, reference, intrinsic, control, mark, ready, HasRoom, Leads}
 
 -- the counts that lie there while these items wait
 abbrev pub pend : List Item → List Slot
@@ -95,6 +97,15 @@ module _ (sc : Scopes) (formats : List Format) (ps : List Placed) (level most : 
     pub lies : slots ≡ operands vs (line_begun format below)
     pub stands : Has ps level pc (ops.Plain kinds.Entr) next
 
+  -- The control word of a block's code lies on a mark. The code runs one level further in, and needs no more words than there may be.
+  pub record EntersAt (ds : PDecls) (ss : PStmts) (pc next : ℕ) (slots below : List Slot) : Type 0 where
+    pub begin : ℕ
+    pub fits : Fits_pcw (code_at program_segment begin (level + 1))
+    pub code : InnerAt sc formats ps (level + 1) ds ss begin
+    pub shallow : stmts_depth ss ≤ most
+    pub lies : slots ≡ control (code_at program_segment begin (level + 1)) ∷ mark ∷ below
+    pub stands : Has ps level pc (ops.Plain kinds.Entr) next
+
   -- ---- expressions
 
   -- Here the machine stands for an expression that is evaluated up to its head. Its value, of that kind, is to lie on `below` at the
@@ -145,6 +156,9 @@ module _ (sc : Scopes) (formats : List Format) (ps : List Placed) (level most : 
       (table : ℕ) × (u : ℕ) × SelectAt v ss pc table slots (pend k) × CasesAt sc formats ps level ss table u × Follows k u × HasRoom most (pend k) (stmts_depth ss)
   StandsFor (turning k) pc slots = (l : ℕ) × (next : ℕ) × TurnAt ps level pc l next × (slots ≡ pend k) × Follows k l
   StandsFor (line phrases vs k) pc slots = (next : ℕ) × WriteAt phrases vs pc next slots (pend k) × Follows k next
+  StandsFor (entering_block (tree.body spot ds ss) k) pc slots = (next : ℕ) × EntersAt ds ss pc next slots (pend k) × Follows k next
+  -- a block is in progress, behind the entry of which the machine goes on
+  StandsFor (within k) pc slots = (slots ≡ pend k) × Follows k pc
   StandsFor (storing (own n) h k) pc slots =
       (kind : Kind) × (c : Couple) × (m : ℕ) × (next : ℕ) × IsVariable sc level n kind c × Holds kind h pc slots (reference n ∷ pend k) m
       × Has ps level m (ops.Plain kinds.Stod) next × Follows k next
@@ -183,12 +197,13 @@ module _ (sc : Scopes) (formats : List Format) (ps : List Placed) (level most : 
       × Has ps level n (ops.Plain kinds.Entr) next × Follows k next × HasRoom most (pend k) (3 + length vs + 1 + line_depth es)
   StandsFor _ pc slots = ⊥
 
-  -- from this place private operators lead to where the machine stands for this rest
+  -- from this place private operators lead to where the machine stands for this rest, whose head asks for an action
   pub record ComesTo (r : Rest) (pc : ℕ) (slots : List Slot) : Type 0 where
     pub at : ℕ
     pub with_slots : List Slot
     pub leads : Leads sc formats ps level most pc slots at with_slots
     pub stands : StandsFor r at with_slots
+    pub asks : ask r ≡ nothing → ⊥
 
   -- ---- the action of the head
 
@@ -205,6 +220,7 @@ module _ (sc : Scopes) (formats : List Format) (ps : List Placed) (level most : 
       × ((i : ℕ) → i < stmts_count ss → (target : ℕ) × (next : ℕ) × BranchAt ps level Brun (table + 3 * i) target next)
   ActionAt turns pc slots = (l : ℕ) × (next : ℕ) × TurnAt ps level pc l next
   ActionAt (writes phrases vs) pc slots = (next : ℕ) × (below : List Slot) × WriteAt phrases vs pc next slots below
+  ActionAt (enters_block (tree.body spot ds ss)) pc slots = (next : ℕ) × (below : List Slot) × EntersAt ds ss pc next slots below
   ActionAt _ pc slots = ⊥
 
   -- where an action with this answer leaves the machine, and what then lies there; after a fault and an end nothing goes on
@@ -217,7 +233,19 @@ module _ (sc : Scopes) (formats : List Format) (ps : List Placed) (level most : 
   Acted (writes phrases vs) pc slots a done at after = (at ≡ a.0) × (after ≡ a.1)
   Acted _ pc slots a _ at after = ⊥
 
-  -- The head's action stands at this place. Whatever it answers, the machine then comes to where it stands for what is left.
+  -- where the machine goes on behind the entry of a part inside, and what lies there
+  abbrev pub Entered : (q : Ask) (pc : ℕ) (slots : List Slot) → ActionAt q pc slots → ℕ → List Slot → Type 0
+  Entered (enters_block (tree.body spot ds ss)) pc slots a at after = (at ≡ a.0) × (after ≡ a.1)
+  Entered _ pc slots a at after = ⊥
+
+  -- what lies there when the part inside has left with this answer
+  abbrev pub Returned : Rest → Answer → List Slot → List Slot → Type 0
+  Returned (within k) done slots after = after ≡ slots
+  Returned _ a slots after = ⊥
+
+  -- The head's action stands at this place. Whatever it answers, the machine then comes to where it stands for what is left; where a
+  -- part inside was entered, it stands behind the entry for what waits there.
   pub record GoesOn (r : Rest) (pc : ℕ) (slots : List Slot) : Type 0 where
     pub action : ActionAt (ask r) pc slots
     pub answered : (a : Answer) (at : ℕ) (after : List Slot) → Acted (ask r) pc slots action a at after → ComesTo (resume sc r a) at after
+    pub entered : (at : ℕ) (after : List Slot) → Entered (ask r) pc slots action at after → StandsFor (resume sc r entered) at after × (ask (resume sc r entered) ≡ nothing)

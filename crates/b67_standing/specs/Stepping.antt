@@ -12,10 +12,11 @@ use Rattle.algol_meaning.specs.Statements.{is_past}
 use Rattle.b67_ops.specs.declared.Operator.TheVariants as ops
 use Rattle.b67_ops.specs.declared.PlainKind.TheVariants as kinds
 use Rattle.b67_ops.specs.declared.BranchKind.TheVariants.{Brfl, Brtr, Brun}
+use Rattle.b67_control.specs.declared.Pcw.{Pcw}
 use Rattle.b67_ops.specs.declared.intrinsic.Intrinsic.{Intrinsic}
 use Rattle.b67_segment.specs.Operators.{Placed}
 use Rattle.b67_segment.specs.declared.code.Format.{Format}
-use Rattle.b67_templates.specs.Fragments.{IsWhole, HasKind, Has, NumberAt, BranchAt, IntrinsicAt, operator_for, is_implication, truth_literal}
+use Rattle.b67_templates.specs.Fragments.{IsWhole, HasKind, Has, NumberAt, BranchAt, IntrinsicAt, EntryAt, code_at, program_segment, operator_for, is_implication, truth_literal}
 use Rattle.b67_templates.specs.Code.{ReferenceAt, CountAt, PastAt, StepSign, SignedAt}
 
 -- a word above the floor
@@ -23,6 +24,7 @@ pub data Slot : Type 0 where
   operand : Value → Slot
   reference : Named → Slot  -- of a variable
   intrinsic : Intrinsic → Slot  -- of an intrinsic
+  control : Pcw → Slot  -- of code that is entered
   mark : Slot  -- one that is not entered
 
 -- the first operand of an operator as its code has it: of an implication it is inverted
@@ -52,6 +54,9 @@ module _ (sc : Scopes) (formats : List Format) (ps : List Placed) (level most : 
     go : {pc target next : ℕ} {below : List Slot} → BranchAt ps level Brun pc target next → Step pc below target below
     -- the start of a call of an intrinsic
     call : {pc next : ℕ} {below : List Slot} (name : Intrinsic) → IntrinsicAt ps level name pc next → HasRoom most below 2 → Step pc below next (intrinsic name ∷ mark ∷ below)
+    -- the start of the entry of a block
+    announce : {pc to : ℕ} {below : List Slot} (begin : ℕ) → (e : EntryAt ps level begin pc to) → HasRoom most below 2 →
+        Step pc below e.named (control (code_at program_segment begin (level + 1)) ∷ mark ∷ below)
     drop : {pc next : ℕ} {below : List Slot} (v : Value) → Has ps level pc (ops.Plain kinds.Dlet) next → Step pc (operand v ∷ below) next below
     -- THRU: one less, or none left
     counts : {pc l next : ℕ} {below : List Slot} (z : ℤ) → CountAt sc formats ps level pc l next → IsWhole z → int_lt (pos 0) z ≡ true → HasRoom most below 3 →
