@@ -1,18 +1,12 @@
 -- Places that ascend are apart from one another.
-use Rattle.std.proofs.Common.{arith, ◌≡◌, ◌⊎◌, inl, inr, true, false, List, [], ◌∷◌, ◌++◌, refl, sym, ap, subst}
+use Rattle.std.proofs.Common.{arith, ◌≡◌, ◌⊎◌, inl, inr, true, false, List, [], ◌∷◌, ◌++◌, map, refl, sym, ap, subst}
 use Rattle.std.proofs.lemmas.Bool.Decides.{nat_tests}
-use Rattle.std.proofs.lemmas.List.{map-append}
-use Rattle.std.specs.List.{AllByRecursion}
+use Rattle.std.specs.List.{flat_map, AllByRecursion}
 use Rattle.algol_tree.specs.declared.token.Spot.{Spot}
-use Rattle.algol_tree.specs.declared.tree.Named.{Named}
 use Rattle.algol_tree.specs.Accepted.{is_before}
-use Rattle.algol_tree.specs.Ascending.{IsAhead, Ascends, spots_of_names}
-use Rattle.algol_tree.specs.Blocks.{Block, same_spot}
-use Rattle.algol_tree.specs.Scopes.{names_in}
-use Rattle.algol_tree.specs.Sites.{Site}
-use Rattle.algol_tree.specs.Surroundings.{Surroundings}
-use Rattle.b67_fitting.proofs.Lists.{each_front, each_back, each_both, each_of}
-use Rattle.b67_fitting.proofs.Listed.{Listed, over, passed, site, all_names}
+use Rattle.algol_tree.specs.Ascending.{IsAhead, Ascends}
+use Rattle.algol_tree.specs.Blocks.{same_spot}
+use Rattle.b67_fitting.proofs.Lists.{each_front, each_back, each_of}
 
 abbrev pub IsIn : {X : Type 0} → X → List X → Type 0
 IsIn x [] = ⊥
@@ -36,10 +30,25 @@ in_front x [] ys i = absurd i
 in_front x (z ∷ xs) ys (inl e) = inl e
 in_front x (z ∷ xs) ys (inr i) = inr (in_front x xs ys i)
 
-pub spot_in : (n : Named) (ns : List Named) → IsIn n ns → IsIn n.spot (spots_of_names ns)
-spot_in n [] i = absurd i
-spot_in n (m ∷ ns) (inl e) = inl (ap (λ (z : Named). z.spot) e)
-spot_in n (m ∷ ns) (inr i) = inr (spot_in n ns i)
+pub in_either : {X : Type 0} (x : X) (xs ys : List X) → IsIn x (xs ++ ys) → IsIn x xs ⊎ IsIn x ys
+in_either x [] ys i = inr i
+in_either x (z ∷ xs) ys (inl e) = inl (inl e)
+in_either x (z ∷ xs) ys (inr i) = later (in_either x xs ys i)
+  where
+    later : IsIn x xs ⊎ IsIn x ys → IsIn x (z ∷ xs) ⊎ IsIn x ys
+    later (inl j) = inl (inr j)
+    later (inr j) = inr j
+
+-- what one of them gives is among what all give
+pub in_flat : {X Y : Type 0} (f : X → List Y) (x : X) (y : Y) (xs : List X) → IsIn x xs → IsIn y (f x) → IsIn y (flat_map f xs)
+in_flat f x y [] i j = absurd i
+in_flat f x y (z ∷ xs) (inl e) j = in_front y (f z) (flat_map f xs) (subst (λ w. IsIn y (f w)) e j)
+in_flat f x y (z ∷ xs) (inr i) j = in_back y (f z) (flat_map f xs) (in_flat f x y xs i j)
+
+pub in_map : {X Y : Type 0} (f : X → Y) (x : X) (xs : List X) → IsIn x xs → IsIn (f x) (map f xs)
+in_map f x [] i = absurd i
+in_map f x (y ∷ ys) (inl e) = inl (ap f e)
+in_map f x (y ∷ ys) (inr i) = inr (in_map f x ys i)
 
 -- ---- apart
 
@@ -52,6 +61,9 @@ Apart (s ∷ spots) = AllByRecursion (IsApart s) spots × Apart spots
 
 pub same_self : (s : Spot) → same_spot s s ≡ true
 same_self s = grind (arith, nat_tests)
+
+pub apart_sym : (s t : Spot) → IsApart s t → IsApart t s
+apart_sym s t h = grind (arith, nat_tests)
 
 before_on : (a b c : Spot) → is_before a b ≡ true → is_before b c ≡ true → is_before a c ≡ true
 before_on a b c p q = grind (arith, nat_tests)
@@ -83,32 +95,7 @@ pub apart_across : (xs ys : List Spot) → Apart (xs ++ ys) → AllByRecursion (
 apart_across [] ys h = tt
 apart_across (x ∷ xs) ys h = (each_back (IsApart x) xs ys h.0, apart_across xs ys h.1)
 
-apart_join : (xs ys : List Spot) → Apart xs → AllByRecursion (λ s. AllByRecursion (IsApart s) ys) xs → Apart ys → Apart (xs ++ ys)
-apart_join [] ys p a q = q
-apart_join (x ∷ xs) ys p a q = (each_both (IsApart x) xs ys p.0 a.0, apart_join xs ys p.1 a.1 q)
-
 -- all of these are apart from a place of those
 pub apart_from : (xs ys : List Spot) (spot : Spot) → Apart (xs ++ ys) → IsIn spot ys → AllByRecursion (λ s. IsApart s spot) xs
 apart_from xs ys spot h i =
     each_of (λ s. AllByRecursion (IsApart s) ys) (λ s. IsApart s spot) xs (λ s g. each_in (IsApart s) spot ys g i) (apart_across xs ys h)
-
--- ---- the names of listed parts
-
-pub within_listed : {blocks : List Block} {a : Surroundings} {spots : List Spot} {xs : List Site} (P : Spot → Type 0) → Listed blocks a spots xs → AllByRecursion P spots →
-    AllByRecursion P (spots_of_names (all_names xs))
-within_listed P over h = tt
-within_listed P (passed spot l) h = within_listed P l h.1
-within_listed P (site x {spots = spots} {xs = xs} f l) h =
-    subst (AllByRecursion P) (sym (map-append (λ (n : Named). n.spot) (names_in x.part) (all_names xs)))
-    (each_both P (spots_of_names (names_in x.part)) (spots_of_names (all_names xs)) (each_front P (spots_of_names (names_in x.part)) spots h)
-    (within_listed P l (each_back P (spots_of_names (names_in x.part)) spots h)))
-
-pub apart_listed : {blocks : List Block} {a : Surroundings} {spots : List Spot} {xs : List Site} → Listed blocks a spots xs → Apart spots → Apart (spots_of_names (all_names xs))
-apart_listed over h = tt
-apart_listed (passed spot l) h = apart_listed l h.1
-apart_listed (site x {spots = spots} {xs = xs} f l) h =
-    let these = spots_of_names (names_in x.part) in
-    subst Apart (sym (map-append (λ (n : Named). n.spot) (names_in x.part) (all_names xs)))
-    (apart_join these (spots_of_names (all_names xs)) (apart_front these spots h)
-    (each_of (λ s. AllByRecursion (IsApart s) spots) (λ s. AllByRecursion (IsApart s) (spots_of_names (all_names xs))) these (λ s g. within_listed (IsApart s) l g) (apart_across these spots h))
-    (apart_listed l (apart_back these spots h)))

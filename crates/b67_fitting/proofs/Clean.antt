@@ -32,7 +32,7 @@ pub record IsClean (blocks : List Block) (x : Site) : Type 0 where
 abbrev pub AreClean : List Block → List Site → Type 0
 AreClean blocks xs = AllByRecursion (IsClean blocks) xs
 
--- what a name of one block is
+-- what a name is in a program that is built
 pub data IsPlain : Class → Type 0 where
   simple : (kind : Kind) → IsPlain (class.simple kind)
   file : IsPlain class.file

@@ -1,6 +1,6 @@
--- Names that are declared once: where a name is found among what the declarations of the block make known.
-use Rattle.std.proofs.Common.{◌≡◌, ◌⊎◌, inl, inr, ℕ, ◌==◌, Bool, true, false, cond, List, [], ◌∷◌, ◌++◌, map, filter, Some, None, refl, ap, subst, if◌then◌else◌}
-use Rattle.std.proofs.lemmas.Bool.{and_parts, eqb-true}
+-- Names that are declared once: where a name is found among what the declarations of a block make known.
+use Rattle.std.proofs.Common.{◌≡◌, ◌⊎◌, inl, inr, ℕ, ◌==◌, Bool, true, false, cond, List, [], ◌∷◌, ◌++◌, map, filter, Some, None, refl, sym, ap, subst, if◌then◌else◌}
+use Rattle.std.proofs.lemmas.Bool.{and_parts, eqb-true, eq-eqb}
 use Rattle.std.specs.List.{AllByRecursion}
 use Rattle.algol_tree.specs.declared.tree.Named.{Named}
 use Rattle.algol_tree.specs.Classes.{Class}
@@ -31,57 +31,62 @@ found_either (e ∷ new) known name d h = by (same_name e.name name) (found_eith
     by true later g = inl g
     by false later g = later g
 
-pub found_nowhere : (new known : List Declared) (name : List ℕ) → look_up (new ++ known) name ≡ None → (look_up new name ≡ None) × (look_up known name ≡ None)
-found_nowhere [] known name h = (refl, h)
-found_nowhere (e ∷ new) known name h = by (same_name e.name name) (found_nowhere new known name) h
+pub one_of_back : (xs ys : List (List ℕ)) (name : List ℕ) → is_one_of (xs ++ ys) name ≡ false → is_one_of ys name ≡ false
+one_of_back [] ys name h = h
+one_of_back (x ∷ xs) ys name h = by (same_name x name) (one_of_back xs ys name) h
   where
-    by : (b : Bool) → (look_up (new ++ known) name ≡ None → (look_up new name ≡ None) × (look_up known name ≡ None)) → (if b then Some e else look_up (new ++ known) name) ≡ None →
-        ((if b then Some e else look_up new name) ≡ None) × (look_up known name ≡ None)
-    by true later g = absurd (let clash : Some e ≡ None = g in cc)
-    by false later g = later g
-
-pub all_other : (s : Sort) (c : Class) (ns : List Named) (name : List ℕ) → look_up (declare 0 0 s c ns) name ≡ None → AllByRecursion (IsOther name) ns
-all_other s c [] name h = tt
-all_other s c (n ∷ ns) name h = by (same_name n.name name) refl (all_other s c ns name) h
-  where
-    entry : Declared
-    entry = record { name = n.name; spot = n.spot; block = 0; depth = 0; sort = s; class = c }
-
-    by : (b : Bool) → same_name n.name name ≡ b → (look_up (declare 0 0 s c ns) name ≡ None → AllByRecursion (IsOther name) ns) → (if b then Some entry else look_up (declare 0 0 s c ns) name) ≡ None →
-        AllByRecursion (IsOther name) (n ∷ ns)
-    by true e later g = absurd (let clash : Some entry ≡ None = g in cc)
-    by false e later g = (e, later g)
-
--- ---- declared once
-
--- a name that is declared there was not seen before
-pub fresh : (s : Sort) (c : Class) (ns : List Named) (seen : List (List ℕ)) (name : List ℕ) (d : Declared) → repeated seen ns ≡ [] → look_up (declare 0 0 s c ns) name ≡ Some d → is_one_of seen name ≡ false
-fresh s c [] seen name d h g = absurd (let clash : None ≡ Some d = g in cc)
-fresh s c (n ∷ ns) seen name d h g = by (same_name n.name name) refl (fresh s c ns (n.name ∷ seen) name d (nil_back (if_so (is_one_of seen n.name) n.spot) (repeated (n.name ∷ seen) ns) h)) g
-  where
-    entry : Declared
-    entry = record { name = n.name; spot = n.spot; block = 0; depth = 0; sort = s; class = c }
-
-    by : (b : Bool) → same_name n.name name ≡ b → (look_up (declare 0 0 s c ns) name ≡ Some d → (if same_name n.name name then true else is_one_of seen name) ≡ false) →
-        (if b then Some entry else look_up (declare 0 0 s c ns) name) ≡ Some d → is_one_of seen name ≡ false
-    by true e later f =
-        subst (λ (z : List ℕ). is_one_of seen z ≡ false) (same_is n.name name e)
-        (not_so (is_one_of seen n.name) n.spot (nil_front (if_so (is_one_of seen n.name) n.spot) (repeated (n.name ∷ seen) ns) h))
-    by false e later f = subst (λ (b : Bool). (if b then true else is_one_of seen name) ≡ false) e (later f)
-
-abbrev pub IsOuter : Declared → Type 0
-IsOuter d = d.block ≡ 0
-
-abbrev pub names_outer : List Declared → List (List ℕ)
-names_outer known = map (λ (d : Declared). d.name) (filter (λ (d : Declared). d.block == 0) known)
-
-pub not_known : (known : List Declared) (name : List ℕ) → AllByRecursion IsOuter known → is_one_of (names_outer known) name ≡ false → look_up known name ≡ None
-not_known [] name o h = refl
-not_known (e ∷ known) name o h = by (same_name e.name name) (not_known known name o.1) (subst (λ (b : Bool). is_one_of (map (λ (d : Declared). d.name) (cond b (e ∷ rest) rest)) name ≡ false) (ap (λ (n : ℕ). n == 0) o.0) h)
-  where
-    rest : List Declared
-    rest = filter (λ (d : Declared). d.block == 0) known
-
-    by : (b : Bool) → (is_one_of (names_outer known) name ≡ false → look_up known name ≡ None) → (if b then true else is_one_of (names_outer known) name) ≡ false → (if b then Some e else look_up known name) ≡ None
+    by : (b : Bool) → (is_one_of (xs ++ ys) name ≡ false → is_one_of ys name ≡ false) → (if b then true else is_one_of (xs ++ ys) name) ≡ false → is_one_of ys name ≡ false
     by true later g = absurd (let clash : true ≡ false = g in cc)
     by false later g = later g
+
+-- the names of this block among these
+abbrev pub names_of : ℕ → List Declared → List (List ℕ)
+names_of block known = map (λ (d : Declared). d.name) (filter (λ (d : Declared). d.block == block) known)
+
+module _ (block depth : ℕ) (s : Sort) (c : Class) where
+  abbrev entry : Named → Declared
+  entry n = record { name = n.name; spot = n.spot; block = block; depth = depth; sort = s; class = c }
+
+  -- what is found was declared so
+  pub declared_is : (ns : List Named) (name : List ℕ) (d : Declared) → look_up (declare block depth s c ns) name ≡ Some d → (d.class ≡ c) × (d.sort ≡ s)
+  declared_is [] name d h = absurd (let clash : None ≡ Some d = h in cc)
+  declared_is (n ∷ ns) name d h = by (same_name n.name name) (declared_is ns name d) h
+    where
+      by : (b : Bool) → (look_up (declare block depth s c ns) name ≡ Some d → (d.class ≡ c) × (d.sort ≡ s)) → (if b then Some (entry n) else look_up (declare block depth s c ns) name) ≡ Some d →
+          (d.class ≡ c) × (d.sort ≡ s)
+      by true later g =
+          let same : entry n ≡ d = cc in
+          (ap (λ (z : Declared). z.class) (sym same), ap (λ (z : Declared). z.sort) (sym same))
+      by false later g = later g
+
+  -- a name that the block has not, with these declared, is none of theirs
+  pub all_other : (ns : List Named) (known : List Declared) (name : List ℕ) → is_one_of (names_of block (declare block depth s c ns ++ known)) name ≡ false →
+      AllByRecursion (IsOther name) ns × (is_one_of (names_of block known) name ≡ false)
+  all_other [] known name h = (tt, h)
+  all_other (n ∷ ns) known name h =
+      by (same_name n.name name) refl (all_other ns known name)
+      (subst (λ (b : Bool). is_one_of (map (λ (d : Declared). d.name) (cond b (entry n ∷ rest) rest)) name ≡ false) (eq-eqb block block refl) h)
+    where
+      rest : List Declared
+      rest = filter (λ (d : Declared). d.block == block) (declare block depth s c ns ++ known)
+
+      by : (b : Bool) → same_name n.name name ≡ b →
+          (is_one_of (names_of block (declare block depth s c ns ++ known)) name ≡ false → AllByRecursion (IsOther name) ns × (is_one_of (names_of block known) name ≡ false)) →
+          (if b then true else is_one_of (names_of block (declare block depth s c ns ++ known)) name) ≡ false →
+          AllByRecursion (IsOther name) (n ∷ ns) × (is_one_of (names_of block known) name ≡ false)
+      by true e later g = absurd (let clash : true ≡ false = g in cc)
+      by false e later g =
+          let r = later g in
+          ((e, r.0), r.1)
+
+  -- a name that is declared there was not seen before
+  pub fresh : (ns : List Named) (seen : List (List ℕ)) (name : List ℕ) (d : Declared) → repeated seen ns ≡ [] → look_up (declare block depth s c ns) name ≡ Some d → is_one_of seen name ≡ false
+  fresh [] seen name d h g = absurd (let clash : None ≡ Some d = g in cc)
+  fresh (n ∷ ns) seen name d h g = by (same_name n.name name) refl (fresh ns (n.name ∷ seen) name d (nil_back (if_so (is_one_of seen n.name) n.spot) (repeated (n.name ∷ seen) ns) h)) g
+    where
+      by : (b : Bool) → same_name n.name name ≡ b → (look_up (declare block depth s c ns) name ≡ Some d → (if same_name n.name name then true else is_one_of seen name) ≡ false) →
+          (if b then Some (entry n) else look_up (declare block depth s c ns) name) ≡ Some d → is_one_of seen name ≡ false
+      by true e later f =
+          subst (λ (z : List ℕ). is_one_of seen z ≡ false) (same_is n.name name e)
+          (not_so (is_one_of seen n.name) n.spot (nil_front (if_so (is_one_of seen n.name) n.spot) (repeated (n.name ∷ seen) ns) h))
+      by false e later f = subst (λ (b : Bool). (if b then true else is_one_of seen name) ≡ false) e (later f)

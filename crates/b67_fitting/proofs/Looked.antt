@@ -1,12 +1,12 @@
--- What is found at the place of a name.
-use Rattle.std.proofs.Common.{◌≡◌, inl, inr, ◌-◌, Bool, List, [], ◌∷◌, ◌++◌, Option, Some, None, refl, sym, ap, ◌∙◌, subst, append_assoc, if◌then◌else◌}
-use Rattle.std.specs.List.{flat_map, AllByRecursion}
+-- What is found at the place of a name: the places of uses, of names that are known and of blocks are among those of the text.
+use Rattle.std.proofs.Common.{◌≡◌, inl, inr, Bool, false, List, [], ◌∷◌, ◌++◌, map, Option, Some, None, refl, sym, ap, ◌∙◌, subst, if◌then◌else◌}
+use Rattle.std.proofs.lemmas.List.{map-append}
 use Rattle.std.proofs.lemmas.List.Concat.{flat_map-append}
+use Rattle.std.specs.List.{flat_map}
 use Rattle.algol_tree.specs.declared.token.Spot.{Spot}
 use Rattle.algol_tree.specs.declared.tree.Named.{Named}
 use Rattle.algol_tree.specs.Ascending.{spots_of_names, spots_of_decls}
-use Rattle.algol_tree.specs.Blocks.{Block}
-use Rattle.algol_tree.specs.Cells.{cells_at}
+use Rattle.algol_tree.specs.Blocks.{Block, same_spot}
 use Rattle.algol_tree.specs.Couples.{Known, known_by, known_names, known_at, known_there}
 use Rattle.algol_tree.specs.Plain as tree
 use Rattle.algol_tree.specs.Plain.{PDecls}
@@ -14,99 +14,114 @@ use Rattle.algol_tree.specs.Scopes.{Use, used, use_by, names_in, uses_at, declar
 use Rattle.algol_tree.specs.Sites.{Site, sites_in_decls}
 use Rattle.algol_tree.specs.Sorts.{Declared}
 use Rattle.algol_tree.specs.Surroundings.{Surroundings, declared_as, knowing}
-use Rattle.b67_fitting.specs.OneBlock.{AreSimple}
-use Rattle.b67_fitting.proofs.Lists.{each_front, each_back}
-use Rattle.b67_fitting.proofs.Listed.{Listed, over, passed, site, all_names}
-use Rattle.b67_fitting.proofs.Apart.{IsIn, each_in, spot_in, IsApart, Apart, same_self}
+use Rattle.b67_fitting.specs.Built.{AreSimple}
+use Rattle.b67_fitting.proofs.Among.{Among, nothing, skip, keep, none_among, join}
+use Rattle.b67_fitting.proofs.Apart.{IsIn, each_in, in_map, Apart, same_self}
+use Rattle.b67_fitting.proofs.Listed.{Listed, over, passed, site, both, block}
 
--- ---- listed parts
+-- ---- what is found
 
-pub uses_listed : {blocks : List Block} {a : Surroundings} {spots : List Spot} {xs : List Site} → Listed blocks a spots xs → flat_map uses_at xs ≡ flat_map (used a) (all_names xs)
-uses_listed over = refl
-uses_listed (passed spot l) = uses_listed l
-uses_listed {a = a} (site x {xs = xs} f l) =
-    ap (λ z. z ++ flat_map uses_at xs) f.uses ∙ ap (λ z. flat_map (used a) (names_in x.part) ++ z) (uses_listed l)
-    ∙ sym (flat_map-append (used a) (names_in x.part) (all_names xs))
+pub use_found : (us : List Use) (u : Use) → Apart (map (λ (v : Use). v.spot) us) → IsIn u us → declared_in us u.spot ≡ Some u
+use_found [] u p i = absurd i
+use_found (v ∷ us) u p (inl e) =
+    ap (λ (z : Use). declared_in (v ∷ us) z.spot) e ∙ ap (λ (b : Bool). if b then Some v else declared_in us v.spot) (same_self v.spot) ∙ ap Some (sym e)
+use_found (v ∷ us) u p (inr i) =
+    ap (λ (b : Bool). if b then Some v else declared_in us u.spot) (each_in (λ s. same_spot v.spot s ≡ false) u.spot (map (λ (v : Use). v.spot) us) p.0 (in_map (λ (v : Use). v.spot) u us i))
+    ∙ use_found us u p.1 i
 
-pub knows_listed : {blocks : List Block} {a : Surroundings} {spots : List Spot} {xs : List Site} → Listed blocks a spots xs → flat_map (known_at blocks) xs ≡ known_names a (all_names xs)
-knows_listed over = refl
-knows_listed (passed spot l) = knows_listed l
-knows_listed {blocks} {a} (site x {xs = xs} f l) =
-    ap (λ z. z ++ flat_map (known_at blocks) xs) f.knows ∙ ap (λ z. known_names a (names_in x.part) ++ z) (knows_listed l)
-    ∙ sym (flat_map-append (λ (n : Named). known_by n.spot (declared_as a n)) (names_in x.part) (all_names xs))
+pub known_found : (ks : List Known) (k : Known) → Apart (map (λ (m : Known). m.spot) ks) → IsIn k ks → known_there ks k.spot ≡ Some k.declared
+known_found [] k p i = absurd i
+known_found (m ∷ ks) k p (inl e) =
+    ap (λ (z : Known). known_there (m ∷ ks) z.spot) e ∙ ap (λ (b : Bool). if b then Some m.declared else known_there ks m.spot) (same_self m.spot)
+    ∙ ap (λ (z : Known). Some z.declared) (sym e)
+known_found (m ∷ ks) k p (inr i) =
+    ap (λ (b : Bool). if b then Some m.declared else known_there ks k.spot)
+    (each_in (λ s. same_spot m.spot s ≡ false) k.spot (map (λ (m : Known). m.spot) ks) p.0 (in_map (λ (m : Known). m.spot) k ks i))
+    ∙ known_found ks k p.1 i
 
-pub cells_listed : {blocks : List Block} {a : Surroundings} {spots : List Spot} {xs : List Site} → Listed blocks a spots xs → flat_map (cells_at blocks) xs ≡ []
-cells_listed over = refl
-cells_listed (passed spot l) = cells_listed l
-cells_listed {blocks} (site x {xs = xs} f l) = ap (λ z. z ++ flat_map (cells_at blocks) xs) f.cells ∙ cells_listed l
+-- ---- where they stand
 
--- ---- uses
+-- the places of what parts give
+abbrev places : {X Y : Type 0} → (Y → Spot) → (X → List Y) → List X → List Spot
+places at f xs = map at (flat_map f xs)
 
-abbrev pub the_use : Surroundings → Named → Declared → Use
-the_use a n d = record { spot = n.spot; block = d.block; up = a.depth - d.depth; sort = d.sort }
+places_both : {X Y : Type 0} (at : Y → Spot) (f : X → List Y) (xs ys : List X) {p q : List Spot} → Among (places at f xs) p → Among (places at f ys) q → Among (places at f (xs ++ ys)) (p ++ q)
+places_both at f xs ys {p} {q} g h =
+    subst (λ (z : List Spot). Among z (p ++ q)) (sym (ap (map at) (flat_map-append f xs ys) ∙ map-append at (flat_map f xs) (flat_map f ys))) (join g h)
 
-skip_use : (a : Surroundings) (m : Named) (o : Option Declared) (us : List Use) (spot : Spot) → IsApart m.spot spot → declared_in (use_by a m o ++ us) spot ≡ declared_in us spot
-skip_use a m None us spot h = refl
-skip_use a m (Some d) us spot h = ap (λ (b : Bool). if b then Some (the_use a m d) else declared_in us spot) h
+use_among : (a : Surroundings) (n : Named) (o : Option Declared) → Among (map (λ (u : Use). u.spot) (use_by a n o)) (n.spot ∷ [])
+use_among a n None = skip n.spot nothing
+use_among a n (Some d) = keep n.spot nothing
 
-use_here : (a : Surroundings) (n : Named) (d : Declared) (o : Option Declared) (us : List Use) → o ≡ Some d → declared_in (use_by a n o ++ us) n.spot ≡ Some (the_use a n d)
-use_here a n d o us h =
-    ap (λ (z : Option Declared). declared_in (use_by a n z ++ us) n.spot) h ∙ ap (λ (b : Bool). if b then Some (the_use a n d) else declared_in us n.spot) (same_self n.spot)
+uses_among : (a : Surroundings) (ns : List Named) → Among (places (λ (u : Use). u.spot) (used a) ns) (spots_of_names ns)
+uses_among a [] = nothing
+uses_among a (n ∷ ns) =
+    subst (λ (z : List Spot). Among z (n.spot ∷ spots_of_names ns)) (sym (map-append (λ (u : Use). u.spot) (used a n) (flat_map (used a) ns)))
+    (join (use_among a n (declared_as a n)) (uses_among a ns))
 
-pub use_found : (a : Surroundings) (ns : List Named) (n : Named) (d : Declared) → Apart (spots_of_names ns) → IsIn n ns → declared_as a n ≡ Some d →
-    declared_in (flat_map (used a) ns) n.spot ≡ Some (the_use a n d)
-use_found a [] n d p i h = absurd i
-use_found a (m ∷ ns) n d p (inl e) h =
-    subst (λ (z : Named). declared_in (flat_map (used a) (z ∷ ns)) n.spot ≡ Some (the_use a n d)) e (use_here a n d (declared_as a n) (flat_map (used a) ns) h)
-use_found a (m ∷ ns) n d p (inr i) h =
-    skip_use a m (declared_as a m) (flat_map (used a) ns) n.spot (each_in (IsApart m.spot) n.spot (spots_of_names ns) p.0 (spot_in n ns i)) ∙ use_found a ns n d p.1 i h
+known_among : (n : Named) (o : Option Declared) → Among (map (λ (k : Known). k.spot) (known_by n.spot o)) (n.spot ∷ [])
+known_among n None = skip n.spot nothing
+known_among n (Some d) = keep n.spot nothing
 
--- ---- what is known
+names_among : (a : Surroundings) (ns : List Named) → Among (map (λ (k : Known). k.spot) (known_names a ns)) (spots_of_names ns)
+names_among a [] = nothing
+names_among a (n ∷ ns) =
+    subst (λ (z : List Spot). Among z (n.spot ∷ spots_of_names ns)) (sym (map-append (λ (k : Known). k.spot) (known_by n.spot (declared_as a n)) (known_names a ns)))
+    (join (known_among n (declared_as a n)) (names_among a ns))
 
-skip_known : (spot : Spot) (o : Option Declared) (ks : List Known) (at : Spot) → IsApart at spot → known_there (known_by at o ++ ks) spot ≡ known_there ks spot
-skip_known spot None ks at h = refl
-skip_known spot (Some d) ks at h = ap (λ (b : Bool). if b then Some d else known_there ks spot) h
-
-known_here : (d : Declared) (o : Option Declared) (ks : List Known) (spot : Spot) → o ≡ Some d → known_there (known_by spot o ++ ks) spot ≡ Some d
-known_here d o ks spot h =
-    ap (λ (z : Option Declared). known_there (known_by spot z ++ ks) spot) h ∙ ap (λ (b : Bool). if b then Some d else known_there ks spot) (same_self spot)
-
-pub known_found : (a : Surroundings) (ns : List Named) (n : Named) (d : Declared) → Apart (spots_of_names ns) → IsIn n ns → declared_as a n ≡ Some d →
-    known_there (known_names a ns) n.spot ≡ Some d
-known_found a [] n d p i h = absurd i
-known_found a (m ∷ ns) n d p (inl e) h =
-    subst (λ (z : Named). known_there (known_names a (z ∷ ns)) n.spot ≡ Some d) e (known_here d (declared_as a n) (known_names a ns) n.spot h)
-known_found a (m ∷ ns) n d p (inr i) h =
-    skip_known n.spot (declared_as a m) (known_names a ns) m.spot (each_in (IsApart m.spot) n.spot (spots_of_names ns) p.0 (spot_in n ns i)) ∙ known_found a ns n d p.1 i h
-
-skip_names : (a : Surroundings) (ns : List Named) (ks : List Known) (spot : Spot) → AllByRecursion (λ s. IsApart s spot) (spots_of_names ns) → known_there (known_names a ns ++ ks) spot ≡ known_there ks spot
-skip_names a [] ks spot h = refl
-skip_names a (n ∷ ns) ks spot h =
-    ap (λ z. known_there z spot) (append_assoc (known_by n.spot (declared_as a n)) (known_names a ns) ks)
-    ∙ skip_known spot (declared_as a n) (known_names a ns ++ ks) n.spot h.0 ∙ skip_names a ns ks spot h.1
-
--- ---- declarations
+-- ---- in parts that are listed
 
 module _ (blocks : List Block) where
-  pub skip_decls : (ds : PDecls) (b : Surroundings) (first : List Declared) (ks : List Known) (spot : Spot) → AreSimple ds → AllByRecursion (λ s. IsApart s spot) (spots_of_decls ds) →
-      known_there (flat_map (known_at blocks) (sites_in_decls blocks ds b first) ++ ks) spot ≡ known_there ks spot
-  skip_decls tree.no_decls b first ks spot s h = refl
-  skip_decls (tree.decls (tree.simple kind ns) ds) b first ks spot s h =
-      let after = knowing blocks (tree.simple kind ns) ds b in
-      let rest = flat_map (known_at blocks) (sites_in_decls blocks ds after first) in
-      ap (λ z. known_there z spot) (append_assoc (known_names after ns) rest ks)
-      ∙ skip_names after ns (rest ++ ks) spot (each_front (λ s. IsApart s spot) (spots_of_names ns) (spots_of_decls ds) h)
-      ∙ skip_decls ds after first ks spot s (each_back (λ s. IsApart s spot) (spots_of_names ns) (spots_of_decls ds) h)
-  skip_decls (tree.decls (tree.files ns) ds) b first ks spot s h =
-      let after = knowing blocks (tree.files ns) ds b in
-      let rest = flat_map (known_at blocks) (sites_in_decls blocks ds after first) in
-      ap (λ z. known_there z spot) (append_assoc (known_names after ns) rest ks)
-      ∙ skip_names after ns (rest ++ ks) spot (each_front (λ s. IsApart s spot) (spots_of_names ns) (spots_of_decls ds) h)
-      ∙ skip_decls ds after first ks spot s (each_back (λ s. IsApart s spot) (spots_of_names ns) (spots_of_decls ds) h)
-  skip_decls (tree.decls d ds) b first ks spot s h = absurd s
-
-  pub no_uses : (ds : PDecls) (b : Surroundings) (first : List Declared) → AreSimple ds → flat_map uses_at (sites_in_decls blocks ds b first) ≡ []
+  no_uses : (ds : PDecls) (b : Surroundings) (first : List Declared) → AreSimple ds → flat_map uses_at (sites_in_decls blocks ds b first) ≡ []
   no_uses tree.no_decls b first s = refl
   no_uses (tree.decls (tree.simple kind ns) ds) b first s = no_uses ds (knowing blocks (tree.simple kind ns) ds b) first s
   no_uses (tree.decls (tree.files ns) ds) b first s = no_uses ds (knowing blocks (tree.files ns) ds b) first s
   no_uses (tree.decls d ds) b first s = absurd s
+
+  decls_among : (ds : PDecls) (b : Surroundings) (first : List Declared) → AreSimple ds → Among (places (λ (k : Known). k.spot) (known_at blocks) (sites_in_decls blocks ds b first)) (spots_of_decls ds)
+  decls_among tree.no_decls b first s = nothing
+  decls_among (tree.decls (tree.simple kind ns) ds) b first s =
+      let after = knowing blocks (tree.simple kind ns) ds b in
+      subst (λ (z : List Spot). Among z (spots_of_names ns ++ spots_of_decls ds))
+      (sym (map-append (λ (k : Known). k.spot) (known_names after ns) (flat_map (known_at blocks) (sites_in_decls blocks ds after first))))
+      (join (names_among after ns) (decls_among ds after first s))
+  decls_among (tree.decls (tree.files ns) ds) b first s =
+      let after = knowing blocks (tree.files ns) ds b in
+      subst (λ (z : List Spot). Among z (spots_of_names ns ++ spots_of_decls ds))
+      (sym (map-append (λ (k : Known). k.spot) (known_names after ns) (flat_map (known_at blocks) (sites_in_decls blocks ds after first))))
+      (join (names_among after ns) (decls_among ds after first s))
+  decls_among (tree.decls d ds) b first s = absurd s
+
+  pub all_uses : {spots : List Spot} {bs : List Block} {xs : List Site} → Listed blocks spots bs xs → Among (places (λ (u : Use). u.spot) uses_at xs) spots
+  all_uses over = nothing
+  all_uses (passed spot l) = skip spot (all_uses l)
+  all_uses (site x {spots = spots} {xs = xs} f l) =
+      subst (λ (z : List Spot). Among z (spots_of_names (names_in x.part) ++ spots))
+      (sym (map-append (λ (u : Use). u.spot) (uses_at x) (flat_map uses_at xs)
+      ∙ ap (λ (z : List Use). map (λ (u : Use). u.spot) z ++ places (λ (u : Use). u.spot) uses_at xs) f.uses))
+      (join (uses_among x.around (names_in x.part)) (all_uses l))
+  all_uses (both {xs = xs} {ys = ys} k l) = places_both (λ (u : Use). u.spot) uses_at xs ys (all_uses k) (all_uses l)
+  all_uses (block b a first {xs = xs} e s l) =
+      skip b.spot
+      (places_both (λ (u : Use). u.spot) uses_at (sites_in_decls blocks b.decls a first) xs
+      (subst (λ (z : List Use). Among (map (λ (u : Use). u.spot) z) (spots_of_decls b.decls)) (sym (no_uses b.decls a first s)) (none_among (spots_of_decls b.decls))) (all_uses l))
+
+  pub all_known : {spots : List Spot} {bs : List Block} {xs : List Site} → Listed blocks spots bs xs → Among (places (λ (k : Known). k.spot) (known_at blocks) xs) spots
+  all_known over = nothing
+  all_known (passed spot l) = skip spot (all_known l)
+  all_known (site x {spots = spots} {xs = xs} f l) =
+      subst (λ (z : List Spot). Among z (spots_of_names (names_in x.part) ++ spots))
+      (sym (map-append (λ (k : Known). k.spot) (known_at blocks x) (flat_map (known_at blocks) xs)
+      ∙ ap (λ (z : List Known). map (λ (k : Known). k.spot) z ++ places (λ (k : Known). k.spot) (known_at blocks) xs) f.knows))
+      (join (names_among x.around (names_in x.part)) (all_known l))
+  all_known (both {xs = xs} {ys = ys} k l) = places_both (λ (k : Known). k.spot) (known_at blocks) xs ys (all_known k) (all_known l)
+  all_known (block b a first {xs = xs} e s l) =
+      skip b.spot (places_both (λ (k : Known). k.spot) (known_at blocks) (sites_in_decls blocks b.decls a first) xs (decls_among b.decls a first s) (all_known l))
+
+  pub all_blocks : {spots : List Spot} {bs : List Block} {xs : List Site} → Listed blocks spots bs xs → Among (map (λ (b : Block). b.spot) bs) spots
+  all_blocks over = nothing
+  all_blocks (passed spot l) = skip spot (all_blocks l)
+  all_blocks (site x f l) = join (none_among (spots_of_names (names_in x.part))) (all_blocks l)
+  all_blocks (both {p = p} {q = q} {bs = bs} {cs = cs} k l) =
+      subst (λ (z : List Spot). Among z (p ++ q)) (sym (map-append (λ (b : Block). b.spot) bs cs)) (join (all_blocks k) (all_blocks l))
+  all_blocks (block b a first e s l) = keep b.spot (join (none_among (spots_of_decls b.decls)) (all_blocks l))

@@ -1,4 +1,4 @@
--- An accepted program of one block has code: its trees fit.
+-- An accepted program that is built has code: its trees fit.
 use Rattle.std.specs.Prelude.{◌≡◌, Option, Some}
 use Rattle.algol_tree.specs.declared.token.Spot.{Spot}
 use Rattle.algol_tree.specs.Plain.{PProgram}
@@ -11,7 +11,7 @@ use Rattle.algol_tree.specs.Scopes.{scopes_of}
 use Rattle.b67_ops.specs.declared.Couple.{Couple}
 use Rattle.b67_ops.specs.declared.TheConstants.{OUTER_LEVEL}
 use Rattle.b67_templates.specs.Fitting.{StmtsFit}
-use Rattle.b67_fitting.specs.OneBlock.{IsOneBlock}
+use Rattle.b67_fitting.specs.Built.{IsBuilt}
 use Rattle.b67_fitting.specs.Texts.{HasPlainTexts}
 use Rattle.b67_fitting.specs.Wholes.{HasWholeNumbers}
 
@@ -23,5 +23,5 @@ AreCouples p known =
 
 abbrev pub AcceptedProgramsFit : Type 0
 AcceptedProgramsFit =
-    (p : PProgram) (known : Spot → Option Couple) → Accepted p → IsInOrder p → IsOneBlock p → HasWholeNumbers p → HasPlainTexts p → AreCouples p known →
+    (p : PProgram) (known : Spot → Option Couple) → Accepted p → IsInOrder p → IsBuilt p → HasWholeNumbers p → HasPlainTexts p → AreCouples p known →
     StmtsFit (scopes_of p) known OUTER_LEVEL ((block_numbered ((scopes_of p).blocks) 0).stmts)

@@ -1,6 +1,6 @@
-pub mod OneBlock
+pub mod Built
 pub mod Wholes
 pub mod Texts
 pub mod Fitted
 pub mod Numbers
-pub mod Flat
+pub mod Nested

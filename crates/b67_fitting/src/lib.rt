@@ -1,13 +1,14 @@
-//! Accepted programs of one block have code: what the rules of the language leave of their trees is what the templates have code for.
-//! And they lie flat: all their names are of the one block, within the limits of a block and of a segment.
+//! Accepted programs that are built have code: what the rules of the language leave of their trees is what the templates have code
+//! for. And their blocks lie in one another: each name is seen from the block in whose text it stands, within the limits of a block and
+//! of a segment.
 #![tactic(auto)]
 
 ghost use Rattle.b67_fitting.specs.Fitted.{AcceptedProgramsFit};
-ghost use Rattle.b67_fitting.specs.Flat.{OneBlockLiesFlat};
+ghost use Rattle.b67_fitting.specs.Nested.{BuiltProgramsLieNested};
 ghost use Rattle.b67_fitting.specs.Numbers.{SourcesHaveWholeNumbers};
 ghost use Rattle.b67_fitting.specs.Texts.{SourcesHavePlainTexts};
 
-/// Law: the statements of an accepted program of one block fit, so they have code. Each expression has the kind that its
+/// Law: the statements of an accepted program that is built fit, so they have code. Each expression has the kind that its
 /// place wants, each name is a simple variable whose couple a right table has, each line has as many items as its
 /// format prints numbers, and of the format no word is wider than a line, and each text can stand between quotes.
 pub fn accepted_programs_fit()
@@ -24,9 +25,9 @@ pub fn texts_of_sources_are_plain()
     ensures { SourcesHavePlainTexts }
 {}
 
-/// Law: an accepted program of one block lies flat. No block stands in its block, which declares each name that is used; it has at
-/// most `MOST_BLOCK_CELLS` cells for its variables, and its text at most `MOST_SEGMENT_TOKENS` tokens (rules TooManyCells and
-/// SegmentTooLong).
-pub fn one_block_lies_flat()
-    ensures { OneBlockLiesFlat }
+/// Law: the blocks of an accepted program that is built lie in one another. Each name in a block's text means a declaration of that block
+/// or of one around it, so many up as the scopes say; a block has at most `MOST_BLOCK_CELLS` cells for its variables, and the program's
+/// text at most `MOST_SEGMENT_TOKENS` tokens (rules TooManyCells and SegmentTooLong).
+pub fn built_programs_lie_nested()
+    ensures { BuiltProgramsLieNested }
 {}

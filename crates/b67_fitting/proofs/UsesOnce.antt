@@ -1,0 +1,204 @@
+-- The uses of names in a program that is built stand at places of its text, no two at one.
+use Rattle.std.proofs.Common.{arith, ◌≡◌, ℕ, ◌+◌, ◌-◌, ◌≤◌, Bool, true, false, List, [], ◌∷◌, ◌++◌, Option, Some, None, refl, ap}
+use Rattle.std.specs.List.{flat_map}
+use Rattle.algol_tree.specs.declared.token.Spot.{Spot}
+use Rattle.algol_tree.specs.declared.tree.Named.{Named}
+use Rattle.algol_tree.specs.Ascending.{spots_of_names, spots_of_expr, spots_of_exprs, spots_of_task, spots_of_stmt, spots_of_stmts, spots_of_decls}
+use Rattle.algol_tree.specs.Blocks.{Block, of_statement}
+use Rattle.algol_tree.specs.Classes.{Formal}
+use Rattle.algol_tree.specs.Plain as tree
+use Rattle.algol_tree.specs.Plain.{PExpr, PExprs, PStmt, PStmts, PDecls}
+use Rattle.algol_tree.specs.Scopes.{Use, used, use_by, left_use, left_uses, if_named, part_uses, uses_at}
+use Rattle.algol_tree.specs.Sites as site
+use Rattle.algol_tree.specs.Sites.{Site, sites, first_formal, other_formals, wants_value, name_part, actual_part, inside_expr, inside_list, inside_actuals, here_stmt, inside_stmt, sites_in_stmts, sites_in_decls}
+use Rattle.algol_tree.specs.Sorts as sort
+use Rattle.algol_tree.specs.Sorts.{Sort, Declared}
+use Rattle.algol_tree.specs.Surroundings.{Surroundings, declared_as, formals_at, knowing, knowing_all, inside_begin}
+use Rattle.b67_fitting.specs.Built.{AreSimple, StmtBuilt, StmtsBuilt}
+use Rattle.b67_fitting.proofs.Numbering.{here, times, times_both, places, places_both, use_place}
+
+-- what a name is used as stands at the name
+left_place : (u : Use) (s : Sort) → (left_use u s).spot ≡ u.spot
+left_place u (sort.procedure block) = refl
+left_place u sort.variable = refl
+left_place u sort.by_name = refl
+left_place u sort.array = refl
+left_place u (sort.formal_array lows) = refl
+left_place u sort.event = refl
+left_place u sort.formal_event = refl
+left_place u sort.label = refl
+left_place u sort.file = refl
+
+-- the uses of an actual are those of its expression
+name_uses : (n : Named) (value : Bool) (a : Surroundings) → part_uses (name_part n value) a ≡ used a n ++ []
+name_uses n true a = refl
+name_uses n false a = refl
+
+actual_uses : (e : PExpr) (f : Option Formal) (a : Surroundings) → part_uses (actual_part e f) a ≡ part_uses (site.expression e) a
+actual_uses (tree.variable (tree.subscripted n tree.none)) f a = name_uses n (wants_value f) a
+actual_uses (tree.variable (tree.subscripted n (tree.more e es))) f a = refl
+actual_uses (tree.number z spot) f a = refl
+actual_uses (tree.truth z spot) f a = refl
+actual_uses (tree.call c) f a = refl
+actual_uses (tree.happened e spot) f a = refl
+actual_uses (tree.paren e spot) f a = refl
+actual_uses (tree.plus e spot) f a = refl
+actual_uses (tree.neg e spot) f a = refl
+actual_uses (tree.not e spot) f a = refl
+actual_uses (tree.two op x y) f a = refl
+actual_uses (tree.if c x y spot) f a = refl
+
+module _ (s : Spot) where
+  -- how many uses stand at the place
+  abbrev pub uses_in : List Site → ℕ
+  uses_in [] = 0
+  uses_in (x ∷ xs) = times use_place s (uses_at x) + uses_in xs
+
+  pub uses_both : (xs ys : List Site) → uses_in (xs ++ ys) ≡ uses_in xs + uses_in ys
+  uses_both [] ys = omega arith
+  uses_both (x ∷ xs) ys = omega (arith, uses_both xs ys)
+
+  pub uses_all : (xs : List Site) → times use_place s (flat_map uses_at xs) ≡ uses_in xs
+  uses_all [] = refl
+  uses_all (x ∷ xs) = omega (arith, times_both use_place s (uses_at x) (flat_map uses_at xs), uses_all xs)
+
+  -- ---- names
+
+  of_name : (a : Surroundings) (n : Named) (o : Option Declared) → times use_place s (use_by a n o) ≤ places s (n.spot ∷ [])
+  of_name a n None = omega arith
+  of_name a n (Some d) = omega arith
+
+  of_names : (a : Surroundings) (ns : List Named) → times use_place s (flat_map (used a) ns) ≤ places s (spots_of_names ns)
+  of_names a [] = omega arith
+  of_names a (n ∷ ns) = omega (arith, times_both use_place s (used a n) (flat_map (used a) ns), of_name a n (declared_as a n), of_names a ns)
+
+  of_left : (a : Surroundings) (n : Named) (o : Option Declared) → times use_place s (left_uses (use_by a n o)) ≤ places s (n.spot ∷ [])
+  of_left a n None = omega arith
+  of_left a n (Some d) =
+      let u : Use = record { spot = n.spot; block = d.block; up = a.depth - d.depth; sort = d.sort } in
+      omega (arith, ap (here s) (left_place u d.sort))
+
+  -- ---- expressions
+
+  module _ (a : Surroundings) where
+    mutual
+      in_expr : (e : PExpr) → uses_in (sites e a) ≤ places s (spots_of_expr e)
+      in_expr (tree.number z spot) = omega arith
+      in_expr (tree.truth z spot) = omega arith
+      in_expr (tree.variable (tree.subscripted n es)) = omega (arith, of_names a (n ∷ []), in_list es)
+      in_expr (tree.call (tree.called n es)) = omega (arith, of_names a (n ∷ []), in_actuals es (formals_at a n))
+      in_expr (tree.happened e spot) = omega (arith, of_names a (e.name ∷ []))
+      in_expr (tree.paren e spot) = omega (arith, in_expr e)
+      in_expr (tree.plus e spot) = omega (arith, in_expr e)
+      in_expr (tree.neg e spot) = omega (arith, in_expr e)
+      in_expr (tree.not e spot) = omega (arith, in_expr e)
+      in_expr (tree.two op x y) = omega (arith, uses_both (sites x a) (sites y a), places_both s (spots_of_expr x) (spots_of_expr y), in_expr x, in_expr y)
+      in_expr (tree.if c x y spot) =
+          omega (
+            arith,
+            uses_both (sites c a ++ sites x a) (sites y a),
+            uses_both (sites c a) (sites x a),
+            places_both s (spots_of_expr c ++ spots_of_expr x) (spots_of_expr y),
+            places_both s (spots_of_expr c) (spots_of_expr x),
+            in_expr c,
+            in_expr x,
+            in_expr y,
+          )
+
+      in_list : (es : PExprs) → uses_in (inside_list es a) ≤ places s (spots_of_exprs es)
+      in_list tree.none = omega arith
+      in_list (tree.more e es) = omega (arith, uses_both (sites e a) (inside_list es a), places_both s (spots_of_expr e) (spots_of_exprs es), in_expr e, in_list es)
+
+      in_actuals : (es : PExprs) (fs : List Formal) → uses_in (inside_actuals es fs a) ≤ places s (spots_of_exprs es)
+      in_actuals tree.none fs = omega arith
+      in_actuals (tree.more e es) fs =
+          omega (
+            arith,
+            ap (times use_place s) (actual_uses e (first_formal fs) a),
+            uses_both (inside_expr e a) (inside_actuals es (other_formals fs) a),
+            places_both s (spots_of_expr e) (spots_of_exprs es),
+            in_expr e,
+            in_actuals es (other_formals fs),
+          )
+
+    in_process : (n : Named) (es : PExprs) (task : Option Named) (fs : List Formal) →
+        times use_place s (flat_map (used a) (n ∷ if_named task)) + uses_in (inside_actuals es fs a) ≤ places s (n.spot ∷ (spots_of_exprs es ++ spots_of_task task))
+    in_process n es None fs = omega (arith, of_names a (n ∷ []), places_both s (spots_of_exprs es) [], in_actuals es fs)
+    in_process n es (Some m) fs = omega (arith, of_names a (n ∷ m ∷ []), places_both s (spots_of_exprs es) (m.spot ∷ []), in_actuals es fs)
+
+  -- ---- statements
+
+  module _ (blocks : List Block) where
+    -- declarations use no names
+    pub none_used : (ds : PDecls) (a : Surroundings) (first : List Declared) → AreSimple ds → uses_in (sites_in_decls blocks ds a first) ≡ 0
+    none_used tree.no_decls a first b = refl
+    none_used (tree.decls (tree.simple kind ns) ds) a first b = omega (arith, none_used ds (knowing blocks (tree.simple kind ns) ds a) first b)
+    none_used (tree.decls (tree.files ns) ds) a first b = omega (arith, none_used ds (knowing blocks (tree.files ns) ds a) first b)
+    none_used (tree.decls d ds) a first b = absurd b
+
+    abbrev stmt_sites : PStmt → Bool → Surroundings → List Site
+    stmt_sites t listed a = here_stmt t listed a ∷ inside_stmt blocks t of_statement listed a
+
+    mutual
+      in_stmt : (t : PStmt) (listed : Bool) (a : Surroundings) → StmtBuilt t → uses_in (stmt_sites t listed a) ≤ places s (spots_of_stmt t)
+      in_stmt tree.empty l a b = omega arith
+      in_stmt (tree.label n t) l a b = omega (arith, of_names a (n ∷ []), in_stmt t l a b)
+      in_stmt (tree.assign (tree.subscripted n es) e) l a b =
+          omega (arith, of_left a n (declared_as a n), uses_both (inside_list es a) (sites e a), places_both s (spots_of_exprs es) (spots_of_expr e), in_list a es, in_expr a e)
+      in_stmt (tree.call_of (tree.called n es)) l a b = omega (arith, of_names a (n ∷ []), in_actuals a es (formals_at a n))
+      in_stmt (tree.go_to n) l a b = omega (arith, of_names a (n ∷ []))
+      in_stmt (tree.block (tree.body spot tree.no_decls ss)) l a b = omega (arith, in_stmts ss false a b.1)
+      in_stmt (tree.block (tree.body spot (tree.decls d ds) ss)) l a b =
+          let c : Surroundings = inside_begin blocks (tree.body spot (tree.decls d ds) ss) a in
+          let k : Surroundings = knowing_all blocks (tree.decls d ds) c in
+          omega (
+            arith,
+            uses_both (sites_in_decls blocks (tree.decls d ds) c c.known) (sites_in_stmts blocks ss true k),
+            none_used (tree.decls d ds) c c.known b.0,
+            places_both s (spots_of_decls (tree.decls d ds)) (spots_of_stmts ss),
+            in_stmts ss true k b.1,
+          )
+      in_stmt (tree.if_then c x) l a b =
+          omega (arith, uses_both (sites c a) (stmt_sites x false a), places_both s (spots_of_expr c) (spots_of_stmt x), in_expr a c, in_stmt x false a b)
+      in_stmt (tree.if_else c x y) l a b =
+          omega (
+            arith,
+            uses_both (sites c a ++ stmt_sites x false a) (stmt_sites y false a),
+            uses_both (sites c a) (stmt_sites x false a),
+            places_both s (spots_of_expr c ++ spots_of_stmt x) (spots_of_stmt y),
+            places_both s (spots_of_expr c) (spots_of_stmt x),
+            in_expr a c,
+            in_stmt x false a b.0,
+            in_stmt y false a b.1,
+          )
+      in_stmt (tree.while c x) l a b =
+          omega (arith, uses_both (sites c a) (stmt_sites x false a), places_both s (spots_of_expr c) (spots_of_stmt x), in_expr a c, in_stmt x false a b)
+      in_stmt (tree.until x c) l a b =
+          omega (arith, uses_both (stmt_sites x false a) (sites c a), places_both s (spots_of_stmt x) (spots_of_expr c), in_expr a c, in_stmt x false a b)
+      in_stmt (tree.for v x y z t) l a b =
+          omega (
+            arith,
+            of_names a (v ∷ []),
+            uses_both (sites x a ++ sites y a ++ sites z a) (stmt_sites t false a),
+            uses_both (sites x a ++ sites y a) (sites z a),
+            uses_both (sites x a) (sites y a),
+            places_both s (spots_of_expr x ++ spots_of_expr y ++ spots_of_expr z) (spots_of_stmt t),
+            places_both s (spots_of_expr x ++ spots_of_expr y) (spots_of_expr z),
+            places_both s (spots_of_expr x) (spots_of_expr y),
+            in_expr a x,
+            in_expr a y,
+            in_expr a z,
+            in_stmt t false a b,
+          )
+      in_stmt (tree.thru e x) l a b =
+          omega (arith, uses_both (sites e a) (stmt_sites x false a), places_both s (spots_of_expr e) (spots_of_stmt x), in_expr a e, in_stmt x false a b)
+      in_stmt (tree.case e ss) l a b =
+          omega (arith, uses_both (sites e a) (sites_in_stmts blocks ss false a), places_both s (spots_of_expr e) (spots_of_stmts ss), in_expr a e, in_stmts ss false a b)
+      in_stmt (tree.process (tree.called n es) task) l a b = in_process a n es task (formals_at a n)
+      in_stmt (tree.event act e) l a b = omega (arith, of_names a (e.name ∷ []))
+      in_stmt (tree.write n spot phrases es) l a b = omega (arith, of_names a (n ∷ []), in_list a es)
+
+      pub in_stmts : (ss : PStmts) (listed : Bool) (a : Surroundings) → StmtsBuilt ss → uses_in (sites_in_stmts blocks ss listed a) ≤ places s (spots_of_stmts ss)
+      in_stmts tree.no_stmts l a b = omega arith
+      in_stmts (tree.stmts t ss) l a b =
+          omega (arith, uses_both (stmt_sites t l a) (sites_in_stmts blocks ss l a), places_both s (spots_of_stmt t) (spots_of_stmts ss), in_stmt t l a b.0, in_stmts ss l a b.1)
