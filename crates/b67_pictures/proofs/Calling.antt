@@ -14,7 +14,6 @@ use Rattle.b67_control.specs.declared.Pcw.{Pcw}
 use Rattle.b67_control.specs.declared.Irw.{Irw}
 use Rattle.b67_control.specs.Control.{as_irw, as_sirw, as_mscw, as_pcw}
 use Rattle.b67_control.proofs.ControlLaws.{as_sirw-other, as_pcw-pcw_word, as_mscw-mscw_word, kind_of-pcw_word}
-use Rattle.b67_ops.specs.declared.TheConstants.{OUTER_LEVEL}
 use Rattle.b67_ops.specs.declared.intrinsic.Intrinsic.{Intrinsic}
 use Rattle.b67_ops.specs.declared.intrinsic.Intrinsic.TheVariants as names
 use Rattle.b67_ops.specs.Intrinsics.{number_of, couple_of_intrinsic}
@@ -29,7 +28,7 @@ use Rattle.b67_table.specs.Names.{intrinsic_numbered}
 use Rattle.b67_table.specs.Private.{frame}
 use Rattle.b67_faithful.specs.Correspondence.{action_of_intrinsic, if_intrinsic, called_action, irw_in, called_by}
 use Rattle.b67_templates.specs.Fragments.{HasKind}
-use Rattle.b67_standing.specs.Stepping.{Slot, operand, reference, intrinsic, mark}
+use Rattle.b67_standing.specs.Stepping.{Slot, operand, reference, intrinsic, control, mark}
 use Rattle.b67_standing.specs.Standing.{operands, AreNumbers}
 use Rattle.b67_cores.specs.Cores.{Core}
 use Rattle.b67_cores.specs.Slots.{ValueIs, newest, SlotsAre}
@@ -39,9 +38,10 @@ use Rattle.b67_cores.proofs.Taking.{number_read}
 use Rattle.b67_pictures.proofs.EnterRow.{Called}
 use Rattle.b67_pictures.proofs.IntrinsicRows.{CallsIntrinsic, without_call}
 use Rattle.b67_pictures.proofs.Rows.{words_are}
-use Rattle.b67_pictures.proofs.Scene.{Scene}
+use Rattle.b67_pictures.proofs.Scene.{Scene, frame_is}
+use Rattle.b67_pictures.proofs.Staying.{text_in, level_in, frame_low}
 use Rattle.b67_pictures.proofs.Slotted.{Top, top_slot}
-use Rattle.b67_pictures.proofs.StackWords.{word-under, get-front}
+use Rattle.b67_pictures.proofs.StackWords.{word-under, get-front, get-seam}
 use Rattle.b67_pictures.proofs.Words.{reference_read, mark_read}
 
 -- ---- the words of intrinsics
@@ -77,7 +77,7 @@ pcw_no_sirw name =
     as_sirw-other (intrinsic_pcw (number_of name))
     (λ k. let is = sym (kind_of-pcw_word (intrinsic_in name) (lit< tt, (lit< tt, (lit< tt, (lit< tt, (omega (arith, (is_numbered name).small), tt)))))) ∙ k in cc)
 
-base_read : as_mscw base_mark ≡ Some (record { entered = true; stack = 0; displacement = 0; df = 0 })
+pub base_read : as_mscw base_mark ≡ Some (record { entered = true; stack = 0; displacement = 0; df = 0 })
 base_read = as_mscw-mscw_word (record { entered = true; stack = 0; displacement = 0; df = 0 }) (lit< tt, (lit< tt, (lit< tt, tt)))
 
 -- ---- the arguments
@@ -129,6 +129,7 @@ module _ (sc : Scopes) (level home base : ℕ) where
   newest_low (operand v ∷ slots) low = omega (arith, newest_low slots low)
   newest_low (reference n ∷ slots) low = omega (arith, newest_low slots low)
   newest_low (intrinsic i ∷ slots) low = omega (arith, newest_low slots low)
+  newest_low (control c ∷ slots) low = omega (arith, newest_low slots low)
   newest_low (mark ∷ slots) low = omega arith
 
   pub record Marked (lower : List Word) (all : List Word) (at : ℕ) : Type 0 where
@@ -148,6 +149,7 @@ module _ (sc : Scopes) (level home base : ℕ) where
     marked_at (operand v ∷ slots) above (x ∷ ws) are small = under above x ws (newest home base slots) (marked_at slots (above ++ x ∷ []) ws are.1 (omega (arith, small)))
     marked_at (reference n ∷ slots) above (x ∷ ws) are small = under above x ws (newest home base slots) (marked_at slots (above ++ x ∷ []) ws are.1 (omega (arith, small)))
     marked_at (intrinsic i ∷ slots) above (x ∷ ws) are small = under above x ws (newest home base slots) (marked_at slots (above ++ x ∷ []) ws are.1 (omega (arith, small)))
+    marked_at (control c ∷ slots) above (x ∷ ws) are small = under above x ws (newest home base slots) (marked_at slots (above ++ x ∷ []) ws are.1 (omega (arith, small)))
     marked_at (mark ∷ slots) above (x ∷ ws) are small =
         let df = base + length slots - newest home base slots in
         let low : df < 2 ^ 16 = omega (arith, small) in
@@ -161,8 +163,8 @@ module _ (sc : Scopes) (level home base : ℕ) where
 -- ---- the call, in a scene
 
 module _ (tree : PProgram) (code : Code) (texts : ℕ → List Placed) (w : World) (lay : List Place) (img : Image)
-    (p : ℕ) (q : Process) (part : Part) (most bound : ℕ) (core : Core) (s : Scene tree code texts w lay img p q part most bound core)
-    (name : Intrinsic) (vs : List Value) (below : List Slot) (fits : AreNumbers vs) (lies : s.slots ≡ operands vs (intrinsic name ∷ mark ∷ below)) where
+    (p : ℕ) (q : Process) (part : Part) (outer : List Part) (most bound : ℕ) (core : Core) (s : Scene tree code texts w lay img p q part outer most bound core)
+    (name : Intrinsic) (vs : List Value) (below : List Slot) (fits : AreNumbers vs) (lies : s.stands.slots ≡ operands vs (intrinsic name ∷ mark ∷ below)) where
   abbrev sc : Scopes
   sc = scopes_of tree
 
@@ -181,15 +183,20 @@ module _ (tree : PProgram) (code : Code) (texts : ℕ → List Placed) (w : Worl
     pub calls : CallsIntrinsic img core name arguments reference marked others
     pub wholes : wholes_in (reverse arguments) ≡ Some (wholes_of vs)
     pub action : called_by img core.registers ≡ Some (action_of_intrinsic name)
-    pub after_at : (pc : ℕ) → CoreAt sc code (texts 0) OUTER_LEVEL pc below (without_call core others calls.m.df pc)
+    pub after_at : (pc : ℕ) → CoreAt sc code (text_in texts w part) (level_in tree w part) pc below (without_call core others calls.m.df pc)
     pub few : length below ≤ most
 
-  -- the frame is at the bottom of the stack
-  home_is : home ≡ 0
-  home_is = omega (arith, s.has.is.bottom, s.counted, ap length s.below_is)
+  -- the frame's own mark
+  home_is : home ≡ length s.stands.frame.lower
+  home_is = frame_is tree code texts w lay img p q part outer most bound core s
 
-  own_lies : slice_get core.below home ≡ Some base_mark
-  own_lies = ap (λ (n : ℕ). slice_get core.below n) home_is ∙ ap (λ (ws : List Word). slice_get ws 0) s.below_is
+  home_low : home ≤ base
+  home_low = omega (arith, home_is, frame_low tree code texts w lay p most part outer core.below s.stands.frame)
+
+  own_lies : slice_get core.below home ≡ Some s.stands.frame.mark
+  own_lies =
+      ap (λ (ws : List Word). slice_get ws home) s.stands.frame.words_are
+      ∙ get-seam s.stands.frame.lower s.stands.frame.mark (s.stands.frame.control ∷ s.stands.frame.cells) home home_is
 
   intrinsic_is : IsNumbered name
   intrinsic_is = is_numbered name
@@ -197,35 +204,35 @@ module _ (tree : PProgram) (code : Code) (texts : ℕ → List Placed) (w : Worl
   entry_lies : word_at img.stacks (record { stack = 0; at = 0 + number_of name }) ≡ Some (intrinsic_pcw (number_of name))
   entry_lies = ap (λ (o : Option (List Word)). slice_get (words_or o) (0 + number_of name)) s.by.system ∙ intrinsic_is.lies
 
-  module _ (g : Given sc OUTER_LEVEL home base vs (intrinsic name ∷ mark ∷ below) core.words) (i : Top sc OUTER_LEVEL home base (intrinsic name) (mark ∷ below) g.others)
-      (k : Top sc OUTER_LEVEL home base mark below i.words_below) where
+  module _ (g : Given sc (level_in tree w part) home base vs (intrinsic name ∷ mark ∷ below) core.words) (i : Top sc (level_in tree w part) home base (intrinsic name) (mark ∷ below) g.others)
+      (k : Top sc (level_in tree w part) home base mark below i.words_below) where
     abbrev df : ℕ
     df = base + length below - newest home base below
 
-    many : length s.slots ≡ length vs + (length below + 2)
+    many : length s.stands.slots ≡ length vs + (length below + 2)
     many = ap length lies ∙ g.many ∙ omega arith
 
     room : base + length below + 2 ≤ 2 ^ 16
-    room = omega (arith, many, s.few, s.room, s.small)
+    room = omega (arith, many, s.small, slots_length sc (level_in tree w part) home base s.stands.slots core.words s.stands.there.words_are)
 
     long : length k.words_below ≡ length below
-    long = slots_length sc OUTER_LEVEL home base below k.words_below k.are
+    long = slots_length sc (level_in tree w part) home base below k.words_below k.are
 
     all_words : core.words ≡ g.arguments ++ i.word ∷ k.word ∷ k.words_below
     all_words = g.is ∙ ap (λ (ws : List Word). g.arguments ++ ws) (i.is ∙ ap (λ (ws : List Word). i.word ∷ ws) k.is)
 
     mark_at : core.registers.f ≡ base + length below
-    mark_at = s.there.mark_is ∙ ap (λ (l : List Slot). newest home base l) lies ∙ g.mark_is
+    mark_at = s.stands.there.mark_is ∙ ap (λ (l : List Slot). newest home base l) lies ∙ g.mark_is
 
     low : newest home base below ≤ base + length below
-    low = newest_low sc OUTER_LEVEL home base below (omega (arith, home_is))
+    low = newest_low sc (level_in tree w part) home base below home_low
 
     reads_reference : as_irw i.word ≡ Some (record { level = 0; index = number_of name })
     reads_reference = ap as_irw i.slot_is ∙ reference_read (couple_of_intrinsic name) (lit< tt) intrinsic_is.small
 
-    lower : Marked sc OUTER_LEVEL home base core.below ((g.arguments ++ i.word ∷ k.word ∷ []) ++ k.words_below) (newest home base below)
+    lower : Marked sc (level_in tree w part) home base core.below ((g.arguments ++ i.word ∷ k.word ∷ []) ++ k.words_below) (newest home base below)
     lower =
-        marked_at sc OUTER_LEVEL home base core.below refl base_mark own_lies (record { entered = true; stack = 0; displacement = 0; df = 0 }) base_read below
+        marked_at sc (level_in tree w part) home base core.below refl s.stands.frame.mark own_lies _ s.stands.frame.framed.mark_is below
         (g.arguments ++ i.word ∷ k.word ∷ []) k.words_below k.are (omega (arith, room))
 
     stack_is : words_of img.stacks core.registers.stack ≡ core.below ++ reverse ((g.arguments ++ i.word ∷ k.word ∷ []) ++ k.words_below)
@@ -277,13 +284,13 @@ module _ (tree : PProgram) (code : Code) (texts : ℕ → List Placed) (w : Worl
         ∙ ap (λ (o : Option Irw). called_action o) reads_reference
         ∙ ap (λ (o : Option Intrinsic). if_intrinsic o) intrinsic_is.named
 
-    after_call : (pc : ℕ) → CoreAt sc code (texts 0) OUTER_LEVEL pc below (without_call core k.words_below df pc)
+    after_call : (pc : ℕ) → CoreAt sc code (text_in texts w part) (level_in tree w part) pc below (without_call core k.words_below df pc)
     after_call pc =
         record {
-          segment = s.there.segment;
-          there = s.there.there;
-          spells = s.there.spells;
-          level_is = s.there.level_is;
+          segment = s.stands.there.segment;
+          there = s.stands.there.there;
+          spells = s.stands.there.spells;
+          level_is = s.stands.there.level_is;
           place_is = refl;
           is = record { bottom = s.has.is.bottom; top = omega (arith, mark_at, long) };
           mark_is = omega (arith, mark_at, low);
@@ -301,15 +308,15 @@ module _ (tree : PProgram) (code : Code) (texts : ℕ → List Placed) (w : Worl
           wholes = g.wholes;
           action = action_is_called;
           after_at = after_call;
-          few = omega (arith, many, s.few);
+          few = omega (arith, many, s.stands.few);
         }
 
   pub call : IsCall
   call =
-      let g : Given sc OUTER_LEVEL home base vs (intrinsic name ∷ mark ∷ below) core.words =
-      given sc OUTER_LEVEL home base vs (intrinsic name ∷ mark ∷ below) core.words fits (subst (λ (l : List Slot). SlotsAre sc OUTER_LEVEL home base l core.words) lies s.there.words_are) in
-      let i : Top sc OUTER_LEVEL home base (intrinsic name) (mark ∷ below) g.others =
-      top_slot sc OUTER_LEVEL home base (intrinsic name ∷ mark ∷ below) (intrinsic name) (mark ∷ below) g.others g.are refl in
-      let k : Top sc OUTER_LEVEL home base mark below i.words_below =
-      top_slot sc OUTER_LEVEL home base (mark ∷ below) mark below i.words_below i.are refl in
+      let g : Given sc (level_in tree w part) home base vs (intrinsic name ∷ mark ∷ below) core.words =
+      given sc (level_in tree w part) home base vs (intrinsic name ∷ mark ∷ below) core.words fits (subst (λ (l : List Slot). SlotsAre sc (level_in tree w part) home base l core.words) lies s.stands.there.words_are) in
+      let i : Top sc (level_in tree w part) home base (intrinsic name) (mark ∷ below) g.others =
+      top_slot sc (level_in tree w part) home base (intrinsic name ∷ mark ∷ below) (intrinsic name) (mark ∷ below) g.others g.are refl in
+      let k : Top sc (level_in tree w part) home base mark below i.words_below =
+      top_slot sc (level_in tree w part) home base (mark ∷ below) mark below i.words_below i.are refl in
       is_call g i k

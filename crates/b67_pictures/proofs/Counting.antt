@@ -1,13 +1,13 @@
 -- A process of a pictured image performs at most as many operators for an entry as the longest segment has syllables.
-use Rattle.std.proofs.Common.{◌≡◌, refl, ap, ◌∙◌, ℕ, ◌≤◌, Bool, false, List, [], ◌∷◌, Option, Some, None, cond, arith}
+use Rattle.std.proofs.Common.{◌≡◌, refl, ap, ◌∙◌, ℕ, ◌<◌, ◌≤◌, Bool, false, List, [], ◌∷◌, length, Option, Some, None, cond, arith}
 use Rattle.b67_list.specs.Numbered.{numbered}
 use Rattle.algol_tree.specs.Blocks.{block_numbered}
 use Rattle.algol_tree.specs.Cells.{level_of}
 use Rattle.algol_tree.specs.Plain.{PProgram}
-use Rattle.algol_tree.specs.Scopes.{scopes_of}
-use Rattle.algol_meaning.specs.World.{Instance, Process, Part, World, instance_at, or_no_instance}
+use Rattle.algol_tree.specs.Scopes.{Scopes, scopes_of}
+use Rattle.algol_meaning.specs.World.{Instance, Process, Part, World, or_no_instance}
 use Rattle.b67_word.specs.declared.Place.{Place}
-use Rattle.b67_ops.specs.declared.TheConstants.{OUTER_LEVEL, MOST_LEVEL}
+use Rattle.b67_ops.specs.declared.TheConstants.{MOST_LEVEL}
 use Rattle.b67_segment.specs.Operators.{Placed}
 use Rattle.b67_segment.specs.declared.code.Code.{Code}
 use Rattle.b67_table.specs.declared.InterruptKind.TheVariants.{BadCode as bad_code}
@@ -22,12 +22,10 @@ use Rattle.b67_cores.proofs.Performing.{steps_keep}
 use Rattle.b67_faithful.specs.Faithful.{longest}
 use Rattle.b67_faithful.specs.Simulation.{AreFew}
 use Rattle.b67_faithful.proofs.Counting.{longest_is}
-use Rattle.b67_fitting.specs.Flat.{IsFlat}
 use Rattle.b67_pictures.specs.Frames.{Frames}
 use Rattle.b67_pictures.specs.Pictures.{Living, Pictured, living, dead, PicturesBy}
 use Rattle.b67_pictures.proofs.Numbers.{numbered_beyond}
-use Rattle.b67_pictures.proofs.Plainly.{steps_fit, no_operator}
-use Rattle.b67_pictures.proofs.Scene.{outer_level}
+use Rattle.b67_pictures.proofs.Plainly.{no_operator}
 use Rattle.b67_pictures.proofs.Simulating.{gives_interrupts, faults_interrupts}
 
 -- ---- a process that does not live performs nothing
@@ -47,23 +45,27 @@ none_few code p {img} gone (go {b = b} e t more) = no_operator code img b p gone
 
 -- ---- a process that lives
 
-module _ (tree : PProgram) (code : Code) (texts : ℕ → List Placed) (flat : IsFlat (scopes_of tree)) (w : World) (lay : List Place) (img : Image) (by : PicturesBy tree code texts w lay img) where
-  -- it is at the outer block's level
-  settled_level : (p : ℕ) (q : Process) (l : Living tree code texts w lay img p q) → l.settled.registers.ll ≡ OUTER_LEVEL
+-- each block has a level that the machine has
+abbrev pub HasLowBlocks : Scopes → Type 0
+HasLowBlocks sc = (j : ℕ) → j < length sc.blocks → level_of (block_numbered sc.blocks j) ≤ MOST_LEVEL
+
+module _ (tree : PProgram) (code : Code) (texts : ℕ → List Placed) (low : HasLowBlocks (scopes_of tree)) (w : World) (lay : List Place) (img : Image) (by : PicturesBy tree code texts w lay img) where
+  -- it is at a level that the machine has
+  settled_level : (p : ℕ) (q : Process) (l : Living tree code texts w lay img p q) → l.settled.registers.ll ≤ MOST_LEVEL
   settled_level p q l = by_parts q.todo l.frames
     where
-      by_parts : (parts : List Part) → Frames (scopes_of tree) code texts w lay p parts l.most l.settled → l.settled.registers.ll ≡ OUTER_LEVEL
+      by_parts : (parts : List Part) → Frames tree code texts w lay p l.most parts l.settled → l.settled.registers.ll ≤ MOST_LEVEL
       by_parts [] f = absurd f
-      by_parts (part ∷ []) f =
-          let block : (instance_at w part.instance).block ≡ 0 =
-          ap (λ (o : Option Instance). (or_no_instance o).block) f.0.framed.is ∙ by.outermost part.instance f.0.framed.instance f.0.framed.is in
-          f.0.there.level_is ∙ ap (λ (b : ℕ). level_of (block_numbered (scopes_of tree).blocks b)) block ∙ outer_level tree code texts w lay img flat
-      by_parts (part ∷ outer ∷ parts) f = absurd f
+      by_parts (part ∷ outer) f =
+          let framed = f.0.frame.framed in
+          let level : l.settled.registers.ll ≡ level_of (block_numbered (scopes_of tree).blocks framed.instance.block) =
+          f.0.there.level_is ∙ ap (λ (o : Option Instance). level_of (block_numbered (scopes_of tree).blocks ((or_no_instance o).block))) framed.is in
+          omega (arith, level, low framed.instance.block framed.known)
 
   living_few : (p n : ℕ) (q : Process) (new : Image) → Living tree code texts w lay img p q → Plains code p img n new → AreFew code p n new
   living_few p n q new l plains =
       let level : l.core.registers.ll ≤ MOST_LEVEL = omega (arith, settled_level p q l, (steps_keep l.steps).1) in
-      let few = plains_few code (longest code.segments) (longest_is code.segments) p n img new l.core l.has (omega (arith, steps_fit l.steps, l.small)) level plains in
+      let few = plains_few code (longest code.segments) (longest_is code.segments) p n img new l.core l.has l.small level plains in
       record { plain = few.0; acting = few.1 }
 
   pub operators_are_few : (new : Image) (p n : ℕ) → Plains code p img n new → AreFew code p n new

@@ -1,34 +1,37 @@
 -- A process that stands at its action does it: by what its head asks for.
-use Rattle.std.proofs.Common.{◌≡◌, refl, sym, ap, ◌∙◌, ℕ, ◌+◌, ◌<◌, ◌^◌, List, [], ◌∷◌, length, Some, Bool, true, false, arith}
+use Rattle.std.proofs.Common.{◌≡◌, refl, ap, ℕ, zero, suc, ◌+◌, ◌<◌, ◌≤◌, ◌^◌, List, [], ◌∷◌, length, Option, Some, Bool, true, false, arith}
 use Rattle.std.specs.Prelude.{if◌then◌else◌}
 use Rattle.b67_list.specs.Numbered.{numbered}
+use Rattle.algol_tree.specs.declared.TheConstants.{MOST_BLOCK_CELLS, MOST_LEVEL}
 use Rattle.algol_tree.specs.declared.tree.Kind.{Kind}
 use Rattle.algol_tree.specs.declared.tree.Named.{Named}
 use Rattle.algol_tree.specs.declared.tree.PhraseText.{PhraseText}
-use Rattle.algol_tree.specs.Blocks.{block_numbered}
-use Rattle.algol_tree.specs.Plain.{PProgram, PStmts}
-use Rattle.algol_tree.specs.Scopes.{Scopes, scopes_of}
+use Rattle.algol_tree.specs.Blocks.{Block, block_numbered}
+use Rattle.algol_tree.specs.Cells.{level_of}
+use Rattle.algol_tree.specs.Plain.{PProgram, PStmts, PBody}
+use Rattle.algol_tree.specs.Scopes.{Scopes, scopes_of, use_of}
 use Rattle.algol_tree.specs.Sorts.{same_name}
 use Rattle.algol_meaning.specs.Value.{Value}
 use Rattle.algol_meaning.specs.Rest.{own, there, element_of, Answer, done, value, cell, place, entered}
-use Rattle.algol_meaning.specs.World.{Process, Part, able, World}
+use Rattle.algol_meaning.specs.World.{Instance, Process, Part, able, World, or_no_instance}
 use Rattle.algol_meaning.specs.Asks.{Ask, nothing, reads, reads_element, indexes, asks_happened, fails, enters, passes, resolves, reads_result, leaves, stores, selects, turns, goes_to, enters_block, starts, acts, writes, makes_arrays, makes_event, ask, resume}
+use Rattle.algol_paths.specs.Laws.{RestsKeepToTheirText}
 use Rattle.b67_word.specs.declared.Place.{Place}
 use Rattle.b67_ops.specs.declared.Couple.{Couple}
-use Rattle.b67_ops.specs.declared.TheConstants.{OUTER_LEVEL}
 use Rattle.b67_segment.specs.Operators.{Placed}
 use Rattle.b67_segment.specs.declared.code.Code.{Code}
 use Rattle.b67_table.specs.declared.ProcessState.TheVariants.{Able}
 use Rattle.b67_table.specs.Image.{Image}
 use Rattle.b67_templates.specs.Cells.{Simple, Found, found_from, simple_cells, IsVariable}
 use Rattle.b67_standing.specs.Stepping.{Slot}
-use Rattle.b67_standing.specs.Standing.{ActionAt, Acted, ComesTo, GoesOn}
+use Rattle.b67_standing.specs.Standing.{StandsFor, ActionAt, Acted, Entered, ComesTo, GoesOn}
 use Rattle.b67_standing.specs.Laws.{RestsGoOn}
 use Rattle.b67_cores.specs.Cores.{Core}
 use Rattle.b67_cores.specs.Stretches.{FragmentsArePerformed}
-use Rattle.b67_fitting.specs.Flat.{IsFlat, HasFewCells}
+use Rattle.b67_fitting.specs.Nested.{AreNested}
 use Rattle.b67_pictures.specs.Acting.{Does}
 use Rattle.b67_pictures.proofs.Scene.{Scene}
+use Rattle.b67_pictures.proofs.Staying.{text_in, level_in}
 use Rattle.b67_pictures.proofs.Reading.{reading}
 use Rattle.b67_pictures.proofs.Storing.{storing}
 use Rattle.b67_pictures.proofs.Failing.{failing}
@@ -47,70 +50,87 @@ found_below from (s ∷ ss) name f e = by_name (λ h. found_below (from + 1) ss 
         omega (arith, ap (λ (x : Found). x.number) is_f)
     by_name later false h = omega (arith, later h)
 
-pub small_index : (sc : Scopes) → IsFlat sc → HasFewCells sc → (n : Named) (kind : Kind) (couple : Couple) → IsVariable sc OUTER_LEVEL n kind couple → couple.index < 2 ^ 14
-small_index sc flat few n kind couple v =
-    let here : found_from 0 (simple_cells (block_numbered sc.blocks 0)) n.name ≡ Some v.found =
-    ap (λ (b : ℕ). found_from 0 (simple_cells (block_numbered sc.blocks b)) n.name) (sym (flat.own n)) ∙ v.there in
-    omega (arith, found_below 0 (simple_cells (block_numbered sc.blocks 0)) n.name v.found here, few, v.index_is)
+known_or_empty : (bs : List Block) (j : ℕ) → (j < length bs → length (simple_cells (block_numbered bs j)) ≤ MOST_BLOCK_CELLS) → length (simple_cells (block_numbered bs j)) ≤ MOST_BLOCK_CELLS
+known_or_empty [] j few = omega arith
+known_or_empty (b ∷ bs) zero few = few (omega arith)
+known_or_empty (b ∷ bs) (suc j) few = known_or_empty bs j (λ low. few (omega (arith, low)))
 
--- ---- the actions that stand in files of their own
+pub small_index : (sc : Scopes) → AreNested sc → (level : ℕ) (n : Named) (kind : Kind) (couple : Couple) → IsVariable sc level n kind couple → couple.index < 2 ^ 14
+small_index sc nested level n kind couple v =
+    let cells = simple_cells (block_numbered sc.blocks ((use_of sc n).block)) in
+    omega (arith, found_below 0 cells n.name v.found v.there, known_or_empty sc.blocks ((use_of sc n).block) (λ low. (nested.each ((use_of sc n).block) low).few), v.index_is)
+
+-- ---- the actions
 
 module _ (tree : PProgram) (code : Code) (texts : ℕ → List Placed) where
   -- what an action of a scene, which stands at what its head asks for, needs of the place to which it leads
-  abbrev pub GoesOnFrom : (w : World) (lay : List Place) (img : Image) (p : ℕ) (q : Process) (part : Part) (most bound : ℕ) (core : Core) → Scene tree code texts w lay img p q part most bound core → (k : Ask) → Type 0
-  GoesOnFrom w lay img p q part most bound core s k =
-      (a : ActionAt (scopes_of tree) code.formats (texts 0) OUTER_LEVEL most k s.pc s.slots) →
-      ((r : Answer) (at : ℕ) (left : List Slot) → Acted (scopes_of tree) code.formats (texts 0) OUTER_LEVEL most k s.pc s.slots a r at left →
-      ComesTo (scopes_of tree) code.formats (texts 0) OUTER_LEVEL most (resume (scopes_of tree) part.rest r) at left) →
-      Does tree code texts w lay img p
+  abbrev pub GoesOnFrom : (w : World) (lay : List Place) (img : Image) (p : ℕ) (q : Process) (part : Part) (outer : List Part) (most bound : ℕ) (core : Core) →
+      Scene tree code texts w lay img p q part outer most bound core → (k : Ask) → Type 0
+  GoesOnFrom w lay img p q part outer most bound core s k =
+      (a : ActionAt (scopes_of tree) code.formats (text_in texts w part) (level_in tree w part) most k s.stands.pc s.stands.slots) →
+      ((r : Answer) (at : ℕ) (left : List Slot) → Acted (scopes_of tree) code.formats (text_in texts w part) (level_in tree w part) most k s.stands.pc s.stands.slots a r at left →
+      ComesTo (scopes_of tree) code.formats (text_in texts w part) (level_in tree w part) most (resume (scopes_of tree) part.rest r) at left) →
+      ((at : ℕ) (after : List Slot) → Entered (scopes_of tree) code.formats (text_in texts w part) (level_in tree w part) most k s.stands.pc s.stands.slots a at after →
+      StandsFor (scopes_of tree) code.formats (text_in texts w part) (level_in tree w part) most (resume (scopes_of tree) part.rest entered) at after × (ask (resume (scopes_of tree) part.rest entered) ≡ nothing)) →
+      Does tree code texts w img p
 
   -- each scene whose head asks for this does its action
   abbrev pub IsDone : Ask → Type 0
   IsDone k =
-      (w : World) (lay : List Place) (img : Image) (p : ℕ) (q : Process) (part : Part) (most bound : ℕ) (core : Core) (s : Scene tree code texts w lay img p q part most bound core) →
-      q.state ≡ able → numbered img.states p ≡ Some Able → ask part.rest ≡ k → GoesOnFrom w lay img p q part most bound core s k
+      (w : World) (lay : List Place) (img : Image) (p : ℕ) (q : Process) (part : Part) (outer : List Part) (most bound : ℕ) (core : Core) (s : Scene tree code texts w lay img p q part outer most bound core) →
+      q.state ≡ able → numbered img.states p ≡ Some Able → ask part.rest ≡ k → GoesOnFrom w lay img p q part outer most bound core s k
 
-  -- a line, the choice of a statement, the end
+  -- a line, the choice of a statement, the entry of a block, the leaving of one, the end
   pub record OthersAreDone : Type 0 where
     pub writing : (phrases : List PhraseText) (vs : List Value) → IsDone (writes phrases vs)
     pub selecting : (v : Value) (ss : PStmts) → IsDone (selects v ss)
-    pub ending : IsDone (leaves done)
+    pub entering : (b : PBody) → IsDone (enters_block b)
+    pub leaving : IsDone (leaves done)
 
-  module _ (flat : IsFlat (scopes_of tree)) (few : HasFewCells (scopes_of tree)) (fragments : FragmentsArePerformed) (rests : RestsGoOn) (others : OthersAreDone) (w : World) (lay : List Place) (img : Image)
-      (p : ℕ) (q : Process) (part : Part) (most bound : ℕ) (core : Core) (s : Scene tree code texts w lay img p q part most bound core) (able_is : q.state ≡ able) (able_p : numbered img.states p ≡ Some Able) where
-    by_ask : (k : Ask) → ask part.rest ≡ k → GoesOnFrom w lay img p q part most bound core s k
-    by_ask (reads n) e a answered = reading tree code texts flat fragments w lay img p q part most bound core s able_is able_p n e a answered
-    by_ask (fails fault) e a answered = failing tree code texts w lay img p q part most bound core s fault e a
-    by_ask (stores (own n) v) e a answered =
-        storing tree code texts flat fragments w lay img p q part most bound core s able_is able_p n v e a answered
-        (small_index (scopes_of tree) flat few n a.2.kind a.2.couple a.2.variable)
-    by_ask turns e a answered = turning tree code texts flat fragments w lay img p q part most bound core s able_is able_p e a answered
-    by_ask (writes phrases vs) e a answered = others.writing phrases vs w lay img p q part most bound core s able_is able_p e a answered
-    by_ask (selects v ss) e a answered = others.selecting v ss w lay img p q part most bound core s able_is able_p e a answered
-    by_ask (leaves done) e a answered = others.ending w lay img p q part most bound core s able_is able_p e a answered
-    by_ask (leaves (value v)) e a answered = absurd a
-    by_ask (leaves (cell c)) e a answered = absurd a
-    by_ask (leaves (place x)) e a answered = absurd a
-    by_ask (leaves entered) e a answered = absurd a
-    by_ask (stores (there r) v) e a answered = absurd a
-    by_ask (stores (element_of r ks) v) e a answered = absurd a
-    by_ask nothing e a answered = absurd a
-    by_ask (reads_element n ks v) e a answered = absurd a
-    by_ask (indexes n ks v) e a answered = absurd a
-    by_ask (asks_happened n) e a answered = absurd a
-    by_ask (enters n gs) e a answered = absurd a
-    by_ask (passes n) e a answered = absurd a
-    by_ask (resolves n) e a answered = absurd a
-    by_ask (reads_result name) e a answered = absurd a
-    by_ask (goes_to n) e a answered = absurd a
-    by_ask (enters_block b) e a answered = absurd a
-    by_ask (starts n gs task) e a answered = absurd a
-    by_ask (acts x n) e a answered = absurd a
-    by_ask (makes_arrays kind ns pairs vs) e a answered = absurd a
-    by_ask (makes_event n) e a answered = absurd a
+  module _ (nested : AreNested (scopes_of tree)) (fragments : FragmentsArePerformed) (keeps : RestsKeepToTheirText) (rests : RestsGoOn) (others : OthersAreDone) (w : World) (lay : List Place) (img : Image)
+      (p : ℕ) (q : Process) (part : Part) (outer : List Part) (most bound : ℕ) (core : Core) (s : Scene tree code texts w lay img p q part outer most bound core) (able_is : q.state ≡ able) (able_p : numbered img.states p ≡ Some Able) where
+    -- the part's level is one that the machine has
+    low : level_in tree w part ≤ MOST_LEVEL
+    low =
+        let framed = s.stands.frame.framed in
+        let same : level_in tree w part ≡ level_of (block_numbered (scopes_of tree).blocks framed.instance.block) =
+        ap (λ (o : Option Instance). level_of (block_numbered (scopes_of tree).blocks ((or_no_instance o).block))) framed.is in
+        omega (arith, same, (nested.each framed.instance.block framed.known).low)
+
+    by_ask : (k : Ask) → ask part.rest ≡ k → GoesOnFrom w lay img p q part outer most bound core s k
+    by_ask (reads n) e a answered waits = reading tree code texts fragments keeps w lay img p q part outer most bound core s able_is able_p n e a answered
+    by_ask (fails fault) e a answered waits = failing tree code texts w lay img p q part outer most bound core s fault e a
+    by_ask (stores (own n) v) e a answered waits =
+        storing tree code texts fragments keeps w lay img p q part outer most bound core s able_is able_p n v e a answered (omega (arith, a.2.variable.level_is, low))
+        (small_index (scopes_of tree) nested (level_in tree w part) n a.2.kind a.2.couple a.2.variable)
+    by_ask turns e a answered waits = turning tree code texts fragments keeps w lay img p q part outer most bound core s able_is able_p e a answered
+    by_ask (writes phrases vs) e a answered waits = others.writing phrases vs w lay img p q part outer most bound core s able_is able_p e a answered waits
+    by_ask (selects v ss) e a answered waits = others.selecting v ss w lay img p q part outer most bound core s able_is able_p e a answered waits
+    by_ask (enters_block b) e a answered waits = others.entering b w lay img p q part outer most bound core s able_is able_p e a answered waits
+    by_ask (leaves done) e a answered waits = others.leaving w lay img p q part outer most bound core s able_is able_p e a answered waits
+    by_ask (leaves (value v)) e a answered waits = absurd a
+    by_ask (leaves (cell c)) e a answered waits = absurd a
+    by_ask (leaves (place x)) e a answered waits = absurd a
+    by_ask (leaves entered) e a answered waits = absurd a
+    by_ask (stores (there r) v) e a answered waits = absurd a
+    by_ask (stores (element_of r ks) v) e a answered waits = absurd a
+    by_ask nothing e a answered waits = absurd a
+    by_ask (reads_element n ks v) e a answered waits = absurd a
+    by_ask (indexes n ks v) e a answered waits = absurd a
+    by_ask (asks_happened n) e a answered waits = absurd a
+    by_ask (enters n gs) e a answered waits = absurd a
+    by_ask (passes n) e a answered waits = absurd a
+    by_ask (resolves n) e a answered waits = absurd a
+    by_ask (reads_result name) e a answered waits = absurd a
+    by_ask (goes_to n) e a answered waits = absurd a
+    by_ask (starts n gs task) e a answered waits = absurd a
+    by_ask (acts x n) e a answered waits = absurd a
+    by_ask (makes_arrays kind ns pairs vs) e a answered waits = absurd a
+    by_ask (makes_event n) e a answered waits = absurd a
 
     -- whatever its head asks for
-    pub scene_does : Does tree code texts w lay img p
+    pub scene_does : Does tree code texts w img p
     scene_does =
-        let on : GoesOn (scopes_of tree) code.formats (texts 0) OUTER_LEVEL most part.rest s.pc s.slots = rests (scopes_of tree) code.formats (texts 0) OUTER_LEVEL most part.rest s.pc s.slots s.stands in
-        by_ask (ask part.rest) refl on.action on.answered
+        let on : GoesOn (scopes_of tree) code.formats (text_in texts w part) (level_in tree w part) most part.rest s.stands.pc s.stands.slots =
+        rests (scopes_of tree) code.formats (text_in texts w part) (level_in tree w part) most part.rest s.stands.pc s.stands.slots s.stands.stands s.stands.asks in
+        by_ask (ask part.rest) refl on.action on.answered on.entered

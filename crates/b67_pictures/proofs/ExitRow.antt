@@ -61,7 +61,7 @@ cells_describe_nothing (s ∷ ss) (c ∷ cells) [] are = absurd are
 cells_describe_nothing (s ∷ ss) (c ∷ cells) (w ∷ words) are = (cell_describes_nothing s.kind c.cell w are.1, cells_describe_nothing ss cells words are.2)
 
 -- so no row is closed
-none_closed : (words : List Word) (next : Change) → DescribeNothing words → arrays_closed words next ≡ next
+pub none_closed : (words : List Word) (next : Change) → DescribeNothing words → arrays_closed words next ≡ next
 none_closed [] next none = refl
 none_closed (w ∷ words) next none =
     ap (λ (d : Option Descriptor). closed_by d array_closed (arrays_closed words next)) none.0

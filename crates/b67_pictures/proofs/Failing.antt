@@ -15,7 +15,6 @@ use Rattle.b67_num.specs.Whole.{fault_of}
 use Rattle.b67_word.specs.declared.Place.{Place}
 use Rattle.b67_word.specs.Word.{Word}
 use Rattle.b67_ops.specs.declared.Operator.TheVariants as ops
-use Rattle.b67_ops.specs.declared.TheConstants.{OUTER_LEVEL}
 use Rattle.b67_segment.specs.Operators.{Placed}
 use Rattle.b67_segment.specs.declared.code.Code.{Code}
 use Rattle.b67_table.specs.Image.{Image}
@@ -29,13 +28,14 @@ use Rattle.b67_standing.specs.Standing.{ActionAt}
 use Rattle.b67_cores.specs.Cores.{Core}
 use Rattle.b67_cores.specs.Slots.{ValueIs}
 use Rattle.b67_pictures.specs.Acting.{Does, failed_by}
-use Rattle.b67_pictures.specs.Pictures.{PicturesBy}
+use Rattle.b67_pictures.specs.Pictures.{Pictures}
 use Rattle.b67_pictures.proofs.Rows.{fault_not_plain, action_is}
 use Rattle.b67_pictures.proofs.Breaking.{break_raw}
 use Rattle.b67_pictures.proofs.Homes.{operator_there}
 use Rattle.b67_pictures.proofs.Slotted.{Top, top_slot}
 use Rattle.b67_pictures.proofs.Stage.{faults_so, choice_is, faulted}
 use Rattle.b67_pictures.proofs.Scene.{Scene}
+use Rattle.b67_pictures.proofs.Staying.{text_in, level_in}
 
 -- of an operator without a result the first operand is as it stands
 ready_same : (op : Op) (v w : Value) (f : NumFault) → result_of op v w ≡ Err f → ready op v ≡ v
@@ -57,26 +57,26 @@ ready_same operators.Or v w f e = refl
 ready_same operators.Eqv v w f e = refl
 
 module _ (tree : PProgram) (code : Code) (texts : ℕ → List Placed) (w : World) (lay : List Place) (img : Image)
-    (p : ℕ) (q : Process) (part : Part) (most bound : ℕ) (core : Core) (s : Scene tree code texts w lay img p q part most bound core)
-    (fault : NumFault) (asks : ask part.rest ≡ fails fault) (a : ActionAt (scopes_of tree) code.formats (texts 0) OUTER_LEVEL most (fails fault) s.pc s.slots) where
+    (p : ℕ) (q : Process) (part : Part) (outer : List Part) (most bound : ℕ) (core : Core) (s : Scene tree code texts w lay img p q part outer most bound core)
+    (fault : NumFault) (asks : ask part.rest ≡ fails fault) (a : ActionAt (scopes_of tree) code.formats (text_in texts w part) (level_in tree w part) most (fails fault) s.stands.pc s.stands.slots) where
   there : operator_at code core.registers ≡ Ok (ops.Plain (operator_for a.0), a.3)
-  there = operator_there (scopes_of tree) code (texts 0) OUTER_LEVEL s.pc s.slots core (ops.Plain (operator_for a.0)) a.3 s.there a.5.stands
+  there = operator_there (scopes_of tree) code (text_in texts w part) (level_in tree w part) s.stands.pc s.stands.slots core (ops.Plain (operator_for a.0)) a.3 s.stands.there a.5.stands
 
   table_is : table code img p ≡ outcomes.faults (fault_of fault)
   table_is =
-      let second : Top (scopes_of tree) OUTER_LEVEL (frame core.registers) (length core.below) (operand a.2) (operand (ready a.0 a.1) ∷ a.4) core.words =
-      top_slot (scopes_of tree) OUTER_LEVEL (frame core.registers) (length core.below) s.slots (operand a.2) (operand (ready a.0 a.1) ∷ a.4) core.words s.there.words_are a.5.lies in
-      let first : Top (scopes_of tree) OUTER_LEVEL (frame core.registers) (length core.below) (operand (ready a.0 a.1)) a.4 second.words_below =
-      top_slot (scopes_of tree) OUTER_LEVEL (frame core.registers) (length core.below) (operand (ready a.0 a.1) ∷ a.4) (operand (ready a.0 a.1)) a.4 second.words_below second.are refl in
+      let second : Top (scopes_of tree) (level_in tree w part) (frame core.registers) (length core.below) (operand a.2) (operand (ready a.0 a.1) ∷ a.4) core.words =
+      top_slot (scopes_of tree) (level_in tree w part) (frame core.registers) (length core.below) s.stands.slots (operand a.2) (operand (ready a.0 a.1) ∷ a.4) core.words s.stands.there.words_are a.5.lies in
+      let first : Top (scopes_of tree) (level_in tree w part) (frame core.registers) (length core.below) (operand (ready a.0 a.1)) a.4 second.words_below =
+      top_slot (scopes_of tree) (level_in tree w part) (frame core.registers) (length core.below) (operand (ready a.0 a.1) ∷ a.4) (operand (ready a.0 a.1)) a.4 second.words_below second.are refl in
       faults_so code img p (fault_of fault)
       (break_raw code img p core s.has a.0 a.3 there a.1 a.2 first.word second.word first.words_below (second.is ∙ ap (λ (ws : List Word). second.word ∷ ws) first.is) a.5.first_fits a.5.second_fits
       (subst (λ (v : Value). ValueIs v first.word) (ready_same a.0 a.1 a.2 fault a.5.breaks) first.slot_is) second.slot_is fault a.5.breaks)
 
   chosen : choice (scopes_of tree) w p ≡ record { action = Fault; world = record w { fault = Some (record { kind = fault_of fault; process = p }) }; released = []; started = None }
-  chosen = choice_is (scopes_of tree) w p q part s.at s.todo ∙ ap (λ (k : Ask). choice_of (scopes_of tree) w p q part [] k) asks
+  chosen = choice_is (scopes_of tree) w p q part outer s.at s.todo ∙ ap (λ (k : Ask). choice_of (scopes_of tree) w p q part outer k) asks
 
-  pub failing : Does tree code texts w lay img p
+  pub failing : Does tree code texts w img p
   failing =
       failed_by (fault_of fault) (fault_not_plain code img p core s.has (ops.Plain (operator_for a.0)) a.3 there (fault_of fault) table_is) table_is
       (action_is code img p core s.has (ops.Plain (operator_for a.0)) a.3 there (outcomes.faults (fault_of fault)) table_is ∙ ap (λ (c : Choice). Some c.action) (sym chosen))
-      (subst (λ (c : Choice). PicturesBy tree code texts c.world lay (failed img p (fault_of fault))) (sym chosen) (faulted tree code texts w lay img s.by p q s.at (fault_of fault)))
+      (subst (λ (c : Choice). Pictures tree code texts c.world (failed img p (fault_of fault))) (sym chosen) (lay, faulted tree code texts w lay img s.by p q s.at (fault_of fault)))

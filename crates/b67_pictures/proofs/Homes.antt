@@ -1,13 +1,15 @@
--- Where a process finds a variable: in the frame of its own part.
-use Rattle.std.proofs.Common.{◌≡◌, sym, ap, ◌∙◌, subst, ℕ, suc, ◌+◌, ◌-◌, ◌≤◌, List, ◌∷◌, length, Option, Some, Ok, arith}
+-- Where a process finds a variable: in the frame of one of its parts.
+use Rattle.std.proofs.Common.{◌≡◌, inl, refl, sym, ap, ◌∙◌, subst, ℕ, suc, ◌+◌, ◌-◌, ◌≤◌, List, [], ◌∷◌, ◌++◌, length, Option, Some, Ok, arith}
 use Rattle.std.specs.Prelude.{slice_get}
+use Rattle.b67_list.specs.Numbered.{numbered}
 use Rattle.algol_tree.specs.declared.tree.Kind.{Kind}
 use Rattle.algol_tree.specs.declared.tree.Named.{Named}
-use Rattle.algol_tree.specs.Blocks.{Block, block_numbered}
-use Rattle.algol_tree.specs.Cells.{level_of}
-use Rattle.algol_tree.specs.Scopes.{Scopes, use_of}
+use Rattle.algol_tree.specs.Blocks.{block_numbered, around}
+use Rattle.algol_tree.specs.Plain.{PProgram}
+use Rattle.algol_tree.specs.Scopes.{Scopes, scopes_of, use_of}
 use Rattle.algol_meaning.specs.Value.{Value, simple}
-use Rattle.algol_meaning.specs.World.{Instance, World, or_no_instance, ancestor, cell_at, cell_in}
+use Rattle.algol_meaning.specs.World.{Instance, Part, Process, World, instance_at, or_no_instance, ancestor, cell_at, cell_in}
+use Rattle.algol_paths.specs.Blocks.{IsSeen}
 use Rattle.b67_word.specs.declared.Place.{Place}
 use Rattle.b67_word.specs.Word.{Word}
 use Rattle.b67_ops.specs.declared.Couple.{Couple}
@@ -18,6 +20,7 @@ use Rattle.b67_segment.specs.Fetching.{fetched}
 use Rattle.b67_segment.specs.declared.code.Code.{Code}
 use Rattle.b67_segment.proofs.Among.{fetched-spelled}
 use Rattle.b67_table.specs.Chains.{place}
+use Rattle.b67_table.specs.Image.{Image}
 use Rattle.b67_table.specs.Private.{display_at}
 use Rattle.b67_table.specs.Table.{operator_at}
 use Rattle.b67_templates.specs.Fragments.{HasKind, Has}
@@ -26,8 +29,12 @@ use Rattle.b67_standing.specs.Stepping.{Slot}
 use Rattle.b67_cores.specs.Cores.{Core}
 use Rattle.b67_cores.specs.Slots.{ValueIs}
 use Rattle.b67_cores.specs.Stretches.{CoreAt}
-use Rattle.b67_fitting.specs.Flat.{IsFlat}
-use Rattle.b67_pictures.specs.Frames.{CellIs, CellsAre, Framed}
+use Rattle.b67_pictures.specs.Frames.{CellIs, CellsAre}
+use Rattle.b67_pictures.proofs.Lying.{Lies, lies_in, IsParent, parents_in}
+use Rattle.b67_pictures.proofs.Numbers.{get_below}
+use Rattle.b67_pictures.proofs.Scene.{Scene}
+use Rattle.b67_pictures.proofs.StackWords.{get-front}
+use Rattle.b67_pictures.proofs.Staying.{level_in, length_around}
 use Rattle.b67_pictures.proofs.Variables.{Cell_of, variable_cell, Holds_value, value_of_cell}
 
 -- the operator that stands where a core stands
@@ -38,58 +45,103 @@ operator_there sc code ps level pc slots core op next at has =
     ∙ ap (λ (l : ℕ). fetched code (record { segment = core.registers.segment; place = pc }) l) at.level_is
     ∙ fetched-spelled code core.registers.segment at.there at.spells has
 
-module _ (sc : Scopes) (flat : IsFlat sc) (w : World) (lay : List Place) (p i : ℕ) (cells : List Word) (core : Core) (mark control : Word)
-    (below : core.below ≡ mark ∷ control ∷ cells) (f : Framed sc w lay p i 0 cells core.registers.display) (outermost : f.instance.block ≡ 0) where
-  -- what a name means there
+-- so far behind a front
+pub get-behind : {A : Type 0} (front back : List A) (k n : ℕ) → n ≡ length front + k → slice_get (front ++ back) n ≡ slice_get back k
+get-behind [] back k n e = let same : n ≡ k = omega (arith, e) in ap (slice_get back) same
+get-behind (x ∷ front) back k n e =
+    let far : n ≡ suc (length front + k) = omega (arith, e) in
+    ap (λ (m : ℕ). slice_get (x ∷ front ++ back) m) far ∙ get-behind front back k (length front + k) refl
+
+module _ (tree : PProgram) (code : Code) (texts : ℕ → List Placed) (w : World) (lay : List Place) (img : Image)
+    (p : ℕ) (q : Process) (part : Part) (outer : List Part) (most bound : ℕ) (core : Core) (s : Scene tree code texts w lay img p q part outer most bound core) where
+  abbrev sc : Scopes
+  sc = scopes_of tree
+
+  -- the instance that holds what a name means there
+  abbrev pub home_at : Named → ℕ
+  home_at n = ancestor w ((use_of sc n).up) part.instance
+
+  -- what a name means there: its instance, whose frame lies in the stack, and the cell in it
   pub record Home (n : Named) (kind : Kind) (couple : Couple) : Type 0 where
+    pub parent : IsParent tree code texts w lay p most (part ∷ outer) part.instance ((use_of sc n).up) ((use_of sc n).block)
+    pub lies : Lies tree code texts w lay p most (part ∷ outer) (home_at n) core.below
+    pub block_is : lies.frame.framed.instance.block ≡ (use_of sc n).block
+    pub instance_is : instance_at w (home_at n) ≡ lies.frame.framed.instance
     pub number : ℕ
     pub index : couple.index ≡ 2 + number
     pub value : Value
-    pub cell_is : cell_at w (record { instance = ancestor w ((use_of sc n).up) i; name = n.name }) ≡ simple value
+    pub cell_is : cell_at w (record { instance = home_at n; name = n.name }) ≡ simple value
     pub fits : HasKind kind value
     pub word : Word
     pub word_is : ValueIs value word
-    pub lies : slice_get cells number ≡ Some word
-    pub below_lies : slice_get core.below (0 + couple.index) ≡ Some word
-    pub shown : display_at core.registers couple.level ≡ Some (place p 0)
-    pub level_is : couple.level ≡ OUTER_LEVEL
+    pub cell_lies : slice_get lies.frame.cells number ≡ Some word
+    pub below_lies : slice_get core.below (length lies.frame.lower + couple.index) ≡ Some word
+    pub shown : display_at core.registers couple.level ≡ Some (place p (length lies.frame.lower))
 
-  level_two : level_of (block_numbered sc.blocks (f.instance.block)) ≡ OUTER_LEVEL
-  level_two =
-      ap (λ (k : ℕ). level_of (block_numbered sc.blocks k)) outermost
-      ∙ ap (λ (bs : List Block). level_of (block_numbered bs 0)) flat.alone
-      ∙ ap (λ (o : List _). length o + 2) flat.outer
+  module _ (n : Named) (kind : Kind) (couple : Couple) (seen : IsSeen sc ((instance_at w part.instance).block) n) (v : IsVariable sc (level_in tree w part) n kind couple) where
+    abbrev up : ℕ
+    up = (use_of sc n).up
 
-  pub home : (n : Named) (kind : Kind) (couple : Couple) → IsVariable sc OUTER_LEVEL n kind couple → Home n kind couple
-  home n kind couple v =
-      let own_cells : CellsAre (simple_cells (block_numbered sc.blocks ((use_of sc n).block))) (f.instance.cells) cells =
-      subst (λ (k : ℕ). CellsAre (simple_cells (block_numbered sc.blocks k)) (f.instance.cells) cells) (outermost ∙ sym (flat.own n)) f.cells_are in
-      let c : Cell_of v.found 0 n.name (f.instance.cells) cells = variable_cell (simple_cells (block_numbered sc.blocks ((use_of sc n).block))) (f.instance.cells) cells 0 n.name v.found own_cells v.there in
-      let held : Holds_value kind (cell_in (f.instance.cells) n.name) c.word = value_of_cell kind (cell_in (f.instance.cells) n.name) c.word (subst (λ (o : Option Kind). CellIs o (cell_in (f.instance.cells) n.name) c.word) v.kind_is c.is) in
-      let level_is : couple.level ≡ OUTER_LEVEL = omega (arith, v.level_is, flat.here n) in
-      let index : couple.index ≡ 2 + c.far = omega (arith, v.index_is, c.number) in
-      let from_bottom : 0 + couple.index ≡ suc (suc c.far) = omega (arith, index) in
-      let up_none : couple.level ≡ level_of (block_numbered sc.blocks (f.instance.block)) - 0 = omega (arith, level_is, level_two) in
-      let low : 0 + OUTER_LEVEL ≤ level_of (block_numbered sc.blocks (f.instance.block)) = omega (arith, level_two) in
-      record {
-        number = c.far;
-        index = index;
-        value = held.value;
-        cell_is =
-            ap (λ (up : ℕ). cell_at w (record { instance = ancestor w up i; name = n.name })) (flat.here n)
-            ∙ ap (λ (o : Option Instance). cell_in ((or_no_instance o).cells) n.name) f.is
-            ∙ held.is;
-        fits = held.kind;
-        word = c.word;
-        word_is = held.word;
-        lies = c.lies;
-        below_lies =
-            ap (λ (ws : List Word). slice_get ws (0 + couple.index)) below
-            ∙ ap (λ (k : ℕ). slice_get (mark ∷ control ∷ cells) k) from_bottom
-            ∙ c.lies;
-        shown =
-            ap (λ (l : ℕ). display_at core.registers l) up_none
-            ∙ f.chained 0 low
-            ∙ f.laid;
-        level_is = level_is;
-      }
+    low : up + OUTER_LEVEL ≤ level_in tree w part
+    low =
+        let j : ℕ = (instance_at w part.instance).block in
+        omega (arith, length_around sc.blocks ((instance_at w part.instance).block), get_below ((instance_at w part.instance).block ∷ around sc.blocks ((instance_at w part.instance).block)) up ((use_of sc n).block) seen)
+
+    module _ (parent : IsParent tree code texts w lay p most (part ∷ outer) part.instance up ((use_of sc n).block)) (l : Lies tree code texts w lay p most (part ∷ outer) (home_at n) core.below) where
+      abbrev here : Instance
+      here = l.frame.framed.instance
+
+      instance_here : instance_at w (home_at n) ≡ here
+      instance_here = ap (instance_at w) (sym l.instance_is) ∙ ap or_no_instance l.frame.framed.is
+
+      block_here : here.block ≡ (use_of sc n).block
+      block_here = sym (ap (λ (x : Instance). x.block) instance_here) ∙ parent.block
+
+      own_cells : CellsAre (simple_cells (block_numbered sc.blocks ((use_of sc n).block))) here.cells l.frame.cells
+      own_cells = subst (λ (k : ℕ). CellsAre (simple_cells (block_numbered sc.blocks k)) here.cells l.frame.cells) block_here l.frame.framed.cells_are
+
+      c : Cell_of v.found 0 n.name here.cells l.frame.cells
+      c = variable_cell (simple_cells (block_numbered sc.blocks ((use_of sc n).block))) here.cells l.frame.cells 0 n.name v.found own_cells v.there
+
+      held : Holds_value kind (cell_in here.cells n.name) c.word
+      held = value_of_cell kind (cell_in here.cells n.name) c.word (subst (λ (o : Option Kind). CellIs o (cell_in here.cells n.name) c.word) v.kind_is c.is)
+
+      far : length l.frame.lower + couple.index ≡ length l.frame.lower + suc (suc c.far)
+      far = omega (arith, v.index_is, c.number)
+
+      level_up : couple.level ≡ level_in tree w part - up
+      level_up = omega (arith, v.level_is)
+
+      home_there : Home n kind couple
+      home_there =
+          record {
+            parent = parent;
+            lies = l;
+            block_is = block_here;
+            instance_is = instance_here;
+            number = c.far;
+            index = omega (arith, v.index_is, c.number);
+            value = held.value;
+            cell_is = ap (λ (x : Instance). cell_in x.cells n.name) instance_here ∙ held.is;
+            fits = held.kind;
+            word = c.word;
+            word_is = held.word;
+            cell_lies = c.lies;
+            below_lies =
+                ap (λ (ws : List Word). slice_get ws (length l.frame.lower + couple.index)) l.words_are
+                ∙ get-front l.front l.rest (length l.frame.lower + couple.index) c.word
+                (ap (λ (ws : List Word). slice_get ws (length l.frame.lower + couple.index)) l.frame.words_are
+                ∙ get-behind l.frame.lower (l.frame.mark ∷ l.frame.control ∷ l.frame.cells) (suc (suc c.far)) (length l.frame.lower + couple.index) far
+                ∙ c.lies);
+            shown =
+                ap (λ (k : ℕ). display_at core.registers k) level_up
+                ∙ s.stands.chained up low
+                ∙ ap (λ (k : ℕ). numbered lay k) (sym l.instance_is)
+                ∙ l.frame.framed.laid;
+          }
+
+    pub home : Home n kind couple
+    home =
+        let parent : IsParent tree code texts w lay p most (part ∷ outer) part.instance up ((use_of sc n).block) =
+        parents_in tree code texts w lay p most part outer core s.stands s.around part.instance (inl refl) up ((use_of sc n).block) seen in
+        home_there parent (lies_in tree code texts w lay p most part outer core s.stands s.around (home_at n) parent.own)

@@ -1,15 +1,19 @@
 -- Actions that change nothing but what lies above the cells of the process's own frame, and the output.
-use Rattle.std.proofs.Common.{◌≡◌, ◌≢◌, refl, sym, ap, ◌∙◌, subst, ℕ, ◌+◌, ◌≤◌, List, [], ◌∷◌, length, Some, None, false, arith}
+use Rattle.std.proofs.Common.{◌≡◌, ◌≢◌, ◌⊎◌, inl, inr, refl, sym, ap, ◌∙◌, subst, ℕ, ◌+◌, ◌<◌, ◌≤◌, List, [], ◌∷◌, length, Some, None, false, arith}
 use Rattle.b67_list.specs.Numbered.{numbered}
 use Rattle.algol_tree.specs.Plain.{PProgram}
 use Rattle.algol_tree.specs.Scopes.{scopes_of}
-use Rattle.algol_meaning.specs.Rest.{Rest}
-use Rattle.algol_meaning.specs.World.{Process, Part, able, World, with_process}
+use Rattle.algol_meaning.specs.Rest.{Answer}
+use Rattle.algol_meaning.specs.World.{Process, Part, able, World, instance_at, with_process}
 use Rattle.algol_meaning.specs.Actions.{Action}
+use Rattle.algol_meaning.specs.Asks.{resume}
 use Rattle.algol_meaning.specs.Choice.{Choice, choice}
+use Rattle.algol_paths.specs.Blocks.{IsSeen}
+use Rattle.algol_paths.specs.Laws.{RestsKeepToTheirText}
+use Rattle.algol_paths.specs.Texts.{InAnswer}
 use Rattle.b67_word.specs.declared.Place.{Place}
 use Rattle.b67_control.specs.declared.Registers.{Registers}
-use Rattle.b67_ops.specs.declared.TheConstants.{OUTER_LEVEL}
+use Rattle.b67_control.specs.Display.{place_at}
 use Rattle.b67_segment.specs.Operators.{Placed}
 use Rattle.b67_segment.specs.declared.code.Code.{Code}
 use Rattle.b67_store.specs.Store.{stack_limit}
@@ -23,36 +27,35 @@ use Rattle.b67_faithful.specs.Correspondence.{operator_action}
 use Rattle.b67_faithful.specs.Weight.{weight}
 use Rattle.b67_standing.specs.Stepping.{Slot}
 use Rattle.b67_standing.specs.Standing.{ComesTo}
-use Rattle.b67_cores.specs.Cores.{Core, HasCore, with_core}
+use Rattle.b67_cores.specs.Cores.{Core, size, HasCore, with_core}
 use Rattle.b67_cores.specs.Stretches.{CoreAt, FragmentsArePerformed}
 use Rattle.b67_cores.proofs.Moving.{slots_length}
-use Rattle.b67_fitting.specs.Flat.{IsFlat}
-use Rattle.b67_pictures.specs.Acting.{Does, gave}
-use Rattle.b67_pictures.specs.Frames.{IsChained, Framed}
-use Rattle.algol_tree.specs.Blocks.{block_numbered}
-use Rattle.algol_tree.specs.Cells.{level_of}
-use Rattle.b67_pictures.specs.Pictures.{PicturesBy}
+use Rattle.b67_pictures.specs.Acting.{Does, gave, stopped}
+use Rattle.b67_pictures.specs.Frames.{IsChained, Frame}
+use Rattle.b67_pictures.specs.Pictures.{Pictures, PicturesBy}
 use Rattle.b67_pictures.proofs.Cored.{has_now, others_have, system_stays}
-use Rattle.b67_control.specs.Display.{place_at}
-use Rattle.b67_pictures.proofs.Numbers.{numbered_set}
-use Rattle.b67_pictures.proofs.Stage.{gives_within, alike_by, goes_on}
-use Rattle.b67_pictures.proofs.Landing.{living_of}
-use Rattle.b67_pictures.proofs.Scene.{Scene, landed, weight_of_one}
+use Rattle.b67_pictures.proofs.Kept.{alike_by}
+use Rattle.b67_pictures.proofs.Landing.{steps_none, living_of}
+use Rattle.b67_pictures.proofs.Lying.{StayBelow}
+use Rattle.b67_pictures.proofs.Numbers.{numbered_set, most_or_more}
+use Rattle.b67_pictures.proofs.Scene.{Scene}
+use Rattle.b67_pictures.proofs.Stage.{gives_within, limit_beyond, goes_on, weight_of}
+use Rattle.b67_pictures.proofs.Staying.{text_in, level_in, FrameStill, frame_still, frame_low, chained_stays, parts_weigh}
 
 -- the registers but for S, F and the place
 pub record SameFrame (a b : Registers) : Type 0 where
   pub is : b ≡ record a { s = b.s; f = b.f; place = b.place }
 
-module _ (tree : PProgram) (code : Code) (texts : ℕ → List Placed) (flat : IsFlat (scopes_of tree)) (fragments : FragmentsArePerformed) (w : World) (lay : List Place) (img : Image)
-    (p : ℕ) (q : Process) (part : Part) (most bound : ℕ) (core : Core) (s : Scene tree code texts w lay img p q part most bound core) (able_is : q.state ≡ able) (able_p : numbered img.states p ≡ Some Able)
-    (rest' : Rest) (out : List (List ℕ)) (new : Core) (below : new.below ≡ core.below) (frame_is : SameFrame core.registers new.registers)
-    (pc : ℕ) (slots : List Slot) (there : CoreAt (scopes_of tree) code (texts 0) OUTER_LEVEL pc slots new) (few : length slots ≤ most)
-    (comes : ComesTo (scopes_of tree) code.formats (texts 0) OUTER_LEVEL most rest' pc slots) where
+module _ (tree : PProgram) (code : Code) (texts : ℕ → List Placed) (fragments : FragmentsArePerformed) (keeps : RestsKeepToTheirText) (w : World) (lay : List Place) (img : Image)
+    (p : ℕ) (q : Process) (part : Part) (outer : List Part) (most bound : ℕ) (core : Core) (s : Scene tree code texts w lay img p q part outer most bound core) (able_is : q.state ≡ able) (able_p : numbered img.states p ≡ Some Able)
+    (a : Answer) (nameless : InAnswer (IsSeen (scopes_of tree) ((instance_at w part.instance).block)) a) (out : List (List ℕ)) (new : Core) (below : new.below ≡ core.below) (frame_is : SameFrame core.registers new.registers)
+    (pc : ℕ) (slots : List Slot) (there : CoreAt (scopes_of tree) code (text_in texts w part) (level_in tree w part) pc slots new) (few : length slots ≤ most)
+    (comes : ComesTo (scopes_of tree) code.formats (text_in texts w part) (level_in tree w part) most (resume (scopes_of tree) part.rest a) pc slots) where
   abbrev pub part' : Part
-  part' = record part { rest = rest' }
+  part' = record part { rest = resume (scopes_of tree) part.rest a }
 
   abbrev pub q' : Process
-  q' = record q { todo = part' ∷ [] }
+  q' = record q { todo = part' ∷ outer }
 
   abbrev pub w' : World
   w' = with_process (record w { output = out }) p q'
@@ -70,51 +73,84 @@ module _ (tree : PProgram) (code : Code) (texts : ℕ → List Placed) (flat : I
   others r other apart has =
       let h = others_have img p core new s.has same_stack r other apart has in record { live = h.live; registers = h.registers; own = h.own; stack = h.stack; is = h.is }
 
-  abbrev framed' : Framed (scopes_of tree) w' lay p part.instance 0 s.cells core.registers.display
-  framed' =
-      record {
-        instance = s.framed.instance;
-        is = s.framed.is;
-        own = s.framed.own;
-        laid = s.framed.laid;
-        cells_are = s.framed.cells_are;
-        chained = s.framed.chained;
-      }
+  -- no instance changes
+  abbrev stay : StayBelow w w' lay lay p (length core.below)
+  stay = record { instances = λ i at x e own laid low. e; places = λ i f e. e }
 
-  abbrev framed_new : Framed (scopes_of tree) w' lay p part.instance 0 s.cells new.registers.display
-  framed_new =
+  all_low : length core.below ≤ length core.below
+  all_low = omega arith
+
+  still : FrameStill tree code texts w w' lay lay p most (length core.below) stay part outer core.below s.stands.frame.cells
+  still =
+      frame_still tree code texts w w' lay lay p most (length core.below) stay part outer core.below s.stands.frame s.around
+      (omega (arith, frame_low tree code texts w lay p most part outer core.below s.stands.frame))
+
+  abbrev frame' : Frame tree code texts w' lay p most part' outer new.below
+  frame' =
       record {
-        instance = s.framed.instance;
-        is = s.framed.is;
-        own = s.framed.own;
-        laid = s.framed.laid;
-        cells_are = s.framed.cells_are;
-        chained = subst (λ d. IsChained (scopes_of tree) w' lay part.instance (level_of (block_numbered (scopes_of tree).blocks (s.framed.instance.block))) d) (sym (ap (λ (r : Registers). r.display) frame_is.is)) framed'.chained;
+        owns = still.frame.owns;
+        lower = still.frame.lower;
+        mark = still.frame.mark;
+        control = still.frame.control;
+        cells = still.frame.cells;
+        words_are = below ∙ still.frame.words_are;
+        framed = still.frame.framed;
+        text = keeps.resumed (scopes_of tree) ((instance_at w part.instance).block) part.rest a s.stands.frame.text nameless;
       }
 
   light' : bound + 3 ≤ weight tree w' p
   light' =
       subst (λ (n : ℕ). bound + 3 ≤ n)
-      (weight_of_one tree w p q part s.at s.todo ∙ sym (weight_of_one tree w' p q' part' (numbered_set w.processes p q q' s.at) refl)) s.light
+      (weight_of tree w p q (part ∷ outer) s.at s.todo
+      ∙ sym (parts_weigh tree code texts w w' lay lay p most (length core.below) stay part outer core s.stands s.around all_low)
+      ∙ sym (weight_of tree w' p q' (part' ∷ outer) (numbered_set w.processes p q q' s.at) refl)) s.light
 
   room' : length new.below + most ≤ bound
   room' = omega (arith, s.room, ap length below)
 
-  pub in_frame : PicturesBy tree code texts w' lay after
-  in_frame =
-      goes_on tree code texts w lay img s.by p q s.at w' after q' refl able_is refl (λ i x e. s.by.outermost i x e) (λ r other. alike_by w w' r refl) refl refl refl refl refl (system_stays img p core new s.has same_stack q w s.at) able_p others
-      (living_of tree code texts w' lay after fragments p q' part' most bound new
-      (landed tree code texts w' lay after flat p q' part' most bound new s.cells pc slots refl s.independent s.without_task has_here
-      (ap (λ (r : Registers). r.critical) frame_is.is ∙ s.free) (ap (λ (r : Registers). r.task) frame_is.is ∙ s.idle) (ap (λ (r : Registers). place_at r.display 0) frame_is.is ∙ s.sees) s.owns (below ∙ s.below_is)
-      (ap (λ (r : Registers). r.cells) frame_is.is ∙ s.counted) framed_new s.outermost there few comes room' light' s.small))
+  -- how many words its stack has
+  pub top_is : new.registers.s ≡ length new.below + length slots
+  top_is = omega (arith, there.is.top, slots_length (scopes_of tree) (level_in tree w part) (frame new.registers) (length new.below) slots new.words there.words_are)
 
-  -- its stack has room
-  pub fits : new.registers.s ≤ stack_limit
-  fits = omega (arith, there.is.top, slots_length (scopes_of tree) OUTER_LEVEL (frame new.registers) (length new.below) slots new.words there.words_are, few, room', s.small)
+  pub in_frame : size new ≤ stack_limit → PicturesBy tree code texts w' lay after
+  in_frame small =
+      goes_on tree code texts w lay img s.by p q s.at w' lay after q' refl able_is s.by.laid (λ r other. alike_by w w' lay r refl) refl refl refl refl refl
+      (system_stays img p core new s.has same_stack q w s.at) able_p others
+      (living_of tree code texts w' lay after fragments p q' part' outer most bound new new (record {
+        todo = refl;
+        independent = s.independent;
+        without_task = s.without_task;
+        has = has_here;
+        free = ap (λ (r : Registers). r.critical) frame_is.is ∙ s.free;
+        idle = ap (λ (r : Registers). r.task) frame_is.is ∙ s.idle;
+        sees = ap (λ (r : Registers). place_at r.display 0) frame_is.is ∙ s.sees;
+        small = small;
+        begun = 0;
+        begins = steps_none (scopes_of tree) code (text_in texts w part) (level_in tree w part) most bound pc slots new there few room';
+        frame = frame';
+        around = still.around;
+        counted = ap (λ (r : Registers). r.cells) frame_is.is ∙ s.stands.counted ∙ sym (ap length still.cells_are);
+        chained = subst (λ d. IsChained (scopes_of tree) w' lay part.instance (level_in tree w part) d) (sym (ap (λ (r : Registers). r.display) frame_is.is))
+            (chained_stays tree code texts w w' lay lay p most (length core.below) stay part outer core s.stands s.around all_low core.registers.display s.stands.chained);
+        segment_is = ap (λ (r : Registers). r.segment) frame_is.is ∙ s.stands.segment_is;
+        pc = pc;
+        slots = slots;
+        at = there;
+        held = few;
+        comes = comes;
+        room = room';
+        light = light';
+        few = s.few;
+      }))
 
   pub does_in_frame : (action : Action) → plain code img p ≡ false → raw code img p ≡ effects.gives after → choice (scopes_of tree) w p ≡ record { action = action; world = w'; released = []; started = None } →
-      (table code img p ≡ outcomes.gives after → operator_action code img p ≡ Some action) → Does tree code texts w lay img p
-  does_in_frame action not_plain raw_is chosen acts =
-      let table_is : table code img p ≡ outcomes.gives after = gives_within code img after p new.registers raw_is has_here.registers fits in
-      gave after not_plain table_is (acts table_is ∙ ap (λ (c : Choice). Some c.action) (sym chosen))
-      (subst (λ (c : Choice). PicturesBy tree code texts c.world lay after) (sym chosen) in_frame)
+      (table code img p ≡ outcomes.gives after → operator_action code img p ≡ Some action) → Does tree code texts w img p
+  does_in_frame action not_plain raw_is chosen acts = by_size (most_or_more new.registers.s stack_limit)
+    where
+      by_size : (new.registers.s ≤ stack_limit) ⊎ (stack_limit < new.registers.s) → Does tree code texts w img p
+      by_size (inl small) =
+          let table_is : table code img p ≡ outcomes.gives after = gives_within code img after p new.registers raw_is has_here.registers small in
+          gave after not_plain table_is (acts table_is ∙ ap (λ (c : Choice). Some c.action) (sym chosen))
+          (subst (λ (c : Choice). Pictures tree code texts c.world after) (sym chosen) (lay, in_frame (omega (arith, small, there.is.top))))
+      by_size (inr long) =
+          stopped not_plain (limit_beyond code img after p new.registers raw_is has_here.registers long) (omega (arith, long, top_is, few, room', s.light))

@@ -3,6 +3,7 @@ use Rattle.std.proofs.Common.{◌≡◌, refl, ap, ◌∙◌, ℕ, List, [], ◌
 use Rattle.std.specs.Prelude.{if◌then◌else◌}
 use Rattle.b67_list.specs.Numbered.{numbered}
 use Rattle.b67_num.specs.declared.FaultKind.TheVariants as fault
+use Rattle.algol_tree.specs.Plain as tree
 use Rattle.algol_tree.specs.Plain.{PProgram}
 use Rattle.algol_tree.specs.Scopes.{Scopes, scopes_of}
 use Rattle.algol_meaning.specs.Value.{Cell, simple, event, array, named, reference, Reference, whole_of}
@@ -29,32 +30,41 @@ use Rattle.b67_pictures.specs.Pictures.{Living}
 use Rattle.b67_pictures.proofs.Numbers.{length_set_numbered}
 use Rattle.b67_pictures.proofs.Stage.{choice_is}
 
-module _ (sc : Scopes) (w : World) (p : ℕ) (q : Process) (part : Part) (no_task : q.task ≡ None) where
+module _ (sc : Scopes) (w : World) (p : ℕ) (q : Process) (part : Part) (outer : List Part) (no_task : q.task ≡ None) where
   -- so many processes there are after a choice
   abbrev many : Choice → ℕ
   many c = length c.world.processes
 
-  read_keeps : (c : Cell) → many (read_of sc w p q part [] c) ≡ length w.processes
+  read_keeps : (c : Cell) → many (read_of sc w p q part outer c) ≡ length w.processes
   read_keeps (named n) = length_set_numbered w.processes p _
   read_keeps (reference r) = length_set_numbered w.processes p _
   read_keeps (simple v) = length_set_numbered w.processes p _
   read_keeps (event e) = length_set_numbered w.processes p _
   read_keeps (array a) = length_set_numbered w.processes p _
 
-  select_keeps : (b : Bool) → many (if b then (goes sc w p q part [] Select w done) else choices.fails sc w p q part [] fault.CaseIndex) ≡ length w.processes
+  select_keeps : (b : Bool) → many (if b then (goes sc w p q part outer Select w done) else choices.fails sc w p q part outer fault.CaseIndex) ≡ length w.processes
   select_keeps true = length_set_numbered w.processes p _
   select_keeps false = refl
 
-  left_keeps : (b c : Bool) → many (if b then left_with sc w p q part [] w done [] else if c then choices.fails sc w p q part [] fault.CriticalBlockExit else left_or_ended sc w p q part [] done []) ≡ length w.processes
-  left_keeps true c = refl
-  left_keeps false true = refl
-  left_keeps false false =
-      ap (λ (t : Option Reference). many (ended_releasing sc w p q part [] (caused_by_end (leave w (part.instance ∷ [])) t))) no_task
+  over_keeps : (parts : List Part) → many (left_or_ended sc w p q part outer done parts) ≡ length w.processes
+  over_keeps [] =
+      ap (λ (t : Option Reference). many (ended_releasing sc w p q part outer (caused_by_end (leave w (part.instance ∷ [])) t))) no_task
       ∙ length_set_numbered w.processes p _
+  over_keeps (next ∷ parts) = length_set_numbered w.processes p _
+
+  evaluated_keeps : (parts : List Part) → many (left_with sc w p q part outer w done parts) ≡ length w.processes
+  evaluated_keeps [] = refl
+  evaluated_keeps (next ∷ parts) = length_set_numbered w.processes p _
+
+  left_keeps : (b c : Bool) →
+      many (if b then left_with sc w p q part outer w done outer else if c then choices.fails sc w p q part outer fault.CriticalBlockExit else left_or_ended sc w p q part outer done outer) ≡ length w.processes
+  left_keeps true c = evaluated_keeps outer
+  left_keeps false true = refl
+  left_keeps false false = over_keeps outer
 
   module _ (formats : List Format) (ps : List Placed) (level most pc : ℕ) (slots : List Slot) where
-    by_ask : (k : Ask) → ActionAt sc formats ps level most k pc slots → many (choice_of sc w p q part [] k) ≡ length w.processes
-    by_ask (reads n) a = read_keeps (cell_at w (here sc w p q part [] n))
+    by_ask : (k : Ask) → ActionAt sc formats ps level most k pc slots → many (choice_of sc w p q part outer k) ≡ length w.processes
+    by_ask (reads n) a = read_keeps (cell_at w (here sc w p q part outer n))
     by_ask (fails f) a = refl
     by_ask (stores (own n) v) a = length_set_numbered w.processes p _
     by_ask turns a = length_set_numbered w.processes p _
@@ -76,7 +86,7 @@ module _ (sc : Scopes) (w : World) (p : ℕ) (q : Process) (part : Part) (no_tas
     by_ask (resolves n) a = absurd a
     by_ask (reads_result name) a = absurd a
     by_ask (goes_to n) a = absurd a
-    by_ask (enters_block b) a = absurd a
+    by_ask (enters_block (tree.body spot ds ss)) a = length_set_numbered w.processes p _
     by_ask (starts n gs task) a = absurd a
     by_ask (acts x n) a = absurd a
     by_ask (makes_arrays kind ns pairs vs) a = absurd a
@@ -86,11 +96,10 @@ module _ (tree : PProgram) (code : Code) (texts : ℕ → List Placed) (rests : 
   pub same_number : (p : ℕ) (q : Process) → numbered w.processes p ≡ Some q → Living tree code texts w lay img p q → length (choice (scopes_of tree) w p).world.processes ≡ length w.processes
   same_number p q at l = by_parts q.todo refl l.frames
     where
-      by_parts : (parts : List Part) → q.todo ≡ parts → Frames (scopes_of tree) code texts w lay p parts l.most l.settled → length (choice (scopes_of tree) w p).world.processes ≡ length w.processes
+      by_parts : (parts : List Part) → q.todo ≡ parts → Frames tree code texts w lay p l.most parts l.settled → length (choice (scopes_of tree) w p).world.processes ≡ length w.processes
       by_parts [] todo f = absurd f
-      by_parts (part ∷ []) todo f =
-          let s : Stands (scopes_of tree) code texts w lay p part 0 l.most [] l.settled = f.0 in
-          let on = rests (scopes_of tree) code.formats _ _ l.most part.rest s.pc s.slots s.stands in
-          ap (λ (c : Choice). length c.world.processes) (choice_is (scopes_of tree) w p q part at todo)
-          ∙ by_ask (scopes_of tree) w p q part l.without_task code.formats _ _ l.most s.pc s.slots (ask part.rest) on.action
-      by_parts (part ∷ outer ∷ parts) todo f = absurd f
+      by_parts (part ∷ outer) todo f =
+          let s : Stands tree code texts w lay p l.most part outer l.settled = f.0 in
+          let on = rests (scopes_of tree) code.formats _ _ l.most part.rest s.pc s.slots s.stands s.asks in
+          ap (λ (c : Choice). length c.world.processes) (choice_is (scopes_of tree) w p q part outer at todo)
+          ∙ by_ask (scopes_of tree) w p q part outer l.without_task code.formats _ _ l.most s.pc s.slots (ask part.rest) on.action

@@ -1,5 +1,5 @@
 -- Numbers of processes, and lists by number.
-use Rattle.std.proofs.Common.{◌≡◌, ◌≢◌, ◌⊎◌, inl, inr, refl, ap, ℕ, zero, suc, List, [], ◌∷◌, length, Some, None, arith}
+use Rattle.std.proofs.Common.{◌≡◌, ◌≢◌, ◌⊎◌, inl, inr, refl, ap, ℕ, zero, suc, ◌<◌, ◌≤◌, List, [], ◌∷◌, length, Some, None, arith}
 use Rattle.std.specs.Prelude.{slice_get, slice_set}
 use Rattle.b67_list.specs.Numbered.{numbered, set_numbered}
 
@@ -54,3 +54,24 @@ get_beyond (x ∷ xs) (y ∷ ys) (suc k) e n = let fewer : length ys ≡ length 
 pub numbered_beyond : {A B : Type 0} (xs : List A) (ys : List B) (p : ℕ) → length ys ≡ length xs → numbered xs p ≡ None → numbered ys p ≡ None
 numbered_beyond xs ys zero e n = refl
 numbered_beyond xs ys (suc k) e n = get_beyond xs ys k e n
+
+-- a number is at most another one, or above it
+pub most_or_more : (m n : ℕ) → (m ≤ n) ⊎ (n < m)
+most_or_more zero n = inl (omega arith)
+most_or_more (suc m) zero = inr (omega arith)
+most_or_more (suc m) (suc n) = later (most_or_more m n)
+  where
+    later : (m ≤ n) ⊎ (n < m) → (suc m ≤ suc n) ⊎ (suc n < suc m)
+    later (inl h) = inl (omega (arith, h))
+    later (inr h) = inr (omega (arith, h))
+
+-- lists by number: what stands there
+pub get_within : {A : Type 0} (xs : List A) (k : ℕ) → k < length xs → (x : A) × (slice_get xs k ≡ Some x)
+get_within [] k h = absurd (omega (arith, h))
+get_within (x ∷ xs) zero h = (x, refl)
+get_within (x ∷ xs) (suc k) h = get_within xs k (omega (arith, h))
+
+pub get_below : {A : Type 0} (xs : List A) (k : ℕ) (x : A) → slice_get xs k ≡ Some x → k < length xs
+get_below [] k x e = cc
+get_below (y ∷ ys) zero x e = omega arith
+get_below (y ∷ ys) (suc k) x e = omega (arith, get_below ys k x e)

@@ -9,12 +9,11 @@ use Rattle.b67_list.specs.Numbered.{numbered}
 use Rattle.b67_num.specs.declared.FaultKind.TheVariants.{CaseIndex}
 use Rattle.algol_tree.specs.declared.tree.Kind.TheVariants as types
 use Rattle.algol_tree.specs.Plain as tree
-use Rattle.algol_tree.specs.Plain.{PProgram, PStmt, PStmts}
+use Rattle.algol_tree.specs.Plain.{PProgram, PStmts}
 use Rattle.algol_tree.specs.Scopes.{Scopes, scopes_of}
 use Rattle.algol_meaning.specs.Rest.{Answer, done}
 use Rattle.algol_meaning.specs.Value.{Value, number, truth, whole_of}
 use Rattle.algol_meaning.specs.World.{Process, Part, able, World}
-use Rattle.algol_meaning.specs.Actions.{Fault}
 use Rattle.algol_meaning.specs.Actions as act
 use Rattle.algol_meaning.specs.Asks.{Ask, selects, ask, resume}
 use Rattle.algol_meaning.specs.Choice.{Choice, choice, choice_of, nth_exists, goes, fails}
@@ -22,7 +21,6 @@ use Rattle.b67_word.specs.declared.Place.{Place}
 use Rattle.b67_ops.specs.declared.Operator.{Operator}
 use Rattle.b67_ops.specs.declared.Operator.TheVariants as ops
 use Rattle.b67_ops.specs.declared.PlainKind.TheVariants as kinds
-use Rattle.b67_ops.specs.declared.TheConstants.{OUTER_LEVEL}
 use Rattle.b67_ops.specs.declared.intrinsic.Intrinsic.TheVariants.{Select}
 use Rattle.b67_segment.specs.Operators.{Placed, text, StandsAmong}
 use Rattle.b67_segment.specs.Syllables.{Spells}
@@ -44,15 +42,16 @@ use Rattle.b67_standing.specs.Stepping.{Slot}
 use Rattle.b67_standing.specs.Standing.{AreNumbers, ActionAt, Acted, ComesTo}
 use Rattle.b67_cores.specs.Cores.{Core, with_core}
 use Rattle.b67_cores.specs.Stretches.{FragmentsArePerformed}
-use Rattle.b67_fitting.specs.Flat.{IsFlat}
+use Rattle.algol_paths.specs.Laws.{RestsKeepToTheirText}
 use Rattle.b67_pictures.specs.Acting.{Does, failed_by}
-use Rattle.b67_pictures.specs.Pictures.{PicturesBy}
+use Rattle.b67_pictures.specs.Pictures.{Pictures}
 use Rattle.b67_pictures.proofs.Rows.{action_not_plain, action_is, fault_not_plain}
 use Rattle.b67_pictures.proofs.Calling.{wholes_of, IsCall, call}
 use Rattle.b67_pictures.proofs.Homes.{operator_there}
 use Rattle.b67_pictures.proofs.IntrinsicRows.{without_call, enter_class, select_raw, select_faults}
 use Rattle.b67_pictures.proofs.Stage.{choice_is, faults_so, faulted}
 use Rattle.b67_pictures.proofs.Scene.{Scene}
+use Rattle.b67_pictures.proofs.Staying.{text_in, level_in}
 use Rattle.b67_pictures.proofs.InFrame.{does_in_frame}
 
 -- ---- places of a segment
@@ -133,12 +132,12 @@ number_is (truth b) z fits e = absurd fits
 
 -- ---- the action
 
-module _ (tree : PProgram) (code : Code) (texts : ℕ → List Placed) (flat : IsFlat (scopes_of tree)) (fragments : FragmentsArePerformed)
+module _ (tree : PProgram) (code : Code) (texts : ℕ → List Placed) (fragments : FragmentsArePerformed) (keeps : RestsKeepToTheirText)
     (short : All (λ (o : Segment). length o.words ≤ segment_limit) code.segments) (w : World) (lay : List Place) (img : Image)
-    (p : ℕ) (q : Process) (part : Part) (most bound : ℕ) (core : Core) (s : Scene tree code texts w lay img p q part most bound core) (able_is : q.state ≡ able) (able_p : numbered img.states p ≡ Some Able)
-    (v : Value) (ss : PStmts) (asks : ask part.rest ≡ selects v ss) (a : ActionAt (scopes_of tree) code.formats (texts 0) OUTER_LEVEL most (selects v ss) s.pc s.slots)
-    (answered : (r : Answer) (at : ℕ) (left : List Slot) → Acted (scopes_of tree) code.formats (texts 0) OUTER_LEVEL most (selects v ss) s.pc s.slots a r at left →
-    ComesTo (scopes_of tree) code.formats (texts 0) OUTER_LEVEL most (resume (scopes_of tree) part.rest r) at left) where
+    (p : ℕ) (q : Process) (part : Part) (outer : List Part) (most bound : ℕ) (core : Core) (s : Scene tree code texts w lay img p q part outer most bound core) (able_is : q.state ≡ able) (able_p : numbered img.states p ≡ Some Able)
+    (v : Value) (ss : PStmts) (asks : ask part.rest ≡ selects v ss) (a : ActionAt (scopes_of tree) code.formats (text_in texts w part) (level_in tree w part) most (selects v ss) s.stands.pc s.stands.slots)
+    (answered : (r : Answer) (at : ℕ) (left : List Slot) → Acted (scopes_of tree) code.formats (text_in texts w part) (level_in tree w part) most (selects v ss) s.stands.pc s.stands.slots a r at left →
+    ComesTo (scopes_of tree) code.formats (text_in texts w part) (level_in tree w part) most (resume (scopes_of tree) part.rest r) at left) where
   abbrev sc : Scopes
   sc = scopes_of tree
 
@@ -150,24 +149,24 @@ module _ (tree : PProgram) (code : Code) (texts : ℕ → List Placed) (flat : I
   given_fit = (a.2.fits, (a.2.many, (a.2.place, tt)))
 
   there : operator_at code core.registers ≡ Ok (ops.Plain kinds.Entr, a.0)
-  there = operator_there sc code (texts 0) OUTER_LEVEL s.pc s.slots core (ops.Plain kinds.Entr) a.0 s.there a.2.stands
+  there = operator_there sc code (text_in texts w part) (level_in tree w part) s.stands.pc s.stands.slots core (ops.Plain kinds.Entr) a.0 s.stands.there a.2.stands
 
   abbrev Called : Type 0
-  Called = IsCall tree code texts w lay img p q part most bound core s Select given a.1 given_fit a.2.lies
+  Called = IsCall tree code texts w lay img p q part outer most bound core s Select given a.1 given_fit a.2.lies
 
   -- the branch of a statement stands in the segment
   table_within : (i : ℕ) → i < stmts_count ss → a.0 + 3 * i ≤ end_of_code
   table_within i h =
-      within_segment (texts 0) (a.0 + 3 * i) OUTER_LEVEL _ _ s.there.segment (a.3 i h).2.stands s.there.spells
-      (segment_short code.segments core.registers.segment s.there.segment (recursion_from_All (λ (o : Segment). length o.words ≤ segment_limit) code.segments short) s.there.there)
+      within_segment (text_in texts w part) (a.0 + 3 * i) (level_in tree w part) _ _ s.stands.there.segment (a.3 i h).2.stands s.stands.there.spells
+      (segment_short code.segments core.registers.segment s.stands.there.segment (recursion_from_All (λ (o : Segment). length o.words ≤ segment_limit) code.segments short) s.stands.there.there)
 
   module _ (c : Called) where
     abbrev new : ℕ → Core
     new i = without_call core c.others c.calls.m.df (a.0 + 3 * i)
 
-    goes_to_case : (i : ℕ) → whole_of v ≡ pos i → i < stmts_count ss → nth_exists (whole_of v) ss ≡ true → case_in (whole_of v) (pos (stmts_count ss)) ≡ Some i → Does tree code texts w lay img p
+    goes_to_case : (i : ℕ) → whole_of v ≡ pos i → i < stmts_count ss → nth_exists (whole_of v) ss ≡ true → case_in (whole_of v) (pos (stmts_count ss)) ≡ Some i → Does tree code texts w img p
     goes_to_case i is h exists inside =
-        does_in_frame tree code texts flat fragments w lay img p q part most bound core s able_is able_p (resume sc part.rest done) w.output (new i) refl (record { is = refl }) (a.0 + 3 * i) a.1
+        does_in_frame tree code texts fragments keeps w lay img p q part outer most bound core s able_is able_p done tt w.output (new i) refl (record { is = refl }) (a.0 + 3 * i) a.1
         (c.after_at (a.0 + 3 * i)) c.few
         (answered done (a.0 + 3 * i) a.1 (i, number_is v (pos i) a.2.fits is, h, refl, refl)) act.Select
         (action_not_plain code img p core s.has (ops.Plain kinds.Entr) a.0 there
@@ -175,27 +174,27 @@ module _ (tree : PProgram) (code : Code) (texts : ℕ → List Placed) (flat : I
         (select_raw code img p core s.has a.0 there Select c.arguments c.reference c.marked c.others c.calls (wholes_of given) c.wholes (whole_of v) (pos (stmts_count ss)) (pos a.0) refl refl
         i a.0 inside refl (table_within i h)
         ∙ ap (λ (o : List (List ℕ)). effects.gives (record (with_core img p (new i)) { output = o })) s.by.output)
-        (choice_is sc w p q part s.at s.todo
-        ∙ ap (λ (k : Ask). choice_of sc w p q part [] k) asks
-        ∙ ap (λ (b : Bool). if b then (goes sc w p q part [] act.Select w done) else fails sc w p q part [] CaseIndex) exists)
+        (choice_is sc w p q part outer s.at s.todo
+        ∙ ap (λ (k : Ask). choice_of sc w p q part outer k) asks
+        ∙ ap (λ (b : Bool). if b then (goes sc w p q part outer act.Select w done) else fails sc w p q part outer CaseIndex) exists)
         (λ t. action_is code img p core s.has (ops.Plain kinds.Entr) a.0 there (outcomes.gives (record (with_core img p (new i)) { output = w.output })) t ∙ c.action)
 
-    goes_nowhere : nth_exists (whole_of v) ss ≡ false → case_in (whole_of v) (pos (stmts_count ss)) ≡ None → Does tree code texts w lay img p
+    goes_nowhere : nth_exists (whole_of v) ss ≡ false → case_in (whole_of v) (pos (stmts_count ss)) ≡ None → Does tree code texts w img p
     goes_nowhere exists inside =
         let table_is : table code img p ≡ outcomes.faults CaseIndex =
         faults_so code img p CaseIndex
         (select_faults code img p core s.has a.0 there Select c.arguments c.reference c.marked c.others c.calls (wholes_of given) c.wholes (whole_of v) (pos (stmts_count ss)) (pos a.0) refl refl inside) in
-        let chosen : choice sc w p ≡ fails sc w p q part [] CaseIndex =
-        choice_is sc w p q part s.at s.todo
-        ∙ ap (λ (k : Ask). choice_of sc w p q part [] k) asks
-        ∙ ap (λ (b : Bool). if b then (goes sc w p q part [] act.Select w done) else fails sc w p q part [] CaseIndex) exists in
+        let chosen : choice sc w p ≡ fails sc w p q part outer CaseIndex =
+        choice_is sc w p q part outer s.at s.todo
+        ∙ ap (λ (k : Ask). choice_of sc w p q part outer k) asks
+        ∙ ap (λ (b : Bool). if b then (goes sc w p q part outer act.Select w done) else fails sc w p q part outer CaseIndex) exists in
         failed_by CaseIndex (fault_not_plain code img p core s.has (ops.Plain kinds.Entr) a.0 there CaseIndex table_is) table_is
         (action_is code img p core s.has (ops.Plain kinds.Entr) a.0 there (outcomes.faults CaseIndex) table_is ∙ ap (λ (o : Choice). Some o.action) (sym chosen))
-        (subst (λ (o : Choice). PicturesBy tree code texts o.world lay (failed img p CaseIndex)) (sym chosen) (faulted tree code texts w lay img s.by p q s.at CaseIndex))
+        (subst (λ (o : Choice). Pictures tree code texts o.world (failed img p CaseIndex)) (sym chosen) (lay, faulted tree code texts w lay img s.by p q s.at CaseIndex))
 
-    by_case : IsCase (whole_of v) ss → Does tree code texts w lay img p
+    by_case : IsCase (whole_of v) ss → Does tree code texts w img p
     by_case (one_of i is h exists inside) = goes_to_case i is h exists inside
     by_case (none_of exists inside) = goes_nowhere exists inside
 
-  pub selecting : Does tree code texts w lay img p
-  selecting = by_case (call tree code texts w lay img p q part most bound core s Select given a.1 given_fit a.2.lies) (case_of (whole_of v) ss)
+  pub selecting : Does tree code texts w img p
+  selecting = by_case (call tree code texts w lay img p q part outer most bound core s Select given a.1 given_fit a.2.lies) (case_of (whole_of v) ss)

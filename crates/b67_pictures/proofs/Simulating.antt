@@ -1,5 +1,5 @@
 -- Images that picture worlds go with the source through every operator.
-use Rattle.std.proofs.Common.{◌≡◌, refl, ap, subst, ℕ, ◌≤◌, List, length, Option, Some, None, arith}
+use Rattle.std.proofs.Common.{◌≡◌, refl, ap, subst, ℕ, ◌<◌, ◌≤◌, List, length, Option, Some, None, arith}
 use Rattle.b67_list.specs.Numbered.{numbered}
 use Rattle.b67_num.specs.declared.FaultKind.{FaultKind}
 use Rattle.algol_tree.specs.Plain.{PProgram}
@@ -14,6 +14,7 @@ use Rattle.b67_segment.specs.declared.code.Code.{Code}
 use Rattle.b67_table.specs.declared.InterruptKind.{InterruptKind}
 use Rattle.b67_table.specs.Outcome.{Outcome, gives, faults, interrupts, limit}
 use Rattle.b67_table.specs.Image.{Image, is_live}
+use Rattle.b67_store.specs.Store.{stack_limit}
 use Rattle.b67_table.specs.Table.{table}
 use Rattle.b67_table.specs.Beginning.{first_image}
 use Rattle.b67_table.specs.Ending.{failed}
@@ -21,20 +22,17 @@ use Rattle.b67_table.specs.Runs.{Plains, Acts}
 use Rattle.b67_table.specs.Runs as runs
 use Rattle.b67_table.specs.Touches.{IsPrivate}
 use Rattle.b67_table.specs.Sound.{Lives, OperatorTouches}
-use Rattle.b67_standing.specs.Laws.{RestsGoOn}
-use Rattle.b67_cores.specs.Stretches.{StepsArePerformed, FragmentsArePerformed}
+use Rattle.b67_cores.specs.Stretches.{StepsArePerformed, StepsComeToLimit}
 use Rattle.b67_listing.specs.Listings.{IsListable}
 use Rattle.b67_faithful.specs.Faithful.{IsShort, Faithful}
-use Rattle.b67_faithful.specs.Simulation.{AreFew, Acted, Comes, acts, Simulates}
+use Rattle.b67_faithful.specs.Weight.{weight}
+use Rattle.b67_faithful.specs.Simulation.{AreFew, Acted, Comes, acts, stops, Simulates}
 use Rattle.b67_faithful.proofs.Contradictions.{true_false, gives_same, faults_same, gives_faults}
 use Rattle.b67_faithful.proofs.Counting.{simulations_are_faithful}
-use Rattle.b67_fitting.specs.Flat.{IsFlat, HasFewCells}
-use Rattle.b67_pictures.specs.Acting.{Does, gave, failed_by}
-use Rattle.b67_pictures.specs.Pictures.{Pictured, living, dead, PicturesBy, Pictures}
+use Rattle.b67_pictures.specs.Acting.{Does, gave, failed_by, stopped}
+use Rattle.b67_pictures.specs.Pictures.{Living, Pictured, living, dead, PicturesBy, Pictures}
 use Rattle.b67_pictures.proofs.Numbers.{numbered_beyond}
-use Rattle.b67_pictures.proofs.Dispatching.{OthersAreDone}
-use Rattle.b67_pictures.proofs.Quiet.{through_plain, Operates, plainly, acting, operates, Settles, settles}
-use Rattle.b67_pictures.proofs.Lasting.{same_number}
+use Rattle.b67_pictures.proofs.Quiet.{SettledAct, through_plain, Operates, plainly, acting, operates, Settles, settles}
 use Rattle.b67_pictures.proofs.Showing.{able_acts, no_limit, IsAble, able_one, able_alike, ends_alike, is_light}
 
 -- ---- an outcome is one
@@ -47,6 +45,9 @@ faults_interrupts x y = cc
 
 pub gives_limit : {A B : Type 0} {a : A} {e : Outcome A} → e ≡ gives a → e ≡ limit → B
 gives_limit x y = cc
+
+pub limit_interrupts : {A B : Type 0} {kind : InterruptKind} {e : Outcome A} → e ≡ limit → e ≡ interrupts kind → B
+limit_interrupts x y = cc
 
 pub faults_limit : {A B : Type 0} {j : FaultKind} {e : Outcome A} → e ≡ faults j → e ≡ limit → B
 faults_limit x y = cc
@@ -65,70 +66,80 @@ abbrev pub OperatorsAreFew : PProgram → Code → (ℕ → List Placed) → Typ
 OperatorsAreFew tree code texts =
     (w : World) (lay : List Place) (a : Image) → PicturesBy tree code texts w lay a → (b : Image) (p n : ℕ) → Plains code p a n b → AreFew code p n b
 
-module _ (tree : PProgram) (code : Code) (texts : ℕ → List Placed) (flat : IsFlat (scopes_of tree)) (few : HasFewCells (scopes_of tree)) (performed : StepsArePerformed) (fragments : FragmentsArePerformed) (rests : RestsGoOn)
-    (others : OthersAreDone tree code texts) where
+-- no action of a process that is pictured makes a process or takes one away
+abbrev pub ProcessesLast : PProgram → Code → (ℕ → List Placed) → Type 0
+ProcessesLast tree code texts =
+    (w : World) (lay : List Place) (img : Image) (p : ℕ) (q : Process) → PicturesBy tree code texts w lay img → numbered w.processes p ≡ Some q → Living tree code texts w lay img p q →
+    length (choice (scopes_of tree) w p).world.processes ≡ length w.processes
+
+module _ (tree : PProgram) (code : Code) (texts : ℕ → List Placed) (performed : StepsArePerformed) (limits : StepsComeToLimit) (settled_does : SettledAct tree code texts) (last : ProcessesLast tree code texts) where
   abbrev Pic : World → Image → Type 0
   Pic w img = PicturesSome tree code texts w img
 
   abbrev Operator : World → List Place → Image → ℕ → Type 0
-  Operator w lay img p = Operates tree code texts flat few performed fragments rests others w lay img p
+  Operator w lay img p = Operates tree code texts performed limits settled_does w lay img p
 
   -- ---- an able process
 
   module _ (w : World) (lay : List Place) (a : Image) (by : PicturesBy tree code texts w lay a) (p : ℕ) where
     operator_of : IsAble tree code texts w lay a by p → Operator w lay a p
-    operator_of one = operates tree code texts flat few performed fragments rests others w lay a by p one.process one.at one.able_is one.able_p one.lives_so
+    operator_of one = operates tree code texts performed limits settled_does w lay p one.process one.at one.able_is a by one.able_p one.lives_so
 
     as_action : {b : Image} → 1 ≤ length (choice (scopes_of tree) w p).world.processes → Acts code p a b → Operator w lay a p → Acted tree code Pic w p a b
     as_action some (runs.acts np t) (plainly after e t') = true_false e np
     as_action {b} some (runs.acts np t) (acting (gave after np' t' action by')) =
         record {
           action = action;
-          pictures = ((lay, subst (λ (i : Image). PicturesBy tree code texts ((choice (scopes_of tree) w p).world) lay i) (gives_same t' t) by'), some);
+          pictures = (subst (λ (i : Image). Pictures tree code texts ((choice (scopes_of tree) w p).world) i) (gives_same t' t) by', some);
         }
     as_action some (runs.acts np t) (acting (failed_by kind np' t' action by')) = gives_faults t t'
+    as_action some (runs.acts np t) (acting (stopped np' t' heavy)) = gives_limit t t'
     as_action some (runs.fails kind t) (plainly after e t') = gives_faults t' t
+    as_action some (runs.fails kind t) (acting (stopped np' t' heavy)) = faults_limit t t'
     as_action some (runs.fails kind t) (acting (gave after np' t' action by')) = gives_faults t' t
     as_action some (runs.fails kind t) (acting (failed_by kind' np' t' action by')) =
         record {
           action = action;
-          pictures = ((lay, subst (λ (k : FaultKind). PicturesBy tree code texts ((choice (scopes_of tree) w p).world) lay (failed a p k)) (faults_same t' t) by'), some);
+          pictures = (subst (λ (k : FaultKind). Pictures tree code texts ((choice (scopes_of tree) w p).world) (failed a p k)) (faults_same t' t) by', some);
         }
 
     not_tagged : (kind : InterruptKind) → Operator w lay a p → table code a p ≡ interrupts kind → ⊥
     not_tagged kind (plainly after e t) i = gives_interrupts t i
     not_tagged kind (acting (gave after np t action by')) i = gives_interrupts t i
     not_tagged kind (acting (failed_by k np t action by')) i = faults_interrupts t i
+    not_tagged kind (acting (stopped np t heavy)) i = limit_interrupts t i
 
-    not_limited : {B : Type 0} → Operator w lay a p → table code a p ≡ limit → B
-    not_limited (plainly after e t) i = gives_limit t i
-    not_limited (acting (gave after np t action by')) i = gives_limit t i
-    not_limited (acting (failed_by k np t action by')) i = faults_limit t i
+    -- only where its process weighs more than a stack has room for
+    heavy_one : Operator w lay a p → table code a p ≡ limit → stack_limit < weight tree w p
+    heavy_one (plainly after e t) i = gives_limit t i
+    heavy_one (acting (gave after np t action by')) i = gives_limit t i
+    heavy_one (acting (failed_by k np t action by')) i = faults_limit t i
+    heavy_one (acting (stopped np t heavy)) i = heavy
 
-    -- no process comes to the limit
-    never_limited : {B : Type 0} → table code a p ≡ limit → B
-    never_limited {B} t = found (numbered w.processes p) refl
+    -- so is each process that comes to the limit
+    limit_is_heavy : table code a p ≡ limit → stack_limit < weight tree w p
+    limit_is_heavy t = found (numbered w.processes p) refl
       where
-        by_picture : (q : Process) → numbered w.processes p ≡ Some q → Pictured tree code texts w lay a p q → B
-        by_picture q at (living able_is s l) = not_limited (operates tree code texts flat few performed fragments rests others w lay a by p q at able_is s l) t
+        by_picture : (q : Process) → numbered w.processes p ≡ Some q → Pictured tree code texts w lay a p q → stack_limit < weight tree w p
+        by_picture q at (living able_is s l) = heavy_one (operates tree code texts performed limits settled_does w lay p q at able_is a by s l) t
         by_picture q at (dead e s) = no_limit code a p (ap is_live s) t
 
-        found : (o : Option Process) → numbered w.processes p ≡ o → B
+        found : (o : Option Process) → numbered w.processes p ≡ o → stack_limit < weight tree w p
         found (Some q) at = by_picture q at (by.each p q at)
         found None gone = no_limit code a p (ap is_live (numbered_beyond w.processes a.states p by.states gone)) t
 
-    comes_to : {n : ℕ} {quiet : Image} → Plains code p a n quiet → Does tree code texts w lay quiet p → Comes tree code Pic p a
+    comes_to : {n : ℕ} {quiet : Image} → Plains code p a n quiet → Does tree code texts w quiet p → Comes tree code Pic p a
     comes_to plains (gave after np t action by') = acts plains (runs.acts np t)
     comes_to plains (failed_by kind np t action by') = acts plains (runs.fails kind t)
+    comes_to plains (stopped np t heavy) = stops plains t
 
     comes : IsAble tree code texts w lay a by p → Comes tree code Pic p a
     comes one =
-        let s : Settles tree code texts flat few performed fragments rests others w lay a by p one.process one.at one.able_is one.able_p one.lives_so =
-        settles tree code texts flat few performed fragments rests others w lay a by p one.process one.at one.able_is one.able_p one.lives_so in
+        let s : Settles tree code texts performed limits settled_does w lay a p = settles tree code texts performed limits settled_does w lay p one.process one.at one.able_is a by one.able_p one.lives_so in
         comes_to s.plains s.does
 
     some_after : 1 ≤ length w.processes → IsAble tree code texts w lay a by p → 1 ≤ length (choice (scopes_of tree) w p).world.processes
-    some_after some one = omega (arith, some, same_number tree code texts rests w lay a p one.process one.at one.lives_so)
+    some_after some one = omega (arith, some, last w lay a p one.process by one.at one.lives_so)
 
   -- ---- all of it
 
@@ -141,7 +152,7 @@ module _ (tree : PProgram) (code : Code) (texts : ℕ → List Placed) (flat : I
     simulation =
         record {
           first = (first, some_first);
-          plain = λ w a b p pic e t. ((pic.0.0, through_plain tree code texts flat few performed fragments rests others w pic.0.0 a b p pic.0.1 e t), pic.1);
+          plain = λ w a b p pic e t. ((pic.0.0, through_plain tree code texts performed limits settled_does w pic.0.0 a b p pic.0.1 e t), pic.1);
           act = λ w a b p pic may x.
               let one : IsAble tree code texts w pic.0.0 a pic.0.1 p = able_one tree code texts w pic.0.0 a pic.0.1 p (able_acts a p may) in
               as_action w pic.0.0 a pic.0.1 p (some_after w pic.0.0 a pic.0.1 p pic.1 one) x (operator_of w pic.0.0 a pic.0.1 p one);
@@ -158,7 +169,7 @@ module _ (tree : PProgram) (code : Code) (texts : ℕ → List Placed) (flat : I
           fits = λ w a pic.
               record {
                 light = is_light tree code texts w pic.0.0 a pic.0.1;
-                heavy = λ p t. never_limited w pic.0.0 a pic.0.1 p t;
+                heavy = λ p t. limit_is_heavy w pic.0.0 a pic.0.1 p t;
               };
           apart = λ w a pic p q x r touches lives private. apart w pic.0.0 a pic.0.1 p q x r touches lives private;
         }

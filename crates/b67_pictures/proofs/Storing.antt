@@ -1,70 +1,70 @@
 -- A store.
-use Rattle.std.proofs.Common.{◌≡◌, ◌≢◌, ◌⊎◌, inl, inr, refl, sym, ap, ◌∙◌, subst, ℕ, suc, ◌+◌, ◌-◌, ◌*◌, ◌<◌, ◌≤◌, ◌^◌, List, [], ◌∷◌, length, Option, Some, None, Bool, true, false, Ok, arith}
+use Rattle.std.proofs.Common.{◌≡◌, ◌≢◌, refl, sym, ap, ◌∙◌, subst, ℕ, suc, ◌+◌, ◌<◌, ◌≤◌, ◌^◌, List, [], ◌∷◌, length, Option, Some, None, Bool, true, false, Ok, arith}
 use Rattle.std.specs.Prelude.{slice_set, if◌then◌else◌}
 use Rattle.b67_list.specs.Numbered.{numbered}
 use Rattle.algol_tree.specs.declared.tree.Kind.{Kind}
 use Rattle.algol_tree.specs.declared.tree.Named.{Named}
-use Rattle.algol_tree.specs.Plain.{PProgram}
 use Rattle.algol_tree.specs.Blocks.{block_numbered}
 use Rattle.algol_tree.specs.Cells.{level_of}
+use Rattle.algol_tree.specs.Plain.{PProgram}
 use Rattle.algol_tree.specs.Scopes.{Scopes, scopes_of, use_of}
 use Rattle.algol_tree.specs.Sorts.{same_name}
 use Rattle.algol_meaning.specs.Value.{Value, Cell, simple}
 use Rattle.algol_meaning.specs.Rest.{Answer, done, own}
-use Rattle.algol_meaning.specs.World.{NamedCell, Instance, Process, Part, able, World, instance_at, or_no_instance, with_instance, with_process, ancestor, set_cell, cells_with}
+use Rattle.algol_meaning.specs.World.{NamedCell, Instance, Process, Part, able, World, instance_at, or_no_instance, with_instance, with_process, ancestor, cells_with}
 use Rattle.algol_meaning.specs.Actions.{Store}
 use Rattle.algol_meaning.specs.Asks.{Ask, stores, ask, resume}
 use Rattle.algol_meaning.specs.Choice.{Choice, choice, choice_of}
-use Rattle.algol_meaning.specs.Critical.{is_evaluation}
+use Rattle.algol_paths.specs.Blocks.{IsSeen, IsInner}
+use Rattle.algol_paths.specs.Laws.{RestsKeepToTheirText}
 use Rattle.b67_word.specs.declared.Place.{Place}
 use Rattle.b67_word.specs.Word.{Word}
+use Rattle.b67_control.specs.Control.{as_irw}
 use Rattle.b67_ops.specs.declared.Couple.{Couple}
 use Rattle.b67_ops.specs.declared.Operator.TheVariants as ops
 use Rattle.b67_ops.specs.declared.PlainKind.TheVariants as kinds
-use Rattle.b67_ops.specs.declared.TheConstants.{OUTER_LEVEL}
 use Rattle.b67_segment.specs.Operators.{Placed}
 use Rattle.b67_segment.specs.declared.code.Code.{Code}
+use Rattle.b67_store.specs.Store.{stack_limit}
 use Rattle.b67_table.specs.declared.ProcessState.TheVariants.{Able}
-use Rattle.b67_table.specs.Beginning.{base_mark}
-use Rattle.b67_table.specs.Linkage.{base_control}
-use Rattle.b67_table.specs.Image.{Image}
+use Rattle.b67_table.specs.Arrays.{as_indexed}
 use Rattle.b67_table.specs.Chains.{place}
 use Rattle.b67_table.specs.Effect as effects
+use Rattle.b67_table.specs.Image.{Image}
 use Rattle.b67_table.specs.Outcome as outcomes
-use Rattle.b67_table.specs.Private.{frame}
+use Rattle.b67_table.specs.Outcome.{limited}
+use Rattle.b67_table.specs.Private.{frame, display_at}
 use Rattle.b67_table.specs.PrivateRows as rows
 use Rattle.b67_table.specs.Table.{table, raw, operator_at}
-use Rattle.b67_faithful.specs.Weight.{weight, segment_tokens}
-use Rattle.b67_templates.specs.Cells.{Simple, simple_cells, IsVariable}
+use Rattle.b67_templates.specs.Cells.{simple_cells, Found, IsVariable}
 use Rattle.b67_standing.specs.Stepping.{Slot, operand, reference}
 use Rattle.b67_standing.specs.Standing.{ActionAt, Acted, ComesTo}
-use Rattle.b67_cores.specs.Cores.{Core, IsCore, with_core}
-use Rattle.b67_cores.specs.Slots.{ValueIs, SlotsAre}
+use Rattle.b67_cores.specs.Cores.{Core, size, IsCore, with_core, here}
+use Rattle.b67_cores.specs.Slots.{ValueIs, newest, SlotsAre}
 use Rattle.b67_cores.specs.Stretches.{CoreAt, FragmentsArePerformed}
 use Rattle.b67_cores.proofs.Moving.{slots_length}
-use Rattle.b67_fitting.specs.Flat.{IsFlat}
-use Rattle.b67_pictures.specs.Acting.{Does, gave}
-use Rattle.b67_pictures.specs.Frames.{CellsAre, Framed}
-use Rattle.b67_pictures.specs.Pictures.{PicturesBy}
-use Rattle.b67_pictures.proofs.Numbers.{same_or_not, numbered_set, numbered_other, length_set_numbered}
-use Rattle.b67_pictures.proofs.Kept.{AreAlike, same_ancestor}
-use Rattle.b67_control.specs.Display.{place_at}
-use Rattle.b67_control.specs.Control.{as_irw}
-use Rattle.b67_table.specs.Arrays.{as_indexed}
-use Rattle.b67_cores.specs.Slots.{newest}
-use Rattle.b67_templates.specs.Cells.{Found}
+use Rattle.b67_faithful.specs.Weight.{weight}
 use Rattle.b67_faithful.proofs.Contradictions.{some_same}
-use Rattle.b67_pictures.proofs.Slotted.{Top, top_slot}
+use Rattle.b67_pictures.specs.Acting.{Does, gave}
+use Rattle.b67_pictures.specs.Frames.{CellsAre, IsChained, Frame, Stands}
+use Rattle.b67_pictures.specs.Pictures.{Living, PicturesBy}
+use Rattle.b67_pictures.proofs.Asked.{stores_seen}
 use Rattle.b67_pictures.proofs.Cored.{registers_now, has_now, others_have, system_stays}
-use Rattle.b67_pictures.proofs.Landing.{living_of}
-use Rattle.b67_pictures.proofs.Rows.{action_not_plain, action_is}
-use Rattle.b67_pictures.proofs.Words.{value_tag, reference_read, reference_unindexed}
-use Rattle.b67_pictures.proofs.StackWords.{length-set}
-use Rattle.b67_pictures.proofs.Variables.{cell_changed}
-use Rattle.b67_pictures.proofs.Scene.{Scene, landed, weight_of_one}
+use Rattle.b67_pictures.proofs.Kept.{AreAlike, alike_but}
 use Rattle.b67_pictures.proofs.Homes.{operator_there, Home, home}
-use Rattle.b67_pictures.proofs.Stage.{gives_within, choice_is, goes_on}
+use Rattle.b67_pictures.proofs.Landing.{living_of}
+use Rattle.b67_pictures.proofs.Lying.{StayBelow}
+use Rattle.b67_pictures.proofs.Numbers.{get_below, numbered_set, length_set_numbered}
+use Rattle.b67_pictures.proofs.Rows.{action_not_plain, action_is}
+use Rattle.b67_pictures.proofs.Scene.{Scene}
+use Rattle.b67_pictures.proofs.Stage.{gives_within, choice_is, goes_on, weight_of}
+use Rattle.b67_pictures.proofs.Slotted.{Top, top_slot}
+use Rattle.b67_pictures.proofs.StackWords.{length-set}
+use Rattle.b67_pictures.proofs.Staying.{text_in, level_in, IsAsHeavy, same_weight, FrameStill, frame_still}
 use Rattle.b67_pictures.proofs.StoreRow.{with_cell, store_raw, store_class}
+use Rattle.b67_pictures.proofs.StoringFrames.{as_many_words, changed, stored_world, same_of, same_ancestors, as_heavy, Stored, frame_stored}
+use Rattle.b67_pictures.proofs.Variables.{cell_changed}
+use Rattle.b67_pictures.proofs.Words.{value_tag, reference_read, reference_unindexed}
 
 pub length_cells : (cells : List NamedCell) (name : List ℕ) (c : Cell) → length (cells_with cells name c) ≡ length cells
 length_cells [] name c = refl
@@ -74,223 +74,279 @@ length_cells (x ∷ cells) name c = by_name (same_name x.name name) (length_cell
     by_name true e = refl
     by_name false e = ap suc e
 
--- ---- the world after a store in a cell of an instance
+-- the two topmost words, one after another
+two_words : (words left : List Word) (x y : Word) (rest : List Word) → words ≡ x ∷ left → left ≡ y ∷ rest → words ≡ x ∷ y ∷ rest
+two_words words left x y rest e f = e ∙ ap (λ (ws : List Word). x ∷ ws) f
 
-module _ (w : World) (i : ℕ) (x : Instance) (at : numbered w.instances i ≡ Some x) (cells : List NamedCell) where
-  abbrev pub changed : Instance
-  changed = record (instance_at w i) { cells = cells }
-
-  abbrev pub stored_world : World
-  stored_world = with_instance w i changed
-
-  instance_is : instance_at w i ≡ x
-  instance_is = ap or_no_instance at
-
-  pub changed_at : numbered stored_world.instances i ≡ Some changed
-  changed_at = numbered_set w.instances i x changed at
-
-  pub others_at : (j : ℕ) → j ≢ i → numbered stored_world.instances j ≡ numbered w.instances j
-  others_at j apart = numbered_other w.instances i j changed (λ e. apart (sym e))
-
-  pub same_parents : (j : ℕ) → (instance_at stored_world j).parent ≡ (instance_at w j).parent
-  same_parents j = by_number (same_or_not j i)
-    where
-      by_number : (j ≡ i) ⊎ (j ≢ i) → (instance_at stored_world j).parent ≡ (instance_at w j).parent
-      by_number (inl e) =
-          ap (λ (k : ℕ). (instance_at stored_world k).parent) e ∙ ap (λ (o : Option Instance). (or_no_instance o).parent) changed_at ∙ ap (λ (k : ℕ). (instance_at w k).parent) (sym e)
-      by_number (inr n) = ap (λ (o : Option Instance). (or_no_instance o).parent) (others_at j n)
-
-  pub same_blocks : ((j : ℕ) (y : Instance) → numbered w.instances j ≡ Some y → y.block ≡ 0) → (j : ℕ) (y : Instance) → numbered stored_world.instances j ≡ Some y → y.block ≡ 0
-  same_blocks outermost j y e = by_number (same_or_not j i)
-    where
-      by_number : (j ≡ i) ⊎ (j ≢ i) → y.block ≡ 0
-      by_number (inl same) =
-          let is : Some changed ≡ Some y = sym changed_at ∙ ap (λ (k : ℕ). numbered stored_world.instances k) (sym same) ∙ e in
-          ap (λ (o : Option Instance). (or_no_instance o).block) (sym is) ∙ ap (λ (z : Instance). z.block) instance_is ∙ outermost i x at
-      by_number (inr n) = outermost j y (sym (others_at j n) ∙ e)
-
-  -- the instances of another process are as they were
-  pub alike_after : (p r : ℕ) → x.process ≡ p → r ≢ p → AreAlike w stored_world r
-  alike_after p r mine_is apart =
-      record {
-        own = λ j y e mine. others_at j (λ (same : j ≡ i). apart (sym mine ∙ ap (λ (o : Option Instance). (or_no_instance o).process) (sym e ∙ ap (λ (k : ℕ). numbered w.instances k) same ∙ at) ∙ mine_is)) ∙ e;
-        parents = same_parents;
-      }
-
--- ---- the action
-
-module _ (tree : PProgram) (code : Code) (texts : ℕ → List Placed) (flat : IsFlat (scopes_of tree)) (fragments : FragmentsArePerformed) (w : World) (lay : List Place) (img : Image)
-    (p : ℕ) (q : Process) (part : Part) (most bound : ℕ) (core : Core) (s : Scene tree code texts w lay img p q part most bound core) (able_is : q.state ≡ able) (able_p : numbered img.states p ≡ Some Able)
-    (n : Named) (v : Value) (asks : ask part.rest ≡ stores (own n) v) (a : ActionAt (scopes_of tree) code.formats (texts 0) OUTER_LEVEL most (stores (own n) v) s.pc s.slots)
-    (answered : (r : Answer) (at : ℕ) (left : List Slot) → Acted (scopes_of tree) code.formats (texts 0) OUTER_LEVEL most (stores (own n) v) s.pc s.slots a r at left →
-    ComesTo (scopes_of tree) code.formats (texts 0) OUTER_LEVEL most (resume (scopes_of tree) part.rest r) at left) where
+module _ (tree : PProgram) (code : Code) (texts : ℕ → List Placed) (fragments : FragmentsArePerformed) (kept : RestsKeepToTheirText) (w : World) (lay : List Place) (img : Image)
+    (p : ℕ) (q : Process) (part : Part) (outer : List Part) (most bound : ℕ) (core : Core) (s : Scene tree code texts w lay img p q part outer most bound core)
+    (able_is : q.state ≡ able) (able_p : numbered img.states p ≡ Some Able) (n : Named) (v : Value) (asks : ask part.rest ≡ stores (own n) v)
+    (a : ActionAt (scopes_of tree) code.formats (text_in texts w part) (level_in tree w part) most (stores (own n) v) s.stands.pc s.stands.slots)
+    (answered : (r : Answer) (at : ℕ) (left : List Slot) →
+    Acted (scopes_of tree) code.formats (text_in texts w part) (level_in tree w part) most (stores (own n) v) s.stands.pc s.stands.slots a r at left →
+    ComesTo (scopes_of tree) code.formats (text_in texts w part) (level_in tree w part) most (resume (scopes_of tree) part.rest r) at left) where
   abbrev sc : Scopes
   sc = scopes_of tree
+
+  abbrev b : ℕ
+  b = (instance_at w part.instance).block
+
+  abbrev level : ℕ
+  level = level_of (block_numbered sc.blocks b)
+
+  abbrev text : List Placed
+  text = texts b
 
   abbrev couple : Couple
   couple = a.2.couple
 
+  abbrev st : Stands tree code texts w lay p most part outer core
+  st = s.stands
+
+  abbrev i : ℕ
+  i = ancestor w ((use_of sc n).up) part.instance
+
   there : operator_at code core.registers ≡ Ok (ops.Plain kinds.Stod, a.0)
-  there = operator_there sc code (texts 0) OUTER_LEVEL s.pc s.slots core (ops.Plain kinds.Stod) a.0 s.there a.2.stands
+  there = operator_there sc code text level st.pc st.slots core (ops.Plain kinds.Stod) a.0 st.there a.2.stands
 
   abbrev IsHome : Type 0
-  IsHome = Home sc flat w lay p part.instance s.cells core base_mark (base_control OUTER_LEVEL) s.below_is s.framed s.outermost n a.2.kind couple
+  IsHome = Home tree code texts w lay img p q part outer most bound core s n a.2.kind couple
 
   found : IsHome
-  found = home sc flat w lay p part.instance s.cells core base_mark (base_control OUTER_LEVEL) s.below_is s.framed s.outermost n a.2.kind couple a.2.variable
+  found = home tree code texts w lay img p q part outer most bound core s n a.2.kind couple (stores_seen (IsSeen sc b) n (IsInner sc b) part.rest v asks st.frame.text) a.2.variable
 
   module _ (f : IsHome) (x y : Word) (words : List Word) (top : core.words ≡ x ∷ y ∷ words) (x_is : ValueIs v x) (y_is : y ≡ rows.reference couple)
-      (left_are : SlotsAre sc OUTER_LEVEL (frame core.registers) (length core.below) a.1 words) where
-    abbrev i : ℕ
-    i = part.instance
-
+      (left_are : SlotsAre sc level (frame core.registers) (length core.below) a.1 words) where
     abbrev instance : Instance
-    instance = s.framed.instance
+    instance = f.lies.frame.framed.instance
+
+    instance_there : numbered w.instances i ≡ Some instance
+    instance_there = ap (λ (j : ℕ). numbered w.instances j) (sym f.lies.instance_is) ∙ f.lies.frame.framed.is
+
+    -- the height of its frame
+    abbrev high : ℕ
+    high = length f.lies.frame.lower
+
+    laid : numbered lay i ≡ Some (place p high)
+    laid = ap (λ (j : ℕ). numbered lay j) (sym f.lies.instance_is) ∙ f.lies.frame.framed.laid
+
+    short : f.number < length instance.cells
+    short =
+        omega (
+          arith,
+          get_below f.lies.frame.cells f.number f.word f.cell_lies,
+          as_many_words (simple_cells (block_numbered sc.blocks instance.block)) instance.cells f.lies.frame.cells f.lies.frame.framed.cells_are,
+        )
+
+    tag : f.word.tag ≡ 0
+    tag = value_tag f.value f.word f.word_is
 
     abbrev cells' : List NamedCell
-    cells' = cells_with ((instance_at w i).cells) n.name (simple v)
+    cells' = cells_with instance.cells n.name (simple v)
 
     abbrev part' : Part
     part' = record part { rest = resume sc part.rest done }
 
     abbrev q' : Process
-    q' = record q { todo = part' ∷ [] }
+    q' = record q { todo = part' ∷ outer }
+
+    abbrev stored : World
+    stored = stored_world w i instance instance_there cells'
 
     abbrev w' : World
-    w' = with_process (stored_world w i instance s.framed.is cells') p q'
+    w' = with_process stored p q'
+
+    abbrev k : ℕ
+    k = high + couple.index
 
     abbrev new : Core
-    new = with_cell core (0 + couple.index) x words a.0
+    new = with_cell core k x words a.0
+
+    many : length cells' ≡ length instance.cells
+    many = length_cells instance.cells n.name (simple v)
 
     chosen : choice sc w p ≡ record { action = Store; world = w'; released = []; started = None }
     chosen =
-        choice_is sc w p q part s.at s.todo
-        ∙ ap (λ (k : Ask). choice_of sc w p q part [] k) asks
-        ∙ ap (λ (up : ℕ). record { action = Store; world = with_process (set_cell w (record { instance = ancestor w up i; name = n.name }) (simple v)) p q'; released = []; started = None }) (flat.here n)
+        choice_is sc w p q part outer s.at s.todo
+        ∙ ap (λ (m : Ask). choice_of sc w p q part outer m) asks
+        ∙ ap (λ (o : Option Instance). record { action = Store; world = with_process (with_instance w i (record (or_no_instance o) { cells = cells_with ((or_no_instance o).cells) n.name (simple v) })) p q'; released = []; started = None }) instance_there
 
-    -- the frame after it
-    block_is : simple_cells (block_numbered sc.blocks (instance.block)) ≡ simple_cells (block_numbered sc.blocks ((use_of sc n).block))
-    block_is = ap (λ (k : ℕ). simple_cells (block_numbered sc.blocks k)) (s.outermost ∙ sym (flat.own n))
-
-    here_is : instance_at w i ≡ instance
-    here_is = ap or_no_instance s.framed.is
+    -- ---- the frames after it
 
     number_is : a.2.variable.found.number ≡ 0 + f.number
     number_is = omega (arith, a.2.variable.index_is, f.index)
 
-    cells_are : CellsAre (simple_cells (block_numbered sc.blocks (instance.block))) cells' (slice_set s.cells f.number x)
-    cells_are =
-        subst (λ (ss : List Simple). CellsAre ss cells' (slice_set s.cells f.number x)) (sym block_is)
-        (subst (λ (cs : List NamedCell). CellsAre (simple_cells (block_numbered sc.blocks ((use_of sc n).block))) (cells_with cs n.name (simple v)) (slice_set s.cells f.number x))
-        (sym (ap (λ (z : Instance). z.cells) here_is))
-        (cell_changed (simple_cells (block_numbered sc.blocks ((use_of sc n).block))) (instance.cells) s.cells 0 n.name a.2.variable.found a.2.kind v x f.number
-        (subst (λ (ss : List Simple). CellsAre ss (instance.cells) s.cells) block_is s.framed.cells_are) a.2.variable.there a.2.variable.kind_is number_is a.2.fits x_is))
+    changes : (ws : List Word) → CellsAre (simple_cells (block_numbered sc.blocks instance.block)) instance.cells ws →
+        CellsAre (simple_cells (block_numbered sc.blocks instance.block)) cells' (slice_set ws f.number x)
+    changes ws are =
+        let block_is : instance.block ≡ (use_of sc n).block = f.block_is in
+        subst (λ (m : ℕ). CellsAre (simple_cells (block_numbered sc.blocks m)) cells' (slice_set ws f.number x)) (sym block_is)
+        (cell_changed (simple_cells (block_numbered sc.blocks ((use_of sc n).block))) instance.cells ws 0 n.name a.2.variable.found a.2.kind v x f.number
+        (subst (λ (m : ℕ). CellsAre (simple_cells (block_numbered sc.blocks m)) instance.cells ws) block_is are) a.2.variable.there a.2.variable.kind_is number_is a.2.fits x_is)
 
-    abbrev framed' : Framed sc w' lay p i 0 (slice_set s.cells f.number x) core.registers.display
-    framed' =
+    place_is : k ≡ high + 2 + f.number
+    place_is = omega (arith, f.index)
+
+    abbrev AfterStore : Type 0
+    AfterStore = Stored tree code texts w lay p most i instance instance_there cells' high laid f.number k place_is x many short changes part outer core.below st.frame
+
+    frames : AfterStore
+    frames =
+        frame_stored tree code texts w lay p most i instance instance_there cells' high laid f.number k place_is x many short changes part outer core.below st.frame s.around f.parent.own
+
+    -- the world with the process's part gone on has the same instances
+    stay : StayBelow stored w' lay lay p (suc (length frames.frame.lower))
+    stay = record { instances = λ j at y e mine lies low. e; places = λ j g e. e }
+
+    abbrev IsStill : Type 0
+    IsStill = FrameStill tree code texts stored w' lay lay p most (suc (length frames.frame.lower)) stay part outer new.below frames.frame.cells
+
+    still : IsStill
+    still =
+        frame_still tree code texts stored w' lay lay p most (suc (length frames.frame.lower)) stay part outer new.below frames.frame frames.around (omega arith)
+
+    block_is : b ≡ (instance_at w' part.instance).block
+    block_is = same_of w i instance instance_there cells' (λ (z : Instance). z.block) refl part.instance
+
+    abbrev frame' : Frame tree code texts w' lay p most part' outer new.below
+    frame' =
         record {
-          instance = changed w i instance s.framed.is cells';
-          is = changed_at w i instance s.framed.is cells';
-          own = ap (λ (z : Instance). z.process) here_is ∙ s.framed.own;
-          laid = s.framed.laid;
-          cells_are = subst (λ (z : Instance). CellsAre (simple_cells (block_numbered sc.blocks z.block)) cells' (slice_set s.cells f.number x)) (sym here_is) cells_are;
-          chained = λ up low.
-              subst (λ (z : Instance). place_at core.registers.display (level_of (block_numbered sc.blocks z.block) - up) ≡ numbered lay (ancestor w' up i)) (sym here_is)
-              (s.framed.chained up (subst (λ (z : Instance). up + OUTER_LEVEL ≤ level_of (block_numbered sc.blocks z.block)) here_is low)
-              ∙ ap (λ (j : ℕ). numbered lay j) (sym (same_ancestor w (stored_world w i instance s.framed.is cells') (same_parents w i instance s.framed.is cells') up i)));
+          owns = still.frame.owns;
+          lower = still.frame.lower;
+          mark = still.frame.mark;
+          control = still.frame.control;
+          cells = still.frame.cells;
+          words_are = still.frame.words_are;
+          framed = still.frame.framed;
+          text = kept.resumed sc ((instance_at w' part.instance).block) part.rest done still.frame.text tt;
         }
 
-    index_is : 0 + couple.index ≡ suc (suc f.number)
-    index_is = omega (arith, f.index)
+    chained : IsChained sc w' lay part.instance level core.registers.display
+    chained up low =
+        st.chained up low
+        ∙ ap (λ (j : ℕ). numbered lay j) (same_ancestors w w' (λ j. same_of w i instance instance_there cells' (λ (z : Instance). z.parent) refl j) up part.instance)
 
-    below' : new.below ≡ base_mark ∷ base_control OUTER_LEVEL ∷ slice_set s.cells f.number x
-    below' = ap (λ (ws : List Word). slice_set ws (0 + couple.index) x) s.below_is ∙ ap (λ (k : ℕ). slice_set (base_mark ∷ base_control OUTER_LEVEL ∷ s.cells) k x) index_is
+    -- ---- the core after it
 
     long : core.registers.s ≡ length core.below + (length words + 2)
     long = omega (arith, s.has.is.top, ap length top)
 
     is_new : IsCore new
-    is_new = record { bottom = length-set core.below (0 + couple.index) x ∙ s.has.is.bottom; top = omega (arith, long, length-set core.below (0 + couple.index) x) }
+    is_new = record { bottom = length-set core.below k x ∙ s.has.is.bottom; top = omega (arith, long, length-set core.below k x) }
 
-    core_at : CoreAt sc code (texts 0) OUTER_LEVEL a.0 a.1 new
+    core_at : CoreAt sc code text level a.0 a.1 new
     core_at =
         record {
-          segment = s.there.segment;
-          there = s.there.there;
-          spells = s.there.spells;
-          level_is = s.there.level_is;
+          segment = st.there.segment;
+          there = st.there.there;
+          spells = st.there.spells;
+          level_is = st.there.level_is;
           place_is = refl;
           is = is_new;
           mark_is = mark_is;
-          words_are = subst (λ (b : ℕ). SlotsAre sc OUTER_LEVEL (frame core.registers) b a.1 words) (sym (length-set core.below (0 + couple.index) x)) left_are;
+          words_are = subst (λ (m : ℕ). SlotsAre sc level (frame core.registers) m a.1 words) (sym (length-set core.below k x)) left_are;
         }
       where
         -- a reference and a value are no marks
-        mark_is : core.registers.f ≡ newest (frame core.registers) (length (slice_set core.below (0 + couple.index) x)) a.1
+        mark_is : core.registers.f ≡ newest (frame core.registers) (length (slice_set core.below k x)) a.1
         mark_is =
-            s.there.mark_is
+            st.there.mark_is
             ∙ ap (λ (l : List Slot). newest (frame core.registers) (length core.below) l) a.2.lies
-            ∙ ap (λ (b : ℕ). newest (frame core.registers) b a.1) (sym (length-set core.below (0 + couple.index) x))
+            ∙ ap (λ (m : ℕ). newest (frame core.registers) m a.1) (sym (length-set core.below k x))
+
+    -- the display names the frame
+    shown : display_at core.registers couple.level ≡ Some (record { stack = core.registers.stack; at = high })
+    shown = f.shown ∙ ap (λ (m : ℕ). Some (place m high)) (sym s.has.own)
 
     raw_is : as_irw y ≡ Some (record { level = couple.level; index = couple.index }) → as_indexed y ≡ None → raw code img p ≡ effects.gives (with_core img p new)
     raw_is reads plain_word =
-        store_raw code img p core s.has a.0 there x y f.word words top couple.level couple.index 0
-        (f.shown ∙ ap (λ (k : ℕ). Some (place k 0)) (sym s.has.own)) reads plain_word f.below_lies (value_tag v x x_is) (value_tag f.value f.word f.word_is)
+        store_raw code img p core s.has a.0 there x y f.word words top couple.level couple.index high shown reads plain_word f.below_lies (value_tag v x x_is) tag
 
-    few : length a.1 ≤ most
-    few = let more : length s.slots ≡ length a.1 + 2 = ap length a.2.lies ∙ omega arith in omega (arith, s.few, more)
+    held : length a.1 ≤ most
+    held = let more : length st.slots ≡ length a.1 + 2 = ap length a.2.lies ∙ omega arith in omega (arith, st.few, more)
+
+    smaller : size new ≤ stack_limit
+    smaller = omega (arith, s.small, ap length top, length-set core.below k x)
+
+    heavy : (j : ℕ) → IsAsHeavy w w' j
+    heavy j = let h : IsAsHeavy w stored j = as_heavy w i instance instance_there cells' many j in record { block = h.block; cells = h.cells }
 
     light' : bound + 3 ≤ weight tree w' p
     light' =
-        subst (λ (k : ℕ). bound + 3 ≤ k)
-        (weight_of_one tree w p q part s.at s.todo
-        ∙ ap (λ (k : ℕ). 8 + (if is_evaluation part.purpose then 0 else k) + 4 * segment_tokens tree ((instance_at w i).block) + 0) (sym (length_cells ((instance_at w i).cells) n.name (simple v)))
-        ∙ ap (λ (o : Option Instance). 8 + (if is_evaluation part.purpose then 0 else length ((or_no_instance o).cells)) + 4 * segment_tokens tree ((or_no_instance o).block) + 0) (sym (changed_at w i instance s.framed.is cells'))
-        ∙ sym (weight_of_one tree w' p q' part' (numbered_set w.processes p q q' s.at) refl)) s.light
+        subst (λ (m : ℕ). bound + 3 ≤ m)
+        (weight_of tree w p q (part ∷ outer) s.at s.todo
+        ∙ sym (same_weight tree w w' (part ∷ outer) (λ j own_part. heavy j))
+        ∙ sym (weight_of tree w' p q' (part' ∷ outer) (numbered_set w.processes p q q' s.at) refl)) s.light
+
+    -- ---- the picture after it
+
+    lives : Living tree code texts w' lay (with_core img p new) p q'
+    lives =
+        living_of tree code texts w' lay (with_core img p new) fragments p q' part' outer most bound new new (record {
+          todo = refl;
+          independent = s.independent;
+          without_task = s.without_task;
+          has = has_now img p core new s.has refl is_new;
+          free = s.free;
+          idle = s.idle;
+          sees = s.sees;
+          small = smaller;
+          begun = 0;
+          begins = here (omega (arith, slots_length sc level (frame core.registers) (length core.below) a.1 words left_are, held, s.room, length-set core.below k x));
+          frame = frame';
+          around = still.around;
+          counted = st.counted ∙ sym frames.cells ∙ sym (ap length still.cells_are);
+          chained = subst (λ (m : ℕ). IsChained sc w' lay part.instance (level_of (block_numbered sc.blocks m)) core.registers.display) block_is chained;
+          segment_is = st.segment_is;
+          pc = a.0;
+          slots = a.1;
+          at = subst (λ (m : ℕ). CoreAt sc code (texts m) (level_of (block_numbered sc.blocks m)) a.0 a.1 new) block_is core_at;
+          held = held;
+          comes = subst (λ (m : ℕ). ComesTo sc code.formats (texts m) (level_of (block_numbered sc.blocks m)) most (resume sc part.rest done) a.0 a.1) block_is (answered done a.0 a.1 (refl, refl));
+          room = omega (arith, s.room, length-set core.below k x);
+          light = light';
+          few = s.few;
+        })
+
+    -- the instances of another process are as they were
+    alike : (r : ℕ) → r ≢ p → AreAlike w w' lay lay r
+    alike r other =
+        alike_but w w' lay r i instance (changed w i instance instance_there cells') instance_there (λ (same : r ≡ instance.process). other (same ∙ f.lies.frame.framed.own)) refl
 
     pictured : PicturesBy tree code texts w' lay (with_core img p new)
     pictured =
-        goes_on tree code texts w lay img s.by p q s.at w' (with_core img p new) q' refl able_is
-        (length_set_numbered w.instances i (changed w i instance s.framed.is cells'))
-        (same_blocks w i instance s.framed.is cells' s.by.outermost)
-        (λ r other. let k = alike_after w i instance s.framed.is cells' p r s.framed.own other in record { own = k.own; parents = k.parents })
-        s.by.output refl refl refl refl (system_stays img p core new s.has refl q w s.at) able_p
-        (λ r other_core apart has. others_have img p core new s.has refl r other_core apart has)
-        (living_of tree code texts w' lay (with_core img p new) fragments p q' part' most bound new
-        (landed tree code texts w' lay (with_core img p new) flat p q' part' most bound new (slice_set s.cells f.number x) a.0 a.1 refl s.independent s.without_task
-        (has_now img p core new s.has refl is_new) s.free s.idle s.sees s.owns below' (s.counted ∙ sym (length-set s.cells f.number x)) framed' (ap (λ (z : Instance). z.block) here_is ∙ s.outermost) core_at few
-        (answered done a.0 a.1 (refl, refl)) (omega (arith, s.room, length-set core.below (0 + couple.index) x)) light' s.small))
+        goes_on tree code texts w lay img s.by p q s.at w' lay (with_core img p new) q' refl able_is
+        (s.by.laid ∙ sym (length_set_numbered w.instances i (changed w i instance instance_there cells'))) alike s.by.output refl refl refl refl
+        (system_stays img p core new s.has refl q w s.at) able_p (λ r other_core apart has. others_have img p core new s.has refl r other_core apart has) lives
 
-    does : as_irw y ≡ Some (record { level = couple.level; index = couple.index }) → as_indexed y ≡ None → Does tree code texts w lay img p
-    does reads plain_word =
-        let table_is : table code img p ≡ outcomes.gives (with_core img p new) =
-        gives_within code img (with_core img p new) p new.registers (raw_is reads plain_word) (registers_now img p core new s.has refl) (omega (arith, long, s.has.is.top, s.room, s.small, s.few, top_few)) in
+    does : couple.level < 32 → couple.index < 2 ^ 14 → Does tree code texts w img p
+    does low little =
+        let reads : as_irw y ≡ Some (record { level = couple.level; index = couple.index }) = ap as_irw y_is ∙ reference_read couple low little in
+        let plain_word : as_indexed y ≡ None = ap as_indexed y_is ∙ reference_unindexed couple low little in
+        let is : table code img p ≡ outcomes.gives (with_core img p new) =
+        gives_within code img (with_core img p new) p new.registers (raw_is reads plain_word) (registers_now img p core new s.has refl) (omega (arith, smaller, is_new.top)) in
         gave (with_core img p new)
         (action_not_plain code img p core s.has (ops.Plain kinds.Stod) a.0 there
-        (store_class code img p core s.has a.0 there x y f.word words top couple.level couple.index 0 (f.shown ∙ ap (λ (k : ℕ). Some (place k 0)) (sym s.has.own)) reads plain_word f.below_lies
-        (value_tag v x x_is) (value_tag f.value f.word f.word_is)))
-        table_is
-        (action_is code img p core s.has (ops.Plain kinds.Stod) a.0 there (outcomes.gives (with_core img p new)) table_is ∙ ap (λ (c : Choice). Some c.action) (sym chosen))
-        (subst (λ (c : Choice). PicturesBy tree code texts c.world lay (with_core img p new)) (sym chosen) pictured)
-      where
-        top_few : length core.words ≡ length s.slots
-        top_few = slots_length sc OUTER_LEVEL (frame core.registers) (length core.below) s.slots core.words s.there.words_are
+        (store_class code img p core s.has a.0 there x y f.word words top couple.level couple.index high shown reads plain_word f.below_lies (value_tag v x x_is) tag))
+        is
+        (action_is code img p core s.has (ops.Plain kinds.Stod) a.0 there (outcomes.gives (with_core img p new)) is ∙ ap (λ (c : Choice). Some c.action) (sym chosen))
+        (lay, subst (λ (c : Choice). PicturesBy tree code texts c.world lay (with_core img p new)) (sym chosen) pictured)
 
   -- one name has one couple
-  couple_is : (k : Kind) (c : Couple) → IsVariable sc OUTER_LEVEL n k c → c ≡ couple
-  couple_is k c other =
+  couple_is : (kind : Kind) (c : Couple) → IsVariable sc level n kind c → c ≡ couple
+  couple_is kind c other =
       let same : other.found ≡ a.2.variable.found = some_same (sym other.there ∙ a.2.variable.there) in
-      let level : c.level ≡ couple.level = omega (arith, other.level_is, a.2.variable.level_is) in
+      let one_level : c.level ≡ couple.level = omega (arith, other.level_is, a.2.variable.level_is) in
       let index : c.index ≡ couple.index = other.index_is ∙ ap (λ (z : Found). 2 + z.number) same ∙ sym a.2.variable.index_is in
-      ap (λ (l : ℕ). record { level = l; index = c.index }) level ∙ ap (λ (j : ℕ). record { level = couple.level; index = j }) index
+      ap (λ (l : ℕ). record { level = l; index = c.index }) one_level ∙ ap (λ (j : ℕ). record { level = couple.level; index = j }) index
 
-  pub storing : couple.index < 2 ^ 14 → Does tree code texts w lay img p
-  storing small =
-      let first : Top sc OUTER_LEVEL (frame core.registers) (length core.below) (operand v) (reference n ∷ a.1) core.words =
-      top_slot sc OUTER_LEVEL (frame core.registers) (length core.below) s.slots (operand v) (reference n ∷ a.1) core.words s.there.words_are a.2.lies in
-      let second : Top sc OUTER_LEVEL (frame core.registers) (length core.below) (reference n) a.1 first.words_below =
-      top_slot sc OUTER_LEVEL (frame core.registers) (length core.below) (reference n ∷ a.1) (reference n) a.1 first.words_below first.are refl in
+  pub storing : a.2.couple.level < 32 → a.2.couple.index < 2 ^ 14 → Does tree code texts w img p
+  storing low little =
+      let first : Top sc level (frame core.registers) (length core.below) (operand v) (reference n ∷ a.1) core.words =
+      top_slot sc level (frame core.registers) (length core.below) st.slots (operand v) (reference n ∷ a.1) core.words st.there.words_are a.2.lies in
+      let second : Top sc level (frame core.registers) (length core.below) (reference n) a.1 first.words_below =
+      top_slot sc level (frame core.registers) (length core.below) (reference n ∷ a.1) (reference n) a.1 first.words_below first.are refl in
       let y_is : second.word ≡ rows.reference couple = second.slot_is.3 ∙ ap rows.reference (couple_is second.slot_is.0 second.slot_is.1 second.slot_is.2) in
-      let low : couple.level < 32 = omega (arith, found.level_is) in
-      does found first.word second.word second.words_below (first.is ∙ ap (λ (ws : List Word). first.word ∷ ws) second.is) first.slot_is y_is second.are
-      (ap as_irw y_is ∙ reference_read couple low small) (ap as_indexed y_is ∙ reference_unindexed couple low small)
+      let top : core.words ≡ first.word ∷ second.word ∷ second.words_below =
+      two_words core.words first.words_below first.word second.word second.words_below first.is second.is in
+      does found first.word second.word second.words_below top first.slot_is y_is second.are low little

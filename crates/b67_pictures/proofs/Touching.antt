@@ -15,6 +15,7 @@ use Rattle.b67_table.specs.Chains.{place, mark_at, broken}
 use Rattle.b67_table.specs.Image.{Image}
 use Rattle.b67_table.specs.Linkage.{closed_by, rows_closed, array_closed, arrays_closed}
 use Rattle.b67_table.specs.Look.{found, valid, chained, read_as}
+use Rattle.b67_table.specs.Moves.{pushed}
 use Rattle.b67_table.specs.Program.{Change, Program, answer, interrupt, fault, ask, see, ◌>>=◌, done, write, save, cut, push, registers, line, cause, end_process, row_of, close_row, close_events}
 use Rattle.b67_table.specs.Questions.{Question, Answer, told, live_criticals}
 use Rattle.b67_table.specs.Questions as questions
@@ -65,6 +66,10 @@ module _ (p : ℕ) where
   pub change_push : (stack : ℕ) (w : Word) (next : Change) → Near p stack → ChangeStays p next → ChangeStays p (push stack w next)
   change_push stack w next near s =
       change_write (writes.push stack w) next (λ img x e. near_place x (record { stack = stack; at = length (words_of img.stacks stack) }) e near) s
+
+  pub change_pushed : (stack : ℕ) (words : List Word) (next : Change) → Near p stack → ChangeStays p next → ChangeStays p (pushed stack words next)
+  change_pushed stack [] next near s = s
+  change_pushed stack (w ∷ words) next near s = change_push stack w (pushed stack words next) near (change_pushed stack words next near s)
 
   pub change_registers : (r : Registers) (next : Change) → ChangeStays p next → ChangeStays p (registers r next)
   change_registers r next s = change_write (writes.registers r) next (λ img x e. absurd e) s

@@ -1,9 +1,8 @@
--- What WRITE and SELECT read and write.
-use Rattle.std.proofs.Common.{◌≡◌, inl, inr, refl, sym, ap, ◌∙◌, ℕ, ◌+◌, ◌-◌, List, [], ◌∷◌, Option, Some, None, Bool, true, false, arith, ℤ}
-use Rattle.std.specs.Prelude.{if◌then◌else◌, ◌&&◌, nat_le, nat_lt, nat_eq, take, drop}
-use Rattle.std.proofs.lemmas.Bool.Decides.{nat_tests}
-use Rattle.algol_meaning.specs.Actions as act
-use Rattle.algol_meaning.specs.Actions.{Action}
+-- What WRITE and SELECT read and write, and their entry.
+use Rattle.std.proofs.Common.{◌≡◌, inl, inr, refl, sym, ap, ◌∙◌, subst, ℕ, ◌+◌, ◌-◌, List, [], ◌∷◌, ◌++◌, Option, Some, None, true, false, arith, append_assoc, length, lit<, ℤ}
+use Rattle.std.specs.Prelude.{slice_get, take, drop, reverse}
+use Rattle.algol_tree.specs.Scopes.{Scopes}
+use Rattle.algol_meaning.specs.Value.{Value}
 use Rattle.b67_num.specs.declared.FaultKind.TheVariants.{CaseIndex}
 use Rattle.b67_word.specs.declared.Place.{Place}
 use Rattle.b67_word.specs.Word.{Word}
@@ -12,33 +11,40 @@ use Rattle.b67_control.specs.declared.Irw.{Irw}
 use Rattle.b67_control.specs.declared.Mscw.{Mscw}
 use Rattle.b67_control.specs.declared.Pcw.{Pcw}
 use Rattle.b67_control.specs.declared.Sirw.{Sirw}
-use Rattle.b67_control.specs.Control.{as_irw, as_sirw, as_mscw, as_pcw}
+use Rattle.b67_control.specs.Control.{as_irw, as_sirw, as_pcw}
 use Rattle.b67_control.specs.Display.{place_at}
+use Rattle.b67_control.proofs.ControlLaws.{as_pcw-pcw_word, as_sirw-other}
 use Rattle.b67_ops.specs.declared.intrinsic.Intrinsic.{Intrinsic}
 use Rattle.b67_ops.specs.declared.intrinsic.Intrinsic.TheVariants as names
+use Rattle.b67_ops.specs.Intrinsics.{number_of, couple_of_intrinsic}
 use Rattle.b67_segment.specs.declared.code.Code.{Code}
-use Rattle.b67_store.specs.Store.{words_of, word_at}
+use Rattle.b67_store.specs.Store.{stack_at, words_of, words_or, word_at}
 use Rattle.b67_table.specs.declared.Cell.{Cell}
 use Rattle.b67_table.specs.declared.Reached.{Reached}
 use Rattle.b67_table.specs.declared.InterruptKind.TheVariants.{InvalidOperand}
-use Rattle.b67_table.specs.Image.{Image}
-use Rattle.b67_table.specs.Lines.{line_for}
-use Rattle.b67_table.specs.Look.{Look, found, ◌>->◌, valid}
-use Rattle.b67_table.specs.Chains.{place}
-use Rattle.b67_table.specs.Names.{intrinsic_numbered}
-use Rattle.b67_table.specs.Look as looks
-use Rattle.b67_table.specs.Private.{floor}
-use Rattle.b67_table.specs.Program.{Program, answer, see, ◌>>=◌, done, registers, line}
-use Rattle.b67_table.specs.References.{cell_in, irw_or_sirw, reached_in, one_sirw, invalid}
 use Rattle.b67_table.specs.Arguments.{Three, three_in, wholes_in, if_chained, finished_at}
-use Rattle.b67_table.specs.Intrinsics.{intrinsic, intrinsic_row, write, select, case_in, case_place, gone_to_case}
-use Rattle.b67_table.specs.Rows.{enter, enter_by, enter_procedure, not_entered}
+use Rattle.b67_table.specs.Beginning.{intrinsic_pcw, system_stack}
+use Rattle.b67_table.specs.Chains.{place}
+use Rattle.b67_table.specs.Image.{Image}
+use Rattle.b67_table.specs.Intrinsics.{intrinsic_row, write, select, case_in, case_place, gone_to_case}
+use Rattle.b67_table.specs.Lines.{line_for}
+use Rattle.b67_table.specs.Look.{found, ◌>->◌, valid}
+use Rattle.b67_table.specs.Names.{intrinsic_numbered}
+use Rattle.b67_table.specs.Program.{Program, answer, see, ◌>>=◌, done, registers, line}
+use Rattle.b67_table.specs.References.{cell_in, irw_or_sirw, reached_in, one_sirw}
+use Rattle.b67_table.specs.Rows.{enter, enter_by, enter_procedure}
+use Rattle.b67_standing.specs.Stepping.{Slot, operand, intrinsic, mark}
+use Rattle.b67_standing.specs.Standing.{operands}
 use Rattle.b67_cores.specs.Cores.{Core, HasCore}
-use Rattle.b67_faithful.specs.Correspondence.{action_of_intrinsic, if_intrinsic, called_action, irw_in, called_by}
-use Rattle.b67_faithful.proofs.Contradictions.{some_same}
-use Rattle.b67_pictures.proofs.IntrinsicRows.{CallsIntrinsic}
+use Rattle.b67_cores.specs.Slots.{newest, SlotsAre}
+use Rattle.b67_cores.proofs.Moving.{slots_length}
+use Rattle.b67_pictures.proofs.Rows.{words_are}
+use Rattle.b67_pictures.proofs.Slotted.{Top, top_slot}
+use Rattle.b67_pictures.proofs.StackWords.{word-under}
 use Rattle.b67_pictures.proofs.Touching.{Near, Stays, ChangeStays, change_done, change_cut, change_registers, change_line, stays_as, stays_word, stays_words, stays_answer, stays_interrupt, stays_fault, stays_valid, stays_chained}
-use Rattle.b67_pictures.proofs.TouchingRows.{under_top}
+use Rattle.b67_pictures.proofs.TouchingEntry.{entry_touches}
+use Rattle.b67_pictures.proofs.TouchingWords.{numbers_small, pcw_kind}
+use Rattle.b67_pictures.proofs.Words.{reference_read}
 
 -- ---- the intrinsics, whatever they are given
 
@@ -99,19 +105,89 @@ module _ (p : ℕ) (img : Image) (code : Code) (r : Registers) (own : r.stack �
       by_wholes None = stays_interrupt p img {kind = InvalidOperand}
       by_wholes (Some zs) = three_touches zs
 
+-- ---- what lies above the floor
+
+-- a word under those on top
+pub under_top : (img : Image) (p : ℕ) (core : Core) → HasCore img p core → (above : List Word) (y : Word) (words : List Word) → core.words ≡ above ++ y ∷ words → (n : ℕ) → n ≡ length core.below + length words →
+    word_at img.stacks (place core.registers.stack n) ≡ Some y
+under_top img p core has above y words top n e =
+    ap (λ (ws : List Word). slice_get ws n) (words_are img p core has ∙ ap (λ (ws : List Word). core.below ++ reverse ws) top)
+    ∙ word-under core.below above y words n e
+
+module _ (sc : Scopes) (level home base : ℕ) where
+  -- the words under those of arguments
+  record Under (vs : List Value) (below : List Slot) (all : List Word) : Type 0 where
+    arguments : List Word
+    others : List Word
+    is : all ≡ arguments ++ others
+    are : SlotsAre sc level home base below others
+    mark_is : newest home base (operands vs below) ≡ newest home base below
+
+  under : (vs : List Value) (below : List Slot) (all : List Word) → SlotsAre sc level home base (operands vs below) all → Under vs below all
+  under [] below all are = record { arguments = []; others = all; is = refl; are = are; mark_is = refl }
+  under (v ∷ vs) below all are =
+      let g : Under vs (operand v ∷ below) all = under vs (operand v ∷ below) all are in
+      let t : Top sc level home base (operand v) below g.others = top_slot sc level home base (operand v ∷ below) (operand v) below g.others g.are refl in
+      record {
+        arguments = g.arguments ++ t.word ∷ [];
+        others = t.words_below;
+        is = g.is ∙ ap (λ (ws : List Word). g.arguments ++ ws) t.is ∙ sym (append_assoc g.arguments (t.word ∷ []) t.words_below);
+        are = t.are;
+        mark_is = g.mark_is;
+      }
+
 -- ---- their entry
 
-module _ (code : Code) (img : Image) (p : ℕ) (core : Core) (has : HasCore img p core) (next : ℕ)
-    (name : Intrinsic) (arguments : List Word) (reference marked : Word) (below : List Word) (c : CallsIntrinsic img core name arguments reference marked below) (near_frame : Near p c.frame.stack)
-    (stays : (m : Mscw) (words : List Word) → Stays p img (intrinsic_row (Some name) code core.registers next m words)) where
-  abbrev r : Registers
-  r = core.registers
+-- the control word of an intrinsic
+abbrev control_of : Intrinsic → Pcw
+control_of name = record { intrinsic = true; names = false; segment = 0; psr = 0; pir = 0; level = 0; number = number_of name }
 
-  own_stack : Near p r.stack
-  own_stack = inl has.own
+-- it stands at its number in the system's stack
+lies_there : (name : Intrinsic) → slice_get system_stack (0 + number_of name) ≡ Some (intrinsic_pcw (number_of name))
+lies_there names.GoTo = refl
+lies_there names.Select = refl
+lies_there names.Arrays = refl
+lies_there names.Event = refl
+lies_there names.Start = refl
+lies_there names.Write = refl
+lies_there names.Wait = refl
+lies_there names.Cause = refl
+lies_there names.Reset = refl
+lies_there names.Happened = refl
+lies_there names.Procure = refl
+lies_there names.Liberate = refl
 
+is_numbered : (name : Intrinsic) → intrinsic_numbered (number_of name) ≡ Some name
+is_numbered names.GoTo = refl
+is_numbered names.Select = refl
+is_numbered names.Arrays = refl
+is_numbered names.Event = refl
+is_numbered names.Start = refl
+is_numbered names.Write = refl
+is_numbered names.Wait = refl
+is_numbered names.Cause = refl
+is_numbered names.Reset = refl
+is_numbered names.Happened = refl
+is_numbered names.Procure = refl
+is_numbered names.Liberate = refl
+
+no_cell : (name : Intrinsic) → as_sirw (intrinsic_pcw (number_of name)) ≡ None
+no_cell name = as_sirw-other (intrinsic_pcw (number_of name)) (λ k. let is = sym (pcw_kind (control_of name)) ∙ k in cc)
+
+reads_control : (name : Intrinsic) → as_pcw (intrinsic_pcw (number_of name)) ≡ Some (control_of name)
+reads_control name = as_pcw-pcw_word (control_of name) (lit< tt, (lit< tt, (lit< tt, (lit< tt, (omega (arith, numbers_small name), tt)))))
+
+module _ (img : Image) (p : ℕ) (code : Code) (r : Registers) (at_home : r.stack ≡ p) (next : ℕ) (system : stack_at img.stacks 0 ≡ Some system_stack) (sees : place_at r.display 0 ≡ Some (place 0 0)) (name : Intrinsic)
+    (w : Word) (lies : word_at img.stacks (place r.stack (r.f + 1)) ≡ Some w) (reads : as_irw w ≡ Some (record { level = 0; index = number_of name }))
+    (stays : (m : Mscw) (words : List Word) → Stays p img (intrinsic_row (Some name) code r next m words)) where
   abbrev cell : Cell
-  cell = record { frame = c.frame; index = c.index }
+  cell = record { frame = place 0 0; index = number_of name }
+
+  abbrev word : Word
+  word = intrinsic_pcw (number_of name)
+
+  entry_lies : word_at img.stacks (place 0 (0 + number_of name)) ≡ Some word
+  entry_lies = ap (λ (o : Option (List Word)). slice_get (words_or o) (0 + number_of name)) system ∙ lies_there name
 
   -- the words above the reference
   abbrev given : List Word
@@ -123,102 +199,34 @@ module _ (code : Code) (img : Image) (p : ℕ) (core : Core) (has : HasCore img 
   abbrev on_entry : Mscw → Reached → Program
   on_entry m v = see (valid (as_pcw v.word)) >>= on_pcw m v.cell.frame
 
-  abbrev on_mark : Mscw → Program
-  on_mark m = see (looks.at (place r.stack (r.f + 1)) (λ (w : Option Word). valid w)) >>= (λ (above : Word). enter_by code r next m above (irw_or_sirw r (as_irw above) (as_sirw above)))
+  pub intrinsic_touches : Stays p img (enter code r next)
+  intrinsic_touches =
+      entry_touches p img code r at_home next w lies
+      (λ m.
+      stays_as p img (λ (i : Option Irw). enter_by code r next m w (irw_or_sirw r i (as_sirw w))) reads
+      (stays_as p img (λ (o : Option Place). enter_by code r next m w (cell_in o (number_of name))) sees
+      (stays_word p img (inr refl)
+      (stays_as p img (λ (o : Option Word). see (reached_in cell o >-> (λ (v : Reached). one_sirw (as_sirw v.word) v)) >>= on_entry m) entry_lies
+      (stays_as p img (λ (o : Option Sirw). see (one_sirw o (record { word = word; cell = cell })) >>= on_entry m) (no_cell name)
+      (stays_as p img (λ (o : Option Pcw). see (valid o) >>= on_pcw m (place 0 0)) (reads_control name)
+      (stays_words p img (inl at_home)
+      (stays_as p img (λ (o : Option Intrinsic). intrinsic_row o code r next m given) (is_numbered name) (stays m given)))))))))
 
-  reference_word : word_at img.stacks (place r.stack (r.f + 1)) ≡ Some reference
-  reference_word = under_top img p core has arguments reference (marked ∷ below) c.called.words (r.f + 1) (omega (arith, c.called.mark_at))
+-- ---- where a process stands at it
 
-  mark_touches : (m : Mscw) → Stays p img (on_mark m)
-  mark_touches m =
-      stays_word p img own_stack
-      (stays_as p img (λ (o : Option Word). see (valid o) >>= (λ (above : Word). enter_by code r next m above (irw_or_sirw r (as_irw above) (as_sirw above)))) reference_word
-      (stays_as p img (λ (i : Option Irw). enter_by code r next m reference (irw_or_sirw r i (as_sirw reference))) c.reads
-      (stays_as p img (λ (o : Option Place). enter_by code r next m reference (cell_in o c.index)) c.shown
-      (stays_word p img near_frame
-      (stays_as p img (λ (o : Option Word). see (reached_in cell o >-> (λ (v : Reached). one_sirw (as_sirw v.word) v)) >>= on_entry m) c.lies
-      (stays_as p img (λ (o : Option Sirw). see (one_sirw o (record { word = c.entry; cell = cell })) >>= on_entry m) c.no_sirw
-      (stays_as p img (λ (o : Option Pcw). see (valid o) >>= on_pcw m c.frame) c.reads_entry
-      (stays_as p img (λ (b : Bool). if b then intrinsic c.pcw.number code r next m else enter_procedure code r next m (record c.pcw { intrinsic = false }) (Some c.frame)) c.is_intrinsic
-      (stays_words p img own_stack
-      (stays_as p img (λ (o : Option Intrinsic). intrinsic_row o code r next m given) c.numbered (stays m given)))))))))))
-
-  abbrev on_word : Word → Look Mscw
-  on_word v = valid (as_mscw v) >-> not_entered
-
-  entered_touches : (m : Mscw) (b : Bool) → Stays p img (see (if b then invalid else found m) >>= on_mark)
-  entered_touches m true = stays_interrupt p img {kind = InvalidOperand}
-  entered_touches m false = mark_touches m
-
-  read_touches : (o : Option Mscw) → Stays p img (see (valid o >-> not_entered) >>= on_mark)
-  read_touches None = stays_interrupt p img {kind = InvalidOperand}
-  read_touches (Some m) = entered_touches m m.entered
-
-  word_touches : (o : Option Word) → Stays p img (see (valid o >-> on_word) >>= on_mark)
-  word_touches None = stays_interrupt p img {kind = InvalidOperand}
-  word_touches (Some v) = read_touches (as_mscw v)
-
-  at_mark : (b : Bool) → Stays p img (see (if b then looks.at (place r.stack r.f) (λ (w : Option Word). valid w >-> on_word) else invalid) >>= on_mark)
-  at_mark true = stays_word p img own_stack (word_touches (word_at img.stacks (place r.stack r.f)))
-  at_mark false = stays_interrupt p img {kind = InvalidOperand}
-
-  pub enter_touches : Stays p img (enter code r next)
-  enter_touches = at_mark (nat_le (floor r) r.f && nat_lt (r.f + 1) r.s)
-
--- ---- in the scene of a process
-
--- a process stands at the entry of an intrinsic, and that is what the entry calls
-pub record IsCalled (img : Image) (core : Core) (name : Intrinsic) : Type 0 where
-  pub arguments : List Word
-  pub reference : Word
-  pub marked : Word
-  pub others : List Word
-  pub calls : CallsIntrinsic img core name arguments reference marked others
-  pub action : called_by img core.registers ≡ Some (action_of_intrinsic name)
-
--- what is no entry of a procedure is called by a reference of level 0
-level_none : (i : Irw) (name : Intrinsic) → called_action (Some i) ≡ Some (action_of_intrinsic name) → i.level ≡ 0
-level_none i name = by_level (nat_eq i.level 0) refl
-  where
-    no_entry : (n : Intrinsic) → Some act.Enter ≡ Some (action_of_intrinsic n) → ⊥
-    no_entry names.GoTo e = cc
-    no_entry names.Select e = cc
-    no_entry names.Arrays e = cc
-    no_entry names.Event e = cc
-    no_entry names.Start e = cc
-    no_entry names.Write e = cc
-    no_entry names.Wait e = cc
-    no_entry names.Cause e = cc
-    no_entry names.Reset e = cc
-    no_entry names.Happened e = cc
-    no_entry names.Procure e = cc
-    no_entry names.Liberate e = cc
-
-    is_none : (level : ℕ) → nat_eq level 0 ≡ true → level ≡ 0
-    is_none level e = grind (arith, nat_tests, e)
-
-    by_level : (b : Bool) → nat_eq i.level 0 ≡ b → (if b then if_intrinsic (intrinsic_numbered i.index) else Some act.Enter) ≡ Some (action_of_intrinsic name) → i.level ≡ 0
-    by_level true is e = is_none i.level is
-    by_level false is e = absurd (no_entry name e)
-
-module _ (code : Code) (img : Image) (p : ℕ) (core : Core) (has : HasCore img p core) (next : ℕ) (sees : place_at core.registers.display 0 ≡ Some (place 0 0)) where
-  frame_near : (name : Intrinsic) (k : IsCalled img core name) → Near p k.calls.frame.stack
-  frame_near name k =
-      let c = k.calls in
-      let lies : word_at img.stacks (place core.registers.stack (core.registers.f + 1)) ≡ Some k.reference =
-      under_top img p core has k.arguments k.reference (k.marked ∷ k.others) c.called.words (core.registers.f + 1) (omega (arith, c.called.mark_at)) in
-      let called : called_action (Some (record { level = c.level; index = c.index })) ≡ Some (action_of_intrinsic name) =
-      sym (ap (λ (o : Option Word). called_action (irw_in o)) lies ∙ ap called_action c.reads) ∙ k.action in
-      let level : c.level ≡ 0 = level_none (record { level = c.level; index = c.index }) name called in
-      let same : c.frame ≡ place 0 0 = some_same (sym c.shown ∙ ap (λ (l : ℕ). place_at core.registers.display l) level ∙ sees) in
-      inr (ap (λ (f : Place). f.stack) same)
-
-  pub write_entry_touches : IsCalled img core names.Write → Stays p img (enter code core.registers next)
-  write_entry_touches k =
-      enter_touches code img p core has next names.Write k.arguments k.reference k.marked k.others k.calls (frame_near names.Write k)
-      (λ (m : Mscw) (words : List Word). write_touches p img code core.registers has.own next m words)
-
-  pub select_entry_touches : IsCalled img core names.Select → Stays p img (enter code core.registers next)
-  select_entry_touches k =
-      enter_touches code img p core has next names.Select k.arguments k.reference k.marked k.others k.calls (frame_near names.Select k)
-      (λ (m : Mscw) (words : List Word). select_touches p img code core.registers has.own next m words)
+module _ (img : Image) (p : ℕ) (code : Code) (core : Core) (has : HasCore img p core) (next : ℕ) (system : stack_at img.stacks 0 ≡ Some system_stack) (sees : place_at core.registers.display 0 ≡ Some (place 0 0))
+    (sc : Scopes) (level home : ℕ) (slots : List Slot) (mark_is : core.registers.f ≡ newest home (length core.below) slots) (words_here : SlotsAre sc level home (length core.below) slots core.words)
+    (name : Intrinsic) (vs : List Value) (below : List Slot) (lies : slots ≡ operands vs (intrinsic name ∷ mark ∷ below))
+    (stays : (m : Mscw) (words : List Word) → Stays p img (intrinsic_row (Some name) code core.registers next m words)) where
+  pub call_touches : Stays p img (enter code core.registers next)
+  call_touches =
+      let base : ℕ = length core.below in
+      let g : Under sc level home base vs (intrinsic name ∷ mark ∷ below) core.words =
+      under sc level home base vs (intrinsic name ∷ mark ∷ below) core.words (subst (λ (l : List Slot). SlotsAre sc level home base l core.words) lies words_here) in
+      let i : Top sc level home base (intrinsic name) (mark ∷ below) g.others =
+      top_slot sc level home base (intrinsic name ∷ mark ∷ below) (intrinsic name) (mark ∷ below) g.others g.are refl in
+      let f : core.registers.f ≡ base + length below = mark_is ∙ ap (newest home base) lies ∙ g.mark_is in
+      let many : length i.words_below ≡ length (mark ∷ below) = slots_length sc level home base (mark ∷ below) i.words_below i.are in
+      intrinsic_touches img p code core.registers has.own next system sees name i.word
+      (under_top img p core has g.arguments i.word i.words_below (g.is ∙ ap (λ (ws : List Word). g.arguments ++ ws) i.is) (core.registers.f + 1) (omega (arith, f, many)))
+      (ap as_irw i.slot_is ∙ reference_read (couple_of_intrinsic name) (lit< tt) (numbers_small name)) stays

@@ -1,5 +1,5 @@
 -- The turn of a loop, and the choice of a case.
-use Rattle.std.proofs.Common.{◌≡◌, refl, ap, ◌∙◌, ℕ, ◌≤◌, List, [], Some, Ok, arith}
+use Rattle.std.proofs.Common.{◌≡◌, refl, ap, ◌∙◌, ℕ, ◌≤◌, List, Some, Ok, arith}
 use Rattle.b67_list.specs.Numbered.{numbered}
 use Rattle.algol_tree.specs.Plain.{PProgram}
 use Rattle.algol_tree.specs.Scopes.{Scopes, scopes_of}
@@ -11,7 +11,6 @@ use Rattle.algol_meaning.specs.Choice.{choice_of}
 use Rattle.b67_word.specs.declared.Place.{Place}
 use Rattle.b67_ops.specs.declared.Operator.TheVariants as ops
 use Rattle.b67_ops.specs.declared.BranchKind.TheVariants.{Brun}
-use Rattle.b67_ops.specs.declared.TheConstants.{OUTER_LEVEL}
 use Rattle.b67_segment.specs.Operators.{Placed}
 use Rattle.b67_segment.specs.declared.code.Code.{Code}
 use Rattle.b67_table.specs.declared.ProcessState.TheVariants.{Able}
@@ -23,50 +22,51 @@ use Rattle.b67_standing.specs.Stepping.{Slot}
 use Rattle.b67_standing.specs.Standing.{ActionAt, Acted, ComesTo}
 use Rattle.b67_cores.specs.Cores.{Core, with_core}
 use Rattle.b67_cores.specs.Stretches.{CoreAt, FragmentsArePerformed}
-use Rattle.b67_fitting.specs.Flat.{IsFlat}
+use Rattle.algol_paths.specs.Laws.{RestsKeepToTheirText}
 use Rattle.b67_pictures.specs.Acting.{Does}
 use Rattle.b67_pictures.proofs.Rows.{action_not_plain, action_is}
 use Rattle.b67_pictures.proofs.TurnRow.{at_place, turn_raw, turn_class}
 use Rattle.b67_pictures.proofs.Homes.{operator_there}
 use Rattle.b67_pictures.proofs.Stage.{choice_is}
 use Rattle.b67_pictures.proofs.Scene.{Scene}
+use Rattle.b67_pictures.proofs.Staying.{text_in, level_in}
 use Rattle.b67_pictures.proofs.InFrame.{does_in_frame}
 
-module _ (tree : PProgram) (code : Code) (texts : ℕ → List Placed) (flat : IsFlat (scopes_of tree)) (fragments : FragmentsArePerformed) (w : World) (lay : List Place) (img : Image)
-    (p : ℕ) (q : Process) (part : Part) (most bound : ℕ) (core : Core) (s : Scene tree code texts w lay img p q part most bound core) (able_is : q.state ≡ able) (able_p : numbered img.states p ≡ Some Able) where
+module _ (tree : PProgram) (code : Code) (texts : ℕ → List Placed) (fragments : FragmentsArePerformed) (keeps : RestsKeepToTheirText) (w : World) (lay : List Place) (img : Image)
+    (p : ℕ) (q : Process) (part : Part) (outer : List Part) (most bound : ℕ) (core : Core) (s : Scene tree code texts w lay img p q part outer most bound core) (able_is : q.state ≡ able) (able_p : numbered img.states p ≡ Some Able) where
   abbrev sc : Scopes
   sc = scopes_of tree
 
-  module _ (asks : ask part.rest ≡ turns) (a : ActionAt sc code.formats (texts 0) OUTER_LEVEL most turns s.pc s.slots)
-      (answered : (r : Answer) (at : ℕ) (left : List Slot) → Acted sc code.formats (texts 0) OUTER_LEVEL most turns s.pc s.slots a r at left →
-      ComesTo sc code.formats (texts 0) OUTER_LEVEL most (resume sc part.rest r) at left) where
+  module _ (asks : ask part.rest ≡ turns) (a : ActionAt sc code.formats (text_in texts w part) (level_in tree w part) most turns s.stands.pc s.stands.slots)
+      (answered : (r : Answer) (at : ℕ) (left : List Slot) → Acted sc code.formats (text_in texts w part) (level_in tree w part) most turns s.stands.pc s.stands.slots a r at left →
+      ComesTo sc code.formats (text_in texts w part) (level_in tree w part) most (resume sc part.rest r) at left) where
     there : operator_at code core.registers ≡ Ok (ops.Branch Brun a.0, a.1)
-    there = operator_there sc code (texts 0) OUTER_LEVEL s.pc s.slots core (ops.Branch Brun a.0) a.1 s.there a.2.stands
+    there = operator_there sc code (text_in texts w part) (level_in tree w part) s.stands.pc s.stands.slots core (ops.Branch Brun a.0) a.1 s.stands.there a.2.stands
 
     abbrev new : Core
     new = at_place core a.0
 
     back : a.0 ≤ core.registers.place
-    back = omega (arith, a.2.back, s.there.place_is)
+    back = omega (arith, a.2.back, s.stands.there.place_is)
 
-    core_at : CoreAt sc code (texts 0) OUTER_LEVEL a.0 s.slots new
+    core_at : CoreAt sc code (text_in texts w part) (level_in tree w part) a.0 s.stands.slots new
     core_at =
         record {
-          segment = s.there.segment;
-          there = s.there.there;
-          spells = s.there.spells;
-          level_is = s.there.level_is;
+          segment = s.stands.there.segment;
+          there = s.stands.there.there;
+          spells = s.stands.there.spells;
+          level_is = s.stands.there.level_is;
           place_is = refl;
           is = record { bottom = s.has.is.bottom; top = s.has.is.top };
-          mark_is = s.there.mark_is;
-          words_are = s.there.words_are;
+          mark_is = s.stands.there.mark_is;
+          words_are = s.stands.there.words_are;
         }
 
-    pub turning : Does tree code texts w lay img p
+    pub turning : Does tree code texts w img p
     turning =
-        does_in_frame tree code texts flat fragments w lay img p q part most bound core s able_is able_p (resume sc part.rest done) w.output new refl (record { is = refl }) a.0 s.slots core_at s.few
-        (answered done a.0 s.slots (refl, refl)) Turn
+        does_in_frame tree code texts fragments keeps w lay img p q part outer most bound core s able_is able_p done tt w.output new refl (record { is = refl }) a.0 s.stands.slots core_at s.stands.few
+        (answered done a.0 s.stands.slots (refl, refl)) Turn
         (action_not_plain code img p core s.has (ops.Branch Brun a.0) a.1 there (turn_class code img p core s.has a.0 a.1 there back))
         (turn_raw code img p core s.has a.0 a.1 there back ∙ ap (λ (o : List (List ℕ)). effects.gives (record (with_core img p new) { output = o })) s.by.output)
-        (choice_is sc w p q part s.at s.todo ∙ ap (λ (k : Ask). choice_of sc w p q part [] k) asks)
+        (choice_is sc w p q part outer s.at s.todo ∙ ap (λ (k : Ask). choice_of sc w p q part outer k) asks)
         (λ t. action_is code img p core s.has (ops.Branch Brun a.0) a.1 there (outcomes.gives (record (with_core img p new) { output = w.output })) t)

@@ -33,7 +33,8 @@ mutual
   stmt_small (tree.assign v e) = omega (arith, depth_small e)
   stmt_small (tree.call_of c) = omega arith
   stmt_small (tree.go_to n) = omega arith
-  stmt_small (tree.block (tree.body spot ds ss)) = omega (arith, stmts_small ss)
+  stmt_small (tree.block (tree.body spot tree.no_decls ss)) = omega (arith, stmts_small ss)
+  stmt_small (tree.block (tree.body spot (tree.decls d ds) ss)) = omega (arith, stmts_small ss)
   stmt_small (tree.if_then c x) = omega (arith, depth_small c, stmt_small x)
   stmt_small (tree.if_else c x y) = omega (arith, depth_small c, stmt_small x, stmt_small y)
   stmt_small (tree.while c b) = omega (arith, depth_small c, stmt_small b)

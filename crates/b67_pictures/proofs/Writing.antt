@@ -17,7 +17,6 @@ use Rattle.algol_meaning.specs.Choice.{choice_of}
 use Rattle.b67_word.specs.declared.Place.{Place}
 use Rattle.b67_ops.specs.declared.Operator.TheVariants as ops
 use Rattle.b67_ops.specs.declared.PlainKind.TheVariants as kinds
-use Rattle.b67_ops.specs.declared.TheConstants.{OUTER_LEVEL}
 use Rattle.b67_ops.specs.declared.intrinsic.Intrinsic.TheVariants.{Write}
 use Rattle.b67_segment.specs.Operators.{Placed}
 use Rattle.b67_segment.specs.declared.code.Code.{Code}
@@ -35,7 +34,7 @@ use Rattle.b67_standing.specs.Stepping.{Slot}
 use Rattle.b67_standing.specs.Standing.{ActionAt, Acted, ComesTo}
 use Rattle.b67_cores.specs.Cores.{Core, with_core}
 use Rattle.b67_cores.specs.Stretches.{FragmentsArePerformed}
-use Rattle.b67_fitting.specs.Flat.{IsFlat}
+use Rattle.algol_paths.specs.Laws.{RestsKeepToTheirText}
 use Rattle.b67_pictures.specs.Acting.{Does}
 use Rattle.b67_pictures.proofs.Rows.{action_not_plain, action_is}
 use Rattle.b67_pictures.proofs.Calling.{wholes_of, IsCall, call}
@@ -43,6 +42,7 @@ use Rattle.b67_pictures.proofs.Homes.{operator_there}
 use Rattle.b67_pictures.proofs.IntrinsicRows.{without_call, enter_class, write_raw}
 use Rattle.b67_pictures.proofs.Stage.{choice_is}
 use Rattle.b67_pictures.proofs.Scene.{Scene}
+use Rattle.b67_pictures.proofs.Staying.{text_in, level_in}
 use Rattle.b67_pictures.proofs.InFrame.{does_in_frame}
 
 -- ---- the line
@@ -80,11 +80,11 @@ line_is sc code ps level format ts vs f =
 
 -- ---- the action
 
-module _ (tree : PProgram) (code : Code) (texts : ℕ → List Placed) (flat : IsFlat (scopes_of tree)) (fragments : FragmentsArePerformed) (w : World) (lay : List Place) (img : Image)
-    (p : ℕ) (q : Process) (part : Part) (most bound : ℕ) (core : Core) (s : Scene tree code texts w lay img p q part most bound core) (able_is : q.state ≡ able) (able_p : numbered img.states p ≡ Some Able)
-    (ts : List PhraseText) (vs : List Value) (asks : ask part.rest ≡ writes ts vs) (a : ActionAt (scopes_of tree) code.formats (texts 0) OUTER_LEVEL most (writes ts vs) s.pc s.slots)
-    (answered : (r : Answer) (at : ℕ) (left : List Slot) → Acted (scopes_of tree) code.formats (texts 0) OUTER_LEVEL most (writes ts vs) s.pc s.slots a r at left →
-    ComesTo (scopes_of tree) code.formats (texts 0) OUTER_LEVEL most (resume (scopes_of tree) part.rest r) at left) where
+module _ (tree : PProgram) (code : Code) (texts : ℕ → List Placed) (fragments : FragmentsArePerformed) (keeps : RestsKeepToTheirText) (w : World) (lay : List Place) (img : Image)
+    (p : ℕ) (q : Process) (part : Part) (outer : List Part) (most bound : ℕ) (core : Core) (s : Scene tree code texts w lay img p q part outer most bound core) (able_is : q.state ≡ able) (able_p : numbered img.states p ≡ Some Able)
+    (ts : List PhraseText) (vs : List Value) (asks : ask part.rest ≡ writes ts vs) (a : ActionAt (scopes_of tree) code.formats (text_in texts w part) (level_in tree w part) most (writes ts vs) s.stands.pc s.stands.slots)
+    (answered : (r : Answer) (at : ℕ) (left : List Slot) → Acted (scopes_of tree) code.formats (text_in texts w part) (level_in tree w part) most (writes ts vs) s.stands.pc s.stands.slots a r at left →
+    ComesTo (scopes_of tree) code.formats (text_in texts w part) (level_in tree w part) most (resume (scopes_of tree) part.rest r) at left) where
   abbrev sc : Scopes
   sc = scopes_of tree
 
@@ -93,10 +93,10 @@ module _ (tree : PProgram) (code : Code) (texts : ℕ → List Placed) (flat : I
   given = number (pos a.2.format) ∷ vs
 
   there : operator_at code core.registers ≡ Ok (ops.Plain kinds.Entr, a.0)
-  there = operator_there sc code (texts 0) OUTER_LEVEL s.pc s.slots core (ops.Plain kinds.Entr) a.0 s.there a.2.stands
+  there = operator_there sc code (text_in texts w part) (level_in tree w part) s.stands.pc s.stands.slots core (ops.Plain kinds.Entr) a.0 s.stands.there a.2.stands
 
   abbrev Called : Type 0
-  Called = IsCall tree code texts w lay img p q part most bound core s Write given a.1 (a.2.whole, a.2.fits) a.2.lies
+  Called = IsCall tree code texts w lay img p q part outer most bound core s Write given a.1 (a.2.whole, a.2.fits) a.2.lies
 
   module _ (c : Called) where
     abbrev new : Core
@@ -105,17 +105,17 @@ module _ (tree : PProgram) (code : Code) (texts : ℕ → List Placed) (flat : I
     abbrev out : List (List ℕ)
     out = w.output ++ line_of ts vs ∷ []
 
-    does : Does tree code texts w lay img p
+    does : Does tree code texts w img p
     does =
-        does_in_frame tree code texts flat fragments w lay img p q part most bound core s able_is able_p (resume sc part.rest done) out new refl (record { is = refl }) a.0 a.1 (c.after_at a.0) c.few
+        does_in_frame tree code texts fragments keeps w lay img p q part outer most bound core s able_is able_p done tt out new refl (record { is = refl }) a.0 a.1 (c.after_at a.0) c.few
         (answered done a.0 a.1 (refl, refl)) Line
         (action_not_plain code img p core s.has (ops.Plain kinds.Entr) a.0 there
         (enter_class code img p core s.has a.0 there Write c.arguments c.reference c.marked c.others c.calls))
         (write_raw code img p core s.has a.0 there Write c.arguments c.reference c.marked c.others c.calls (wholes_of given) c.wholes refl (line_of ts vs)
-        (line_is sc code (texts 0) OUTER_LEVEL a.2.format ts vs a.2.is)
+        (line_is sc code (text_in texts w part) (level_in tree w part) a.2.format ts vs a.2.is)
         ∙ ap (λ (o : List (List ℕ)). effects.gives (record (with_core img p new) { output = o ++ line_of ts vs ∷ [] })) s.by.output)
-        (choice_is sc w p q part s.at s.todo ∙ ap (λ (k : Ask). choice_of sc w p q part [] k) asks)
+        (choice_is sc w p q part outer s.at s.todo ∙ ap (λ (k : Ask). choice_of sc w p q part outer k) asks)
         (λ t. action_is code img p core s.has (ops.Plain kinds.Entr) a.0 there (outcomes.gives (record (with_core img p new) { output = out })) t ∙ c.action)
 
-  pub writing : Does tree code texts w lay img p
-  writing = does (call tree code texts w lay img p q part most bound core s Write given a.1 (a.2.whole, a.2.fits) a.2.lies)
+  pub writing : Does tree code texts w img p
+  writing = does (call tree code texts w lay img p q part outer most bound core s Write given a.1 (a.2.whole, a.2.fits) a.2.lies)

@@ -1,29 +1,36 @@
 -- The frames of a process: how the words of its stack stand for the parts that it has still to do.
-use Rattle.std.specs.Prelude.{◌≡◌, ℕ, ◌+◌, ◌-◌, ◌≤◌, false, List, [], ◌∷◌, ◌++◌, length, Option, Some}
+use Rattle.std.specs.Prelude.{◌≡◌, ◌⊎◌, ℕ, zero, suc, ◌+◌, ◌-◌, ◌<◌, ◌≤◌, true, false, List, [], ◌∷◌, ◌++◌, length, reverse, Option, Some}
 use Rattle.b67_list.specs.Numbered.{numbered}
 use Rattle.algol_tree.specs.declared.tree.Kind.{Kind}
-use Rattle.algol_tree.specs.Blocks.{Block, block_numbered}
+use Rattle.algol_tree.specs.Blocks.{Block, block_numbered, around}
 use Rattle.algol_tree.specs.Cells.{level_of}
-use Rattle.algol_tree.specs.Scopes.{Scopes}
+use Rattle.algol_tree.specs.Plain.{PProgram}
+use Rattle.algol_tree.specs.Scopes.{Scopes, scopes_of}
 use Rattle.algol_meaning.specs.Value.{Cell, simple}
 use Rattle.algol_meaning.specs.World.{NamedCell, Instance, Part, World, instance_at, ancestor}
+use Rattle.algol_meaning.specs.Asks.{nothing, ask}
 use Rattle.algol_meaning.specs.Critical.{is_evaluation}
+use Rattle.algol_paths.specs.Blocks.{IsSeen, IsInner}
+use Rattle.algol_paths.specs.Texts.{InRest}
 use Rattle.b67_word.specs.declared.Place.{Place}
 use Rattle.b67_word.specs.Word.{Word}
+use Rattle.b67_control.specs.declared.Rcw.{Rcw}
+use Rattle.b67_control.specs.Control.{as_mscw, as_rcw}
 use Rattle.b67_control.specs.Display.{place_at}
 use Rattle.b67_ops.specs.declared.TheConstants.{OUTER_LEVEL}
 use Rattle.b67_segment.specs.Operators.{Placed}
 use Rattle.b67_segment.specs.declared.code.Code.{Code}
 use Rattle.b67_table.specs.Chains.{place}
 use Rattle.b67_table.specs.Beginning.{base_mark}
-use Rattle.b67_table.specs.Linkage.{base_control}
-use Rattle.b67_templates.specs.Fragments.{HasKind}
+use Rattle.b67_table.specs.Linkage.{base_control, code_place}
+use Rattle.b67_templates.specs.Fragments.{HasKind, program_segment}
 use Rattle.b67_templates.specs.Cells.{Simple, simple_cells}
 use Rattle.b67_standing.specs.Stepping.{Slot}
 use Rattle.b67_standing.specs.Standing.{StandsFor}
 use Rattle.b67_cores.specs.Cores.{Core}
-use Rattle.b67_cores.specs.Slots.{ValueIs}
+use Rattle.b67_cores.specs.Slots.{ValueIs, newest, SlotsAre}
 use Rattle.b67_cores.specs.Stretches.{CoreAt}
+use Rattle.b67_faithful.specs.Weight.{parts_weight}
 
 -- ---- cells
 
@@ -38,6 +45,11 @@ CellsAre [] [] [] = Unit {0}
 CellsAre (s ∷ ss) (c ∷ cells) (w ∷ words) = (c.name ≡ s.name) × CellIs s.kind c.cell w × CellsAre ss cells words
 CellsAre _ _ _ = ⊥
 
+-- a part has the instance for its own
+abbrev pub IsOwn : List Part → ℕ → Type 0
+IsOwn [] i = ⊥
+IsOwn (part ∷ parts) i = (part.instance ≡ i) ⊎ IsOwn parts i
+
 module _ (sc : Scopes) (w : World) (lay : List Place) where
   -- the block of an instance
   abbrev pub block_at : ℕ → Block
@@ -47,36 +59,102 @@ module _ (sc : Scopes) (w : World) (lay : List Place) where
   abbrev pub IsChained : ℕ → ℕ → List (Option Place) → Type 0
   IsChained i level display = (up : ℕ) → up + OUTER_LEVEL ≤ level → place_at display (level - up) ≡ numbered lay (ancestor w up i)
 
-  -- the frame of an instance of process p, so high in its stack, with these words for its cells
-  pub record Framed (p i at : ℕ) (cells : List Word) (display : List (Option Place)) : Type 0 where
+  -- where the static link of a frame leads: to the frame of the instance's parent, that of an outermost one to the system's stack
+  abbrev pub home_of : ℕ → Option Place
+  home_of zero = Some (place 0 0)
+  home_of (suc i) = numbered lay (suc i)
+
+  -- An instance of an outermost block has no parent. That of another block has one among those of these parts, of the block around it.
+  pub data IsPlaced (outer : List Part) (x : Instance) : Type 0 where
+    outermost : x.parent ≡ 0 → around sc.blocks x.block ≡ [] → IsPlaced outer x
+    inside : IsOwn outer x.parent → around sc.blocks x.block ≡ (instance_at w x.parent).block ∷ around sc.blocks (instance_at w x.parent).block → IsPlaced outer x
+
+  -- The frame of an instance of process p, so high in its stack, below which those of these parts lie: its mark and its control word, which
+  -- are read as such, and these words for its cells.
+  pub record Framed (p i : ℕ) (outer : List Part) (at : ℕ) (mark control : Word) (cells : List Word) : Type 0 where
     pub instance : Instance
     pub is : numbered w.instances i ≡ Some instance
     pub own : instance.process ≡ p
+    pub known : instance.block < length sc.blocks
     pub laid : numbered lay i ≡ Some (place p at)
     pub cells_are : CellsAre (simple_cells (block_numbered sc.blocks instance.block)) instance.cells cells
-    pub chained : IsChained i (level_of (block_numbered sc.blocks instance.block)) display
+    pub placed : IsPlaced outer instance
+    pub home : Place
+    pub linked : home_of instance.parent ≡ Some home
+    pub df : ℕ
+    pub mark_is : as_mscw mark ≡ Some (record { entered = true; stack = home.stack; displacement = home.at; df = df })
+    pub back : Rcw
+    pub control_is : as_rcw control ≡ Some back
+    pub level_is : back.own_level ≡ level_of (block_numbered sc.blocks instance.block)
 
-module _ (sc : Scopes) (code : Code) (texts : ℕ → List Placed) (w : World) (lay : List Place) (p : ℕ) where
-  -- The innermost part: the core is at the place, and has the words, where the machine stands for what the part has still to do. At most
-  -- so many words may lie above its cells.
-  pub record Stands (part : Part) (at most : ℕ) (lower : List Word) (core : Core) : Type 0 where
+module _ (tree : PProgram) (code : Code) (texts : ℕ → List Placed) (w : World) (lay : List Place) (p most : ℕ) where
+  -- the number of a part's block, the segment in which its text stands, and its level
+  abbrev pub block_of : Part → ℕ
+  block_of part = (instance_at w part.instance).block
+
+  abbrev pub text_of : Part → List Placed
+  text_of part = texts (block_of part)
+
+  abbrev pub level_at : Part → ℕ
+  level_at part = level_of (block_at (scopes_of tree) w lay part.instance)
+
+  -- These words of a stack, the bottom first, end with the frame of a part and its cells. What the part has still to do keeps to the text
+  -- of its block.
+  pub record Frame (part : Part) (outer : List Part) (words : List Word) : Type 0 where
     pub owns : is_evaluation part.purpose ≡ false
+    pub lower : List Word
     pub mark : Word
     pub control : Word
     pub cells : List Word
-    pub below_is : core.below ≡ lower ++ mark ∷ control ∷ cells
-    pub high : length lower ≡ at
-    pub counted : core.registers.cells ≡ length cells
-    pub framed : Framed sc w lay p part.instance at cells core.registers.display
+    pub words_are : words ≡ lower ++ mark ∷ control ∷ cells
+    pub framed : Framed (scopes_of tree) w lay p part.instance outer (length lower) mark control cells
+    pub text : InRest (IsSeen (scopes_of tree) (block_of part)) (IsInner (scopes_of tree) (block_of part)) part.rest
+
+  -- The innermost part: the core is at the place, and has the words, where the machine stands for what the part has still to do.
+  pub record Stands (part : Part) (outer : List Part) (core : Core) : Type 0 where
+    pub frame : Frame part outer core.below
+    pub counted : core.registers.cells ≡ length frame.cells
+    pub chained : IsChained (scopes_of tree) w lay part.instance (level_at part) core.registers.display
+    pub segment_is : core.registers.segment ≡ program_segment
+    pub asks : ask part.rest ≡ nothing → ⊥
     pub pc : ℕ
     pub slots : List Slot
-    pub stands :
-        StandsFor sc code.formats (texts ((instance_at w part.instance).block)) (level_of (block_at sc w lay part.instance)) most part.rest pc slots
-    pub there : CoreAt sc code (texts ((instance_at w part.instance).block)) (level_of (block_at sc w lay part.instance)) pc slots core
+    pub stands : StandsFor (scopes_of tree) code.formats (text_of part) (level_at part) most part.rest pc slots
+    pub there : CoreAt (scopes_of tree) code (text_of part) (level_at part) pc slots core
     pub few : length slots ≤ most
 
-  -- The parts of a process, the innermost first. The outermost one has the base frame; one inside another will come with calls.
-  abbrev pub Frames : List Part → ℕ → Core → Type 0
-  Frames [] most core = ⊥
-  Frames (part ∷ []) most core = (s : Stands part 0 most [] core) × (s.mark ≡ base_mark) × (s.control ≡ base_control OUTER_LEVEL)
-  Frames (part ∷ outer ∷ parts) most core = ⊥
+  -- A part around, which waits for the one inside it. The mark and the control word of the frame above lead back: the mark to the newest
+  -- mark below, the control word to the place where the machine stands for what the part has still to do.
+  pub record Waits (part : Part) (outer : List Part) (lower : List Word) (mark control : Word) : Type 0 where
+    pub below : List Word
+    pub words : List Word
+    pub lower_is : lower ≡ below ++ reverse words
+    pub frame : Frame part outer below
+    pub waits : ask part.rest ≡ nothing
+    pub pc : ℕ
+    pub slots : List Slot
+    pub stands : StandsFor (scopes_of tree) code.formats (text_of part) (level_at part) most part.rest pc slots
+    pub few : length slots ≤ most
+    pub words_are : SlotsAre (scopes_of tree) (level_at part) (length frame.lower) (length below) slots words
+    pub home : Place
+    pub df : ℕ
+    pub mark_is : as_mscw mark ≡ Some (record { entered = true; stack = home.stack; displacement = home.at; df = df })
+    pub far : df + newest (length frame.lower) (length below) slots ≡ length lower
+    pub back : Rcw
+    pub control_is : as_rcw control ≡ Some back
+    pub segment_is : back.segment ≡ program_segment
+    pub place_is : code_place back.psr back.pir ≡ pc
+    pub level_is : back.caller_level ≡ level_at part
+    pub cells_are : back.caller_cells ≡ length frame.cells
+    pub light : length below + most + 3 ≤ parts_weight tree w (part ∷ outer)
+
+  -- the parts around, the innermost first, whose frames lie in these words, below a frame of this mark and this control word
+  abbrev pub Around : List Part → List Word → Word → Word → Type 0
+  Around [] lower mark control = (lower ≡ []) × (mark ≡ base_mark) × (control ≡ base_control OUTER_LEVEL)
+  Around (part ∷ outer) lower mark control =
+      (s : Waits part outer lower mark control) × Around outer s.frame.lower s.frame.mark s.frame.control
+
+  -- the parts of a process, the innermost first
+  abbrev pub Frames : List Part → Core → Type 0
+  Frames [] core = ⊥
+  Frames (part ∷ outer) core = (s : Stands part outer core) × Around outer s.frame.lower s.frame.mark s.frame.control

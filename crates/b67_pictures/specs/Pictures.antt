@@ -1,21 +1,32 @@
 -- How an image pictures a world.
-use Rattle.std.specs.Prelude.{◌≡◌, ℕ, ◌+◌, ◌≤◌, List, length, Option, Some, None}
+use Rattle.std.specs.Prelude.{◌≡◌, ℕ, ◌+◌, ◌*◌, ◌≤◌, List, length, Option, Some, None, slice_get}
 use Rattle.b67_list.specs.Numbered.{numbered}
+use Rattle.algol_tree.specs.Counts.{program_tokens}
 use Rattle.algol_tree.specs.Plain.{PProgram}
-use Rattle.algol_tree.specs.Scopes.{scopes_of}
-use Rattle.algol_meaning.specs.World.{Instance, Process, able, ended, WorldFault, World}
+use Rattle.algol_meaning.specs.World.{Process, able, ended, WorldFault, World}
 use Rattle.b67_word.specs.declared.Place.{Place}
 use Rattle.b67_segment.specs.Operators.{Placed}
+use Rattle.b67_segment.specs.Syllables.{Spells}
 use Rattle.b67_segment.specs.declared.code.Code.{Code}
+use Rattle.b67_segment.specs.declared.code.Segment.{Segment}
 use Rattle.b67_store.specs.Store.{stack_at, stack_limit}
 use Rattle.b67_control.specs.Display.{place_at}
 use Rattle.b67_table.specs.Beginning.{system_stack}
 use Rattle.b67_table.specs.Chains.{place}
+use Rattle.b67_table.specs.Limits.{most_processes}
 use Rattle.b67_table.specs.declared.ProcessState.TheVariants.{Able, Ended}
 use Rattle.b67_table.specs.Image.{Image, Failure}
-use Rattle.b67_cores.specs.Cores.{Core, HasCore, CoreSteps}
+use Rattle.b67_cores.specs.Cores.{Core, size, HasCore, CoreSteps}
 use Rattle.b67_faithful.specs.Weight.{weight}
+use Rattle.b67_templates.specs.Fragments.{program_segment}
 use Rattle.b67_pictures.specs.Frames.{Frames}
+
+-- These are the texts of blocks, by their numbers: each is the text of the program's segment.
+pub record AreTexts (code : Code) (texts : ℕ → List Placed) : Type 0 where
+  pub segment : Segment
+  pub there : slice_get code.segments program_segment ≡ Some segment
+  pub spells : (j : ℕ) → Spells (texts j) segment
+  pub same : (i j : ℕ) → texts i ≡ texts j
 
 -- the fault that ended a world, as one of an image
 abbrev pub failure_of : Option WorldFault → Option Failure
@@ -34,15 +45,17 @@ module _ (tree : PProgram) (code : Code) (texts : ℕ → List Placed) (w : Worl
     pub idle : core.registers.task ≡ None
     -- level 0 of its display is the system's stack
     pub sees : place_at core.registers.display 0 ≡ Some (place 0 0)
+    -- its stack is no longer than a stack may be
+    pub small : size core ≤ stack_limit
     pub settled : Core
     pub most : ℕ
     pub bound : ℕ
     pub count : ℕ
     pub steps : CoreSteps code bound count core settled
-    pub frames : Frames (scopes_of tree) code texts w lay p q.todo most settled
+    pub frames : Frames tree code texts w lay p most q.todo settled
     pub room : length settled.below + most ≤ bound
     pub light : bound + 3 ≤ weight tree w p
-    pub small : bound ≤ stack_limit
+    pub few : most ≤ 4 * program_tokens tree
 
   pub data Pictured (p : ℕ) (q : Process) : Type 0 where
     living : q.state ≡ able → numbered img.states p ≡ Some Able → Living p q → Pictured p q
@@ -53,10 +66,9 @@ module _ (tree : PProgram) (code : Code) (texts : ℕ → List Placed) (w : Worl
     pub output : img.output ≡ w.output
     pub fault : img.fault ≡ failure_of w.fault
     pub started : img.started ≡ length w.processes
+    pub few : length w.processes ≤ most_processes
     pub states : length img.states ≡ length w.processes
     pub system : stack_at img.stacks 0 ≡ Some system_stack
-    -- every instance is one of the outer block: others come with blocks and procedures
-    pub outermost : (i : ℕ) (x : Instance) → numbered w.instances i ≡ Some x → x.block ≡ 0
     pub each : (p : ℕ) (q : Process) → numbered w.processes p ≡ Some q → Pictured p q
 
 -- an image pictures a world: for some layout of the frames of its instances

@@ -2,12 +2,12 @@
 //! each process stands for what it has still to do, and that every operator keeps it so.
 #![tactic(auto)]
 
-ghost use Rattle.b67_pictures.specs.Programs.{OneBlockProgramsAreFaithful};
+ghost use Rattle.b67_pictures.specs.Programs.{BuiltProgramsAreFaithful};
 
-/// Law: wherever the code of an accepted program of one block stands, is short and can be listed, it is faithful to the program. Every
+/// Law: wherever the code of an accepted program that is built stands, is short and can be listed, it is faithful to the program. Every
 /// run of it under the operator table is one of the program under the same schedule, with the same output, end, able processes and
 /// actions, on stacks within their weights, and meets no ill-tagged word. For each entry and each tail it has at most as many operators as
 /// the longest segment has syllables. Every legal schedule of the program has a run, or comes to the stack limit.
-pub fn one_block_programs_are_faithful()
-    ensures { OneBlockProgramsAreFaithful }
+pub fn built_programs_are_faithful()
+    ensures { BuiltProgramsAreFaithful }
 {}

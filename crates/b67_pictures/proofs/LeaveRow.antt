@@ -1,0 +1,143 @@
+-- EXIT of a frame that is not the base frame.
+use Rattle.std.proofs.Common.{◌≡◌, refl, sym, ap, ◌∙◌, ℕ, ◌+◌, ◌≤◌, List, [], ◌∷◌, ◌++◌, length, take, drop, Option, Some, Bool, false, Ok, arith, append_assoc, length-append}
+use Rattle.std.specs.Prelude.{if◌then◌else◌, nat_eq, reverse}
+use Rattle.algol_meaning.specs.Actions as act
+use Rattle.b67_num.specs.declared.FaultKind.TheVariants.{CriticalBlockExit}
+use Rattle.b67_word.specs.declared.Place.{Place}
+use Rattle.b67_word.specs.Word.{Word}
+use Rattle.b67_control.specs.declared.Registers.{Registers}
+use Rattle.b67_control.specs.Display.{place_at}
+use Rattle.b67_ops.specs.declared.Operator.TheVariants as ops
+use Rattle.b67_ops.specs.declared.PlainKind.TheVariants as kinds
+use Rattle.b67_segment.specs.declared.code.Code.{Code}
+use Rattle.b67_store.specs.Store.{Stacks, words_of, with_stack, with_cut}
+use Rattle.b67_events.specs.Events.{closed_from}
+use Rattle.b67_table.specs.declared.Below.{Below}
+use Rattle.b67_table.specs.declared.Class.TheVariants as classes
+use Rattle.b67_table.specs.declared.Leaving.{Leaving}
+use Rattle.b67_table.specs.Effect.{Effect, gives}
+use Rattle.b67_table.specs.Outcome as outcomes
+use Rattle.b67_table.specs.Image.{Image, with_stacks, with_registers, with_events}
+use Rattle.b67_table.specs.Chains.{place, left_to, rebuilt}
+use Rattle.b67_table.specs.Linkage.{frame_left, is_critical, if_not_critical, leave_base, leave_other, leaving, left}
+use Rattle.b67_table.specs.Look.{found, ◌>->◌, seen}
+use Rattle.b67_table.specs.Private.{frame, at_or}
+use Rattle.b67_table.specs.Program.{Program, Change, done, changed, does, effect_of, asked, answer, fault, registers, cut, close_events}
+use Rattle.b67_table.specs.Questions.{live_criticals}
+use Rattle.b67_table.specs.Rows.{row, exit}
+use Rattle.b67_table.specs.Table.{raw, table, operator_at, class_at}
+use Rattle.b67_cores.specs.Cores.{Core, IsCore, HasCore, with_core}
+use Rattle.b67_faithful.specs.Correspondence.{operator_action}
+use Rattle.b67_pictures.proofs.ExitRow.{DescribeNothing, none_closed}
+use Rattle.b67_pictures.proofs.Looks.{then_seen, see_found}
+use Rattle.b67_pictures.proofs.Rows.{raw_is, words_are, action_is}
+use Rattle.b67_pictures.proofs.StackWords.{take-seam, drop-seam, length-stack}
+use Rattle.std.proofs.lemmas.Bool.Decides.{nat_tests}
+
+not_zero : (n : ℕ) → 1 ≤ n → nat_eq n 0 ≡ false
+not_zero n h = grind (arith, nat_tests)
+
+-- The core of the part around: the words under the frame that is left at a place, parted at its own floor.
+abbrev pub without_frame : Core → List Word → List Word → ℕ → Leaving → Core
+without_frame core below words f l = record { below = below; words = words; registers = left core.registers f f l }
+
+-- The frame of a core, above the words of the part around: its cells describe no rows, and the marks under it lead to where the machine
+-- goes on.
+pub record Leaves (img : Image) (core : Core) (below words : List Word) (mark control : Word) (cells : List Word) (b : Below) (display : List (Option Place)) : Type 0 where
+  pub is : core.below ≡ (below ++ reverse words) ++ mark ∷ control ∷ cells
+  pub some : 1 ≤ length (below ++ reverse words)
+  pub frame_is : frame core.registers ≡ length (below ++ reverse words)
+  pub counted : core.registers.cells ≡ length cells
+  pub plain_cells : DescribeNothing cells
+  pub left_to : seen img.stacks (left_to (place core.registers.stack (length (below ++ reverse words)))) ≡ Ok b
+  pub rebuilt : seen img.stacks (rebuilt (place core.registers.stack b.frame) b.control.caller_level) ≡ Ok display
+  -- no process depends on a frame
+  pub free : live_criticals img.states img.regs ≡ []
+
+module _ (code : Code) (img : Image) (p : ℕ) (core : Core) (has : HasCore img p core) (next : ℕ) (at : operator_at code core.registers ≡ Ok (ops.Plain kinds.Exit, next))
+    (below words : List Word) (mark control : Word) (cells : List Word) (b : Below) (display : List (Option Place)) (e : Leaves img core below words mark control cells b display) where
+  abbrev r : Registers
+  r = core.registers
+
+  abbrev lower : List Word
+  lower = below ++ reverse words
+
+  abbrev f : ℕ
+  f = length lower
+
+  abbrev leaving_of : Leaving
+  leaving_of = record { below = b; display = display }
+
+  abbrev pub outer_core : Core
+  outer_core = without_frame core below words f leaving_of
+
+  abbrev tested : Program → Effect Image
+  tested t = effect_of p img (asked img t)
+
+  -- what is done with the words of the cells
+  abbrev left_with : ℕ → List Word → Program
+  left_with n ws = if nat_eq n 0 then leave_base r ws next else leave_other r ws n []
+
+  whole : words_of img.stacks r.stack ≡ lower ++ mark ∷ control ∷ (cells ++ reverse core.words)
+  whole = words_are img p core has ∙ ap (λ (ws : List Word). ws ++ reverse core.words) e.is ∙ append_assoc lower (mark ∷ control ∷ cells) (reverse core.words)
+
+  cells_there : take r.cells (drop (f + 2) (words_of img.stacks r.stack)) ≡ cells
+  cells_there =
+      ap (λ (ws : List Word). take r.cells (drop (f + 2) ws)) (whole ∙ sym (append_assoc lower (mark ∷ control ∷ []) (cells ++ reverse core.words)))
+      ∙ ap (take r.cells) (drop-seam (lower ++ mark ∷ control ∷ []) (cells ++ reverse core.words) (f + 2) (sym (length-append lower (mark ∷ control ∷ []))))
+      ∙ take-seam cells (reverse core.words) r.cells e.counted
+
+  cut_there : with_cut img.stacks r.stack f ≡ with_stack img.stacks r.stack lower
+  cut_there =
+      ap (λ (ws : List Word). with_stack img.stacks r.stack (take f ws)) whole
+      ∙ ap (with_stack img.stacks r.stack) (take-seam lower (mark ∷ control ∷ (cells ++ reverse core.words)) f refl)
+
+  leaving_seen : seen img.stacks (leaving (place r.stack f)) ≡ Ok leaving_of
+  leaving_seen =
+      then_seen img.stacks (left_to (place r.stack f)) b
+      (λ (x : Below). rebuilt (place r.stack x.frame) x.control.caller_level >-> (λ (d : List (Option Place)). found (record { below = x; display = d }))) e.left_to
+      ∙ then_seen img.stacks (rebuilt (place r.stack b.frame) b.control.caller_level) display (λ (d : List (Option Place)). found (record { below = b; display = d })) e.rebuilt
+
+  abbrev ends : List Word → ℕ → Change
+  ends ws s = frame_left r.stack f ws (cut r.stack f (registers (left r s f leaving_of) done))
+
+  abbrev after_leaving : List Word → Leaving → Program
+  after_leaving ws l = if_not_critical r.stack (f ∷ []) (answer (frame_left r.stack f ws (cut r.stack f (registers (left r (f + 0) f l) done))))
+
+  -- the events of the frame are closed
+  abbrev pub after : Image
+  after = with_core (with_events img (closed_from r.stack f img.events)) p outer_core
+
+  exit_does : does p (exit r next) img ≡ gives after
+  exit_does =
+      ap (λ (n : ℕ). tested (left_with n (take r.cells (drop (n + 2) (words_of img.stacks r.stack))))) e.frame_is
+      ∙ ap (λ (ws : List Word). tested (left_with f ws)) cells_there
+      ∙ ap (λ (t : Bool). tested (if t then leave_base r cells next else leave_other r cells f [])) (not_zero f e.some)
+      ∙ ap (λ (x : Effect Change). effect_of p img x) (see_found img (leaving (place r.stack f)) leaving_of (after_leaving cells) leaving_seen)
+      ∙ ap (λ (places : List Place). tested (if is_critical r.stack (f ∷ []) places then fault CriticalBlockExit else answer (ends cells (f + 0)))) e.free
+      ∙ ap (λ (c : Change). gives (changed p c img)) (none_closed cells (close_events r.stack f (cut r.stack f (registers (left r (f + 0) f leaving_of) done))) e.plain_cells)
+      ∙ ap (λ (s : ℕ). gives (changed p (close_events r.stack f (cut r.stack f (registers (left r s f leaving_of) done))) img)) none_more
+      ∙ ap (λ (ss : Stacks). gives (with_registers (with_stacks (with_events img (closed_from r.stack f img.events)) ss) p (left r f f leaving_of))) cut_there
+    where
+      none_more : f + 0 ≡ f
+      none_more = omega arith
+
+  pub leave_raw : raw code img p ≡ gives after
+  unfolding row
+  leave_raw = raw_is code img p core has (ops.Plain kinds.Exit) next at ∙ exit_does
+
+  pub leave_class : class_at (ops.Plain kinds.Exit) r.place ≡ classes.Action
+  unfolding class_at row
+  leave_class = refl
+
+  pub leave_action : table code img p ≡ outcomes.gives after → operator_action code img p ≡ Some act.Leave
+  leave_action t =
+      action_is code img p core has (ops.Plain kinds.Exit) next at (outcomes.gives after) t
+      ∙ ap (λ (n : ℕ). if nat_eq n 0 then Some act.End else Some act.Leave) e.frame_is
+      ∙ ap (λ (t : Bool). if t then Some act.End else Some act.Leave) (not_zero f e.some)
+
+  -- the new core is one, where the display names the frame below, and its cells end at the floor
+  pub outer_is : place_at display b.control.caller_level ≡ Some (place r.stack b.frame) → length below ≡ b.frame + 2 + b.control.caller_cells → IsCore outer_core
+  outer_is top long =
+      let own : frame outer_core.registers ≡ b.frame = ap at_or top in
+      record { bottom = omega (arith, own, long); top = length-stack below words }

@@ -1,0 +1,186 @@
+-- The frames of a process's parts in its stack, and the links between them.
+use Rattle.std.proofs.Common.{◌≡◌, inl, inr, refl, sym, ap, ◌∙◌, subst, ℕ, zero, suc, ◌+◌, ◌-◌, ◌<◌, List, [], ◌∷◌, ◌++◌, length, Option, Some, arith, append_assoc, length-append}
+use Rattle.std.specs.Prelude.{slice_get, reverse}
+use Rattle.b67_list.specs.Numbered.{numbered}
+use Rattle.algol_tree.specs.Blocks.{Block, block_numbered, around}
+use Rattle.algol_tree.specs.Cells.{level_of}
+use Rattle.algol_tree.specs.Plain.{PProgram}
+use Rattle.algol_tree.specs.Scopes.{Scopes, scopes_of}
+use Rattle.algol_meaning.specs.World.{Instance, Part, World, instance_at, or_no_instance, ancestor}
+use Rattle.b67_word.specs.declared.Place.{Place}
+use Rattle.b67_word.specs.Word.{Word}
+use Rattle.b67_control.specs.Control.{as_mscw, as_rcw}
+use Rattle.b67_control.specs.Display.{place_at}
+use Rattle.b67_segment.specs.Operators.{Placed}
+use Rattle.b67_segment.specs.declared.code.Code.{Code}
+use Rattle.b67_store.specs.Store.{Stacks, words_of, word_at}
+use Rattle.b67_table.specs.Chains.{place}
+use Rattle.b67_table.specs.Image.{Image}
+use Rattle.b67_table.specs.Look.{read_as}
+use Rattle.b67_cores.specs.Cores.{Core, HasCore}
+use Rattle.b67_faithful.proofs.Contradictions.{some_same, none_some}
+use Rattle.b67_pictures.specs.Frames.{IsOwn, IsChained, home_of, IsPlaced, outermost, inside, Frame, Stands, Around}
+use Rattle.b67_pictures.proofs.Displays.{IsEntered, Links, root, onward, shown, shown_top, shown_below}
+use Rattle.b67_pictures.proofs.Rows.{words_are}
+use Rattle.b67_pictures.proofs.Staying.{length_around}
+use Rattle.b67_pictures.proofs.StackWords.{get-seam, get-front}
+
+-- the level of a block, by the blocks around it
+pub level_around : (bs : List Block) (i : ℕ) → level_of (block_numbered bs i) ≡ length (around bs i) + 2
+level_around bs i = sym (length_around bs i)
+
+-- the stack of process p begins with these words
+abbrev pub Begins_with : Stacks → ℕ → List Word → Type 0
+Begins_with stacks p words = (n : ℕ) (x : Word) → slice_get words n ≡ Some x → word_at stacks (place p n) ≡ Some x
+
+module _ (sc : Scopes) (w : World) (lay : List Place) (stacks : Stacks) (p : ℕ) where
+  -- The frame of an instance stands in the stack of process p, linked to its home, from which links lead down along the frames of its
+  -- static parents.
+  pub record Linked (i : ℕ) : Type 0 where
+    pub instance : Instance
+    pub is : numbered w.instances i ≡ Some instance
+    pub at : ℕ
+    pub laid : numbered lay i ≡ Some (place p at)
+    pub home : Place
+    pub more : List Place
+    pub entered : IsEntered stacks (place p at) home (length more + 2)
+    pub links : Links stacks home more
+    pub level_is : level_of (block_numbered sc.blocks instance.block) ≡ length more + 2
+    pub each : (up : ℕ) → up < length more → slice_get more up ≡ numbered lay (ancestor w up instance.parent)
+
+  -- so the frames from that of the instance on
+  pub all_linked : (i : ℕ) (l : Linked i) → Links stacks (place p l.at) (place p l.at ∷ l.more)
+  all_linked i l = onward l.entered l.links
+
+  pub all_each : (i : ℕ) (l : Linked i) (up : ℕ) → up < suc (length l.more) → slice_get (place p l.at ∷ l.more) up ≡ numbered lay (ancestor w up i)
+  all_each i l zero low = sym l.laid
+  all_each i l (suc up) low =
+      l.each up (omega (arith, low))
+      ∙ ap (λ (o : Option Instance). numbered lay (ancestor w up ((or_no_instance o).parent))) (sym l.is)
+
+-- what begins with words begins with those before them
+pub begins_front : (stacks : Stacks) (p : ℕ) (front back : List Word) → Begins_with stacks p (front ++ back) → Begins_with stacks p front
+begins_front stacks p front back b n x e = b n x (get-front front back n x e)
+
+-- so does the stack of a process that has a core
+pub begins_core : (img : Image) (p : ℕ) (core : Core) → HasCore img p core → Begins_with img.stacks p core.below
+begins_core img p core has n x e =
+    ap (λ (k : ℕ). slice_get (words_of img.stacks k) n) (sym has.own)
+    ∙ ap (λ (ws : List Word). slice_get ws n) (words_are img p core has)
+    ∙ get-front core.below (reverse core.words) n x e
+
+module _ (tree : PProgram) (code : Code) (texts : ℕ → List Placed) (w : World) (lay : List Place) (p most : ℕ) (stacks : Stacks) where
+  abbrev sc : Scopes
+  sc = scopes_of tree
+
+  -- the frame of a part
+  module _ (part : Part) (outer : List Part) (words : List Word) (f : Frame tree code texts w lay p most part outer words) (b : Begins_with stacks p words) where
+    abbrev x : Instance
+    x = f.framed.instance
+
+    abbrev at : ℕ
+    at = length f.lower
+
+    abbrev back : List Word
+    back = f.mark ∷ f.control ∷ f.cells
+
+    pub mark_there : word_at stacks (place p at) ≡ Some f.mark
+    mark_there = b at f.mark (ap (λ (ws : List Word). slice_get ws at) f.words_are ∙ get-seam f.lower f.mark (f.control ∷ f.cells) at refl)
+
+    pub control_there : word_at stacks (place p (at + 1)) ≡ Some f.control
+    control_there =
+        b (at + 1) f.control (ap (λ (ws : List Word). slice_get ws (at + 1)) (f.words_are ∙ sym (append_assoc f.lower (f.mark ∷ []) (f.control ∷ f.cells)))
+        ∙ get-seam (f.lower ++ f.mark ∷ []) f.control f.cells (at + 1) (sym (length-append f.lower (f.mark ∷ []))))
+
+    pub entered_at : (home : Place) (level : ℕ) → f.framed.home ≡ home → level_of (block_numbered sc.blocks x.block) ≡ level → IsEntered stacks (place p at) home level
+    entered_at home level same is =
+        subst (λ (h : Place). IsEntered stacks (place p at) h level) same (record {
+          df = f.framed.df;
+          marked = ap (read_as as_mscw) mark_there ∙ f.framed.mark_is;
+          control = f.framed.back;
+          controlled = ap (read_as as_rcw) control_there ∙ f.framed.control_is;
+          level_is = f.framed.level_is ∙ is;
+        })
+
+    -- an outermost one is linked to the system's stack
+    from_outermost : x.parent ≡ 0 → around sc.blocks x.block ≡ [] → Linked sc w lay stacks p part.instance
+    from_outermost none alone =
+        let level : level_of (block_numbered sc.blocks x.block) ≡ 2 = level_around sc.blocks x.block ∙ ap (λ (bs : List ℕ). length bs + 2) alone in
+        let home : f.framed.home ≡ place 0 0 = some_same (sym f.framed.linked ∙ ap (home_of sc w lay) none) in
+        record {
+          instance = x;
+          is = f.framed.is;
+          at = at;
+          laid = f.framed.laid;
+          home = place 0 0;
+          more = [];
+          entered = entered_at (place 0 0) 2 home level;
+          links = root;
+          level_is = level;
+          each = λ up low. absurd (omega (arith, low));
+        }
+
+    -- and another one to the frame of its parent
+    from_parent : (l : Linked sc w lay stacks p x.parent) → around sc.blocks x.block ≡ (instance_at w x.parent).block ∷ around sc.blocks (instance_at w x.parent).block → Linked sc w lay stacks p part.instance
+    from_parent l alone =
+        let block : instance_at w x.parent ≡ l.instance = ap or_no_instance l.is in
+        let parent_level : level_of (block_numbered sc.blocks ((instance_at w x.parent).block)) ≡ length l.more + 2 = ap (λ (y : Instance). level_of (block_numbered sc.blocks y.block)) block ∙ l.level_is in
+        let level : level_of (block_numbered sc.blocks x.block) ≡ suc (length l.more) + 2 =
+        level_around sc.blocks x.block ∙ ap (λ (bs : List ℕ). length bs + 2) alone ∙ omega (arith, parent_level, level_around sc.blocks ((instance_at w x.parent).block)) in
+        let home : f.framed.home ≡ place p l.at = some_same (sym f.framed.linked ∙ home_is x.parent l.laid) in
+        record {
+          instance = x;
+          is = f.framed.is;
+          at = at;
+          laid = f.framed.laid;
+          home = place p l.at;
+          more = place p l.at ∷ l.more;
+          entered = entered_at (place p l.at) (suc (length l.more) + 2) home level;
+          links = all_linked sc w lay stacks p x.parent l;
+          level_is = level;
+          each = all_each sc w lay stacks p x.parent l;
+        }
+      where
+        home_is : (k : ℕ) → numbered lay k ≡ Some (place p l.at) → home_of sc w lay k ≡ Some (place p l.at)
+        home_is zero e = none_some e
+        home_is (suc k) e = e
+
+    -- where those of the parts around are linked
+    pub frame_linked : ((j : ℕ) → IsOwn outer j → Linked sc w lay stacks p j) → Linked sc w lay stacks p part.instance
+    frame_linked around_linked = by_place f.framed.placed
+      where
+        by_place : IsPlaced sc w lay outer x → Linked sc w lay stacks p part.instance
+        by_place (outermost none alone) = from_outermost none alone
+        by_place (inside own alone) = from_parent (around_linked x.parent own) alone
+
+  -- so stand the frames of all parts around, whose words begin the stack
+  pub around_linked : (parts : List Part) (lower : List Word) (mark control : Word) → Around tree code texts w lay p most parts lower mark control → Begins_with stacks p lower → (i : ℕ) → IsOwn parts i →
+      Linked sc w lay stacks p i
+  around_linked [] lower mark control a b i own = absurd own
+  around_linked (part ∷ outer) lower mark control a b i own =
+      let b' : Begins_with stacks p a.0.below = begins_front stacks p a.0.below (reverse a.0.words) (subst (Begins_with stacks p) a.0.lower_is b) in
+      let b'' : Begins_with stacks p a.0.frame.lower =
+      begins_front stacks p a.0.frame.lower (a.0.frame.mark ∷ a.0.frame.control ∷ a.0.frame.cells) (subst (Begins_with stacks p) a.0.frame.words_are b') in
+      by_part b' (λ j. around_linked outer a.0.frame.lower a.0.frame.mark a.0.frame.control a.1 b'' j) own
+    where
+      by_part : Begins_with stacks p a.0.below → ((j : ℕ) → IsOwn outer j → Linked sc w lay stacks p j) → IsOwn (part ∷ outer) i → Linked sc w lay stacks p i
+      by_part b' outer_linked (inl same) = subst (Linked sc w lay stacks p) same (frame_linked part outer a.0.below a.0.frame b' outer_linked)
+      by_part b' outer_linked (inr later) = outer_linked i later
+
+  -- and the innermost one
+  pub stands_linked : (part : Part) (outer : List Part) (core : Core) (s : Stands tree code texts w lay p most part outer core) → Around tree code texts w lay p most outer s.frame.lower s.frame.mark s.frame.control →
+      Begins_with stacks p core.below → Linked sc w lay stacks p part.instance
+  stands_linked part outer core s a b =
+      let b' : Begins_with stacks p s.frame.lower = begins_front stacks p s.frame.lower (s.frame.mark ∷ s.frame.control ∷ s.frame.cells) (subst (Begins_with stacks p) s.frame.words_are b) in
+      frame_linked part outer core.below s.frame b (around_linked outer s.frame.lower s.frame.mark s.frame.control a b')
+
+-- ---- the display of a frame, and of those down its links
+
+pub shown_chained : (sc : Scopes) (w : World) (lay : List Place) (i level : ℕ) (top : Place) (more : List Place) → numbered lay i ≡ Some top → level ≡ length more + 2 →
+    ((up : ℕ) → up < length more → slice_get more up ≡ numbered lay (ancestor w up ((instance_at w i).parent))) → IsChained sc w lay i level (shown top more)
+shown_chained sc w lay i level top more laid is each zero low =
+    let here : level - 0 ≡ length more + 2 = omega (arith, is) in
+    ap (place_at (shown top more)) here ∙ shown_top top more ∙ sym laid
+shown_chained sc w lay i level top more laid is each (suc up) low =
+    shown_below top more up (level - suc up) (omega (arith, is, low)) (omega (arith, low))
+    ∙ each up (omega (arith, is, low))

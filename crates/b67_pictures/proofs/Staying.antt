@@ -1,0 +1,184 @@
+-- What a change of the world leaves of the parts of a process: their static parents, their frames, and where they stand.
+use Rattle.std.proofs.Common.{◌≡◌, inl, inr, refl, sym, ap, ◌∙◌, subst, ℕ, zero, suc, ◌+◌, ◌*◌, ◌<◌, ◌≤◌, List, [], ◌∷◌, length, Option, Some, arith, length-append}
+use Rattle.std.specs.Prelude.{if◌then◌else◌, map}
+use Rattle.b67_list.specs.Numbered.{numbered}
+use Rattle.algol_tree.specs.declared.token.Spot.{Spot}
+use Rattle.algol_tree.specs.Blocks.{Block, block_numbered, number_at, around}
+use Rattle.algol_tree.specs.Cells.{level_of}
+use Rattle.algol_tree.specs.Plain.{PProgram}
+use Rattle.algol_tree.specs.Scopes.{Scopes, scopes_of}
+use Rattle.algol_meaning.specs.World.{Instance, Part, World, instance_at, or_no_instance, ancestor}
+use Rattle.algol_meaning.specs.Critical.{is_evaluation}
+use Rattle.b67_word.specs.declared.Place.{Place}
+use Rattle.b67_word.specs.Word.{Word}
+use Rattle.b67_ops.specs.declared.TheConstants.{OUTER_LEVEL}
+use Rattle.b67_segment.specs.Operators.{Placed}
+use Rattle.b67_segment.specs.declared.code.Code.{Code}
+use Rattle.b67_standing.specs.Standing.{StandsFor}
+use Rattle.b67_cores.specs.Cores.{Core}
+use Rattle.b67_cores.specs.Stretches.{CoreAt}
+use Rattle.b67_faithful.specs.Weight.{parts_weight, segment_tokens}
+use Rattle.b67_pictures.specs.Frames.{IsOwn, IsChained, Frame, Stands, Around, Frames}
+use Rattle.b67_pictures.proofs.Lying.{Lies, lies_in, parents_in, StayBelow, around_stays, Stayed, frame_stays}
+use Rattle.b67_pictures.proofs.Numbers.{get_within}
+
+-- the segment in which the text of a part stands, and its level
+abbrev pub text_in : (ℕ → List Placed) → World → Part → List Placed
+text_in texts w part = texts ((instance_at w part.instance).block)
+
+abbrev pub level_in : PProgram → World → Part → ℕ
+level_in tree w part = level_of (block_numbered (scopes_of tree).blocks ((instance_at w part.instance).block))
+
+-- ---- static parents
+
+pub ancestor_up : (w : World) (up i : ℕ) → ancestor w (suc up) i ≡ (instance_at w (ancestor w up i)).parent
+ancestor_up w zero i = refl
+ancestor_up w (suc up) i = ancestor_up w up ((instance_at w i).parent)
+
+length_numbers : (bs : List Block) (spots : List Spot) → length (map (number_at bs) spots) ≡ length spots
+length_numbers bs [] = refl
+length_numbers bs (spot ∷ spots) = ap suc (length_numbers bs spots)
+
+-- as many blocks are around a block as its level is above the outermost one's
+pub length_around : (bs : List Block) (j : ℕ) → length (around bs j) + OUTER_LEVEL ≡ level_of (block_numbered bs j)
+length_around bs j = omega (arith, length_numbers bs ((block_numbered bs j).outer))
+
+-- ---- weights
+
+-- an instance that is of the block of which it was, with as many cells
+pub record IsAsHeavy (w w' : World) (i : ℕ) : Type 0 where
+  pub block : (instance_at w' i).block ≡ (instance_at w i).block
+  pub cells : length ((instance_at w' i).cells) ≡ length ((instance_at w i).cells)
+
+pub same_weight : (tree : PProgram) (w w' : World) (parts : List Part) → ((i : ℕ) → IsOwn parts i → IsAsHeavy w w' i) → parts_weight tree w' parts ≡ parts_weight tree w parts
+same_weight tree w w' [] each = refl
+same_weight tree w w' (part ∷ parts) each =
+    let x : IsAsHeavy w w' part.instance = each part.instance (inl refl) in
+    ap (λ (n : ℕ). 8 + (if is_evaluation part.purpose then 0 else n) + 4 * segment_tokens tree ((instance_at w' part.instance).block) + parts_weight tree w' parts) x.cells
+    ∙ ap (λ (j : ℕ). 8 + (if is_evaluation part.purpose then 0 else length ((instance_at w part.instance).cells)) + 4 * segment_tokens tree j + parts_weight tree w' parts) x.block
+    ∙ ap (λ (n : ℕ). 8 + (if is_evaluation part.purpose then 0 else length ((instance_at w part.instance).cells)) + 4 * segment_tokens tree ((instance_at w part.instance).block) + n)
+    (same_weight tree w w' parts (λ i own. each i (inr own)))
+
+-- ---- frames
+
+-- the parts around, below a frame of the same words
+pub around_at : (tree : PProgram) (code : Code) (texts : ℕ → List Placed) (w : World) (lay : List Place) (p most : ℕ) (parts : List Part) (l l' : List Word) (m m' c c' : Word) → l ≡ l' → m ≡ m' → c ≡ c' →
+    Around tree code texts w lay p most parts l m c → Around tree code texts w lay p most parts l' m' c'
+around_at tree code texts w lay p most parts l l' m m' c c' el em ec a =
+    subst (λ (x : List Word). Around tree code texts w lay p most parts x m' c') el
+    (subst (λ (x : Word). Around tree code texts w lay p most parts l x c') em
+    (subst (λ (x : Word). Around tree code texts w lay p most parts l m x) ec a))
+
+-- the mark of a frame lies below its words
+pub frame_low : (tree : PProgram) (code : Code) (texts : ℕ → List Placed) (w : World) (lay : List Place) (p most : ℕ) (part : Part) (outer : List Part) (words : List Word) →
+    (f : Frame tree code texts w lay p most part outer words) → length f.lower + 2 + length f.cells ≡ length words
+frame_low tree code texts w lay p most part outer words f =
+    omega (arith, ap length f.words_are, length-append f.lower (f.mark ∷ f.control ∷ f.cells))
+
+module _ (tree : PProgram) (code : Code) (texts : ℕ → List Placed) (w w' : World) (lay lay' : List Place) (p most limit : ℕ) (stay : StayBelow w w' lay lay' p limit) where
+  abbrev sc : Scopes
+  sc = scopes_of tree
+
+  -- the frame of a part whose mark lies below, with the parts around
+  pub record FrameStill (part : Part) (outer : List Part) (words : List Word) (cells : List Word) : Type 0 where
+    pub frame : Frame tree code texts w' lay' p most part outer words
+    pub around : Around tree code texts w' lay' p most outer frame.lower frame.mark frame.control
+    pub cells_are : frame.cells ≡ cells
+
+  pub frame_still : (part : Part) (outer : List Part) (words : List Word) (f : Frame tree code texts w lay p most part outer words) →
+      Around tree code texts w lay p most outer f.lower f.mark f.control → length f.lower < limit → FrameStill part outer words f.cells
+  frame_still part outer words f a low =
+      let t : Stayed tree code texts w w' lay lay' p most limit stay part outer words f = frame_stays tree code texts w w' lay lay' p most limit stay part outer words f a low in
+      record {
+        frame = t.frame;
+        around = around_at tree code texts w' lay' p most outer f.lower t.frame.lower f.mark t.frame.mark f.control t.frame.control (sym t.lower) (sym t.mark) (sym t.control)
+            (around_stays tree code texts w w' lay lay' p most limit stay outer f.lower f.mark f.control (omega (arith, low)) a);
+        cells_are = t.cells;
+      }
+
+  module _ (part : Part) (outer : List Part) (core : Core) (s : Stands tree code texts w lay p most part outer core) (a : Around tree code texts w lay p most outer s.frame.lower s.frame.mark s.frame.control)
+      (low : length core.below ≤ limit) where
+    abbrev i : ℕ
+    i = part.instance
+
+    -- an instance of the parts is as it was, and so is the place of its frame
+    pub record Remains (j : ℕ) : Type 0 where
+      pub instance : Instance
+      pub is : numbered w.instances j ≡ Some instance
+      pub still : numbered w'.instances j ≡ Some instance
+      pub place : numbered lay' j ≡ numbered lay j
+
+    pub remains : (j : ℕ) → IsOwn (part ∷ outer) j → Remains j
+    remains j own =
+        let l : Lies tree code texts w lay p most (part ∷ outer) j core.below = lies_in tree code texts w lay p most part outer core s a j own in
+        let under : length l.frame.lower < limit =
+        omega (arith, low, ap length l.words_are, length-append l.front l.rest, frame_low tree code texts w lay p most l.part l.outer l.front l.frame) in
+        subst (λ (n : ℕ). Remains n) l.instance_is (record {
+          instance = l.frame.framed.instance;
+          is = l.frame.framed.is;
+          still = stay.instances l.part.instance (length l.frame.lower) l.frame.framed.instance l.frame.framed.is l.frame.framed.own l.frame.framed.laid under;
+          place = stay.places l.part.instance _ l.frame.framed.laid ∙ sym l.frame.framed.laid;
+        })
+
+    -- so far up there are parents
+    pub parent_own : (up : ℕ) → up + OUTER_LEVEL ≤ level_in tree w part → IsOwn (part ∷ outer) (ancestor w up i)
+    parent_own up h =
+        let j : ℕ = (instance_at w i).block in
+        let there = get_within (j ∷ around sc.blocks j) up (omega (arith, h, length_around sc.blocks j)) in
+        (parents_in tree code texts w lay p most part outer core s a i (inl refl) up there.0 there.1).own
+
+    -- and they are the same
+    pub same_parent : (up : ℕ) → up + OUTER_LEVEL ≤ level_in tree w part → ancestor w' up i ≡ ancestor w up i
+    same_parent zero h = refl
+    same_parent (suc up) h =
+        let lower : up + OUTER_LEVEL ≤ level_in tree w part = omega (arith, h) in
+        let r : Remains (ancestor w up i) = remains (ancestor w up i) (parent_own up lower) in
+        ancestor_up w' up i
+        ∙ ap (λ (j : ℕ). (instance_at w' j).parent) (same_parent up lower)
+        ∙ ap (λ (o : Option Instance). (or_no_instance o).parent) (r.still ∙ sym r.is)
+        ∙ sym (ancestor_up w up i)
+
+    pub chained_stays : (display : List (Option Place)) → IsChained sc w lay i (level_in tree w part) display → IsChained sc w' lay' i (level_in tree w part) display
+    chained_stays display chained up h =
+        chained up h ∙ sym (remains (ancestor w up i) (parent_own up h)).place ∙ ap (λ (j : ℕ). numbered lay' j) (sym (same_parent up h))
+
+    pub same_instance : (j : ℕ) → IsOwn (part ∷ outer) j → instance_at w' j ≡ instance_at w j
+    same_instance j own = let r : Remains j = remains j own in ap or_no_instance (r.still ∙ sym r.is)
+
+    -- the parts weigh what they weighed
+    pub parts_weigh : parts_weight tree w' (part ∷ outer) ≡ parts_weight tree w (part ∷ outer)
+    parts_weigh =
+        same_weight tree w w' (part ∷ outer)
+        (λ j own. record { block = ap (λ (x : Instance). x.block) (same_instance j own); cells = ap (λ (x : Instance). length x.cells) (same_instance j own) })
+
+    still : FrameStill part outer core.below s.frame.cells
+    still = frame_still part outer core.below s.frame a (omega (arith, low, frame_low tree code texts w lay p most part outer core.below s.frame))
+
+    here : instance_at w i ≡ instance_at w' i
+    here = sym (same_instance i (inl refl))
+
+    pub part_stays : Frames tree code texts w' lay' p most (part ∷ outer) core
+    part_stays = (
+      record {
+        frame = still.frame;
+        counted = s.counted ∙ sym (ap length still.cells_are);
+        chained = subst (λ (x : Instance). IsChained sc w' lay' i (level_of (block_numbered sc.blocks x.block)) core.registers.display) here (chained_stays core.registers.display s.chained);
+        segment_is = s.segment_is;
+        asks = s.asks;
+        pc = s.pc;
+        slots = s.slots;
+        stands = subst (λ (x : Instance). StandsFor sc code.formats (texts x.block) (level_of (block_numbered sc.blocks x.block)) most part.rest s.pc s.slots) here s.stands;
+        there = subst (λ (x : Instance). CoreAt sc code (texts x.block) (level_of (block_numbered sc.blocks x.block)) s.pc s.slots core) here s.there;
+        few = s.few;
+      },
+      still.around,
+    )
+
+  -- all parts of a process
+  pub frames_stay : (parts : List Part) (core : Core) → length core.below ≤ limit → Frames tree code texts w lay p most parts core → Frames tree code texts w' lay' p most parts core
+  frames_stay [] core low f = absurd f
+  frames_stay (part ∷ outer) core low f = part_stays part outer core f.0 f.1 low
+
+  pub frames_weigh : (parts : List Part) (core : Core) → length core.below ≤ limit → Frames tree code texts w lay p most parts core → parts_weight tree w' parts ≡ parts_weight tree w parts
+  frames_weigh [] core low f = absurd f
+  frames_weigh (part ∷ outer) core low f = parts_weigh part outer core f.0 f.1 low

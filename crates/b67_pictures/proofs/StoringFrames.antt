@@ -1,0 +1,294 @@
+-- The frames of a process's parts after a store into a cell of one of them: the cell has the value in the world, and its word in the stack.
+use Rattle.std.proofs.Common.{◌≡◌, ◌≢◌, ◌⊎◌, inl, inr, refl, sym, ap, ◌∙◌, subst, ℕ, zero, suc, ◌+◌, ◌<◌, ◌≤◌, List, [], ◌∷◌, ◌++◌, length, Option, Some, arith}
+use Rattle.std.specs.Prelude.{slice_set, reverse}
+use Rattle.b67_list.specs.Numbered.{numbered}
+use Rattle.algol_tree.specs.Blocks.{block_numbered, around}
+use Rattle.algol_tree.specs.Cells.{level_of}
+use Rattle.algol_tree.specs.Plain.{PProgram}
+use Rattle.algol_tree.specs.Scopes.{Scopes, scopes_of}
+use Rattle.algol_meaning.specs.World.{NamedCell, Instance, Part, World, instance_at, or_no_instance, with_instance, ancestor}
+use Rattle.algol_paths.specs.Blocks.{IsSeen, IsInner}
+use Rattle.algol_paths.specs.Texts.{InRest}
+use Rattle.b67_word.specs.declared.Place.{Place}
+use Rattle.b67_word.specs.Word.{Word}
+use Rattle.b67_segment.specs.Operators.{Placed}
+use Rattle.b67_segment.specs.declared.code.Code.{Code}
+use Rattle.b67_table.specs.Chains.{place}
+use Rattle.b67_templates.specs.Cells.{Simple, simple_cells}
+use Rattle.b67_standing.specs.Standing.{StandsFor}
+use Rattle.b67_cores.specs.Slots.{newest, SlotsAre}
+use Rattle.b67_faithful.specs.Weight.{parts_weight}
+use Rattle.b67_faithful.proofs.Contradictions.{some_same}
+use Rattle.b67_pictures.specs.Frames.{CellsAre, IsOwn, IsPlaced, outermost, inside, home_of, Framed, Frame, Waits, Around}
+use Rattle.b67_pictures.proofs.Numbers.{same_or_not, numbered_set, numbered_other}
+use Rattle.b67_pictures.proofs.StackWords.{length-set}
+use Rattle.b67_pictures.proofs.Staying.{IsAsHeavy, same_weight}
+use Rattle.b67_pictures.proofs.Lying.{below_frame, Lies, lies_low, lies_around, StayBelow, home_after, around_stays}
+
+-- ---- lists
+
+-- another item in the first part of a list, or in the second
+pub set_first : {A : Type 0} (first second : List A) (k : ℕ) (y : A) → k < length first → slice_set (first ++ second) k y ≡ slice_set first k y ++ second
+set_first [] second k y low = absurd (omega (arith, low))
+set_first (z ∷ zs) second zero y low = refl
+set_first (z ∷ zs) second (suc k) y low = ap (λ (xs : List _). z ∷ xs) (set_first zs second k y (omega (arith, low)))
+
+pub set_second : {A : Type 0} (first second : List A) (k n : ℕ) (y : A) → k ≡ length first + n → slice_set (first ++ second) k y ≡ first ++ slice_set second n y
+set_second [] second k n y e = ap (λ (m : ℕ). slice_set second m y) (omega (arith, e))
+set_second (z ∷ zs) second zero n y e = absurd (omega (arith, e))
+set_second (z ∷ zs) second (suc k) n y e = ap (λ (xs : List _). z ∷ xs) (set_second zs second k n y (omega (arith, e)))
+
+-- a block's cells have as many words
+pub as_many_words : (ss : List Simple) (cells : List NamedCell) (words : List Word) → CellsAre ss cells words → length words ≡ length cells
+as_many_words [] [] [] are = refl
+as_many_words [] [] (w ∷ words) are = absurd are
+as_many_words [] (c ∷ cells) words are = absurd are
+as_many_words (s ∷ ss) [] words are = absurd are
+as_many_words (s ∷ ss) (c ∷ cells) [] are = absurd are
+as_many_words (s ∷ ss) (c ∷ cells) (w ∷ words) are = ap suc (as_many_words ss cells words are.2)
+
+-- ---- the world after a store in a cell of an instance
+
+-- where parents stay, static parents do
+pub same_ancestors : (w w' : World) → ((j : ℕ) → (instance_at w j).parent ≡ (instance_at w' j).parent) → (up j : ℕ) → ancestor w up j ≡ ancestor w' up j
+same_ancestors w w' parents zero j = refl
+same_ancestors w w' parents (suc up) j = same_ancestors w w' parents up ((instance_at w j).parent) ∙ ap (λ (k : ℕ). ancestor w' up k) (parents j)
+
+module _ (w : World) (i : ℕ) (x : Instance) (at : numbered w.instances i ≡ Some x) (cells : List NamedCell) where
+  abbrev pub changed : Instance
+  changed = record x { cells = cells }
+
+  abbrev pub stored_world : World
+  stored_world = with_instance w i changed
+
+  pub changed_at : numbered stored_world.instances i ≡ Some changed
+  changed_at = numbered_set w.instances i x changed at
+
+  pub others_at : (j : ℕ) → j ≢ i → numbered stored_world.instances j ≡ numbered w.instances j
+  others_at j apart = numbered_other w.instances i j changed (λ e. apart (sym e))
+
+  -- what does not look at the cells is the same of each instance
+  pub same_of : {A : Type 0} (f : Instance → A) → f changed ≡ f x → (j : ℕ) → f (instance_at w j) ≡ f (instance_at stored_world j)
+  same_of f same j = by_number (same_or_not j i)
+    where
+      by_number : (j ≡ i) ⊎ (j ≢ i) → f (instance_at w j) ≡ f (instance_at stored_world j)
+      by_number (inl e) =
+          ap (λ (k : ℕ). f (instance_at w k)) e
+          ∙ ap (λ (o : Option Instance). f (or_no_instance o)) at
+          ∙ sym same
+          ∙ ap (λ (o : Option Instance). f (or_no_instance o)) (sym changed_at)
+          ∙ ap (λ (k : ℕ). f (instance_at stored_world k)) (sym e)
+      by_number (inr n) = ap (λ (o : Option Instance). f (or_no_instance o)) (sym (others_at j n))
+
+  -- with as many cells nothing weighs more or less
+  pub as_heavy : length cells ≡ length x.cells → (j : ℕ) → IsAsHeavy w stored_world j
+  as_heavy many j =
+      record {
+        block = sym (same_of (λ (y : Instance). y.block) refl j);
+        cells = sym (same_of (λ (y : Instance). length y.cells) many j);
+      }
+
+-- ---- the frames after it
+
+-- The instance's frame lies so high in the stack of process p, and the cell lies so far above the frame's two words, at the place k.
+module _ (tree : PProgram) (code : Code) (texts : ℕ → List Placed) (w : World) (lay : List Place) (p most : ℕ) (i : ℕ) (x : Instance) (at : numbered w.instances i ≡ Some x) (with_cells : List NamedCell)
+    (high : ℕ) (laid : numbered lay i ≡ Some (place p high)) (far k : ℕ) (place_is : k ≡ high + 2 + far) (word : Word) (many : length with_cells ≡ length x.cells) (short : far < length x.cells)
+    (changes : (words : List Word) → CellsAre (simple_cells (block_numbered (scopes_of tree).blocks x.block)) x.cells words →
+    CellsAre (simple_cells (block_numbered (scopes_of tree).blocks x.block)) with_cells (slice_set words far word)) where
+  abbrev sc : Scopes
+  sc = scopes_of tree
+
+  abbrev w' : World
+  w' = stored_world w i x at with_cells
+
+  abbrev Before : Part → List Part → List Word → Type 0
+  Before part outer words = Frame tree code texts w lay p most part outer words
+
+  same_height : (m n : ℕ) → Some (place p m) ≡ Some (place p n) → m ≡ n
+  same_height m n e = ap (λ (f : Place). f.at) (some_same e)
+
+  -- a frame of the instance lies there
+  frame_high : (part : Part) (outer : List Part) (words : List Word) (f : Before part outer words) → part.instance ≡ i → length f.lower ≡ high
+  frame_high part outer words f e = same_height (length f.lower) high (sym f.framed.laid ∙ ap (λ (j : ℕ). numbered lay j) e ∙ laid)
+
+  frame_is : (part : Part) (outer : List Part) (words : List Word) (f : Before part outer words) → part.instance ≡ i → f.framed.instance ≡ x
+  frame_is part outer words f e = some_same (sym f.framed.is ∙ ap (λ (j : ℕ). numbered w.instances j) e ∙ at)
+
+  frame_cells : (part : Part) (outer : List Part) (words : List Word) (f : Before part outer words) → part.instance ≡ i → length f.cells ≡ length x.cells
+  frame_cells part outer words f e =
+      as_many_words (simple_cells (block_numbered sc.blocks f.framed.instance.block)) f.framed.instance.cells f.cells f.framed.cells_are
+      ∙ ap (λ (y : Instance). length y.cells) (frame_is part outer words f e)
+
+  -- so the cell lies among the words of the parts
+  cell_low : (parts : List Part) (words : List Word) → Lies tree code texts w lay p most parts i words → (k < length words) × (high + 2 ≤ length words)
+  cell_low parts words l =
+      let lies : length l.frame.lower + 2 + length l.frame.cells ≤ length words = lies_low tree code texts w lay p most parts i words l in
+      let height : length l.frame.lower ≡ high = frame_high l.part l.outer l.front l.frame l.instance_is in
+      let as_many : length l.frame.cells ≡ length x.cells = frame_cells l.part l.outer l.front l.frame l.instance_is in
+      (omega (arith, lies, height, as_many, short, place_is), omega (arith, lies, height))
+
+  stays : StayBelow w w' lay lay p high
+  stays =
+      record {
+        instances = λ j there y e mine lies lower.
+            others_at w i x at with_cells j (λ (same : j ≡ i). let height : there ≡ high = same_height there high (sym lies ∙ ap (λ (n : ℕ). numbered lay n) same ∙ laid) in omega (arith, height, lower)) ∙ e;
+        places = λ j f e. e;
+      }
+
+  placed_so : (outer : List Part) (y z : Instance) → y.parent ≡ z.parent → y.block ≡ z.block → IsPlaced sc w lay outer y → IsPlaced sc w' lay outer z
+  placed_so outer y z parent block (outermost none_up alone) = outermost (sym parent ∙ none_up) (ap (λ (b : ℕ). around sc.blocks b) (sym block) ∙ alone)
+  placed_so outer y z parent block (inside own next) =
+      inside (subst (λ (j : ℕ). IsOwn outer j) parent own)
+      (ap (λ (b : ℕ). around sc.blocks b) (sym block)
+      ∙ next
+      ∙ ap (λ (b : ℕ). b ∷ around sc.blocks b) (same_of w i x at with_cells (λ (y : Instance). y.block) refl y.parent)
+      ∙ ap (λ (j : ℕ). (instance_at w' j).block ∷ around sc.blocks ((instance_at w' j).block)) parent)
+
+  -- a frame after the store, and the parts around it
+  pub record Stored (part : Part) (outer : List Part) (words : List Word) (f : Frame tree code texts w lay p most part outer words) : Type 0 where
+    pub frame : Frame tree code texts (stored_world w i x at with_cells) lay p most part outer (slice_set words k word)
+    pub low : k < length words
+    pub lower : length frame.lower ≡ length f.lower
+    pub mark : frame.mark ≡ f.mark
+    pub control : frame.control ≡ f.control
+    pub cells : length frame.cells ≡ length f.cells
+    pub around : Around tree code texts (stored_world w i x at with_cells) lay p most outer frame.lower frame.mark frame.control
+
+  text_so : (part : Part) (outer : List Part) (words : List Word) (f : Before part outer words) →
+      InRest (IsSeen sc ((instance_at w' part.instance).block)) (IsInner sc ((instance_at w' part.instance).block)) part.rest
+  text_so part outer words f =
+      subst (λ (b : ℕ). InRest (IsSeen sc b) (IsInner sc b) part.rest) (same_of w i x at with_cells (λ (y : Instance). y.block) refl part.instance) f.text
+
+  -- the frame of the instance
+  own_framed : (part : Part) (outer : List Part) (words : List Word) (f : Before part outer words) → part.instance ≡ i →
+      Framed sc w' lay p part.instance outer (length f.lower) f.mark f.control (slice_set f.cells far word)
+  own_framed part outer words f e =
+      let is : f.framed.instance ≡ x = frame_is part outer words f e in
+      record {
+        instance = changed w i x at with_cells;
+        is = ap (λ (j : ℕ). numbered w'.instances j) e ∙ changed_at w i x at with_cells;
+        own = ap (λ (y : Instance). y.process) (sym is) ∙ f.framed.own;
+        known = subst (λ (y : Instance). y.block < length sc.blocks) is f.framed.known;
+        laid = f.framed.laid;
+        cells_are = changes f.cells (subst (λ (y : Instance). CellsAre (simple_cells (block_numbered sc.blocks y.block)) y.cells f.cells) is f.framed.cells_are);
+        placed = placed_so outer f.framed.instance (changed w i x at with_cells) (ap (λ (y : Instance). y.parent) is) (ap (λ (y : Instance). y.block) is) f.framed.placed;
+        home = f.framed.home;
+        linked = subst (λ (y : Instance). home_of sc w' lay y.parent ≡ Some f.framed.home) is (home_after tree code texts w w' lay lay p most high stays f.framed.instance.parent f.framed.home f.framed.linked);
+        df = f.framed.df;
+        mark_is = f.framed.mark_is;
+        back = f.framed.back;
+        control_is = f.framed.control_is;
+        level_is = f.framed.level_is ∙ ap (λ (y : Instance). level_of (block_numbered sc.blocks y.block)) is;
+      }
+
+  -- one above it
+  other_framed : (part : Part) (outer : List Part) (words : List Word) (f : Before part outer words) → part.instance ≢ i →
+      Framed sc w' lay p part.instance outer (length (slice_set f.lower k word)) f.mark f.control f.cells
+  other_framed part outer words f apart =
+      record {
+        instance = f.framed.instance;
+        is = others_at w i x at with_cells part.instance apart ∙ f.framed.is;
+        own = f.framed.own;
+        known = f.framed.known;
+        laid = f.framed.laid ∙ ap (λ (n : ℕ). Some (place p n)) (sym (length-set f.lower k word));
+        cells_are = f.framed.cells_are;
+        placed = placed_so outer f.framed.instance f.framed.instance refl refl f.framed.placed;
+        home = f.framed.home;
+        linked = home_after tree code texts w w' lay lay p most high stays f.framed.instance.parent f.framed.home f.framed.linked;
+        df = f.framed.df;
+        mark_is = f.framed.mark_is;
+        back = f.framed.back;
+        control_is = f.framed.control_is;
+        level_is = f.framed.level_is;
+      }
+
+  stored_by : (part : Part) (outer : List Part) (words : List Word) (f : Before part outer words) → Around tree code texts w lay p most outer f.lower f.mark f.control →
+      (IsOwn outer i → Around tree code texts w' lay p most outer (slice_set f.lower k word) f.mark f.control) → IsOwn (part ∷ outer) i → Stored part outer words f
+  stored_by part outer words f a deeper (inl e) =
+      let height : length f.lower ≡ high = frame_high part outer words f e in
+      record {
+        frame = record {
+          owns = f.owns;
+          lower = f.lower;
+          mark = f.mark;
+          control = f.control;
+          cells = slice_set f.cells far word;
+          words_are = ap (λ (ws : List Word). slice_set ws k word) f.words_are
+              ∙ set_second f.lower (f.mark ∷ f.control ∷ f.cells) k (suc (suc far)) word (omega (arith, place_is, height));
+          framed = own_framed part outer words f e;
+          text = text_so part outer words f;
+        };
+        low = omega (arith, place_is, height, short, frame_cells part outer words f e, below_frame words f.lower f.mark f.control f.cells f.words_are);
+        lower = refl;
+        mark = refl;
+        control = refl;
+        cells = length-set f.cells far word;
+        around = around_stays tree code texts w w' lay lay p most high stays outer f.lower f.mark f.control (omega (arith, height)) a;
+      }
+  stored_by part outer words f a deeper (inr o) =
+      let lies : (k < length f.lower) × (high + 2 ≤ length f.lower) = cell_low outer f.lower (lies_around tree code texts w lay p most outer f.lower f.mark f.control a i o) in
+      record {
+        frame = record {
+          owns = f.owns;
+          lower = slice_set f.lower k word;
+          mark = f.mark;
+          control = f.control;
+          cells = f.cells;
+          words_are = ap (λ (ws : List Word). slice_set ws k word) f.words_are
+              ∙ set_first f.lower (f.mark ∷ f.control ∷ f.cells) k word lies.0;
+          framed = other_framed part outer words f (λ (e : part.instance ≡ i). let height : length f.lower ≡ high = frame_high part outer words f e in omega (arith, height, lies.1));
+          text = text_so part outer words f;
+        };
+        low = omega (arith, lies.0, below_frame words f.lower f.mark f.control f.cells f.words_are);
+        lower = length-set f.lower k word;
+        mark = refl;
+        control = refl;
+        cells = refl;
+        around = deeper o;
+      }
+
+  -- the parts around
+  pub around_stored : (parts : List Part) (lower : List Word) (mark control : Word) → Around tree code texts w lay p most parts lower mark control → IsOwn parts i →
+      Around tree code texts (stored_world w i x at with_cells) lay p most parts (slice_set lower k word) mark control
+  around_stored [] lower mark control a own = absurd own
+  around_stored (part ∷ outer) lower mark control a own =
+      let s : Waits tree code texts w lay p most part outer lower mark control = a.0 in
+      let g : Stored part outer s.below s.frame = stored_by part outer s.below s.frame a.1 (λ o. around_stored outer s.frame.lower s.frame.mark s.frame.control a.1 o) own in
+      let block_is : (instance_at w part.instance).block ≡ (instance_at w' part.instance).block = same_of w i x at with_cells (λ (y : Instance). y.block) refl part.instance in
+      let as_high : length s.below ≡ length (slice_set s.below k word) = sym (length-set s.below k word) in (
+        record {
+          below = slice_set s.below k word;
+          words = s.words;
+          lower_is = ap (λ (ws : List Word). slice_set ws k word) s.lower_is ∙ set_first s.below (reverse s.words) k word g.low;
+          frame = g.frame;
+          waits = s.waits;
+          pc = s.pc;
+          slots = s.slots;
+          stands = subst (λ (b : ℕ). StandsFor sc code.formats (texts b) (level_of (block_numbered sc.blocks b)) most part.rest s.pc s.slots) block_is s.stands;
+          few = s.few;
+          words_are = subst (λ (b : ℕ). SlotsAre sc (level_of (block_numbered sc.blocks b)) (length g.frame.lower) (length (slice_set s.below k word)) s.slots s.words) block_is
+              (subst (λ (n : ℕ). SlotsAre sc (level_of (block_numbered sc.blocks ((instance_at w part.instance).block))) (length g.frame.lower) n s.slots s.words) as_high
+              (subst (λ (n : ℕ). SlotsAre sc (level_of (block_numbered sc.blocks ((instance_at w part.instance).block))) n (length s.below) s.slots s.words) (sym g.lower) s.words_are));
+          home = s.home;
+          df = s.df;
+          mark_is = s.mark_is;
+          far = ap (λ (n : ℕ). s.df + newest n (length (slice_set s.below k word)) s.slots) g.lower
+              ∙ ap (λ (n : ℕ). s.df + newest (length s.frame.lower) n s.slots) (length-set s.below k word)
+              ∙ s.far
+              ∙ sym (length-set lower k word);
+          back = s.back;
+          control_is = s.control_is;
+          segment_is = s.segment_is;
+          place_is = s.place_is;
+          level_is = s.level_is ∙ ap (λ (b : ℕ). level_of (block_numbered sc.blocks b)) block_is;
+          cells_are = s.cells_are ∙ sym g.cells;
+          light = subst (λ (n : ℕ). n + most + 3 ≤ parts_weight tree w' (part ∷ outer)) as_high
+              (subst (λ (n : ℕ). length s.below + most + 3 ≤ n) (sym (same_weight tree w w' (part ∷ outer) (λ j own_part. as_heavy w i x at with_cells many j))) s.light);
+        },
+        g.around,
+      )
+
+  -- the innermost frame, and the parts around it
+  pub frame_stored : (part : Part) (outer : List Part) (words : List Word) (f : Frame tree code texts w lay p most part outer words) → Around tree code texts w lay p most outer f.lower f.mark f.control →
+      IsOwn (part ∷ outer) i → Stored part outer words f
+  frame_stored part outer words f a own = stored_by part outer words f a (λ o. around_stored outer f.lower f.mark f.control a o) own

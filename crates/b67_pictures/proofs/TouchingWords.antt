@@ -1,0 +1,292 @@
+-- The words of a process's stack lead nowhere but to that stack, and to the system's.
+use Rattle.std.proofs.Common.{◌≡◌, ◌≢◌, ◌⊎◌, inl, inr, refl, sym, ap, ◌∙◌, subst, ℕ, zero, suc, ◌+◌, ◌<◌, ◌≤◌, ◌^◌, List, [], ◌∷◌, ◌++◌, length, Option, Some, None, Bool, true, false, arith, lit<, length-append}
+use Rattle.std.specs.Prelude.{if◌then◌else◌, slice_get, reverse}
+use Rattle.std.proofs.lemmas.List.{length-reverse}
+use Rattle.b67_list.specs.Numbered.{numbered}
+use Rattle.algol_tree.specs.declared.TheConstants.{MOST_BLOCK_CELLS}
+use Rattle.algol_tree.specs.declared.tree.Kind.{Kind}
+use Rattle.algol_tree.specs.declared.tree.Named.{Named}
+use Rattle.algol_tree.specs.Blocks.{Block, block_numbered}
+use Rattle.algol_tree.specs.Cells.{level_of}
+use Rattle.algol_tree.specs.Plain.{PProgram}
+use Rattle.algol_tree.specs.Scopes.{Scopes, scopes_of, use_of}
+use Rattle.algol_tree.specs.Sorts.{same_name}
+use Rattle.algol_meaning.specs.Value.{Value, Cell, simple, event, array, named, reference as refers}
+use Rattle.algol_meaning.specs.World.{NamedCell, Instance, Part, World, or_no_instance}
+use Rattle.b67_word.specs.declared.Place.{Place}
+use Rattle.b67_word.specs.Word.{Word}
+use Rattle.b67_control.specs.Kind as kind
+use Rattle.b67_control.specs.Kind.{kind_of}
+use Rattle.b67_control.specs.declared.Mscw.{Mscw}
+use Rattle.b67_control.specs.declared.Pcw.{Pcw}
+use Rattle.b67_control.specs.declared.Rcw.{Rcw}
+use Rattle.b67_control.specs.Control.{as_mscw, as_rcw, pcw_word}
+use Rattle.b67_control.proofs.ControlLaws.{as_sirw-other, as_rcw-rcw_word, Fits-as_rcw, kind_of-irw_word, mscw_laws, rcw_laws, as_mscw-mscw_word}
+use Rattle.b67_ops.specs.declared.Couple.{Couple}
+use Rattle.b67_ops.specs.declared.intrinsic.Intrinsic.{Intrinsic}
+use Rattle.b67_ops.specs.declared.intrinsic.Intrinsic.TheVariants as names
+use Rattle.b67_ops.specs.Intrinsics.{number_of, couple_of_intrinsic, intrinsics}
+use Rattle.b67_segment.specs.Operators.{Placed}
+use Rattle.b67_segment.specs.declared.code.Code.{Code}
+use Rattle.b67_store.specs.Store.{stack_at, words_of, words_or, word_at, stack_limit}
+use Rattle.b67_table.specs.Beginning.{system_stack, intrinsic_words}
+use Rattle.b67_table.specs.Chains.{place}
+use Rattle.b67_table.specs.Image.{Image}
+use Rattle.b67_table.specs.PrivateRows.{open_mark}
+use Rattle.b67_table.specs.PrivateRows as rows
+use Rattle.b67_templates.specs.Cells.{Simple, Found, simple_cells, found_from, IsVariable}
+use Rattle.b67_standing.specs.Stepping.{Slot, operand, reference, intrinsic, control, mark}
+use Rattle.b67_cores.specs.Cores.{Core, size, stack_of, HasCore}
+use Rattle.b67_cores.specs.Slots.{ValueIs, SlotsAre}
+use Rattle.b67_cores.proofs.Moving.{slots_length}
+use Rattle.b67_faithful.proofs.Contradictions.{some_same}
+use Rattle.b67_fitting.specs.Nested.{AreNested}
+use Rattle.b67_pictures.specs.Frames.{CellIs, CellsAre, IsPlaced, outermost, inside, home_of, Frame, Stands, Waits, Around, level_at}
+use Rattle.b67_pictures.proofs.Lying.{Lies, lies_around}
+use Rattle.b67_pictures.proofs.Rows.{words_are}
+use Rattle.b67_pictures.proofs.StackWords.{reverse-cons}
+use Rattle.b67_pictures.proofs.Touching.{Near}
+use Rattle.b67_pictures.proofs.TouchingLooks.{LeadsNear, AllLeadNear}
+use Rattle.b67_pictures.proofs.Words.{value_tag, mark_read}
+
+-- the number of an intrinsic fits a reference
+pub numbers_small : (name : Intrinsic) → number_of name < 2 ^ 14
+numbers_small names.GoTo = lit< tt
+numbers_small names.Select = lit< tt
+numbers_small names.Arrays = lit< tt
+numbers_small names.Event = lit< tt
+numbers_small names.Start = lit< tt
+numbers_small names.Write = lit< tt
+numbers_small names.Wait = lit< tt
+numbers_small names.Cause = lit< tt
+numbers_small names.Reset = lit< tt
+numbers_small names.Happened = lit< tt
+numbers_small names.Procure = lit< tt
+numbers_small names.Liberate = lit< tt
+
+-- ---- kinds of words
+
+tag_operand : (w : Word) → w.tag ≡ 0 → kind_of w ≡ kind.operand
+unfolding kind_of
+tag_operand w e = rw e refl
+
+tag_control : (w : Word) → w.tag ≡ 7 → kind_of w ≡ kind.pcw
+unfolding kind_of
+tag_control w e = rw e refl
+
+control_tag : (c : Pcw) → (pcw_word c).tag ≡ 7
+unfolding pcw_word
+control_tag c = refl
+
+pub pcw_kind : (c : Pcw) → kind_of (pcw_word c) ≡ kind.pcw
+pcw_kind c = tag_control (pcw_word c) (control_tag c)
+
+module _ (p : ℕ) where
+  -- a word that is neither a mark nor a reference to a cell of a stack
+  leads_else : (w : Word) (k : kind.Kind) → kind_of w ≡ k → k ≢ kind.mscw → k ≢ kind.sirw → LeadsNear p w
+  leads_else w k is no_mark no_cell =
+      record { no_sirw = as_sirw-other w (λ e. no_cell (sym is ∙ e)); link = λ m e. absurd (no_mark (sym is ∙ mscw_laws.kind w m e)) }
+
+  value_leads : (v : Value) (w : Word) → ValueIs v w → LeadsNear p w
+  value_leads v w is = leads_else w kind.operand (tag_operand w (value_tag v w is)) (λ e. cc) (λ e. cc)
+
+  control_leads : (c : Pcw) → LeadsNear p (pcw_word c)
+  control_leads c = leads_else (pcw_word c) kind.pcw (pcw_kind c) (λ e. cc) (λ e. cc)
+
+  back_leads : (w : Word) (back : Rcw) → as_rcw w ≡ Some back → LeadsNear p w
+  back_leads w back e = leads_else w kind.rcw (rcw_laws.kind w back e) (λ e. cc) (λ e. cc)
+
+  reference_leads : (c : Couple) → c.level < 32 → c.index < 2 ^ 14 → LeadsNear p (rows.reference c)
+  reference_leads c a b = leads_else (rows.reference c) kind.irw (kind_of-irw_word (record { level = c.level; index = c.index }) (a, (b, tt))) (λ e. cc) (λ e. cc)
+
+  mark_leads : (w : Word) (m : Mscw) → as_mscw w ≡ Some m → Near p m.stack → LeadsNear p w
+  mark_leads w m e near =
+      record {
+        no_sirw = as_sirw-other w (λ k. let is = sym (mscw_laws.kind w m e) ∙ k in cc);
+        link = λ n f. subst (λ (x : Mscw). Near p x.stack) (some_same (sym e ∙ f)) near;
+      }
+
+  open_leads : (df : ℕ) → df < 2 ^ 16 → LeadsNear p (open_mark df)
+  open_leads df low = mark_leads (open_mark df) (record { entered = false; stack = 0; displacement = 0; df = df }) (mark_read df low) (inr refl)
+
+  -- ---- lists of words
+
+  abbrev pub AllLead : List Word → Type 0
+  AllLead [] = Unit {0}
+  AllLead (w ∷ ws) = LeadsNear p w × AllLead ws
+
+  lead_both : (xs ys : List Word) → AllLead xs → AllLead ys → AllLead (xs ++ ys)
+  lead_both [] ys a b = b
+  lead_both (x ∷ xs) ys a b = (a.0, lead_both xs ys a.1 b)
+
+  lead_turned : (xs : List Word) → AllLead xs → AllLead (reverse xs)
+  lead_turned [] a = tt
+  lead_turned (x ∷ xs) a = subst AllLead (sym (reverse-cons x xs)) (lead_both (reverse xs) (x ∷ []) (lead_turned xs a.1) (a.0, tt))
+
+  lead_at : (xs : List Word) (n : ℕ) (w : Word) → AllLead xs → slice_get xs n ≡ Some w → LeadsNear p w
+  lead_at [] n w a e = cc
+  lead_at (x ∷ xs) zero w a e = subst (LeadsNear p) (some_same e) a.0
+  lead_at (x ∷ xs) (suc n) w a e = lead_at xs n w a.1 e
+
+  -- ---- the system's stack
+
+  intrinsics_lead : (n : ℕ) (more : List Intrinsic) → AllLead (intrinsic_words n more)
+  intrinsics_lead n [] = tt
+  intrinsics_lead n (name ∷ more) =
+      (control_leads (record { intrinsic = true; names = false; segment = 0; psr = 0; pir = 0; level = 0; number = n }), intrinsics_lead (n + 1) more)
+
+  system_leads : AllLead system_stack
+  system_leads =
+      let m : Mscw = record { entered = true; stack = 0; displacement = 0; df = 0 } in
+      let c : Rcw = record { segment = 0; psr = 0; pir = 0; caller_level = 0; caller_cells = 0; own_level = 0 } in (
+        mark_leads _ m (as_mscw-mscw_word m (lit< tt, (lit< tt, (lit< tt, tt)))) (inr refl),
+        (back_leads _ c (as_rcw-rcw_word c (lit< tt, (lit< tt, (lit< tt, (lit< tt, (lit< tt, (lit< tt, tt))))))), intrinsics_lead 2 intrinsics),
+      )
+
+  -- ---- cells
+
+  cell_leads : (o : Option Kind) (c : Cell) (w : Word) → CellIs o c w → LeadsNear p w
+  cell_leads None c w is = absurd is
+  cell_leads (Some k) (simple v) w is = value_leads v w is.1
+  cell_leads (Some k) (event e) w is = absurd is
+  cell_leads (Some k) (array a) w is = absurd is
+  cell_leads (Some k) (named n) w is = absurd is
+  cell_leads (Some k) (refers r) w is = absurd is
+
+  cells_lead : (ss : List Simple) (cells : List NamedCell) (words : List Word) → CellsAre ss cells words → AllLead words
+  cells_lead [] [] [] are = tt
+  cells_lead [] [] (w ∷ words) are = absurd are
+  cells_lead [] (c ∷ cells) words are = absurd are
+  cells_lead (s ∷ ss) [] words are = absurd are
+  cells_lead (s ∷ ss) (c ∷ cells) [] are = absurd are
+  cells_lead (s ∷ ss) (c ∷ cells) (w ∷ words) are = (cell_leads s.kind c.cell w are.1, cells_lead ss cells words are.2)
+
+-- ---- references to variables
+
+found_low : (k : ℕ) (cells : List Simple) (name : List ℕ) (f : Found) → found_from k cells name ≡ Some f → f.number < k + length cells
+found_low k [] name f e = cc
+found_low k (c ∷ cells) name f e = by_name (same_name c.name name) e (λ h. found_low (k + 1) cells name f h)
+  where
+    by_name : (b : Bool) → (if b then Some (record { number = k; cell = c }) else found_from (k + 1) cells name) ≡ Some f → (found_from (k + 1) cells name ≡ Some f → f.number < k + 1 + length cells) → f.number < k + length (c ∷ cells)
+    by_name true h later = omega (arith, ap (λ (x : Found). x.number) (some_same h))
+    by_name false h later = omega (arith, later h)
+
+-- a number has a block, or the block that it stands for has no cells
+block_or_none : (bs : List Block) (b : ℕ) → (b < length bs) ⊎ (length (simple_cells (block_numbered bs b)) ≡ 0)
+block_or_none [] b = inr refl
+block_or_none (x ∷ bs) zero = inl (omega arith)
+block_or_none (x ∷ bs) (suc b) = later (block_or_none bs b)
+  where
+    later : (b < length bs) ⊎ (length (simple_cells (block_numbered bs b)) ≡ 0) → (suc b < length (x ∷ bs)) ⊎ (length (simple_cells (block_numbered (x ∷ bs) (suc b))) ≡ 0)
+    later (inl low) = inl (omega (arith, low))
+    later (inr e) = inr e
+
+module _ (sc : Scopes) (nested : AreNested sc) where
+  few_cells : (b : ℕ) → length (simple_cells (block_numbered sc.blocks b)) ≤ MOST_BLOCK_CELLS
+  few_cells b = by_number (block_or_none sc.blocks b)
+    where
+      by_number : (b < length sc.blocks) ⊎ (length (simple_cells (block_numbered sc.blocks b)) ≡ 0) → length (simple_cells (block_numbered sc.blocks b)) ≤ MOST_BLOCK_CELLS
+      by_number (inl low) = (nested.each b low).few
+      by_number (inr e) = omega (arith, e)
+
+  -- the couple of a variable fits a reference
+  pub couple_fits : (level : ℕ) (n : Named) (k : Kind) (c : Couple) → IsVariable sc level n k c → level < 32 → (c.level < 32) × (c.index < 2 ^ 14)
+  couple_fits level n k c v known =
+      let low : v.found.number < 0 + length (simple_cells (block_numbered sc.blocks ((use_of sc n).block))) = found_low 0 (simple_cells (block_numbered sc.blocks ((use_of sc n).block))) n.name v.found v.there in
+      let few : length (simple_cells (block_numbered sc.blocks ((use_of sc n).block))) ≤ 400 = few_cells ((use_of sc n).block) in
+      (omega (arith, v.level_is, known), omega (arith, v.index_is, low, few))
+
+  -- ---- slots
+
+  module _ (p level home base : ℕ) (known : level < 32) where
+    slots_lead : (slots : List Slot) (words : List Word) → SlotsAre sc level home base slots words → base + length slots ≤ 2 ^ 16 → AllLead p words
+    slots_lead [] [] are room = tt
+    slots_lead [] (w ∷ ws) are room = absurd are
+    slots_lead (slot ∷ slots) [] are room = absurd are
+    slots_lead (operand v ∷ slots) (w ∷ ws) are room = (value_leads p v w are.0, slots_lead slots ws are.1 (omega (arith, room)))
+    slots_lead (reference n ∷ slots) (w ∷ ws) are room =
+        let fits : (are.0.1.level < 32) × (are.0.1.index < 2 ^ 14) = couple_fits level n are.0.0 are.0.1 are.0.2 known in
+        (subst (LeadsNear p) (sym are.0.3) (reference_leads p are.0.1 fits.0 fits.1), slots_lead slots ws are.1 (omega (arith, room)))
+    slots_lead (intrinsic i ∷ slots) (w ∷ ws) are room =
+        (subst (LeadsNear p) (sym are.0) (reference_leads p (couple_of_intrinsic i) (lit< tt) (numbers_small i)), slots_lead slots ws are.1 (omega (arith, room)))
+    slots_lead (control c ∷ slots) (w ∷ ws) are room = (subst (LeadsNear p) (sym are.0) (control_leads p c), slots_lead slots ws are.1 (omega (arith, room)))
+    slots_lead (mark ∷ slots) (w ∷ ws) are room = (subst (LeadsNear p) (sym are.0) (open_leads p _ (omega (arith, room))), slots_lead slots ws are.1 (omega (arith, room)))
+
+-- ---- the frames of a process
+
+module _ (tree : PProgram) (code : Code) (texts : ℕ → List Placed) (nested : AreNested (scopes_of tree)) (w : World) (lay : List Place) (p most : ℕ) where
+  abbrev sc : Scopes
+  sc = scopes_of tree
+
+  abbrev Outer : List Part → List Word → Word → Word → Type 0
+  Outer parts lower m c = Around tree code texts w lay p most parts lower m c
+
+  -- the frame of an instance that lies in these parts
+  laid_near : (outer : List Part) (lower : List Word) (m c : Word) → Outer outer lower m c → (i : ℕ) (home : Place) → numbered lay i ≡ Some home → Lies tree code texts w lay p most outer i lower → Near p home.stack
+  laid_near outer lower m c a i home e l =
+      let at : numbered lay i ≡ Some (place p (length l.frame.lower)) = ap (numbered lay) (sym l.instance_is) ∙ l.frame.framed.laid in
+      inl (ap (λ (x : Place). x.stack) (some_same (sym e ∙ at)))
+
+  root_near : (home : Place) → Some (place 0 0) ≡ Some home → Near p home.stack
+  root_near home e = inr (sym (ap (λ (x : Place). x.stack) (some_same e)))
+
+  home_near : (outer : List Part) (lower : List Word) (m c : Word) → Outer outer lower m c → (x : Instance) → IsPlaced sc w lay outer x → (home : Place) → home_of sc w lay x.parent ≡ Some home → Near p home.stack
+  home_near outer lower m c a x (outermost none_up alone) home e = root_near home (sym (ap (home_of sc w lay) none_up) ∙ e)
+  home_near outer lower m c a x (inside own next) home e = by_parent x.parent e (lies_around tree code texts w lay p most outer lower m c a x.parent own)
+    where
+      by_parent : (i : ℕ) → home_of sc w lay i ≡ Some home → Lies tree code texts w lay p most outer i lower → Near p home.stack
+      by_parent zero f l = root_near home f
+      by_parent (suc i) f l = laid_near outer lower m c a (suc i) home f l
+
+  frame_leads : (part : Part) (outer : List Part) (words : List Word) (f : Frame tree code texts w lay p most part outer words) → Outer outer f.lower f.mark f.control → AllLead p f.lower → AllLead p words
+  frame_leads part outer words f a low =
+      let near : Near p f.framed.home.stack = home_near outer f.lower f.mark f.control a f.framed.instance f.framed.placed f.framed.home f.framed.linked in
+      subst (AllLead p) (sym f.words_are)
+      (lead_both p f.lower (f.mark ∷ f.control ∷ f.cells) low (
+        mark_leads p f.mark _ f.framed.mark_is near,
+        (
+          back_leads p f.control f.framed.back f.framed.control_is,
+          cells_lead p (simple_cells (block_numbered sc.blocks f.framed.instance.block)) f.framed.instance.cells f.cells f.framed.cells_are,
+        ),
+      ))
+
+  around_leads : (parts : List Part) (lower : List Word) (m c : Word) → Outer parts lower m c → length lower ≤ 2 ^ 16 → AllLead p lower
+  around_leads [] lower m c a room = subst (AllLead p) (sym a.0) tt
+  around_leads (part ∷ outer) lower m c a room =
+      let s : Waits tree code texts w lay p most part outer lower m c = a.0 in
+      let long : length lower ≡ length s.below + length s.words = ap length s.lower_is ∙ length-append s.below (reverse s.words) ∙ ap (λ (n : ℕ). length s.below + n) (length-reverse s.words) in
+      let lowest : length s.below ≡ length s.frame.lower + (2 + length s.frame.cells) = ap length s.frame.words_are ∙ length-append s.frame.lower (s.frame.mark ∷ s.frame.control ∷ s.frame.cells) ∙ omega arith in
+      let many : length s.words ≡ length s.slots = slots_length sc (level_at tree code texts w lay p most part) (length s.frame.lower) (length s.below) s.slots s.words s.words_are in
+      let known : level_at tree code texts w lay p most part < 32 = omega (arith, s.level_is, (Fits-as_rcw c s.control_is).1.1.1.0) in
+      subst (AllLead p) (sym s.lower_is)
+      (lead_both p s.below (reverse s.words)
+      (frame_leads part outer s.below s.frame a.1 (around_leads outer s.frame.lower s.frame.mark s.frame.control a.1 (omega (arith, room, long, lowest))))
+      (lead_turned p s.words (slots_lead sc nested p (level_at tree code texts w lay p most part) (length s.frame.lower) (length s.below) known s.slots s.words s.words_are (omega (arith, room, long, many)))))
+
+  module _ (part : Part) (outer : List Part) (core : Core) (s : Stands tree code texts w lay p most part outer core) (a : Outer outer s.frame.lower s.frame.mark s.frame.control) where
+    pub level_known : level_at tree code texts w lay p most part < 32
+    level_known =
+        let same : level_at tree code texts w lay p most part ≡ level_of (block_numbered sc.blocks s.frame.framed.instance.block) =
+        ap (λ (o : Option Instance). level_of (block_numbered sc.blocks ((or_no_instance o).block))) s.frame.framed.is in
+        omega (arith, same, s.frame.framed.level_is, (Fits-as_rcw s.frame.control s.frame.framed.control_is).1.1.1.1.1.0)
+
+    core_leads : size core ≤ stack_limit → AllLead p (stack_of core)
+    core_leads room =
+        let lowest : length core.below ≡ length s.frame.lower + (2 + length s.frame.cells) = ap length s.frame.words_are ∙ length-append s.frame.lower (s.frame.mark ∷ s.frame.control ∷ s.frame.cells) ∙ omega arith in
+        let many : length core.words ≡ length s.slots =
+        slots_length sc (level_at tree code texts w lay p most part) _ (length core.below) s.slots core.words s.there.words_are in
+        lead_both p core.below (reverse core.words)
+        (frame_leads part outer core.below s.frame a (around_leads outer s.frame.lower s.frame.mark s.frame.control a (omega (arith, room, lowest))))
+        (lead_turned p core.words (slots_lead sc nested p (level_at tree code texts w lay p most part) _ (length core.below) level_known s.slots core.words s.there.words_are (omega (arith, room, many))))
+
+    -- so do all words of the two stacks, in an image in which the process stands so
+    pub image_leads : (img : Image) → HasCore img p core → stack_at img.stacks 0 ≡ Some system_stack → size core ≤ stack_limit → AllLeadNear p img
+    image_leads img has system room = record { each = by_stack }
+      where
+        by_stack : (x : Place) (word : Word) → Near p x.stack → word_at img.stacks x ≡ Some word → LeadsNear p word
+        by_stack x word (inl own) e =
+            let words : words_of img.stacks x.stack ≡ stack_of core = ap (words_of img.stacks) (own ∙ sym has.own) ∙ words_are img p core has in
+            lead_at p (stack_of core) x.at word (core_leads room) (sym (ap (λ (ws : List Word). slice_get ws x.at) words) ∙ e)
+        by_stack x word (inr none) e =
+            let words : words_of img.stacks x.stack ≡ system_stack = ap (words_of img.stacks) none ∙ ap words_or system in
+            lead_at p system_stack x.at word (system_leads p) (sym (ap (λ (ws : List Word). slice_get ws x.at) words) ∙ e)
