@@ -16,4 +16,8 @@ pub mod Listed
 pub mod Tables
 pub mod Zeros
 pub mod Variables
+pub mod Turns
+pub mod Levels
+pub mod Blocks
+pub mod Blocked
 pub mod Outer

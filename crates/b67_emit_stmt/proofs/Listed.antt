@@ -54,6 +54,9 @@ module _ (s : table.Scopes) (sc : Scopes) (level : ℕ) (xs : List Stmt) (i : �
       let E : ℕ → Type 0 = λ n. d.exits.items ≡ take n b.exits.items in
       closed h (subst A at aimed) (subst E at es) fs
 
+  pub done_set : d.out.level ≡ a.out.level
+  done_set = done.code.level
+
   pub done_level : level_set d.out ≡ level_set a.out
   done_level = level_after done
 

@@ -17,12 +17,12 @@ use Rattle.b67_segment.specs.Building.{Built, level_set}
 use Rattle.b67_templates.specs.Code.{AssignAt, ExprAt, StepAt, WriteAt}
 use Rattle.b67_templates.specs.Depths.{expr_syllables, stmt_syllables}
 use Rattle.b67_templates.specs.Emitting.{Emitted}
-use Rattle.b67_templates.specs.Fitting.{AssignFits, ExprFits, NameFits, StmtFits, StmtsFit, WriteFits}
+use Rattle.b67_templates.specs.Fitting.{AssignFits, ExprFits, NameFits, StmtFits, WriteFits}
 use Rattle.b67_emitter.specs.Values.{couples}
 use Rattle.b67_emit_stmt.specs.declared.draft.Draft.{Draft}
 use Rattle.b67_emit_stmt.specs.Drafts.{Emits, IsReady, HasFew}
-use Rattle.b67_emit_stmt.specs.Emits.{HasFit, EmitsStmt, EmitsStmts, EmitsThen, write_syllables}
-use Rattle.b67_emit_stmt.proofs.Arms.{Stands, assign_arm, block_arm, if_else_arm}
+use Rattle.b67_emit_stmt.specs.Emits.{HasFit, EmitsStmt, EmitsThen, write_syllables}
+use Rattle.b67_emit_stmt.proofs.Arms.{Stands, assign_arm, if_else_arm}
 use Rattle.b67_emit_stmt.proofs.Drafts.{at_level, emits_none, emits_weaker, level_after, piece}
 use Rattle.b67_emit_stmt.proofs.Parts.{leveled, set_same}
 use Rattle.b67_emit_stmt.proofs.Ready.{stmt_piece}
@@ -71,15 +71,6 @@ module _ (s : table.Scopes) (sc : Scopes) (level : ℕ) where
   pub assigns : (n : Named) (es : PExprs) (e : PExpr) → StmtFits sc (couples s) level (tree.assign (tree.subscripted n es) e) → AssignFits sc (couples s) level n e
   assigns n tree.none e h = h
   assigns n (tree.more x xs) e h = absurd h
-
-  -- the block declares nothing
-  pub bare : (spot : Spot) (ds : PDecls) (ss : PStmts) → StmtFits sc (couples s) level (tree.block (tree.body spot ds ss)) → ds ≡ tree.no_decls
-  bare spot tree.no_decls ss h = refl
-  bare spot (tree.decls d ds) ss h = absurd h
-
-  pub inner : (spot : Spot) (ds : PDecls) (ss : PStmts) → StmtFits sc (couples s) level (tree.block (tree.body spot ds ss)) → StmtsFit sc (couples s) level ss
-  inner spot tree.no_decls ss h = h
-  inner spot (tree.decls d ds) ss h = absurd h
 
 -- ---- levels
 
@@ -162,15 +153,6 @@ module _ (s : table.Scopes) (a b : Draft) (p : PStmt) where
       let bare : p ≡ tree.assign (tree.subscripted n tree.none) e = is ∙ ap (λ l. tree.assign (tree.subscripted n l) e) (alone s sc level n es e there) in
       let E : PStmt → Type 0 = λ x. Emits (stmt_syllables x) a b (Stands sc level x a b) in
       subst E (sym bare) (assign_arm sc level n e a b (assigned s sc level n e a b refl xs fs few h short (assigns s sc level n es e there)))
-
-  pub block_emitted : (spot : Spot) (ds : PDecls) (ss : PStmts) → p ≡ tree.block (tree.body spot ds ss) → EmitsStmts s a b ss → EmitsStmt s a b p
-  block_emitted spot ds ss is h = λ sc fit.
-      let level = level_set a.out in
-      let F : PStmt → Type 0 = λ x. StmtFits sc (couples s) level x in
-      let there = subst F is fit in
-      let none : p ≡ tree.block (tree.body spot tree.no_decls ss) = is ∙ ap (λ d. tree.block (tree.body spot d ss)) (bare s sc level spot ds ss there) in
-      let E : PStmt → Type 0 = λ x. Emits (stmt_syllables x) a b (Stands sc level x a b) in
-      subst E (sym none) (block_arm sc level spot ss a b (h sc (inner s sc level spot ds ss there)))
 
   pub write_emitted : (n : Named) (spot : Spot) (phrases : List PhraseText) (es : PExprs) → p ≡ tree.write n spot phrases es →
       ((sc : Scopes) → WriteFits sc (couples s) (level_set a.out) phrases es →

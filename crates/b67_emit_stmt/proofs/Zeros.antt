@@ -1,4 +1,4 @@
--- The cells of the outer block.
+-- The cells of a block.
 use Rattle.std.proofs.Common.{◌≡◌, ℕ, zero, suc, ◌+◌, ◌≤◌, List, refl, sym, subst, arith}
 use Rattle.std.specs.Prelude.{replicate}
 use Rattle.algol_tree.specs.Scopes.{Scopes}
@@ -8,11 +8,10 @@ use Rattle.b67_segment.specs.Operators.{Placed, size}
 use Rattle.b67_segment.specs.Building.{Built}
 use Rattle.b67_segment.specs.declared.code.Format.{Format}
 use Rattle.b67_templates.specs.Fragments.{Has, AllAt}
-use Rattle.b67_templates.specs.Programs.{MadeAt}
+use Rattle.b67_templates.specs.Code.{CellsAt, MadeAt}
 use Rattle.b67_templates.specs.Emitting.{Emitted}
 use Rattle.b67_emitter.proofs.Composing.{then, weaker}
 use Rattle.b67_emit_stmt.specs.declared.draft.Draft.{Draft}
-use Rattle.b67_emit_stmt.specs.Bodies.{CellsAt}
 use Rattle.b67_emit_stmt.specs.Drafts.{Emits, HasFew}
 use Rattle.b67_emit_stmt.proofs.Drafts.{piece}
 

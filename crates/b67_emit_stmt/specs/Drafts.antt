@@ -1,7 +1,8 @@
 -- What a call that adds code to a draft promises of it.
-use Rattle.std.specs.Prelude.{◌≡◌, ℕ, ◌+◌, ◌*◌, ◌≤◌, List, ◌++◌, length, IsSome}
+use Rattle.std.specs.Prelude.{◌≡◌, ℕ, ◌+◌, ◌*◌, ◌≤◌, List, ◌++◌, length, Some, IsSome}
 use Rattle.std.specs.List.{All}
 use Rattle.algol_scope.specs.declared.scopes.Scopes.{Scopes}
+use Rattle.b67_ops.specs.declared.TheConstants.{OUTER_LEVEL}
 use Rattle.b67_segment.specs.declared.TheConstants.{MOST_SEGMENT_WORDS}
 use Rattle.b67_segment.specs.declared.code.Format.{Format}
 use Rattle.b67_segment.specs.Operators.{Placed, size}
@@ -21,6 +22,11 @@ HasFew d = length d.formats.items ≤ size d.out.operators
 -- the formats can be listed: their texts can stand between quotes
 abbrev pub AreListed : List Format → Type 0
 AreListed formats = All (λ (format : Format). All IsPhrase format.phrases) formats
+
+-- The level that is set is this one, which is that of a block.
+pub record IsAt (level : ℕ) (d : Draft) : Type 0 where
+  pub set : d.out.level ≡ Some level
+  pub outer : OUTER_LEVEL ≤ level
 
 -- A level is set, what is known of names can be spelled, and there is room for so many syllables.
 pub record IsReady (scopes : Scopes) (d : Draft) (syllables : ℕ) : Type 0 where

@@ -1,4 +1,4 @@
-//! The body of the program.
+//! The cells of a block, and the body of the program.
 
 ghost use Rattle.std.specs.Prelude.{◌≡◌, ◌+◌, ◌*◌, ◌≤◌, length, IsSome, IfOk, OnOk};
 ghost use Rattle.algol_tree.specs.declared.TheConstants.{MOST_BLOCK_CELLS};
@@ -10,21 +10,22 @@ ghost use Rattle.b67_segment.specs.declared.TheConstants.{MOST_SEGMENT_WORDS};
 ghost use Rattle.b67_segment.specs.Operators.{size};
 ghost use Rattle.b67_segment.specs.Building.{level_set};
 ghost use Rattle.b67_templates.specs.Cells as frames;
+ghost use Rattle.b67_templates.specs.Code.{CellsAt};
 ghost use Rattle.b67_templates.specs.Fitting.{StmtsFit};
 ghost use Rattle.b67_emitter.specs.Values.{couples, AreNear};
 ghost use Rattle.b67_emit_stmt.specs.Drafts.{AreListed, Emits, HasFew};
-ghost use Rattle.b67_emit_stmt.specs.Bodies.{CellsAt, OuterAt};
+ghost use Rattle.b67_emit_stmt.specs.Bodies.{OuterAt};
 
 use crate::draft::{Draft, StmtEmitter};
 use algol_scope::Scopes;
 use algol_tree::{Body, Decl};
-use b67_emitter::{ExprEmitter, aim_exits, append_plain};
+use b67_emitter::{ExprEmitter, append_plain};
 use b67_ops::{OUTER_LEVEL, PlainKind};
 use b67_segment::{Builder, Format, Segment};
 use std::alloc::{AllocError, Global};
 
 /// How many simple variables are declared.
-fn variables(decls: &[Decl]) -> usize
+pub(crate) fn variables(decls: &[Decl]) -> usize
     requires { length (frames.variables (plain.decls decls.now)) ≤ MOST_BLOCK_CELLS }
     ensures { result ≡ length (frames.variables (plain.decls decls.now)) }
 {
@@ -38,7 +39,7 @@ fn variables(decls: &[Decl]) -> usize
 }
 
 /// A cell of 0 for each variable.
-fn cells(many: usize, to: &mut Draft) -> Result<(), AllocError>
+pub(crate) fn cells(many: usize, to: &mut Draft) -> Result<(), AllocError>
     requires set { IsSome to.old.out.level }
     requires few { HasFew to.old }
     requires most { many ≤ MOST_BLOCK_CELLS }
@@ -75,11 +76,12 @@ pub fn emit_body<E: ExprEmitter>(
         formats: Vec::new(alloc),
     };
     to.out.level(OUTER_LEVEL)?;
-    cells(variables(body.decls.items()), &mut to)?;
-    let emitter = StmtEmitter { exprs, scopes };
-    emitter.stmts(body.stmts.items(), &mut to)?;
-    aim_exits(&mut to.out, &mut to.exits, 0);
-    append_plain(&mut to.out, PlainKind::Exit)?;
+    let emitter = StmtEmitter {
+        exprs,
+        scopes,
+        level: OUTER_LEVEL,
+    };
+    emitter.block(body.stmts.items(), variables(body.decls.items()), &mut to)?;
     let Draft {
         out,
         exits: _,

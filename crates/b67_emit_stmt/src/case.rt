@@ -4,7 +4,7 @@ ghost use Rattle.std.specs.Prelude.{◌≡◌, ◌+◌, ◌*◌, ◌≤◌, List
 ghost use Rattle.algol_tree.specs.Image.{expr, stmts};
 ghost use Rattle.algol_tree.specs.Plain as tree;
 ghost use Rattle.b67_templates.specs.Depths.{stmt_syllables, expr_syllables};
-ghost use Rattle.b67_emit_stmt.specs.Drafts.{IsReady};
+ghost use Rattle.b67_emit_stmt.specs.Drafts.{IsAt, IsReady};
 ghost use Rattle.b67_emit_stmt.specs.Emits.{HasFit, HaveFit, EmitsStmt, EmitsCases, stmts_syllables};
 ghost use Rattle.algol_tree.specs.declared.tree.Kind.TheVariants as types;
 ghost use Rattle.algol_tree.specs.Scopes as names;
@@ -69,6 +69,7 @@ impl<'a, E: ExprEmitter> StmtEmitter<'a, E> {
     /// The table of branches, and behind it the statements to which they go.
     #[cycle(statements)]
     fn cases(&self, ss: &[Stmt], to: &mut Draft) -> Result<(), AllocError>
+        requires level { IsAt self.now.level to.old }
         requires ready { IsReady self.now.scopes.now to.old (stmts_syllables (stmts ss.now)) }
         requires fits { HaveFit self.now.scopes.now to.old (stmts ss.now) }
         ensures { OnOk result (EmitsCases self.now.scopes.now to.old to.new (stmts ss.now)) }
@@ -87,6 +88,7 @@ impl<'a, E: ExprEmitter> StmtEmitter<'a, E> {
     /// CASE.
     #[cycle(statements)]
     pub(crate) fn case(&self, ss: &[Stmt], e: &Expr, to: &mut Draft) -> Result<(), AllocError>
+        requires level { IsAt self.now.level to.old }
         requires ready { IsReady self.now.scopes.now to.old (stmt_syllables (tree.case (expr e.now) (stmts ss.now))) }
         requires fits { HasFit self.now.scopes.now to.old (tree.case (expr e.now) (stmts ss.now)) }
         ensures { OnOk result (EmitsStmt self.now.scopes.now to.old to.new (tree.case (expr e.now) (stmts ss.now))) }

@@ -10,9 +10,10 @@ pub struct Draft {
     pub formats: Vec<Format>,
 }
 
-/// How statements are emitted: the emitter of their expressions, and what their names mean.
+/// How the statements of a block are emitted: the emitter of their expressions, what their names mean, and the block's level.
 #[derive(Drop)]
 pub struct StmtEmitter<'a, E> {
     pub exprs: &'a E,
     pub scopes: &'a Scopes,
+    pub level: u8,
 }

@@ -4,6 +4,7 @@
 //! where they go, so no branch leads to a branch. A loop's body goes on at the branch back to its test.
 #![tactic(auto)]
 
+mod block;
 mod body;
 mod case;
 mod draft;

@@ -4,9 +4,10 @@ ghost use Rattle.std.specs.Prelude.{◌+◌, OnOk};
 ghost use Rattle.algol_tree.specs.Image.{expr, stmt, stmts};
 ghost use Rattle.algol_tree.specs.Plain as tree;
 ghost use Rattle.b67_templates.specs.Depths.{stmt_syllables, expr_syllables};
-ghost use Rattle.b67_emit_stmt.specs.Drafts.{IsReady};
+ghost use Rattle.b67_emit_stmt.specs.Drafts.{IsAt, IsReady};
 ghost use Rattle.b67_emit_stmt.specs.Emits.{HasFit, HaveFit, EmitsStmt, EmitsStmts, EmitsThen, HasFitThen, stmts_syllables};
 
+use crate::body::variables;
 use crate::draft::{Draft, StmtEmitter};
 use algol_tree::{Expr, Stmt};
 use b67_emitter::{ExprEmitter, aim, aim_exits, append_branch, append_exit};
@@ -17,6 +18,7 @@ impl<'a, E: ExprEmitter> StmtEmitter<'a, E> {
     /// IF without ELSE.
     #[cycle(statements)]
     fn if_then(&self, x: &Stmt, c: &Expr, to: &mut Draft) -> Result<(), AllocError>
+        requires level { IsAt self.now.level to.old }
         requires ready { IsReady self.now.scopes.now to.old (stmt_syllables (tree.if_then (expr c.now) (stmt x.now))) }
         requires fits { HasFit self.now.scopes.now to.old (tree.if_then (expr c.now) (stmt x.now)) }
         ensures { OnOk result (EmitsStmt self.now.scopes.now to.old to.new (tree.if_then (expr c.now) (stmt x.now))) }
@@ -29,6 +31,7 @@ impl<'a, E: ExprEmitter> StmtEmitter<'a, E> {
     /// IF with ELSE, up to its second statement.
     #[cycle(statements)]
     fn then_part(&self, x: &Stmt, c: &Expr, to: &mut Draft) -> Result<(), AllocError>
+        requires level { IsAt self.now.level to.old }
         requires ready { IsReady self.now.scopes.now to.old (expr_syllables (expr c.now) + stmt_syllables (stmt x.now) + 6) }
         requires fits { HasFitThen self.now.scopes.now to.old (expr c.now) (stmt x.now) }
         ensures { OnOk result (EmitsThen self.now.scopes.now to.old to.new (expr c.now) (stmt x.now)) }
@@ -44,6 +47,7 @@ impl<'a, E: ExprEmitter> StmtEmitter<'a, E> {
     /// A statement.
     #[cycle(statements)]
     pub fn stmt(&self, s: &Stmt, to: &mut Draft) -> Result<(), AllocError>
+        requires level { IsAt self.now.level to.old }
         requires ready { IsReady self.now.scopes.now to.old (stmt_syllables (stmt s.now)) }
         requires fits { HasFit self.now.scopes.now to.old (stmt s.now) }
         ensures { OnOk result (EmitsStmt self.now.scopes.now to.old to.new (stmt s.now)) }
@@ -51,7 +55,13 @@ impl<'a, E: ExprEmitter> StmtEmitter<'a, E> {
         match s {
             Stmt::Empty => Ok(()),
             Stmt::Assign(v, e) => self.assign(&v.name, e, &mut to.out),
-            Stmt::Block(b) => self.stmts(b.stmts.items(), to),
+            Stmt::Block(b) => {
+                if b.decls.items().is_empty() {
+                    self.stmts(b.stmts.items(), to)
+                } else {
+                    self.inner_block(b.stmts.items(), variables(b.decls.items()), to)
+                }
+            }
             Stmt::If(c, x, other) => match other {
                 None => self.if_then(x, c, to),
                 Some(y) => {
@@ -77,6 +87,7 @@ impl<'a, E: ExprEmitter> StmtEmitter<'a, E> {
     /// Statements one after another. Each but the last goes on at the next.
     #[cycle(statements)]
     pub fn stmts(&self, ss: &[Stmt], to: &mut Draft) -> Result<(), AllocError>
+        requires level { IsAt self.now.level to.old }
         requires ready { IsReady self.now.scopes.now to.old (stmts_syllables (stmts ss.now)) }
         requires fits { HaveFit self.now.scopes.now to.old (stmts ss.now) }
         ensures { OnOk result (EmitsStmts self.now.scopes.now to.old to.new (stmts ss.now)) }

@@ -2,3 +2,4 @@ pub mod Exits
 pub mod Composing
 pub mod Patching
 pub mod Appends
+pub mod Entries

@@ -5,6 +5,7 @@
 
 mod aiming;
 mod appending;
+mod entering;
 mod expressions;
 mod numbers;
 
@@ -13,5 +14,6 @@ pub use appending::{
     append_all, append_branch, append_exit, append_number, append_operator, append_plain,
     append_reading, append_reference, append_turn,
 };
+pub use entering::append_entry;
 pub use expressions::{ExprEmitter, couple_of};
 pub use numbers::literal;

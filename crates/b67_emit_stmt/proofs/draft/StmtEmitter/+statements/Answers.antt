@@ -1,4 +1,4 @@
-use Rattle.std.proofs.Common.{rules, ◌≡◌, ◌≤◌, ◌+◌, ◌∙◌, ℕ, List, [], ◌∷◌, length, refl, sym, subst, arith}
+use Rattle.std.proofs.Common.{rules, ◌≡◌, ◌+◌, ◌∙◌, ℕ, List, [], ◌∷◌, length, refl, sym, ap, subst, arith}
 use Rattle.std.proofs.lemmas.List.{take_all}
 use Rattle.std.proofs.lemmas.Result.{on_ok_weaker}
 use Rattle.algol_tree.specs.declared.tree.Kind.TheVariants as types
@@ -6,10 +6,9 @@ use Rattle.algol_tree.specs.declared.tree.Body as bodies'
 use Rattle.algol_tree.specs.declared.tree.Decl as decls'
 use Rattle.algol_tree.specs.declared.tree.Stmt.{Stmt}
 use Rattle.algol_tree.specs.declared.tree.Stmt as stmts'
-use Rattle.algol_tree.specs.Image.{decls, expr, exprs, stmt, stmts}
+use Rattle.algol_tree.specs.Image.{expr, exprs, stmt, stmts}
 use Rattle.algol_tree.specs.Plain as tree
 use Rattle.b67_ops.specs.declared.BranchKind.TheVariants.{Brfl, Brtr, Brun}
-use Rattle.b67_ops.specs.declared.PlainKind.TheVariants as kinds
 use Rattle.b67_segment.specs.Operators.{size}
 use Rattle.b67_segment.specs.Building.{level_set}
 use Rattle.b67_templates.specs.Code.{CasesAt}
@@ -20,14 +19,18 @@ use Rattle.b67_emit_stmt.specs.declared.draft.Draft.{Draft}
 use Rattle.b67_emit_stmt.specs.Drafts.{Emits}
 use Rattle.b67_emit_stmt.specs.Emits.{HaveFit, stmts_syllables}
 use Rattle.b67_emit_stmt.proofs.Aims.{body_closed, exits_lie, hole_as}
-use Rattle.b67_emit_stmt.proofs.Arms.{for_arm, if_then_arm, then_arm, thru_arm, until_arm, while_arm}
+use Rattle.b67_emit_stmt.proofs.Arms.{if_then_arm, then_arm, until_arm, while_arm}
+use Rattle.b67_emit_stmt.proofs.Blocked as blocked
+use Rattle.b67_emit_stmt.proofs.Blocks as blocks
 use Rattle.b67_emit_stmt.proofs.Drafts.{at_level, emits_then, hole_there, level_after, level_same, piece}
-use Rattle.b67_emit_stmt.proofs.Listed.{StandTogether, done_level, next_fits, next_ready, together_more, together_none}
+use Rattle.b67_emit_stmt.proofs.Listed.{StandTogether, done_level, done_set, next_fits, next_ready, together_more, together_none}
+use Rattle.b67_emit_stmt.proofs.Levels.{at_after, at_same}
 use Rattle.b67_emit_stmt.proofs.Matched as matched
-use Rattle.b67_emit_stmt.proofs.Parts.{code_at, name_at, on_ok_two, plain_at, set_same}
-use Rattle.b67_emit_stmt.proofs.Ready.{all_piece, body_piece, branch_piece, fit_after, ready_after, stmt_piece, turn_piece, value_piece}
+use Rattle.b67_emit_stmt.proofs.Parts.{code_at, name_at, on_ok_two, set_same}
+use Rattle.b67_emit_stmt.proofs.Ready.{body_piece, branch_piece, fit_after, ready_after, stmt_piece, turn_piece, value_piece}
 use Rattle.b67_emit_stmt.proofs.Shapes as shaped
 use Rattle.b67_emit_stmt.proofs.Tables as tabled
+use Rattle.b67_emit_stmt.proofs.Turns as turns
 use Rattle.b67_emit_stmt.proofs.draft.StmtEmitter.+statements.Goals as goal
 
 -- ---- IF
@@ -47,7 +50,8 @@ if_then-stmt-requires g t c =
     let both = emits_then v left in
     let ready = ready_after s a (stmt_syllables (tree.if_then e x)) (stmt_syllables x) c.requires.ready both (omega arith) in
     let fit = fit_after s sc x both c.requires.fits.1.1 in
-    search (rules, stmts'.the_lemmas, decls'.the_lemmas, bodies'.the_lemmas, ready, fit)
+    let at = at_after both c.requires.level in
+    search (rules, stmts'.the_lemmas, decls'.the_lemmas, bodies'.the_lemmas, ready, fit, at)
 
 pub if_then-returns : goal.if_then-returns
 if_then-returns g t c =
@@ -81,27 +85,20 @@ then_part-stmt-requires g t c =
     let ready = matched.ready_behind s a d (expr_syllables e + stmt_syllables x + 6) (stmt_syllables x) c.requires.ready (c.in_ok-otherwise.ensures.level ∙ c.in_ok-value.ensures.level) refl
     (omega (arith, v.code.grown, c.in_ok-otherwise.ensures.size)) (omega (arith, c.in_ok-value.ensures.size, c.in_ok-otherwise.ensures.size)) in
     let fit = matched.fit_at s c.requires.fits.0 x d (level_set a.out) r c.requires.fits.2 in
-    search (rules, stmts'.the_lemmas, decls'.the_lemmas, bodies'.the_lemmas, ready, fit)
+    let at = at_same a d (c.in_ok-otherwise.ensures.level ∙ c.in_ok-value.ensures.level) c.requires.level in
+    search (rules, stmts'.the_lemmas, decls'.the_lemmas, bodies'.the_lemmas, ready, fit, at)
 
-pub then_part-append_exit-requires-clause-set : goal.then_part-append_exit-requires-clause-set
-then_part-append_exit-requires-clause-set g t c =
+pub then_part-append_exit-requires : goal.then_part-append_exit-requires
+then_part-append_exit-requires g t c =
     let a = c.args.to.now in
-    let x = stmt c.args.x.now in
     let b : Draft = record a { out = c.value.new.out } in
     let d : Draft = record a { out = c.append_branch.new.out } in
     let r = level_same b.out d.out c.in_ok-otherwise.ensures.level ∙ level_same a.out b.out c.in_ok-value.ensures.level in
-    let part = stmt_piece c.args.self.now.scopes.now c.requires.fits.0 x d c.stmt.new.to (level_set a.out) r c.in_ok-stmt.ensures c.requires.fits.2 in
-    matched.set_behind c.args.to.now.out part (c.in_ok-otherwise.ensures.level ∙ c.in_ok-value.ensures.level) c.requires.ready.set
-
-pub then_part-append_exit-requires-clause-room : goal.then_part-append_exit-requires-clause-room
-then_part-append_exit-requires-clause-room g t c =
-    let a = c.args.to.now in
-    let x = stmt c.args.x.now in
-    let b : Draft = record a { out = c.value.new.out } in
-    let d : Draft = record a { out = c.append_branch.new.out } in
-    let r = level_same b.out d.out c.in_ok-otherwise.ensures.level ∙ level_same a.out b.out c.in_ok-value.ensures.level in
-    let part = stmt_piece c.args.self.now.scopes.now c.requires.fits.0 x d c.stmt.new.to (level_set a.out) r c.in_ok-stmt.ensures c.requires.fits.2 in
-    omega (arith, part.short, c.in_ok-otherwise.ensures.size, c.in_ok-value.ensures.size, c.requires.ready.room)
+    let part = stmt_piece c.args.self.now.scopes.now c.requires.fits.0 (stmt c.args.x.now) d c.stmt.new.to (level_set a.out) r c.in_ok-stmt.ensures c.requires.fits.2 in
+    record {
+      set = matched.set_behind c.args.to.now.out part (c.in_ok-otherwise.ensures.level ∙ c.in_ok-value.ensures.level) c.requires.ready.set;
+      room = omega (arith, part.short, c.in_ok-otherwise.ensures.size, c.in_ok-value.ensures.size, c.requires.ready.room);
+    }
 
 pub then_part-aim-requires : goal.then_part-aim-requires
 then_part-aim-requires g t c =
@@ -173,39 +170,23 @@ while_loop-loop_body-requires g t c =
     let both = emits_then v left in
     let ready = ready_after s a (stmt_syllables (tree.while e x)) (stmt_syllables x) c.requires.ready both (omega arith) in
     let fit = fit_after s sc x both c.requires.fits.1.1 in
-    search (rules, stmts'.the_lemmas, decls'.the_lemmas, bodies'.the_lemmas, ready, fit)
+    let at = at_after both c.requires.level in
+    search (rules, stmts'.the_lemmas, decls'.the_lemmas, bodies'.the_lemmas, ready, fit, at)
 
-pub while_loop-append_turn-requires-clause-set : goal.while_loop-append_turn-requires-clause-set
-while_loop-append_turn-requires-clause-set g t c =
-    let a = c.args.to.now in
-    let x = stmt c.args.b.now in
-    let b : Draft = record a { out = c.value.new.out } in
-    let d : Draft = record a { out = c.append_exit.new.out; exits = c.append_exit.new.exits } in
-    let r = level_same b.out d.out c.in_ok-append_exit.ensures.level ∙ level_same a.out b.out c.in_ok-value.ensures.level in
-    let part = body_piece c.args.self.now.scopes.now c.requires.fits.0 x d c.loop_body.new.to (level_set a.out) r c.in_ok-loop_body.ensures c.requires.fits.1.1 in
-    matched.set_behind c.args.to.now.out part (c.in_ok-append_exit.ensures.level ∙ c.in_ok-value.ensures.level) c.requires.ready.set
-
-pub while_loop-append_turn-requires-clause-back : goal.while_loop-append_turn-requires-clause-back
-while_loop-append_turn-requires-clause-back g t c =
+pub while_loop-append_turn-requires : goal.while_loop-append_turn-requires
+while_loop-append_turn-requires g t c =
     let s = c.args.self.now.scopes.now in
     let a = c.args.to.now in
-    let x = stmt c.args.b.now in
     let b : Draft = record a { out = c.value.new.out } in
     let d : Draft = record a { out = c.append_exit.new.out; exits = c.append_exit.new.exits } in
     let r = level_same b.out d.out c.in_ok-append_exit.ensures.level ∙ level_same a.out b.out c.in_ok-value.ensures.level in
-    let part = body_piece s c.requires.fits.0 x d c.loop_body.new.to (level_set a.out) r c.in_ok-loop_body.ensures c.requires.fits.1.1 in
+    let part = body_piece s c.requires.fits.0 (stmt c.args.b.now) d c.loop_body.new.to (level_set a.out) r c.in_ok-loop_body.ensures c.requires.fits.1.1 in
     let v = value_piece s a b (level_set a.out) c.requires.fits.0 types.Truth (expr c.args.c.now) refl refl refl c.requires.ready.few c.in_ok-value.ensures.code c.in_ok-value.ensures.size c.requires.fits.1.0 in
-    omega (arith, c.place-start.ensures, v.code.grown, c.in_ok-append_exit.ensures.size, part.code.grown)
-
-pub while_loop-append_turn-requires-clause-room : goal.while_loop-append_turn-requires-clause-room
-while_loop-append_turn-requires-clause-room g t c =
-    let a = c.args.to.now in
-    let x = stmt c.args.b.now in
-    let b : Draft = record a { out = c.value.new.out } in
-    let d : Draft = record a { out = c.append_exit.new.out; exits = c.append_exit.new.exits } in
-    let r = level_same b.out d.out c.in_ok-append_exit.ensures.level ∙ level_same a.out b.out c.in_ok-value.ensures.level in
-    let part = body_piece c.args.self.now.scopes.now c.requires.fits.0 x d c.loop_body.new.to (level_set a.out) r c.in_ok-loop_body.ensures c.requires.fits.1.1 in
-    omega (arith, part.short, c.in_ok-append_exit.ensures.size, c.in_ok-value.ensures.size, c.requires.ready.room)
+    record {
+      set = matched.set_behind c.args.to.now.out part (c.in_ok-append_exit.ensures.level ∙ c.in_ok-value.ensures.level) c.requires.ready.set;
+      back = omega (arith, c.place-start.ensures, v.code.grown, c.in_ok-append_exit.ensures.size, part.code.grown);
+      room = omega (arith, part.short, c.in_ok-append_exit.ensures.size, c.in_ok-value.ensures.size, c.requires.ready.room);
+    }
 
 pub while_loop-returns : goal.while_loop-returns
 while_loop-returns g t c =
@@ -304,20 +285,11 @@ for_loop-loop_body-requires g t c =
     let all = emits_then (emits_then begin test) past in
     let ready = ready_after s a (stmt_syllables (tree.for v first p l x)) (stmt_syllables x) c.requires.ready all (omega arith) in
     let fit = fit_after s sc x all c.requires.fits.1.4 in
-    search (rules, stmts'.the_lemmas, decls'.the_lemmas, bodies'.the_lemmas, ready, fit)
+    let at = at_after all c.requires.level in
+    search (rules, stmts'.the_lemmas, decls'.the_lemmas, bodies'.the_lemmas, ready, fit, at)
 
-pub for_loop-advance-requires-clause-set : goal.for_loop-advance-requires-clause-set
-for_loop-advance-requires-clause-set g t c =
-    let s = c.args.self.now.scopes.now in
-    let a = c.args.to.now in
-    let d : Draft = record a { out = c.difference.new.out } in
-    let q = level_same c.assign.new.out d.out c.in_ok-difference.ensures.level ∙ level_same a.out c.assign.new.out c.in_ok-assign.ensures.level in
-    let past = matched.stepped s c.requires.fits.0 (level_set a.out) (expr c.args.s.now) d c.step.new.to q c.in_ok-step.ensures c.requires.fits.1.2 in
-    let part = body_piece s c.requires.fits.0 (stmt c.args.b.now) c.step.new.to c.loop_body.new.to (level_set a.out) (level_after past ∙ q) c.in_ok-loop_body.ensures c.requires.fits.1.4 in
-    matched.set_behind c.args.to.now.out (emits_then past part) (c.in_ok-difference.ensures.level ∙ c.in_ok-assign.ensures.level) c.requires.ready.set
-
-pub for_loop-advance-requires-clause-fits : goal.for_loop-advance-requires-clause-fits
-for_loop-advance-requires-clause-fits g t c =
+pub for_loop-advance-requires : goal.for_loop-advance-requires
+for_loop-advance-requires g t c =
     let s = c.args.self.now.scopes.now in
     let a = c.args.to.now in
     let level = level_set a.out in
@@ -329,32 +301,15 @@ for_loop-advance-requires-clause-fits g t c =
     let part = body_piece s sc (stmt c.args.b.now) c.step.new.to f level (level_after past ∙ q) c.in_ok-loop_body.ensures c.requires.fits.1.4 in
     let there : level_set f.out ≡ level = level_after (emits_then past part) ∙ q in
     let E : ℕ → Type 0 = λ l. ExprFits sc (couples s) l types.Number (expr c.args.s.now) in
-    (sc, name_at s (level_set f.out) level sc types.Number c.args.v.now there c.requires.fits.1.0, subst E (sym there) c.requires.fits.1.2)
+    record {
+      set = matched.set_behind c.args.to.now.out (emits_then past part) (c.in_ok-difference.ensures.level ∙ c.in_ok-assign.ensures.level) c.requires.ready.set;
+      near = c.requires.ready.near;
+      fits = (sc, name_at s (level_set f.out) level sc types.Number c.args.v.now there c.requires.fits.1.0, subst E (sym there) c.requires.fits.1.2);
+      room = omega (arith, part.short, past.short, c.in_ok-difference.ensures.size, c.in_ok-assign.ensures.size, c.requires.ready.room);
+    }
 
-pub for_loop-advance-requires-clause-room : goal.for_loop-advance-requires-clause-room
-for_loop-advance-requires-clause-room g t c =
-    let s = c.args.self.now.scopes.now in
-    let a = c.args.to.now in
-    let d : Draft = record a { out = c.difference.new.out } in
-    let q = level_same c.assign.new.out d.out c.in_ok-difference.ensures.level ∙ level_same a.out c.assign.new.out c.in_ok-assign.ensures.level in
-    let past = matched.stepped s c.requires.fits.0 (level_set a.out) (expr c.args.s.now) d c.step.new.to q c.in_ok-step.ensures c.requires.fits.1.2 in
-    let part = body_piece s c.requires.fits.0 (stmt c.args.b.now) c.step.new.to c.loop_body.new.to (level_set a.out) (level_after past ∙ q) c.in_ok-loop_body.ensures c.requires.fits.1.4 in
-    omega (arith, part.short, past.short, c.in_ok-difference.ensures.size, c.in_ok-assign.ensures.size, c.requires.ready.room)
-
-pub for_loop-append_turn-requires-clause-set : goal.for_loop-append_turn-requires-clause-set
-for_loop-append_turn-requires-clause-set g t c =
-    let s = c.args.self.now.scopes.now in
-    let a = c.args.to.now in
-    let d : Draft = record a { out = c.difference.new.out } in
-    let q = level_same c.assign.new.out d.out c.in_ok-difference.ensures.level ∙ level_same a.out c.assign.new.out c.in_ok-assign.ensures.level in
-    let past = matched.stepped s c.requires.fits.0 (level_set a.out) (expr c.args.s.now) d c.step.new.to q c.in_ok-step.ensures c.requires.fits.1.2 in
-    let part = body_piece s c.requires.fits.0 (stmt c.args.b.now) c.step.new.to c.loop_body.new.to (level_set a.out) (level_after past ∙ q) c.in_ok-loop_body.ensures c.requires.fits.1.4 in
-    let both = emits_then past part in
-    matched.set_ahead c.advance.new.out both c.in_ok-advance.ensures.level
-    (set_same a.out d.out (c.in_ok-difference.ensures.level ∙ c.in_ok-assign.ensures.level) c.requires.ready.set)
-
-pub for_loop-append_turn-requires-clause-back : goal.for_loop-append_turn-requires-clause-back
-for_loop-append_turn-requires-clause-back g t c =
+pub for_loop-append_turn-requires : goal.for_loop-append_turn-requires
+for_loop-append_turn-requires g t c =
     let s = c.args.self.now.scopes.now in
     let a = c.args.to.now in
     let level = level_set a.out in
@@ -372,46 +327,22 @@ for_loop-append_turn-requires-clause-back g t c =
     let part = body_piece s sc (stmt c.args.b.now) c.step.new.to f level (level_after past ∙ r) c.in_ok-loop_body.ensures c.requires.fits.1.4 in
     let next = matched.advanced s sc level c.args.v.now (expr c.args.s.now) f n (level_after (emits_then past part) ∙ r) refl refl part.few c.in_ok-advance.ensures.code c.in_ok-advance.ensures.size
     c.requires.fits.1.0 c.requires.fits.1.2 in
-    omega (arith, c.place-start.ensures, test.code.grown, past.code.grown, part.code.grown, next.code.grown)
-
-pub for_loop-append_turn-requires-clause-room : goal.for_loop-append_turn-requires-clause-room
-for_loop-append_turn-requires-clause-room g t c =
-    let s = c.args.self.now.scopes.now in
-    let a = c.args.to.now in
-    let d : Draft = record a { out = c.difference.new.out } in
-    let q = level_same c.assign.new.out d.out c.in_ok-difference.ensures.level ∙ level_same a.out c.assign.new.out c.in_ok-assign.ensures.level in
-    let past = matched.stepped s c.requires.fits.0 (level_set a.out) (expr c.args.s.now) d c.step.new.to q c.in_ok-step.ensures c.requires.fits.1.2 in
-    let part = body_piece s c.requires.fits.0 (stmt c.args.b.now) c.step.new.to c.loop_body.new.to (level_set a.out) (level_after past ∙ q) c.in_ok-loop_body.ensures c.requires.fits.1.4 in
-    omega (arith, part.short, past.short, c.in_ok-advance.ensures.size, c.in_ok-difference.ensures.size, c.in_ok-assign.ensures.size, c.requires.ready.room)
+    record {
+      set = matched.set_ahead c.advance.new.out (emits_then past part) c.in_ok-advance.ensures.level
+          (set_same a.out d.out (c.in_ok-difference.ensures.level ∙ c.in_ok-assign.ensures.level) c.requires.ready.set);
+      back = omega (arith, c.place-start.ensures, test.code.grown, past.code.grown, part.code.grown, next.code.grown);
+      room = omega (arith, part.short, past.short, c.in_ok-advance.ensures.size, c.in_ok-difference.ensures.size, c.in_ok-assign.ensures.size, c.requires.ready.room);
+    }
 
 pub for_loop-returns : goal.for_loop-returns
 for_loop-returns g t c =
-    let s = c.args.self.now.scopes.now in
-    let a = c.args.to.now in
-    let level = level_set a.out in
-    let v = c.args.v.now in
-    let first = expr c.args.a.now in
-    let p = expr c.args.s.now in
-    let l = expr c.args.l.now in
-    let x = stmt c.args.b.now in
-    let b : Draft = record a { out = c.assign.new.out } in
-    let d : Draft = record a { out = c.difference.new.out } in
-    let e = c.step.new.to in
-    let f = c.loop_body.new.to in
-    let n : Draft = record f { out = c.advance.new.out } in
-    let o : Draft = record f { out = c.append_turn.new.out } in
-    let q = level_same a.out b.out c.in_ok-assign.ensures.level in
-    let r = level_same b.out d.out c.in_ok-difference.ensures.level ∙ q in
+    let assign = c.in_ok-assign.ensures in
+    let test = c.in_ok-difference.ensures in
+    let next = c.in_ok-advance.ensures in
     on_ok_two c.append_turn.result
-    (λ h wide sc fit.
-    let begin = matched.assigned s sc level v first a b refl refl refl c.requires.ready.few c.in_ok-assign.ensures.code c.in_ok-assign.ensures.size (types.Number, fit.0, fit.1) in
-    let test = matched.compared s sc level v l b d q refl refl begin.few c.in_ok-difference.ensures.code c.in_ok-difference.ensures.size fit.0 fit.3 in
-    let past = matched.stepped s sc level p d e r c.in_ok-step.ensures fit.2 in
-    let part = body_piece s sc x e f level (level_after past ∙ r) c.in_ok-loop_body.ensures fit.4 in
-    let u = level_after (emits_then past part) ∙ r in
-    let next = matched.advanced s sc level v p f n u refl refl part.few c.in_ok-advance.ensures.code c.in_ok-advance.ensures.size fit.0 fit.2 in
-    for_arm sc level v first p l x a b d e f n o begin test past part next
-    (turn_piece sc b n o c.place-start.result level c.place-start.ensures (level_same f.out n.out c.in_ok-advance.ensures.level ∙ u) refl refl next.few h wide))
+    (turns.for_emitted c.args.self.now.scopes.now c.args.v.now (expr c.args.a.now) (expr c.args.s.now) (expr c.args.l.now) (stmt c.args.b.now) c.args.to.now c.step.new.to c.loop_body.new.to c.assign.new.out
+    c.difference.new.out c.advance.new.out c.append_turn.new.out c.place-start.result c.requires.ready.few assign.code assign.level assign.size c.place-start.ensures test.code test.level test.size c.in_ok-step.ensures
+    c.in_ok-loop_body.ensures next.code next.level next.size)
     c.append_turn.ensures.code c.append_turn.ensures.size
 
 -- ---- THRU
@@ -430,104 +361,60 @@ thru_loop-loop_body-requires g t c =
     (omega (arith, v.code.grown, c.in_ok-append_all.ensures.size, c.in_ok-over.ensures.size, c.in_ok-append_all-2.ensures.size))
     (omega (arith, c.in_ok-value.ensures.size, c.in_ok-append_all.ensures.size, c.in_ok-over.ensures.size, c.in_ok-append_all-2.ensures.size)) in
     let fit = matched.fit_at s c.requires.fits.0 x f (level_set a.out) (level_same a.out f.out same) c.requires.fits.1.1 in
-    search (rules, stmts'.the_lemmas, decls'.the_lemmas, bodies'.the_lemmas, ready, fit)
+    let at = at_same a f same c.requires.level in
+    search (rules, stmts'.the_lemmas, decls'.the_lemmas, bodies'.the_lemmas, ready, fit, at)
 
-pub thru_loop-append_turn-requires-clause-set : goal.thru_loop-append_turn-requires-clause-set
-thru_loop-append_turn-requires-clause-set g t c =
+pub thru_loop-append_turn-requires : goal.thru_loop-append_turn-requires
+thru_loop-append_turn-requires g t c =
     let a = c.args.to.now in
     let f : Draft = record a { out = c.append_all-2.new.out } in
     let same = c.in_ok-append_all-2.ensures.level ∙ c.in_ok-over.ensures.level ∙ c.in_ok-append_all.ensures.level ∙ c.in_ok-value.ensures.level in
     let part = body_piece c.args.self.now.scopes.now c.requires.fits.0 (stmt c.args.b.now) f c.loop_body.new.to (level_set a.out) (level_same a.out f.out same) c.in_ok-loop_body.ensures c.requires.fits.1.1 in
-    matched.set_behind c.args.to.now.out part same c.requires.ready.set
-
-pub thru_loop-append_turn-requires-clause-back : goal.thru_loop-append_turn-requires-clause-back
-thru_loop-append_turn-requires-clause-back g t c =
-    let a = c.args.to.now in
-    let f : Draft = record a { out = c.append_all-2.new.out } in
-    let same = c.in_ok-append_all-2.ensures.level ∙ c.in_ok-over.ensures.level ∙ c.in_ok-append_all.ensures.level ∙ c.in_ok-value.ensures.level in
-    let part = body_piece c.args.self.now.scopes.now c.requires.fits.0 (stmt c.args.b.now) f c.loop_body.new.to (level_set a.out) (level_same a.out f.out same) c.in_ok-loop_body.ensures c.requires.fits.1.1 in
-    omega (arith, c.place-start.ensures, c.in_ok-append_all.ensures.size, c.in_ok-over.ensures.size, c.in_ok-append_all-2.ensures.size, part.code.grown)
-
-pub thru_loop-append_turn-requires-clause-room : goal.thru_loop-append_turn-requires-clause-room
-thru_loop-append_turn-requires-clause-room g t c =
-    let a = c.args.to.now in
-    let f : Draft = record a { out = c.append_all-2.new.out } in
-    let same = c.in_ok-append_all-2.ensures.level ∙ c.in_ok-over.ensures.level ∙ c.in_ok-append_all.ensures.level ∙ c.in_ok-value.ensures.level in
-    let part = body_piece c.args.self.now.scopes.now c.requires.fits.0 (stmt c.args.b.now) f c.loop_body.new.to (level_set a.out) (level_same a.out f.out same) c.in_ok-loop_body.ensures c.requires.fits.1.1 in
-    omega (arith, part.short, c.in_ok-value.ensures.size, c.in_ok-append_all.ensures.size, c.in_ok-over.ensures.size, c.in_ok-append_all-2.ensures.size, c.requires.ready.room)
+    record {
+      set = matched.set_behind c.args.to.now.out part same c.requires.ready.set;
+      back = omega (arith, c.place-start.ensures, c.in_ok-append_all.ensures.size, c.in_ok-over.ensures.size, c.in_ok-append_all-2.ensures.size, part.code.grown);
+      room = omega (arith, part.short, c.in_ok-value.ensures.size, c.in_ok-append_all.ensures.size, c.in_ok-over.ensures.size, c.in_ok-append_all-2.ensures.size, c.requires.ready.room);
+    }
 
 pub thru_loop-aim-requires : goal.thru_loop-aim-requires
 thru_loop-aim-requires g t c =
     let s = c.args.self.now.scopes.now in
-    let a = c.args.to.now in
-    let level = level_set a.out in
-    let sc = c.requires.fits.0 in
-    let b : Draft = record a { out = c.value.new.out } in
-    let d : Draft = record a { out = c.append_all.new.out } in
-    let e : Draft = record a { out = c.append_branch.new.out } in
-    let f : Draft = record a { out = c.append_all-2.new.out } in
-    let n = c.loop_body.new.to in
-    let o : Draft = record n { out = c.append_turn.new.out } in
-    let q = level_same b.out d.out c.in_ok-append_all.ensures.level ∙ level_same a.out b.out c.in_ok-value.ensures.level in
-    let r = level_same d.out e.out c.in_ok-over.ensures.level ∙ q in
-    let u = level_same e.out f.out c.in_ok-append_all-2.ensures.level ∙ r in
-    let v = value_piece s a b level sc types.Number (expr c.args.e.now) refl refl refl c.requires.ready.few c.in_ok-value.ensures.code c.in_ok-value.ensures.size c.requires.fits.1.0 in
-    let few : length a.formats.items ≤ size e.out.operators = omega (arith, v.few, c.in_ok-append_all.ensures.size, c.in_ok-over.ensures.size) in
-    let less = all_piece 2 (kinds.One ∷ kinds.Subt ∷ []) e f level r refl refl few c.in_ok-append_all-2.ensures.code (omega (arith, c.in_ok-append_all-2.ensures.size)) in
-    let part = body_piece s sc (stmt c.args.b.now) f n level u c.in_ok-loop_body.ensures c.requires.fits.1.1 in
-    let turn = turn_piece sc b n o c.place-start.result level c.place-start.ensures (level_after part ∙ u) refl refl part.few c.in_ok-append_turn.ensures.code c.in_ok-append_turn.ensures.size in
-    hole_there (c.in_ok-over.over ∷ []) d {b = e} (hole_as Brtr d.out e.out level c.in_ok-over.over q c.in_ok-over.ensures.place c.in_ok-over.ensures.code) (emits_then (emits_then less part) turn)
+    let p = expr c.args.e.now in
+    let x = stmt c.args.b.now in
+    let value = c.in_ok-value.ensures in
+    let test = c.in_ok-append_all.ensures in
+    let over = c.in_ok-over.ensures in
+    let less = c.in_ok-append_all-2.ensures in
+    let turn = c.in_ok-append_turn.ensures in
+    turns.thru_lies s p x c.args.to.now c.loop_body.new.to c.value.new.out c.append_all.new.out c.append_branch.new.out c.append_all-2.new.out c.append_turn.new.out c.in_ok-over.over c.place-start.result c.requires.ready.few
+    value.code value.level value.size c.place-start.ensures test.code test.level test.size over.place over.code over.level over.size less.code less.level less.size c.in_ok-loop_body.ensures turn.code turn.level turn.size
+    c.requires.fits.0 c.requires.fits.1.0 c.requires.fits.1.1
 
-pub thru_loop-append_plain-requires-clause-set : goal.thru_loop-append_plain-requires-clause-set
-thru_loop-append_plain-requires-clause-set g t c =
+pub thru_loop-append_plain-requires : goal.thru_loop-append_plain-requires
+thru_loop-append_plain-requires g t c =
     let a = c.args.to.now in
     let f : Draft = record a { out = c.append_all-2.new.out } in
     let same = c.in_ok-append_all-2.ensures.level ∙ c.in_ok-over.ensures.level ∙ c.in_ok-append_all.ensures.level ∙ c.in_ok-value.ensures.level in
     let part = body_piece c.args.self.now.scopes.now c.requires.fits.0 (stmt c.args.b.now) f c.loop_body.new.to (level_set a.out) (level_same a.out f.out same) c.in_ok-loop_body.ensures c.requires.fits.1.1 in
-    matched.set_ahead c.aim.new.out part (c.aim.ensures.level ∙ c.in_ok-append_turn.ensures.level) (set_same a.out f.out same c.requires.ready.set)
-
-pub thru_loop-append_plain-requires-clause-room : goal.thru_loop-append_plain-requires-clause-room
-thru_loop-append_plain-requires-clause-room g t c =
-    let a = c.args.to.now in
-    let f : Draft = record a { out = c.append_all-2.new.out } in
-    let same = c.in_ok-append_all-2.ensures.level ∙ c.in_ok-over.ensures.level ∙ c.in_ok-append_all.ensures.level ∙ c.in_ok-value.ensures.level in
-    let part = body_piece c.args.self.now.scopes.now c.requires.fits.0 (stmt c.args.b.now) f c.loop_body.new.to (level_set a.out) (level_same a.out f.out same) c.in_ok-loop_body.ensures c.requires.fits.1.1 in
-    omega (arith, part.short, c.aim.ensures.place, c.in_ok-append_turn.ensures.size, c.in_ok-value.ensures.size, c.in_ok-append_all.ensures.size, c.in_ok-over.ensures.size, c.in_ok-append_all-2.ensures.size, c.requires.ready.room)
+    record {
+      set = matched.set_ahead c.aim.new.out part (c.aim.ensures.level ∙ c.in_ok-append_turn.ensures.level) (set_same a.out f.out same c.requires.ready.set);
+      room = omega (arith, part.short, c.aim.ensures.place, c.in_ok-append_turn.ensures.size, c.in_ok-value.ensures.size, c.in_ok-append_all.ensures.size, c.in_ok-over.ensures.size, c.in_ok-append_all-2.ensures.size, c.requires.ready.room);
+    }
 
 pub thru_loop-returns : goal.thru_loop-returns
 thru_loop-returns g t c =
     let s = c.args.self.now.scopes.now in
-    let a = c.args.to.now in
-    let level = level_set a.out in
     let p = expr c.args.e.now in
     let x = stmt c.args.b.now in
-    let b : Draft = record a { out = c.value.new.out } in
-    let d : Draft = record a { out = c.append_all.new.out } in
-    let e : Draft = record a { out = c.append_branch.new.out } in
-    let f : Draft = record a { out = c.append_all-2.new.out } in
-    let n = c.loop_body.new.to in
-    let o : Draft = record n { out = c.append_turn.new.out } in
-    let j : Draft = record n { out = c.aim.new.out } in
-    let k : Draft = record n { out = c.append_plain.new.out } in
-    let q = level_same a.out b.out c.in_ok-value.ensures.level in
-    let r = level_same b.out d.out c.in_ok-append_all.ensures.level ∙ q in
-    let u = level_same d.out e.out c.in_ok-over.ensures.level ∙ r in
-    let w = level_same e.out f.out c.in_ok-append_all-2.ensures.level ∙ u in
+    let value = c.in_ok-value.ensures in
+    let test = c.in_ok-append_all.ensures in
+    let over = c.in_ok-over.ensures in
+    let less = c.in_ok-append_all-2.ensures in
+    let turn = c.in_ok-append_turn.ensures in
     on_ok_two c.append_plain.result
-    (λ h wide sc fit.
-    let v = value_piece s a b level sc types.Number p refl refl refl c.requires.ready.few c.in_ok-value.ensures.code c.in_ok-value.ensures.size fit.0 in
-    let test = all_piece 3 (kinds.Dupl ∷ kinds.One ∷ kinds.Less ∷ []) b d level q refl refl v.few c.in_ok-append_all.ensures.code (omega (arith, c.in_ok-append_all.ensures.size)) in
-    let few : length a.formats.items ≤ size e.out.operators = omega (arith, test.few, c.in_ok-over.ensures.size) in
-    let less = all_piece 2 (kinds.One ∷ kinds.Subt ∷ []) e f level u refl refl few c.in_ok-append_all-2.ensures.code (omega (arith, c.in_ok-append_all-2.ensures.size)) in
-    let part = body_piece s sc x f n level w c.in_ok-loop_body.ensures fit.1 in
-    let z = level_after part ∙ w in
-    let turn = turn_piece sc b n o c.place-start.result level c.place-start.ensures z refl refl part.few c.in_ok-append_turn.ensures.code c.in_ok-append_turn.ensures.size in
-    let there : level_set j.out ≡ level = level_same o.out j.out c.aim.ensures.level ∙ level_same n.out o.out c.in_ok-append_turn.ensures.level ∙ z in
-    let lots : length n.formats.items ≤ size j.out.operators = omega (arith, turn.few, c.aim.ensures.place) in
-    let last = piece {n = 1} {d = j} {e = k} refl refl lots (λ formats. plain_at kinds.Dlet level there h) (omega (arith, wide)) in
-    thru_arm sc level p x a b d e f n o j k (c.in_ok-over.over ∷ []) v test
-    (hole_as Brtr d.out e.out level c.in_ok-over.over r c.in_ok-over.ensures.place c.in_ok-over.ensures.code) (omega (arith, c.in_ok-over.ensures.size)) refl refl less part turn c.aim.ensures refl
-    refl last)
+    (turns.thru_emitted s p x c.args.to.now c.loop_body.new.to c.value.new.out c.append_all.new.out c.append_branch.new.out c.append_all-2.new.out c.append_turn.new.out c.in_ok-over.over c.place-start.result c.requires.ready.few
+    value.code value.level value.size c.place-start.ensures test.code test.level test.size over.place over.code over.level over.size less.code less.level less.size c.in_ok-loop_body.ensures turn.code turn.level turn.size
+    c.aim.new.out c.append_plain.new.out c.aim.ensures)
     c.append_plain.ensures.code c.append_plain.ensures.size
 
 -- ---- CASE
@@ -548,7 +435,8 @@ case-cases-requires g t c =
     (omega (arith, c.in_ok-select.ensures.size)) in
     let F : ℕ → Type 0 = λ l. StmtsFit c.requires.fits.0 (couples s) l ss in
     let fit : HaveFit s b ss = (c.requires.fits.0, subst F (sym q) c.requires.fits.1.1) in
-    search (rules, stmts'.the_lemmas, decls'.the_lemmas, bodies'.the_lemmas, ready, fit)
+    let at = at_same a b c.in_ok-select.ensures.level c.requires.level in
+    search (rules, stmts'.the_lemmas, decls'.the_lemmas, bodies'.the_lemmas, ready, fit, at)
 
 pub case-returns : goal.case-returns
 case-returns g t c =
@@ -604,22 +492,11 @@ cases-stmt-requires g t c =
     let ready = matched.ready_less s d (stmt_syllables (stmt x) + 3) (stmt_syllables (stmt x)) r (omega arith) in
     let q = level_same b.out d.out c.aim.ensures.level ∙ level_same a.out b.out m.level_is in
     let fit = matched.fit_at s sc (stmt x) d level q (next_fits s sc level ss c.statements.s-index x c.statements-test.true c.s-item.is c.requires.fits.1) in
-    search (rules, stmts'.the_lemmas, decls'.the_lemmas, bodies'.the_lemmas, ready, fit)
+    let at = at_same a d (c.aim.ensures.level ∙ m.level_is) c.requires.level in
+    search (rules, stmts'.the_lemmas, decls'.the_lemmas, bodies'.the_lemmas, ready, fit, at)
 
-pub cases-append_exit-requires-clause-set : goal.cases-append_exit-requires-clause-set
-cases-append_exit-requires-clause-set g t c =
-    let s = c.args.self.now.scopes.now in
-    let level = level_set c.args.to.now.out in
-    let sc = c.requires.fits.0 in
-    let b = c.statements.to in
-    let d : Draft = record b { out = c.aim.new.out } in
-    let m = c.statements.invariant.code sc c.requires.fits.1 in
-    let q = level_same b.out d.out c.aim.ensures.level ∙ level_same c.args.to.now.out b.out m.level_is in
-    let part = stmt_piece s sc (stmt c.s-item.result) d c.stmt.new.to level q c.in_ok-stmt.ensures (next_fits s sc level c.args.ss.now c.statements.s-index c.s-item.result c.statements-test.true c.s-item.is c.requires.fits.1) in
-    matched.set_behind c.args.to.now.out part (c.aim.ensures.level ∙ m.level_is) c.requires.ready.set
-
-pub cases-append_exit-requires-clause-room : goal.cases-append_exit-requires-clause-room
-cases-append_exit-requires-clause-room g t c =
+pub cases-append_exit-requires : goal.cases-append_exit-requires
+cases-append_exit-requires g t c =
     let s = c.args.self.now.scopes.now in
     let a = c.args.to.now in
     let level = level_set a.out in
@@ -634,7 +511,10 @@ cases-append_exit-requires-clause-room g t c =
     c.requires.ready in
     let q = level_same b.out d.out c.aim.ensures.level ∙ level_same a.out b.out m.level_is in
     let part = stmt_piece s sc (stmt x) d c.stmt.new.to level q c.in_ok-stmt.ensures (next_fits s sc level ss c.statements.s-index x c.statements-test.true c.s-item.is c.requires.fits.1) in
-    omega (arith, part.short, r.room)
+    record {
+      set = matched.set_behind c.args.to.now.out part (c.aim.ensures.level ∙ m.level_is) c.requires.ready.set;
+      room = omega (arith, part.short, r.room);
+    }
 
 pub cases-overflow_add-entry : goal.cases-overflow_add-entry
 cases-overflow_add-entry g t c =
@@ -671,17 +551,12 @@ cases-returns g t c =
 pub stmts-statements-init : goal.stmts-statements-init
 stmts-statements-init g t c = λ sc fit. together_none sc (level_set c.args.to.now.out) c.args.ss.now c.args.to.now c.requires.ready.few
 
-pub stmts-aim_exits-requires-clause-list : goal.stmts-aim_exits-requires-clause-list
-stmts-aim_exits-requires-clause-list g t c =
+pub stmts-aim_exits-requires : goal.stmts-aim_exits-requires
+stmts-aim_exits-requires g t c =
     let a = c.args.to.now in
     let is : c.len-first.result ≡ length a.exits.items = omega (arith, c.len-first.ensures, a.exits.ok.0) in
-    (exits_lie a c.statements.to c.len-first.result is (c.statements.invariant c.requires.fits.0 c.requires.fits.1)).0
-
-pub stmts-aim_exits-requires-clause-branches : goal.stmts-aim_exits-requires-clause-branches
-stmts-aim_exits-requires-clause-branches g t c =
-    let a = c.args.to.now in
-    let is : c.len-first.result ≡ length a.exits.items = omega (arith, c.len-first.ensures, a.exits.ok.0) in
-    (exits_lie a c.statements.to c.len-first.result is (c.statements.invariant c.requires.fits.0 c.requires.fits.1)).1
+    let lie = exits_lie a c.statements.to c.len-first.result is (c.statements.invariant c.requires.fits.0 c.requires.fits.1) in
+    record { list = lie.0; branches = lie.1 }
 
 pub stmts-stmt-requires : goal.stmts-stmt-requires
 stmts-stmt-requires g t c =
@@ -700,7 +575,8 @@ stmts-stmt-requires g t c =
     (omega arith) c.requires.ready in
     let q = done_level s sc level ss i x c.statements-test.true c.s-item.is a b d c.len-first.result is h c.aim_exits.ensures.aimed c.aim_exits.ensures.list refl in
     let fit = matched.fit_at s sc (stmt x) d level q (next_fits s sc level ss i x c.statements-test.true c.s-item.is c.requires.fits.1) in
-    search (rules, stmts'.the_lemmas, decls'.the_lemmas, bodies'.the_lemmas, ready, fit)
+    let at = at_same a d (done_set s sc level ss i x c.statements-test.true c.s-item.is a b d c.len-first.result is h c.aim_exits.ensures.aimed c.aim_exits.ensures.list refl) c.requires.level in
+    search (rules, stmts'.the_lemmas, decls'.the_lemmas, bodies'.the_lemmas, ready, fit, at)
 
 pub stmts-statements-preserved : goal.stmts-statements-preserved
 stmts-statements-preserved g t c =
@@ -739,15 +615,6 @@ stmt-returns-in-Assign g t c =
     (λ h short. matched.assign_emitted c.args.self.now.scopes.now a b (stmt c.args.s.now) v.name (exprs v.subs) e (shaped.assign_as c.args.s.now v c.in-Assign.e c.in-Assign.is) refl refl c.requires.ready.few h short)
     c.assign.ensures.code c.assign.ensures.size
 
-pub stmt-returns-in-Block : goal.stmt-returns-in-Block
-stmt-returns-in-Block g t c =
-    let b = c.in-Block.b in
-    let ss = c.deref.result.now in
-    on_ok_weaker c.stmts.result
-    (λ h. matched.block_emitted c.args.self.now.scopes.now c.args.to.now c.stmts.new.to (stmt c.args.s.now) b.spot (decls b.decls) (stmts ss)
-    (shaped.block_as c.args.s.now b ss c.in-Block.is (c.deref.ensures.value ∙ c.items.ensures)) h)
-    c.stmts.ensures
-
 pub stmt-returns-in_ok-then_part-in-Some : goal.stmt-returns-in_ok-then_part-in-Some
 stmt-returns-in_ok-then_part-in-Some g t c =
     let x = c.deref-in-Some.result.now in
@@ -773,7 +640,8 @@ stmt-stmt-requires g t c =
     let first = c.in_ok-then_part-in-Some.ensures fits.0 fits.1.0 fits.1.1 in
     let ready = ready_after s a (stmt_syllables p) (stmt_syllables (stmt y)) whole first (omega arith) in
     let fit = fit_after s fits.0 (stmt y) first fits.1.2 in
-    search (rules, stmts'.the_lemmas, decls'.the_lemmas, bodies'.the_lemmas, ready, fit)
+    let at = at_after first c.requires.level in
+    search (rules, stmts'.the_lemmas, decls'.the_lemmas, bodies'.the_lemmas, ready, fit, at)
 
 pub stmt-returns-in-Write : goal.stmt-returns-in-Write
 stmt-returns-in-Write g t c =
@@ -785,3 +653,146 @@ stmt-returns-in-Write g t c =
     (shaped.write_as c.args.s.now w.field-0 w.field-1 w.phrases ps w.items es w.is (c.deref-in-Write.ensures.value ∙ c.items-in-Write.ensures) (c.deref-in-Write-2.ensures.value ∙ c.items-in-Write-2.ensures))
     h)
     c.write.ensures
+
+-- ---- blocks
+
+pub block-stmts-requires : goal.block-stmts-requires
+block-stmts-requires g t c =
+    let s = c.args.self.now.scopes.now in
+    let a = c.args.to.now in
+    let ss = stmts c.args.ss.now in
+    let ready = blocks.stmts_ready s c.args.many ss a c.cells.new.to c.requires.fits c.in_ok-cells.ensures c.requires.ready in
+    let fit = blocks.stmts_fit s c.args.many ss a c.cells.new.to c.requires.fits c.in_ok-cells.ensures in
+    let at = at_after (c.in_ok-cells.ensures c.requires.fits.0) c.requires.level in
+    search (rules, stmts'.the_lemmas, decls'.the_lemmas, bodies'.the_lemmas, ready, fit, at)
+
+pub block-aim_exits-requires : goal.block-aim_exits-requires
+block-aim_exits-requires g t c =
+    let a = c.args.to.now in
+    let is : c.len-first.result ≡ length a.exits.items = omega (arith, c.len-first.ensures, a.exits.ok.0) in
+    let lie = blocks.block_exits c.args.self.now.scopes.now c.args.many (stmts c.args.ss.now) a c.cells.new.to c.requires.fits c.in_ok-cells.ensures c.stmts.new.to c.len-first.result is c.in_ok-stmts.ensures in
+    record { list = lie.0; branches = lie.1 }
+
+pub block-append_plain-requires : goal.block-append_plain-requires
+block-append_plain-requires g t c =
+    let s = c.args.self.now.scopes.now in
+    let a = c.args.to.now in
+    let ss = stmts c.args.ss.now in
+    let d : Draft = record c.stmts.new.to { out = c.aim_exits.new.out; exits = c.aim_exits.new.exits } in
+    let is : c.len-first.result ≡ length a.exits.items = omega (arith, c.len-first.ensures, a.exits.ok.0) in
+    record {
+      set = blocks.exit_set s c.args.many ss a c.cells.new.to c.requires.fits c.in_ok-cells.ensures c.stmts.new.to c.len-first.result is c.in_ok-stmts.ensures d c.aim_exits.ensures.aimed c.aim_exits.ensures.list refl
+          c.requires.ready.set;
+      room = blocks.exit_room s c.args.many ss a c.cells.new.to c.requires.fits c.in_ok-cells.ensures c.stmts.new.to c.len-first.result is c.in_ok-stmts.ensures d c.aim_exits.ensures.aimed c.aim_exits.ensures.list
+          refl c.requires.ready;
+    }
+
+pub block-returns : goal.block-returns
+block-returns g t c =
+    let s = c.args.self.now.scopes.now in
+    let a = c.args.to.now in
+    let ss = stmts c.args.ss.now in
+    let d : Draft = record c.stmts.new.to { out = c.aim_exits.new.out; exits = c.aim_exits.new.exits } in
+    let e : Draft = record d { out = c.append_plain.new.out } in
+    let is : c.len-first.result ≡ length a.exits.items = omega (arith, c.len-first.ensures, a.exits.ok.0) in
+    record {
+      code = on_ok_two c.append_plain.result
+          (blocks.block_stands s c.args.many ss a c.cells.new.to c.requires.fits c.in_ok-cells.ensures c.stmts.new.to c.len-first.result is c.in_ok-stmts.ensures d c.aim_exits.ensures.aimed c.aim_exits.ensures.list refl
+          e refl refl)
+          c.append_plain.ensures.code c.append_plain.ensures.size;
+      exits = on_ok_weaker c.append_plain.result
+          (λ h. blocks.none_left s c.args.many ss a c.cells.new.to c.requires.fits c.in_ok-cells.ensures c.stmts.new.to c.len-first.result is c.in_ok-stmts.ensures d c.aim_exits.ensures.aimed c.aim_exits.ensures.list refl)
+          c.append_plain.ensures.size;
+    }
+
+pub block_inside-returns : goal.block_inside-returns
+block_inside-returns g t c =
+    on_ok_weaker c.level-2.result
+    (λ o.
+    blocks.inner_coded c.args.self.now.scopes.now c.args.many (stmts c.args.ss.now) c.args.to.now c.block.new.to c.level.new.self c.level-2.new.self c.args.self.now.level c.requires.level.set c.in_ok-level.ensures.ok o
+    c.in_ok-block.ensures.code)
+    c.level-2.ensures.ok
+
+pub inner_block-block_inside-requires : goal.inner_block-block_inside-requires
+inner_block-block_inside-requires g t c =
+    let s = c.args.self.now.scopes.now in
+    let a = c.args.to.now in
+    let b : Draft = record a { out = c.append_branch.new.out } in
+    let over = c.in_ok-over.ensures in
+    let ready = blocks.inside_ready s c.args.many (stmts c.args.ss.now) a b over.level over.size refl c.requires.ready in
+    let fit = blocks.inside_fit s c.args.many (stmts c.args.ss.now) a b over.level over.size c.requires.fits in
+    let at = at_same a b over.level c.requires.level in
+    search (rules, stmts'.the_lemmas, decls'.the_lemmas, bodies'.the_lemmas, ready, fit, at)
+
+pub inner_block-aim-requires : goal.inner_block-aim-requires
+inner_block-aim-requires g t c =
+    let a = c.args.to.now in
+    let b : Draft = record a { out = c.append_branch.new.out } in
+    let over = c.in_ok-over.ensures in
+    blocks.over_lies c.args.self.now.scopes.now c.args.many (stmts c.args.ss.now) a b over.level over.size c.in_ok-over.over over.place over.code c.block_inside.new.to c.in_ok-block_inside.ensures c.requires.fits
+
+pub inner_block-append_entry-requires : goal.inner_block-append_entry-requires
+inner_block-append_entry-requires g t c =
+    let s = c.args.self.now.scopes.now in
+    let ss = stmts c.args.ss.now in
+    let a = c.args.to.now in
+    let b : Draft = record a { out = c.append_branch.new.out } in
+    let d : Draft = record c.block_inside.new.to { out = c.aim.new.out } in
+    let over = c.in_ok-over.ensures in
+    let code = c.in_ok-block_inside.ensures in
+    record {
+      set = set_same a.out d.out (blocks.entry_level s c.args.many ss a b over.level over.size c.in_ok-over.over over.place over.code c.block_inside.new.to code d c.aim.ensures c.requires.fits) c.requires.ready.set;
+      inner = blocks.entry_inner s c.args.many ss a b over.level over.size c.in_ok-over.over over.place over.code c.block_inside.new.to code d c.aim.ensures c.requires.fits c.args.self.now.level c.requires.level;
+      most = c.requires.inner;
+      place = omega (arith, c.place-begin.ensures, over.size, c.requires.ready.room);
+      room = blocks.entry_room s c.args.many ss a b over.level over.size c.in_ok-over.over over.place over.code c.block_inside.new.to code d c.aim.ensures c.requires.fits c.requires.ready;
+    }
+
+pub inner_block-returns : goal.inner_block-returns
+inner_block-returns g t c =
+    let a = c.args.to.now in
+    let b : Draft = record a { out = c.append_branch.new.out } in
+    let d : Draft = record c.block_inside.new.to { out = c.aim.new.out } in
+    let e : Draft = record c.block_inside.new.to { out = c.append_entry.new.out } in
+    let over = c.in_ok-over.ensures in
+    on_ok_two c.append_entry.result
+    (blocks.inner_stands c.args.self.now.scopes.now c.args.many (stmts c.args.ss.now) a b over.level over.size c.in_ok-over.over over.place over.code c.block_inside.new.to c.in_ok-block_inside.ensures d c.aim.ensures e
+    c.place-begin.result refl refl refl refl c.place-begin.ensures refl refl)
+    c.append_entry.ensures.code c.append_entry.ensures.size
+
+pub stmt-inner_block-requires : goal.stmt-inner_block-requires
+stmt-inner_block-requires g t c κs within =
+    let s = c.args.self.now.scopes.now in
+    let a = c.args.to.now in
+    let x = c.args.s.now in
+    let b = c.in-Block.b in
+    let ss = c.deref-else-is_empty.result.now in
+    let ds = c.deref-else-is_empty-2.result.now in
+    let same = c.deref-else-is_empty.ensures.value ∙ c.items-else-is_empty.ensures in
+    let ds_are = c.deref-else-is_empty-2.ensures.value ∙ c.items-else-is_empty-2.ensures in
+    let n : c.items.result.now.len ≡ length b.decls = omega (arith, c.items.result.now.ok.0, ap length c.items.ensures) in
+    let ready = blocked.inside_ready s a x b ss ds c.is_empty.result c.items.result.now.len c.variables.result c.in-Block.is same ds_are c.is_empty.ensures n c.if-is_empty.false c.variables.ensures c.requires.ready in
+    let fit = blocked.inside_fits s a x b ss ds c.is_empty.result c.items.result.now.len c.variables.result c.in-Block.is same ds_are c.is_empty.ensures n c.if-is_empty.false c.requires.fits in
+    let few = blocked.few_cells s a x b ss ds c.is_empty.result c.items.result.now.len c.variables.result c.in-Block.is same ds_are c.is_empty.ensures n c.if-is_empty.false c.variables.ensures c.requires.fits in
+    let inner = blocked.inside_level s a x b ss ds c.is_empty.result c.items.result.now.len c.variables.result c.in-Block.is same ds_are c.is_empty.ensures n c.if-is_empty.false c.args.self.now.level c.requires.level c.requires.fits in
+    (search (rules, stmts'.the_lemmas, decls'.the_lemmas, bodies'.the_lemmas), (within, (c.requires.level, (inner, (ready, (few, fit))))))
+
+pub stmt-returns-else-is_empty : goal.stmt-returns-else-is_empty
+stmt-returns-else-is_empty g t c =
+    let b = c.in-Block.b in
+    let same = c.deref-else-is_empty.ensures.value ∙ c.items-else-is_empty.ensures in
+    let ds_are = c.deref-else-is_empty-2.ensures.value ∙ c.items-else-is_empty-2.ensures in
+    let n : c.items.result.now.len ≡ length b.decls = omega (arith, c.items.result.now.ok.0, ap length c.items.ensures) in
+    on_ok_weaker c.inner_block.result
+    (blocked.inner_emitted c.args.self.now.scopes.now c.args.to.now c.args.s.now b c.deref-else-is_empty.result.now c.deref-else-is_empty-2.result.now c.is_empty.result c.items.result.now.len c.variables.result c.in-Block.is
+    same ds_are c.is_empty.ensures n c.if-is_empty.false c.variables.ensures c.inner_block.new.to)
+    c.inner_block.ensures
+
+pub stmt-returns-then-is_empty : goal.stmt-returns-then-is_empty
+stmt-returns-then-is_empty g t c =
+    let b = c.in-Block.b in
+    let n : c.items.result.now.len ≡ length b.decls = omega (arith, c.items.result.now.ok.0, ap length c.items.ensures) in
+    on_ok_weaker c.stmts.result
+    (blocked.compound_emitted c.args.self.now.scopes.now c.args.to.now c.stmts.new.to c.args.s.now b c.deref.result.now c.is_empty.result c.items.result.now.len c.in-Block.is
+    (c.deref.ensures.value ∙ c.items-then-is_empty.ensures) c.is_empty.ensures n c.if-is_empty.true)
+    c.stmts.ensures
