@@ -1,5 +1,4 @@
-pub mod Without
-pub mod OneBlock
+pub mod Decided
 pub mod Cells
 pub mod Near
 pub mod Couples

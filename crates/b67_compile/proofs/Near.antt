@@ -1,24 +1,75 @@
--- Each cell of a program of one block lies among the first of its frame, as many as its block may have.
-use Rattle.std.proofs.Common.{arith, ◌≡◌, ℕ, zero, suc, ◌+◌, ◌<◌, ◌≤◌, ◌==◌, Bool, true, false, List, [], ◌∷◌, ◌++◌, filter, length, Option, Some, None, refl, ap, ◌∙◌, append-nil, if◌then◌else◌}
-use Rattle.std.specs.List.{flat_map, AllByRecursion}
+-- Each cell of an accepted program that is built lies among the first of its frame, as many as its block may have.
+use Rattle.std.proofs.Common.{arith, ◌≡◌, ℕ, zero, suc, ◌+◌, ◌<◌, ◌≤◌, ◌==◌, nat_lt, Bool, true, false, cond, List, [], ◌∷◌, ◌++◌, filter, map, length, Option, Some, None, refl, ap, subst, ◌∙◌, length-append, slice_get, if◌then◌else◌}
+use Rattle.std.specs.List.{flat_map}
 use Rattle.std.proofs.lemmas.Bool.{ne_eqb}
-use Rattle.std.proofs.lemmas.List.Concat.{flat_map-append}
+use Rattle.std.proofs.lemmas.Bool.Decides.{nat_tests}
+use Rattle.std.proofs.lemmas.List.{length-map}
 use Rattle.algol_tree.specs.declared.TheConstants.{MOST_BLOCK_CELLS}
 use Rattle.algol_tree.specs.declared.token.Spot.{Spot}
-use Rattle.algol_tree.specs.declared.tree.Named.{Named}
-use Rattle.algol_tree.specs.Blocks.{Block, block_numbered, same_spot}
+use Rattle.algol_tree.specs.Blocks.{Block, block_numbered, number_at, same_spot}
 use Rattle.algol_tree.specs.Cells as cells
-use Rattle.algol_tree.specs.Cells.{Cell, cells_at, cells_of, index_from, layout, level_of, couple_at, couple_in}
+use Rattle.algol_tree.specs.Cells.{Cell, Content, cells_at, cells_of, content_number, holding, index_from, layout, level_of, couple_at, couple_in}
 use Rattle.algol_tree.specs.Couples.{Located, located, declaration_in, known_at, known_there}
-use Rattle.algol_tree.specs.Plain as tree
-use Rattle.algol_tree.specs.Plain.{PDecls, PStmts, PProgram}
-use Rattle.algol_tree.specs.Sites.{Site, sites_by, sites_in_decls, sites_in_stmts, has_decls}
+use Rattle.algol_tree.specs.Names.{cells_beyond, found_place, place_beyond}
+use Rattle.algol_tree.specs.Sites.{Site}
 use Rattle.algol_tree.specs.Sorts.{Declared}
-use Rattle.algol_tree.specs.Surroundings.{outermost, knowing_all}
-use Rattle.b67_templates.specs.Cells.{variables}
-use Rattle.b67_fitting.specs.OneBlock.{AreSimple}
-use Rattle.b67_fitting.proofs.Lists.{each_of, filter_none}
-use Rattle.b67_fitting.proofs.Aligned.{decl_cells, cells_declared, each_declared, laid_out, IsVariableCell}
+use Rattle.b67_fitting.proofs.Lists.{each_of, filter_none, nil_each}
+use Rattle.b67_compile.proofs.Cells.{AreOfFew, HasFew, HaveFew}
+
+-- ---- the layout of a frame has each cell once
+
+abbrev one : Bool → ℕ
+one true = 1
+one false = 0
+
+counted : {X : Type 0} (b : Bool) (x : X) (xs : List X) → length (cond b (x ∷ xs) xs) ≡ one b + length xs
+counted true x xs = omega arith
+counted false x xs = omega arith
+
+once : (k : Content) →
+    one (content_number k == 0) + one (content_number k == 1) + one (content_number k == 2) + one (content_number k == 3) + one (content_number k == 4) + one (content_number k == 5) ≡ 1
+once cells.parameter = refl
+once cells.result = refl
+once cells.variable = refl
+once cells.procedure = refl
+once cells.actual = refl
+once cells.made = refl
+
+all_held : (cs : List Cell) →
+    length (holding cells.parameter cs) + length (holding cells.result cs) + length (holding cells.variable cs) + length (holding cells.procedure cs) + length (holding cells.actual cs)
+    + length (holding cells.made cs) ≡ length cs
+all_held [] = refl
+all_held (c ∷ cs) =
+    let k = content_number c.content in
+    omega (
+      arith,
+      counted (k == 0) c (holding cells.parameter cs),
+      counted (k == 1) c (holding cells.result cs),
+      counted (k == 2) c (holding cells.variable cs),
+      counted (k == 3) c (holding cells.procedure cs),
+      counted (k == 4) c (holding cells.actual cs),
+      counted (k == 5) c (holding cells.made cs),
+      once c.content,
+      all_held cs,
+    )
+
+as_many_laid : (cs : List Cell) → length (layout cs) ≡ length cs
+as_many_laid cs =
+    let p = holding cells.parameter cs in
+    let r = holding cells.result cs in
+    let v = holding cells.variable cs in
+    let q = holding cells.procedure cs in
+    let a = holding cells.actual cs in
+    let m = holding cells.made cs in
+    omega (
+      arith,
+      length-append (p ++ r ++ v ++ q ++ a) m,
+      length-append (p ++ r ++ v ++ q) a,
+      length-append (p ++ r ++ v) q,
+      length-append (p ++ r) v,
+      length-append p r,
+      all_held cs,
+    )
 
 -- an index is one of the cells'
 index_within : (i : ℕ) (cs : List Cell) (spot : Spot) (found : ℕ) → index_from i cs spot ≡ Some found → found < i + length cs
@@ -32,65 +83,62 @@ index_within i (c ∷ cs) spot found h = by (same_spot c.spot spot) (index_withi
         omega (arith, same)
     by false later e = omega (arith, later e)
 
--- a block has no more cells than there are
-few_laid : (block : ℕ) (cs : List Cell) → AllByRecursion (IsVariableCell 0) cs → length (layout (filter (λ (c : Cell). c.block == block) cs)) ≤ length cs
-few_laid zero cs h = omega (arith, ap length (laid_out cs h))
-few_laid (suc k) cs h =
-    let none : filter (λ (c : Cell). c.block == suc k) cs ≡ [] =
-    filter_none (λ (c : Cell). c.block == suc k) cs
-    (each_of (IsVariableCell 0) (λ (c : Cell). (c.block == suc k) ≡ false) cs (λ c g. ne_eqb c.block (suc k) (λ e. omega (arith, e, g.0))) h) in
-    omega (arith, ap (λ z. length (layout z)) none)
+-- ---- limits that are kept
 
--- as many as simple variables
-as_many : (ds : PDecls) → length (decl_cells 0 ds) ≡ length (variables ds)
-as_many tree.no_decls = refl
-as_many (tree.decls (tree.simple kind ns) ds) = more ns (as_many ds)
-  where
-    more : (ms : List Named) → length (decl_cells 0 ds) ≡ length (variables ds) →
-        length (decl_cells 0 (tree.decls (tree.simple kind ms) ds)) ≡ length (variables (tree.decls (tree.simple kind ms) ds))
-    more [] h = h
-    more (m ∷ ms) h = omega (arith, more ms h)
-as_many (tree.decls d ds) = as_many ds
+no_longer : {X : Type 0} (xs : List X) (k : ℕ) → slice_get xs k ≡ None → length xs ≤ k
+no_longer [] k h = omega arith
+no_longer (x ∷ xs) zero h = absurd (let clash : Some x ≡ None = h in cc)
+no_longer (x ∷ xs) (suc k) h = omega (arith, no_longer xs k h)
 
-module _ (spot : Spot) (ds : PDecls) (ss : PStmts) (blocks : List Block) where
-  abbrev sites : List Site
-  sites = sites_by (tree.program (tree.body spot ds ss)) blocks
+not_found : (o : Option Spot) → found_place o ≡ [] → o ≡ None
+not_found None h = refl
+not_found (Some s) h = absurd (let clash : s ∷ [] ≡ [] = h in cc)
 
-  abbrev stmt_sites : List Site
-  stmt_sites = sites_in_stmts blocks ss (has_decls ds) (knowing_all blocks ds outermost)
+module _ (blocks : List Block) (all : List Site) where
+  -- each block has few (rule TooManyCells)
+  pub blocks_few : cells_beyond blocks all ≡ [] → HaveFew blocks all blocks
+  blocks_few h =
+      let spots : Block → List Spot = λ b. map (λ (c : Cell). c.spot) (cells_of blocks all (number_at blocks b.spot)) in
+      each_of (λ (b : Block). place_beyond MOST_BLOCK_CELLS (spots b) ≡ []) (λ (b : Block). HasFew blocks all (number_at blocks b.spot)) blocks
+      (λ b e.
+      omega (arith, no_longer (spots b) MOST_BLOCK_CELLS (not_found (slice_get (spots b) MOST_BLOCK_CELLS) e), length-map (cells_of blocks all (number_at blocks b.spot)) (λ (c : Cell). c.spot)))
+      (nil_each (λ (b : Block). place_beyond MOST_BLOCK_CELLS (spots b)) blocks h)
 
-  module _ (simple : AreSimple ds) (none : flat_map (cells_at blocks) stmt_sites ≡ []) (few : length (variables ds) ≤ MOST_BLOCK_CELLS) where
-    all_cells : flat_map (cells_at blocks) sites ≡ decl_cells 0 ds
-    all_cells =
-        flat_map-append (cells_at blocks) (sites_in_decls blocks ds outermost []) stmt_sites
-        ∙ ap (λ z. z ++ flat_map (cells_at blocks) stmt_sites) (cells_declared blocks ds outermost [] simple)
-        ∙ ap (λ z. decl_cells 0 ds ++ z) none
-        ∙ append-nil (decl_cells 0 ds)
+  module _ (few : AreOfFew blocks all all) where
+    -- also a number that is no block's
+    few_in : (block : ℕ) → HasFew blocks all block
+    few_in block = by (nat_lt MOST_BLOCK_CELLS (length (cells_of blocks all block))) refl
+      where
+        by : (b : Bool) → nat_lt MOST_BLOCK_CELLS (length (cells_of blocks all block)) ≡ b → HasFew blocks all block
+        by false e = grind (arith, nat_tests)
+        by true e =
+            let many : MOST_BLOCK_CELLS < length (cells_of blocks all block) = grind (arith, nat_tests) in
+            let none : filter (λ (c : Cell). c.block == block) (flat_map (cells_at blocks) all) ≡ [] =
+            filter_none (λ (c : Cell). c.block == block) (flat_map (cells_at blocks) all)
+            (each_of (λ (c : Cell). HasFew blocks all c.block) (λ (c : Cell). (c.block == block) ≡ false) (flat_map (cells_at blocks) all)
+            (λ c g.
+            ne_eqb c.block block
+            (λ same.
+            let here : HasFew blocks all block = subst (HasFew blocks all) same g in
+            omega (arith, here, many)))
+            few) in
+            omega (arith, ap (λ (cs : List Cell). length cs) none)
 
-    few_in : (block : ℕ) → length (layout (cells_of blocks sites block)) ≤ MOST_BLOCK_CELLS
-    few_in block =
-        omega (
-          arith,
-          ap (λ z. length (layout (filter (λ (c : Cell). c.block == block) z))) all_cells,
-          few_laid block (decl_cells 0 ds) (each_declared 0 ds simple),
-          as_many ds,
-          few,
-        )
-
-    couple_near : (level block : ℕ) (at : Spot) (o : Option ℕ) (c : cells.Couple) → index_from 2 (layout (cells_of blocks sites block)) at ≡ o → couple_at level o ≡ Some c →
+    couple_near : (level block : ℕ) (at : Spot) (o : Option ℕ) (c : cells.Couple) → index_from 2 (layout (cells_of blocks all block)) at ≡ o → couple_at level o ≡ Some c →
         c.index < 2 + MOST_BLOCK_CELLS
     couple_near level block at None c e h = absurd (let clash : None ≡ Some c = h in cc)
     couple_near level block at (Some i) c e h =
         let same : record { level = level; index = i } ≡ c = cc in
         let index : i ≡ c.index = ap (λ (z : cells.Couple). z.index) same in
-        omega (arith, index, index_within 2 (layout (cells_of blocks sites block)) at i e, few_in block)
+        let cs = cells_of blocks all block in
+        omega (arith, index, index_within 2 (layout cs) at i e, as_many_laid cs, few_in block)
 
-    pub located_near : (at : Spot) (d : Located) (c : cells.Couple) → declaration_in blocks sites at ≡ Some d → d.couple ≡ Some c → c.index < 2 + MOST_BLOCK_CELLS
-    located_near at d c h g = by (known_there (flat_map (known_at blocks) sites) at) h
+    pub located_near : (at : Spot) (d : Located) (c : cells.Couple) → declaration_in blocks all at ≡ Some d → d.couple ≡ Some c → c.index < 2 + MOST_BLOCK_CELLS
+    located_near at d c h g = by (known_there (flat_map (known_at blocks) all) at) h
       where
-        by : (o : Option Declared) → located blocks sites o ≡ Some d → c.index < 2 + MOST_BLOCK_CELLS
+        by : (o : Option Declared) → located blocks all o ≡ Some d → c.index < 2 + MOST_BLOCK_CELLS
         by None e = absurd (let clash : None ≡ Some d = e in cc)
         by (Some x) e =
-            let same : Some (record { spot = x.spot; level = x.depth + 2; couple = couple_in blocks sites x.block x.spot }) ≡ Some d = e in
-            let here : couple_in blocks sites x.block x.spot ≡ d.couple = cc in
-            couple_near (level_of (block_numbered blocks x.block)) x.block x.spot (index_from 2 (layout (cells_of blocks sites x.block)) x.spot) c refl (here ∙ g)
+            let same : Some (record { spot = x.spot; level = x.depth + 2; couple = couple_in blocks all x.block x.spot }) ≡ Some d = e in
+            let here : couple_in blocks all x.block x.spot ≡ d.couple = cc in
+            couple_near (level_of (block_numbered blocks x.block)) x.block x.spot (index_from 2 (layout (cells_of blocks all x.block)) x.spot) c refl (here ∙ g)

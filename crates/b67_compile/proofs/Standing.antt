@@ -16,7 +16,7 @@ use Rattle.b67_templates.specs.Cells.{variables}
 use Rattle.b67_templates.specs.Code.{StmtsAt, KAt}
 use Rattle.b67_templates.specs.Programs.{ProgramAt}
 use Rattle.b67_emit_stmt.specs.Bodies.{OuterAt}
-use Rattle.b67_fitting.specs.OneBlock.{AreSimple}
+use Rattle.b67_fitting.specs.Built.{AreSimple}
 
 -- statements are followed by what comes after them
 module _ (sc : Scopes) (formats : List Format) (ps : List Placed) (level : ℕ) where
@@ -39,18 +39,16 @@ module _ (spot : Spot) (ds : PDecls) (ss : PStmts) where
   program_at simple formats segment there =
       let sc = scopes_of (tree.program (tree.body spot ds ss)) in
       let stands = KAt sc formats there.operators OUTER_LEVEL in
-      let last : stands [] there.done = (there.done, there.over, stop, there.exit) in
-      let all : stands (items ss []) there.begun = items_at sc formats there.operators OUTER_LEVEL ss [] there.begun there.done there.stmts last in
+      let last : stands [] there.code.1 = (there.code.1, there.code.2, stop, there.code.5) in
+      let all : stands (items ss []) there.code.0 = items_at sc formats there.operators OUTER_LEVEL ss [] there.code.0 there.code.1 there.code.4 last in
       record {
         segment = segment;
         alone = refl;
         operators = there.operators;
         spells = there.spells;
         body = record {
-          zeroed = there.cells.0;
-          start = there.begun;
-          zeros = there.cells.1;
-          made = there.cells.2;
-          items = subst (λ (k : List Item). stands (k ++ items ss []) there.begun) (sym (no_items ds simple)) all;
+          start = there.code.0;
+          cells = there.code.3;
+          items = subst (λ (k : List Item). stands (k ++ items ss []) there.code.0) (sym (no_items ds simple)) all;
         };
       }

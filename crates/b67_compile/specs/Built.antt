@@ -1,4 +1,4 @@
--- How it is tested that a program is of one block.
+-- How it is tested that a program is built.
 use Rattle.std.specs.Prelude.{◌&&◌, Bool, true, false}
 use Rattle.algol_tree.specs.Plain as tree
 use Rattle.algol_tree.specs.Plain.{PStmt, PStmts, PDecl, PDecls}
@@ -17,30 +17,26 @@ abbrev pub are_cells_or_files : PDecls → Bool
 are_cells_or_files tree.no_decls = true
 are_cells_or_files (tree.decls d ds) = is_cell_or_file d && are_cells_or_files ds
 
-abbrev pub is_without : PDecls → Bool
-is_without tree.no_decls = true
-is_without (tree.decls d ds) = false
-
--- no declaration stands within a statement
+-- each declaration within a statement is of simple variables or of files
 abbrev mutual
-  pub declares_nothing : PStmt → Bool
-  declares_nothing tree.empty = true
-  declares_nothing (tree.label n s) = declares_nothing s
-  declares_nothing (tree.assign v e) = true
-  declares_nothing (tree.call_of c) = true
-  declares_nothing (tree.go_to n) = true
-  declares_nothing (tree.block (tree.body spot ds ss)) = is_without ds && declare_nothing ss
-  declares_nothing (tree.if_then c x) = declares_nothing x
-  declares_nothing (tree.if_else c x y) = declares_nothing x && declares_nothing y
-  declares_nothing (tree.while c b) = declares_nothing b
-  declares_nothing (tree.until b c) = declares_nothing b
-  declares_nothing (tree.for v a s l b) = declares_nothing b
-  declares_nothing (tree.thru e b) = declares_nothing b
-  declares_nothing (tree.case e ss) = declare_nothing ss
-  declares_nothing (tree.process c task) = true
-  declares_nothing (tree.event act e) = true
-  declares_nothing (tree.write n spot phrases es) = true
+  pub is_stmt_built : PStmt → Bool
+  is_stmt_built tree.empty = true
+  is_stmt_built (tree.label n s) = is_stmt_built s
+  is_stmt_built (tree.assign v e) = true
+  is_stmt_built (tree.call_of c) = true
+  is_stmt_built (tree.go_to n) = true
+  is_stmt_built (tree.block (tree.body spot ds ss)) = are_cells_or_files ds && stmts_are_built ss
+  is_stmt_built (tree.if_then c x) = is_stmt_built x
+  is_stmt_built (tree.if_else c x y) = is_stmt_built x && is_stmt_built y
+  is_stmt_built (tree.while c b) = is_stmt_built b
+  is_stmt_built (tree.until b c) = is_stmt_built b
+  is_stmt_built (tree.for v a s l b) = is_stmt_built b
+  is_stmt_built (tree.thru e b) = is_stmt_built b
+  is_stmt_built (tree.case e ss) = stmts_are_built ss
+  is_stmt_built (tree.process c task) = true
+  is_stmt_built (tree.event act e) = true
+  is_stmt_built (tree.write n spot phrases es) = true
 
-  pub declare_nothing : PStmts → Bool
-  declare_nothing tree.no_stmts = true
-  declare_nothing (tree.stmts s ss) = declares_nothing s && declare_nothing ss
+  pub stmts_are_built : PStmts → Bool
+  stmts_are_built tree.no_stmts = true
+  stmts_are_built (tree.stmts s ss) = is_stmt_built s && stmts_are_built ss

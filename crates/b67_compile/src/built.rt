@@ -2,8 +2,8 @@
 
 ghost use Rattle.std.specs.Prelude.{◌≡◌, ◌↔◌, IsTrue};
 ghost use Rattle.algol_tree.specs.Image.{decl, decls, program, stmt, stmts};
-ghost use Rattle.b67_compile.specs.Built.{is_cell_or_file, are_cells_or_files, declares_nothing, declare_nothing, is_without};
-ghost use Rattle.b67_fitting.specs.OneBlock.{IsOneBlock};
+ghost use Rattle.b67_compile.specs.Built.{is_cell_or_file, are_cells_or_files, is_stmt_built, stmts_are_built};
+ghost use Rattle.b67_fitting.specs.Built.{IsBuilt};
 
 use algol_tree::{Decl, Program, Stmt};
 
@@ -34,28 +34,23 @@ fn are_cells_or_files(ds: &[Decl]) -> bool
     true
 }
 
-/// Tests that there is no declaration.
-fn is_without(ds: &[Decl]) -> bool
-    ensures { result ≡ is_without (decls ds.now) }
-{
-    ds.is_empty()
-}
-
-/// Tests that no declaration stands within a statement.
+/// Tests that each declaration within a statement is of simple variables or of files.
 #[cycle(statements)]
-fn declares_nothing(s: &Stmt) -> bool
-    ensures { result ≡ declares_nothing (stmt s.now) }
+fn is_stmt_built(s: &Stmt) -> bool
+    ensures { result ≡ is_stmt_built (stmt s.now) }
 {
     match s {
-        Stmt::Label(_, s) => declares_nothing(s),
-        Stmt::Block(b) => is_without(b.decls.items()) && declare_nothing(b.stmts.items()),
-        Stmt::If(_, x, None) => declares_nothing(x),
-        Stmt::If(_, x, Some(y)) => declares_nothing(x) && declares_nothing(y),
-        Stmt::While(_, b) => declares_nothing(b),
-        Stmt::Until(b, _) => declares_nothing(b),
-        Stmt::For(_, _, _, _, b) => declares_nothing(b),
-        Stmt::Thru(_, b) => declares_nothing(b),
-        Stmt::Case(_, ss) => declare_nothing(ss.items()),
+        Stmt::Label(_, s) => is_stmt_built(s),
+        Stmt::Block(b) => {
+            are_cells_or_files(b.decls.items()) && stmts_are_built(b.stmts.items())
+        }
+        Stmt::If(_, x, None) => is_stmt_built(x),
+        Stmt::If(_, x, Some(y)) => is_stmt_built(x) && is_stmt_built(y),
+        Stmt::While(_, b) => is_stmt_built(b),
+        Stmt::Until(b, _) => is_stmt_built(b),
+        Stmt::For(_, _, _, _, b) => is_stmt_built(b),
+        Stmt::Thru(_, b) => is_stmt_built(b),
+        Stmt::Case(_, ss) => stmts_are_built(ss.items()),
         Stmt::Empty => true,
         Stmt::Assign(_, _) => true,
         Stmt::Call(_) => true,
@@ -67,20 +62,20 @@ fn declares_nothing(s: &Stmt) -> bool
 }
 
 #[cycle(statements)]
-fn declare_nothing(ss: &[Stmt]) -> bool
-    ensures { result ≡ declare_nothing (stmts ss.now) }
+fn stmts_are_built(ss: &[Stmt]) -> bool
+    ensures { result ≡ stmts_are_built (stmts ss.now) }
 {
     'statements: for s in ss {
-        if !declares_nothing(s) {
+        if !is_stmt_built(s) {
             return false;
         }
     }
     true
 }
 
-/// Tests that a program is of one block: all its declarations are those of its outer block, and are of simple variables and of files.
+/// Tests that a program is built: all that it declares are simple variables and files, in whatever block.
 pub fn is_built(tree: &Program) -> bool
-    ensures { IsTrue result ↔ IsOneBlock (program tree.now) }
+    ensures { IsTrue result ↔ IsBuilt (program tree.now) }
 {
-    are_cells_or_files(tree.body.decls.items()) && declare_nothing(tree.body.stmts.items())
+    are_cells_or_files(tree.body.decls.items()) && stmts_are_built(tree.body.stmts.items())
 }

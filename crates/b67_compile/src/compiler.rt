@@ -7,7 +7,7 @@ ghost use Rattle.algol_tree.specs.Image as plain;
 ghost use Rattle.algol_scope.specs.Resolved.{AreOf};
 ghost use Rattle.b67_listing.specs.Listings.{IsListable};
 ghost use Rattle.b67_templates.specs.Programs.{ProgramAt};
-ghost use Rattle.b67_fitting.specs.OneBlock.{IsOneBlock};
+ghost use Rattle.b67_fitting.specs.Built.{IsBuilt};
 ghost use Rattle.b67_fitting.specs.Texts.{HasPlainTexts};
 ghost use Rattle.b67_fitting.specs.Wholes.{HasWholeNumbers};
 ghost use Rattle.b67_faithful.specs.Faithful.{IsShort};
@@ -20,8 +20,8 @@ use b67_list::List;
 use b67_segment::Code;
 use std::alloc::{AllocError, Global};
 
-/// The code of a program whose declarations are all simple variables and files of its outer block: one segment, and a format for
-/// each line that is written, in order.
+/// The code of a program that declares simple variables and files alone, in whatever block: one segment, and a format for each line
+/// that is written, in order.
 pub fn compile<E: ExprEmitter>(
     alloc: Global,
     exprs: &E,
@@ -33,7 +33,7 @@ pub fn compile<E: ExprEmitter>(
     requires order { IsInOrder (plain.program program.now) }
     requires whole { HasWholeNumbers (plain.program program.now) }
     requires texts { HasPlainTexts (plain.program program.now) }
-    requires one { IsOneBlock (plain.program program.now) }
+    requires built { IsBuilt (plain.program program.now) }
     ensures code { IfOk result (λ code. ProgramAt code (plain.program program.now)) }
     ensures short { IfOk result (IsShort (plain.program program.now)) }
     ensures listable { IfOk result IsListable }

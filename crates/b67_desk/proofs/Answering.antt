@@ -8,7 +8,7 @@ use Rattle.algol_tree.specs.declared.token.Spot.{Spot}
 use Rattle.algol_tree.specs.declared.refusal.Code.{Code as RefusalCode}
 use Rattle.algol_tree.specs.Plain.{PProgram}
 use Rattle.algol_tree.specs.First.{Source, First}
-use Rattle.b67_fitting.specs.OneBlock.{IsOneBlock}
+use Rattle.b67_fitting.specs.Built.{IsBuilt}
 use Rattle.algol_tree.specs.declared.refusal.Code.TheVariants as refusals
 use Rattle.b67_io.specs.Faults.{Rose}
 use Rattle.b67_io.specs.Writing.{WroteFront}
@@ -21,6 +21,7 @@ use Rattle.b67_words.specs.declared.BadWords.{BadWords}
 use Rattle.b67_report.specs.declared.Report.{Report}
 use Rattle.b67_report.specs.Texts.{ReportText}
 use Rattle.algol_tree.specs.Accepted.{Accepted}
+use Rattle.algol_tree.specs.Ascending.{IsInOrder}
 use Rattle.b67_templates.specs.Programs.{ProgramAt}
 use Rattle.b67_faithful.specs.Faithful.{IsShort}
 use Rattle.b67_schedule.specs.declared.Run.{Run}
@@ -76,36 +77,36 @@ pub bad_answered : (budget : ℕ) (schedule kept : Option (List ℕ)) (input : �
 bad_answered budget schedule kept input tree byte result same bad is =
     subst (λ (o : Option (List ℕ)). IfOk result (λ a. Replays budget o input tree a.text.items a.status)) (sym same) (bad_is budget kept input tree byte result bad is)
 
--- the code of an accepted program of one block
-pub code_is_faithful : (tree : PProgram) (result : Result Code AllocError) → Accepted tree → IsOneBlock tree → IfOk result (λ code. ProgramAt code tree) → IfOk result (IsShort tree) →
-    IfOk result IsListable → IfOk result (Faithful tree)
-code_is_faithful tree (Ok code) a one there short listable = programs_are_faithful tree code a one there short listable
-code_is_faithful tree (Err e) a one there short listable = there
+-- the code of an accepted program that is built, whose places are in the order of the text
+pub code_is_faithful : (tree : PProgram) (result : Result Code AllocError) → Accepted tree → IsInOrder tree → IsBuilt tree → IfOk result (λ code. ProgramAt code tree) →
+    IfOk result (IsShort tree) → IfOk result IsListable → IfOk result (Faithful tree)
+code_is_faithful tree (Ok code) a order is_built there short listable = programs_are_faithful tree code a order is_built there short listable
+code_is_faithful tree (Err e) a order is_built there short listable = there
 
 pub listed_is : (tree : PProgram) (code : Code) (lines : List (List ℕ)) (text : List ℕ) → Faithful tree code → ListingText code lines → text ≡ listing_text lines →
     Lists tree text status.Finished
 listed_is tree code lines text faithful are is = subst (λ (t : List ℕ). Lists tree t status.Finished) (sym is) (listed code lines faithful are)
 
 -- a source that is not built, and one that is
-unbuilt_is : (tree : PProgram) (Its : List ℕ → Status → Type 0) (a : Answer) → (IsOneBlock tree → ⊥) → IsRefusal at_start refusals.Unbuilt a →
+unbuilt_is : (tree : PProgram) (Its : List ℕ → Status → Type 0) (a : Answer) → (IsBuilt tree → ⊥) → IsRefusal at_start refusals.Unbuilt a →
     BuiltOr tree Its a.text.items a.status
 unbuilt_is tree Its a none is =
     subst (λ (t : List ℕ). BuiltOr tree Its t a.status) (sym is.text)
     (subst (λ (s : Status). BuiltOr tree Its (refused_text at_start refusals.Unbuilt) s) (sym is.status) (unbuilt none))
 
-pub unbuilt_answered : (tree : PProgram) (Its : List ℕ → Status → Type 0) (result : Result Answer AllocError) → (IsOneBlock tree → ⊥) →
+pub unbuilt_answered : (tree : PProgram) (Its : List ℕ → Status → Type 0) (result : Result Answer AllocError) → (IsBuilt tree → ⊥) →
     IfOk result (IsRefusal at_start refusals.Unbuilt) → IfOk result (λ a. BuiltOr tree Its a.text.items a.status)
 unbuilt_answered tree Its (Ok a) none is = unbuilt_is tree Its a none is
 unbuilt_answered tree Its (Err e) none is = is
 
-pub built_answered : (tree : PProgram) (Its : List ℕ → Status → Type 0) (result : Result Answer AllocError) → IsOneBlock tree →
+pub built_answered : (tree : PProgram) (Its : List ℕ → Status → Type 0) (result : Result Answer AllocError) → IsBuilt tree →
     IfOk result (λ a. Its a.text.items a.status) → IfOk result (λ a. BuiltOr tree Its a.text.items a.status)
-built_answered tree Its (Ok a) one is = built a.text.items a.status one is
-built_answered tree Its (Err e) one is = is
+built_answered tree Its (Ok a) is_built is = built a.text.items a.status is_built is
+built_answered tree Its (Err e) is_built is = is
 
 -- under each command but `check`
 pub unbuilt_tree : (command : Words) (schedule : Option (List ℕ)) (input : ℕ) (tree : PProgram) (result : Result Answer AllocError) → command ≢ commands.Check →
-    (IsOneBlock tree → ⊥) → IfOk result (IsRefusal at_start refusals.Unbuilt) → IfOk result (λ a. AnswersTree command schedule input tree a.text.items a.status)
+    (IsBuilt tree → ⊥) → IfOk result (IsRefusal at_start refusals.Unbuilt) → IfOk result (λ a. AnswersTree command schedule input tree a.text.items a.status)
 unbuilt_tree (commands.Run processors budget) schedule input tree result other none is = unbuilt_answered tree (Runs processors budget tree) result none is
 unbuilt_tree commands.Check schedule input tree result other none is = absurd (other refl)
 unbuilt_tree commands.List schedule input tree result other none is = unbuilt_answered tree (Lists tree) result none is
@@ -115,20 +116,20 @@ module _ (command : Words) (schedule : Option (List ℕ)) (input : ℕ) (tree : 
   Told : Result Answer AllocError → Words → Type 0
   Told result w = IfOk result (λ a. AnswersTree w schedule input tree a.text.items a.status)
 
-  pub run_tree : (processors budget : ℕ) (result : Result Answer AllocError) → command ≡ commands.Run processors budget → IsOneBlock tree →
+  pub run_tree : (processors budget : ℕ) (result : Result Answer AllocError) → command ≡ commands.Run processors budget → IsBuilt tree →
       IfOk result (λ a. Runs processors budget tree a.text.items a.status) → IfOk result (λ a. AnswersTree command schedule input tree a.text.items a.status)
   unfolding Told
-  run_tree processors budget result is one told = subst (Told result) (sym is) (built_answered tree (Runs processors budget tree) result one told)
+  run_tree processors budget result is is_built told = subst (Told result) (sym is) (built_answered tree (Runs processors budget tree) result is_built told)
 
-  pub list_tree : (result : Result Answer AllocError) → command ≡ commands.List → IsOneBlock tree →
+  pub list_tree : (result : Result Answer AllocError) → command ≡ commands.List → IsBuilt tree →
       IfOk result (λ a. Lists tree a.text.items a.status) → IfOk result (λ a. AnswersTree command schedule input tree a.text.items a.status)
   unfolding Told
-  list_tree result is one told = subst (Told result) (sym is) (built_answered tree (Lists tree) result one told)
+  list_tree result is is_built told = subst (Told result) (sym is) (built_answered tree (Lists tree) result is_built told)
 
-  pub replay_tree : (budget : ℕ) (result : Result Answer AllocError) → command ≡ commands.Replay budget → IsOneBlock tree →
+  pub replay_tree : (budget : ℕ) (result : Result Answer AllocError) → command ≡ commands.Replay budget → IsBuilt tree →
       IfOk result (λ a. Replays budget schedule input tree a.text.items a.status) → IfOk result (λ a. AnswersTree command schedule input tree a.text.items a.status)
   unfolding Told
-  replay_tree budget result is one told = subst (Told result) (sym is) (built_answered tree (Replays budget schedule input tree) result one told)
+  replay_tree budget result is is_built told = subst (Told result) (sym is) (built_answered tree (Replays budget schedule input tree) result is_built told)
 
 -- a text that is refused, and one that is accepted
 module _ (bytes : List ℕ) (Its : PProgram → List ℕ → Status → Type 0) where

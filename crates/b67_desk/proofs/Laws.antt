@@ -11,8 +11,8 @@ use Rattle.b67_fitting.specs.Numbers.{SourcesHaveWholeNumbers}
 use Rattle.b67_fitting.specs.Texts.{SourcesHavePlainTexts}
 use Rattle.b67_fitting.proofs.Numbered.{sources_whole}
 use Rattle.b67_fitting.proofs.Written.{sources_plain}
-use Rattle.b67_pictures.specs.Programs.{OneBlockProgramsAreFaithful}
-use Rattle.b67_pictures.proofs.Joining.{one_block_programs_are_faithful}
+use Rattle.b67_pictures.specs.Programs.{BuiltProgramsAreFaithful}
+use Rattle.b67_pictures.proofs.Joining.{built_programs_are_faithful}
 
 pub sources_in_order : (bytes : List ℕ) (tree : PProgram) → Source bytes tree → IsInOrder tree
 sources_in_order bytes tree s = in_order s.tokens tree (tokens_ascend bytes s.tokens s.lexes) s.reads
@@ -23,8 +23,8 @@ sources_are_whole = sources_whole
 pub sources_are_plain : SourcesHavePlainTexts
 sources_are_plain = sources_plain
 
-pub programs_are_faithful : OneBlockProgramsAreFaithful
-programs_are_faithful = one_block_programs_are_faithful
+pub programs_are_faithful : BuiltProgramsAreFaithful
+programs_are_faithful = built_programs_are_faithful
 
 pub runs_grow : EachRunGrows
 runs_grow = each_grows

@@ -26,7 +26,7 @@ use Rattle.b67_report.specs.Texts.{ReportText, line_text, lines_text}
 use Rattle.b67_listing.specs.Listings.{ListingText}
 use Rattle.b67_segment.specs.declared.code.Code.{Code}
 use Rattle.b67_faithful.specs.Faithful.{Faithful}
-use Rattle.b67_fitting.specs.OneBlock.{IsOneBlock}
+use Rattle.b67_fitting.specs.Built.{IsBuilt}
 use Rattle.b67_parts.specs.declared.TheConstants.{MOST_INPUT_BYTES}
 use Rattle.b67_parts.specs.Parts.{Parts}
 use Rattle.b67_explain.specs.Explaining.{ExplainsRun, ExplainsReplay}
@@ -127,11 +127,11 @@ pub data Replays (budget : ℕ) (schedule : Option (List ℕ)) (input : ℕ) (tr
 abbrev pub at_start : Spot
 at_start = record { line = 1; column = 1 }
 
--- What a source with this tree is answered by under a command that wants its code: a refusal at 1:1 exactly where it is not built, as
--- all programs are but those of one block, else what answers a built one.
+-- What a source with this tree is answered by under a command that wants its code: a refusal at 1:1 exactly where it is not built, that
+-- is where it declares anything but simple variables and files, else what answers a built one.
 pub data BuiltOr (tree : PProgram) (AnswersIt : List ℕ → Status → Type 0) : List ℕ → Status → Type 0 where
-  unbuilt : (IsOneBlock tree → ⊥) → BuiltOr tree AnswersIt (refused_text at_start refusals.Unbuilt) (status.Refused at_start refusals.Unbuilt)
-  built : (text : List ℕ) (s : Status) → IsOneBlock tree → AnswersIt text s → BuiltOr tree AnswersIt text s
+  unbuilt : (IsBuilt tree → ⊥) → BuiltOr tree AnswersIt (refused_text at_start refusals.Unbuilt) (status.Refused at_start refusals.Unbuilt)
+  built : (text : List ℕ) (s : Status) → IsBuilt tree → AnswersIt text s → BuiltOr tree AnswersIt text s
 
 -- what a source with this tree is answered by under that command, with the schedule text beside it and the bytes of both
 abbrev pub AnswersTree : Words → Option (List ℕ) → ℕ → PProgram → List ℕ → Status → Type 0

@@ -4,7 +4,7 @@ ghost use Rattle.std.specs.Prelude.{◌≡◌, ◌≤◌, ℕ, List, IfOk, optio
 ghost use Rattle.algol_tree.specs.Image.{program as plain};
 ghost use Rattle.algol_tree.specs.First.{Source};
 ghost use Rattle.b67_words.specs.declared.TheConstants.{MOST_BUDGET};
-ghost use Rattle.b67_fitting.specs.OneBlock.{IsOneBlock};
+ghost use Rattle.b67_fitting.specs.Built.{IsBuilt};
 ghost use Rattle.b67_desk.specs.Answers.{AnswersTree, SaysAccepted, Runs, Lists, Replays, status_of};
 ghost use Rattle.b67_desk.specs.Calls.{InRange, IsRefusal, IsBadAt, IsReport};
 
@@ -67,7 +67,7 @@ fn accept_source(alloc: Global) -> Result<Answer, AllocError>
     })
 }
 
-/// The answer to a source of one block that is run, on so many processors under a budget.
+/// The answer to a built source that is run, on so many processors under a budget.
 fn answer_run(
     alloc: Global,
     processors: u32,
@@ -77,17 +77,17 @@ fn answer_run(
     requires some { 1 ≤ processors }
     requires most { budget ≤ MOST_BUDGET }
     requires source { (bytes : List ℕ) × Source bytes (plain checked.now.program) }
-    requires built { IsOneBlock (plain checked.now.program) }
+    requires built { IsBuilt (plain checked.now.program) }
     ensures { IfOk result (λ answer. Runs processors budget (plain checked.now.program) answer.text.items answer.status) }
 {
     let code = code_of(alloc, checked)?;
     tell(alloc, &run_report(alloc, processors, budget, code)?)
 }
 
-/// The answer to a source of one block whose code is listed.
+/// The answer to a built source whose code is listed.
 fn answer_list(alloc: Global, checked: &Checked) -> Result<Answer, AllocError>
     requires source { (bytes : List ℕ) × Source bytes (plain checked.now.program) }
-    requires built { IsOneBlock (plain checked.now.program) }
+    requires built { IsBuilt (plain checked.now.program) }
     ensures { IfOk result (λ answer. Lists (plain checked.now.program) answer.text.items answer.status) }
 {
     let code = code_of(alloc, checked)?;
@@ -108,7 +108,7 @@ fn refuse_schedule(alloc: Global, byte: u64) -> Result<Answer, AllocError>
     })
 }
 
-/// The answer to a source of one block that follows the schedule of a text, in an input of so many bytes.
+/// The answer to a built source that follows the schedule of a text, in an input of so many bytes.
 fn answer_replay(
     alloc: Global,
     budget: u64,
@@ -118,7 +118,7 @@ fn answer_replay(
 ) -> Result<Answer, AllocError>
     requires most { budget ≤ MOST_BUDGET }
     requires source { (bytes : List ℕ) × Source bytes (plain checked.now.program) }
-    requires built { IsOneBlock (plain checked.now.program) }
+    requires built { IsBuilt (plain checked.now.program) }
     ensures { IfOk result (λ answer. Replays budget (option_copied schedule.entry) input (plain checked.now.program) answer.text.items answer.status) }
 {
     let Some(text) = schedule else {

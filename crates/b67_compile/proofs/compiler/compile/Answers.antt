@@ -17,14 +17,14 @@ emit_body-requires-clause-near g c =
     let b = c.args.program.now.body in
     let s = c.args.scopes.now in
     let r = c.requires in
-    near b.spot (plain.decls b.decls) (plain.stmts b.stmts) s (given b s r.resolved r.accepted r.order r.whole r.texts r.one)
+    near b.spot (plain.decls b.decls) (plain.stmts b.stmts) s (given b s r.resolved r.accepted r.order r.whole r.texts r.built)
 
 pub emit_body-requires-clause-few : goal.emit_body-requires-clause-few
 emit_body-requires-clause-few g c =
     let b = c.args.program.now.body in
     let s = c.args.scopes.now in
     let r = c.requires in
-    few b.spot (plain.decls b.decls) (plain.stmts b.stmts) s (given b s r.resolved r.accepted r.order r.whole r.texts r.one)
+    few b.spot (plain.decls b.decls) (plain.stmts b.stmts) s (given b s r.resolved r.accepted r.order r.whole r.texts r.built)
 
 pub emit_body-requires-clause-fits : goal.emit_body-requires-clause-fits
 emit_body-requires-clause-fits g c =
@@ -33,7 +33,7 @@ emit_body-requires-clause-fits g c =
     let r = c.requires in
     let ds = plain.decls b.decls in
     let ss = plain.stmts b.stmts in
-    (scopes_of (tree.program (tree.body b.spot ds ss)), fits b.spot ds ss s (given b s r.resolved r.accepted r.order r.whole r.texts r.one))
+    (scopes_of (tree.program (tree.body b.spot ds ss)), fits b.spot ds ss s (given b s r.resolved r.accepted r.order r.whole r.texts r.built))
 
 pub emit_body-requires-clause-room : goal.emit_body-requires-clause-room
 emit_body-requires-clause-room g c =
@@ -41,7 +41,7 @@ emit_body-requires-clause-room g c =
     let s = c.args.scopes.now in
     let r = c.requires in
     subst (λ (z : PBody). 24 * body_tokens z + 48 ≤ 6 * MOST_SEGMENT_WORDS) (sym (body_is b))
-    (room b.spot (plain.decls b.decls) (plain.stmts b.stmts) s (given b s r.resolved r.accepted r.order r.whole r.texts r.one))
+    (room b.spot (plain.decls b.decls) (plain.stmts b.stmts) s (given b s r.resolved r.accepted r.order r.whole r.texts r.built))
 
 alone : {made pushed none : List Segment} {segment : Segment} → made ≡ pushed → pushed ≡ none ++ segment ∷ [] → none ≡ [] → made ≡ segment ∷ []
 alone {segment = segment} f g h = f ∙ g ∙ ap (λ segments. segments ++ segment ∷ []) h
@@ -53,12 +53,12 @@ returns-clause-code g c =
     let r = c.requires in
     let ds = plain.decls b.decls in
     let ss = plain.stmts b.stmts in
-    let has = given b s r.resolved r.accepted r.order r.whole r.texts r.one in
+    let has = given b s r.resolved r.accepted r.order r.whole r.texts r.built in
     let segment = c.in_ok-segment.segment in
     let formats = c.in_ok-segment.formats.items in
     let one = alone c.of.ensures c.in_ok-push.ensures.items c.new-segments.ensures.items in
     let there = c.in_ok-segment.ensures.code (scopes_of (tree.program (tree.body b.spot ds ss))) (fits b.spot ds ss s has) in
-    rw (one, c.of-2.ensures, body_is b) (program_at b.spot ds ss has.one.0 formats segment there)
+    rw (one, c.of-2.ensures, body_is b) (program_at b.spot ds ss has.built.0 formats segment there)
 
 pub returns-clause-listable : goal.returns-clause-listable
 returns-clause-listable g c =
@@ -67,11 +67,11 @@ returns-clause-listable g c =
     let r = c.requires in
     let ds = plain.decls b.decls in
     let ss = plain.stmts b.stmts in
-    let has = given b s r.resolved r.accepted r.order r.whole r.texts r.one in
+    let has = given b s r.resolved r.accepted r.order r.whole r.texts r.built in
     let segment = c.in_ok-segment.segment in
     let formats = c.in_ok-segment.formats.items in
     let one = alone c.of.ensures c.in_ok-push.ensures.items c.new-segments.ensures.items in
     let there = c.in_ok-segment.ensures.code (scopes_of (tree.program (tree.body b.spot ds ss))) (fits b.spot ds ss s has) in
     let tokens = ap body_tokens (body_is b) in
     let most : length segment.words ≤ MOST_SEGMENT_WORDS = omega (arith, c.in_ok-segment.ensures.short, room b.spot ds ss s has, tokens) in
-    rw (one, c.of-2.ensures) (listable segment formats there.operators there.done _ _ there.over there.spells there.exit most c.in_ok-segment.ensures.formats)
+    rw (one, c.of-2.ensures) (listable segment formats there.operators there.code.1 _ _ there.code.2 there.spells there.code.5 most c.in_ok-segment.ensures.formats)

@@ -18,5 +18,6 @@ compile-requires-clause-texts c = sources_are_plain c.requires.source.0 (plain c
 
 pub returns : goal.returns
 returns c =
-    code_is_faithful (plain c.args.checked.now.program) c.compile.result c.requires.source.1.accepted c.requires.built c.compile.ensures.code c.compile.ensures.short
-    c.compile.ensures.listable
+    let tree = plain c.args.checked.now.program in
+    code_is_faithful tree c.compile.result c.requires.source.1.accepted (sources_in_order c.requires.source.0 tree c.requires.source.1) c.requires.built
+    c.compile.ensures.code c.compile.ensures.short c.compile.ensures.listable

@@ -1,14 +1,14 @@
 use Rattle.std.proofs.Common.{◌≡◌, true, false, sym, ◌∙◌}
 use Rattle.std.specs.Prelude.{option_copied}
 use Rattle.algol_tree.specs.Image.{program as plain}
-use Rattle.b67_fitting.specs.OneBlock.{IsOneBlock}
+use Rattle.b67_fitting.specs.Built.{IsBuilt}
 use Rattle.b67_desk.proofs.Answering.{unbuilt_tree, run_tree, list_tree, replay_tree}
 use Rattle.b67_desk.proofs.tree.answer_tree.Goals as goal
 
 pub returns-then-not-is_built : goal.returns-then-not-is_built
 returns-then-not-is_built c =
     unbuilt_tree c.args.command (option_copied c.args.schedule) c.args.input (plain c.args.checked.now.program) c.refuse_source.result c.in_default.not-Check
-    (λ (one : IsOneBlock (plain c.args.checked.now.program)). let both : true ≡ false = sym (c.is_built.ensures.1 one) ∙ c.if-not-is_built.true in cc)
+    (λ (fits : IsBuilt (plain c.args.checked.now.program)). let both : true ≡ false = sym (c.is_built.ensures.1 fits) ∙ c.if-not-is_built.true in cc)
     c.refuse_source.ensures
 
 pub returns-in-Run : goal.returns-in-Run
