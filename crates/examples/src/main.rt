@@ -11,7 +11,7 @@ use std::{fs, io};
 const ROOM: usize = 65_536;
 
 /// The examples' names.
-const NAMES: [&str; 11] = [
+const NAMES: [&str; 12] = [
     "first",
     "copies",
     "widest",
@@ -23,6 +23,7 @@ const NAMES: [&str; 11] = [
     "palindrome",
     "truth",
     "powers",
+    "totient",
 ];
 
 /// The words of the command under which the reports are.

@@ -5,13 +5,13 @@ use std::test::Fail;
 
 const SUMMED: &[u8] = b"BEGIN FILE LINE; INTEGER I,J;\nI:=40; J:=I+2; WRITE(LINE,<I5>,J) END.\n";
 
-const INNER: &[u8] = b"BEGIN INTEGER I; BEGIN INTEGER J; J:=1 END END.";
+const INNER: &[u8] = b"BEGIN INTEGER I; BEGIN LABEL L; L: I:=1 END END.";
 
 /// Words and a source, with what is written and the exit status.
 type Answer = (&'static str, &'static [u8], &'static [u8], u8);
 
 /// What is said of words and of sources.
-const SAID: [Answer; 24] = [
+const SAID: [Answer; 26] = [
     ("", SUMMED, b"USAGE 1 MISSING\n", 2),
     ("rum 1 100", SUMMED, b"USAGE 1 UNKNOWN\n", 2),
     ("run 1", SUMMED, b"USAGE 3 MISSING\n", 2),
@@ -72,6 +72,18 @@ const SAID: [Answer; 24] = [
         b"REFUSED U0 1:1\n",
         1,
     ),
+    (
+        "run 1 100",
+        b"BEGIN IF TRUE THEN BEGIN INTEGER I; EVENT E; END END.",
+        b"REFUSED U0 1:1\n",
+        1,
+    ),
+    (
+        "list",
+        b"BEGIN BEGIN INTEGER I; BEGIN PROCEDURE P; ; END END END.",
+        b"REFUSED U0 1:1\n",
+        1,
+    ),
 ];
 
 #[test]
@@ -86,7 +98,7 @@ fn what_is_said(rt: HostRuntime) -> Result<(), Fail> {
 }
 
 /// Sources with the listings of their codes.
-const LISTED: [(&[u8], &[u8]); 2] = [
+const LISTED: [(&[u8], &[u8]); 3] = [
     (
         b"BEGIN END.",
         b"LISTING 7
@@ -111,6 +123,24 @@ SEGMENT 0 2
 00009 02 FE NOOP
 00010 02 FE NOOP
 00011 02 FE NOOP
+",
+    ),
+    (
+        b"BEGIN BEGIN INTEGER I; END END.",
+        b"LISTING 13
+SEGMENT 0 4
+00000 02 A20006 BRUN 6
+00003 03 B0 ZERO
+00004 03 B4 PUSH
+00005 03 A3 EXIT
+00006 02 AE MKST
+00007 02 BF00000000000600018000 MPCW 000600018000
+00018 02 AB ENTR
+00019 02 A3 EXIT
+00020 02 FE NOOP
+00021 02 FE NOOP
+00022 02 FE NOOP
+00023 02 FE NOOP
 ",
     ),
 ];

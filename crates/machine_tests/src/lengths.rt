@@ -1,4 +1,4 @@
-//! Sources at the limits of their length.
+//! Sources at the limits of their length, of their cells and of their levels.
 
 use crate::told::{answered, refused};
 use algol_tree::Code;
@@ -43,6 +43,101 @@ fn bytes_of_sources(rt: HostRuntime) -> Result<(), Fail> {
     blanks.extend_from_slice(b"\n%%SCHEDULE\nX")?;
     let part = answered(alloc, "replay 1", blanks.as_slice())?;
     assert!(rt; part.status == Status::TooLong);
+    Ok(())
+}
+
+/// A source of an inner block of so many integers, of which the first is written.
+fn wide_inner_block(alloc: Global, integers: u32) -> Result<Vec<u8>, AllocError> {
+    let mut bytes = Vec::from_slice(alloc, b"BEGIN FILE LINE; BEGIN INTEGER I0")?;
+    for number in 1..integers {
+        push_number(&mut bytes, b",\nI", number)?;
+    }
+    bytes.extend_from_slice(b";\nI0:=1;\nWRITE(LINE,<I4>,I0) END END.\n")?;
+    Ok(bytes)
+}
+
+#[test]
+fn integers_of_inner_blocks(rt: HostRuntime) -> Result<(), Fail> {
+    let alloc = rt.alloc();
+    let most = wide_inner_block(alloc, 400)?;
+    let most = answered(alloc, "run 1 1000", most.as_slice())?;
+    let end = b"OUTPUT 1\n   1\nEND FINISHED\nOPERATORS 1\n1 415\nACTS 1\n1 6\nSCHEDULE 1 1\n1*6\n";
+    assert!(rt; most.text.as_slice().ends_with(end));
+    let more = wide_inner_block(alloc, 401)?;
+    for words in ["run 1 1000", "check", "list"] {
+        let more = answered(alloc, words, more.as_slice())?;
+        assert!(rt; more.status == refused(401, 1, Code::TooManyCells));
+    }
+    Ok(())
+}
+
+/// A source of so many blocks that stand in one another, on lines of their own. They all declare the same integer, of which the
+/// innermost one is written, and then the outermost.
+fn nested_blocks(alloc: Global, blocks: u32) -> Result<Vec<u8>, AllocError> {
+    let mut bytes = Vec::from_slice(alloc, b"BEGIN FILE LINE; INTEGER I; I:=1")?;
+    for _ in 1..blocks {
+        bytes.extend_from_slice(b";\nBEGIN INTEGER I")?;
+    }
+    bytes.extend_from_slice(b";\nI:=7; WRITE(LINE,<I2>,I)")?;
+    for _ in 1..blocks {
+        bytes.extend_from_slice(b"\nEND")?;
+    }
+    bytes.extend_from_slice(b"; WRITE(LINE,<I2>,I) END.\n")?;
+    Ok(bytes)
+}
+
+/// A source of blocks that stand in one another, from that of level 2 to that of the level; each has an integer of its own, which is
+/// the one around it and 1, and the innermost one has so many terms of 1 more.
+fn counted_blocks(alloc: Global, level: u32, terms: u32) -> Result<Vec<u8>, AllocError> {
+    let mut bytes = Vec::from_slice(alloc, b"BEGIN FILE LINE; INTEGER I2; I2:=2")?;
+    let mut around = 2u32;
+    for inner in 3..=level {
+        push_number(&mut bytes, b";\nBEGIN INTEGER I", inner)?;
+        push_number(&mut bytes, b"; I", inner)?;
+        push_number(&mut bytes, b":=I", around)?;
+        bytes.extend_from_slice(b"+1")?;
+        around = inner;
+    }
+    for _ in 0..terms {
+        bytes.extend_from_slice(b"\n+1")?;
+    }
+    push_number(&mut bytes, b";\nWRITE(LINE,<I3,I4>,I2,I", around)?;
+    bytes.push(b')')?;
+    for _ in 2..=level {
+        bytes.extend_from_slice(b"\nEND")?;
+    }
+    bytes.extend_from_slice(b".\n")?;
+    Ok(bytes)
+}
+
+#[test]
+fn levels_of_blocks(rt: HostRuntime) -> Result<(), Fail> {
+    let alloc = rt.alloc();
+    // The blocks of the levels 2 to 31, and one more.
+    let most = nested_blocks(alloc, 30)?;
+    let most = answered(alloc, "run 1 1000", most.as_slice())?;
+    let end =
+        b"OUTPUT 2\n 7\n 1\nEND FINISHED\nOPERATORS 1\n1 222\nACTS 1\n1 65\nSCHEDULE 1 1\n1*65\n";
+    assert!(rt; most.text.as_slice().ends_with(end));
+    let counted = counted_blocks(alloc, 31, 0)?;
+    let counted = answered(alloc, "run 1 1000", counted.as_slice())?;
+    let end =
+        b"OUTPUT 1\n  2  31\nEND FINISHED\nOPERATORS 1\n1 360\nACTS 1\n1 121\nSCHEDULE 1 1\n1*121\n";
+    assert!(rt; counted.text.as_slice().ends_with(end));
+    // A weight far above the words that a stack may have, and a stack far below them.
+    let heavy = counted_blocks(alloc, 31, 800)?;
+    let heavy = answered(alloc, "run 1 10000", heavy.as_slice())?;
+    let end =
+        b"OUTPUT 1\n  2 831\nEND FINISHED\nOPERATORS 1\n1 1960\nACTS 1\n1 121\nSCHEDULE 1 1\n1*121\n";
+    assert!(rt; heavy.text.as_slice().ends_with(end));
+    let more = nested_blocks(alloc, 31)?;
+    for words in ["run 1 1000", "check", "list"] {
+        let more = answered(alloc, words, more.as_slice())?;
+        assert!(rt; more.status == refused(31, 1, Code::TooManyLevels));
+    }
+    let more = counted_blocks(alloc, 32, 0)?;
+    let more = answered(alloc, "run 1 1000", more.as_slice())?;
+    assert!(rt; more.status == refused(31, 1, Code::TooManyLevels));
     Ok(())
 }
 

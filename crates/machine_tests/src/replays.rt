@@ -10,6 +10,9 @@ const SUMMED: &[u8] = b"BEGIN FILE LINE; INTEGER I,J;\nI:=40; J:=I+2; WRITE(LINE
 
 const ENDLESS: &[u8] = b"BEGIN WHILE TRUE DO ; END.\n";
 
+const WITHIN: &[u8] =
+    b"BEGIN FILE L; INTEGER I; I:=40;\nBEGIN INTEGER J; J:=I+2; WRITE(L,<I3>,J) END END.\n";
+
 /// The words of a command, a source, the text of a schedule, how the report ends, and the exit status.
 type Followed = (
     &'static str,
@@ -20,7 +23,7 @@ type Followed = (
 );
 
 /// Schedules that are followed.
-const FOLLOWED: [Followed; 14] = [
+const FOLLOWED: [Followed; 22] = [
     (
         "replay 100",
         SHORTEST,
@@ -120,6 +123,64 @@ const FOLLOWED: [Followed; 14] = [
         b"OUTPUT 0\nEND BUDGET SPENT\nOPERATORS 1\n1 99\nACTS 1\n1 33\nSCHEDULE 1 1\n1*33\n",
         5,
     ),
+    // Before a block is entered, behind its entry, within it, before and behind its EXIT.
+    (
+        "replay 1000",
+        WITHIN,
+        b"SCHEDULE 1 1\n1*1\n",
+        b"OUTPUT 0\nEND SCHEDULE ENDED\nOPERATORS 1\n1 5\nACTS 1\n1 1\nSCHEDULE 1 1\n1*1\n",
+        12,
+    ),
+    (
+        "replay 1000",
+        WITHIN,
+        b"SCHEDULE 1 1\n1*2\n",
+        b"OUTPUT 0\nEND SCHEDULE ENDED\nOPERATORS 1\n1 9\nACTS 1\n1 2\nSCHEDULE 1 1\n1*2\n",
+        12,
+    ),
+    (
+        "replay 1000",
+        WITHIN,
+        b"SCHEDULE 1 1\n1*4\n",
+        b"OUTPUT 0\nEND SCHEDULE ENDED\nOPERATORS 1\n1 16\nACTS 1\n1 4\nSCHEDULE 1 1\n1*4\n",
+        12,
+    ),
+    (
+        "replay 1000",
+        WITHIN,
+        b"SCHEDULE 1 1\n1*6\n",
+        b"OUTPUT 1\n 42\nEND SCHEDULE ENDED\nOPERATORS 1\n1 21\nACTS 1\n1 6\nSCHEDULE 1 1\n1*6\n",
+        12,
+    ),
+    (
+        "replay 1000",
+        WITHIN,
+        b"SCHEDULE 1 1\n1*7\n",
+        b"OUTPUT 1\n 42\nEND SCHEDULE ENDED\nOPERATORS 1\n1 22\nACTS 1\n1 7\nSCHEDULE 1 1\n1*7\n",
+        12,
+    ),
+    (
+        "replay 1000",
+        WITHIN,
+        b"SCHEDULE 1 1\n1*8\n",
+        b"OUTPUT 1\n 42\nEND FINISHED\nOPERATORS 1\n1 23\nACTS 1\n1 8\nSCHEDULE 1 1\n1*8\n",
+        0,
+    ),
+    (
+        "replay 1000",
+        WITHIN,
+        b"SCHEDULE 1 1\n1*9\n",
+        b"OUTPUT 1\n 42\nEND ILLEGAL ENTRY 9\nOPERATORS 1\n1 23\nACTS 1\n1 8\nSCHEDULE 1 1\n1*8\n",
+        11,
+    ),
+    // The budget is spent while a block's variables are made.
+    (
+        "replay 11",
+        WITHIN,
+        b"SCHEDULE 1 1\n1*8\n",
+        b"OUTPUT 0\nEND BUDGET SPENT\nOPERATORS 1\n1 11\nACTS 1\n1 2\nSCHEDULE 1 1\n1*2\n",
+        5,
+    ),
 ];
 
 /// A source, the record behind it, and the text of a schedule.
@@ -199,7 +260,7 @@ const NOT_FOLLOWED: [(&[u8], &[u8], u8); 14] = [
         1,
     ),
     (
-        b"BEGIN INTEGER I; BEGIN INTEGER J; J:=1 END END.\n%%SCHEDULE\nX",
+        b"BEGIN INTEGER I; BEGIN LABEL L; L: I:=1 END END.\n%%SCHEDULE\nX",
         b"REFUSED U0 1:1\n",
         1,
     ),

@@ -1,4 +1,4 @@
-//! The rows: sources of one block that are run, and what comes of them.
+//! The rows: sources that are run, and what comes of them. Those of blocks within blocks stand in `blocks`.
 
 use b67_num::FaultKind;
 use b67_report::EndWords;
@@ -20,7 +20,7 @@ const REAL_RESULT: EndWords = EndWords::Fault {
     process: 1,
 };
 
-const DIVIDE_BY_ZERO: EndWords = EndWords::Fault {
+pub(crate) const DIVIDE_BY_ZERO: EndWords = EndWords::Fault {
     kind: FaultKind::DivideByZero,
     process: 1,
 };

@@ -1,5 +1,6 @@
 //! Runs of the rows, and whole reports.
 
+use crate::blocks::BLOCK_ROWS;
 use crate::rows::{ROWS, Row};
 use crate::told::answered;
 use b67_desk::Status;
@@ -44,9 +45,18 @@ fn run(rt: &impl Abort, alloc: Global, row: &Row) -> Result<(), Fail> {
 }
 
 #[test]
-fn sources_of_one_block(rt: HostRuntime) -> Result<(), Fail> {
+fn sources_without_inner_blocks(rt: HostRuntime) -> Result<(), Fail> {
     let alloc = rt.alloc();
     for row in &ROWS {
+        run(&rt, alloc, row)?;
+    }
+    Ok(())
+}
+
+#[test]
+fn sources_with_inner_blocks(rt: HostRuntime) -> Result<(), Fail> {
+    let alloc = rt.alloc();
+    for row in &BLOCK_ROWS {
         run(&rt, alloc, row)?;
     }
     Ok(())
@@ -87,5 +97,40 @@ fn whole_reports(rt: HostRuntime) -> Result<(), Fail> {
     assert!(rt; first.status == Status::BudgetSpent);
     let end = b"OUTPUT 0\nEND BUDGET SPENT\nOPERATORS 1\n1 1\nACTS 1\n1 0\nSCHEDULE 1 0\n";
     assert!(rt; first.text.as_slice().ends_with(end));
+    Ok(())
+}
+
+/// Sources, and how the reports of `run 1 100000` end.
+const ENDINGS: [(&[u8], &[u8]); 3] = [
+    // A variable that hides another.
+    (
+        b"BEGIN FILE LINE; INTEGER I; I:=1;
+WRITE(LINE,<I3>,I);
+BEGIN INTEGER I; WRITE(LINE,<I3>,I); I:=7; WRITE(LINE,<I3>,I) END;
+WRITE(LINE,<I3>,I) END.",
+        b"OUTPUT 4\n  1\n  0\n  7\n  1
+END FINISHED\nOPERATORS 1\n1 36\nACTS 1\n1 13\nSCHEDULE 1 1\n1*13\n",
+    ),
+    // A fault within a block.
+    (
+        b"BEGIN FILE LINE; INTEGER I; I:=3;
+BEGIN INTEGER J; WRITE(LINE,<I2>,I); I:=I DIV J END END.",
+        b"OUTPUT 1\n 3
+END FAULT DIVIDE BY ZERO IN 1\nOPERATORS 1\n1 20\nACTS 1\n1 7\nSCHEDULE 1 1\n1*7\n",
+    ),
+    // A block without statements.
+    (
+        b"BEGIN BEGIN INTEGER I; END END.",
+        b"OUTPUT 0\nEND FINISHED\nOPERATORS 1\n1 8\nACTS 1\n1 3\nSCHEDULE 1 1\n1*3\n",
+    ),
+];
+
+#[test]
+fn reports_of_inner_blocks(rt: HostRuntime) -> Result<(), Fail> {
+    let alloc = rt.alloc();
+    for (source, end) in ENDINGS {
+        let told = answered(alloc, "run 1 100000", source)?;
+        assert!(rt; told.text.as_slice().ends_with(end));
+    }
     Ok(())
 }
