@@ -25,6 +25,7 @@ pub record IsInner (sc : Scopes) (j : ℕ) (b : PBody) : Type 0 where
   pub around_is : around sc.blocks (number_at sc.blocks (spot_of b)) ≡ j ∷ around sc.blocks j
   pub decls_are : (block_numbered sc.blocks (number_at sc.blocks (spot_of b))).decls ≡ decls_in b
   pub stmts_are : (block_numbered sc.blocks (number_at sc.blocks (spot_of b))).stmts ≡ stmts_in b
+  pub nameless : (block_numbered sc.blocks (number_at sc.blocks (spot_of b))).name ≡ []
   pub parameters : (block_numbered sc.blocks (number_at sc.blocks (spot_of b))).parameters ≡ []
   pub result : (block_numbered sc.blocks (number_at sc.blocks (spot_of b))).result ≡ None
   pub low : level_of (block_numbered sc.blocks (number_at sc.blocks (spot_of b))) ≤ MOST_LEVEL

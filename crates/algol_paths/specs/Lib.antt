@@ -1,3 +1,4 @@
 pub mod Texts
 pub mod Blocks
+pub mod Segments
 pub mod Laws
