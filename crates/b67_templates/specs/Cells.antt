@@ -1,12 +1,13 @@
 -- Where the cells of a block lie in its frame, and which of them a name means.
-use Rattle.std.specs.Prelude.{◌≡◌, ℕ, ◌+◌, if◌then◌else◌, true, List, [], ◌∷◌, ◌++◌, map, Option, Some, None}
+use Rattle.std.specs.Prelude.{◌≡◌, ℕ, ◌+◌, if◌then◌else◌, true, List, [], ◌∷◌, ◌++◌, map, length, Option, Some, None, slice_get}
 use Rattle.algol_tree.specs.declared.tree.Kind.{Kind}
 use Rattle.algol_tree.specs.declared.tree.Named.{Named}
 use Rattle.algol_tree.specs.Plain as tree
 use Rattle.algol_tree.specs.Plain.{PDecls}
-use Rattle.algol_tree.specs.Sorts.{Parameter, same_name, is_variable}
-use Rattle.algol_tree.specs.Blocks.{Block, block_numbered}
+use Rattle.algol_tree.specs.Sorts.{Parameter, same_name, is_variable, procedure}
+use Rattle.algol_tree.specs.Blocks.{Block, block_numbered, number_at}
 use Rattle.algol_tree.specs.Scopes.{Scopes, use_of}
+use Rattle.algol_paths.specs.Segments.{segment_of}
 use Rattle.b67_ops.specs.declared.Couple.{Couple}
 
 -- a cell that needs no action: its name, and the kind of its values where it has one by its declaration
@@ -38,6 +39,31 @@ pub record Found : Type 0 where
 abbrev pub found_from : ℕ → List Simple → List ℕ → Option Found
 found_from k [] name = None
 found_from k (c ∷ cells) name = if same_name c.name name then Some (record { number = k; cell = c }) else found_from (k + 1) cells name
+
+-- the procedures that a block declares, in their order; FORWARD declares none of its own
+abbrev pub procedures : PDecls → List Named
+procedures tree.no_decls = []
+procedures (tree.decls (tree.procedure h s) ds) = h.name ∷ procedures ds
+procedures (tree.decls d ds) = procedures ds
+
+-- the segments of their code
+abbrev pub control_segments : Scopes → PDecls → List ℕ
+control_segments sc ds = map (λ (n : Named). segment_of sc.blocks (number_at sc.blocks n.spot)) (procedures ds)
+
+-- the cells of 0 that a block begins with: its result and its simple variables
+abbrev pub zero_cells : Block → List Simple
+zero_cells b = result_of b.result b.name ++ variables b.decls
+
+-- At this level the name is that of the procedure whose block has this number, and this is the couple of its control word, which lies
+-- behind the simple cells of the block that declares it.
+pub record IsProcedure (sc : Scopes) (level : ℕ) (n : Named) (callee : ℕ) (couple : Couple) : Type 0 where
+  pub sort_is : (use_of sc n).sort ≡ procedure callee
+  pub number : ℕ
+  pub declared : Named
+  pub there : slice_get (procedures ((block_numbered sc.blocks ((use_of sc n).block)).decls)) number ≡ Some declared
+  pub callee_is : number_at sc.blocks declared.spot ≡ callee
+  pub level_is : couple.level + (use_of sc n).up ≡ level
+  pub index_is : couple.index ≡ 2 + length (simple_cells (block_numbered sc.blocks ((use_of sc n).block))) + number
 
 -- At this level the name is a variable of this kind, and this is its couple. Its cell lies above the two words of the frame, and its level is
 -- as many levels up as the block that

@@ -11,6 +11,7 @@ use Rattle.algol_tree.specs.Plain as tree
 use Rattle.algol_tree.specs.Plain.{PExpr, PExprs, PStmt, PStmts, PDecls}
 use Rattle.algol_tree.specs.Spelling.{value_of}
 use Rattle.algol_tree.specs.Types.{given_by, taken_by}
+use Rattle.algol_tree.specs.Blocks.{block_numbered, number_at}
 use Rattle.algol_tree.specs.Scopes.{Scopes}
 use Rattle.algol_meaning.specs.Rest.{Loop, Item, run, turn, count, check, test, result, make_arrays, make_event}
 use Rattle.algol_meaning.specs.Statements.{difference_in, stepped, alone}
@@ -22,11 +23,11 @@ use Rattle.b67_ops.specs.declared.intrinsic.Intrinsic.TheVariants.{Write, Select
 use Rattle.b67_segment.specs.Operators.{Placed}
 use Rattle.b67_segment.specs.declared.code.Phrase.{Phrase}
 use Rattle.b67_segment.specs.declared.code.Phrase.TheVariants as parts
-use Rattle.b67_segment.specs.declared.code.Format.{Format}
-use Rattle.b67_templates.specs.Fragments.{Has, AllAt, NumberAt, ReadyAt, BranchAt, TurnAt, Goes, IntrinsicAt, EntryAt, operator_for, is_implication, truth_literal}
-use Rattle.b67_templates.specs.Cells.{variables, IsVariable}
+use Rattle.b67_templates.specs.Contexts.{Context}
+use Rattle.b67_templates.specs.Fragments.{Has, AllAt, ControlsAt, NumberAt, ReadyAt, BranchAt, TurnAt, Goes, IntrinsicAt, EntryAt, operator_for, is_implication, truth_literal}
+use Rattle.b67_templates.specs.Cells.{variables, control_segments, IsVariable, IsProcedure}
 
--- ---- formats
+-- ---- context
 
 -- Iw is a number in w columns, Xw are w blanks
 abbrev pub word_part : List ℕ → Phrase
@@ -68,11 +69,11 @@ pub data StepSign : ℤ → Type 0 where
   down : {z : ℤ} → int_lt z (pos 0) ≡ true → StepSign z
   still : StepSign (pos 0)
 
-module _ (sc : Scopes) (formats : List Format) (ps : List Placed) (level : ℕ) where
+module _ (sc : Scopes) (context : Context) (ps : List Placed) (level : ℕ) where
   -- the format of this number has these parts, and so many numbers
   pub record FormatIs (format : ℕ) (phrases : List PhraseText) (items : ℕ) : Type 0 where
     pub list : List Phrase
-    pub is : slice_get formats format ≡ Some (record { phrases = list })
+    pub is : slice_get context.formats format ≡ Some (record { phrases = list })
     pub parts : AreParts phrases list
     pub numbers : numbers_in list ≡ items
 
@@ -82,12 +83,37 @@ module _ (sc : Scopes) (formats : List Format) (ps : List Placed) (level : ℕ) 
   abbrev pub ReferenceAt : Named → Kind → ℕ → ℕ → Type 0
   ReferenceAt n kind from to = (c : Couple) × IsVariable sc level n kind c × Has ps level from (ops.Namc c) to
 
+  -- ---- calls
+
+  -- a mark, the reference of the procedure's control word, the entry
+  pub record CallAt (n : Named) (callee f t : ℕ) : Type 0 where
+    pub couple : Couple
+    pub procedure : IsProcedure sc level n callee couple
+    pub marked : ℕ
+    pub named : ℕ
+    pub mark : Has ps level f (ops.Plain kinds.Mkst) marked
+    pub reference : Has ps level marked (ops.Namc couple) named
+    pub enter : Has ps level named (ops.Plain kinds.Entr) t
+
+  -- a name alone in an expression: a variable is read, a typed procedure is called
+  pub data NameAt (k : Kind) (n : Named) (f t : ℕ) : Type 0 where
+    reads : ReadAt n k f t → NameAt k n f t
+    calls : (callee : ℕ) → CallAt n callee f t → (block_numbered sc.blocks callee).result ≡ Some k → NameAt k n f t
+
+  -- the result of a call that a statement makes is dropped
+  abbrev pub DroppedAt : Option Kind → ℕ → ℕ → Type 0
+  DroppedAt None f t = f ≡ t
+  DroppedAt (Some k) f t = Has ps level f (ops.Plain kinds.Dlet) t
+
+  abbrev pub CallStmtAt : Named → ℕ → ℕ → Type 0
+  CallStmtAt n f t = (callee : ℕ) × (m : ℕ) × CallAt n callee f m × DroppedAt (block_numbered sc.blocks callee).result m t
+
   -- ---- expressions: the value stands at the place after the code, or where that leads
 
   abbrev pub ExprAt : Kind → PExpr → ℕ → ℕ → ℕ → Type 0
   ExprAt k (tree.number z spot) f t u = (k ≡ types.Number) × NumberAt ps level z f t
   ExprAt k (tree.truth b spot) f t u = (k ≡ types.Truth) × Has ps level f (ops.Plain (truth_literal b)) t
-  ExprAt k (tree.variable (tree.subscripted n tree.none)) f t u = ReadAt n k f t
+  ExprAt k (tree.variable (tree.subscripted n tree.none)) f t u = NameAt k n f t
   ExprAt k (tree.paren e spot) f t u = ExprAt k e f t u
   ExprAt k (tree.plus e spot) f t u = (k ≡ types.Number) × ExprAt types.Number e f t u
   ExprAt k (tree.neg e spot) f t u = (m : ℕ) × (k ≡ types.Number) × ExprAt types.Number e f m m × Has ps level m (ops.Plain kinds.Chsn) t
@@ -166,79 +192,103 @@ module _ (sc : Scopes) (formats : List Format) (ps : List Placed) (level : ℕ) 
   MadeAt zero f t = f ≡ t
   MadeAt (suc n) f t = Has ps level f (ops.Plain kinds.Push) t
 
-  -- a zero for each variable, and their making into cells
-  abbrev pub CellsAt : ℕ → ℕ → ℕ → Type 0
-  CellsAt many f t = (m : ℕ) × AllAt ps level (replicate many kinds.Zero) f m × MadeAt many m t
+  -- a zero for each of so many, a control word for each of these segments, and their making into cells
+  abbrev pub CellsAt : ℕ → List ℕ → ℕ → ℕ → Type 0
+  CellsAt many segments f t =
+      (m : ℕ) × (n : ℕ) × AllAt ps level (replicate many kinds.Zero) f m × ControlsAt ps level segments m n × MadeAt (many + length segments) n t
 
-module _ (sc : Scopes) (formats : List Format) (ps : List Placed) where
+  -- the result of a procedure of that name is read, and given back
+  pub record ResultAt (name : List ℕ) (f : ℕ) : Type 0 where
+    pub kind : Kind
+    pub is : (block_numbered sc.blocks context.block).result ≡ Some kind
+    pub named : (block_numbered sc.blocks context.block).name ≡ name
+    pub couple : Couple
+    pub level_is : couple.level ≡ level
+    pub index_is : couple.index ≡ 2 + length (block_numbered sc.blocks context.block).parameters
+    pub valued : ℕ
+    pub over : ℕ
+    pub read : Has ps level f (ops.Valc couple) valued
+    pub back : Has ps level valued (ops.Plain kinds.Retn) over
+
+-- the context of a block of this number in the same segment
+abbrev pub in_block : ℕ → Context → Context
+in_block block context = record context { block = block }
+
+module _ (sc : Scopes) where
   abbrev mutual
-    pub StmtAt : ℕ → PStmt → ℕ → ℕ → ℕ → Type 0
-    StmtAt level tree.empty f t u = f ≡ t
-    StmtAt level (tree.assign (tree.subscripted n tree.none) e) f t u = AssignAt sc formats ps level n e f t
-    StmtAt level (tree.block (tree.body spot tree.no_decls ss)) f t u = StmtsAt level ss f t u
+    pub StmtAt : Context → List Placed → ℕ → PStmt → ℕ → ℕ → ℕ → Type 0
+    StmtAt context ps level tree.empty f t u = f ≡ t
+    StmtAt context ps level (tree.assign (tree.subscripted n tree.none) e) f t u = AssignAt sc context ps level n e f t
+    StmtAt context ps level (tree.call_of (tree.called n tree.none)) f t u = CallStmtAt sc context ps level n f t
+    StmtAt context ps level (tree.block (tree.body spot tree.no_decls ss)) f t u = StmtsAt context ps level ss f t u
     -- the code of an inner block, `InnerAt`, stands before its entry
-    StmtAt level (tree.block (tree.body spot (tree.decls d ds) ss)) f t u =
+    StmtAt context ps level (tree.block (tree.body spot (tree.decls d ds) ss)) f t u =
         (o : ℕ) × (at : ℕ) × Goes ps level f o
-        × ((b : ℕ) × (e : ℕ) × (v : ℕ) × CellsAt sc formats ps (level + 1) (length (variables (tree.decls d ds))) at b × StmtsAt (level + 1) ss b e e
+        × ((b : ℕ) × (e : ℕ) × (v : ℕ)
+        × CellsAt sc (in_block (number_at sc.blocks spot) context) ps (level + 1) (length (variables (tree.decls d ds))) (control_segments sc (tree.decls d ds)) at b
+        × StmtsAt (in_block (number_at sc.blocks spot) context) ps (level + 1) ss b e e
         × Has ps (level + 1) e (ops.Plain kinds.Exit) v)
-        × EntryAt ps level at o t
-    StmtAt level (tree.if_then c x) f t u =
-        (m : ℕ) × (m' : ℕ) × ExprAt sc formats ps level types.Truth c f m m × BranchAt ps level Brfl m u m' × StmtAt level x m' t u
-    StmtAt level (tree.if_else c x y) f t u =
-        (m : ℕ) × (m' : ℕ) × (n : ℕ) × (n' : ℕ) × ExprAt sc formats ps level types.Truth c f m m × BranchAt ps level Brfl m n' m' × StmtAt level x m' n u × BranchAt ps level Brun n u n'
-        × StmtAt level y n' t u
-    StmtAt level (tree.while c b) f t u =
-        (m : ℕ) × (m' : ℕ) × (n : ℕ) × ExprAt sc formats ps level types.Truth c f m m × BranchAt ps level Brfl m u m' × StmtAt level b m' n n × TurnAt ps level n f t
-    StmtAt level (tree.until b c) f t u = (q : ℕ) × StmtAt level b f q q × UntilAt sc formats ps level c f q t u
-    StmtAt level (tree.for v a s l b) f t u =
-        (q : ℕ) × (m : ℕ) × (n : ℕ) × (w : ℕ) × (x : ℕ) × AssignAt sc formats ps level v a f q × ExprAt sc formats ps level types.Number (tree.two operators.Sub (alone v) l) q m m × StepAt sc formats ps level s m u n
-        × StmtAt level b n w w × AssignAt sc formats ps level v (tree.two operators.Add (alone v) s) w x × TurnAt ps level x q t
-    StmtAt level (tree.thru e b) f t u =
-        (q : ℕ) × (l : ℕ) × (q' : ℕ) × (m : ℕ) × ExprAt sc formats ps level types.Number e f q q × CountAt sc formats ps level q l q' × StmtAt level b q' m m × TurnAt ps level m q l
+        × EntryAt ps level context.segment at o t
+    StmtAt context ps level (tree.if_then c x) f t u =
+        (m : ℕ) × (m' : ℕ) × ExprAt sc context ps level types.Truth c f m m × BranchAt ps level Brfl m u m' × StmtAt context ps level x m' t u
+    StmtAt context ps level (tree.if_else c x y) f t u =
+        (m : ℕ) × (m' : ℕ) × (n : ℕ) × (n' : ℕ) × ExprAt sc context ps level types.Truth c f m m × BranchAt ps level Brfl m n' m' × StmtAt context ps level x m' n u × BranchAt ps level Brun n u n'
+        × StmtAt context ps level y n' t u
+    StmtAt context ps level (tree.while c b) f t u =
+        (m : ℕ) × (m' : ℕ) × (n : ℕ) × ExprAt sc context ps level types.Truth c f m m × BranchAt ps level Brfl m u m' × StmtAt context ps level b m' n n × TurnAt ps level n f t
+    StmtAt context ps level (tree.until b c) f t u = (q : ℕ) × StmtAt context ps level b f q q × UntilAt sc context ps level c f q t u
+    StmtAt context ps level (tree.for v a s l b) f t u =
+        (q : ℕ) × (m : ℕ) × (n : ℕ) × (w : ℕ) × (x : ℕ) × AssignAt sc context ps level v a f q × ExprAt sc context ps level types.Number (tree.two operators.Sub (alone v) l) q m m × StepAt sc context ps level s m u n
+        × StmtAt context ps level b n w w × AssignAt sc context ps level v (tree.two operators.Add (alone v) s) w x × TurnAt ps level x q t
+    StmtAt context ps level (tree.thru e b) f t u =
+        (q : ℕ) × (l : ℕ) × (q' : ℕ) × (m : ℕ) × ExprAt sc context ps level types.Number e f q q × CountAt sc context ps level q l q' × StmtAt context ps level b q' m m × TurnAt ps level m q l
         × Has ps level l (ops.Plain kinds.Dlet) t
-    StmtAt level (tree.case e ss) f t u =
-        (a : ℕ) × (m : ℕ) × (table : ℕ) × IntrinsicAt ps level Select f a × ExprAt sc formats ps level types.Number e a m m × TableAt sc formats ps level (stmts_count ss) m table × CasesAt level ss table u
-    StmtAt level (tree.write n spot phrases es) f t u = WriteAt sc formats ps level phrases es f t
-    StmtAt level _ f t u = ⊥
+    StmtAt context ps level (tree.case e ss) f t u =
+        (a : ℕ) × (m : ℕ) × (table : ℕ) × IntrinsicAt ps level Select f a × ExprAt sc context ps level types.Number e a m m × TableAt sc context ps level (stmts_count ss) m table × CasesAt context ps level ss table u
+    StmtAt context ps level (tree.write n spot phrases es) f t u = WriteAt sc context ps level phrases es f t
+    StmtAt context ps level _ f t u = ⊥
 
-    pub StmtsAt : ℕ → PStmts → ℕ → ℕ → ℕ → Type 0
-    StmtsAt level tree.no_stmts f t u = f ≡ t
-    StmtsAt level (tree.stmts s tree.no_stmts) f t u = StmtAt level s f t u
-    StmtsAt level (tree.stmts s (tree.stmts s' ss)) f t u = (m : ℕ) × StmtAt level s f m m × StmtsAt level (tree.stmts s' ss) m t u
+    pub StmtsAt : Context → List Placed → ℕ → PStmts → ℕ → ℕ → ℕ → Type 0
+    StmtsAt context ps level tree.no_stmts f t u = f ≡ t
+    StmtsAt context ps level (tree.stmts s tree.no_stmts) f t u = StmtAt context ps level s f t u
+    StmtsAt context ps level (tree.stmts s (tree.stmts s' ss)) f t u = (m : ℕ) × StmtAt context ps level s f m m × StmtsAt context ps level (tree.stmts s' ss) m t u
 
     -- each entry of the table is a branch to its statement
-    pub CasesAt : ℕ → PStmts → ℕ → ℕ → Type 0
-    CasesAt level tree.no_stmts entry u = Unit {0}
-    CasesAt level (tree.stmts s ss) entry u =
-        (p : ℕ) × (x : ℕ) × BranchAt ps level Brun entry p (entry + 3) × StmtAt level s p x u × Goes ps level x u × CasesAt level ss (entry + 3) u
+    pub CasesAt : Context → List Placed → ℕ → PStmts → ℕ → ℕ → Type 0
+    CasesAt context ps level tree.no_stmts entry u = Unit {0}
+    CasesAt context ps level (tree.stmts s ss) entry u =
+        (p : ℕ) × (x : ℕ) × BranchAt ps level Brun entry p (entry + 3) × StmtAt context ps level s p x u × Goes ps level x u × CasesAt context ps level ss (entry + 3) u
 
-  -- the cells of an inner block, its statements, EXIT
-  abbrev pub InnerAt : ℕ → PDecls → PStmts → ℕ → Type 0
-  InnerAt level ds ss at =
-      (b : ℕ) × (e : ℕ) × (v : ℕ) × CellsAt sc formats ps level (length (variables ds)) at b × StmtsAt level ss b e e × Has ps level e (ops.Plain kinds.Exit) v
+  -- the cells of an inner block, its statements, EXIT; the context is that of the block
+  abbrev pub InnerAt : Context → List Placed → ℕ → PDecls → PStmts → ℕ → Type 0
+  InnerAt context ps level ds ss at =
+      (b : ℕ) × (e : ℕ) × (v : ℕ) × CellsAt sc context ps level (length (variables ds)) (control_segments sc ds) at b × StmtsAt context ps level ss b e e
+      × Has ps level e (ops.Plain kinds.Exit) v
 
-module _ (sc : Scopes) (formats : List Format) (ps : List Placed) (level : ℕ) where
+module _ (sc : Scopes) (context : Context) (ps : List Placed) (level : ℕ) where
   -- FOR from its test on
   abbrev pub LoopAt : Loop → ℕ → ℕ → ℕ → Type 0
   LoopAt loop q t u =
-      (m : ℕ) × (n : ℕ) × (w : ℕ) × (x : ℕ) × ExprAt sc formats ps level types.Number (difference_in loop) q m m × StepAt sc formats ps level loop.step m u n × StmtAt sc formats ps level loop.body n w w
-      × StmtAt sc formats ps level (stepped loop) w x x × TurnAt ps level x q t
+      (m : ℕ) × (n : ℕ) × (w : ℕ) × (x : ℕ) × ExprAt sc context ps level types.Number (difference_in loop) q m m × StepAt sc context ps level loop.step m u n × StmtAt sc context ps level loop.body n w w
+      × StmtAt sc context ps level (stepped loop) w x x × TurnAt ps level x q t
 
   -- THRU from its count on
   abbrev pub ThruAt : PStmt → ℕ → ℕ → Type 0
   ThruAt b q t =
-      (l : ℕ) × (q' : ℕ) × (m : ℕ) × CountAt sc formats ps level q l q' × StmtAt sc formats ps level b q' m m × TurnAt ps level m q l × Has ps level l (ops.Plain kinds.Dlet) t
+      (l : ℕ) × (q' : ℕ) × (m : ℕ) × CountAt sc context ps level q l q' × StmtAt sc context ps level b q' m m × TurnAt ps level m q l × Has ps level l (ops.Plain kinds.Dlet) t
 
-  -- ---- what is still to be done
+  -- ---- what is still to be done; a block without a result ends with EXIT
 
   abbrev pub KAt : List Item → ℕ → Type 0
-  KAt [] pc = (q : ℕ) × (to : ℕ) × Goes ps level pc q × Has ps level q (ops.Plain kinds.Exit) to
-  KAt (run s ∷ k) pc = (q : ℕ) × (t : ℕ) × (u : ℕ) × Goes ps level pc q × StmtAt sc formats ps level s q t u × Goes ps level t u × KAt k u
+  KAt [] pc = (q : ℕ) × (to : ℕ) × ((block_numbered sc.blocks context.block).result ≡ None) × Goes ps level pc q × Has ps level q (ops.Plain kinds.Exit) to
+  KAt (run s ∷ k) pc = (q : ℕ) × (t : ℕ) × (u : ℕ) × Goes ps level pc q × StmtAt sc context ps level s q t u × Goes ps level t u × KAt k u
   KAt (turn ∷ k) pc = (q : ℕ) × (l : ℕ) × (to : ℕ) × Goes ps level pc q × TurnAt ps level q l to × KAt k l
   KAt (count n b ∷ k) pc = (q : ℕ) × (t : ℕ) × (u : ℕ) × Goes ps level pc q × ThruAt b q t × Goes ps level t u × KAt k u
   KAt (check b c ∷ k) pc =
-      (q : ℕ) × (f : ℕ) × (t : ℕ) × (u : ℕ) × Goes ps level pc q × StmtAt sc formats ps level b f q q × UntilAt sc formats ps level c f q t u × Goes ps level t u × KAt k u
+      (q : ℕ) × (f : ℕ) × (t : ℕ) × (u : ℕ) × Goes ps level pc q × StmtAt sc context ps level b f q q × UntilAt sc context ps level c f q t u × Goes ps level t u × KAt k u
   KAt (test loop ∷ k) pc = (q : ℕ) × (t : ℕ) × (u : ℕ) × Goes ps level pc q × LoopAt loop q t u × KAt k u
-  KAt (result name ∷ k) pc = ⊥
+  -- the result comes last
+  KAt (result name ∷ []) pc = (q : ℕ) × Goes ps level pc q × ResultAt sc context ps level name q
+  KAt (result name ∷ item ∷ k) pc = ⊥
   KAt (make_arrays kind ns pairs ∷ k) pc = ⊥
   KAt (make_event n ∷ k) pc = ⊥

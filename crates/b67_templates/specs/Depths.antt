@@ -1,8 +1,9 @@
 -- How many words lie on the stack at most while a construct is evaluated or performed, and how many syllables its code has at most.
-use Rattle.std.specs.Prelude.{ℕ, ◌+◌, ◌*◌, ◌≤◌, List, [], ◌∷◌}
+use Rattle.std.specs.Prelude.{ℕ, ◌+◌, ◌*◌, ◌≤◌, List, [], ◌∷◌, length}
 use Rattle.algol_tree.specs.Plain as tree
 use Rattle.algol_tree.specs.Plain.{PExpr, PExprs, PStmt, PStmts, PBody}
 use Rattle.algol_tree.specs.Counts.{expr_tokens, stmt_tokens}
+use Rattle.b67_templates.specs.Cells.{procedures}
 use Rattle.algol_meaning.specs.Rest.{Item, run, turn, count, check, test, result, make_arrays, make_event}
 
 abbrev pub depth : PExpr → ℕ
@@ -12,6 +13,8 @@ depth (tree.neg e spot) = depth e
 depth (tree.not e spot) = depth e
 depth (tree.two op a b) = depth a + depth b
 depth (tree.if c x y spot) = depth c + depth x + depth y
+-- a name may be a call: a mark and a reference, or the value
+depth (tree.variable (tree.subscripted n tree.none)) = 2
 depth _ = 1
 
 abbrev pub line_depth : PExprs → ℕ
@@ -26,6 +29,7 @@ abbrev mutual
   pub stmt_depth : PStmt → ℕ
   stmt_depth (tree.assign v e) = 1 + depth e
   stmt_depth (tree.block b) = body_depth b
+  stmt_depth (tree.call_of c) = 2
   stmt_depth (tree.if_then c x) = depth c + stmt_depth x
   stmt_depth (tree.if_else c x y) = depth c + stmt_depth x + stmt_depth y
   stmt_depth (tree.while c b) = depth c + stmt_depth b
@@ -43,10 +47,10 @@ abbrev mutual
   stmts_depth tree.no_stmts = 0
   stmts_depth (tree.stmts s ss) = stmt_depth s + stmts_depth ss
 
-  -- of an inner block a mark and its control word lie there, until it is entered
+  -- of an inner block a mark and its control word lie there, until it is entered, and then the control words of its procedures
   pub body_depth : PBody → ℕ
   body_depth (tree.body spot tree.no_decls ss) = stmts_depth ss
-  body_depth (tree.body spot (tree.decls d ds) ss) = 2 + stmts_depth ss
+  body_depth (tree.body spot (tree.decls d ds) ss) = 2 + length (procedures (tree.decls d ds)) + stmts_depth ss
 
 -- how many words an item of what is to be done needs above those that lie below it
 abbrev pub item_depth : Item → ℕ

@@ -1,6 +1,6 @@
--- Which trees have code: each part has the kind that its place wants, each name is a variable whose couple is known, and of a format
--- no word is wider than a line, and each text can stand between quotes.
-use Rattle.std.specs.Prelude.{◌≡◌, ℕ, ◌+◌, ◌≤◌, not, IsTrue, Option, Some, List, [], ◌∷◌, length}
+-- Which trees have code: each part has the kind that its place wants, each name is a variable or a procedure whose couple is known, and
+-- of a format no word is wider than a line, and each text can stand between quotes.
+use Rattle.std.specs.Prelude.{◌≡◌, ◌⊎◌, ℕ, ◌+◌, ◌≤◌, not, IsTrue, Option, Some, None, is_some, List, [], ◌∷◌, length}
 use Rattle.std.specs.List.{All}
 use Rattle.algol_tree.specs.declared.token.Spot.{Spot}
 use Rattle.algol_tree.specs.declared.tree.Kind.{Kind}
@@ -14,12 +14,13 @@ use Rattle.algol_tree.specs.Spelling.{value_of}
 use Rattle.algol_tree.specs.Plain as tree
 use Rattle.algol_tree.specs.Plain.{PExpr, PExprs, PStmt, PStmts, PDecls}
 use Rattle.algol_tree.specs.Types.{given_by, taken_by}
+use Rattle.algol_tree.specs.Blocks.{block_numbered}
 use Rattle.algol_tree.specs.Scopes.{Scopes}
 use Rattle.b67_ops.specs.declared.Couple.{Couple}
 use Rattle.b67_ops.specs.declared.TheConstants.{MOST_LEVEL}
 use Rattle.b67_segment.specs.declared.code.Phrase.{Phrase}
 use Rattle.b67_templates.specs.Fragments.{IsWhole}
-use Rattle.b67_templates.specs.Cells.{variables, IsVariable}
+use Rattle.b67_templates.specs.Cells.{variables, procedures, IsVariable, IsProcedure}
 use Rattle.b67_templates.specs.Code.{AreParts, numbers_in, exprs_count}
 
 -- each byte of the text is printable and no quote
@@ -39,15 +40,45 @@ abbrev pub PhrasesFit : List PhraseText → Type 0
 PhrasesFit [] = Unit {0}
 PhrasesFit (p ∷ ps) = PhraseFits p × PhrasesFit ps
 
+-- the couple of a name on the left: that of the result, where the name means a typed procedure, and its own otherwise
+abbrev pub couple_on_left : Option Couple → Option Couple → Option Couple
+couple_on_left None own = own
+couple_on_left (Some c) own = Some c
+
+-- .. by the places of names
+abbrev pub on_left : (Spot → Option Couple) → (Spot → Option Couple) → Spot → Option Couple
+on_left results known spot = couple_on_left (results spot) (known spot)
+
 -- `known` are the couples of names by their places in the text
 module _ (sc : Scopes) (known : Spot → Option Couple) (level : ℕ) where
   abbrev pub NameFits : Kind → Named → Type 0
   NameFits k n = (c : Couple) × (known n.spot ≡ Some c) × IsVariable sc level n k c
 
+-- `results` are the couples of the results of the typed procedures that names mean, by their places in the text
+module _ (sc : Scopes) (known results : Spot → Option Couple) (level : ℕ) where
+  -- a variable that is read
+  abbrev pub ReadFits : Kind → Named → Type 0
+  ReadFits k n = NameFits sc known level k n × (results n.spot ≡ None)
+
+  -- a variable or a result that is assigned
+  abbrev pub LeftFits : Kind → Named → Type 0
+  LeftFits k n = NameFits sc (on_left results known) level k n
+
+  -- the name of a procedure, and the couple of its control word; it is known whether the procedure is typed
+  pub record ProcedureFits (n : Named) (callee : ℕ) : Type 0 where
+    pub couple : Couple
+    pub known_is : known n.spot ≡ Some couple
+    pub procedure : IsProcedure sc level n callee couple
+    pub typed : is_some (results n.spot) ≡ is_some ((block_numbered sc.blocks callee).result)
+
+  -- .. of a typed one
+  abbrev pub CallFits : Kind → Named → Type 0
+  CallFits k n = (callee : ℕ) × ProcedureFits n callee × ((block_numbered sc.blocks callee).result ≡ Some k)
+
   abbrev pub ExprFits : Kind → PExpr → Type 0
   ExprFits k (tree.number z spot) = (k ≡ types.Number) × IsWhole z
   ExprFits k (tree.truth b spot) = k ≡ types.Truth
-  ExprFits k (tree.variable (tree.subscripted n tree.none)) = NameFits k n
+  ExprFits k (tree.variable (tree.subscripted n tree.none)) = ReadFits k n ⊎ CallFits k n
   ExprFits k (tree.paren e spot) = ExprFits k e
   ExprFits k (tree.plus e spot) = (k ≡ types.Number) × ExprFits types.Number e
   ExprFits k (tree.neg e spot) = (k ≡ types.Number) × ExprFits types.Number e
@@ -57,7 +88,7 @@ module _ (sc : Scopes) (known : Spot → Option Couple) (level : ℕ) where
   ExprFits k _ = ⊥
 
   abbrev pub AssignFits : Named → PExpr → Type 0
-  AssignFits n e = (k : Kind) × NameFits k n × ExprFits k e
+  AssignFits n e = (k : Kind) × LeftFits k n × ExprFits k e
 
   abbrev pub LineFits : PExprs → Type 0
   LineFits tree.none = Unit {0}
@@ -67,26 +98,28 @@ module _ (sc : Scopes) (known : Spot → Option Couple) (level : ℕ) where
   abbrev pub WriteFits : List PhraseText → PExprs → Type 0
   WriteFits phrases es = PhrasesFit phrases × ((parts : List Phrase) → AreParts phrases parts → numbers_in parts ≡ exprs_count es) × LineFits es
 
--- an inner block has a level that the machine has, and no more variables than a block may have cells
+-- an inner block has a level that the machine has, and no more variables and procedures than a block may have cells
 abbrev pub BlockFits : ℕ → PDecls → Type 0
-BlockFits level ds = (level + 1 ≤ MOST_LEVEL) × (length (variables ds) ≤ MOST_BLOCK_CELLS)
+BlockFits level ds = (level + 1 ≤ MOST_LEVEL) × (length (variables ds) + length (procedures ds) ≤ MOST_BLOCK_CELLS)
 
-module _ (sc : Scopes) (known : Spot → Option Couple) where
+module _ (sc : Scopes) (known results : Spot → Option Couple) where
   abbrev mutual
     pub StmtFits : ℕ → PStmt → Type 0
     StmtFits level tree.empty = Unit {0}
-    StmtFits level (tree.assign (tree.subscripted n tree.none) e) = AssignFits sc known level n e
+    StmtFits level (tree.assign (tree.subscripted n tree.none) e) = AssignFits sc known results level n e
+    StmtFits level (tree.call_of (tree.called n tree.none)) = (callee : ℕ) × ProcedureFits sc known results level n callee
     StmtFits level (tree.block (tree.body spot tree.no_decls ss)) = StmtsFit level ss
     StmtFits level (tree.block (tree.body spot (tree.decls d ds) ss)) = BlockFits level (tree.decls d ds) × StmtsFit (level + 1) ss
-    StmtFits level (tree.if_then c x) = ExprFits sc known level types.Truth c × StmtFits level x
-    StmtFits level (tree.if_else c x y) = ExprFits sc known level types.Truth c × StmtFits level x × StmtFits level y
-    StmtFits level (tree.while c b) = ExprFits sc known level types.Truth c × StmtFits level b
-    StmtFits level (tree.until b c) = StmtFits level b × ExprFits sc known level types.Truth c
+    StmtFits level (tree.if_then c x) = ExprFits sc known results level types.Truth c × StmtFits level x
+    StmtFits level (tree.if_else c x y) = ExprFits sc known results level types.Truth c × StmtFits level x × StmtFits level y
+    StmtFits level (tree.while c b) = ExprFits sc known results level types.Truth c × StmtFits level b
+    StmtFits level (tree.until b c) = StmtFits level b × ExprFits sc known results level types.Truth c
+    -- the control variable is read, and it is assigned
     StmtFits level (tree.for v a s l b) =
-        NameFits sc known level types.Number v × ExprFits sc known level types.Number a × ExprFits sc known level types.Number s × ExprFits sc known level types.Number l × StmtFits level b
-    StmtFits level (tree.thru e b) = ExprFits sc known level types.Number e × StmtFits level b
-    StmtFits level (tree.case e ss) = ExprFits sc known level types.Number e × StmtsFit level ss
-    StmtFits level (tree.write n spot phrases es) = WriteFits sc known level phrases es
+        ReadFits sc known results level types.Number v × LeftFits sc known results level types.Number v × ExprFits sc known results level types.Number a × ExprFits sc known results level types.Number s × ExprFits sc known results level types.Number l × StmtFits level b
+    StmtFits level (tree.thru e b) = ExprFits sc known results level types.Number e × StmtFits level b
+    StmtFits level (tree.case e ss) = ExprFits sc known results level types.Number e × StmtsFit level ss
+    StmtFits level (tree.write n spot phrases es) = WriteFits sc known results level phrases es
     StmtFits level _ = ⊥
 
     pub StmtsFit : ℕ → PStmts → Type 0

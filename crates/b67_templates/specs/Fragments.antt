@@ -69,10 +69,6 @@ is_implication _ = false
 
 -- ---- code that is entered
 
--- the segment of the program's own text: today it is the only one
-abbrev pub program_segment : ℕ
-program_segment = 0
-
 -- the control word of code that begins at a place of a segment and runs at a level
 abbrev pub code_at : ℕ → ℕ → ℕ → Pcw
 code_at segment place level =
@@ -121,10 +117,16 @@ module _ (ps : List Placed) (level : ℕ) where
   IntrinsicAt name from to = (m : ℕ) × Has from (ops.Plain kinds.Mkst) m × Has m (ops.Namc (couple_of_intrinsic name)) to
 
   -- a mark, the control word of the code that begins at a place one level further in, and the entry of it
-  pub record EntryAt (begin from to : ℕ) : Type 0 where
+  pub record EntryAt (segment begin from to : ℕ) : Type 0 where
     pub marked : ℕ
     pub named : ℕ
     pub mark : Has from (ops.Plain kinds.Mkst) marked
-    pub control : Has marked (ops.Mpcw (pcw_word (code_at program_segment begin (level + 1))).bits) named
-    pub fits : Fits_pcw (code_at program_segment begin (level + 1))
+    pub control : Has marked (ops.Mpcw (pcw_word (code_at segment begin (level + 1))).bits) named
+    pub fits : Fits_pcw (code_at segment begin (level + 1))
     pub enter : Has named (ops.Plain kinds.Entr) to
+
+  -- control words of the code of procedures: each begins at the start of its segment and runs one level further in
+  abbrev pub ControlsAt : List ℕ → ℕ → ℕ → Type 0
+  ControlsAt [] from to = from ≡ to
+  ControlsAt (segment ∷ segments) from to =
+      (m : ℕ) × Has from (ops.Mpcw (pcw_word (code_at segment 0 (level + 1))).bits) m × Fits_pcw (code_at segment 0 (level + 1)) × ControlsAt segments m to

@@ -1,3 +1,4 @@
+pub mod Contexts
 pub mod Fragments
 pub mod Cells
 pub mod Code
