@@ -11,7 +11,7 @@ use Rattle.b67_ops.specs.declared.Operator.TheVariants as ops
 use Rattle.b67_ops.specs.declared.PlainKind.TheVariants as kinds
 use Rattle.b67_segment.specs.Operators.{Placed}
 use Rattle.b67_segment.specs.declared.code.Code.{Code}
-use Rattle.b67_segment.specs.declared.code.Format.{Format}
+use Rattle.b67_templates.specs.Contexts.{Context}
 use Rattle.b67_table.specs.PrivateRows.{arithmetic, relation}
 use Rattle.b67_table.specs.Rows.{row}
 use Rattle.b67_templates.specs.Fragments.{IsWhole, Has}
@@ -27,7 +27,7 @@ use Rattle.b67_cores.proofs.Signs.{less_one, counted_down, sign_is, signed, past
 abbrev num : ℤ → Slot
 num z = operand (number z)
 
-module _ (sc : Scopes) (formats : List Format) (code : Code) (ps : List Placed) (level most bound : ℕ) (core : Core) (st : Standing sc code ps level most bound core) where
+module _ (sc : Scopes) (context : Context) (code : Code) (ps : List Placed) (level most bound : ℕ) (core : Core) (st : Standing sc code ps level most bound core) where
   abbrev Gets : ℕ → List Slot → ℕ → List Slot → Type 0
   Gets = Goes sc code ps level most bound core st
 
@@ -84,31 +84,31 @@ module _ (sc : Scopes) (formats : List Format) (code : Code) (ps : List Placed) 
   goes_on f g = on sc code ps level most bound core st f g
 
   zero_on : (x : List Slot) → HasRoom most x 1 → (from to : ℕ) → Has ps level from (ops.Plain kinds.Zero) to → Gets from x to (num (pos 0) ∷ x)
-  zero_on x room from to at = zero_at sc formats code ps level most bound core st x room from to at
+  zero_on x room from to at = zero_at sc context code ps level most bound core st x room from to at
 
   one_on : (x : List Slot) → HasRoom most x 1 → (from to : ℕ) → Has ps level from (ops.Plain kinds.One) to → Gets from x to (num (pos 1) ∷ x)
-  one_on x room from to at = one_at sc formats code ps level most bound core st x room from to at
+  one_on x room from to at = one_at sc context code ps level most bound core st x room from to at
 
   -- ---- THRU
 
-  module _ (from l to : ℕ) (z : ℤ) (x : List Slot) (at : CountAt sc formats ps level from l to) (room : HasRoom most x 3) where
+  module _ (from l to : ℕ) (z : ℤ) (x : List Slot) (at : CountAt sc context ps level from l to) (room : HasRoom most x 3) where
     -- the count lies there again, and where it is less than 1 it is at l
     count_tested : (b : Bool) → related Less z (pos 1) ≡ b → Gets from (num z ∷ x) (if b then l else at.gone) (num z ∷ x)
     count_tested b e =
-        let run : Run sc formats code ps level most bound core st (kinds.Dupl ∷ kinds.One ∷ kinds.Less ∷ []) (num z ∷ x) (operand (truth (related Less z (pos 1))) ∷ num z ∷ x) =
+        let run : Run sc context code ps level most bound core st (kinds.Dupl ∷ kinds.One ∷ kinds.Less ∷ []) (num z ∷ x) (operand (truth (related Less z (pos 1))) ∷ num z ∷ x) =
         next (double_at z x (omega (arith, room))) (next (one_on (num z ∷ num z ∷ x) (omega (arith, room))) (next (less_at z (pos 1) (num z ∷ x)) done)) in
         let test : Gets from (num z ∷ x) at.tested (operand (truth (related Less z (pos 1))) ∷ num z ∷ x) =
-        run_at sc formats code ps level most bound core st from at.tested run at.test in
+        run_at sc context code ps level most bound core st from at.tested run at.test in
         let goes : Gets from (num z ∷ x) (if related Less z (pos 1) then l else at.gone) (num z ∷ x) =
         goes_on test (if_true sc code ps level most bound core st at.tested l at.gone (related Less z (pos 1)) (num z ∷ x) at.branch) in
         subst (λ c. Gets from (num z ∷ x) (if c then l else at.gone) (num z ∷ x)) e goes
 
     pub counts_on : IsWhole z → int_lt (pos 0) z ≡ true → Gets from (num z ∷ x) to (num (z -ℤ pos 1) ∷ x)
     counts_on whole some =
-        let run : Run sc formats code ps level most bound core st (kinds.One ∷ kinds.Subt ∷ []) (num z ∷ x) (num (z -ℤ pos 1) ∷ x) =
+        let run : Run sc context code ps level most bound core st (kinds.One ∷ kinds.Subt ∷ []) (num z ∷ x) (num (z -ℤ pos 1) ∷ x) =
         next (one_on (num z ∷ x) (omega (arith, room))) (next (difference_at z (pos 1) (z -ℤ pos 1) x (counted_down z whole some)) done) in
         let less : Gets at.gone (num z ∷ x) to (num (z -ℤ pos 1) ∷ x) =
-        run_at sc formats code ps level most bound core st at.gone to run at.less in
+        run_at sc context code ps level most bound core st at.gone to run at.less in
         goes_on (count_tested false (less_one z ∙ ap not some)) less
 
     pub count_spent : int_lt (pos 0) z ≡ false → Gets from (num z ∷ x) l (num z ∷ x)
@@ -116,12 +116,12 @@ module _ (sc : Scopes) (formats : List Format) (code : Code) (ps : List Placed) 
 
   -- ---- FOR
 
-  pub past_tested : (from u to : ℕ) (d z : ℤ) (x : List Slot) → PastAt sc formats ps level from u to → IsWhole d → IsWhole z → HasRoom most x 4
+  pub past_tested : (from u to : ℕ) (d z : ℤ) (x : List Slot) → PastAt sc context ps level from u to → IsWhole d → IsWhole z → HasRoom most x 4
       → Gets from (num z ∷ num d ∷ x) (if is_past d z then u else to) x
   past_tested from u to d z x at hd hz room =
       let g : ℤ = one_if (related Greater z (pos 0)) in
       let l : ℤ = one_if (related Less z (pos 0)) in
-      let run : Run sc formats code ps level most bound core st
+      let run : Run sc context code ps level most bound core st
       (kinds.Dupl ∷ kinds.Zero ∷ kinds.Grtr ∷ kinds.Exch ∷ kinds.Zero ∷ kinds.Less ∷ kinds.Subt ∷ kinds.Mult ∷ kinds.Zero ∷ kinds.Grtr ∷ [])
       (num z ∷ num d ∷ x) (operand (truth (related Greater (d *ℤ sign_of z) (pos 0))) ∷ x) =
       next (double_at z (num d ∷ x) (omega (arith, room)))
@@ -135,25 +135,25 @@ module _ (sc : Scopes) (formats : List Format) (code : Code) (ps : List Placed) 
       (next (zero_on (num (d *ℤ sign_of z) ∷ x) (omega (arith, room)))
       (next (greater_at (d *ℤ sign_of z) (pos 0) x) done))))))))) in
       let test : Gets from (num z ∷ num d ∷ x) at.tested (operand (truth (related Greater (d *ℤ sign_of z) (pos 0))) ∷ x) =
-      run_at sc formats code ps level most bound core st from at.tested run at.test in
+      run_at sc context code ps level most bound core st from at.tested run at.test in
       let goes : Gets from (num z ∷ num d ∷ x) (if related Greater (d *ℤ sign_of z) (pos 0) then u else to) x =
       goes_on test (if_true sc code ps level most bound core st at.tested u to (related Greater (d *ℤ sign_of z) (pos 0)) x at.branch) in
       subst (λ c. Gets from (num z ∷ num d ∷ x) (if c then u else to) x) (past_is d z) goes
 
   -- where the step is a literal
-  pub sign_tested : (from u to : ℕ) (d : ℤ) {z : ℤ} (x : List Slot) (s : StepSign z) → SignedAt sc formats ps level s from u to → HasRoom most x 2
+  pub sign_tested : (from u to : ℕ) (d : ℤ) {z : ℤ} (x : List Slot) (s : StepSign z) → SignedAt sc context ps level s from u to → HasRoom most x 2
       → Gets from (num d ∷ x) (if is_past d z then u else to) x
   sign_tested from u to d x (up {z = z} p) at room =
-      let run : Run sc formats code ps level most bound core st (kinds.Zero ∷ kinds.Grtr ∷ []) (num d ∷ x) (operand (truth (related Greater d (pos 0))) ∷ x) =
+      let run : Run sc context code ps level most bound core st (kinds.Zero ∷ kinds.Grtr ∷ []) (num d ∷ x) (operand (truth (related Greater d (pos 0))) ∷ x) =
       next (zero_on (num d ∷ x) (omega (arith, room))) (next (greater_at d (pos 0) x) done) in
-      let test : Gets from (num d ∷ x) at.0 (operand (truth (related Greater d (pos 0))) ∷ x) = run_at sc formats code ps level most bound core st from at.0 run at.1 in
+      let test : Gets from (num d ∷ x) at.0 (operand (truth (related Greater d (pos 0))) ∷ x) = run_at sc context code ps level most bound core st from at.0 run at.1 in
       let goes : Gets from (num d ∷ x) (if related Greater d (pos 0) then u else to) x =
       goes_on test (if_true sc code ps level most bound core st at.0 u to (related Greater d (pos 0)) x at.2) in
       subst (λ c. Gets from (num d ∷ x) (if c then u else to) x) (past_up d z p) goes
   sign_tested from u to d x (down {z = z} p) at room =
-      let run : Run sc formats code ps level most bound core st (kinds.Zero ∷ kinds.Less ∷ []) (num d ∷ x) (operand (truth (related Less d (pos 0))) ∷ x) =
+      let run : Run sc context code ps level most bound core st (kinds.Zero ∷ kinds.Less ∷ []) (num d ∷ x) (operand (truth (related Less d (pos 0))) ∷ x) =
       next (zero_on (num d ∷ x) (omega (arith, room))) (next (less_at d (pos 0) x) done) in
-      let test : Gets from (num d ∷ x) at.0 (operand (truth (related Less d (pos 0))) ∷ x) = run_at sc formats code ps level most bound core st from at.0 run at.1 in
+      let test : Gets from (num d ∷ x) at.0 (operand (truth (related Less d (pos 0))) ∷ x) = run_at sc context code ps level most bound core st from at.0 run at.1 in
       let goes : Gets from (num d ∷ x) (if related Less d (pos 0) then u else to) x =
       goes_on test (if_true sc code ps level most bound core st at.0 u to (related Less d (pos 0)) x at.2) in
       subst (λ c. Gets from (num d ∷ x) (if c then u else to) x) (past_down d z p) goes

@@ -51,11 +51,11 @@ module _ (sc : Scopes) (code : Code) (ps : List Placed) (level most bound place 
 
 pub fragments_are_performed : FragmentsArePerformed
 fragments_are_performed = record {
-  step = λ sc formats code ps level most bound from to x y core step at room bounded.
+  step = λ sc context code ps level most bound from to x y core step at room bounded.
       arrives sc code ps level most bound from x core at to y
-      (stepped sc formats code ps level most bound core (standing sc code ps level most bound from x core at bounded) from to x y step core.words at.words_are room);
-  leads = λ sc formats code ps level most bound from to x y core leads at room bounded.
+      (stepped sc context code ps level most bound core (standing sc code ps level most bound from x core at bounded) from to x y step core.words at.words_are room);
+  leads = λ sc context code ps level most bound from to x y core leads at room bounded.
       arrives sc code ps level most bound from x core at to y
-      (led sc formats code ps level most bound core (standing sc code ps level most bound from x core at bounded) from to x y leads core.words at.words_are room);
+      (led sc context code ps level most bound core (standing sc code ps level most bound from x core at bounded) from to x y leads core.words at.words_are room);
   fault = fault_is;
 }

@@ -8,6 +8,7 @@ use Rattle.b67_word.specs.Word.{Word}
 use Rattle.b67_word.specs.Word as words
 use Rattle.b67_control.specs.declared.Pcw.{Pcw}
 use Rattle.b67_control.specs.Control.{pcw_word}
+use Rattle.b67_ops.specs.declared.Couple.{Couple}
 use Rattle.b67_ops.specs.declared.Operator.{Operator}
 use Rattle.b67_ops.specs.declared.Operator.TheVariants as ops
 use Rattle.b67_ops.specs.declared.PlainKind.{PlainKind}
@@ -16,11 +17,11 @@ use Rattle.b67_ops.specs.declared.intrinsic.Intrinsic.{Intrinsic}
 use Rattle.b67_ops.specs.Intrinsics.{couple_of_intrinsic}
 use Rattle.b67_segment.specs.Operators.{Placed}
 use Rattle.b67_segment.specs.declared.code.Code.{Code}
-use Rattle.b67_segment.specs.declared.code.Format.{Format}
+use Rattle.b67_templates.specs.Contexts.{Context}
 use Rattle.b67_table.specs.PrivateRows as rows
 use Rattle.b67_table.specs.Rows.{row, pushes}
-use Rattle.b67_templates.specs.Fragments.{Has, AllAt, NumberAt, IntrinsicAt, EntryAt, code_at, program_segment, IsLiteral, zero_pushed, one_pushed, byte, two_bytes, whole_word, truth_literal}
-use Rattle.b67_templates.specs.Code.{ReferenceAt}
+use Rattle.b67_templates.specs.Fragments.{Has, AllAt, NumberAt, IntrinsicAt, EntryAt, code_at, IsLiteral, zero_pushed, one_pushed, byte, two_bytes, whole_word, truth_literal}
+use Rattle.b67_templates.specs.Code.{ReferenceAt, CallAt}
 use Rattle.b67_standing.specs.Stepping.{Slot, operand, reference, intrinsic, control, mark, HasRoom}
 use Rattle.b67_cores.specs.Cores.{Core}
 use Rattle.b67_cores.specs.Slots.{IsTruth}
@@ -56,7 +57,7 @@ control_row : (c : Pcw) (place : ℕ) → row (ops.Mpcw (pcw_word c).bits) place
 unfolding row pcw_word
 control_row c place = refl
 
-module _ (sc : Scopes) (formats : List Format) (code : Code) (ps : List Placed) (level most bound : ℕ) (core : Core) (st : Standing sc code ps level most bound core) where
+module _ (sc : Scopes) (context : Context) (code : Code) (ps : List Placed) (level most bound : ℕ) (core : Core) (st : Standing sc code ps level most bound core) where
   abbrev Gets : ℕ → List Slot → ℕ → List Slot → Type 0
   Gets = Goes sc code ps level most bound core st
 
@@ -71,12 +72,19 @@ module _ (sc : Scopes) (formats : List Format) (code : Code) (ps : List Placed) 
       pushed sc code ps level most bound core st from next (ops.Plain (truth_literal b)) (operand (truth b)) x (literal_word b) at (truth_row b from)
       (literal_is b) refl room
 
-  pub push_name : (from next : ℕ) (n : Named) (k : Kind) (x : List Slot) → ReferenceAt sc formats ps level n k from next → HasRoom most x 1
-      → Gets from x next (reference n ∷ x)
+  -- the reference of a cell, and a control word
+  reference_at : (from next : ℕ) (c : Couple) (x : List Slot) → Has ps level from (ops.Namc c) next → HasRoom most x 1 → Gets from x next (reference c ∷ x)
   unfolding row
-  push_name from next n k x at room =
-      pushed sc code ps level most bound core st from next (ops.Namc at.0) (reference n) x (rows.reference at.0) at.2 refl
-      (k, at.0, at.1, refl) refl room
+  reference_at from next c x at room =
+      pushed sc code ps level most bound core st from next (ops.Namc c) (reference c) x (rows.reference c) at refl refl refl room
+
+  pub control_at : (from next : ℕ) (c : Pcw) (x : List Slot) → Has ps level from (ops.Mpcw (pcw_word c).bits) next → HasRoom most x 1 → Gets from x next (control c ∷ x)
+  control_at from next c x at room =
+      pushed sc code ps level most bound core st from next (ops.Mpcw (pcw_word c).bits) (control c) x (pcw_word c) at (control_row c from) refl refl room
+
+  pub push_name : (from next : ℕ) (n : Named) (k : Kind) (x : List Slot) (at : ReferenceAt sc context ps level n k from next) → HasRoom most x 1
+      → Gets from x next (reference at.0 ∷ x)
+  push_name from next n k x at room = reference_at from next at.0 x at.2 room
 
   -- the start of a call of an intrinsic: a mark and its reference
   pub push_intrinsic : (from next : ℕ) (name : Intrinsic) (x : List Slot) → IntrinsicAt ps level name from next → HasRoom most x 2
@@ -88,13 +96,18 @@ module _ (sc : Scopes) (formats : List Format) (code : Code) (ps : List Placed) 
       (rows.reference (couple_of_intrinsic name)) at.2 refl refl refl (omega (arith, room)))
 
   -- the start of the entry of a block: a mark and the control word of its code
-  pub push_control : (from to begin : ℕ) (x : List Slot) (e : EntryAt ps level begin from to) → HasRoom most x 2
-      → Gets from x e.named (control (code_at program_segment begin (level + 1)) ∷ mark ∷ x)
+  pub push_control : (from to begin : ℕ) (x : List Slot) (e : EntryAt ps level context.segment begin from to) → HasRoom most x 2
+      → Gets from x e.named (control (code_at context.segment begin (level + 1)) ∷ mark ∷ x)
   push_control from to begin x e room =
-      let c : Pcw = code_at program_segment begin (level + 1) in
       on sc code ps level most bound core st (marking sc code ps level most bound core st from e.marked x e.mark (omega (arith, room)))
-      (pushed sc code ps level most bound core st e.marked e.named (ops.Mpcw (pcw_word c).bits) (control c) (mark ∷ x) (pcw_word c) e.control
-      (control_row c e.marked) refl refl (omega (arith, room)))
+      (control_at e.marked e.named (code_at context.segment begin (level + 1)) (mark ∷ x) e.control (omega (arith, room)))
+
+  -- the start of the call of a procedure: a mark and the reference of its control word
+  pub push_procedure : (from to : ℕ) (n : Named) (callee : ℕ) (x : List Slot) (c : CallAt sc context ps level n callee from to) → HasRoom most x 2
+      → Gets from x c.named (reference c.couple ∷ mark ∷ x)
+  push_procedure from to n callee x c room =
+      on sc code ps level most bound core st (marking sc code ps level most bound core st from c.marked x c.mark (omega (arith, room)))
+      (reference_at c.marked c.named c.couple (mark ∷ x) c.reference (omega (arith, room)))
 
   -- ---- operators without operands
 

@@ -1,17 +1,14 @@
 -- Which words slots are, above the floor of a frame.
 use Rattle.std.specs.Prelude.{◌≡◌, ℕ, ◌+◌, ◌-◌, ◌%◌, ◌^◌, ◌<◌, if◌then◌else◌, ℤ, Bool, List, [], ◌∷◌, length}
-use Rattle.algol_tree.specs.declared.tree.Kind.{Kind}
 use Rattle.algol_tree.specs.Scopes.{Scopes}
 use Rattle.algol_meaning.specs.Value.{Value, number, truth}
 use Rattle.b67_word.specs.Word.{Word}
 use Rattle.b67_word.specs.Word as words
 use Rattle.b67_control.specs.Control.{pcw_word}
-use Rattle.b67_ops.specs.declared.Couple.{Couple}
 use Rattle.b67_ops.specs.Intrinsics.{couple_of_intrinsic}
 use Rattle.b67_table.specs.PrivateRows.{open_mark}
 use Rattle.b67_table.specs.PrivateRows as rows
 use Rattle.b67_templates.specs.Fragments.{IsWhole}
-use Rattle.b67_templates.specs.Cells.{IsVariable}
 use Rattle.b67_standing.specs.Stepping.{Slot, operand, reference, intrinsic, control, mark}
 
 -- ---- values
@@ -45,7 +42,7 @@ module _ (sc : Scopes) (level home base : ℕ) where
   -- the word of a slot above these: a mark has its distance to the newest of them, or to the frame's own
   abbrev pub SlotIs : List Slot → Slot → Word → Type 0
   SlotIs below (operand v) w = ValueIs v w
-  SlotIs below (reference n) w = (k : Kind) × (c : Couple) × IsVariable sc level n k c × (w ≡ rows.reference c)
+  SlotIs below (reference c) w = w ≡ rows.reference c
   SlotIs below (intrinsic i) w = w ≡ rows.reference (couple_of_intrinsic i)
   SlotIs below (control c) w = w ≡ pcw_word c
   SlotIs below mark w = w ≡ open_mark (base + length below - newest home base below)

@@ -1,5 +1,5 @@
 -- Stretches of private operators: what they do in an image, and what they do in a frame whose words are slots.
-use Rattle.std.specs.Prelude.{◌≡◌, ◌≢◌, ◌↔◌, ℕ, ◌+◌, ◌<◌, ◌≤◌, true, false, pos, List, [], ◌∷◌, ◌++◌, length, replicate, Some, Err, slice_get}
+use Rattle.std.specs.Prelude.{◌≡◌, ◌≢◌, ◌↔◌, ℕ, ◌+◌, ◌<◌, ◌≤◌, true, false, pos, List, [], ◌∷◌, ◌++◌, length, map, replicate, Some, Err, slice_get}
 use Rattle.b67_list.specs.Numbered.{numbered}
 use Rattle.algol_tree.specs.declared.tree.Op.{Op}
 use Rattle.algol_tree.specs.Scopes.{Scopes}
@@ -10,15 +10,15 @@ use Rattle.b67_num.specs.Whole.{fault_of}
 use Rattle.algol_meaning.specs.Value.{Value}
 use Rattle.algol_meaning.specs.Operators.{result_of}
 use Rattle.b67_control.specs.declared.Registers.{Registers}
+use Rattle.b67_control.specs.Control.{pcw_word}
 use Rattle.b67_word.specs.Word.{Word}
 use Rattle.b67_word.specs.Word as words
 use Rattle.b67_ops.specs.declared.TheConstants.{MOST_LEVEL}
 use Rattle.b67_ops.specs.declared.Operator.TheVariants as ops
-use Rattle.b67_ops.specs.declared.PlainKind.TheVariants as kinds
 use Rattle.b67_segment.specs.Operators.{Placed}
 use Rattle.b67_segment.specs.Syllables.{Spells}
 use Rattle.b67_segment.specs.declared.code.Code.{Code}
-use Rattle.b67_segment.specs.declared.code.Format.{Format}
+use Rattle.b67_templates.specs.Contexts.{Context}
 use Rattle.b67_segment.specs.declared.code.Segment.{Segment}
 use Rattle.b67_store.specs.Store.{stack_at, stack_limit}
 use Rattle.b67_table.specs.Limits.{most_cells}
@@ -30,8 +30,8 @@ use Rattle.b67_table.specs.Ending.{failed}
 use Rattle.b67_table.specs.Privacy.{Keeps}
 use Rattle.b67_table.specs.Runs.{Plains}
 use Rattle.b67_table.specs.Valid.{IsValid}
-use Rattle.b67_templates.specs.Fragments.{Has, HasKind, AllAt, operator_for}
-use Rattle.b67_templates.specs.Code.{MadeAt}
+use Rattle.b67_templates.specs.Fragments.{Has, HasKind, code_at, operator_for}
+use Rattle.b67_templates.specs.Code.{CellsAt}
 use Rattle.b67_standing.specs.Stepping.{Slot, operand, ready, Step, Leads}
 use Rattle.b67_cores.specs.Cores.{Core, size, IsCore, over, HasCore, with_core, CoreFaults, CoreStep, CoreSteps}
 use Rattle.b67_cores.specs.Slots.{newest, SlotsAre}
@@ -145,11 +145,11 @@ pub record Arrives (sc : Scopes) (code : Code) (ps : List Placed) (level most bo
 -- What a fragment of private operators does by the meaning of its words the machine does, in each core that stands so: where most slots
 -- lie above the floor, its stack has the most words of the bound.
 pub record FragmentsArePerformed : Type 0 where
-  pub step : (sc : Scopes) (formats : List Format) (code : Code) (ps : List Placed) (level most bound from to : ℕ) (x y : List Slot) (core : Core)
-      → Step sc formats ps level most from x to y → CoreAt sc code ps level from x core → length x ≤ most → length core.below + most ≤ bound
+  pub step : (sc : Scopes) (context : Context) (code : Code) (ps : List Placed) (level most bound from to : ℕ) (x y : List Slot) (core : Core)
+      → Step sc context ps level most from x to y → CoreAt sc code ps level from x core → length x ≤ most → length core.below + most ≤ bound
       → Arrives sc code ps level most bound to y core
-  pub leads : (sc : Scopes) (formats : List Format) (code : Code) (ps : List Placed) (level most bound from to : ℕ) (x y : List Slot) (core : Core)
-      → Leads sc formats ps level most from x to y → CoreAt sc code ps level from x core → length x ≤ most → length core.below + most ≤ bound
+  pub leads : (sc : Scopes) (context : Context) (code : Code) (ps : List Placed) (level most bound from to : ℕ) (x y : List Slot) (core : Core)
+      → Leads sc context ps level most from x to y → CoreAt sc code ps level from x core → length x ≤ most → length core.below + most ≤ bound
       → Arrives sc code ps level most bound to y core
   -- an operator of the language without a result is a fault
   pub fault : (sc : Scopes) (code : Code) (ps : List Placed) (level from to : ℕ) (op : Op) (v w : Value) (fault : NumFault) (below : List Slot) (core : Core)
@@ -158,19 +158,24 @@ pub record FragmentsArePerformed : Type 0 where
 
 -- ---- the start of a block
 
--- Private operators lead to a core with so many cells more, each of them 0, and no words above the floor.
-pub record Begins (sc : Scopes) (code : Code) (ps : List Placed) (level bound cells place : ℕ) (a : Core) : Type 0 where
+-- the control words of procedures whose code stands in these segments, in a frame of this level
+abbrev pub control_words : ℕ → List ℕ → List Word
+control_words level segments = map (λ (segment : ℕ). pcw_word (code_at segment 0 (level + 1))) segments
+
+-- Private operators lead to a core with so many cells more that are 0, and those of procedures, and no words above the floor.
+pub record Begins (sc : Scopes) (code : Code) (ps : List Placed) (level bound many : ℕ) (segments : List ℕ) (place : ℕ) (a : Core) : Type 0 where
   pub count : ℕ
   pub core : Core
   pub steps : CoreSteps code bound count a core
-  pub below : core.below ≡ a.below ++ replicate cells (words.operand (pos 0))
-  pub registers : core.registers ≡ record a.registers { s = size core; f = frame a.registers; cells = a.registers.cells + cells; place = place }
+  pub below : core.below ≡ a.below ++ (replicate many (words.operand (pos 0)) ++ control_words level segments)
+  pub registers : core.registers ≡ record a.registers { s = size core; f = frame a.registers; cells = a.registers.cells + (many + length segments); place = place }
   pub at : CoreAt sc code ps level place [] core
   pub few : count + a.registers.place ≤ place
 
--- so do the zeros of a block's variables and PUSH, where the frame has room for the cells
+-- so do the zeros of a block's variables, the control words of its procedures, and PUSH, where the frame has room for the cells
 abbrev pub BlocksBegin : Type 0
 BlocksBegin =
-    (sc : Scopes) (formats : List Format) (code : Code) (ps : List Placed) (level bound cells from zeroed to : ℕ) (core : Core)
-    → AllAt ps level (replicate cells kinds.Zero) from zeroed → MadeAt sc formats ps level cells zeroed to → CoreAt sc code ps level from [] core
-    → core.registers.cells + cells ≤ most_cells → length core.below + cells ≤ bound → Begins sc code ps level bound cells to core
+    (sc : Scopes) (context : Context) (code : Code) (ps : List Placed) (level bound many : ℕ) (segments : List ℕ) (from to : ℕ) (core : Core)
+    → CellsAt sc context ps level many segments from to → CoreAt sc code ps level from [] core
+    → core.registers.cells + (many + length segments) ≤ most_cells → length core.below + (many + length segments) ≤ bound
+    → Begins sc code ps level bound many segments to core

@@ -43,7 +43,8 @@ pub fn fragments_are_performed()
     ensures { FragmentsArePerformed }
 {}
 
-/// Law: the start of a block makes a cell of 0 for each of its variables.
+/// Law: the start of a block makes a cell of 0 for its result and for each of its variables, and a cell of the control word of each of its
+/// procedures.
 pub fn blocks_begin()
     ensures { BlocksBegin }
 {}

@@ -13,10 +13,10 @@ use Rattle.b67_ops.specs.declared.PlainKind.{PlainKind}
 use Rattle.b67_ops.specs.declared.PlainKind.TheVariants as kinds
 use Rattle.b67_ops.proofs.Laws.{length-spelling}
 use Rattle.b67_segment.specs.Operators.{Placed}
-use Rattle.b67_segment.specs.declared.code.Format.{Format}
+use Rattle.b67_templates.specs.Contexts.{Context}
 use Rattle.b67_templates.specs.Fragments.{Has, AllAt}
 use Rattle.b67_templates.specs.Code.{StepSign, up, down, still, SignedAt}
-use Rattle.b67_standing.specs.Stepping.{Slot, Step, push_number, push_truth, push_name, calculate, negate, invert, false_stays, false_goes, true_stays, true_goes, go, call, announce, drop, counts, spent, within, past, within_literal, past_literal}
+use Rattle.b67_standing.specs.Stepping.{Slot, Step, push_number, push_truth, push_name, calculate, negate, invert, false_stays, false_goes, true_stays, true_goes, go, call, announce, summon, drop, counts, spent, within, past, within_literal, past_literal}
 use Rattle.b67_standing.specs.Standing.{line_begun, ActionAt, Acted}
 use Rattle.b67_standing.specs.Laws.{LeadsHaveRoom, ActionsHaveRoom, StepsGoForward}
 use Rattle.b67_standing.proofs.Leading.{leads_within}
@@ -34,13 +34,13 @@ module _ (ps : List Placed) (level : ℕ) where
 not_past : (d : ℤ) → is_past d (pos 0) ≡ true → ⊥
 not_past d e = omega (arith, ints)
 
-module _ (sc : Scopes) (formats : List Format) (ps : List Placed) (level most : ℕ) where
-  signed_next : {z : ℤ} (s : StepSign z) (f u to : ℕ) → SignedAt sc formats ps level s f u to → f < to
+module _ (sc : Scopes) (context : Context) (ps : List Placed) (level most : ℕ) where
+  signed_next : {z : ℤ} (s : StepSign z) (f u to : ℕ) → SignedAt sc context ps level s f u to → f < to
   signed_next (up p) f u to h = omega (arith, all_forward ps level (kinds.Zero ∷ kinds.Grtr ∷ []) f h.0 h.1, forward ps level (h.2).stands)
   signed_next (down p) f u to h = omega (arith, all_forward ps level (kinds.Zero ∷ kinds.Less ∷ []) f h.0 h.1, forward ps level (h.2).stands)
   signed_next still f u to h = forward ps level h
 
-  signed_out : {z : ℤ} (s : StepSign z) (d : ℤ) (f u to : ℕ) → SignedAt sc formats ps level s f u to → is_past d z ≡ true → f < u
+  signed_out : {z : ℤ} (s : StepSign z) (d : ℤ) (f u to : ℕ) → SignedAt sc context ps level s f u to → is_past d z ≡ true → f < u
   signed_out (up p) d f u to h e = omega (arith, all_forward ps level (kinds.Zero ∷ kinds.Grtr ∷ []) f h.0 h.1, (h.2).forward)
   signed_out (down p) d f u to h e = omega (arith, all_forward ps level (kinds.Zero ∷ kinds.Less ∷ []) f h.0 h.1, (h.2).forward)
   signed_out still d f u to h e = absurd (not_past d e)
@@ -52,7 +52,7 @@ module _ (sc : Scopes) (formats : List Format) (ps : List Placed) (level most : 
   abbrev count_kinds : List PlainKind
   count_kinds = kinds.Dupl ∷ kinds.One ∷ kinds.Less ∷ []
 
-  step_forward : {a b : ℕ} {x y : List Slot} → Step sc formats ps level most a x b y → a < b
+  step_forward : {a b : ℕ} {x y : List Slot} → Step sc context ps level most a x b y → a < b
   step_forward (push_number z h room) = forward ps level h.stands
   step_forward (push_truth b h room) = forward ps level h
   step_forward (push_name n k h room) = forward ps level h.2
@@ -66,6 +66,7 @@ module _ (sc : Scopes) (formats : List Format) (ps : List Placed) (level most : 
   step_forward (go h) = h.forward
   step_forward (call name h room) = omega (arith, forward ps level h.1, forward ps level h.2)
   step_forward (announce begin e room) = omega (arith, forward ps level e.mark, forward ps level e.control)
+  step_forward (summon n callee c room) = omega (arith, forward ps level c.mark, forward ps level c.reference)
   step_forward (drop v h) = forward ps level h
   step_forward {a} {b} (counts z h w e room) =
       omega (arith, all_forward ps level count_kinds a h.tested h.test, forward ps level (h.branch).stands, all_forward ps level (kinds.One ∷ kinds.Subt ∷ []) h.gone b h.less)
@@ -76,9 +77,10 @@ module _ (sc : Scopes) (formats : List Format) (ps : List Placed) (level most : 
   step_forward {a} {b} (past_literal next d z s h w e room) = signed_out s d a b next h e
 
   -- what an action leaves
-  acted_within : (q : Ask) (pc : ℕ) (slots : List Slot) (action : ActionAt sc formats ps level most q pc slots) (a : Answer) (at : ℕ) (after : List Slot) →
-      Acted sc formats ps level most q pc slots action a at after → length slots ≤ most → length after ≤ most
+  acted_within : (q : Ask) (pc : ℕ) (slots : List Slot) (action : ActionAt sc context ps level most q pc slots) (a : Answer) (at : ℕ) (after : List Slot) →
+      Acted sc context ps level most q pc slots action a at after → length slots ≤ most → length after ≤ most
   acted_within (asks.reads n) pc slots h (rests.value v) at after l room = omega (arith, h.3, ap length l.1)
+  acted_within (asks.reads_result name) pc slots h (rests.value v) at after l room = omega (arith, h.2, ap length h.1, ap length l.1)
   acted_within (asks.stores (own n) v) pc slots h rests.done at after l room = omega (arith, room, ap length (h.2).lies, ap length l.1)
   acted_within (asks.selects v ss) pc slots h rests.done at after l room = omega (arith, room, ap length (h.2).lies, ap length l.4)
   acted_within asks.turns pc slots h rests.done at after l room = omega (arith, room, ap length l.1)
@@ -87,10 +89,10 @@ module _ (sc : Scopes) (formats : List Format) (ps : List Placed) (level most : 
   acted_within _ pc slots h a at after l room = absurd l
 
 pub steps_go_forward : StepsGoForward
-steps_go_forward sc formats ps level most a b x y s = step_forward sc formats ps level most s
+steps_go_forward sc context ps level most a b x y s = step_forward sc context ps level most s
 
 pub leads_have_room : LeadsHaveRoom
-leads_have_room sc formats ps level most a b x y l room = leads_within sc formats ps level most l room
+leads_have_room sc context ps level most a b x y l room = leads_within sc context ps level most l room
 
 pub actions_have_room : ActionsHaveRoom
-actions_have_room sc formats ps level most q pc slots h a at after l room = acted_within sc formats ps level most q pc slots h a at after l room
+actions_have_room sc context ps level most q pc slots h a at after l room = acted_within sc context ps level most q pc slots h a at after l room

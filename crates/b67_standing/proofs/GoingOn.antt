@@ -1,30 +1,37 @@
--- Wherever the machine stands for something, the head acts, and from where it leaves the machine the rest goes on. What waits for a
--- part inside goes on when that has left.
-use Rattle.std.proofs.Common.{◌≡◌, refl, sym, ◌∙◌, subst, ℕ, zero, suc, ◌+◌, ◌*◌, ◌<◌, ◌≤◌, arith, List, ◌∷◌}
+-- Wherever the machine stands for something, the head acts, and from where it leaves the machine the rest goes on. Where a part inside
+-- was entered, the rest goes on when that has left.
+use Rattle.std.proofs.Common.{◌≡◌, refl, sym, ap, ◌∙◌, subst, ℕ, zero, suc, ◌+◌, ◌*◌, ◌<◌, ◌≤◌, arith, Bool, true, false, List, ◌∷◌, Option, Some, None}
 use Rattle.std.specs.Prelude.{nat_abs}
+use Rattle.algol_tree.specs.declared.tree.Kind.{Kind}
 use Rattle.algol_tree.specs.declared.tree.Kind.TheVariants as types
+use Rattle.algol_tree.specs.declared.tree.Named.{Named}
 use Rattle.algol_tree.specs.declared.tree.PhraseText.{PhraseText}
 use Rattle.algol_tree.specs.Plain as tree
-use Rattle.algol_tree.specs.Plain.{PStmt, PStmts, PBody}
+use Rattle.algol_tree.specs.Plain.{PStmts, PBody}
+use Rattle.algol_tree.specs.Blocks.{block_numbered}
 use Rattle.algol_tree.specs.Scopes.{Scopes}
 use Rattle.algol_meaning.specs.Value.{Value, whole_of}
 use Rattle.algol_meaning.specs.Rest as rests
-use Rattle.algol_meaning.specs.Rest.{own, Item, Rest, Answer}
-use Rattle.algol_meaning.specs.Settle.{put}
-use Rattle.algol_meaning.specs.Statements.{settle_stmt, settle_items}
-use Rattle.algol_meaning.specs.Asks.{nothing, leaves, stores, selects, turns, writes, ask, nth_stmt, resume}
+use Rattle.algol_meaning.specs.Rest.{own, Given, Hole, Half, busy, Item, Rest, Answer}
+use Rattle.algol_meaning.specs.Settle.{half_of, is_typed, put}
+use Rattle.algol_meaning.specs.Statements.{run_and, turn_and, assigned_of, chosen_of, looped_of, checked_of, counted_of, counted_body, selected_of, item_of, tested_of, differed_of, settle_line, settle_stmt, settle_items}
+use Rattle.algol_meaning.specs.Asks.{nothing, reads_result, leaves, stores, selects, turns, writes, ask_hole, ask, evaluated_of, nth_stmt, called, resume}
+use Rattle.b67_ops.specs.declared.Operator.TheVariants as ops
+use Rattle.b67_ops.specs.declared.PlainKind.TheVariants as kinds
 use Rattle.b67_ops.specs.declared.BranchKind.TheVariants.{Brun}
 use Rattle.b67_ops.specs.declared.intrinsic.Intrinsic.TheVariants.{Select}
 use Rattle.b67_segment.specs.Operators.{Placed}
-use Rattle.b67_segment.specs.declared.code.Format.{Format}
-use Rattle.b67_templates.specs.Fragments.{BranchAt, Goes, stop}
-use Rattle.b67_templates.specs.Code.{StmtAt, CasesAt, any, stmts_count}
+use Rattle.b67_templates.specs.Contexts.{Context}
+use Rattle.b67_templates.specs.Fragments.{Has, BranchAt, Goes, stop}
+use Rattle.b67_templates.specs.Code.{DroppedAt, StmtAt, CasesAt, any, stmts_count}
 use Rattle.b67_templates.specs.Depths.{stmt_depth, stmts_depth}
-use Rattle.b67_standing.specs.Stepping.{Slot, operand, reference, intrinsic, mark, HasRoom, go, there, first}
-use Rattle.b67_standing.specs.Standing.{pend, operands, line_begun, Follows, StandsFor, ComesTo, ActionAt, Acted, Returned, GoesOn}
-use Rattle.b67_standing.specs.Laws.{RestsGoOn, WaitingGoesOn}
-use Rattle.b67_standing.proofs.Putting.{puts_on}
-use Rattle.b67_standing.proofs.Rests.{after_rest, assigned_stands, chosen_stands, looped_stands, checked_stands, selected_stands, item_stands, line_at}
+use Rattle.b67_standing.specs.Stepping.{Slot, operand, reference, intrinsic, mark, HasRoom, go, drop, there, first}
+use Rattle.b67_standing.specs.Standing.{pend, operands, Gives, pushed, line_begun, Follows, Holds, Shows, StandsFor, ComesTo, ActionAt, Acted, GoesOn}
+use Rattle.b67_standing.specs.Laws.{RestsGoOn}
+use Rattle.b67_standing.proofs.Asking.{leaves_asks}
+use Rattle.b67_standing.proofs.Settling.{Comes}
+use Rattle.b67_standing.proofs.Putting.{PutsOn, inside_of, inside_asks, puts_on}
+use Rattle.b67_standing.proofs.Rests.{after_rest, stays_here, assigned_stands, chosen_stands, looped_stands, checked_stands, selected_stands, item_stands, line_at}
 use Rattle.b67_standing.proofs.Loops.{counted_stands, again_at, tested_stands, differed_stands}
 use Rattle.b67_standing.proofs.Performing.{while_body, stmt_at}
 use Rattle.b67_standing.proofs.Items.{items_at}
@@ -34,15 +41,15 @@ nth-depth tree.no_stmts i h = omega arith
 nth-depth (tree.stmts s ss) zero h = omega arith
 nth-depth (tree.stmts s ss) (suc i) h = omega (arith, nth-depth ss i (omega (arith, h)))
 
-module _ (sc : Scopes) (formats : List Format) (ps : List Placed) (level most : ℕ) where
+module _ (sc : Scopes) (context : Context) (ps : List Placed) (level most : ℕ) where
   abbrev Coming : Rest → ℕ → List Slot → Type 0
-  Coming = ComesTo sc formats ps level most
+  Coming = ComesTo sc context ps level most
 
   abbrev Going : Rest → ℕ → List Slot → Type 0
-  Going = GoesOn sc formats ps level most
+  Going = GoesOn sc context ps level most
 
   abbrev Following : List Item → ℕ → Type 0
-  Following = Follows sc formats ps level most
+  Following = Follows sc context ps level most
 
   -- at the next operator, with the counts of what comes after
   next_at : (k : List Item) (r : Rest) (to at : ℕ) (after : List Slot) → at ≡ to → after ≡ pend k → Coming r to (pend k) → Coming r at after
@@ -50,58 +57,114 @@ module _ (sc : Scopes) (formats : List Format) (ps : List Placed) (level most : 
 
   -- ---- the answers of statements, which are all `done`
 
-  stored : (n : rests.Place) (v : Value) (k : List Item) (pc : ℕ) (slots : List Slot) → StandsFor sc formats ps level most (rests.store n v k) pc slots →
+  stored : (n : rests.Place) (v : Value) (k : List Item) (pc : ℕ) (slots : List Slot) → StandsFor sc context ps level most (rests.store n v k) pc slots →
       Going (rests.store n v k) pc slots
   stored (rests.there x) v k pc slots s = absurd s
   stored (rests.element_of x ks) v k pc slots s = absurd s
-  stored (own n) v k pc slots s = record { action = (s.0, pend k, s.1); answered = answer; entered = λ at left l. absurd l }
+  stored (own n) v k pc slots s = record { action = (s.0, pend k, s.1); answered = answer; waits = λ at left wanted l. absurd l; returns = λ at left wanted l. absurd l }
     where
-      answer : (a : Answer) (at : ℕ) (after : List Slot) → Acted sc formats ps level most (stores (own n) v) pc slots (s.0, pend k, s.1) a at after → Coming (settle_items sc k) at after
-      answer rests.done at after l = next_at k (settle_items sc k) s.0 at after l.0 l.1 (items_at sc formats ps level most k s.0 s.2)
+      answer : (a : Answer) (at : ℕ) (after : List Slot) → Acted sc context ps level most (stores (own n) v) pc slots (s.0, pend k, s.1) a at after → Coming (settle_items sc k) at after
+      answer rests.done at after l = next_at k (settle_items sc k) s.0 at after l.0 l.1 (items_at sc context ps level most k s.0 s.2)
       answer (rests.value v) at after l = absurd l
       answer (rests.cell c) at after l = absurd l
       answer (rests.place p) at after l = absurd l
       answer rests.entered at after l = absurd l
 
-  written : (phrases : List PhraseText) (vs : List Value) (k : List Item) (pc : ℕ) (slots : List Slot) → StandsFor sc formats ps level most (rests.line phrases vs k) pc slots →
+  written : (phrases : List PhraseText) (vs : List Value) (k : List Item) (pc : ℕ) (slots : List Slot) → StandsFor sc context ps level most (rests.line phrases vs k) pc slots →
       Going (rests.line phrases vs k) pc slots
-  written phrases vs k pc slots s = record { action = (s.0, pend k, s.1); answered = answer; entered = λ at left l. absurd l }
+  written phrases vs k pc slots s = record { action = (s.0, pend k, s.1); answered = answer; waits = λ at left wanted l. absurd l; returns = λ at left wanted l. absurd l }
     where
-      answer : (a : Answer) (at : ℕ) (after : List Slot) → Acted sc formats ps level most (writes phrases vs) pc slots (s.0, pend k, s.1) a at after → Coming (settle_items sc k) at after
-      answer rests.done at after l = next_at k (settle_items sc k) s.0 at after l.0 l.1 (items_at sc formats ps level most k s.0 s.2)
+      answer : (a : Answer) (at : ℕ) (after : List Slot) → Acted sc context ps level most (writes phrases vs) pc slots (s.0, pend k, s.1) a at after → Coming (settle_items sc k) at after
+      answer rests.done at after l = next_at k (settle_items sc k) s.0 at after l.0 l.1 (items_at sc context ps level most k s.0 s.2)
       answer (rests.value v) at after l = absurd l
       answer (rests.cell c) at after l = absurd l
       answer (rests.place p) at after l = absurd l
       answer rests.entered at after l = absurd l
 
-  turned : (k : List Item) (pc : ℕ) (slots : List Slot) → StandsFor sc formats ps level most (rests.turning k) pc slots → Going (rests.turning k) pc slots
-  turned k pc slots s = record { action = (s.0, s.1, s.2); answered = answer; entered = λ at left l. absurd l }
+  turned : (k : List Item) (pc : ℕ) (slots : List Slot) → StandsFor sc context ps level most (rests.turning k) pc slots → Going (rests.turning k) pc slots
+  turned k pc slots s = record { action = (s.0, s.1, s.2); answered = answer; waits = λ at left wanted l. absurd l; returns = λ at left wanted l. absurd l }
     where
-      answer : (a : Answer) (at : ℕ) (after : List Slot) → Acted sc formats ps level most turns pc slots (s.0, s.1, s.2) a at after → Coming (settle_items sc k) at after
-      answer rests.done at after l = next_at k (settle_items sc k) s.0 at after l.0 (l.1 ∙ s.3) (items_at sc formats ps level most k s.0 s.4)
+      answer : (a : Answer) (at : ℕ) (after : List Slot) → Acted sc context ps level most turns pc slots (s.0, s.1, s.2) a at after → Coming (settle_items sc k) at after
+      answer rests.done at after l = next_at k (settle_items sc k) s.0 at after l.0 (l.1 ∙ s.3) (items_at sc context ps level most k s.0 s.4)
       answer (rests.value v) at after l = absurd l
       answer (rests.cell c) at after l = absurd l
       answer (rests.place p) at after l = absurd l
       answer rests.entered at after l = absurd l
 
-  ended : (pc : ℕ) (slots : List Slot) → StandsFor sc formats ps level most rests.over pc slots → Going rests.over pc slots
-  ended pc slots s = record { action = s; answered = answer; entered = λ at left l. absurd l }
+  ended : (pc : ℕ) (slots : List Slot) → StandsFor sc context ps level most rests.over pc slots → Going rests.over pc slots
+  ended pc slots s = record { action = s; answered = answer; waits = λ at left wanted l. absurd l; returns = λ at left wanted l. absurd l }
     where
-      answer : (a : Answer) (at : ℕ) (after : List Slot) → Acted sc formats ps level most (leaves rests.done) pc slots s a at after → Coming rests.over at after
+      answer : (a : Answer) (at : ℕ) (after : List Slot) → Acted sc context ps level most (leaves rests.done) pc slots s a at after → Coming rests.over at after
       answer rests.done at after l = absurd l
       answer (rests.value v) at after l = absurd l
       answer (rests.cell c) at after l = absurd l
       answer (rests.place p) at after l = absurd l
       answer rests.entered at after l = absurd l
 
-  -- ---- inner blocks
+  -- ---- the result of a procedure
 
-  block_entered : (b : PBody) (k : List Item) (pc : ℕ) (slots : List Slot) → StandsFor sc formats ps level most (rests.entering_block b k) pc slots →
+  result_read : (name : List ℕ) (pc : ℕ) (slots : List Slot) → StandsFor sc context ps level most (rests.reading name) pc slots → Going (rests.reading name) pc slots
+  result_read name pc slots s = record { action = s; answered = answer; waits = λ at left wanted l. absurd l; returns = λ at left wanted l. absurd l }
+    where
+      answer : (a : Answer) (at : ℕ) (after : List Slot) → Acted sc context ps level most (reads_result name) pc slots s a at after → Coming (evaluated_of (half_of a)) at after
+      answer (rests.value v) at after l =
+          let r = s.0 in
+          stays_here sc context ps level most at after (rests.giving v) (leaves_asks (rests.value v))
+          (r.kind, r.over, r.is, l.2, subst (λ z. Has ps level z (ops.Plain kinds.Retn) r.over) (sym l.0) r.back, l.1 ∙ ap (λ o. operand v ∷ o) s.1)
+      answer rests.done at after l = absurd l
+      answer (rests.cell c) at after l = absurd l
+      answer (rests.place p) at after l = absurd l
+      answer rests.entered at after l = absurd l
+
+  result_given : (v : Value) (pc : ℕ) (slots : List Slot) → StandsFor sc context ps level most (rests.giving v) pc slots → Going (rests.giving v) pc slots
+  result_given v pc slots s = record { action = s; answered = λ a at left l. absurd l; waits = λ at left wanted l. absurd l; returns = λ at left wanted l. absurd l }
+
+  -- ---- parts inside
+
+  -- behind the entry a result is dropped, and what comes after goes on
+  dropped : (o : Option Kind) (a : Answer) (k : List Item) (next u at : ℕ) (left : List Slot) → DroppedAt sc context ps level o next u → Gives o a → at ≡ next → left ≡ pend k →
+      Following k u → Coming (settle_items sc k) at (pushed a left)
+  dropped None rests.done k next u at left d fits e l follows = next_at k (settle_items sc k) u at left (e ∙ d) l (items_at sc context ps level most k u follows)
+  dropped (Some kind) (rests.value v) k next u at left d fits e l follows =
+      subst (λ z. Coming (settle_items sc k) z (operand v ∷ left)) (sym e)
+      (subst (λ o. Coming (settle_items sc k) next (operand v ∷ o)) (sym l)
+      (after_rest sc context ps level most (first (drop v d) there) (items_at sc context ps level most k u follows)))
+  dropped None (rests.value v) k next u at left d fits e l follows = absurd fits
+  dropped None (rests.cell c) k next u at left d fits e l follows = absurd fits
+  dropped None (rests.place p) k next u at left d fits e l follows = absurd fits
+  dropped None rests.entered k next u at left d fits e l follows = absurd fits
+  dropped (Some kind) rests.done k next u at left d fits e l follows = absurd fits
+  dropped (Some kind) (rests.cell c) k next u at left d fits e l follows = absurd fits
+  dropped (Some kind) (rests.place p) k next u at left d fits e l follows = absurd fits
+  dropped (Some kind) rests.entered k next u at left d fits e l follows = absurd fits
+
+  block_entered : (b : PBody) (k : List Item) (pc : ℕ) (slots : List Slot) → StandsFor sc context ps level most (rests.entering_block b k) pc slots →
       Going (rests.entering_block b k) pc slots
   block_entered (tree.body spot ds ss) k pc slots s = record {
     action = (s.0, pend k, s.1);
     answered = λ a at left l. absurd l;
-    entered = λ at left l. ((l.1, subst (Following k) (sym l.0) s.2), refl);
+    waits = λ at left wanted l. refl;
+    returns = λ at left wanted l a fits. dropped None a k s.0 s.0 at left refl (subst (λ o. Gives o a) l.2 fits) l.0 l.1 s.2;
+  }
+
+  -- a call waits for the procedure, whether it has a result or not
+  call_waits : (typed : Bool) (k : List Item) → ask (called sc typed rests.entered k) ≡ nothing
+  call_waits true k = refl
+  call_waits false k = refl
+
+  call_returns : (typed : Bool) (k : List Item) (a : Answer) → resume sc (called sc typed rests.entered k) a ≡ settle_items sc k
+  call_returns true k a = refl
+  call_returns false k a = refl
+
+  procedure_entered : (n : Named) (gs : List Given) (k : List Item) (pc : ℕ) (slots : List Slot) → StandsFor sc context ps level most (rests.entering n gs k) pc slots →
+      Going (rests.entering n gs k) pc slots
+  procedure_entered n gs k pc slots s = record {
+    action = (s.0, s.1, pend k, s.3);
+    answered = λ a at left l. absurd l;
+    waits = λ at left wanted l. call_waits (is_typed sc n) k;
+    returns = λ at left wanted l a fits.
+        subst (λ r. Coming r at (pushed a left)) (sym (call_returns (is_typed sc n) k a))
+        (dropped ((block_numbered sc.blocks s.0).result) a k s.1 s.2 at left s.4 (subst (λ o. Gives o a) l.2 fits) l.0 l.1 s.5);
   }
 
   -- ---- CASE
@@ -112,10 +175,10 @@ module _ (sc : Scopes) (formats : List Format) (ps : List Placed) (level most : 
     pub next : ℕ
     pub to : ℕ
     pub branch : BranchAt ps level Brun (entry + 3 * i) from next
-    pub stands : StmtAt sc formats ps level (nth_stmt ss i) from to u
+    pub stands : StmtAt sc context ps level (nth_stmt ss i) from to u
     pub out : Goes ps level to u
 
-  case_at : (ss : PStmts) (i entry u : ℕ) → CasesAt sc formats ps level ss entry u → i < stmts_count ss → CaseAt ss i entry u
+  case_at : (ss : PStmts) (i entry u : ℕ) → CasesAt sc context ps level ss entry u → i < stmts_count ss → CaseAt ss i entry u
   case_at tree.no_stmts i entry u h b = absurd (omega (arith, b))
   case_at (tree.stmts s ss) zero entry u h b =
       let same : entry ≡ entry + 3 * 0 = omega arith in
@@ -125,22 +188,22 @@ module _ (sc : Scopes) (formats : List Format) (ps : List Placed) (level most : 
       let same : entry + 3 + 3 * i ≡ entry + 3 * suc i = omega arith in
       record { from = c.from; next = c.next; to = c.to; branch = subst (λ z. BranchAt ps level Brun z c.from c.next) same c.branch; stands = c.stands; out = c.out }
 
-  case_entered : (ss : PStmts) (i table u : ℕ) (k : List Item) → CasesAt sc formats ps level ss table u → i < stmts_count ss → Following k u → HasRoom most (pend k) (stmts_depth ss) →
+  case_entered : (ss : PStmts) (i table u : ℕ) (k : List Item) → CasesAt sc context ps level ss table u → i < stmts_count ss → Following k u → HasRoom most (pend k) (stmts_depth ss) →
       Coming (settle_stmt sc (nth_stmt ss i) k (settle_items sc k)) (table + 3 * i) (pend k)
   case_entered ss i table u k h b follows room =
       let c = case_at ss i table u h b in
-      after_rest sc formats ps level most (first (go c.branch) there)
-      (stmt_at sc formats ps level most (nth_stmt ss i) c.from c.to u c.stands c.out k (settle_items sc k) follows (omega (arith, room, nth-depth ss i b)) (items_at sc formats ps level most k u follows))
+      after_rest sc context ps level most (first (go c.branch) there)
+      (stmt_at sc context ps level most (nth_stmt ss i) c.from c.to u c.stands c.out k (settle_items sc k) follows (omega (arith, room, nth-depth ss i b)) (items_at sc context ps level most k u follows))
 
-  abbrev case_action : (v : Value) (ss : PStmts) (k : List Item) (pc : ℕ) (slots : List Slot) → StandsFor sc formats ps level most (rests.select v ss k) pc slots →
-      ActionAt sc formats ps level most (selects v ss) pc slots
+  abbrev case_action : (v : Value) (ss : PStmts) (k : List Item) (pc : ℕ) (slots : List Slot) → StandsFor sc context ps level most (rests.select v ss k) pc slots →
+      ActionAt sc context ps level most (selects v ss) pc slots
   case_action v ss k pc slots s = (s.0, pend k, s.2, λ i b. let c = case_at ss i s.0 s.1 s.3 b in (c.from, c.next, c.branch))
 
-  chosen : (v : Value) (ss : PStmts) (k : List Item) (pc : ℕ) (slots : List Slot) → StandsFor sc formats ps level most (rests.select v ss k) pc slots →
+  chosen : (v : Value) (ss : PStmts) (k : List Item) (pc : ℕ) (slots : List Slot) → StandsFor sc context ps level most (rests.select v ss k) pc slots →
       Going (rests.select v ss k) pc slots
-  chosen v ss k pc slots s = record { action = case_action v ss k pc slots s; answered = answer; entered = λ at left l. absurd l }
+  chosen v ss k pc slots s = record { action = case_action v ss k pc slots s; answered = answer; waits = λ at left wanted l. absurd l; returns = λ at left wanted l. absurd l }
     where
-      answer : (a : Answer) (at : ℕ) (after : List Slot) → Acted sc formats ps level most (selects v ss) pc slots (case_action v ss k pc slots s) a at after →
+      answer : (a : Answer) (at : ℕ) (after : List Slot) → Acted sc context ps level most (selects v ss) pc slots (case_action v ss k pc slots s) a at after →
           Coming (settle_stmt sc (nth_stmt ss (nat_abs (whole_of v))) k (settle_items sc k)) at after
       answer rests.done at after l =
           let body = subst (λ v. Coming (settle_stmt sc (nth_stmt ss (nat_abs (whole_of v))) k (settle_items sc k)) (s.0 + 3 * l.0) (pend k)) (sym l.1)
@@ -151,143 +214,96 @@ module _ (sc : Scopes) (formats : List Format) (ps : List Placed) (level most : 
       answer (rests.place p) at after l = absurd l
       answer rests.entered at after l = absurd l
 
-  -- ---- all rests
+  -- ---- heads in expressions
 
-  storing_on : (n : rests.Place) (h : rests.Hole) (k : List Item) (pc : ℕ) (slots : List Slot) → StandsFor sc formats ps level most (rests.storing n h k) pc slots →
+  -- What has its head in an expression does with the expression's value what it does, whether its head answers or a procedure that
+  -- it entered: `f` is what stands there for the expression.
+  by_head : (kind : Kind) (h : Hole) (pc : ℕ) (slots below : List Slot) (to : ℕ) (f : Half → Rest) → Holds sc context ps level most kind h pc slots below to →
+      ((g : Hole) → ask (f (busy g)) ≡ ask_hole g) → ((g : Hole) (a : Answer) → resume sc (f (busy g)) a ≡ f (put sc g a)) →
+      ((z : Half) (at : ℕ) (left : List Slot) → Shows sc context ps level most kind z at left below to → Coming (f z) at left) → Going (f (busy h)) pc slots
+  by_head kind h pc slots below to f holds asks resumes stands =
+      let p : PutsOn sc context ps level most (ask (f (busy h))) kind h pc slots below to =
+      subst (λ q. PutsOn sc context ps level most q kind h pc slots below to) (sym (asks h)) (puts_on sc context ps level most kind h pc slots below to holds) in
+      let goes : (z : Half) (at : ℕ) (left : List Slot) → Comes sc context ps level most kind at left z below to → Coming (f z) at left = λ z at left c.
+      after_rest sc context ps level most c.leads (stands z c.at c.with_slots c.shows) in
+      record {
+        action = p.action;
+        answered = λ a at left l. subst (λ r. Coming r at left) (sym (resumes h a)) (goes (put sc h a) at left (p.answered a at left l));
+        waits = λ at left wanted l. ap ask (resumes h rests.entered ∙ ap f p.inner) ∙ asks (inside_of h) ∙ inside_asks h;
+        returns = λ at left wanted l a fits.
+            let back : resume sc (resume sc (f (busy h)) rests.entered) a ≡ f (put sc h a) =
+            ap (λ r. resume sc r a) (resumes h rests.entered ∙ ap f p.inner) ∙ resumes (inside_of h) a ∙ ap f (p.same a) in
+            subst (λ r. Coming r at (pushed a left)) (sym back) (goes (put sc h a) at (pushed a left) (p.returns at left wanted l a fits));
+      }
+
+  storing_on : (n : rests.Place) (h : Hole) (k : List Item) (pc : ℕ) (slots : List Slot) → StandsFor sc context ps level most (rests.storing n h k) pc slots →
       Going (rests.storing n h k) pc slots
   storing_on (rests.there x) h k pc slots s = absurd s
   storing_on (rests.element_of x ks) h k pc slots s = absurd s
   storing_on (own n) h k pc slots s =
-      let p = puts_on sc formats ps level most s.0 h pc slots (reference n ∷ pend k) s.2 s.5 in
-      record {
-        action = p.action;
-        entered = λ at left l. absurd (p.not_entered at left l);
-        answered = λ a at left l.
-            let c = p.answered a at left l in
-            after_rest sc formats ps level most c.leads (assigned_stands sc formats ps level most n s.0 s.1 (put sc h a) c.at c.with_slots k s.2 s.3 s.4 c.shows s.6 s.7);
-      }
+      by_head s.0 h pc slots (reference s.1 ∷ pend k) s.2 (λ z. assigned_of (own n) z k) s.5 (λ g. refl) (λ g a. refl)
+      (λ z at left shows. assigned_stands sc context ps level most n s.0 s.1 z at left k s.2 s.3 s.4 shows s.6 s.7)
 
-  pub goes_on_at : (r : Rest) (pc : ℕ) (slots : List Slot) → StandsFor sc formats ps level most r pc slots → (ask r ≡ nothing → ⊥) → Going r pc slots
+  -- ---- all rests
+
+  pub goes_on_at : (r : Rest) (pc : ℕ) (slots : List Slot) → StandsFor sc context ps level most r pc slots → (ask r ≡ nothing → ⊥) → Going r pc slots
   goes_on_at rests.over pc slots s asks = ended pc slots s
+  goes_on_at (rests.reading name) pc slots s asks = result_read name pc slots s
+  goes_on_at (rests.giving v) pc slots s asks = result_given v pc slots s
   goes_on_at (rests.store n v k) pc slots s asks = stored n v k pc slots s
   goes_on_at (rests.select v ss k) pc slots s asks = chosen v ss k pc slots s
   goes_on_at (rests.turning k) pc slots s asks = turned k pc slots s
   goes_on_at (rests.line phrases vs k) pc slots s asks = written phrases vs k pc slots s
   goes_on_at (rests.entering_block b k) pc slots s asks = block_entered b k pc slots s
-  goes_on_at (rests.within k) pc slots s asks = absurd (asks refl)
+  goes_on_at (rests.entering n gs k) pc slots s asks = procedure_entered n gs k pc slots s
   goes_on_at (rests.storing n h k) pc slots s asks = storing_on n h k pc slots s
   goes_on_at (rests.choosing h x y k) pc slots s asks =
-      let p = puts_on sc formats ps level most types.Truth h pc slots (pend k) s.0 s.6 in
       let r = settle_items sc k in
-      let more = items_at sc formats ps level most k s.5 s.12 in
-      record {
-        action = p.action;
-        entered = λ at left l. absurd (p.not_entered at left l);
-        answered = λ a at left l.
-            let c = p.answered a at left l in
-            after_rest sc formats ps level most c.leads
-            (chosen_stands sc formats ps level most (put sc h a) x y k (settle_stmt sc x k r) (settle_stmt sc y k r) c.at c.with_slots s.0 s.1 s.2 s.3 s.4 s.5 c.shows s.7 s.8 s.9 s.10 s.11 s.12 s.13
-            (stmt_at sc formats ps level most x s.1 s.2 s.5 s.8 s.9 k r s.12 (omega (arith, s.13)) more)
-            (stmt_at sc formats ps level most y s.3 s.4 s.5 s.10 s.11 k r s.12 (omega (arith, s.13)) more));
-      }
+      let more = items_at sc context ps level most k s.5 s.12 in
+      by_head types.Truth h pc slots (pend k) s.0 (λ z. chosen_of z x y k (settle_stmt sc x k r) (settle_stmt sc y k r)) s.6 (λ g. refl) (λ g a. refl)
+      (λ z at left shows.
+      chosen_stands sc context ps level most z x y k (settle_stmt sc x k r) (settle_stmt sc y k r) at left s.0 s.1 s.2 s.3 s.4 s.5 shows s.7 s.8 s.9 s.10 s.11 s.12 s.13
+      (stmt_at sc context ps level most x s.1 s.2 s.5 s.8 s.9 k r s.12 (omega (arith, s.13)) more)
+      (stmt_at sc context ps level most y s.3 s.4 s.5 s.10 s.11 k r s.12 (omega (arith, s.13)) more))
   goes_on_at (rests.looping h e b k) pc slots s asks =
-      let p = puts_on sc formats ps level most types.Truth h pc slots (pend k) s.1 s.4 in
       let w = s.5 in
-      record {
-        action = p.action;
-        entered = λ at left l. absurd (p.not_entered at left l);
-        answered = λ a at left l.
-            let c = p.answered a at left l in
-            after_rest sc formats ps level most c.leads
-            (looped_stands sc formats ps level most (put sc h a) e b k (settle_stmt sc b (rests.turn ∷ rests.run (tree.while e b) ∷ k) (rests.turning (rests.run (tree.while e b) ∷ k)))
-            (settle_items sc k) c.at c.with_slots s.0 s.1 s.2 s.3 c.shows w s.6 s.7 s.8
-            (while_body sc formats ps level most e b k s.0 s.1 s.2 s.3 w s.6 s.7 s.8 (stmt_at sc formats ps level most b w.0 w.1 w.1 w.4 stop)) (items_at sc formats ps level most k s.3 s.7));
-      }
+      let body = settle_stmt sc b (turn_and (tree.while e b) k) (rests.turning (run_and (tree.while e b) k)) in
+      by_head types.Truth h pc slots (pend k) s.1 (λ z. looped_of z e b k body (settle_items sc k)) s.4 (λ g. refl) (λ g a. refl)
+      (λ z at left shows.
+      looped_stands sc context ps level most z e b k body (settle_items sc k) at left s.0 s.1 s.2 s.3 shows w s.6 s.7 s.8
+      (while_body sc context ps level most e b k s.0 s.1 s.2 s.3 w s.6 s.7 s.8 (stmt_at sc context ps level most b w.0 w.1 w.1 w.4 stop)) (items_at sc context ps level most k s.3 s.7))
   goes_on_at (rests.checking h b e k) pc slots s asks =
-      let p = puts_on sc formats ps level most types.Truth h pc slots (pend k) s.2 s.6 in
-      record {
-        action = p.action;
-        entered = λ at left l. absurd (p.not_entered at left l);
-        answered = λ a at left l.
-            let c = p.answered a at left l in
-            after_rest sc formats ps level most c.leads
-            (checked_stands sc formats ps level most (put sc h a) b e k (settle_items sc k) c.at c.with_slots s.0 s.1 s.2 s.3 s.4 s.5 c.shows s.7 s.8 s.9 s.10 s.11 s.12 s.13
-            (items_at sc formats ps level most k s.5 s.12));
-      }
+      by_head types.Truth h pc slots (pend k) s.2 (λ z. checked_of z b e k (settle_items sc k)) s.6 (λ g. refl) (λ g a. refl)
+      (λ z at left shows.
+      checked_stands sc context ps level most z b e k (settle_items sc k) at left s.0 s.1 s.2 s.3 s.4 s.5 shows s.7 s.8 s.9 s.10 s.11 s.12 s.13 (items_at sc context ps level most k s.5 s.12))
   goes_on_at (rests.counting h b k) pc slots s asks =
-      let p = puts_on sc formats ps level most types.Number h pc slots (pend k) s.0 s.3 in
       let t = s.4 in
-      record {
-        action = p.action;
-        entered = λ at left l. absurd (p.not_entered at left l);
-        answered = λ a at left l.
-            let c = p.answered a at left l in
-            after_rest sc formats ps level most c.leads
-            (counted_stands sc formats ps level most (put sc h a) b k (settle_items sc k) c.at c.with_slots s.0 s.1 s.2 c.shows t s.5 s.6 s.7
-            (stmt_at sc formats ps level most b t.1 t.2 t.2 t.4 stop) (items_at sc formats ps level most k s.2 s.6));
-      }
+      by_head types.Number h pc slots (pend k) s.0 (λ z. counted_of z b k (counted_body sc b k) (settle_items sc k)) s.3 (λ g. refl) (λ g a. refl)
+      (λ z at left shows.
+      counted_stands sc context ps level most z b k (settle_items sc k) at left s.0 s.1 s.2 shows t s.5 s.6 s.7
+      (stmt_at sc context ps level most b t.1 t.2 t.2 t.4 stop) (items_at sc context ps level most k s.2 s.6))
   goes_on_at (rests.differing h loop k) pc slots s asks =
-      let p = puts_on sc formats ps level most types.Number h pc slots (pend k) s.1 s.5 in
       let o = s.8 in
-      record {
-        action = p.action;
-        entered = λ at left l. absurd (p.not_entered at left l);
-        answered = λ a at left l.
-            let c = p.answered a at left l in
-            after_rest sc formats ps level most c.leads
-            (differed_stands sc formats ps level most (put sc h a) loop k (settle_items sc k) c.at c.with_slots s.0 s.1 s.2 s.3 s.4 c.shows s.6 s.7 o s.9 s.10
-            (items_at sc formats ps level most k s.4 s.9)
-            (again_at sc formats ps level most loop k s.0 s.1 s.2 s.3 s.4 s.6 s.7 o s.9 s.10 (stmt_at sc formats ps level most loop.body s.2 o.0 o.0 o.2 stop)));
-      }
+      by_head types.Number h pc slots (pend k) s.1 (λ z. differed_of sc z loop k (settle_items sc k)) s.5 (λ g. refl) (λ g a. refl)
+      (λ z at left shows.
+      differed_stands sc context ps level most z loop k (settle_items sc k) at left s.0 s.1 s.2 s.3 s.4 shows s.6 s.7 o s.9 s.10 (items_at sc context ps level most k s.4 s.9)
+      (again_at sc context ps level most loop k s.0 s.1 s.2 s.3 s.4 s.6 s.7 o s.9 s.10 (stmt_at sc context ps level most loop.body s.2 o.0 o.0 o.2 stop)))
   goes_on_at (rests.stepping d h loop k) pc slots s asks =
-      let p = puts_on sc formats ps level most types.Number h pc slots (operand d ∷ pend k) s.2 s.7 in
       let o = s.11 in
-      record {
-        action = p.action;
-        entered = λ at left l. absurd (p.not_entered at left l);
-        answered = λ a at left l.
-            let c = p.answered a at left l in
-            after_rest sc formats ps level most c.leads
-            (tested_stands sc formats ps level most d (put sc h a) loop k (settle_items sc k) c.at c.with_slots s.0 s.1 s.2 s.3 s.4 s.5 s.6 c.shows s.8 s.9 s.10 o s.12 s.13
-            (items_at sc formats ps level most k s.5 s.12)
-            (again_at sc formats ps level most loop k s.0 s.1 s.3 s.4 s.5 s.8 (any s.2 s.9 s.10) o s.12 s.13 (stmt_at sc formats ps level most loop.body s.3 o.0 o.0 o.2 stop)));
-      }
+      by_head types.Number h pc slots (operand d ∷ pend k) s.2 (λ z. tested_of sc d z loop k (settle_items sc k)) s.7 (λ g. refl) (λ g a. refl)
+      (λ z at left shows.
+      tested_stands sc context ps level most d z loop k (settle_items sc k) at left s.0 s.1 s.2 s.3 s.4 s.5 s.6 shows s.8 s.9 s.10 o s.12 s.13
+      (items_at sc context ps level most k s.5 s.12)
+      (again_at sc context ps level most loop k s.0 s.1 s.3 s.4 s.5 s.8 (any s.2 s.9 s.10) o s.12 s.13 (stmt_at sc context ps level most loop.body s.3 o.0 o.0 o.2 stop)))
   goes_on_at (rests.selecting h ss k) pc slots s asks =
-      let p = puts_on sc formats ps level most types.Number h pc slots (intrinsic Select ∷ mark ∷ pend k) s.0 s.3 in
-      record {
-        action = p.action;
-        entered = λ at left l. absurd (p.not_entered at left l);
-        answered = λ a at left l.
-            let c = p.answered a at left l in
-            after_rest sc formats ps level most c.leads (selected_stands sc formats ps level most (put sc h a) ss k c.at c.with_slots s.0 s.1 s.2 c.shows s.4 s.5 s.6 s.7);
-      }
+      by_head types.Number h pc slots (intrinsic Select ∷ mark ∷ pend k) s.0 (λ z. selected_of z ss k) s.3 (λ g. refl) (λ g a. refl)
+      (λ z at left shows. selected_stands sc context ps level most z ss k at left s.0 s.1 s.2 shows s.4 s.5 s.6 s.7)
   goes_on_at (rests.writing phrases vs h es k) pc slots s asks =
-      let p = puts_on sc formats ps level most types.Number h pc slots (operands vs (line_begun s.0 (pend k))) s.1 s.7 in
-      record {
-        action = p.action;
-        entered = λ at left l. absurd (p.not_entered at left l);
-        answered = λ a at left l.
-            let c = p.answered a at left l in
-            after_rest sc formats ps level most c.leads
-            (item_stands sc formats ps level most phrases vs (put sc h a) es k s.0 s.1 s.2 s.3 c.at c.with_slots c.shows s.8 s.9 s.4 s.5 s.6 s.10 s.11
-            (line_at sc formats ps level most es phrases k s.0 s.1 s.2 s.3 s.8 s.9 s.5 s.10));
-      }
+      by_head types.Number h pc slots (operands vs (line_begun s.0 (pend k))) s.1 (λ z. item_of phrases vs z es k (settle_line sc es phrases k)) s.7 (λ g. refl) (λ g a. refl)
+      (λ z at left shows.
+      item_stands sc context ps level most phrases vs z es k s.0 s.1 s.2 s.3 at left shows s.8 s.9 s.4 s.5 s.6 s.10 s.11
+      (line_at sc context ps level most es phrases k s.0 s.1 s.2 s.3 s.8 s.9 s.5 s.10))
   goes_on_at _ pc slots s asks = absurd s
 
-  -- ---- what waits for a part inside
-
-  pub waiting_at : (r : Rest) (a : Answer) (pc : ℕ) (slots after : List Slot) → StandsFor sc formats ps level most r pc slots →
-      Returned sc formats ps level most r a slots after → Coming (resume sc r a) pc after
-  waiting_at (rests.within k) rests.done pc slots after s l =
-      subst (λ o. Coming (settle_items sc k) pc o) (sym (l ∙ s.0)) (items_at sc formats ps level most k pc s.1)
-  waiting_at (rests.within k) (rests.value v) pc slots after s l = absurd l
-  waiting_at (rests.within k) (rests.cell c) pc slots after s l = absurd l
-  waiting_at (rests.within k) (rests.place p) pc slots after s l = absurd l
-  waiting_at (rests.within k) rests.entered pc slots after s l = absurd l
-  waiting_at _ a pc slots after s l = absurd l
-
 pub rests_go_on : RestsGoOn
-rests_go_on sc formats ps level most r pc slots s asks = goes_on_at sc formats ps level most r pc slots s asks
-
-pub waiting_goes_on : WaitingGoesOn
-waiting_goes_on sc formats ps level most r a pc slots after s l = waiting_at sc formats ps level most r a pc slots after s l
+rests_go_on sc context ps level most r pc slots s asks = goes_on_at sc context ps level most r pc slots s asks

@@ -7,11 +7,11 @@ use Rattle.algol_meaning.specs.Value.{Value}
 use Rattle.algol_meaning.specs.Rest as rests
 use Rattle.algol_meaning.specs.Rest.{Item}
 use Rattle.b67_segment.specs.Operators.{Placed}
-use Rattle.b67_segment.specs.declared.code.Format.{Format}
+use Rattle.b67_templates.specs.Contexts.{Context}
 use Rattle.b67_templates.specs.Fragments.{Goes, stop, over}
 use Rattle.b67_templates.specs.Code.{StmtAt, KAt}
 use Rattle.b67_templates.specs.Depths.{depth, stmt_depth, counts_in}
-use Rattle.b67_standing.specs.Stepping.{Slot, operand, HasRoom, Step, push_number, push_truth, push_name, calculate, negate, invert, false_stays, false_goes, true_stays, true_goes, go, call, announce, drop, counts, spent, within, past, within_literal, past_literal, Leads, there, first}
+use Rattle.b67_standing.specs.Stepping.{Slot, operand, HasRoom, Step, push_number, push_truth, push_name, calculate, negate, invert, false_stays, false_goes, true_stays, true_goes, go, call, announce, summon, drop, counts, spent, within, past, within_literal, past_literal, Leads, there, first}
 use Rattle.b67_standing.specs.Standing.{pend, Follows}
 
 -- an expression needs a word at least
@@ -22,6 +22,8 @@ depth-positive (tree.neg e spot) = depth-positive e
 depth-positive (tree.not e spot) = depth-positive e
 depth-positive (tree.two op a b) = omega (arith, depth-positive a)
 depth-positive (tree.if c x y spot) = omega (arith, depth-positive c)
+depth-positive (tree.variable (tree.subscripted n tree.none)) = omega arith
+depth-positive (tree.variable (tree.subscripted n (tree.more e es))) = omega arith
 depth-positive _ = omega arith
 
 pub pend-length : (k : List Item) → length (pend k) ≡ counts_in k
@@ -40,38 +42,39 @@ module _ (ps : List Placed) (level : ℕ) where
   goes_on stop g = g
   goes_on (over next h k) g = over next h (goes_on k g)
 
-module _ (sc : Scopes) (formats : List Format) (ps : List Placed) (level most : ℕ) where
-  pub on : {a b c : ℕ} {x y z : List Slot} → Leads sc formats ps level most a x b y → Leads sc formats ps level most b y c z → Leads sc formats ps level most a x c z
+module _ (sc : Scopes) (context : Context) (ps : List Placed) (level most : ℕ) where
+  pub on : {a b c : ℕ} {x y z : List Slot} → Leads sc context ps level most a x b y → Leads sc context ps level most b y c z → Leads sc context ps level most a x c z
   on there l = l
   on (first s k) l = first s (on k l)
 
-  pub leads_by : {a b : ℕ} {slots : List Slot} → Goes ps level a b → Leads sc formats ps level most a slots b slots
+  pub leads_by : {a b : ℕ} {slots : List Slot} → Goes ps level a b → Leads sc context ps level most a slots b slots
   leads_by stop = there
   leads_by (over next h g) = first (go h) (leads_by g)
 
   -- a value stands at that place on top of that
   pub valued_at : (pc : ℕ) (slots : List Slot) (v : Value) (below : List Slot) (to : ℕ) → Goes ps level pc to → slots ≡ operand v ∷ below →
-      Leads sc formats ps level most pc slots to (operand v ∷ below)
-  valued_at pc slots v below to g q = subst (λ o. Leads sc formats ps level most pc o to (operand v ∷ below)) (sym q) (leads_by g)
+      Leads sc context ps level most pc slots to (operand v ∷ below)
+  valued_at pc slots v below to g q = subst (λ o. Leads sc context ps level most pc o to (operand v ∷ below)) (sym q) (leads_by g)
 
   -- ---- what is still to be done
 
-  before : (k : List Item) {a b : ℕ} → Goes ps level a b → KAt sc formats ps level k b → KAt sc formats ps level k a
-  before [] g s = (s.0, s.1, goes_on ps level g s.2, s.3)
+  before : (k : List Item) {a b : ℕ} → Goes ps level a b → KAt sc context ps level k b → KAt sc context ps level k a
+  before [] g s = (s.0, s.1, s.2, goes_on ps level g s.3, s.4)
   before (rests.run x ∷ k) g s = (s.0, s.1, s.2, goes_on ps level g s.3, s.4, s.5, s.6)
   before (rests.turn ∷ k) g s = (s.0, s.1, s.2, goes_on ps level g s.3, s.4, s.5)
   before (rests.count n b ∷ k) g s = (s.0, s.1, s.2, goes_on ps level g s.3, s.4, s.5, s.6)
   before (rests.check b c ∷ k) g s = (s.0, s.1, s.2, s.3, goes_on ps level g s.4, s.5, s.6, s.7, s.8)
   before (rests.test loop ∷ k) g s = (s.0, s.1, s.2, goes_on ps level g s.3, s.4, s.5)
-  before (rests.result name ∷ k) g s = absurd s
+  before (rests.result name ∷ []) g s = (s.0, goes_on ps level g s.1, s.2)
+  before (rests.result name ∷ item ∷ k) g s = absurd s
   before (rests.make_arrays kind ns pairs ∷ k) g s = absurd s
   before (rests.make_event n ∷ k) g s = absurd s
 
-  pub follows_before : (k : List Item) {a b : ℕ} → Goes ps level a b → Follows sc formats ps level most k b → Follows sc formats ps level most k a
+  pub follows_before : (k : List Item) {a b : ℕ} → Goes ps level a b → Follows sc context ps level most k b → Follows sc context ps level most k a
   follows_before k g f = record { at = before k g f.at; shallow = f.shallow; counts = f.counts }
 
-  pub follows_run : (s : PStmt) (k : List Item) (q t u : ℕ) → StmtAt sc formats ps level s q t u → Goes ps level t u → HasRoom most (pend k) (stmt_depth s) →
-      Follows sc formats ps level most k u → Follows sc formats ps level most (rests.run s ∷ k) q
+  pub follows_run : (s : PStmt) (k : List Item) (q t u : ℕ) → StmtAt sc context ps level s q t u → Goes ps level t u → HasRoom most (pend k) (stmt_depth s) →
+      Follows sc context ps level most k u → Follows sc context ps level most (rests.run s ∷ k) q
   follows_run s k q t u h g room f = record {
     at = (q, t, u, stop, h, g, f.at);
     shallow = (omega (arith, room, pend-length k), f.shallow);
@@ -80,7 +83,7 @@ module _ (sc : Scopes) (formats : List Format) (ps : List Placed) (level most : 
 
   -- ---- room
 
-  within_most : {a b : ℕ} {x y : List Slot} → Step sc formats ps level most a x b y → length x ≤ most → length y ≤ most
+  within_most : {a b : ℕ} {x y : List Slot} → Step sc context ps level most a x b y → length x ≤ most → length y ≤ most
   within_most (push_number z h room) l = omega (arith, room)
   within_most (push_truth b h room) l = omega (arith, room)
   within_most (push_name n k h room) l = omega (arith, room)
@@ -94,6 +97,7 @@ module _ (sc : Scopes) (formats : List Format) (ps : List Placed) (level most : 
   within_most (go h) l = l
   within_most (call name h room) l = omega (arith, room)
   within_most (announce begin e room) l = omega (arith, room)
+  within_most (summon n callee c room) l = omega (arith, room)
   within_most (drop v h) l = omega (arith, l)
   within_most (counts z h w e room) l = omega (arith, l)
   within_most (spent z h w e room) l = omega (arith, l)
@@ -102,6 +106,6 @@ module _ (sc : Scopes) (formats : List Format) (ps : List Placed) (level most : 
   within_most (within_literal u d z s h w e room) l = omega (arith, l)
   within_most (past_literal next d z s h w e room) l = omega (arith, l)
 
-  pub leads_within : {a b : ℕ} {x y : List Slot} → Leads sc formats ps level most a x b y → length x ≤ most → length y ≤ most
+  pub leads_within : {a b : ℕ} {x y : List Slot} → Leads sc context ps level most a x b y → length x ≤ most → length y ≤ most
   leads_within there l = l
   leads_within (first s k) l = leads_within k (within_most s l)

@@ -14,14 +14,14 @@ use Rattle.algol_meaning.specs.Settle.{settle}
 use Rattle.algol_meaning.specs.Statements.{items, checked_of, settle_stmt, settle_stmts}
 use Rattle.b67_ops.specs.declared.intrinsic.Intrinsic.TheVariants.{Write, Select}
 use Rattle.b67_segment.specs.Operators.{Placed}
-use Rattle.b67_segment.specs.declared.code.Format.{Format}
-use Rattle.b67_templates.specs.Fragments.{Goes, stop, over, code_at, program_segment}
-use Rattle.b67_templates.specs.Code.{FormatIs, StmtAt, StmtsAt, WriteAt}
+use Rattle.b67_templates.specs.Contexts.{Context}
+use Rattle.b67_templates.specs.Fragments.{Goes, stop, over, code_at}
+use Rattle.b67_templates.specs.Code.{FormatIs, CallStmtAt, StmtAt, StmtsAt, WriteAt}
 use Rattle.b67_templates.specs.Depths.{depth, stmt_depth, stmts_depth}
-use Rattle.b67_standing.specs.Stepping.{Slot, intrinsic, control, mark, HasRoom, push_number, call, announce, there, first}
+use Rattle.b67_standing.specs.Stepping.{Slot, reference, intrinsic, control, mark, HasRoom, push_number, call, announce, summon, there, first}
 use Rattle.b67_standing.specs.Standing.{pend, Follows, WhileAt, ComesTo}
 use Rattle.b67_standing.proofs.Leading.{depth-positive, pend-length, leads_by, follows_before, follows_run}
-use Rattle.b67_standing.proofs.Asking.{enters_asks}
+use Rattle.b67_standing.proofs.Asking.{enters_asks, calls_asks}
 use Rattle.b67_standing.proofs.Settling.{settle_at}
 use Rattle.b67_standing.proofs.Rests.{after_rest, stays_here, follows_turn, turning_at, assign_at, chosen_stands, looped_stands, checked_stands, selected_stands, line_at}
 use Rattle.b67_standing.proofs.Loops.{Performs, counted_stands}
@@ -30,63 +30,80 @@ pub pend-items : (ss : PStmts) (k : List Item) → pend (items ss k) ≡ pend k
 pend-items tree.no_stmts k = refl
 pend-items (tree.stmts s ss) k = pend-items ss k
 
-module _ (sc : Scopes) (formats : List Format) (ps : List Placed) (level most : ℕ) where
+module _ (sc : Scopes) (context : Context) (ps : List Placed) (level most : ℕ) where
   abbrev Coming : Rest → ℕ → List Slot → Type 0
-  Coming = ComesTo sc formats ps level most
+  Coming = ComesTo sc context ps level most
 
   abbrev Following : List Item → ℕ → Type 0
-  Following = Follows sc formats ps level most
+  Following = Follows sc context ps level most
 
   abbrev Doing : PStmt → ℕ → ℕ → Type 0
-  Doing = Performs sc formats ps level most
+  Doing = Performs sc context ps level most
 
   -- ---- loops with a test
 
-  pub while_body : (c : PExpr) (b : PStmt) (k : List Item) (f m t u : ℕ) (w : WhileAt sc formats ps level most c b f m t u) → Goes ps level t u → Following k u →
+  pub while_body : (c : PExpr) (b : PStmt) (k : List Item) (f m t u : ℕ) (w : WhileAt sc context ps level most c b f m t u) → Goes ps level t u → Following k u →
       HasRoom most (pend k) (depth c + stmt_depth b) → Doing b w.0 w.1 →
       Coming (settle_stmt sc b (rests.turn ∷ rests.run (tree.while c b) ∷ k) (rests.turning (rests.run (tree.while c b) ∷ k))) w.0 (pend k)
   while_body c b k f m t u w g follows room p =
-      let again = follows_run sc formats ps level most (tree.while c b) k f t u (m, w.0, w.1, w.2, w.3, w.4, w.5) g room follows in
+      let again = follows_run sc context ps level most (tree.while c b) k f t u (m, w.0, w.1, w.2, w.3, w.4, w.5) g room follows in
       p (rests.turn ∷ rests.run (tree.while c b) ∷ k) (rests.turning (rests.run (tree.while c b) ∷ k))
-      (follows_turn sc formats ps level most (rests.run (tree.while c b) ∷ k) w.1 f t w.5 again) (omega (arith, room))
-      (turning_at sc formats ps level most (rests.run (tree.while c b) ∷ k) w.1 f t w.5 again)
+      (follows_turn sc context ps level most (rests.run (tree.while c b) ∷ k) w.1 f t w.5 again) (omega (arith, room))
+      (turning_at sc context ps level most (rests.run (tree.while c b) ∷ k) w.1 f t w.5 again)
 
   -- ---- lines
 
-  write_at : (n : Named) (spot : Spot) (phrases : List PhraseText) (es : PExprs) (f t u : ℕ) → WriteAt sc formats ps level phrases es f t → Goes ps level t u →
+  write_at : (n : Named) (spot : Spot) (phrases : List PhraseText) (es : PExprs) (f t u : ℕ) → WriteAt sc context ps level phrases es f t → Goes ps level t u →
       Doing (tree.write n spot phrases es) f u
   write_at n spot phrases es f t u h g k r follows room c =
-      after_rest sc formats ps level most
+      after_rest sc context ps level most
       (first (call Write h.intrinsic (omega (arith, room))) (first (push_number (pos h.format) h.number (omega (arith, room))) there))
-      (line_at sc formats ps level most es phrases k h.format h.numbered h.valued t h.items h.enter (h.number).whole (follows_before sc formats ps level most k g follows) []
-      (subst (λ z. FormatIs sc formats ps level h.format phrases z) (omega arith) h.is) tt (omega (arith, room)))
+      (line_at sc context ps level most es phrases k h.format h.numbered h.valued t h.items h.enter (h.number).whole (follows_before sc context ps level most k g follows) []
+      (subst (λ z. FormatIs sc context ps level h.format phrases z) (omega arith) h.is) tt (omega (arith, room)))
 
   -- ---- inner blocks
 
   -- over the block's code to its entry, which its control word and a mark announce
-  inner_at : (spot : Spot) (d : PDecl) (ds : PDecls) (ss : PStmts) (f t u : ℕ) → StmtAt sc formats ps level (tree.block (tree.body spot (tree.decls d ds) ss)) f t u →
+  inner_at : (spot : Spot) (d : PDecl) (ds : PDecls) (ss : PStmts) (f t u : ℕ) → StmtAt sc context ps level (tree.block (tree.body spot (tree.decls d ds) ss)) f t u →
       Goes ps level t u → Doing (tree.block (tree.body spot (tree.decls d ds) ss)) f u
   inner_at spot d ds ss f t u h g k r follows room c =
       let e = h.4 in
-      let word = code_at program_segment h.1 (level + 1) in
-      after_rest sc formats ps level most (leads_by sc formats ps level most h.2)
-      (after_rest sc formats ps level most (first (announce h.1 e (omega (arith, room))) there)
-      (stays_here sc formats ps level most e.named (control word ∷ mark ∷ pend k) (rests.entering_block (tree.body spot (tree.decls d ds) ss) k)
+      let word = code_at context.segment h.1 (level + 1) in
+      after_rest sc context ps level most (leads_by sc context ps level most h.2)
+      (after_rest sc context ps level most (first (announce h.1 e (omega (arith, room))) there)
+      (stays_here sc context ps level most e.named (control word ∷ mark ∷ pend k) (rests.entering_block (tree.body spot (tree.decls d ds) ss) k)
       (enters_asks (tree.body spot (tree.decls d ds) ss)) (
         t,
         record { begin = h.1; fits = e.fits; code = h.3; shallow = omega (arith, room); lies = refl; stands = e.enter },
-        follows_before sc formats ps level most k g follows,
+        follows_before sc context ps level most k g follows,
       )))
+
+  -- ---- calls
+
+  -- a mark and the reference of the procedure's control word, behind which it is entered
+  call_at : (n : Named) (f t u : ℕ) → CallStmtAt sc context ps level n f t → Goes ps level t u → Doing (tree.call_of (tree.called n tree.none)) f u
+  call_at n f t u h g k r follows room c =
+      let entry = h.2 in
+      after_rest sc context ps level most (first (summon n h.0 entry room) there)
+      (stays_here sc context ps level most entry.named (reference entry.couple ∷ mark ∷ pend k) (rests.entering n [] k) (calls_asks n []) (
+        h.0,
+        h.1,
+        t,
+        record { couple = entry.couple; procedure = entry.procedure; none = refl; lies = refl; stands = entry.enter },
+        h.3,
+        follows_before sc context ps level most k g follows,
+        room,
+      ))
 
   -- ---- all statements
 
-  pub items_follow : (ss : PStmts) (k : List Item) (f t u : ℕ) → StmtsAt sc formats ps level ss f t u → Goes ps level t u → Following k u → HasRoom most (pend k) (stmts_depth ss) →
+  pub items_follow : (ss : PStmts) (k : List Item) (f t u : ℕ) → StmtsAt sc context ps level ss f t u → Goes ps level t u → Following k u → HasRoom most (pend k) (stmts_depth ss) →
       Following (items ss k) f
-  items_follow tree.no_stmts k f t u h g follows room = subst (Following k) (sym h) (follows_before sc formats ps level most k g follows)
-  items_follow (tree.stmts s tree.no_stmts) k f t u h g follows room = follows_run sc formats ps level most s k f t u h g (omega (arith, room)) follows
+  items_follow tree.no_stmts k f t u h g follows room = subst (Following k) (sym h) (follows_before sc context ps level most k g follows)
+  items_follow (tree.stmts s tree.no_stmts) k f t u h g follows room = follows_run sc context ps level most s k f t u h g (omega (arith, room)) follows
   items_follow (tree.stmts s (tree.stmts s' ss)) k f t u h g follows room =
       let deep : HasRoom most (pend (items (tree.stmts s' ss) k)) (stmt_depth s) = omega (arith, room, ap length (pend-items (tree.stmts s' ss) k)) in
-      follows_run sc formats ps level most s (items (tree.stmts s' ss) k) f h.0 h.0 h.1 stop deep
+      follows_run sc context ps level most s (items (tree.stmts s' ss) k) f h.0 h.0 h.1 stop deep
       (items_follow (tree.stmts s' ss) k h.0 t u h.2 g follows (omega (arith, room)))
 
   abbrev DoingAll : PStmts → ℕ → ℕ → Type 0
@@ -94,58 +111,59 @@ module _ (sc : Scopes) (formats : List Format) (ps : List Placed) (level most : 
       (k : List Item) (r : Rest) → Following k u → HasRoom most (pend k) (stmts_depth ss) → Coming r u (pend k) → Coming (settle_stmts sc ss k r) f (pend k)
 
   mutual
-    pub stmt_at : (s : PStmt) (f t u : ℕ) → StmtAt sc formats ps level s f t u → Goes ps level t u → Doing s f u
-    stmt_at tree.empty f t u h g k r follows room c = after_rest sc formats ps level most (leads_by sc formats ps level most (subst (λ z. Goes ps level z u) (sym h) g)) c
+    pub stmt_at : (s : PStmt) (f t u : ℕ) → StmtAt sc context ps level s f t u → Goes ps level t u → Doing s f u
+    stmt_at tree.empty f t u h g k r follows room c = after_rest sc context ps level most (leads_by sc context ps level most (subst (λ z. Goes ps level z u) (sym h) g)) c
     stmt_at (tree.assign (tree.subscripted n tree.none) e) f t u h g k r follows room c =
-        assign_at sc formats ps level most n e f t k h (follows_before sc formats ps level most k g follows) room
+        assign_at sc context ps level most n e f t k h (follows_before sc context ps level most k g follows) room
+    stmt_at (tree.call_of (tree.called n tree.none)) f t u h g k r follows room c = call_at n f t u h g k r follows room c
     stmt_at (tree.block (tree.body spot tree.no_decls ss)) f t u h g k r follows room c = stmts_at ss f t u h g k r follows room c
     stmt_at (tree.block (tree.body spot (tree.decls d ds) ss)) f t u h g k r follows room c = inner_at spot d ds ss f t u h g k r follows room c
     stmt_at (tree.if_then e x) f t u h g k r follows room c =
-        let d = settle_at sc formats ps level most types.Truth e f h.0 h.0 h.2 stop (pend k) (omega (arith, room)) in
-        after_rest sc formats ps level most d.leads
-        (chosen_stands sc formats ps level most (settle sc e) x tree.empty k (settle_stmt sc x k r) r d.at d.with_slots h.0 h.1 t u u u d.shows h.3 h.4 g refl stop follows
+        let d = settle_at sc context ps level most types.Truth e f h.0 h.0 h.2 stop (pend k) (omega (arith, room)) in
+        after_rest sc context ps level most d.leads
+        (chosen_stands sc context ps level most (settle sc e) x tree.empty k (settle_stmt sc x k r) r d.at d.with_slots h.0 h.1 t u u u d.shows h.3 h.4 g refl stop follows
         (omega (arith, room)) (stmt_at x h.1 t u h.4 g k r follows (omega (arith, room)) c) c)
     stmt_at (tree.if_else e x y) f t u h g k r follows room c =
-        let d = settle_at sc formats ps level most types.Truth e f h.0 h.0 h.4 stop (pend k) (omega (arith, room)) in
+        let d = settle_at sc context ps level most types.Truth e f h.0 h.0 h.4 stop (pend k) (omega (arith, room)) in
         let out = over h.3 h.7 stop in
-        after_rest sc formats ps level most d.leads
-        (chosen_stands sc formats ps level most (settle sc e) x y k (settle_stmt sc x k r) (settle_stmt sc y k r) d.at d.with_slots h.0 h.1 h.2 h.3 t u d.shows h.5 h.6 out h.8 g follows
+        after_rest sc context ps level most d.leads
+        (chosen_stands sc context ps level most (settle sc e) x y k (settle_stmt sc x k r) (settle_stmt sc y k r) d.at d.with_slots h.0 h.1 h.2 h.3 t u d.shows h.5 h.6 out h.8 g follows
         (omega (arith, room)) (stmt_at x h.1 h.2 u h.6 out k r follows (omega (arith, room)) c) (stmt_at y h.3 t u h.8 g k r follows (omega (arith, room)) c))
     stmt_at (tree.while e b) f t u h g k r follows room c =
-        let d = settle_at sc formats ps level most types.Truth e f h.0 h.0 h.3 stop (pend k) (omega (arith, room)) in
-        let w : WhileAt sc formats ps level most e b f h.0 t u = (h.1, h.2, h.3, h.4, h.5, h.6) in
-        after_rest sc formats ps level most d.leads
-        (looped_stands sc formats ps level most (settle sc e) e b k (settle_stmt sc b (rests.turn ∷ rests.run (tree.while e b) ∷ k) (rests.turning (rests.run (tree.while e b) ∷ k))) r
+        let d = settle_at sc context ps level most types.Truth e f h.0 h.0 h.3 stop (pend k) (omega (arith, room)) in
+        let w : WhileAt sc context ps level most e b f h.0 t u = (h.1, h.2, h.3, h.4, h.5, h.6) in
+        after_rest sc context ps level most d.leads
+        (looped_stands sc context ps level most (settle sc e) e b k (settle_stmt sc b (rests.turn ∷ rests.run (tree.while e b) ∷ k) (rests.turning (rests.run (tree.while e b) ∷ k))) r
         d.at d.with_slots f h.0 t u d.shows w g follows room (while_body e b k f h.0 t u w g follows room (stmt_at b h.1 h.2 h.2 h.5 stop)) c)
     stmt_at (tree.until b e) f t u h g k r follows room c =
         let w = h.2 in
-        let d = settle_at sc formats ps level most types.Truth e h.0 w.0 w.0 w.2 stop (pend k) (omega (arith, room)) in
+        let d = settle_at sc context ps level most types.Truth e h.0 w.0 w.0 w.2 stop (pend k) (omega (arith, room)) in
         stmt_at b f h.0 h.0 h.1 stop (rests.check b e ∷ k) (checked_of (settle sc e) b e k r)
         (record { at = (h.0, f, t, u, stop, h.1, w, g, follows.at); shallow = (omega (arith, room, pend-length k), follows.shallow); counts = follows.counts }) (omega (arith, room))
-        (after_rest sc formats ps level most d.leads
-        (checked_stands sc formats ps level most (settle sc e) b e k r d.at d.with_slots f h.0 w.0 w.1 t u d.shows h.1 w.2 w.3 w.4 g follows room c))
+        (after_rest sc context ps level most d.leads
+        (checked_stands sc context ps level most (settle sc e) b e k r d.at d.with_slots f h.0 w.0 w.1 t u d.shows h.1 w.2 w.3 w.4 g follows room c))
     stmt_at (tree.for v a s l b) f t u h g k r follows room c =
         let loop : rests.Loop = record { control = v; step = s; last = l; body = b } in
-        assign_at sc formats ps level most v a f h.0 (rests.test loop ∷ k) h.5
+        assign_at sc context ps level most v a f h.0 (rests.test loop ∷ k) h.5
         (record {
           at = (h.0, t, u, stop, (h.1, h.2, h.3, h.4, h.6, h.7, h.8, h.9, h.10), follows.at);
           shallow = (omega (arith, room, pend-length k), follows.shallow);
           counts = follows.counts;
         }) (omega (arith, room))
     stmt_at (tree.thru e b) f t u h g k r follows room c =
-        let d = settle_at sc formats ps level most types.Number e f h.0 h.0 h.4 stop (pend k) (omega (arith, room)) in
-        after_rest sc formats ps level most d.leads
-        (counted_stands sc formats ps level most (settle sc e) b k r d.at d.with_slots h.0 t u d.shows (h.1, h.2, h.3, h.5, h.6, h.7, h.8) g follows (omega (arith, room))
+        let d = settle_at sc context ps level most types.Number e f h.0 h.0 h.4 stop (pend k) (omega (arith, room)) in
+        after_rest sc context ps level most d.leads
+        (counted_stands sc context ps level most (settle sc e) b k r d.at d.with_slots h.0 t u d.shows (h.1, h.2, h.3, h.5, h.6, h.7, h.8) g follows (omega (arith, room))
         (stmt_at b h.2 h.3 h.3 h.6 stop) c)
     stmt_at (tree.case e ss) f t u h g k r follows room c =
-        let d = settle_at sc formats ps level most types.Number e h.0 h.1 h.1 h.4 stop (intrinsic Select ∷ mark ∷ pend k) (omega (arith, room)) in
-        after_rest sc formats ps level most (first (call Select h.3 (omega (arith, room))) d.leads)
-        (selected_stands sc formats ps level most (settle sc e) ss k d.at d.with_slots h.1 h.2 u d.shows h.5 h.6 follows (omega (arith, room, depth-positive e)))
+        let d = settle_at sc context ps level most types.Number e h.0 h.1 h.1 h.4 stop (intrinsic Select ∷ mark ∷ pend k) (omega (arith, room)) in
+        after_rest sc context ps level most (first (call Select h.3 (omega (arith, room))) d.leads)
+        (selected_stands sc context ps level most (settle sc e) ss k d.at d.with_slots h.1 h.2 u d.shows h.5 h.6 follows (omega (arith, room, depth-positive e)))
     stmt_at (tree.write n spot phrases es) f t u h g k r follows room c = write_at n spot phrases es f t u h g k r follows room c
     stmt_at _ f t u h g k r follows room c = absurd h
 
-    pub stmts_at : (ss : PStmts) (f t u : ℕ) → StmtsAt sc formats ps level ss f t u → Goes ps level t u → DoingAll ss f u
-    stmts_at tree.no_stmts f t u h g k r follows room c = after_rest sc formats ps level most (leads_by sc formats ps level most (subst (λ z. Goes ps level z u) (sym h) g)) c
+    pub stmts_at : (ss : PStmts) (f t u : ℕ) → StmtsAt sc context ps level ss f t u → Goes ps level t u → DoingAll ss f u
+    stmts_at tree.no_stmts f t u h g k r follows room c = after_rest sc context ps level most (leads_by sc context ps level most (subst (λ z. Goes ps level z u) (sym h) g)) c
     stmts_at (tree.stmts s tree.no_stmts) f t u h g k r follows room c = stmt_at s f t u h g k r follows (omega (arith, room)) c
     stmts_at (tree.stmts s (tree.stmts s' ss)) f t u h g k r follows room c =
         let more = tree.stmts s' ss in

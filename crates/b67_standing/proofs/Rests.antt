@@ -20,7 +20,7 @@ use Rattle.b67_ops.specs.declared.PlainKind.TheVariants as kinds
 use Rattle.b67_ops.specs.declared.BranchKind.TheVariants.{Brfl, Brtr}
 use Rattle.b67_ops.specs.declared.intrinsic.Intrinsic.TheVariants.{Select}
 use Rattle.b67_segment.specs.Operators.{Placed}
-use Rattle.b67_segment.specs.declared.code.Format.{Format}
+use Rattle.b67_templates.specs.Contexts.{Context}
 use Rattle.b67_templates.specs.Fragments.{IsWhole, HasKind, Has, BranchAt, TurnAt, Goes, stop}
 use Rattle.b67_templates.specs.Cells.{IsVariable}
 use Rattle.b67_templates.specs.Code.{FormatIs, ExprAt, AssignAt, LineAt, TableAt, StmtAt, CasesAt, exprs_count, stmts_count}
@@ -56,28 +56,28 @@ counts_within most (rests.result name ∷ k) s = omega (arith, s.0)
 counts_within most (rests.make_arrays kind ns pairs ∷ k) s = omega (arith, s.0)
 counts_within most (rests.make_event n ∷ k) s = omega (arith, s.0)
 
-module _ (sc : Scopes) (formats : List Format) (ps : List Placed) (level most : ℕ) where
+module _ (sc : Scopes) (context : Context) (ps : List Placed) (level most : ℕ) where
   abbrev Coming : Rest → ℕ → List Slot → Type 0
-  Coming = ComesTo sc formats ps level most
+  Coming = ComesTo sc context ps level most
 
   abbrev Following : List Item → ℕ → Type 0
-  Following = Follows sc formats ps level most
+  Following = Follows sc context ps level most
 
   abbrev Showing : Kind → Half → ℕ → List Slot → List Slot → ℕ → Type 0
-  Showing = Shows sc formats ps level most
+  Showing = Shows sc context ps level most
 
-  pub after_rest : {a b : ℕ} {x y : List Slot} {r : Rest} → Leads sc formats ps level most a x b y → Coming r b y → Coming r a x
-  after_rest l c = record { at = c.at; with_slots = c.with_slots; leads = on sc formats ps level most l c.leads; stands = c.stands; asks = c.asks }
+  pub after_rest : {a b : ℕ} {x y : List Slot} {r : Rest} → Leads sc context ps level most a x b y → Coming r b y → Coming r a x
+  after_rest l c = record { at = c.at; with_slots = c.with_slots; leads = on sc context ps level most l c.leads; stands = c.stands; asks = c.asks }
 
-  pub stays_here : (pc : ℕ) (slots : List Slot) (r : Rest) → (ask r ≡ nothing → ⊥) → StandsFor sc formats ps level most r pc slots → Coming r pc slots
+  pub stays_here : (pc : ℕ) (slots : List Slot) (r : Rest) → (ask r ≡ nothing → ⊥) → StandsFor sc context ps level most r pc slots → Coming r pc slots
   stays_here pc slots r a s = record { at = pc; with_slots = slots; leads = there; stands = s; asks = a }
 
-  heads_ask : (k : Kind) (h : Hole) (pc : ℕ) (slots below : List Slot) (to : ℕ) → Holds sc formats ps level most k h pc slots below to → ask_hole h ≡ nothing → ⊥
-  heads_ask = holds_asks sc formats ps level most
+  heads_ask : (k : Kind) (h : Hole) (pc : ℕ) (slots below : List Slot) (to : ℕ) → Holds sc context ps level most k h pc slots below to → ask_hole h ≡ nothing → ⊥
+  heads_ask = holds_asks sc context ps level most
 
   value_at : (pc : ℕ) (slots : List Slot) (v : Value) (below : List Slot) (to : ℕ) → Goes ps level pc to → slots ≡ operand v ∷ below →
-      Leads sc formats ps level most pc slots to (operand v ∷ below)
-  value_at = valued_at sc formats ps level most
+      Leads sc context ps level most pc slots to (operand v ∷ below)
+  value_at = valued_at sc context ps level most
 
   -- ---- turns
 
@@ -94,18 +94,18 @@ module _ (sc : Scopes) (formats : List Format) (ps : List Placed) (level most : 
   -- ---- assignments
 
   pub assigned_stands : (n : Named) (kind : Kind) (couple : Couple) (x : Half) (pc : ℕ) (slots : List Slot) (k : List Item) (m next : ℕ) → IsVariable sc level n kind couple →
-      Showing kind x pc slots (reference n ∷ pend k) m → Has ps level m (ops.Plain kinds.Stod) next → Following k next → Coming (assigned_of (own n) x k) pc slots
+      Showing kind x pc slots (reference couple ∷ pend k) m → Has ps level m (ops.Plain kinds.Stod) next → Following k next → Coming (assigned_of (own n) x k) pc slots
   assigned_stands n kind couple (val v) pc slots k m next i s h f =
-      after_rest (value_at pc slots v (reference n ∷ pend k) m s.0 s.1)
-      (stays_here m (operand v ∷ reference n ∷ pend k) (rests.store (own n) v k) (stores_asks (own n) v)
+      after_rest (value_at pc slots v (reference couple ∷ pend k) m s.0 s.1)
+      (stays_here m (operand v ∷ reference couple ∷ pend k) (rests.store (own n) v k) (stores_asks (own n) v)
       (next, record { kind = kind; couple = couple; variable = i; fits = s.2; lies = refl; stands = h }, f))
   assigned_stands n kind couple (busy x) pc slots k m next i s h f =
-      stays_here pc slots (rests.storing (own n) x k) (heads_ask kind x pc slots (reference n ∷ pend k) m s) (kind, couple, m, next, i, s, h, f)
+      stays_here pc slots (rests.storing (own n) x k) (heads_ask kind x pc slots (reference couple ∷ pend k) m s) (kind, couple, m, next, i, s, h, f)
 
-  pub assign_at : (n : Named) (e : PExpr) (f t : ℕ) (k : List Item) → AssignAt sc formats ps level n e f t → Following k t → HasRoom most (pend k) (1 + depth e) →
+  pub assign_at : (n : Named) (e : PExpr) (f t : ℕ) (k : List Item) → AssignAt sc context ps level n e f t → Following k t → HasRoom most (pend k) (1 + depth e) →
       Coming (aimed_at (settle_place sc (tree.subscripted n tree.none)) e (settle sc e) k) f (pend k)
   assign_at n e f t k h follows room =
-      let c = settle_at sc formats ps level most h.0 e h.1 h.2 h.2 h.4 stop (reference n ∷ pend k) (omega (arith, room)) in
+      let c = settle_at sc context ps level most h.0 e h.1 h.2 h.2 h.4 stop (reference (h.3).0 ∷ pend k) (omega (arith, room)) in
       subst (λ p. Coming (aimed_at p e (settle sc e) k) f (pend k)) (sym (variable_place (sort_at sc n) n ((h.3).1).variable))
       (after_rest (first (push_name n h.0 h.3 (omega (arith, room))) c.leads)
       (assigned_stands n h.0 (h.3).0 (settle sc e) c.at c.with_slots k h.2 t (h.3).1 c.shows h.5 follows))
@@ -118,7 +118,7 @@ module _ (sc : Scopes) (formats : List Format) (ps : List Placed) (level most : 
   rest_parted false x y m f m' below h c d = after_rest (first (false_goes h) there) d
 
   pub chosen_stands : (x : Half) (a b : PStmt) (k : List Item) (s r : Rest) (pc : ℕ) (slots : List Slot) (m m' n f t u : ℕ) → Showing types.Truth x pc slots (pend k) m →
-      BranchAt ps level Brfl m f m' → StmtAt sc formats ps level a m' n u → Goes ps level n u → StmtAt sc formats ps level b f t u → Goes ps level t u → Following k u →
+      BranchAt ps level Brfl m f m' → StmtAt sc context ps level a m' n u → Goes ps level n u → StmtAt sc context ps level b f t u → Goes ps level t u → Following k u →
       HasRoom most (pend k) (stmt_depth a + stmt_depth b) → Coming s m' (pend k) → Coming r f (pend k) → Coming (chosen_of x a b k s r) pc slots
   chosen_stands (val (truth c)) a b k s r pc slots m m' n f t u sh h i g j l follows room y z =
       after_rest (value_at pc slots (truth c) (pend k) m sh.0 sh.1) (rest_parted c s r m f m' (pend k) h y z)
@@ -127,7 +127,7 @@ module _ (sc : Scopes) (formats : List Format) (ps : List Placed) (level most : 
       stays_here pc slots (rests.choosing x a b k) (heads_ask types.Truth x pc slots (pend k) m sh) (m, m', n, f, t, u, sh, h, i, g, j, l, follows, room)
 
   pub looped_stands : (x : Half) (c : PExpr) (b : PStmt) (k : List Item) (s r : Rest) (pc : ℕ) (slots : List Slot) (f m t u : ℕ) → Showing types.Truth x pc slots (pend k) m →
-      (w : WhileAt sc formats ps level most c b f m t u) → Goes ps level t u → Following k u → HasRoom most (pend k) (depth c + stmt_depth b) → Coming s w.0 (pend k) →
+      (w : WhileAt sc context ps level most c b f m t u) → Goes ps level t u → Following k u → HasRoom most (pend k) (depth c + stmt_depth b) → Coming s w.0 (pend k) →
       Coming r u (pend k) → Coming (looped_of x c b k s r) pc slots
   looped_stands (val (truth v)) c b k s r pc slots f m t u sh w g follows room y z =
       after_rest (value_at pc slots (truth v) (pend k) m sh.0 sh.1) (rest_parted v s r m u w.0 (pend k) w.3 y z)
@@ -136,12 +136,12 @@ module _ (sc : Scopes) (formats : List Format) (ps : List Placed) (level most : 
       stays_here pc slots (rests.looping x c b k) (heads_ask types.Truth x pc slots (pend k) m sh) (f, m, t, u, sh, w, g, follows, room)
 
   pub checked_stands : (x : Half) (b : PStmt) (c : PExpr) (k : List Item) (r : Rest) (pc : ℕ) (slots : List Slot) (f q m m' t u : ℕ) → Showing types.Truth x pc slots (pend k) m →
-      StmtAt sc formats ps level b f q q → ExprAt sc formats ps level types.Truth c q m m → BranchAt ps level Brtr m u m' → TurnAt ps level m' f t → Goes ps level t u →
+      StmtAt sc context ps level b f q q → ExprAt sc context ps level types.Truth c q m m → BranchAt ps level Brtr m u m' → TurnAt ps level m' f t → Goes ps level t u →
       Following k u → HasRoom most (pend k) (stmt_depth b + depth c) → Coming r u (pend k) → Coming (checked_of x b c k r) pc slots
   checked_stands (val (truth true)) b c k r pc slots f q m m' t u sh i e h j g follows room y =
       after_rest (value_at pc slots (truth true) (pend k) m sh.0 sh.1) (after_rest (first (true_goes h) there) y)
   checked_stands (val (truth false)) b c k r pc slots f q m m' t u sh i e h j g follows room y =
-      let again = follows_run sc formats ps level most (tree.until b c) k f t u (q, i, (m, m', e, h, j)) g room follows in
+      let again = follows_run sc context ps level most (tree.until b c) k f t u (q, i, (m, m', e, h, j)) g room follows in
       after_rest (value_at pc slots (truth false) (pend k) m sh.0 sh.1)
       (after_rest (first (true_stays h) there) (turning_at (run_and (tree.until b c) k) m' f t j again))
   checked_stands (val (number v)) b c k r pc slots f q m m' t u sh i e h j g follows room y = absurd sh.2
@@ -151,7 +151,7 @@ module _ (sc : Scopes) (formats : List Format) (ps : List Placed) (level most : 
   -- ---- the number of a CASE
 
   pub selected_stands : (x : Half) (ss : PStmts) (k : List Item) (pc : ℕ) (slots : List Slot) (m table u : ℕ) → Showing types.Number x pc slots (intrinsic Select ∷ mark ∷ pend k) m →
-      TableAt sc formats ps level (stmts_count ss) m table → CasesAt sc formats ps level ss table u → Following k u → HasRoom most (pend k) (5 + stmts_depth ss) →
+      TableAt sc context ps level (stmts_count ss) m table → CasesAt sc context ps level ss table u → Following k u → HasRoom most (pend k) (5 + stmts_depth ss) →
       Coming (selected_of x ss k) pc slots
   selected_stands (val v) ss k pc slots m table u sh h c follows room =
       let begun = intrinsic Select ∷ mark ∷ pend k in
@@ -168,12 +168,12 @@ module _ (sc : Scopes) (formats : List Format) (ps : List Placed) (level most : 
   -- what becomes of the line once these items have values
   abbrev LineOn : PExprs → List PhraseText → List Item → ℕ → ℕ → Type 0
   LineOn es phrases k format m =
-      (us : List Value) → FormatIs sc formats ps level format phrases (length us + exprs_count es) → AreNumbers us → HasRoom most (pend k) (3 + length us + line_depth es) →
+      (us : List Value) → FormatIs sc context ps level format phrases (length us + exprs_count es) → AreNumbers us → HasRoom most (pend k) (3 + length us + line_depth es) →
       Coming (settle_line sc es phrases k us) m (operands us (line_begun format (pend k)))
 
   pub item_stands : (phrases : List PhraseText) (vs : List Value) (x : Half) (es : PExprs) (k : List Item) (format m n next pc : ℕ) (slots : List Slot) →
-      Showing types.Number x pc slots (operands vs (line_begun format (pend k))) m → LineAt sc formats ps level es m n → Has ps level n (ops.Plain kinds.Entr) next →
-      FormatIs sc formats ps level format phrases (length vs + 1 + exprs_count es) → IsWhole (pos format) → AreNumbers vs → Following k next →
+      Showing types.Number x pc slots (operands vs (line_begun format (pend k))) m → LineAt sc context ps level es m n → Has ps level n (ops.Plain kinds.Entr) next →
+      FormatIs sc context ps level format phrases (length vs + 1 + exprs_count es) → IsWhole (pos format) → AreNumbers vs → Following k next →
       HasRoom most (pend k) (3 + length vs + 1 + line_depth es) → LineOn es phrases k format m → Coming (item_of phrases vs x es k (settle_line sc es phrases k)) pc slots
   item_stands phrases vs (val v) es k format m n next pc slots sh l h is whole fits follows room c =
       let begun = line_begun format (pend k) in
@@ -181,13 +181,13 @@ module _ (sc : Scopes) (formats : List Format) (ps : List Placed) (level most : 
       let longer : length us ≡ length vs + 1 = length-append vs (v ∷ []) in
       after_rest (value_at pc slots v (operands vs begun) m sh.0 sh.1)
       (subst (λ o. Coming (settle_line sc es phrases k us) m o) (operands-more vs v begun)
-      (c us (subst (λ z. FormatIs sc formats ps level format phrases (z + exprs_count es)) (sym longer) is) (are_numbers-more vs v fits sh.2)
+      (c us (subst (λ z. FormatIs sc context ps level format phrases (z + exprs_count es)) (sym longer) is) (are_numbers-more vs v fits sh.2)
       (omega (arith, room, longer))))
   item_stands phrases vs (busy x) es k format m n next pc slots sh l h is whole fits follows room c =
       stays_here pc slots (rests.writing phrases vs x es k) (heads_ask types.Number x pc slots (operands vs (line_begun format (pend k))) m sh)
       (format, m, n, next, is, whole, fits, sh, l, h, follows, room)
 
-  pub line_at : (es : PExprs) (phrases : List PhraseText) (k : List Item) (format f n next : ℕ) → LineAt sc formats ps level es f n → Has ps level n (ops.Plain kinds.Entr) next →
+  pub line_at : (es : PExprs) (phrases : List PhraseText) (k : List Item) (format f n next : ℕ) → LineAt sc context ps level es f n → Has ps level n (ops.Plain kinds.Entr) next →
       IsWhole (pos format) → Following k next → LineOn es phrases k format f
   line_at tree.none phrases k format f n next l h whole follows vs is fits room =
       let begun = line_begun format (pend k) in
@@ -196,7 +196,7 @@ module _ (sc : Scopes) (formats : List Format) (ps : List Placed) (level most : 
         next,
         record {
           format = format;
-          is = subst (λ z. FormatIs sc formats ps level format phrases z) same is;
+          is = subst (λ z. FormatIs sc context ps level format phrases z) same is;
           whole = whole;
           fits = fits;
           lies = refl;
@@ -208,7 +208,7 @@ module _ (sc : Scopes) (formats : List Format) (ps : List Placed) (level most : 
       let begun = line_begun format (pend k) in
       let more : length vs + (exprs_count es + 1) ≡ length vs + 1 + exprs_count es = omega arith in
       let deep : 1 ≤ depth e = depth-positive e in
-      let c = settle_at sc formats ps level most types.Number e f l.0 l.0 l.1 stop (operands vs begun) (omega (arith, room, operands-length vs begun)) in
+      let c = settle_at sc context ps level most types.Number e f l.0 l.0 l.1 stop (operands vs begun) (omega (arith, room, operands-length vs begun)) in
       after_rest c.leads
-      (item_stands phrases vs (settle sc e) es k format l.0 n next c.at c.with_slots c.shows l.2 h (subst (λ z. FormatIs sc formats ps level format phrases z) more is) whole fits follows
+      (item_stands phrases vs (settle sc e) es k format l.0 n next c.at c.with_slots c.shows l.2 h (subst (λ z. FormatIs sc context ps level format phrases z) more is) whole fits follows
       (omega (arith, room, deep)) (line_at es phrases k format l.0 n next l.2 h whole follows))

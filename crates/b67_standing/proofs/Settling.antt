@@ -1,11 +1,13 @@
 -- From the start of its code an expression comes, by private operators alone, to where the machine stands for it after the silent steps.
-use Rattle.std.proofs.Common.{◌≡◌, refl, sym, subst, ℕ, ◌+◌, arith, Bool, true, false, List, ◌∷◌}
+use Rattle.std.proofs.Common.{◌≡◌, refl, sym, subst, ℕ, ◌+◌, arith, Bool, true, false, List, [], ◌∷◌}
 use Rattle.std.specs.Prelude.{not, if◌then◌else◌, Result, Ok, Err}
 use Rattle.algol_tree.specs.declared.tree.Op.{Op}
 use Rattle.algol_tree.specs.declared.tree.Kind.{Kind}
 use Rattle.algol_tree.specs.declared.tree.Kind.TheVariants as types
+use Rattle.algol_tree.specs.declared.tree.Named.{Named}
 use Rattle.algol_tree.specs.Plain as tree
 use Rattle.algol_tree.specs.Plain.{PExpr}
+use Rattle.algol_tree.specs.Sorts.{procedure_in}
 use Rattle.algol_tree.specs.Types.{given_by, taken_by}
 use Rattle.algol_tree.specs.Scopes.{Scopes}
 use Rattle.b67_num.specs.declared.NumFault.{NumFault}
@@ -14,43 +16,44 @@ use Rattle.algol_meaning.specs.Value.{Value, number, truth, truth_of}
 use Rattle.algol_meaning.specs.Operators.{result_of}
 use Rattle.algol_meaning.specs.Rest as rests
 use Rattle.algol_meaning.specs.Rest.{Hole, Half, val, busy}
-use Rattle.algol_meaning.specs.Settle.{after_result, right_of, left_of, negated_of, inverted_of, condition_of, sort_at, settle}
+use Rattle.algol_meaning.specs.Settle.{after_result, right_of, left_of, negated_of, inverted_of, condition_of, named_of, sort_at, settle}
 use Rattle.b67_ops.specs.declared.Operator.TheVariants as ops
 use Rattle.b67_ops.specs.declared.PlainKind.TheVariants as kinds
 use Rattle.b67_ops.specs.declared.BranchKind.TheVariants.{Brfl, Brun}
 use Rattle.b67_segment.specs.Operators.{Placed}
-use Rattle.b67_segment.specs.declared.code.Format.{Format}
+use Rattle.b67_templates.specs.Contexts.{Context}
 use Rattle.b67_templates.specs.Fragments.{HasKind, Has, ReadyAt, BranchAt, Goes, stop, over, operator_for, is_implication}
-use Rattle.b67_templates.specs.Code.{ExprAt}
+use Rattle.b67_templates.specs.Code.{NameAt, reads, calls, ExprAt}
 use Rattle.b67_templates.specs.Depths.{depth}
-use Rattle.b67_standing.specs.Stepping.{Slot, operand, ready, HasRoom, push_number, push_truth, calculate, negate, invert, false_stays, false_goes, Leads, there, first}
+use Rattle.b67_standing.specs.Stepping.{Slot, operand, reference, mark, ready, HasRoom, push_number, push_truth, calculate, negate, invert, false_stays, false_goes, summon, Leads, there, first}
 use Rattle.b67_standing.specs.Standing.{Holds, Shows}
 use Rattle.b67_standing.proofs.Leading.{depth-positive, goes_on, on, valued_at}
-use Rattle.b67_standing.proofs.Values.{result_kind, negation_whole, implication_takes, variable_reads}
+use Rattle.b67_standing.proofs.Values.{result_kind, negation_whole, implication_takes, variable_reads, procedure_enters}
 
 -- by private operators the machine comes to where that stands, of that kind
-pub record Comes (sc : Scopes) (formats : List Format) (ps : List Placed) (level most : ℕ) (k : Kind) (pc : ℕ) (slots : List Slot) (x : Half) (below : List Slot) (to : ℕ) :
+pub record Comes (sc : Scopes) (context : Context) (ps : List Placed) (level most : ℕ) (k : Kind) (pc : ℕ) (slots : List Slot) (x : Half) (below : List Slot) (to : ℕ) :
     Type 0 where
   pub at : ℕ
   pub with_slots : List Slot
-  pub leads : Leads sc formats ps level most pc slots at with_slots
-  pub shows : Shows sc formats ps level most k x at with_slots below to
+  pub leads : Leads sc context ps level most pc slots at with_slots
+  pub shows : Shows sc context ps level most k x at with_slots below to
 
-module _ (sc : Scopes) (formats : List Format) (ps : List Placed) (level most : ℕ) where
+module _ (sc : Scopes) (context : Context) (ps : List Placed) (level most : ℕ) where
   abbrev pub Coming : Kind → ℕ → List Slot → Half → List Slot → ℕ → Type 0
-  Coming = Comes sc formats ps level most
+  Coming = Comes sc context ps level most
 
   abbrev Lead : ℕ → List Slot → ℕ → List Slot → Type 0
-  Lead = Leads sc formats ps level most
+  Lead = Leads sc context ps level most
 
   abbrev Showing : Kind → Half → ℕ → List Slot → List Slot → ℕ → Type 0
-  Showing = Shows sc formats ps level most
+  Showing = Shows sc context ps level most
 
   -- what is to come to n may come to where n goes
-  further : (k : Kind) (h : Hole) (pc : ℕ) (slots below : List Slot) (n to : ℕ) → Holds sc formats ps level most k h pc slots below n → Goes ps level n to →
-      Holds sc formats ps level most k h pc slots below to
+  further : (k : Kind) (h : Hole) (pc : ℕ) (slots below : List Slot) (n to : ℕ) → Holds sc context ps level most k h pc slots below n → Goes ps level n to →
+      Holds sc context ps level most k h pc slots below to
   further k (rests.read x) pc slots below n to s g = (s.0, s.1, s.2, s.3, goes_on ps level s.4 g)
   further k (rests.broken op v w fault) pc slots below n to s g = s
+  further k (rests.enter x gs) pc slots below n to s g = (s.0, s.1, s.2, s.3, s.4, goes_on ps level s.5 g)
   further k (rests.left op h b) pc slots below n to s g = (s.0, s.1, s.2, s.3, s.4, s.5, s.6, s.7, s.8, s.9, goes_on ps level s.10 g)
   further k (rests.right op v h) pc slots below n to s g = (s.0, s.1, s.2, s.3, s.4, s.5, goes_on ps level s.6 g)
   further k (rests.negated h) pc slots below n to s g = (s.0, s.1, s.2, s.3, s.4, goes_on ps level s.5 g)
@@ -66,14 +69,14 @@ module _ (sc : Scopes) (formats : List Format) (ps : List Placed) (level most : 
   here k pc slots x below to s = record { at = pc; with_slots = slots; leads = there; shows = s }
 
   pub after : (k : Kind) {a b : ℕ} {y z : List Slot} {x : Half} {below : List Slot} {to : ℕ} → Lead a y b z → Coming k b z x below to → Coming k a y x below to
-  after k l c = record { at = c.at; with_slots = c.with_slots; leads = on sc formats ps level most l c.leads; shows = c.shows }
+  after k l c = record { at = c.at; with_slots = c.with_slots; leads = on sc context ps level most l c.leads; shows = c.shows }
 
   wider : (k : Kind) (x : Half) (pc : ℕ) (slots below : List Slot) (n to : ℕ) → Coming k pc slots x below n → Goes ps level n to → Coming k pc slots x below to
   wider k x pc slots below n to c g =
       record { at = c.at; with_slots = c.with_slots; leads = c.leads; shows = widened k x c.at c.with_slots below n to c.shows g }
 
   value_at : (pc : ℕ) (slots : List Slot) (v : Value) (below : List Slot) (to : ℕ) → Goes ps level pc to → slots ≡ operand v ∷ below → Lead pc slots to (operand v ∷ below)
-  value_at = valued_at sc formats ps level most
+  value_at = valued_at sc context ps level most
 
   -- ---- one lemma for each form that settling and answering share
 
@@ -104,7 +107,7 @@ module _ (sc : Scopes) (formats : List Format) (ps : List Placed) (level most : 
 
   -- the second operand comes by itself, on top of the first
   pub left_at : (op : Op) (x : Half) (b : PExpr) (s : Half) (pc : ℕ) (slots below : List Slot) (m r n next to : ℕ) → Showing (taken_by op) x pc slots below m →
-      ReadyAt ps level (is_implication op) m r → ExprAt sc formats ps level (taken_by op) b r n n → HasRoom most below (1 + depth b) →
+      ReadyAt ps level (is_implication op) m r → ExprAt sc context ps level (taken_by op) b r n n → HasRoom most below (1 + depth b) →
       ((o : List Slot) → HasRoom most o (depth b) → Coming (taken_by op) r o s o n) → Has ps level n (ops.Plain (operator_for op)) next → Goes ps level next to →
       Coming (given_by op) pc slots (left_of op x b s) below to
   left_at op (val v) b s pc slots below m r n next to sh d e room c h g =
@@ -137,7 +140,7 @@ module _ (sc : Scopes) (formats : List Format) (ps : List Placed) (level most : 
   parted k false x y below m m' n' u to h g c d = after k (first (false_goes h) there) (wider k y n' below below u to d g)
 
   pub condition_at : (k : Kind) (x : Half) (a b : PExpr) (s t : Half) (pc : ℕ) (slots below : List Slot) (m m' n n' e u to : ℕ) → Showing types.Truth x pc slots below m →
-      BranchAt ps level Brfl m n' m' → ExprAt sc formats ps level k a m' n u → BranchAt ps level Brun n u n' → ExprAt sc formats ps level k b n' e u → Goes ps level e u →
+      BranchAt ps level Brfl m n' m' → ExprAt sc context ps level k a m' n u → BranchAt ps level Brun n u n' → ExprAt sc context ps level k b n' e u → Goes ps level e u →
       Goes ps level u to → HasRoom most below (depth a + depth b) → Coming k m' below s below u → Coming k n' below t below u → Coming k pc slots (condition_of x a b s t) below to
   condition_at k (val (truth c)) a b s t pc slots below m m' n n' e u to sh h i j l g f room y z =
       after k (value_at pc slots (truth c) below m sh.0 sh.1) (parted k c s t below m m' n' u to h f y z)
@@ -151,7 +154,19 @@ module _ (sc : Scopes) (formats : List Format) (ps : List Placed) (level most : 
   pub of_kind : {k l : Kind} (pc : ℕ) (slots : List Slot) (x : Half) (below : List Slot) (to : ℕ) → l ≡ k → Coming k pc slots x below to → Coming l pc slots x below to
   of_kind pc slots x below to e c = subst (λ z. Coming z pc slots x below to) (sym e) c
 
-  pub settle_at : (k : Kind) (e : PExpr) (f t u : ℕ) → ExprAt sc formats ps level k e f t u → Goes ps level t u → (below : List Slot) → HasRoom most below (depth e) →
+  -- a name alone: a variable that is read, or a typed procedure that is called
+  name_at : (k : Kind) (n : Named) (f t u : ℕ) → NameAt sc context ps level k n f t → Goes ps level t u → (below : List Slot) → HasRoom most below 2 →
+      Coming k f below (named_of (procedure_in (sort_at sc n)) n) below u
+  name_at k n f t u (reads h) g below room =
+      subst (λ x. Coming k f below x below u) (sym (variable_reads (sort_at sc n) n (h.1).variable))
+      (here k f below (busy (rests.read n)) below u (t, h, refl, omega (arith, room), g))
+  name_at k n f t u (calls callee c e) g below room =
+      subst (λ x. Coming k f below x below u) (sym (procedure_enters (sort_at sc n) n callee (c.procedure).sort_is))
+      (after k (first (summon n callee c room) there)
+      (here k c.named (reference c.couple ∷ mark ∷ below) (busy (rests.enter n [])) below u
+      (callee, t, record { couple = c.couple; procedure = c.procedure; none = refl; lies = refl; stands = c.enter }, e, room, g)))
+
+  pub settle_at : (k : Kind) (e : PExpr) (f t u : ℕ) → ExprAt sc context ps level k e f t u → Goes ps level t u → (below : List Slot) → HasRoom most below (depth e) →
       Coming k f below (settle sc e) below u
   settle_at k (tree.number z spot) f t u h g below room =
       of_kind f below (val (number z)) below u h.0
@@ -159,9 +174,7 @@ module _ (sc : Scopes) (formats : List Format) (ps : List Placed) (level most : 
   settle_at k (tree.truth b spot) f t u h g below room =
       of_kind f below (val (truth b)) below u h.0
       (record { at = t; with_slots = operand (truth b) ∷ below; leads = first (push_truth b h.1 room) there; shows = (g, refl, tt) })
-  settle_at k (tree.variable (tree.subscripted n tree.none)) f t u h g below room =
-      subst (λ x. Coming k f below x below u) (sym (variable_reads (sort_at sc n) n (h.1).variable))
-      (here k f below (busy (rests.read n)) below u (t, h, refl, room, g))
+  settle_at k (tree.variable (tree.subscripted n tree.none)) f t u h g below room = name_at k n f t u h g below room
   settle_at k (tree.paren e spot) f t u h g below room = settle_at k e f t u h g below room
   settle_at k (tree.plus e spot) f t u h g below room = of_kind f below (settle sc e) below u h.0 (settle_at types.Number e f t u h.1 g below room)
   settle_at k (tree.neg e spot) f t u h g below room =
@@ -177,6 +190,6 @@ module _ (sc : Scopes) (formats : List Format) (ps : List Placed) (level most : 
       (λ o r. settle_at (taken_by op) b h.1 h.2 h.2 h.6 stop o r) h.7 g))
   settle_at k (tree.if c x y spot) f t u h g below room =
       let d = settle_at types.Truth c f h.0 h.0 h.4 stop below (omega (arith, room)) in
-      after k d.leads (condition_at k (settle sc c) x y (settle sc x) (settle sc y) d.at d.with_slots below h.0 h.1 h.2 h.3 t u u d.shows h.5 h.6 h.7 h.8 g stop (omega (arith, room))
+      after k {b = d.at} {z = d.with_slots} d.leads (condition_at k (settle sc c) x y (settle sc x) (settle sc y) d.at d.with_slots below h.0 h.1 h.2 h.3 t u u d.shows h.5 h.6 h.7 h.8 g stop (omega (arith, room))
       (settle_at k x h.1 h.2 u h.6 (over h.3 h.7 stop) below (omega (arith, room))) (settle_at k y h.3 t u h.8 g below (omega (arith, room))))
   settle_at k _ f t u h g below room = absurd h

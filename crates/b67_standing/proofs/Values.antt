@@ -1,5 +1,5 @@
 -- The kinds of values: what an operator gives, what an implication takes, a literal.
-use Rattle.std.proofs.Common.{◌≡◌, refl, ap, subst, arith, Bool, true, Some}
+use Rattle.std.proofs.Common.{◌≡◌, refl, ap, subst, ℕ, arith, Bool, true, [], Some}
 use Rattle.std.proofs.lemmas.Int.{ints}
 use Rattle.std.specs.Prelude.{ℤ, pos, ◌-ℤ◌, int_lt, Result, Ok, Err}
 use Rattle.algol_tree.specs.declared.tree.Op.{Op}
@@ -18,7 +18,7 @@ use Rattle.b67_num.specs.Whole.{calculated, negation_of}
 use Rattle.b67_num.proofs.WholeLaws.{calculated-fits, negation_of-fits}
 use Rattle.algol_meaning.specs.Value.{Value, number, whole_of}
 use Rattle.algol_meaning.specs.Operators.{numeric, logical, result_of}
-use Rattle.algol_meaning.specs.Rest.{own, val, busy, read, at}
+use Rattle.algol_meaning.specs.Rest.{own, val, busy, read, enter, at}
 use Rattle.algol_meaning.specs.Settle.{named_of, left_alone_of, settle}
 use Rattle.b67_templates.specs.Fragments.{IsWhole, HasKind, is_implication}
 use Rattle.b67_templates.specs.Code.{literal_of}
@@ -63,10 +63,13 @@ pub implication_takes : (op : Op) → is_implication op ≡ true → taken_by op
 implication_takes operators.Imp e = refl
 implication_takes _ e = cc
 
--- a variable has no action but its reading, and its name alone is a place
+-- a variable has no action but its reading, a procedure none but its entry, and a variable's name alone is a place
 pub variable_reads : (s : Sort) (n : Named) → is_variable s ≡ true → named_of (procedure_in s) n ≡ busy (read n)
 variable_reads sorts.variable n e = refl
 variable_reads _ n e = cc
+
+pub procedure_enters : (s : Sort) (n : Named) (callee : ℕ) → s ≡ sorts.procedure callee → named_of (procedure_in s) n ≡ busy (enter n [])
+procedure_enters s n callee e = ap (λ t. named_of (procedure_in t) n) e
 
 pub variable_place : (s : Sort) (n : Named) → is_variable s ≡ true → left_alone_of (is_by_name s) n ≡ at (own n)
 variable_place sorts.variable n e = refl

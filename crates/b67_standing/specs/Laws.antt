@@ -1,74 +1,68 @@
 -- The laws of where the machine stands: for every list of operators, every level and every number of words that there may be.
-use Rattle.std.specs.Prelude.{◌≡◌, ℕ, ◌<◌, ◌≤◌, List, [], length}
-use Rattle.algol_tree.specs.Blocks.{Block}
+use Rattle.std.specs.Prelude.{◌≡◌, ℕ, ◌<◌, ◌≤◌, List, [], length, None}
+use Rattle.algol_tree.specs.Blocks.{Block, block_numbered}
 use Rattle.algol_tree.specs.Scopes.{Scopes}
 use Rattle.algol_meaning.specs.Rest.{Item, Rest, Answer}
 use Rattle.algol_tree.specs.Plain.{PStmts}
 use Rattle.algol_meaning.specs.Statements.{settle_items, items, items_of}
-use Rattle.algol_meaning.specs.Asks.{Ask, nothing, ask, resume}
+use Rattle.algol_meaning.specs.Asks.{Ask, nothing, ask}
 use Rattle.b67_segment.specs.Operators.{Placed}
-use Rattle.b67_segment.specs.declared.code.Format.{Format}
+use Rattle.b67_templates.specs.Contexts.{Context}
 use Rattle.b67_ops.specs.declared.Operator.TheVariants as ops
 use Rattle.b67_ops.specs.declared.PlainKind.TheVariants as kinds
 use Rattle.b67_templates.specs.Fragments.{Has}
 use Rattle.b67_templates.specs.Code.{StmtsAt, KAt}
 use Rattle.b67_templates.specs.Depths.{stmts_depth}
 use Rattle.b67_standing.specs.Stepping.{Slot, Step, Leads}
-use Rattle.b67_standing.specs.Standing.{pend, Follows, StandsFor, ComesTo, ActionAt, Acted, Returned, GoesOn}
+use Rattle.b67_standing.specs.Standing.{pend, Follows, StandsFor, ComesTo, ActionAt, Acted, GoesOn}
 
 -- from where the items stand the machine comes to where it stands for them after the silent steps
 abbrev pub ItemsStand : Type 0
 ItemsStand =
-    (sc : Scopes) (formats : List Format) (ps : List Placed) (level most : ℕ) (k : List Item) (pc : ℕ) →
-    Follows sc formats ps level most k pc → ComesTo sc formats ps level most (settle_items sc k) pc (pend k)
+    (sc : Scopes) (context : Context) (ps : List Placed) (level most : ℕ) (k : List Item) (pc : ℕ) →
+    Follows sc context ps level most k pc → ComesTo sc context ps level most (settle_items sc k) pc (pend k)
 
 -- so it does from the start of what a block has to do, with nothing above the floor
 abbrev pub BlocksStart : Type 0
 BlocksStart =
-    (sc : Scopes) (formats : List Format) (ps : List Placed) (level most : ℕ) (b : Block) (pc : ℕ) →
-    KAt sc formats ps level (items_of b) pc → stmts_depth b.stmts ≤ most → ComesTo sc formats ps level most (settle_items sc (items_of b)) pc []
+    (sc : Scopes) (context : Context) (ps : List Placed) (level most : ℕ) (b : Block) (pc : ℕ) →
+    KAt sc context ps level (items_of b) pc → stmts_depth b.stmts ≤ most → 1 ≤ most → ComesTo sc context ps level most (settle_items sc (items_of b)) pc []
 
 -- so it does from the statements of an inner block, behind which its EXIT stands
 abbrev pub InnerBlocksStart : Type 0
 InnerBlocksStart =
-    (sc : Scopes) (formats : List Format) (ps : List Placed) (level most : ℕ) (ss : PStmts) (pc end over : ℕ) →
-    StmtsAt sc formats ps level ss pc end end → Has ps level end (ops.Plain kinds.Exit) over → stmts_depth ss ≤ most →
-    ComesTo sc formats ps level most (settle_items sc (items ss [])) pc []
+    (sc : Scopes) (context : Context) (ps : List Placed) (level most : ℕ) (ss : PStmts) (pc end over : ℕ) →
+    StmtsAt sc context ps level ss pc end end → (block_numbered sc.blocks context.block).result ≡ None → Has ps level end (ops.Plain kinds.Exit) over → stmts_depth ss ≤ most →
+    ComesTo sc context ps level most (settle_items sc (items ss [])) pc []
 
 -- wherever the machine stands for a rest whose head asks for an action, that stands there, and from where it leaves the machine it goes on
 abbrev pub RestsGoOn : Type 0
 RestsGoOn =
-    (sc : Scopes) (formats : List Format) (ps : List Placed) (level most : ℕ) (r : Rest) (pc : ℕ) (slots : List Slot) →
-    StandsFor sc formats ps level most r pc slots → (ask r ≡ nothing → ⊥) → GoesOn sc formats ps level most r pc slots
-
--- where a part inside has left, what waited for it goes on
-abbrev pub WaitingGoesOn : Type 0
-WaitingGoesOn =
-    (sc : Scopes) (formats : List Format) (ps : List Placed) (level most : ℕ) (r : Rest) (a : Answer) (pc : ℕ) (slots after : List Slot) →
-    StandsFor sc formats ps level most r pc slots → Returned sc formats ps level most r a slots after → ComesTo sc formats ps level most (resume sc r a) pc after
+    (sc : Scopes) (context : Context) (ps : List Placed) (level most : ℕ) (r : Rest) (pc : ℕ) (slots : List Slot) →
+    StandsFor sc context ps level most r pc slots → (ask r ≡ nothing → ⊥) → GoesOn sc context ps level most r pc slots
 
 -- ---- room
 
 -- what waits has room
 abbrev pub CountsHaveRoom : Type 0
 CountsHaveRoom =
-    (sc : Scopes) (formats : List Format) (ps : List Placed) (level most : ℕ) (k : List Item) (pc : ℕ) → Follows sc formats ps level most k pc → length (pend k) ≤ most
+    (sc : Scopes) (context : Context) (ps : List Placed) (level most : ℕ) (k : List Item) (pc : ℕ) → Follows sc context ps level most k pc → length (pend k) ≤ most
 
 -- private operators leave no more words than there may be
 abbrev pub LeadsHaveRoom : Type 0
 LeadsHaveRoom =
-    (sc : Scopes) (formats : List Format) (ps : List Placed) (level most a b : ℕ) (x y : List Slot) →
-    Leads sc formats ps level most a x b y → length x ≤ most → length y ≤ most
+    (sc : Scopes) (context : Context) (ps : List Placed) (level most a b : ℕ) (x y : List Slot) →
+    Leads sc context ps level most a x b y → length x ≤ most → length y ≤ most
 
 -- nor do actions
 abbrev pub ActionsHaveRoom : Type 0
 ActionsHaveRoom =
-    (sc : Scopes) (formats : List Format) (ps : List Placed) (level most : ℕ) (q : Ask) (pc : ℕ) (slots : List Slot) (action : ActionAt sc formats ps level most q pc slots)
-    (a : Answer) (at : ℕ) (after : List Slot) → Acted sc formats ps level most q pc slots action a at after → length slots ≤ most → length after ≤ most
+    (sc : Scopes) (context : Context) (ps : List Placed) (level most : ℕ) (q : Ask) (pc : ℕ) (slots : List Slot) (action : ActionAt sc context ps level most q pc slots)
+    (a : Answer) (at : ℕ) (after : List Slot) → Acted sc context ps level most q pc slots action a at after → length slots ≤ most → length after ≤ most
 
 -- ---- branches
 
 -- private operators lead forward
 abbrev pub StepsGoForward : Type 0
 StepsGoForward =
-    (sc : Scopes) (formats : List Format) (ps : List Placed) (level most a b : ℕ) (x y : List Slot) → Step sc formats ps level most a x b y → a < b
+    (sc : Scopes) (context : Context) (ps : List Placed) (level most a b : ℕ) (x y : List Slot) → Step sc context ps level most a x b y → a < b

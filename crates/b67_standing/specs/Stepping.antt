@@ -1,28 +1,29 @@
 -- What private operators do to the words above the floor of a frame, by what those words mean.
-use Rattle.std.specs.Prelude.{◌≡◌, ℕ, ◌+◌, ◌≤◌, not, ℤ, pos, ◌-ℤ◌, int_lt, if◌then◌else◌, Bool, true, false, List, [], ◌∷◌, length, Result, Ok, Err}
+use Rattle.std.specs.Prelude.{◌≡◌, ℕ, ◌+◌, ◌≤◌, not, ℤ, pos, ◌-ℤ◌, int_lt, if◌then◌else◌, Bool, true, false, List, ◌∷◌, length, Ok}
 use Rattle.algol_tree.specs.declared.tree.Op.{Op}
 use Rattle.algol_tree.specs.declared.tree.Kind.{Kind}
 use Rattle.algol_tree.specs.declared.tree.Named.{Named}
 use Rattle.algol_tree.specs.Types.{taken_by}
 use Rattle.algol_tree.specs.Scopes.{Scopes}
 use Rattle.b67_num.specs.Whole.{negation_of}
-use Rattle.algol_meaning.specs.Value.{Value, number, truth, whole_of, truth_of}
+use Rattle.algol_meaning.specs.Value.{Value, number, truth, truth_of}
 use Rattle.algol_meaning.specs.Operators.{result_of}
 use Rattle.algol_meaning.specs.Statements.{is_past}
+use Rattle.b67_ops.specs.declared.Couple.{Couple}
 use Rattle.b67_ops.specs.declared.Operator.TheVariants as ops
 use Rattle.b67_ops.specs.declared.PlainKind.TheVariants as kinds
 use Rattle.b67_ops.specs.declared.BranchKind.TheVariants.{Brfl, Brtr, Brun}
 use Rattle.b67_control.specs.declared.Pcw.{Pcw}
 use Rattle.b67_ops.specs.declared.intrinsic.Intrinsic.{Intrinsic}
 use Rattle.b67_segment.specs.Operators.{Placed}
-use Rattle.b67_segment.specs.declared.code.Format.{Format}
-use Rattle.b67_templates.specs.Fragments.{IsWhole, HasKind, Has, NumberAt, BranchAt, IntrinsicAt, EntryAt, code_at, program_segment, operator_for, is_implication, truth_literal}
-use Rattle.b67_templates.specs.Code.{ReferenceAt, CountAt, PastAt, StepSign, SignedAt}
+use Rattle.b67_templates.specs.Contexts.{Context}
+use Rattle.b67_templates.specs.Fragments.{IsWhole, HasKind, Has, NumberAt, BranchAt, IntrinsicAt, EntryAt, code_at, operator_for, is_implication, truth_literal}
+use Rattle.b67_templates.specs.Code.{ReferenceAt, CallAt, CountAt, PastAt, StepSign, SignedAt}
 
 -- a word above the floor
 pub data Slot : Type 0 where
   operand : Value → Slot
-  reference : Named → Slot  -- of a variable
+  reference : Couple → Slot  -- of a cell
   intrinsic : Intrinsic → Slot  -- of an intrinsic
   control : Pcw → Slot  -- of code that is entered
   mark : Slot  -- one that is not entered
@@ -35,12 +36,12 @@ ready op v = if is_implication op then truth (not (truth_of v)) else v
 abbrev pub HasRoom : ℕ → List Slot → ℕ → Type 0
 HasRoom most below wanted = length below + wanted ≤ most
 
-module _ (sc : Scopes) (formats : List Format) (ps : List Placed) (level most : ℕ) where
+module _ (sc : Scopes) (context : Context) (ps : List Placed) (level most : ℕ) where
   -- a fragment of private operators, and what lies there before and after it, the top first
   pub data Step : ℕ → List Slot → ℕ → List Slot → Type 0 where
     push_number : {pc next : ℕ} {below : List Slot} (z : ℤ) → NumberAt ps level z pc next → HasRoom most below 1 → Step pc below next (operand (number z) ∷ below)
     push_truth : {pc next : ℕ} {below : List Slot} (b : Bool) → Has ps level pc (ops.Plain (truth_literal b)) next → HasRoom most below 1 → Step pc below next (operand (truth b) ∷ below)
-    push_name : {pc next : ℕ} {below : List Slot} (n : Named) (k : Kind) → ReferenceAt sc formats ps level n k pc next → HasRoom most below 1 → Step pc below next (reference n ∷ below)
+    push_name : {pc next : ℕ} {below : List Slot} (n : Named) (k : Kind) → (r : ReferenceAt sc context ps level n k pc next) → HasRoom most below 1 → Step pc below next (reference r.0 ∷ below)
     calculate : {pc next : ℕ} {below : List Slot} (op : Op) (v w x : Value) → Has ps level pc (ops.Plain (operator_for op)) next → HasKind (taken_by op) v → HasKind (taken_by op) w →
         result_of op v w ≡ Ok x → Step pc (operand w ∷ operand (ready op v) ∷ below) next (operand x ∷ below)
     negate : {pc next : ℕ} {below : List Slot} (z : ℤ) → Has ps level pc (ops.Plain kinds.Chsn) next → IsWhole z →
@@ -55,22 +56,25 @@ module _ (sc : Scopes) (formats : List Format) (ps : List Placed) (level most : 
     -- the start of a call of an intrinsic
     call : {pc next : ℕ} {below : List Slot} (name : Intrinsic) → IntrinsicAt ps level name pc next → HasRoom most below 2 → Step pc below next (intrinsic name ∷ mark ∷ below)
     -- the start of the entry of a block
-    announce : {pc to : ℕ} {below : List Slot} (begin : ℕ) → (e : EntryAt ps level begin pc to) → HasRoom most below 2 →
-        Step pc below e.named (control (code_at program_segment begin (level + 1)) ∷ mark ∷ below)
+    announce : {pc to : ℕ} {below : List Slot} (begin : ℕ) → (e : EntryAt ps level context.segment begin pc to) → HasRoom most below 2 →
+        Step pc below e.named (control (code_at context.segment begin (level + 1)) ∷ mark ∷ below)
+    -- the start of the call of a procedure
+    summon : {pc to : ℕ} {below : List Slot} (n : Named) (callee : ℕ) → (c : CallAt sc context ps level n callee pc to) → HasRoom most below 2 →
+        Step pc below c.named (reference c.couple ∷ mark ∷ below)
     drop : {pc next : ℕ} {below : List Slot} (v : Value) → Has ps level pc (ops.Plain kinds.Dlet) next → Step pc (operand v ∷ below) next below
     -- THRU: one less, or none left
-    counts : {pc l next : ℕ} {below : List Slot} (z : ℤ) → CountAt sc formats ps level pc l next → IsWhole z → int_lt (pos 0) z ≡ true → HasRoom most below 3 →
+    counts : {pc l next : ℕ} {below : List Slot} (z : ℤ) → CountAt sc context ps level pc l next → IsWhole z → int_lt (pos 0) z ≡ true → HasRoom most below 3 →
         Step pc (operand (number z) ∷ below) next (operand (number (z -ℤ pos 1)) ∷ below)
-    spent : {pc l next : ℕ} {below : List Slot} (z : ℤ) → CountAt sc formats ps level pc l next → IsWhole z → int_lt (pos 0) z ≡ false → HasRoom most below 3 →
+    spent : {pc l next : ℕ} {below : List Slot} (z : ℤ) → CountAt sc context ps level pc l next → IsWhole z → int_lt (pos 0) z ≡ false → HasRoom most below 3 →
         Step pc (operand (number z) ∷ below) l (operand (number z) ∷ below)
     -- FOR: not yet past its limit, or past it
-    within : {pc u next : ℕ} {below : List Slot} (d z : ℤ) → PastAt sc formats ps level pc u next → IsWhole d → IsWhole z → is_past d z ≡ false → HasRoom most below 4 →
+    within : {pc u next : ℕ} {below : List Slot} (d z : ℤ) → PastAt sc context ps level pc u next → IsWhole d → IsWhole z → is_past d z ≡ false → HasRoom most below 4 →
         Step pc (operand (number z) ∷ operand (number d) ∷ below) next below
-    past : {pc u next : ℕ} {below : List Slot} (d z : ℤ) → PastAt sc formats ps level pc u next → IsWhole d → IsWhole z → is_past d z ≡ true → HasRoom most below 4 →
+    past : {pc u next : ℕ} {below : List Slot} (d z : ℤ) → PastAt sc context ps level pc u next → IsWhole d → IsWhole z → is_past d z ≡ true → HasRoom most below 4 →
         Step pc (operand (number z) ∷ operand (number d) ∷ below) u below
-    within_literal : {pc next : ℕ} {below : List Slot} (u : ℕ) (d z : ℤ) (s : StepSign z) → SignedAt sc formats ps level s pc u next → IsWhole d → is_past d z ≡ false → HasRoom most below 2 →
+    within_literal : {pc next : ℕ} {below : List Slot} (u : ℕ) (d z : ℤ) (s : StepSign z) → SignedAt sc context ps level s pc u next → IsWhole d → is_past d z ≡ false → HasRoom most below 2 →
         Step pc (operand (number d) ∷ below) next below
-    past_literal : {pc u : ℕ} {below : List Slot} (next : ℕ) (d z : ℤ) (s : StepSign z) → SignedAt sc formats ps level s pc u next → IsWhole d → is_past d z ≡ true → HasRoom most below 2 →
+    past_literal : {pc u : ℕ} {below : List Slot} (next : ℕ) (d z : ℤ) (s : StepSign z) → SignedAt sc context ps level s pc u next → IsWhole d → is_past d z ≡ true → HasRoom most below 2 →
         Step pc (operand (number d) ∷ below) u below
 
   -- such fragments one after another

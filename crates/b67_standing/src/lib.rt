@@ -6,7 +6,7 @@
 //! lead from one head to the next, as the silent steps of the meaning do.
 #![tactic(auto)]
 
-ghost use Rattle.b67_standing.specs.Laws.{ItemsStand, BlocksStart, InnerBlocksStart, RestsGoOn, WaitingGoesOn, CountsHaveRoom, LeadsHaveRoom, ActionsHaveRoom, StepsGoForward};
+ghost use Rattle.b67_standing.specs.Laws.{ItemsStand, BlocksStart, InnerBlocksStart, RestsGoOn, CountsHaveRoom, LeadsHaveRoom, ActionsHaveRoom, StepsGoForward};
 
 /// Law: from where the code of items stands, with the counts of THRU that wait among them, private operators lead to where the machine
 /// stands for these items after the silent steps. From the start of a block's code they do so with nothing above the floor, and so they do
@@ -19,10 +19,9 @@ pub fn items_stand()
 
 /// Law: wherever the machine stands for a rest whose head asks for an action, the operator of that action stands there, with what it takes.
 /// From where that leaves the machine, with any answer, private operators lead to where it stands for what is left after that answer. Behind
-/// the entry of a part inside it stands for what waits there, and when that part has left, what waited goes on in the same way.
+/// the entry of a part inside they do so once that part has left with what is wanted of it.
 pub fn rests_go_on()
-    ensures goes_on { RestsGoOn }
-    ensures waiting { WaitingGoesOn }
+    ensures { RestsGoOn }
 {}
 
 /// Law: private operators and actions leave no more words above the floor than there may be, and there is room for the counts that
