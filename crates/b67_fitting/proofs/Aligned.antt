@@ -1,95 +1,23 @@
--- The cell of a variable has the same number by its name among the cells of the block as by its place among those of the text.
-use Rattle.std.proofs.Common.{arith, ◌≡◌, inl, inr, ℕ, ◌+◌, ◌==◌, Bool, true, false, List, [], ◌∷◌, ◌++◌, filter, Some, None, refl, ap, ◌∙◌, subst, append-nil, if◌then◌else◌}
-use Rattle.std.proofs.lemmas.Bool.{eq-eqb}
-use Rattle.std.specs.List.{flat_map, AllByRecursion}
+-- A cell has the same number by its name among the cells of its block as by its place among those of the text.
+use Rattle.std.proofs.Common.{arith, ◌≡◌, inl, inr, ℕ, ◌+◌, Bool, true, false, List, [], ◌∷◌, ◌++◌, length, is_some, slice_get, Option, Some, None, refl, sym, ap, ◌∙◌, subst, add-one, if◌then◌else◌}
+use Rattle.std.specs.List.{AllByRecursion}
 use Rattle.algol_tree.specs.declared.token.Spot.{Spot}
 use Rattle.algol_tree.specs.declared.tree.Kind.{Kind}
 use Rattle.algol_tree.specs.declared.tree.Named.{Named}
 use Rattle.algol_tree.specs.Ascending.{spots_of_names}
-use Rattle.algol_tree.specs.Blocks.{Block}
+use Rattle.algol_tree.specs.Blocks.{same_spot}
 use Rattle.algol_tree.specs.Cells as cells
-use Rattle.algol_tree.specs.Cells.{Content, Cell, cells_for, cells_at, index_from, content_number, holding, layout}
+use Rattle.algol_tree.specs.Cells.{Cell, cells_for, index_from}
 use Rattle.algol_tree.specs.Classes as class
+use Rattle.algol_tree.specs.Names.{is_one_of}
 use Rattle.algol_tree.specs.Plain as tree
 use Rattle.algol_tree.specs.Plain.{PDecls}
-use Rattle.algol_tree.specs.Sites.{sites_in_decls}
 use Rattle.algol_tree.specs.Sorts as sort
 use Rattle.algol_tree.specs.Sorts.{same_name, Declared, look_up, declare}
-use Rattle.algol_tree.specs.Surroundings.{Surroundings, knowing}
-use Rattle.b67_templates.specs.Cells.{Simple, of_kind, found_from}
-use Rattle.b67_fitting.specs.Built.{AreSimple}
-use Rattle.b67_fitting.proofs.Lists.{each_both, each_of, filter_none, filter_every}
-use Rattle.b67_fitting.proofs.Apart.{IsIn, each_in, IsApart, Apart, same_self}
-
--- the cells that the declarations have, in their order
-abbrev pub decl_cells : ℕ → PDecls → List Cell
-decl_cells block tree.no_decls = []
-decl_cells block (tree.decls (tree.simple kind ns) ds) = cells_for block cells.variable ns ++ decl_cells block ds
-decl_cells block (tree.decls d ds) = decl_cells block ds
-
-pub cells_declared : (blocks : List Block) (ds : PDecls) (b : Surroundings) (first : List Declared) → AreSimple ds →
-    flat_map (cells_at blocks) (sites_in_decls blocks ds b first) ≡ decl_cells b.block ds
-cells_declared blocks tree.no_decls b first s = refl
-cells_declared blocks (tree.decls (tree.simple kind ns) ds) b first s =
-    ap (λ z. cells_for b.block cells.variable ns ++ z) (cells_declared blocks ds (knowing blocks (tree.simple kind ns) ds b) first s)
-cells_declared blocks (tree.decls (tree.files ns) ds) b first s = cells_declared blocks ds (knowing blocks (tree.files ns) ds b) first s
-cells_declared blocks (tree.decls d ds) b first s = absurd s
-
--- ---- their layout
-
-abbrev pub IsVariableCell : ℕ → Cell → Type 0
-IsVariableCell block c = (c.block ≡ block) × (c.content ≡ cells.variable)
-
-each_variable : (block : ℕ) (ns : List Named) → AllByRecursion (IsVariableCell block) (cells_for block cells.variable ns)
-each_variable block [] = tt
-each_variable block (n ∷ ns) = ((refl, refl), each_variable block ns)
-
-pub each_declared : (block : ℕ) (ds : PDecls) → AreSimple ds → AllByRecursion (IsVariableCell block) (decl_cells block ds)
-each_declared block tree.no_decls s = tt
-each_declared block (tree.decls (tree.simple kind ns) ds) s =
-    each_both (IsVariableCell block) (cells_for block cells.variable ns) (decl_cells block ds) (each_variable block ns) (each_declared block ds s)
-each_declared block (tree.decls (tree.files ns) ds) s = each_declared block ds s
-each_declared block (tree.decls d ds) s = absurd s
-
-module _ (block : ℕ) where
-  -- the cells of this block
-  abbrev pub only : List Cell → List Cell
-  only cs = filter (λ (c : Cell). c.block == block) cs
-
-  pub in_block : (cs : List Cell) → AllByRecursion (IsVariableCell block) cs → only cs ≡ cs
-  in_block cs h =
-      filter_every (λ (c : Cell). c.block == block) cs
-      (each_of (IsVariableCell block) (λ (c : Cell). (c.block == block) ≡ true) cs (λ c g. eq-eqb c.block block g.0) h)
-
-  pub in_no_other : (other : ℕ) (cs : List Cell) → (other == block) ≡ false → AllByRecursion (IsVariableCell other) cs → only cs ≡ []
-  in_no_other other cs e h =
-      filter_none (λ (c : Cell). c.block == block) cs
-      (each_of (IsVariableCell other) (λ (c : Cell). (c.block == block) ≡ false) cs (λ c g. ap (λ (n : ℕ). n == block) g.0 ∙ e) h)
-
-  held : (cs : List Cell) → AllByRecursion (IsVariableCell block) cs → holding cells.variable cs ≡ cs
-  held cs h =
-      filter_every (λ (c : Cell). content_number c.content == content_number cells.variable) cs
-      (each_of (IsVariableCell block) (λ (c : Cell). (content_number c.content == content_number cells.variable) ≡ true) cs
-      (λ c g. ap (λ (k : Content). content_number k == content_number cells.variable) g.1) h)
-
-  not_held : (k : Content) (cs : List Cell) → (content_number cells.variable == content_number k) ≡ false → AllByRecursion (IsVariableCell block) cs → holding k cs ≡ []
-  not_held k cs e h =
-      filter_none (λ (c : Cell). content_number c.content == content_number k) cs
-      (each_of (IsVariableCell block) (λ (c : Cell). (content_number c.content == content_number k) ≡ false) cs
-      (λ c g. ap (λ (z : Content). content_number z == content_number k) g.1 ∙ e) h)
-
-  -- variables alone lie in the order of their declarations
-  pub laid_out : (cs : List Cell) → AllByRecursion (IsVariableCell block) cs → layout cs ≡ cs
-  laid_out cs h =
-      ap (λ z. z ++ holding cells.result cs ++ holding cells.variable cs ++ holding cells.procedure cs ++ holding cells.actual cs ++ holding cells.made cs) (not_held cells.parameter cs refl h)
-      ∙ ap (λ z. z ++ holding cells.variable cs ++ holding cells.procedure cs ++ holding cells.actual cs ++ holding cells.made cs) (not_held cells.result cs refl h)
-      ∙ ap (λ z. z ++ holding cells.procedure cs ++ holding cells.actual cs ++ holding cells.made cs) (held cs h)
-      ∙ ap (λ z. cs ++ z ++ holding cells.actual cs ++ holding cells.made cs) (not_held cells.procedure cs refl h)
-      ∙ ap (λ z. cs ++ [] ++ z ++ holding cells.made cs) (not_held cells.actual cs refl h)
-      ∙ ap (λ z. cs ++ [] ++ [] ++ z) (not_held cells.made cs refl h)
-      ∙ append-nil (cs ++ [] ++ [])
-      ∙ append-nil (cs ++ [])
-      ∙ append-nil cs
+use Rattle.b67_templates.specs.Cells.{Simple, of_kind, result_of, procedures, found_from}
+use Rattle.b67_fitting.proofs.Apart.{IsIn, each_in, IsApart, Apart, same_self, same_place}
+use Rattle.b67_fitting.proofs.Declaring.{IsOther}
+use Rattle.b67_fitting.proofs.Frames.{control_cells, result_cell}
 
 -- ---- numbers
 
@@ -103,9 +31,6 @@ pub record IsAt (i j : ℕ) (xs : List Simple) (cs : List Cell) (name : List ℕ
 
 abbrev pub Aligned : List Simple → List Cell → List ℕ → Spot → Kind → Type 0
 Aligned xs cs name spot kind = (i j : ℕ) → j ≡ 2 + i → IsAt i j xs cs name spot kind
-
-abbrev pub IsOther : List ℕ → Named → Type 0
-IsOther name n = same_name n.name name ≡ false
 
 pub aligned_behind : (block : ℕ) (own : Kind) (ns : List Named) (xs : List Simple) (cs : List Cell) (name : List ℕ) (spot : Spot) (kind : Kind) → AllByRecursion (IsOther name) ns →
     AllByRecursion (λ s. IsApart s spot) (spots_of_names ns) → Aligned xs cs name spot kind → Aligned (of_kind own ns ++ xs) (cells_for block cells.variable ns ++ cs) name spot kind
@@ -123,6 +48,111 @@ aligned_behind block own (n ∷ ns) xs cs name spot kind g h l =
       kind_is = r.kind_is;
       index = ap (λ (b : Bool). if b then Some j else index_from (j + 1) later spot) h.0 ∙ r.index;
     }
+
+-- these cells are of another name, and stand elsewhere
+abbrev pub AreOthers : List ℕ → Spot → List Simple → List Cell → Type 0
+AreOthers name spot [] [] = Unit {0}
+AreOthers name spot (x ∷ xs) (c ∷ cs) = (same_name x.name name ≡ false) × IsApart c.spot spot × AreOthers name spot xs cs
+AreOthers name spot _ _ = ⊥
+
+pub aligned_over : (xs ys : List Simple) (cs ds : List Cell) (name : List ℕ) (spot : Spot) (kind : Kind) → AreOthers name spot xs cs → Aligned ys ds name spot kind →
+    Aligned (xs ++ ys) (cs ++ ds) name spot kind
+aligned_over [] ys [] ds name spot kind h l = l
+aligned_over (x ∷ xs) ys (c ∷ cs) ds name spot kind h l =
+    λ i j e.
+    let next : j + 1 ≡ 2 + (i + 1) = omega (arith, e) in
+    let r = aligned_over xs ys cs ds name spot kind h.2 l (i + 1) (j + 1) next in
+    record {
+      number = r.number;
+      cell = r.cell;
+      found = ap (λ (b : Bool). if b then Some (record { number = i; cell = x }) else found_from (i + 1) (xs ++ ys) name) h.0 ∙ r.found;
+      kind_is = r.kind_is;
+      index = ap (λ (b : Bool). if b then Some j else index_from (j + 1) (cs ++ ds) spot) h.1 ∙ r.index;
+    }
+aligned_over [] ys (c ∷ cs) ds name spot kind h l = absurd h
+aligned_over (x ∷ xs) ys [] ds name spot kind h l = absurd h
+
+-- more cells behind
+index_on : (cs ds : List Cell) (j : ℕ) (spot : Spot) (i : ℕ) → index_from j cs spot ≡ Some i → index_from j (cs ++ ds) spot ≡ Some i
+index_on [] ds j spot i h = absurd (let clash : None ≡ Some i = h in cc)
+index_on (c ∷ cs) ds j spot i h = by (same_spot c.spot spot) (index_on cs ds (j + 1) spot i) h
+  where
+    by : (b : Bool) → (index_from (j + 1) cs spot ≡ Some i → index_from (j + 1) (cs ++ ds) spot ≡ Some i) → (if b then Some j else index_from (j + 1) cs spot) ≡ Some i →
+        (if b then Some j else index_from (j + 1) (cs ++ ds) spot) ≡ Some i
+    by true later g = g
+    by false later g = later g
+
+pub aligned_on : (xs : List Simple) (cs ds : List Cell) (name : List ℕ) (spot : Spot) (kind : Kind) → Aligned xs cs name spot kind → Aligned xs (cs ++ ds) name spot kind
+aligned_on xs cs ds name spot kind l =
+    λ i j e.
+    let r = l i j e in
+    record { number = r.number; cell = r.cell; found = r.found; kind_is = r.kind_is; index = index_on cs ds j spot (2 + r.number) r.index }
+
+-- the result in front, which has another name
+pub aligned_result : (o : Option Kind) (own : List ℕ) (block : ℕ) (at : Spot) (xs : List Simple) (cs : List Cell) (name : List ℕ) (spot : Spot) (kind : Kind) →
+    is_one_of (if is_some o then own ∷ [] else []) name ≡ false → IsApart at spot → Aligned xs cs name spot kind →
+    Aligned (result_of o own ++ xs) (result_cell o block at ++ cs) name spot kind
+aligned_result None own block at xs cs name spot kind h a l = l
+aligned_result (Some k) own block at xs cs name spot kind h a l =
+    aligned_over (record { name = own; kind = Some k } ∷ []) xs (record { block = block; spot = at; content = cells.result } ∷ []) cs name spot kind (other (same_name own name) h, a, tt) l
+  where
+    other : (b : Bool) → (if b then true else false) ≡ false → b ≡ false
+    other true g = absurd (let clash : true ≡ false = g in cc)
+    other false g = refl
+
+-- ---- procedures
+
+-- past cells that stand elsewhere
+pub index_past : (cs ds : List Cell) (j : ℕ) (spot : Spot) → AllByRecursion (λ (c : Cell). IsApart c.spot spot) cs → index_from j (cs ++ ds) spot ≡ index_from (j + length cs) ds spot
+index_past [] ds j spot h = ap (λ (n : ℕ). index_from n ds spot) (let same : j ≡ j + 0 = omega arith in same)
+index_past (c ∷ cs) ds j spot h =
+    ap (λ (b : Bool). if b then Some j else index_from (j + 1) (cs ++ ds) spot) h.0 ∙ index_past cs ds (j + 1) spot h.1
+    ∙ ap (λ (n : ℕ). index_from n ds spot) (let next : j + 1 + length cs ≡ j + length (c ∷ cs) = omega arith in next)
+
+-- of a procedure that is declared there: its number among the procedures, and by its place
+pub record IsControl (block : ℕ) (ds : PDecls) (spot : Spot) : Type 0 where
+  pub number : ℕ
+  pub declared : Named
+  pub there : slice_get (procedures ds) number ≡ Some declared
+  pub spot_is : declared.spot ≡ spot
+  pub index : (j : ℕ) → index_from j (control_cells block ds) spot ≡ Some (j + number)
+
+pub control : (block : ℕ) (ds : PDecls) (spot : Spot) → IsIn spot (spots_of_names (procedures ds)) → IsControl block ds spot
+control block tree.no_decls spot i = absurd i
+control block (tree.decls (tree.procedure h s) ds) spot i = by (same_spot h.name.spot spot) (control block ds spot) refl i
+  where
+    more : IsControl block ds spot → same_spot h.name.spot spot ≡ false → IsControl block (tree.decls (tree.procedure h s) ds) spot
+    more r e =
+        record {
+          number = r.number + 1;
+          declared = r.declared;
+          there = ap (slice_get (h.name ∷ procedures ds)) (add-one r.number) ∙ r.there;
+          spot_is = r.spot_is;
+          index =
+              λ j.
+              ap (λ (b : Bool). if b then Some j else index_from (j + 1) (control_cells block ds) spot) e ∙ r.index (j + 1)
+              ∙ ap (λ (n : ℕ). Some n) (let same : j + 1 + r.number ≡ j + (r.number + 1) = omega arith in same);
+        }
+
+    by : (b : Bool) → (IsIn spot (spots_of_names (procedures ds)) → IsControl block ds spot) → same_spot h.name.spot spot ≡ b → IsIn spot (h.name.spot ∷ spots_of_names (procedures ds)) → IsControl block (tree.decls (tree.procedure h s) ds) spot
+    by true later e j =
+        record {
+          number = 0;
+          declared = h.name;
+          there = refl;
+          spot_is = same_place h.name.spot spot e;
+          index =
+              λ n.
+              ap (λ (b : Bool). if b then Some n else index_from (n + 1) (control_cells block ds) spot) e
+              ∙ ap (λ (m : ℕ). Some m) (let same : n ≡ n + 0 = omega arith in same);
+        }
+    by false later e (inl same) = absurd (let clash : true ≡ false = sym (same_self spot) ∙ ap (λ (t : Spot). same_spot t spot) same ∙ e in cc)
+    by false later e (inr j) = more (later j) e
+control block (tree.decls d ds) spot i =
+    let r = control block ds spot i in
+    record { number = r.number; declared = r.declared; there = r.there; spot_is = r.spot_is; index = r.index }
+
+-- ---- variables
 
 -- a variable that is declared in this block, at this depth
 pub record IsVar (block depth : ℕ) (d : Declared) (kind : Kind) : Type 0 where

@@ -1,5 +1,6 @@
 -- Places that ascend are apart from one another.
-use Rattle.std.proofs.Common.{arith, ◌≡◌, ◌⊎◌, inl, inr, true, false, List, [], ◌∷◌, ◌++◌, map, refl, sym, ap, subst}
+use Rattle.std.proofs.Common.{arith, ◌≡◌, ◌⊎◌, inl, inr, ◌==◌, true, false, List, [], ◌∷◌, ◌++◌, map, refl, sym, ap, ◌∙◌, subst}
+use Rattle.std.proofs.lemmas.Bool.{and_parts, eqb-true}
 use Rattle.std.proofs.lemmas.Bool.Decides.{nat_tests}
 use Rattle.std.specs.List.{flat_map, AllByRecursion}
 use Rattle.algol_tree.specs.declared.token.Spot.{Spot}
@@ -61,6 +62,11 @@ Apart (s ∷ spots) = AllByRecursion (IsApart s) spots × Apart spots
 
 pub same_self : (s : Spot) → same_spot s s ≡ true
 same_self s = grind (arith, nat_tests)
+
+pub same_place : (s t : Spot) → same_spot s t ≡ true → s ≡ t
+same_place s t h =
+    let parts = and_parts (s.column == t.column) (s.line == t.line) h in
+    ap (λ n. record { line = s.line; column = n }) (eqb-true s.column t.column parts.0) ∙ ap (λ n. record { line = n; column = t.column }) (eqb-true s.line t.line parts.1)
 
 pub apart_sym : (s t : Spot) → IsApart s t → IsApart t s
 apart_sym s t h = grind (arith, nat_tests)

@@ -1,20 +1,22 @@
--- Each block of a program has a number of its own, and its cells are those of its own declarations.
-use Rattle.std.proofs.Common.{◌≡◌, ◌⊎◌, inl, inr, ℕ, ◌+◌, ◌==◌, Bool, true, false, List, [], ◌∷◌, ◌++◌, map, slice_get, Some, refl, sym, ap, ◌∙◌, subst, add-one, append-nil, if◌then◌else◌}
+-- Each block of a program has a number of its own, and its cells are those of its result and of its own declarations.
+use Rattle.std.proofs.Common.{arith, ◌≡◌, ◌⊎◌, inl, inr, ℕ, ◌+◌, ◌<◌, ◌==◌, Bool, true, false, List, [], ◌∷◌, ◌++◌, map, length, slice_get, Option, Some, refl, sym, ap, ◌∙◌, subst, add-one, append-nil, if◌then◌else◌}
 use Rattle.std.proofs.lemmas.Bool.{eqb-true}
+use Rattle.std.proofs.lemmas.Bool.Decides.{nat_tests}
 use Rattle.std.proofs.lemmas.List.Concat.{flat_map-append}
 use Rattle.std.proofs.lemmas.List.Elements.{filter-append}
 use Rattle.std.specs.List.{flat_map, AllByRecursion}
 use Rattle.algol_tree.specs.declared.token.Spot.{Spot}
-use Rattle.algol_tree.specs.Ascending.{spots_of_names, spots_of_decls}
+use Rattle.algol_tree.specs.declared.tree.Kind.{Kind}
+use Rattle.algol_tree.specs.Ascending.{spots_of_names}
 use Rattle.algol_tree.specs.Blocks.{Block, same_spot, block_numbered, number_at}
 use Rattle.algol_tree.specs.Cells.{Cell, cells_at}
 use Rattle.algol_tree.specs.Scopes.{names_in}
-use Rattle.algol_tree.specs.Sites.{Site, sites_in_decls}
-use Rattle.b67_fitting.proofs.Aligned.{IsVariableCell, only, in_block, in_no_other, decl_cells, cells_declared, each_declared}
+use Rattle.algol_tree.specs.Sites.{Site}
 use Rattle.b67_fitting.proofs.Among.{in_among}
-use Rattle.b67_fitting.proofs.Apart.{IsIn, each_in, in_map, in_front, in_back, in_either, IsApart, Apart, same_self, apart_sym, apart_front, apart_back, apart_from, apart_across}
-use Rattle.b67_fitting.proofs.Listed.{Listed, over, passed, site, both, block, AllThere}
-use Rattle.b67_fitting.proofs.Lists.{each_front, each_back, each_of}
+use Rattle.b67_fitting.proofs.Apart.{IsIn, each_in, in_map, in_front, in_back, in_either, IsApart, Apart, same_self, apart_sym, apart_front, apart_back, apart_across}
+use Rattle.b67_fitting.proofs.Frames.{IsOwn, only, only_own, only_other, result_own, control_cell, result_cell, decl_cells, cells_of_block}
+use Rattle.b67_fitting.proofs.Listed.{Listed, over, passed, site, left, declared, both, block, procedure, AllThere}
+use Rattle.b67_fitting.proofs.Lists.{each_back}
 use Rattle.b67_fitting.proofs.Looked.{all_blocks}
 
 abbrev pub block_spots : List Block → List Spot
@@ -39,11 +41,29 @@ got (c ∷ bs) b p (inr i) =
 pub numbered : (bs : List Block) (b : Block) → Apart (block_spots bs) → IsIn b bs → block_numbered bs (number_at bs b.spot) ≡ b
 numbered bs b p i = block_is bs (number_at bs b.spot) b (got bs b p i)
 
+pub number_within : (bs : List Block) (b : Block) → IsIn b bs → number_at bs b.spot < length bs
+number_within [] b i = absurd i
+number_within (c ∷ bs) b i = by (same_spot c.spot b.spot) refl (number_within bs b) i
+  where
+    by : (t : Bool) → same_spot c.spot b.spot ≡ t → (IsIn b bs → number_at bs b.spot < length bs) → IsIn b (c ∷ bs) → (if t then 0 else number_at bs b.spot + 1) < length (c ∷ bs)
+    by true e later j = omega arith
+    by false e later (inl same) = absurd (let clash : true ≡ false = sym (same_self b.spot) ∙ ap (λ (z : Block). same_spot z.spot b.spot) same ∙ e in cc)
+    by false e later (inr j) = omega (arith, later j)
+
+-- a place that is no block's has no number
+pub number_none : (bs : List Block) (spot : Spot) → AllByRecursion (IsApart spot) (block_spots bs) → number_at bs spot ≡ length bs
+number_none [] spot h = refl
+number_none (c ∷ bs) spot h =
+    ap (λ (t : Bool). if t then 0 else number_at bs spot + 1) (apart_sym spot c.spot h.0) ∙ (let next : number_at bs spot + 1 ≡ length (c ∷ bs) = omega (arith, number_none bs spot h.1) in next)
+
+eqb_sym : (m n : ℕ) → (m == n) ≡ false → (n == m) ≡ false
+eqb_sym m n h = grind (arith, nat_tests)
+
 module _ (blocks : List Block) (apart : Apart (block_spots blocks)) where
   abbrev pub number_of : Block → ℕ
   number_of b = number_at blocks b.spot
 
-  other_number : (b c : Block) → IsIn b blocks → IsIn c blocks → IsApart b.spot c.spot → (number_of c == number_of b) ≡ false
+  pub other_number : (b c : Block) → IsIn b blocks → IsIn c blocks → IsApart b.spot c.spot → (number_of c == number_of b) ≡ false
   other_number b c i j h = by (number_of c == number_of b) refl
     where
       by : (t : Bool) → (number_of c == number_of b) ≡ t → t ≡ false
@@ -55,91 +75,111 @@ module _ (blocks : List Block) (apart : Apart (block_spots blocks)) where
 
   -- ---- cells
 
-  -- Of these blocks the cells are those of their declarations, and no block that is apart from these places has a cell.
-  pub record AreOf (spots : List Spot) (bs : List Block) (cs : List Cell) : Type 0 where
-    pub here : (b : Block) → IsIn b bs → only (number_of b) cs ≡ decl_cells (number_of b) b.decls
-    pub away : (b : Block) → IsIn b blocks → AllByRecursion (IsApart b.spot) spots → only (number_of b) cs ≡ []
+  -- the number is that of none of these blocks
+  abbrev pub IsElsewhere : ℕ → List Block → Type 0
+  IsElsewhere m bs = (b : Block) → IsIn b bs → (number_of b == m) ≡ false
 
-  only_both : (k : ℕ) (xs ys : List Site) → only k (flat_map (cells_at blocks) (xs ++ ys)) ≡ only k (flat_map (cells_at blocks) xs) ++ only k (flat_map (cells_at blocks) ys)
-  only_both k xs ys =
-      ap (only k) (flat_map-append (cells_at blocks) xs ys) ∙ filter-append (λ (c : Cell). c.block == k) (flat_map (cells_at blocks) xs) (flat_map (cells_at blocks) ys)
+  -- The block with this number has these cells, those in it have their own, and no other block has one.
+  pub record AreOf (k : ℕ) (own : List Cell) (bs : List Block) (cs : List Cell) : Type 0 where
+    pub mine : only k cs ≡ own
+    pub here : (b : Block) → IsIn b bs → only (number_of b) cs ≡ cells_of_block (number_of b) b
+    pub away : (m : ℕ) → (k == m) ≡ false → IsElsewhere m bs → only m cs ≡ []
 
-  abbrev cells_in : List Site → List Cell
+  abbrev pub cells_in : List Site → List Cell
   cells_in xs = flat_map (cells_at blocks) xs
+
+  parted : (k : ℕ) (xs ys zs os : List Cell) → only k xs ≡ zs → only k ys ≡ os → only k (xs ++ ys) ≡ zs ++ os
+  parted k xs ys zs os g h = filter-append (λ (c : Cell). c.block == k) xs ys ∙ ap (λ z. z ++ only k ys) g ∙ ap (λ z. zs ++ z) h
 
   -- the place of a block is apart from those
   apart_of : (b : Block) (p q : List Spot) → Apart (p ++ q) → IsIn b.spot p → AllByRecursion (IsApart b.spot) q
   apart_of b p q h i = each_in (λ s. AllByRecursion (IsApart s) q) b.spot p (apart_across p q h) i
 
-  apart_to : (b : Block) (p q : List Spot) → Apart (p ++ q) → IsIn b.spot q → AllByRecursion (IsApart b.spot) p
-  apart_to b p q h i = each_of (λ s. IsApart s b.spot) (IsApart b.spot) p (λ s g. apart_sym s b.spot g) (apart_from p q b.spot h i)
-
-  both_of : (p q : List Spot) (bs cs : List Block) (xs ys : List Site) → Apart (p ++ q) → AllThere blocks (bs ++ cs) → ((b : Block) → IsIn b bs → IsIn b.spot p) →
-      ((b : Block) → IsIn b cs → IsIn b.spot q) → AreOf p bs (cells_in xs) → AreOf q cs (cells_in ys) → AreOf (p ++ q) (bs ++ cs) (cells_in (xs ++ ys))
-  both_of p q bs cs xs ys h t f g k l =
-      record {
-        here = λ b i. by b (t b i) (in_either b bs cs i);
+  both_of : (k : ℕ) (p q : List Spot) (os ns : List Cell) (bs cs : List Block) (xs ys : List Site) → Apart (p ++ q) → AllThere blocks (bs ++ cs) → IsElsewhere k (bs ++ cs) →
+      ((b : Block) → IsIn b bs → IsIn b.spot p) → ((b : Block) → IsIn b cs → IsIn b.spot q) → AreOf k os bs (cells_in xs) → AreOf k ns cs (cells_in ys) →
+      AreOf k (os ++ ns) (bs ++ cs) (cells_in (xs ++ ys))
+  both_of k p q os ns bs cs xs ys h t o f g i j =
+      subst (AreOf k (os ++ ns) (bs ++ cs)) (sym (flat_map-append (cells_at blocks) xs ys))
+      (record {
+        mine = parted k (cells_in xs) (cells_in ys) os ns i.mine j.mine;
+        here = λ b m. by b (in_either b bs cs m);
         away =
-            λ b i e.
-            only_both (number_of b) xs ys
-            ∙ ap (λ z. z ++ only (number_of b) (cells_in ys)) (k.away b i (each_front (IsApart b.spot) p q e))
-            ∙ l.away b i (each_back (IsApart b.spot) p q e);
-      }
+            λ m e l. parted m (cells_in xs) (cells_in ys) [] [] (i.away m e (λ b n. l b (in_front b bs cs n))) (j.away m e (λ b n. l b (in_back b bs cs n)));
+      })
     where
-      by : (b : Block) → IsIn b blocks → IsIn b bs ⊎ IsIn b cs → only (number_of b) (cells_in (xs ++ ys)) ≡ decl_cells (number_of b) b.decls
-      by b m (inl i) =
-          only_both (number_of b) xs ys
-          ∙ ap (λ z. only (number_of b) (cells_in xs) ++ z) (l.away b m (apart_of b p q h (f b i)))
-          ∙ append-nil (only (number_of b) (cells_in xs)) ∙ k.here b i
-      by b m (inr i) =
-          only_both (number_of b) xs ys
-          ∙ ap (λ z. z ++ only (number_of b) (cells_in ys)) (k.away b m (apart_to b p q h (g b i)))
-          ∙ l.here b i
+      far : (b c : Block) → IsIn b bs → IsIn c cs → IsApart b.spot c.spot
+      far b c m n = each_in (IsApart b.spot) c.spot q (apart_of b p q h (f b m)) (g c n)
 
-  block_of : (b : Block) (p : List Spot) (bs : List Block) (ds xs : List Site) → Apart (b.spot ∷ (spots_of_decls b.decls ++ p)) → AllThere blocks (b ∷ bs) →
-      ((c : Block) → IsIn c bs → IsIn c.spot p) → cells_in ds ≡ decl_cells (number_of b) b.decls → AllByRecursion (IsVariableCell (number_of b)) (decl_cells (number_of b) b.decls) →
-      AreOf p bs (cells_in xs) → AreOf (b.spot ∷ (spots_of_decls b.decls ++ p)) (b ∷ bs) (cells_in (ds ++ xs))
-  block_of b p bs ds xs h t f e v l =
+      by : (b : Block) → IsIn b bs ⊎ IsIn b cs → only (number_of b) (cells_in xs ++ cells_in ys) ≡ cells_of_block (number_of b) b
+      by b (inl m) =
+          parted (number_of b) (cells_in xs) (cells_in ys) (cells_of_block (number_of b) b) [] (i.here b m)
+          (j.away (number_of b) (eqb_sym (number_of b) k (o b (in_front b bs cs m))) (λ c n. other_number b c (t b (in_front b bs cs m)) (t c (in_back c bs cs n)) (far b c m n)))
+          ∙ append-nil (cells_of_block (number_of b) b)
+      by b (inr m) =
+          parted (number_of b) (cells_in xs) (cells_in ys) [] (cells_of_block (number_of b) b)
+          (i.away (number_of b) (eqb_sym (number_of b) k (o b (in_back b bs cs m)))
+          (λ c n. other_number b c (t b (in_back b bs cs m)) (t c (in_front c bs cs n)) (apart_sym c.spot b.spot (far c b n m))))
+          (j.here b m)
+
+  -- cells of the block itself in front
+  own_of : (k : ℕ) (new own : List Cell) (bs : List Block) (cs : List Cell) → AllByRecursion (IsOwn k) new → IsElsewhere k bs → AreOf k own bs cs → AreOf k (new ++ own) bs (new ++ cs)
+  own_of k new own bs cs w o i =
       record {
-        here = λ c i. by c i;
-        away =
-            λ c i g.
-            only_both (number_of c) ds xs ∙ ap (λ z. only (number_of c) z ++ only (number_of c) (cells_in xs)) e
-            ∙ ap (λ z. z ++ only (number_of c) (cells_in xs)) (in_no_other (number_of c) (number_of b) (decl_cells (number_of b) b.decls) (other_number c b i (t b (inl refl)) g.0) v)
-            ∙ l.away c i (each_back (IsApart c.spot) (spots_of_decls b.decls) p g.1);
+        mine = parted k new cs new own (only_own k new w) i.mine;
+        here =
+            λ b m. parted (number_of b) new cs [] (cells_of_block (number_of b) b) (only_other (number_of b) k new (eqb_sym (number_of b) k (o b m)) w) (i.here b m);
+        away = λ m e l. parted m new cs [] [] (only_other m k new e w) (i.away m e l);
       }
+
+  -- a block with the cell of its result in front
+  block_of : (k : ℕ) (b : Block) (own : List Cell) (bs : List Block) (cs : List Cell) → IsElsewhere k (b ∷ bs) → IsElsewhere (number_of b) bs → own ≡ decl_cells (number_of b) b.decls →
+      AreOf (number_of b) own bs cs → AreOf k [] (b ∷ bs) (result_cell b.result (number_of b) b.spot ++ cs)
+  block_of k b own bs cs o inner e i =
+      record { mine = none k (o b (inl refl)) (λ c m. o c (inr m)); here = λ c m. by c m; away = λ m g l. none m (l b (inl refl)) (λ c n. l c (inr n)) }
     where
-      by : (c : Block) → IsIn c (b ∷ bs) → only (number_of c) (cells_in (ds ++ xs)) ≡ decl_cells (number_of c) c.decls
+      result : List Cell
+      result = result_cell b.result (number_of b) b.spot
+
+      owns : AllByRecursion (IsOwn (number_of b)) result
+      owns = result_own b.result (number_of b) b.spot
+
+      none : (m : ℕ) → (number_of b == m) ≡ false → IsElsewhere m bs → only m (result ++ cs) ≡ []
+      none m g l = parted m result cs [] [] (only_other m (number_of b) result g owns) (i.away m g l)
+
+      by : (c : Block) → IsIn c (b ∷ bs) → only (number_of c) (result ++ cs) ≡ cells_of_block (number_of c) c
       by c (inl same) =
-          subst (λ (z : Block). only (number_of z) (cells_in (ds ++ xs)) ≡ decl_cells (number_of z) z.decls) (sym same)
-          (only_both (number_of b) ds xs ∙ ap (λ z. only (number_of b) z ++ only (number_of b) (cells_in xs)) e
-          ∙ ap (λ z. z ++ only (number_of b) (cells_in xs)) (in_block (number_of b) (decl_cells (number_of b) b.decls) v)
-          ∙ ap (λ z. decl_cells (number_of b) b.decls ++ z) (l.away b (t b (inl refl)) (each_back (IsApart b.spot) (spots_of_decls b.decls) p h.0))
-          ∙ append-nil (decl_cells (number_of b) b.decls))
-      by c (inr i) =
-          let far = each_in (IsApart b.spot) c.spot p (each_back (IsApart b.spot) (spots_of_decls b.decls) p h.0) (f c i) in
-          only_both (number_of c) ds xs ∙ ap (λ z. only (number_of c) z ++ only (number_of c) (cells_in xs)) e
-          ∙ ap (λ z. z ++ only (number_of c) (cells_in xs))
-          (in_no_other (number_of c) (number_of b) (decl_cells (number_of b) b.decls) (other_number c b (t c (inr i)) (t b (inl refl)) (apart_sym b.spot c.spot far)) v)
-          ∙ l.here c i
+          subst (λ (z : Block). only (number_of z) (result ++ cs) ≡ cells_of_block (number_of z) z) (sym same)
+          (parted (number_of b) result cs result (decl_cells (number_of b) b.decls) (only_own (number_of b) result owns) (i.mine ∙ e))
+      by c (inr m) =
+          parted (number_of c) result cs [] (cells_of_block (number_of c) c) (only_other (number_of c) (number_of b) result (eqb_sym (number_of c) (number_of b) (inner c m)) owns) (i.here c m)
 
-  pub cells_are : {spots : List Spot} {bs : List Block} {xs : List Site} → Listed blocks spots bs xs → Apart spots → AllThere blocks bs → AreOf spots bs (cells_in xs)
-  cells_are over p t = record { here = λ b i. absurd i; away = λ b i e. refl }
-  cells_are (passed spot l) p t =
-      let r = cells_are l p.1 t in
-      record { here = r.here; away = λ b i e. r.away b i e.1 }
-  cells_are (site x {spots = spots} {xs = xs} f l) p t =
-      let names = spots_of_names (names_in x.part) in
-      let r = cells_are l (apart_back names spots p) t in
-      record {
-        here = λ b i. ap (λ z. only (number_of b) (z ++ cells_in xs)) f.cells ∙ r.here b i;
-        away = λ b i e. ap (λ z. only (number_of b) (z ++ cells_in xs)) f.cells ∙ r.away b i (each_back (IsApart b.spot) names spots e);
-      }
-  cells_are (both {p = q} {q = r} {bs = bs} {cs = cs} {xs = xs} {ys = ys} k l) p t =
-      both_of q r bs cs xs ys p t (λ b i. in_among b.spot (all_blocks blocks k) (in_map (λ (z : Block). z.spot) b bs i))
-      (λ b i. in_among b.spot (all_blocks blocks l) (in_map (λ (z : Block). z.spot) b cs i))
-      (cells_are k (apart_front q r p) (λ b i. t b (in_front b bs cs i))) (cells_are l (apart_back q r p) (λ b i. t b (in_back b bs cs i)))
-  cells_are (block b a first {spots = spots} {bs = bs} {xs = xs} e s l) p t =
-      block_of b spots bs (sites_in_decls blocks b.decls a first) xs p t (λ c i. in_among c.spot (all_blocks blocks l) (in_map (λ (z : Block). z.spot) c bs i))
-      (cells_declared blocks b.decls a first s ∙ ap (λ (k : ℕ). decl_cells k b.decls) e) (each_declared (number_of b) b.decls s)
-      (cells_are l (apart_back (spots_of_decls b.decls) spots p.1) (λ c i. t c (inr i)))
+  -- the blocks in a block have other numbers
+  inner_elsewhere : (b : Block) (spots : List Spot) (bs : List Block) → AllThere blocks (b ∷ bs) → AllByRecursion (IsApart b.spot) spots → ((c : Block) → IsIn c bs → IsIn c.spot spots) →
+      IsElsewhere (number_of b) bs
+  inner_elsewhere b spots bs t p f c m = other_number b c (t b (inl refl)) (t c (inr m)) (each_in (IsApart b.spot) c.spot spots p (f c m))
+
+  in_spots : {k : ℕ} {spots : List Spot} {own : List Cell} {bs : List Block} {xs : List Site} → Listed blocks k spots own bs xs → (b : Block) → IsIn b bs → IsIn b.spot spots
+  in_spots {bs = bs} l b i = in_among b.spot (all_blocks blocks l) (in_map (λ (z : Block). z.spot) b bs i)
+
+  pub cells_are : {k : ℕ} {spots : List Spot} {own : List Cell} {bs : List Block} {xs : List Site} → Listed blocks k spots own bs xs → Apart spots → AllThere blocks bs → IsElsewhere k bs →
+      AreOf k own bs (cells_in xs)
+  cells_are (over k) p t o = record { mine = refl; here = λ b i. absurd i; away = λ m e l. refl }
+  cells_are (passed k spot l) p t o = cells_are l p.1 t o
+  cells_are (site k x {spots = spots} {own = own} {bs = bs} {xs = xs} f l) p t o =
+      subst (λ (z : List Cell). AreOf k own bs (z ++ cells_in xs)) (sym f.cells) (cells_are l (apart_back (spots_of_names (names_in x.part)) spots p) t o)
+  cells_are (left k a n e listed b g l) p t o = cells_are l p.1 t o
+  cells_are (declared k x names new {spots = spots} {own = own} {bs = bs} {xs = xs} f l) p t o =
+      subst (λ (z : List Cell). AreOf k (new ++ own) bs (z ++ cells_in xs)) (sym f.cells) (own_of k new own bs (cells_in xs) f.owns o (cells_are l (apart_back names spots p) t o))
+  cells_are (both k {p = q} {q = r} {os = os} {ns = ns} {bs = bs} {cs = cs} {xs = xs} {ys = ys} i j) p t o =
+      both_of k q r os ns bs cs xs ys p t o (in_spots i) (in_spots j) (cells_are i (apart_front q r p) (λ b m. t b (in_front b bs cs m)) (λ b m. o b (in_front b bs cs m)))
+      (cells_are j (apart_back q r p) (λ b m. t b (in_back b bs cs m)) (λ b m. o b (in_back b bs cs m)))
+  cells_are (block k b {spots = spots} {own = own} {bs = bs} {xs = xs} e i l) p t o =
+      let inner = inner_elsewhere b spots bs t p.0 (in_spots l) in
+      subst (λ (r : Option Kind). AreOf k [] (b ∷ bs) (result_cell r (number_of b) b.spot ++ cells_in xs)) e
+      (block_of k b own bs (cells_in xs) o inner i.own_is (cells_are l p.1 (λ c m. t c (inr m)) inner))
+  cells_are (procedure k x b more {spots = spots} {own = own} {bs = bs} {xs = xs} f i l) p t o =
+      let behind : Apart (b.spot ∷ (more ++ spots)) = p in
+      let inner = inner_elsewhere b spots bs t (each_back (IsApart b.spot) more spots behind.0) (in_spots l) in
+      let all = block_of k b own bs (cells_in xs) o inner i.own_is (cells_are l (apart_back more spots behind.1) (λ c m. t c (inr m)) inner) in
+      subst (λ (z : List Cell). AreOf k (control_cell k b.spot ∷ []) (b ∷ bs) (z ++ cells_in xs)) (sym f.cells)
+      (own_of k (control_cell k b.spot ∷ []) [] (b ∷ bs) (result_cell b.result (number_of b) b.spot ++ cells_in xs) (refl, tt) o all)

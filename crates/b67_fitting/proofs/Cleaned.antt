@@ -6,7 +6,7 @@ use Rattle.algol_tree.specs.declared.refusal.Code.{Code}
 use Rattle.algol_tree.specs.Accepted.{broken, scope_faults_in, check_faults_in}
 use Rattle.algol_tree.specs.Blocks.{Block}
 use Rattle.algol_tree.specs.Checks.{wrong_types, not_assignable}
-use Rattle.algol_tree.specs.Counted.{bad_lists, wide_lines}
+use Rattle.algol_tree.specs.Counted.{wrong_counts, bad_lists, wide_lines}
 use Rattle.algol_tree.specs.Names.{unknown_names, declared_twice}
 use Rattle.algol_tree.specs.Plain.{PProgram}
 use Rattle.algol_tree.specs.Sites.{Site}
@@ -14,11 +14,11 @@ use Rattle.b67_fitting.proofs.Lists.{nil_front, nil_back, nil_map, nil_each}
 use Rattle.b67_fitting.proofs.Clean.{AreClean}
 
 together : (blocks : List Block) (xs : List Site) → AllByRecursion (λ x. unknown_names x ≡ []) xs → AllByRecursion (λ x. declared_twice blocks x ≡ []) xs →
-    AllByRecursion (λ x. wrong_types blocks x ≡ []) xs → AllByRecursion (λ x. not_assignable blocks x ≡ []) xs → AllByRecursion (λ x. bad_lists x ≡ []) xs →
+    AllByRecursion (λ x. wrong_types blocks x ≡ []) xs → AllByRecursion (λ x. not_assignable blocks x ≡ []) xs → AllByRecursion (λ x. wrong_counts x ≡ []) xs → AllByRecursion (λ x. bad_lists x ≡ []) xs →
     AllByRecursion (λ x. wide_lines x ≡ []) xs → AreClean blocks xs
-together blocks [] known once typed assigned lined narrow = tt
-together blocks (x ∷ xs) known once typed assigned lined narrow =
-    (record { known = known.0; once = once.0; typed = typed.0; assigned = assigned.0; lined = lined.0; narrow = narrow.0 }, together blocks xs known.1 once.1 typed.1 assigned.1 lined.1 narrow.1)
+together blocks [] known once typed assigned counted lined narrow = tt
+together blocks (x ∷ xs) known once typed assigned counted lined narrow =
+    (record { known = known.0; once = once.0; typed = typed.0; assigned = assigned.0; counted = counted.0; lined = lined.0; narrow = narrow.0 }, together blocks xs known.1 once.1 typed.1 assigned.1 counted.1 lined.1 narrow.1)
 
 found_none : (code : Code) (f : Site → List Spot) (xs : List Site) → broken code (flat_map f xs) ≡ [] → AllByRecursion (λ x. f x ≡ []) xs
 found_none code f xs h = nil_each f xs (nil_map (λ (spot : Spot). record { spot = spot; code = code }) (flat_map f xs) h)
@@ -31,5 +31,6 @@ cleaned p blocks xs s c =
     let three = nil_front _ _ four in
     let two = nil_front _ _ three in
     together blocks xs (found_none _ unknown_names xs (nil_front _ _ names)) (found_none _ (declared_twice blocks) xs (nil_back _ _ names))
-    (found_none _ (wrong_types blocks) xs (nil_front _ _ two)) (found_none _ (not_assignable blocks) xs (nil_back _ _ three)) (found_none _ bad_lists xs (nil_back _ _ four))
+    (found_none _ (wrong_types blocks) xs (nil_front _ _ two)) (found_none _ (not_assignable blocks) xs (nil_back _ _ three)) (found_none _ wrong_counts xs (nil_back _ _ two))
+    (found_none _ bad_lists xs (nil_back _ _ four))
     (found_none _ wide_lines xs (nil_back _ _ five))

@@ -1,160 +1,278 @@
--- Each name that is used as a variable has its couple, and its cell has the number that the couple says.
-use Rattle.std.proofs.Common.{arith, ◌≡◌, inl, inr, ℕ, ◌+◌, ◌-◌, ◌≤◌, List, map, length, Option, Some, None, refl, sym, ap, ◌∙◌, subst}
-use Rattle.std.specs.List.{flat_map, AllByRecursion}
-use Rattle.algol_tree.specs.declared.TheConstants.{MOST_BLOCK_CELLS, MOST_LEVEL}
+-- Each name that is used as a variable or a procedure has its couple, and its cell has the number that the couple says.
+use Rattle.std.proofs.Common.{arith, ◌≡◌, ℕ, ◌+◌, ◌-◌, ◌<◌, ◌≤◌, ◌==◌, ◌||◌, Bool, true, false, List, [], ◌∷◌, ◌++◌, map, length, slice_get, Option, Some, None, refl, sym, ap, ◌∙◌, subst, if◌then◌else◌, is_some}
+use Rattle.std.proofs.lemmas.Bool.{eqb-true}
+use Rattle.std.specs.List.{flat_map, list_any, AllByRecursion}
 use Rattle.algol_tree.specs.declared.token.Spot.{Spot}
+use Rattle.algol_tree.specs.declared.tree.Heading.{Heading}
 use Rattle.algol_tree.specs.declared.tree.Kind.{Kind}
 use Rattle.algol_tree.specs.declared.tree.Named.{Named}
-use Rattle.algol_tree.specs.Blocks.{Block, block_numbered, number_at}
+use Rattle.algol_tree.specs.Blocks.{Block, block_numbered, number_at, procedure_block}
 use Rattle.algol_tree.specs.Cells as cells
-use Rattle.algol_tree.specs.Cells.{Cell, cells_of, index_from, layout, level_of, couple_at, couple_in}
-use Rattle.algol_tree.specs.Classes as class
-use Rattle.algol_tree.specs.Classes.{Class}
-use Rattle.algol_tree.specs.Couples.{Known, Located, known_by, known_at, known_there, located, declaration_in}
-use Rattle.algol_tree.specs.Plain as tree
-use Rattle.algol_tree.specs.Plain.{PStmt, PDecls}
-use Rattle.algol_tree.specs.Scopes.{Scopes, Use, used, use_by, names_in, uses_at, declared_in, use_of}
-use Rattle.algol_tree.specs.Sites as parts
-use Rattle.algol_tree.specs.Sites.{Part, Site, sites_in_decls}
-use Rattle.algol_tree.specs.Sorts.{Declared, is_variable}
-use Rattle.algol_tree.specs.Surroundings.{Surroundings, class_of_declared, declared_as, knowing}
+use Rattle.algol_tree.specs.Cells.{Cell, cells_at, cells_of, index_from, layout, level_of, couple_at, couple_in}
+use Rattle.algol_tree.specs.Couples.{Known, Located, known_at, known_there, located, declaration_in}
+use Rattle.algol_tree.specs.Names.{is_one_of, result_names_of}
+use Rattle.algol_tree.specs.Scopes.{Scopes, Use, uses_at, declared_in, use_of}
+use Rattle.algol_tree.specs.Sites.{Site}
+use Rattle.algol_tree.specs.Sorts as sort
+use Rattle.algol_tree.specs.Sorts.{same_name, Declared, is_variable}
+use Rattle.algol_tree.specs.Surroundings.{Surroundings}
 use Rattle.b67_ops.specs.declared.Couple.{Couple}
-use Rattle.b67_templates.specs.Cells.{simple_cells, variables, found_from, IsVariable}
-use Rattle.b67_templates.specs.Fitting.{NameFits}
-use Rattle.b67_fitting.specs.Built.{AreSimple}
-use Rattle.b67_fitting.proofs.Aligned.{decl_cells, each_declared, laid_out, IsAt}
-use Rattle.b67_fitting.proofs.Apart.{IsIn, in_each, in_front, in_back, in_flat, Apart}
-use Rattle.b67_fitting.proofs.Blocked.{block_spots, numbered}
-use Rattle.b67_fitting.proofs.Known.{begun, IsHeld, IsKnown, known_file, known_variable}
-use Rattle.b67_fitting.proofs.Listed.{IsFair, StmtBegins, PartBegins, Listed, over, passed, site, both, block}
-use Rattle.b67_fitting.proofs.Lists.{each_both}
+use Rattle.b67_templates.specs.Cells.{Simple, simple_cells, variables, result_of, procedures, found_from, IsVariable, IsProcedure}
+use Rattle.b67_templates.specs.Fitting.{couple_on_left, ReadFits, LeftFits, ProcedureFits}
+use Rattle.b67_fitting.specs.Fitted.{spelled}
+use Rattle.b67_fitting.proofs.Aligned.{IsAt}
+use Rattle.b67_fitting.proofs.Apart.{IsIn, in_back, in_flat, IsApart, Apart, same_self}
+use Rattle.b67_fitting.proofs.Blocked.{block_spots, numbered, number_none}
+use Rattle.b67_fitting.proofs.Frames.{variable_cells, control_cells, decl_cells, result_cell, cells_of_block, laid_out}
+use Rattle.b67_fitting.proofs.Framing.{variable_cell, in_filter, simple_is, framed, controlled, without}
+use Rattle.b67_fitting.proofs.Homed.{IsHome}
+use Rattle.b67_fitting.proofs.Known.{IsHeld, IsOwned, AreAround, Stands}
 use Rattle.b67_fitting.proofs.Looked.{use_found, known_found}
-use Rattle.b67_fitting.proofs.Placed.{IsPlaced, StmtKeeps, PartKeeps, SitePlaced}
+use Rattle.b67_fitting.proofs.Stated.{is_around}
 
-record IsDeclared (a : Surroundings) (k : Kind) (n : Named) : Type 0 where
-  pub as_one : Declared
-  pub is : declared_as a n ≡ Some as_one
-  pub class_is : as_one.class ≡ class.simple k
-
-declared_of : (a : Surroundings) (k : Kind) (n : Named) (o : Option Declared) → declared_as a n ≡ o → class_of_declared o ≡ class.simple k → IsDeclared a k n
-declared_of a k n None e h = absurd (let clash : class.unknown ≡ class.simple k = h in cc)
-declared_of a k n (Some d) e h = record { as_one = d; is = e; class_is = h }
-
-use_is : (sc : Scopes) (n : Named) (u : Use) → declared_in sc.uses n.spot ≡ Some u → use_of sc n ≡ u
+pub use_is : (sc : Scopes) (n : Named) (u : Use) → declared_in sc.uses n.spot ≡ Some u → use_of sc n ≡ u
 use_is sc n u h = rw h refl
 
-abbrev the_use : Surroundings → Named → Declared → Use
+abbrev pub the_use : Surroundings → Named → Declared → Use
 the_use a n d = record { spot = n.spot; block = d.block; up = a.depth - d.depth; sort = d.sort }
 
--- The parts of a program: what stands in one place stands there alone, the cells of each block are those of its declarations, and each
--- block keeps to the limits.
+-- of the result of the procedure whose block has this number
+abbrev pub result_use : Surroundings → Named → Declared → ℕ → Use
+result_use a n d callee = record { spot = n.spot; block = callee; up = a.depth - d.depth - 1; sort = sort.variable }
+
+-- The parts of a program: what stands in one place stands there alone, the cells of each block are those of its result and its
+-- declarations, and no other cells are there.
 pub record IsProgram (blocks : List Block) (all : List Site) : Type 0 where
   pub blocks_apart : Apart (block_spots blocks)
   pub uses_apart : Apart (map (λ (u : Use). u.spot) (flat_map uses_at all))
   pub known_apart : Apart (map (λ (k : Known). k.spot) (flat_map (known_at blocks) all))
-  pub own : (b : Block) → IsIn b blocks → cells_of blocks all (number_at blocks b.spot) ≡ decl_cells (number_at blocks b.spot) b.decls
-  pub few : (b : Block) → IsIn b blocks → length (variables b.decls) ≤ MOST_BLOCK_CELLS
-  pub shallow : (b : Block) → IsIn b blocks → level_of b ≤ MOST_LEVEL
+  pub own : (b : Block) → IsIn b blocks → cells_of blocks all (number_at blocks b.spot) ≡ cells_of_block (number_at blocks b.spot) b
+  pub none : cells_of blocks all (length blocks) ≡ []
+  pub far : (c : Cell) → IsIn c (flat_map (cells_at blocks) all) → c.content ≡ cells.variable → AllByRecursion (IsApart c.spot) (block_spots blocks)
+  pub homes : (b : Block) → IsIn b blocks → IsHome b
 
 module _ (blocks : List Block) (all : List Site) (is : IsProgram blocks all) where
-  abbrev scopes : Scopes
+  abbrev pub scopes : Scopes
   scopes = record { blocks = blocks; uses = flat_map uses_at all }
 
-  -- ---- a name that is used
+  pub used_at : (x : Site) → IsIn x all → (u : Use) → IsIn u (uses_at x) → declared_in scopes.uses u.spot ≡ Some u
+  used_at x i u j = use_found (flat_map uses_at all) u is.uses_apart (in_flat uses_at x u all i j)
 
-  used_as : (x : Site) → IsIn x all → IsFair blocks x → (n : Named) (d : Declared) → IsIn n (names_in x.part) → declared_as x.around n ≡ Some d → use_of scopes n ≡ the_use x.around n d
-  used_as x i f n d j h =
-      let u = the_use x.around n d in
-      let mine : IsIn u (used x.around n) = subst (λ (o : Option Declared). IsIn u (use_by x.around n o)) (sym h) (inl refl) in
-      let here : IsIn u (uses_at x) = subst (λ (z : List Use). IsIn u z) (sym f.uses) (in_flat (used x.around) n u (names_in x.part) j mine) in
-      use_is scopes n u (use_found (flat_map uses_at all) u is.uses_apart (in_flat uses_at x u all i here))
+  pub known_at_place : (x : Site) → IsIn x all → (k : Known) → IsIn k (known_at blocks x) → known_there (flat_map (known_at blocks) all) k.spot ≡ Some k.declared
+  known_at_place x i k j = known_found (flat_map (known_at blocks) all) k is.known_apart (in_flat (known_at blocks) x k all i j)
 
-  known_as : (x : Site) → IsIn x all → IsFair blocks x → (n : Named) (d : Declared) → IsIn n (names_in x.part) → declared_as x.around n ≡ Some d →
-      known_there (flat_map (known_at blocks) all) n.spot ≡ Some d
-  known_as x i f n d j h =
-      let k : Known = record { spot = n.spot; declared = d } in
-      let mine : IsIn k (known_by n.spot (declared_as x.around n)) = subst (λ (o : Option Declared). IsIn k (known_by n.spot o)) (sym h) (inl refl) in
-      let here : IsIn k (known_at blocks x) =
-      subst (λ (z : List Known). IsIn k z) (sym f.knows) (in_flat (λ (m : Named). known_by m.spot (declared_as x.around m)) n k (names_in x.part) j mine) in
-      known_found (flat_map (known_at blocks) all) k is.known_apart (in_flat (known_at blocks) x k all i here)
+  -- ---- couples
 
-  coupled : (depth : ℕ) (name : List ℕ) (d : Declared) (kind : Kind) → (h : IsHeld blocks depth name d kind) → (number : ℕ) →
-      index_from 2 (decl_cells (number_at blocks h.spot) h.decls) d.spot ≡ Some (2 + number) → couple_in blocks all d.block d.spot ≡ Some (record { level = d.depth + 2; index = 2 + number })
-  coupled depth name d kind h number e =
-      let b = begun h.spot h.outer h.decls h.stmts in
-      let block = number_at blocks h.spot in
-      ap (λ (z : ℕ). couple_in blocks all z d.spot) h.block_is
-      ∙ ap (λ (z : Block). couple_at (level_of z) (index_from 2 (layout (cells_of blocks all block)) d.spot)) (numbered blocks b is.blocks_apart h.there)
-      ∙ ap (λ (z : List Cell). couple_at (level_of b) (index_from 2 (layout z) d.spot)) (is.own b h.there)
-      ∙ ap (λ (z : List Cell). couple_at (level_of b) (index_from 2 z d.spot)) (laid_out block (decl_cells block h.decls) (each_declared block h.decls h.simple))
+  abbrev number_of : Block → ℕ
+  number_of b = number_at blocks b.spot
+
+  abbrev frame_of : Block → List Cell
+  frame_of b = result_cell b.result (number_of b) b.spot ++ (variable_cells (number_of b) b.decls ++ control_cells (number_of b) b.decls)
+
+  coupled : (b : Block) → IsIn b blocks → (spot : Spot) (i : Option ℕ) → index_from 2 (frame_of b) spot ≡ i → couple_in blocks all (number_of b) spot ≡ couple_at (level_of b) i
+  coupled b t spot i e =
+      ap (λ (z : Block). couple_at (level_of z) (index_from 2 (layout (cells_of blocks all (number_of b))) spot)) (numbered blocks b is.blocks_apart t)
+      ∙ ap (λ (z : List Cell). couple_at (level_of b) (index_from 2 (layout z) spot)) (is.own b t)
+      ∙ ap (λ (z : List Cell). couple_at (level_of b) (index_from 2 z spot)) (laid_out (number_of b) b.result b.spot b.decls)
       ∙ ap (couple_at (level_of b)) e
-      ∙ ap (λ (z : ℕ). Some (record { level = z + 2; index = 2 + number })) (sym h.depth_is)
 
-  variable_at : (a : Surroundings) (level : ℕ) (n : Named) (k : Kind) (d : Declared) → a.depth + 2 ≡ level → use_of scopes n ≡ the_use a n d → (h : IsHeld blocks a.depth n.name d k) →
-      (r : IsAt 0 2 (variables h.decls) (decl_cells (number_at blocks h.spot) h.decls) n.name d.spot k) → IsVariable scopes level n k (record { level = d.depth + 2; index = 2 + r.number })
-  variable_at a level n k d e u h r =
-      let b = begun h.spot h.outer h.decls h.stmts in
-      let up : d.depth + 2 + (a.depth - d.depth) ≡ level = omega (arith, e, h.within) in
-      record {
-        variable = ap (λ (z : Use). is_variable z.sort) u ∙ ap is_variable h.sort_is;
-        found = record { number = r.number; cell = r.cell };
-        there =
-            ap (λ (z : Use). found_from 0 (simple_cells (block_numbered blocks z.block)) n.name) u
-            ∙ ap (λ (z : ℕ). found_from 0 (simple_cells (block_numbered blocks z)) n.name) h.block_is
-            ∙ ap (λ (z : Block). found_from 0 (simple_cells z) n.name) (numbered blocks b is.blocks_apart h.there) ∙ r.found;
-        kind_is = r.kind_is;
-        level_is = ap (λ (z : Use). d.depth + 2 + z.up) u ∙ up;
-        index_is = refl;
-      }
+  -- a variable is no result
+  no_result : (b : Block) → IsIn b blocks → (spot : Spot) → AllByRecursion (IsApart spot) (block_spots blocks) → couple_in blocks all (number_at blocks spot) spot ≡ None
+  no_result b t spot far =
+      ap (λ (k : ℕ). couple_in blocks all k spot) (number_none blocks spot far)
+      ∙ ap (λ (z : List Cell). couple_at (level_of (block_numbered blocks (length blocks))) (index_from 2 (layout z) spot)) is.none
 
-  -- ---- inner blocks
+  variable_far : (b : Block) → IsIn b blocks → (spot : Spot) → IsIn (record { block = number_of b; spot = spot; content = cells.variable }) (decl_cells (number_of b) b.decls) →
+      AllByRecursion (IsApart spot) (block_spots blocks)
+  variable_far b t spot i =
+      let c : Cell = record { block = number_of b; spot = spot; content = cells.variable } in
+      let own : IsIn c (cells_of blocks all (number_of b)) = subst (λ (z : List Cell). IsIn c z) (sym (is.own b t)) (in_back c (result_cell b.result (number_of b) b.spot) (decl_cells (number_of b) b.decls) i) in
+      is.far c (in_filter (λ (c : Cell). c.block == number_of b) c (flat_map (cells_at blocks) all) own) refl
 
-  stmt_keeps : (s : PStmt) (a : Surroundings) → StmtBegins blocks s a → StmtKeeps s a
-  stmt_keeps (tree.block (tree.body spot (tree.decls d ds) ss)) a h =
-      λ level e. (omega (arith, is.shallow (begun spot h.0 (tree.decls d ds) ss) h.1, h.2, e), is.few (begun spot h.0 (tree.decls d ds) ss) h.1)
-  stmt_keeps _ a h = tt
+  -- ---- variables
 
-  part_keeps : (x : Part) (a : Surroundings) → PartBegins blocks x a → PartKeeps x a
-  part_keeps (parts.statement s listed) a h = stmt_keeps s a h
-  part_keeps _ a h = tt
+  module _ (a : Surroundings) (level : ℕ) (at : a.depth + 2 ≡ level) (n : Named) (d : Declared) where
+    variable_at : (k : Kind) → use_of scopes n ≡ the_use a n d → (h : IsHeld blocks a.depth n.name d k) →
+        (r : IsAt 0 2 (result_of h.in_block.result h.in_block.name ++ variables h.in_block.decls) (frame_of h.in_block) n.name d.spot k) →
+        IsVariable scopes level n k (record { level = level_of h.in_block; index = 2 + r.number })
+    variable_at k u h r =
+        let b = h.in_block in
+        let up : length b.outer + 2 + (a.depth - d.depth) ≡ level = omega (arith, at, h.within, h.depth_is) in
+        record {
+          variable = ap (λ (z : Use). is_variable z.sort) u ∙ ap is_variable h.sort_is;
+          found = record { number = r.number; cell = r.cell };
+          there =
+              ap (λ (z : Use). found_from 0 (simple_cells (block_numbered blocks z.block)) n.name) u
+              ∙ ap (λ (z : ℕ). found_from 0 (simple_cells (block_numbered blocks z)) n.name) h.block_is
+              ∙ ap (λ (z : Block). found_from 0 (simple_cells z) n.name) (numbered blocks b is.blocks_apart h.there)
+              ∙ ap (λ (z : List Simple). found_from 0 z n.name) (simple_is b (is.homes b h.there).plain) ∙ r.found;
+          kind_is = r.kind_is;
+          level_is = ap (λ (z : Use). length b.outer + 2 + z.up) u ∙ up;
+          index_is = refl;
+        }
 
-  -- ---- all parts
+    -- the same number by the name and by the place, among all cells of the block
+    at_both : (k : Kind) → (h : IsHeld blocks a.depth n.name d k) →
+        IsAt 0 2 (result_of h.in_block.result h.in_block.name ++ variables h.in_block.decls) (frame_of h.in_block) n.name d.spot k
+    at_both k h =
+        let b = h.in_block in
+        let other : is_one_of (result_names_of b) n.name ≡ false =
+        subst (λ (z : Block). is_one_of (result_names_of z) n.name ≡ false) (ap (block_numbered blocks) h.block_is ∙ numbered blocks b is.blocks_apart h.there) h.other in
+        framed b (is.homes b h.there) (number_of b) n.name d.spot k h.among other h.aligned 0 2 refl
 
-  module _ (known : Spot → Option Couple)
-      (couples : (spot : Spot) (d : Located) (c : cells.Couple) → declaration_in blocks all spot ≡ Some d → d.couple ≡ Some c → known spot ≡ Some (record { level = c.level; index = c.index })) where
-    by_known : (x : Site) → IsIn x all → IsFair blocks x → (n : Named) (d : Declared) → IsIn n (names_in x.part) → declared_as x.around n ≡ Some d → (k : Kind) (level : ℕ) →
-        x.around.depth + 2 ≡ level → d.class ≡ class.simple k → IsKnown blocks x.around.depth n.name d → NameFits scopes known level k n
-    by_known x i f n d j h k level e c (known_file file s) = absurd (let clash : class.simple k ≡ class.file = sym c ∙ file in cc)
-    by_known x i f n d j h k level e c (known_variable kind v) =
-        let same : kind ≡ k = (let e : class.simple kind ≡ class.simple k = sym v.class_is ∙ c in cc) in
-        let r = v.aligned 0 2 refl in
-        subst (λ (z : Kind). NameFits scopes known level z n) same (
-          record { level = d.depth + 2; index = 2 + r.number },
-          couples n.spot _ (record { level = d.depth + 2; index = 2 + r.number }) (ap (located blocks all) (known_as x i f n d j h)) (coupled x.around.depth n.name d kind v r.number r.index),
-          variable_at x.around level n kind d e (used_as x i f n d j h) v r,
+    -- ---- procedures
+
+    abbrev callee_of : Heading → ℕ
+    callee_of g = number_at blocks g.name.spot
+
+    abbrev control_couple : (g : Heading) → IsOwned blocks a.depth n.name d g → Couple
+    control_couple g h =
+        record {
+          level = level_of h.in_block;
+          index = 2 + length (result_of h.in_block.result h.in_block.name ++ variables h.in_block.decls) + (controlled h.in_block (is.homes h.in_block h.there) (number_of h.in_block) g h.among).0.number;
+        }
+
+    procedure_at : (g : Heading) → use_of scopes n ≡ the_use a n d → (h : IsOwned blocks a.depth n.name d g) → IsProcedure scopes level n (callee_of g) (control_couple g h)
+    procedure_at g u h =
+        let b = h.in_block in
+        let r = (controlled b (is.homes b h.there) (number_of b) g h.among).0 in
+        let up : length b.outer + 2 + (a.depth - d.depth) ≡ level = omega (arith, at, h.within, h.depth_is) in
+        let block_is : block_numbered blocks ((use_of scopes n).block) ≡ b =
+        ap (λ (z : Use). block_numbered blocks z.block) u ∙ ap (block_numbered blocks) h.block_is ∙ numbered blocks b is.blocks_apart h.there in
+        record {
+          sort_is = ap (λ (z : Use). z.sort) u ∙ h.sort_is;
+          number = r.number;
+          declared = r.declared;
+          there = ap (λ (z : Block). slice_get (procedures z.decls) r.number) block_is ∙ r.there;
+          callee_is = ap (number_at blocks) r.spot_is;
+          level_is = ap (λ (z : Use). length b.outer + 2 + z.up) u ∙ up;
+          index_is = ap (λ (z : List Simple). 2 + length z + r.number) (sym (ap simple_cells block_is ∙ simple_is b (is.homes b h.there).plain));
+        }
+
+    -- ---- results
+
+    result_at : (k : Kind) (g : Heading) → use_of scopes n ≡ result_use a n d (callee_of g) → (h : IsOwned blocks a.depth n.name d g) → g.kind ≡ Some k → d.depth < a.depth →
+        IsVariable scopes level n k (record { level = level_of (procedure_block g h.body (h.in_block.spot ∷ h.in_block.outer)); index = 2 })
+    result_at k g u h e deep =
+        let b = h.in_block in
+        let c = procedure_block g h.body (b.spot ∷ b.outer) in
+        let up : length (b.spot ∷ b.outer) + 2 + (a.depth - d.depth - 1) ≡ level = omega (arith, at, h.depth_is, deep) in
+        record {
+          variable = ap (λ (z : Use). is_variable z.sort) u;
+          found = record { number = 0; cell = record { name = g.name.name; kind = Some k } };
+          there =
+              ap (λ (z : Use). found_from 0 (simple_cells (block_numbered blocks z.block)) n.name) u
+              ∙ ap (λ (z : Block). found_from 0 (simple_cells z) n.name) (numbered blocks c is.blocks_apart h.body_there)
+              ∙ ap (λ (z : List Simple). found_from 0 z n.name) (simple_is c (is.homes c h.body_there).plain)
+              ∙ ap (λ (o : Option Kind). found_from 0 (result_of o g.name.name ++ variables c.decls) n.name) e
+              ∙ ap (λ (t : Bool). if t then Some (record { number = 0; cell = record { name = g.name.name; kind = Some k } }) else found_from (0 + 1) (variables c.decls) n.name) h.named;
+          kind_is = refl;
+          level_is = ap (λ (z : Use). length (b.spot ∷ b.outer) + 2 + z.up) u ∙ up;
+          index_is = refl;
+        }
+
+    result_couple : (k : Kind) (g : Heading) → (h : IsOwned blocks a.depth n.name d g) → g.kind ≡ Some k →
+        couple_in blocks all (number_at blocks d.spot) d.spot ≡ Some (record { level = level_of (procedure_block g h.body (h.in_block.spot ∷ h.in_block.outer)); index = 2 })
+    result_couple k g h e =
+        let b = h.in_block in
+        let c = procedure_block g h.body (b.spot ∷ b.outer) in
+        let others = variable_cells (number_of c) c.decls ++ control_cells (number_of c) c.decls in
+        ap (λ (s : Spot). couple_in blocks all (number_at blocks s) s) h.spot_is
+        ∙ coupled c h.body_there g.name.spot (Some 2)
+        (ap (λ (o : Option Kind). index_from 2 (result_cell o (number_of c) g.name.spot ++ others) g.name.spot) e
+        ∙ ap (λ (t : Bool). if t then Some 2 else index_from (2 + 1) others g.name.spot) (same_self g.name.spot))
+
+    -- an untyped procedure has none
+    no_couple : (g : Heading) → (h : IsOwned blocks a.depth n.name d g) → g.kind ≡ None → couple_in blocks all (number_at blocks d.spot) d.spot ≡ None
+    no_couple g h e =
+        let c = procedure_block g h.body (h.in_block.spot ∷ h.in_block.outer) in
+        ap (λ (s : Spot). couple_in blocks all (number_at blocks s) s) h.spot_is
+        ∙ coupled c h.body_there g.name.spot None (without c (is.homes c h.body_there) (number_of c) e)
+
+  -- ---- inside a procedure
+
+  around_less : (spots : List Spot) (m : ℕ) → AreAround blocks spots → list_any (λ (i : ℕ). i == m) (map (number_at blocks) spots) ≡ true →
+      (b : Block) × IsIn b blocks × (number_of b ≡ m) × (length b.outer < length spots)
+  around_less [] m r h = absurd (let clash : false ≡ true = h in cc)
+  around_less (s ∷ spots) m r h = by (number_at blocks s == m) refl h (around_less spots m r.1)
+    where
+      by : (t : Bool) → (number_at blocks s == m) ≡ t → (t || list_any (λ (i : ℕ). i == m) (map (number_at blocks) spots)) ≡ true →
+          (list_any (λ (i : ℕ). i == m) (map (number_at blocks) spots) ≡ true → (b : Block) × IsIn b blocks × (number_of b ≡ m) × (length b.outer < length spots)) →
+          (b : Block) × IsIn b blocks × (number_of b ≡ m) × (length b.outer < length (s ∷ spots))
+      by true e g later =
+          let b = r.0.0 in
+          let short : length b.outer < length (s ∷ spots) = omega (arith, ap length r.0.3) in
+          (b, r.0.1, ap (number_at blocks) r.0.2 ∙ eqb-true (number_at blocks s) m e, short)
+      by false e g later =
+          let q = later g in
+          let short : length q.0.outer < length (s ∷ spots) = omega (arith, q.3) in
+          (q.0, q.1, q.2, short)
+
+  pub inside_deep : (b : Block) (a : Surroundings) → Stands blocks b a → (h : Heading) (c : Block) → IsIn c blocks → c.spot ≡ h.name.spot → is_around blocks h a ≡ true → length c.outer ≤ a.depth
+  inside_deep b a s h c t e g =
+      let here : block_numbered blocks a.block ≡ b = ap (block_numbered blocks) s.block_is ∙ numbered blocks b is.blocks_apart s.there in
+      let any : list_any (λ (i : ℕ). i == number_at blocks h.name.spot) (map (number_at blocks) (b.spot ∷ b.outer)) ≡ true =
+      subst (λ (k : ℕ). list_any (λ (i : ℕ). i == number_at blocks h.name.spot) (k ∷ map (number_at blocks) b.outer) ≡ true) s.block_is
+      (subst (λ (z : Block). list_any (λ (i : ℕ). i == number_at blocks h.name.spot) (a.block ∷ map (number_at blocks) z.outer) ≡ true) here g) in
+      let r = around_less (b.spot ∷ b.outer) (number_at blocks h.name.spot) ((b, s.there, refl, refl), s.outer) any in
+      let same : r.0 ≡ c =
+      sym (numbered blocks r.0 is.blocks_apart r.1) ∙ ap (block_numbered blocks) (r.2 ∙ ap (number_at blocks) (sym e)) ∙ numbered blocks c is.blocks_apart t in
+      omega (arith, r.3, ap (λ (z : Block). length z.outer) same, s.depth_is)
+
+  -- ---- names fit
+
+  module _ (known results : Spot → Option Couple)
+      (couples : (spot : Spot) (d : Located) (c : cells.Couple) → declaration_in blocks all spot ≡ Some d → d.couple ≡ Some c → known spot ≡ Some (record { level = c.level; index = c.index }))
+      (results_are : (spot : Spot) (d : Located) → declaration_in blocks all spot ≡ Some d → results spot ≡ spelled (couple_in blocks all (number_at blocks d.spot) d.spot)) (a : Surroundings)
+      (level : ℕ) (at : a.depth + 2 ≡ level) (n : Named) (d : Declared) (is_known : known_there (flat_map (known_at blocks) all) n.spot ≡ Some d) where
+    result_is : (o : Option cells.Couple) → couple_in blocks all (number_at blocks d.spot) d.spot ≡ o → results n.spot ≡ spelled o
+    result_is o e = results_are n.spot _ (ap (located blocks all) is_known) ∙ ap spelled e
+
+    own_couple : (b : Block) → IsIn b blocks → d.block ≡ number_of b → (i : ℕ) →
+        index_from 2 (frame_of b) d.spot ≡ Some i →
+        couple_in blocks all d.block d.spot ≡ Some (record { level = level_of b; index = i })
+    own_couple b t e i f = ap (λ (z : ℕ). couple_in blocks all z d.spot) e ∙ coupled b t d.spot (Some i) f
+
+    pub variable_fits : (k : Kind) → use_of scopes n ≡ the_use a n d → IsHeld blocks a.depth n.name d k → ReadFits scopes known results level k n × LeftFits scopes known results level k n
+    variable_fits k u h =
+        let b = h.in_block in
+        let r = at_both a level at n d k h in
+        let c : cells.Couple = record { level = level_of b; index = 2 + r.number } in
+        let own : couple_in blocks all d.block d.spot ≡ Some c = own_couple b h.there h.block_is (2 + r.number) r.index in
+        let far = variable_far b h.there d.spot (variable_cell (number_of b) b.decls d.spot h.among) in
+        let none : results n.spot ≡ None = result_is None (no_result b h.there d.spot far) in
+        let mine : known n.spot ≡ Some (record { level = c.level; index = c.index }) = couples n.spot _ c (ap (located blocks all) is_known) own in
+        let v = variable_at a level at n d k u h r in
+        (((record { level = c.level; index = c.index }, mine, v), none), (record { level = c.level; index = c.index }, ap (λ (o : Option Couple). couple_on_left o (known n.spot)) none ∙ mine, v))
+
+    pub procedure_fits : (g : Heading) → use_of scopes n ≡ the_use a n d → IsOwned blocks a.depth n.name d g →
+        (callee : ℕ) × ProcedureFits scopes known results level n callee × ((block_numbered blocks callee).result ≡ g.kind)
+    procedure_fits g u h =
+        let b = h.in_block in
+        let r = controlled b (is.homes b h.there) (number_of b) g h.among in
+        let c : cells.Couple = record { level = level_of b; index = 2 + length (result_of b.result b.name ++ variables b.decls) + r.0.number } in
+        let own : couple_in blocks all d.block d.spot ≡ Some c =
+        own_couple b h.there h.block_is c.index (ap (λ (s : Spot). index_from 2 (frame_of b) s) h.spot_is ∙ r.1) in
+        let kind_is : (block_numbered blocks (number_at blocks g.name.spot)).result ≡ g.kind =
+        ap (λ (z : Block). z.result) (numbered blocks (procedure_block g h.body (b.spot ∷ b.outer)) is.blocks_apart h.body_there) in (
+          number_at blocks g.name.spot,
+          record {
+            couple = control_couple a level at n d g h;
+            known_is = couples n.spot _ c (ap (located blocks all) is_known) own;
+            procedure = procedure_at a level at n d g u h;
+            typed = is_typed g.kind refl ∙ sym (ap (λ (o : Option Kind). is_some o) kind_is);
+          },
+          kind_is,
         )
+      where
+        is_typed : (o : Option Kind) → g.kind ≡ o → is_some (results n.spot) ≡ is_some o
+        is_typed None e = ap (λ (o : Option Couple). is_some o) (result_is None (no_couple a level at n d g h e))
+        is_typed (Some k) e = ap (λ (o : Option Couple). is_some o) (result_is _ (result_couple a level at n d k g h e))
 
-    placed : (x : Site) → IsIn x all → IsFair blocks x → SitePlaced scopes known x
-    placed x i f = (
-      in_each (IsPlaced scopes known x.around) (names_in x.part)
-          (λ n j k level e h.
-          let o = declared_of x.around k n (declared_as x.around n) refl h in
-          by_known x i f n o.as_one j o.is k level e o.class_is (f.around.each n.name o.as_one o.is)),
-      part_keeps x.part x.around f.begins,
-    )
-
-    declared_placed : (ds : PDecls) (a : Surroundings) (first : List Declared) → AreSimple ds → AllByRecursion (SitePlaced scopes known) (sites_in_decls blocks ds a first)
-    declared_placed tree.no_decls a first s = tt
-    declared_placed (tree.decls (tree.simple kind ns) ds) a first s = ((tt, tt), declared_placed ds (knowing blocks (tree.simple kind ns) ds a) first s)
-    declared_placed (tree.decls (tree.files ns) ds) a first s = ((tt, tt), declared_placed ds (knowing blocks (tree.files ns) ds a) first s)
-    declared_placed (tree.decls d ds) a first s = absurd s
-
-    pub all_placed : {spots : List Spot} {bs : List Block} {xs : List Site} → Listed blocks spots bs xs → ((x : Site) → IsIn x xs → IsIn x all) → AllByRecursion (SitePlaced scopes known) xs
-    all_placed over g = tt
-    all_placed (passed spot l) g = all_placed l g
-    all_placed (site x f l) g = (placed x (g x (inl refl)) f, all_placed l (λ y i. g y (inr i)))
-    all_placed (both {xs = xs} {ys = ys} k l) g =
-        each_both (SitePlaced scopes known) xs ys (all_placed k (λ x i. g x (in_front x xs ys i))) (all_placed l (λ x i. g x (in_back x xs ys i)))
-    all_placed (block b a first {xs = xs} e s l) g =
-        let declared = sites_in_decls blocks b.decls a first in
-        each_both (SitePlaced scopes known) declared xs (declared_placed b.decls a first s) (all_placed l (λ x i. g x (in_back x declared xs i)))
+    pub result_fits : (k : Kind) (g : Heading) → use_of scopes n ≡ result_use a n d (number_at blocks g.name.spot) → IsOwned blocks a.depth n.name d g → g.kind ≡ Some k → d.depth < a.depth →
+        LeftFits scopes known results level k n
+    result_fits k g u h e deep =
+        let b = h.in_block in
+        let c : cells.Couple = record { level = level_of (procedure_block g h.body (b.spot ∷ b.outer)); index = 2 } in
+        let found : results n.spot ≡ Some (record { level = c.level; index = c.index }) = result_is (Some c) (result_couple a level at n d k g h e) in
+        (record { level = c.level; index = c.index }, ap (λ (o : Option Couple). couple_on_left o (known n.spot)) found, result_at a level at n d k g u h e deep)

@@ -7,11 +7,13 @@ use Rattle.algol_tree.specs.Classes.{Class}
 use Rattle.algol_tree.specs.Names.{if_so, is_one_of, repeated}
 use Rattle.algol_tree.specs.Sorts.{Sort, same_name, Declared, look_up, declare}
 use Rattle.b67_fitting.proofs.Lists.{nil_front, nil_back, not_so}
-use Rattle.b67_fitting.proofs.Aligned.{IsOther}
 
 -- ---- names
 
-same_is : (xs ys : List ℕ) → same_name xs ys ≡ true → xs ≡ ys
+abbrev pub IsOther : List ℕ → Named → Type 0
+IsOther name n = same_name n.name name ≡ false
+
+pub same_is : (xs ys : List ℕ) → same_name xs ys ≡ true → xs ≡ ys
 same_is [] [] h = refl
 same_is [] (y ∷ ys) h = absurd (let clash : false ≡ true = h in cc)
 same_is (x ∷ xs) [] h = absurd (let clash : false ≡ true = h in cc)
@@ -31,6 +33,14 @@ found_either (e ∷ new) known name d h = by (same_name e.name name) (found_eith
     by true later g = inl g
     by false later g = later g
 
+pub one_of_front : (xs ys : List (List ℕ)) (name : List ℕ) → is_one_of (xs ++ ys) name ≡ false → is_one_of xs name ≡ false
+one_of_front [] ys name h = refl
+one_of_front (x ∷ xs) ys name h = by (same_name x name) (one_of_front xs ys name) h
+  where
+    by : (b : Bool) → (is_one_of (xs ++ ys) name ≡ false → is_one_of xs name ≡ false) → (if b then true else is_one_of (xs ++ ys) name) ≡ false → (if b then true else is_one_of xs name) ≡ false
+    by true later g = g
+    by false later g = later g
+
 pub one_of_back : (xs ys : List (List ℕ)) (name : List ℕ) → is_one_of (xs ++ ys) name ≡ false → is_one_of ys name ≡ false
 one_of_back [] ys name h = h
 one_of_back (x ∷ xs) ys name h = by (same_name x name) (one_of_back xs ys name) h
@@ -44,7 +54,7 @@ abbrev pub names_of : ℕ → List Declared → List (List ℕ)
 names_of block known = map (λ (d : Declared). d.name) (filter (λ (d : Declared). d.block == block) known)
 
 module _ (block depth : ℕ) (s : Sort) (c : Class) where
-  abbrev entry : Named → Declared
+  abbrev pub entry : Named → Declared
   entry n = record { name = n.name; spot = n.spot; block = block; depth = depth; sort = s; class = c }
 
   -- what is found was declared so
@@ -58,6 +68,14 @@ module _ (block depth : ℕ) (s : Sort) (c : Class) where
           let same : entry n ≡ d = cc in
           (ap (λ (z : Declared). z.class) (sym same), ap (λ (z : Declared). z.sort) (sym same))
       by false later g = later g
+
+  -- what is found of one name alone
+  pub found_one : (n : Named) (name : List ℕ) (d : Declared) → look_up (declare block depth s c (n ∷ [])) name ≡ Some d → (same_name n.name name ≡ true) × (entry n ≡ d)
+  found_one n name d h = by (same_name n.name name) refl h
+    where
+      by : (b : Bool) → same_name n.name name ≡ b → (if b then Some (entry n) else None) ≡ Some d → (same_name n.name name ≡ true) × (entry n ≡ d)
+      by true e g = (e, (let same : entry n ≡ d = cc in same))
+      by false e g = absurd (let clash : None ≡ Some d = g in cc)
 
   -- a name that the block has not, with these declared, is none of theirs
   pub all_other : (ns : List Named) (known : List Declared) (name : List ℕ) → is_one_of (names_of block (declare block depth s c ns ++ known)) name ≡ false →

@@ -1,37 +1,51 @@
 -- An accepted program that is built fits.
-use Rattle.std.proofs.Common.{arith, ◌≡◌, inl, inr, ℕ, ◌+◌, Bool, List, [], ◌∷◌, ◌++◌, Option, Some, refl, sym, ap, ◌∙◌, subst, if◌then◌else◌}
+use Rattle.std.proofs.Common.{arith, ◌≡◌, inl, inr, ℕ, ◌+◌, ◌<◌, ◌≤◌, ◌==◌, Bool, false, List, [], ◌∷◌, ◌++◌, length, Option, Some, zero, suc, refl, sym, ap, ◌∙◌, subst, append-nil, if◌then◌else◌}
+use Rattle.std.proofs.lemmas.Bool.Decides.{nat_tests}
+use Rattle.std.specs.List.{AllByRecursion}
 use Rattle.algol_tree.specs.declared.token.Spot.{Spot}
 use Rattle.algol_tree.specs.Accepted.{scope_faults, scope_faults_in, check_faults}
 use Rattle.algol_tree.specs.Ascending.{spots_of_decls, spots_of_stmts}
-use Rattle.algol_tree.specs.Blocks.{Block, blocks_of_program, blocks_in_stmts, number_at}
+use Rattle.algol_tree.specs.Blocks.{Block, block_numbered, blocks_of_program, blocks_in_decls, blocks_in_stmts, number_at}
 use Rattle.algol_tree.specs.Cells as cells
-use Rattle.algol_tree.specs.Couples.{Located, declaration_at, declaration_in}
+use Rattle.algol_tree.specs.Cells.{level_of, couple_in}
+use Rattle.algol_tree.specs.Couples.{Located, declaration_at, result_at, declaration_in}
 use Rattle.algol_tree.specs.Plain as tree
 use Rattle.algol_tree.specs.Plain.{PDecls, PStmts, PProgram}
 use Rattle.algol_tree.specs.Scopes.{scopes_of, scopes_by}
 use Rattle.algol_tree.specs.Sites.{Site, sites_by, sites_in_decls, sites_in_stmts, has_decls}
 use Rattle.algol_tree.specs.Surroundings.{Surroundings, outermost, knowing_all}
 use Rattle.b67_ops.specs.declared.Couple.{Couple}
-use Rattle.b67_ops.specs.declared.TheConstants.{OUTER_LEVEL}
+use Rattle.b67_ops.specs.declared.TheConstants.{MOST_LEVEL}
 use Rattle.b67_templates.specs.Fitting.{StmtsFit}
-use Rattle.b67_fitting.specs.Built.{AreSimple, StmtsBuilt}
-use Rattle.b67_fitting.specs.Texts.{StmtsPlain}
-use Rattle.b67_fitting.specs.Wholes.{StmtsWhole}
-use Rattle.b67_fitting.specs.Fitted.{AcceptedProgramsFit}
+use Rattle.b67_fitting.specs.Fitted.{spelled, AcceptedProgramsFit}
 use Rattle.b67_fitting.proofs.Lists.{each_front, each_back}
 use Rattle.b67_fitting.proofs.Among.{apart_among}
-use Rattle.b67_fitting.proofs.Apart.{IsIn, Apart, same_self, ascending_apart, apart_front, apart_back}
-use Rattle.b67_fitting.proofs.Blocked.{block_spots, cells_are}
-use Rattle.b67_fitting.proofs.Clean.{IsClean, AreClean}
+use Rattle.b67_fitting.proofs.Apart.{IsIn, each_in, in_front, in_back, IsApart, Apart, same_self, ascending_apart, apart_front, apart_back}
+use Rattle.b67_fitting.proofs.Blocked.{block_spots, number_within, cells_are}
+use Rattle.b67_fitting.proofs.Clean.{IsClean}
 use Rattle.b67_fitting.proofs.Cleaned.{cleaned}
-use Rattle.b67_fitting.proofs.Coupled.{IsProgram, all_placed}
-use Rattle.b67_fitting.proofs.Known.{begun, Around, around_outermost, around_knowing, knows_plain}
+use Rattle.b67_fitting.proofs.Coupled.{IsProgram}
+use Rattle.b67_fitting.proofs.Declares.{begun, callees, behind_decls}
+use Rattle.b67_fitting.proofs.Frames.{decl_cells}
+use Rattle.b67_fitting.proofs.Homed.{IsHome, all_homes, all_far}
+use Rattle.b67_fitting.proofs.Known.{Stands, around_outermost, knows_plain}
 use Rattle.b67_fitting.proofs.Limits.{few_cells, not_deep}
-use Rattle.b67_fitting.proofs.Listed.{Listed, block, none_declared, listed_stmts}
+use Rattle.b67_fitting.proofs.Listed.{AllThere, Listed, both, block}
+use Rattle.b67_fitting.proofs.Listing.{listed_stmts, listed_decls}
 use Rattle.b67_fitting.proofs.Looked.{all_uses, all_known, all_blocks}
-use Rattle.b67_fitting.proofs.Placed.{SitePlaced, fits_stmts}
-use Rattle.b67_fitting.proofs.Settled.{same_depth, standing}
-use Rattle.b67_fitting.proofs.Stated.{TypedStmts, all_stated}
+use Rattle.b67_fitting.proofs.Placed.{Keep, all_fit}
+use Rattle.b67_fitting.proofs.Reached.{all_placed}
+use Rattle.b67_fitting.proofs.Started.{IsStarted, start}
+use Rattle.b67_fitting.proofs.Stated.{TypedStmts, TypedDecls, all_stated, all_declared}
+
+less_is_other : (m n : ℕ) → m < n → (m == n) ≡ false
+less_is_other m n h = grind (arith, nat_tests)
+
+-- a block of such a number is one of them
+in_numbered : (bs : List Block) (j : ℕ) → j < length bs → IsIn (block_numbered bs j) bs
+in_numbered [] j h = absurd (omega (arith, h))
+in_numbered (b ∷ bs) zero h = inl refl
+in_numbered (b ∷ bs) (suc j) h = inr (in_numbered bs j (omega (arith, h)))
 
 module _ (spot : Spot) (ds : PDecls) (ss : PStmts) (blocks : List Block) where
   abbrev program : PProgram
@@ -40,9 +54,15 @@ module _ (spot : Spot) (ds : PDecls) (ss : PStmts) (blocks : List Block) where
   abbrev first : Block
   first = begun spot [] ds ss
 
+  abbrev decl_blocks : List Block
+  decl_blocks = blocks_in_decls ds (spot ∷ [])
+
+  abbrev stmt_blocks : List Block
+  stmt_blocks = blocks_in_stmts ss (spot ∷ [])
+
   -- the blocks in the text
   abbrev in_text : List Block
-  in_text = first ∷ blocks_in_stmts ss (spot ∷ [])
+  in_text = first ∷ (decl_blocks ++ stmt_blocks)
 
   abbrev around : Surroundings
   around = knowing_all blocks ds outermost
@@ -56,8 +76,8 @@ module _ (spot : Spot) (ds : PDecls) (ss : PStmts) (blocks : List Block) where
   abbrev spots : List Spot
   spots = spot ∷ (spots_of_decls ds ++ spots_of_stmts ss)
 
-  module _ (same : in_text ≡ blocks) (apart : Apart spots) (simple : AreSimple ds) (clean : AreClean blocks (decl_sites ++ stmt_sites)) where
-    there : (b : Block) → IsIn b in_text → IsIn b blocks
+  module _ (same : in_text ≡ blocks) (apart : Apart spots) where
+    there : AllThere blocks in_text
     there b i = subst (λ (z : List Block). IsIn b z) same i
 
     back : (b : Block) → IsIn b blocks → IsIn b in_text
@@ -65,59 +85,94 @@ module _ (spot : Spot) (ds : PDecls) (ss : PStmts) (blocks : List Block) where
 
     first_number : number_at blocks spot ≡ 0
     first_number =
-        ap (λ (z : List Block). number_at z spot) (sym same) ∙ ap (λ (t : Bool). if t then 0 else number_at (blocks_in_stmts ss (spot ∷ [])) spot + 1) (same_self spot)
+        ap (λ (z : List Block). number_at z spot) (sym same) ∙ ap (λ (t : Bool). if t then 0 else number_at (decl_blocks ++ stmt_blocks) spot + 1) (same_self spot)
 
-    knows : Around blocks around
-    knows =
-        let number = number_at blocks spot in
-        let decls_clean : AreClean blocks decl_sites = each_front (IsClean blocks) decl_sites stmt_sites clean in
-        subst (λ (k : ℕ). Around blocks (knowing_all blocks ds (standing k 0 []))) first_number
-        (around_knowing blocks spot [] ds ss (there first (inl refl)) 0 [] [] refl simple (apart_front (spots_of_decls ds) (spots_of_stmts ss) apart.1)
-        (subst (λ (k : ℕ). AreClean blocks (sites_in_decls blocks ds (standing k 0 []) [])) (sym first_number) decls_clean)
-        (subst (λ (k : ℕ). Around blocks (standing k 0 [])) (sym first_number) (around_outermost blocks)))
+    in_decls : AllThere blocks decl_blocks
+    in_decls b i = there b (inr (in_front b decl_blocks stmt_blocks i))
 
-    module _ (typed : TypedStmts blocks around ss) where
-      listed : Listed blocks spots in_text (decl_sites ++ stmt_sites)
-      listed =
-          block first outermost [] (sym first_number) simple
-          (listed_stmts blocks around knows (spot ∷ []) (omega (arith, same_depth blocks ds outermost)) ss (has_decls ds) typed
-          (apart_back (spots_of_decls ds) (spots_of_stmts ss) apart.1) (λ b i. there b (inr i)))
+    in_stmts : AllThere blocks stmt_blocks
+    in_stmts b i = there b (inr (in_back b decl_blocks stmt_blocks i))
 
-      is_program : scope_faults_in program blocks (decl_sites ++ stmt_sites) ≡ [] → IsProgram blocks (decl_sites ++ stmt_sites)
-      is_program faults =
-          let all = decl_sites ++ stmt_sites in
-          let blocks_apart : Apart (block_spots blocks) = subst (λ (z : List Block). Apart (block_spots z)) same (apart_among (all_blocks blocks listed) apart) in
-          let cells = cells_are blocks blocks_apart listed apart there in
-          record {
-            blocks_apart = blocks_apart;
-            uses_apart = apart_among (all_uses blocks listed) apart;
-            known_apart = apart_among (all_known blocks listed) apart;
-            own = λ b i. cells.here b (back b i);
-            few = λ b i. few_cells program blocks all faults b i (cells.here b (back b i));
-            shallow = not_deep program blocks all faults;
-          }
+    stands : Stands blocks first outermost
+    stands = record { there = there first (inl refl); block_is = sym first_number; depth_is = refl; outer = tt; around = around_outermost blocks }
 
-      fit_by : (known : Spot → Option Couple) →
-          ((at : Spot) (d : Located) (c : cells.Couple) → declaration_in blocks (sites_by program blocks) at ≡ Some d → d.couple ≡ Some c → known at ≡ Some (record { level = c.level; index = c.index })) →
-          scope_faults_in program blocks (decl_sites ++ stmt_sites) ≡ [] → StmtsFit (scopes_by program blocks) known OUTER_LEVEL ss
-      fit_by known couples faults =
-          let P = SitePlaced (scopes_by program blocks) known in
-          let sites = all_placed blocks (decl_sites ++ stmt_sites) (is_program faults) known couples listed (λ x i. i) in
-          fits_stmts (scopes_by program blocks) known blocks around OUTER_LEVEL (omega (arith, same_depth blocks ds outermost)) ss (has_decls ds) typed
-          (each_back P decl_sites stmt_sites sites)
+    decls_apart : Apart (spots_of_decls ds)
+    decls_apart = apart_front (spots_of_decls ds) (spots_of_stmts ss) apart.1
 
-    typed_by : StmtsBuilt ss → StmtsWhole ss → StmtsPlain ss → TypedStmts blocks around ss
-    typed_by built whole texts =
-        all_stated blocks around (knows_plain blocks around knows) ss (has_decls ds) built whole texts (each_back (IsClean blocks) decl_sites stmt_sites clean)
+    module _ (decls_typed : TypedDecls blocks outermost ds) where
+      started : IsStarted blocks first outermost ds
+      started = start blocks first outermost stands (callees blocks ds outermost first decls_typed in_decls)
+
+      behind : Stands blocks first around
+      behind = behind_decls blocks first outermost ds started decls_typed decls_apart
+
+      module _ (typed : TypedStmts blocks around ss) where
+        listed : Listed blocks (length blocks) spots [] in_text (decl_sites ++ stmt_sites)
+        listed =
+            block (length blocks) first refl
+            (record {
+              there = there first (inl refl);
+              plain = refl;
+              apart = (each_front (IsApart spot) (spots_of_decls ds) (spots_of_stmts ss) apart.0, decls_apart);
+              own_is = append-nil (decl_cells (number_at blocks spot) ds);
+              around = around;
+              stands = behind;
+              typed = typed;
+              inner = in_stmts;
+              front = decl_sites;
+              listed = has_decls ds;
+              sites_are = refl;
+            })
+            (both (number_at blocks spot)
+            (subst (λ (n : ℕ). Listed blocks n (spots_of_decls ds) (decl_cells n ds) decl_blocks decl_sites) (sym first_number)
+            (listed_decls blocks first outermost [] ds started decls_typed decls_apart in_decls))
+            (listed_stmts blocks (number_at blocks spot) first around behind ss (has_decls ds) typed (apart_back (spots_of_decls ds) (spots_of_stmts ss) apart.1) in_stmts))
+
+        abbrev all : List Site
+        all = decl_sites ++ stmt_sites
+
+        is_program : IsProgram blocks all
+        is_program =
+            let blocks_apart : Apart (block_spots blocks) = subst (λ (z : List Block). Apart (block_spots z)) same (apart_among (all_blocks blocks listed) apart) in
+            let cells = cells_are blocks blocks_apart listed apart there (λ b i. less_is_other (number_at blocks b.spot) (length blocks) (number_within blocks b (there b i))) in
+            record {
+              blocks_apart = blocks_apart;
+              uses_apart = apart_among (all_uses blocks listed) apart;
+              known_apart = apart_among (all_known blocks listed) apart;
+              own = λ b i. cells.here b (back b i);
+              none = cells.mine;
+              far =
+                  λ c i e. subst (λ (z : List Block). AllByRecursion (IsApart c.spot) (block_spots z)) same (all_far blocks listed apart c i e).apart;
+              homes = λ b i. each_in IsHome b in_text (all_homes blocks listed) (back b i);
+            }
+
+        keeps : scope_faults_in program blocks all ≡ [] → Keep blocks
+        keeps faults b i =
+            let low : level_of b ≤ MOST_LEVEL = omega (arith, not_deep program blocks all faults b i) in
+            (low, few_cells program blocks all faults b i (is_program.own b i))
+
+        fit_by : (known results : Spot → Option Couple) →
+            ((at : Spot) (d : Located) (c : cells.Couple) → declaration_in blocks all at ≡ Some d → d.couple ≡ Some c → known at ≡ Some (record { level = c.level; index = c.index })) →
+            ((at : Spot) (d : Located) → declaration_in blocks all at ≡ Some d → results at ≡ spelled (couple_in blocks all (number_at blocks d.spot) d.spot)) →
+            scope_faults_in program blocks all ≡ [] → (j : ℕ) → j < length blocks → StmtsFit (scopes_by program blocks) known results (level_of (block_numbered blocks j)) ((block_numbered blocks j).stmts)
+        fit_by known results couples results_are faults j h =
+            let sc = scopes_by program blocks in
+            let sites = all_placed blocks all is_program known results couples results_are listed (λ x i. i) in
+            let fits = all_fit blocks sc known results (keeps faults) listed sites in
+            each_in (λ (b : Block). StmtsFit sc known results (level_of b) b.stmts) (block_numbered blocks j) in_text fits (back (block_numbered blocks j) (in_numbered blocks j h))
 
 pub accepted_fit : AcceptedProgramsFit
-unfolding scopes_of blocks_of_program scope_faults check_faults declaration_at
-accepted_fit (tree.program (tree.body spot ds ss)) known accepted order built whole texts couples =
+unfolding scopes_of blocks_of_program scope_faults check_faults declaration_at result_at
+accepted_fit (tree.program (tree.body spot ds ss)) known results accepted order built whole texts couples results_are j h =
     let p = tree.program (tree.body spot ds ss) in
     let blocks = blocks_of_program p in
-    let same : in_text spot ds ss blocks ≡ blocks =
-    ap (λ (z : List Block). begun spot [] ds ss ∷ (z ++ blocks_in_stmts ss (spot ∷ []))) (sym (none_declared ds (spot ∷ []) built.0)) in
+    let decl_sites = sites_in_decls blocks ds outermost [] in
+    let stmt_sites = sites_in_stmts blocks ss (has_decls ds) (knowing_all blocks ds outermost) in
     let apart = ascending_apart (spots spot ds ss blocks) order in
     let clean = cleaned p blocks (sites_by p blocks) accepted.scoped accepted.checked in
-    let typed = typed_by spot ds ss blocks same apart built.0 clean built.1 whole.1 texts.1 in
-    fit_by spot ds ss blocks same apart built.0 clean typed known couples accepted.scoped
+    let plain = knows_plain blocks outermost (around_outermost blocks) in
+    let decls_typed : TypedDecls blocks outermost ds = all_declared blocks outermost [] plain ds built.0 whole.0 texts.0 (each_front (IsClean blocks) decl_sites stmt_sites clean) in
+    let stands_behind : Stands blocks (begun spot [] ds ss) (knowing_all blocks ds outermost) = behind spot ds ss blocks refl apart decls_typed in
+    let typed : TypedStmts blocks (knowing_all blocks ds outermost) ss =
+    all_stated blocks (knowing_all blocks ds outermost) (knows_plain blocks (knowing_all blocks ds outermost) stands_behind.around) ss (has_decls ds) built.1 whole.1 texts.1 (each_back (IsClean blocks) decl_sites stmt_sites clean) in
+    fit_by spot ds ss blocks refl apart decls_typed typed known results couples results_are accepted.scoped j h

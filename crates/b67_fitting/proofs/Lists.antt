@@ -1,5 +1,5 @@
 -- What holds of each element of lists that are joined, and lists that are empty.
-use Rattle.std.proofs.Common.{◌≡◌, Bool, true, false, cond, List, [], ◌∷◌, ◌++◌, map, filter, refl, ap, ◌∙◌}
+use Rattle.std.proofs.Common.{◌≡◌, ◌&&◌, not, Bool, true, false, cond, List, [], ◌∷◌, ◌++◌, map, filter, refl, ap, ◌∙◌}
 use Rattle.std.specs.List.{flat_map, AllByRecursion}
 use Rattle.algol_tree.specs.declared.token.Spot.{Spot}
 use Rattle.algol_tree.specs.Names.{if_so}
@@ -40,6 +40,15 @@ nil_each f (x ∷ xs) h = (nil_front (f x) (flat_map f xs) h, nil_each f xs (nil
 pub not_so : (b : Bool) (spot : Spot) → if_so b spot ≡ [] → b ≡ false
 not_so false spot h = refl
 not_so true spot h = absurd (let clash : spot ∷ [] ≡ [] = h in cc)
+
+-- both tests say yes
+pub second_so : (b c : Bool) → not (b && c) ≡ false → c ≡ true
+second_so true true h = refl
+second_so true false h = absurd (let clash : true ≡ false = h in cc)
+second_so false c h = absurd (let clash : true ≡ false = h in cc)
+
+pub map_none : {X Y : Type 0} (f : X → Y) (xs : List X) → xs ≡ [] → map f xs ≡ []
+map_none f xs h = ap (map f) h
 
 pub filter_none : {X : Type 0} (test : X → Bool) (xs : List X) → AllByRecursion (λ x. test x ≡ false) xs → filter test xs ≡ []
 filter_none test [] h = refl

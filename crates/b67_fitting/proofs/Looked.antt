@@ -1,23 +1,24 @@
 -- What is found at the place of a name: the places of uses, of names that are known and of blocks are among those of the text.
-use Rattle.std.proofs.Common.{◌≡◌, inl, inr, Bool, false, List, [], ◌∷◌, ◌++◌, map, Option, Some, None, refl, sym, ap, ◌∙◌, subst, if◌then◌else◌}
+use Rattle.std.proofs.Common.{◌≡◌, inl, inr, ℕ, ◌-◌, Bool, List, [], ◌∷◌, ◌++◌, map, Option, Some, None, sym, ap, ◌∙◌, subst, false, if◌then◌else◌}
 use Rattle.std.proofs.lemmas.List.{map-append}
 use Rattle.std.proofs.lemmas.List.Concat.{flat_map-append}
 use Rattle.std.specs.List.{flat_map}
 use Rattle.algol_tree.specs.declared.token.Spot.{Spot}
 use Rattle.algol_tree.specs.declared.tree.Named.{Named}
-use Rattle.algol_tree.specs.Ascending.{spots_of_names, spots_of_decls}
+use Rattle.algol_tree.specs.Ascending.{spots_of_names}
 use Rattle.algol_tree.specs.Blocks.{Block, same_spot}
-use Rattle.algol_tree.specs.Couples.{Known, known_by, known_names, known_at, known_there}
+use Rattle.algol_tree.specs.Cells.{Cell}
+use Rattle.algol_tree.specs.Couples.{Known, known_at, known_there}
 use Rattle.algol_tree.specs.Plain as tree
-use Rattle.algol_tree.specs.Plain.{PDecls}
-use Rattle.algol_tree.specs.Scopes.{Use, used, use_by, names_in, uses_at, declared_in}
-use Rattle.algol_tree.specs.Sites.{Site, sites_in_decls}
-use Rattle.algol_tree.specs.Sorts.{Declared}
-use Rattle.algol_tree.specs.Surroundings.{Surroundings, declared_as, knowing}
-use Rattle.b67_fitting.specs.Built.{AreSimple}
+use Rattle.algol_tree.specs.Scopes.{Use, used, use_by, left_use, left_uses, names_in, uses_at, declared_in}
+use Rattle.algol_tree.specs.Sites.{Site, here_stmt}
+use Rattle.algol_tree.specs.Sorts as sort
+use Rattle.algol_tree.specs.Sorts.{Sort, Declared}
+use Rattle.algol_tree.specs.Surroundings.{Surroundings, declared_as}
 use Rattle.b67_fitting.proofs.Among.{Among, nothing, skip, keep, none_among, join}
 use Rattle.b67_fitting.proofs.Apart.{IsIn, each_in, in_map, Apart, same_self}
-use Rattle.b67_fitting.proofs.Listed.{Listed, over, passed, site, both, block}
+use Rattle.b67_fitting.proofs.Declares.{names_among}
+use Rattle.b67_fitting.proofs.Listed.{Listed, over, passed, site, left, declared, both, block, procedure}
 
 -- ---- what is found
 
@@ -59,69 +60,63 @@ uses_among a (n ∷ ns) =
     subst (λ (z : List Spot). Among z (n.spot ∷ spots_of_names ns)) (sym (map-append (λ (u : Use). u.spot) (used a n) (flat_map (used a) ns)))
     (join (use_among a n (declared_as a n)) (uses_among a ns))
 
-known_among : (n : Named) (o : Option Declared) → Among (map (λ (k : Known). k.spot) (known_by n.spot o)) (n.spot ∷ [])
-known_among n None = skip n.spot nothing
-known_among n (Some d) = keep n.spot nothing
-
-names_among : (a : Surroundings) (ns : List Named) → Among (map (λ (k : Known). k.spot) (known_names a ns)) (spots_of_names ns)
-names_among a [] = nothing
-names_among a (n ∷ ns) =
-    subst (λ (z : List Spot). Among z (n.spot ∷ spots_of_names ns)) (sym (map-append (λ (k : Known). k.spot) (known_by n.spot (declared_as a n)) (known_names a ns)))
-    (join (known_among n (declared_as a n)) (names_among a ns))
+-- on the left too
+left_among : (a : Surroundings) (n : Named) (o : Option Declared) → Among (map (λ (u : Use). u.spot) (left_uses (use_by a n o))) (n.spot ∷ [])
+left_among a n None = skip n.spot nothing
+left_among a n (Some d) = kept (record { spot = n.spot; block = d.block; up = a.depth - d.depth; sort = d.sort }) d.sort
+  where
+    kept : (u : Use) (s : Sort) → Among ((left_use u s).spot ∷ []) (u.spot ∷ [])
+    kept u (sort.procedure k) = keep u.spot nothing
+    kept u _ = keep u.spot nothing
 
 -- ---- in parts that are listed
 
 module _ (blocks : List Block) where
-  no_uses : (ds : PDecls) (b : Surroundings) (first : List Declared) → AreSimple ds → flat_map uses_at (sites_in_decls blocks ds b first) ≡ []
-  no_uses tree.no_decls b first s = refl
-  no_uses (tree.decls (tree.simple kind ns) ds) b first s = no_uses ds (knowing blocks (tree.simple kind ns) ds b) first s
-  no_uses (tree.decls (tree.files ns) ds) b first s = no_uses ds (knowing blocks (tree.files ns) ds b) first s
-  no_uses (tree.decls d ds) b first s = absurd s
+  abbrev use_places : List Site → List Spot
+  use_places xs = places (λ (u : Use). u.spot) uses_at xs
 
-  decls_among : (ds : PDecls) (b : Surroundings) (first : List Declared) → AreSimple ds → Among (places (λ (k : Known). k.spot) (known_at blocks) (sites_in_decls blocks ds b first)) (spots_of_decls ds)
-  decls_among tree.no_decls b first s = nothing
-  decls_among (tree.decls (tree.simple kind ns) ds) b first s =
-      let after = knowing blocks (tree.simple kind ns) ds b in
-      subst (λ (z : List Spot). Among z (spots_of_names ns ++ spots_of_decls ds))
-      (sym (map-append (λ (k : Known). k.spot) (known_names after ns) (flat_map (known_at blocks) (sites_in_decls blocks ds after first))))
-      (join (names_among after ns) (decls_among ds after first s))
-  decls_among (tree.decls (tree.files ns) ds) b first s =
-      let after = knowing blocks (tree.files ns) ds b in
-      subst (λ (z : List Spot). Among z (spots_of_names ns ++ spots_of_decls ds))
-      (sym (map-append (λ (k : Known). k.spot) (known_names after ns) (flat_map (known_at blocks) (sites_in_decls blocks ds after first))))
-      (join (names_among after ns) (decls_among ds after first s))
-  decls_among (tree.decls d ds) b first s = absurd s
+  abbrev known_places : List Site → List Spot
+  known_places xs = places (λ (k : Known). k.spot) (known_at blocks) xs
 
-  pub all_uses : {spots : List Spot} {bs : List Block} {xs : List Site} → Listed blocks spots bs xs → Among (places (λ (u : Use). u.spot) uses_at xs) spots
-  all_uses over = nothing
-  all_uses (passed spot l) = skip spot (all_uses l)
-  all_uses (site x {spots = spots} {xs = xs} f l) =
-      subst (λ (z : List Spot). Among z (spots_of_names (names_in x.part) ++ spots))
-      (sym (map-append (λ (u : Use). u.spot) (uses_at x) (flat_map uses_at xs)
-      ∙ ap (λ (z : List Use). map (λ (u : Use). u.spot) z ++ places (λ (u : Use). u.spot) uses_at xs) f.uses))
-      (join (uses_among x.around (names_in x.part)) (all_uses l))
-  all_uses (both {xs = xs} {ys = ys} k l) = places_both (λ (u : Use). u.spot) uses_at xs ys (all_uses k) (all_uses l)
-  all_uses (block b a first {xs = xs} e s l) =
-      skip b.spot
-      (places_both (λ (u : Use). u.spot) uses_at (sites_in_decls blocks b.decls a first) xs
-      (subst (λ (z : List Use). Among (map (λ (u : Use). u.spot) z) (spots_of_decls b.decls)) (sym (no_uses b.decls a first s)) (none_among (spots_of_decls b.decls))) (all_uses l))
+  -- of parts behind one
+  behind_use : (x : Site) (xs : List Site) {p q : List Spot} → Among (map (λ (u : Use). u.spot) (uses_at x)) p → Among (use_places xs) q → Among (use_places (x ∷ xs)) (p ++ q)
+  behind_use x xs {p} {q} g h = subst (λ (z : List Spot). Among z (p ++ q)) (sym (map-append (λ (u : Use). u.spot) (uses_at x) (flat_map uses_at xs))) (join g h)
 
-  pub all_known : {spots : List Spot} {bs : List Block} {xs : List Site} → Listed blocks spots bs xs → Among (places (λ (k : Known). k.spot) (known_at blocks) xs) spots
-  all_known over = nothing
-  all_known (passed spot l) = skip spot (all_known l)
-  all_known (site x {spots = spots} {xs = xs} f l) =
-      subst (λ (z : List Spot). Among z (spots_of_names (names_in x.part) ++ spots))
-      (sym (map-append (λ (k : Known). k.spot) (known_at blocks x) (flat_map (known_at blocks) xs)
-      ∙ ap (λ (z : List Known). map (λ (k : Known). k.spot) z ++ places (λ (k : Known). k.spot) (known_at blocks) xs) f.knows))
-      (join (names_among x.around (names_in x.part)) (all_known l))
-  all_known (both {xs = xs} {ys = ys} k l) = places_both (λ (k : Known). k.spot) (known_at blocks) xs ys (all_known k) (all_known l)
-  all_known (block b a first {xs = xs} e s l) =
-      skip b.spot (places_both (λ (k : Known). k.spot) (known_at blocks) (sites_in_decls blocks b.decls a first) xs (decls_among b.decls a first s) (all_known l))
+  behind_known : (x : Site) (xs : List Site) {p q : List Spot} → Among (map (λ (k : Known). k.spot) (known_at blocks x)) p → Among (known_places xs) q → Among (known_places (x ∷ xs)) (p ++ q)
+  behind_known x xs {p} {q} g h = subst (λ (z : List Spot). Among z (p ++ q)) (sym (map-append (λ (k : Known). k.spot) (known_at blocks x) (flat_map (known_at blocks) xs))) (join g h)
 
-  pub all_blocks : {spots : List Spot} {bs : List Block} {xs : List Site} → Listed blocks spots bs xs → Among (map (λ (b : Block). b.spot) bs) spots
-  all_blocks over = nothing
-  all_blocks (passed spot l) = skip spot (all_blocks l)
-  all_blocks (site x f l) = join (none_among (spots_of_names (names_in x.part))) (all_blocks l)
-  all_blocks (both {p = p} {q = q} {bs = bs} {cs = cs} k l) =
-      subst (λ (z : List Spot). Among z (p ++ q)) (sym (map-append (λ (b : Block). b.spot) bs cs)) (join (all_blocks k) (all_blocks l))
-  all_blocks (block b a first e s l) = keep b.spot (join (none_among (spots_of_decls b.decls)) (all_blocks l))
+  no_use : (x : Site) (spots : List Spot) → uses_at x ≡ [] → Among (map (λ (u : Use). u.spot) (uses_at x)) spots
+  no_use x spots e = subst (λ (us : List Use). Among (map (λ (u : Use). u.spot) us) spots) (sym e) (none_among spots)
+
+  pub all_uses : {k : ℕ} {spots : List Spot} {own : List Cell} {bs : List Block} {xs : List Site} → Listed blocks k spots own bs xs → Among (use_places xs) spots
+  all_uses (over k) = nothing
+  all_uses (passed k spot l) = skip spot (all_uses l)
+  all_uses (site k x {xs = xs} f l) =
+      behind_use x xs (subst (λ (us : List Use). Among (map (λ (u : Use). u.spot) us) (spots_of_names (names_in x.part))) (sym f.uses) (uses_among x.around (names_in x.part))) (all_uses l)
+  all_uses (left k a n e listed b {xs = xs} g l) = behind_use (here_stmt (tree.assign (tree.subscripted n tree.none) e) listed a) xs (left_among a n (declared_as a n)) (all_uses l)
+  all_uses (declared k x names new {xs = xs} f l) = behind_use x xs (no_use x names f.uses) (all_uses l)
+  all_uses (both k {xs = xs} {ys = ys} i j) = places_both (λ (u : Use). u.spot) uses_at xs ys (all_uses i) (all_uses j)
+  all_uses (block k b e i l) = skip b.spot (all_uses l)
+  all_uses (procedure k x b more {xs = xs} f i l) = behind_use x xs (no_use x (b.spot ∷ more) f.uses) (all_uses l)
+
+  pub all_known : {k : ℕ} {spots : List Spot} {own : List Cell} {bs : List Block} {xs : List Site} → Listed blocks k spots own bs xs → Among (known_places xs) spots
+  all_known (over k) = nothing
+  all_known (passed k spot l) = skip spot (all_known l)
+  all_known (site k x {xs = xs} f l) =
+      behind_known x xs (subst (λ (ks : List Known). Among (map (λ (k : Known). k.spot) ks) (spots_of_names (names_in x.part))) (sym f.knows) (names_among x.around (names_in x.part))) (all_known l)
+  all_known (left k a n e listed b {xs = xs} g l) = behind_known (here_stmt (tree.assign (tree.subscripted n tree.none) e) listed a) xs (names_among a (n ∷ [])) (all_known l)
+  all_known (declared k x names new {xs = xs} f l) = behind_known x xs f.knows (all_known l)
+  all_known (both k {xs = xs} {ys = ys} i j) = places_both (λ (k : Known). k.spot) (known_at blocks) xs ys (all_known i) (all_known j)
+  all_known (block k b e i l) = skip b.spot (all_known l)
+  all_known (procedure k x b more {xs = xs} f i l) = behind_known x xs f.knows (all_known l)
+
+  pub all_blocks : {k : ℕ} {spots : List Spot} {own : List Cell} {bs : List Block} {xs : List Site} → Listed blocks k spots own bs xs → Among (map (λ (b : Block). b.spot) bs) spots
+  all_blocks (over k) = nothing
+  all_blocks (passed k spot l) = skip spot (all_blocks l)
+  all_blocks (site k x f l) = join (none_among (spots_of_names (names_in x.part))) (all_blocks l)
+  all_blocks (left k a n e listed b g l) = skip n.spot (all_blocks l)
+  all_blocks (declared k x names new f l) = join (none_among names) (all_blocks l)
+  all_blocks (both k {p = p} {q = q} {bs = bs} {cs = cs} i j) =
+      subst (λ (z : List Spot). Among z (p ++ q)) (sym (map-append (λ (b : Block). b.spot) bs cs)) (join (all_blocks i) (all_blocks j))
+  all_blocks (block k b e i l) = keep b.spot (all_blocks l)
+  all_blocks (procedure k x b more f i l) = keep b.spot (join (none_among more) (all_blocks l))

@@ -1,30 +1,34 @@
 -- The blocks of an accepted program that is built lie in one another.
-use Rattle.std.proofs.Common.{arith, ◌≡◌, ℕ, ◌≤◌, nat_lt, false, List, [], ◌∷◌, ◌++◌, length, map, Option, Some, None, refl, sym, ap, subst, zero, suc, slice_get, get_or}
+use Rattle.std.proofs.Common.{arith, ◌≡◌, ℕ, ◌≤◌, nat_lt, Bool, true, false, List, [], ◌∷◌, ◌++◌, filter, length, map, take, Option, Some, None, refl, sym, ap, subst, zero, suc, slice_get, get_or, if◌then◌else◌}
 use Rattle.std.proofs.lemmas.Bool.Decides.{nat_tests}
 use Rattle.std.proofs.lemmas.List.{length-map}
 use Rattle.std.proofs.lemmas.Option.{slice_get-get_or}
 use Rattle.std.specs.List.{flat_map, AllByRecursion}
-use Rattle.algol_tree.specs.declared.TheConstants.{MOST_BLOCK_CELLS, MOST_SEGMENT_TOKENS, MOST_LEVEL}
+use Rattle.algol_tree.specs.declared.TheConstants.{MOST_BLOCK_CELLS, MOST_SEGMENT_TOKENS, MOST_LEVEL, MOST_PROCEDURES}
 use Rattle.algol_tree.specs.declared.token.Spot.{Spot}
-use Rattle.algol_tree.specs.Accepted.{scope_faults}
+use Rattle.algol_tree.specs.Accepted.{scope_faults, check_faults, sites_of}
 use Rattle.algol_tree.specs.Ascending.{IsInOrder, spots_of, spots_of_decls, spots_of_stmts}
 use Rattle.algol_tree.specs.Blocks.{Block, blocks_of_program, blocks_in_decls, blocks_in_stmts, number_at, around}
 use Rattle.algol_tree.specs.Cells.{Cell, cells_of, level_of}
-use Rattle.algol_tree.specs.Counts.{program_tokens}
-use Rattle.algol_tree.specs.Names.{if_so, is_too_deep, found_place, place_beyond, cells_beyond, deep_blocks, unknown_names}
+use Rattle.algol_tree.specs.Checks.{wrong_types, not_assignable}
+use Rattle.algol_tree.specs.Names.{Segment, if_so, is_too_deep, found_place, place_beyond, cells_beyond, procedures, procedures_beyond, deep_blocks, segments, long_segments, unknown_names}
 use Rattle.algol_tree.specs.Plain as tree
 use Rattle.algol_tree.specs.Plain.{PDecls, PStmts, PProgram}
 use Rattle.algol_tree.specs.Scopes.{Scopes, scopes_of, scopes_by, uses_at}
 use Rattle.algol_tree.specs.Sites.{Site, sites_in_decls, sites_in_stmts, has_decls}
 use Rattle.algol_tree.specs.Surroundings.{Surroundings, outermost, knowing_all}
-use Rattle.b67_fitting.specs.Built.{AreSimple, StmtsBuilt}
+use Rattle.algol_paths.specs.Segments.{is_procedure, procedures_before, tokens_or_none, segment_tokens}
+use Rattle.b67_fitting.specs.Built.{DeclsBuilt, StmtsBuilt}
 use Rattle.b67_fitting.specs.Nested.{IsText, AreNested, BuiltProgramsLieNested}
-use Rattle.b67_fitting.proofs.Lists.{each_front, each_back, nil_front, nil_back, nil_map, nil_each, not_so}
+use Rattle.b67_fitting.proofs.Lists.{each_front, each_back, each_both, nil_front, nil_back, nil_map, nil_each, not_so}
 use Rattle.b67_fitting.proofs.Numbering.{times_both, places, places_both, once, Apart, once_apart, use_place, IsThere, all_there, block_place, IsNumbered, all_numbered, each_at, number_is, number_first}
 use Rattle.b67_fitting.proofs.UsesOnce as uses
 use Rattle.b67_fitting.proofs.BlocksOnce as inner
-use Rattle.b67_fitting.proofs.Surrounded.{IsAround, knows_all, AreGood}
-use Rattle.b67_fitting.proofs.TextsNested.{IsFine, AreFine, ArePart, the_block, in_block, front, back, in_stmts}
+use Rattle.b67_fitting.proofs.Callees.{IsChain, AreCallees}
+use Rattle.b67_fitting.proofs.Surrounded.{IsAround, knows_all, AreKept, AreGood}
+use Rattle.b67_fitting.proofs.CellsFew.{as_many, built_items}
+use Rattle.b67_fitting.proofs.OneBlock.{the_block, IsFine, AreFine, ArePart, front, back, IsTextOf, is_text}
+use Rattle.b67_fitting.proofs.TextsNested.{callees, in_stmts, in_decls}
 
 -- ---- limits that are kept
 
@@ -43,6 +47,37 @@ none_beyond most spots h = no_longer spots most (not_found (slice_get spots most
 not_over : (most n : ℕ) → nat_lt most n ≡ false → n ≤ most
 not_over most n h = grind (arith, nat_tests)
 
+-- among the first of a list no more pass a test than in all of it
+fewer_before : {X : Type 0} (test : X → Bool) (xs : List X) (k : ℕ) → length (filter test (take k xs)) ≤ length (filter test xs)
+fewer_before test xs zero = omega arith
+fewer_before test [] (suc k) = omega arith
+fewer_before {X} test (x ∷ xs) (suc k) = by (test x) (filter test (take k xs)) (filter test xs) (fewer_before test xs k)
+  where
+    by : (b : Bool) (ys zs : List X) → length ys ≤ length zs → length (if b then x ∷ ys else ys) ≤ length (if b then x ∷ zs else zs)
+    by true ys zs h = omega (arith, h)
+    by false ys zs h = h
+
+few_procedures : (blocks : List Block) → procedures_beyond blocks ≡ [] → (j : ℕ) → procedures_before blocks j ≤ MOST_PROCEDURES
+few_procedures blocks h j =
+    omega (
+      arith,
+      fewer_before is_procedure blocks j,
+      none_beyond MOST_PROCEDURES (map (λ (b : Block). b.spot) (procedures blocks)) h,
+      length-map (procedures blocks) (λ (b : Block). b.spot),
+    )
+
+-- a segment that is not there has no tokens
+short_segments : (p : PProgram) → long_segments p (sites_of p) ≡ [] → (k : ℕ) → segment_tokens p k ≤ MOST_SEGMENT_TOKENS
+short_segments p h k = by (slice_get (segments p (sites_of p)) k) refl
+  where
+    IsShort : Segment → Type 0
+    IsShort s = if_so (nat_lt MOST_SEGMENT_TOKENS s.tokens) s.spot ≡ []
+
+    by : (o : Option Segment) → slice_get (segments p (sites_of p)) k ≡ o → tokens_or_none o ≤ MOST_SEGMENT_TOKENS
+    by None e = omega arith
+    by (Some s) e =
+        not_over MOST_SEGMENT_TOKENS s.tokens (not_so (nat_lt MOST_SEGMENT_TOKENS s.tokens) s.spot (each_at IsShort (segments p (sites_of p)) k s (nil_each _ (segments p (sites_of p)) h) e))
+
 -- ---- all parts and blocks keep the rules
 
 of_each : {X Y : Type 0} (P : Y → Type 0) (f : X → List Y) (xs : List X) → AllByRecursion P (flat_map f xs) → AllByRecursion (λ (x : X). AllByRecursion P (f x)) xs
@@ -52,6 +87,10 @@ of_each P f (x ∷ xs) h = (each_front P (f x) (flat_map f xs) h, of_each P f xs
 all_good : (sc : Scopes) (xs : List Site) → AllByRecursion (λ x. AllByRecursion (IsThere sc.uses) (uses_at x)) xs → AllByRecursion (λ x. unknown_names x ≡ []) xs → AreGood sc xs
 all_good sc [] t k = tt
 all_good sc (x ∷ xs) t k = (record { there = t.0; known = k.0 }, all_good sc xs t.1 k.1)
+
+pub all_kept : (blocks : List Block) (xs : List Site) → AllByRecursion (λ x. wrong_types blocks x ≡ []) xs → AllByRecursion (λ x. not_assignable blocks x ≡ []) xs → AreKept blocks xs
+all_kept blocks [] w n = tt
+all_kept blocks (x ∷ xs) w n = (record { right = w.0; assignable = n.0 }, all_kept blocks xs w.1 n.1)
 
 module _ (sc : Scopes) (all : List Site) where
   abbrev IsLow : Block → Type 0
@@ -75,7 +114,7 @@ module _ (sc : Scopes) (all : List Site) where
 
 -- ---- the program
 
-module _ (spot : Spot) (ds : PDecls) (ss : PStmts) (order : IsInOrder (tree.program (tree.body spot ds ss))) (simple : AreSimple ds) (built : StmtsBuilt ss) where
+module _ (spot : Spot) (ds : PDecls) (ss : PStmts) (order : IsInOrder (tree.program (tree.body spot ds ss))) (built_decls : DeclsBuilt ds) (built : StmtsBuilt ss) where
   abbrev pub program : PProgram
   program = tree.program (tree.body spot ds ss)
 
@@ -113,7 +152,7 @@ module _ (spot : Spot) (ds : PDecls) (ss : PStmts) (order : IsInOrder (tree.prog
         arith,
         uses.uses_all s all,
         uses.uses_both s declared stated,
-        uses.none_used s blocks ds outermost [] simple,
+        uses.in_decls s blocks ds outermost [] built_decls,
         uses.in_stmts s blocks ss (has_decls ds) behind built,
         each_once s,
         places_both s (spots_of_decls ds) (spots_of_stmts ss),
@@ -125,7 +164,7 @@ module _ (spot : Spot) (ds : PDecls) (ss : PStmts) (order : IsInOrder (tree.prog
       (λ s. omega (
         arith,
         times_both block_place s (blocks_in_decls ds outer) (blocks_in_stmts ss outer),
-        inner.none_times s ds outer simple,
+        inner.in_decls s ds outer built_decls,
         inner.in_stmts s ss outer built,
         each_once s,
         places_both s (spots_of_decls ds) (spots_of_stmts ss),
@@ -142,43 +181,61 @@ module _ (spot : Spot) (ds : PDecls) (ss : PStmts) (order : IsInOrder (tree.prog
   none_around = ap (around blocks) number_outer
 
   pub starts : IsAround blocks first outer outermost
-  starts = record { block_is = sym number_outer; some = omega (arith, number_outer); chain_is = ap (λ z. first ∷ z) (sym none_around); deep = ap length none_around; known = tt }
+  starts =
+      record {
+        block_is = sym number_outer;
+        some = omega (arith, number_outer);
+        chain_is = ap (λ z. first ∷ z) (sym none_around);
+        chain = subst (IsChain blocks) (sym none_around) tt;
+        deep = ap length none_around;
+        known = tt;
+      }
 
-  module _ (good : AreGood sc all) (fine : AreFine sc all blocks) where
+  module _ (good : AreGood sc all) (kept : AreKept blocks all) (fine : AreFine sc all blocks) where
     parts : ArePart sc all all
-    parts = record { good = good; less = λ k. omega arith }
+    parts = record { good = good; kept = kept; less = λ k. omega arith }
 
     texts : AllByRecursion (λ (b : Block). IsText sc (number_at blocks b.spot)) blocks
     texts =
-        let begun = knows_all blocks first outer ds outermost simple starts in
-        let nested =
-        in_stmts sc all first outer behind ss (has_decls ds) begun built (back sc all declared stated parts) (each_back (IsFine sc all) (blocks_in_decls ds outer) (blocks_in_stmts ss outer) fine.1) in
-        in_block sc all spot [] ds ss fine.0 outermost (sym number_outer) simple (front sc all declared stated parts) nested.0 nested.1
+        let fine_decls = each_front (IsFine sc all) (blocks_in_decls ds outer) (blocks_in_stmts ss outer) fine.1 in
+        let fine_stmts = each_back (IsFine sc all) (blocks_in_decls ds outer) (blocks_in_stmts ss outer) fine.1 in
+        let part = front sc all declared stated parts in
+        let called : AreCallees blocks first ds = callees sc all first outer ds outermost [] starts.chain_is built_decls fine_decls part in
+        let begun = knows_all blocks first outer ds outermost built_decls called starts in
+        let in_procedures = in_decls sc all first outer outermost ds [] starts built_decls called part fine_decls in
+        let nested = in_stmts sc all first outer behind ss (has_decls ds) begun built (back sc all declared stated parts) fine_stmts in
+        let same_cells : length (cells_of blocks declared first) ≡ length (cells_of blocks declared 0) = ap (λ (i : ℕ). length (cells_of blocks declared i)) number_outer in
+        let its_text =
+        is_text sc all (the_block spot [] ds ss) fine.0 refl (built_items ds built_decls) called (omega (arith, as_many blocks ds outermost [] built_decls, same_cells, part.less first)) nested.0 in
+        (its_text, each_both (IsTextOf sc all) (blocks_in_decls ds outer) (blocks_in_stmts ss outer) in_procedures nested.1)
 
-    nested_by : AreNested sc
-    nested_by =
+    nested_by : procedures_beyond blocks ≡ [] → AreNested sc
+    nested_by few =
         record {
           some = omega arith;
           outer = refl;
-          plain = refl;
+          nameless = refl;
           untyped = refl;
           each =
               λ j h.
               let b = get_or blocks j (the_block spot [] ds ss) in
               let it : slice_get blocks j ≡ Some b = slice_get-get_or blocks j (the_block spot [] ds ss) h in
               subst (IsText sc) (number_is blocks j b blocks_apart it) (each_at (λ (c : Block). IsText sc (number_at blocks c.spot)) blocks j b texts it);
+          procedures_few = few_procedures blocks few;
         }
 
   pub good_by : flat_map unknown_names all ≡ [] → AreGood sc all
   good_by unknown =
       all_good sc all (of_each (IsThere sc.uses) uses_at all (all_there sc.uses uses_apart)) (nil_each unknown_names all unknown)
 
-  lies_by : flat_map unknown_names all ≡ [] → deep_blocks blocks ≡ [] → cells_beyond blocks all ≡ [] → AreNested sc
-  lies_by unknown deep cells =
-      nested_by (good_by unknown) (all_fine sc all blocks (all_numbered blocks blocks_apart) (nil_each _ blocks deep) (nil_each _ blocks cells))
+  lies_by : flat_map unknown_names all ≡ [] → deep_blocks blocks ≡ [] → cells_beyond blocks all ≡ [] → procedures_beyond blocks ≡ [] → flat_map (wrong_types blocks) all ≡ [] →
+      flat_map (not_assignable blocks) all ≡ [] → AreNested sc
+  lies_by unknown deep cells many wrong assigned =
+      let kept = all_kept blocks all (nil_each (wrong_types blocks) all wrong) (nil_each (not_assignable blocks) all assigned) in
+      nested_by (good_by unknown) kept (all_fine sc all blocks (all_numbered blocks blocks_apart) (nil_each _ blocks deep) (nil_each _ blocks cells)) many
 
 pub built_programs_lie_nested : BuiltProgramsLieNested
-unfolding scopes_of blocks_of_program scope_faults
+unfolding scopes_of blocks_of_program scope_faults check_faults
 built_programs_lie_nested (tree.program (tree.body spot ds ss)) accepted order built =
     let up_to_procedures = nil_front _ _ accepted.scoped in
     let up_to_cells = nil_front _ _ up_to_procedures in
@@ -186,9 +243,13 @@ built_programs_lie_nested (tree.program (tree.body spot ds ss)) accepted order b
     let unknown = nil_front _ _ (nil_front _ _ up_to_levels) in
     let levels = nil_back _ _ up_to_levels in
     let cells = nil_back _ _ up_to_cells in
-    let segments = nil_back _ _ accepted.scoped in
-    let tokens = program_tokens (tree.program (tree.body spot ds ss)) in
+    let many = nil_back _ _ up_to_procedures in
+    let long = nil_back _ _ accepted.scoped in
+    let up_to_assigned = nil_front _ _ (nil_front _ _ (nil_front _ _ accepted.checked)) in
+    let wrong = nil_front _ _ (nil_front _ _ up_to_assigned) in
+    let assigned = nil_back _ _ up_to_assigned in
     record {
-      nested = lies_by spot ds ss order built.0 built.1 (nil_map _ _ unknown) (nil_front _ _ (nil_map _ _ levels)) (nil_map _ _ cells);
-      short = not_over MOST_SEGMENT_TOKENS tokens (not_so (nat_lt MOST_SEGMENT_TOKENS tokens) spot (nil_front _ _ (nil_map _ _ segments)));
+      nested =
+          lies_by spot ds ss order built.0 built.1 (nil_map _ _ unknown) (nil_front _ _ (nil_map _ _ levels)) (nil_map _ _ cells) (nil_map _ _ many) (nil_map _ _ wrong) (nil_map _ _ assigned);
+      short = short_segments (tree.program (tree.body spot ds ss)) (nil_map _ _ long);
     }

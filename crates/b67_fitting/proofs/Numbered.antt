@@ -4,10 +4,11 @@ use Rattle.algol_tree.specs.declared.level.Level.{Level}
 use Rattle.algol_tree.specs.declared.token.Spot.{Spot}
 use Rattle.algol_tree.specs.declared.token.Token.{Token}
 use Rattle.algol_tree.specs.declared.tree.Kind.{Kind}
+use Rattle.algol_tree.specs.declared.tree.Named.{Named}
 use Rattle.algol_tree.specs.Expressions as grammar
 use Rattle.algol_tree.specs.Expressions.{IsPart, IsMore, IsExprs}
 use Rattle.algol_tree.specs.Operators.{Part}
-use Rattle.algol_tree.specs.Plain.{PExpr, PExprs, PPair, PStmt, PStmts, PDecls, no_decls, decls, PBody, PProgram}
+use Rattle.algol_tree.specs.Plain.{PExpr, call, called, PExprs, PPair, PStmt, PStmts, PDecls, no_decls, decls, PBody, PProgram}
 use Rattle.algol_tree.specs.Programs as programs
 use Rattle.algol_tree.specs.Programs.{IsProgram, Reads}
 use Rattle.algol_tree.specs.Statements as statements
@@ -22,6 +23,11 @@ abbrev pub Read : Type 0 → List Token → Type 0
 Read what rest = what × AreRight rest
 
 -- ---- expressions
+
+-- a call has actuals
+call_whole : {free d : ℕ} {from : List Token} {es : PExprs} {rest : List Token} (n : Named) → IsExprs free d from es rest → AllWhole es → NumbersWhole (call (called n es))
+call_whole n (grammar.one d e from rest x) w = w
+call_whole n (grammar.comma t d e es from after rest x i y) w = w
 
 mutual
   part_whole : {free : ℕ} {p : Part} {d : ℕ} {from : List Token} {e : PExpr} {rest : List Token} → IsPart free p d from e rest → AreRight from → Read (NumbersWhole e) rest
@@ -56,7 +62,7 @@ mutual
       (one.0, one.1.1)
   part_whole (grammar.called_with t u v n d es from rest k i o x j) w =
       let one = exprs_whole x w.1.1 in
-      (one.0, one.1.1)
+      (call_whole n x one.0, one.1.1)
   part_whole (grammar.asked t u v d event from rest i j o x k) w = (tt, (behind_event TokenRight x w.1.1).1)
   part_whole (grammar.grouped t u d e from rest i o x j) w =
       let one = part_whole x w.1 in

@@ -1,81 +1,118 @@
--- Statements at which no rule is broken, where all that is declared inside are simple variables and files.
-use Rattle.std.proofs.Common.{◌≡◌, ◌⊎◌, inl, inr, ℕ, ◌+◌, ◌&&◌, not, Bool, true, false, List, [], ◌∷◌, ◌++◌, is_some, Some, refl, sym, subst}
+-- Statements and declarations at which no rule is broken, where all that is declared are simple variables, files and procedures without
+-- parameters.
+use Rattle.std.proofs.Common.{◌≡◌, ◌⊎◌, inl, inr, ℕ, ◌+◌, ◌==◌, ◌&&◌, not, Bool, true, false, List, [], ◌∷◌, ◌++◌, is_some, Option, Some, None, refl, sym, subst, if◌then◌else◌}
+use Rattle.std.specs.List.{list_any}
 use Rattle.algol_tree.specs.declared.token.Spot.{Spot}
+use Rattle.algol_tree.specs.declared.tree.Heading.{Heading}
 use Rattle.algol_tree.specs.declared.tree.Kind.{Kind}
 use Rattle.algol_tree.specs.declared.tree.Kind.TheVariants as types
 use Rattle.algol_tree.specs.declared.tree.Named.{Named}
-use Rattle.algol_tree.specs.Blocks.{Block, of_statement, number_at}
+use Rattle.algol_tree.specs.Blocks.{Block, Begin, of_statement, of_procedure, number_at, around}
 use Rattle.algol_tree.specs.Checks.{wrong_types, not_assignable}
 use Rattle.algol_tree.specs.Classes as class
 use Rattle.algol_tree.specs.Classes.{Class, is_simple, is_array, is_label, is_file, is_procedure}
+use Rattle.algol_tree.specs.Counted.{exprs_count}
 use Rattle.algol_tree.specs.Names.{if_so}
 use Rattle.algol_tree.specs.Plain as tree
-use Rattle.algol_tree.specs.Plain.{PExpr, PExprs, PStmt, PStmts, PDecls}
-use Rattle.algol_tree.specs.Sites.{sites, here_stmt, inside_stmt, sites_in_stmts, sites_in_decls}
+use Rattle.algol_tree.specs.Plain.{PExpr, PExprs, PStmt, PStmts, PDecl, PDecls}
+use Rattle.algol_tree.specs.Sites as parts
+use Rattle.algol_tree.specs.Sites.{sites, has_decls, here_stmt, inside_stmt, inside_decl, sites_in_stmts, sites_in_decls}
 use Rattle.algol_tree.specs.Sorts as sort
-use Rattle.algol_tree.specs.Sorts.{Sort, Declared, look_up, declare}
-use Rattle.algol_tree.specs.Surroundings.{Surroundings, class_of, declared_as, knowing, knowing_all}
-use Rattle.algol_tree.specs.Types.{read_type}
+use Rattle.algol_tree.specs.Sorts.{same_name, Sort, Declared, look_up, declare, declared_parameters}
+use Rattle.algol_tree.specs.Surroundings.{Surroundings, class_of, declared_as, body_of, heading_or, announced, knowing, knowing_all, inside, inside_procedure}
 use Rattle.b67_segment.specs.declared.code.Phrase.{Phrase}
-use Rattle.b67_templates.specs.Code.{AreParts, numbers_in, exprs_count}
+use Rattle.b67_templates.specs.Code as code
+use Rattle.b67_templates.specs.Code.{AreParts, numbers_in}
 use Rattle.b67_templates.specs.Fitting.{PhrasesFit}
-use Rattle.b67_fitting.specs.Built.{AreSimple, StmtBuilt, StmtsBuilt}
-use Rattle.b67_fitting.specs.Texts.{StmtPlain, StmtsPlain}
-use Rattle.b67_fitting.specs.Wholes.{StmtWhole, StmtsWhole}
+use Rattle.b67_fitting.specs.Built.{DeclBuilt, DeclsBuilt, StmtBuilt, StmtsBuilt}
+use Rattle.b67_fitting.specs.Texts.{StmtPlain, StmtsPlain, DeclPlain, DeclsPlain}
+use Rattle.b67_fitting.specs.Wholes.{StmtWhole, StmtsWhole, DeclWhole, DeclsWhole}
 use Rattle.b67_fitting.proofs.Lists.{each_front, each_back, nil_front, nil_back}
-use Rattle.b67_fitting.proofs.Clean.{IsClean, AreClean, IsPlain, simple, file, IsPlainSort, a_variable, a_file, KnowsPlain, plain_first, misnamed, none_such, none_happens, wrong, wrong_list}
+use Rattle.b67_fitting.proofs.Clean.{IsClean, AreClean, IsPlain, simple, file, procedure, KnowsPlain, plain_first, misnamed, none_such, none_happens, none_called, call_of, wrong, wrong_list}
 use Rattle.b67_fitting.proofs.Declaring.{found_either, declared_is}
 use Rattle.b67_fitting.proofs.Formats.{fitting_line, fitting_phrases}
 use Rattle.b67_fitting.proofs.Typed.{IsOf, TypedExpr, TypedLine, HasKind, of_kind, typed, typed_line}
 
--- at the begin of an inner block
-abbrev pub begin_at : List Block → Spot → Surroundings → Surroundings
-begin_at blocks spot a = record { block = number_at blocks spot; depth = a.depth + 1; known = a.known }
-
 module _ (blocks : List Block) where
+  -- the place is inside the procedure
+  abbrev pub is_around : Heading → Surroundings → Bool
+  is_around h a = list_any (λ (i : ℕ). i == number_at blocks h.name.spot) (a.block ∷ around blocks a.block)
+
+  -- on the left stands a variable, or the typed procedure around
+  abbrev pub IsResult : Surroundings → Kind → Named → Type 0
+  IsResult a k n = (h : Heading) × (class_of a n ≡ class.procedure h) × (h.kind ≡ Some k) × (is_around h a ≡ true)
+
+  abbrev pub IsLeft : Surroundings → Kind → Named → Type 0
+  IsLeft a k n = IsOf a k n ⊎ IsResult a k n
+
+  abbrev pub IsCalled : Surroundings → Named → Type 0
+  IsCalled a n = (h : Heading) × (class_of a n ≡ class.procedure h)
+
   abbrev mutual
-    pub TypedStmt : Surroundings → PStmt → Type 0
-    TypedStmt a tree.empty = Unit {0}
-    TypedStmt a (tree.assign (tree.subscripted n tree.none) e) = (k : Kind) × IsOf a k n × TypedExpr a k e
-    TypedStmt a (tree.block (tree.body spot tree.no_decls ss)) = TypedStmts a ss
-    TypedStmt a (tree.block (tree.body spot (tree.decls d ds) ss)) =
-        AreSimple (tree.decls d ds) × AreClean blocks (sites_in_decls blocks (tree.decls d ds) (begin_at blocks spot a) a.known)
-        × TypedStmts (knowing_all blocks (tree.decls d ds) (begin_at blocks spot a)) ss
-    TypedStmt a (tree.if_then c x) = TypedExpr a types.Truth c × TypedStmt a x
-    TypedStmt a (tree.if_else c x y) = TypedExpr a types.Truth c × TypedStmt a x × TypedStmt a y
-    TypedStmt a (tree.while c b) = TypedExpr a types.Truth c × TypedStmt a b
-    TypedStmt a (tree.until b c) = TypedStmt a b × TypedExpr a types.Truth c
-    TypedStmt a (tree.for v x s l b) =
-        IsOf a types.Number v × TypedExpr a types.Number x × TypedExpr a types.Number s × TypedExpr a types.Number l × TypedStmt a b
-    TypedStmt a (tree.thru e b) = TypedExpr a types.Number e × TypedStmt a b
-    TypedStmt a (tree.case e ss) = TypedExpr a types.Number e × TypedStmts a ss
-    TypedStmt a (tree.write n spot phrases es) =
-        PhrasesFit phrases × ((parts : List Phrase) → AreParts phrases parts → numbers_in parts ≡ exprs_count es) × TypedLine a es
-    TypedStmt a _ = ⊥
+    pub TypedStmt : Begin → Surroundings → PStmt → Type 0
+    TypedStmt begin a tree.empty = Unit {0}
+    TypedStmt begin a (tree.assign (tree.subscripted n tree.none) e) = (k : Kind) × IsLeft a k n × TypedExpr a k e
+    TypedStmt begin a (tree.call_of (tree.called n tree.none)) = IsCalled a n
+    TypedStmt begin a (tree.block (tree.body spot ds ss)) =
+        TypedDecls (inside blocks begin (tree.body spot ds ss) a) ds × TypedStmts (knowing_all blocks ds (inside blocks begin (tree.body spot ds ss) a)) ss
+    TypedStmt begin a (tree.if_then c x) = TypedExpr a types.Truth c × TypedStmt of_statement a x
+    TypedStmt begin a (tree.if_else c x y) = TypedExpr a types.Truth c × TypedStmt of_statement a x × TypedStmt of_statement a y
+    TypedStmt begin a (tree.while c b) = TypedExpr a types.Truth c × TypedStmt of_statement a b
+    TypedStmt begin a (tree.until b c) = TypedStmt of_statement a b × TypedExpr a types.Truth c
+    TypedStmt begin a (tree.for v x s l b) =
+        IsOf a types.Number v × TypedExpr a types.Number x × TypedExpr a types.Number s × TypedExpr a types.Number l × TypedStmt of_statement a b
+    TypedStmt begin a (tree.thru e b) = TypedExpr a types.Number e × TypedStmt of_statement a b
+    TypedStmt begin a (tree.case e ss) = TypedExpr a types.Number e × TypedStmts a ss
+    TypedStmt begin a (tree.write n spot phrases es) =
+        PhrasesFit phrases × ((parts : List Phrase) → AreParts phrases parts → numbers_in parts ≡ code.exprs_count es) × TypedLine a es
+    TypedStmt begin a _ = ⊥
 
     pub TypedStmts : Surroundings → PStmts → Type 0
     TypedStmts a tree.no_stmts = Unit {0}
-    TypedStmts a (tree.stmts s ss) = TypedStmt a s × TypedStmts a ss
+    TypedStmts a (tree.stmts s ss) = TypedStmt of_statement a s × TypedStmts a ss
+
+    -- the place is behind the declaration
+    pub TypedDecl : Surroundings → PDecl → Type 0
+    TypedDecl a (tree.simple kind ns) = Unit {0}
+    TypedDecl a (tree.files ns) = Unit {0}
+    TypedDecl a (tree.forward h) = h.params ≡ []
+    TypedDecl a (tree.procedure h s) = (h.params ≡ []) × TypedStmt of_procedure (inside_procedure blocks h a) s
+    TypedDecl a _ = ⊥
+
+    -- the place is in front of them
+    pub TypedDecls : Surroundings → PDecls → Type 0
+    TypedDecls a tree.no_decls = Unit {0}
+    TypedDecls a (tree.decls d ds) =
+        IsClean blocks (record { part = parts.declaration d ds; around = a }) × TypedDecl (knowing blocks d ds a) d × TypedDecls (knowing blocks d ds a) ds
 
 abbrev wrong_control : Class → Named → List Spot
 wrong_control (class.simple types.Truth) v = v.spot ∷ []
 wrong_control _ v = []
 
 module _ (blocks : List Block) (a : Surroundings) (plain : KnowsPlain a) where
-  -- the left side is a simple variable
+  both_true : (o : Option Kind) (b : Bool) (spot : Spot) → if_so (not (is_some o && b)) spot ≡ [] → (k : Kind) × (o ≡ Some k) × (b ≡ true)
+  both_true (Some k) true spot h = (k, refl, refl)
+  both_true (Some k) false spot h = absurd (let clash : spot ∷ [] ≡ [] = h in cc)
+  both_true None b spot h = absurd (let clash : spot ∷ [] ≡ [] = h in cc)
+
+  -- the left side is a simple variable, or the typed procedure around
   left : (c : Class) (n : Named) (e : PExpr) (listed : Bool) → class_of a n ≡ c → IsPlain c →
-      not_assignable blocks (here_stmt (tree.assign (tree.subscripted n tree.none) e) listed a) ≡ [] → (k : Kind) × IsOf a k n
-  left c n e listed h (simple kind) g = (kind, h)
+      not_assignable blocks (here_stmt (tree.assign (tree.subscripted n tree.none) e) listed a) ≡ [] → (k : Kind) × IsLeft blocks a k n
+  left c n e listed h (simple kind) g = (kind, inl h)
   left c n e listed h file g = absurd (let clash : n.spot ∷ [] ≡ [] = rw h at g in cc)
+  left c n e listed h (procedure heading p) g =
+      let r = both_true heading.kind (is_around blocks heading a) n.spot (rw h at g) in
+      (r.0, inr (heading, h, r.1, r.2))
 
   -- the right side is of its kind
-  right : (k : Kind) (n : Named) (e : PExpr) (listed : Bool) → class_of a n ≡ class.simple k →
+  right : (k : Kind) (n : Named) (e : PExpr) (listed : Bool) → IsLeft blocks a k n →
       wrong_types blocks (here_stmt (tree.assign (tree.subscripted n tree.none) e) listed a) ≡ [] → wrong k e a ≡ []
-  right k n e listed h g = rw h at g
+  right k n e listed (inl h) g = rw h at g
+  right k n e listed (inr p) g = rw (p.1, p.3, p.2) at g
 
-  assigned : (n : Named) (e : PExpr) (listed : Bool) → IsClean blocks (here_stmt (tree.assign (tree.subscripted n tree.none) e) listed a) → HasKind a e →
-      TypedStmt blocks a (tree.assign (tree.subscripted n tree.none) e)
-  assigned n e listed c h =
+  assigned : (begin : Begin) (n : Named) (e : PExpr) (listed : Bool) → IsClean blocks (here_stmt (tree.assign (tree.subscripted n tree.none) e) listed a) → HasKind a e →
+      TypedStmt blocks begin a (tree.assign (tree.subscripted n tree.none) e)
+  assigned begin n e listed c h =
       let l = left (class_of a n) n e listed refl (plain_first a plain n [] c.known) c.assigned in
       (l.0, l.1, of_kind a l.0 e h (right l.0 n e listed l.1 c.typed))
 
@@ -84,10 +121,11 @@ module _ (blocks : List Block) (a : Surroundings) (plain : KnowsPlain a) where
   controls c v (simple types.Number) g h = refl
   controls c v (simple types.Truth) g h = absurd (let clash : v.spot ∷ [] ≡ [] = h in cc)
   controls c v file g h = absurd (let clash : v.spot ∷ [] ≡ [] = g in cc)
+  controls c v (procedure heading p) g h = absurd (let clash : v.spot ∷ [] ≡ [] = g in cc)
 
-  looped : (v : Named) (x s l : PExpr) (b : PStmt) (listed : Bool) → IsClean blocks (here_stmt (tree.for v x s l b) listed a) → HasKind a x → HasKind a s → HasKind a l → TypedStmt blocks a b →
-      TypedStmt blocks a (tree.for v x s l b)
-  looped v x s l b listed c hx hs hl hb =
+  looped : (begin : Begin) (v : Named) (x s l : PExpr) (b : PStmt) (listed : Bool) → IsClean blocks (here_stmt (tree.for v x s l b) listed a) → HasKind a x → HasKind a s → HasKind a l → TypedStmt blocks of_statement a b →
+      TypedStmt blocks begin a (tree.for v x s l b)
+  looped begin v x s l b listed c hx hs hl hb =
       let all = c.typed in
       let three = nil_front (wrong_control (class_of a v) v ++ wrong types.Number x a ++ wrong types.Number s a) (wrong types.Number l a) all in
       let two = nil_front (wrong_control (class_of a v) v ++ wrong types.Number x a) (wrong types.Number s a) three in
@@ -100,102 +138,126 @@ module _ (blocks : List Block) (a : Surroundings) (plain : KnowsPlain a) where
       )
 
   -- no statement is on another name
-  no_such : (test : Class → Bool) (n : Named) (more others : List Spot) → ((kind : Kind) → test (class.simple kind) ≡ false) → test class.file ≡ false →
+  no_such : (test : Class → Bool) (n : Named) (more others : List Spot) → ((kind : Kind) → test (class.simple kind) ≡ false) → test class.file ≡ false → ((h : Heading) → test (class.procedure h) ≡ false) →
       if_so (not (is_some (declared_as a n))) n.spot ++ more ≡ [] → misnamed test (class_of a n) n.spot ++ others ≡ [] → ⊥
-  no_such test n more others s f g h =
-      none_such test (class_of a n) n.spot s f (plain_first a plain n more g) (nil_front (misnamed test (class_of a n) n.spot) others h)
+  no_such test n more others s f p g h =
+      none_such test (class_of a n) n.spot s f p (plain_first a plain n more g) (nil_front (misnamed test (class_of a n) n.spot) others h)
 
-  no_such_alone : (test : Class → Bool) (n : Named) → ((kind : Kind) → test (class.simple kind) ≡ false) → test class.file ≡ false →
+  no_such_alone : (test : Class → Bool) (n : Named) → ((kind : Kind) → test (class.simple kind) ≡ false) → test class.file ≡ false → ((h : Heading) → test (class.procedure h) ≡ false) →
       if_so (not (is_some (declared_as a n))) n.spot ++ [] ≡ [] → misnamed test (class_of a n) n.spot ≡ [] → ⊥
-  no_such_alone test n s f g h = none_such test (class_of a n) n.spot s f (plain_first a plain n [] g) h
+  no_such_alone test n s f p g h = none_such test (class_of a n) n.spot s f p (plain_first a plain n [] g) h
 
--- simple variables and files that are declared are plain
-plain_found : (k : Sort) (c : Class) (block depth : ℕ) (ns : List Named) (known : List Declared) → IsPlain c → IsPlainSort k →
-    ((name : List ℕ) (d : Declared) → look_up known name ≡ Some d → IsPlain d.class × IsPlainSort d.sort) →
-    (name : List ℕ) (d : Declared) → look_up (declare block depth k c ns ++ known) name ≡ Some d → IsPlain d.class × IsPlainSort d.sort
-plain_found k c block depth ns known p q f name d h = by (found_either (declare block depth k c ns) known name d h)
+-- what is declared is plain
+plain_found : (k : Sort) (c : Class) (block depth : ℕ) (ns : List Named) (known : List Declared) → IsPlain c → ((name : List ℕ) (d : Declared) → look_up known name ≡ Some d → IsPlain d.class) →
+    (name : List ℕ) (d : Declared) → look_up (declare block depth k c ns ++ known) name ≡ Some d → IsPlain d.class
+plain_found k c block depth ns known p f name d h = by (found_either (declare block depth k c ns) known name d h)
   where
-    by : (look_up (declare block depth k c ns) name ≡ Some d) ⊎ (look_up known name ≡ Some d) → IsPlain d.class × IsPlainSort d.sort
-    by (inl g) =
-        let r = declared_is block depth k c ns name d g in
-        (subst IsPlain (sym r.0) p, subst IsPlainSort (sym r.1) q)
+    by : (look_up (declare block depth k c ns) name ≡ Some d) ⊎ (look_up known name ≡ Some d) → IsPlain d.class
+    by (inl g) = subst IsPlain (sym (declared_is block depth k c ns name d g).0) p
     by (inr g) = f name d g
 
-plain_before : (a : Surroundings) → KnowsPlain a → (name : List ℕ) (d : Declared) → look_up a.known name ≡ Some d → IsPlain d.class × IsPlainSort d.sort
-plain_before a plain name d h = (plain.each name d h, plain.sorts name d h)
+pub bare_body : (name : List ℕ) (h : Heading) (ds : PDecls) → h.params ≡ [] → DeclsBuilt ds → (heading_or h (body_of name ds)).params ≡ []
+bare_body name h tree.no_decls p b = p
+bare_body name h (tree.decls (tree.procedure g s) ds) p b = by (same_name g.name.name name) (bare_body name h ds p b.1)
+  where
+    by : (t : Bool) → (heading_or h (body_of name ds)).params ≡ [] → (heading_or h (if t then Some g else body_of name ds)).params ≡ []
+    by true later = b.0.0
+    by false later = later
+bare_body name h (tree.decls d ds) p b = bare_body name h ds p b.1
+
+pub no_parameters : (h : Heading) (block depth : ℕ) (known : List Declared) → h.params ≡ [] → declared_parameters block depth h ++ known ≡ known
+no_parameters h block depth known e = rw e refl
 
 module _ (blocks : List Block) where
-  plain_knowing : (ds : PDecls) (a : Surroundings) → AreSimple ds → KnowsPlain a → KnowsPlain (knowing_all blocks ds a)
-  plain_knowing tree.no_decls a s plain = plain
-  plain_knowing (tree.decls (tree.simple kind ns) ds) a s plain =
-      let r = plain_found sort.variable (class.simple kind) a.block a.depth ns a.known (simple kind) a_variable (plain_before a plain) in
-      plain_knowing ds (knowing blocks (tree.simple kind ns) ds a) s (record { each = λ name d h. (r name d h).0; sorts = λ name d h. (r name d h).1 })
-  plain_knowing (tree.decls (tree.files ns) ds) a s plain =
-      let r = plain_found sort.file class.file a.block a.depth ns a.known file a_file (plain_before a plain) in
-      plain_knowing ds (knowing blocks (tree.files ns) ds a) s (record { each = λ name d h. (r name d h).0; sorts = λ name d h. (r name d h).1 })
-  plain_knowing (tree.decls d ds) a s plain = absurd s
+  plain_knowing : (d : PDecl) (ds : PDecls) (a : Surroundings) → DeclBuilt d → DeclsBuilt ds → KnowsPlain a → KnowsPlain (knowing blocks d ds a)
+  plain_knowing (tree.simple kind ns) ds a b c plain =
+      record { each = plain_found sort.variable (class.simple kind) a.block a.depth ns a.known (simple kind) plain.each }
+  plain_knowing (tree.files ns) ds a b c plain = record { each = plain_found sort.file class.file a.block a.depth ns a.known file plain.each }
+  plain_knowing (tree.forward h) ds a b c plain =
+      let g = announced h ds in
+      record {
+        each = plain_found (sort.procedure (number_at blocks g.name.spot)) (class.procedure g) a.block a.depth (g.name ∷ []) a.known (procedure g (bare_body h.name.name h ds b c)) plain.each;
+      }
+  plain_knowing (tree.procedure h s) ds a b c plain =
+      record {
+        each = plain_found (sort.procedure (number_at blocks h.name.spot)) (class.procedure h) a.block a.depth (h.name ∷ []) a.known (procedure h b.0) plain.each;
+      }
+  plain_knowing _ ds a b c plain = absurd b
+
+  plain_all : (ds : PDecls) (a : Surroundings) → DeclsBuilt ds → KnowsPlain a → KnowsPlain (knowing_all blocks ds a)
+  plain_all tree.no_decls a b plain = plain
+  plain_all (tree.decls d ds) a b plain = plain_all ds (knowing blocks d ds a) b.1 (plain_knowing d ds a b.0 b.1 plain)
+
+  plain_inside : (begin : Begin) (spot : Spot) (ds : PDecls) (ss : PStmts) (a : Surroundings) → KnowsPlain a → KnowsPlain (inside blocks begin (tree.body spot ds ss) a)
+  plain_inside of_statement spot tree.no_decls ss a plain = plain
+  plain_inside of_statement spot (tree.decls d ds) ss a plain = record { each = plain.each }
+  plain_inside of_procedure spot ds ss a plain = plain
+
+  plain_procedure : (h : Heading) (a : Surroundings) → h.params ≡ [] → KnowsPlain a → KnowsPlain (inside_procedure blocks h a)
+  plain_procedure h a e plain =
+      record { each = λ name d g. plain.each name d (subst (λ (ks : List Declared). look_up ks name ≡ Some d) (no_parameters h (number_at blocks h.name.spot) (a.depth + 1) a.known e) g) }
 
   mutual
-    stated : (a : Surroundings) → KnowsPlain a → (s : PStmt) (listed : Bool) → StmtBuilt s → StmtWhole s → StmtPlain s → IsClean blocks (here_stmt s listed a) →
-        AreClean blocks (inside_stmt blocks s of_statement listed a) → TypedStmt blocks a s
-    stated a plain tree.empty listed b w t c i = tt
-    stated a plain (tree.label n s) listed b w t c i = absurd (no_such_alone blocks a plain is_label n (λ k. refl) refl c.known c.typed)
-    stated a plain (tree.assign (tree.subscripted n tree.none) e) listed b w t c i = assigned blocks a plain n e listed c (typed blocks a plain e w.1 i)
-    stated a plain (tree.assign (tree.subscripted n (tree.more e es)) v) listed b w t c i =
-        absurd (no_such blocks a plain is_array n [] (wrong_list types.Number (tree.more e es) a) (λ k. refl) refl c.known (nil_front _ _ c.typed))
-    stated a plain (tree.call_of (tree.called n es)) listed b w t c i = absurd (no_such_alone blocks a plain is_procedure n (λ k. refl) refl c.known c.typed)
-    stated a plain (tree.go_to n) listed b w t c i = absurd (no_such_alone blocks a plain is_label n (λ k. refl) refl c.known c.typed)
-    stated a plain (tree.block (tree.body spot tree.no_decls ss)) listed b w t c i = all_stated a plain ss false b.1 w.1 t.1 i
-    stated a plain (tree.block (tree.body spot (tree.decls d ds) ss)) listed b w t c i =
-        let begin = begin_at blocks spot a in
-        let within = knowing_all blocks (tree.decls d ds) begin in
-        let decl_sites = sites_in_decls blocks (tree.decls d ds) begin a.known in
-        let stmt_sites = sites_in_stmts blocks ss true within in (
-          b.0,
-          each_front (IsClean blocks) decl_sites stmt_sites i,
-          all_stated within (plain_knowing (tree.decls d ds) begin b.0 (record { each = plain.each; sorts = plain.sorts })) ss true b.1 w.1 t.1 (each_back (IsClean blocks) decl_sites stmt_sites i),
+    stated : (begin : Begin) (a : Surroundings) → KnowsPlain a → (s : PStmt) (listed : Bool) → StmtBuilt s → StmtWhole s → StmtPlain s → IsClean blocks (here_stmt s listed a) →
+        AreClean blocks (inside_stmt blocks s begin listed a) → TypedStmt blocks begin a s
+    stated begin a plain tree.empty listed b w t c i = tt
+    stated begin a plain (tree.label n s) listed b w t c i = absurd (no_such_alone blocks a plain is_label n (λ k. refl) refl (λ h. refl) c.known c.typed)
+    stated begin a plain (tree.assign (tree.subscripted n tree.none) e) listed b w t c i = assigned blocks a plain begin n e listed c (typed blocks a plain e w.1 i)
+    stated begin a plain (tree.assign (tree.subscripted n (tree.more e es)) v) listed b w t c i =
+        absurd (no_such blocks a plain is_array n [] (wrong_list types.Number (tree.more e es) a) (λ k. refl) refl (λ h. refl) c.known (nil_front _ _ c.typed))
+    stated begin a plain (tree.call_of (tree.called n tree.none)) listed b w t c i = call_of (class_of a n) n.spot (plain_first a plain n [] c.known) c.typed
+    stated begin a plain (tree.call_of (tree.called n (tree.more e es))) listed b w t c i =
+        absurd (none_called is_procedure (class_of a n) (exprs_count es) n.spot (λ k. refl) refl (plain_first a plain n [] c.known) c.typed c.counted)
+    stated begin a plain (tree.go_to n) listed b w t c i = absurd (no_such_alone blocks a plain is_label n (λ k. refl) refl (λ h. refl) c.known c.typed)
+    stated begin a plain (tree.block (tree.body spot ds ss)) listed b w t c i =
+        let start = inside blocks begin (tree.body spot ds ss) a in
+        let within = knowing_all blocks ds start in
+        let plain_start = plain_inside begin spot ds ss a plain in
+        let decl_sites = sites_in_decls blocks ds start start.known in
+        let stmt_sites = sites_in_stmts blocks ss (has_decls ds) within in (
+          all_declared start start.known plain_start ds b.0 w.0 t.0 (each_front (IsClean blocks) decl_sites stmt_sites i),
+          all_stated within (plain_all ds start b.0 plain_start) ss (has_decls ds) b.1 w.1 t.1 (each_back (IsClean blocks) decl_sites stmt_sites i),
         )
-    stated a plain (tree.if_then e x) listed b w t c i =
+    stated begin a plain (tree.if_then e x) listed b w t c i =
         let front = each_front (IsClean blocks) (sites e a) (here_stmt x false a ∷ inside_stmt blocks x of_statement false a) i in
         let back = each_back (IsClean blocks) (sites e a) (here_stmt x false a ∷ inside_stmt blocks x of_statement false a) i in
-        (of_kind a types.Truth e (typed blocks a plain e w.0 front) c.typed, stated a plain x false b w.1 t back.0 back.1)
-    stated a plain (tree.if_else e x y) listed b w t c i =
+        (of_kind a types.Truth e (typed blocks a plain e w.0 front) c.typed, stated of_statement a plain x false b w.1 t back.0 back.1)
+    stated begin a plain (tree.if_else e x y) listed b w t c i =
         let these = here_stmt x false a ∷ inside_stmt blocks x of_statement false a in
         let those = here_stmt y false a ∷ inside_stmt blocks y of_statement false a in
         let front = each_front (IsClean blocks) (sites e a ++ these) those i in
         let back = each_back (IsClean blocks) (sites e a ++ these) those i in
         let first = each_front (IsClean blocks) (sites e a) these front in
         let second = each_back (IsClean blocks) (sites e a) these front in
-        (of_kind a types.Truth e (typed blocks a plain e w.0 first) c.typed, stated a plain x false b.0 w.1 t.0 second.0 second.1, stated a plain y false b.1 w.2 t.1 back.0 back.1)
-    stated a plain (tree.while e x) listed b w t c i =
+        (of_kind a types.Truth e (typed blocks a plain e w.0 first) c.typed, stated of_statement a plain x false b.0 w.1 t.0 second.0 second.1, stated of_statement a plain y false b.1 w.2 t.1 back.0 back.1)
+    stated begin a plain (tree.while e x) listed b w t c i =
         let front = each_front (IsClean blocks) (sites e a) (here_stmt x false a ∷ inside_stmt blocks x of_statement false a) i in
         let back = each_back (IsClean blocks) (sites e a) (here_stmt x false a ∷ inside_stmt blocks x of_statement false a) i in
-        (of_kind a types.Truth e (typed blocks a plain e w.0 front) c.typed, stated a plain x false b w.1 t back.0 back.1)
-    stated a plain (tree.until x e) listed b w t c i =
+        (of_kind a types.Truth e (typed blocks a plain e w.0 front) c.typed, stated of_statement a plain x false b w.1 t back.0 back.1)
+    stated begin a plain (tree.until x e) listed b w t c i =
         let front = each_front (IsClean blocks) (here_stmt x false a ∷ inside_stmt blocks x of_statement false a) (sites e a) i in
         let back = each_back (IsClean blocks) (here_stmt x false a ∷ inside_stmt blocks x of_statement false a) (sites e a) i in
-        (stated a plain x false b w.0 t front.0 front.1, of_kind a types.Truth e (typed blocks a plain e w.1 back) c.typed)
-    stated a plain (tree.for v x s l d) listed b w t c i =
+        (stated of_statement a plain x false b w.0 t front.0 front.1, of_kind a types.Truth e (typed blocks a plain e w.1 back) c.typed)
+    stated begin a plain (tree.for v x s l d) listed b w t c i =
         let these = here_stmt d false a ∷ inside_stmt blocks d of_statement false a in
         let three = each_front (IsClean blocks) (sites x a ++ sites s a ++ sites l a) these i in
         let two = each_front (IsClean blocks) (sites x a ++ sites s a) (sites l a) three in
         let back = each_back (IsClean blocks) (sites x a ++ sites s a ++ sites l a) these i in
-        looped blocks a plain v x s l d listed c
+        looped blocks a plain begin v x s l d listed c
         (typed blocks a plain x w.0 (each_front (IsClean blocks) (sites x a) (sites s a) two))
         (typed blocks a plain s w.1 (each_back (IsClean blocks) (sites x a) (sites s a) two))
         (typed blocks a plain l w.2 (each_back (IsClean blocks) (sites x a ++ sites s a) (sites l a) three))
-        (stated a plain d false b w.3 t back.0 back.1)
-    stated a plain (tree.thru e x) listed b w t c i =
+        (stated of_statement a plain d false b w.3 t back.0 back.1)
+    stated begin a plain (tree.thru e x) listed b w t c i =
         let front = each_front (IsClean blocks) (sites e a) (here_stmt x false a ∷ inside_stmt blocks x of_statement false a) i in
         let back = each_back (IsClean blocks) (sites e a) (here_stmt x false a ∷ inside_stmt blocks x of_statement false a) i in
-        (of_kind a types.Number e (typed blocks a plain e w.0 front) c.typed, stated a plain x false b w.1 t back.0 back.1)
-    stated a plain (tree.case e ss) listed b w t c i =
+        (of_kind a types.Number e (typed blocks a plain e w.0 front) c.typed, stated of_statement a plain x false b w.1 t back.0 back.1)
+    stated begin a plain (tree.case e ss) listed b w t c i =
         (of_kind a types.Number e (typed blocks a plain e w.0 (each_front (IsClean blocks) (sites e a) (sites_in_stmts blocks ss false a) i)) c.typed, all_stated a plain ss false b w.1 t (each_back (IsClean blocks) (sites e a) (sites_in_stmts blocks ss false a) i))
-    stated a plain (tree.process (tree.called n es) task) listed b w t c i =
-        absurd (no_such blocks a plain (λ d. is_procedure d && not (is_some (read_type d))) n _ _ (λ k. refl) refl c.known c.typed)
-    stated a plain (tree.event act e) listed b w t c i =
+    stated begin a plain (tree.process call task) listed b w t c i = absurd b
+    stated begin a plain (tree.event act e) listed b w t c i =
         absurd (none_happens e.task (class_of a e.name) e.name.spot (plain_first a plain e.name [] c.known) c.typed)
-    stated a plain (tree.write n spot phrases es) listed b w t c i =
+    stated begin a plain (tree.write n spot phrases es) listed b w t c i =
         (fitting_phrases phrases es spot t c.lined c.narrow, fitting_line phrases es spot c.lined, typed_line blocks a plain es w i (nil_back (misnamed is_file (class_of a n) n.spot) (wrong_list types.Number es a) c.typed))
 
     pub all_stated : (a : Surroundings) → KnowsPlain a → (ss : PStmts) (listed : Bool) → StmtsBuilt ss → StmtsWhole ss → StmtsPlain ss → AreClean blocks (sites_in_stmts blocks ss listed a) → TypedStmts blocks a ss
@@ -203,4 +265,24 @@ module _ (blocks : List Block) where
     all_stated a plain (tree.stmts s ss) listed b w t i =
         let inside = inside_stmt blocks s of_statement listed a in
         let others = sites_in_stmts blocks ss listed a in
-        (stated a plain s listed b.0 w.0 t.0 i.0 (each_front (IsClean blocks) inside others i.1), all_stated a plain ss listed b.1 w.1 t.1 (each_back (IsClean blocks) inside others i.1))
+        (stated of_statement a plain s listed b.0 w.0 t.0 i.0 (each_front (IsClean blocks) inside others i.1), all_stated a plain ss listed b.1 w.1 t.1 (each_back (IsClean blocks) inside others i.1))
+
+    pub all_declared : (a : Surroundings) (first : List Declared) → KnowsPlain a → (ds : PDecls) → DeclsBuilt ds → DeclsWhole ds → DeclsPlain ds → AreClean blocks (sites_in_decls blocks ds a first) →
+        TypedDecls blocks a ds
+    all_declared a first plain tree.no_decls b w t i = tt
+    all_declared a first plain (tree.decls d ds) b w t i =
+        let behind = knowing blocks d ds a in
+        let plain_behind = plain_knowing d ds a b.0 b.1 plain in
+        let within = inside_decl blocks d behind first in
+        let others = sites_in_decls blocks ds behind first in (
+          i.0,
+          declared behind first plain_behind d b.0 w.0 t.0 (each_front (IsClean blocks) within others i.1),
+          all_declared behind first plain_behind ds b.1 w.1 t.1 (each_back (IsClean blocks) within others i.1),
+        )
+
+    declared : (a : Surroundings) (first : List Declared) → KnowsPlain a → (d : PDecl) → DeclBuilt d → DeclWhole d → DeclPlain d → AreClean blocks (inside_decl blocks d a first) → TypedDecl blocks a d
+    declared a first plain (tree.simple kind ns) b w t i = tt
+    declared a first plain (tree.files ns) b w t i = tt
+    declared a first plain (tree.forward h) b w t i = b
+    declared a first plain (tree.procedure h s) b w t i = (b.0, stated of_procedure (inside_procedure blocks h a) (plain_procedure h a b.0 plain) s false b.1 w t i.0 i.1)
+    declared a first plain _ b w t i = absurd b

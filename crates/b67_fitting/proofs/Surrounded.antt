@@ -1,87 +1,114 @@
 -- What is around each place of a program that is built, and what its names mean there: the names that are known there are those of the
--- block of the place and of the blocks around it, each so many up as its depth says.
-use Rattle.std.proofs.Common.{arith, ◌≡◌, ℕ, ◌+◌, ◌-◌, ◌<◌, ◌≤◌, not, Bool, true, false, List, [], ◌∷◌, ◌++◌, map, length, is_some, Option, Some, None, refl, sym, ap, ◌∙◌, subst, if◌then◌else◌, suc, slice_get}
+-- block of the place and of the blocks around it, each so many up as its depth says. On the left of an assignment the name of a procedure
+-- is its result, of the procedure's own block, which is one further in.
+use Rattle.std.proofs.Common.{arith, ◌≡◌, ℕ, ◌+◌, ◌-◌, ◌<◌, ◌≤◌, ◌&&◌, not, Bool, true, false, List, [], ◌∷◌, ◌++◌, map, length, is_some, Option, Some, None, refl, sym, ap, ◌∙◌, subst, if◌then◌else◌, suc, slice_get}
 use Rattle.std.specs.List.{flat_map, AllByRecursion}
 use Rattle.algol_tree.specs.declared.token.Spot.{Spot}
+use Rattle.algol_tree.specs.declared.tree.Heading.{Heading}
+use Rattle.algol_tree.specs.declared.tree.Kind.{Kind}
 use Rattle.algol_tree.specs.declared.tree.Named.{Named}
 use Rattle.algol_tree.specs.Blocks.{Block, number_at, around}
+use Rattle.algol_tree.specs.Checks.{wrong_types, not_assignable}
 use Rattle.algol_tree.specs.Classes as class
 use Rattle.algol_tree.specs.Classes.{Class, Formal}
 use Rattle.algol_tree.specs.Names.{if_so, places_if, unknown_names}
 use Rattle.algol_tree.specs.Plain as tree
 use Rattle.algol_tree.specs.Plain.{PExpr, PExprs, PDecl, PDecls}
 use Rattle.algol_tree.specs.Scopes.{Scopes, Use, used, use_by, left_use, left_uses, uses_at, declared_in, use_of}
-use Rattle.algol_tree.specs.Sites.{Site, sites, here, first_formal, other_formals, wants_value, name_part, actual_part, inside_expr, inside_list, inside_actuals}
+use Rattle.algol_tree.specs.Sites.{Site, sites, here, here_stmt, first_formal, other_formals, wants_value, name_part, actual_part, inside_expr, inside_list, inside_actuals}
 use Rattle.algol_tree.specs.Sorts as sort
-use Rattle.algol_tree.specs.Sorts.{Sort, same_name, Declared, look_up, declare}
-use Rattle.algol_tree.specs.Surroundings.{Surroundings, declared_as, formals_at, knowing, knowing_all}
+use Rattle.algol_tree.specs.Sorts.{Sort, same_name, Declared, look_up, declare, declared_parameters}
+use Rattle.algol_tree.specs.Surroundings.{Surroundings, declared_as, class_of_declared, class_of, formals_at, announced, declare_procedure, knowing, knowing_all, inside_procedure}
 use Rattle.algol_paths.specs.Blocks.{IsSeen}
 use Rattle.algol_paths.specs.Texts.{InExpr, InExprs}
-use Rattle.b67_fitting.specs.Built.{AreSimple}
-use Rattle.b67_fitting.proofs.Lists.{each_front, each_back, each_both, each_of, nil_front, nil_back}
+use Rattle.b67_fitting.specs.Built.{DeclBuilt, DeclsBuilt}
+use Rattle.b67_fitting.proofs.Lists.{each_front, each_back, each_both, each_of, nil_front, nil_back, not_so, second_so, map_none}
 use Rattle.b67_fitting.proofs.Numbering.{IsThere}
+use Rattle.b67_fitting.proofs.Callees.{IsCallee, AreCallees, IsChain, is_among, chain_at}
 
 -- ---- what is known
 
 -- `depth`: how many blocks are around the block j
 module _ (blocks : List Block) where
-  -- The declaration stands in the block j or in one around it, so many up. On the left of an assignment the name means the same.
+  -- what a name that a block declares can be, as a sort and as a class
+  pub data Means (block : ℕ) : Sort → Class → Type 0 where
+    a_variable : (kind : Kind) → Means block sort.variable (class.simple kind)
+    a_file : Means block sort.file class.file
+    a_procedure : (h : Heading) → IsCallee blocks block h → Means block (sort.procedure (number_at blocks h.name.spot)) (class.procedure h)
+
+  -- The declaration stands in the block j or in one around it, so many up.
   pub record IsKnown (j depth : ℕ) (d : Declared) : Type 0 where
     pub some : d.block < length blocks
     pub deep : length (around blocks d.block) ≡ d.depth
     pub shallow : d.depth ≤ depth
     pub found : slice_get (j ∷ around blocks j) (depth - d.depth) ≡ Some d.block
-    pub itself : (u : Use) → left_use u d.sort ≡ u
+    pub means : Means d.block d.sort d.class
 
-  -- The place stands in the block j. Its BEGIN and those around it stand at these places, the innermost first.
+  -- The place stands in the block j. Its BEGIN and those around it, or the names of their procedures, stand at these places, the innermost
+  -- first.
   pub record IsAround (j : ℕ) (outer : List Spot) (a : Surroundings) : Type 0 where
     pub block_is : a.block ≡ j
     pub some : j < length blocks
     pub chain_is : map (number_at blocks) outer ≡ j ∷ around blocks j
+    pub chain : IsChain blocks (around blocks j)
     pub deep : length (around blocks j) ≡ a.depth
     pub known : AllByRecursion (IsKnown j a.depth) a.known
 
   module _ (j : ℕ) (outer : List Spot) where
-    declared_here : (a : Surroundings) → IsAround j outer a → (s : Sort) (c : Class) (ns : List Named) → ((u : Use) → left_use u s ≡ u) →
+    declared_here : (a : Surroundings) → IsAround j outer a → (s : Sort) (c : Class) (ns : List Named) → Means a.block s c →
         AllByRecursion (IsKnown j a.depth) (declare a.block a.depth s c ns)
-    declared_here a r s c [] f = tt
-    declared_here a r s c (n ∷ ns) f =
+    declared_here a r s c [] m = tt
+    declared_here a r s c (n ∷ ns) m =
         let none_up : a.depth - a.depth ≡ 0 = omega arith in (
           record {
             some = omega (arith, r.block_is, r.some);
             deep = ap (λ (k : ℕ). length (around blocks k)) r.block_is ∙ r.deep;
             shallow = omega arith;
             found = ap (slice_get (j ∷ around blocks j)) none_up ∙ ap Some (sym r.block_is);
-            itself = f;
+            means = m;
           },
-          declared_here a r s c ns f,
+          declared_here a r s c ns m,
         )
 
-    knows : (s : Sort) (c : Class) (ns : List Named) (a : Surroundings) → ((u : Use) → left_use u s ≡ u) → IsAround j outer a →
+    knows : (s : Sort) (c : Class) (ns : List Named) (a : Surroundings) → Means a.block s c → IsAround j outer a →
         IsAround j outer (record a { known = declare a.block a.depth s c ns ++ a.known })
-    knows s c ns a f r =
+    knows s c ns a m r =
         record {
           block_is = r.block_is;
           some = r.some;
           chain_is = r.chain_is;
+          chain = r.chain;
           deep = r.deep;
-          known = each_both (IsKnown j a.depth) (declare a.block a.depth s c ns) a.known (declared_here a r s c ns f) r.known;
+          known = each_both (IsKnown j a.depth) (declare a.block a.depth s c ns) a.known (declared_here a r s c ns m) r.known;
         }
 
+    -- the procedure with this heading
+    knows_procedure : (h : Heading) (a : Surroundings) → IsCallee blocks j h → IsAround j outer a →
+        IsAround j outer (record a { known = declare_procedure blocks h a ++ a.known })
+    knows_procedure h a c r =
+        let its = subst (λ (k : ℕ). IsCallee blocks k h) (sym r.block_is) c in
+        knows (sort.procedure (number_at blocks h.name.spot)) (class.procedure h) (h.name ∷ []) a (a_procedure h its) r
+
     -- the place after a declaration, the later ones being these
-    pub knows_one : (d : PDecl) (ds : PDecls) (a : Surroundings) → AreSimple (tree.decls d tree.no_decls) → IsAround j outer a → IsAround j outer (knowing blocks d ds a)
-    knows_one (tree.simple kind ns) ds a b r = knows sort.variable (class.simple kind) ns a (λ u. refl) r
-    knows_one (tree.files ns) ds a b r = knows sort.file class.file ns a (λ u. refl) r
-    knows_one d ds a b r = absurd b
+    pub knows_one : (d : PDecl) (ds : PDecls) (a : Surroundings) → DeclBuilt d → AreCallees blocks j (tree.decls d ds) → IsAround j outer a → IsAround j outer (knowing blocks d ds a)
+    knows_one (tree.simple kind ns) ds a b c r = knows sort.variable (class.simple kind) ns a (a_variable kind) r
+    knows_one (tree.files ns) ds a b c r = knows sort.file class.file ns a a_file r
+    knows_one (tree.forward h) ds a b c r = knows_procedure (announced h ds) a c.0 r
+    knows_one (tree.procedure h t) ds a b c r = knows_procedure h a c.0 r
+    knows_one d ds a b c r = absurd b
 
     -- the place after all of them
-    pub knows_all : (ds : PDecls) (a : Surroundings) → AreSimple ds → IsAround j outer a → IsAround j outer (knowing_all blocks ds a)
-    knows_all tree.no_decls a b r = r
-    knows_all (tree.decls (tree.simple kind ns) ds) a b r = knows_all ds (knowing blocks (tree.simple kind ns) ds a) b (knows_one (tree.simple kind ns) ds a tt r)
-    knows_all (tree.decls (tree.files ns) ds) a b r = knows_all ds (knowing blocks (tree.files ns) ds a) b (knows_one (tree.files ns) ds a tt r)
-    knows_all (tree.decls d ds) a b r = absurd b
+    pub knows_all : (ds : PDecls) (a : Surroundings) → DeclsBuilt ds → AreCallees blocks j ds → IsAround j outer a → IsAround j outer (knowing_all blocks ds a)
+    knows_all tree.no_decls a b c r = r
+    knows_all (tree.decls (tree.simple kind ns) ds) a b c r =
+        knows_all ds (knowing blocks (tree.simple kind ns) ds a) b.1 c (knows_one (tree.simple kind ns) ds a b.0 c r)
+    knows_all (tree.decls (tree.files ns) ds) a b c r = knows_all ds (knowing blocks (tree.files ns) ds a) b.1 c (knows_one (tree.files ns) ds a b.0 c r)
+    knows_all (tree.decls (tree.forward h) ds) a b c r = knows_all ds (knowing blocks (tree.forward h) ds a) b.1 c.1 (knows_one (tree.forward h) ds a b.0 c r)
+    knows_all (tree.decls (tree.procedure h t) ds) a b c r =
+        knows_all ds (knowing blocks (tree.procedure h t) ds a) b.1 c.1 (knows_one (tree.procedure h t) ds a b.0 c r)
+    knows_all (tree.decls d ds) a b c r = absurd b.0
 
-    -- the place behind a BEGIN at `spot` in the block j
+    -- the place behind a BEGIN or the name of a procedure, at `spot` in the block j
     pub enters : (spot : Spot) (a : Surroundings) → number_at blocks spot < length blocks → around blocks (number_at blocks spot) ≡ map (number_at blocks) outer → IsAround j outer a →
         IsAround (number_at blocks spot) (spot ∷ outer) (record { block = number_at blocks spot; depth = a.depth + 1; known = a.known })
     enters spot a n e r =
@@ -91,6 +118,7 @@ module _ (blocks : List Block) where
           block_is = refl;
           some = n;
           chain_is = ap (λ z. k ∷ z) (sym e);
+          chain = subst (IsChain blocks) (sym above) (refl, r.chain);
           deep = omega (arith, ap length above, r.deep);
           known =
               each_of (IsKnown j a.depth) (IsKnown k (a.depth + 1)) a.known
@@ -101,10 +129,19 @@ module _ (blocks : List Block) where
                 deep = h.deep;
                 shallow = omega (arith, h.shallow);
                 found = ap (slice_get (k ∷ around blocks k)) one_more ∙ ap (λ z. slice_get z (a.depth - d.depth)) above ∙ h.found;
-                itself = h.itself;
+                means = h.means;
               })
               r.known;
         }
+
+    -- inside a procedure of the block j, which has no parameters
+    pub enters_procedure : (h : Heading) (a : Surroundings) → IsCallee blocks j h → IsAround j outer a →
+        IsAround (number_at blocks h.name.spot) (h.name.spot ∷ outer) (inside_procedure blocks h a)
+    enters_procedure h a c r =
+        let k = number_at blocks h.name.spot in
+        let none : declared_parameters k (a.depth + 1) h ≡ [] = map_none _ h.params c.plain in
+        subst (λ (ps : List Declared). IsAround k (h.name.spot ∷ outer) (record { block = k; depth = a.depth + 1; known = ps ++ a.known })) (sym none)
+        (enters h.name.spot a c.some (c.around_is ∙ sym r.chain_is) r)
 
 -- ---- names that are used
 
@@ -121,6 +158,14 @@ found_known P (e ∷ known) name d h g = by (same_name e.name name) (found_known
 -- what a name is used as
 pub use_is : (sc : Scopes) (n : Named) (u : Use) → declared_in sc.uses n.spot ≡ Some u → use_of sc n ≡ u
 use_is sc n u h = rw h refl
+
+-- No rule of types and of assignments is broken at a part of the tree.
+pub record IsKept (blocks : List Block) (x : Site) : Type 0 where
+  pub right : wrong_types blocks x ≡ []
+  pub assignable : not_assignable blocks x ≡ []
+
+abbrev pub AreKept : List Block → List Site → Type 0
+AreKept blocks xs = AllByRecursion (IsKept blocks) xs
 
 -- A part of the tree whose names are known where it stands, and whose uses are found at the places of its names.
 pub record IsGood (sc : Scopes) (x : Site) : Type 0 where
@@ -157,20 +202,41 @@ module _ (sc : Scopes) (j : ℕ) (outer : List Spot) (a : Surroundings) (r : IsA
   pub known_as : (n : Named) (d : Declared) → declared_as a n ≡ Some d → IsKnown sc.blocks j a.depth d
   known_as n d e = found_known (IsKnown sc.blocks j a.depth) a.known n.name d r.known e
 
+  seen_use : (n : Named) (u : Use) → declared_in sc.uses n.spot ≡ Some u → slice_get (j ∷ around sc.blocks j) u.up ≡ Some u.block → IsSeen sc j n
+  seen_use n u t f =
+      let P : Use → Type 0 = λ v. slice_get (j ∷ around sc.blocks j) v.up ≡ Some v.block in
+      subst P (sym (use_is sc n u t)) f
+
   seen_as : (n : Named) (d : Declared) → declared_as a n ≡ Some d → declared_in sc.uses n.spot ≡ Some (the_use n d) → IsSeen sc j n
-  seen_as n d e t =
-      let P : Use → Type 0 = λ u. slice_get (j ∷ around sc.blocks j) u.up ≡ Some u.block in
-      subst P (sym (use_is sc n (the_use n d) t)) ((known_as n d e).found)
+  seen_as n d e t = seen_use n (the_use n d) t ((known_as n d e).found)
 
   seen_by : (n : Named) (o : Option Declared) → declared_as a n ≡ o → if_so (not (is_some o)) n.spot ≡ [] → AllByRecursion (IsThere sc.uses) (use_by a n o) → IsSeen sc j n
   seen_by n None e k t = absurd (let clash : n.spot ∷ [] ≡ [] = k in cc)
   seen_by n (Some d) e k t = seen_as n d e t.0
 
-  -- on the left of an assignment
-  left_by : (n : Named) (o : Option Declared) → declared_as a n ≡ o → if_so (not (is_some o)) n.spot ≡ [] → AllByRecursion (IsThere sc.uses) (left_uses (use_by a n o)) →
+  -- On the left of an assignment the name of a typed procedure is its result. The place stands in that procedure, so in its block or one
+  -- around which that block is.
+  abbrev StandsInside : Named → Type 0
+  StandsInside n = (h : Heading) → class_of a n ≡ class.procedure h → is_among sc.blocks (number_at sc.blocks h.name.spot) (a.block ∷ around sc.blocks a.block) ≡ true
+
+  left_as : (n : Named) (d : Declared) (s : Sort) (c : Class) → IsKnown sc.blocks j a.depth d → Means sc.blocks d.block s c → class_of a n ≡ c → StandsInside n →
+      IsThere sc.uses (left_use (the_use n d) s) → IsSeen sc j n
+  left_as n d s c k (a_variable kind) e i t = seen_use n (the_use n d) t k.found
+  left_as n d s c k a_file e i t = seen_use n (the_use n d) t k.found
+  left_as n d s c k (a_procedure h callee) e i t =
+      let own = number_at sc.blocks h.name.spot in
+      let inside : is_among sc.blocks own (j ∷ around sc.blocks j) ≡ true = subst (λ (m : ℕ). is_among sc.blocks own (m ∷ around sc.blocks m) ≡ true) r.block_is (i h e) in
+      let its = chain_at sc.blocks own (j ∷ around sc.blocks j) (refl, r.chain) inside in
+      let up_is : a.depth - d.depth - 1 ≡ length (j ∷ around sc.blocks j) - 1 - length (around sc.blocks own) =
+      omega (arith, r.deep, k.deep, k.shallow, its.fewer, ap length callee.around_is) in
+      seen_use n (record { spot = n.spot; block = own; up = a.depth - d.depth - 1; sort = sort.variable }) t (ap (slice_get (j ∷ around sc.blocks j)) up_is ∙ its.found)
+
+  left_by : (n : Named) (o : Option Declared) → declared_as a n ≡ o → if_so (not (is_some o)) n.spot ≡ [] → StandsInside n → AllByRecursion (IsThere sc.uses) (left_uses (use_by a n o)) →
       IsSeen sc j n
-  left_by n None e k t = absurd (let clash : n.spot ∷ [] ≡ [] = k in cc)
-  left_by n (Some d) e k t = seen_as n d e (subst (IsThere sc.uses) ((known_as n d e).itself (the_use n d)) t.0)
+  left_by n None e k i t = absurd (let clash : n.spot ∷ [] ≡ [] = k in cc)
+  left_by n (Some d) e k i t =
+      let known = known_as n d e in
+      left_as n d d.sort d.class known known.means (ap class_of_declared e) i t.0
 
   abbrev unknown : List Named → List Spot
   unknown ns = places_if (λ (n : Named). not (is_some (declared_as a n))) ns
@@ -183,8 +249,19 @@ module _ (sc : Scopes) (j : ℕ) (outer : List Spot) (a : Surroundings) (r : IsA
         all_seen ns (nil_back its (unknown ns) k) (each_back (IsThere sc.uses) (used a n) (flat_map (used a) ns) t),
       )
 
-  pub left_seen : (n : Named) → unknown (n ∷ []) ≡ [] → AllByRecursion (IsThere sc.uses) (left_uses (used a n)) → IsSeen sc j n
-  left_seen n k t = left_by n (declared_as a n) refl (nil_front (if_so (not (is_some (declared_as a n))) n.spot) [] k) t
+  -- a procedure that is assigned to is around the place
+  stands_inside : (n : Named) (es : PExprs) (e : PExpr) (listed : Bool) → IsKept sc.blocks (here_stmt (tree.assign (tree.subscripted n es) e) listed a) → StandsInside n
+  stands_inside n tree.none e listed kept h c =
+      let test : Bool = is_among sc.blocks (number_at sc.blocks h.name.spot) (a.block ∷ around sc.blocks a.block) in
+      let its : if_so (not (is_some h.kind && test)) n.spot ≡ [] = rw c at kept.assignable in
+      second_so (is_some h.kind) test (not_so (not (is_some h.kind && test)) n.spot its)
+  stands_inside n (tree.more x xs) e listed kept h c =
+      let its : n.spot ∷ _ ≡ [] = rw c at kept.right in absurd cc
+
+  pub left_seen : (n : Named) (es : PExprs) (e : PExpr) (listed : Bool) → unknown (n ∷ []) ≡ [] → IsKept sc.blocks (here_stmt (tree.assign (tree.subscripted n es) e) listed a) →
+      AllByRecursion (IsThere sc.uses) (left_uses (used a n)) → IsSeen sc j n
+  left_seen n es e listed k kept t =
+      left_by n (declared_as a n) refl (nil_front (if_so (not (is_some (declared_as a n))) n.spot) [] k) (stands_inside n es e listed kept) t
 
   -- ---- expressions
 

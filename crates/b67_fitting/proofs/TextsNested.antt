@@ -1,272 +1,216 @@
 -- The text of each block of a program that is built keeps to it: its names are seen from there, and the blocks in it stand in it.
-use Rattle.std.proofs.Common.{arith, ◌≡◌, ℕ, ◌+◌, ◌==◌, ◌<◌, ◌≤◌, Bool, true, false, List, [], ◌∷◌, ◌++◌, filter, length, map, Some, None, refl, sym, ap, ◌∙◌, subst, if◌then◌else◌, suc}
-use Rattle.std.proofs.lemmas.Bool.Decides.{nat_tests}
-use Rattle.std.proofs.lemmas.List.{length-append, length-map}
-use Rattle.std.proofs.lemmas.List.Concat.{flat_map-append}
-use Rattle.std.proofs.lemmas.List.Elements.{filter-append}
-use Rattle.std.proofs.lemmas.Option.{slice_get_within}
-use Rattle.std.specs.List.{flat_map, AllByRecursion}
-use Rattle.algol_tree.specs.declared.TheConstants.{MOST_BLOCK_CELLS, MOST_LEVEL}
+use Rattle.std.proofs.Common.{◌≡◌, arith, ℕ, Bool, true, false, List, ◌∷◌, ◌++◌, map, refl, []}
 use Rattle.algol_tree.specs.declared.token.Spot.{Spot}
-use Rattle.algol_tree.specs.declared.tree.Named.{Named}
-use Rattle.algol_tree.specs.Blocks.{Block, of_statement, blocks_of, blocks_in_decls, blocks_in_stmts, block_numbered, number_at, around}
-use Rattle.algol_tree.specs.Cells as cells
-use Rattle.algol_tree.specs.Cells.{Cell, cells_for, cells_at, cells_of, level_of}
+use Rattle.algol_tree.specs.Blocks.{Block, Begin, of_statement, of_procedure, decls_of, stmts_of, blocks_of, blocks_in_decls, blocks_in_stmts, procedure_block, number_at, around}
 use Rattle.algol_tree.specs.Plain as tree
-use Rattle.algol_tree.specs.Plain.{PStmt, PStmts, PDecls, PBody}
+use Rattle.algol_tree.specs.Plain.{PStmt, PStmts, PDecls}
 use Rattle.algol_tree.specs.Scopes.{Scopes}
-use Rattle.algol_tree.specs.Sites.{Site, sites, here_stmt, inside_list, inside_stmt, sites_in_stmts, sites_in_decls}
+use Rattle.algol_tree.specs.Sites.{Site, sites, here_stmt, inside_list, inside_stmt, sites_in_stmts, sites_in_decls, has_decls}
 use Rattle.algol_tree.specs.Sorts.{Declared}
-use Rattle.algol_tree.specs.Surroundings.{Surroundings, formals_at, knowing, knowing_all, inside_begin}
-use Rattle.algol_meaning.specs.Statements.{decls_items}
+use Rattle.algol_tree.specs.Surroundings.{Surroundings, formals_at, knowing, knowing_all, inside_begin, inside_procedure}
 use Rattle.algol_paths.specs.Blocks.{IsSeen, IsInner}
 use Rattle.algol_paths.specs.Texts.{InStmt, InStmts}
-use Rattle.b67_templates.specs.Cells.{Simple, simple_cells, of_kind, variables}
-use Rattle.b67_fitting.specs.Built.{AreSimple, StmtBuilt, StmtsBuilt}
-use Rattle.b67_fitting.specs.Nested.{IsText}
-use Rattle.b67_fitting.proofs.Lists.{each_front, each_back, each_both}
-use Rattle.b67_fitting.proofs.Numbering.{IsNumbered, block_is}
-use Rattle.b67_fitting.proofs.BlocksOnce.{none_declared}
-use Rattle.b67_fitting.proofs.Surrounded.{IsAround, knows_all, enters, IsGood, AreGood, all_seen, left_seen, in_expr, in_list, in_actuals}
+use Rattle.b67_fitting.specs.Built.{DeclsBuilt, StmtBuilt, StmtsBuilt}
+use Rattle.b67_fitting.proofs.Lists.{each_front, each_back, each_both, map_none}
+use Rattle.b67_fitting.proofs.Callees.{AreCallees, are_callees}
+use Rattle.b67_fitting.proofs.Surrounded.{IsAround, knows_one, knows_all, enters, enters_procedure, IsGood, all_seen, left_seen, in_expr, in_list, in_actuals}
+use Rattle.b67_fitting.proofs.CellsFew.{declaring, as_many, procedure_many, built_items, body_items}
+use Rattle.b67_fitting.proofs.OneBlock.{the_block, IsFine, AreFine, fine_numbered, ArePart, part_named, front, back, rest, IsTextOf, AreTexts, is_there, outer_is, is_text, is_inner}
 
--- ---- cells
-
-cells_both : (blocks : List Block) (xs ys : List Site) (k : ℕ) →
-    length (cells_of blocks (xs ++ ys) k) ≡ length (cells_of blocks xs k) + length (cells_of blocks ys k)
-cells_both blocks xs ys k =
-    let own : Cell → Bool = λ c. c.block == k in
-    let front = flat_map (cells_at blocks) xs in
-    let back = flat_map (cells_at blocks) ys in
-    ap (λ z. length (filter own z)) (flat_map-append (cells_at blocks) xs ys) ∙ ap length (filter-append own front back) ∙ length-append (filter own front) (filter own back)
-
--- a declaration's variables are cells of its block
-own_cells : (k : ℕ) (ns : List Named) → length (filter (λ (c : Cell). c.block == k) (cells_for k cells.variable ns)) ≡ length ns
-own_cells k [] = refl
-own_cells k (n ∷ ns) =
-    let rest = filter (λ (c : Cell). c.block == k) (cells_for k cells.variable ns) in
-    let own : (k == k) ≡ true = grind (arith, nat_tests) in
-    ap (λ (b : Bool). length (if b then record { block = k; spot = n.spot; content = cells.variable } ∷ rest else rest)) own ∙ ap suc (own_cells k ns)
-
-as_many : (blocks : List Block) (ds : PDecls) (a : Surroundings) (first : List Declared) → AreSimple ds →
-    length (variables ds) ≡ length (cells_of blocks (sites_in_decls blocks ds a first) a.block)
-as_many blocks tree.no_decls a first s = refl
-as_many blocks (tree.decls (tree.simple kind ns) ds) a first s =
-    let k = a.block in
-    let own : Cell → Bool = λ c. c.block == k in
-    let its : List Cell = cells_for k cells.variable ns in
-    let after : Surroundings = knowing blocks (tree.simple kind ns) ds a in
-    let more : List Cell = flat_map (cells_at blocks) (sites_in_decls blocks ds after first) in
-    omega (
-      arith,
-      length-append (of_kind kind ns) (variables ds),
-      length-map {B = Simple} ns (λ (n : Named). record { name = n.name; kind = Some kind }),
-      ap length (filter-append own its more),
-      length-append (filter own its) (filter own more),
-      own_cells k ns,
-      as_many blocks ds after first s,
-    )
-as_many blocks (tree.decls (tree.files ns) ds) a first s = as_many blocks ds (knowing blocks (tree.files ns) ds a) first s
-as_many blocks (tree.decls d ds) a first s = absurd s
-
-simple_items : (ds : PDecls) → AreSimple ds → decls_items ds ≡ []
-simple_items tree.no_decls s = refl
-simple_items (tree.decls (tree.simple kind ns) ds) s = simple_items ds s
-simple_items (tree.decls (tree.files ns) ds) s = simple_items ds s
-simple_items (tree.decls d ds) s = absurd s
-
--- ---- blocks and parts that keep the rules
-
--- the block of a BEGIN
-abbrev pub the_block : Spot → List Spot → PDecls → PStmts → Block
-the_block spot outer ds ss = record { spot = spot; outer = outer; name = []; parameters = []; result = None; decls = ds; stmts = ss }
+abbrev IsNoBlock : PStmt → Type 0
+IsNoBlock (tree.block b) = ⊥
+IsNoBlock t = Unit {0}
 
 -- `all`: all parts of the tree
 module _ (sc : Scopes) (all : List Site) where
-  -- The block has its number by its place, is not too deep and has not too many cells.
-  pub record IsFine (b : Block) : Type 0 where
-    pub numbered : IsNumbered sc.blocks b
-    pub low : level_of b ≤ MOST_LEVEL
-    pub few : length (cells_of sc.blocks all (number_at sc.blocks b.spot)) ≤ MOST_BLOCK_CELLS
+  abbrev stmt_sites : PStmt → Begin → Bool → Surroundings → List Site
+  stmt_sites t begin listed a = here_stmt t listed a ∷ inside_stmt sc.blocks t begin listed a
 
-  abbrev pub AreFine : List Block → Type 0
-  AreFine bs = AllByRecursion IsFine bs
+  abbrev Fine : List Block → Type 0
+  Fine bs = AreFine sc all bs
 
-  -- Good parts of the tree, which have no more cells than all.
-  pub record ArePart (xs : List Site) : Type 0 where
-    pub good : AreGood sc xs
-    pub less : (k : ℕ) → length (cells_of sc.blocks xs k) ≤ length (cells_of sc.blocks all k)
+  abbrev Part : List Site → Type 0
+  Part xs = ArePart sc all xs
 
-  pub front : (xs ys : List Site) → ArePart (xs ++ ys) → ArePart xs
-  front xs ys h =
-      record { good = each_front (IsGood sc) xs ys h.good; less = λ k. omega (arith, h.less k, cells_both sc.blocks xs ys k) }
+  abbrev Texts : List Block → Type 0
+  Texts bs = AreTexts sc all bs
 
-  pub back : (xs ys : List Site) → ArePart (xs ++ ys) → ArePart ys
-  back xs ys h =
-      record { good = each_back (IsGood sc) xs ys h.good; less = λ k. omega (arith, h.less k, cells_both sc.blocks xs ys k) }
+  -- `j`: the block in which it stands. The body of a procedure is the text of the procedure's block.
+  abbrev IsTextIn : Begin → ℕ → PStmt → Type 0
+  IsTextIn of_statement j t = InStmt (IsSeen sc j) (IsInner sc j) t
+  IsTextIn of_procedure j t = InStmts (IsSeen sc j) (IsInner sc j) (stmts_of t)
 
-  rest : (x : Site) (xs : List Site) → ArePart (x ∷ xs) → ArePart xs
-  rest x xs h = back (x ∷ []) xs h
+  text_in : (begin : Begin) (j : ℕ) (t : PStmt) → IsNoBlock t → InStmt (IsSeen sc j) (IsInner sc j) t → IsTextIn begin j t
+  text_in of_statement j t p i = i
+  text_in of_procedure j (tree.block b) p i = absurd p
+  text_in of_procedure j t p i = (i, tt)
 
-  -- ---- a block
-
-  abbrev IsTextOf : Block → Type 0
-  IsTextOf b = IsText sc (number_at sc.blocks b.spot)
-
-  abbrev AreTexts : List Block → Type 0
-  AreTexts bs = AllByRecursion IsTextOf bs
-
-  module _ (spot : Spot) (outer : List Spot) (ds : PDecls) (ss : PStmts) where
-    abbrev here : Block
-    here = the_block spot outer ds ss
-
-    abbrev k : ℕ
-    k = number_at sc.blocks spot
-
-    module _ (f : IsFine here) where
-      it_is : block_numbered sc.blocks k ≡ here
-      it_is = block_is sc.blocks k here f.numbered
-
-      is_some : k < length sc.blocks
-      is_some = slice_get_within sc.blocks k here f.numbered
-
-      around_is : around sc.blocks k ≡ map (number_at sc.blocks) outer
-      around_is = ap (λ (b : Block). map (number_at sc.blocks) b.outer) it_is
-
-      is_inner : (j : ℕ) → map (number_at sc.blocks) outer ≡ j ∷ around sc.blocks j → IsInner sc j (tree.body spot ds ss)
-      is_inner j e =
-          record {
-            known = is_some;
-            around_is = around_is ∙ e;
-            decls_are = ap (λ (b : Block). b.decls) it_is;
-            stmts_are = ap (λ (b : Block). b.stmts) it_is;
-            parameters = ap (λ (b : Block). b.parameters) it_is;
-            result = ap (λ (b : Block). b.result) it_is;
-            low = subst (λ (b : Block). level_of b ≤ MOST_LEVEL) (sym it_is) f.low;
-          }
-
-      -- `a`: the place behind its BEGIN
-      pub in_block : (a : Surroundings) → a.block ≡ k → AreSimple ds → ArePart (sites_in_decls sc.blocks ds a a.known) →
-          InStmts (IsSeen sc k) (IsInner sc k) ss → AreTexts (blocks_in_stmts ss (spot ∷ outer)) →
-          AreTexts (here ∷ (blocks_in_decls ds (spot ∷ outer) ++ blocks_in_stmts ss (spot ∷ outer)))
-      in_block a e s h t ts =
-          let declared : length (cells_of sc.blocks (sites_in_decls sc.blocks ds a a.known) a.block) ≡ length (cells_of sc.blocks (sites_in_decls sc.blocks ds a a.known) k) =
-          ap (λ (i : ℕ). length (cells_of sc.blocks (sites_in_decls sc.blocks ds a a.known) i)) e in
-          let few : length (variables ds) ≤ MOST_BLOCK_CELLS = omega (arith, as_many sc.blocks ds a a.known s, declared, h.less k, f.few) in (
-            record {
-              text = subst (λ (b : Block). InStmts (IsSeen sc k) (IsInner sc k) b.stmts) (sym it_is) t;
-              made = ap (λ (b : Block). decls_items b.decls) it_is ∙ simple_items ds s;
-              few = subst (λ (b : Block). length (simple_cells b) ≤ MOST_BLOCK_CELLS) (sym it_is) few;
-              low = subst (λ (b : Block). level_of b ≤ MOST_LEVEL) (sym it_is) f.low;
-            },
-            subst (λ (bs : List Block). AreTexts (bs ++ blocks_in_stmts ss (spot ∷ outer))) (sym (none_declared ds (spot ∷ outer) s)) ts,
-          )
-
-  -- ---- statements
-
-  abbrev stmt_sites : PStmt → Bool → Surroundings → List Site
-  stmt_sites t listed a = here_stmt t listed a ∷ inside_stmt sc.blocks t of_statement listed a
-
-  -- `j`: the block in which they stand
-  abbrev IsNested : ℕ → List Spot → PStmt → Type 0
-  IsNested j outer t = InStmt (IsSeen sc j) (IsInner sc j) t × AreTexts (blocks_of t of_statement outer)
+  abbrev IsNested : Begin → ℕ → List Spot → PStmt → Type 0
+  IsNested begin j outer t = IsTextIn begin j t × Texts (blocks_of t begin outer)
 
   abbrev AreNestedIn : ℕ → List Spot → PStmts → Type 0
-  AreNestedIn j outer ss = InStmts (IsSeen sc j) (IsInner sc j) ss × AreTexts (blocks_in_stmts ss outer)
+  AreNestedIn j outer ss = InStmts (IsSeen sc j) (IsInner sc j) ss × Texts (blocks_in_stmts ss outer)
+
+  -- the procedures of these declarations have blocks in the block j
+  pub callees : (j : ℕ) (outer : List Spot) (ds : PDecls) (a : Surroundings) (first : List Declared) → map (number_at sc.blocks) outer ≡ j ∷ around sc.blocks j → DeclsBuilt ds →
+      Fine (blocks_in_decls ds outer) → Part (sites_in_decls sc.blocks ds a first) → AreCallees sc.blocks j ds
+  callees j outer ds a first e b f h =
+      are_callees sc.blocks j outer ds a first e b (fine_numbered sc all (blocks_in_decls ds outer) f) (part_named sc all (sites_in_decls sc.blocks ds a first) h)
+
+  -- so have those that the body of a procedure declares
+  body_callees : (j : ℕ) (outer : List Spot) (t : PStmt) (a : Surroundings) → map (number_at sc.blocks) outer ≡ j ∷ around sc.blocks j → StmtBuilt t →
+      Fine (blocks_of t of_procedure outer) → Part (stmt_sites t of_procedure false a) → AreCallees sc.blocks j (decls_of t)
+  body_callees j outer (tree.block (tree.body spot ds ss)) a e b f h =
+      let declared = sites_in_decls sc.blocks ds a a.known in
+      let stated = sites_in_stmts sc.blocks ss (has_decls ds) (knowing_all sc.blocks ds a) in
+      let its = rest sc all (here_stmt (tree.block (tree.body spot ds ss)) false a) (declared ++ stated) h in
+      callees j outer ds a a.known e b.0 (each_front (IsFine sc all) (blocks_in_decls ds outer) (blocks_in_stmts ss outer) f) (front sc all declared stated its)
+  body_callees j outer t a e b f h = tt
 
   mutual
-    in_stmt : (j : ℕ) (outer : List Spot) (a : Surroundings) (t : PStmt) (listed : Bool) → IsAround sc.blocks j outer a → StmtBuilt t → ArePart (stmt_sites t listed a) →
-        AreFine (blocks_of t of_statement outer) → IsNested j outer t
-    in_stmt j outer a tree.empty l r b h f = (tt, tt)
-    in_stmt j outer a (tree.label n t) l r b h f = in_stmt j outer a t l r b (rest (here_stmt (tree.label n t) l a) (stmt_sites t l a) h) f
-    in_stmt j outer a (tree.assign (tree.subscripted n es) e) l r b h f =
-        let g = h.good in
-        let subscripts = in_list sc j outer a r es (each_front (IsGood sc) (inside_list es a) (sites e a) g.1) in
-        let value = in_expr sc j outer a r e (each_back (IsGood sc) (inside_list es a) (sites e a) g.1) in
-        ((left_seen sc j outer a r n g.0.known g.0.there, subscripts, value), tt)
-    in_stmt j outer a (tree.call_of (tree.called n es)) l r b h f =
-        let g = h.good in
-        (((all_seen sc j outer a r (n ∷ []) g.0.known g.0.there).0, in_actuals sc j outer a r es (formals_at a n) g.1), tt)
-    in_stmt j outer a (tree.go_to n) l r b h f =
-        let g = h.good in
-        ((all_seen sc j outer a r (n ∷ []) g.0.known g.0.there).0, tt)
-    in_stmt j outer a (tree.block (tree.body spot tree.no_decls ss)) l r b h f =
-        in_stmts j outer a ss false r b.1 (rest (here_stmt (tree.block (tree.body spot tree.no_decls ss)) l a) (sites_in_stmts sc.blocks ss false a) h) f
-    in_stmt j outer a (tree.block (tree.body spot (tree.decls d ds) ss)) l r b h f =
+    in_stmt : (j : ℕ) (outer : List Spot) (a : Surroundings) (t : PStmt) (begin : Begin) (listed : Bool) → IsAround sc.blocks j outer a → StmtBuilt t →
+        Part (stmt_sites t begin listed a) → Fine (blocks_of t begin outer) → IsNested begin j outer t
+    in_stmt j outer a tree.empty g l r b h f = (text_in g j tree.empty tt tt, tt)
+    in_stmt j outer a (tree.label n t) g l r b h f =
+        let nested = in_stmt j outer a t of_statement l r b (rest sc all (here_stmt (tree.label n t) l a) (stmt_sites t of_statement l a) h) f in
+        (text_in g j (tree.label n t) tt nested.0, nested.1)
+    in_stmt j outer a (tree.assign (tree.subscripted n es) e) g l r b h f =
+        let good = h.good in
+        let subscripts = in_list sc j outer a r es (each_front (IsGood sc) (inside_list es a) (sites e a) good.1) in
+        let value = in_expr sc j outer a r e (each_back (IsGood sc) (inside_list es a) (sites e a) good.1) in
+        (text_in g j (tree.assign (tree.subscripted n es) e) tt (left_seen sc j outer a r n es e l good.0.known h.kept.0 good.0.there, subscripts, value), tt)
+    in_stmt j outer a (tree.call_of (tree.called n es)) g l r b h f =
+        let good = h.good in
+        (text_in g j (tree.call_of (tree.called n es)) tt ((all_seen sc j outer a r (n ∷ []) good.0.known good.0.there).0, in_actuals sc j outer a r es (formals_at a n) good.1), tt)
+    in_stmt j outer a (tree.go_to n) g l r b h f =
+        let good = h.good in
+        (text_in g j (tree.go_to n) tt ((all_seen sc j outer a r (n ∷ []) good.0.known good.0.there).0), tt)
+    in_stmt j outer a (tree.block (tree.body spot tree.no_decls ss)) of_statement l r b h f =
+        in_stmts j outer a ss false r b.1 (rest sc all (here_stmt (tree.block (tree.body spot tree.no_decls ss)) l a) (sites_in_stmts sc.blocks ss false a) h) f
+    in_stmt j outer a (tree.block (tree.body spot (tree.decls d ds) ss)) of_statement l r b h f =
         let k = number_at sc.blocks spot in
+        let its = the_block spot outer (tree.decls d ds) ss in
         let c : Surroundings = inside_begin sc.blocks (tree.body spot (tree.decls d ds) ss) a in
         let after : Surroundings = knowing_all sc.blocks (tree.decls d ds) c in
         let declared = sites_in_decls sc.blocks (tree.decls d ds) c c.known in
         let stated = sites_in_stmts sc.blocks ss true after in
-        let its = rest (here_stmt (tree.block (tree.body spot (tree.decls d ds) ss)) l a) (declared ++ stated) h in
-        let begun = enters sc.blocks j outer spot a (is_some spot outer (tree.decls d ds) ss f.0) (around_is spot outer (tree.decls d ds) ss f.0) r in
-        let nested : AreNestedIn k (spot ∷ outer) ss =
-        in_stmts k (spot ∷ outer) after ss true (knows_all sc.blocks k (spot ∷ outer) (tree.decls d ds) c b.0 begun) b.1 (back declared stated its)
-        (each_back IsFine (blocks_in_decls (tree.decls d ds) (spot ∷ outer)) (blocks_in_stmts ss (spot ∷ outer)) f.1) in
-        (is_inner spot outer (tree.decls d ds) ss f.0 j r.chain_is, in_block spot outer (tree.decls d ds) ss f.0 c refl b.0 (front declared stated its) nested.0 nested.1)
-    in_stmt j outer a (tree.if_then c x) l r b h f =
-        let g = h.good in
-        let its = rest (here_stmt (tree.if_then c x) l a) (sites c a ++ stmt_sites x false a) h in
-        let nested = in_stmt j outer a x false r b (back (sites c a) (stmt_sites x false a) its) f in
-        ((in_expr sc j outer a r c (each_front (IsGood sc) (sites c a) (stmt_sites x false a) g.1), nested.0), nested.1)
-    in_stmt j outer a (tree.if_else c x y) l r b h f =
-        let its = rest (here_stmt (tree.if_else c x y) l a) (sites c a ++ stmt_sites x false a ++ stmt_sites y false a) h in
-        let two = front (sites c a ++ stmt_sites x false a) (stmt_sites y false a) its in
-        let condition = front (sites c a) (stmt_sites x false a) two in
-        let first = in_stmt j outer a x false r b.0 (back (sites c a) (stmt_sites x false a) two) (each_front IsFine (blocks_of x of_statement outer) (blocks_of y of_statement outer) f) in
+        let parts = rest sc all (here_stmt (tree.block (tree.body spot (tree.decls d ds) ss)) l a) (declared ++ stated) h in
+        let there = is_there sc all its f.0 in
+        let begun : IsAround sc.blocks k (spot ∷ outer) c = enters sc.blocks j outer spot a there (outer_is sc all its f.0) r in
+        let fine_decls = each_front (IsFine sc all) (blocks_in_decls (tree.decls d ds) (spot ∷ outer)) (blocks_in_stmts ss (spot ∷ outer)) f.1 in
+        let fine_stmts = each_back (IsFine sc all) (blocks_in_decls (tree.decls d ds) (spot ∷ outer)) (blocks_in_stmts ss (spot ∷ outer)) f.1 in
+        let part = front sc all declared stated parts in
+        let called = callees k (spot ∷ outer) (tree.decls d ds) c c.known begun.chain_is b.0 fine_decls part in
+        let inner = in_decls k (spot ∷ outer) c (tree.decls d ds) c.known begun b.0 called part fine_decls in
+        let nested = in_stmts k (spot ∷ outer) after ss true (knows_all sc.blocks k (spot ∷ outer) (tree.decls d ds) c b.0 called begun) b.1 (back sc all declared stated parts) fine_stmts in
+        let its_text : IsTextOf sc all its = is_text sc all its f.0 refl (built_items (tree.decls d ds) b.0) called (omega (arith, as_many sc.blocks (tree.decls d ds) c c.known b.0, part.less k)) nested.0 in (
+          is_inner sc all spot outer (tree.decls d ds) ss f.0 j r.chain_is,
+          (its_text, each_both (IsTextOf sc all) (blocks_in_decls (tree.decls d ds) (spot ∷ outer)) (blocks_in_stmts ss (spot ∷ outer)) inner nested.1),
+        )
+    in_stmt j outer a (tree.block (tree.body spot ds ss)) of_procedure l r b h f =
+        let after : Surroundings = knowing_all sc.blocks ds a in
+        let declared = sites_in_decls sc.blocks ds a a.known in
+        let stated = sites_in_stmts sc.blocks ss (has_decls ds) after in
+        let parts = rest sc all (here_stmt (tree.block (tree.body spot ds ss)) l a) (declared ++ stated) h in
+        let fine_decls = each_front (IsFine sc all) (blocks_in_decls ds outer) (blocks_in_stmts ss outer) f in
+        let fine_stmts = each_back (IsFine sc all) (blocks_in_decls ds outer) (blocks_in_stmts ss outer) f in
+        let part = front sc all declared stated parts in
+        let called = callees j outer ds a a.known r.chain_is b.0 fine_decls part in
+        let inner = in_decls j outer a ds a.known r b.0 called part fine_decls in
+        let nested = in_stmts j outer after ss (has_decls ds) (knows_all sc.blocks j outer ds a b.0 called r) b.1 (back sc all declared stated parts) fine_stmts in
+        (nested.0, each_both (IsTextOf sc all) (blocks_in_decls ds outer) (blocks_in_stmts ss outer) inner nested.1)
+    in_stmt j outer a (tree.if_then c x) g l r b h f =
+        let good = h.good in
+        let its = rest sc all (here_stmt (tree.if_then c x) l a) (sites c a ++ stmt_sites x of_statement false a) h in
+        let nested = in_stmt j outer a x of_statement false r b (back sc all (sites c a) (stmt_sites x of_statement false a) its) f in
+        (text_in g j (tree.if_then c x) tt (in_expr sc j outer a r c (each_front (IsGood sc) (sites c a) (stmt_sites x of_statement false a) good.1), nested.0), nested.1)
+    in_stmt j outer a (tree.if_else c x y) g l r b h f =
+        let its = rest sc all (here_stmt (tree.if_else c x y) l a) (sites c a ++ stmt_sites x of_statement false a ++ stmt_sites y of_statement false a) h in
+        let two = front sc all (sites c a ++ stmt_sites x of_statement false a) (stmt_sites y of_statement false a) its in
+        let condition = front sc all (sites c a) (stmt_sites x of_statement false a) two in
+        let first = in_stmt j outer a x of_statement false r b.0 (back sc all (sites c a) (stmt_sites x of_statement false a) two) (each_front (IsFine sc all) (blocks_of x of_statement outer) (blocks_of y of_statement outer) f) in
         let other =
-        in_stmt j outer a y false r b.1 (back (sites c a ++ stmt_sites x false a) (stmt_sites y false a) its) (each_back IsFine (blocks_of x of_statement outer) (blocks_of y of_statement outer) f) in
-        ((in_expr sc j outer a r c condition.good, first.0, other.0), each_both IsTextOf (blocks_of x of_statement outer) (blocks_of y of_statement outer) first.1 other.1)
-    in_stmt j outer a (tree.while c x) l r b h f =
-        let its = rest (here_stmt (tree.while c x) l a) (sites c a ++ stmt_sites x false a) h in
-        let nested = in_stmt j outer a x false r b (back (sites c a) (stmt_sites x false a) its) f in
-        ((in_expr sc j outer a r c ((front (sites c a) (stmt_sites x false a) its).good), nested.0), nested.1)
-    in_stmt j outer a (tree.until x c) l r b h f =
-        let its = rest (here_stmt (tree.until x c) l a) (stmt_sites x false a ++ sites c a) h in
-        let nested = in_stmt j outer a x false r b (front (stmt_sites x false a) (sites c a) its) f in
-        ((nested.0, in_expr sc j outer a r c ((back (stmt_sites x false a) (sites c a) its).good)), nested.1)
-    in_stmt j outer a (tree.for v x y z t) l r b h f =
-        let g = h.good in
-        let its = rest (here_stmt (tree.for v x y z t) l a) (sites x a ++ sites y a ++ sites z a ++ stmt_sites t false a) h in
-        let three = front (sites x a ++ sites y a ++ sites z a) (stmt_sites t false a) its in
-        let two = front (sites x a ++ sites y a) (sites z a) three in
-        let nested = in_stmt j outer a t false r b (back (sites x a ++ sites y a ++ sites z a) (stmt_sites t false a) its) f in (
-          (
-            (all_seen sc j outer a r (v ∷ []) g.0.known g.0.there).0,
-            in_expr sc j outer a r x ((front (sites x a) (sites y a) two).good),
-            in_expr sc j outer a r y ((back (sites x a) (sites y a) two).good),
-            in_expr sc j outer a r z ((back (sites x a ++ sites y a) (sites z a) three).good),
+        in_stmt j outer a y of_statement false r b.1 (back sc all (sites c a ++ stmt_sites x of_statement false a) (stmt_sites y of_statement false a) its) (each_back (IsFine sc all) (blocks_of x of_statement outer) (blocks_of y of_statement outer) f) in
+        (text_in g j (tree.if_else c x y) tt (in_expr sc j outer a r c condition.good, first.0, other.0), each_both (IsTextOf sc all) (blocks_of x of_statement outer) (blocks_of y of_statement outer) first.1 other.1)
+    in_stmt j outer a (tree.while c x) g l r b h f =
+        let its = rest sc all (here_stmt (tree.while c x) l a) (sites c a ++ stmt_sites x of_statement false a) h in
+        let nested = in_stmt j outer a x of_statement false r b (back sc all (sites c a) (stmt_sites x of_statement false a) its) f in
+        (text_in g j (tree.while c x) tt (in_expr sc j outer a r c ((front sc all (sites c a) (stmt_sites x of_statement false a) its).good), nested.0), nested.1)
+    in_stmt j outer a (tree.until x c) g l r b h f =
+        let its = rest sc all (here_stmt (tree.until x c) l a) (stmt_sites x of_statement false a ++ sites c a) h in
+        let nested = in_stmt j outer a x of_statement false r b (front sc all (stmt_sites x of_statement false a) (sites c a) its) f in
+        (text_in g j (tree.until x c) tt (nested.0, in_expr sc j outer a r c ((back sc all (stmt_sites x of_statement false a) (sites c a) its).good)), nested.1)
+    in_stmt j outer a (tree.for v x y z t) g l r b h f =
+        let good = h.good in
+        let its = rest sc all (here_stmt (tree.for v x y z t) l a) (sites x a ++ sites y a ++ sites z a ++ stmt_sites t of_statement false a) h in
+        let three = front sc all (sites x a ++ sites y a ++ sites z a) (stmt_sites t of_statement false a) its in
+        let two = front sc all (sites x a ++ sites y a) (sites z a) three in
+        let nested = in_stmt j outer a t of_statement false r b (back sc all (sites x a ++ sites y a ++ sites z a) (stmt_sites t of_statement false a) its) f in (
+          text_in g j (tree.for v x y z t) tt (
+            (all_seen sc j outer a r (v ∷ []) good.0.known good.0.there).0,
+            in_expr sc j outer a r x ((front sc all (sites x a) (sites y a) two).good),
+            in_expr sc j outer a r y ((back sc all (sites x a) (sites y a) two).good),
+            in_expr sc j outer a r z ((back sc all (sites x a ++ sites y a) (sites z a) three).good),
             nested.0,
           ),
           nested.1,
         )
-    in_stmt j outer a (tree.thru e x) l r b h f =
-        let its = rest (here_stmt (tree.thru e x) l a) (sites e a ++ stmt_sites x false a) h in
-        let nested = in_stmt j outer a x false r b (back (sites e a) (stmt_sites x false a) its) f in
-        ((in_expr sc j outer a r e ((front (sites e a) (stmt_sites x false a) its).good), nested.0), nested.1)
-    in_stmt j outer a (tree.case e ss) l r b h f =
-        let its = rest (here_stmt (tree.case e ss) l a) (sites e a ++ sites_in_stmts sc.blocks ss false a) h in
-        let nested = in_stmts j outer a ss false r b (back (sites e a) (sites_in_stmts sc.blocks ss false a) its) f in
-        ((in_expr sc j outer a r e ((front (sites e a) (sites_in_stmts sc.blocks ss false a) its).good), nested.0), nested.1)
-    in_stmt j outer a (tree.process (tree.called n es) None) l r b h f =
-        let g = h.good in
-        (((all_seen sc j outer a r (n ∷ []) g.0.known g.0.there).0, in_actuals sc j outer a r es (formals_at a n) g.1, tt), tt)
-    in_stmt j outer a (tree.process (tree.called n es) (Some m)) l r b h f =
-        let g = h.good in
-        let names = all_seen sc j outer a r (n ∷ m ∷ []) g.0.known g.0.there in
-        ((names.0, in_actuals sc j outer a r es (formals_at a n) g.1, names.1.0), tt)
-    in_stmt j outer a (tree.event act e) l r b h f =
-        let g = h.good in
-        ((all_seen sc j outer a r (e.name ∷ []) g.0.known g.0.there).0, tt)
-    in_stmt j outer a (tree.write n spot phrases es) l r b h f =
-        let g = h.good in
-        (in_list sc j outer a r es g.1, tt)
+    in_stmt j outer a (tree.thru e x) g l r b h f =
+        let its = rest sc all (here_stmt (tree.thru e x) l a) (sites e a ++ stmt_sites x of_statement false a) h in
+        let nested = in_stmt j outer a x of_statement false r b (back sc all (sites e a) (stmt_sites x of_statement false a) its) f in
+        (text_in g j (tree.thru e x) tt (in_expr sc j outer a r e ((front sc all (sites e a) (stmt_sites x of_statement false a) its).good), nested.0), nested.1)
+    in_stmt j outer a (tree.case e ss) g l r b h f =
+        let its = rest sc all (here_stmt (tree.case e ss) l a) (sites e a ++ sites_in_stmts sc.blocks ss false a) h in
+        let nested = in_stmts j outer a ss false r b (back sc all (sites e a) (sites_in_stmts sc.blocks ss false a) its) f in
+        (text_in g j (tree.case e ss) tt (in_expr sc j outer a r e ((front sc all (sites e a) (sites_in_stmts sc.blocks ss false a) its).good), nested.0), nested.1)
+    in_stmt j outer a (tree.process c task) g l r b h f = absurd b
+    in_stmt j outer a (tree.event act e) g l r b h f =
+        let good = h.good in
+        (text_in g j (tree.event act e) tt ((all_seen sc j outer a r (e.name ∷ []) good.0.known good.0.there).0), tt)
+    in_stmt j outer a (tree.write n spot phrases es) g l r b h f =
+        let good = h.good in
+        (text_in g j (tree.write n spot phrases es) tt (in_list sc j outer a r es good.1), tt)
 
     pub in_stmts : (j : ℕ) (outer : List Spot) (a : Surroundings) (ss : PStmts) (listed : Bool) → IsAround sc.blocks j outer a → StmtsBuilt ss →
-        ArePart (sites_in_stmts sc.blocks ss listed a) → AreFine (blocks_in_stmts ss outer) → AreNestedIn j outer ss
+        Part (sites_in_stmts sc.blocks ss listed a) → Fine (blocks_in_stmts ss outer) → AreNestedIn j outer ss
     in_stmts j outer a tree.no_stmts l r b h f = (tt, tt)
     in_stmts j outer a (tree.stmts t ss) l r b h f =
         let first =
-        in_stmt j outer a t l r b.0 (front (stmt_sites t l a) (sites_in_stmts sc.blocks ss l a) h) (each_front IsFine (blocks_of t of_statement outer) (blocks_in_stmts ss outer) f) in
+        in_stmt j outer a t of_statement l r b.0 (front sc all (stmt_sites t of_statement l a) (sites_in_stmts sc.blocks ss l a) h) (each_front (IsFine sc all) (blocks_of t of_statement outer) (blocks_in_stmts ss outer) f) in
         let others =
-        in_stmts j outer a ss l r b.1 (back (stmt_sites t l a) (sites_in_stmts sc.blocks ss l a) h) (each_back IsFine (blocks_of t of_statement outer) (blocks_in_stmts ss outer) f) in
-        ((first.0, others.0), each_both IsTextOf (blocks_of t of_statement outer) (blocks_in_stmts ss outer) first.1 others.1)
+        in_stmts j outer a ss l r b.1 (back sc all (stmt_sites t of_statement l a) (sites_in_stmts sc.blocks ss l a) h) (each_back (IsFine sc all) (blocks_of t of_statement outer) (blocks_in_stmts ss outer) f) in
+        ((first.0, others.0), each_both (IsTextOf sc all) (blocks_of t of_statement outer) (blocks_in_stmts ss outer) first.1 others.1)
+
+    -- the procedures that are declared, and what stands in them
+    pub in_decls : (j : ℕ) (outer : List Spot) (a : Surroundings) (ds : PDecls) (first : List Declared) → IsAround sc.blocks j outer a → DeclsBuilt ds → AreCallees sc.blocks j ds →
+        Part (sites_in_decls sc.blocks ds a first) → Fine (blocks_in_decls ds outer) → Texts (blocks_in_decls ds outer)
+    in_decls j outer a tree.no_decls first r b c h f = tt
+    in_decls j outer a (tree.decls (tree.simple kind ns) ds) first r b c h f =
+        let after : Surroundings = knowing sc.blocks (tree.simple kind ns) ds a in
+        in_decls j outer after ds first (knows_one sc.blocks j outer (tree.simple kind ns) ds a b.0 c r) b.1 c (rest sc all _ (sites_in_decls sc.blocks ds after first) h) f
+    in_decls j outer a (tree.decls (tree.files ns) ds) first r b c h f =
+        let after : Surroundings = knowing sc.blocks (tree.files ns) ds a in
+        in_decls j outer after ds first (knows_one sc.blocks j outer (tree.files ns) ds a b.0 c r) b.1 c (rest sc all _ (sites_in_decls sc.blocks ds after first) h) f
+    in_decls j outer a (tree.decls (tree.forward g) ds) first r b c h f =
+        let after : Surroundings = knowing sc.blocks (tree.forward g) ds a in
+        in_decls j outer after ds first (knows_one sc.blocks j outer (tree.forward g) ds a b.0 c r) b.1 c.1 (rest sc all _ (sites_in_decls sc.blocks ds after first) h) f
+    in_decls j outer a (tree.decls (tree.procedure g t) ds) first r b c h f =
+        let k = number_at sc.blocks g.name.spot in
+        let after : Surroundings = knowing sc.blocks (tree.procedure g t) ds a in
+        let known = knows_one sc.blocks j outer (tree.procedure g t) ds a b.0 c r in
+        let d : Surroundings = inside_procedure sc.blocks g after in
+        let begun : IsAround sc.blocks k (g.name.spot ∷ outer) d = enters_procedure sc.blocks j outer g after c.0 known in
+        let declaration : Site = declaring sc.blocks g t ds a in
+        let its : List Site = stmt_sites t of_procedure false d in
+        let later : List Site = sites_in_decls sc.blocks ds after first in
+        let whole = front sc all (declaration ∷ its) later h in
+        let part = rest sc all declaration its whole in
+        let fine_body = each_front (IsFine sc all) (blocks_of t of_procedure (g.name.spot ∷ outer)) (blocks_in_decls ds outer) f.1 in
+        let fine_later = each_back (IsFine sc all) (blocks_of t of_procedure (g.name.spot ∷ outer)) (blocks_in_decls ds outer) f.1 in
+        let nested = in_stmt k (g.name.spot ∷ outer) d t of_procedure false begun b.0.1 part fine_body in
+        let inner = in_decls j outer after ds first known b.1 c.1 (back sc all (declaration ∷ its) later h) fine_later in
+        let called = body_callees k (g.name.spot ∷ outer) t d begun.chain_is b.0.1 fine_body part in
+        let its_text : IsTextOf sc all (procedure_block g t outer) =
+        is_text sc all (procedure_block g t outer) f.0 (map_none _ g.params c.0.plain) (body_items t b.0.1) called (omega (arith, procedure_many sc.blocks g t ds a d refl b.0.1, whole.less k)) nested.0 in
+        (its_text, each_both (IsTextOf sc all) (blocks_of t of_procedure (g.name.spot ∷ outer)) (blocks_in_decls ds outer) nested.1 inner)
+    in_decls j outer a (tree.decls d ds) first r b c h f = absurd b.0

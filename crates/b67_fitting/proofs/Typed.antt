@@ -1,30 +1,36 @@
 -- Expressions at which no rule is broken are of a kind, and so are the parts of them.
-use Rattle.std.proofs.Common.{◌≡◌, List, [], ◌++◌, Some, refl, ap, subst}
+use Rattle.std.proofs.Common.{◌≡◌, ◌⊎◌, List, [], ◌++◌, Some, refl, subst}
 use Rattle.algol_tree.specs.declared.tree.Kind.{Kind}
 use Rattle.algol_tree.specs.declared.tree.Kind.TheVariants as types
 use Rattle.algol_tree.specs.declared.tree.Named.{Named}
+use Rattle.algol_tree.specs.declared.tree.Heading.{Heading}
 use Rattle.algol_tree.specs.Blocks.{Block}
 use Rattle.algol_tree.specs.Checks.{is_function}
 use Rattle.algol_tree.specs.Classes as class
-use Rattle.algol_tree.specs.Classes.{Class, is_array}
+use Rattle.algol_tree.specs.Classes.{is_array}
+use Rattle.algol_tree.specs.Counted.{exprs_count}
 use Rattle.algol_tree.specs.Plain as tree
 use Rattle.algol_tree.specs.Plain.{PExpr, PExprs}
 use Rattle.algol_tree.specs.Sites.{here, sites, inside_list}
 use Rattle.algol_tree.specs.Surroundings.{Surroundings, class_of}
-use Rattle.algol_tree.specs.Types.{given_by, taken_by, read_type, type_of}
+use Rattle.algol_tree.specs.Types.{given_by, taken_by, type_of}
 use Rattle.b67_templates.specs.Fragments.{IsWhole}
 use Rattle.b67_fitting.specs.Wholes.{NumbersWhole, AllWhole}
 use Rattle.b67_fitting.proofs.Lists.{each_front, each_back, nil_front, nil_back}
-use Rattle.b67_fitting.proofs.Clean.{IsClean, AreClean, KnowsPlain, plain_first, none_such, none_happens, read_kind, wrong, wrong_for, wrong_list, kind_wanted, wrong_if}
+use Rattle.b67_fitting.proofs.Clean.{IsClean, AreClean, KnowsPlain, plain_first, none_such, none_happens, none_called, read_kind, read_as, wrong, wrong_for, wrong_list, kind_wanted, wrong_if}
 
 module _ (a : Surroundings) where
   abbrev pub IsOf : Kind → Named → Type 0
   IsOf k n = class_of a n ≡ class.simple k
 
+  -- the name of a typed procedure
+  abbrev pub IsFunction : Kind → Named → Type 0
+  IsFunction k n = (h : Heading) × (class_of a n ≡ class.procedure h) × (h.kind ≡ Some k)
+
   abbrev pub TypedExpr : Kind → PExpr → Type 0
   TypedExpr k (tree.number z spot) = (k ≡ types.Number) × IsWhole z
   TypedExpr k (tree.truth b spot) = k ≡ types.Truth
-  TypedExpr k (tree.variable (tree.subscripted n tree.none)) = IsOf k n
+  TypedExpr k (tree.variable (tree.subscripted n tree.none)) = IsOf k n ⊎ IsFunction k n
   TypedExpr k (tree.paren e spot) = TypedExpr k e
   TypedExpr k (tree.plus e spot) = (k ≡ types.Number) × TypedExpr types.Number e
   TypedExpr k (tree.neg e spot) = (k ≡ types.Number) × TypedExpr types.Number e
@@ -49,16 +55,17 @@ module _ (blocks : List Block) (a : Surroundings) (plain : KnowsPlain a) where
   of_variable : (n : Named) → IsClean blocks (here (tree.variable (tree.subscripted n tree.none)) a) → HasKind a (tree.variable (tree.subscripted n tree.none))
   of_variable n c =
       let r = read_kind (class_of a n) n.spot (plain_first a plain n [] c.known) c.typed in
-      record { kind = r.0; is = ap read_type r.1; typed = r.1 }
+      record { kind = r.0; is = read_as (class_of a n) r.0 r.1; typed = r.1 }
 
   pub typed : (e : PExpr) → NumbersWhole e → AreClean blocks (sites e a) → HasKind a e
   typed (tree.number z spot) w c = record { kind = types.Number; is = refl; typed = (refl, w) }
   typed (tree.truth b spot) w c = record { kind = types.Truth; is = refl; typed = refl }
   typed (tree.variable (tree.subscripted n tree.none)) w c = of_variable n c.0
   typed (tree.variable (tree.subscripted n (tree.more e es))) w c =
-      absurd (none_such is_array (class_of a n) n.spot (λ k. refl) refl (plain_first a plain n [] c.0.known) (nil_front _ _ c.0.typed))
-  typed (tree.call (tree.called n es)) w c =
-      absurd (none_such is_function (class_of a n) n.spot (λ k. refl) refl (plain_first a plain n [] c.0.known) c.0.typed)
+      absurd (none_such is_array (class_of a n) n.spot (λ k. refl) refl (λ h. refl) (plain_first a plain n [] c.0.known) (nil_front _ _ c.0.typed))
+  typed (tree.call (tree.called n tree.none)) w c = absurd w
+  typed (tree.call (tree.called n (tree.more e es))) w c =
+      absurd (none_called is_function (class_of a n) (exprs_count es) n.spot (λ k. refl) refl (plain_first a plain n [] c.0.known) c.0.typed c.0.counted)
   typed (tree.happened e spot) w c = absurd (none_happens e.task (class_of a e.name) e.name.spot (plain_first a plain e.name [] c.0.known) c.0.typed)
   typed (tree.paren e spot) w c =
       let h = typed e w c.1 in

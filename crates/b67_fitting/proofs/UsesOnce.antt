@@ -3,18 +3,18 @@ use Rattle.std.proofs.Common.{arith, ◌≡◌, ℕ, ◌+◌, ◌-◌, ◌≤◌
 use Rattle.std.specs.List.{flat_map}
 use Rattle.algol_tree.specs.declared.token.Spot.{Spot}
 use Rattle.algol_tree.specs.declared.tree.Named.{Named}
-use Rattle.algol_tree.specs.Ascending.{spots_of_names, spots_of_expr, spots_of_exprs, spots_of_task, spots_of_stmt, spots_of_stmts, spots_of_decls}
-use Rattle.algol_tree.specs.Blocks.{Block, of_statement}
+use Rattle.algol_tree.specs.Ascending.{spots_of_names, spots_of_expr, spots_of_exprs, spots_of_heading, spots_of_stmt, spots_of_stmts, spots_of_decls}
+use Rattle.algol_tree.specs.Blocks.{Block, Begin, of_statement, of_procedure}
 use Rattle.algol_tree.specs.Classes.{Formal}
 use Rattle.algol_tree.specs.Plain as tree
 use Rattle.algol_tree.specs.Plain.{PExpr, PExprs, PStmt, PStmts, PDecls}
-use Rattle.algol_tree.specs.Scopes.{Use, used, use_by, left_use, left_uses, if_named, part_uses, uses_at}
+use Rattle.algol_tree.specs.Scopes.{Use, used, use_by, left_use, left_uses, part_uses, uses_at}
 use Rattle.algol_tree.specs.Sites as site
-use Rattle.algol_tree.specs.Sites.{Site, sites, first_formal, other_formals, wants_value, name_part, actual_part, inside_expr, inside_list, inside_actuals, here_stmt, inside_stmt, sites_in_stmts, sites_in_decls}
+use Rattle.algol_tree.specs.Sites.{Site, sites, first_formal, other_formals, wants_value, name_part, actual_part, inside_expr, inside_list, inside_actuals, here_stmt, inside_stmt, sites_in_stmts, sites_in_decls, has_decls}
 use Rattle.algol_tree.specs.Sorts as sort
 use Rattle.algol_tree.specs.Sorts.{Sort, Declared}
-use Rattle.algol_tree.specs.Surroundings.{Surroundings, declared_as, formals_at, knowing, knowing_all, inside_begin}
-use Rattle.b67_fitting.specs.Built.{AreSimple, StmtBuilt, StmtsBuilt}
+use Rattle.algol_tree.specs.Surroundings.{Surroundings, declared_as, formals_at, knowing, knowing_all, inside, inside_procedure}
+use Rattle.b67_fitting.specs.Built.{DeclsBuilt, StmtBuilt, StmtsBuilt}
 use Rattle.b67_fitting.proofs.Numbering.{here, times, times_both, places, places_both, use_place}
 
 -- what a name is used as stands at the name
@@ -121,65 +121,52 @@ module _ (s : Spot) where
             in_actuals es (other_formals fs),
           )
 
-    in_process : (n : Named) (es : PExprs) (task : Option Named) (fs : List Formal) →
-        times use_place s (flat_map (used a) (n ∷ if_named task)) + uses_in (inside_actuals es fs a) ≤ places s (n.spot ∷ (spots_of_exprs es ++ spots_of_task task))
-    in_process n es None fs = omega (arith, of_names a (n ∷ []), places_both s (spots_of_exprs es) [], in_actuals es fs)
-    in_process n es (Some m) fs = omega (arith, of_names a (n ∷ m ∷ []), places_both s (spots_of_exprs es) (m.spot ∷ []), in_actuals es fs)
-
-  -- ---- statements
+  -- ---- statements and declarations
 
   module _ (blocks : List Block) where
-    -- declarations use no names
-    pub none_used : (ds : PDecls) (a : Surroundings) (first : List Declared) → AreSimple ds → uses_in (sites_in_decls blocks ds a first) ≡ 0
-    none_used tree.no_decls a first b = refl
-    none_used (tree.decls (tree.simple kind ns) ds) a first b = omega (arith, none_used ds (knowing blocks (tree.simple kind ns) ds a) first b)
-    none_used (tree.decls (tree.files ns) ds) a first b = omega (arith, none_used ds (knowing blocks (tree.files ns) ds a) first b)
-    none_used (tree.decls d ds) a first b = absurd b
-
-    abbrev stmt_sites : PStmt → Bool → Surroundings → List Site
-    stmt_sites t listed a = here_stmt t listed a ∷ inside_stmt blocks t of_statement listed a
+    abbrev stmt_sites : PStmt → Begin → Bool → Surroundings → List Site
+    stmt_sites t begin listed a = here_stmt t listed a ∷ inside_stmt blocks t begin listed a
 
     mutual
-      in_stmt : (t : PStmt) (listed : Bool) (a : Surroundings) → StmtBuilt t → uses_in (stmt_sites t listed a) ≤ places s (spots_of_stmt t)
-      in_stmt tree.empty l a b = omega arith
-      in_stmt (tree.label n t) l a b = omega (arith, of_names a (n ∷ []), in_stmt t l a b)
-      in_stmt (tree.assign (tree.subscripted n es) e) l a b =
+      in_stmt : (t : PStmt) (begin : Begin) (listed : Bool) (a : Surroundings) → StmtBuilt t → uses_in (stmt_sites t begin listed a) ≤ places s (spots_of_stmt t)
+      in_stmt tree.empty g l a b = omega arith
+      in_stmt (tree.label n t) g l a b = omega (arith, of_names a (n ∷ []), in_stmt t of_statement l a b)
+      in_stmt (tree.assign (tree.subscripted n es) e) g l a b =
           omega (arith, of_left a n (declared_as a n), uses_both (inside_list es a) (sites e a), places_both s (spots_of_exprs es) (spots_of_expr e), in_list a es, in_expr a e)
-      in_stmt (tree.call_of (tree.called n es)) l a b = omega (arith, of_names a (n ∷ []), in_actuals a es (formals_at a n))
-      in_stmt (tree.go_to n) l a b = omega (arith, of_names a (n ∷ []))
-      in_stmt (tree.block (tree.body spot tree.no_decls ss)) l a b = omega (arith, in_stmts ss false a b.1)
-      in_stmt (tree.block (tree.body spot (tree.decls d ds) ss)) l a b =
-          let c : Surroundings = inside_begin blocks (tree.body spot (tree.decls d ds) ss) a in
-          let k : Surroundings = knowing_all blocks (tree.decls d ds) c in
+      in_stmt (tree.call_of (tree.called n es)) g l a b = omega (arith, of_names a (n ∷ []), in_actuals a es (formals_at a n))
+      in_stmt (tree.go_to n) g l a b = omega (arith, of_names a (n ∷ []))
+      in_stmt (tree.block (tree.body spot ds ss)) g l a b =
+          let c : Surroundings = inside blocks g (tree.body spot ds ss) a in
+          let k : Surroundings = knowing_all blocks ds c in
           omega (
             arith,
-            uses_both (sites_in_decls blocks (tree.decls d ds) c c.known) (sites_in_stmts blocks ss true k),
-            none_used (tree.decls d ds) c c.known b.0,
-            places_both s (spots_of_decls (tree.decls d ds)) (spots_of_stmts ss),
-            in_stmts ss true k b.1,
+            uses_both (sites_in_decls blocks ds c c.known) (sites_in_stmts blocks ss (has_decls ds) k),
+            places_both s (spots_of_decls ds) (spots_of_stmts ss),
+            in_decls ds c c.known b.0,
+            in_stmts ss (has_decls ds) k b.1,
           )
-      in_stmt (tree.if_then c x) l a b =
-          omega (arith, uses_both (sites c a) (stmt_sites x false a), places_both s (spots_of_expr c) (spots_of_stmt x), in_expr a c, in_stmt x false a b)
-      in_stmt (tree.if_else c x y) l a b =
+      in_stmt (tree.if_then c x) g l a b =
+          omega (arith, uses_both (sites c a) (stmt_sites x of_statement false a), places_both s (spots_of_expr c) (spots_of_stmt x), in_expr a c, in_stmt x of_statement false a b)
+      in_stmt (tree.if_else c x y) g l a b =
           omega (
             arith,
-            uses_both (sites c a ++ stmt_sites x false a) (stmt_sites y false a),
-            uses_both (sites c a) (stmt_sites x false a),
+            uses_both (sites c a ++ stmt_sites x of_statement false a) (stmt_sites y of_statement false a),
+            uses_both (sites c a) (stmt_sites x of_statement false a),
             places_both s (spots_of_expr c ++ spots_of_stmt x) (spots_of_stmt y),
             places_both s (spots_of_expr c) (spots_of_stmt x),
             in_expr a c,
-            in_stmt x false a b.0,
-            in_stmt y false a b.1,
+            in_stmt x of_statement false a b.0,
+            in_stmt y of_statement false a b.1,
           )
-      in_stmt (tree.while c x) l a b =
-          omega (arith, uses_both (sites c a) (stmt_sites x false a), places_both s (spots_of_expr c) (spots_of_stmt x), in_expr a c, in_stmt x false a b)
-      in_stmt (tree.until x c) l a b =
-          omega (arith, uses_both (stmt_sites x false a) (sites c a), places_both s (spots_of_stmt x) (spots_of_expr c), in_expr a c, in_stmt x false a b)
-      in_stmt (tree.for v x y z t) l a b =
+      in_stmt (tree.while c x) g l a b =
+          omega (arith, uses_both (sites c a) (stmt_sites x of_statement false a), places_both s (spots_of_expr c) (spots_of_stmt x), in_expr a c, in_stmt x of_statement false a b)
+      in_stmt (tree.until x c) g l a b =
+          omega (arith, uses_both (stmt_sites x of_statement false a) (sites c a), places_both s (spots_of_stmt x) (spots_of_expr c), in_expr a c, in_stmt x of_statement false a b)
+      in_stmt (tree.for v x y z t) g l a b =
           omega (
             arith,
             of_names a (v ∷ []),
-            uses_both (sites x a ++ sites y a ++ sites z a) (stmt_sites t false a),
+            uses_both (sites x a ++ sites y a ++ sites z a) (stmt_sites t of_statement false a),
             uses_both (sites x a ++ sites y a) (sites z a),
             uses_both (sites x a) (sites y a),
             places_both s (spots_of_expr x ++ spots_of_expr y ++ spots_of_expr z) (spots_of_stmt t),
@@ -188,17 +175,39 @@ module _ (s : Spot) where
             in_expr a x,
             in_expr a y,
             in_expr a z,
-            in_stmt t false a b,
+            in_stmt t of_statement false a b,
           )
-      in_stmt (tree.thru e x) l a b =
-          omega (arith, uses_both (sites e a) (stmt_sites x false a), places_both s (spots_of_expr e) (spots_of_stmt x), in_expr a e, in_stmt x false a b)
-      in_stmt (tree.case e ss) l a b =
+      in_stmt (tree.thru e x) g l a b =
+          omega (arith, uses_both (sites e a) (stmt_sites x of_statement false a), places_both s (spots_of_expr e) (spots_of_stmt x), in_expr a e, in_stmt x of_statement false a b)
+      in_stmt (tree.case e ss) g l a b =
           omega (arith, uses_both (sites e a) (sites_in_stmts blocks ss false a), places_both s (spots_of_expr e) (spots_of_stmts ss), in_expr a e, in_stmts ss false a b)
-      in_stmt (tree.process (tree.called n es) task) l a b = in_process a n es task (formals_at a n)
-      in_stmt (tree.event act e) l a b = omega (arith, of_names a (e.name ∷ []))
-      in_stmt (tree.write n spot phrases es) l a b = omega (arith, of_names a (n ∷ []), in_list a es)
+      in_stmt (tree.process c task) g l a b = absurd b
+      in_stmt (tree.event act e) g l a b = omega (arith, of_names a (e.name ∷ []))
+      in_stmt (tree.write n spot phrases es) g l a b = omega (arith, of_names a (n ∷ []), in_list a es)
 
       pub in_stmts : (ss : PStmts) (listed : Bool) (a : Surroundings) → StmtsBuilt ss → uses_in (sites_in_stmts blocks ss listed a) ≤ places s (spots_of_stmts ss)
       in_stmts tree.no_stmts l a b = omega arith
       in_stmts (tree.stmts t ss) l a b =
-          omega (arith, uses_both (stmt_sites t l a) (sites_in_stmts blocks ss l a), places_both s (spots_of_stmt t) (spots_of_stmts ss), in_stmt t l a b.0, in_stmts ss l a b.1)
+          omega (arith, uses_both (stmt_sites t of_statement l a) (sites_in_stmts blocks ss l a), places_both s (spots_of_stmt t) (spots_of_stmts ss), in_stmt t of_statement l a b.0, in_stmts ss l a b.1)
+
+      -- declarations use names only in the bodies of procedures
+      pub in_decls : (ds : PDecls) (a : Surroundings) (first : List Declared) → DeclsBuilt ds → uses_in (sites_in_decls blocks ds a first) ≤ places s (spots_of_decls ds)
+      in_decls tree.no_decls a first b = omega arith
+      in_decls (tree.decls (tree.simple kind ns) ds) a first b =
+          omega (arith, places_both s (spots_of_names ns) (spots_of_decls ds), in_decls ds (knowing blocks (tree.simple kind ns) ds a) first b.1)
+      in_decls (tree.decls (tree.files ns) ds) a first b =
+          omega (arith, places_both s (spots_of_names ns) (spots_of_decls ds), in_decls ds (knowing blocks (tree.files ns) ds a) first b.1)
+      in_decls (tree.decls (tree.forward h) ds) a first b =
+          omega (arith, places_both s (spots_of_heading h) (spots_of_decls ds), in_decls ds (knowing blocks (tree.forward h) ds a) first b.1)
+      in_decls (tree.decls (tree.procedure h t) ds) a first b =
+          let after : Surroundings = knowing blocks (tree.procedure h t) ds a in
+          let c : Surroundings = inside_procedure blocks h after in
+          omega (
+            arith,
+            uses_both (stmt_sites t of_procedure false c) (sites_in_decls blocks ds after first),
+            places_both s (spots_of_heading h ++ spots_of_stmt t) (spots_of_decls ds),
+            places_both s (spots_of_heading h) (spots_of_stmt t),
+            in_stmt t of_procedure false c b.0.1,
+            in_decls ds after first b.1,
+          )
+      in_decls (tree.decls d ds) a first b = absurd b.0

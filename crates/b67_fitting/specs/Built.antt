@@ -1,17 +1,25 @@
--- Which programs are built: all that they declare are simple variables and files, in whatever block.
+-- Which programs are built: all that they declare are simple variables, files and procedures without parameters, in whatever block. Each
+-- procedure has a name, as in each tree that was read: by its name a block is known as that of a procedure.
+use Rattle.std.specs.Prelude.{◌≡◌, false, []}
 use Rattle.algol_tree.specs.Plain as tree
-use Rattle.algol_tree.specs.Plain.{PStmt, PStmts, PDecls, PProgram}
-
-abbrev pub AreSimple : PDecls → Type 0
-AreSimple tree.no_decls = Unit {0}
-AreSimple (tree.decls (tree.simple kind ns) ds) = AreSimple ds
-AreSimple (tree.decls (tree.files ns) ds) = AreSimple ds
-AreSimple (tree.decls d ds) = ⊥
+use Rattle.algol_tree.specs.Plain.{PStmt, PStmts, PDecl, PDecls, PProgram}
+use Rattle.algol_tree.specs.Sorts.{same_name}
 
 abbrev mutual
+  pub DeclBuilt : PDecl → Type 0
+  DeclBuilt (tree.simple kind ns) = Unit {0}
+  DeclBuilt (tree.files ns) = Unit {0}
+  DeclBuilt (tree.forward h) = h.params ≡ []
+  DeclBuilt (tree.procedure h s) = (h.params ≡ []) × StmtBuilt s × (same_name h.name.name [] ≡ false)
+  DeclBuilt d = ⊥
+
+  pub DeclsBuilt : PDecls → Type 0
+  DeclsBuilt tree.no_decls = Unit {0}
+  DeclsBuilt (tree.decls d ds) = DeclBuilt d × DeclsBuilt ds
+
   pub StmtBuilt : PStmt → Type 0
   StmtBuilt (tree.label n s) = StmtBuilt s
-  StmtBuilt (tree.block (tree.body spot ds ss)) = AreSimple ds × StmtsBuilt ss
+  StmtBuilt (tree.block (tree.body spot ds ss)) = DeclsBuilt ds × StmtsBuilt ss
   StmtBuilt (tree.if_then c x) = StmtBuilt x
   StmtBuilt (tree.if_else c x y) = StmtBuilt x × StmtBuilt y
   StmtBuilt (tree.while c b) = StmtBuilt b
@@ -19,6 +27,7 @@ abbrev mutual
   StmtBuilt (tree.for v a s l b) = StmtBuilt b
   StmtBuilt (tree.thru e b) = StmtBuilt b
   StmtBuilt (tree.case e ss) = StmtsBuilt ss
+  StmtBuilt (tree.process c task) = ⊥
   StmtBuilt _ = Unit {0}
 
   pub StmtsBuilt : PStmts → Type 0
@@ -26,4 +35,4 @@ abbrev mutual
   StmtsBuilt (tree.stmts s ss) = StmtBuilt s × StmtsBuilt ss
 
 abbrev pub IsBuilt : PProgram → Type 0
-IsBuilt (tree.program (tree.body spot ds ss)) = AreSimple ds × StmtsBuilt ss
+IsBuilt (tree.program (tree.body spot ds ss)) = DeclsBuilt ds × StmtsBuilt ss

@@ -1,15 +1,15 @@
 -- An accepted program that is built has code: its trees fit.
-use Rattle.std.specs.Prelude.{◌≡◌, Option, Some}
+use Rattle.std.specs.Prelude.{◌≡◌, ℕ, ◌<◌, length, Option, Some, None}
 use Rattle.algol_tree.specs.declared.token.Spot.{Spot}
 use Rattle.algol_tree.specs.Plain.{PProgram}
 use Rattle.algol_tree.specs.Accepted.{Accepted}
 use Rattle.algol_tree.specs.Ascending.{IsInOrder}
 use Rattle.algol_tree.specs.Blocks.{block_numbered}
 use Rattle.algol_tree.specs.Cells as cells
-use Rattle.algol_tree.specs.Couples.{Located, declaration_at}
+use Rattle.algol_tree.specs.Cells.{level_of}
+use Rattle.algol_tree.specs.Couples.{Located, declaration_at, result_at}
 use Rattle.algol_tree.specs.Scopes.{scopes_of}
 use Rattle.b67_ops.specs.declared.Couple.{Couple}
-use Rattle.b67_ops.specs.declared.TheConstants.{OUTER_LEVEL}
 use Rattle.b67_templates.specs.Fitting.{StmtsFit}
 use Rattle.b67_fitting.specs.Built.{IsBuilt}
 use Rattle.b67_fitting.specs.Texts.{HasPlainTexts}
@@ -21,7 +21,17 @@ AreCouples p known =
     (spot : Spot) (d : Located) (c : cells.Couple) → declaration_at p spot ≡ Some d → d.couple ≡ Some c →
     known spot ≡ Some (record { level = c.level; index = c.index })
 
+abbrev pub spelled : Option cells.Couple → Option Couple
+spelled None = None
+spelled (Some c) = Some (record { level = c.level; index = c.index })
+
+-- .. and that of the result is the one that the procedure has whose heading with the body is the name's declaration, if it is typed
+abbrev pub AreResults : PProgram → (Spot → Option Couple) → Type 0
+AreResults p results = (spot : Spot) (d : Located) → declaration_at p spot ≡ Some d → results spot ≡ spelled (result_at p d.spot)
+
+-- the statements of each block fit its level
 abbrev pub AcceptedProgramsFit : Type 0
 AcceptedProgramsFit =
-    (p : PProgram) (known : Spot → Option Couple) → Accepted p → IsInOrder p → IsBuilt p → HasWholeNumbers p → HasPlainTexts p → AreCouples p known →
-    StmtsFit (scopes_of p) known OUTER_LEVEL ((block_numbered ((scopes_of p).blocks) 0).stmts)
+    (p : PProgram) (known results : Spot → Option Couple) → Accepted p → IsInOrder p → IsBuilt p → HasWholeNumbers p → HasPlainTexts p → AreCouples p known → AreResults p results →
+    (j : ℕ) → j < length (scopes_of p).blocks →
+    StmtsFit (scopes_of p) known results (level_of (block_numbered ((scopes_of p).blocks) j)) ((block_numbered ((scopes_of p).blocks) j).stmts)

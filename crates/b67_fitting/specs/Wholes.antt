@@ -1,4 +1,5 @@
--- The numbers of a program are whole: the magnitude of each number in its expressions is at most the greatest that the machine has.
+-- The numbers of a program are whole: the magnitude of each number in its expressions is at most the greatest that the machine has. And
+-- each call in an expression has actuals, as in a tree that was read from a text, where a name alone reads as a variable.
 use Rattle.std.specs.Prelude.{List}
 use Rattle.std.specs.List.{AllByRecursion}
 use Rattle.algol_tree.specs.Plain as tree
@@ -9,7 +10,8 @@ abbrev mutual
   pub NumbersWhole : PExpr → Type 0
   NumbersWhole (tree.number z spot) = IsWhole z
   NumbersWhole (tree.variable (tree.subscripted n es)) = AllWhole es
-  NumbersWhole (tree.call (tree.called n es)) = AllWhole es
+  NumbersWhole (tree.call (tree.called n tree.none)) = ⊥
+  NumbersWhole (tree.call (tree.called n (tree.more e es))) = NumbersWhole e × AllWhole es
   NumbersWhole (tree.paren e spot) = NumbersWhole e
   NumbersWhole (tree.plus e spot) = NumbersWhole e
   NumbersWhole (tree.neg e spot) = NumbersWhole e

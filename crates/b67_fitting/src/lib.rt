@@ -8,9 +8,9 @@ ghost use Rattle.b67_fitting.specs.Nested.{BuiltProgramsLieNested};
 ghost use Rattle.b67_fitting.specs.Numbers.{SourcesHaveWholeNumbers};
 ghost use Rattle.b67_fitting.specs.Texts.{SourcesHavePlainTexts};
 
-/// Law: the statements of an accepted program that is built fit, so they have code. Each expression has the kind that its
-/// place wants, each name is a simple variable whose couple a right table has, each line has as many items as its
-/// format prints numbers, and of the format no word is wider than a line, and each text can stand between quotes.
+/// Law: the texts of an accepted program that is built fit, so they have code. Each expression has the kind that its place wants, each name
+/// is a simple variable or a procedure without parameters whose couple a right table has, each line has as many items as its format prints
+/// numbers, and of the format no word is wider than a line, and each text can stand between quotes.
 pub fn accepted_programs_fit()
     ensures { AcceptedProgramsFit }
 {}

@@ -1,0 +1,152 @@
+-- The cells of a block among those of the parts of a tree: its variables, its procedures and its result are no more than these.
+use Rattle.std.proofs.Common.{arith, ◌≡◌, ℕ, ◌+◌, ◌==◌, ◌≤◌, Bool, true, false, List, [], ◌∷◌, ◌++◌, filter, length, map, is_some, Option, Some, None, refl, ap, ◌∙◌, if◌then◌else◌, suc}
+use Rattle.std.proofs.lemmas.Bool.Decides.{nat_tests}
+use Rattle.std.proofs.lemmas.List.{length-append, length-map}
+use Rattle.std.proofs.lemmas.List.Concat.{flat_map-append}
+use Rattle.std.proofs.lemmas.List.Elements.{filter-append}
+use Rattle.std.specs.List.{flat_map}
+use Rattle.algol_tree.specs.declared.token.Spot.{Spot}
+use Rattle.algol_tree.specs.declared.tree.Heading.{Heading}
+use Rattle.algol_tree.specs.declared.tree.Kind.{Kind}
+use Rattle.algol_tree.specs.declared.tree.Named.{Named}
+use Rattle.algol_tree.specs.Blocks.{Block, of_procedure, decls_of, number_at}
+use Rattle.algol_tree.specs.Cells as cells
+use Rattle.algol_tree.specs.Cells.{Cell, Content, cells_for, result_cells, cells_at, cells_of}
+use Rattle.algol_tree.specs.Plain as tree
+use Rattle.algol_tree.specs.Plain.{PStmt, PDecls}
+use Rattle.algol_tree.specs.Sites as site
+use Rattle.algol_tree.specs.Sites.{Site, here_stmt, inside_stmt, sites_in_stmts, sites_in_decls, has_decls}
+use Rattle.algol_tree.specs.Sorts.{Parameter, Declared}
+use Rattle.algol_tree.specs.Surroundings.{Surroundings, knowing, knowing_all, inside_procedure}
+use Rattle.algol_meaning.specs.Statements.{decls_items}
+use Rattle.b67_templates.specs.Cells.{Simple, simple_cells, of_kind, result_of, variables, procedures}
+use Rattle.b67_fitting.specs.Built.{DeclsBuilt, StmtBuilt}
+
+pub cells_both : (blocks : List Block) (xs ys : List Site) (k : ℕ) →
+    length (cells_of blocks (xs ++ ys) k) ≡ length (cells_of blocks xs k) + length (cells_of blocks ys k)
+cells_both blocks xs ys k =
+    let own : Cell → Bool = λ c. c.block == k in
+    let front = flat_map (cells_at blocks) xs in
+    let back = flat_map (cells_at blocks) ys in
+    ap (λ z. length (filter own z)) (flat_map-append (cells_at blocks) xs ys) ∙ ap length (filter-append own front back) ∙ length-append (filter own front) (filter own back)
+
+is_own : (k : ℕ) → (k == k) ≡ true
+is_own k = grind (arith, nat_tests)
+
+-- what a block has a cell for is a cell of the block
+own_cells : (k : ℕ) (content : Content) (ns : List Named) → length (filter (λ (c : Cell). c.block == k) (cells_for k content ns)) ≡ length ns
+own_cells k content [] = refl
+own_cells k content (n ∷ ns) =
+    let rest = filter (λ (c : Cell). c.block == k) (cells_for k content ns) in
+    ap (λ (b : Bool). length (if b then record { block = k; spot = n.spot; content = content } ∷ rest else rest)) (is_own k) ∙ ap suc (own_cells k content ns)
+
+one_there : (k : ℕ) (spot : Spot) (content : Content) (cs : List Cell) →
+    length (filter (λ (c : Cell). c.block == k) (record { block = k; spot = spot; content = content } ∷ cs)) ≡ suc (length (filter (λ (c : Cell). c.block == k) cs))
+one_there k spot content cs =
+    let rest = filter (λ (c : Cell). c.block == k) cs in
+    ap (λ (b : Bool). length (if b then record { block = k; spot = spot; content = content } ∷ rest else rest)) (is_own k)
+
+-- ---- variables and procedures
+
+module _ (blocks : List Block) where
+  -- the parts of a procedure: its declaration, and its body
+  abbrev pub declaring : Heading → PStmt → PDecls → Surroundings → Site
+  declaring h t ds a = record { part = site.declaration (tree.procedure h t) ds; around = a }
+
+  abbrev pub body_sites : PStmt → Surroundings → List Site
+  body_sites t a = here_stmt t false a ∷ inside_stmt blocks t of_procedure false a
+
+  pub as_many : (ds : PDecls) (a : Surroundings) (first : List Declared) → DeclsBuilt ds →
+      length (variables ds) + length (procedures ds) ≤ length (cells_of blocks (sites_in_decls blocks ds a first) a.block)
+  as_many tree.no_decls a first s = omega arith
+  as_many (tree.decls (tree.simple kind ns) ds) a first s =
+      let k = a.block in
+      let own : Cell → Bool = λ c. c.block == k in
+      let its : List Cell = cells_for k cells.variable ns in
+      let after : Surroundings = knowing blocks (tree.simple kind ns) ds a in
+      let more : List Cell = flat_map (cells_at blocks) (sites_in_decls blocks ds after first) in
+      omega (
+        arith,
+        length-append (of_kind kind ns) (variables ds),
+        length-map {B = Simple} ns (λ (n : Named). record { name = n.name; kind = Some kind }),
+        ap length (filter-append own its more),
+        length-append (filter own its) (filter own more),
+        own_cells k cells.variable ns,
+        as_many ds after first s.1,
+      )
+  as_many (tree.decls (tree.files ns) ds) a first s = as_many ds (knowing blocks (tree.files ns) ds a) first s.1
+  as_many (tree.decls (tree.forward h) ds) a first s = as_many ds (knowing blocks (tree.forward h) ds a) first s.1
+  as_many (tree.decls (tree.procedure h t) ds) a first s =
+      let k = a.block in
+      let after : Surroundings = knowing blocks (tree.procedure h t) ds a in
+      let c : Surroundings = inside_procedure blocks h after in
+      let own = number_at blocks h.name.spot in
+      let its : List Site = declaring h t ds a ∷ body_sites t c in
+      let more : List Cell = (result_cells blocks h ++ cells_for own cells.parameter h.params) ++ flat_map (cells_at blocks) (body_sites t c) in
+      let first_one : length (cells_of blocks its k) ≡ suc (length (filter (λ (z : Cell). z.block == k) more)) = one_there k h.name.spot cells.procedure more in
+      omega (arith, cells_both blocks its (sites_in_decls blocks ds after first) k, first_one, as_many ds after first s.1)
+  as_many (tree.decls d ds) a first s = absurd s.0
+
+  -- ---- a procedure
+
+  -- those of its own declarations
+  body_many : (t : PStmt) (a : Surroundings) → StmtBuilt t → length (variables (decls_of t)) + length (procedures (decls_of t)) ≤ length (cells_of blocks (body_sites t a) a.block)
+  body_many (tree.block (tree.body spot ds ss)) a b =
+      let declared = sites_in_decls blocks ds a a.known in
+      omega (arith, as_many ds a a.known b.0, cells_both blocks declared (sites_in_stmts blocks ss (has_decls ds) (knowing_all blocks ds a)) a.block)
+  body_many t a b = omega arith
+
+  result_many : (o : Option Kind) (k : ℕ) (n : Named) →
+      length (result_of o n.name) ≤ length (filter (λ (c : Cell). c.block == k) (if is_some o then cells_for k cells.result (n ∷ []) else []))
+  result_many None k n = omega arith
+  result_many (Some kind) k n = omega (arith, own_cells k cells.result (n ∷ []))
+
+  -- its result, whose cell stands in the block around
+  pub procedure_many : (h : Heading) (t : PStmt) (ds : PDecls) (a : Surroundings) (c : Surroundings) → c.block ≡ number_at blocks h.name.spot → StmtBuilt t →
+      length (result_of h.kind h.name.name) + (length (variables (decls_of t)) + length (procedures (decls_of t)))
+      ≤ length (cells_of blocks (declaring h t ds a ∷ body_sites t c) (number_at blocks h.name.spot))
+  procedure_many h t ds a c e b =
+      let k = number_at blocks h.name.spot in
+      let own : Cell → Bool = λ z. z.block == k in
+      let named : Cell = record { block = a.block; spot = h.name.spot; content = cells.procedure } in
+      let result : List Cell = result_cells blocks h in
+      let params : List Cell = cells_for k cells.parameter h.params in
+      omega (
+        arith,
+        cells_both blocks (declaring h t ds a ∷ []) (body_sites t c) k,
+        ap length (filter-append own (named ∷ (result ++ params)) []),
+        length-append (filter own (named ∷ (result ++ params))) [],
+        ap length (filter-append own (named ∷ []) (result ++ params)),
+        length-append (filter own (named ∷ [])) (filter own (result ++ params)),
+        ap length (filter-append own result params),
+        length-append (filter own result) (filter own params),
+        result_many h.kind k h.name,
+        body_many t c b,
+        ap (λ (i : ℕ). length (cells_of blocks (body_sites t c) i)) e,
+      )
+
+-- ---- a block
+
+-- the cells that it has from its entry on
+pub simple_many : (b : Block) → length (simple_cells b) ≡ length b.parameters + (length (result_of b.result b.name) + length (variables b.decls))
+simple_many b =
+    let by_value : Parameter → Simple = λ p. record { name = p.name; kind = None } in
+    omega (
+      arith,
+      length-append (map by_value b.parameters ++ result_of b.result b.name) (variables b.decls),
+      length-append (map by_value b.parameters) (result_of b.result b.name),
+      length-map {B = Simple} b.parameters by_value,
+    )
+
+-- no declaration is made by an action
+pub built_items : (ds : PDecls) → DeclsBuilt ds → decls_items ds ≡ []
+built_items tree.no_decls s = refl
+built_items (tree.decls (tree.simple kind ns) ds) s = built_items ds s.1
+built_items (tree.decls (tree.files ns) ds) s = built_items ds s.1
+built_items (tree.decls (tree.forward h) ds) s = built_items ds s.1
+built_items (tree.decls (tree.procedure h t) ds) s = built_items ds s.1
+built_items (tree.decls d ds) s = absurd s.0
+
+pub body_items : (t : PStmt) → StmtBuilt t → decls_items (decls_of t) ≡ []
+body_items (tree.block (tree.body spot ds ss)) b = built_items ds b.0
+body_items t b = refl

@@ -1,0 +1,173 @@
+-- Where the variables and the procedures of a block lie in its frame.
+use Rattle.std.proofs.Common.{arith, ◌≡◌, ◌⊎◌, inl, inr, ℕ, ◌+◌, Bool, true, false, cond, List, [], ◌∷◌, ◌++◌, filter, length, Option, Some, None, refl, sym, ap, ◌∙◌, subst, append_assoc, if◌then◌else◌}
+use Rattle.std.specs.List.{AllByRecursion}
+use Rattle.algol_tree.specs.declared.token.Spot.{Spot}
+use Rattle.algol_tree.specs.declared.tree.Heading.{Heading}
+use Rattle.algol_tree.specs.declared.tree.Kind.{Kind}
+use Rattle.algol_tree.specs.declared.tree.Named.{Named}
+use Rattle.algol_tree.specs.Ascending.{spots_of_names, spots_of_stmt, spots_of_decl, spots_of_decls}
+use Rattle.algol_tree.specs.Blocks.{Block}
+use Rattle.algol_tree.specs.Cells as cells
+use Rattle.algol_tree.specs.Cells.{Cell, cells_for, index_from}
+use Rattle.algol_tree.specs.Names.{is_one_of, result_names_of, specified}
+use Rattle.algol_tree.specs.Plain as tree
+use Rattle.algol_tree.specs.Plain.{PStmt, PDecls}
+use Rattle.b67_templates.specs.Cells.{Simple, of_kind, variables, result_of, simple_cells, procedures}
+use Rattle.b67_fitting.proofs.Aligned.{Aligned, aligned_on, aligned_result, index_past, IsControl, control}
+use Rattle.b67_fitting.proofs.Apart.{IsIn, each_in, in_front, in_back, in_either, IsApart, Apart, apart_sym, apart_back, apart_from}
+use Rattle.b67_fitting.proofs.Frames.{variable_cells, control_cells, decl_cells, result_cell}
+use Rattle.b67_fitting.proofs.Homed.{IsHome}
+use Rattle.b67_fitting.proofs.Known.{variable_spots, headings}
+use Rattle.b67_fitting.proofs.Lists.{each_front, each_back, each_both, each_of}
+
+-- ---- places
+
+-- those of a procedure behind its name
+abbrev behind_procedure : Heading → PStmt → List Spot
+behind_procedure h s = spots_of_names h.params ++ spots_of_names h.values ++ spots_of_names (specified h) ++ spots_of_stmt s
+
+pub variable_among : (ds : PDecls) (s : Spot) → IsIn s (variable_spots ds) → IsIn s (spots_of_decls ds)
+variable_among tree.no_decls s i = absurd i
+variable_among (tree.decls (tree.simple kind ns) ds) s i = by (in_either s (spots_of_names ns) (variable_spots ds) i) (variable_among ds s)
+  where
+    by : IsIn s (spots_of_names ns) ⊎ IsIn s (variable_spots ds) → (IsIn s (variable_spots ds) → IsIn s (spots_of_decls ds)) → IsIn s (spots_of_names ns ++ spots_of_decls ds)
+    by (inl j) later = in_front s (spots_of_names ns) (spots_of_decls ds) j
+    by (inr j) later = in_back s (spots_of_names ns) (spots_of_decls ds) (later j)
+variable_among (tree.decls d ds) s i = in_back s (spots_of_decl d) (spots_of_decls ds) (variable_among ds s i)
+
+heading_among : (ds : PDecls) (h : Heading) → IsIn h (headings ds) → IsIn h.name.spot (spots_of_decls ds)
+heading_among tree.no_decls h i = absurd i
+heading_among (tree.decls (tree.procedure g s) ds) h (inl e) = inl (ap (λ (z : Heading). z.name.spot) e)
+heading_among (tree.decls (tree.procedure g s) ds) h (inr i) = in_back h.name.spot (spots_of_decl (tree.procedure g s)) (spots_of_decls ds) (heading_among ds h i)
+heading_among (tree.decls d ds) h i = in_back h.name.spot (spots_of_decl d) (spots_of_decls ds) (heading_among ds h i)
+
+heading_named : (ds : PDecls) (h : Heading) → IsIn h (headings ds) → IsIn h.name.spot (spots_of_names (procedures ds))
+heading_named tree.no_decls h i = absurd i
+heading_named (tree.decls (tree.procedure g s) ds) h (inl e) = inl (ap (λ (z : Heading). z.name.spot) e)
+heading_named (tree.decls (tree.procedure g s) ds) h (inr i) = inr (heading_named ds h i)
+heading_named (tree.decls d ds) h i = heading_named ds h i
+
+cells_apart : (block : ℕ) (ns : List Named) (spot : Spot) → AllByRecursion (λ s. IsApart s spot) (spots_of_names ns) → AllByRecursion (λ (c : Cell). IsApart c.spot spot) (cells_for block cells.variable ns)
+cells_apart block [] spot h = tt
+cells_apart block (n ∷ ns) spot h = (h.0, cells_apart block ns spot h.1)
+
+-- what is apart from all places of the declarations is apart from their variables
+variables_far : (block : ℕ) (ds : PDecls) (spot : Spot) → AllByRecursion (λ s. IsApart s spot) (spots_of_decls ds) → AllByRecursion (λ (c : Cell). IsApart c.spot spot) (variable_cells block ds)
+variables_far block tree.no_decls spot h = tt
+variables_far block (tree.decls (tree.simple kind ns) ds) spot h =
+    each_both (λ (c : Cell). IsApart c.spot spot) (cells_for block cells.variable ns) (variable_cells block ds)
+    (cells_apart block ns spot (each_front (λ s. IsApart s spot) (spots_of_names ns) (spots_of_decls ds) h))
+    (variables_far block ds spot (each_back (λ s. IsApart s spot) (spots_of_names ns) (spots_of_decls ds) h))
+variables_far block (tree.decls d ds) spot h = variables_far block ds spot (each_back (λ s. IsApart s spot) (spots_of_decl d) (spots_of_decls ds) h)
+
+-- .. and from their procedures
+controls_far : (block : ℕ) (ds : PDecls) (spot : Spot) → AllByRecursion (λ s. IsApart s spot) (spots_of_decls ds) → AllByRecursion (λ (c : Cell). IsApart c.spot spot) (control_cells block ds)
+controls_far block tree.no_decls spot h = tt
+controls_far block (tree.decls (tree.procedure g s) ds) spot h = (h.0, controls_far block ds spot (each_back (λ z. IsApart z spot) (spots_of_decl (tree.procedure g s)) (spots_of_decls ds) h))
+controls_far block (tree.decls d ds) spot h = controls_far block ds spot (each_back (λ s. IsApart s spot) (spots_of_decl d) (spots_of_decls ds) h)
+
+index_none : (cs : List Cell) (j : ℕ) (spot : Spot) → AllByRecursion (λ (c : Cell). IsApart c.spot spot) cs → index_from j cs spot ≡ None
+index_none [] j spot h = refl
+index_none (c ∷ cs) j spot h = ap (λ (b : Bool). if b then Some j else index_from (j + 1) cs spot) h.0 ∙ index_none cs (j + 1) spot h.1
+
+-- variables are apart from procedures
+variables_apart : (block : ℕ) (ds : PDecls) (h : Heading) → Apart (spots_of_decls ds) → IsIn h (headings ds) → AllByRecursion (λ (c : Cell). IsApart c.spot h.name.spot) (variable_cells block ds)
+variables_apart block tree.no_decls h p i = tt
+variables_apart block (tree.decls (tree.simple kind ns) ds) h p i =
+    each_both (λ (c : Cell). IsApart c.spot h.name.spot) (cells_for block cells.variable ns) (variable_cells block ds)
+    (cells_apart block ns h.name.spot (apart_from (spots_of_names ns) (spots_of_decls ds) h.name.spot p (heading_among ds h i)))
+    (variables_apart block ds h (apart_back (spots_of_names ns) (spots_of_decls ds) p) i)
+variables_apart block (tree.decls (tree.procedure g s) ds) h p (inl e) =
+    let far = each_back (IsApart g.name.spot) (behind_procedure g s) (spots_of_decls ds) p.0 in
+    variables_far block ds h.name.spot
+    (each_of (IsApart g.name.spot) (λ z. IsApart z h.name.spot) (spots_of_decls ds)
+    (λ z a. subst (λ (f : Heading). IsApart z f.name.spot) (sym e) (apart_sym g.name.spot z a)) far)
+variables_apart block (tree.decls (tree.procedure g s) ds) h p (inr i) = variables_apart block ds h (apart_back (spots_of_decl (tree.procedure g s)) (spots_of_decls ds) p) i
+variables_apart block (tree.decls d ds) h p i = variables_apart block ds h (apart_back (spots_of_decl d) (spots_of_decls ds) p) i
+
+-- ---- the cell of a variable
+
+cell_among : (block : ℕ) (ns : List Named) (s : Spot) → IsIn s (spots_of_names ns) → IsIn (record { block = block; spot = s; content = cells.variable }) (cells_for block cells.variable ns)
+cell_among block [] s i = absurd i
+cell_among block (n ∷ ns) s (inl e) = inl (ap (λ (z : Spot). record { block = block; spot = z; content = cells.variable }) e)
+cell_among block (n ∷ ns) s (inr i) = inr (cell_among block ns s i)
+
+pub variable_cell : (block : ℕ) (ds : PDecls) (s : Spot) → IsIn s (variable_spots ds) → IsIn (record { block = block; spot = s; content = cells.variable }) (decl_cells block ds)
+variable_cell block tree.no_decls s i = absurd i
+variable_cell block (tree.decls (tree.simple kind ns) ds) s i = by (in_either s (spots_of_names ns) (variable_spots ds) i) (variable_cell block ds s)
+  where
+    cell : Cell
+    cell = record { block = block; spot = s; content = cells.variable }
+
+    by : IsIn s (spots_of_names ns) ⊎ IsIn s (variable_spots ds) → (IsIn s (variable_spots ds) → IsIn cell (decl_cells block ds)) → IsIn cell (cells_for block cells.variable ns ++ decl_cells block ds)
+    by (inl j) later = in_front cell (cells_for block cells.variable ns) (decl_cells block ds) (cell_among block ns s j)
+    by (inr j) later = in_back cell (cells_for block cells.variable ns) (decl_cells block ds) (later j)
+variable_cell block (tree.decls (tree.procedure h body) ds) s i = inr (variable_cell block ds s i)
+variable_cell block (tree.decls d ds) s i = variable_cell block ds s i
+
+pub in_filter : {X : Type 0} (test : X → Bool) (x : X) (xs : List X) → IsIn x (filter test xs) → IsIn x xs
+in_filter test x [] i = i
+in_filter test x (y ∷ ys) i = by (test y) (in_filter test x ys) i
+  where
+    by : (b : Bool) → (IsIn x (filter test ys) → IsIn x ys) → IsIn x (cond b (y ∷ filter test ys) (filter test ys)) → IsIn x (y ∷ ys)
+    by true later (inl e) = inl e
+    by true later (inr j) = inr (later j)
+    by false later j = inr (later j)
+
+-- ---- frames
+
+pub simple_is : (b : Block) → b.parameters ≡ [] → simple_cells b ≡ result_of b.result b.name ++ variables b.decls
+simple_is b e = rw e refl
+
+module _ (b : Block) (home : IsHome b) (block : ℕ) where
+  abbrev pub frame : List Cell
+  frame = result_cell b.result block b.spot ++ (variable_cells block b.decls ++ control_cells block b.decls)
+
+  -- a variable has one number among all
+  pub framed : (name : List ℕ) (spot : Spot) (kind : Kind) → IsIn spot (variable_spots b.decls) → is_one_of (result_names_of b) name ≡ false →
+      Aligned (variables b.decls) (variable_cells block b.decls) name spot kind → Aligned (result_of b.result b.name ++ variables b.decls) frame name spot kind
+  framed name spot kind i o l =
+      aligned_result b.result b.name block b.spot (variables b.decls) (variable_cells block b.decls ++ control_cells block b.decls) name spot kind o
+      (each_in (IsApart b.spot) spot (spots_of_decls b.decls) home.apart.0 (variable_among b.decls spot i))
+      (aligned_on (variables b.decls) (variable_cells block b.decls) (control_cells block b.decls) name spot kind l)
+
+  result_apart : (o : Option Kind) (spot : Spot) → IsApart b.spot spot → AllByRecursion (λ (c : Cell). IsApart c.spot spot) (result_cell o block b.spot)
+  result_apart None spot h = tt
+  result_apart (Some kind) spot h = (h, tt)
+
+  of_long : (kind : Kind) (ns : List Named) (xs : List Simple) (cs : List Cell) → length cs ≡ length xs → length (cells_for block cells.variable ns ++ cs) ≡ length (of_kind kind ns ++ xs)
+  of_long kind [] xs cs h = h
+  of_long kind (n ∷ ns) xs cs h = omega (arith, of_long kind ns xs cs h)
+
+  variables_long : (ds : PDecls) → length (variable_cells block ds) ≡ length (variables ds)
+  variables_long tree.no_decls = refl
+  variables_long (tree.decls (tree.simple kind ns) ds) = of_long kind ns (variables ds) (variable_cells block ds) (variables_long ds)
+  variables_long (tree.decls d ds) = variables_long ds
+
+  as_long : (o : Option Kind) (ds : PDecls) → length (result_cell o block b.spot ++ variable_cells block ds) ≡ length (result_of o b.name ++ variables ds)
+  as_long None ds = variables_long ds
+  as_long (Some kind) ds = omega (arith, variables_long ds)
+
+  -- a procedure lies behind the simple cells
+  pub controlled : (h : Heading) → IsIn h (headings b.decls) →
+      (r : IsControl block b.decls h.name.spot) × (index_from 2 frame h.name.spot ≡ Some (2 + length (result_of b.result b.name ++ variables b.decls) + r.number))
+  controlled h i =
+      let r = control block b.decls h.name.spot (heading_named b.decls h i) in
+      let front = result_cell b.result block b.spot ++ variable_cells block b.decls in
+      let far =
+      each_both (λ (c : Cell). IsApart c.spot h.name.spot) (result_cell b.result block b.spot) (variable_cells block b.decls)
+      (result_apart b.result h.name.spot (each_in (IsApart b.spot) h.name.spot (spots_of_decls b.decls) home.apart.0 (heading_among b.decls h i)))
+      (variables_apart block b.decls h home.apart.1 i) in (
+        r,
+        ap (λ (cs : List Cell). index_from 2 cs h.name.spot) (sym (append_assoc (result_cell b.result block b.spot) (variable_cells block b.decls) (control_cells block b.decls)))
+            ∙ index_past front (control_cells block b.decls) 2 h.name.spot far ∙ r.index (2 + length front)
+            ∙ ap (λ (n : ℕ). Some (2 + n + r.number)) (as_long b.result b.decls),
+      )
+
+  -- without a result no cell stands at the block's own place
+  pub without : b.result ≡ None → index_from 2 frame b.spot ≡ None
+  without e =
+      let far = each_of (IsApart b.spot) (λ s. IsApart s b.spot) (spots_of_decls b.decls) (λ s a. apart_sym b.spot s a) home.apart.0 in
+      ap (λ (o : Option Kind). index_from 2 (result_cell o block b.spot ++ (variable_cells block b.decls ++ control_cells block b.decls)) b.spot) e
+      ∙ index_none (variable_cells block b.decls ++ control_cells block b.decls) 2 b.spot
+      (each_both (λ (c : Cell). IsApart c.spot b.spot) (variable_cells block b.decls) (control_cells block b.decls) (variables_far block b.decls b.spot far) (controls_far block b.decls b.spot far))

@@ -1,0 +1,261 @@
+-- The parts of a program that is built are listed.
+use Rattle.std.proofs.Common.{◌≡◌, inl, inr, ℕ, ◌+◌, Bool, false, true, List, [], ◌∷◌, ◌++◌, refl, sym, ap, subst, append-nil}
+use Rattle.algol_tree.specs.declared.token.Spot.{Spot}
+use Rattle.algol_tree.specs.declared.tree.Heading.{Heading}
+use Rattle.algol_tree.specs.declared.tree.Kind.TheVariants as types
+use Rattle.algol_tree.specs.Ascending.{spots_of_names, spots_of_expr, spots_of_heading, spots_of_stmt, spots_of_stmts, spots_of_decl, spots_of_decls}
+use Rattle.algol_tree.specs.Blocks.{Block, of_statement, of_procedure, procedure_block, number_at, blocks_of, blocks_in_decl, blocks_in_stmts, blocks_in_decls}
+use Rattle.algol_tree.specs.Cells as cells
+use Rattle.algol_tree.specs.Cells.{Cell, cells_for}
+use Rattle.algol_tree.specs.Names.{specified}
+use Rattle.algol_tree.specs.Plain as tree
+use Rattle.algol_tree.specs.Plain.{PExpr, PExprs, PStmt, PStmts, PDecl, PDecls}
+use Rattle.algol_tree.specs.Sites as parts
+use Rattle.algol_tree.specs.Sites.{Site, here, sites, has_decls, here_stmt, inside_list, inside_stmt, inside_decl, sites_in_stmts, sites_in_decls}
+use Rattle.algol_tree.specs.Sorts.{Declared, parameters_of}
+use Rattle.algol_tree.specs.Surroundings.{Surroundings, knowing, knowing_all, inside_procedure}
+use Rattle.b67_fitting.proofs.Apart.{IsIn, in_front, in_back, IsApart, Apart, apart_front, apart_back}
+use Rattle.b67_fitting.proofs.Bare.{IsBare, bare}
+use Rattle.b67_fitting.proofs.Declares.{begun, listed_expr, listed_line, fair_stmt, declares_simple, declares_files, declares_forward, declares_procedure, callees, behind_decls}
+use Rattle.b67_fitting.proofs.Frames.{control_cell, decl_cells}
+use Rattle.b67_fitting.proofs.Known.{Stands, stands_inner, stands_procedure}
+use Rattle.b67_fitting.proofs.Listed.{AllThere, IsProcedure, IsBlock, Listed, over, passed, site, left, declared, both, block, procedure}
+use Rattle.b67_fitting.proofs.Lists.{each_front, each_back}
+use Rattle.b67_fitting.proofs.Started.{IsStarted, start, step}
+use Rattle.b67_fitting.proofs.Stated.{TypedStmt, TypedStmts, TypedDecls}
+
+there_front : (blocks bs cs : List Block) → AllThere blocks (bs ++ cs) → AllThere blocks bs
+there_front blocks bs cs f b i = f b (in_front b bs cs i)
+
+there_back : (blocks bs cs : List Block) → AllThere blocks (bs ++ cs) → AllThere blocks cs
+there_back blocks bs cs f b i = f b (in_back b bs cs i)
+
+bare_block : (h : Heading) → h.params ≡ [] → parameters_of h ≡ []
+bare_block h e = rw e refl
+
+abbrev behind_name : Heading → List Spot
+behind_name h = spots_of_names h.params ++ spots_of_names h.values ++ spots_of_names (specified h)
+
+module _ (blocks : List Block) where
+  -- a procedure whose body is no BEGIN
+  procedure_bare : (k : ℕ) (x : Site) (outer : List Spot) (h : Heading) (s : PStmt) (a : Surroundings) → IsBare blocks s → h.params ≡ [] →
+      IsProcedure blocks k x (procedure_block h s outer) (behind_name h) → Stands blocks (procedure_block h s outer) a → TypedStmt blocks of_procedure a s →
+      AllThere blocks (blocks_of s of_statement (h.name.spot ∷ outer)) →
+      Listed blocks (number_at blocks h.name.spot) (spots_of_stmt s) [] (blocks_of s of_statement (h.name.spot ∷ outer)) (here_stmt s false a ∷ inside_stmt blocks s of_statement false a) →
+      Listed blocks k (spots_of_heading h ++ spots_of_stmt s) (control_cell k h.name.spot ∷ []) (procedure_block h s outer ∷ blocks_of s of_procedure (h.name.spot ∷ outer))
+      (x ∷ here_stmt s false a ∷ inside_stmt blocks s of_procedure false a)
+  procedure_bare k x outer h s a r e p g t f l =
+      subst
+      (λ (bs : List Block). Listed blocks k (spots_of_heading h ++ spots_of_stmt s) (control_cell k h.name.spot ∷ []) (procedure_block h s outer ∷ bs) (x ∷ here_stmt s false a ∷ inside_stmt blocks s of_procedure false a))
+      (sym (r.blocks_are (h.name.spot ∷ outer)))
+      (subst
+      (λ (xs : List Site). Listed blocks k (spots_of_heading h ++ spots_of_stmt s) (control_cell k h.name.spot ∷ []) (procedure_block h s outer ∷ blocks_of s of_statement (h.name.spot ∷ outer)) (x ∷ here_stmt s false a ∷ xs))
+      (sym (r.inside_are false a)) (procedure k x (procedure_block h s outer) (behind_name h) p is_block l))
+    where
+      is_block : IsBlock blocks (procedure_block h s outer) [] (here_stmt s false a ∷ inside_stmt blocks s of_statement false a)
+      is_block =
+          record {
+            there = g.there;
+            plain = bare_block h e;
+            apart = subst (λ (ds : PDecls). Apart (h.name.spot ∷ spots_of_decls ds)) (sym r.decls_are) (tt, tt);
+            own_is = subst (λ (ds : PDecls). [] ≡ decl_cells (number_at blocks h.name.spot) ds) (sym r.decls_are) refl;
+            around = a;
+            stands = g;
+            typed = subst (λ (ss : PStmts). TypedStmts blocks a ss) (sym r.stmts_are) (r.typed a t, tt);
+            inner =
+                subst (λ (ss : PStmts). AllThere blocks (blocks_in_stmts ss (h.name.spot ∷ outer))) (sym r.stmts_are)
+                (subst (AllThere blocks) (sym (append-nil (blocks_of s of_statement (h.name.spot ∷ outer)))) f);
+            front = [];
+            listed = false;
+            sites_are =
+                subst (λ (ss : PStmts). here_stmt s false a ∷ inside_stmt blocks s of_statement false a ≡ sites_in_stmts blocks ss false a) (sym r.stmts_are)
+                (ap (λ z. here_stmt s false a ∷ z) (sym (append-nil (inside_stmt blocks s of_statement false a))));
+          }
+
+  -- a procedure whose body is a BEGIN
+  procedure_begin : (k : ℕ) (x : Site) (outer : List Spot) (h : Heading) (spot : Spot) (ds : PDecls) (ss : PStmts) (a : Surroundings) → h.params ≡ [] →
+      IsProcedure blocks k x (procedure_block h (tree.block (tree.body spot ds ss)) outer) (behind_name h) → Stands blocks (procedure_block h (tree.block (tree.body spot ds ss)) outer) a →
+      Stands blocks (procedure_block h (tree.block (tree.body spot ds ss)) outer) (knowing_all blocks ds a) → TypedStmts blocks (knowing_all blocks ds a) ss →
+      Apart (spots_of_heading h ++ (spot ∷ (spots_of_decls ds ++ spots_of_stmts ss))) → AllThere blocks (blocks_in_stmts ss (h.name.spot ∷ outer)) →
+      Listed blocks a.block (spots_of_decls ds) (decl_cells a.block ds) (blocks_in_decls ds (h.name.spot ∷ outer)) (sites_in_decls blocks ds a a.known) →
+      Listed blocks (number_at blocks h.name.spot) (spots_of_stmts ss) [] (blocks_in_stmts ss (h.name.spot ∷ outer)) (sites_in_stmts blocks ss (has_decls ds) (knowing_all blocks ds a)) →
+      Listed blocks k (spots_of_heading h ++ (spot ∷ (spots_of_decls ds ++ spots_of_stmts ss))) (control_cell k h.name.spot ∷ [])
+      (procedure_block h (tree.block (tree.body spot ds ss)) outer ∷ (blocks_in_decls ds (h.name.spot ∷ outer) ++ blocks_in_stmts ss (h.name.spot ∷ outer)))
+      (x ∷ here_stmt (tree.block (tree.body spot ds ss)) false a ∷ (sites_in_decls blocks ds a a.known ++ sites_in_stmts blocks ss (has_decls ds) (knowing_all blocks ds a)))
+  procedure_begin k x outer h spot ds ss a e q g behind t p f these those =
+      let s = tree.block (tree.body spot ds ss) in
+      let c = procedure_block h s outer in
+      let number = number_at blocks h.name.spot in
+      let names = spots_of_decls ds in
+      let far = each_back (IsApart h.name.spot) (behind_name h) (spot ∷ (names ++ spots_of_stmts ss)) p.0 in
+      let inside : Apart (spot ∷ (names ++ spots_of_stmts ss)) = apart_back (spots_of_heading h) (spot ∷ (names ++ spots_of_stmts ss)) p in
+      procedure k x c (behind_name h) q
+      (record {
+        there = g.there;
+        plain = bare_block h e;
+        apart = (each_front (IsApart h.name.spot) names (spots_of_stmts ss) far.1, apart_front names (spots_of_stmts ss) inside.1);
+        own_is = append-nil (decl_cells number ds);
+        around = knowing_all blocks ds a;
+        stands = behind;
+        typed = t;
+        inner = f;
+        front = here_stmt s false a ∷ sites_in_decls blocks ds a a.known;
+        listed = has_decls ds;
+        sites_are = refl;
+      })
+      (site number (here_stmt s false a) (fair_stmt blocks number c a g s false refl refl refl)
+      (passed number spot
+      (both number
+      (subst (λ (n : ℕ). Listed blocks n names (decl_cells n ds) (blocks_in_decls ds (h.name.spot ∷ outer)) (sites_in_decls blocks ds a a.known)) g.block_is these) those)))
+
+  mutual
+    listed_stmt : (k : ℕ) (b : Block) (a : Surroundings) → Stands blocks b a → (s : PStmt) (listed : Bool) → TypedStmt blocks of_statement a s → Apart (spots_of_stmt s) →
+        AllThere blocks (blocks_of s of_statement (b.spot ∷ b.outer)) →
+        Listed blocks k (spots_of_stmt s) [] (blocks_of s of_statement (b.spot ∷ b.outer)) (here_stmt s listed a ∷ inside_stmt blocks s of_statement listed a)
+    listed_stmt k b a g tree.empty l t p f = site k (here_stmt tree.empty l a) (fair_stmt blocks k b a g tree.empty l refl refl refl) (over k)
+    listed_stmt k b a g (tree.label n s) l t p f = absurd t
+    listed_stmt k b a g (tree.assign (tree.subscripted n tree.none) e) l t p f = left k a n e l b g (listed_expr blocks k b a g t.0 e t.2)
+    listed_stmt k b a g (tree.assign (tree.subscripted n (tree.more e es)) v) l t p f = absurd t
+    listed_stmt k b a g (tree.call_of (tree.called n tree.none)) l t p f =
+        site k (here_stmt (tree.call_of (tree.called n tree.none)) l a) (fair_stmt blocks k b a g (tree.call_of (tree.called n tree.none)) l refl refl refl) (over k)
+    listed_stmt k b a g (tree.call_of (tree.called n (tree.more e es))) l t p f = absurd t
+    listed_stmt k b a g (tree.go_to n) l t p f = absurd t
+    listed_stmt k b a g (tree.block (tree.body spot tree.no_decls ss)) l t p f =
+        site k (here_stmt (tree.block (tree.body spot tree.no_decls ss)) l a) (fair_stmt blocks k b a g (tree.block (tree.body spot tree.no_decls ss)) l refl refl refl)
+        (passed k spot (listed_stmts k b a g ss false t.1 p.1 f))
+    listed_stmt k b a g (tree.block (tree.body spot (tree.decls d ds) ss)) l t p f =
+        let c = begun spot (b.spot ∷ b.outer) (tree.decls d ds) ss in
+        let there : IsIn c blocks = f c (inl refl) in
+        let begin : Surroundings = record { block = number_at blocks spot; depth = a.depth + 1; known = a.known } in
+        let within = knowing_all blocks (tree.decls d ds) begin in
+        let names = spots_of_decls (tree.decls d ds) in
+        let decl_blocks = blocks_in_decls (tree.decls d ds) (spot ∷ b.spot ∷ b.outer) in
+        let stmt_blocks = blocks_in_stmts ss (spot ∷ b.spot ∷ b.outer) in
+        let in_decls : AllThere blocks decl_blocks = λ e i. f e (inr (in_front e decl_blocks stmt_blocks i)) in
+        let in_stmts : AllThere blocks stmt_blocks = λ e i. f e (inr (in_back e decl_blocks stmt_blocks i)) in
+        let started = start blocks c begin (stands_inner blocks b c a g there refl) (callees blocks (tree.decls d ds) begin c t.0 in_decls) in
+        let behind = behind_decls blocks c begin (tree.decls d ds) started t.0 (apart_front names (spots_of_stmts ss) p.1) in
+        let inner =
+        both (number_at blocks spot) (listed_decls c begin a.known (tree.decls d ds) started t.0 (apart_front names (spots_of_stmts ss) p.1) in_decls)
+        (listed_stmts (number_at blocks spot) c within behind ss true t.1 (apart_back names (spots_of_stmts ss) p.1) in_stmts) in
+        site k (here_stmt (tree.block (tree.body spot (tree.decls d ds) ss)) l a) (fair_stmt blocks k b a g (tree.block (tree.body spot (tree.decls d ds) ss)) l refl refl refl)
+        (block k c refl
+        (record {
+          there = there;
+          plain = refl;
+          apart = (each_front (IsApart spot) names (spots_of_stmts ss) p.0, apart_front names (spots_of_stmts ss) p.1);
+          own_is = append-nil (decl_cells (number_at blocks spot) (tree.decls d ds));
+          around = within;
+          stands = behind;
+          typed = t.1;
+          inner = in_stmts;
+          front = sites_in_decls blocks (tree.decls d ds) begin a.known;
+          listed = true;
+          sites_are = refl;
+        })
+        inner)
+    listed_stmt k b a g (tree.if_then c x) l t p f =
+        site k (here_stmt (tree.if_then c x) l a) (fair_stmt blocks k b a g (tree.if_then c x) l refl refl refl)
+        (both k (listed_expr blocks k b a g types.Truth c t.0) (listed_stmt k b a g x false t.1 (apart_back (spots_of_expr c) (spots_of_stmt x) p) f))
+    listed_stmt k b a g (tree.if_else c x y) l t p f =
+        let these = blocks_of x of_statement (b.spot ∷ b.outer) in
+        let those = blocks_of y of_statement (b.spot ∷ b.outer) in
+        let front = apart_front (spots_of_expr c ++ spots_of_stmt x) (spots_of_stmt y) p in
+        let back = apart_back (spots_of_expr c ++ spots_of_stmt x) (spots_of_stmt y) p in
+        site k (here_stmt (tree.if_else c x y) l a) (fair_stmt blocks k b a g (tree.if_else c x y) l refl refl refl)
+        (both k
+        (both k (listed_expr blocks k b a g types.Truth c t.0)
+        (listed_stmt k b a g x false t.1 (apart_back (spots_of_expr c) (spots_of_stmt x) front) (there_front blocks these those f)))
+        (listed_stmt k b a g y false t.2 back (there_back blocks these those f)))
+    listed_stmt k b a g (tree.while c z) l t p f =
+        site k (here_stmt (tree.while c z) l a) (fair_stmt blocks k b a g (tree.while c z) l refl refl refl)
+        (both k (listed_expr blocks k b a g types.Truth c t.0) (listed_stmt k b a g z false t.1 (apart_back (spots_of_expr c) (spots_of_stmt z) p) f))
+    listed_stmt k b a g (tree.until z c) l t p f =
+        subst (λ (bs : List Block). Listed blocks k (spots_of_stmt z ++ spots_of_expr c) [] bs (here_stmt (tree.until z c) l a ∷ inside_stmt blocks (tree.until z c) of_statement l a))
+        (append-nil (blocks_of z of_statement (b.spot ∷ b.outer)))
+        (site k (here_stmt (tree.until z c) l a) (fair_stmt blocks k b a g (tree.until z c) l refl refl refl)
+        (both k (listed_stmt k b a g z false t.0 (apart_front (spots_of_stmt z) (spots_of_expr c) p) f) (listed_expr blocks k b a g types.Truth c t.1)))
+    listed_stmt k b a g (tree.for v x s m z) l t p f =
+        site k (here_stmt (tree.for v x s m z) l a) (fair_stmt blocks k b a g (tree.for v x s m z) l refl refl refl)
+        (both k (both k (both k (listed_expr blocks k b a g types.Number x t.1) (listed_expr blocks k b a g types.Number s t.2)) (listed_expr blocks k b a g types.Number m t.3))
+        (listed_stmt k b a g z false t.4 (apart_back (spots_of_expr x ++ spots_of_expr s ++ spots_of_expr m) (spots_of_stmt z) p.1) f))
+    listed_stmt k b a g (tree.thru e z) l t p f =
+        site k (here_stmt (tree.thru e z) l a) (fair_stmt blocks k b a g (tree.thru e z) l refl refl refl)
+        (both k (listed_expr blocks k b a g types.Number e t.0) (listed_stmt k b a g z false t.1 (apart_back (spots_of_expr e) (spots_of_stmt z) p) f))
+    listed_stmt k b a g (tree.case e ss) l t p f =
+        site k (here_stmt (tree.case e ss) l a) (fair_stmt blocks k b a g (tree.case e ss) l refl refl refl)
+        (both k (listed_expr blocks k b a g types.Number e t.0) (listed_stmts k b a g ss false t.1 (apart_back (spots_of_expr e) (spots_of_stmts ss) p) f))
+    listed_stmt k b a g (tree.process c task) l t p f = absurd t
+    listed_stmt k b a g (tree.event act e) l t p f = absurd t
+    listed_stmt k b a g (tree.write n spot phrases es) l t p f =
+        site k (here_stmt (tree.write n spot phrases es) l a) (fair_stmt blocks k b a g (tree.write n spot phrases es) l refl refl refl) (listed_line blocks k b a g es t.2)
+
+    pub listed_stmts : (k : ℕ) (b : Block) (a : Surroundings) → Stands blocks b a → (ss : PStmts) (listed : Bool) → TypedStmts blocks a ss → Apart (spots_of_stmts ss) →
+        AllThere blocks (blocks_in_stmts ss (b.spot ∷ b.outer)) → Listed blocks k (spots_of_stmts ss) [] (blocks_in_stmts ss (b.spot ∷ b.outer)) (sites_in_stmts blocks ss listed a)
+    listed_stmts k b a g tree.no_stmts l t p f = over k
+    listed_stmts k b a g (tree.stmts s ss) l t p f =
+        let these = blocks_of s of_statement (b.spot ∷ b.outer) in
+        let those = blocks_in_stmts ss (b.spot ∷ b.outer) in
+        both k (listed_stmt k b a g s l t.0 (apart_front (spots_of_stmt s) (spots_of_stmts ss) p) (there_front blocks these those f))
+        (listed_stmts k b a g ss l t.1 (apart_back (spots_of_stmt s) (spots_of_stmts ss) p) (there_back blocks these those f))
+
+    pub listed_decls : (b : Block) (a : Surroundings) (first : List Declared) (ds : PDecls) → IsStarted blocks b a ds → TypedDecls blocks a ds → Apart (spots_of_decls ds) →
+        AllThere blocks (blocks_in_decls ds (b.spot ∷ b.outer)) →
+        Listed blocks a.block (spots_of_decls ds) (decl_cells a.block ds) (blocks_in_decls ds (b.spot ∷ b.outer)) (sites_in_decls blocks ds a first)
+    listed_decls b a first tree.no_decls s t p f = over a.block
+    listed_decls b a first (tree.decls (tree.simple kind ns) ds) s t p f =
+        let d = tree.simple kind ns in
+        declared a.block (record { part = parts.declaration d ds; around = a }) (spots_of_names ns) (cells_for a.block cells.variable ns) (declares_simple blocks a kind ns ds)
+        (listed_decls b (knowing blocks d ds a) first ds (step blocks b a d ds s t.1 t.0 p) t.2 (apart_back (spots_of_decl d) (spots_of_decls ds) p) f)
+    listed_decls b a first (tree.decls (tree.files ns) ds) s t p f =
+        let d = tree.files ns in
+        declared a.block (record { part = parts.declaration d ds; around = a }) (spots_of_names ns) [] (declares_files blocks a ns ds)
+        (listed_decls b (knowing blocks d ds a) first ds (step blocks b a d ds s t.1 t.0 p) t.2 (apart_back (spots_of_decl d) (spots_of_decls ds) p) f)
+    listed_decls b a first (tree.decls (tree.forward h) ds) s t p f =
+        let d = tree.forward h in
+        declared a.block (record { part = parts.declaration d ds; around = a }) (spots_of_heading h) [] (declares_forward blocks a h ds)
+        (listed_decls b (knowing blocks d ds a) first ds (step blocks b a d ds s t.1 t.0 p) t.2 (apart_back (spots_of_decl d) (spots_of_decls ds) p) f)
+    listed_decls b a first (tree.decls (tree.procedure h (tree.block (tree.body spot es ss))) ds) s t p f =
+        let body = tree.block (tree.body spot es ss) in
+        let d = tree.procedure h body in
+        let next = step blocks b a d ds s t.1 t.0 p in
+        let behind = knowing blocks d ds a in
+        let inner = inside_procedure blocks h behind in
+        let those = blocks_in_decl d (b.spot ∷ b.outer) in
+        let others = blocks_in_decls ds (b.spot ∷ b.outer) in
+        let in_those : AllThere blocks those = there_front blocks those others f in
+        let c = procedure_block h body (b.spot ∷ b.outer) in
+        let decl_blocks = blocks_in_decls es (h.name.spot ∷ b.spot ∷ b.outer) in
+        let stmt_blocks = blocks_in_stmts ss (h.name.spot ∷ b.spot ∷ b.outer) in
+        let in_decls : AllThere blocks decl_blocks = λ e i. in_those e (inr (in_front e decl_blocks stmt_blocks i)) in
+        let in_stmts : AllThere blocks stmt_blocks = λ e i. in_those e (inr (in_back e decl_blocks stmt_blocks i)) in
+        let mine : Apart (spots_of_decl d) = apart_front (spots_of_decl d) (spots_of_decls ds) p in
+        let inside : Apart (spot ∷ (spots_of_decls es ++ spots_of_stmts ss)) = apart_back (spots_of_heading h) (spots_of_stmt body) mine in
+        let stands = stands_procedure blocks b h body behind next.stands t.1.0 (in_those c (inl refl)) in
+        let started = start blocks c inner stands (callees blocks es inner c t.1.1.0 in_decls) in
+        let after = behind_decls blocks c inner es started t.1.1.0 (apart_front (spots_of_decls es) (spots_of_stmts ss) inside.1) in
+        both a.block
+        (procedure_begin a.block (record { part = parts.declaration d ds; around = a }) (b.spot ∷ b.outer) h spot es ss inner t.1.0
+        (declares_procedure blocks a h body ds (b.spot ∷ b.outer) t.1.0) stands after t.1.1.1 mine in_stmts
+        (listed_decls c inner inner.known es started t.1.1.0 (apart_front (spots_of_decls es) (spots_of_stmts ss) inside.1) in_decls)
+        (listed_stmts (number_at blocks h.name.spot) c (knowing_all blocks es inner) after ss (has_decls es) t.1.1.1 (apart_back (spots_of_decls es) (spots_of_stmts ss) inside.1) in_stmts))
+        (listed_decls b behind first ds next t.2 (apart_back (spots_of_decl d) (spots_of_decls ds) p) (there_back blocks those others f))
+    listed_decls b a first (tree.decls (tree.procedure h body) ds) s t p f =
+        let d = tree.procedure h body in
+        let next = step blocks b a d ds s t.1 t.0 p in
+        let behind = knowing blocks d ds a in
+        let inner = inside_procedure blocks h behind in
+        let those = blocks_in_decl d (b.spot ∷ b.outer) in
+        let others = blocks_in_decls ds (b.spot ∷ b.outer) in
+        let in_those : AllThere blocks those = there_front blocks those others f in
+        let c = procedure_block h body (b.spot ∷ b.outer) in
+        let stands = stands_procedure blocks b h body behind next.stands t.1.0 (in_those c (inl refl)) in
+        let r = bare blocks body tt in
+        let in_body : AllThere blocks (blocks_of body of_statement (h.name.spot ∷ b.spot ∷ b.outer)) =
+        λ e i. in_those e (inr (subst (λ (bs : List Block). IsIn e bs) (sym (r.blocks_are (h.name.spot ∷ b.spot ∷ b.outer))) i)) in
+        both a.block
+        (procedure_bare a.block (record { part = parts.declaration d ds; around = a }) (b.spot ∷ b.outer) h body inner r t.1.0
+        (declares_procedure blocks a h body ds (b.spot ∷ b.outer) t.1.0) stands t.1.1 in_body
+        (listed_stmt (number_at blocks h.name.spot) c inner stands body false (r.typed inner t.1.1) (apart_back (spots_of_heading h) (spots_of_stmt body) (apart_front (spots_of_decl d) (spots_of_decls ds) p)) in_body))
+        (listed_decls b behind first ds next t.2 (apart_back (spots_of_decl d) (spots_of_decls ds) p) (there_back blocks those others f))
+    listed_decls b a first (tree.decls d ds) s t p f = absurd t.1

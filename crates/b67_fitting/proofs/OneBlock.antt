@@ -1,0 +1,131 @@
+-- A block that keeps the rules: its text keeps to it where its statements and declarations do.
+use Rattle.std.proofs.Common.{arith, ◌≡◌, ℕ, ◌+◌, ◌<◌, ◌≤◌, List, [], ◌∷◌, ◌++◌, length, map, Some, None, sym, ap, ◌∙◌, subst, zero, suc, slice_get}
+use Rattle.std.proofs.lemmas.Option.{slice_get_within}
+use Rattle.std.specs.List.{AllByRecursion}
+use Rattle.algol_tree.specs.declared.TheConstants.{MOST_BLOCK_CELLS, MOST_LEVEL}
+use Rattle.algol_tree.specs.declared.token.Spot.{Spot}
+use Rattle.algol_tree.specs.declared.tree.Named.{Named}
+use Rattle.algol_tree.specs.Blocks.{Block, block_numbered, number_at, around}
+use Rattle.algol_tree.specs.Cells.{cells_of, level_of}
+use Rattle.algol_tree.specs.Plain as tree
+use Rattle.algol_tree.specs.Plain.{PStmts, PDecls}
+use Rattle.algol_tree.specs.Scopes.{Scopes}
+use Rattle.algol_tree.specs.Sites.{Site}
+use Rattle.algol_meaning.specs.Statements.{decls_items}
+use Rattle.algol_paths.specs.Blocks.{IsSeen, IsInner}
+use Rattle.algol_paths.specs.Texts.{InStmts}
+use Rattle.b67_templates.specs.Cells.{simple_cells, result_of, variables, procedures}
+use Rattle.b67_fitting.specs.Nested.{IsDeclared, IsText}
+use Rattle.b67_fitting.proofs.Lists.{each_front, each_back, each_of}
+use Rattle.b67_fitting.proofs.Numbering.{IsNumbered, block_is}
+use Rattle.b67_fitting.proofs.Callees.{IsNamed, AreNamed, AreCallees}
+use Rattle.b67_fitting.proofs.Surrounded.{IsGood, AreGood, IsKept, AreKept}
+use Rattle.b67_fitting.proofs.CellsFew.{cells_both, simple_many}
+
+-- the block of a BEGIN
+abbrev pub the_block : Spot → List Spot → PDecls → PStmts → Block
+the_block spot outer ds ss = record { spot = spot; outer = outer; name = []; parameters = []; result = None; decls = ds; stmts = ss }
+
+-- the procedures that are declared have blocks in this one
+declared_by : (sc : Scopes) (j : ℕ) (ds : PDecls) → AreCallees sc.blocks j ds → (i : ℕ) (declared : Named) → slice_get (procedures ds) i ≡ Some declared → IsDeclared sc j declared
+declared_by sc j tree.no_decls c i declared h = absurd (let clash : None ≡ Some declared = h in cc)
+declared_by sc j (tree.decls (tree.procedure g t) ds) c zero declared h =
+    let same : g.name ≡ declared = cc in
+    subst (IsDeclared sc j) same (record { known = c.0.some; around_is = c.0.around_is; procedure = c.0.procedure })
+declared_by sc j (tree.decls (tree.procedure g t) ds) c (suc i) declared h = declared_by sc j ds c.1 i declared h
+declared_by sc j (tree.decls (tree.forward g) ds) c i declared h = declared_by sc j ds c.1 i declared h
+declared_by sc j (tree.decls d ds) c i declared h = declared_by sc j ds c i declared h
+
+-- `all`: all parts of the tree
+module _ (sc : Scopes) (all : List Site) where
+  -- The block has its number by its place, is not too deep and has not too many cells.
+  pub record IsFine (b : Block) : Type 0 where
+    pub numbered : IsNumbered sc.blocks b
+    pub low : level_of b ≤ MOST_LEVEL
+    pub few : length (cells_of sc.blocks all (number_at sc.blocks b.spot)) ≤ MOST_BLOCK_CELLS
+
+  abbrev pub AreFine : List Block → Type 0
+  AreFine bs = AllByRecursion IsFine bs
+
+  pub fine_numbered : (bs : List Block) → AreFine bs → AllByRecursion (IsNumbered sc.blocks) bs
+  fine_numbered bs f = each_of IsFine (IsNumbered sc.blocks) bs (λ b h. h.numbered) f
+
+  -- Parts of the tree that keep the rules, which have no more cells than all.
+  pub record ArePart (xs : List Site) : Type 0 where
+    pub good : AreGood sc xs
+    pub kept : AreKept sc.blocks xs
+    pub less : (k : ℕ) → length (cells_of sc.blocks xs k) ≤ length (cells_of sc.blocks all k)
+
+  pub part_named : (xs : List Site) → ArePart xs → AreNamed xs
+  part_named xs h = each_of (IsGood sc) IsNamed xs (λ x g. g.known) h.good
+
+  pub front : (xs ys : List Site) → ArePart (xs ++ ys) → ArePart xs
+  front xs ys h =
+      record {
+        good = each_front (IsGood sc) xs ys h.good;
+        kept = each_front (IsKept sc.blocks) xs ys h.kept;
+        less = λ k. omega (arith, h.less k, cells_both sc.blocks xs ys k);
+      }
+
+  pub back : (xs ys : List Site) → ArePart (xs ++ ys) → ArePart ys
+  back xs ys h =
+      record {
+        good = each_back (IsGood sc) xs ys h.good;
+        kept = each_back (IsKept sc.blocks) xs ys h.kept;
+        less = λ k. omega (arith, h.less k, cells_both sc.blocks xs ys k);
+      }
+
+  pub rest : (x : Site) (xs : List Site) → ArePart (x ∷ xs) → ArePart xs
+  rest x xs h = back (x ∷ []) xs h
+
+  -- ---- a block
+
+  abbrev pub IsTextOf : Block → Type 0
+  IsTextOf b = IsText sc (number_at sc.blocks b.spot)
+
+  abbrev pub AreTexts : List Block → Type 0
+  AreTexts bs = AllByRecursion IsTextOf bs
+
+  module _ (b : Block) (f : IsFine b) where
+    abbrev k : ℕ
+    k = number_at sc.blocks b.spot
+
+    it_is : block_numbered sc.blocks k ≡ b
+    it_is = block_is sc.blocks k b f.numbered
+
+    pub is_there : k < length sc.blocks
+    is_there = slice_get_within sc.blocks k b f.numbered
+
+    pub outer_is : around sc.blocks k ≡ map (number_at sc.blocks) b.outer
+    outer_is = ap (λ (z : Block). map (number_at sc.blocks) z.outer) it_is
+
+    pub is_text : b.parameters ≡ [] → decls_items b.decls ≡ [] → AreCallees sc.blocks k b.decls →
+        length (result_of b.result b.name) + (length (variables b.decls) + length (procedures b.decls)) ≤ length (cells_of sc.blocks all k) →
+        InStmts (IsSeen sc k) (IsInner sc k) b.stmts → IsTextOf b
+    is_text p m c n t =
+        let few : length (simple_cells b) + length (procedures b.decls) ≤ MOST_BLOCK_CELLS = omega (arith, simple_many b, ap length p, n, f.few) in
+        record {
+          text = subst (λ (z : Block). InStmts (IsSeen sc k) (IsInner sc k) z.stmts) (sym it_is) t;
+          plain = ap (λ (z : Block). z.parameters) it_is ∙ p;
+          made = ap (λ (z : Block). decls_items z.decls) it_is ∙ m;
+          few = subst (λ (z : Block). length (simple_cells z) + length (procedures z.decls) ≤ MOST_BLOCK_CELLS) (sym it_is) few;
+          low = subst (λ (z : Block). level_of z ≤ MOST_LEVEL) (sym it_is) f.low;
+          procedure = λ i declared h. declared_by sc k b.decls c i declared (subst (λ (z : Block). slice_get (procedures z.decls) i ≡ Some declared) it_is h);
+        }
+
+  -- the block of a BEGIN that is a statement
+  pub is_inner : (spot : Spot) (outer : List Spot) (ds : PDecls) (ss : PStmts) → IsFine (the_block spot outer ds ss) →
+      (j : ℕ) → map (number_at sc.blocks) outer ≡ j ∷ around sc.blocks j → IsInner sc j (tree.body spot ds ss)
+  is_inner spot outer ds ss f j e =
+      let its = the_block spot outer ds ss in
+      let same = it_is its f in
+      record {
+        known = is_there its f;
+        around_is = outer_is its f ∙ e;
+        decls_are = ap (λ (z : Block). z.decls) same;
+        stmts_are = ap (λ (z : Block). z.stmts) same;
+        nameless = ap (λ (z : Block). z.name) same;
+        parameters = ap (λ (z : Block). z.parameters) same;
+        result = ap (λ (z : Block). z.result) same;
+        low = subst (λ (z : Block). level_of z ≤ MOST_LEVEL) (sym same) f.low;
+      }

@@ -1,0 +1,264 @@
+-- What is known behind each declaration of a block, in their order.
+use Rattle.std.proofs.Common.{arith, ◌≡◌, inl, inr, ℕ, ◌==◌, Bool, true, false, cond, not, List, [], ◌∷◌, ◌++◌, map, filter, is_some, Option, Some, None, sym, refl, ap, ◌∙◌, subst, append_assoc, if◌then◌else◌}
+use Rattle.std.proofs.lemmas.Bool.{eq-eqb}
+use Rattle.std.proofs.lemmas.List.{map-append}
+use Rattle.std.proofs.lemmas.List.Elements.{filter-append}
+use Rattle.std.specs.List.{AllByRecursion}
+use Rattle.algol_tree.specs.declared.token.Spot.{Spot}
+use Rattle.algol_tree.specs.declared.tree.Heading.{Heading}
+use Rattle.algol_tree.specs.declared.tree.Kind.{Kind}
+use Rattle.algol_tree.specs.declared.tree.Named.{Named}
+use Rattle.algol_tree.specs.Ascending.{spots_of_names, spots_of_decl, spots_of_decls}
+use Rattle.algol_tree.specs.Blocks.{Block, block_numbered, number_at, procedure_block}
+use Rattle.algol_tree.specs.Cells as cells
+use Rattle.algol_tree.specs.Cells.{Cell, cells_for}
+use Rattle.algol_tree.specs.Classes as class
+use Rattle.algol_tree.specs.Classes.{Class}
+use Rattle.algol_tree.specs.Names.{if_so, is_one_of, result_names_of, unknown_in_heading}
+use Rattle.algol_tree.specs.Plain as tree
+use Rattle.algol_tree.specs.Plain.{PStmt, PDecl, PDecls}
+use Rattle.algol_tree.specs.Sites as parts
+use Rattle.algol_tree.specs.Sorts as sort
+use Rattle.algol_tree.specs.Sorts.{same_name, Sort, Declared, look_up, declare}
+use Rattle.algol_tree.specs.Surroundings.{Surroundings, body_of, heading_or, announced, knowing}
+use Rattle.b67_templates.specs.Cells.{Simple, of_kind, variables}
+use Rattle.b67_fitting.proofs.Aligned.{AreOthers, Aligned, aligned_over, hit}
+use Rattle.b67_fitting.proofs.Apart.{IsIn, each_in, in_front, in_back, IsApart, Apart, apart_front, apart_across}
+use Rattle.b67_fitting.proofs.Clean.{IsClean}
+use Rattle.b67_fitting.proofs.Declaring.{same_is, one_of_front, one_of_back, names_of, entry, declared_is, found_one, fresh}
+use Rattle.b67_fitting.proofs.Frames.{variable_cells}
+use Rattle.b67_fitting.proofs.Known.{variable_spots, headings, IsKnown, known_file, known_variable, known_procedure, around_with, Stands}
+use Rattle.b67_fitting.proofs.Lists.{each_back, nil_front}
+use Rattle.b67_fitting.proofs.Stated.{TypedDecl}
+
+-- ---- names that the block has already
+
+-- these cells are passed: the block has their names, and they stand apart from all of these places
+abbrev pub Passed : List (List ℕ) → List Spot → List Simple → List Cell → Type 0
+Passed names spots [] [] = Unit {0}
+Passed names spots (x ∷ xs) (c ∷ cs) = (is_one_of names x.name ≡ true) × AllByRecursion (IsApart c.spot) spots × Passed names spots xs cs
+Passed names spots _ _ = ⊥
+
+passed_both : (names : List (List ℕ)) (spots : List Spot) (xs ys : List Simple) (cs ds : List Cell) → Passed names spots xs cs → Passed names spots ys ds → Passed names spots (xs ++ ys) (cs ++ ds)
+passed_both names spots [] ys [] ds g h = h
+passed_both names spots (x ∷ xs) ys (c ∷ cs) ds g h = (g.0, g.1, passed_both names spots xs ys cs ds g.2 h)
+passed_both names spots [] ys (c ∷ cs) ds g h = absurd g
+passed_both names spots (x ∷ xs) ys [] ds g h = absurd g
+
+one_more : (more names : List (List ℕ)) (name : List ℕ) → is_one_of names name ≡ true → is_one_of (more ++ names) name ≡ true
+one_more [] names name h = h
+one_more (m ∷ more) names name h = by (same_name m name) (one_more more names name h)
+  where
+    by : (b : Bool) → is_one_of (more ++ names) name ≡ true → (if b then true else is_one_of (more ++ names) name) ≡ true
+    by true later = refl
+    by false later = later
+
+passed_more : (more names : List (List ℕ)) (p q : List Spot) (xs : List Simple) (cs : List Cell) → Passed names (p ++ q) xs cs → Passed (more ++ names) q xs cs
+passed_more more names p q [] [] h = tt
+passed_more more names p q (x ∷ xs) (c ∷ cs) h = (one_more more names x.name h.0, each_back (IsApart c.spot) p q h.1, passed_more more names p q xs cs h.2)
+passed_more more names p q [] (c ∷ cs) h = absurd h
+passed_more more names p q (x ∷ xs) [] h = absurd h
+
+passed_new : (names : List (List ℕ)) (spots : List Spot) (block : ℕ) (kind : Kind) (ns : List Named) → ((n : Named) → IsIn n ns → is_one_of names n.name ≡ true) →
+    AllByRecursion (λ s. AllByRecursion (IsApart s) spots) (spots_of_names ns) → Passed names spots (of_kind kind ns) (cells_for block cells.variable ns)
+passed_new names spots block kind [] f g = tt
+passed_new names spots block kind (n ∷ ns) f g = (f n (inl refl), g.0, passed_new names spots block kind ns (λ m i. f m (inr i)) g.1)
+
+passed_others : (names : List (List ℕ)) (spots : List Spot) (name : List ℕ) (spot : Spot) (xs : List Simple) (cs : List Cell) → is_one_of names name ≡ false → IsIn spot spots →
+    Passed names spots xs cs → AreOthers name spot xs cs
+passed_others names spots name spot [] [] n i h = tt
+passed_others names spots name spot (x ∷ xs) (c ∷ cs) n i h =
+    (by (same_name x.name name) refl, each_in (IsApart c.spot) spot spots h.1 i, passed_others names spots name spot xs cs n i h.2)
+  where
+    by : (b : Bool) → same_name x.name name ≡ b → b ≡ false
+    by false e = refl
+    by true e =
+        let clash : true ≡ false = sym h.0 ∙ ap (is_one_of names) (same_is x.name name e) ∙ n in
+        clash
+passed_others names spots name spot [] (c ∷ cs) n i h = absurd h
+passed_others names spots name spot (x ∷ xs) [] n i h = absurd h
+
+-- the names of the block among these and those
+names_both : (block : ℕ) (new known : List Declared) → names_of block (new ++ known) ≡ names_of block new ++ names_of block known
+names_both block new known =
+    ap (map (λ (d : Declared). d.name)) (filter-append (λ (d : Declared). d.block == block) new known)
+    ∙ map-append (λ (d : Declared). d.name) (filter (λ (d : Declared). d.block == block) new) (filter (λ (d : Declared). d.block == block) known)
+
+same_name_self : (name : List ℕ) → same_name name name ≡ true
+same_name_self [] = refl
+same_name_self (x ∷ xs) = rw (eq-eqb x x refl) (same_name_self xs)
+
+named_new : (block depth : ℕ) (s : Sort) (c : Class) (ns : List Named) (n : Named) → IsIn n ns → is_one_of (names_of block (declare block depth s c ns)) n.name ≡ true
+named_new block depth s c [] n i = absurd i
+named_new block depth s c (m ∷ ns) n i =
+    subst (λ (b : Bool). is_one_of (map (λ (d : Declared). d.name) (cond b (entry block depth s c m ∷ rest) rest)) n.name ≡ true) (sym (eq-eqb block block refl)) (by (same_name m.name n.name) refl (named_new block depth s c ns n) i)
+  where
+    rest : List Declared
+    rest = filter (λ (d : Declared). d.block == block) (declare block depth s c ns)
+
+    by : (b : Bool) → same_name m.name n.name ≡ b → (IsIn n ns → is_one_of (names_of block (declare block depth s c ns)) n.name ≡ true) → IsIn n (m ∷ ns) →
+        (if b then true else is_one_of (names_of block (declare block depth s c ns)) n.name) ≡ true
+    by true e later j = refl
+    by false e later (inl same) = absurd (let clash : true ≡ false = sym (same_name_self n.name) ∙ ap (λ (z : Named). same_name z.name n.name) same ∙ e in cc)
+    by false e later (inr j) = later j
+
+-- ---- declarations
+
+pub found_body : (name : List ℕ) (ds : PDecls) (g : Heading) → body_of name ds ≡ Some g → IsIn g (headings ds)
+found_body name tree.no_decls g h = absurd (let clash : None ≡ Some g = h in cc)
+found_body name (tree.decls (tree.procedure f s) ds) g h = by (same_name f.name.name name) (found_body name ds g) h
+  where
+    by : (b : Bool) → (body_of name ds ≡ Some g → IsIn g (headings ds)) → (if b then Some f else body_of name ds) ≡ Some g → IsIn g (f ∷ headings ds)
+    by true later e = inl (let same : g ≡ f = cc in same)
+    by false later e = inr (later e)
+found_body name (tree.decls d ds) g h = found_body name ds g h
+
+announced_there : (h : Heading) (ds : PDecls) (o : Option Heading) (spot : Spot) → body_of h.name.name ds ≡ o → if_so (not (is_some o)) spot ≡ [] → IsIn (heading_or h o) (headings ds)
+announced_there h ds None spot e g = absurd (let clash : spot ∷ [] ≡ [] = g in cc)
+announced_there h ds (Some f) spot e g = found_body h.name.name ds f e
+
+module _ (blocks : List Block) where
+  -- of each procedure that the block declares the block is one of the program's
+  abbrev pub HasCallees : Block → PDecls → Type 0
+  HasCallees b ds = (h : Heading) → IsIn h (headings ds) → (h.params ≡ []) × ((s : PStmt) × IsIn (procedure_block h s (b.spot ∷ b.outer)) blocks)
+
+  -- the place is in front of these, the last declarations of the block
+  pub record IsStarted (b : Block) (a : Surroundings) (ds : PDecls) : Type 0 where
+    pub stands : Stands blocks b a
+    pub callees : HasCallees b b.decls
+    pub passed_variables : List Simple
+    pub passed_cells : List Cell
+    pub variables_are : variables b.decls ≡ passed_variables ++ variables ds
+    pub cells_are : variable_cells a.block b.decls ≡ passed_cells ++ variable_cells a.block ds
+    pub passed : Passed (names_of a.block a.known) (spots_of_decls ds) passed_variables passed_cells
+    pub owned : (h : Heading) → IsIn h (headings ds) → IsIn h (headings b.decls)
+    pub held : (s : Spot) → IsIn s (variable_spots ds) → IsIn s (variable_spots b.decls)
+
+  pub start : (b : Block) (a : Surroundings) → Stands blocks b a → HasCallees b b.decls → IsStarted b a b.decls
+  start b a s c =
+      record { stands = s; callees = c; passed_variables = []; passed_cells = []; variables_are = refl; cells_are = refl; passed = tt; owned = λ h i. i; held = λ t i. i }
+
+  stands_with : (b : Block) (a : Surroundings) (new : List Declared) → Stands blocks b a → ((name : List ℕ) (d : Declared) → look_up new name ≡ Some d → IsKnown blocks a.depth name d) →
+      Stands blocks b (record a { known = new ++ a.known })
+  stands_with b a new s f = record { there = s.there; block_is = s.block_is; depth_is = s.depth_is; outer = s.outer; around = around_with blocks a new s.around f }
+
+  step_simple : (b : Block) (a : Surroundings) (kind : Kind) (ns : List Named) (ds : PDecls) → IsStarted b a (tree.decls (tree.simple kind ns) ds) →
+      IsClean blocks (record { part = parts.declaration (tree.simple kind ns) ds; around = a }) → Apart (spots_of_names ns ++ spots_of_decls ds) → IsStarted b (knowing blocks (tree.simple kind ns) ds a) ds
+  step_simple b a kind ns ds s c p =
+      record {
+        stands = stands_with b a new s.stands found;
+        callees = s.callees;
+        passed_variables = s.passed_variables ++ of_kind kind ns;
+        passed_cells = s.passed_cells ++ cells_for a.block cells.variable ns;
+        variables_are = rw append_assoc s.variables_are;
+        cells_are = rw append_assoc s.cells_are;
+        passed =
+            subst (λ (names : List (List ℕ)). Passed names (spots_of_decls ds) (s.passed_variables ++ of_kind kind ns) (s.passed_cells ++ cells_for a.block cells.variable ns))
+            (sym (names_both a.block new a.known))
+            (passed_both (names_of a.block new ++ names_of a.block a.known) (spots_of_decls ds) s.passed_variables (of_kind kind ns) s.passed_cells (cells_for a.block cells.variable ns)
+            (passed_more (names_of a.block new) (names_of a.block a.known) (spots_of_names ns) (spots_of_decls ds) s.passed_variables s.passed_cells s.passed)
+            (passed_new (names_of a.block new ++ names_of a.block a.known) (spots_of_decls ds) a.block kind ns
+            (λ n i. one_front (names_of a.block new) (names_of a.block a.known) n.name (named_new a.block a.depth sort.variable (class.simple kind) ns n i))
+            (apart_across (spots_of_names ns) (spots_of_decls ds) p)));
+        owned = s.owned;
+        held = λ t i. s.held t (in_back t (spots_of_names ns) (variable_spots ds) i);
+      }
+    where
+      new : List Declared
+      new = declare a.block a.depth sort.variable (class.simple kind) ns
+
+      one_front : (names more : List (List ℕ)) (name : List ℕ) → is_one_of names name ≡ true → is_one_of (names ++ more) name ≡ true
+      one_front [] more name h = absurd (let clash : false ≡ true = h in cc)
+      one_front (m ∷ names) more name h = by (same_name m name) (one_front names more name) h
+        where
+          by : (t : Bool) → (is_one_of names name ≡ true → is_one_of (names ++ more) name ≡ true) → (if t then true else is_one_of names name) ≡ true →
+              (if t then true else is_one_of (names ++ more) name) ≡ true
+          by true later g = refl
+          by false later g = later g
+
+      found : (name : List ℕ) (d : Declared) → look_up new name ≡ Some d → IsKnown blocks a.depth name d
+      found name d h =
+          let r = hit a.block a.depth kind ns (variables ds) (variable_cells a.block ds) name d (apart_front (spots_of_names ns) (spots_of_decls ds) p) h in
+          let results = result_names_of (block_numbered blocks a.block) in
+          let none = fresh a.block a.depth sort.variable (class.simple kind) ns (results ++ names_of a.block a.known) name d c.once h in
+          let others =
+          passed_others (names_of a.block a.known) (spots_of_names ns ++ spots_of_decls ds) name d.spot s.passed_variables s.passed_cells (one_of_back results (names_of a.block a.known) name none)
+          (in_front d.spot (spots_of_names ns) (spots_of_decls ds) r.inside) s.passed in
+          let aligned =
+          aligned_over s.passed_variables (of_kind kind ns ++ variables ds) s.passed_cells (cells_for a.block cells.variable ns ++ variable_cells a.block ds) name d.spot kind others r.aligned in
+          known_variable kind (record {
+            in_block = b;
+            there = s.stands.there;
+            class_is = r.var.class_is;
+            sort_is = r.var.sort_is;
+            block_is = r.var.block_is ∙ s.stands.block_is;
+            depth_is = r.var.depth_is ∙ s.stands.depth_is;
+            within = omega (arith, r.var.depth_is);
+            among = s.held d.spot (in_front d.spot (spots_of_names ns) (variable_spots ds) r.inside);
+            other = subst (λ (k : ℕ). is_one_of (result_names_of (block_numbered blocks k)) name ≡ false) (sym r.var.block_is) (one_of_front results (names_of a.block a.known) name none);
+            aligned =
+                subst (λ (k : ℕ). Aligned (variables b.decls) (variable_cells k b.decls) name d.spot kind) s.stands.block_is
+                (subst (λ (xs : List Simple). Aligned xs (variable_cells a.block b.decls) name d.spot kind) (sym s.variables_are)
+                (subst (λ (cs : List Cell). Aligned (s.passed_variables ++ (of_kind kind ns ++ variables ds)) cs name d.spot kind) (sym s.cells_are) aligned));
+          })
+
+  -- a declaration that has no cell of a variable
+  step_with : (b : Block) (a : Surroundings) (d : PDecl) (ds : PDecls) (new : List Declared) → IsStarted b a (tree.decls d ds) → variables (tree.decls d ds) ≡ variables ds →
+      variable_cells a.block (tree.decls d ds) ≡ variable_cells a.block ds → ((h : Heading) → IsIn h (headings ds) → IsIn h (headings (tree.decls d ds))) →
+      ((t : Spot) → IsIn t (variable_spots ds) → IsIn t (variable_spots (tree.decls d ds))) → ((name : List ℕ) (e : Declared) → look_up new name ≡ Some e → IsKnown blocks a.depth name e) →
+      IsStarted b (record a { known = new ++ a.known }) ds
+  step_with b a d ds new s v w o t f =
+      record {
+        stands = stands_with b a new s.stands f;
+        callees = s.callees;
+        passed_variables = s.passed_variables;
+        passed_cells = s.passed_cells;
+        variables_are = s.variables_are ∙ ap (λ z. s.passed_variables ++ z) v;
+        cells_are = s.cells_are ∙ ap (λ z. s.passed_cells ++ z) w;
+        passed =
+            subst (λ (names : List (List ℕ)). Passed names (spots_of_decls ds) s.passed_variables s.passed_cells) (sym (names_both a.block new a.known))
+            (passed_more (names_of a.block new) (names_of a.block a.known) (spots_of_decl d) (spots_of_decls ds) s.passed_variables s.passed_cells s.passed);
+        owned = λ h i. s.owned h (o h i);
+        held = λ x i. s.held x (t x i);
+      }
+
+  files_known : (a : Surroundings) (ns : List Named) (name : List ℕ) (d : Declared) → look_up (declare a.block a.depth sort.file class.file ns) name ≡ Some d → IsKnown blocks a.depth name d
+  files_known a ns name d h =
+      let r = declared_is a.block a.depth sort.file class.file ns name d h in
+      known_file r.0 r.1
+
+  procedure_known : (b : Block) (a : Surroundings) (ds : PDecls) (g : Heading) → IsStarted b a ds → IsIn g (headings ds) → (name : List ℕ) (d : Declared) →
+      look_up (declare a.block a.depth (sort.procedure (number_at blocks g.name.spot)) (class.procedure g) (g.name ∷ [])) name ≡ Some d → IsKnown blocks a.depth name d
+  procedure_known b a ds g s i name d h =
+      let r = found_one a.block a.depth (sort.procedure (number_at blocks g.name.spot)) (class.procedure g) g.name name d h in
+      let callee = s.callees g (s.owned g i) in
+      known_procedure g (record {
+        in_block = b;
+        there = s.stands.there;
+        body = callee.1.0;
+        body_there = callee.1.1;
+        bare = callee.0;
+        named = r.0;
+        among = s.owned g i;
+        class_is = ap (λ (z : Declared). z.class) (sym r.1);
+        sort_is = ap (λ (z : Declared). z.sort) (sym r.1);
+        spot_is = ap (λ (z : Declared). z.spot) (sym r.1);
+        block_is = ap (λ (z : Declared). z.block) (sym r.1) ∙ s.stands.block_is;
+        depth_is = ap (λ (z : Declared). z.depth) (sym r.1) ∙ s.stands.depth_is;
+        within = omega (arith, ap (λ (z : Declared). z.depth) (sym r.1));
+      })
+
+  pub step : (b : Block) (a : Surroundings) (d : PDecl) (ds : PDecls) → IsStarted b a (tree.decls d ds) → TypedDecl blocks (knowing blocks d ds a) d →
+      IsClean blocks (record { part = parts.declaration d ds; around = a }) → Apart (spots_of_decl d ++ spots_of_decls ds) → IsStarted b (knowing blocks d ds a) ds
+  step b a (tree.simple kind ns) ds s t c p = step_simple b a kind ns ds s c p
+  step b a (tree.files ns) ds s t c p =
+      step_with b a (tree.files ns) ds (declare a.block a.depth sort.file class.file ns) s refl refl (λ h i. i) (λ x i. i) (files_known a ns)
+  step b a (tree.forward h) ds s t c p =
+      let g = announced h ds in
+      let there = announced_there h ds (body_of h.name.name ds) h.name.spot refl (nil_front (if_so (not (is_some (body_of h.name.name ds))) h.name.spot) (unknown_in_heading h) c.known) in
+      step_with b a (tree.forward h) ds (declare a.block a.depth (sort.procedure (number_at blocks g.name.spot)) (class.procedure g) (g.name ∷ [])) s refl refl (λ f i. i) (λ x i. i)
+      (procedure_known b a (tree.decls (tree.forward h) ds) g s there)
+  step b a (tree.procedure h body) ds s t c p =
+      step_with b a (tree.procedure h body) ds (declare a.block a.depth (sort.procedure (number_at blocks h.name.spot)) (class.procedure h) (h.name ∷ [])) s refl refl (λ f i. inr i) (λ x i. i)
+      (procedure_known b a (tree.decls (tree.procedure h body) ds) h s (inl refl))
+  step b a _ ds s t c p = absurd t
