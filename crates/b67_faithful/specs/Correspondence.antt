@@ -65,13 +65,14 @@ called_by img r = called_action (irw_in (word_at img.stacks (record { stack = r.
 abbrev pub left_action : Registers → Option Action
 left_action r = if nat_eq (frame r) 0 then Some act.End else Some act.Leave
 
--- The rows that are built: a read, a store, a turn, the intrinsics, an end.
+-- The rows that are built: a read, a store, a turn, an entry, a leaving, an end, the intrinsics.
 abbrev pub action_of : Image → Registers → Operator → Option Action
 action_of img r (ops.Valc couple) = Some act.Read
 action_of img r (ops.Branch Brun target) = Some act.Turn
 action_of img r (ops.Plain kinds.Stod) = Some act.Store
 action_of img r (ops.Plain kinds.Entr) = called_by img r
 action_of img r (ops.Plain kinds.Exit) = left_action r
+action_of img r (ops.Plain kinds.Retn) = Some act.Leave
 action_of img r _ = None
 
 -- any operator that faults is the fault

@@ -1,7 +1,7 @@
 -- A code that is faithful to a source: for every list of choices it does what the source does.
-use Rattle.std.specs.Prelude.{◌≡◌, ◌⊎◌, ℕ, ◌+◌, ◌*◌, ◌≤◌, max, List, [], ◌∷◌, ◌++◌, length, sum, All}
+use Rattle.std.specs.Prelude.{◌≡◌, ◌⊎◌, ℕ, ◌+◌, ◌*◌, ◌≤◌, max, List, [], ◌∷◌, ◌++◌, length, sum, Some, slice_get}
 use Rattle.algol_tree.specs.Plain.{PProgram}
-use Rattle.algol_tree.specs.Counts.{program_tokens}
+use Rattle.algol_paths.specs.Segments.{segment_tokens}
 use Rattle.b67_segment.specs.declared.code.Code.{Code}
 use Rattle.b67_segment.specs.declared.code.Segment.{Segment}
 use Rattle.algol_meaning.specs.Run.{Legal}
@@ -27,9 +27,9 @@ pub record ComesToLimit (code : Code) (schedule : List ℕ) : Type 0 where
   pub plains : Plains code next image plain quiet
   pub stops : table code quiet next ≡ limit
 
--- a segment has at most 24 syllables for each token of the source, and 48 more
+-- a segment has at most 24 syllables for each token of its text, and 48 more
 abbrev pub IsShort : PProgram → Code → Type 0
-IsShort tree code = All (λ (segment : Segment). 6 * length segment.words ≤ 24 * program_tokens tree + 48) code.segments
+IsShort tree code = (k : ℕ) (segment : Segment) → slice_get code.segments k ≡ Some segment → 6 * length segment.words ≤ 24 * segment_tokens tree k + 48
 
 -- the syllables of the longest of these segments
 abbrev pub longest : List Segment → ℕ

@@ -39,7 +39,7 @@ use Rattle.b67_pictures.proofs.EnterRow.{Called}
 use Rattle.b67_pictures.proofs.IntrinsicRows.{CallsIntrinsic, without_call}
 use Rattle.b67_pictures.proofs.Rows.{words_are}
 use Rattle.b67_pictures.proofs.Scene.{Scene, frame_is}
-use Rattle.b67_pictures.proofs.Staying.{text_in, level_in, frame_low}
+use Rattle.b67_pictures.proofs.Staying.{text_in, level_in, most_in, frame_low}
 use Rattle.b67_pictures.proofs.Slotted.{Top, top_slot}
 use Rattle.b67_pictures.proofs.StackWords.{word-under, get-front, get-seam}
 use Rattle.b67_pictures.proofs.Words.{reference_read, mark_read}
@@ -163,7 +163,7 @@ module _ (sc : Scopes) (level home base : ℕ) where
 -- ---- the call, in a scene
 
 module _ (tree : PProgram) (code : Code) (texts : ℕ → List Placed) (w : World) (lay : List Place) (img : Image)
-    (p : ℕ) (q : Process) (part : Part) (outer : List Part) (most bound : ℕ) (core : Core) (s : Scene tree code texts w lay img p q part outer most bound core)
+    (p : ℕ) (q : Process) (part : Part) (outer : List Part) (bound : ℕ) (core : Core) (s : Scene tree code texts w lay img p q part outer bound core)
     (name : Intrinsic) (vs : List Value) (below : List Slot) (fits : AreNumbers vs) (lies : s.stands.slots ≡ operands vs (intrinsic name ∷ mark ∷ below)) where
   abbrev sc : Scopes
   sc = scopes_of tree
@@ -183,15 +183,15 @@ module _ (tree : PProgram) (code : Code) (texts : ℕ → List Placed) (w : Worl
     pub calls : CallsIntrinsic img core name arguments reference marked others
     pub wholes : wholes_in (reverse arguments) ≡ Some (wholes_of vs)
     pub action : called_by img core.registers ≡ Some (action_of_intrinsic name)
-    pub after_at : (pc : ℕ) → CoreAt sc code (text_in texts w part) (level_in tree w part) pc below (without_call core others calls.m.df pc)
-    pub few : length below ≤ most
+    pub after_at : (pc : ℕ) → CoreAt sc code (text_in tree texts w part) (level_in tree w part) pc below (without_call core others calls.m.df pc)
+    pub few : length below ≤ most_in tree w part
 
   -- the frame's own mark
   home_is : home ≡ length s.stands.frame.lower
-  home_is = frame_is tree code texts w lay img p q part outer most bound core s
+  home_is = frame_is tree code texts w lay img p q part outer bound core s
 
   home_low : home ≤ base
-  home_low = omega (arith, home_is, frame_low tree code texts w lay p most part outer core.below s.stands.frame)
+  home_low = omega (arith, home_is, frame_low tree code texts w lay p part outer core.below s.stands.frame)
 
   own_lies : slice_get core.below home ≡ Some s.stands.frame.mark
   own_lies =
@@ -284,7 +284,7 @@ module _ (tree : PProgram) (code : Code) (texts : ℕ → List Placed) (w : Worl
         ∙ ap (λ (o : Option Irw). called_action o) reads_reference
         ∙ ap (λ (o : Option Intrinsic). if_intrinsic o) intrinsic_is.named
 
-    after_call : (pc : ℕ) → CoreAt sc code (text_in texts w part) (level_in tree w part) pc below (without_call core k.words_below df pc)
+    after_call : (pc : ℕ) → CoreAt sc code (text_in tree texts w part) (level_in tree w part) pc below (without_call core k.words_below df pc)
     after_call pc =
         record {
           segment = s.stands.there.segment;

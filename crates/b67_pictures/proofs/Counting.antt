@@ -54,7 +54,7 @@ module _ (tree : PProgram) (code : Code) (texts : ℕ → List Placed) (low : Ha
   settled_level : (p : ℕ) (q : Process) (l : Living tree code texts w lay img p q) → l.settled.registers.ll ≤ MOST_LEVEL
   settled_level p q l = by_parts q.todo l.frames
     where
-      by_parts : (parts : List Part) → Frames tree code texts w lay p l.most parts l.settled → l.settled.registers.ll ≤ MOST_LEVEL
+      by_parts : (parts : List Part) → Frames tree code texts w lay p parts l.settled → l.settled.registers.ll ≤ MOST_LEVEL
       by_parts [] f = absurd f
       by_parts (part ∷ outer) f =
           let framed = f.0.frame.framed in

@@ -12,7 +12,7 @@ use Rattle.algol_tree.specs.Plain.{PProgram, PStmts, PBody}
 use Rattle.algol_tree.specs.Scopes.{Scopes, scopes_of, use_of}
 use Rattle.algol_tree.specs.Sorts.{same_name}
 use Rattle.algol_meaning.specs.Value.{Value}
-use Rattle.algol_meaning.specs.Rest.{own, there, element_of, Answer, done, value, cell, place, entered}
+use Rattle.algol_meaning.specs.Rest.{own, there, element_of, Given, Answer, done, value, cell, place, entered}
 use Rattle.algol_meaning.specs.World.{Instance, Process, Part, able, World, or_no_instance}
 use Rattle.algol_meaning.specs.Asks.{Ask, nothing, reads, reads_element, indexes, asks_happened, fails, enters, passes, resolves, reads_result, leaves, stores, selects, turns, goes_to, enters_block, starts, acts, writes, makes_arrays, makes_event, ask, resume}
 use Rattle.algol_paths.specs.Laws.{RestsKeepToTheirText}
@@ -24,15 +24,16 @@ use Rattle.b67_table.specs.declared.ProcessState.TheVariants.{Able}
 use Rattle.b67_table.specs.Image.{Image}
 use Rattle.b67_templates.specs.Cells.{Simple, Found, found_from, simple_cells, IsVariable}
 use Rattle.b67_standing.specs.Stepping.{Slot}
-use Rattle.b67_standing.specs.Standing.{StandsFor, ActionAt, Acted, Entered, ComesTo, GoesOn}
+use Rattle.b67_standing.specs.Standing.{ActionAt, Acted, Entered, Gives, pushed, ComesTo, GoesOn}
 use Rattle.b67_standing.specs.Laws.{RestsGoOn}
 use Rattle.b67_cores.specs.Cores.{Core}
 use Rattle.b67_cores.specs.Stretches.{FragmentsArePerformed}
 use Rattle.b67_fitting.specs.Nested.{AreNested}
 use Rattle.b67_pictures.specs.Acting.{Does}
 use Rattle.b67_pictures.proofs.Scene.{Scene}
-use Rattle.b67_pictures.proofs.Staying.{text_in, level_in}
+use Rattle.b67_pictures.proofs.Staying.{text_in, level_in, context_in, most_in}
 use Rattle.b67_pictures.proofs.Reading.{reading}
+use Rattle.b67_pictures.proofs.ReadingResult.{reading_result}
 use Rattle.b67_pictures.proofs.Storing.{storing}
 use Rattle.b67_pictures.proofs.Failing.{failing}
 use Rattle.b67_pictures.proofs.Turning.{turning}
@@ -58,37 +59,46 @@ known_or_empty (b ∷ bs) (suc j) few = known_or_empty bs j (λ low. few (omega 
 pub small_index : (sc : Scopes) → AreNested sc → (level : ℕ) (n : Named) (kind : Kind) (couple : Couple) → IsVariable sc level n kind couple → couple.index < 2 ^ 14
 small_index sc nested level n kind couple v =
     let cells = simple_cells (block_numbered sc.blocks ((use_of sc n).block)) in
-    omega (arith, found_below 0 cells n.name v.found v.there, known_or_empty sc.blocks ((use_of sc n).block) (λ low. (nested.each ((use_of sc n).block) low).few), v.index_is)
+    omega (arith, found_below 0 cells n.name v.found v.there, known_or_empty sc.blocks ((use_of sc n).block) (λ low. omega (arith, (nested.each ((use_of sc n).block) low).few)), v.index_is)
 
 -- ---- the actions
 
 module _ (tree : PProgram) (code : Code) (texts : ℕ → List Placed) where
   -- what an action of a scene, which stands at what its head asks for, needs of the place to which it leads
-  abbrev pub GoesOnFrom : (w : World) (lay : List Place) (img : Image) (p : ℕ) (q : Process) (part : Part) (outer : List Part) (most bound : ℕ) (core : Core) →
-      Scene tree code texts w lay img p q part outer most bound core → (k : Ask) → Type 0
-  GoesOnFrom w lay img p q part outer most bound core s k =
-      (a : ActionAt (scopes_of tree) code.formats (text_in texts w part) (level_in tree w part) most k s.stands.pc s.stands.slots) →
-      ((r : Answer) (at : ℕ) (left : List Slot) → Acted (scopes_of tree) code.formats (text_in texts w part) (level_in tree w part) most k s.stands.pc s.stands.slots a r at left →
-      ComesTo (scopes_of tree) code.formats (text_in texts w part) (level_in tree w part) most (resume (scopes_of tree) part.rest r) at left) →
-      ((at : ℕ) (after : List Slot) → Entered (scopes_of tree) code.formats (text_in texts w part) (level_in tree w part) most k s.stands.pc s.stands.slots a at after →
-      StandsFor (scopes_of tree) code.formats (text_in texts w part) (level_in tree w part) most (resume (scopes_of tree) part.rest entered) at after × (ask (resume (scopes_of tree) part.rest entered) ≡ nothing)) →
+  abbrev pub GoesOnFrom : (w : World) (lay : List Place) (img : Image) (p : ℕ) (q : Process) (part : Part) (outer : List Part) (bound : ℕ) (core : Core) →
+      Scene tree code texts w lay img p q part outer bound core → (k : Ask) → Type 0
+  GoesOnFrom w lay img p q part outer bound core s k =
+      (a : ActionAt (scopes_of tree) (context_in tree code w part) (text_in tree texts w part) (level_in tree w part) (most_in tree w part) k s.stands.pc s.stands.slots) →
+      ((r : Answer) (at : ℕ) (left : List Slot) →
+      Acted (scopes_of tree) (context_in tree code w part) (text_in tree texts w part) (level_in tree w part) (most_in tree w part) k s.stands.pc s.stands.slots a r at left →
+      ComesTo (scopes_of tree) (context_in tree code w part) (text_in tree texts w part) (level_in tree w part) (most_in tree w part) (resume (scopes_of tree) part.rest r) at left) →
+      ((at : ℕ) (after : List Slot) (wanted : Option Kind) →
+      Entered (scopes_of tree) (context_in tree code w part) (text_in tree texts w part) (level_in tree w part) (most_in tree w part) k s.stands.pc s.stands.slots a at after wanted →
+      ask (resume (scopes_of tree) part.rest entered) ≡ nothing) →
+      ((at : ℕ) (after : List Slot) (wanted : Option Kind) →
+      Entered (scopes_of tree) (context_in tree code w part) (text_in tree texts w part) (level_in tree w part) (most_in tree w part) k s.stands.pc s.stands.slots a at after wanted →
+      (r : Answer) → Gives wanted r →
+      ComesTo (scopes_of tree) (context_in tree code w part) (text_in tree texts w part) (level_in tree w part) (most_in tree w part) (resume (scopes_of tree) (resume (scopes_of tree) part.rest entered) r) at
+      (pushed r after)) →
       Does tree code texts w img p
 
   -- each scene whose head asks for this does its action
   abbrev pub IsDone : Ask → Type 0
   IsDone k =
-      (w : World) (lay : List Place) (img : Image) (p : ℕ) (q : Process) (part : Part) (outer : List Part) (most bound : ℕ) (core : Core) (s : Scene tree code texts w lay img p q part outer most bound core) →
-      q.state ≡ able → numbered img.states p ≡ Some Able → ask part.rest ≡ k → GoesOnFrom w lay img p q part outer most bound core s k
+      (w : World) (lay : List Place) (img : Image) (p : ℕ) (q : Process) (part : Part) (outer : List Part) (bound : ℕ) (core : Core) (s : Scene tree code texts w lay img p q part outer bound core) →
+      q.state ≡ able → numbered img.states p ≡ Some Able → ask part.rest ≡ k → GoesOnFrom w lay img p q part outer bound core s k
 
-  -- a line, the choice of a statement, the entry of a block, the leaving of one, the end
+  -- a line, the choice of a statement, the entry of a block or of a procedure, the leaving of one, the end
   pub record OthersAreDone : Type 0 where
     pub writing : (phrases : List PhraseText) (vs : List Value) → IsDone (writes phrases vs)
     pub selecting : (v : Value) (ss : PStmts) → IsDone (selects v ss)
     pub entering : (b : PBody) → IsDone (enters_block b)
+    pub calling : (n : Named) (gs : List Given) → IsDone (enters n gs)
     pub leaving : IsDone (leaves done)
+    pub returning : (v : Value) → IsDone (leaves (value v))
 
   module _ (nested : AreNested (scopes_of tree)) (fragments : FragmentsArePerformed) (keeps : RestsKeepToTheirText) (rests : RestsGoOn) (others : OthersAreDone) (w : World) (lay : List Place) (img : Image)
-      (p : ℕ) (q : Process) (part : Part) (outer : List Part) (most bound : ℕ) (core : Core) (s : Scene tree code texts w lay img p q part outer most bound core) (able_is : q.state ≡ able) (able_p : numbered img.states p ≡ Some Able) where
+      (p : ℕ) (q : Process) (part : Part) (outer : List Part) (bound : ℕ) (core : Core) (s : Scene tree code texts w lay img p q part outer bound core) (able_is : q.state ≡ able) (able_p : numbered img.states p ≡ Some Able) where
     -- the part's level is one that the machine has
     low : level_in tree w part ≤ MOST_LEVEL
     low =
@@ -97,40 +107,41 @@ module _ (tree : PProgram) (code : Code) (texts : ℕ → List Placed) where
         ap (λ (o : Option Instance). level_of (block_numbered (scopes_of tree).blocks ((or_no_instance o).block))) framed.is in
         omega (arith, same, (nested.each framed.instance.block framed.known).low)
 
-    by_ask : (k : Ask) → ask part.rest ≡ k → GoesOnFrom w lay img p q part outer most bound core s k
-    by_ask (reads n) e a answered waits = reading tree code texts fragments keeps w lay img p q part outer most bound core s able_is able_p n e a answered
-    by_ask (fails fault) e a answered waits = failing tree code texts w lay img p q part outer most bound core s fault e a
-    by_ask (stores (own n) v) e a answered waits =
-        storing tree code texts fragments keeps w lay img p q part outer most bound core s able_is able_p n v e a answered (omega (arith, a.2.variable.level_is, low))
+    by_ask : (k : Ask) → ask part.rest ≡ k → GoesOnFrom w lay img p q part outer bound core s k
+    by_ask (reads n) e a answered waits returns = reading tree code texts fragments keeps w lay img p q part outer bound core s able_is able_p n e a answered
+    by_ask (fails fault) e a answered waits returns = failing tree code texts w lay img p q part outer bound core s fault e a
+    by_ask (stores (own n) v) e a answered waits returns =
+        storing tree code texts fragments keeps w lay img p q part outer bound core s able_is able_p n v e a answered (omega (arith, a.2.variable.level_is, low))
         (small_index (scopes_of tree) nested (level_in tree w part) n a.2.kind a.2.couple a.2.variable)
-    by_ask turns e a answered waits = turning tree code texts fragments keeps w lay img p q part outer most bound core s able_is able_p e a answered
-    by_ask (writes phrases vs) e a answered waits = others.writing phrases vs w lay img p q part outer most bound core s able_is able_p e a answered waits
-    by_ask (selects v ss) e a answered waits = others.selecting v ss w lay img p q part outer most bound core s able_is able_p e a answered waits
-    by_ask (enters_block b) e a answered waits = others.entering b w lay img p q part outer most bound core s able_is able_p e a answered waits
-    by_ask (leaves done) e a answered waits = others.leaving w lay img p q part outer most bound core s able_is able_p e a answered waits
-    by_ask (leaves (value v)) e a answered waits = absurd a
-    by_ask (leaves (cell c)) e a answered waits = absurd a
-    by_ask (leaves (place x)) e a answered waits = absurd a
-    by_ask (leaves entered) e a answered waits = absurd a
-    by_ask (stores (there r) v) e a answered waits = absurd a
-    by_ask (stores (element_of r ks) v) e a answered waits = absurd a
-    by_ask nothing e a answered waits = absurd a
-    by_ask (reads_element n ks v) e a answered waits = absurd a
-    by_ask (indexes n ks v) e a answered waits = absurd a
-    by_ask (asks_happened n) e a answered waits = absurd a
-    by_ask (enters n gs) e a answered waits = absurd a
-    by_ask (passes n) e a answered waits = absurd a
-    by_ask (resolves n) e a answered waits = absurd a
-    by_ask (reads_result name) e a answered waits = absurd a
-    by_ask (goes_to n) e a answered waits = absurd a
-    by_ask (starts n gs task) e a answered waits = absurd a
-    by_ask (acts x n) e a answered waits = absurd a
-    by_ask (makes_arrays kind ns pairs vs) e a answered waits = absurd a
-    by_ask (makes_event n) e a answered waits = absurd a
+    by_ask turns e a answered waits returns = turning tree code texts fragments keeps w lay img p q part outer bound core s able_is able_p e a answered
+    by_ask (writes phrases vs) e a answered waits returns = others.writing phrases vs w lay img p q part outer bound core s able_is able_p e a answered waits returns
+    by_ask (selects v ss) e a answered waits returns = others.selecting v ss w lay img p q part outer bound core s able_is able_p e a answered waits returns
+    by_ask (enters_block b) e a answered waits returns = others.entering b w lay img p q part outer bound core s able_is able_p e a answered waits returns
+    by_ask (leaves done) e a answered waits returns = others.leaving w lay img p q part outer bound core s able_is able_p e a answered waits returns
+    by_ask (leaves (value v)) e a answered waits returns = others.returning v w lay img p q part outer bound core s able_is able_p e a answered waits returns
+    by_ask (leaves (cell c)) e a answered waits returns = absurd a
+    by_ask (leaves (place x)) e a answered waits returns = absurd a
+    by_ask (leaves entered) e a answered waits returns = absurd a
+    by_ask (stores (there r) v) e a answered waits returns = absurd a
+    by_ask (stores (element_of r ks) v) e a answered waits returns = absurd a
+    by_ask nothing e a answered waits returns = absurd a
+    by_ask (reads_element n ks v) e a answered waits returns = absurd a
+    by_ask (indexes n ks v) e a answered waits returns = absurd a
+    by_ask (asks_happened n) e a answered waits returns = absurd a
+    by_ask (enters n gs) e a answered waits returns = others.calling n gs w lay img p q part outer bound core s able_is able_p e a answered waits returns
+    by_ask (passes n) e a answered waits returns = absurd a
+    by_ask (resolves n) e a answered waits returns = absurd a
+    by_ask (reads_result name) e a answered waits returns =
+        reading_result tree code texts nested fragments keeps w lay img p q part outer bound core s able_is able_p name e a answered
+    by_ask (goes_to n) e a answered waits returns = absurd a
+    by_ask (starts n gs task) e a answered waits returns = absurd a
+    by_ask (acts x n) e a answered waits returns = absurd a
+    by_ask (makes_arrays kind ns pairs vs) e a answered waits returns = absurd a
+    by_ask (makes_event n) e a answered waits returns = absurd a
 
     -- whatever its head asks for
     pub scene_does : Does tree code texts w img p
     scene_does =
-        let on : GoesOn (scopes_of tree) code.formats (text_in texts w part) (level_in tree w part) most part.rest s.stands.pc s.stands.slots =
-        rests (scopes_of tree) code.formats (text_in texts w part) (level_in tree w part) most part.rest s.stands.pc s.stands.slots s.stands.stands s.stands.asks in
-        by_ask (ask part.rest) refl on.action on.answered on.entered
+        let on : GoesOn (scopes_of tree) (context_in tree code w part) (text_in tree texts w part) (level_in tree w part) (most_in tree w part) part.rest s.stands.pc s.stands.slots =
+        rests (scopes_of tree) (context_in tree code w part) (text_in tree texts w part) (level_in tree w part) (most_in tree w part) part.rest s.stands.pc s.stands.slots s.stands.stands s.stands.asks in
+        by_ask (ask part.rest) refl on.action on.answered on.waits on.returns

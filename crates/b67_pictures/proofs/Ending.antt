@@ -3,7 +3,6 @@ use Rattle.std.proofs.Common.{◌≡◌, ◌≢◌, refl, sym, ap, ◌∙◌, su
 use Rattle.std.specs.Prelude.{if◌then◌else◌}
 use Rattle.b67_list.specs.Numbered.{numbered}
 use Rattle.algol_tree.specs.Plain.{PProgram}
-use Rattle.algol_tree.specs.Blocks.{block_numbered}
 use Rattle.algol_tree.specs.Scopes.{Scopes, scopes_of}
 use Rattle.algol_meaning.specs.Value.{Reference}
 use Rattle.algol_meaning.specs.Rest.{done}
@@ -29,13 +28,12 @@ use Rattle.b67_table.specs.Outcome as outcomes
 use Rattle.b67_table.specs.Private.{frame}
 use Rattle.b67_table.specs.Questions.{live_criticals}
 use Rattle.b67_table.specs.Table.{table, operator_at}
-use Rattle.b67_templates.specs.Cells.{simple_cells}
 use Rattle.b67_standing.specs.Standing.{ActionAt}
 use Rattle.b67_cores.specs.Cores.{Core, HasCore}
 use Rattle.b67_faithful.proofs.Contradictions.{none_some}
 use Rattle.b67_pictures.specs.Acting.{Does, gave}
 use Rattle.b67_pictures.specs.Pictures.{Pictures, dead, PicturesBy}
-use Rattle.b67_pictures.proofs.ExitRow.{DescribeNothing, cells_describe_nothing, ended_at, exit_raw, exit_class, exit_action}
+use Rattle.b67_pictures.proofs.ExitRow.{DescribeNothing, frame_describes_nothing, ended_at, exit_raw, exit_class, exit_action}
 use Rattle.b67_pictures.proofs.Homes.{operator_there}
 use Rattle.b67_pictures.proofs.Independent.{none_critical, none_dependent}
 use Rattle.b67_pictures.proofs.Kept.{AreAlike, alike_but}
@@ -43,7 +41,7 @@ use Rattle.b67_pictures.proofs.Numbers.{numbered_set, numbered_other, length_set
 use Rattle.b67_pictures.proofs.Rows.{action_not_plain}
 use Rattle.b67_pictures.proofs.Scene.{Scene, frame_is}
 use Rattle.b67_pictures.proofs.Stage.{choice_is, comes_to, gives_within}
-use Rattle.b67_pictures.proofs.Staying.{text_in, level_in}
+use Rattle.b67_pictures.proofs.Staying.{text_in, level_in, context_in, most_in}
 
 -- a stack that is closed is no other one
 closed_other : (stacks : Stacks) (n m : ℕ) → n ≢ m → stack_at (closed_at stacks n) m ≡ stack_at stacks m
@@ -54,7 +52,7 @@ closed_other (z ∷ zs) (suc n) zero apart = refl
 closed_other (z ∷ zs) (suc n) (suc m) apart = closed_other zs n m (λ e. apart (ap suc e))
 
 module _ (tree : PProgram) (code : Code) (texts : ℕ → List Placed) (w : World) (lay : List Place) (img : Image)
-    (p : ℕ) (q : Process) (part : Part) (most bound : ℕ) (core : Core) (s : Scene tree code texts w lay img p q part [] most bound core) (able_p : numbered img.states p ≡ Some Able) where
+    (p : ℕ) (q : Process) (part : Part) (bound : ℕ) (core : Core) (s : Scene tree code texts w lay img p q part [] bound core) (able_p : numbered img.states p ≡ Some Able) where
   abbrev sc : Scopes
   sc = scopes_of tree
 
@@ -87,9 +85,9 @@ module _ (tree : PProgram) (code : Code) (texts : ℕ → List Placed) (w : Worl
 
     -- ---- the image
 
-    module _ (a : ActionAt sc code.formats (text_in texts w part) (level_in tree w part) most (leaves done) s.stands.pc s.stands.slots) where
+    module _ (a : ActionAt sc (context_in tree code w part) (text_in tree texts w part) (level_in tree w part) (most_in tree w part) (leaves done) s.stands.pc s.stands.slots) where
       there : operator_at code core.registers ≡ Ok (ops.Plain kinds.Exit, a.0)
-      there = operator_there sc code (text_in texts w part) (level_in tree w part) s.stands.pc s.stands.slots core (ops.Plain kinds.Exit) a.0 s.stands.there a.1
+      there = operator_there sc code (text_in tree texts w part) (level_in tree w part) s.stands.pc s.stands.slots core (ops.Plain kinds.Exit) a.0 s.stands.there a.2
 
       abbrev left : Registers
       left = record core.registers { place = a.0 }
@@ -102,11 +100,11 @@ module _ (tree : PProgram) (code : Code) (texts : ℕ → List Placed) (w : Worl
       below_is = s.stands.frame.words_are ∙ ap (λ (ws : List Word). ws ++ s.stands.frame.mark ∷ s.stands.frame.control ∷ s.stands.frame.cells) s.around.0
 
       base : frame core.registers ≡ 0
-      base = frame_is tree code texts w lay img p q part [] most bound core s ∙ ap length s.around.0
+      base = frame_is tree code texts w lay img p q part [] bound core s ∙ ap length s.around.0
 
       cells_plain : DescribeNothing s.stands.frame.cells
       cells_plain =
-          cells_describe_nothing (simple_cells (block_numbered sc.blocks s.stands.frame.framed.instance.block)) s.stands.frame.framed.instance.cells s.stands.frame.cells s.stands.frame.framed.cells_are
+          frame_describes_nothing sc w lay p part.instance [] (length s.stands.frame.lower) s.stands.frame.mark s.stands.frame.control s.stands.frame.cells s.stands.frame.framed
 
       -- the others
       not_system : core.registers.stack ≢ 0

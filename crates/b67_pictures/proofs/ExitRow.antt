@@ -1,10 +1,13 @@
 -- EXIT of a base frame.
-use Rattle.std.proofs.Common.{◌≡◌, ◌⊎◌, inl, inr, refl, ap, ◌∙◌, ℕ, zero, suc, ◌+◌, List, [], ◌∷◌, ◌++◌, length, take, drop, Option, Some, None, Bool, true, false, Ok}
+use Rattle.std.proofs.Common.{◌≡◌, ◌⊎◌, inl, inr, refl, sym, ap, subst, ◌∙◌, ℕ, zero, suc, ◌+◌, List, [], ◌∷◌, ◌++◌, length, take, drop, Option, Some, None, Bool, true, false, Ok}
 use Rattle.std.specs.Prelude.{if◌then◌else◌, nat_eq, slice_get, reverse}
 use Rattle.b67_list.specs.Numbered.{set_numbered}
 use Rattle.algol_tree.specs.declared.tree.Kind.{Kind}
 use Rattle.algol_meaning.specs.Value.{Cell, simple, event, array, named, reference}
-use Rattle.algol_meaning.specs.World.{NamedCell}
+use Rattle.algol_tree.specs.Blocks.{Block, block_numbered}
+use Rattle.algol_tree.specs.Cells.{level_of}
+use Rattle.algol_tree.specs.Scopes.{Scopes}
+use Rattle.algol_meaning.specs.World.{NamedCell, Part, World}
 use Rattle.algol_meaning.specs.Actions as act
 use Rattle.algol_meaning.specs.Actions.{Action}
 use Rattle.b67_word.specs.declared.Place.{Place}
@@ -30,13 +33,15 @@ use Rattle.b67_table.specs.Questions.{with_critical, unless, live_criticals}
 use Rattle.b67_num.specs.declared.FaultKind.TheVariants.{CriticalBlockExit}
 use Rattle.b67_table.specs.Rows.{row, exit}
 use Rattle.b67_table.specs.Table.{raw, table, operator_at, class_at}
-use Rattle.b67_templates.specs.Cells.{Simple}
+use Rattle.b67_templates.specs.Cells.{Simple, simple_cells, control_segments}
+use Rattle.b67_templates.specs.Fragments.{code_at}
+use Rattle.b67_cores.specs.Stretches.{control_words}
 use Rattle.b67_cores.specs.Cores.{Core, HasCore}
 use Rattle.b67_faithful.specs.Correspondence.{operator_action}
-use Rattle.b67_pictures.specs.Frames.{CellIs, CellsAre}
+use Rattle.b67_pictures.specs.Frames.{CellIs, CellsAre, Framed}
 use Rattle.b67_pictures.proofs.Rows.{raw_is, words_are, action_is}
 use Rattle.b67_pictures.proofs.StackWords.{take-seam}
-use Rattle.b67_pictures.proofs.Words.{value_tag, no_descriptor}
+use Rattle.b67_pictures.proofs.Words.{value_tag, no_descriptor, pcw_describes_nothing}
 
 -- ---- the cells of a frame describe no rows
 
@@ -59,6 +64,22 @@ cells_describe_nothing [] (c ∷ cells) words are = absurd are
 cells_describe_nothing (s ∷ ss) [] words are = absurd are
 cells_describe_nothing (s ∷ ss) (c ∷ cells) [] are = absurd are
 cells_describe_nothing (s ∷ ss) (c ∷ cells) (w ∷ words) are = (cell_describes_nothing s.kind c.cell w are.1, cells_describe_nothing ss cells words are.2)
+
+-- nor do the control words of procedures
+pub controls_describe_nothing : (level : ℕ) (segments : List ℕ) → DescribeNothing (control_words level segments)
+controls_describe_nothing level [] = tt
+controls_describe_nothing level (segment ∷ segments) = (pcw_describes_nothing (code_at segment 0 (level + 1)), controls_describe_nothing level segments)
+
+describe_both : (words more : List Word) → DescribeNothing words → DescribeNothing more → DescribeNothing (words ++ more)
+describe_both [] more none others = others
+describe_both (w ∷ words) more none others = (none.0, describe_both words more none.1 others)
+
+pub frame_describes_nothing : (sc : Scopes) (w : World) (lay : List Place) (p i : ℕ) (outer : List Part) (at : ℕ) (mark control : Word) (cells : List Word) → Framed sc w lay p i outer at mark control cells → DescribeNothing cells
+frame_describes_nothing sc w lay p i outer at mark control cells f =
+    let b : Block = block_numbered sc.blocks f.instance.block in
+    subst (λ (ws : List Word). DescribeNothing ws) (sym f.cells_is)
+    (describe_both f.values (control_words (level_of b) (control_segments sc b.decls)) (cells_describe_nothing (simple_cells b) f.instance.cells f.values f.cells_are)
+    (controls_describe_nothing (level_of b) (control_segments sc b.decls)))
 
 -- so no row is closed
 pub none_closed : (words : List Word) (next : Change) → DescribeNothing words → arrays_closed words next ≡ next

@@ -35,7 +35,7 @@ use Rattle.b67_pictures.proofs.Homes.{operator_there}
 use Rattle.b67_pictures.proofs.Slotted.{Top, top_slot}
 use Rattle.b67_pictures.proofs.Stage.{faults_so, choice_is, faulted}
 use Rattle.b67_pictures.proofs.Scene.{Scene}
-use Rattle.b67_pictures.proofs.Staying.{text_in, level_in}
+use Rattle.b67_pictures.proofs.Staying.{text_in, level_in, context_in, most_in}
 
 -- of an operator without a result the first operand is as it stands
 ready_same : (op : Op) (v w : Value) (f : NumFault) → result_of op v w ≡ Err f → ready op v ≡ v
@@ -57,10 +57,10 @@ ready_same operators.Or v w f e = refl
 ready_same operators.Eqv v w f e = refl
 
 module _ (tree : PProgram) (code : Code) (texts : ℕ → List Placed) (w : World) (lay : List Place) (img : Image)
-    (p : ℕ) (q : Process) (part : Part) (outer : List Part) (most bound : ℕ) (core : Core) (s : Scene tree code texts w lay img p q part outer most bound core)
-    (fault : NumFault) (asks : ask part.rest ≡ fails fault) (a : ActionAt (scopes_of tree) code.formats (text_in texts w part) (level_in tree w part) most (fails fault) s.stands.pc s.stands.slots) where
+    (p : ℕ) (q : Process) (part : Part) (outer : List Part) (bound : ℕ) (core : Core) (s : Scene tree code texts w lay img p q part outer bound core)
+    (fault : NumFault) (asks : ask part.rest ≡ fails fault) (a : ActionAt (scopes_of tree) (context_in tree code w part) (text_in tree texts w part) (level_in tree w part) (most_in tree w part) (fails fault) s.stands.pc s.stands.slots) where
   there : operator_at code core.registers ≡ Ok (ops.Plain (operator_for a.0), a.3)
-  there = operator_there (scopes_of tree) code (text_in texts w part) (level_in tree w part) s.stands.pc s.stands.slots core (ops.Plain (operator_for a.0)) a.3 s.stands.there a.5.stands
+  there = operator_there (scopes_of tree) code (text_in tree texts w part) (level_in tree w part) s.stands.pc s.stands.slots core (ops.Plain (operator_for a.0)) a.3 s.stands.there a.5.stands
 
   table_is : table code img p ≡ outcomes.faults (fault_of fault)
   table_is =

@@ -1,15 +1,10 @@
 -- The world in which an instance is made, and where the code behind an entry ends.
-use Rattle.std.proofs.Common.{◌≡◌, sym, ap, ◌∙◌, subst, ℕ, zero, suc, ◌+◌, ◌*◌, ◌≤◌, ◌<◌, List, [], ◌∷◌, ◌++◌, length, Option, Some, None, arith, length-append}
-use Rattle.std.specs.Prelude.{slice_get, slice_index_or, All}
+use Rattle.std.proofs.Common.{◌≡◌, sym, ap, ◌∙◌, ℕ, zero, suc, ◌+◌, ◌*◌, ◌≤◌, List, [], ◌∷◌, ◌++◌, length, Option, Some, None, arith, length-append}
 use Rattle.b67_list.specs.Numbered.{numbered}
 use Rattle.algol_tree.specs.declared.tree.Kind.{Kind}
-use Rattle.algol_tree.specs.declared.tree.Named.{Named}
-use Rattle.algol_tree.specs.Plain as tree
-use Rattle.algol_tree.specs.Plain.{PProgram, PStmts, PBody}
 use Rattle.algol_tree.specs.Blocks.{Block}
 use Rattle.algol_meaning.specs.Rest.{Item}
 use Rattle.algol_meaning.specs.Statements.{items, items_of, decls_items, ending}
-use Rattle.algol_paths.specs.Texts.{InStmts, InItems}
 use Rattle.b67_ops.specs.declared.Operator.{Operator}
 use Rattle.b67_ops.specs.Spelling.{spelling}
 use Rattle.b67_segment.specs.Operators.{Placed, text, size, width, StandsAmong}
@@ -17,7 +12,8 @@ use Rattle.b67_segment.specs.Syllables.{Spells}
 use Rattle.b67_segment.specs.declared.code.Segment.{Segment}
 use Rattle.b67_segment.proofs.Fetches.{length-syllables}
 use Rattle.b67_segment.proofs.Texts.{text-append}
-use Rattle.b67_faithful.proofs.Contradictions.{none_some, some_same}
+use Rattle.b67_faithful.proofs.Contradictions.{none_some}
+use Rattle.b67_pictures.proofs.Numbers.{get_below}
 use Rattle.b67_pictures.proofs.StackWords.{get-seam, get-front}
 
 -- ---- one more in a list by number
@@ -30,23 +26,10 @@ pub numbered_before : {A : Type 0} (xs ys : List A) (n : ℕ) (x : A) → number
 numbered_before xs ys zero x e = none_some e
 numbered_before xs ys (suc k) x e = get-front xs ys k x e
 
-got_low : {A : Type 0} (xs : List A) (k : ℕ) (x : A) → slice_get xs k ≡ Some x → k < length xs
-got_low [] k x e = cc
-got_low (y ∷ ys) zero x e = omega arith
-got_low (y ∷ ys) (suc k) x e = omega (arith, got_low ys k x e)
-
 -- numbers are no higher than there are items
 pub numbered_low : {A : Type 0} (xs : List A) (n : ℕ) (x : A) → numbered xs n ≡ Some x → n ≤ length xs
 numbered_low xs zero x e = none_some e
-numbered_low xs (suc k) x e = omega (arith, got_low xs k x e)
-
-got_or : {A : Type 0} (xs : List A) (k : ℕ) (x d : A) → slice_get xs k ≡ Some x → slice_index_or xs k d ≡ x
-got_or [] k x d e = cc
-got_or (y ∷ ys) zero x d e = some_same e
-got_or (y ∷ ys) (suc k) x d e = got_or ys k x d e
-
-pub all_at : {A : Type 0} (P : A → Type 0) (xs : List A) (k : ℕ) (x : A) → All P xs → slice_get xs k ≡ Some x → P x
-all_at P xs k x all e = subst P (got_or xs k x x e) (all k x (got_low xs k x e))
+numbered_low xs (suc k) x e = omega (arith, get_below xs k x e)
 
 -- ---- code
 
@@ -68,16 +51,8 @@ next_within ps segment at level op next spells stands =
 
 -- ---- what a block has to do
 
-no_ending : (b : Block) → b.result ≡ None → ending b ≡ []
-no_ending b untyped = ap (λ (o : Option Kind). ending (record b { result = o })) untyped
-
 -- where no declaration is made by an action, and the block has no result, it has its statements to do
 pub plain_items : (b : Block) → decls_items b.decls ≡ [] → b.result ≡ None → items_of b ≡ items b.stmts []
 plain_items b made untyped =
     ap (λ (k : List Item). k ++ items b.stmts (ending b)) made
-    ∙ ap (items b.stmts) (no_ending b untyped)
-
--- which keep to its text
-pub in_items : (P : Named → Type 0) (Q : PBody → Type 0) (ss : PStmts) (k : List Item) → InStmts P Q ss → InItems P Q k → InItems P Q (items ss k)
-in_items P Q tree.no_stmts k is after = after
-in_items P Q (tree.stmts s ss) k is after = (is.0, in_items P Q ss k is.1 after)
+    ∙ ap (λ (o : Option Kind). items b.stmts (ending (record b { result = o }))) untyped

@@ -53,7 +53,7 @@ get-behind (x ∷ front) back k n e =
     ap (λ (m : ℕ). slice_get (x ∷ front ++ back) m) far ∙ get-behind front back k (length front + k) refl
 
 module _ (tree : PProgram) (code : Code) (texts : ℕ → List Placed) (w : World) (lay : List Place) (img : Image)
-    (p : ℕ) (q : Process) (part : Part) (outer : List Part) (most bound : ℕ) (core : Core) (s : Scene tree code texts w lay img p q part outer most bound core) where
+    (p : ℕ) (q : Process) (part : Part) (outer : List Part) (bound : ℕ) (core : Core) (s : Scene tree code texts w lay img p q part outer bound core) where
   abbrev sc : Scopes
   sc = scopes_of tree
 
@@ -63,8 +63,8 @@ module _ (tree : PProgram) (code : Code) (texts : ℕ → List Placed) (w : Worl
 
   -- what a name means there: its instance, whose frame lies in the stack, and the cell in it
   pub record Home (n : Named) (kind : Kind) (couple : Couple) : Type 0 where
-    pub parent : IsParent tree code texts w lay p most (part ∷ outer) part.instance ((use_of sc n).up) ((use_of sc n).block)
-    pub lies : Lies tree code texts w lay p most (part ∷ outer) (home_at n) core.below
+    pub parent : IsParent tree code texts w lay p (part ∷ outer) part.instance ((use_of sc n).up) ((use_of sc n).block)
+    pub lies : Lies tree code texts w lay p (part ∷ outer) (home_at n) core.below
     pub block_is : lies.frame.framed.instance.block ≡ (use_of sc n).block
     pub instance_is : instance_at w (home_at n) ≡ lies.frame.framed.instance
     pub number : ℕ
@@ -74,6 +74,7 @@ module _ (tree : PProgram) (code : Code) (texts : ℕ → List Placed) (w : Worl
     pub fits : HasKind kind value
     pub word : Word
     pub word_is : ValueIs value word
+    pub value_lies : slice_get lies.frame.framed.values number ≡ Some word
     pub cell_lies : slice_get lies.frame.cells number ≡ Some word
     pub below_lies : slice_get core.below (length lies.frame.lower + couple.index) ≡ Some word
     pub shown : display_at core.registers couple.level ≡ Some (place p (length lies.frame.lower))
@@ -87,7 +88,7 @@ module _ (tree : PProgram) (code : Code) (texts : ℕ → List Placed) (w : Worl
         let j : ℕ = (instance_at w part.instance).block in
         omega (arith, length_around sc.blocks ((instance_at w part.instance).block), get_below ((instance_at w part.instance).block ∷ around sc.blocks ((instance_at w part.instance).block)) up ((use_of sc n).block) seen)
 
-    module _ (parent : IsParent tree code texts w lay p most (part ∷ outer) part.instance up ((use_of sc n).block)) (l : Lies tree code texts w lay p most (part ∷ outer) (home_at n) core.below) where
+    module _ (parent : IsParent tree code texts w lay p (part ∷ outer) part.instance up ((use_of sc n).block)) (l : Lies tree code texts w lay p (part ∷ outer) (home_at n) core.below) where
       abbrev here : Instance
       here = l.frame.framed.instance
 
@@ -97,14 +98,18 @@ module _ (tree : PProgram) (code : Code) (texts : ℕ → List Placed) (w : Worl
       block_here : here.block ≡ (use_of sc n).block
       block_here = sym (ap (λ (x : Instance). x.block) instance_here) ∙ parent.block
 
-      own_cells : CellsAre (simple_cells (block_numbered sc.blocks ((use_of sc n).block))) here.cells l.frame.cells
-      own_cells = subst (λ (k : ℕ). CellsAre (simple_cells (block_numbered sc.blocks k)) here.cells l.frame.cells) block_here l.frame.framed.cells_are
+      own_cells : CellsAre (simple_cells (block_numbered sc.blocks ((use_of sc n).block))) here.cells l.frame.framed.values
+      own_cells = subst (λ (k : ℕ). CellsAre (simple_cells (block_numbered sc.blocks k)) here.cells l.frame.framed.values) block_here l.frame.framed.cells_are
 
-      c : Cell_of v.found 0 n.name here.cells l.frame.cells
-      c = variable_cell (simple_cells (block_numbered sc.blocks ((use_of sc n).block))) here.cells l.frame.cells 0 n.name v.found own_cells v.there
+      c : Cell_of v.found 0 n.name here.cells l.frame.framed.values
+      c = variable_cell (simple_cells (block_numbered sc.blocks ((use_of sc n).block))) here.cells l.frame.framed.values 0 n.name v.found own_cells v.there
 
       held : Holds_value kind (cell_in here.cells n.name) c.word
       held = value_of_cell kind (cell_in here.cells n.name) c.word (subst (λ (o : Option Kind). CellIs o (cell_in here.cells n.name) c.word) v.kind_is c.is)
+
+      -- the values lie before the control words
+      cells_lie : slice_get l.frame.cells c.far ≡ Some c.word
+      cells_lie = ap (λ (ws : List Word). slice_get ws c.far) l.frame.framed.cells_is ∙ get-front l.frame.framed.values _ c.far c.word c.lies
 
       far : length l.frame.lower + couple.index ≡ length l.frame.lower + suc (suc c.far)
       far = omega (arith, v.index_is, c.number)
@@ -126,13 +131,14 @@ module _ (tree : PProgram) (code : Code) (texts : ℕ → List Placed) (w : Worl
             fits = held.kind;
             word = c.word;
             word_is = held.word;
-            cell_lies = c.lies;
+            value_lies = c.lies;
+            cell_lies = cells_lie;
             below_lies =
                 ap (λ (ws : List Word). slice_get ws (length l.frame.lower + couple.index)) l.words_are
                 ∙ get-front l.front l.rest (length l.frame.lower + couple.index) c.word
                 (ap (λ (ws : List Word). slice_get ws (length l.frame.lower + couple.index)) l.frame.words_are
                 ∙ get-behind l.frame.lower (l.frame.mark ∷ l.frame.control ∷ l.frame.cells) (suc (suc c.far)) (length l.frame.lower + couple.index) far
-                ∙ c.lies);
+                ∙ cells_lie);
             shown =
                 ap (λ (k : ℕ). display_at core.registers k) level_up
                 ∙ s.stands.chained up low
@@ -142,6 +148,6 @@ module _ (tree : PProgram) (code : Code) (texts : ℕ → List Placed) (w : Worl
 
     pub home : Home n kind couple
     home =
-        let parent : IsParent tree code texts w lay p most (part ∷ outer) part.instance up ((use_of sc n).block) =
-        parents_in tree code texts w lay p most part outer core s.stands s.around part.instance (inl refl) up ((use_of sc n).block) seen in
-        home_there parent (lies_in tree code texts w lay p most part outer core s.stands s.around (home_at n) parent.own)
+        let parent : IsParent tree code texts w lay p (part ∷ outer) part.instance up ((use_of sc n).block) =
+        parents_in tree code texts w lay p part outer core s.stands s.around part.instance (inl refl) up ((use_of sc n).block) seen in
+        home_there parent (lies_in tree code texts w lay p part outer core s.stands s.around (home_at n) parent.own)

@@ -40,17 +40,17 @@ use Rattle.b67_pictures.proofs.Lying.{StayBelow}
 use Rattle.b67_pictures.proofs.Numbers.{numbered_set, most_or_more}
 use Rattle.b67_pictures.proofs.Scene.{Scene}
 use Rattle.b67_pictures.proofs.Stage.{gives_within, limit_beyond, goes_on, weight_of}
-use Rattle.b67_pictures.proofs.Staying.{text_in, level_in, FrameStill, frame_still, frame_low, chained_stays, parts_weigh}
+use Rattle.b67_pictures.proofs.Staying.{text_in, level_in, context_in, most_in, FrameStill, frame_still, frame_low, chained_stays, parts_weigh}
 
 -- the registers but for S, F and the place
 pub record SameFrame (a b : Registers) : Type 0 where
   pub is : b ≡ record a { s = b.s; f = b.f; place = b.place }
 
 module _ (tree : PProgram) (code : Code) (texts : ℕ → List Placed) (fragments : FragmentsArePerformed) (keeps : RestsKeepToTheirText) (w : World) (lay : List Place) (img : Image)
-    (p : ℕ) (q : Process) (part : Part) (outer : List Part) (most bound : ℕ) (core : Core) (s : Scene tree code texts w lay img p q part outer most bound core) (able_is : q.state ≡ able) (able_p : numbered img.states p ≡ Some Able)
+    (p : ℕ) (q : Process) (part : Part) (outer : List Part) (bound : ℕ) (core : Core) (s : Scene tree code texts w lay img p q part outer bound core) (able_is : q.state ≡ able) (able_p : numbered img.states p ≡ Some Able)
     (a : Answer) (nameless : InAnswer (IsSeen (scopes_of tree) ((instance_at w part.instance).block)) a) (out : List (List ℕ)) (new : Core) (below : new.below ≡ core.below) (frame_is : SameFrame core.registers new.registers)
-    (pc : ℕ) (slots : List Slot) (there : CoreAt (scopes_of tree) code (text_in texts w part) (level_in tree w part) pc slots new) (few : length slots ≤ most)
-    (comes : ComesTo (scopes_of tree) code.formats (text_in texts w part) (level_in tree w part) most (resume (scopes_of tree) part.rest a) pc slots) where
+    (pc : ℕ) (slots : List Slot) (there : CoreAt (scopes_of tree) code (text_in tree texts w part) (level_in tree w part) pc slots new) (few : length slots ≤ most_in tree w part)
+    (comes : ComesTo (scopes_of tree) (context_in tree code w part) (text_in tree texts w part) (level_in tree w part) (most_in tree w part) (resume (scopes_of tree) part.rest a) pc slots) where
   abbrev pub part' : Part
   part' = record part { rest = resume (scopes_of tree) part.rest a }
 
@@ -80,12 +80,12 @@ module _ (tree : PProgram) (code : Code) (texts : ℕ → List Placed) (fragment
   all_low : length core.below ≤ length core.below
   all_low = omega arith
 
-  still : FrameStill tree code texts w w' lay lay p most (length core.below) stay part outer core.below s.stands.frame.cells
+  still : FrameStill tree code texts w w' lay lay p (length core.below) stay part outer core.below s.stands.frame.cells
   still =
-      frame_still tree code texts w w' lay lay p most (length core.below) stay part outer core.below s.stands.frame s.around
-      (omega (arith, frame_low tree code texts w lay p most part outer core.below s.stands.frame))
+      frame_still tree code texts w w' lay lay p (length core.below) stay part outer core.below s.stands.frame s.around
+      (omega (arith, frame_low tree code texts w lay p part outer core.below s.stands.frame))
 
-  abbrev frame' : Frame tree code texts w' lay p most part' outer new.below
+  abbrev frame' : Frame tree code texts w' lay p part' outer new.below
   frame' =
       record {
         owns = still.frame.owns;
@@ -102,10 +102,10 @@ module _ (tree : PProgram) (code : Code) (texts : ℕ → List Placed) (fragment
   light' =
       subst (λ (n : ℕ). bound + 3 ≤ n)
       (weight_of tree w p q (part ∷ outer) s.at s.todo
-      ∙ sym (parts_weigh tree code texts w w' lay lay p most (length core.below) stay part outer core s.stands s.around all_low)
+      ∙ sym (parts_weigh tree code texts w w' lay lay p (length core.below) stay part outer core s.stands s.around all_low)
       ∙ sym (weight_of tree w' p q' (part' ∷ outer) (numbered_set w.processes p q q' s.at) refl)) s.light
 
-  room' : length new.below + most ≤ bound
+  room' : length new.below + most_in tree w part ≤ bound
   room' = omega (arith, s.room, ap length below)
 
   -- how many words its stack has
@@ -116,7 +116,7 @@ module _ (tree : PProgram) (code : Code) (texts : ℕ → List Placed) (fragment
   in_frame small =
       goes_on tree code texts w lay img s.by p q s.at w' lay after q' refl able_is s.by.laid (λ r other. alike_by w w' lay r refl) refl refl refl refl refl
       (system_stays img p core new s.has same_stack q w s.at) able_p others
-      (living_of tree code texts w' lay after fragments p q' part' outer most bound new new (record {
+      (living_of tree code texts w' lay after fragments p q' part' outer bound new new (record {
         todo = refl;
         independent = s.independent;
         without_task = s.without_task;
@@ -126,12 +126,12 @@ module _ (tree : PProgram) (code : Code) (texts : ℕ → List Placed) (fragment
         sees = ap (λ (r : Registers). place_at r.display 0) frame_is.is ∙ s.sees;
         small = small;
         begun = 0;
-        begins = steps_none (scopes_of tree) code (text_in texts w part) (level_in tree w part) most bound pc slots new there few room';
+        begins = steps_none (scopes_of tree) code (text_in tree texts w part) (level_in tree w part) (most_in tree w part) bound pc slots new there few room';
         frame = frame';
         around = still.around;
         counted = ap (λ (r : Registers). r.cells) frame_is.is ∙ s.stands.counted ∙ sym (ap length still.cells_are);
         chained = subst (λ d. IsChained (scopes_of tree) w' lay part.instance (level_in tree w part) d) (sym (ap (λ (r : Registers). r.display) frame_is.is))
-            (chained_stays tree code texts w w' lay lay p most (length core.below) stay part outer core s.stands s.around all_low core.registers.display s.stands.chained);
+            (chained_stays tree code texts w w' lay lay p (length core.below) stay part outer core s.stands s.around all_low core.registers.display s.stands.chained);
         segment_is = ap (λ (r : Registers). r.segment) frame_is.is ∙ s.stands.segment_is;
         pc = pc;
         slots = slots;
@@ -140,7 +140,6 @@ module _ (tree : PProgram) (code : Code) (texts : ℕ → List Placed) (fragment
         comes = comes;
         room = room';
         light = light';
-        few = s.few;
       }))
 
   pub does_in_frame : (action : Action) → plain code img p ≡ false → raw code img p ≡ effects.gives after → choice (scopes_of tree) w p ≡ record { action = action; world = w'; released = []; started = None } →

@@ -13,7 +13,7 @@ use Rattle.b67_faithful.proofs.Contradictions.{some_same}
 use Rattle.b67_pictures.specs.Pictures.{Pictured, living, dead}
 use Rattle.b67_pictures.proofs.Lying.{StayBelow}
 use Rattle.b67_pictures.proofs.Numbers.{numbered_other}
-use Rattle.b67_pictures.proofs.Staying.{frames_stay, frames_weigh}
+use Rattle.b67_pictures.proofs.Staying.{frames_stay, frames_weigh, frames_most}
 
 -- The instances of a process are the same in two worlds, and the frames of all are where they were.
 pub record AreAlike (w w' : World) (lay lay' : List Place) (r : ℕ) : Type 0 where
@@ -52,7 +52,7 @@ module _ (tree : PProgram) (code : Code) (texts : ℕ → List Placed) (w w' : W
       let low : length l.settled.below ≤ length l.settled.below = omega arith in
       let same : weight tree w r ≡ weight tree w' r =
       ap (λ (o : Process). parts_weight tree w o.todo) at
-      ∙ sym (frames_weigh tree code texts w w' lay lay' r l.most (length l.settled.below) (stay_below (length l.settled.below)) q.todo l.settled low l.frames)
+      ∙ sym (frames_weigh tree code texts w w' lay lay' r (length l.settled.below) (stay_below (length l.settled.below)) q.todo l.settled low l.frames)
       ∙ ap (λ (o : Process). parts_weight tree w' o.todo) (sym at') in
       living a (states ∙ s) (record {
         independent = l.independent;
@@ -64,12 +64,10 @@ module _ (tree : PProgram) (code : Code) (texts : ℕ → List Placed) (w w' : W
         sees = l.sees;
         small = l.small;
         settled = l.settled;
-        most = l.most;
         bound = l.bound;
         count = l.count;
         steps = l.steps;
-        frames = frames_stay tree code texts w w' lay lay' r l.most (length l.settled.below) (stay_below (length l.settled.below)) q.todo l.settled low l.frames;
-        room = l.room;
+        frames = frames_stay tree code texts w w' lay lay' r (length l.settled.below) (stay_below (length l.settled.below)) q.todo l.settled low l.frames;
+        room = omega (arith, l.room, frames_most tree code texts w w' lay lay' r (length l.settled.below) (stay_below (length l.settled.below)) q.todo l.settled low l.frames);
         light = subst (λ (n : ℕ). l.bound + 3 ≤ n) same l.light;
-        few = l.few;
       })

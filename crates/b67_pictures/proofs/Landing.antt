@@ -1,9 +1,9 @@
 -- A process that has a core at a place from which private operators lead to where the machine stands for what its parts have still to do.
-use Rattle.std.proofs.Common.{◌≡◌, sym, ap, ◌∙◌, subst, ℕ, ◌+◌, ◌*◌, ◌≤◌, List, ◌∷◌, length, Some, None, arith}
-use Rattle.algol_tree.specs.Counts.{program_tokens}
+use Rattle.std.proofs.Common.{◌≡◌, sym, ap, ◌∙◌, subst, ℕ, ◌+◌, ◌≤◌, List, ◌∷◌, length, Some, None, arith}
 use Rattle.algol_tree.specs.Plain.{PProgram}
 use Rattle.algol_tree.specs.Scopes.{Scopes, scopes_of}
-use Rattle.algol_meaning.specs.World.{Process, Part, World}
+use Rattle.algol_meaning.specs.World.{Process, Part, World, instance_at}
+use Rattle.algol_paths.specs.Segments.{segment_of}
 use Rattle.b67_word.specs.declared.Place.{Place}
 use Rattle.b67_control.specs.declared.Registers.{Registers}
 use Rattle.b67_control.specs.Display.{place_at}
@@ -13,7 +13,6 @@ use Rattle.b67_store.specs.Store.{stack_limit}
 use Rattle.b67_table.specs.Chains.{place}
 use Rattle.b67_table.specs.Image.{Image}
 use Rattle.b67_table.specs.Private.{frame}
-use Rattle.b67_templates.specs.Fragments.{program_segment}
 use Rattle.b67_standing.specs.Stepping.{Slot}
 use Rattle.b67_standing.specs.Standing.{ComesTo}
 use Rattle.b67_cores.specs.Cores.{Core, size, HasCore, CoreSteps, here}
@@ -21,8 +20,8 @@ use Rattle.b67_cores.specs.Stretches.{CoreAt, Arrives, FragmentsArePerformed}
 use Rattle.b67_cores.proofs.Moving.{slots_length, steps_on}
 use Rattle.b67_faithful.specs.Weight.{weight}
 use Rattle.b67_pictures.specs.Frames.{IsChained, Frame, Around, Frames}
-use Rattle.b67_pictures.specs.Pictures.{Living}
-use Rattle.b67_pictures.proofs.Staying.{text_in, level_in}
+use Rattle.b67_pictures.specs.Pictures.{innermost_most, Living}
+use Rattle.b67_pictures.proofs.Staying.{text_in, level_in, context_in, most_in, wanted_in}
 
 -- a core at a place is there, after no step, where its stack has the room of the bound
 pub steps_none : (sc : Scopes) (code : Code) (ps : List Placed) (level most bound pc : ℕ) (slots : List Slot) (core : Core) → CoreAt sc code ps level pc slots core → length slots ≤ most → length core.below + most ≤ bound →
@@ -33,7 +32,7 @@ steps_none sc code ps level most bound pc slots core at few room =
 module _ (tree : PProgram) (code : Code) (texts : ℕ → List Placed) (w : World) (lay : List Place) (img : Image) where
   -- The process has the core `first`, from which private operators lead to `core`. That has the frame of the innermost part, and stands at
   -- a place from where the machine comes to where it stands for what the part has still to do.
-  pub record Landed (p : ℕ) (q : Process) (part : Part) (outer : List Part) (most bound : ℕ) (first core : Core) : Type 0 where
+  pub record Landed (p : ℕ) (q : Process) (part : Part) (outer : List Part) (bound : ℕ) (first core : Core) : Type 0 where
     pub todo : q.todo ≡ part ∷ outer
     pub independent : q.critical ≡ None
     pub without_task : q.task ≡ None
@@ -44,25 +43,24 @@ module _ (tree : PProgram) (code : Code) (texts : ℕ → List Placed) (w : Worl
     pub small : size first ≤ stack_limit
     pub begun : ℕ
     pub begins : CoreSteps code bound begun first core
-    pub frame : Frame tree code texts w lay p most part outer core.below
-    pub around : Around tree code texts w lay p most outer frame.lower frame.mark frame.control
+    pub frame : Frame tree code texts w lay p part outer core.below
+    pub around : Around tree code texts w lay p outer frame.lower frame.mark frame.control (wanted_in tree w part)
     pub counted : core.registers.cells ≡ length frame.cells
     pub chained : IsChained (scopes_of tree) w lay part.instance (level_in tree w part) core.registers.display
-    pub segment_is : core.registers.segment ≡ program_segment
+    pub segment_is : core.registers.segment ≡ segment_of (scopes_of tree).blocks ((instance_at w part.instance).block)
     pub pc : ℕ
     pub slots : List Slot
-    pub at : CoreAt (scopes_of tree) code (text_in texts w part) (level_in tree w part) pc slots core
-    pub held : length slots ≤ most
-    pub comes : ComesTo (scopes_of tree) code.formats (text_in texts w part) (level_in tree w part) most part.rest pc slots
-    pub room : length core.below + most ≤ bound
+    pub at : CoreAt (scopes_of tree) code (text_in tree texts w part) (level_in tree w part) pc slots core
+    pub held : length slots ≤ most_in tree w part
+    pub comes : ComesTo (scopes_of tree) (context_in tree code w part) (text_in tree texts w part) (level_in tree w part) (most_in tree w part) part.rest pc slots
+    pub room : length core.below + most_in tree w part ≤ bound
     pub light : bound + 3 ≤ weight tree w p
-    pub few : most ≤ 4 * program_tokens tree
 
-  pub living_of : FragmentsArePerformed → (p : ℕ) (q : Process) (part : Part) (outer : List Part) (most bound : ℕ) (first core : Core) → Landed p q part outer most bound first core → Living tree code texts w lay img p q
-  living_of fragments p q part outer most bound first core l =
-      let a : Arrives (scopes_of tree) code (text_in texts w part) (level_in tree w part) most bound l.comes.at l.comes.with_slots core =
-      fragments.leads (scopes_of tree) code.formats code (text_in texts w part) (level_in tree w part) most bound l.pc l.comes.at l.slots l.comes.with_slots core l.comes.leads l.at l.held l.room in
-      let stands : Frames tree code texts w lay p most (part ∷ outer) a.core = (
+  pub living_of : FragmentsArePerformed → (p : ℕ) (q : Process) (part : Part) (outer : List Part) (bound : ℕ) (first core : Core) → Landed p q part outer bound first core → Living tree code texts w lay img p q
+  living_of fragments p q part outer bound first core l =
+      let a : Arrives (scopes_of tree) code (text_in tree texts w part) (level_in tree w part) (most_in tree w part) bound l.comes.at l.comes.with_slots core =
+      fragments.leads (scopes_of tree) (context_in tree code w part) code (text_in tree texts w part) (level_in tree w part) (most_in tree w part) bound l.pc l.comes.at l.slots l.comes.with_slots core l.comes.leads l.at l.held l.room in
+      let stands : Frames tree code texts w lay p (part ∷ outer) a.core = (
         record {
           frame = record {
             owns = l.frame.owns;
@@ -96,12 +94,10 @@ module _ (tree : PProgram) (code : Code) (texts : ℕ → List Placed) (w : Worl
         sees = l.sees;
         small = l.small;
         settled = a.core;
-        most = most;
         bound = bound;
         count = l.begun + a.count;
         steps = steps_on l.begins a.steps;
-        frames = subst (λ t. Frames tree code texts w lay p most t a.core) (sym l.todo) stands;
-        room = omega (arith, l.room, ap length a.moved.below);
+        frames = subst (λ t. Frames tree code texts w lay p t a.core) (sym l.todo) stands;
+        room = omega (arith, l.room, ap length a.moved.below, ap (innermost_most tree w) l.todo);
         light = l.light;
-        few = l.few;
       }

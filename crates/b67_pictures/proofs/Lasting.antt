@@ -7,7 +7,7 @@ use Rattle.algol_tree.specs.Plain as tree
 use Rattle.algol_tree.specs.Plain.{PProgram}
 use Rattle.algol_tree.specs.Scopes.{Scopes, scopes_of}
 use Rattle.algol_meaning.specs.Value.{Cell, simple, event, array, named, reference, Reference, whole_of}
-use Rattle.algol_meaning.specs.Rest.{own, there, element_of, done, value, cell, place, entered}
+use Rattle.algol_meaning.specs.Rest.{own, there, element_of, Answer, done, value, cell, place, entered}
 use Rattle.algol_meaning.specs.World.{Process, Part, World}
 use Rattle.algol_meaning.specs.Critical.{some_depends, is_evaluation}
 use Rattle.algol_meaning.specs.Events.{caused_by_end}
@@ -20,8 +20,8 @@ use Rattle.algol_meaning.specs.World.{cell_at}
 use Rattle.b67_word.specs.declared.Place.{Place}
 use Rattle.b67_segment.specs.Operators.{Placed}
 use Rattle.b67_segment.specs.declared.code.Code.{Code}
-use Rattle.b67_segment.specs.declared.code.Format.{Format}
 use Rattle.b67_table.specs.Image.{Image}
+use Rattle.b67_templates.specs.Contexts.{Context}
 use Rattle.b67_standing.specs.Stepping.{Slot}
 use Rattle.b67_standing.specs.Standing.{ActionAt}
 use Rattle.b67_standing.specs.Laws.{RestsGoOn}
@@ -29,6 +29,7 @@ use Rattle.b67_pictures.specs.Frames.{Stands, Frames}
 use Rattle.b67_pictures.specs.Pictures.{Living}
 use Rattle.b67_pictures.proofs.Numbers.{length_set_numbered}
 use Rattle.b67_pictures.proofs.Stage.{choice_is}
+use Rattle.b67_pictures.proofs.Staying.{context_in, most_in}
 
 module _ (sc : Scopes) (w : World) (p : ℕ) (q : Process) (part : Part) (outer : List Part) (no_task : q.task ≡ None) where
   -- so many processes there are after a choice
@@ -46,32 +47,32 @@ module _ (sc : Scopes) (w : World) (p : ℕ) (q : Process) (part : Part) (outer 
   select_keeps true = length_set_numbered w.processes p _
   select_keeps false = refl
 
-  over_keeps : (parts : List Part) → many (left_or_ended sc w p q part outer done parts) ≡ length w.processes
-  over_keeps [] =
+  over_keeps : (a : Answer) (parts : List Part) → many (left_or_ended sc w p q part outer a parts) ≡ length w.processes
+  over_keeps a [] =
       ap (λ (t : Option Reference). many (ended_releasing sc w p q part outer (caused_by_end (leave w (part.instance ∷ [])) t))) no_task
       ∙ length_set_numbered w.processes p _
-  over_keeps (next ∷ parts) = length_set_numbered w.processes p _
+  over_keeps a (next ∷ parts) = length_set_numbered w.processes p _
 
-  evaluated_keeps : (parts : List Part) → many (left_with sc w p q part outer w done parts) ≡ length w.processes
-  evaluated_keeps [] = refl
-  evaluated_keeps (next ∷ parts) = length_set_numbered w.processes p _
+  evaluated_keeps : (a : Answer) (parts : List Part) → many (left_with sc w p q part outer w a parts) ≡ length w.processes
+  evaluated_keeps a [] = refl
+  evaluated_keeps a (next ∷ parts) = length_set_numbered w.processes p _
 
-  left_keeps : (b c : Bool) →
-      many (if b then left_with sc w p q part outer w done outer else if c then choices.fails sc w p q part outer fault.CriticalBlockExit else left_or_ended sc w p q part outer done outer) ≡ length w.processes
-  left_keeps true c = evaluated_keeps outer
-  left_keeps false true = refl
-  left_keeps false false = over_keeps outer
+  left_keeps : (a : Answer) (b c : Bool) →
+      many (if b then left_with sc w p q part outer w a outer else if c then choices.fails sc w p q part outer fault.CriticalBlockExit else left_or_ended sc w p q part outer a outer) ≡ length w.processes
+  left_keeps a true c = evaluated_keeps a outer
+  left_keeps a false true = refl
+  left_keeps a false false = over_keeps a outer
 
-  module _ (formats : List Format) (ps : List Placed) (level most pc : ℕ) (slots : List Slot) where
-    by_ask : (k : Ask) → ActionAt sc formats ps level most k pc slots → many (choice_of sc w p q part outer k) ≡ length w.processes
+  module _ (context : Context) (ps : List Placed) (level most pc : ℕ) (slots : List Slot) where
+    by_ask : (k : Ask) → ActionAt sc context ps level most k pc slots → many (choice_of sc w p q part outer k) ≡ length w.processes
     by_ask (reads n) a = read_keeps (cell_at w (here sc w p q part outer n))
     by_ask (fails f) a = refl
     by_ask (stores (own n) v) a = length_set_numbered w.processes p _
     by_ask turns a = length_set_numbered w.processes p _
     by_ask (writes phrases vs) a = length_set_numbered w.processes p _
     by_ask (selects v ss) a = select_keeps (nth_exists (whole_of v) ss)
-    by_ask (leaves done) a = left_keeps (is_evaluation part.purpose) (some_depends w.processes part.instance)
-    by_ask (leaves (value v)) a = absurd a
+    by_ask (leaves done) a = left_keeps done (is_evaluation part.purpose) (some_depends w.processes part.instance)
+    by_ask (leaves (value v)) a = left_keeps (value v) (is_evaluation part.purpose) (some_depends w.processes part.instance)
     by_ask (leaves (cell c)) a = absurd a
     by_ask (leaves (place x)) a = absurd a
     by_ask (leaves entered) a = absurd a
@@ -81,10 +82,10 @@ module _ (sc : Scopes) (w : World) (p : ℕ) (q : Process) (part : Part) (outer 
     by_ask (reads_element n ks v) a = absurd a
     by_ask (indexes n ks v) a = absurd a
     by_ask (asks_happened n) a = absurd a
-    by_ask (enters n gs) a = absurd a
+    by_ask (enters n gs) a = length_set_numbered w.processes p _
     by_ask (passes n) a = absurd a
     by_ask (resolves n) a = absurd a
-    by_ask (reads_result name) a = absurd a
+    by_ask (reads_result name) a = length_set_numbered w.processes p _
     by_ask (goes_to n) a = absurd a
     by_ask (enters_block (tree.body spot ds ss)) a = length_set_numbered w.processes p _
     by_ask (starts n gs task) a = absurd a
@@ -96,10 +97,10 @@ module _ (tree : PProgram) (code : Code) (texts : ℕ → List Placed) (rests : 
   pub same_number : (p : ℕ) (q : Process) → numbered w.processes p ≡ Some q → Living tree code texts w lay img p q → length (choice (scopes_of tree) w p).world.processes ≡ length w.processes
   same_number p q at l = by_parts q.todo refl l.frames
     where
-      by_parts : (parts : List Part) → q.todo ≡ parts → Frames tree code texts w lay p l.most parts l.settled → length (choice (scopes_of tree) w p).world.processes ≡ length w.processes
+      by_parts : (parts : List Part) → q.todo ≡ parts → Frames tree code texts w lay p parts l.settled → length (choice (scopes_of tree) w p).world.processes ≡ length w.processes
       by_parts [] todo f = absurd f
       by_parts (part ∷ outer) todo f =
-          let s : Stands tree code texts w lay p l.most part outer l.settled = f.0 in
-          let on = rests (scopes_of tree) code.formats _ _ l.most part.rest s.pc s.slots s.stands s.asks in
+          let s : Stands tree code texts w lay p part outer l.settled = f.0 in
+          let on = rests (scopes_of tree) (context_in tree code w part) _ _ (most_in tree w part) part.rest s.pc s.slots s.stands s.asks in
           ap (λ (c : Choice). length c.world.processes) (choice_is (scopes_of tree) w p q part outer at todo)
-          ∙ by_ask (scopes_of tree) w p q part outer l.without_task code.formats _ _ l.most s.pc s.slots (ask part.rest) on.action
+          ∙ by_ask (scopes_of tree) w p q part outer l.without_task (context_in tree code w part) _ _ (most_in tree w part) s.pc s.slots (ask part.rest) on.action

@@ -1,7 +1,8 @@
 -- The frames of a process's parts in its stack, and the links between them.
-use Rattle.std.proofs.Common.{◌≡◌, inl, inr, refl, sym, ap, ◌∙◌, subst, ℕ, zero, suc, ◌+◌, ◌-◌, ◌<◌, List, [], ◌∷◌, ◌++◌, length, Option, Some, arith, append_assoc, length-append}
+use Rattle.std.proofs.Common.{◌≡◌, inl, inr, refl, sym, ap, ◌∙◌, subst, ℕ, zero, suc, ◌+◌, ◌-◌, ◌<◌, ◌≤◌, List, [], ◌∷◌, ◌++◌, length, Option, Some, arith, append_assoc, length-append}
 use Rattle.std.specs.Prelude.{slice_get, reverse}
 use Rattle.b67_list.specs.Numbered.{numbered}
+use Rattle.algol_tree.specs.declared.tree.Kind.{Kind}
 use Rattle.algol_tree.specs.Blocks.{Block, block_numbered, around}
 use Rattle.algol_tree.specs.Cells.{level_of}
 use Rattle.algol_tree.specs.Plain.{PProgram}
@@ -21,8 +22,9 @@ use Rattle.b67_cores.specs.Cores.{Core, HasCore}
 use Rattle.b67_faithful.proofs.Contradictions.{some_same, none_some}
 use Rattle.b67_pictures.specs.Frames.{IsOwn, IsChained, home_of, IsPlaced, outermost, inside, Frame, Stands, Around}
 use Rattle.b67_pictures.proofs.Displays.{IsEntered, Links, root, onward, shown, shown_top, shown_below}
+use Rattle.b67_pictures.proofs.Lying.{Lies, lies_in, lies_low}
 use Rattle.b67_pictures.proofs.Rows.{words_are}
-use Rattle.b67_pictures.proofs.Staying.{length_around}
+use Rattle.b67_pictures.proofs.Staying.{length_around, wanted_in}
 use Rattle.b67_pictures.proofs.StackWords.{get-seam, get-front}
 
 -- the level of a block, by the blocks around it
@@ -69,12 +71,12 @@ begins_core img p core has n x e =
     ∙ ap (λ (ws : List Word). slice_get ws n) (words_are img p core has)
     ∙ get-front core.below (reverse core.words) n x e
 
-module _ (tree : PProgram) (code : Code) (texts : ℕ → List Placed) (w : World) (lay : List Place) (p most : ℕ) (stacks : Stacks) where
+module _ (tree : PProgram) (code : Code) (texts : ℕ → List Placed) (w : World) (lay : List Place) (p : ℕ) (stacks : Stacks) where
   abbrev sc : Scopes
   sc = scopes_of tree
 
   -- the frame of a part
-  module _ (part : Part) (outer : List Part) (words : List Word) (f : Frame tree code texts w lay p most part outer words) (b : Begins_with stacks p words) where
+  module _ (part : Part) (outer : List Part) (words : List Word) (f : Frame tree code texts w lay p part outer words) (b : Begins_with stacks p words) where
     abbrev x : Instance
     x = f.framed.instance
 
@@ -154,25 +156,44 @@ module _ (tree : PProgram) (code : Code) (texts : ℕ → List Placed) (w : Worl
         by_place (inside own alone) = from_parent (around_linked x.parent own) alone
 
   -- so stand the frames of all parts around, whose words begin the stack
-  pub around_linked : (parts : List Part) (lower : List Word) (mark control : Word) → Around tree code texts w lay p most parts lower mark control → Begins_with stacks p lower → (i : ℕ) → IsOwn parts i →
+  pub around_linked : (parts : List Part) (lower : List Word) (mark control : Word) (wanted : Option Kind) → Around tree code texts w lay p parts lower mark control wanted → Begins_with stacks p lower → (i : ℕ) → IsOwn parts i →
       Linked sc w lay stacks p i
-  around_linked [] lower mark control a b i own = absurd own
-  around_linked (part ∷ outer) lower mark control a b i own =
+  around_linked [] lower mark control wanted a b i own = absurd own
+  around_linked (part ∷ outer) lower mark control wanted a b i own =
       let b' : Begins_with stacks p a.0.below = begins_front stacks p a.0.below (reverse a.0.words) (subst (Begins_with stacks p) a.0.lower_is b) in
       let b'' : Begins_with stacks p a.0.frame.lower =
       begins_front stacks p a.0.frame.lower (a.0.frame.mark ∷ a.0.frame.control ∷ a.0.frame.cells) (subst (Begins_with stacks p) a.0.frame.words_are b') in
-      by_part b' (λ j. around_linked outer a.0.frame.lower a.0.frame.mark a.0.frame.control a.1 b'' j) own
+      by_part b' (λ j. around_linked outer a.0.frame.lower a.0.frame.mark a.0.frame.control (wanted_in tree w part) a.1 b'' j) own
     where
       by_part : Begins_with stacks p a.0.below → ((j : ℕ) → IsOwn outer j → Linked sc w lay stacks p j) → IsOwn (part ∷ outer) i → Linked sc w lay stacks p i
       by_part b' outer_linked (inl same) = subst (Linked sc w lay stacks p) same (frame_linked part outer a.0.below a.0.frame b' outer_linked)
       by_part b' outer_linked (inr later) = outer_linked i later
 
-  -- and the innermost one
-  pub stands_linked : (part : Part) (outer : List Part) (core : Core) (s : Stands tree code texts w lay p most part outer core) → Around tree code texts w lay p most outer s.frame.lower s.frame.mark s.frame.control →
-      Begins_with stacks p core.below → Linked sc w lay stacks p part.instance
-  stands_linked part outer core s a b =
-      let b' : Begins_with stacks p s.frame.lower = begins_front stacks p s.frame.lower (s.frame.mark ∷ s.frame.control ∷ s.frame.cells) (subst (Begins_with stacks p) s.frame.words_are b) in
-      frame_linked part outer core.below s.frame b (around_linked outer s.frame.lower s.frame.mark s.frame.control a b')
+  -- and those of all parts
+  pub own_linked : (part : Part) (outer : List Part) (core : Core) (s : Stands tree code texts w lay p part outer core) → Around tree code texts w lay p outer s.frame.lower s.frame.mark s.frame.control (wanted_in tree w part) →
+      Begins_with stacks p core.below → (i : ℕ) → IsOwn (part ∷ outer) i → Linked sc w lay stacks p i
+  own_linked part outer core s a b i own = by_part own
+    where
+      around_it : (j : ℕ) → IsOwn outer j → Linked sc w lay stacks p j
+      around_it =
+          around_linked outer s.frame.lower s.frame.mark s.frame.control (wanted_in tree w part) a
+          (begins_front stacks p s.frame.lower (s.frame.mark ∷ s.frame.control ∷ s.frame.cells) (subst (Begins_with stacks p) s.frame.words_are b))
+
+      by_part : IsOwn (part ∷ outer) i → Linked sc w lay stacks p i
+      by_part (inl same) = subst (Linked sc w lay stacks p) same (frame_linked part outer core.below s.frame b around_it)
+      by_part (inr later) = around_it i later
+
+  -- the frame of each lies where its words do
+  pub linked_lies : (part : Part) (outer : List Part) (core : Core) (s : Stands tree code texts w lay p part outer core) (a : Around tree code texts w lay p outer s.frame.lower s.frame.mark s.frame.control (wanted_in tree w part))
+      (i : ℕ) (own : IsOwn (part ∷ outer) i) (l : Linked sc w lay stacks p i) → l.at ≡ length (lies_in tree code texts w lay p part outer core s a i own).frame.lower
+  linked_lies part outer core s a i own l =
+      let x : Lies tree code texts w lay p (part ∷ outer) i core.below = lies_in tree code texts w lay p part outer core s a i own in
+      ap (λ (f : Place). f.at) (some_same (sym l.laid ∙ ap (λ (k : ℕ). numbered lay k) (sym x.instance_is) ∙ x.frame.framed.laid))
+
+  pub linked_low : (part : Part) (outer : List Part) (core : Core) (s : Stands tree code texts w lay p part outer core) (a : Around tree code texts w lay p outer s.frame.lower s.frame.mark s.frame.control (wanted_in tree w part))
+      (i : ℕ) (own : IsOwn (part ∷ outer) i) (l : Linked sc w lay stacks p i) → l.at + 2 ≤ length core.below
+  linked_low part outer core s a i own l =
+      omega (arith, linked_lies part outer core s a i own l, lies_low tree code texts w lay p (part ∷ outer) i core.below (lies_in tree code texts w lay p part outer core s a i own))
 
 -- ---- the display of a frame, and of those down its links
 

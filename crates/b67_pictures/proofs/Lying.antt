@@ -1,26 +1,31 @@
 -- Where the frames of a process's parts lie in its stack.
-use Rattle.std.proofs.Common.{◌≡◌, inl, inr, refl, sym, ap, ◌∙◌, subst, ℕ, zero, suc, ◌+◌, ◌<◌, ◌≤◌, List, [], ◌∷◌, ◌++◌, length, Some, arith, append_assoc, append-nil, length-append}
+use Rattle.std.proofs.Common.{◌≡◌, inl, inr, refl, sym, ap, ◌∙◌, subst, ℕ, zero, suc, ◌+◌, ◌<◌, ◌≤◌, List, [], ◌∷◌, ◌++◌, length, Option, Some, arith, append_assoc, append-nil, length-append}
 use Rattle.std.specs.Prelude.{◌*◌, if◌then◌else◌, slice_get, reverse}
 use Rattle.b67_list.specs.Numbered.{numbered}
+use Rattle.algol_tree.specs.declared.tree.Kind.{Kind}
 use Rattle.algol_tree.specs.Blocks.{around, block_numbered}
 use Rattle.algol_tree.specs.Cells.{level_of}
 use Rattle.algol_tree.specs.Plain.{PProgram}
 use Rattle.algol_tree.specs.Scopes.{Scopes, scopes_of}
 use Rattle.algol_meaning.specs.World.{Instance, Part, World, instance_at, or_no_instance, ancestor}
+use Rattle.algol_meaning.specs.Rest.{Answer}
+use Rattle.algol_meaning.specs.Asks.{resume}
 use Rattle.algol_meaning.specs.Critical.{is_evaluation}
 use Rattle.algol_paths.specs.Blocks.{IsSeen, IsInner}
+use Rattle.algol_paths.specs.Segments.{segment_of}
 use Rattle.algol_paths.specs.Texts.{InRest}
 use Rattle.b67_word.specs.declared.Place.{Place}
 use Rattle.b67_word.specs.Word.{Word}
 use Rattle.b67_segment.specs.Operators.{Placed}
 use Rattle.b67_segment.specs.declared.code.Code.{Code}
 use Rattle.b67_table.specs.Chains.{place}
-use Rattle.b67_standing.specs.Standing.{StandsFor}
+use Rattle.b67_templates.specs.Programs.{context_of}
+use Rattle.b67_standing.specs.Standing.{Gives, pushed, ComesTo}
 use Rattle.b67_cores.specs.Cores.{Core}
 use Rattle.b67_cores.specs.Slots.{SlotsAre}
-use Rattle.b67_faithful.specs.Weight.{part_weight, parts_weight, segment_tokens}
+use Rattle.b67_faithful.specs.Weight.{part_weight, parts_weight, tokens_around}
 use Rattle.b67_faithful.proofs.Contradictions.{some_same, none_some}
-use Rattle.b67_pictures.specs.Frames.{IsOwn, IsPlaced, outermost, inside, home_of, Framed, Frame, Stands, Waits, Around}
+use Rattle.b67_pictures.specs.Frames.{most_around, IsOwn, IsPlaced, outermost, inside, home_of, Framed, result_of_part, Frame, Stands, Waits, Around}
 
 -- the words below a frame end before those of the frame
 pub below_frame : (words lower : List Word) (mark control : Word) (cells : List Word) → words ≡ lower ++ mark ∷ control ∷ cells → length lower + 2 + length cells ≡ length words
@@ -30,7 +35,7 @@ below_frame words lower mark control cells e = omega (arith, ap length e, length
 further : (words lower back front rest : List Word) → words ≡ lower ++ back → lower ≡ front ++ rest → words ≡ front ++ (rest ++ back)
 further words lower back front rest e f = e ∙ ap (λ (ws : List Word). ws ++ back) f ∙ append_assoc front rest back
 
-module _ (tree : PProgram) (code : Code) (texts : ℕ → List Placed) (w : World) (lay : List Place) (p most : ℕ) where
+module _ (tree : PProgram) (code : Code) (texts : ℕ → List Placed) (w : World) (lay : List Place) (p : ℕ) where
   -- The frame of an instance of these parts: these words begin with it and with what lies below it.
   pub record Lies (parts : List Part) (i : ℕ) (words : List Word) : Type 0 where
     pub part : Part
@@ -39,8 +44,8 @@ module _ (tree : PProgram) (code : Code) (texts : ℕ → List Placed) (w : Worl
     pub front : List Word
     pub rest : List Word
     pub words_are : words ≡ front ++ rest
-    pub frame : Frame tree code texts w lay p most part outer front
-    pub around : Around tree code texts w lay p most outer frame.lower frame.mark frame.control
+    pub frame : Frame tree code texts w lay p part outer front
+    pub around : Around tree code texts w lay p outer frame.lower frame.mark frame.control (result_of_part tree code texts w lay p part)
     pub inside : (j : ℕ) → IsOwn outer j → IsOwn parts j
 
   -- it lies lower than the words end
@@ -49,9 +54,9 @@ module _ (tree : PProgram) (code : Code) (texts : ℕ → List Placed) (w : Worl
       let whole : length (l.frame.lower) + 2 + length (l.frame.cells) ≡ length l.front = below_frame l.front l.frame.lower l.frame.mark l.frame.control l.frame.cells l.frame.words_are in
       omega (arith, ap length l.words_are, length-append l.front l.rest, whole)
 
-  pub lies_around : (parts : List Part) (lower : List Word) (mark control : Word) → Around tree code texts w lay p most parts lower mark control → (i : ℕ) → IsOwn parts i → Lies parts i lower
-  lies_around [] lower mark control a i own = absurd own
-  lies_around (part ∷ outer) lower mark control a i (inl e) =
+  pub lies_around : (parts : List Part) (lower : List Word) (mark control : Word) (wanted : Option Kind) → Around tree code texts w lay p parts lower mark control wanted → (i : ℕ) → IsOwn parts i → Lies parts i lower
+  lies_around [] lower mark control wanted a i own = absurd own
+  lies_around (part ∷ outer) lower mark control wanted a i (inl e) =
       record {
         part = part;
         outer = outer;
@@ -63,9 +68,9 @@ module _ (tree : PProgram) (code : Code) (texts : ℕ → List Placed) (w : Worl
         around = a.1;
         inside = λ j o. inr o;
       }
-  lies_around (part ∷ outer) lower mark control a i (inr o) =
-      let f : Frame tree code texts w lay p most part outer a.0.below = a.0.frame in
-      let l : Lies outer i a.0.frame.lower = lies_around outer a.0.frame.lower a.0.frame.mark a.0.frame.control a.1 i o in
+  lies_around (part ∷ outer) lower mark control wanted a i (inr o) =
+      let f : Frame tree code texts w lay p part outer a.0.below = a.0.frame in
+      let l : Lies outer i a.0.frame.lower = lies_around outer a.0.frame.lower a.0.frame.mark a.0.frame.control (result_of_part tree code texts w lay p part) a.1 i o in
       record {
         part = l.part;
         outer = l.outer;
@@ -79,7 +84,7 @@ module _ (tree : PProgram) (code : Code) (texts : ℕ → List Placed) (w : Worl
         inside = λ j own. inr (l.inside j own);
       }
 
-  pub lies_in : (part : Part) (outer : List Part) (core : Core) (s : Stands tree code texts w lay p most part outer core) → Around tree code texts w lay p most outer s.frame.lower s.frame.mark s.frame.control →
+  pub lies_in : (part : Part) (outer : List Part) (core : Core) (s : Stands tree code texts w lay p part outer core) → Around tree code texts w lay p outer s.frame.lower s.frame.mark s.frame.control (result_of_part tree code texts w lay p part) →
       (i : ℕ) → IsOwn (part ∷ outer) i → Lies (part ∷ outer) i core.below
   lies_in part outer core s a i (inl e) =
       record {
@@ -94,7 +99,7 @@ module _ (tree : PProgram) (code : Code) (texts : ℕ → List Placed) (w : Worl
         inside = λ j o. inr o;
       }
   lies_in part outer core s a i (inr o) =
-      let l : Lies outer i s.frame.lower = lies_around outer s.frame.lower s.frame.mark s.frame.control a i o in
+      let l : Lies outer i s.frame.lower = lies_around outer s.frame.lower s.frame.mark s.frame.control (result_of_part tree code texts w lay p part) a i o in
       record {
         part = l.part;
         outer = l.outer;
@@ -114,7 +119,7 @@ module _ (tree : PProgram) (code : Code) (texts : ℕ → List Placed) (w : Worl
     pub own : IsOwn parts (ancestor w up i)
     pub block : (instance_at w (ancestor w up i)).block ≡ b
 
-  pub parents_in : (part : Part) (outer : List Part) (core : Core) (s : Stands tree code texts w lay p most part outer core) → Around tree code texts w lay p most outer s.frame.lower s.frame.mark s.frame.control →
+  pub parents_in : (part : Part) (outer : List Part) (core : Core) (s : Stands tree code texts w lay p part outer core) → Around tree code texts w lay p outer s.frame.lower s.frame.mark s.frame.control (result_of_part tree code texts w lay p part) →
       (i : ℕ) → IsOwn (part ∷ outer) i → (up b : ℕ) → slice_get ((instance_at w i).block ∷ around (scopes_of tree).blocks ((instance_at w i).block)) up ≡ Some b → IsParent (part ∷ outer) i up b
   parents_in part outer core s a i own zero b e = record { own = own; block = some_same e }
   parents_in part outer core s a i own (suc up) b e =
@@ -142,12 +147,15 @@ pub record StayBelow (w w' : World) (lay lay' : List Place) (p limit : ℕ) : Ty
   pub instances : (i at : ℕ) (x : Instance) → numbered w.instances i ≡ Some x → x.process ≡ p → numbered lay i ≡ Some (place p at) → at < limit → numbered w'.instances i ≡ Some x
   pub places : (i : ℕ) (f : Place) → numbered lay i ≡ Some f → numbered lay' i ≡ Some f
 
-module _ (tree : PProgram) (code : Code) (texts : ℕ → List Placed) (w w' : World) (lay lay' : List Place) (p most limit : ℕ) (stay : StayBelow w w' lay lay' p limit) where
+module _ (tree : PProgram) (code : Code) (texts : ℕ → List Placed) (w w' : World) (lay lay' : List Place) (p limit : ℕ) (stay : StayBelow w w' lay lay' p limit) where
   abbrev sc : Scopes
   sc = scopes_of tree
 
+  abbrev wanted_old : Part → Option Kind
+  wanted_old part = result_of_part tree code texts w lay p part
+
   abbrev OldFrame : Part → List Part → List Word → Type 0
-  OldFrame part outer words = Frame tree code texts w lay p most part outer words
+  OldFrame part outer words = Frame tree code texts w lay p part outer words
 
   is_after : (part : Part) (outer : List Part) (words : List Word) (f : OldFrame part outer words) → length f.lower < limit → numbered w'.instances part.instance ≡ Some f.framed.instance
   is_after part outer words f low = stay.instances part.instance (length f.lower) f.framed.instance f.framed.is f.framed.own f.framed.laid low
@@ -160,17 +168,17 @@ module _ (tree : PProgram) (code : Code) (texts : ℕ → List Placed) (w w' : W
   home_after (suc i) h e = stay.places (suc i) h e
 
   -- the parent of an instance is one of the parts around, whose frames lie lower
-  placed_after : (outer : List Part) (lower : List Word) (mark control : Word) → Around tree code texts w lay p most outer lower mark control → length lower < limit → (x : Instance) → IsPlaced sc w lay outer x →
+  placed_after : (outer : List Part) (lower : List Word) (mark control : Word) (wanted : Option Kind) → Around tree code texts w lay p outer lower mark control wanted → length lower < limit → (x : Instance) → IsPlaced sc w lay outer x →
       IsPlaced sc w' lay' outer x
-  placed_after outer lower mark control a low x (outermost none_up alone) = outermost none_up alone
-  placed_after outer lower mark control a low x (inside own next) =
-      let l : Lies tree code texts w lay p most outer x.parent lower = lies_around tree code texts w lay p most outer lower mark control a x.parent own in
-      let lowest : length l.frame.lower < limit = omega (arith, lies_low tree code texts w lay p most outer x.parent lower l, low) in
+  placed_after outer lower mark control wanted a low x (outermost none_up alone) = outermost none_up alone
+  placed_after outer lower mark control wanted a low x (inside own next) =
+      let l : Lies tree code texts w lay p outer x.parent lower = lies_around tree code texts w lay p outer lower mark control wanted a x.parent own in
+      let lowest : length l.frame.lower < limit = omega (arith, lies_low tree code texts w lay p outer x.parent lower l, low) in
       let same : instance_at w x.parent ≡ instance_at w' x.parent =
       ap (λ (k : ℕ). instance_at w k) (sym l.instance_is) ∙ same_instance l.part l.outer l.front l.frame lowest ∙ ap (λ (k : ℕ). instance_at w' k) l.instance_is in
       inside own (subst (λ (y : Instance). around sc.blocks x.block ≡ y.block ∷ around sc.blocks y.block) same next)
 
-  framed_after : (part : Part) (outer : List Part) (words : List Word) (f : OldFrame part outer words) → Around tree code texts w lay p most outer f.lower f.mark f.control → length f.lower < limit →
+  framed_after : (part : Part) (outer : List Part) (words : List Word) (f : OldFrame part outer words) → Around tree code texts w lay p outer f.lower f.mark f.control (wanted_old part) → length f.lower < limit →
       Framed sc w' lay' p part.instance outer (length f.lower) f.mark f.control f.cells
   framed_after part outer words f a low =
       record {
@@ -179,8 +187,10 @@ module _ (tree : PProgram) (code : Code) (texts : ℕ → List Placed) (w w' : W
         own = f.framed.own;
         known = f.framed.known;
         laid = stay.places part.instance (place p (length f.lower)) f.framed.laid;
+        values = f.framed.values;
         cells_are = f.framed.cells_are;
-        placed = placed_after outer f.lower f.mark f.control a low f.framed.instance f.framed.placed;
+        cells_is = f.framed.cells_is;
+        placed = placed_after outer f.lower f.mark f.control (wanted_old part) a low f.framed.instance f.framed.placed;
         home = f.framed.home;
         linked = home_after f.framed.instance.parent f.framed.home f.framed.linked;
         df = f.framed.df;
@@ -190,8 +200,8 @@ module _ (tree : PProgram) (code : Code) (texts : ℕ → List Placed) (w w' : W
         level_is = f.framed.level_is;
       }
 
-  abbrev frame_after : (part : Part) (outer : List Part) (words : List Word) (f : OldFrame part outer words) → Around tree code texts w lay p most outer f.lower f.mark f.control → length f.lower < limit →
-      Frame tree code texts w' lay' p most part outer words
+  abbrev frame_after : (part : Part) (outer : List Part) (words : List Word) (f : OldFrame part outer words) → Around tree code texts w lay p outer f.lower f.mark f.control (wanted_old part) → length f.lower < limit →
+      Frame tree code texts w' lay' p part outer words
   frame_after part outer words f a low =
       record {
         owns = f.owns;
@@ -204,28 +214,28 @@ module _ (tree : PProgram) (code : Code) (texts : ℕ → List Placed) (w w' : W
         text = subst (λ (x : Instance). InRest (IsSeen sc x.block) (IsInner sc x.block) part.rest) (same_instance part outer words f low) f.text;
       }
 
-  frame_low : (part : Part) (outer : List Part) (lower : List Word) (mark control : Word) → length lower ≤ limit → (s : Waits tree code texts w lay p most part outer lower mark control) → length (s.frame.lower) < limit
-  frame_low part outer lower mark control low s =
+  frame_low : (part : Part) (outer : List Part) (lower : List Word) (mark control : Word) (wanted : Option Kind) → length lower ≤ limit → (s : Waits tree code texts w lay p part outer lower mark control wanted) → length (s.frame.lower) < limit
+  frame_low part outer lower mark control wanted low s =
       omega (arith, low, ap length s.lower_is, length-append s.below (reverse s.words), below_frame s.below s.frame.lower s.frame.mark s.frame.control s.frame.cells s.frame.words_are)
 
   -- the parts whose frames lie so low weigh as much
-  pub weight_stays : (parts : List Part) (lower : List Word) (mark control : Word) → length lower ≤ limit → Around tree code texts w lay p most parts lower mark control → parts_weight tree w parts ≡ parts_weight tree w' parts
-  weight_stays [] lower mark control low a = refl
-  weight_stays (part ∷ outer) lower mark control low a =
-      let s : Waits tree code texts w lay p most part outer lower mark control = a.0 in
-      let lowest : length s.frame.lower < limit = frame_low part outer lower mark control low s in
+  pub weight_stays : (parts : List Part) (lower : List Word) (mark control : Word) (wanted : Option Kind) → length lower ≤ limit → Around tree code texts w lay p parts lower mark control wanted → parts_weight tree w parts ≡ parts_weight tree w' parts
+  weight_stays [] lower mark control wanted low a = refl
+  weight_stays (part ∷ outer) lower mark control wanted low a =
+      let s : Waits tree code texts w lay p part outer lower mark control wanted = a.0 in
+      let lowest : length s.frame.lower < limit = frame_low part outer lower mark control wanted low s in
       let here : part_weight tree w part ≡ part_weight tree w' part =
-      ap (λ (x : Instance). 8 + (if is_evaluation part.purpose then 0 else length x.cells) + 4 * segment_tokens tree x.block) (same_instance part outer s.below s.frame lowest) in
-      let others : parts_weight tree w outer ≡ parts_weight tree w' outer = weight_stays outer s.frame.lower s.frame.mark s.frame.control (omega (arith, lowest)) a.1 in
+      ap (λ (x : Instance). 8 + (if is_evaluation part.purpose then 0 else length x.cells) + 4 * tokens_around tree x.block) (same_instance part outer s.below s.frame lowest) in
+      let others : parts_weight tree w outer ≡ parts_weight tree w' outer = weight_stays outer s.frame.lower s.frame.mark s.frame.control (wanted_old part) (omega (arith, lowest)) a.1 in
       ap (λ (n : ℕ). n + parts_weight tree w outer) here ∙ ap (λ (n : ℕ). part_weight tree w' part + n) others
 
   -- the parts whose frames lie below stand as they did
-  pub around_stays : (parts : List Part) (lower : List Word) (mark control : Word) → length lower ≤ limit → Around tree code texts w lay p most parts lower mark control →
-      Around tree code texts w' lay' p most parts lower mark control
-  around_stays [] lower mark control low a = a
-  around_stays (part ∷ outer) lower mark control low a =
-      let s : Waits tree code texts w lay p most part outer lower mark control = a.0 in
-      let lowest : length s.frame.lower < limit = frame_low part outer lower mark control low s in
+  pub around_stays : (parts : List Part) (lower : List Word) (mark control : Word) (wanted : Option Kind) → length lower ≤ limit → Around tree code texts w lay p parts lower mark control wanted →
+      Around tree code texts w' lay' p parts lower mark control wanted
+  around_stays [] lower mark control wanted low a = a
+  around_stays (part ∷ outer) lower mark control wanted low a =
+      let s : Waits tree code texts w lay p part outer lower mark control wanted = a.0 in
+      let lowest : length s.frame.lower < limit = frame_low part outer lower mark control wanted low s in
       let same : instance_at w part.instance ≡ instance_at w' part.instance = same_instance part outer s.below s.frame lowest in (
         record {
           below = s.below;
@@ -235,8 +245,9 @@ module _ (tree : PProgram) (code : Code) (texts : ℕ → List Placed) (w w' : W
           waits = s.waits;
           pc = s.pc;
           slots = s.slots;
-          stands = subst (λ (x : Instance). StandsFor sc code.formats (texts x.block) (level_of (block_numbered sc.blocks x.block)) most part.rest s.pc s.slots) same s.stands;
-          few = s.few;
+          returns = subst (λ (x : Instance). (r : Answer) → Gives wanted r →
+              ComesTo sc (context_of code sc x.block) (texts (segment_of sc.blocks x.block)) (level_of (block_numbered sc.blocks x.block)) (most_around tree x.block) (resume sc part.rest r) s.pc (pushed r s.slots)) same s.returns;
+          few = subst (λ (x : Instance). length s.slots + 1 ≤ most_around tree x.block) same s.few;
           words_are = subst (λ (x : Instance). SlotsAre sc (level_of (block_numbered sc.blocks x.block)) (length s.frame.lower) (length s.below) s.slots s.words) same s.words_are;
           home = s.home;
           df = s.df;
@@ -244,23 +255,25 @@ module _ (tree : PProgram) (code : Code) (texts : ℕ → List Placed) (w w' : W
           far = s.far;
           back = s.back;
           control_is = s.control_is;
-          segment_is = s.segment_is;
+          segment_is = s.segment_is ∙ ap (λ (x : Instance). segment_of sc.blocks x.block) same;
           place_is = s.place_is;
           level_is = s.level_is ∙ ap (λ (x : Instance). level_of (block_numbered sc.blocks x.block)) same;
           cells_are = s.cells_are;
-          light = subst (λ (n : ℕ). length s.below + most + 3 ≤ n) (weight_stays (part ∷ outer) lower mark control low a) s.light;
+          light = subst (λ (x : Instance). length s.below + most_around tree x.block + 3 ≤ parts_weight tree w' (part ∷ outer)) same
+              (subst (λ (n : ℕ). length s.below + most_around tree ((instance_at w part.instance).block) + 3 ≤ n) (weight_stays (part ∷ outer) lower mark control wanted low a) s.light);
         },
-        around_stays outer s.frame.lower s.frame.mark s.frame.control (omega (arith, lowest)) a.1,
+        subst (λ (x : Instance). Around tree code texts w' lay' p outer s.frame.lower s.frame.mark s.frame.control ((block_numbered sc.blocks x.block).result)) same
+            (around_stays outer s.frame.lower s.frame.mark s.frame.control (wanted_old part) (omega (arith, lowest)) a.1),
       )
 
   -- a frame, too, whose mark lies below
-  pub record Stayed (part : Part) (outer : List Part) (words : List Word) (f : Frame tree code texts w lay p most part outer words) : Type 0 where
-    pub frame : Frame tree code texts w' lay' p most part outer words
+  pub record Stayed (part : Part) (outer : List Part) (words : List Word) (f : Frame tree code texts w lay p part outer words) : Type 0 where
+    pub frame : Frame tree code texts w' lay' p part outer words
     pub lower : frame.lower ≡ f.lower
     pub mark : frame.mark ≡ f.mark
     pub control : frame.control ≡ f.control
     pub cells : frame.cells ≡ f.cells
 
-  pub frame_stays : (part : Part) (outer : List Part) (words : List Word) (f : Frame tree code texts w lay p most part outer words) →
-      Around tree code texts w lay p most outer f.lower f.mark f.control → length f.lower < limit → Stayed part outer words f
+  pub frame_stays : (part : Part) (outer : List Part) (words : List Word) (f : Frame tree code texts w lay p part outer words) →
+      Around tree code texts w lay p outer f.lower f.mark f.control (wanted_old part) → length f.lower < limit → Stayed part outer words f
   frame_stays part outer words f a low = record { frame = frame_after part outer words f a low; lower = refl; mark = refl; control = refl; cells = refl }

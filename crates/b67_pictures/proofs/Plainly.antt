@@ -12,7 +12,7 @@ use Rattle.b67_control.specs.Display.{place_at}
 use Rattle.b67_table.specs.declared.InterruptKind.TheVariants.{BadCode as bad_code}
 use Rattle.b67_table.specs.declared.ProcessState.TheVariants.{Able}
 use Rattle.b67_table.specs.Effect.{Effect, interrupts}
-use Rattle.b67_table.specs.Outcome.{Outcome, gives}
+use Rattle.b67_table.specs.Outcome.{gives}
 use Rattle.b67_table.specs.Outcome as outcomes
 use Rattle.b67_table.specs.Image.{Image, is_live}
 use Rattle.b67_table.specs.Table.{table, raw, plain, by_registers, stack_length}
@@ -79,14 +79,12 @@ module _ (performed : StepsArePerformed) (tree : PProgram) (code : Code) (texts 
           sees = l.sees;
           small = l.small;
           settled = l.settled;
-          most = l.most;
           bound = l.bound;
           count = l.count;
           steps = l.steps;
           frames = l.frames;
           room = l.room;
           light = l.light;
-          few = l.few;
         })
     kept p b q r keeps (dead e s) = dead e s
 
@@ -121,14 +119,12 @@ module _ (performed : StepsArePerformed) (limits : StepsComeToLimit) (tree : PPr
           sees = ap (λ d. place_at d 0) done.0.kept.2 ∙ l.sees;
           small = fits;
           settled = l.settled;
-          most = l.most;
           bound = l.bound;
           count = n;
           steps = more;
           frames = l.frames;
           room = l.room;
           light = l.light;
-          few = l.few;
         };
         core_is = refl;
         bound_is = refl;

@@ -37,28 +37,28 @@ use Rattle.b67_pictures.proofs.Rows.{action_not_plain, action_is, words_are}
 use Rattle.b67_pictures.proofs.Scene.{Scene}
 use Rattle.b67_pictures.proofs.Stage.{choice_is}
 use Rattle.b67_pictures.proofs.StackWords.{get-front}
-use Rattle.b67_pictures.proofs.Staying.{text_in, level_in}
+use Rattle.b67_pictures.proofs.Staying.{text_in, level_in, context_in, most_in}
 use Rattle.b67_pictures.proofs.ValueRow.{with_top, value_raw, value_class}
 use Rattle.b67_pictures.proofs.Words.{value_tag, no_sirw, no_pcw}
 
 module _ (tree : PProgram) (code : Code) (texts : ℕ → List Placed) (fragments : FragmentsArePerformed) (keeps : RestsKeepToTheirText) (w : World) (lay : List Place) (img : Image)
-    (p : ℕ) (q : Process) (part : Part) (outer : List Part) (most bound : ℕ) (core : Core) (s : Scene tree code texts w lay img p q part outer most bound core) (able_is : q.state ≡ able) (able_p : numbered img.states p ≡ Some Able) where
+    (p : ℕ) (q : Process) (part : Part) (outer : List Part) (bound : ℕ) (core : Core) (s : Scene tree code texts w lay img p q part outer bound core) (able_is : q.state ≡ able) (able_p : numbered img.states p ≡ Some Able) where
   abbrev sc : Scopes
   sc = scopes_of tree
 
-  module _ (n : Named) (asks : ask part.rest ≡ reads n) (a : ActionAt sc code.formats (text_in texts w part) (level_in tree w part) most (reads n) s.stands.pc s.stands.slots)
-      (answered : (r : Answer) (at : ℕ) (after : List Slot) → Acted sc code.formats (text_in texts w part) (level_in tree w part) most (reads n) s.stands.pc s.stands.slots a r at after →
-      ComesTo sc code.formats (text_in texts w part) (level_in tree w part) most (resume sc part.rest r) at after) where
+  module _ (n : Named) (asks : ask part.rest ≡ reads n) (a : ActionAt sc (context_in tree code w part) (text_in tree texts w part) (level_in tree w part) (most_in tree w part) (reads n) s.stands.pc s.stands.slots)
+      (answered : (r : Answer) (at : ℕ) (after : List Slot) → Acted sc (context_in tree code w part) (text_in tree texts w part) (level_in tree w part) (most_in tree w part) (reads n) s.stands.pc s.stands.slots a r at after →
+      ComesTo sc (context_in tree code w part) (text_in tree texts w part) (level_in tree w part) (most_in tree w part) (resume sc part.rest r) at after) where
     -- the operator, and where it finds the variable
     there : operator_at code core.registers ≡ Ok (ops.Valc a.2.0, a.1)
-    there = operator_there sc code (text_in texts w part) (level_in tree w part) s.stands.pc s.stands.slots core (ops.Valc a.2.0) a.1 s.stands.there a.2.2
+    there = operator_there sc code (text_in tree texts w part) (level_in tree w part) s.stands.pc s.stands.slots core (ops.Valc a.2.0) a.1 s.stands.there a.2.2
 
     abbrev Found : Type 0
-    Found = Home tree code texts w lay img p q part outer most bound core s n a.0 a.2.0
+    Found = Home tree code texts w lay img p q part outer bound core s n a.0 a.2.0
 
     found : Found
     found =
-        home tree code texts w lay img p q part outer most bound core s n a.0 a.2.0
+        home tree code texts w lay img p q part outer bound core s n a.0 a.2.0
         (reads_seen (IsSeen sc ((instance_at w part.instance).block)) n (IsInner sc ((instance_at w part.instance).block)) part.rest asks s.stands.frame.text) a.2.1
 
     module _ (f : Found) where
@@ -80,7 +80,7 @@ module _ (tree : PProgram) (code : Code) (texts : ℕ → List Placed) (fragment
       is_new : IsCore new
       is_new = record { bottom = s.has.is.bottom; top = omega (arith, s.has.is.top) }
 
-      core_at : CoreAt sc code (text_in texts w part) (level_in tree w part) a.1 (operand f.value ∷ s.stands.slots) new
+      core_at : CoreAt sc code (text_in tree texts w part) (level_in tree w part) a.1 (operand f.value ∷ s.stands.slots) new
       core_at =
           record {
             segment = s.stands.there.segment;
@@ -95,7 +95,7 @@ module _ (tree : PProgram) (code : Code) (texts : ℕ → List Placed) (fragment
 
       pub read_does : Does tree code texts w img p
       read_does =
-          does_in_frame tree code texts fragments keeps w lay img p q part outer most bound core s able_is able_p (value f.value) tt w.output new refl (record { is = refl }) a.1 (operand f.value ∷ s.stands.slots)
+          does_in_frame tree code texts fragments keeps w lay img p q part outer bound core s able_is able_p (value f.value) tt w.output new refl (record { is = refl }) a.1 (operand f.value ∷ s.stands.slots)
           core_at (omega (arith, a.3)) (answered (value f.value) a.1 (operand f.value ∷ s.stands.slots) (refl, refl, f.fits)) Read
           (action_not_plain code img p core s.has (ops.Valc a.2.0) a.1 there
           (value_class code img p core s.has a.2.0 a.1 there (place p at) f.shown f.word lies tag (no_sirw f.word tag) (no_pcw f.word tag)))

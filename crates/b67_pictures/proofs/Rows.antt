@@ -13,7 +13,7 @@ use Rattle.b67_store.specs.Store.{words_or, words_of}
 use Rattle.b67_table.specs.declared.Class.TheVariants as classes
 use Rattle.b67_table.specs.declared.InterruptKind.TheVariants.{BadCode as bad_code}
 use Rattle.b67_table.specs.Effect.{interrupts}
-use Rattle.b67_table.specs.Outcome.{Outcome, limited}
+use Rattle.b67_table.specs.Outcome.{Outcome}
 use Rattle.b67_table.specs.Outcome as outcomes
 use Rattle.b67_table.specs.Image.{Image}
 use Rattle.b67_table.specs.Rows.{row}

@@ -1,7 +1,6 @@
 -- A process that stands at its action.
-use Rattle.std.proofs.Common.{◌≡◌, refl, sym, ap, ◌∙◌, ℕ, ◌+◌, ◌-◌, ◌*◌, ◌≤◌, List, [], ◌∷◌, length, Some, None, arith}
+use Rattle.std.proofs.Common.{◌≡◌, refl, sym, ap, ◌∙◌, ℕ, ◌+◌, ◌-◌, ◌≤◌, List, [], ◌∷◌, length, Some, None, arith}
 use Rattle.b67_list.specs.Numbered.{numbered}
-use Rattle.algol_tree.specs.Counts.{program_tokens}
 use Rattle.algol_tree.specs.Plain.{PProgram}
 use Rattle.algol_meaning.specs.World.{Process, Part, World}
 use Rattle.b67_word.specs.declared.Place.{Place}
@@ -18,12 +17,12 @@ use Rattle.b67_faithful.specs.Weight.{weight}
 use Rattle.b67_faithful.proofs.Contradictions.{some_same}
 use Rattle.b67_ops.specs.declared.TheConstants.{OUTER_LEVEL}
 use Rattle.b67_pictures.specs.Frames.{Stands, Around, Frames}
-use Rattle.b67_pictures.specs.Pictures.{Living, PicturesBy}
-use Rattle.b67_pictures.proofs.Staying.{level_in}
+use Rattle.b67_pictures.specs.Pictures.{innermost_most, Living, PicturesBy}
+use Rattle.b67_pictures.proofs.Staying.{level_in, most_in, wanted_in}
 
 module _ (tree : PProgram) (code : Code) (texts : ℕ → List Placed) (w : World) (lay : List Place) (img : Image) where
   -- process p, whose innermost part stands at its head: there its core is
-  pub record Scene (p : ℕ) (q : Process) (part : Part) (outer : List Part) (most bound : ℕ) (core : Core) : Type 0 where
+  pub record Scene (p : ℕ) (q : Process) (part : Part) (outer : List Part) (bound : ℕ) (core : Core) : Type 0 where
     pub by : PicturesBy tree code texts w lay img
     pub at : numbered w.processes p ≡ Some q
     pub todo : q.todo ≡ part ∷ outer
@@ -34,23 +33,22 @@ module _ (tree : PProgram) (code : Code) (texts : ℕ → List Placed) (w : Worl
     pub idle : core.registers.task ≡ None
     pub sees : place_at core.registers.display 0 ≡ Some (place 0 0)
     pub small : size core ≤ stack_limit
-    pub stands : Stands tree code texts w lay p most part outer core
-    pub around : Around tree code texts w lay p most outer stands.frame.lower stands.frame.mark stands.frame.control
-    pub room : length core.below + most ≤ bound
+    pub stands : Stands tree code texts w lay p part outer core
+    pub around : Around tree code texts w lay p outer stands.frame.lower stands.frame.mark stands.frame.control (wanted_in tree w part)
+    pub room : length core.below + most_in tree w part ≤ bound
     pub light : bound + 3 ≤ weight tree w p
-    pub few : most ≤ 4 * program_tokens tree
 
   -- the innermost part of a process that stands, and its scene
   pub scene_of : (p : ℕ) (q : Process) → PicturesBy tree code texts w lay img → numbered w.processes p ≡ Some q → (l : Living tree code texts w lay img p q) → HasCore img p l.settled →
-      (part : Part) × (outer : List Part) × Scene p q part outer l.most l.bound l.settled
-  scene_of p q by at l has = by_parts q.todo refl l.frames
+      (part : Part) × (outer : List Part) × Scene p q part outer l.bound l.settled
+  scene_of p q by at l has = by_parts q.todo refl l.frames l.room
     where
       same : l.settled.registers ≡ l.core.registers
       same = some_same (sym has.registers ∙ l.has.registers)
 
-      by_parts : (parts : List Part) → q.todo ≡ parts → Frames tree code texts w lay p l.most parts l.settled → (part : Part) × (outer : List Part) × Scene p q part outer l.most l.bound l.settled
-      by_parts [] todo f = absurd f
-      by_parts (part ∷ outer) todo f = (
+      by_parts : (parts : List Part) → q.todo ≡ parts → Frames tree code texts w lay p parts l.settled → length l.settled.below + innermost_most tree w parts ≤ l.bound → (part : Part) × (outer : List Part) × Scene p q part outer l.bound l.settled
+      by_parts [] todo f room = absurd f
+      by_parts (part ∷ outer) todo f room = (
         part,
         outer,
         record {
@@ -66,13 +64,12 @@ module _ (tree : PProgram) (code : Code) (texts : ℕ → List Placed) (w : Worl
           small = omega (arith, has.is.top, l.has.is.top, ap (λ (r : Registers). r.s) same, l.small);
           stands = f.0;
           around = f.1;
-          room = l.room;
+          room = room;
           light = l.light;
-          few = l.few;
         },
       )
 
-  module _ (p : ℕ) (q : Process) (part : Part) (outer : List Part) (most bound : ℕ) (core : Core) (s : Scene p q part outer most bound core) where
+  module _ (p : ℕ) (q : Process) (part : Part) (outer : List Part) (bound : ℕ) (core : Core) (s : Scene p q part outer bound core) where
     -- the display register of its level names its frame
     pub shown_frame : display_at core.registers core.registers.ll ≡ Some (place p (length s.stands.frame.lower))
     shown_frame =

@@ -51,7 +51,7 @@ use Rattle.b67_pictures.proofs.Homes.{operator_there}
 use Rattle.b67_pictures.proofs.IntrinsicRows.{without_call, enter_class, select_raw, select_faults}
 use Rattle.b67_pictures.proofs.Stage.{choice_is, faults_so, faulted}
 use Rattle.b67_pictures.proofs.Scene.{Scene}
-use Rattle.b67_pictures.proofs.Staying.{text_in, level_in}
+use Rattle.b67_pictures.proofs.Staying.{text_in, level_in, context_in, most_in}
 use Rattle.b67_pictures.proofs.InFrame.{does_in_frame}
 
 -- ---- places of a segment
@@ -134,10 +134,10 @@ number_is (truth b) z fits e = absurd fits
 
 module _ (tree : PProgram) (code : Code) (texts : ℕ → List Placed) (fragments : FragmentsArePerformed) (keeps : RestsKeepToTheirText)
     (short : All (λ (o : Segment). length o.words ≤ segment_limit) code.segments) (w : World) (lay : List Place) (img : Image)
-    (p : ℕ) (q : Process) (part : Part) (outer : List Part) (most bound : ℕ) (core : Core) (s : Scene tree code texts w lay img p q part outer most bound core) (able_is : q.state ≡ able) (able_p : numbered img.states p ≡ Some Able)
-    (v : Value) (ss : PStmts) (asks : ask part.rest ≡ selects v ss) (a : ActionAt (scopes_of tree) code.formats (text_in texts w part) (level_in tree w part) most (selects v ss) s.stands.pc s.stands.slots)
-    (answered : (r : Answer) (at : ℕ) (left : List Slot) → Acted (scopes_of tree) code.formats (text_in texts w part) (level_in tree w part) most (selects v ss) s.stands.pc s.stands.slots a r at left →
-    ComesTo (scopes_of tree) code.formats (text_in texts w part) (level_in tree w part) most (resume (scopes_of tree) part.rest r) at left) where
+    (p : ℕ) (q : Process) (part : Part) (outer : List Part) (bound : ℕ) (core : Core) (s : Scene tree code texts w lay img p q part outer bound core) (able_is : q.state ≡ able) (able_p : numbered img.states p ≡ Some Able)
+    (v : Value) (ss : PStmts) (asks : ask part.rest ≡ selects v ss) (a : ActionAt (scopes_of tree) (context_in tree code w part) (text_in tree texts w part) (level_in tree w part) (most_in tree w part) (selects v ss) s.stands.pc s.stands.slots)
+    (answered : (r : Answer) (at : ℕ) (left : List Slot) → Acted (scopes_of tree) (context_in tree code w part) (text_in tree texts w part) (level_in tree w part) (most_in tree w part) (selects v ss) s.stands.pc s.stands.slots a r at left →
+    ComesTo (scopes_of tree) (context_in tree code w part) (text_in tree texts w part) (level_in tree w part) (most_in tree w part) (resume (scopes_of tree) part.rest r) at left) where
   abbrev sc : Scopes
   sc = scopes_of tree
 
@@ -149,15 +149,15 @@ module _ (tree : PProgram) (code : Code) (texts : ℕ → List Placed) (fragment
   given_fit = (a.2.fits, (a.2.many, (a.2.place, tt)))
 
   there : operator_at code core.registers ≡ Ok (ops.Plain kinds.Entr, a.0)
-  there = operator_there sc code (text_in texts w part) (level_in tree w part) s.stands.pc s.stands.slots core (ops.Plain kinds.Entr) a.0 s.stands.there a.2.stands
+  there = operator_there sc code (text_in tree texts w part) (level_in tree w part) s.stands.pc s.stands.slots core (ops.Plain kinds.Entr) a.0 s.stands.there a.2.stands
 
   abbrev Called : Type 0
-  Called = IsCall tree code texts w lay img p q part outer most bound core s Select given a.1 given_fit a.2.lies
+  Called = IsCall tree code texts w lay img p q part outer bound core s Select given a.1 given_fit a.2.lies
 
   -- the branch of a statement stands in the segment
   table_within : (i : ℕ) → i < stmts_count ss → a.0 + 3 * i ≤ end_of_code
   table_within i h =
-      within_segment (text_in texts w part) (a.0 + 3 * i) (level_in tree w part) _ _ s.stands.there.segment (a.3 i h).2.stands s.stands.there.spells
+      within_segment (text_in tree texts w part) (a.0 + 3 * i) (level_in tree w part) _ _ s.stands.there.segment (a.3 i h).2.stands s.stands.there.spells
       (segment_short code.segments core.registers.segment s.stands.there.segment (recursion_from_All (λ (o : Segment). length o.words ≤ segment_limit) code.segments short) s.stands.there.there)
 
   module _ (c : Called) where
@@ -166,7 +166,7 @@ module _ (tree : PProgram) (code : Code) (texts : ℕ → List Placed) (fragment
 
     goes_to_case : (i : ℕ) → whole_of v ≡ pos i → i < stmts_count ss → nth_exists (whole_of v) ss ≡ true → case_in (whole_of v) (pos (stmts_count ss)) ≡ Some i → Does tree code texts w img p
     goes_to_case i is h exists inside =
-        does_in_frame tree code texts fragments keeps w lay img p q part outer most bound core s able_is able_p done tt w.output (new i) refl (record { is = refl }) (a.0 + 3 * i) a.1
+        does_in_frame tree code texts fragments keeps w lay img p q part outer bound core s able_is able_p done tt w.output (new i) refl (record { is = refl }) (a.0 + 3 * i) a.1
         (c.after_at (a.0 + 3 * i)) c.few
         (answered done (a.0 + 3 * i) a.1 (i, number_is v (pos i) a.2.fits is, h, refl, refl)) act.Select
         (action_not_plain code img p core s.has (ops.Plain kinds.Entr) a.0 there
@@ -197,4 +197,4 @@ module _ (tree : PProgram) (code : Code) (texts : ℕ → List Placed) (fragment
     by_case (none_of exists inside) = goes_nowhere exists inside
 
   pub selecting : Does tree code texts w img p
-  selecting = by_case (call tree code texts w lay img p q part outer most bound core s Select given a.1 given_fit a.2.lies) (case_of (whole_of v) ss)
+  selecting = by_case (call tree code texts w lay img p q part outer bound core s Select given a.1 given_fit a.2.lies) (case_of (whole_of v) ss)

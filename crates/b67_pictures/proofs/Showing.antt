@@ -5,7 +5,7 @@ use Rattle.b67_list.specs.Numbered.{numbered}
 use Rattle.algol_tree.specs.Plain.{PProgram}
 use Rattle.algol_meaning.specs.World.{Process, State, able, ended, lives, World, WorldFault, process_at, or_no_process}
 use Rattle.algol_meaning.specs.World.{is_able as meaning_able}
-use Rattle.algol_meaning.specs.Run.{End, end_of}
+use Rattle.algol_meaning.specs.Run.{end_of}
 use Rattle.algol_meaning.specs.Run as meaning
 use Rattle.b67_word.specs.declared.Place.{Place}
 use Rattle.b67_control.specs.declared.Registers.{Registers}

@@ -1,12 +1,13 @@
 -- The first image pictures the first world.
-use Rattle.std.proofs.Common.{◌≡◌, refl, sym, ap, subst, ℕ, zero, suc, ◌+◌, ◌-◌, ◌*◌, ◌≤◌, List, [], ◌∷◌, length, Some, None, true, false, arith}
-use Rattle.std.specs.Prelude.{map, replicate}
-use Rattle.std.proofs.lemmas.List.{length-replicate}
+use Rattle.std.proofs.Common.{◌≡◌, inl, refl, sym, ap, ◌∙◌, subst, ℕ, zero, suc, ◌+◌, ◌-◌, ◌*◌, ◌<◌, ◌≤◌, List, [], ◌∷◌, ◌++◌, length, Some, None, true, false, arith, length-append}
+use Rattle.std.specs.Prelude.{map, replicate, not, if◌then◌else◌, slice_get}
+use Rattle.std.proofs.lemmas.List.{length-replicate, length-map}
 use Rattle.b67_list.specs.Numbered.{numbered}
 use Rattle.algol_tree.specs.declared.token.Spot.{Spot}
-use Rattle.algol_tree.specs.Blocks.{Block, block_numbered, number_at}
+use Rattle.algol_tree.specs.declared.tree.Named.{Named}
+use Rattle.algol_tree.specs.Blocks.{Block, block_numbered, number_at, around}
+use Rattle.algol_tree.specs.Sorts.{same_name}
 use Rattle.algol_tree.specs.Cells.{level_of}
-use Rattle.algol_tree.specs.Counts.{program_tokens}
 use Rattle.algol_tree.specs.Plain.{PProgram}
 use Rattle.algol_tree.specs.Scopes.{Scopes, scopes_of}
 use Rattle.algol_meaning.specs.Statements.{items_of, settle_items}
@@ -15,33 +16,39 @@ use Rattle.algol_meaning.specs.World as worlds
 use Rattle.algol_meaning.specs.Instances.{fresh_cells}
 use Rattle.algol_meaning.specs.Run.{start}
 use Rattle.algol_paths.specs.Laws.{RestsKeepToTheirText}
+use Rattle.algol_paths.specs.Segments.{procedures_before, segment_among, segment_of}
 use Rattle.b67_word.specs.declared.Place.{Place}
+use Rattle.b67_word.specs.Word.{Word}
 use Rattle.b67_control.specs.declared.Registers.{Registers}
 use Rattle.b67_control.specs.declared.Rcw.{Rcw}
+use Rattle.b67_control.specs.Control.{pcw_word}
 use Rattle.b67_control.specs.Display.{place_at}
 use Rattle.b67_control.proofs.ControlLaws.{as_mscw-mscw_word, as_rcw-rcw_word}
 use Rattle.b67_ops.specs.declared.TheConstants.{OUTER_LEVEL}
 use Rattle.b67_segment.specs.Operators.{Placed}
+use Rattle.b67_segment.specs.Syllables.{Spells}
 use Rattle.b67_segment.specs.declared.code.Code.{Code}
+use Rattle.b67_segment.specs.declared.code.Segment.{Segment}
 use Rattle.b67_table.specs.Beginning.{base_mark, base_frame, first_registers, first_image}
 use Rattle.b67_table.specs.Chains.{place}
 use Rattle.b67_table.specs.Linkage.{base_control}
-use Rattle.b67_templates.specs.Cells.{simple_cells}
-use Rattle.b67_templates.specs.Depths.{stmts_depth}
-use Rattle.b67_templates.specs.Programs.{BodyAt}
+use Rattle.b67_templates.specs.Cells.{simple_cells, zero_cells, procedures, control_segments}
+use Rattle.b67_templates.specs.Fragments.{code_at}
+use Rattle.b67_templates.specs.Programs.{BodyAt, context_of, ProgramAt}
 use Rattle.b67_standing.specs.Standing.{ComesTo}
 use Rattle.b67_standing.specs.Laws.{BlocksStart}
 use Rattle.b67_cores.specs.Cores.{Core, IsCore, HasCore}
-use Rattle.b67_cores.specs.Stretches.{CoreAt, FragmentsArePerformed, Begins, BlocksBegin}
-use Rattle.b67_faithful.specs.Weight.{weight}
+use Rattle.b67_cores.specs.Stretches.{CoreAt, FragmentsArePerformed, control_words, Begins, BlocksBegin}
+use Rattle.b67_faithful.specs.Weight.{tokens_around, weight}
 use Rattle.b67_faithful.proofs.Contradictions.{some_same, none_some}
+use Rattle.b67_fitting.specs.Built.{IsBuilt}
 use Rattle.b67_fitting.specs.Nested.{AreNested}
-use Rattle.b67_pictures.specs.Frames.{IsChained, Framed, outermost}
-use Rattle.b67_pictures.specs.Pictures.{AreTexts, Pictured, living, Pictures}
+use Rattle.b67_pictures.specs.Frames.{most_around, CellsAre, IsChained, Framed, outermost}
+use Rattle.b67_pictures.specs.Pictures.{Pictured, living, Pictures}
 use Rattle.b67_pictures.proofs.Landing.{Landed, living_of}
 use Rattle.b67_pictures.proofs.Texted.{block_keeps}
-use Rattle.b67_pictures.proofs.Weighing.{block_small}
-use Rattle.b67_pictures.proofs.Zeros.{zero_word, block_zeros, cells_length}
+use Rattle.b67_pictures.proofs.Segmenting.{needs, block_small}
+use Rattle.b67_pictures.proofs.Zeros.{zero_word, block_zeros, plain_cells, cells_length}
 
 abbrev pub first_core : Core
 first_core = record { below = base_frame; words = []; registers = first_registers }
@@ -53,48 +60,88 @@ first_is = record { bottom = refl; top = refl }
 abbrev outer_control : Rcw
 outer_control = record { segment = 0; psr = 0; pir = 0; caller_level = 0; caller_cells = 0; own_level = OUTER_LEVEL }
 
-module _ (tree : PProgram) (code : Code) (texts : ℕ → List Placed) (nested : AreNested (scopes_of tree)) (are : AreTexts code texts)
-    (fragments : FragmentsArePerformed) (begin : BlocksBegin) (starts : BlocksStart) (keeps : RestsKeepToTheirText)
-    (body : BodyAt (scopes_of tree) code.formats (texts 0) OUTER_LEVEL (block_numbered (scopes_of tree).blocks 0) 0) where
+-- a list that is not empty has a first
+first_there : (segments : List Segment) → 0 < length segments → (s : Segment) × (slice_get segments 0 ≡ Some s)
+first_there [] h = absurd (omega (arith, h))
+first_there (s ∷ segments) h = (s, refl)
+
+module _ (tree : PProgram) (code : Code) (built : IsBuilt tree) (nested : AreNested (scopes_of tree)) (stands : ProgramAt code tree)
+    (fragments : FragmentsArePerformed) (begin : BlocksBegin) (starts : BlocksStart) (keeps : RestsKeepToTheirText) where
   abbrev sc : Scopes
   sc = scopes_of tree
+
+  abbrev texts : ℕ → List Placed
+  texts = stands.texts
 
   abbrev block : Block
   block = block_numbered sc.blocks 0
 
-  abbrev cells : ℕ
-  cells = length (simple_cells block)
+  abbrev level : ℕ
+  level = level_of block
+
+  abbrev text : List Placed
+  text = texts (segment_of sc.blocks 0)
+
+  -- its cells: values and control words
+  abbrev many : ℕ
+  many = length (zero_cells block)
+
+  abbrev controls : List ℕ
+  controls = control_segments sc block.decls
+
+  abbrev cells : List Word
+  cells = replicate many zero_word ++ control_words level controls
 
   abbrev most : ℕ
-  most = stmts_depth block.stmts
+  most = most_around tree 0
 
   abbrev bound : ℕ
-  bound = 2 + cells + most
+  bound = 2 + (many + length controls) + most
 
-  outer : level_of block ≡ OUTER_LEVEL
+  outer : level ≡ OUTER_LEVEL
   outer = ap (λ (o : List Spot). length o + 2) nested.outer
 
-  at_first : CoreAt sc code (texts 0) OUTER_LEVEL 0 [] first_core
+  -- the program's segment is the first
+  segment_first : segment_of sc.blocks 0 ≡ 0
+  segment_first =
+      ap (λ (n : List ℕ). if not (same_name n []) then procedures_before sc.blocks 0 + 1 else segment_among sc.blocks (around sc.blocks 0)) nested.nameless
+      ∙ ap (λ (o : List Spot). segment_among sc.blocks (map (number_at sc.blocks) o)) nested.outer
+
+  segment : (s : Segment) × (slice_get code.segments 0 ≡ Some s)
+  segment = first_there code.segments (omega (arith, stands.many))
+
+  body : BodyAt sc (context_of code sc 0) text level block 0
+  body = stands.bodies 0 nested.some (inl refl)
+
+  plain : block.parameters ≡ []
+  plain = (nested.each 0 nested.some).plain
+
+  many_controls : length controls ≡ length (procedures block.decls)
+  many_controls = length-map (procedures block.decls) (λ (n : Named). segment_of sc.blocks (number_at sc.blocks n.spot))
+
+  at_first : CoreAt sc code text level 0 [] first_core
   at_first =
       record {
-        segment = are.segment;
-        there = are.there;
-        spells = are.spells 0;
-        level_is = refl;
+        segment = segment.0;
+        there = segment.1;
+        spells = subst (λ (k : ℕ). Spells (texts k) segment.0) (sym segment_first) (stands.spells 0 segment.0 segment.1);
+        level_is = sym outer;
         place_is = refl;
         is = first_is;
         mark_is = refl;
         words_are = tt;
       }
 
-  few : cells ≤ 400
-  few = (nested.each 0 nested.some).few
+  begun : Begins sc code text level bound many controls body.start first_core
+  begun =
+      begin sc (context_of code sc 0) code text level bound many controls 0 body.start first_core body.cells at_first
+      (omega (arith, (nested.each 0 nested.some).few, ap length (plain_cells block plain), many_controls)) (omega arith)
 
-  begun : Begins sc code (texts 0) OUTER_LEVEL bound cells body.start first_core
-  begun = begin sc code.formats code (texts 0) OUTER_LEVEL bound cells 0 body.cells.0 body.start first_core body.cells.1 body.cells.2 at_first (omega (arith, few)) (omega arith)
+  small : needs block ≤ 4 * tokens_around tree 0
+  small = block_small tree built 0 nested.some (inl refl)
 
-  comes : ComesTo sc code.formats (texts 0) OUTER_LEVEL most (settle_items sc (items_of block)) body.start []
-  comes = starts sc code.formats (texts 0) OUTER_LEVEL most block body.start body.items (omega arith)
+  comes : ComesTo sc (context_of code sc 0) text level most (settle_items sc (items_of block)) body.start []
+  comes = starts sc (context_of code sc 0) text level most block body.start body.items (omega (arith, small)) (omega (arith, small))
 
   abbrev first_part : Part
   first_part = record { instance = 1; purpose = worlds.block; rest = settle_items sc (items_of block) }
@@ -111,15 +158,18 @@ module _ (tree : PProgram) (code : Code) (texts : ℕ → List Placed) (nested :
   abbrev w : World
   w = start sc
 
-  named_so : (up : ℕ) → up + OUTER_LEVEL ≤ level_of block → up ≡ 0
+  named_so : (up : ℕ) → up + OUTER_LEVEL ≤ level → up ≡ 0
   named_so up low = omega (arith, low, outer)
 
-  chained : IsChained sc w first_lay 1 (level_of block) first_registers.display
+  chained : IsChained sc w first_lay 1 level first_registers.display
   unfolding start
   chained zero low = ap (λ (l : ℕ). place_at first_registers.display (l - 0)) outer
   chained (suc up) low = absurd (omega (arith, named_so (suc up) low))
 
-  abbrev framed : Framed sc w first_lay 1 1 [] 0 base_mark (base_control OUTER_LEVEL) (replicate cells zero_word)
+  zeros : CellsAre (simple_cells block) (fresh_cells block []) (replicate many zero_word)
+  zeros = subst (λ (n : ℕ). CellsAre (simple_cells block) (fresh_cells block []) (replicate n zero_word)) (ap length (plain_cells block plain)) (block_zeros block plain)
+
+  abbrev framed : Framed sc w first_lay 1 1 [] 0 base_mark (base_control OUTER_LEVEL) cells
   unfolding start
   framed =
       record {
@@ -128,7 +178,9 @@ module _ (tree : PProgram) (code : Code) (texts : ℕ → List Placed) (nested :
         own = refl;
         known = nested.some;
         laid = refl;
-        cells_are = block_zeros block (nested.plain);
+        values = replicate many zero_word;
+        cells_are = zeros;
+        cells_is = refl;
         placed = outermost refl (ap (λ (o : List Spot). map (number_at sc.blocks) o) nested.outer);
         home = place 0 0;
         linked = refl;
@@ -143,14 +195,20 @@ module _ (tree : PProgram) (code : Code) (texts : ℕ → List Placed) (nested :
   unfolding first_image
   first_has = record { live = refl; registers = refl; own = refl; stack = refl; is = first_is }
 
-  weight_is : weight tree w 1 ≡ 8 + length (fresh_cells block []) + 4 * program_tokens tree + 0
+  weight_is : weight tree w 1 ≡ 8 + length (fresh_cells block []) + 4 * tokens_around tree 0 + 0
   unfolding start
   weight_is = refl
 
-  many_cells : length (fresh_cells block []) ≡ cells
-  many_cells = cells_length (simple_cells block) (fresh_cells block []) (replicate cells zero_word) (block_zeros block nested.plain)
+  many_cells : length (fresh_cells block []) ≡ many
+  many_cells = cells_length (simple_cells block) (fresh_cells block []) (replicate many zero_word) zeros ∙ ap length (plain_cells block plain)
 
-  landed : Landed tree code texts w first_lay first_image 1 first_process first_part [] most bound first_core begun.core
+  length_cells : length cells ≡ many + length controls
+  length_cells =
+      length-append (replicate many zero_word) (control_words level controls)
+      ∙ ap (λ (n : ℕ). n + length (control_words level controls)) (length-replicate many zero_word)
+      ∙ ap (λ (n : ℕ). many + n) (length-map controls (λ (s : ℕ). pcw_word (code_at s 0 (level + 1))))
+
+  landed : Landed tree code texts w first_lay first_image 1 first_process first_part [] bound first_core begun.core
   unfolding start
   landed =
       record {
@@ -169,23 +227,22 @@ module _ (tree : PProgram) (code : Code) (texts : ℕ → List Placed) (nested :
           lower = [];
           mark = base_mark;
           control = base_control OUTER_LEVEL;
-          cells = replicate cells zero_word;
+          cells = cells;
           words_are = begun.below;
           framed = framed;
           text = block_keeps sc 0 keeps (nested.each 0 nested.some);
         };
-        around = (refl, refl, refl);
-        counted = omega (arith, ap (λ (r : Registers). r.cells) begun.registers, length-replicate cells zero_word);
-        chained = subst (λ d. IsChained sc w first_lay 1 (level_of block) d) (sym (ap (λ (r : Registers). r.display) begun.registers)) chained;
-        segment_is = ap (λ (r : Registers). r.segment) begun.registers;
+        around = (refl, refl, refl, nested.untyped);
+        counted = omega (arith, ap (λ (r : Registers). r.cells) begun.registers, length_cells);
+        chained = subst (λ d. IsChained sc w first_lay 1 level d) (sym (ap (λ (r : Registers). r.display) begun.registers)) chained;
+        segment_is = ap (λ (r : Registers). r.segment) begun.registers ∙ sym segment_first;
         pc = body.start;
         slots = [];
-        at = subst (λ (l : ℕ). CoreAt sc code (texts 0) l body.start [] begun.core) (sym outer) begun.at;
+        at = begun.at;
         held = omega arith;
-        comes = subst (λ (l : ℕ). ComesTo sc code.formats (texts 0) l most (settle_items sc (items_of block)) body.start []) (sym outer) comes;
-        room = omega (arith, ap length begun.below, length-replicate cells zero_word);
-        light = omega (arith, weight_is, many_cells, block_small tree);
-        few = block_small tree;
+        comes = comes;
+        room = omega (arith, ap length begun.below, length_cells);
+        light = omega (arith, weight_is, many_cells, many_controls, small);
       }
 
   only_process : (p : ℕ) (q : Process) → numbered w.processes p ≡ Some q → Pictured tree code texts w first_lay first_image p q
@@ -193,7 +250,7 @@ module _ (tree : PProgram) (code : Code) (texts : ℕ → List Placed) (nested :
   only_process zero q e = none_some e
   only_process (suc zero) q e =
       subst (λ (x : Process). Pictured tree code texts w first_lay first_image 1 x) (some_same e)
-      (living refl refl (living_of tree code texts w first_lay first_image fragments 1 first_process first_part [] most bound first_core begun.core landed))
+      (living refl refl (living_of tree code texts w first_lay first_image fragments 1 first_process first_part [] bound first_core begun.core landed))
   only_process (suc (suc k)) q e = none_some e
 
   pub first_pictured : Pictures tree code texts (start (scopes_of tree)) first_image

@@ -3,31 +3,47 @@ use Rattle.std.proofs.Common.{◌≡◌, inl, inr, refl, sym, ap, ◌∙◌, sub
 use Rattle.std.specs.Prelude.{if◌then◌else◌, map}
 use Rattle.b67_list.specs.Numbered.{numbered}
 use Rattle.algol_tree.specs.declared.token.Spot.{Spot}
+use Rattle.algol_tree.specs.declared.tree.Kind.{Kind}
 use Rattle.algol_tree.specs.Blocks.{Block, block_numbered, number_at, around}
 use Rattle.algol_tree.specs.Cells.{level_of}
 use Rattle.algol_tree.specs.Plain.{PProgram}
 use Rattle.algol_tree.specs.Scopes.{Scopes, scopes_of}
 use Rattle.algol_meaning.specs.World.{Instance, Part, World, instance_at, or_no_instance, ancestor}
 use Rattle.algol_meaning.specs.Critical.{is_evaluation}
+use Rattle.algol_paths.specs.Segments.{segment_of}
 use Rattle.b67_word.specs.declared.Place.{Place}
 use Rattle.b67_word.specs.Word.{Word}
 use Rattle.b67_ops.specs.declared.TheConstants.{OUTER_LEVEL}
 use Rattle.b67_segment.specs.Operators.{Placed}
 use Rattle.b67_segment.specs.declared.code.Code.{Code}
+use Rattle.b67_templates.specs.Contexts.{Context}
+use Rattle.b67_templates.specs.Programs.{context_of}
 use Rattle.b67_standing.specs.Standing.{StandsFor}
 use Rattle.b67_cores.specs.Cores.{Core}
 use Rattle.b67_cores.specs.Stretches.{CoreAt}
-use Rattle.b67_faithful.specs.Weight.{parts_weight, segment_tokens}
-use Rattle.b67_pictures.specs.Frames.{IsOwn, IsChained, Frame, Stands, Around, Frames}
+use Rattle.b67_faithful.specs.Weight.{parts_weight, tokens_around}
+use Rattle.b67_pictures.specs.Frames.{most_around, IsOwn, IsChained, Frame, Stands, Around, Frames}
+use Rattle.b67_pictures.specs.Pictures.{innermost_most}
 use Rattle.b67_pictures.proofs.Lying.{Lies, lies_in, parents_in, StayBelow, around_stays, Stayed, frame_stays}
+use Rattle.b67_pictures.proofs.Lying.{same_instance as same_before}
 use Rattle.b67_pictures.proofs.Numbers.{get_within}
 
--- the segment in which the text of a part stands, and its level
-abbrev pub text_in : (ℕ → List Placed) → World → Part → List Placed
-text_in texts w part = texts ((instance_at w part.instance).block)
+-- the operators of the segment in which the text of a part stands, and its level
+abbrev pub text_in : PProgram → (ℕ → List Placed) → World → Part → List Placed
+text_in tree texts w part = texts (segment_of (scopes_of tree).blocks ((instance_at w part.instance).block))
 
 abbrev pub level_in : PProgram → World → Part → ℕ
 level_in tree w part = level_of (block_numbered (scopes_of tree).blocks ((instance_at w part.instance).block))
+
+abbrev pub context_in : PProgram → Code → World → Part → Context
+context_in tree code w part = context_of code (scopes_of tree) ((instance_at w part.instance).block)
+
+-- how many words may lie above the cells of its frame, and the kind of the value that it gives
+abbrev pub most_in : PProgram → World → Part → ℕ
+most_in tree w part = most_around tree ((instance_at w part.instance).block)
+
+abbrev pub wanted_in : PProgram → World → Part → Option Kind
+wanted_in tree w part = (block_numbered (scopes_of tree).blocks ((instance_at w part.instance).block)).result
 
 -- ---- static parents
 
@@ -54,49 +70,51 @@ pub same_weight : (tree : PProgram) (w w' : World) (parts : List Part) → ((i :
 same_weight tree w w' [] each = refl
 same_weight tree w w' (part ∷ parts) each =
     let x : IsAsHeavy w w' part.instance = each part.instance (inl refl) in
-    ap (λ (n : ℕ). 8 + (if is_evaluation part.purpose then 0 else n) + 4 * segment_tokens tree ((instance_at w' part.instance).block) + parts_weight tree w' parts) x.cells
-    ∙ ap (λ (j : ℕ). 8 + (if is_evaluation part.purpose then 0 else length ((instance_at w part.instance).cells)) + 4 * segment_tokens tree j + parts_weight tree w' parts) x.block
-    ∙ ap (λ (n : ℕ). 8 + (if is_evaluation part.purpose then 0 else length ((instance_at w part.instance).cells)) + 4 * segment_tokens tree ((instance_at w part.instance).block) + n)
+    ap (λ (n : ℕ). 8 + (if is_evaluation part.purpose then 0 else n) + 4 * tokens_around tree ((instance_at w' part.instance).block) + parts_weight tree w' parts) x.cells
+    ∙ ap (λ (j : ℕ). 8 + (if is_evaluation part.purpose then 0 else length ((instance_at w part.instance).cells)) + 4 * tokens_around tree j + parts_weight tree w' parts) x.block
+    ∙ ap (λ (n : ℕ). 8 + (if is_evaluation part.purpose then 0 else length ((instance_at w part.instance).cells)) + 4 * tokens_around tree ((instance_at w part.instance).block) + n)
     (same_weight tree w w' parts (λ i own. each i (inr own)))
 
 -- ---- frames
 
 -- the parts around, below a frame of the same words
-pub around_at : (tree : PProgram) (code : Code) (texts : ℕ → List Placed) (w : World) (lay : List Place) (p most : ℕ) (parts : List Part) (l l' : List Word) (m m' c c' : Word) → l ≡ l' → m ≡ m' → c ≡ c' →
-    Around tree code texts w lay p most parts l m c → Around tree code texts w lay p most parts l' m' c'
-around_at tree code texts w lay p most parts l l' m m' c c' el em ec a =
-    subst (λ (x : List Word). Around tree code texts w lay p most parts x m' c') el
-    (subst (λ (x : Word). Around tree code texts w lay p most parts l x c') em
-    (subst (λ (x : Word). Around tree code texts w lay p most parts l m x) ec a))
+pub around_at : (tree : PProgram) (code : Code) (texts : ℕ → List Placed) (w : World) (lay : List Place) (p : ℕ) (parts : List Part) (l l' : List Word) (m m' c c' : Word) (wanted : Option Kind) → l ≡ l' → m ≡ m' → c ≡ c' →
+    Around tree code texts w lay p parts l m c wanted → Around tree code texts w lay p parts l' m' c' wanted
+around_at tree code texts w lay p parts l l' m m' c c' wanted el em ec a =
+    subst (λ (x : List Word). Around tree code texts w lay p parts x m' c' wanted) el
+    (subst (λ (x : Word). Around tree code texts w lay p parts l x c' wanted) em
+    (subst (λ (x : Word). Around tree code texts w lay p parts l m x wanted) ec a))
 
 -- the mark of a frame lies below its words
-pub frame_low : (tree : PProgram) (code : Code) (texts : ℕ → List Placed) (w : World) (lay : List Place) (p most : ℕ) (part : Part) (outer : List Part) (words : List Word) →
-    (f : Frame tree code texts w lay p most part outer words) → length f.lower + 2 + length f.cells ≡ length words
-frame_low tree code texts w lay p most part outer words f =
+pub frame_low : (tree : PProgram) (code : Code) (texts : ℕ → List Placed) (w : World) (lay : List Place) (p : ℕ) (part : Part) (outer : List Part) (words : List Word) →
+    (f : Frame tree code texts w lay p part outer words) → length f.lower + 2 + length f.cells ≡ length words
+frame_low tree code texts w lay p part outer words f =
     omega (arith, ap length f.words_are, length-append f.lower (f.mark ∷ f.control ∷ f.cells))
 
-module _ (tree : PProgram) (code : Code) (texts : ℕ → List Placed) (w w' : World) (lay lay' : List Place) (p most limit : ℕ) (stay : StayBelow w w' lay lay' p limit) where
+module _ (tree : PProgram) (code : Code) (texts : ℕ → List Placed) (w w' : World) (lay lay' : List Place) (p limit : ℕ) (stay : StayBelow w w' lay lay' p limit) where
   abbrev sc : Scopes
   sc = scopes_of tree
 
   -- the frame of a part whose mark lies below, with the parts around
   pub record FrameStill (part : Part) (outer : List Part) (words : List Word) (cells : List Word) : Type 0 where
-    pub frame : Frame tree code texts w' lay' p most part outer words
-    pub around : Around tree code texts w' lay' p most outer frame.lower frame.mark frame.control
+    pub frame : Frame tree code texts w' lay' p part outer words
+    pub around : Around tree code texts w' lay' p outer frame.lower frame.mark frame.control (wanted_in tree w' part)
     pub cells_are : frame.cells ≡ cells
 
-  pub frame_still : (part : Part) (outer : List Part) (words : List Word) (f : Frame tree code texts w lay p most part outer words) →
-      Around tree code texts w lay p most outer f.lower f.mark f.control → length f.lower < limit → FrameStill part outer words f.cells
+  pub frame_still : (part : Part) (outer : List Part) (words : List Word) (f : Frame tree code texts w lay p part outer words) →
+      Around tree code texts w lay p outer f.lower f.mark f.control (wanted_in tree w part) → length f.lower < limit → FrameStill part outer words f.cells
   frame_still part outer words f a low =
-      let t : Stayed tree code texts w w' lay lay' p most limit stay part outer words f = frame_stays tree code texts w w' lay lay' p most limit stay part outer words f a low in
+      let t : Stayed tree code texts w w' lay lay' p limit stay part outer words f = frame_stays tree code texts w w' lay lay' p limit stay part outer words f a low in
       record {
         frame = t.frame;
-        around = around_at tree code texts w' lay' p most outer f.lower t.frame.lower f.mark t.frame.mark f.control t.frame.control (sym t.lower) (sym t.mark) (sym t.control)
-            (around_stays tree code texts w w' lay lay' p most limit stay outer f.lower f.mark f.control (omega (arith, low)) a);
+        around = subst (λ (x : Instance). Around tree code texts w' lay' p outer t.frame.lower t.frame.mark t.frame.control ((block_numbered sc.blocks x.block).result))
+            (same_before tree code texts w w' lay lay' p limit stay part outer words f low)
+            (around_at tree code texts w' lay' p outer f.lower t.frame.lower f.mark t.frame.mark f.control t.frame.control (wanted_in tree w part) (sym t.lower) (sym t.mark) (sym t.control)
+            (around_stays tree code texts w w' lay lay' p limit stay outer f.lower f.mark f.control (wanted_in tree w part) (omega (arith, low)) a));
         cells_are = t.cells;
       }
 
-  module _ (part : Part) (outer : List Part) (core : Core) (s : Stands tree code texts w lay p most part outer core) (a : Around tree code texts w lay p most outer s.frame.lower s.frame.mark s.frame.control)
+  module _ (part : Part) (outer : List Part) (core : Core) (s : Stands tree code texts w lay p part outer core) (a : Around tree code texts w lay p outer s.frame.lower s.frame.mark s.frame.control (wanted_in tree w part))
       (low : length core.below ≤ limit) where
     abbrev i : ℕ
     i = part.instance
@@ -110,9 +128,9 @@ module _ (tree : PProgram) (code : Code) (texts : ℕ → List Placed) (w w' : W
 
     pub remains : (j : ℕ) → IsOwn (part ∷ outer) j → Remains j
     remains j own =
-        let l : Lies tree code texts w lay p most (part ∷ outer) j core.below = lies_in tree code texts w lay p most part outer core s a j own in
+        let l : Lies tree code texts w lay p (part ∷ outer) j core.below = lies_in tree code texts w lay p part outer core s a j own in
         let under : length l.frame.lower < limit =
-        omega (arith, low, ap length l.words_are, length-append l.front l.rest, frame_low tree code texts w lay p most l.part l.outer l.front l.frame) in
+        omega (arith, low, ap length l.words_are, length-append l.front l.rest, frame_low tree code texts w lay p l.part l.outer l.front l.frame) in
         subst (λ (n : ℕ). Remains n) l.instance_is (record {
           instance = l.frame.framed.instance;
           is = l.frame.framed.is;
@@ -125,7 +143,7 @@ module _ (tree : PProgram) (code : Code) (texts : ℕ → List Placed) (w w' : W
     parent_own up h =
         let j : ℕ = (instance_at w i).block in
         let there = get_within (j ∷ around sc.blocks j) up (omega (arith, h, length_around sc.blocks j)) in
-        (parents_in tree code texts w lay p most part outer core s a i (inl refl) up there.0 there.1).own
+        (parents_in tree code texts w lay p part outer core s a i (inl refl) up there.0 there.1).own
 
     -- and they are the same
     pub same_parent : (up : ℕ) → up + OUTER_LEVEL ≤ level_in tree w part → ancestor w' up i ≡ ancestor w up i
@@ -152,33 +170,39 @@ module _ (tree : PProgram) (code : Code) (texts : ℕ → List Placed) (w w' : W
         (λ j own. record { block = ap (λ (x : Instance). x.block) (same_instance j own); cells = ap (λ (x : Instance). length x.cells) (same_instance j own) })
 
     still : FrameStill part outer core.below s.frame.cells
-    still = frame_still part outer core.below s.frame a (omega (arith, low, frame_low tree code texts w lay p most part outer core.below s.frame))
+    still = frame_still part outer core.below s.frame a (omega (arith, low, frame_low tree code texts w lay p part outer core.below s.frame))
 
     here : instance_at w i ≡ instance_at w' i
     here = sym (same_instance i (inl refl))
 
-    pub part_stays : Frames tree code texts w' lay' p most (part ∷ outer) core
+    pub part_stays : Frames tree code texts w' lay' p (part ∷ outer) core
     part_stays = (
       record {
         frame = still.frame;
         counted = s.counted ∙ sym (ap length still.cells_are);
         chained = subst (λ (x : Instance). IsChained sc w' lay' i (level_of (block_numbered sc.blocks x.block)) core.registers.display) here (chained_stays core.registers.display s.chained);
-        segment_is = s.segment_is;
+        segment_is = s.segment_is ∙ ap (λ (x : Instance). segment_of sc.blocks x.block) here;
         asks = s.asks;
         pc = s.pc;
         slots = s.slots;
-        stands = subst (λ (x : Instance). StandsFor sc code.formats (texts x.block) (level_of (block_numbered sc.blocks x.block)) most part.rest s.pc s.slots) here s.stands;
-        there = subst (λ (x : Instance). CoreAt sc code (texts x.block) (level_of (block_numbered sc.blocks x.block)) s.pc s.slots core) here s.there;
-        few = s.few;
+        stands = subst (λ (x : Instance). StandsFor sc (context_of code sc x.block) (texts (segment_of sc.blocks x.block)) (level_of (block_numbered sc.blocks x.block)) (most_around tree x.block) part.rest s.pc s.slots) here
+            s.stands;
+        there = subst (λ (x : Instance). CoreAt sc code (texts (segment_of sc.blocks x.block)) (level_of (block_numbered sc.blocks x.block)) s.pc s.slots core) here s.there;
+        few = subst (λ (x : Instance). length s.slots ≤ most_around tree x.block) here s.few;
       },
       still.around,
     )
 
   -- all parts of a process
-  pub frames_stay : (parts : List Part) (core : Core) → length core.below ≤ limit → Frames tree code texts w lay p most parts core → Frames tree code texts w' lay' p most parts core
+  pub frames_stay : (parts : List Part) (core : Core) → length core.below ≤ limit → Frames tree code texts w lay p parts core → Frames tree code texts w' lay' p parts core
   frames_stay [] core low f = absurd f
   frames_stay (part ∷ outer) core low f = part_stays part outer core f.0 f.1 low
 
-  pub frames_weigh : (parts : List Part) (core : Core) → length core.below ≤ limit → Frames tree code texts w lay p most parts core → parts_weight tree w' parts ≡ parts_weight tree w parts
+  pub frames_weigh : (parts : List Part) (core : Core) → length core.below ≤ limit → Frames tree code texts w lay p parts core → parts_weight tree w' parts ≡ parts_weight tree w parts
   frames_weigh [] core low f = absurd f
   frames_weigh (part ∷ outer) core low f = parts_weigh part outer core f.0 f.1 low
+
+  -- the innermost part has as much room
+  pub frames_most : (parts : List Part) (core : Core) → length core.below ≤ limit → Frames tree code texts w lay p parts core → innermost_most tree w' parts ≡ innermost_most tree w parts
+  frames_most [] core low f = absurd f
+  frames_most (part ∷ outer) core low f = ap (λ (x : Instance). most_around tree x.block) (same_instance part outer core f.0 f.1 low part.instance (inl refl))

@@ -2,7 +2,6 @@
 use Rattle.std.proofs.Common.{◌≡◌, ◌≢◌, refl, sym, ap, ◌∙◌, subst, ℕ, suc, ◌+◌, ◌<◌, ◌≤◌, ◌^◌, List, [], ◌∷◌, length, Option, Some, None, Bool, true, false, Ok, arith}
 use Rattle.std.specs.Prelude.{slice_set, if◌then◌else◌}
 use Rattle.b67_list.specs.Numbered.{numbered}
-use Rattle.algol_tree.specs.declared.tree.Kind.{Kind}
 use Rattle.algol_tree.specs.declared.tree.Named.{Named}
 use Rattle.algol_tree.specs.Blocks.{block_numbered}
 use Rattle.algol_tree.specs.Cells.{level_of}
@@ -17,6 +16,7 @@ use Rattle.algol_meaning.specs.Asks.{Ask, stores, ask, resume}
 use Rattle.algol_meaning.specs.Choice.{Choice, choice, choice_of}
 use Rattle.algol_paths.specs.Blocks.{IsSeen, IsInner}
 use Rattle.algol_paths.specs.Laws.{RestsKeepToTheirText}
+use Rattle.algol_paths.specs.Segments.{segment_of}
 use Rattle.b67_word.specs.declared.Place.{Place}
 use Rattle.b67_word.specs.Word.{Word}
 use Rattle.b67_control.specs.Control.{as_irw}
@@ -32,11 +32,11 @@ use Rattle.b67_table.specs.Chains.{place}
 use Rattle.b67_table.specs.Effect as effects
 use Rattle.b67_table.specs.Image.{Image}
 use Rattle.b67_table.specs.Outcome as outcomes
-use Rattle.b67_table.specs.Outcome.{limited}
 use Rattle.b67_table.specs.Private.{frame, display_at}
 use Rattle.b67_table.specs.PrivateRows as rows
 use Rattle.b67_table.specs.Table.{table, raw, operator_at}
-use Rattle.b67_templates.specs.Cells.{simple_cells, Found, IsVariable}
+use Rattle.b67_templates.specs.Cells.{simple_cells}
+use Rattle.b67_templates.specs.Programs.{context_of}
 use Rattle.b67_standing.specs.Stepping.{Slot, operand, reference}
 use Rattle.b67_standing.specs.Standing.{ActionAt, Acted, ComesTo}
 use Rattle.b67_cores.specs.Cores.{Core, size, IsCore, with_core, here}
@@ -44,9 +44,8 @@ use Rattle.b67_cores.specs.Slots.{ValueIs, newest, SlotsAre}
 use Rattle.b67_cores.specs.Stretches.{CoreAt, FragmentsArePerformed}
 use Rattle.b67_cores.proofs.Moving.{slots_length}
 use Rattle.b67_faithful.specs.Weight.{weight}
-use Rattle.b67_faithful.proofs.Contradictions.{some_same}
 use Rattle.b67_pictures.specs.Acting.{Does, gave}
-use Rattle.b67_pictures.specs.Frames.{CellsAre, IsChained, Frame, Stands}
+use Rattle.b67_pictures.specs.Frames.{CellsAre, most_around, IsChained, Frame, Stands}
 use Rattle.b67_pictures.specs.Pictures.{Living, PicturesBy}
 use Rattle.b67_pictures.proofs.Asked.{stores_seen}
 use Rattle.b67_pictures.proofs.Cored.{registers_now, has_now, others_have, system_stays}
@@ -60,7 +59,7 @@ use Rattle.b67_pictures.proofs.Scene.{Scene}
 use Rattle.b67_pictures.proofs.Stage.{gives_within, choice_is, goes_on, weight_of}
 use Rattle.b67_pictures.proofs.Slotted.{Top, top_slot}
 use Rattle.b67_pictures.proofs.StackWords.{length-set}
-use Rattle.b67_pictures.proofs.Staying.{text_in, level_in, IsAsHeavy, same_weight, FrameStill, frame_still}
+use Rattle.b67_pictures.proofs.Staying.{text_in, level_in, context_in, most_in, IsAsHeavy, same_weight, FrameStill, frame_still}
 use Rattle.b67_pictures.proofs.StoreRow.{with_cell, store_raw, store_class}
 use Rattle.b67_pictures.proofs.StoringFrames.{as_many_words, changed, stored_world, same_of, same_ancestors, as_heavy, Stored, frame_stored}
 use Rattle.b67_pictures.proofs.Variables.{cell_changed}
@@ -79,12 +78,12 @@ two_words : (words left : List Word) (x y : Word) (rest : List Word) → words �
 two_words words left x y rest e f = e ∙ ap (λ (ws : List Word). x ∷ ws) f
 
 module _ (tree : PProgram) (code : Code) (texts : ℕ → List Placed) (fragments : FragmentsArePerformed) (kept : RestsKeepToTheirText) (w : World) (lay : List Place) (img : Image)
-    (p : ℕ) (q : Process) (part : Part) (outer : List Part) (most bound : ℕ) (core : Core) (s : Scene tree code texts w lay img p q part outer most bound core)
+    (p : ℕ) (q : Process) (part : Part) (outer : List Part) (bound : ℕ) (core : Core) (s : Scene tree code texts w lay img p q part outer bound core)
     (able_is : q.state ≡ able) (able_p : numbered img.states p ≡ Some Able) (n : Named) (v : Value) (asks : ask part.rest ≡ stores (own n) v)
-    (a : ActionAt (scopes_of tree) code.formats (text_in texts w part) (level_in tree w part) most (stores (own n) v) s.stands.pc s.stands.slots)
+    (a : ActionAt (scopes_of tree) (context_in tree code w part) (text_in tree texts w part) (level_in tree w part) (most_in tree w part) (stores (own n) v) s.stands.pc s.stands.slots)
     (answered : (r : Answer) (at : ℕ) (left : List Slot) →
-    Acted (scopes_of tree) code.formats (text_in texts w part) (level_in tree w part) most (stores (own n) v) s.stands.pc s.stands.slots a r at left →
-    ComesTo (scopes_of tree) code.formats (text_in texts w part) (level_in tree w part) most (resume (scopes_of tree) part.rest r) at left) where
+    Acted (scopes_of tree) (context_in tree code w part) (text_in tree texts w part) (level_in tree w part) (most_in tree w part) (stores (own n) v) s.stands.pc s.stands.slots a r at left →
+    ComesTo (scopes_of tree) (context_in tree code w part) (text_in tree texts w part) (level_in tree w part) (most_in tree w part) (resume (scopes_of tree) part.rest r) at left) where
   abbrev sc : Scopes
   sc = scopes_of tree
 
@@ -95,12 +94,12 @@ module _ (tree : PProgram) (code : Code) (texts : ℕ → List Placed) (fragment
   level = level_of (block_numbered sc.blocks b)
 
   abbrev text : List Placed
-  text = texts b
+  text = texts (segment_of sc.blocks b)
 
   abbrev couple : Couple
   couple = a.2.couple
 
-  abbrev st : Stands tree code texts w lay p most part outer core
+  abbrev st : Stands tree code texts w lay p part outer core
   st = s.stands
 
   abbrev i : ℕ
@@ -110,10 +109,10 @@ module _ (tree : PProgram) (code : Code) (texts : ℕ → List Placed) (fragment
   there = operator_there sc code text level st.pc st.slots core (ops.Plain kinds.Stod) a.0 st.there a.2.stands
 
   abbrev IsHome : Type 0
-  IsHome = Home tree code texts w lay img p q part outer most bound core s n a.2.kind couple
+  IsHome = Home tree code texts w lay img p q part outer bound core s n a.2.kind couple
 
   found : IsHome
-  found = home tree code texts w lay img p q part outer most bound core s n a.2.kind couple (stores_seen (IsSeen sc b) n (IsInner sc b) part.rest v asks st.frame.text) a.2.variable
+  found = home tree code texts w lay img p q part outer bound core s n a.2.kind couple (stores_seen (IsSeen sc b) n (IsInner sc b) part.rest v asks st.frame.text) a.2.variable
 
   module _ (f : IsHome) (x y : Word) (words : List Word) (top : core.words ≡ x ∷ y ∷ words) (x_is : ValueIs v x) (y_is : y ≡ rows.reference couple)
       (left_are : SlotsAre sc level (frame core.registers) (length core.below) a.1 words) where
@@ -134,8 +133,8 @@ module _ (tree : PProgram) (code : Code) (texts : ℕ → List Placed) (fragment
     short =
         omega (
           arith,
-          get_below f.lies.frame.cells f.number f.word f.cell_lies,
-          as_many_words (simple_cells (block_numbered sc.blocks instance.block)) instance.cells f.lies.frame.cells f.lies.frame.framed.cells_are,
+          get_below f.lies.frame.framed.values f.number f.word f.value_lies,
+          as_many_words (simple_cells (block_numbered sc.blocks instance.block)) instance.cells f.lies.frame.framed.values f.lies.frame.framed.cells_are,
         )
 
     tag : f.word.tag ≡ 0
@@ -188,27 +187,27 @@ module _ (tree : PProgram) (code : Code) (texts : ℕ → List Placed) (fragment
     place_is = omega (arith, f.index)
 
     abbrev AfterStore : Type 0
-    AfterStore = Stored tree code texts w lay p most i instance instance_there cells' high laid f.number k place_is x many short changes part outer core.below st.frame
+    AfterStore = Stored tree code texts w lay p i instance instance_there cells' high laid f.number k place_is x many short changes part outer core.below st.frame
 
     frames : AfterStore
     frames =
-        frame_stored tree code texts w lay p most i instance instance_there cells' high laid f.number k place_is x many short changes part outer core.below st.frame s.around f.parent.own
+        frame_stored tree code texts w lay p i instance instance_there cells' high laid f.number k place_is x many short changes part outer core.below st.frame s.around f.parent.own
 
     -- the world with the process's part gone on has the same instances
     stay : StayBelow stored w' lay lay p (suc (length frames.frame.lower))
     stay = record { instances = λ j at y e mine lies low. e; places = λ j g e. e }
 
     abbrev IsStill : Type 0
-    IsStill = FrameStill tree code texts stored w' lay lay p most (suc (length frames.frame.lower)) stay part outer new.below frames.frame.cells
+    IsStill = FrameStill tree code texts stored w' lay lay p (suc (length frames.frame.lower)) stay part outer new.below frames.frame.cells
 
     still : IsStill
     still =
-        frame_still tree code texts stored w' lay lay p most (suc (length frames.frame.lower)) stay part outer new.below frames.frame frames.around (omega arith)
+        frame_still tree code texts stored w' lay lay p (suc (length frames.frame.lower)) stay part outer new.below frames.frame frames.around (omega arith)
 
     block_is : b ≡ (instance_at w' part.instance).block
     block_is = same_of w i instance instance_there cells' (λ (z : Instance). z.block) refl part.instance
 
-    abbrev frame' : Frame tree code texts w' lay p most part' outer new.below
+    abbrev frame' : Frame tree code texts w' lay p part' outer new.below
     frame' =
         record {
           owns = still.frame.owns;
@@ -262,7 +261,7 @@ module _ (tree : PProgram) (code : Code) (texts : ℕ → List Placed) (fragment
     raw_is reads plain_word =
         store_raw code img p core s.has a.0 there x y f.word words top couple.level couple.index high shown reads plain_word f.below_lies (value_tag v x x_is) tag
 
-    held : length a.1 ≤ most
+    held : length a.1 ≤ most_in tree w part
     held = let more : length st.slots ≡ length a.1 + 2 = ap length a.2.lies ∙ omega arith in omega (arith, st.few, more)
 
     smaller : size new ≤ stack_limit
@@ -282,7 +281,7 @@ module _ (tree : PProgram) (code : Code) (texts : ℕ → List Placed) (fragment
 
     lives : Living tree code texts w' lay (with_core img p new) p q'
     lives =
-        living_of tree code texts w' lay (with_core img p new) fragments p q' part' outer most bound new new (record {
+        living_of tree code texts w' lay (with_core img p new) fragments p q' part' outer bound new new (record {
           todo = refl;
           independent = s.independent;
           without_task = s.without_task;
@@ -297,15 +296,14 @@ module _ (tree : PProgram) (code : Code) (texts : ℕ → List Placed) (fragment
           around = still.around;
           counted = st.counted ∙ sym frames.cells ∙ sym (ap length still.cells_are);
           chained = subst (λ (m : ℕ). IsChained sc w' lay part.instance (level_of (block_numbered sc.blocks m)) core.registers.display) block_is chained;
-          segment_is = st.segment_is;
+          segment_is = st.segment_is ∙ ap (λ (m : ℕ). segment_of sc.blocks m) block_is;
           pc = a.0;
           slots = a.1;
-          at = subst (λ (m : ℕ). CoreAt sc code (texts m) (level_of (block_numbered sc.blocks m)) a.0 a.1 new) block_is core_at;
-          held = held;
-          comes = subst (λ (m : ℕ). ComesTo sc code.formats (texts m) (level_of (block_numbered sc.blocks m)) most (resume sc part.rest done) a.0 a.1) block_is (answered done a.0 a.1 (refl, refl));
-          room = omega (arith, s.room, length-set core.below k x);
+          at = subst (λ (m : ℕ). CoreAt sc code (texts (segment_of sc.blocks m)) (level_of (block_numbered sc.blocks m)) a.0 a.1 new) block_is core_at;
+          held = subst (λ (m : ℕ). length a.1 ≤ most_around tree m) block_is held;
+          comes = subst (λ (m : ℕ). ComesTo sc (context_of code sc m) (texts (segment_of sc.blocks m)) (level_of (block_numbered sc.blocks m)) (most_around tree m) (resume sc part.rest done) a.0 a.1) block_is (answered done a.0 a.1 (refl, refl));
+          room = subst (λ (m : ℕ). length new.below + most_around tree m ≤ bound) block_is (omega (arith, s.room, length-set core.below k x));
           light = light';
-          few = s.few;
         })
 
     -- the instances of another process are as they were
@@ -332,21 +330,12 @@ module _ (tree : PProgram) (code : Code) (texts : ℕ → List Placed) (fragment
         (action_is code img p core s.has (ops.Plain kinds.Stod) a.0 there (outcomes.gives (with_core img p new)) is ∙ ap (λ (c : Choice). Some c.action) (sym chosen))
         (lay, subst (λ (c : Choice). PicturesBy tree code texts c.world lay (with_core img p new)) (sym chosen) pictured)
 
-  -- one name has one couple
-  couple_is : (kind : Kind) (c : Couple) → IsVariable sc level n kind c → c ≡ couple
-  couple_is kind c other =
-      let same : other.found ≡ a.2.variable.found = some_same (sym other.there ∙ a.2.variable.there) in
-      let one_level : c.level ≡ couple.level = omega (arith, other.level_is, a.2.variable.level_is) in
-      let index : c.index ≡ couple.index = other.index_is ∙ ap (λ (z : Found). 2 + z.number) same ∙ sym a.2.variable.index_is in
-      ap (λ (l : ℕ). record { level = l; index = c.index }) one_level ∙ ap (λ (j : ℕ). record { level = couple.level; index = j }) index
-
   pub storing : a.2.couple.level < 32 → a.2.couple.index < 2 ^ 14 → Does tree code texts w img p
   storing low little =
-      let first : Top sc level (frame core.registers) (length core.below) (operand v) (reference n ∷ a.1) core.words =
-      top_slot sc level (frame core.registers) (length core.below) st.slots (operand v) (reference n ∷ a.1) core.words st.there.words_are a.2.lies in
-      let second : Top sc level (frame core.registers) (length core.below) (reference n) a.1 first.words_below =
-      top_slot sc level (frame core.registers) (length core.below) (reference n ∷ a.1) (reference n) a.1 first.words_below first.are refl in
-      let y_is : second.word ≡ rows.reference couple = second.slot_is.3 ∙ ap rows.reference (couple_is second.slot_is.0 second.slot_is.1 second.slot_is.2) in
+      let first : Top sc level (frame core.registers) (length core.below) (operand v) (reference couple ∷ a.1) core.words =
+      top_slot sc level (frame core.registers) (length core.below) st.slots (operand v) (reference couple ∷ a.1) core.words st.there.words_are a.2.lies in
+      let second : Top sc level (frame core.registers) (length core.below) (reference couple) a.1 first.words_below =
+      top_slot sc level (frame core.registers) (length core.below) (reference couple ∷ a.1) (reference couple) a.1 first.words_below first.are refl in
       let top : core.words ≡ first.word ∷ second.word ∷ second.words_below =
       two_words core.words first.words_below first.word second.word second.words_below first.is second.is in
-      does found first.word second.word second.words_below top first.slot_is y_is second.are low little
+      does found first.word second.word second.words_below top first.slot_is second.slot_is second.are low little

@@ -1,28 +1,34 @@
 -- The frames of a process's parts after a store into a cell of one of them: the cell has the value in the world, and its word in the stack.
-use Rattle.std.proofs.Common.{◌≡◌, ◌≢◌, ◌⊎◌, inl, inr, refl, sym, ap, ◌∙◌, subst, ℕ, zero, suc, ◌+◌, ◌<◌, ◌≤◌, List, [], ◌∷◌, ◌++◌, length, Option, Some, arith}
+use Rattle.std.proofs.Common.{◌≡◌, ◌≢◌, ◌⊎◌, inl, inr, refl, sym, ap, ◌∙◌, subst, ℕ, zero, suc, ◌+◌, ◌<◌, ◌≤◌, List, [], ◌∷◌, ◌++◌, length, Option, Some, arith, length-append}
 use Rattle.std.specs.Prelude.{slice_set, reverse}
 use Rattle.b67_list.specs.Numbered.{numbered}
+use Rattle.algol_tree.specs.declared.tree.Kind.{Kind}
 use Rattle.algol_tree.specs.Blocks.{block_numbered, around}
 use Rattle.algol_tree.specs.Cells.{level_of}
 use Rattle.algol_tree.specs.Plain.{PProgram}
 use Rattle.algol_tree.specs.Scopes.{Scopes, scopes_of}
 use Rattle.algol_meaning.specs.World.{NamedCell, Instance, Part, World, instance_at, or_no_instance, with_instance, ancestor}
+use Rattle.algol_meaning.specs.Rest.{Answer}
+use Rattle.algol_meaning.specs.Asks.{resume}
 use Rattle.algol_paths.specs.Blocks.{IsSeen, IsInner}
 use Rattle.algol_paths.specs.Texts.{InRest}
+use Rattle.algol_paths.specs.Segments.{segment_of}
 use Rattle.b67_word.specs.declared.Place.{Place}
 use Rattle.b67_word.specs.Word.{Word}
 use Rattle.b67_segment.specs.Operators.{Placed}
 use Rattle.b67_segment.specs.declared.code.Code.{Code}
 use Rattle.b67_table.specs.Chains.{place}
-use Rattle.b67_templates.specs.Cells.{Simple, simple_cells}
-use Rattle.b67_standing.specs.Standing.{StandsFor}
+use Rattle.b67_templates.specs.Cells.{Simple, simple_cells, control_segments}
+use Rattle.b67_templates.specs.Programs.{context_of}
+use Rattle.b67_standing.specs.Standing.{Gives, pushed, ComesTo}
 use Rattle.b67_cores.specs.Slots.{newest, SlotsAre}
+use Rattle.b67_cores.specs.Stretches.{control_words}
 use Rattle.b67_faithful.specs.Weight.{parts_weight}
 use Rattle.b67_faithful.proofs.Contradictions.{some_same}
-use Rattle.b67_pictures.specs.Frames.{CellsAre, IsOwn, IsPlaced, outermost, inside, home_of, Framed, Frame, Waits, Around}
+use Rattle.b67_pictures.specs.Frames.{CellsAre, most_around, IsOwn, IsPlaced, outermost, inside, home_of, Framed, Frame, Waits, Around}
 use Rattle.b67_pictures.proofs.Numbers.{same_or_not, numbered_set, numbered_other}
 use Rattle.b67_pictures.proofs.StackWords.{length-set}
-use Rattle.b67_pictures.proofs.Staying.{IsAsHeavy, same_weight}
+use Rattle.b67_pictures.proofs.Staying.{most_in, wanted_in, IsAsHeavy, same_weight}
 use Rattle.b67_pictures.proofs.Lying.{below_frame, Lies, lies_low, lies_around, StayBelow, home_after, around_stays}
 
 -- ---- lists
@@ -91,7 +97,7 @@ module _ (w : World) (i : ℕ) (x : Instance) (at : numbered w.instances i ≡ S
 -- ---- the frames after it
 
 -- The instance's frame lies so high in the stack of process p, and the cell lies so far above the frame's two words, at the place k.
-module _ (tree : PProgram) (code : Code) (texts : ℕ → List Placed) (w : World) (lay : List Place) (p most : ℕ) (i : ℕ) (x : Instance) (at : numbered w.instances i ≡ Some x) (with_cells : List NamedCell)
+module _ (tree : PProgram) (code : Code) (texts : ℕ → List Placed) (w : World) (lay : List Place) (p : ℕ) (i : ℕ) (x : Instance) (at : numbered w.instances i ≡ Some x) (with_cells : List NamedCell)
     (high : ℕ) (laid : numbered lay i ≡ Some (place p high)) (far k : ℕ) (place_is : k ≡ high + 2 + far) (word : Word) (many : length with_cells ≡ length x.cells) (short : far < length x.cells)
     (changes : (words : List Word) → CellsAre (simple_cells (block_numbered (scopes_of tree).blocks x.block)) x.cells words →
     CellsAre (simple_cells (block_numbered (scopes_of tree).blocks x.block)) with_cells (slice_set words far word)) where
@@ -102,7 +108,7 @@ module _ (tree : PProgram) (code : Code) (texts : ℕ → List Placed) (w : Worl
   w' = stored_world w i x at with_cells
 
   abbrev Before : Part → List Part → List Word → Type 0
-  Before part outer words = Frame tree code texts w lay p most part outer words
+  Before part outer words = Frame tree code texts w lay p part outer words
 
   same_height : (m n : ℕ) → Some (place p m) ≡ Some (place p n) → m ≡ n
   same_height m n e = ap (λ (f : Place). f.at) (some_same e)
@@ -114,17 +120,24 @@ module _ (tree : PProgram) (code : Code) (texts : ℕ → List Placed) (w : Worl
   frame_is : (part : Part) (outer : List Part) (words : List Word) (f : Before part outer words) → part.instance ≡ i → f.framed.instance ≡ x
   frame_is part outer words f e = some_same (sym f.framed.is ∙ ap (λ (j : ℕ). numbered w.instances j) e ∙ at)
 
-  frame_cells : (part : Part) (outer : List Part) (words : List Word) (f : Before part outer words) → part.instance ≡ i → length f.cells ≡ length x.cells
-  frame_cells part outer words f e =
-      as_many_words (simple_cells (block_numbered sc.blocks f.framed.instance.block)) f.framed.instance.cells f.cells f.framed.cells_are
+  frame_values : (part : Part) (outer : List Part) (words : List Word) (f : Before part outer words) → part.instance ≡ i → length f.framed.values ≡ length x.cells
+  frame_values part outer words f e =
+      as_many_words (simple_cells (block_numbered sc.blocks f.framed.instance.block)) f.framed.instance.cells f.framed.values f.framed.cells_are
       ∙ ap (λ (y : Instance). length y.cells) (frame_is part outer words f e)
 
+  abbrev controls_of : Instance → List Word
+  controls_of y = control_words (level_of (block_numbered sc.blocks y.block)) (control_segments sc (block_numbered sc.blocks y.block).decls)
+
+  frame_cells : (part : Part) (outer : List Part) (words : List Word) (f : Before part outer words) → part.instance ≡ i → length x.cells ≤ length f.cells
+  frame_cells part outer words f e =
+      omega (arith, frame_values part outer words f e, ap length f.framed.cells_is, length-append f.framed.values (controls_of f.framed.instance))
+
   -- so the cell lies among the words of the parts
-  cell_low : (parts : List Part) (words : List Word) → Lies tree code texts w lay p most parts i words → (k < length words) × (high + 2 ≤ length words)
+  cell_low : (parts : List Part) (words : List Word) → Lies tree code texts w lay p parts i words → (k < length words) × (high + 2 ≤ length words)
   cell_low parts words l =
-      let lies : length l.frame.lower + 2 + length l.frame.cells ≤ length words = lies_low tree code texts w lay p most parts i words l in
+      let lies : length l.frame.lower + 2 + length l.frame.cells ≤ length words = lies_low tree code texts w lay p parts i words l in
       let height : length l.frame.lower ≡ high = frame_high l.part l.outer l.front l.frame l.instance_is in
-      let as_many : length l.frame.cells ≡ length x.cells = frame_cells l.part l.outer l.front l.frame l.instance_is in
+      let as_many : length x.cells ≤ length l.frame.cells = frame_cells l.part l.outer l.front l.frame l.instance_is in
       (omega (arith, lies, height, as_many, short, place_is), omega (arith, lies, height))
 
   stays : StayBelow w w' lay lay p high
@@ -145,14 +158,20 @@ module _ (tree : PProgram) (code : Code) (texts : ℕ → List Placed) (w : Worl
       ∙ ap (λ (j : ℕ). (instance_at w' j).block ∷ around sc.blocks ((instance_at w' j).block)) parent)
 
   -- a frame after the store, and the parts around it
-  pub record Stored (part : Part) (outer : List Part) (words : List Word) (f : Frame tree code texts w lay p most part outer words) : Type 0 where
-    pub frame : Frame tree code texts (stored_world w i x at with_cells) lay p most part outer (slice_set words k word)
+  pub record Stored (part : Part) (outer : List Part) (words : List Word) (f : Frame tree code texts w lay p part outer words) : Type 0 where
+    pub frame : Frame tree code texts (stored_world w i x at with_cells) lay p part outer (slice_set words k word)
     pub low : k < length words
     pub lower : length frame.lower ≡ length f.lower
     pub mark : frame.mark ≡ f.mark
     pub control : frame.control ≡ f.control
     pub cells : length frame.cells ≡ length f.cells
-    pub around : Around tree code texts (stored_world w i x at with_cells) lay p most outer frame.lower frame.mark frame.control
+    pub around : Around tree code texts (stored_world w i x at with_cells) lay p outer frame.lower frame.mark frame.control (wanted_in tree (stored_world w i x at with_cells) part)
+
+  -- the kind of the value that it gives is the same
+  wanted_so : (part : Part) (outer : List Part) (lower : List Word) (mark control : Word) → Around tree code texts w' lay p outer lower mark control (wanted_in tree w part) →
+      Around tree code texts w' lay p outer lower mark control (wanted_in tree w' part)
+  wanted_so part outer lower mark control a =
+      subst (λ (b : ℕ). Around tree code texts w' lay p outer lower mark control ((block_numbered sc.blocks b).result)) (same_of w i x at with_cells (λ (y : Instance). y.block) refl part.instance) a
 
   text_so : (part : Part) (outer : List Part) (words : List Word) (f : Before part outer words) →
       InRest (IsSeen sc ((instance_at w' part.instance).block)) (IsInner sc ((instance_at w' part.instance).block)) part.rest
@@ -170,10 +189,13 @@ module _ (tree : PProgram) (code : Code) (texts : ℕ → List Placed) (w : Worl
         own = ap (λ (y : Instance). y.process) (sym is) ∙ f.framed.own;
         known = subst (λ (y : Instance). y.block < length sc.blocks) is f.framed.known;
         laid = f.framed.laid;
-        cells_are = changes f.cells (subst (λ (y : Instance). CellsAre (simple_cells (block_numbered sc.blocks y.block)) y.cells f.cells) is f.framed.cells_are);
+        values = slice_set f.framed.values far word;
+        cells_are = changes f.framed.values (subst (λ (y : Instance). CellsAre (simple_cells (block_numbered sc.blocks y.block)) y.cells f.framed.values) is f.framed.cells_are);
+        cells_is = ap (λ (ws : List Word). slice_set ws far word) (subst (λ (y : Instance). f.cells ≡ f.framed.values ++ controls_of y) is f.framed.cells_is)
+            ∙ set_first f.framed.values (controls_of x) far word (omega (arith, short, frame_values part outer words f e));
         placed = placed_so outer f.framed.instance (changed w i x at with_cells) (ap (λ (y : Instance). y.parent) is) (ap (λ (y : Instance). y.block) is) f.framed.placed;
         home = f.framed.home;
-        linked = subst (λ (y : Instance). home_of sc w' lay y.parent ≡ Some f.framed.home) is (home_after tree code texts w w' lay lay p most high stays f.framed.instance.parent f.framed.home f.framed.linked);
+        linked = subst (λ (y : Instance). home_of sc w' lay y.parent ≡ Some f.framed.home) is (home_after tree code texts w w' lay lay p high stays f.framed.instance.parent f.framed.home f.framed.linked);
         df = f.framed.df;
         mark_is = f.framed.mark_is;
         back = f.framed.back;
@@ -191,10 +213,12 @@ module _ (tree : PProgram) (code : Code) (texts : ℕ → List Placed) (w : Worl
         own = f.framed.own;
         known = f.framed.known;
         laid = f.framed.laid ∙ ap (λ (n : ℕ). Some (place p n)) (sym (length-set f.lower k word));
+        values = f.framed.values;
         cells_are = f.framed.cells_are;
+        cells_is = f.framed.cells_is;
         placed = placed_so outer f.framed.instance f.framed.instance refl refl f.framed.placed;
         home = f.framed.home;
-        linked = home_after tree code texts w w' lay lay p most high stays f.framed.instance.parent f.framed.home f.framed.linked;
+        linked = home_after tree code texts w w' lay lay p high stays f.framed.instance.parent f.framed.home f.framed.linked;
         df = f.framed.df;
         mark_is = f.framed.mark_is;
         back = f.framed.back;
@@ -202,8 +226,8 @@ module _ (tree : PProgram) (code : Code) (texts : ℕ → List Placed) (w : Worl
         level_is = f.framed.level_is;
       }
 
-  stored_by : (part : Part) (outer : List Part) (words : List Word) (f : Before part outer words) → Around tree code texts w lay p most outer f.lower f.mark f.control →
-      (IsOwn outer i → Around tree code texts w' lay p most outer (slice_set f.lower k word) f.mark f.control) → IsOwn (part ∷ outer) i → Stored part outer words f
+  stored_by : (part : Part) (outer : List Part) (words : List Word) (f : Before part outer words) → Around tree code texts w lay p outer f.lower f.mark f.control (wanted_in tree w part) →
+      (IsOwn outer i → Around tree code texts w' lay p outer (slice_set f.lower k word) f.mark f.control (wanted_in tree w part)) → IsOwn (part ∷ outer) i → Stored part outer words f
   stored_by part outer words f a deeper (inl e) =
       let height : length f.lower ≡ high = frame_high part outer words f e in
       record {
@@ -223,10 +247,10 @@ module _ (tree : PProgram) (code : Code) (texts : ℕ → List Placed) (w : Worl
         mark = refl;
         control = refl;
         cells = length-set f.cells far word;
-        around = around_stays tree code texts w w' lay lay p most high stays outer f.lower f.mark f.control (omega (arith, height)) a;
+        around = wanted_so part outer f.lower f.mark f.control (around_stays tree code texts w w' lay lay p high stays outer f.lower f.mark f.control (wanted_in tree w part) (omega (arith, height)) a);
       }
   stored_by part outer words f a deeper (inr o) =
-      let lies : (k < length f.lower) × (high + 2 ≤ length f.lower) = cell_low outer f.lower (lies_around tree code texts w lay p most outer f.lower f.mark f.control a i o) in
+      let lies : (k < length f.lower) × (high + 2 ≤ length f.lower) = cell_low outer f.lower (lies_around tree code texts w lay p outer f.lower f.mark f.control (wanted_in tree w part) a i o) in
       record {
         frame = record {
           owns = f.owns;
@@ -244,16 +268,16 @@ module _ (tree : PProgram) (code : Code) (texts : ℕ → List Placed) (w : Worl
         mark = refl;
         control = refl;
         cells = refl;
-        around = deeper o;
+        around = wanted_so part outer (slice_set f.lower k word) f.mark f.control (deeper o);
       }
 
   -- the parts around
-  pub around_stored : (parts : List Part) (lower : List Word) (mark control : Word) → Around tree code texts w lay p most parts lower mark control → IsOwn parts i →
-      Around tree code texts (stored_world w i x at with_cells) lay p most parts (slice_set lower k word) mark control
-  around_stored [] lower mark control a own = absurd own
-  around_stored (part ∷ outer) lower mark control a own =
-      let s : Waits tree code texts w lay p most part outer lower mark control = a.0 in
-      let g : Stored part outer s.below s.frame = stored_by part outer s.below s.frame a.1 (λ o. around_stored outer s.frame.lower s.frame.mark s.frame.control a.1 o) own in
+  pub around_stored : (parts : List Part) (lower : List Word) (mark control : Word) (wanted : Option Kind) → Around tree code texts w lay p parts lower mark control wanted → IsOwn parts i →
+      Around tree code texts (stored_world w i x at with_cells) lay p parts (slice_set lower k word) mark control wanted
+  around_stored [] lower mark control wanted a own = absurd own
+  around_stored (part ∷ outer) lower mark control wanted a own =
+      let s : Waits tree code texts w lay p part outer lower mark control wanted = a.0 in
+      let g : Stored part outer s.below s.frame = stored_by part outer s.below s.frame a.1 (λ o. around_stored outer s.frame.lower s.frame.mark s.frame.control (wanted_in tree w part) a.1 o) own in
       let block_is : (instance_at w part.instance).block ≡ (instance_at w' part.instance).block = same_of w i x at with_cells (λ (y : Instance). y.block) refl part.instance in
       let as_high : length s.below ≡ length (slice_set s.below k word) = sym (length-set s.below k word) in (
         record {
@@ -264,8 +288,9 @@ module _ (tree : PProgram) (code : Code) (texts : ℕ → List Placed) (w : Worl
           waits = s.waits;
           pc = s.pc;
           slots = s.slots;
-          stands = subst (λ (b : ℕ). StandsFor sc code.formats (texts b) (level_of (block_numbered sc.blocks b)) most part.rest s.pc s.slots) block_is s.stands;
-          few = s.few;
+          returns = subst (λ (b : ℕ). (r : Answer) → Gives wanted r →
+              ComesTo sc (context_of code sc b) (texts (segment_of sc.blocks b)) (level_of (block_numbered sc.blocks b)) (most_around tree b) (resume sc part.rest r) s.pc (pushed r s.slots)) block_is s.returns;
+          few = subst (λ (b : ℕ). length s.slots + 1 ≤ most_around tree b) block_is s.few;
           words_are = subst (λ (b : ℕ). SlotsAre sc (level_of (block_numbered sc.blocks b)) (length g.frame.lower) (length (slice_set s.below k word)) s.slots s.words) block_is
               (subst (λ (n : ℕ). SlotsAre sc (level_of (block_numbered sc.blocks ((instance_at w part.instance).block))) (length g.frame.lower) n s.slots s.words) as_high
               (subst (λ (n : ℕ). SlotsAre sc (level_of (block_numbered sc.blocks ((instance_at w part.instance).block))) n (length s.below) s.slots s.words) (sym g.lower) s.words_are));
@@ -278,17 +303,18 @@ module _ (tree : PProgram) (code : Code) (texts : ℕ → List Placed) (w : Worl
               ∙ sym (length-set lower k word);
           back = s.back;
           control_is = s.control_is;
-          segment_is = s.segment_is;
+          segment_is = s.segment_is ∙ ap (λ (b : ℕ). segment_of sc.blocks b) block_is;
           place_is = s.place_is;
           level_is = s.level_is ∙ ap (λ (b : ℕ). level_of (block_numbered sc.blocks b)) block_is;
           cells_are = s.cells_are ∙ sym g.cells;
-          light = subst (λ (n : ℕ). n + most + 3 ≤ parts_weight tree w' (part ∷ outer)) as_high
-              (subst (λ (n : ℕ). length s.below + most + 3 ≤ n) (sym (same_weight tree w w' (part ∷ outer) (λ j own_part. as_heavy w i x at with_cells many j))) s.light);
+          light = subst (λ (b : ℕ). length (slice_set s.below k word) + most_around tree b + 3 ≤ parts_weight tree w' (part ∷ outer)) block_is
+              (subst (λ (n : ℕ). n + most_in tree w part + 3 ≤ parts_weight tree w' (part ∷ outer)) as_high
+              (subst (λ (n : ℕ). length s.below + most_in tree w part + 3 ≤ n) (sym (same_weight tree w w' (part ∷ outer) (λ j own_part. as_heavy w i x at with_cells many j))) s.light));
         },
         g.around,
       )
 
   -- the innermost frame, and the parts around it
-  pub frame_stored : (part : Part) (outer : List Part) (words : List Word) (f : Frame tree code texts w lay p most part outer words) → Around tree code texts w lay p most outer f.lower f.mark f.control →
+  pub frame_stored : (part : Part) (outer : List Part) (words : List Word) (f : Frame tree code texts w lay p part outer words) → Around tree code texts w lay p outer f.lower f.mark f.control (wanted_in tree w part) →
       IsOwn (part ∷ outer) i → Stored part outer words f
-  frame_stored part outer words f a own = stored_by part outer words f a (λ o. around_stored outer f.lower f.mark f.control a o) own
+  frame_stored part outer words f a own = stored_by part outer words f a (λ o. around_stored outer f.lower f.mark f.control (wanted_in tree w part) a o) own

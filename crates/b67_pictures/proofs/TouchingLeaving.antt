@@ -1,19 +1,23 @@
--- What EXIT reads and writes.
-use Rattle.std.proofs.Common.{◌≡◌, inl, ℕ, ◌+◌, List, [], ◌∷◌, length, Option, Some, None}
-use Rattle.std.specs.Prelude.{if◌then◌else◌, nat_eq}
+-- What EXIT and RETN read and write.
+use Rattle.std.proofs.Common.{◌≡◌, inl, ℕ, ◌+◌, ◌-◌, List, [], ◌∷◌, length, Option, Some, None}
+use Rattle.std.specs.Prelude.{if◌then◌else◌, ◌&&◌, nat_eq, nat_le, not}
 use Rattle.b67_word.specs.declared.Place.{Place}
 use Rattle.b67_word.specs.Word.{Word}
 use Rattle.b67_control.specs.declared.Registers.{Registers}
+use Rattle.b67_table.specs.declared.InterruptKind.TheVariants.{InvalidOperand, StackUnderflow}
 use Rattle.b67_table.specs.declared.Leaving.{Leaving}
+use Rattle.b67_store.specs.Store.{word_at}
 use Rattle.b67_table.specs.Chains.{place}
 use Rattle.b67_table.specs.Image.{Image}
-use Rattle.b67_table.specs.Linkage.{leave_base, leave_other, is_critical, frame_left, caused_by, leaving, left}
+use Rattle.b67_table.specs.Linkage.{leave, leave_base, leave_other, is_critical, frame_left, caused_by, leaving, left}
+use Rattle.b67_table.specs.Look.{stops}
 use Rattle.b67_table.specs.Moves.{pushed}
-use Rattle.b67_table.specs.Private.{frame}
-use Rattle.b67_table.specs.Program.{Change, cut, done, registers, end_process, close_events}
-use Rattle.b67_table.specs.Rows.{exit}
-use Rattle.b67_pictures.proofs.Touching.{Near, Stays, ChangeStays, change_done, change_cut, change_pushed, change_registers, change_events, change_cause, change_end, arrays_stay, stays_words, stays_criticals, stays_answer, stays_fault, stays_if}
-use Rattle.b67_pictures.proofs.TouchingLooks.{Any, stays_see, AllLeadNear, leaving_seen}
+use Rattle.b67_table.specs.Private.{frame, floor}
+use Rattle.b67_table.specs.Program.{Change, see, cut, done, registers, end_process, close_events}
+use Rattle.b67_table.specs.References.{popped, from_top, invalid}
+use Rattle.b67_table.specs.Rows.{exit, is_result, return_value}
+use Rattle.b67_pictures.proofs.Touching.{Near, Stays, ChangeStays, change_done, change_cut, change_pushed, change_registers, change_events, change_cause, change_end, arrays_stay, stays_words, stays_criticals, stays_answer, stays_interrupt, stays_fault, stays_if}
+use Rattle.b67_pictures.proofs.TouchingLooks.{Any, Sees, sees_if, sees_there, stays_see, AllLeadNear, leaving_seen}
 
 module _ (p : ℕ) (img : Image) (leads : AllLeadNear p img) (r : Registers) (at_home : r.stack ≡ p) (next : ℕ) where
   own : Near p r.stack
@@ -39,7 +43,7 @@ module _ (p : ℕ) (img : Image) (leads : AllLeadNear p img) (r : Registers) (at
 
   -- ---- another frame
 
-  pub other_touches : (cells : List Word) (f : ℕ) (words : List Word) → Stays p img (leave_other r cells f words)
+  other_touches : (cells : List Word) (f : ℕ) (words : List Word) → Stays p img (leave_other r cells f words)
   other_touches cells f words =
       stays_see p img Any (leaving (place r.stack f)) _ (leaving_seen p img leads (place r.stack f) own)
       (λ (l : Leaving) t.
@@ -50,8 +54,19 @@ module _ (p : ℕ) (img : Image) (leads : AllLeadNear p img) (r : Registers) (at
       after : Leaving → Change
       after l = registers (left r (f + length words) f l) done
 
+  left_touches : (words cells : List Word) → Stays p img (if nat_eq (frame r) 0 then leave_base r cells next else leave_other r cells (frame r) words)
+  left_touches words cells = stays_if p img (nat_eq (frame r) 0) (base_touches cells) (other_touches cells (frame r) words)
+
   pub exit_touches : Stays p img (exit r next)
-  exit_touches = stays_words p img own (by_frame _)
-    where
-      by_frame : (cells : List Word) → Stays p img (if nat_eq (frame r) 0 then leave_base r cells next else leave_other r cells (frame r) [])
-      by_frame cells = stays_if p img (nat_eq (frame r) 0) (base_touches cells) (other_touches cells (frame r) [])
+  exit_touches = stays_words p img own (left_touches [] _)
+
+  -- ---- with the word on top
+
+  popped_seen : Sees p img (popped r) Any
+  popped_seen =
+      sees_if p img Any (nat_le (floor r + 1) r.s) (from_top r 0) (stops StackUnderflow) (own, sees_there p img Any InvalidOperand (word_at img.stacks (place r.stack (r.s - 1))) (λ a e. tt)) tt
+
+  pub return_touches : Stays p img (return_value r next)
+  return_touches =
+      stays_see p img Any (popped r) (λ (x : Word). if is_result x && not (nat_eq (frame r) 0) then leave r next (x ∷ []) else see invalid) popped_seen
+      (λ x t. stays_if p img (is_result x && not (nat_eq (frame r) 0)) (stays_words p img own (left_touches (x ∷ []) _)) (stays_interrupt p img {kind = InvalidOperand}))

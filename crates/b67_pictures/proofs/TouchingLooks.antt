@@ -1,5 +1,5 @@
--- What looks at stacks come upon, and where the words that they find lead: nowhere but to the process's own stack, and the system's.
-use Rattle.std.proofs.Common.{◌≡◌, refl, subst, sym, ℕ, zero, suc, ◌+◌, ◌-◌, List, ◌∷◌, Option, Some, None, Bool, true, false, take, drop}
+-- What looks at stacks come upon, and where the marks that they find lead: nowhere but to the process's own stack, and the system's.
+use Rattle.std.proofs.Common.{◌≡◌, refl, ℕ, zero, suc, ◌+◌, ◌-◌, List, ◌∷◌, Option, Some, None, Bool, true, false, take, drop}
 use Rattle.std.specs.Prelude.{if◌then◌else◌, ◌==◌, ◌&&◌, nat_le, nat_lt}
 use Rattle.b67_word.specs.declared.Place.{Place}
 use Rattle.b67_word.specs.Word.{Word}
@@ -7,23 +7,20 @@ use Rattle.b67_control.specs.declared.Registers.{Registers}
 use Rattle.b67_control.specs.declared.Mscw.{Mscw}
 use Rattle.b67_control.specs.declared.Pcw.{Pcw}
 use Rattle.b67_control.specs.declared.Rcw.{Rcw}
-use Rattle.b67_control.specs.declared.Sirw.{Sirw}
-use Rattle.b67_control.specs.Control.{as_sirw, as_mscw, as_rcw}
+use Rattle.b67_control.specs.Control.{as_mscw, as_rcw}
 use Rattle.b67_store.specs.Store.{words_of, word_at}
 use Rattle.b67_table.specs.declared.Below.{Below}
-use Rattle.b67_table.specs.declared.Cell.{Cell}
 use Rattle.b67_table.specs.declared.Entry.{Entry}
 use Rattle.b67_table.specs.declared.InterruptKind.{InterruptKind}
 use Rattle.b67_table.specs.declared.InterruptKind.TheVariants.{BadCode}
 use Rattle.b67_table.specs.declared.Leaving.{Leaving}
-use Rattle.b67_table.specs.declared.Reached.{Reached}
 use Rattle.b67_table.specs.Chains.{place, broken, mark_at, control_at, below, entered_from, entered_below, left_to, if_apart, link_of, if_own, linked_frame, links, linked, rebuilt}
 use Rattle.b67_table.specs.Image.{Image}
 use Rattle.b67_table.specs.Limits.{end_of_code}
 use Rattle.b67_table.specs.Linkage.{if_fits, is_home, if_home, entering, leaving}
 use Rattle.b67_table.specs.Look.{Look, found, stops, at, several, ◌>->◌, there_or, chained, read_as}
 use Rattle.b67_table.specs.Program.{Program, see, ◌>>=◌}
-use Rattle.b67_table.specs.References.{cell_place, reached_in, one_sirw, reached, invalid}
+use Rattle.b67_table.specs.References.{invalid}
 use Rattle.b67_pictures.proofs.Touching.{Near, Stays, stays_word, stays_words, stays_interrupt}
 
 -- ---- looks
@@ -64,9 +61,8 @@ module _ (p : ℕ) (img : Image) where
 
 -- ---- words
 
--- A word of a process that is no reference to a cell of a stack, and where it is a mark, its link leads to one of the two stacks.
+-- A word of a process that, where it is a mark, has a link to one of the two stacks.
 pub record LeadsNear (p : ℕ) (w : Word) : Type 0 where
-  pub no_sirw : as_sirw w ≡ None
   pub link : (m : Mscw) → as_mscw w ≡ Some m → Near p m.stack
 
 -- so does each word of the two stacks
@@ -191,21 +187,3 @@ module _ (p : ℕ) (img : Image) (leads : AllLeadNear p img) where
         sees_if p img Any (is_home (read_as as_rcw (word_at img.stacks (place h.stack (h.at + 1)))) pcw.level) (onward h) invalid
             (sees_then p img Any Any (linked (place r.stack mark) h pcw.level) (on_display h) (linked_seen (place r.stack mark) h pcw.level (is_near h refl)) (λ display t. tt)) tt,
       )
-
-  -- ---- references
-
-  -- the word that a reference reaches lies in one of the two stacks
-  abbrev pub IsReached : Reached → Type 0
-  IsReached v = Near p v.cell.frame.stack
-
-  pub reached_seen : (c : Option Cell) → ((k : Cell) → c ≡ Some k → Near p k.frame.stack) → Sees p img (reached c) IsReached
-  reached_seen None near = tt
-  reached_seen (Some k) near = (near k refl, by_word (word_at img.stacks (cell_place k)) refl)
-    where
-      onward : Reached → Look Reached
-      onward v = one_sirw (as_sirw v.word) v
-
-      by_word : (o : Option Word) → word_at img.stacks (cell_place k) ≡ o → Sees p img (reached_in k o >-> onward) IsReached
-      by_word None e = tt
-      by_word (Some w) e =
-          subst (λ (o : Option Sirw). Sees p img (one_sirw o (record { word = w; cell = k })) IsReached) (sym (leads.each (cell_place k) w (near k refl) e).no_sirw) (near k refl)

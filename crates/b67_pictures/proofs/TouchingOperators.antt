@@ -15,7 +15,7 @@ use Rattle.b67_table.specs.declared.Class.TheVariants as classes
 use Rattle.b67_table.specs.Image.{Image}
 use Rattle.b67_table.specs.PrivateRows as private_rows
 use Rattle.b67_table.specs.Rows as rows
-use Rattle.b67_table.specs.Rows.{Row, row, private_part, action, value_call, store, turn, enter, exit}
+use Rattle.b67_table.specs.Rows.{Row, row, private_part, action, value_call, store, turn, enter, exit, return_value}
 use Rattle.b67_table.specs.Table.{operator_at, class_at, class_by}
 use Rattle.b67_table.specs.Touches.{RowTouches}
 use Rattle.b67_templates.specs.Fragments.{operator_for}
@@ -65,6 +65,10 @@ module _ (code : Code) (img : Image) (p : ℕ) (x : Place) where
     pub exit_near : (next : ℕ) → operator_at code r ≡ Ok (ops.Plain kinds.Exit, next) → Stays p img (exit r next) → Near p x.stack
     unfolding row
     exit_near next e stays = stays.near x (touched_by (ops.Plain kinds.Exit) next e)
+
+    pub return_near : (next : ℕ) → operator_at code r ≡ Ok (ops.Plain kinds.Retn, next) → Stays p img (return_value r next) → Near p x.stack
+    unfolding row
+    return_near next e stays = stays.near x (touched_by (ops.Plain kinds.Retn) next e)
 
     pub turn_near : (target next : ℕ) → operator_at code r ≡ Ok (ops.Branch Brun target, next) → target ≤ r.place → Stays p img (turn Brun target r next) → Near p x.stack
     unfolding row

@@ -1,79 +1,55 @@
 -- What VALC, STOD and the branch back read and write.
-use Rattle.std.proofs.Common.{◌≡◌, inl, refl, ap, subst, ℕ, ◌+◌, ◌-◌, length, Option, Some, None, false}
-use Rattle.std.specs.Prelude.{if◌then◌else◌, nat_le, nat_lt}
+use Rattle.std.proofs.Common.{◌≡◌, inl, refl, ℕ, ◌+◌, ◌-◌, Option, Some, None, false}
+use Rattle.std.specs.Prelude.{if◌then◌else◌, nat_le}
 use Rattle.b67_word.specs.declared.Place.{Place}
 use Rattle.b67_word.specs.Word.{Word}
 use Rattle.b67_control.specs.declared.Registers.{Registers}
 use Rattle.b67_control.specs.declared.Descriptor.{Descriptor}
 use Rattle.b67_control.specs.declared.Irw.{Irw}
 use Rattle.b67_control.specs.declared.Pcw.{Pcw}
+use Rattle.b67_control.specs.declared.Sirw.{Sirw}
 use Rattle.b67_control.specs.Control.{as_irw, as_sirw, as_pcw}
 use Rattle.b67_ops.specs.declared.Couple.{Couple}
 use Rattle.b67_ops.specs.declared.BranchKind.TheVariants.{Brun}
 use Rattle.b67_store.specs.Store.{word_at}
 use Rattle.b67_table.specs.declared.Cell.{Cell}
-use Rattle.b67_table.specs.declared.Entry.{Entry}
 use Rattle.b67_table.specs.declared.Reached.{Reached}
 use Rattle.b67_table.specs.declared.InterruptKind.TheVariants.{InvalidOperand, StackUnderflow}
 use Rattle.b67_table.specs.Arrays.{as_indexed}
 use Rattle.b67_table.specs.Chains.{place}
 use Rattle.b67_table.specs.Image.{Image}
-use Rattle.b67_table.specs.Linkage.{accidental, control_word, entered, entered_mark, entering, selected}
 use Rattle.b67_table.specs.Look.{Look, found, stops, ◌>->◌, valid}
-use Rattle.b67_table.specs.Moves.{pushed}
 use Rattle.b67_table.specs.Private.{display_at, floor}
-use Rattle.b67_table.specs.Program.{Program, Change, answer, see, ◌>>=◌, save, cut, push, done, registers}
-use Rattle.b67_table.specs.References.{Two, cell_in, cell_place, couple_cell, from_top, irw_or_sirw, named, operand_in, popped_two, reached, reached_in}
+use Rattle.b67_table.specs.Program.{Program, answer, see, ◌>>=◌, save, cut, done, registers}
+use Rattle.b67_table.specs.References.{Two, cell_in, cell_place, from_top, irw_or_sirw, named, one_sirw, operand_in, popped_two, reached, reached_in}
 use Rattle.b67_table.specs.Rows.{value_call, value_or_entry, value_pushed, store, store_by, stored, turn}
-use Rattle.b67_pictures.proofs.Touching.{Near, Stays, ChangeStays, change_done, change_save, change_cut, change_push, change_pushed, change_registers, stays_as, stays_word, stays_answer, stays_interrupt, stays_if, stays_operand}
-use Rattle.b67_pictures.proofs.TouchingLooks.{Any, Sees, sees_then, sees_if, sees_there, stays_see, AllLeadNear, IsReached, entering_seen, reached_seen}
+use Rattle.b67_pictures.proofs.Touching.{Near, Stays, change_done, change_save, change_cut, change_push, change_registers, stays_as, stays_word, stays_answer, stays_interrupt, stays_operand}
+use Rattle.b67_pictures.proofs.TouchingLooks.{Any, Sees, sees_then, sees_if, sees_there, stays_see}
+use Rattle.b67_pictures.proofs.Words.{no_sirw, no_pcw}
 
-module _ (p : ℕ) (img : Image) (leads : AllLeadNear p img) (r : Registers) (at_home : r.stack ≡ p) where
+module _ (p : ℕ) (img : Image) (r : Registers) (at_home : r.stack ≡ p) where
   own : Near p r.stack
   own = inl at_home
 
-  -- ---- accidental entry
+  -- ---- VALC, of a cell in which an operand lies
 
-  pub accidental_touches : (next taken : ℕ) (pcw : Pcw) (home : Place) (selector : ℕ) → Near p home.stack → Stays p img (accidental r next taken pcw home selector)
-  accidental_touches next taken pcw home selector near =
-      stays_see p img Any (entering r next (nat_lt r.f (r.s - taken)) (r.s - taken) pcw (Some home)) _
-      (entering_seen p img leads r next (nat_lt r.f (r.s - taken)) (r.s - taken) pcw (Some home) (λ h e. let same : home ≡ h = cc in subst (λ (k : Place). Near p k.stack) same near))
-      (λ (e : Entry) t. stays_answer p img (changes e))
-    where
-      after : Entry → Registers
-      after e = entered r (r.s - taken + 2 + length (selected pcw.names selector)) (r.s - taken) pcw e 0
+  module _ (couple : Couple) (next : ℕ) (f : Place) (shown : display_at r couple.level ≡ Some f) (near : Near p f.stack) (w : Word) (lies : word_at img.stacks (place f.stack (f.at + couple.index)) ≡ Some w)
+      (is_operand : w.tag ≡ 0) where
+    abbrev cell : Cell
+    cell = record { frame = f; index = couple.index }
 
-      pushes : Entry → Change
-      pushes e = push r.stack (control_word r next pcw.level) (pushed r.stack (selected pcw.names selector) (registers (after e) done))
-
-      changes : (e : Entry) → ChangeStays p (cut r.stack (r.s - taken) (push r.stack (entered_mark e.home (r.s - taken - r.f)) (pushes e)))
-      changes e =
-          change_cut p r.stack (r.s - taken) (push r.stack (entered_mark e.home (r.s - taken - r.f)) (pushes e)) own
-          (change_push p r.stack (entered_mark e.home (r.s - taken - r.f)) (pushes e) own
-          (change_push p r.stack (control_word r next pcw.level) (pushed r.stack (selected pcw.names selector) (registers (after e) done)) own
-          (change_pushed p r.stack (selected pcw.names selector) (registers (after e) done) own (change_registers p (after e) done (change_done p)))))
-
-  -- ---- VALC
-
-  module _ (couple : Couple) (next : ℕ) (near : (f : Place) → display_at r couple.level ≡ Some f → Near p f.stack) where
-    named_near : (o : Option Place) → ((f : Place) → o ≡ Some f → Near p f.stack) → (k : Cell) → cell_in o couple.index ≡ Some k → Near p k.frame.stack
-    named_near None is_near k e = cc
-    named_near (Some f) is_near k e = let same : f ≡ k.frame = ap_frame e in subst (λ (x : Place). Near p x.stack) same (is_near f refl)
-      where
-        ap_frame : Some (record { frame = f; index = couple.index }) ≡ Some k → f ≡ k.frame
-        ap_frame e = let same : record { frame = f; index = couple.index } ≡ k = cc in ap (λ (c : Cell). c.frame) same
-
-    by_pcw : (v : Reached) → IsReached p img leads v → (o : Option Pcw) → Stays p img (value_or_entry r next v o)
-    by_pcw v is_near None =
-        stays_operand p img v.word (value_pushed r next)
-        (stays_answer p img (change_push p r.stack v.word (registers (record r { s = r.s + 1; place = next }) done) own (change_registers p (record r { s = r.s + 1; place = next }) done (change_done p))))
-    by_pcw v is_near (Some pcw) = stays_if p img pcw.intrinsic (stays_interrupt p img {kind = InvalidOperand}) (accidental_touches next 0 pcw v.cell.frame 0 is_near)
+    abbrev on_cell : Reached → Program
+    on_cell v = value_or_entry r next v (as_pcw v.word)
 
     pub value_touches : Stays p img (value_call couple r next)
     value_touches =
-        stays_see p img (IsReached p img leads) (reached (couple_cell r couple.level couple.index)) (λ (v : Reached). value_or_entry r next v (as_pcw v.word))
-        (reached_seen p img leads (couple_cell r couple.level couple.index) (named_near (display_at r couple.level) near))
-        (λ v is_near. by_pcw v is_near (as_pcw v.word))
+        stays_as p img (λ (o : Option Place). see (reached (cell_in o couple.index)) >>= on_cell) shown
+        (stays_word p img near
+        (stays_as p img (λ (o : Option Word). see (reached_in cell o >-> (λ (v : Reached). one_sirw (as_sirw v.word) v)) >>= on_cell) lies
+        (stays_as p img (λ (o : Option Sirw). see (one_sirw o (record { word = w; cell = cell })) >>= on_cell) (no_sirw w is_operand)
+        (stays_as p img (λ (o : Option Pcw). value_or_entry r next (record { word = w; cell = cell }) o) (no_pcw w is_operand)
+        (stays_operand p img w (value_pushed r next)
+        (stays_answer p img (change_push p r.stack w (registers (record r { s = r.s + 1; place = next }) done) own (change_registers p (record r { s = r.s + 1; place = next }) done (change_done p)))))))))
 
   -- ---- STOD, on the reference to a cell
 
@@ -99,9 +75,9 @@ module _ (p : ℕ) (img : Image) (leads : AllLeadNear p img) (r : Registers) (at
     abbrev put : Word → Reached → Program
     put a v = see (operand_in v.word) >>= (λ (o : Word). answer (stored false r next a (save (cell_place v.cell) a)))
 
-    on_cell : (a : Word) (c : Cell) → Near p c.frame.stack → (o : Option Word) → Stays p img (see (reached_in c o) >>= put a)
-    on_cell a c is_near None = stays_interrupt p img {kind = InvalidOperand}
-    on_cell a c is_near (Some old) =
+    put_touches : (a : Word) (c : Cell) → Near p c.frame.stack → (o : Option Word) → Stays p img (see (reached_in c o) >>= put a)
+    put_touches a c is_near None = stays_interrupt p img {kind = InvalidOperand}
+    put_touches a c is_near (Some old) =
         stays_operand p img old (λ (o : Word). answer (stored false r next a (save (cell_place c) a)))
         (stays_answer p img (change_save p (cell_place c) a (cut r.stack (r.s - 2) (registers (record r { s = r.s - 2 + 0; place = next }) done)) is_near
         (change_cut p r.stack (r.s - 2) (registers (record r { s = r.s - 2 + 0; place = next }) done) own
@@ -115,7 +91,7 @@ module _ (p : ℕ) (img : Image) (leads : AllLeadNear p img) (r : Registers) (at
       where
         by_frame : (o : Option Place) → ((f : Place) → o ≡ Some f → Near p f.stack) → Stays p img (see (named (cell_in o i.index)) >>= put a)
         by_frame None is_near = stays_interrupt p img {kind = InvalidOperand}
-        by_frame (Some f) is_near = stays_word p img (is_near f refl) (on_cell a (record { frame = f; index = i.index }) (is_near f refl) (word_at img.stacks (place f.stack (f.at + i.index))))
+        by_frame (Some f) is_near = stays_word p img (is_near f refl) (put_touches a (record { frame = f; index = i.index }) (is_near f refl) (word_at img.stacks (place f.stack (f.at + i.index))))
 
     pub store_touches : Stays p img (store false r next)
     store_touches =

@@ -1,6 +1,6 @@
--- The words of a process's stack lead nowhere but to that stack, and to the system's.
+-- The marks in a process's stack lead nowhere but to that stack, and to the system's.
 use Rattle.std.proofs.Common.{◌≡◌, ◌≢◌, ◌⊎◌, inl, inr, refl, sym, ap, ◌∙◌, subst, ℕ, zero, suc, ◌+◌, ◌<◌, ◌≤◌, ◌^◌, List, [], ◌∷◌, ◌++◌, length, Option, Some, None, Bool, true, false, arith, lit<, length-append}
-use Rattle.std.specs.Prelude.{if◌then◌else◌, slice_get, reverse}
+use Rattle.std.specs.Prelude.{if◌then◌else◌, ◌==◌, slice_get, reverse}
 use Rattle.std.proofs.lemmas.List.{length-reverse}
 use Rattle.b67_list.specs.Numbered.{numbered}
 use Rattle.algol_tree.specs.declared.TheConstants.{MOST_BLOCK_CELLS}
@@ -14,14 +14,15 @@ use Rattle.algol_tree.specs.Sorts.{same_name}
 use Rattle.algol_meaning.specs.Value.{Value, Cell, simple, event, array, named, reference as refers}
 use Rattle.algol_meaning.specs.World.{NamedCell, Instance, Part, World, or_no_instance}
 use Rattle.b67_word.specs.declared.Place.{Place}
-use Rattle.b67_word.specs.Word.{Word}
+use Rattle.b67_word.specs.Word.{Word, field}
 use Rattle.b67_control.specs.Kind as kind
 use Rattle.b67_control.specs.Kind.{kind_of}
+use Rattle.b67_control.specs.declared.Irw.{Irw}
 use Rattle.b67_control.specs.declared.Mscw.{Mscw}
 use Rattle.b67_control.specs.declared.Pcw.{Pcw}
 use Rattle.b67_control.specs.declared.Rcw.{Rcw}
-use Rattle.b67_control.specs.Control.{as_mscw, as_rcw, pcw_word}
-use Rattle.b67_control.proofs.ControlLaws.{as_sirw-other, as_rcw-rcw_word, Fits-as_rcw, kind_of-irw_word, mscw_laws, rcw_laws, as_mscw-mscw_word}
+use Rattle.b67_control.specs.Control.{as_mscw, as_rcw, irw_word, pcw_word}
+use Rattle.b67_control.proofs.ControlLaws.{as_rcw-rcw_word, Fits-as_rcw, mscw_laws, rcw_laws, as_mscw-mscw_word}
 use Rattle.b67_ops.specs.declared.Couple.{Couple}
 use Rattle.b67_ops.specs.declared.intrinsic.Intrinsic.{Intrinsic}
 use Rattle.b67_ops.specs.declared.intrinsic.Intrinsic.TheVariants as names
@@ -34,15 +35,18 @@ use Rattle.b67_table.specs.Chains.{place}
 use Rattle.b67_table.specs.Image.{Image}
 use Rattle.b67_table.specs.PrivateRows.{open_mark}
 use Rattle.b67_table.specs.PrivateRows as rows
-use Rattle.b67_templates.specs.Cells.{Simple, Found, simple_cells, found_from, IsVariable}
+use Rattle.b67_templates.specs.Fragments.{code_at}
+use Rattle.b67_templates.specs.Cells.{Simple, Found, simple_cells, found_from, procedures, control_segments, IsVariable, IsProcedure}
 use Rattle.b67_standing.specs.Stepping.{Slot, operand, reference, intrinsic, control, mark}
 use Rattle.b67_cores.specs.Cores.{Core, size, stack_of, HasCore}
 use Rattle.b67_cores.specs.Slots.{ValueIs, SlotsAre}
+use Rattle.b67_cores.specs.Stretches.{control_words}
 use Rattle.b67_cores.proofs.Moving.{slots_length}
 use Rattle.b67_faithful.proofs.Contradictions.{some_same}
 use Rattle.b67_fitting.specs.Nested.{AreNested}
-use Rattle.b67_pictures.specs.Frames.{CellIs, CellsAre, IsPlaced, outermost, inside, home_of, Frame, Stands, Waits, Around, level_at}
+use Rattle.b67_pictures.specs.Frames.{CellIs, CellsAre, IsPlaced, outermost, inside, home_of, result_of_part, Frame, Stands, Waits, Around, level_at}
 use Rattle.b67_pictures.proofs.Lying.{Lies, lies_around}
+use Rattle.b67_pictures.proofs.Numbers.{get_below}
 use Rattle.b67_pictures.proofs.Rows.{words_are}
 use Rattle.b67_pictures.proofs.StackWords.{reverse-cons}
 use Rattle.b67_pictures.proofs.Touching.{Near}
@@ -81,30 +85,43 @@ control_tag c = refl
 pub pcw_kind : (c : Pcw) → kind_of (pcw_word c) ≡ kind.pcw
 pcw_kind c = tag_control (pcw_word c) (control_tag c)
 
+tag_reference : (w : Word) → w.tag ≡ 1 → kind_of w ≡ (if field 47 1 w.bits == 0 then kind.irw else kind.sirw)
+unfolding kind_of
+tag_reference w e = rw e refl
+
+no_mark : (w : Word) → w.tag ≡ 1 → kind_of w ≢ kind.mscw
+no_mark w e k = by_top (field 47 1 w.bits == 0) (sym (tag_reference w e) ∙ k)
+  where
+    by_top : (b : Bool) → (if b then kind.irw else kind.sirw) ≢ kind.mscw
+    by_top true same = cc
+    by_top false same = cc
+
+reference_tag : (i : Irw) → (irw_word i).tag ≡ 1
+unfolding irw_word
+reference_tag i = refl
+
 module _ (p : ℕ) where
-  -- a word that is neither a mark nor a reference to a cell of a stack
-  leads_else : (w : Word) (k : kind.Kind) → kind_of w ≡ k → k ≢ kind.mscw → k ≢ kind.sirw → LeadsNear p w
-  leads_else w k is no_mark no_cell =
-      record { no_sirw = as_sirw-other w (λ e. no_cell (sym is ∙ e)); link = λ m e. absurd (no_mark (sym is ∙ mscw_laws.kind w m e)) }
+  -- a word that is no mark
+  leads_else : (w : Word) → kind_of w ≢ kind.mscw → LeadsNear p w
+  leads_else w no_mark = record { link = λ m e. absurd (no_mark (mscw_laws.kind w m e)) }
+
+  leads_kind : (w : Word) (k : kind.Kind) → kind_of w ≡ k → k ≢ kind.mscw → LeadsNear p w
+  leads_kind w k is other = leads_else w (λ e. other (sym is ∙ e))
 
   value_leads : (v : Value) (w : Word) → ValueIs v w → LeadsNear p w
-  value_leads v w is = leads_else w kind.operand (tag_operand w (value_tag v w is)) (λ e. cc) (λ e. cc)
+  value_leads v w is = leads_kind w kind.operand (tag_operand w (value_tag v w is)) (λ e. cc)
 
   control_leads : (c : Pcw) → LeadsNear p (pcw_word c)
-  control_leads c = leads_else (pcw_word c) kind.pcw (pcw_kind c) (λ e. cc) (λ e. cc)
+  control_leads c = leads_kind (pcw_word c) kind.pcw (pcw_kind c) (λ e. cc)
 
   back_leads : (w : Word) (back : Rcw) → as_rcw w ≡ Some back → LeadsNear p w
-  back_leads w back e = leads_else w kind.rcw (rcw_laws.kind w back e) (λ e. cc) (λ e. cc)
+  back_leads w back e = leads_kind w kind.rcw (rcw_laws.kind w back e) (λ e. cc)
 
-  reference_leads : (c : Couple) → c.level < 32 → c.index < 2 ^ 14 → LeadsNear p (rows.reference c)
-  reference_leads c a b = leads_else (rows.reference c) kind.irw (kind_of-irw_word (record { level = c.level; index = c.index }) (a, (b, tt))) (λ e. cc) (λ e. cc)
+  reference_leads : (c : Couple) → LeadsNear p (rows.reference c)
+  reference_leads c = leads_else (rows.reference c) (no_mark (rows.reference c) (reference_tag (record { level = c.level; index = c.index })))
 
   mark_leads : (w : Word) (m : Mscw) → as_mscw w ≡ Some m → Near p m.stack → LeadsNear p w
-  mark_leads w m e near =
-      record {
-        no_sirw = as_sirw-other w (λ k. let is = sym (mscw_laws.kind w m e) ∙ k in cc);
-        link = λ n f. subst (λ (x : Mscw). Near p x.stack) (some_same (sym e ∙ f)) near;
-      }
+  mark_leads w m e near = record { link = λ n f. subst (λ (x : Mscw). Near p x.stack) (some_same (sym e ∙ f)) near }
 
   open_leads : (df : ℕ) → df < 2 ^ 16 → LeadsNear p (open_mark df)
   open_leads df low = mark_leads (open_mark df) (record { entered = false; stack = 0; displacement = 0; df = df }) (mark_read df low) (inr refl)
@@ -161,6 +178,10 @@ module _ (p : ℕ) where
   cells_lead (s ∷ ss) (c ∷ cells) [] are = absurd are
   cells_lead (s ∷ ss) (c ∷ cells) (w ∷ words) are = (cell_leads s.kind c.cell w are.1, cells_lead ss cells words are.2)
 
+  controls_lead : (level : ℕ) (segments : List ℕ) → AllLead (control_words level segments)
+  controls_lead level [] = tt
+  controls_lead level (segment ∷ segments) = (control_leads (code_at segment 0 (level + 1)), controls_lead level segments)
+
 -- ---- references to variables
 
 found_low : (k : ℕ) (cells : List Simple) (name : List ℕ) (f : Found) → found_from k cells name ≡ Some f → f.number < k + length cells
@@ -172,101 +193,113 @@ found_low k (c ∷ cells) name f e = by_name (same_name c.name name) e (λ h. fo
     by_name false h later = omega (arith, later h)
 
 -- a number has a block, or the block that it stands for has no cells
-block_or_none : (bs : List Block) (b : ℕ) → (b < length bs) ⊎ (length (simple_cells (block_numbered bs b)) ≡ 0)
+abbrev cells_of : Block → ℕ
+cells_of b = length (simple_cells b) + length (procedures b.decls)
+
+block_or_none : (bs : List Block) (b : ℕ) → (b < length bs) ⊎ (cells_of (block_numbered bs b) ≡ 0)
 block_or_none [] b = inr refl
 block_or_none (x ∷ bs) zero = inl (omega arith)
 block_or_none (x ∷ bs) (suc b) = later (block_or_none bs b)
   where
-    later : (b < length bs) ⊎ (length (simple_cells (block_numbered bs b)) ≡ 0) → (suc b < length (x ∷ bs)) ⊎ (length (simple_cells (block_numbered (x ∷ bs) (suc b))) ≡ 0)
+    later : (b < length bs) ⊎ (cells_of (block_numbered bs b) ≡ 0) → (suc b < length (x ∷ bs)) ⊎ (cells_of (block_numbered (x ∷ bs) (suc b)) ≡ 0)
     later (inl low) = inl (omega (arith, low))
     later (inr e) = inr e
 
 module _ (sc : Scopes) (nested : AreNested sc) where
-  few_cells : (b : ℕ) → length (simple_cells (block_numbered sc.blocks b)) ≤ MOST_BLOCK_CELLS
+  few_cells : (b : ℕ) → cells_of (block_numbered sc.blocks b) ≤ MOST_BLOCK_CELLS
   few_cells b = by_number (block_or_none sc.blocks b)
     where
-      by_number : (b < length sc.blocks) ⊎ (length (simple_cells (block_numbered sc.blocks b)) ≡ 0) → length (simple_cells (block_numbered sc.blocks b)) ≤ MOST_BLOCK_CELLS
+      by_number : (b < length sc.blocks) ⊎ (cells_of (block_numbered sc.blocks b) ≡ 0) → cells_of (block_numbered sc.blocks b) ≤ MOST_BLOCK_CELLS
       by_number (inl low) = (nested.each b low).few
       by_number (inr e) = omega (arith, e)
 
-  -- the couple of a variable fits a reference
+  -- the couples of a variable and of a procedure fit a reference
   pub couple_fits : (level : ℕ) (n : Named) (k : Kind) (c : Couple) → IsVariable sc level n k c → level < 32 → (c.level < 32) × (c.index < 2 ^ 14)
   couple_fits level n k c v known =
-      let low : v.found.number < 0 + length (simple_cells (block_numbered sc.blocks ((use_of sc n).block))) = found_low 0 (simple_cells (block_numbered sc.blocks ((use_of sc n).block))) n.name v.found v.there in
-      let few : length (simple_cells (block_numbered sc.blocks ((use_of sc n).block))) ≤ 400 = few_cells ((use_of sc n).block) in
+      let b : Block = block_numbered sc.blocks ((use_of sc n).block) in
+      let low : v.found.number < 0 + length (simple_cells b) = found_low 0 (simple_cells b) n.name v.found v.there in
+      let few : length (simple_cells b) + length (procedures b.decls) ≤ 400 = few_cells ((use_of sc n).block) in
       (omega (arith, v.level_is, known), omega (arith, v.index_is, low, few))
 
-  -- ---- slots
+  pub procedure_fits : (level : ℕ) (n : Named) (callee : ℕ) (c : Couple) → IsProcedure sc level n callee c → level < 32 → (c.level < 32) × (c.index < 2 ^ 14)
+  procedure_fits level n callee c is known =
+      let b : Block = block_numbered sc.blocks ((use_of sc n).block) in
+      let low : is.number < length (procedures b.decls) = get_below (procedures b.decls) is.number is.declared is.there in
+      let few : length (simple_cells b) + length (procedures b.decls) ≤ 400 = few_cells ((use_of sc n).block) in
+      (omega (arith, is.level_is, known), omega (arith, is.index_is, low, few))
 
-  module _ (p level home base : ℕ) (known : level < 32) where
-    slots_lead : (slots : List Slot) (words : List Word) → SlotsAre sc level home base slots words → base + length slots ≤ 2 ^ 16 → AllLead p words
-    slots_lead [] [] are room = tt
-    slots_lead [] (w ∷ ws) are room = absurd are
-    slots_lead (slot ∷ slots) [] are room = absurd are
-    slots_lead (operand v ∷ slots) (w ∷ ws) are room = (value_leads p v w are.0, slots_lead slots ws are.1 (omega (arith, room)))
-    slots_lead (reference n ∷ slots) (w ∷ ws) are room =
-        let fits : (are.0.1.level < 32) × (are.0.1.index < 2 ^ 14) = couple_fits level n are.0.0 are.0.1 are.0.2 known in
-        (subst (LeadsNear p) (sym are.0.3) (reference_leads p are.0.1 fits.0 fits.1), slots_lead slots ws are.1 (omega (arith, room)))
-    slots_lead (intrinsic i ∷ slots) (w ∷ ws) are room =
-        (subst (LeadsNear p) (sym are.0) (reference_leads p (couple_of_intrinsic i) (lit< tt) (numbers_small i)), slots_lead slots ws are.1 (omega (arith, room)))
-    slots_lead (control c ∷ slots) (w ∷ ws) are room = (subst (LeadsNear p) (sym are.0) (control_leads p c), slots_lead slots ws are.1 (omega (arith, room)))
-    slots_lead (mark ∷ slots) (w ∷ ws) are room = (subst (LeadsNear p) (sym are.0) (open_leads p _ (omega (arith, room))), slots_lead slots ws are.1 (omega (arith, room)))
+-- ---- slots
+
+module _ (sc : Scopes) (p level home base : ℕ) where
+  slots_lead : (slots : List Slot) (words : List Word) → SlotsAre sc level home base slots words → base + length slots ≤ 2 ^ 16 → AllLead p words
+  slots_lead [] [] are room = tt
+  slots_lead [] (w ∷ ws) are room = absurd are
+  slots_lead (slot ∷ slots) [] are room = absurd are
+  slots_lead (operand v ∷ slots) (w ∷ ws) are room = (value_leads p v w are.0, slots_lead slots ws are.1 (omega (arith, room)))
+  slots_lead (reference c ∷ slots) (w ∷ ws) are room = (subst (LeadsNear p) (sym are.0) (reference_leads p c), slots_lead slots ws are.1 (omega (arith, room)))
+  slots_lead (intrinsic i ∷ slots) (w ∷ ws) are room = (subst (LeadsNear p) (sym are.0) (reference_leads p (couple_of_intrinsic i)), slots_lead slots ws are.1 (omega (arith, room)))
+  slots_lead (control c ∷ slots) (w ∷ ws) are room = (subst (LeadsNear p) (sym are.0) (control_leads p c), slots_lead slots ws are.1 (omega (arith, room)))
+  slots_lead (mark ∷ slots) (w ∷ ws) are room = (subst (LeadsNear p) (sym are.0) (open_leads p _ (omega (arith, room))), slots_lead slots ws are.1 (omega (arith, room)))
 
 -- ---- the frames of a process
 
-module _ (tree : PProgram) (code : Code) (texts : ℕ → List Placed) (nested : AreNested (scopes_of tree)) (w : World) (lay : List Place) (p most : ℕ) where
+module _ (tree : PProgram) (code : Code) (texts : ℕ → List Placed) (w : World) (lay : List Place) (p : ℕ) where
   abbrev sc : Scopes
   sc = scopes_of tree
 
-  abbrev Outer : List Part → List Word → Word → Word → Type 0
-  Outer parts lower m c = Around tree code texts w lay p most parts lower m c
+  abbrev Outer : List Part → List Word → Word → Word → Option Kind → Type 0
+  Outer parts lower m c wanted = Around tree code texts w lay p parts lower m c wanted
+
+  abbrev wanted_of : Part → Option Kind
+  wanted_of part = result_of_part tree code texts w lay p part
 
   -- the frame of an instance that lies in these parts
-  laid_near : (outer : List Part) (lower : List Word) (m c : Word) → Outer outer lower m c → (i : ℕ) (home : Place) → numbered lay i ≡ Some home → Lies tree code texts w lay p most outer i lower → Near p home.stack
-  laid_near outer lower m c a i home e l =
+  laid_near : (outer : List Part) (lower : List Word) (m c : Word) (wanted : Option Kind) → Outer outer lower m c wanted → (i : ℕ) (home : Place) → numbered lay i ≡ Some home → Lies tree code texts w lay p outer i lower → Near p home.stack
+  laid_near outer lower m c wanted a i home e l =
       let at : numbered lay i ≡ Some (place p (length l.frame.lower)) = ap (numbered lay) (sym l.instance_is) ∙ l.frame.framed.laid in
       inl (ap (λ (x : Place). x.stack) (some_same (sym e ∙ at)))
 
   root_near : (home : Place) → Some (place 0 0) ≡ Some home → Near p home.stack
   root_near home e = inr (sym (ap (λ (x : Place). x.stack) (some_same e)))
 
-  home_near : (outer : List Part) (lower : List Word) (m c : Word) → Outer outer lower m c → (x : Instance) → IsPlaced sc w lay outer x → (home : Place) → home_of sc w lay x.parent ≡ Some home → Near p home.stack
-  home_near outer lower m c a x (outermost none_up alone) home e = root_near home (sym (ap (home_of sc w lay) none_up) ∙ e)
-  home_near outer lower m c a x (inside own next) home e = by_parent x.parent e (lies_around tree code texts w lay p most outer lower m c a x.parent own)
+  home_near : (outer : List Part) (lower : List Word) (m c : Word) (wanted : Option Kind) → Outer outer lower m c wanted → (x : Instance) → IsPlaced sc w lay outer x → (home : Place) → home_of sc w lay x.parent ≡ Some home → Near p home.stack
+  home_near outer lower m c wanted a x (outermost none_up alone) home e = root_near home (sym (ap (home_of sc w lay) none_up) ∙ e)
+  home_near outer lower m c wanted a x (inside own next) home e = by_parent x.parent e (lies_around tree code texts w lay p outer lower m c wanted a x.parent own)
     where
-      by_parent : (i : ℕ) → home_of sc w lay i ≡ Some home → Lies tree code texts w lay p most outer i lower → Near p home.stack
+      by_parent : (i : ℕ) → home_of sc w lay i ≡ Some home → Lies tree code texts w lay p outer i lower → Near p home.stack
       by_parent zero f l = root_near home f
-      by_parent (suc i) f l = laid_near outer lower m c a (suc i) home f l
+      by_parent (suc i) f l = laid_near outer lower m c wanted a (suc i) home f l
 
-  frame_leads : (part : Part) (outer : List Part) (words : List Word) (f : Frame tree code texts w lay p most part outer words) → Outer outer f.lower f.mark f.control → AllLead p f.lower → AllLead p words
+  frame_leads : (part : Part) (outer : List Part) (words : List Word) (f : Frame tree code texts w lay p part outer words) → Outer outer f.lower f.mark f.control (wanted_of part) → AllLead p f.lower → AllLead p words
   frame_leads part outer words f a low =
-      let near : Near p f.framed.home.stack = home_near outer f.lower f.mark f.control a f.framed.instance f.framed.placed f.framed.home f.framed.linked in
+      let near : Near p f.framed.home.stack = home_near outer f.lower f.mark f.control (wanted_of part) a f.framed.instance f.framed.placed f.framed.home f.framed.linked in
       subst (AllLead p) (sym f.words_are)
       (lead_both p f.lower (f.mark ∷ f.control ∷ f.cells) low (
         mark_leads p f.mark _ f.framed.mark_is near,
         (
           back_leads p f.control f.framed.back f.framed.control_is,
-          cells_lead p (simple_cells (block_numbered sc.blocks f.framed.instance.block)) f.framed.instance.cells f.cells f.framed.cells_are,
+          subst (AllLead p) (sym f.framed.cells_is)
+              (lead_both p f.framed.values _ (cells_lead p (simple_cells (block_numbered sc.blocks f.framed.instance.block)) f.framed.instance.cells f.framed.values f.framed.cells_are)
+              (controls_lead p (level_of (block_numbered sc.blocks f.framed.instance.block)) (control_segments sc (block_numbered sc.blocks f.framed.instance.block).decls))),
         ),
       ))
 
-  around_leads : (parts : List Part) (lower : List Word) (m c : Word) → Outer parts lower m c → length lower ≤ 2 ^ 16 → AllLead p lower
-  around_leads [] lower m c a room = subst (AllLead p) (sym a.0) tt
-  around_leads (part ∷ outer) lower m c a room =
-      let s : Waits tree code texts w lay p most part outer lower m c = a.0 in
+  around_leads : (parts : List Part) (lower : List Word) (m c : Word) (wanted : Option Kind) → Outer parts lower m c wanted → length lower ≤ 2 ^ 16 → AllLead p lower
+  around_leads [] lower m c wanted a room = subst (AllLead p) (sym a.0) tt
+  around_leads (part ∷ outer) lower m c wanted a room =
+      let s : Waits tree code texts w lay p part outer lower m c wanted = a.0 in
       let long : length lower ≡ length s.below + length s.words = ap length s.lower_is ∙ length-append s.below (reverse s.words) ∙ ap (λ (n : ℕ). length s.below + n) (length-reverse s.words) in
       let lowest : length s.below ≡ length s.frame.lower + (2 + length s.frame.cells) = ap length s.frame.words_are ∙ length-append s.frame.lower (s.frame.mark ∷ s.frame.control ∷ s.frame.cells) ∙ omega arith in
-      let many : length s.words ≡ length s.slots = slots_length sc (level_at tree code texts w lay p most part) (length s.frame.lower) (length s.below) s.slots s.words s.words_are in
-      let known : level_at tree code texts w lay p most part < 32 = omega (arith, s.level_is, (Fits-as_rcw c s.control_is).1.1.1.0) in
+      let many : length s.words ≡ length s.slots = slots_length sc (level_at tree code texts w lay p part) (length s.frame.lower) (length s.below) s.slots s.words s.words_are in
       subst (AllLead p) (sym s.lower_is)
       (lead_both p s.below (reverse s.words)
-      (frame_leads part outer s.below s.frame a.1 (around_leads outer s.frame.lower s.frame.mark s.frame.control a.1 (omega (arith, room, long, lowest))))
-      (lead_turned p s.words (slots_lead sc nested p (level_at tree code texts w lay p most part) (length s.frame.lower) (length s.below) known s.slots s.words s.words_are (omega (arith, room, long, many)))))
+      (frame_leads part outer s.below s.frame a.1 (around_leads outer s.frame.lower s.frame.mark s.frame.control (wanted_of part) a.1 (omega (arith, room, long, lowest))))
+      (lead_turned p s.words (slots_lead sc p (level_at tree code texts w lay p part) (length s.frame.lower) (length s.below) s.slots s.words s.words_are (omega (arith, room, long, many)))))
 
-  module _ (part : Part) (outer : List Part) (core : Core) (s : Stands tree code texts w lay p most part outer core) (a : Outer outer s.frame.lower s.frame.mark s.frame.control) where
-    pub level_known : level_at tree code texts w lay p most part < 32
+  module _ (part : Part) (outer : List Part) (core : Core) (s : Stands tree code texts w lay p part outer core) (a : Outer outer s.frame.lower s.frame.mark s.frame.control (wanted_of part)) where
+    pub level_known : level_at tree code texts w lay p part < 32
     level_known =
-        let same : level_at tree code texts w lay p most part ≡ level_of (block_numbered sc.blocks s.frame.framed.instance.block) =
+        let same : level_at tree code texts w lay p part ≡ level_of (block_numbered sc.blocks s.frame.framed.instance.block) =
         ap (λ (o : Option Instance). level_of (block_numbered sc.blocks ((or_no_instance o).block))) s.frame.framed.is in
         omega (arith, same, s.frame.framed.level_is, (Fits-as_rcw s.frame.control s.frame.framed.control_is).1.1.1.1.1.0)
 
@@ -274,10 +307,10 @@ module _ (tree : PProgram) (code : Code) (texts : ℕ → List Placed) (nested :
     core_leads room =
         let lowest : length core.below ≡ length s.frame.lower + (2 + length s.frame.cells) = ap length s.frame.words_are ∙ length-append s.frame.lower (s.frame.mark ∷ s.frame.control ∷ s.frame.cells) ∙ omega arith in
         let many : length core.words ≡ length s.slots =
-        slots_length sc (level_at tree code texts w lay p most part) _ (length core.below) s.slots core.words s.there.words_are in
+        slots_length sc (level_at tree code texts w lay p part) _ (length core.below) s.slots core.words s.there.words_are in
         lead_both p core.below (reverse core.words)
-        (frame_leads part outer core.below s.frame a (around_leads outer s.frame.lower s.frame.mark s.frame.control a (omega (arith, room, lowest))))
-        (lead_turned p core.words (slots_lead sc nested p (level_at tree code texts w lay p most part) _ (length core.below) level_known s.slots core.words s.there.words_are (omega (arith, room, many))))
+        (frame_leads part outer core.below s.frame a (around_leads outer s.frame.lower s.frame.mark s.frame.control (wanted_of part) a (omega (arith, room, lowest))))
+        (lead_turned p core.words (slots_lead sc p (level_at tree code texts w lay p part) _ (length core.below) s.slots core.words s.there.words_are (omega (arith, room, many))))
 
     -- so do all words of the two stacks, in an image in which the process stands so
     pub image_leads : (img : Image) → HasCore img p core → stack_at img.stacks 0 ≡ Some system_stack → size core ≤ stack_limit → AllLeadNear p img

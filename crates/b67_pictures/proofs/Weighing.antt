@@ -1,13 +1,12 @@
 -- What is evaluated and performed needs no more words than four for each of its tokens.
-use Rattle.std.proofs.Common.{◌≡◌, refl, ap, ◌*◌, ◌≤◌, arith}
+use Rattle.std.proofs.Common.{◌*◌, ◌≤◌, length, arith}
 use Rattle.algol_tree.specs.Plain as tree
-use Rattle.algol_tree.specs.Plain.{PExpr, PExprs, PStmt, PStmts, PBody, PProgram}
-use Rattle.algol_tree.specs.Counts.{expr_tokens, exprs_tokens, stmt_tokens, stmts_tokens, program_tokens}
-use Rattle.algol_tree.specs.Blocks.{Block, outer_block, blocks_of_program, block_numbered}
-use Rattle.algol_tree.specs.Scopes.{scopes_of}
+use Rattle.algol_tree.specs.Plain.{PExpr, PExprs, PStmt, PStmts, PDecls}
+use Rattle.algol_tree.specs.Counts.{expr_tokens, exprs_tokens, stmt_tokens, stmts_tokens, decls_tokens}
+use Rattle.b67_templates.specs.Cells.{procedures}
 use Rattle.b67_templates.specs.Depths.{depth, line_depth, stmt_depth, stmts_depth}
 
-depth_small : (e : PExpr) → depth e ≤ expr_tokens e
+depth_small : (e : PExpr) → depth e ≤ 2 * expr_tokens e
 depth_small (tree.number value spot) = omega arith
 depth_small (tree.truth value spot) = omega arith
 depth_small (tree.variable (tree.subscripted n tree.none)) = omega arith
@@ -22,19 +21,32 @@ depth_small (tree.not e spot) = omega (arith, depth_small e)
 depth_small (tree.two op a b) = omega (arith, depth_small a, depth_small b)
 depth_small (tree.if c x y spot) = omega (arith, depth_small c, depth_small x, depth_small y)
 
-line_small : (es : PExprs) → line_depth es ≤ exprs_tokens es
+line_small : (es : PExprs) → line_depth es ≤ 2 * exprs_tokens es
 line_small tree.none = omega arith
 line_small (tree.more e es) = omega (arith, depth_small e, line_small es)
 
+-- a declaration has a semicolon
+pub procedures_small : (ds : PDecls) → length (procedures ds) ≤ decls_tokens ds
+procedures_small tree.no_decls = omega arith
+procedures_small (tree.decls (tree.simple kind ns) ds) = omega (arith, procedures_small ds)
+procedures_small (tree.decls (tree.files ns) ds) = omega (arith, procedures_small ds)
+procedures_small (tree.decls (tree.events ns) ds) = omega (arith, procedures_small ds)
+procedures_small (tree.decls (tree.tasks ns) ds) = omega (arith, procedures_small ds)
+procedures_small (tree.decls (tree.labels ns) ds) = omega (arith, procedures_small ds)
+procedures_small (tree.decls (tree.arrays kind ns pairs) ds) = omega (arith, procedures_small ds)
+procedures_small (tree.decls (tree.forward h) ds) = omega (arith, procedures_small ds)
+procedures_small (tree.decls (tree.procedure h s) ds) = omega (arith, procedures_small ds)
+
 mutual
-  stmt_small : (s : PStmt) → stmt_depth s ≤ 4 * stmt_tokens s
+  pub stmt_small : (s : PStmt) → stmt_depth s ≤ 4 * stmt_tokens s
   stmt_small tree.empty = omega arith
   stmt_small (tree.label n s) = omega arith
   stmt_small (tree.assign v e) = omega (arith, depth_small e)
-  stmt_small (tree.call_of c) = omega arith
+  stmt_small (tree.call_of (tree.called n tree.none)) = omega arith
+  stmt_small (tree.call_of (tree.called n (tree.more e es))) = omega arith
   stmt_small (tree.go_to n) = omega arith
   stmt_small (tree.block (tree.body spot tree.no_decls ss)) = omega (arith, stmts_small ss)
-  stmt_small (tree.block (tree.body spot (tree.decls d ds) ss)) = omega (arith, stmts_small ss)
+  stmt_small (tree.block (tree.body spot (tree.decls d ds) ss)) = omega (arith, procedures_small (tree.decls d ds), stmts_small ss)
   stmt_small (tree.if_then c x) = omega (arith, depth_small c, stmt_small x)
   stmt_small (tree.if_else c x y) = omega (arith, depth_small c, stmt_small x, stmt_small y)
   stmt_small (tree.while c b) = omega (arith, depth_small c, stmt_small b)
@@ -46,16 +58,6 @@ mutual
   stmt_small (tree.event act e) = omega arith
   stmt_small (tree.write n spot phrases es) = omega (arith, line_small es)
 
-  stmts_small : (ss : PStmts) → stmts_depth ss ≤ 4 * stmts_tokens ss
+  pub stmts_small : (ss : PStmts) → stmts_depth ss ≤ 4 * stmts_tokens ss
   stmts_small tree.no_stmts = omega arith
   stmts_small (tree.stmts s ss) = omega (arith, stmt_small s, stmts_small ss)
-
--- the outer block of a program
-pub outer_is : (b : PBody) → block_numbered (scopes_of (tree.program b)).blocks 0 ≡ outer_block b
-unfolding scopes_of blocks_of_program
-outer_is b = refl
-
-pub block_small : (p : PProgram) → stmts_depth ((block_numbered (scopes_of p).blocks 0).stmts) ≤ 4 * program_tokens p
-block_small (tree.program (tree.body spot ds ss)) =
-    let same : stmts_depth ((block_numbered (scopes_of (tree.program (tree.body spot ds ss))).blocks 0).stmts) ≡ stmts_depth ss = ap (λ (k : Block). stmts_depth k.stmts) (outer_is (tree.body spot ds ss)) in
-    omega (arith, same, stmts_small ss)

@@ -5,7 +5,8 @@ use Rattle.b67_word.specs.Word.{Word}
 use Rattle.b67_word.proofs.WordLaws.{operand-tag}
 use Rattle.b67_control.specs.Kind as kind
 use Rattle.b67_control.specs.Kind.{kind_of}
-use Rattle.b67_control.specs.Control.{as_irw, as_sirw, as_descriptor, as_mscw, as_pcw}
+use Rattle.b67_control.specs.Control.{as_irw, as_sirw, as_descriptor, as_mscw, as_pcw, pcw_word}
+use Rattle.b67_control.specs.declared.Pcw.{Pcw}
 use Rattle.b67_control.proofs.ControlLaws.{as_irw-irw_word, as_sirw-other, as_pcw-other, as_mscw-mscw_word, kind_of-irw_word, descriptor_laws}
 use Rattle.b67_ops.specs.declared.Couple.{Couple}
 use Rattle.b67_table.specs.Arrays.{as_indexed, indexed_in}
@@ -29,6 +30,14 @@ no_pcw w e = as_pcw-other w (λ k. let is = sym (tag_zero w e) ∙ k in cc)
 
 pub no_descriptor : (w : Word) → w.tag ≡ 0 → as_descriptor w ≡ None
 no_descriptor w e = descriptor_laws.other w (λ k. let is = sym (tag_zero w e) ∙ k in cc)
+
+-- so is the control word of code
+pcw_kind : (x : Pcw) → kind_of (pcw_word x) ≡ kind.pcw
+unfolding kind_of pcw_word
+pcw_kind x = refl
+
+pub pcw_describes_nothing : (x : Pcw) → as_descriptor (pcw_word x) ≡ None
+pcw_describes_nothing x = descriptor_laws.other (pcw_word x) (λ k. let is = sym (pcw_kind x) ∙ k in cc)
 
 -- ---- references
 

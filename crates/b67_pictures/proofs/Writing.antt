@@ -10,7 +10,7 @@ use Rattle.algol_tree.specs.Spelling.{value_of}
 use Rattle.algol_meaning.specs.Lines.{line_of, number_first}
 use Rattle.algol_meaning.specs.Rest.{Answer, done}
 use Rattle.algol_meaning.specs.Value.{Value, number, whole_of}
-use Rattle.algol_meaning.specs.World.{Process, Part, able, World}
+use Rattle.algol_meaning.specs.World.{Process, Part, able, World, instance_at}
 use Rattle.algol_meaning.specs.Actions.{Line}
 use Rattle.algol_meaning.specs.Asks.{Ask, writes, ask, resume}
 use Rattle.algol_meaning.specs.Choice.{choice_of}
@@ -30,6 +30,7 @@ use Rattle.b67_table.specs.Lines.{before, format_line, line_by, line_for}
 use Rattle.b67_table.specs.Outcome as outcomes
 use Rattle.b67_table.specs.Table.{operator_at}
 use Rattle.b67_templates.specs.Code.{IsPart, text, word, AreParts, numbers_in, FormatIs}
+use Rattle.b67_templates.specs.Programs.{context_of}
 use Rattle.b67_standing.specs.Stepping.{Slot}
 use Rattle.b67_standing.specs.Standing.{ActionAt, Acted, ComesTo}
 use Rattle.b67_cores.specs.Cores.{Core, with_core}
@@ -42,7 +43,7 @@ use Rattle.b67_pictures.proofs.Homes.{operator_there}
 use Rattle.b67_pictures.proofs.IntrinsicRows.{without_call, enter_class, write_raw}
 use Rattle.b67_pictures.proofs.Stage.{choice_is}
 use Rattle.b67_pictures.proofs.Scene.{Scene}
-use Rattle.b67_pictures.proofs.Staying.{text_in, level_in}
+use Rattle.b67_pictures.proofs.Staying.{text_in, level_in, context_in, most_in}
 use Rattle.b67_pictures.proofs.InFrame.{does_in_frame}
 
 -- ---- the line
@@ -73,18 +74,18 @@ shows_all (t ∷ ts) list are =
     subst (λ (l : List Phrase). Shows (t ∷ ts) l) (sym are.2) (shows_part t are.0 ts are.1 are.3 (shows_all ts are.1 are.4))
 
 -- the machine's line is that of the source
-pub line_is : (sc : Scopes) (code : Code) (ps : List Placed) (level format : ℕ) (ts : List PhraseText) (vs : List Value) → FormatIs sc code.formats ps level format ts (length vs) →
+pub line_is : (sc : Scopes) (code : Code) (j : ℕ) (ps : List Placed) (level format : ℕ) (ts : List PhraseText) (vs : List Value) → FormatIs sc (context_of code sc j) ps level format ts (length vs) →
     line_for code (pos format ∷ wholes_of vs) ≡ Some (line_of ts vs)
-line_is sc code ps level format ts vs f =
+line_is sc code j ps level format ts vs f =
     ap (λ (o : Option Format). line_by o (wholes_of vs)) f.is ∙ shows_all ts f.list f.parts vs f.numbers
 
 -- ---- the action
 
 module _ (tree : PProgram) (code : Code) (texts : ℕ → List Placed) (fragments : FragmentsArePerformed) (keeps : RestsKeepToTheirText) (w : World) (lay : List Place) (img : Image)
-    (p : ℕ) (q : Process) (part : Part) (outer : List Part) (most bound : ℕ) (core : Core) (s : Scene tree code texts w lay img p q part outer most bound core) (able_is : q.state ≡ able) (able_p : numbered img.states p ≡ Some Able)
-    (ts : List PhraseText) (vs : List Value) (asks : ask part.rest ≡ writes ts vs) (a : ActionAt (scopes_of tree) code.formats (text_in texts w part) (level_in tree w part) most (writes ts vs) s.stands.pc s.stands.slots)
-    (answered : (r : Answer) (at : ℕ) (left : List Slot) → Acted (scopes_of tree) code.formats (text_in texts w part) (level_in tree w part) most (writes ts vs) s.stands.pc s.stands.slots a r at left →
-    ComesTo (scopes_of tree) code.formats (text_in texts w part) (level_in tree w part) most (resume (scopes_of tree) part.rest r) at left) where
+    (p : ℕ) (q : Process) (part : Part) (outer : List Part) (bound : ℕ) (core : Core) (s : Scene tree code texts w lay img p q part outer bound core) (able_is : q.state ≡ able) (able_p : numbered img.states p ≡ Some Able)
+    (ts : List PhraseText) (vs : List Value) (asks : ask part.rest ≡ writes ts vs) (a : ActionAt (scopes_of tree) (context_in tree code w part) (text_in tree texts w part) (level_in tree w part) (most_in tree w part) (writes ts vs) s.stands.pc s.stands.slots)
+    (answered : (r : Answer) (at : ℕ) (left : List Slot) → Acted (scopes_of tree) (context_in tree code w part) (text_in tree texts w part) (level_in tree w part) (most_in tree w part) (writes ts vs) s.stands.pc s.stands.slots a r at left →
+    ComesTo (scopes_of tree) (context_in tree code w part) (text_in tree texts w part) (level_in tree w part) (most_in tree w part) (resume (scopes_of tree) part.rest r) at left) where
   abbrev sc : Scopes
   sc = scopes_of tree
 
@@ -93,10 +94,10 @@ module _ (tree : PProgram) (code : Code) (texts : ℕ → List Placed) (fragment
   given = number (pos a.2.format) ∷ vs
 
   there : operator_at code core.registers ≡ Ok (ops.Plain kinds.Entr, a.0)
-  there = operator_there sc code (text_in texts w part) (level_in tree w part) s.stands.pc s.stands.slots core (ops.Plain kinds.Entr) a.0 s.stands.there a.2.stands
+  there = operator_there sc code (text_in tree texts w part) (level_in tree w part) s.stands.pc s.stands.slots core (ops.Plain kinds.Entr) a.0 s.stands.there a.2.stands
 
   abbrev Called : Type 0
-  Called = IsCall tree code texts w lay img p q part outer most bound core s Write given a.1 (a.2.whole, a.2.fits) a.2.lies
+  Called = IsCall tree code texts w lay img p q part outer bound core s Write given a.1 (a.2.whole, a.2.fits) a.2.lies
 
   module _ (c : Called) where
     abbrev new : Core
@@ -107,15 +108,15 @@ module _ (tree : PProgram) (code : Code) (texts : ℕ → List Placed) (fragment
 
     does : Does tree code texts w img p
     does =
-        does_in_frame tree code texts fragments keeps w lay img p q part outer most bound core s able_is able_p done tt out new refl (record { is = refl }) a.0 a.1 (c.after_at a.0) c.few
+        does_in_frame tree code texts fragments keeps w lay img p q part outer bound core s able_is able_p done tt out new refl (record { is = refl }) a.0 a.1 (c.after_at a.0) c.few
         (answered done a.0 a.1 (refl, refl)) Line
         (action_not_plain code img p core s.has (ops.Plain kinds.Entr) a.0 there
         (enter_class code img p core s.has a.0 there Write c.arguments c.reference c.marked c.others c.calls))
         (write_raw code img p core s.has a.0 there Write c.arguments c.reference c.marked c.others c.calls (wholes_of given) c.wholes refl (line_of ts vs)
-        (line_is sc code (text_in texts w part) (level_in tree w part) a.2.format ts vs a.2.is)
+        (line_is sc code ((instance_at w part.instance).block) (text_in tree texts w part) (level_in tree w part) a.2.format ts vs a.2.is)
         ∙ ap (λ (o : List (List ℕ)). effects.gives (record (with_core img p new) { output = o ++ line_of ts vs ∷ [] })) s.by.output)
         (choice_is sc w p q part outer s.at s.todo ∙ ap (λ (k : Ask). choice_of sc w p q part outer k) asks)
         (λ t. action_is code img p core s.has (ops.Plain kinds.Entr) a.0 there (outcomes.gives (record (with_core img p new) { output = out })) t ∙ c.action)
 
   pub writing : Does tree code texts w img p
-  writing = does (call tree code texts w lay img p q part outer most bound core s Write given a.1 (a.2.whole, a.2.fits) a.2.lies)
+  writing = does (call tree code texts w lay img p q part outer bound core s Write given a.1 (a.2.whole, a.2.fits) a.2.lies)

@@ -14,7 +14,7 @@ use Rattle.algol_meaning.specs.Instances.{parameter_cells, result_cells, initial
 use Rattle.b67_word.specs.Word.{Word}
 use Rattle.b67_word.specs.Word as words
 use Rattle.b67_templates.specs.Fragments.{HasKind}
-use Rattle.b67_templates.specs.Cells.{Simple, of_kind, result_of, variables, simple_cells}
+use Rattle.b67_templates.specs.Cells.{Simple, of_kind, result_of, variables, simple_cells, zero_cells}
 use Rattle.b67_cores.specs.Slots.{ValueIs}
 use Rattle.b67_pictures.specs.Frames.{CellsAre}
 
@@ -53,6 +53,10 @@ pub block_zeros : (b : Block) → b.parameters ≡ [] → AreZeroCells (simple_c
 block_zeros b plain =
     let at : List Parameter → Type 0 = λ ps. AreZeroCells (map (λ (p : Parameter). record { name = p.name; kind = None }) ps ++ result_of b.result b.name ++ variables b.decls) (parameter_cells ps [] ++ result_cells b.result b.name ++ variable_cells b.decls) in
     subst at (sym plain) (result_zeros b.result b.name (variables b.decls) (variable_cells b.decls) (declared_zeros b.decls))
+
+-- and those cells are all that it has from its entry on
+pub plain_cells : (b : Block) → b.parameters ≡ [] → simple_cells b ≡ zero_cells b
+plain_cells b plain = ap (λ (ps : List Parameter). map (λ (p : Parameter). record { name = p.name; kind = None }) ps ++ result_of b.result b.name ++ variables b.decls) plain
 
 pub cells_length : (ss : List Simple) (cells : List NamedCell) (ws : List Word) → CellsAre ss cells ws → length cells ≡ length ss
 cells_length [] [] [] are = refl

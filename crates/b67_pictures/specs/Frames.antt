@@ -1,5 +1,5 @@
 -- The frames of a process: how the words of its stack stand for the parts that it has still to do.
-use Rattle.std.specs.Prelude.{◌≡◌, ◌⊎◌, ℕ, zero, suc, ◌+◌, ◌-◌, ◌<◌, ◌≤◌, true, false, List, [], ◌∷◌, ◌++◌, length, reverse, Option, Some}
+use Rattle.std.specs.Prelude.{◌≡◌, ◌⊎◌, ℕ, zero, suc, ◌+◌, ◌-◌, ◌*◌, ◌<◌, ◌≤◌, true, false, List, [], ◌∷◌, ◌++◌, length, reverse, Option, Some, None}
 use Rattle.b67_list.specs.Numbered.{numbered}
 use Rattle.algol_tree.specs.declared.tree.Kind.{Kind}
 use Rattle.algol_tree.specs.Blocks.{Block, block_numbered, around}
@@ -8,9 +8,11 @@ use Rattle.algol_tree.specs.Plain.{PProgram}
 use Rattle.algol_tree.specs.Scopes.{Scopes, scopes_of}
 use Rattle.algol_meaning.specs.Value.{Cell, simple}
 use Rattle.algol_meaning.specs.World.{NamedCell, Instance, Part, World, instance_at, ancestor}
-use Rattle.algol_meaning.specs.Asks.{nothing, ask}
+use Rattle.algol_meaning.specs.Rest.{Answer}
+use Rattle.algol_meaning.specs.Asks.{nothing, ask, resume}
 use Rattle.algol_meaning.specs.Critical.{is_evaluation}
 use Rattle.algol_paths.specs.Blocks.{IsSeen, IsInner}
+use Rattle.algol_paths.specs.Segments.{segment_of}
 use Rattle.algol_paths.specs.Texts.{InRest}
 use Rattle.b67_word.specs.declared.Place.{Place}
 use Rattle.b67_word.specs.Word.{Word}
@@ -23,14 +25,16 @@ use Rattle.b67_segment.specs.declared.code.Code.{Code}
 use Rattle.b67_table.specs.Chains.{place}
 use Rattle.b67_table.specs.Beginning.{base_mark}
 use Rattle.b67_table.specs.Linkage.{base_control, code_place}
-use Rattle.b67_templates.specs.Fragments.{HasKind, program_segment}
-use Rattle.b67_templates.specs.Cells.{Simple, simple_cells}
+use Rattle.b67_templates.specs.Contexts.{Context}
+use Rattle.b67_templates.specs.Fragments.{HasKind}
+use Rattle.b67_templates.specs.Programs.{context_of}
+use Rattle.b67_templates.specs.Cells.{Simple, simple_cells, procedures, control_segments}
 use Rattle.b67_standing.specs.Stepping.{Slot}
-use Rattle.b67_standing.specs.Standing.{StandsFor}
+use Rattle.b67_standing.specs.Standing.{Gives, pushed, StandsFor, ComesTo}
 use Rattle.b67_cores.specs.Cores.{Core}
 use Rattle.b67_cores.specs.Slots.{ValueIs, newest, SlotsAre}
-use Rattle.b67_cores.specs.Stretches.{CoreAt}
-use Rattle.b67_faithful.specs.Weight.{parts_weight}
+use Rattle.b67_cores.specs.Stretches.{CoreAt, control_words}
+use Rattle.b67_faithful.specs.Weight.{tokens_around, parts_weight}
 
 -- ---- cells
 
@@ -44,6 +48,10 @@ abbrev pub CellsAre : List Simple → List NamedCell → List Word → Type 0
 CellsAre [] [] [] = Unit {0}
 CellsAre (s ∷ ss) (c ∷ cells) (w ∷ words) = (c.name ≡ s.name) × CellIs s.kind c.cell w × CellsAre ss cells words
 CellsAre _ _ _ = ⊥
+
+-- how many words may lie above the cells of a block's frame: four for each token of the segment, but for the control words among the cells
+abbrev pub most_around : PProgram → ℕ → ℕ
+most_around tree j = 4 * tokens_around tree j - length (procedures (block_numbered (scopes_of tree).blocks j).decls)
 
 -- a part has the instance for its own
 abbrev pub IsOwn : List Part → ℕ → Type 0
@@ -77,7 +85,10 @@ module _ (sc : Scopes) (w : World) (lay : List Place) where
     pub own : instance.process ≡ p
     pub known : instance.block < length sc.blocks
     pub laid : numbered lay i ≡ Some (place p at)
-    pub cells_are : CellsAre (simple_cells (block_numbered sc.blocks instance.block)) instance.cells cells
+    pub values : List Word
+    pub cells_are : CellsAre (simple_cells (block_numbered sc.blocks instance.block)) instance.cells values
+    -- behind them lie the control words of the block's procedures
+    pub cells_is : cells ≡ values ++ control_words (level_of (block_numbered sc.blocks instance.block)) (control_segments sc (block_numbered sc.blocks instance.block).decls)
     pub placed : IsPlaced outer instance
     pub home : Place
     pub linked : home_of instance.parent ≡ Some home
@@ -87,13 +98,26 @@ module _ (sc : Scopes) (w : World) (lay : List Place) where
     pub control_is : as_rcw control ≡ Some back
     pub level_is : back.own_level ≡ level_of (block_numbered sc.blocks instance.block)
 
-module _ (tree : PProgram) (code : Code) (texts : ℕ → List Placed) (w : World) (lay : List Place) (p most : ℕ) where
+module _ (tree : PProgram) (code : Code) (texts : ℕ → List Placed) (w : World) (lay : List Place) (p : ℕ) where
   -- the number of a part's block, the segment in which its text stands, and its level
   abbrev pub block_of : Part → ℕ
   block_of part = (instance_at w part.instance).block
 
+  abbrev pub segment_at : Part → ℕ
+  segment_at part = segment_of (scopes_of tree).blocks (block_of part)
+
   abbrev pub text_of : Part → List Placed
-  text_of part = texts (block_of part)
+  text_of part = texts (segment_at part)
+
+  abbrev pub context_at : Part → Context
+  context_at part = context_of code (scopes_of tree) (block_of part)
+
+  -- how many words may lie above the cells of its frame, the kind of its result
+  abbrev pub most_of : Part → ℕ
+  most_of part = most_around tree (block_of part)
+
+  abbrev pub result_of_part : Part → Option Kind
+  result_of_part part = (block_at (scopes_of tree) w lay part.instance).result
 
   abbrev pub level_at : Part → ℕ
   level_at part = level_of (block_at (scopes_of tree) w lay part.instance)
@@ -115,17 +139,17 @@ module _ (tree : PProgram) (code : Code) (texts : ℕ → List Placed) (w : Worl
     pub frame : Frame part outer core.below
     pub counted : core.registers.cells ≡ length frame.cells
     pub chained : IsChained (scopes_of tree) w lay part.instance (level_at part) core.registers.display
-    pub segment_is : core.registers.segment ≡ program_segment
+    pub segment_is : core.registers.segment ≡ segment_at part
     pub asks : ask part.rest ≡ nothing → ⊥
     pub pc : ℕ
     pub slots : List Slot
-    pub stands : StandsFor (scopes_of tree) code.formats (text_of part) (level_at part) most part.rest pc slots
+    pub stands : StandsFor (scopes_of tree) (context_at part) (text_of part) (level_at part) (most_of part) part.rest pc slots
     pub there : CoreAt (scopes_of tree) code (text_of part) (level_at part) pc slots core
-    pub few : length slots ≤ most
+    pub few : length slots ≤ most_of part
 
-  -- A part around, which waits for the one inside it. The mark and the control word of the frame above lead back: the mark to the newest
-  -- mark below, the control word to the place where the machine stands for what the part has still to do.
-  pub record Waits (part : Part) (outer : List Part) (lower : List Word) (mark control : Word) : Type 0 where
+  -- A part around, which waits for the one inside it. Once that has left with what is wanted of it, it goes on. The mark and the control word of the frame above lead back: the mark to the newest
+  -- mark below, the control word to the place where it goes on.
+  pub record Waits (part : Part) (outer : List Part) (lower : List Word) (mark control : Word) (wanted : Option Kind) : Type 0 where
     pub below : List Word
     pub words : List Word
     pub lower_is : lower ≡ below ++ reverse words
@@ -133,8 +157,9 @@ module _ (tree : PProgram) (code : Code) (texts : ℕ → List Placed) (w : Worl
     pub waits : ask part.rest ≡ nothing
     pub pc : ℕ
     pub slots : List Slot
-    pub stands : StandsFor (scopes_of tree) code.formats (text_of part) (level_at part) most part.rest pc slots
-    pub few : length slots ≤ most
+    pub returns : (a : Answer) → Gives wanted a →
+        ComesTo (scopes_of tree) (context_at part) (text_of part) (level_at part) (most_of part) (resume (scopes_of tree) part.rest a) pc (pushed a slots)
+    pub few : length slots + 1 ≤ most_of part
     pub words_are : SlotsAre (scopes_of tree) (level_at part) (length frame.lower) (length below) slots words
     pub home : Place
     pub df : ℕ
@@ -142,19 +167,20 @@ module _ (tree : PProgram) (code : Code) (texts : ℕ → List Placed) (w : Worl
     pub far : df + newest (length frame.lower) (length below) slots ≡ length lower
     pub back : Rcw
     pub control_is : as_rcw control ≡ Some back
-    pub segment_is : back.segment ≡ program_segment
+    pub segment_is : back.segment ≡ segment_at part
     pub place_is : code_place back.psr back.pir ≡ pc
     pub level_is : back.caller_level ≡ level_at part
     pub cells_are : back.caller_cells ≡ length frame.cells
-    pub light : length below + most + 3 ≤ parts_weight tree w (part ∷ outer)
+    pub light : length below + most_of part + 3 ≤ parts_weight tree w (part ∷ outer)
 
-  -- the parts around, the innermost first, whose frames lie in these words, below a frame of this mark and this control word
-  abbrev pub Around : List Part → List Word → Word → Word → Type 0
-  Around [] lower mark control = (lower ≡ []) × (mark ≡ base_mark) × (control ≡ base_control OUTER_LEVEL)
-  Around (part ∷ outer) lower mark control =
-      (s : Waits part outer lower mark control) × Around outer s.frame.lower s.frame.mark s.frame.control
+  -- The parts around, the innermost first, whose frames lie in these words, below a frame of this mark and this control word. A value of
+  -- that kind is wanted of the part of that frame, or none.
+  abbrev pub Around : List Part → List Word → Word → Word → Option Kind → Type 0
+  Around [] lower mark control wanted = (lower ≡ []) × (mark ≡ base_mark) × (control ≡ base_control OUTER_LEVEL) × (wanted ≡ None)
+  Around (part ∷ outer) lower mark control wanted =
+      (s : Waits part outer lower mark control wanted) × Around outer s.frame.lower s.frame.mark s.frame.control (result_of_part part)
 
   -- the parts of a process, the innermost first
   abbrev pub Frames : List Part → Core → Type 0
   Frames [] core = ⊥
-  Frames (part ∷ outer) core = (s : Stands part outer core) × Around outer s.frame.lower s.frame.mark s.frame.control
+  Frames (part ∷ outer) core = (s : Stands part outer core) × Around outer s.frame.lower s.frame.mark s.frame.control (result_of_part part)

@@ -1,14 +1,11 @@
 -- How an image pictures a world.
-use Rattle.std.specs.Prelude.{◌≡◌, ℕ, ◌+◌, ◌*◌, ◌≤◌, List, length, Option, Some, None, slice_get}
+use Rattle.std.specs.Prelude.{◌≡◌, ℕ, ◌+◌, ◌≤◌, List, [], ◌∷◌, length, Option, Some, None}
 use Rattle.b67_list.specs.Numbered.{numbered}
-use Rattle.algol_tree.specs.Counts.{program_tokens}
 use Rattle.algol_tree.specs.Plain.{PProgram}
-use Rattle.algol_meaning.specs.World.{Process, able, ended, WorldFault, World}
+use Rattle.algol_meaning.specs.World.{Part, Process, able, ended, WorldFault, World, instance_at}
 use Rattle.b67_word.specs.declared.Place.{Place}
 use Rattle.b67_segment.specs.Operators.{Placed}
-use Rattle.b67_segment.specs.Syllables.{Spells}
 use Rattle.b67_segment.specs.declared.code.Code.{Code}
-use Rattle.b67_segment.specs.declared.code.Segment.{Segment}
 use Rattle.b67_store.specs.Store.{stack_at, stack_limit}
 use Rattle.b67_control.specs.Display.{place_at}
 use Rattle.b67_table.specs.Beginning.{system_stack}
@@ -18,20 +15,17 @@ use Rattle.b67_table.specs.declared.ProcessState.TheVariants.{Able, Ended}
 use Rattle.b67_table.specs.Image.{Image, Failure}
 use Rattle.b67_cores.specs.Cores.{Core, size, HasCore, CoreSteps}
 use Rattle.b67_faithful.specs.Weight.{weight}
-use Rattle.b67_templates.specs.Fragments.{program_segment}
-use Rattle.b67_pictures.specs.Frames.{Frames}
-
--- These are the texts of blocks, by their numbers: each is the text of the program's segment.
-pub record AreTexts (code : Code) (texts : ℕ → List Placed) : Type 0 where
-  pub segment : Segment
-  pub there : slice_get code.segments program_segment ≡ Some segment
-  pub spells : (j : ℕ) → Spells (texts j) segment
-  pub same : (i j : ℕ) → texts i ≡ texts j
+use Rattle.b67_pictures.specs.Frames.{most_around, Frames}
 
 -- the fault that ended a world, as one of an image
 abbrev pub failure_of : Option WorldFault → Option Failure
 failure_of None = None
 failure_of (Some f) = Some (record { kind = f.kind; process = f.process })
+
+-- how many words may lie above the cells of the innermost part
+abbrev pub innermost_most : PProgram → World → List Part → ℕ
+innermost_most tree w [] = 0
+innermost_most tree w (part ∷ outer) = most_around tree ((instance_at w part.instance).block)
 
 module _ (tree : PProgram) (code : Code) (texts : ℕ → List Placed) (w : World) (lay : List Place) (img : Image) where
   -- A process that is able comes by private operators alone to where its core stands for its parts. It depends on no instance, and has
@@ -48,14 +42,12 @@ module _ (tree : PProgram) (code : Code) (texts : ℕ → List Placed) (w : Worl
     -- its stack is no longer than a stack may be
     pub small : size core ≤ stack_limit
     pub settled : Core
-    pub most : ℕ
     pub bound : ℕ
     pub count : ℕ
     pub steps : CoreSteps code bound count core settled
-    pub frames : Frames tree code texts w lay p most q.todo settled
-    pub room : length settled.below + most ≤ bound
+    pub frames : Frames tree code texts w lay p q.todo settled
+    pub room : length settled.below + innermost_most tree w q.todo ≤ bound
     pub light : bound + 3 ≤ weight tree w p
-    pub few : most ≤ 4 * program_tokens tree
 
   pub data Pictured (p : ℕ) (q : Process) : Type 0 where
     living : q.state ≡ able → numbered img.states p ≡ Some Able → Living p q → Pictured p q

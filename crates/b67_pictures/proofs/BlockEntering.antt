@@ -1,0 +1,198 @@
+-- A block of a statement is entered.
+use Rattle.std.proofs.Common.{◌≡◌, inl, refl, sym, ap, ◌∙◌, subst, ℕ, ◌+◌, ◌-◌, ◌*◌, ◌≤◌, List, [], ◌∷◌, ◌++◌, length, Option, Some, None, Bool, false, not, arith}
+use Rattle.std.specs.Prelude.{if◌then◌else◌, slice_get}
+use Rattle.b67_list.specs.Numbered.{numbered}
+use Rattle.algol_tree.specs.declared.token.Spot.{Spot}
+use Rattle.algol_tree.specs.declared.tree.Kind.{Kind}
+use Rattle.algol_tree.specs.Plain.{PProgram, PDecls, PStmts, body}
+use Rattle.algol_tree.specs.Sorts.{same_name}
+use Rattle.algol_tree.specs.Blocks.{Block, block_numbered, number_at, around}
+use Rattle.algol_tree.specs.Cells.{level_of}
+use Rattle.algol_tree.specs.Scopes.{Scopes, scopes_of}
+use Rattle.algol_meaning.specs.Rest.{Item, Answer, entered}
+use Rattle.algol_meaning.specs.World.{Process, Part, block, able, World, instance_at}
+use Rattle.algol_meaning.specs.Statements.{settle_items, items}
+use Rattle.algol_meaning.specs.Asks.{Ask, nothing, enters_block, ask, resume}
+use Rattle.algol_meaning.specs.Choice.{choice_of}
+use Rattle.algol_paths.specs.Blocks.{IsSeen, IsInner}
+use Rattle.algol_paths.specs.Laws.{RestsKeepToTheirText}
+use Rattle.algol_paths.specs.Segments.{segment_among, segment_of, segment_tokens}
+use Rattle.b67_word.specs.declared.Place.{Place}
+use Rattle.b67_word.specs.Word.{Word}
+use Rattle.b67_control.specs.declared.Pcw.{Pcw}
+use Rattle.b67_control.specs.Kind as kind
+use Rattle.b67_control.specs.Control.{as_irw, as_sirw, as_pcw}
+use Rattle.b67_control.proofs.ControlLaws.{irw_laws, as_sirw-other, as_pcw-pcw_word, kind_of-pcw_word}
+use Rattle.b67_ops.specs.declared.Operator.TheVariants as ops
+use Rattle.b67_ops.specs.declared.PlainKind.TheVariants as kinds
+use Rattle.b67_segment.specs.Operators.{Placed}
+use Rattle.b67_segment.specs.Syllables.{Spells}
+use Rattle.b67_segment.specs.declared.code.Code.{Code}
+use Rattle.b67_table.specs.declared.ProcessState.TheVariants.{Able}
+use Rattle.b67_table.specs.Chains.{place}
+use Rattle.b67_table.specs.Image.{Image}
+use Rattle.b67_table.specs.Private.{frame, display_at}
+use Rattle.b67_table.specs.Rows.{level_below}
+use Rattle.b67_templates.specs.Cells.{result_of, variables, zero_cells, procedures, control_segments}
+use Rattle.b67_templates.specs.Code.{CellsAt, StmtsAt, in_block}
+use Rattle.b67_templates.specs.Contexts.{Context}
+use Rattle.b67_templates.specs.Depths.{stmts_depth}
+use Rattle.b67_templates.specs.Fragments.{Has, code_at}
+use Rattle.b67_templates.specs.Programs.{context_of}
+use Rattle.b67_standing.specs.Laws.{InnerBlocksStart}
+use Rattle.b67_standing.specs.Stepping.{Slot, control, mark}
+use Rattle.b67_standing.specs.Standing.{ActionAt, Entered, Gives, pushed, ComesTo, EntersAt}
+use Rattle.b67_cores.specs.Cores.{Core}
+use Rattle.b67_cores.specs.Slots.{SlotIs}
+use Rattle.b67_cores.specs.Stretches.{BlocksBegin, FragmentsArePerformed}
+use Rattle.b67_faithful.specs.Faithful.{IsShort}
+use Rattle.b67_faithful.specs.Weight.{tokens_around}
+use Rattle.b67_fitting.specs.Nested.{LiesNested}
+use Rattle.b67_pictures.specs.Acting.{Does}
+use Rattle.b67_pictures.specs.Frames.{most_around}
+use Rattle.b67_pictures.proofs.AskedEntries.{blocks_seen}
+use Rattle.b67_pictures.proofs.EnterBlockRow.{block_leads, block_calls}
+use Rattle.b67_pictures.proofs.Entries.{Calls}
+use Rattle.b67_pictures.proofs.EntryRow.{Leads}
+use Rattle.b67_pictures.proofs.FrameEntering.{Body, GoesOnBehind, entering}
+use Rattle.b67_pictures.proofs.Growing.{plain_items}
+use Rattle.b67_pictures.proofs.Linked.{Linked, begins_core, own_linked, linked_low, level_around}
+use Rattle.b67_pictures.proofs.Scene.{Scene, shown_frame}
+use Rattle.b67_pictures.proofs.Segmented.{inner_segment}
+use Rattle.b67_pictures.proofs.Stage.{choice_is}
+use Rattle.b67_pictures.proofs.Staying.{text_in, level_in, context_in, most_in}
+use Rattle.b67_pictures.proofs.StoreRow.{most_is}
+
+module _ (tree : PProgram) (code : Code) (texts : ℕ → List Placed) (nested : LiesNested tree) (short : IsShort tree code)
+    (fragments : FragmentsArePerformed) (begins_so : BlocksBegin) (starts : InnerBlocksStart) (keeps : RestsKeepToTheirText)
+    (w : World) (lay : List Place) (img : Image) (p : ℕ) (q : Process) (part : Part) (outer : List Part) (bound : ℕ) (core : Core)
+    (s : Scene tree code texts w lay img p q part outer bound core) (able_is : q.state ≡ able) (able_p : numbered img.states p ≡ Some Able)
+    (spot : Spot) (ds : PDecls) (ss : PStmts) (asks : ask part.rest ≡ enters_block (body spot ds ss))
+    (a : ActionAt (scopes_of tree) (context_in tree code w part) (text_in tree texts w part) (level_in tree w part) (most_in tree w part) (enters_block (body spot ds ss)) s.stands.pc s.stands.slots)
+    (waits : (to : ℕ) (after : List Slot) (wanted : Option Kind) →
+    Entered (scopes_of tree) (context_in tree code w part) (text_in tree texts w part) (level_in tree w part) (most_in tree w part) (enters_block (body spot ds ss)) s.stands.pc s.stands.slots a to after wanted →
+    ask (resume (scopes_of tree) part.rest entered) ≡ nothing)
+    (returns : (to : ℕ) (after : List Slot) (wanted : Option Kind) →
+    Entered (scopes_of tree) (context_in tree code w part) (text_in tree texts w part) (level_in tree w part) (most_in tree w part) (enters_block (body spot ds ss)) s.stands.pc s.stands.slots a to after wanted →
+    (r : Answer) → Gives wanted r →
+    ComesTo (scopes_of tree) (context_in tree code w part) (text_in tree texts w part) (level_in tree w part) (most_in tree w part) (resume (scopes_of tree) (resume (scopes_of tree) part.rest entered) r) to (pushed r after)) where
+  abbrev sc : Scopes
+  sc = scopes_of tree
+
+  abbrev level : ℕ
+  level = level_in tree w part
+
+  abbrev around_block : ℕ
+  around_block = (instance_at w part.instance).block
+
+  abbrev j : ℕ
+  j = number_at sc.blocks spot
+
+  abbrev b : Block
+  b = block_numbered sc.blocks j
+
+  abbrev at : EntersAt sc (context_in tree code w part) (text_in tree texts w part) level (most_in tree w part) spot ds ss s.stands.pc a.0 s.stands.slots a.1
+  at = a.2
+
+  is_inner : IsInner sc around_block (body spot ds ss)
+  is_inner = blocks_seen (IsSeen sc around_block) (IsInner sc around_block) (body spot ds ss) part.rest asks s.stands.frame.text
+
+  level_new : level_of b ≡ level + 1
+  level_new = omega (arith, level_around sc.blocks j, ap length is_inner.around_is, level_around sc.blocks around_block)
+
+  same_segment : segment_of sc.blocks j ≡ segment_of sc.blocks around_block
+  same_segment =
+      inner_segment sc.blocks j (around sc.blocks j) (ap (λ (name : List ℕ). not (same_name name [])) is_inner.nameless)
+      ∙ ap (segment_among sc.blocks) is_inner.around_is
+
+  -- what stands in the text around stands in that of the block
+  in_text : (X : Context → List Placed → ℕ → Type 0) → X (in_block j (context_in tree code w part)) (text_in tree texts w part) (level + 1) → X (context_of code sc j) (texts (segment_of sc.blocks j)) (level_of b)
+  in_text X x =
+      subst (λ (k : ℕ). X (record { formats = code.formats; segment = k; block = j }) (texts k) (level_of b)) (sym same_segment)
+      (subst (X (in_block j (context_in tree code w part)) (text_in tree texts w part)) (sym level_new) x)
+
+  -- ---- the entry
+
+  abbrev c : Pcw
+  c = code_at (segment_of sc.blocks around_block) at.begin (level + 1)
+
+  c_is : c ≡ code_at (segment_of sc.blocks j) at.begin (level_of b)
+  c_is = ap (λ (k : ℕ). code_at k at.begin (level + 1)) (sym same_segment) ∙ ap (code_at (segment_of sc.blocks j) at.begin) (sym level_new)
+
+  linked : Linked sc w lay img.stacks p part.instance
+  linked = own_linked tree code texts w lay p img.stacks part outer core s.stands s.around (begins_core img p core s.has) part.instance (inl refl)
+
+  home_there : level_below core.registers (level + 1) ≡ Some (place p linked.at)
+  home_there =
+      let less : level + 1 - 1 ≡ core.registers.ll = omega (arith, s.stands.there.level_is) in
+      ap (λ (t : Bool). if t then display_at core.registers (level + 1 - 1) else None) (most_is 1 (level + 1) (omega arith))
+      ∙ ap (λ (n : ℕ). display_at core.registers n) less
+      ∙ shown_frame tree code texts w lay img p q part outer bound core s
+      ∙ sym s.stands.frame.framed.laid
+      ∙ linked.laid
+
+  abbrev HasControl : Word → Type 0
+  HasControl x = SlotIs sc level (frame core.registers) (length core.below) (mark ∷ a.1) (control c) x
+
+  no_irw : (x : Word) → HasControl x → as_irw x ≡ None
+  no_irw x is = irw_laws.other x (λ k. let other = sym (ap kind.kind_of is ∙ kind_of-pcw_word c at.fits) ∙ k in cc)
+
+  no_sirw : (x : Word) → HasControl x → as_sirw x ≡ None
+  no_sirw x is = as_sirw-other x (λ k. let other = sym (ap kind.kind_of is ∙ kind_of-pcw_word c at.fits) ∙ k in cc)
+
+  abbrev calls : Calls tree code texts nested short w lay img p q part outer bound core s (control c) a.0 a.1 part.instance j at.begin
+  calls =
+      record {
+        lies = at.lies;
+        marks = refl;
+        stands = at.stands;
+        own_parent = inl refl;
+        known = is_inner.known;
+        around_is = is_inner.around_is;
+        linked = linked;
+        low = linked_low tree code texts w lay p img.stacks part outer core s.stands s.around part.instance (inl refl) linked;
+        segment = s.stands.there.segment;
+        there = ap (λ (k : ℕ). slice_get code.segments k) (same_segment ∙ sym s.stands.segment_is) ∙ s.stands.there.there;
+        spells = subst (λ (k : ℕ). Spells (texts k) s.stands.there.segment) (sym same_segment) s.stands.there.spells;
+        leads = λ m x is. subst (λ (y : Pcw). Leads code img core a.0 x m y (place p linked.at)) c_is
+            (block_leads code img core a.0 x m c (place p linked.at) (no_irw x is) (no_sirw x is) (ap as_pcw is ∙ as_pcw-pcw_word c at.fits) home_there);
+        calls = λ x is. block_calls code img core a.0 x (record { entered = false; stack = 0; displacement = 0; df = 0 }) c (place p linked.at) (no_irw x is);
+      }
+
+  -- ---- its code
+
+  zeros_many : length (variables ds) ≡ length (zero_cells b)
+  zeros_many =
+      ap (λ (x : PDecls). length (variables x)) (sym is_inner.decls_are)
+      ∙ ap (λ (o : Option Kind). length (result_of o b.name ++ variables b.decls)) (sym is_inner.result)
+
+  room : length (procedures b.decls) + stmts_depth ss ≤ 4 * tokens_around tree j
+  room =
+      omega (arith, at.shallow, ap (λ (x : PDecls). length (procedures x)) is_inner.decls_are, ap (λ (k : ℕ). segment_tokens tree k) same_segment)
+
+  abbrev block_body : Body tree code texts nested short fragments begins_so keeps w lay img p q part outer bound core s able_is able_p j at.begin
+  block_body =
+      record {
+        start = at.code.0;
+        cells_at = subst (λ (n : ℕ). CellsAt sc (context_of code sc j) (texts (segment_of sc.blocks j)) (level_of b) n (control_segments sc b.decls) at.begin at.code.0) zeros_many
+            (subst (λ (x : PDecls). CellsAt sc (context_of code sc j) (texts (segment_of sc.blocks j)) (level_of b) (length (variables ds)) (control_segments sc x) at.begin at.code.0) (sym is_inner.decls_are)
+            (in_text (λ x ps l. CellsAt sc x ps l (length (variables ds)) (control_segments sc ds) at.begin at.code.0) at.code.3));
+        comes = subst (λ (k : List Item). ComesTo sc (context_of code sc j) (texts (segment_of sc.blocks j)) (level_of b) (most_around tree j) (settle_items sc k) at.code.0 [])
+            (sym (plain_items b (nested.nested.each j is_inner.known).made is_inner.result ∙ ap (λ (x : PStmts). items x []) is_inner.stmts_are))
+            (starts sc (context_of code sc j) (texts (segment_of sc.blocks j)) (level_of b) (most_around tree j) ss at.code.0 at.code.1 at.code.2
+            (in_text (λ x ps l. StmtsAt sc x ps l ss at.code.0 at.code.1 at.code.1) at.code.4) is_inner.result
+            (in_text (λ x ps l. Has ps l at.code.1 (ops.Plain kinds.Exit) at.code.2) at.code.5) (omega (arith, room)));
+        small = omega (arith, room);
+      }
+
+  abbrev behind : GoesOnBehind tree code texts nested short fragments begins_so keeps w lay img p q part outer bound core s able_is able_p a.0 a.1 j
+  behind =
+      record {
+        waits = waits a.0 a.1 None (refl, refl, refl);
+        returns = λ r given. returns a.0 a.1 None (refl, refl, refl) r (subst (λ (o : Option Kind). Gives o r) is_inner.result given);
+      }
+
+  pub entering_block : Does tree code texts w img p
+  entering_block =
+      entering tree code texts nested short fragments begins_so keeps w lay img p q part outer bound core s able_is able_p (control c) a.0 a.1 part.instance j at.begin calls block refl block_body behind
+      (choice_is sc w p q part outer s.at s.todo ∙ ap (λ (k : Ask). choice_of sc w p q part outer k) asks)

@@ -1,0 +1,292 @@
+-- A procedure is entered.
+use Rattle.std.proofs.Common.{◌≡◌, ◌⊎◌, inl, inr, refl, sym, ap, ◌∙◌, subst, ℕ, suc, ◌+◌, ◌-◌, ◌*◌, ◌≤◌, ◌<◌, List, ◌∷◌, length, Option, Some, None, true, false, arith}
+use Rattle.std.specs.Prelude.{slice_get}
+use Rattle.b67_list.specs.Numbered.{numbered}
+use Rattle.algol_tree.specs.declared.tree.Kind.{Kind}
+use Rattle.algol_tree.specs.declared.tree.Named.{Named}
+use Rattle.algol_tree.specs.Plain.{PProgram}
+use Rattle.algol_tree.specs.Sorts.{Sort}
+use Rattle.algol_tree.specs.Blocks.{Block, block_numbered, number_at, around}
+use Rattle.algol_tree.specs.Cells.{level_of}
+use Rattle.algol_tree.specs.Scopes.{Scopes, scopes_of, use_of}
+use Rattle.algol_meaning.specs.Rest.{Answer, Given, entered}
+use Rattle.algol_meaning.specs.World.{Instance, Process, Part, procedure, able, World, instance_at, or_no_instance, ancestor}
+use Rattle.algol_meaning.specs.Asks.{Ask, nothing, enters, ask, resume}
+use Rattle.algol_meaning.specs.Choice.{choice_of, entered_procedure, given_cells}
+use Rattle.algol_meaning.specs.Settle.{block_of}
+use Rattle.algol_paths.specs.Blocks.{IsSeen, IsInner}
+use Rattle.algol_paths.specs.Laws.{RestsKeepToTheirText}
+use Rattle.algol_paths.specs.Segments.{is_procedure, segment_of}
+use Rattle.b67_word.specs.declared.Place.{Place}
+use Rattle.b67_word.specs.Word.{Word}
+use Rattle.b67_control.specs.declared.Pcw.{Pcw}
+use Rattle.b67_control.specs.Control.{Fits_pcw, as_irw, as_sirw, pcw_word}
+use Rattle.b67_control.proofs.ControlLaws.{as_sirw-other, as_pcw-pcw_word, kind_of-pcw_word}
+use Rattle.b67_ops.specs.declared.Couple.{Couple}
+use Rattle.b67_ops.specs.declared.TheConstants.{OUTER_LEVEL}
+use Rattle.b67_segment.specs.Operators.{Placed}
+use Rattle.b67_segment.specs.declared.code.Code.{Code}
+use Rattle.b67_segment.specs.declared.code.Segment.{Segment}
+use Rattle.b67_store.specs.Store.{word_at}
+use Rattle.b67_table.specs.declared.ProcessState.TheVariants.{Able}
+use Rattle.b67_table.specs.Chains.{place}
+use Rattle.b67_table.specs.Image.{Image}
+use Rattle.b67_table.specs.Private.{frame, display_at}
+use Rattle.b67_templates.specs.Cells.{simple_cells, procedures, control_segments, IsProcedure}
+use Rattle.b67_templates.specs.Depths.{stmts_depth}
+use Rattle.b67_templates.specs.Fragments.{code_at}
+use Rattle.b67_templates.specs.Programs.{context_of, BodyAt, ProgramAt}
+use Rattle.b67_standing.specs.Laws.{BlocksStart}
+use Rattle.b67_standing.specs.Stepping.{Slot, reference, mark}
+use Rattle.b67_standing.specs.Standing.{ActionAt, Entered, Gives, pushed, ComesTo, CallsAt}
+use Rattle.b67_cores.specs.Cores.{Core}
+use Rattle.b67_cores.specs.Slots.{SlotIs}
+use Rattle.b67_cores.specs.Stretches.{BlocksBegin, FragmentsArePerformed, control_words}
+use Rattle.b67_faithful.specs.Faithful.{IsShort}
+use Rattle.b67_faithful.specs.Weight.{tokens_around}
+use Rattle.b67_fitting.specs.Nested.{LiesNested, IsDeclared}
+use Rattle.b67_pictures.specs.Acting.{Does}
+use Rattle.b67_pictures.specs.Frames.{most_around}
+use Rattle.b67_pictures.proofs.AskedEntries.{enters_seen}
+use Rattle.b67_pictures.proofs.EnterProcedureRow.{procedure_leads, procedure_calls}
+use Rattle.b67_pictures.proofs.Entries.{Calls}
+use Rattle.b67_pictures.proofs.FrameEntering.{Body, GoesOnBehind, entering}
+use Rattle.b67_pictures.proofs.FreshCells.{words_long}
+use Rattle.b67_pictures.proofs.Homes.{get-behind}
+use Rattle.b67_pictures.proofs.Linked.{Linked, begins_core, own_linked, linked_lies, linked_low, level_around}
+use Rattle.b67_pictures.proofs.Lying.{Lies, lies_in, IsParent, parents_in}
+use Rattle.b67_pictures.proofs.Numbers.{get_within, get_below}
+use Rattle.b67_pictures.proofs.Scene.{Scene}
+use Rattle.b67_pictures.proofs.Segmented.{before_whole, segment_low, procedure_segment, get_mapped}
+use Rattle.b67_pictures.proofs.StackWords.{get-front}
+use Rattle.b67_pictures.proofs.Stage.{choice_is}
+use Rattle.b67_pictures.proofs.Staying.{text_in, level_in, context_in, most_in, length_around}
+use Rattle.b67_pictures.proofs.Words.{reference_read}
+
+-- the statements of a procedure, with the control words of those that it declares, need no more words than its segment has room for
+abbrev pub HasRoomFor : PProgram → Type 0
+HasRoomFor tree =
+    (j : ℕ) → j < length (scopes_of tree).blocks → (j ≡ 0) ⊎ (is_procedure (block_numbered (scopes_of tree).blocks j) ≡ true) →
+    stmts_depth ((block_numbered (scopes_of tree).blocks j).stmts) + length (procedures (block_numbered (scopes_of tree).blocks j).decls) + 1 ≤ 4 * tokens_around tree j
+
+module _ (tree : PProgram) (code : Code) (program : ProgramAt code tree) (nested : LiesNested tree) (short : IsShort tree code) (small : HasRoomFor tree)
+    (fragments : FragmentsArePerformed) (begins_so : BlocksBegin) (starts : BlocksStart) (keeps : RestsKeepToTheirText)
+    (w : World) (lay : List Place) (img : Image) (p : ℕ) (q : Process) (part : Part) (outer : List Part) (bound : ℕ) (core : Core)
+    (s : Scene tree code program.texts w lay img p q part outer bound core) (able_is : q.state ≡ able) (able_p : numbered img.states p ≡ Some Able)
+    (n : Named) (gs : List Given) (asks : ask part.rest ≡ enters n gs)
+    (a : ActionAt (scopes_of tree) (context_in tree code w part) (text_in tree program.texts w part) (level_in tree w part) (most_in tree w part) (enters n gs) s.stands.pc s.stands.slots)
+    (waits : (to : ℕ) (after : List Slot) (wanted : Option Kind) →
+    Entered (scopes_of tree) (context_in tree code w part) (text_in tree program.texts w part) (level_in tree w part) (most_in tree w part) (enters n gs) s.stands.pc s.stands.slots a to after wanted →
+    ask (resume (scopes_of tree) part.rest entered) ≡ nothing)
+    (returns : (to : ℕ) (after : List Slot) (wanted : Option Kind) →
+    Entered (scopes_of tree) (context_in tree code w part) (text_in tree program.texts w part) (level_in tree w part) (most_in tree w part) (enters n gs) s.stands.pc s.stands.slots a to after wanted →
+    (r : Answer) → Gives wanted r →
+    ComesTo (scopes_of tree) (context_in tree code w part) (text_in tree program.texts w part) (level_in tree w part) (most_in tree w part) (resume (scopes_of tree) (resume (scopes_of tree) part.rest entered) r) to (pushed r after)) where
+  abbrev sc : Scopes
+  sc = scopes_of tree
+
+  abbrev texts : ℕ → List Placed
+  texts = program.texts
+
+  abbrev level : ℕ
+  level = level_in tree w part
+
+  abbrev block : ℕ
+  block = (instance_at w part.instance).block
+
+  abbrev callee : ℕ
+  callee = a.0
+
+  abbrev at : CallsAt sc (context_in tree code w part) (text_in tree texts w part) level (most_in tree w part) n gs callee s.stands.pc a.1 s.stands.slots a.2
+  at = a.3
+
+  abbrev couple : Couple
+  couple = at.couple
+
+  abbrev named : IsProcedure sc level n callee couple
+  named = at.procedure
+
+  -- ---- the instance that holds the procedure
+
+  abbrev up : ℕ
+  up = (use_of sc n).up
+
+  abbrev u : ℕ
+  u = (use_of sc n).block
+
+  abbrev h : ℕ
+  h = ancestor w up part.instance
+
+  seen_there : IsSeen sc block n
+  seen_there = enters_seen (IsSeen sc block) n gs (IsInner sc block) part.rest asks s.stands.frame.text
+
+  high : up + OUTER_LEVEL ≤ level
+  high = omega (arith, length_around sc.blocks block, get_below (block ∷ around sc.blocks block) up u seen_there)
+
+  parent : IsParent tree code texts w lay p (part ∷ outer) part.instance up u
+  parent = parents_in tree code texts w lay p part outer core s.stands s.around part.instance (inl refl) up u seen_there
+
+  lies : Lies tree code texts w lay p (part ∷ outer) h core.below
+  lies = lies_in tree code texts w lay p part outer core s.stands s.around h parent.own
+
+  linked : Linked sc w lay img.stacks p h
+  linked = own_linked tree code texts w lay p img.stacks part outer core s.stands s.around (begins_core img p core s.has) h parent.own
+
+  abbrev x : Instance
+  x = lies.frame.framed.instance
+
+  block_is : x.block ≡ u
+  block_is = ap (λ (o : Option Instance). (or_no_instance o).block) (sym lies.frame.framed.is) ∙ ap (λ (k : ℕ). (instance_at w k).block) lies.instance_is ∙ parent.block
+
+  u_known : u < length sc.blocks
+  u_known = subst (λ (k : ℕ). k < length sc.blocks) block_is lies.frame.framed.known
+
+  -- ---- the procedure
+
+  declared : IsDeclared sc u named.declared
+  declared = (nested.nested.each u u_known).procedure named.number named.declared named.there
+
+  known : callee < length sc.blocks
+  known = subst (λ (k : ℕ). k < length sc.blocks) named.callee_is declared.known
+
+  around_u : around sc.blocks callee ≡ u ∷ around sc.blocks u
+  around_u = subst (λ (k : ℕ). around sc.blocks k ≡ u ∷ around sc.blocks u) named.callee_is declared.around_is
+
+  around_is : around sc.blocks callee ≡ (instance_at w h).block ∷ around sc.blocks ((instance_at w h).block)
+  around_is = subst (λ (k : ℕ). around sc.blocks callee ≡ k ∷ around sc.blocks k) (sym parent.block) around_u
+
+  is_own : is_procedure (block_numbered sc.blocks callee) ≡ true
+  is_own = subst (λ (k : ℕ). is_procedure (block_numbered sc.blocks k) ≡ true) named.callee_is declared.procedure
+
+  abbrev b : Block
+  b = block_numbered sc.blocks callee
+
+  level_new : level_of b ≡ level_of (block_numbered sc.blocks u) + 1
+  level_new = omega (arith, level_around sc.blocks callee, ap length around_u, level_around sc.blocks u)
+
+  abbrev c : Pcw
+  c = code_at (segment_of sc.blocks callee) 0 (level_of b)
+
+  fits : Fits_pcw c
+  fits = (
+    omega (arith, segment_low sc.blocks (callee ∷ around sc.blocks callee) 1023 nested.nested.procedures_few),
+    (omega arith, (omega arith, (omega (arith, (nested.nested.each callee known).low), (omega arith, tt)))),
+  )
+
+  -- its segment
+  segment_there : (x : Segment) × (slice_get code.segments (segment_of sc.blocks callee) ≡ Some x)
+  segment_there =
+      get_within code.segments (segment_of sc.blocks callee)
+      (omega (arith, program.many, procedure_segment sc.blocks callee is_own, before_whole sc.blocks (suc callee)))
+
+  -- ---- its control word
+
+  abbrev far : ℕ
+  far = length (simple_cells (block_numbered sc.blocks u)) + named.number
+
+  cells_lie : slice_get lies.frame.cells far ≡ Some (pcw_word c)
+  cells_lie =
+      ap (λ (ws : List Word). slice_get ws far) lies.frame.framed.cells_is
+      ∙ get-behind lies.frame.framed.values (control_words (level_of (block_numbered sc.blocks x.block)) (control_segments sc (block_numbered sc.blocks x.block).decls)) named.number far
+      (omega (arith, words_long (simple_cells (block_numbered sc.blocks x.block)) x.cells lies.frame.framed.values lies.frame.framed.cells_are, ap (λ (k : ℕ). length (simple_cells (block_numbered sc.blocks k))) block_is))
+      ∙ ap (λ (k : ℕ). slice_get (control_words (level_of (block_numbered sc.blocks k)) (control_segments sc (block_numbered sc.blocks k).decls)) named.number) block_is
+      ∙ get_mapped (λ (k : ℕ). pcw_word (code_at k 0 (level_of (block_numbered sc.blocks u) + 1))) (control_segments sc (block_numbered sc.blocks u).decls) named.number
+      (segment_of sc.blocks (number_at sc.blocks named.declared.spot))
+      (get_mapped (λ (m : Named). segment_of sc.blocks (number_at sc.blocks m.spot)) (procedures (block_numbered sc.blocks u).decls) named.number named.declared named.there)
+      ∙ ap (λ (k : ℕ). Some (pcw_word (code_at (segment_of sc.blocks k) 0 (level_of (block_numbered sc.blocks u) + 1)))) named.callee_is
+      ∙ ap (λ (l : ℕ). Some (pcw_word (code_at (segment_of sc.blocks callee) 0 l))) (sym level_new)
+
+  abbrev there : ℕ
+  there = length lies.frame.lower + couple.index
+
+  below_lies : slice_get core.below there ≡ Some (pcw_word c)
+  below_lies =
+      ap (λ (ws : List Word). slice_get ws there) lies.words_are
+      ∙ get-front lies.front lies.rest there (pcw_word c)
+      (ap (λ (ws : List Word). slice_get ws there) lies.frame.words_are
+      ∙ get-behind lies.frame.lower (lies.frame.mark ∷ lies.frame.control ∷ lies.frame.cells) (suc (suc far)) there (omega (arith, named.index_is))
+      ∙ cells_lie)
+
+  same_at : linked.at ≡ length lies.frame.lower
+  unfolding lies
+  same_at = linked_lies tree code texts w lay p img.stacks part outer core s.stands s.around h parent.own linked
+
+  entry_lies : word_at img.stacks (record { stack = p; at = linked.at + couple.index }) ≡ Some (pcw_word c)
+  entry_lies =
+      ap (λ (k : ℕ). word_at img.stacks (record { stack = p; at = k + couple.index })) same_at
+      ∙ begins_core img p core s.has there (pcw_word c) below_lies
+
+  level_up : couple.level ≡ level - up
+  level_up = omega (arith, named.level_is)
+
+  shown : display_at core.registers couple.level ≡ Some (place p linked.at)
+  shown = ap (λ (k : ℕ). display_at core.registers k) level_up ∙ s.stands.chained up high ∙ linked.laid
+
+  -- ---- its reference
+
+  level_low : level ≤ 31
+  level_low =
+      omega (
+        arith,
+        ap (λ (o : Option Instance). level_of (block_numbered sc.blocks ((or_no_instance o).block))) s.stands.frame.framed.is,
+        (nested.nested.each s.stands.frame.framed.instance.block s.stands.frame.framed.known).low,
+      )
+
+  abbrev IsReference : Word → Type 0
+  IsReference y = SlotIs sc level (frame core.registers) (length core.below) (mark ∷ a.2) (reference couple) y
+
+  reads : (y : Word) → IsReference y → as_irw y ≡ Some (record { level = couple.level; index = couple.index })
+  reads y is =
+      ap as_irw is
+      ∙ reference_read couple (omega (arith, named.level_is, level_low))
+      (omega (arith, named.index_is, get_below (procedures (block_numbered sc.blocks u).decls) named.number named.declared named.there, (nested.nested.each u u_known).few))
+
+  no_sirw : as_sirw (pcw_word c) ≡ None
+  no_sirw = as_sirw-other (pcw_word c) (λ k. let other = sym (kind_of-pcw_word c fits) ∙ k in cc)
+
+  abbrev calls : Calls tree code texts nested short w lay img p q part outer bound core s (reference couple) a.1 a.2 h callee 0
+  calls =
+      record {
+        lies = at.lies;
+        marks = refl;
+        stands = at.stands;
+        own_parent = parent.own;
+        known = known;
+        around_is = around_is;
+        linked = linked;
+        low = linked_low tree code texts w lay p img.stacks part outer core s.stands s.around h parent.own linked;
+        segment = segment_there.0;
+        there = segment_there.1;
+        spells = program.spells (segment_of sc.blocks callee) segment_there.0 segment_there.1;
+        leads = λ m y is. procedure_leads code img core a.1 y m c (place p linked.at) couple.level couple.index (reads y is) (pcw_word c) shown entry_lies no_sirw (as_pcw-pcw_word c fits);
+        calls = λ y is. procedure_calls code img core a.1 y (record { entered = false; stack = 0; displacement = 0; df = 0 }) c (place p linked.at) couple.level couple.index (reads y is)
+            (omega (arith, level_up, high));
+      }
+
+  -- ---- its code
+
+  code_there : BodyAt sc (context_of code sc callee) (texts (segment_of sc.blocks callee)) (level_of b) b 0
+  code_there = program.bodies callee known (inr is_own)
+
+  room : stmts_depth b.stmts + length (procedures b.decls) + 1 ≤ 4 * tokens_around tree callee
+  room = small callee known (inr is_own)
+
+  abbrev procedure_body : Body tree code texts nested short fragments begins_so keeps w lay img p q part outer bound core s able_is able_p callee 0
+  procedure_body =
+      record {
+        start = code_there.start;
+        cells_at = code_there.cells;
+        comes = starts sc (context_of code sc callee) (texts (segment_of sc.blocks callee)) (level_of b) (most_around tree callee) b code_there.start code_there.items (omega (arith, room)) (omega (arith, room));
+        small = omega (arith, room);
+      }
+
+  abbrev behind : GoesOnBehind tree code texts nested short fragments begins_so keeps w lay img p q part outer bound core s able_is able_p a.1 a.2 callee
+  behind = record { waits = waits a.1 a.2 b.result (refl, refl, refl); returns = returns a.1 a.2 b.result (refl, refl, refl) }
+
+  pub entering_procedure : Does tree code texts w img p
+  entering_procedure =
+      entering tree code texts nested short fragments begins_so keeps w lay img p q part outer bound core s able_is able_p (reference couple) a.1 a.2 h callee 0 calls procedure refl procedure_body behind
+      (choice_is sc w p q part outer s.at s.todo
+      ∙ ap (λ (k : Ask). choice_of sc w p q part outer k) asks
+      ∙ ap (λ (x : Sort). entered_procedure sc w p q part outer (block_of x) h (given_cells sc w p q part outer gs)) named.sort_is
+      ∙ ap (λ (xs : List Given). entered_procedure sc w p q part outer callee h (given_cells sc w p q part outer xs)) at.none)

@@ -1,0 +1,181 @@
+-- The read of a procedure's result, at its end.
+use Rattle.std.proofs.Common.{◌≡◌, refl, sym, ap, ◌∙◌, subst, ℕ, suc, ◌+◌, List, [], ◌∷◌, ◌++◌, length, Option, Some, Bool, true, Ok, arith}
+use Rattle.std.specs.Prelude.{if◌then◌else◌, ◌&&◌, ◌==◌, slice_get}
+use Rattle.std.proofs.lemmas.Bool.Decides.{nat_tests}
+use Rattle.b67_list.specs.Numbered.{numbered}
+use Rattle.algol_tree.specs.declared.tree.Kind.{Kind}
+use Rattle.algol_tree.specs.Sorts.{Parameter, same_name}
+use Rattle.algol_tree.specs.Blocks.{Block, block_numbered}
+use Rattle.algol_tree.specs.Plain.{PProgram}
+use Rattle.algol_tree.specs.Scopes.{Scopes, scopes_of}
+use Rattle.algol_meaning.specs.Value.{Cell, simple}
+use Rattle.algol_meaning.specs.Rest.{Answer, value}
+use Rattle.algol_meaning.specs.World.{Instance, Process, Part, able, World, instance_at, or_no_instance, cell_at, cell_in, value_in}
+use Rattle.algol_meaning.specs.Actions.{Read}
+use Rattle.algol_meaning.specs.Asks.{Ask, reads_result, ask, resume}
+use Rattle.algol_meaning.specs.Choice.{choice_of, goes}
+use Rattle.algol_paths.specs.Laws.{RestsKeepToTheirText}
+use Rattle.b67_word.specs.declared.Place.{Place}
+use Rattle.b67_word.specs.Word.{Word}
+use Rattle.b67_ops.specs.declared.Operator.TheVariants as ops
+use Rattle.b67_segment.specs.Operators.{Placed}
+use Rattle.b67_segment.specs.declared.code.Code.{Code}
+use Rattle.b67_store.specs.Store.{word_at}
+use Rattle.b67_table.specs.Chains.{place}
+use Rattle.b67_table.specs.declared.ProcessState.TheVariants.{Able}
+use Rattle.b67_table.specs.Image.{Image}
+use Rattle.b67_table.specs.Effect as effects
+use Rattle.b67_table.specs.Outcome as outcomes
+use Rattle.b67_table.specs.Private.{display_at}
+use Rattle.b67_table.specs.Table.{operator_at}
+use Rattle.b67_templates.specs.Cells.{result_of, variables, simple_cells, Found, found_from}
+use Rattle.b67_templates.specs.Code.{ResultAt}
+use Rattle.b67_fitting.specs.Nested.{AreNested}
+use Rattle.b67_standing.specs.Stepping.{Slot, operand}
+use Rattle.b67_standing.specs.Standing.{ActionAt, Acted, ComesTo}
+use Rattle.b67_cores.specs.Cores.{Core, IsCore, with_core}
+use Rattle.b67_cores.specs.Stretches.{CoreAt, FragmentsArePerformed}
+use Rattle.b67_pictures.specs.Acting.{Does}
+use Rattle.b67_pictures.proofs.Homes.{operator_there, get-behind}
+use Rattle.b67_pictures.proofs.InFrame.{does_in_frame}
+use Rattle.b67_pictures.proofs.Linked.{begins_core}
+use Rattle.b67_pictures.proofs.Rows.{action_not_plain, action_is}
+use Rattle.b67_pictures.proofs.Scene.{Scene, shown_frame}
+use Rattle.b67_pictures.proofs.Stage.{choice_is}
+use Rattle.b67_pictures.proofs.StackWords.{get-front}
+use Rattle.b67_pictures.proofs.Staying.{text_in, level_in, context_in, most_in}
+use Rattle.b67_pictures.proofs.ValueRow.{with_top, value_raw, value_class}
+use Rattle.b67_pictures.proofs.Variables.{Cell_of, variable_cell, Holds_value, value_of_cell}
+use Rattle.b67_pictures.proofs.Words.{value_tag, no_sirw, no_pcw}
+
+itself : (n : ℕ) → (n == n) ≡ true
+itself n = grind (arith, nat_tests)
+
+same_itself : (name : List ℕ) → same_name name name ≡ true
+same_itself [] = refl
+same_itself (x ∷ xs) = ap (λ (t : Bool). t && same_name xs xs) (itself x) ∙ same_itself xs
+
+-- the result comes first among the cells of a block without parameters
+result_found : (b : Block) (kind : Kind) → b.parameters ≡ [] → b.result ≡ Some kind → found_from 0 (simple_cells b) b.name ≡ Some (record { number = 0; cell = record { name = b.name; kind = Some kind } })
+result_found b kind plain typed =
+    ap (λ (ps : List Parameter). found_from 0 (simple_cells (record b { parameters = ps })) b.name) plain
+    ∙ ap (λ (o : Option Kind). found_from 0 (result_of o b.name ++ variables b.decls) b.name) typed
+    ∙ ap (λ (t : Bool). if t then Some (record { number = 0; cell = record { name = b.name; kind = Some kind } }) else found_from 1 (variables b.decls) b.name) (same_itself b.name)
+
+module _ (tree : PProgram) (code : Code) (texts : ℕ → List Placed) (nested : AreNested (scopes_of tree)) (fragments : FragmentsArePerformed) (keeps : RestsKeepToTheirText) (w : World) (lay : List Place) (img : Image)
+    (p : ℕ) (q : Process) (part : Part) (outer : List Part) (bound : ℕ) (core : Core) (s : Scene tree code texts w lay img p q part outer bound core) (able_is : q.state ≡ able) (able_p : numbered img.states p ≡ Some Able)
+    (name : List ℕ) (asks : ask part.rest ≡ reads_result name)
+    (a : ActionAt (scopes_of tree) (context_in tree code w part) (text_in tree texts w part) (level_in tree w part) (most_in tree w part) (reads_result name) s.stands.pc s.stands.slots)
+    (answered : (r : Answer) (at : ℕ) (after : List Slot) →
+    Acted (scopes_of tree) (context_in tree code w part) (text_in tree texts w part) (level_in tree w part) (most_in tree w part) (reads_result name) s.stands.pc s.stands.slots a r at after →
+    ComesTo (scopes_of tree) (context_in tree code w part) (text_in tree texts w part) (level_in tree w part) (most_in tree w part) (resume (scopes_of tree) part.rest r) at after) where
+  abbrev sc : Scopes
+  sc = scopes_of tree
+
+  abbrev at : ResultAt sc (context_in tree code w part) (text_in tree texts w part) (level_in tree w part) name s.stands.pc
+  at = a.0
+
+  abbrev next : ℕ
+  next = at.valued
+
+  there : operator_at code core.registers ≡ Ok (ops.Valc at.couple, next)
+  there = operator_there sc code (text_in tree texts w part) (level_in tree w part) s.stands.pc s.stands.slots core (ops.Valc at.couple) next s.stands.there at.read
+
+  -- ---- its cell
+
+  abbrev own : Instance
+  own = s.stands.frame.framed.instance
+
+  own_is : instance_at w part.instance ≡ own
+  own_is = ap or_no_instance s.stands.frame.framed.is
+
+  abbrev b : Block
+  b = block_numbered sc.blocks own.block
+
+  typed : b.result ≡ Some at.kind
+  typed = subst (λ (x : Instance). (block_numbered sc.blocks x.block).result ≡ Some at.kind) own_is at.is
+
+  named : b.name ≡ name
+  named = subst (λ (x : Instance). (block_numbered sc.blocks x.block).name ≡ name) own_is at.named
+
+  plain : b.parameters ≡ []
+  plain = (nested.each own.block s.stands.frame.framed.known).plain
+
+  index_is : at.couple.index ≡ 2
+  index_is =
+      at.index_is
+      ∙ ap (λ (x : Instance). 2 + length (block_numbered sc.blocks x.block).parameters) own_is
+      ∙ ap (λ (ps : List Parameter). 2 + length ps) plain
+
+  abbrev found : Found
+  found = record { number = 0; cell = record { name = b.name; kind = Some at.kind } }
+
+  abbrev Cell_there : Type 0
+  Cell_there = Cell_of found 0 b.name own.cells s.stands.frame.framed.values
+
+  c : Cell_there
+  c = variable_cell (simple_cells b) own.cells s.stands.frame.framed.values 0 b.name found s.stands.frame.framed.cells_are (result_found b at.kind plain typed)
+
+  module _ (c : Cell_there) where
+    held : Holds_value at.kind (cell_in own.cells b.name) c.word
+    held = value_of_cell at.kind (cell_in own.cells b.name) c.word c.is
+
+    module _ (held : Holds_value at.kind (cell_in own.cells b.name) c.word) where
+      tag : c.word.tag ≡ 0
+      tag = value_tag held.value c.word held.word
+
+      abbrev base : ℕ
+      base = length s.stands.frame.lower
+
+      cells_lie : slice_get s.stands.frame.cells c.far ≡ Some c.word
+      cells_lie = ap (λ (ws : List Word). slice_get ws c.far) s.stands.frame.framed.cells_is ∙ get-front s.stands.frame.framed.values _ c.far c.word c.lies
+
+      below_lies : slice_get core.below (base + at.couple.index) ≡ Some c.word
+      below_lies =
+          ap (λ (ws : List Word). slice_get ws (base + at.couple.index)) s.stands.frame.words_are
+          ∙ get-behind s.stands.frame.lower (s.stands.frame.mark ∷ s.stands.frame.control ∷ s.stands.frame.cells) (suc (suc c.far)) (base + at.couple.index) (omega (arith, index_is, c.number))
+          ∙ cells_lie
+
+      lies : word_at img.stacks (record { stack = p; at = base + at.couple.index }) ≡ Some c.word
+      lies = begins_core img p core s.has (base + at.couple.index) c.word below_lies
+
+      shown : display_at core.registers at.couple.level ≡ Some (place p base)
+      shown = ap (λ (k : ℕ). display_at core.registers k) (at.level_is ∙ sym s.stands.there.level_is) ∙ shown_frame tree code texts w lay img p q part outer bound core s
+
+      abbrev new : Core
+      new = with_top core c.word next
+
+      is_new : IsCore new
+      is_new = record { bottom = s.has.is.bottom; top = omega (arith, s.has.is.top) }
+
+      core_at : CoreAt sc code (text_in tree texts w part) (level_in tree w part) next (operand held.value ∷ s.stands.slots) new
+      core_at =
+          record {
+            segment = s.stands.there.segment;
+            there = s.stands.there.there;
+            spells = s.stands.there.spells;
+            level_is = s.stands.there.level_is;
+            place_is = refl;
+            is = is_new;
+            mark_is = s.stands.there.mark_is;
+            words_are = (held.word, s.stands.there.words_are);
+          }
+
+      cell_is : cell_at w (record { instance = part.instance; name = name }) ≡ simple held.value
+      cell_is = ap (λ (x : Instance). cell_in x.cells name) own_is ∙ ap (cell_in own.cells) (sym named) ∙ held.is
+
+      pub result_read : Does tree code texts w img p
+      result_read =
+          does_in_frame tree code texts fragments keeps w lay img p q part outer bound core s able_is able_p (value held.value) tt w.output new refl (record { is = refl }) next (operand held.value ∷ s.stands.slots)
+          core_at (omega (arith, ap length a.1, a.2)) (answered (value held.value) next (operand held.value ∷ s.stands.slots) (refl, refl, held.kind)) Read
+          (action_not_plain code img p core s.has (ops.Valc at.couple) next there
+          (value_class code img p core s.has at.couple next there (place p base) shown c.word lies tag (no_sirw c.word tag) (no_pcw c.word tag)))
+          (value_raw code img p core s.has at.couple next there (place p base) shown c.word lies tag (no_sirw c.word tag) (no_pcw c.word tag)
+          ∙ ap (λ (o : List (List ℕ)). effects.gives (record (with_core img p new) { output = o })) s.by.output)
+          (choice_is sc w p q part outer s.at s.todo
+          ∙ ap (λ (k : Ask). choice_of sc w p q part outer k) asks
+          ∙ ap (λ (x : Cell). goes sc w p q part outer Read w (value (value_in x))) cell_is)
+          (λ t. action_is code img p core s.has (ops.Valc at.couple) next there (outcomes.gives (record (with_core img p new) { output = w.output })) t)
+
+  pub reading_result : Does tree code texts w img p
+  reading_result = result_read c (held c)

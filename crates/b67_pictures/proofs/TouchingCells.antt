@@ -1,0 +1,259 @@
+-- Where a process finds what an action reads: the operand in the cell of a variable or a result, and the control word of a procedure.
+use Rattle.std.proofs.Common.{◌≡◌, inl, refl, sym, ap, ◌∙◌, subst, ℕ, suc, ◌+◌, ◌-◌, ◌≤◌, List, [], ◌∷◌, ◌++◌, length, map, Option, Some, None, false, arith, lit<}
+use Rattle.std.specs.Prelude.{slice_get, reverse}
+use Rattle.b67_list.specs.Numbered.{numbered}
+use Rattle.algol_tree.specs.declared.tree.Kind.{Kind}
+use Rattle.algol_tree.specs.declared.tree.Named.{Named}
+use Rattle.algol_tree.specs.Blocks.{Block, block_numbered, number_at, around}
+use Rattle.algol_tree.specs.Cells.{level_of}
+use Rattle.algol_tree.specs.Plain.{PProgram}
+use Rattle.algol_tree.specs.Scopes.{Scopes, scopes_of, use_of}
+use Rattle.algol_tree.specs.Sorts.{Parameter}
+use Rattle.algol_meaning.specs.World.{NamedCell, Instance, Part, Process, World, instance_at, or_no_instance, ancestor}
+use Rattle.algol_paths.specs.Blocks.{IsSeen}
+use Rattle.algol_paths.specs.Segments.{procedures_before, segment_of}
+use Rattle.b67_word.specs.declared.Place.{Place}
+use Rattle.b67_word.specs.Word.{Word}
+use Rattle.b67_control.specs.declared.Pcw.{Pcw}
+use Rattle.b67_control.specs.Control.{Fits_pcw, as_pcw, as_sirw, pcw_word}
+use Rattle.b67_control.proofs.ControlLaws.{as_pcw-pcw_word, as_sirw-other}
+use Rattle.b67_ops.specs.declared.Couple.{Couple}
+use Rattle.b67_ops.specs.declared.TheConstants.{OUTER_LEVEL}
+use Rattle.b67_segment.specs.Operators.{Placed}
+use Rattle.b67_segment.specs.declared.code.Code.{Code}
+use Rattle.b67_store.specs.Store.{words_of, word_at}
+use Rattle.b67_table.specs.Chains.{place}
+use Rattle.b67_table.specs.Image.{Image}
+use Rattle.b67_table.specs.Private.{display_at}
+use Rattle.b67_templates.specs.Cells.{Simple, result_of, variables, simple_cells, procedures, control_segments, IsVariable, IsProcedure}
+use Rattle.b67_templates.specs.Fragments.{code_at}
+use Rattle.b67_cores.specs.Cores.{Core}
+use Rattle.b67_cores.specs.Stretches.{control_words}
+use Rattle.b67_fitting.specs.Nested.{IsDeclared, AreNested}
+use Rattle.b67_pictures.specs.Frames.{CellsAre}
+use Rattle.b67_pictures.proofs.Homes.{Home, home, get-behind}
+use Rattle.b67_pictures.proofs.Lying.{Lies, lies_in, IsParent, parents_in}
+use Rattle.b67_pictures.proofs.Numbers.{get_below}
+use Rattle.b67_pictures.proofs.Rows.{words_are}
+use Rattle.b67_pictures.proofs.Scene.{Scene, shown_frame}
+use Rattle.b67_pictures.proofs.Segmented.{procedure_segment, get_mapped}
+use Rattle.b67_pictures.proofs.StackWords.{get-front}
+use Rattle.b67_pictures.proofs.Staying.{level_in, length_around}
+use Rattle.b67_pictures.proofs.TouchingWords.{pcw_kind}
+use Rattle.b67_pictures.proofs.Variables.{Holds_value, value_of_cell}
+use Rattle.b67_pictures.proofs.Words.{value_tag}
+
+-- ---- words
+
+abbrev pub IsOperand : Word → Type 0
+IsOperand w = w.tag ≡ 0
+
+-- the control word of a procedure
+pub record IsEntry (w : Word) : Type 0 where
+  pub control : Pcw
+  pub reads : as_pcw w ≡ Some control
+  pub no_intrinsic : control.intrinsic ≡ false
+  pub no_sirw : as_sirw w ≡ None
+
+-- ---- cells
+
+-- a block's cells have as many words
+words_many : (ss : List Simple) (cells : List NamedCell) (words : List Word) → CellsAre ss cells words → length words ≡ length ss
+words_many [] [] [] are = refl
+words_many [] [] (w ∷ words) are = absurd are
+words_many [] (c ∷ cells) words are = absurd are
+words_many (s ∷ ss) [] words are = absurd are
+words_many (s ∷ ss) (c ∷ cells) [] are = absurd are
+words_many (s ∷ ss) (c ∷ cells) (w ∷ words) are = ap suc (words_many ss cells words are.2)
+
+record First (words : List Word) : Type 0 where
+  word : Word
+  lies : slice_get words 0 ≡ Some word
+  is : IsOperand word
+
+-- the first cell of a block without parameters is that of its result
+first_value : (b : Block) (kind : Kind) → b.parameters ≡ [] → b.result ≡ Some kind → (cells : List NamedCell) (words : List Word) → CellsAre (simple_cells b) cells words → First words
+first_value b kind plain typed cells words are = by_cells cells words (subst (λ (ss : List Simple). CellsAre ss cells words) is are)
+  where
+    is : simple_cells b ≡ record { name = b.name; kind = Some kind } ∷ variables b.decls
+    is =
+        ap (λ (ps : List Parameter). map (λ (p : Parameter). record { name = p.name; kind = None }) ps ++ result_of b.result b.name ++ variables b.decls) plain
+        ∙ ap (λ (o : Option Kind). result_of o b.name ++ variables b.decls) typed
+
+    by_cells : (cs : List NamedCell) (ws : List Word) → CellsAre (record { name = b.name; kind = Some kind } ∷ variables b.decls) cs ws → First ws
+    by_cells [] ws a = absurd a
+    by_cells (c ∷ cs) [] a = absurd a
+    by_cells (c ∷ cs) (w ∷ ws) a =
+        let held : Holds_value kind c.cell w = value_of_cell kind c.cell w a.1 in
+        record { word = w; lies = refl; is = value_tag held.value w held.word }
+
+-- ---- where a process stands
+
+module _ (tree : PProgram) (code : Code) (texts : ℕ → List Placed) (nested : AreNested (scopes_of tree)) (w : World) (lay : List Place) (img : Image)
+    (p : ℕ) (q : Process) (part : Part) (outer : List Part) (bound : ℕ) (core : Core) (s : Scene tree code texts w lay img p q part outer bound core) where
+  abbrev sc : Scopes
+  sc = scopes_of tree
+
+  abbrev level : ℕ
+  level = level_in tree w part
+
+  abbrev block : ℕ
+  block = (instance_at w part.instance).block
+
+  -- a couple names a cell of the own stack, in which lies such a word
+  pub record Names (couple : Couple) (Is : Word → Type 0) : Type 0 where
+    pub at : ℕ
+    pub shown : display_at core.registers couple.level ≡ Some (place p at)
+    pub word : Word
+    pub lies : word_at img.stacks (place p (at + couple.index)) ≡ Some word
+    pub is : Is word
+
+  -- what lies below the floor lies in the stack
+  below_there : (n : ℕ) (x : Word) → slice_get core.below n ≡ Some x → word_at img.stacks (place p n) ≡ Some x
+  below_there n x e =
+      ap (λ (k : ℕ). slice_get (words_of img.stacks k) n) (sym s.has.own)
+      ∙ ap (λ (ws : List Word). slice_get ws n) (words_are img p core s.has)
+      ∙ get-front core.below (reverse core.words) n x e
+
+  pub variable_there : (n : Named) (kind : Kind) (couple : Couple) → IsSeen sc block n → IsVariable sc level n kind couple → Names couple IsOperand
+  variable_there n kind couple seen v =
+      let h : Home tree code texts w lay img p q part outer bound core s n kind couple = home tree code texts w lay img p q part outer bound core s n kind couple seen v in
+      record {
+        at = length h.lies.frame.lower;
+        shown = h.shown;
+        word = h.word;
+        lies = below_there (length h.lies.frame.lower + couple.index) h.word h.below_lies;
+        is = value_tag h.value h.word h.word_is;
+      }
+
+  -- ---- the own result
+
+  module _ (kind : Kind) (typed : (block_numbered sc.blocks block).result ≡ Some kind) (couple : Couple) (level_is : couple.level ≡ level)
+      (index_is : couple.index ≡ 2 + length (block_numbered sc.blocks block).parameters) where
+    abbrev own : Instance
+    own = s.stands.frame.framed.instance
+
+    own_block : own.block ≡ block
+    own_block = sym (ap (λ (o : Option Instance). (or_no_instance o).block) s.stands.frame.framed.is)
+
+    plain : (block_numbered sc.blocks own.block).parameters ≡ []
+    plain = (nested.each own.block s.stands.frame.framed.known).plain
+
+    first : First s.stands.frame.framed.values
+    first =
+        first_value (block_numbered sc.blocks own.block) kind plain (ap (λ (j : ℕ). (block_numbered sc.blocks j).result) own_block ∙ typed) own.cells s.stands.frame.framed.values
+        s.stands.frame.framed.cells_are
+
+    third : couple.index ≡ 2
+    third = omega (arith, index_is, ap (λ (j : ℕ). length (block_numbered sc.blocks j).parameters) own_block, ap length plain)
+
+    result_lies : slice_get core.below (length s.stands.frame.lower + couple.index) ≡ Some first.word
+    result_lies =
+        ap (λ (ws : List Word). slice_get ws (length s.stands.frame.lower + couple.index)) s.stands.frame.words_are
+        ∙ get-behind s.stands.frame.lower (s.stands.frame.mark ∷ s.stands.frame.control ∷ s.stands.frame.cells) 2 (length s.stands.frame.lower + couple.index) (omega (arith, third))
+        ∙ ap (λ (ws : List Word). slice_get ws 0) s.stands.frame.framed.cells_is
+        ∙ get-front s.stands.frame.framed.values _ 0 first.word first.lies
+
+    pub result_there : Names couple IsOperand
+    result_there =
+        record {
+          at = length s.stands.frame.lower;
+          shown = ap (λ (k : ℕ). display_at core.registers k) (level_is ∙ sym s.stands.there.level_is) ∙ shown_frame tree code texts w lay img p q part outer bound core s;
+          word = first.word;
+          lies = below_there (length s.stands.frame.lower + couple.index) first.word result_lies;
+          is = first.is;
+        }
+
+  -- ---- the control word of a procedure
+
+  module _ (n : Named) (callee : ℕ) (couple : Couple) (seen : IsSeen sc block n) (c : IsProcedure sc level n callee couple) where
+    abbrev up : ℕ
+    up = (use_of sc n).up
+
+    abbrev home_at : ℕ
+    home_at = ancestor w up part.instance
+
+    low : up + OUTER_LEVEL ≤ level
+    low = omega (arith, length_around sc.blocks block, get_below (block ∷ around sc.blocks block) up ((use_of sc n).block) seen)
+
+    module _ (parent : IsParent tree code texts w lay p (part ∷ outer) part.instance up ((use_of sc n).block)) (l : Lies tree code texts w lay p (part ∷ outer) home_at core.below) where
+      abbrev here : Instance
+      here = l.frame.framed.instance
+
+      abbrev declaring : Block
+      declaring = block_numbered sc.blocks here.block
+
+      abbrev called : ℕ
+      called = number_at sc.blocks c.declared.spot
+
+      abbrev segment : ℕ
+      segment = segment_of sc.blocks called
+
+      abbrev control : Pcw
+      control = code_at segment 0 (level_of declaring + 1)
+
+      block_here : here.block ≡ (use_of sc n).block
+      block_here = sym (ap (λ (x : Instance). x.block) (ap (instance_at w) (sym l.instance_is) ∙ ap or_no_instance l.frame.framed.is)) ∙ parent.block
+
+      declared_there : slice_get (procedures declaring.decls) c.number ≡ Some c.declared
+      declared_there = ap (λ (j : ℕ). slice_get (procedures ((block_numbered sc.blocks j).decls)) c.number) block_here ∙ c.there
+
+      is_declared : IsDeclared sc here.block c.declared
+      is_declared = (nested.each here.block l.frame.framed.known).procedure c.number c.declared declared_there
+
+      -- a control word can hold its segment and its level
+      fits : Fits_pcw control
+      fits =
+          let few : procedures_before sc.blocks (suc called) ≤ 1023 = nested.procedures_few (suc called) in
+          let deep : level_of (block_numbered sc.blocks called) ≤ 31 = (nested.each called is_declared.known).low in
+          let further : level_of (block_numbered sc.blocks called) ≡ level_of declaring + 1 =
+          omega (arith, length_around sc.blocks called, ap length is_declared.around_is, length_around sc.blocks here.block) in
+          (omega (arith, procedure_segment sc.blocks called is_declared.procedure, few), (lit< tt, (lit< tt, (omega (arith, further, deep), (lit< tt, tt)))))
+
+      cells_lie : slice_get l.frame.cells (length (simple_cells declaring) + c.number) ≡ Some (pcw_word control)
+      cells_lie =
+          ap (λ (ws : List Word). slice_get ws (length (simple_cells declaring) + c.number)) l.frame.framed.cells_is
+          ∙ get-behind l.frame.framed.values (control_words (level_of declaring) (control_segments sc declaring.decls)) c.number (length (simple_cells declaring) + c.number)
+          (omega (arith, words_many (simple_cells declaring) here.cells l.frame.framed.values l.frame.framed.cells_are))
+          ∙ get_mapped (λ (k : ℕ). pcw_word (code_at k 0 (level_of declaring + 1))) (control_segments sc declaring.decls) c.number segment
+          (get_mapped (λ (m : Named). segment_of sc.blocks (number_at sc.blocks m.spot)) (procedures declaring.decls) c.number c.declared declared_there)
+
+      far : length l.frame.lower + couple.index ≡ length l.frame.lower + suc (suc (length (simple_cells declaring) + c.number))
+      far = omega (arith, c.index_is, ap (λ (j : ℕ). length (simple_cells (block_numbered sc.blocks j))) block_here)
+
+      below_lies : slice_get core.below (length l.frame.lower + couple.index) ≡ Some (pcw_word control)
+      below_lies =
+          ap (λ (ws : List Word). slice_get ws (length l.frame.lower + couple.index)) l.words_are
+          ∙ get-front l.front l.rest (length l.frame.lower + couple.index) (pcw_word control)
+          (ap (λ (ws : List Word). slice_get ws (length l.frame.lower + couple.index)) l.frame.words_are
+          ∙ get-behind l.frame.lower (l.frame.mark ∷ l.frame.control ∷ l.frame.cells) (suc (suc (length (simple_cells declaring) + c.number))) (length l.frame.lower + couple.index) far
+          ∙ cells_lie)
+
+      level_up : couple.level ≡ level - up
+      level_up = omega (arith, c.level_is)
+
+      entry_there : Names couple IsEntry
+      entry_there =
+          record {
+            at = length l.frame.lower;
+            shown =
+                ap (λ (k : ℕ). display_at core.registers k) level_up
+                ∙ s.stands.chained up low
+                ∙ ap (λ (k : ℕ). numbered lay k) (sym l.instance_is)
+                ∙ l.frame.framed.laid;
+            word = pcw_word control;
+            lies = below_there (length l.frame.lower + couple.index) (pcw_word control) below_lies;
+            is =
+                record {
+                  control = control;
+                  reads = as_pcw-pcw_word control fits;
+                  no_intrinsic = refl;
+                  no_sirw = as_sirw-other (pcw_word control) (λ k. let is = sym (pcw_kind control) ∙ k in cc);
+                };
+          }
+
+    pub procedure_there : Names couple IsEntry
+    procedure_there =
+        let parent : IsParent tree code texts w lay p (part ∷ outer) part.instance up ((use_of sc n).block) =
+        parents_in tree code texts w lay p part outer core s.stands s.around part.instance (inl refl) up ((use_of sc n).block) seen in
+        entry_there parent (lies_in tree code texts w lay p part outer core s.stands s.around home_at parent.own)
