@@ -1,5 +1,5 @@
 -- The forms of expression, each as it is matched.
-use Rattle.std.proofs.Common.{◌≡◌, ℕ, Some, Result, Ok, Err, List, sym, ap, ◌∙◌, subst}
+use Rattle.std.proofs.Common.{◌≡◌, ℕ, Result, Ok, Err, List, sym, ap, ◌∙◌, subst}
 use Rattle.std.specs.Result.{OnOk}
 use Rattle.algol_tree.specs.declared.tree.Expr.{Expr}
 use Rattle.algol_tree.specs.declared.tree.Expr as expressions
@@ -8,16 +8,11 @@ use Rattle.algol_tree.specs.Image.{expr, exprs}
 use Rattle.algol_tree.specs.Plain as tree
 use Rattle.algol_tree.specs.Plain.{PExpr}
 use Rattle.algol_scope.specs.declared.scopes.Scopes as table
-use Rattle.b67_ops.specs.declared.Couple.{Couple}
-use Rattle.b67_ops.specs.declared.Operator.TheVariants as ops
-use Rattle.b67_ops.specs.Spelling.{IsSeen}
-use Rattle.b67_segment.specs.Operators.{size}
 use Rattle.b67_segment.specs.Building.{Built}
-use Rattle.b67_templates.specs.Fragments.{Has}
-use Rattle.b67_templates.specs.Emitting.{Emitted}
-use Rattle.b67_emitter.specs.Values.{couples, AreNear, HasCode, ValueWithExits}
+use Rattle.b67_emitter.specs.Values.{HasCode, ValueWithExits}
+use Rattle.b67_emit_expr.specs.Naming.{NameHasCode, NameEmitted}
 use Rattle.b67_emit_expr.proofs.Shapes.{name_is}
-use Rattle.b67_emit_expr.proofs.Couples.{fits_name, seen_couple}
+use Rattle.b67_emit_expr.proofs.Couples.{fits_name}
 use Rattle.b67_emit_expr.proofs.Forms.{name_form}
 
 pub on_ok_both : {T E P Q R : Type 0} (r : Result T E) → (P → Q → R) → OnOk r P → OnOk r Q → OnOk r R
@@ -37,11 +32,10 @@ module _ (s : table.Scopes) (level : ℕ) where
     shape : expr e ≡ tree.variable (tree.subscripted v.name (exprs v.subs))
     shape = ap expr is ∙ name_is v
 
-    pub name_seen : (c : Couple) → HasCode s level (expr e) → AreNear s → couples s v.name.spot ≡ Some c → IsSeen level c
-    name_seen c h near known =
+    pub name_has : HasCode s level (expr e) → NameHasCode s level v.name
+    name_has h =
         let has = has_as e (tree.variable (tree.subscripted v.name (exprs v.subs))) shape h in
-        seen_couple s level has.scopes has.kind v.name c near known (fits_name s level has.scopes has.kind v.name (exprs v.subs) has.fits)
+        record { scopes = has.scopes; kind = has.kind; fits = fits_name s level has.scopes has.kind v.name (exprs v.subs) has.fits }
 
-    pub name_arm : (a b : Built) (xs : List ℕ) (c : Couple) → couples s v.name.spot ≡ Some c →
-        Emitted a b (λ qs. Has qs level (size a.operators) (ops.Valc c) (size b.operators)) → ValueWithExits s level a b xs xs (expr e)
-    name_arm a b xs c known h = emitted_as a b xs xs e (tree.variable (tree.subscripted v.name (exprs v.subs))) shape (name_form s level a b xs v.name (exprs v.subs) c known h)
+    pub name_arm : (a b : Built) (xs : List ℕ) → NameEmitted s level a b v.name → ValueWithExits s level a b xs xs (expr e)
+    name_arm a b xs h = emitted_as a b xs xs e (tree.variable (tree.subscripted v.name (exprs v.subs))) shape (name_form s level a b xs v.name (exprs v.subs) h)

@@ -1,5 +1,6 @@
 pub mod Shapes
 pub mod Couples
+pub mod Names
 pub mod Forms
 pub mod Listed
 pub mod Arms

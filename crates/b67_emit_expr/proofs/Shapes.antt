@@ -10,7 +10,6 @@ use Rattle.algol_tree.specs.declared.tree.Variable.{Variable}
 use Rattle.algol_tree.specs.declared.tree.Variable as variables
 use Rattle.algol_tree.specs.Image.{expr, exprs, variable}
 use Rattle.algol_tree.specs.Plain as tree
-use Rattle.algol_tree.specs.Plain.{PExpr}
 
 pub number_is : (z : ℤ) (spot : Spot) → expr (expressions.Number z spot) ≡ tree.number z spot
 number_is z spot = search (rules, expressions.the_lemmas)

@@ -1,23 +1,23 @@
 -- An operator on the value of an expression.
-use Rattle.std.specs.Prelude.{ℕ, List}
+use Rattle.std.specs.Prelude.{ℕ}
 use Rattle.algol_tree.specs.declared.tree.Kind.{Kind}
 use Rattle.algol_tree.specs.Plain.{PExpr}
 use Rattle.algol_tree.specs.Scopes.{Scopes}
 use Rattle.algol_scope.specs.declared.scopes.Scopes as table
 use Rattle.b67_ops.specs.declared.PlainKind.{PlainKind}
 use Rattle.b67_ops.specs.declared.Operator.TheVariants as ops
-use Rattle.b67_segment.specs.declared.code.Format.{Format}
+use Rattle.b67_templates.specs.Contexts.{Context}
 use Rattle.b67_segment.specs.Operators.{size}
 use Rattle.b67_segment.specs.Building.{Built}
 use Rattle.b67_templates.specs.Fragments.{Has}
 use Rattle.b67_templates.specs.Code.{ExprAt}
 use Rattle.b67_templates.specs.Emitting.{Emitted}
 use Rattle.b67_templates.specs.Fitting.{ExprFits}
-use Rattle.b67_emitter.specs.Values.{couples}
+use Rattle.b67_emitter.specs.Values.{couples, results}
 
 -- From the first builder to the second the expression's code was appended, and then this operator.
 pub record AppliedEmitted (s : table.Scopes) (level : ℕ) (before after : Built) (operator : PlainKind) (e : PExpr) : Type 0 where
   pub code :
-      (scopes : Scopes) (formats : List Format) (kind : Kind) → ExprFits scopes (couples s) level kind e →
+      (scopes : Scopes) (context : Context) (kind : Kind) → ExprFits scopes (couples s) (results s) level kind e →
       Emitted before after
-      (λ qs. (m : ℕ) × ExprAt scopes formats qs level kind e (size before.operators) m m × Has qs level m (ops.Plain operator) (size after.operators))
+      (λ qs. (m : ℕ) × ExprAt scopes context qs level kind e (size before.operators) m m × Has qs level m (ops.Plain operator) (size after.operators))

@@ -3,7 +3,7 @@
 use crate::values::operand;
 use algol_scope::Scopes;
 use algol_tree::{Expr, Variable};
-use b67_emitter::{ExprEmitter, append_reference, couple_of};
+use b67_emitter::{ExprEmitter, append_reference, left_of};
 use b67_segment::Builder;
 use std::alloc::{AllocError, Global};
 
@@ -20,6 +20,6 @@ impl ExprEmitter for Exprs {
     }
 
     fn name(&self, v: &Variable, scopes: &Scopes, out: &mut Builder) -> Result<(), AllocError> {
-        append_reference(out, couple_of(scopes, &v.name))
+        append_reference(out, left_of(scopes, &v.name))
     }
 }

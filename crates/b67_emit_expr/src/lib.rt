@@ -5,6 +5,7 @@
 #![tactic(auto)]
 
 mod emitter;
+mod naming;
 mod operators;
 mod values;
 

@@ -11,13 +11,11 @@ ghost use Rattle.b67_templates.specs.Depths.{expr_syllables};
 ghost use Rattle.b67_emitter.specs.Values.{AreNear, HasCode, ValueEmitted, ValueWithExits};
 ghost use Rattle.b67_emit_expr.specs.Applying.{AppliedEmitted};
 
+use crate::naming::append_name;
 use crate::operators::{append_ready, operator_for, truth_literal};
 use algol_scope::Scopes;
 use algol_tree::{Expr, Op};
-use b67_emitter::{
-    aim, aim_exits, append_branch, append_exit, append_number, append_plain, append_reading,
-    couple_of,
-};
+use b67_emitter::{aim, aim_exits, append_branch, append_exit, append_number, append_plain};
 use b67_ops::{BranchKind, PlainKind};
 use b67_segment::Builder;
 use std::alloc::AllocError;
@@ -143,7 +141,7 @@ fn value_with_exits(
     match e {
         Expr::Number(value, _) => append_number(out, *value),
         Expr::Truth(value, _) => append_plain(out, truth_literal(*value)),
-        Expr::Variable(v) => append_reading(out, couple_of(scopes, &v.name)),
+        Expr::Variable(v) => append_name(&v.name, scopes, out),
         Expr::Paren(e, _) => value_with_exits(e, scopes, out, exits),
         Expr::Plus(e, _) => value_with_exits(e, scopes, out, exits),
         Expr::Neg(e, _) => applied(PlainKind::Chsn, e, scopes, out, exits),

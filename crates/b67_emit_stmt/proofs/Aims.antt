@@ -1,13 +1,13 @@
 -- Branches that are aimed behind a loop's body or behind the first part of an IF.
 use Rattle.std.proofs.Common.{◌≡◌, ℕ, ◌≤◌, List, [], ◌∷◌, length, take, drop, sym, subst, arith}
 use Rattle.algol_tree.specs.Plain.{PStmt}
-use Rattle.algol_tree.specs.Scopes.{Scopes}
+use Rattle.b67_emit_stmt.specs.Places.{Place}
 use Rattle.b67_ops.specs.declared.BranchKind.{BranchKind}
 use Rattle.b67_segment.specs.declared.code.Format.{Format}
 use Rattle.b67_segment.specs.Operators.{Placed, size}
 use Rattle.b67_segment.specs.Building.{Built, level_set}
 use Rattle.b67_templates.specs.Fragments.{BranchAt}
-use Rattle.b67_templates.specs.Code.{StmtAt}
+use Rattle.b67_emit_stmt.specs.Places.{StmtAt}
 use Rattle.b67_templates.specs.Depths.{stmt_syllables}
 use Rattle.b67_templates.specs.Emitting.{AreExits, EmittedWithExits}
 use Rattle.b67_emitter.specs.Aiming.{Aimed}
@@ -17,7 +17,7 @@ use Rattle.b67_emit_stmt.proofs.Arms.{Closed, Stands}
 use Rattle.b67_emit_stmt.proofs.Drafts.{closed, emits_weaker, exits_there}
 
 -- the exits of a body go to the place behind it
-pub body_closed : (sc : Scopes) (level : ℕ) (x : PStmt) (a b d : Draft) (first : ℕ) → first ≡ length a.exits.items → Emits (stmt_syllables x) a b (Stands sc level x a b) →
+pub body_closed : (sc : Place) (level : ℕ) (x : PStmt) (a b d : Draft) (first : ℕ) → first ≡ length a.exits.items → Emits (stmt_syllables x) a b (Stands sc level x a b) →
     Aimed (drop first b.exits.items) b.out d.out → d.exits.items ≡ take first b.exits.items → d.formats.items ≡ b.formats.items →
     Emits (stmt_syllables x) a d (Closed sc level x a d)
 body_closed sc level x a b d first is h aimed es fs =

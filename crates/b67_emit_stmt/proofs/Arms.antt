@@ -7,7 +7,7 @@ use Rattle.algol_tree.specs.declared.tree.Named.{Named}
 use Rattle.algol_tree.specs.declared.tree.Op.TheVariants as operators
 use Rattle.algol_tree.specs.Plain as tree
 use Rattle.algol_tree.specs.Plain.{PExpr, PStmt, PStmts}
-use Rattle.algol_tree.specs.Scopes.{Scopes}
+use Rattle.b67_emit_stmt.specs.Places.{Place}
 use Rattle.algol_meaning.specs.Statements.{alone}
 use Rattle.b67_ops.specs.declared.Operator.TheVariants as ops
 use Rattle.b67_ops.specs.declared.PlainKind.TheVariants as kinds
@@ -16,7 +16,7 @@ use Rattle.b67_ops.specs.declared.BranchKind.TheVariants.{Brfl, Brtr, Brun}
 use Rattle.b67_segment.specs.declared.code.Format.{Format}
 use Rattle.b67_segment.specs.Operators.{Placed, size}
 use Rattle.b67_templates.specs.Fragments.{Has, AllAt, BranchAt, TurnAt}
-use Rattle.b67_templates.specs.Code.{AssignAt, ExprAt, StepAt, StmtAt, StmtsAt}
+use Rattle.b67_emit_stmt.specs.Places.{AssignAt, ExprAt, StepAt, StmtAt, StmtsAt}
 use Rattle.b67_templates.specs.Depths.{expr_syllables, stmt_syllables}
 use Rattle.b67_templates.specs.Emitting.{EmittedWithExits}
 use Rattle.b67_emitter.specs.Aiming.{Aimed}
@@ -25,7 +25,7 @@ use Rattle.b67_emit_stmt.specs.Drafts.{Emits}
 use Rattle.b67_emit_stmt.specs.Emits.{stmts_syllables}
 use Rattle.b67_emit_stmt.proofs.Drafts.{emits_then, emits_weaker, hole_closed}
 
-module _ (sc : Scopes) (level : ℕ) where
+module _ (sc : Place) (level : ℕ) where
   -- a statement stands from one draft's end to another's
   abbrev pub Stands : PStmt → Draft → Draft → List Format → List Placed → ℕ → Type 0
   Stands s a b formats qs target = StmtAt sc formats qs level s (size a.out.operators) (size b.out.operators) target

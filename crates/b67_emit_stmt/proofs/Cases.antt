@@ -6,7 +6,7 @@ use Rattle.std.proofs.lemmas.List.{append-nil}
 use Rattle.algol_tree.specs.declared.tree.Stmt.{Stmt}
 use Rattle.algol_tree.specs.Counts.{stmt_tokens, stmts_tokens}
 use Rattle.algol_tree.specs.Image.{stmt, stmts}
-use Rattle.algol_tree.specs.Scopes.{Scopes}
+use Rattle.b67_emit_stmt.specs.Places.{Place}
 use Rattle.b67_ops.specs.declared.Operator.{Operator}
 use Rattle.b67_ops.specs.declared.Operator.TheVariants.{Branch}
 use Rattle.b67_ops.specs.declared.BranchKind.{BranchKind}
@@ -14,7 +14,7 @@ use Rattle.b67_ops.specs.declared.BranchKind.TheVariants.{Brun}
 use Rattle.b67_segment.specs.declared.code.Format.{Format}
 use Rattle.b67_segment.specs.Operators.{Placed, StandsAmong, size}
 use Rattle.b67_templates.specs.Fragments.{Has, BranchAt, Goes, over, stop}
-use Rattle.b67_templates.specs.Code.{StmtAt, CasesAt}
+use Rattle.b67_emit_stmt.specs.Places.{StmtAt, CasesAt}
 use Rattle.b67_templates.specs.Emitting.{Keeps, Emitted, is_among, Leaves, AreExits}
 use Rattle.b67_emitter.specs.Aiming.{Aimed}
 use Rattle.b67_emitter.proofs.Exits.{next-behind, is_among-append, or-left, or-right, none_before, none_behind, exits_kept, exits-append}
@@ -48,7 +48,7 @@ entries_more ps level (suc many) f m t h k e = (h.0, entries_more ps level many 
 
 -- ---- statements behind a table
 
-pub cases-append : (sc : Scopes) (formats : List Format) (qs : List Placed) (level : ℕ) (xs : List Stmt) (y : Stmt) (entry u p x : ℕ) →
+pub cases-append : (sc : Place) (formats : List Format) (qs : List Placed) (level : ℕ) (xs : List Stmt) (y : Stmt) (entry u p x : ℕ) →
     CasesAt sc formats qs level (stmts xs) entry u → BranchAt qs level Brun (entry + 3 * length xs) p (entry + 3 * length xs + 3) →
     StmtAt sc formats qs level (stmt y) p x u → Goes qs level x u → CasesAt sc formats qs level (stmts (xs ++ y ∷ [])) entry u
 cases-append sc formats qs level [] y entry u p x h b s g =
@@ -77,13 +77,14 @@ pub record Partly (exits : List ℕ) (target from upto behind to : ℕ) (ps qs :
       StandsAmong qs at level (Branch kind target) next
 
 -- The statements that are done stand behind the table, and the branches to the others are not aimed yet.
-pub record Midcase (sc : Scopes) (level : ℕ) (done : List Stmt) (left : ℕ) (a t c : Draft) : Type 0 where
+pub record Midcase (sc : Place) (level : ℕ) (done : List Stmt) (left : ℕ) (a t c : Draft) : Type 0 where
   pub level_is : c.out.level ≡ a.out.level
   pub begun : size a.out.operators ≤ size t.out.operators
   pub grown : size t.out.operators ≤ size c.out.operators
   pub short : size c.out.operators + 21 * length done ≤ size t.out.operators + 24 * stmts_tokens (stmts done)
   pub formats : IsFront a.formats.items c.formats.items
   pub few : HasFew c
+  pub more : length c.formats.items + size a.out.operators ≤ length a.formats.items + size c.out.operators
   pub listed : AreListed a.formats.items → AreListed c.formats.items
   pub kept : Keeps 0 (size a.out.operators) a.out.operators c.out.operators
   pub exits : List ℕ
@@ -95,7 +96,7 @@ pub record Midcase (sc : Scopes) (level : ℕ) (done : List Stmt) (left : ℕ) (
       Partly exits target (size a.out.operators) (size a.out.operators + 3 * length done) (size t.out.operators) (size c.out.operators) c.out.operators qs →
       CasesAt sc formats qs level (stmts done) (size a.out.operators) target
 
-pub midcase-first : (sc : Scopes) (level many : ℕ) (a t : Draft) → HasFew a → t.exits.items ≡ a.exits.items → t.formats.items ≡ a.formats.items →
+pub midcase-first : (sc : Place) (level many : ℕ) (a t : Draft) → HasFew a → t.exits.items ≡ a.exits.items → t.formats.items ≡ a.formats.items →
     Emitted a.out t.out (λ qs. EntriesAt qs level many (size a.out.operators) (size t.out.operators)) → Midcase sc level [] many a t t
 midcase-first sc level many a t few es fs h =
     let here = h.claimed t.out.operators (λ at level next op lo hi s. s) in
@@ -107,6 +108,7 @@ midcase-first sc level many a t few es fs h =
       short = omega arith;
       formats = front_equal fs;
       few = omega (arith, few, ap length fs, h.grown);
+      more = omega (arith, ap length fs, h.grown);
       listed = listed_equal fs;
       kept = h.kept;
       exits = [];
@@ -116,7 +118,7 @@ midcase-first sc level many a t few es fs h =
       claimed = λ formats k qs target hi l. tt;
     }
 
-module _ (sc : Scopes) (level : ℕ) (done : List Stmt) (left : ℕ) (a t c d e f : Draft) (s : Stmt) (entry n : ℕ) (m : Midcase sc level done (suc left) a t c)
+module _ (sc : Place) (level : ℕ) (done : List Stmt) (left : ℕ) (a t c d e f : Draft) (s : Stmt) (entry n : ℕ) (m : Midcase sc level done (suc left) a t c)
     (is : entry ≡ size a.out.operators + 3 * length done) (aim : Aimed (entry ∷ []) c.out d.out) (es : d.exits.items ≡ c.exits.items) (fs : d.formats.items ≡ c.formats.items)
     (g : Emits n d f
     (λ formats qs target.
@@ -229,6 +231,7 @@ module _ (sc : Scopes) (level : ℕ) (done : List Stmt) (left : ℕ) (a t c d e 
         short = omega (arith, m.short, g.short, aim.place, narrow, length-append done (s ∷ []), tokens-append done s []);
         formats = front_trans a.formats.items c.formats.items f.formats.items m.formats more;
         few = g.few;
+        more = omega (arith, m.more, ap length fs, aim.place, g.more);
         listed = λ l. g.listed (listed_equal fs (m.listed l));
         kept = λ at l next op lo hi st.
             let behind = next-behind a.out.operators at l next op st in
@@ -243,7 +246,7 @@ module _ (sc : Scopes) (level : ℕ) (done : List Stmt) (left : ℕ) (a t c d e 
       }
 
 -- all statements are done
-pub midcase-last : (sc : Scopes) (level : ℕ) (done : List Stmt) (a t c : Draft) (n : ℕ) → Midcase sc level done zero a t c →
+pub midcase-last : (sc : Place) (level : ℕ) (done : List Stmt) (a t c : Draft) (n : ℕ) → Midcase sc level done zero a t c →
     size c.out.operators ≤ size a.out.operators + n →
     Emits n a c (λ formats qs target. CasesAt sc formats qs level (stmts done) (size a.out.operators) target)
 midcase-last sc level done a t c n m short =
@@ -266,5 +269,6 @@ midcase-last sc level done a t c n m short =
       short = short;
       formats = m.formats;
       few = m.few;
+      more = m.more;
       listed = m.listed;
     }

@@ -57,6 +57,7 @@ piece {n} {d} {e} {P} same fs few h short =
       short = short;
       formats = front_equal fs;
       few = omega (arith, ap length fs, few, first.grown);
+      more = omega (arith, ap length fs, first.grown);
       listed = listed_equal fs;
     }
 
@@ -68,6 +69,7 @@ exit_piece {n} {d} {e} {P} fs few h short = record {
   short = short;
   formats = front_equal fs;
   few = omega (arith, ap length fs, few, h.grown);
+  more = omega (arith, ap length fs, h.grown);
   listed = listed_equal fs;
 }
 
@@ -86,6 +88,7 @@ emits_then {m} {n} {a} {b} {c} {P} {Q} e f =
       short = omega (arith, e.short, f.short);
       formats = front_trans a.formats.items b.formats.items c.formats.items e.formats f.formats;
       few = f.few;
+      more = omega (arith, e.more, f.more);
       listed = λ l. f.listed (e.listed l);
     }
 
@@ -98,6 +101,7 @@ emits_weaker {m} {n} {a} {b} {P} Q e le f = record {
   short = omega (arith, e.short, le);
   formats = e.formats;
   few = e.few;
+  more = e.more;
   listed = e.listed;
 }
 
@@ -116,6 +120,7 @@ emits_none a few = record {
   short = omega arith;
   formats = front_self a.formats.items;
   few = few;
+  more = omega arith;
   listed = λ l. l;
 }
 
@@ -140,6 +145,7 @@ closed {n} {a} {b} {c} {P} e g es fs =
       short = omega (arith, e.short, g.place);
       formats = subst F (sym fs) e.formats;
       few = omega (arith, e.few, ap length fs, g.place);
+      more = omega (arith, e.more, ap length fs, g.place);
       listed = λ l. listed_equal fs (e.listed l);
     }
 
@@ -163,6 +169,7 @@ hole_closed m {n} {a} {b} {c} {d} {holes} {P} {Q} e wide es fs f g es' fs' =
       short = omega (arith, wide, f.short, g.place);
       formats = front_trans a.formats.items c.formats.items d.formats.items (subst F fs f.formats) (front_equal fs');
       few = omega (arith, f.few, ap length fs', g.place);
+      more = omega (arith, f.more, ap length fs, ap length fs', g.place, e.grown);
       listed = λ l. listed_equal fs' (f.listed (listed_equal fs l));
     }
 

@@ -33,6 +33,7 @@ set_back {n} {P} a d inner outer level i o h =
       short = e.short;
       formats = e.formats;
       few = e.few;
+      more = e.more;
       listed = e.listed;
     } in
     subst O (sym o) there

@@ -1,22 +1,23 @@
 -- Formats and lines.
-use Rattle.std.proofs.Common.{◌≡◌, ℕ, ◌+◌, ◌*◌, ◌-◌, ◌≤◌, List, [], ◌∷◌, ◌++◌, Option, refl, sym, subst, arith}
+use Rattle.std.proofs.Common.{◌≡◌, ℕ, ◌+◌, ◌*◌, ◌-◌, ◌≤◌, List, [], ◌∷◌, ◌++◌, refl, sym, subst, arith}
 use Rattle.algol_tree.specs.Spelling.{value_after}
 use Rattle.algol_tree.specs.declared.tree.PhraseText.{PhraseText}
 use Rattle.algol_tree.specs.Image.{expr, exprs}
 use Rattle.algol_tree.specs.Counts.{expr_tokens, exprs_tokens}
-use Rattle.algol_tree.specs.declared.token.Spot.{Spot}
 use Rattle.algol_tree.specs.declared.tree.Expr.{Expr}
 use Rattle.algol_tree.specs.declared.tree.Kind.TheVariants as types
-use Rattle.algol_tree.specs.Scopes.{Scopes}
-use Rattle.b67_ops.specs.declared.Couple.{Couple}
+use Rattle.b67_emit_stmt.specs.declared.draft.Known.{Known}
+use Rattle.b67_emit_stmt.specs.Places.{Place}
 use Rattle.b67_segment.specs.declared.code.Format.{Format}
 use Rattle.b67_segment.specs.Operators.{Placed, size}
 use Rattle.b67_segment.specs.Building.{Built}
 use Rattle.b67_templates.specs.Emitting.{Emitted}
 use Rattle.b67_emitter.proofs.Composing.{then, weaker}
 use Rattle.b67_segment.specs.declared.code.Phrase.{Phrase}
-use Rattle.b67_templates.specs.Code.{AreParts, IsPart, ExprAt, LineAt}
-use Rattle.b67_templates.specs.Fitting.{PhraseFits, PhrasesFit, ExprFits, LineFits}
+use Rattle.b67_templates.specs.Code.{AreParts, IsPart}
+use Rattle.b67_emit_stmt.specs.Places.{ExprAt, LineAt}
+use Rattle.b67_templates.specs.Fitting.{PhraseFits, PhrasesFit}
+use Rattle.b67_emit_stmt.specs.Fits.{ExprFits, LineFits}
 
 -- a number is no less for more digits
 pub value_grows : (n : ℕ) (digits : List ℕ) → n ≤ value_after n digits
@@ -35,7 +36,7 @@ pub phrase_fits : (ts : List PhraseText) (t : PhraseText) (us : List PhraseText)
 phrase_fits [] t us h = h.0
 phrase_fits (x ∷ ts) t us h = phrase_fits ts t us h.1
 
-pub line_fits : (sc : Scopes) (known : Spot → Option Couple) (level : ℕ) (xs : List Expr) (y : Expr) (ys : List Expr) → LineFits sc known level (exprs (xs ++ y ∷ ys)) →
+pub line_fits : (sc : Place) (known : Known) (level : ℕ) (xs : List Expr) (y : Expr) (ys : List Expr) → LineFits sc known level (exprs (xs ++ y ∷ ys)) →
     ExprFits sc known level types.Number (expr y)
 line_fits sc known level [] y ys h = h.0
 line_fits sc known level (x ∷ xs) y ys h = line_fits sc known level xs y ys h.1
@@ -44,13 +45,13 @@ pub line_tokens : (xs : List Expr) (y : Expr) (ys : List Expr) → exprs_tokens 
 line_tokens [] y ys = omega arith
 line_tokens (x ∷ xs) y ys = omega (arith, line_tokens xs y ys)
 
-pub line-append : (sc : Scopes) (formats : List Format) (qs : List Placed) (level : ℕ) (xs : List Expr) (y : Expr) (f m t : ℕ) → LineAt sc formats qs level (exprs xs) f m →
+pub line-append : (sc : Place) (formats : List Format) (qs : List Placed) (level : ℕ) (xs : List Expr) (y : Expr) (f m t : ℕ) → LineAt sc formats qs level (exprs xs) f m →
     ExprAt sc formats qs level types.Number (expr y) m t t → LineAt sc formats qs level (exprs (xs ++ y ∷ [])) f t
 line-append sc formats qs level [] y f m t h k =
     let E : ℕ → Type 0 = λ from. ExprAt sc formats qs level types.Number (expr y) from t t in (t, subst E (sym h) k, refl)
 line-append sc formats qs level (x ∷ xs) y f m t h k = (h.0, h.1, line-append sc formats qs level xs y h.0 m t h.2 k)
 
-pub line_part : (sc : Scopes) (formats : List Format) (level : ℕ) (xs : List Expr) (y : Expr) (zs : List Expr) (a b c : Built) → zs ≡ xs ++ y ∷ [] →
+pub line_part : (sc : Place) (formats : List Format) (level : ℕ) (xs : List Expr) (y : Expr) (zs : List Expr) (a b c : Built) → zs ≡ xs ++ y ∷ [] →
     Emitted a b (λ qs. LineAt sc formats qs level (exprs xs) (size a.operators) (size b.operators)) →
     Emitted b c (λ qs. ExprAt sc formats qs level types.Number (expr y) (size b.operators) (size c.operators) (size c.operators)) →
     Emitted a c (λ qs. LineAt sc formats qs level (exprs zs) (size a.operators) (size c.operators))

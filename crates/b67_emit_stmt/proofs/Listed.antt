@@ -3,16 +3,15 @@ use Rattle.std.proofs.Common.{◌≡◌, ℕ, ◌+◌, ◌≤◌, ◌<◌, List,
 use Rattle.algol_tree.specs.declared.tree.Stmt.{Stmt}
 use Rattle.algol_tree.specs.Counts.{stmt_tokens, stmts_tokens}
 use Rattle.algol_tree.specs.Image.{stmt, stmts}
-use Rattle.algol_tree.specs.Scopes.{Scopes}
-use Rattle.algol_scope.specs.declared.scopes.Scopes as table
+use Rattle.b67_emit_stmt.specs.Places.{Place}
+use Rattle.b67_emit_stmt.specs.declared.draft.Known.{Known}
 use Rattle.b67_segment.specs.declared.code.Format.{Format}
 use Rattle.b67_segment.specs.Operators.{Placed, size}
 use Rattle.b67_segment.specs.Building.{level_set}
-use Rattle.b67_templates.specs.Code.{StmtAt, StmtsAt}
+use Rattle.b67_emit_stmt.specs.Places.{StmtAt, StmtsAt}
 use Rattle.b67_templates.specs.Depths.{stmt_syllables}
-use Rattle.b67_templates.specs.Fitting.{StmtFits, StmtsFit}
+use Rattle.b67_emit_stmt.specs.Fits.{StmtFits, StmtsFit}
 use Rattle.b67_emitter.specs.Aiming.{Aimed}
-use Rattle.b67_emitter.specs.Values.{couples}
 use Rattle.b67_emit_stmt.specs.declared.draft.Draft.{Draft}
 use Rattle.b67_emit_stmt.specs.Drafts.{Emits, HasFew, IsReady}
 use Rattle.b67_emit_stmt.specs.Emits.{EmitsStmt, stmts_syllables}
@@ -20,18 +19,18 @@ use Rattle.b67_emit_stmt.proofs.Drafts.{closed, emits_none, emits_then, emits_we
 use Rattle.b67_emit_stmt.proofs.Lists.{around, fits-append, front_more, stands-append, tokens-append}
 use Rattle.b67_emit_stmt.proofs.Ready.{stmt_piece}
 
-abbrev pub StandTogether : Scopes → ℕ → List Stmt → Draft → Draft → List Format → List Placed → ℕ → Type 0
+abbrev pub StandTogether : Place → ℕ → List Stmt → Draft → Draft → List Format → List Placed → ℕ → Type 0
 StandTogether sc level xs a b formats qs target = StmtsAt sc formats qs level (stmts xs) (size a.out.operators) (size b.out.operators) target
 
-pub together_none : (sc : Scopes) (level : ℕ) (xs : List Stmt) (a : Draft) → HasFew a → Emits (stmts_syllables (stmts (take 0 xs))) a a (StandTogether sc level (take 0 xs) a a)
+pub together_none : (sc : Place) (level : ℕ) (xs : List Stmt) (a : Draft) → HasFew a → Emits (stmts_syllables (stmts (take 0 xs))) a a (StandTogether sc level (take 0 xs) a a)
 together_none sc level xs a few = emits_weaker (StandTogether sc level (take 0 xs) a a) (emits_none a few) (omega arith) (λ formats qs target hi p. refl)
 
 -- the next statement fits
-pub next_fits : (s : table.Scopes) (sc : Scopes) (level : ℕ) (xs : List Stmt) (i : ℕ) (x : Stmt) → i < length xs → x ≡ get_or xs i x → StmtsFit sc (couples s) level (stmts xs) →
-    StmtFits sc (couples s) level (stmt x)
+pub next_fits : (s : Known) (sc : Place) (level : ℕ) (xs : List Stmt) (i : ℕ) (x : Stmt) → i < length xs → x ≡ get_or xs i x → StmtsFit sc s level (stmts xs) →
+    StmtFits sc s level (stmt x)
 next_fits s sc level xs i x h e fit =
-    let F : List Stmt → Type 0 = λ l. StmtsFit sc (couples s) level (stmts l) in
-    fits-append sc (couples s) level (take i xs) x (drop (i + 1) xs) (subst F (around xs i x h e) fit)
+    let F : List Stmt → Type 0 = λ l. StmtsFit sc s level (stmts l) in
+    fits-append sc s level (take i xs) x (drop (i + 1) xs) (subst F (around xs i x h e) fit)
 
 -- the tokens before the next statement, its own and those behind it are those of the list
 pub next_tokens : (xs : List Stmt) (i : ℕ) (x : Stmt) → i < length xs → x ≡ get_or xs i x →
@@ -44,7 +43,7 @@ pub more_tokens : (xs : List Stmt) (i : ℕ) (x : Stmt) → i < length xs → x 
 more_tokens xs i x h e =
     omega (arith, ap (λ (l : List Stmt). stmts_tokens (stmts l)) (front_more xs i x h e), tokens-append (take i xs) x [])
 
-module _ (s : table.Scopes) (sc : Scopes) (level : ℕ) (xs : List Stmt) (i : ℕ) (x : Stmt) (lo : i < length xs) (is : x ≡ get_or xs i x) (a b d : Draft) (first : ℕ)
+module _ (s : Known) (sc : Place) (level : ℕ) (xs : List Stmt) (i : ℕ) (x : Stmt) (lo : i < length xs) (is : x ≡ get_or xs i x) (a b d : Draft) (first : ℕ)
     (at : first ≡ length a.exits.items) (h : Emits (stmts_syllables (stmts (take i xs))) a b (StandTogether sc level (take i xs) a b))
     (aimed : Aimed (drop first b.exits.items) b.out d.out) (es : d.exits.items ≡ take first b.exits.items) (fs : d.formats.items ≡ b.formats.items) where
   -- the exits of those that are done go to the next
@@ -64,11 +63,13 @@ module _ (s : table.Scopes) (sc : Scopes) (level : ℕ) (xs : List Stmt) (i : �
   next_ready m le r = record {
     set = set_after done r.set;
     near = r.near;
+    many = r.many;
+    segment = r.segment;
     few = done.few;
     room = omega (arith, next_tokens xs i x lo is, done.short, r.room, le);
   }
 
-  pub together_more : (e : Draft) → level_set a.out ≡ level → StmtFits sc (couples s) level (stmt x) → EmitsStmt s d e (stmt x) →
+  pub together_more : (e : Draft) → level_set a.out ≡ level → StmtFits sc s level (stmt x) → EmitsStmt s d e (stmt x) →
       Emits (stmts_syllables (stmts (take (i + 1) xs))) a e (StandTogether sc level (take (i + 1) xs) a e)
   together_more e q fit k =
       let S : List Stmt → List Format → List Placed → ℕ → Type 0 = λ l formats qs target. StandTogether sc level l a e formats qs target in

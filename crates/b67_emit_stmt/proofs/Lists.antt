@@ -1,16 +1,15 @@
 -- Statements one after another.
-use Rattle.std.proofs.Common.{◌≡◌, ℕ, ◌+◌, ◌<◌, List, [], ◌∷◌, ◌++◌, length, take, drop, get_or, Option, sym, ap, ◌∙◌, subst, arith}
+use Rattle.std.proofs.Common.{◌≡◌, ℕ, ◌+◌, ◌<◌, List, [], ◌∷◌, ◌++◌, length, take, drop, get_or, sym, ap, ◌∙◌, subst, arith}
 use Rattle.std.proofs.lemmas.List.{take-append-drop, drop_more, take_more}
-use Rattle.algol_tree.specs.declared.token.Spot.{Spot}
 use Rattle.algol_tree.specs.declared.tree.Stmt.{Stmt}
 use Rattle.algol_tree.specs.Counts.{stmt_tokens, stmts_tokens}
 use Rattle.algol_tree.specs.Image.{stmt, stmts}
-use Rattle.algol_tree.specs.Scopes.{Scopes}
-use Rattle.b67_ops.specs.declared.Couple.{Couple}
+use Rattle.b67_emit_stmt.specs.declared.draft.Known.{Known}
+use Rattle.b67_emit_stmt.specs.Places.{Place}
 use Rattle.b67_segment.specs.declared.code.Format.{Format}
 use Rattle.b67_segment.specs.Operators.{Placed}
-use Rattle.b67_templates.specs.Code.{StmtAt, StmtsAt}
-use Rattle.b67_templates.specs.Fitting.{StmtFits, StmtsFit}
+use Rattle.b67_emit_stmt.specs.Places.{StmtAt, StmtsAt}
+use Rattle.b67_emit_stmt.specs.Fits.{StmtFits, StmtsFit}
 
 -- a list around one of its items
 pub around : {X : Type 0} (xs : List X) (i : ℕ) (x : X) → i < length xs → x ≡ get_or xs i x → xs ≡ take i xs ++ x ∷ drop (i + 1) xs
@@ -28,14 +27,14 @@ tokens-append (x ∷ xs) y ys = omega (arith, tokens-append xs y ys)
 
 -- ---- fitting
 
-pub fits-append : (sc : Scopes) (known : Spot → Option Couple) (level : ℕ) (xs : List Stmt) (y : Stmt) (ys : List Stmt) → StmtsFit sc known level (stmts (xs ++ y ∷ ys)) →
+pub fits-append : (sc : Place) (known : Known) (level : ℕ) (xs : List Stmt) (y : Stmt) (ys : List Stmt) → StmtsFit sc known level (stmts (xs ++ y ∷ ys)) →
     StmtFits sc known level (stmt y)
 fits-append sc known level [] y ys h = h.0
 fits-append sc known level (x ∷ xs) y ys h = fits-append sc known level xs y ys h.1
 
 -- ---- code
 
-pub stands-append : (sc : Scopes) (formats : List Format) (qs : List Placed) (level : ℕ) (xs : List Stmt) (y : Stmt) (f m t u : ℕ) →
+pub stands-append : (sc : Place) (formats : List Format) (qs : List Placed) (level : ℕ) (xs : List Stmt) (y : Stmt) (f m t u : ℕ) →
     StmtsAt sc formats qs level (stmts xs) f m m → StmtAt sc formats qs level (stmt y) m t u → StmtsAt sc formats qs level (stmts (xs ++ y ∷ [])) f t u
 stands-append sc formats qs level [] y f m t u h k =
     let S : ℕ → Type 0 = λ x. StmtAt sc formats qs level (stmt y) x t u in subst S (sym h) k

@@ -8,17 +8,16 @@ use Rattle.algol_tree.specs.declared.tree.Op.TheVariants as operators
 use Rattle.algol_tree.specs.declared.tree.PhraseText.{PhraseText}
 use Rattle.algol_tree.specs.Plain as tree
 use Rattle.algol_tree.specs.Plain.{PDecls, PExpr, PExprs, PStmt, PStmts}
-use Rattle.algol_tree.specs.Scopes.{Scopes}
-use Rattle.algol_scope.specs.declared.scopes.Scopes as table
+use Rattle.b67_emit_stmt.specs.Places.{Place}
+use Rattle.b67_emit_stmt.specs.declared.draft.Known.{Known}
 use Rattle.algol_meaning.specs.Statements as meaning
 use Rattle.b67_segment.specs.declared.code.Format.{Format}
 use Rattle.b67_segment.specs.Operators.{Placed, size}
 use Rattle.b67_segment.specs.Building.{Built, level_set}
-use Rattle.b67_templates.specs.Code.{AssignAt, ExprAt, StepAt, WriteAt}
+use Rattle.b67_emit_stmt.specs.Places.{AssignAt, CallStmtAt, ExprAt, StepAt, WriteAt}
 use Rattle.b67_templates.specs.Depths.{expr_syllables, stmt_syllables}
 use Rattle.b67_templates.specs.Emitting.{Emitted}
-use Rattle.b67_templates.specs.Fitting.{AssignFits, ExprFits, NameFits, StmtFits, WriteFits}
-use Rattle.b67_emitter.specs.Values.{couples}
+use Rattle.b67_emit_stmt.specs.Fits.{AssignFits, CallStmtFits, ExprFits, ReadFits, VariableFits, StmtFits, WriteFits}
 use Rattle.b67_emit_stmt.specs.declared.draft.Draft.{Draft}
 use Rattle.b67_emit_stmt.specs.Drafts.{Emits, IsReady, HasFew}
 use Rattle.b67_emit_stmt.specs.Emits.{HasFit, EmitsStmt, EmitsThen, write_syllables}
@@ -29,48 +28,58 @@ use Rattle.b67_emit_stmt.proofs.Ready.{stmt_piece}
 
 -- ---- the same tree
 
-pub ready_as : (s : table.Scopes) (a : Draft) (p q : PStmt) → p ≡ q → IsReady s a (stmt_syllables p) → IsReady s a (stmt_syllables q)
+pub ready_as : (s : Known) (a : Draft) (p q : PStmt) → p ≡ q → IsReady s a (stmt_syllables p) → IsReady s a (stmt_syllables q)
 ready_as s a p q is r = let R : PStmt → Type 0 = λ x. IsReady s a (stmt_syllables x) in subst R is r
 
-pub fit_as : (s : table.Scopes) (a : Draft) (p q : PStmt) → p ≡ q → HasFit s a p → HasFit s a q
+pub fit_as : (s : Known) (a : Draft) (p q : PStmt) → p ≡ q → HasFit s a p → HasFit s a q
 fit_as s a p q is f = let F : PStmt → Type 0 = λ x. HasFit s a x in subst F is f
 
-pub emits_as : (s : table.Scopes) (a b : Draft) (p q : PStmt) → p ≡ q → EmitsStmt s a b q → EmitsStmt s a b p
+pub emits_as : (s : Known) (a b : Draft) (p q : PStmt) → p ≡ q → EmitsStmt s a b q → EmitsStmt s a b p
 emits_as s a b p q is e = let E : PStmt → Type 0 = λ x. EmitsStmt s a b x in subst E (sym is) e
 
 -- ---- less room
 
-pub ready_less : (s : table.Scopes) (a : Draft) (m k : ℕ) → IsReady s a m → k ≤ m → IsReady s a k
-ready_less s a m k r le = record { set = r.set; near = r.near; few = r.few; room = omega (arith, le, r.room) }
+pub ready_less : (s : Known) (a : Draft) (m k : ℕ) → IsReady s a m → k ≤ m → IsReady s a k
+ready_less s a m k r le = record { set = r.set; near = r.near; many = r.many; segment = r.segment; few = r.few; room = omega (arith, le, r.room) }
 
 -- what a call needs after code without formats
-pub ready_behind : (s : table.Scopes) (a b : Draft) (m k : ℕ) → IsReady s a m → b.out.level ≡ a.out.level → b.formats.items ≡ a.formats.items →
+pub ready_behind : (s : Known) (a b : Draft) (m k : ℕ) → IsReady s a m → b.out.level ≡ a.out.level → b.formats.items ≡ a.formats.items →
     size a.out.operators ≤ size b.out.operators → size b.out.operators + k ≤ size a.out.operators + m → IsReady s b k
 ready_behind s a b m k r l fs grown le = record {
   set = set_same a.out b.out l r.set;
   near = r.near;
+  many = r.many;
+  segment = r.segment;
   few = omega (arith, ap length fs, r.few, grown);
   room = omega (arith, le, r.room);
 }
 
-pub fit_at : (s : table.Scopes) (sc : Scopes) (x : PStmt) (b : Draft) (level : ℕ) → level_set b.out ≡ level → StmtFits sc (couples s) level x → HasFit s b x
-fit_at s sc x b level q fit = let F : ℕ → Type 0 = λ l. StmtFits sc (couples s) l x in (sc, subst F (sym q) fit)
+pub fit_at : (s : Known) (sc : Place) (x : PStmt) (b : Draft) (level : ℕ) → level_set b.out ≡ level → StmtFits sc s level x → HasFit s b x
+fit_at s sc x b level q fit = let F : ℕ → Type 0 = λ l. StmtFits sc s l x in (sc, subst F (sym q) fit)
 
 -- ---- forms
 
 -- nothing
-pub empty_emitted : (s : table.Scopes) (a : Draft) → HasFew a → EmitsStmt s a a tree.empty
+pub empty_emitted : (s : Known) (a : Draft) → HasFew a → EmitsStmt s a a tree.empty
 empty_emitted s a few = λ sc fit. emits_weaker (Stands sc (level_set a.out) tree.empty a a) (emits_none a few) (omega arith) (λ formats qs target hi p. refl)
 
-module _ (s : table.Scopes) (sc : Scopes) (level : ℕ) where
+module _ (s : Known) (sc : Place) (level : ℕ) where
   -- the variable is a name alone
-  pub alone : (n : Named) (es : PExprs) (e : PExpr) → StmtFits sc (couples s) level (tree.assign (tree.subscripted n es) e) → es ≡ tree.none
+  pub alone : (n : Named) (es : PExprs) (e : PExpr) → StmtFits sc s level (tree.assign (tree.subscripted n es) e) → es ≡ tree.none
   alone n tree.none e h = refl
   alone n (tree.more x xs) e h = absurd h
 
-  pub assigns : (n : Named) (es : PExprs) (e : PExpr) → StmtFits sc (couples s) level (tree.assign (tree.subscripted n es) e) → AssignFits sc (couples s) level n e
+  pub assigns : (n : Named) (es : PExprs) (e : PExpr) → StmtFits sc s level (tree.assign (tree.subscripted n es) e) → AssignFits sc s level n e
   assigns n tree.none e h = h
   assigns n (tree.more x xs) e h = absurd h
+
+  pub called : (n : Named) (es : PExprs) → StmtFits sc s level (tree.call_of (tree.called n es)) → CallStmtFits sc s level n
+  called n tree.none h = h
+  called n (tree.more x xs) h = absurd h
+
+  bare_call : (n : Named) (es : PExprs) → StmtFits sc s level (tree.call_of (tree.called n es)) → es ≡ tree.none
+  bare_call n tree.none h = refl
+  bare_call n (tree.more x xs) h = absurd h
 
 -- ---- levels
 
@@ -84,28 +93,28 @@ set_ahead {n} {a} {b} d e l h = set_same a.out d (l ∙ e.code.level) h
 
 -- ---- parts of FOR
 
-module _ (s : table.Scopes) (sc : Scopes) (level : ℕ) where
+module _ (s : Known) (sc : Place) (level : ℕ) where
   pub assigned : (n : Named) (e : PExpr) (a b : Draft) → level_set a.out ≡ level → b.exits.items ≡ a.exits.items → b.formats.items ≡ a.formats.items → HasFew a →
-      ((sc' : Scopes) (formats : List Format) → AssignFits sc' (couples s) (level_set a.out) n e →
+      ((sc' : Place) (formats : List Format) → AssignFits sc' s (level_set a.out) n e →
       Emitted a.out b.out (λ qs. AssignAt sc' formats qs (level_set a.out) n e (size a.out.operators) (size b.out.operators))) →
-      size b.out.operators ≤ size a.out.operators + (3 + expr_syllables e) → AssignFits sc (couples s) level n e →
+      size b.out.operators ≤ size a.out.operators + (3 + expr_syllables e) → AssignFits sc s level n e →
       Emits (3 + expr_syllables e) a b (λ formats qs target. AssignAt sc formats qs level n e (size a.out.operators) (size b.out.operators))
   assigned n e a b q es fs few h short fit =
-      let F : ℕ → Type 0 = λ l. AssignFits sc (couples s) l n e in
+      let F : ℕ → Type 0 = λ l. AssignFits sc s l n e in
       piece {n = 3 + expr_syllables e} {d = a} {e = b} es fs few
       (λ formats. leveled (λ l qs. AssignAt sc formats qs l n e (size a.out.operators) (size b.out.operators)) level q (h sc formats (subst F (sym q) fit))) short
 
   pub compared : (n : Named) (e : PExpr) (a b : Draft) → level_set a.out ≡ level → b.exits.items ≡ a.exits.items → b.formats.items ≡ a.formats.items → HasFew a →
-      ((sc' : Scopes) (formats : List Format) → NameFits sc' (couples s) (level_set a.out) types.Number n → ExprFits sc' (couples s) (level_set a.out) types.Number e →
+      ((sc' : Place) (formats : List Format) → ReadFits sc' s (level_set a.out) types.Number n → ExprFits sc' s (level_set a.out) types.Number e →
       Emitted a.out b.out
       (λ qs.
       ExprAt sc' formats qs (level_set a.out) types.Number (tree.two operators.Sub (meaning.alone n) e) (size a.out.operators) (size b.out.operators) (size b.out.operators))) →
-      size b.out.operators ≤ size a.out.operators + (3 + expr_syllables e) → NameFits sc (couples s) level types.Number n → ExprFits sc (couples s) level types.Number e →
+      size b.out.operators ≤ size a.out.operators + (3 + expr_syllables e) → ReadFits sc s level types.Number n → ExprFits sc s level types.Number e →
       Emits (3 + expr_syllables e) a b
       (λ formats qs target. ExprAt sc formats qs level types.Number (tree.two operators.Sub (meaning.alone n) e) (size a.out.operators) (size b.out.operators) (size b.out.operators))
   compared n e a b q es fs few h short name fit =
-      let N : ℕ → Type 0 = λ l. NameFits sc (couples s) l types.Number n in
-      let F : ℕ → Type 0 = λ l. ExprFits sc (couples s) l types.Number e in
+      let N : ℕ → Type 0 = λ l. ReadFits sc s l types.Number n in
+      let F : ℕ → Type 0 = λ l. ExprFits sc s l types.Number e in
       piece {n = 3 + expr_syllables e} {d = a} {e = b} es fs few
       (λ formats.
       leveled
@@ -114,24 +123,24 @@ module _ (s : table.Scopes) (sc : Scopes) (level : ℕ) where
       short
 
   pub stepped : (e : PExpr) (a b : Draft) → level_set a.out ≡ level →
-      ((sc' : Scopes) → ExprFits sc' (couples s) (level_set a.out) types.Number e →
+      ((sc' : Place) → ExprFits sc' s (level_set a.out) types.Number e →
       Emits (13 + expr_syllables e) a b (λ formats qs target. StepAt sc' formats qs (level_set a.out) e (size a.out.operators) target (size b.out.operators))) →
-      ExprFits sc (couples s) level types.Number e →
+      ExprFits sc s level types.Number e →
       Emits (13 + expr_syllables e) a b (λ formats qs target. StepAt sc formats qs level e (size a.out.operators) target (size b.out.operators))
   stepped e a b q h fit =
-      let F : ℕ → Type 0 = λ l. ExprFits sc (couples s) l types.Number e in
+      let F : ℕ → Type 0 = λ l. ExprFits sc s l types.Number e in
       at_level level (λ l formats qs target. StepAt sc formats qs l e (size a.out.operators) target (size b.out.operators)) q (h sc (subst F (sym q) fit))
 
   pub advanced : (n : Named) (e : PExpr) (a b : Draft) → level_set a.out ≡ level → b.exits.items ≡ a.exits.items → b.formats.items ≡ a.formats.items → HasFew a →
-      ((sc' : Scopes) (formats : List Format) → NameFits sc' (couples s) (level_set a.out) types.Number n → ExprFits sc' (couples s) (level_set a.out) types.Number e →
+      ((sc' : Place) (formats : List Format) → VariableFits sc' s (level_set a.out) n → ExprFits sc' s (level_set a.out) types.Number e →
       Emitted a.out b.out
       (λ qs. AssignAt sc' formats qs (level_set a.out) n (tree.two operators.Add (meaning.alone n) e) (size a.out.operators) (size b.out.operators))) →
-      size b.out.operators ≤ size a.out.operators + (6 + expr_syllables e) → NameFits sc (couples s) level types.Number n → ExprFits sc (couples s) level types.Number e →
+      size b.out.operators ≤ size a.out.operators + (6 + expr_syllables e) → VariableFits sc s level n → ExprFits sc s level types.Number e →
       Emits (6 + expr_syllables e) a b
       (λ formats qs target. AssignAt sc formats qs level n (tree.two operators.Add (meaning.alone n) e) (size a.out.operators) (size b.out.operators))
   advanced n e a b q es fs few h short name fit =
-      let N : ℕ → Type 0 = λ l. NameFits sc (couples s) l types.Number n in
-      let F : ℕ → Type 0 = λ l. ExprFits sc (couples s) l types.Number e in
+      let N : ℕ → Type 0 = λ l. VariableFits sc s l n in
+      let F : ℕ → Type 0 = λ l. ExprFits sc s l types.Number e in
       piece {n = 6 + expr_syllables e} {d = a} {e = b} es fs few
       (λ formats.
       leveled (λ l qs. AssignAt sc formats qs l n (tree.two operators.Add (meaning.alone n) e) (size a.out.operators) (size b.out.operators)) level q
@@ -140,33 +149,47 @@ module _ (s : table.Scopes) (sc : Scopes) (level : ℕ) where
 
 -- ---- whole statements
 
-module _ (s : table.Scopes) (a b : Draft) (p : PStmt) where
+module _ (s : Known) (a b : Draft) (p : PStmt) where
   pub assign_emitted : (n : Named) (es : PExprs) (e : PExpr) → p ≡ tree.assign (tree.subscripted n es) e → b.exits.items ≡ a.exits.items → b.formats.items ≡ a.formats.items →
       HasFew a →
-      ((sc' : Scopes) (formats : List Format) → AssignFits sc' (couples s) (level_set a.out) n e →
+      ((sc' : Place) (formats : List Format) → AssignFits sc' s (level_set a.out) n e →
       Emitted a.out b.out (λ qs. AssignAt sc' formats qs (level_set a.out) n e (size a.out.operators) (size b.out.operators))) →
       size b.out.operators ≤ size a.out.operators + (3 + expr_syllables e) → EmitsStmt s a b p
   assign_emitted n es e is xs fs few h short = λ sc fit.
       let level = level_set a.out in
-      let F : PStmt → Type 0 = λ x. StmtFits sc (couples s) level x in
+      let F : PStmt → Type 0 = λ x. StmtFits sc s level x in
       let there = subst F is fit in
       let bare : p ≡ tree.assign (tree.subscripted n tree.none) e = is ∙ ap (λ l. tree.assign (tree.subscripted n l) e) (alone s sc level n es e there) in
       let E : PStmt → Type 0 = λ x. Emits (stmt_syllables x) a b (Stands sc level x a b) in
       subst E (sym bare) (assign_arm sc level n e a b (assigned s sc level n e a b refl xs fs few h short (assigns s sc level n es e there)))
 
+  pub call_emitted : (n : Named) (es : PExprs) → p ≡ tree.call_of (tree.called n es) → b.exits.items ≡ a.exits.items → b.formats.items ≡ a.formats.items → HasFew a →
+      ((sc : Place) (formats : List Format) → CallStmtFits sc s (level_set a.out) n →
+      Emitted a.out b.out (λ qs. CallStmtAt sc formats qs (level_set a.out) n (size a.out.operators) (size b.out.operators))) →
+      size b.out.operators ≤ size a.out.operators + 5 → EmitsStmt s a b p
+  call_emitted n es is xs fs few h short = λ sc fit.
+      let level = level_set a.out in
+      let F : PStmt → Type 0 = λ x. StmtFits sc s level x in
+      let there = subst F is fit in
+      let bare : p ≡ tree.call_of (tree.called n tree.none) = is ∙ ap (λ l. tree.call_of (tree.called n l)) (bare_call s sc level n es there) in
+      let E : PStmt → Type 0 = λ x. Emits (stmt_syllables x) a b (Stands sc level x a b) in
+      let code : Emits 5 a b (λ formats qs target. CallStmtAt sc formats qs level n (size a.out.operators) (size b.out.operators)) =
+      piece {n = 5} {d = a} {e = b} xs fs few (λ formats. h sc formats (called s sc level n es there)) short in
+      subst E (sym bare) (emits_weaker (Stands sc level (tree.call_of (tree.called n tree.none)) a b) code (omega arith) (λ formats qs target hi x. x))
+
   pub write_emitted : (n : Named) (spot : Spot) (phrases : List PhraseText) (es : PExprs) → p ≡ tree.write n spot phrases es →
-      ((sc : Scopes) → WriteFits sc (couples s) (level_set a.out) phrases es →
+      ((sc : Place) → WriteFits sc s (level_set a.out) phrases es →
       Emits (write_syllables es) a b (λ formats qs target. WriteAt sc formats qs (level_set a.out) phrases es (size a.out.operators) (size b.out.operators))) → EmitsStmt s a b p
   write_emitted n spot phrases es is h = λ sc fit.
       let level = level_set a.out in
-      let F : PStmt → Type 0 = λ x. StmtFits sc (couples s) level x in
+      let F : PStmt → Type 0 = λ x. StmtFits sc s level x in
       let E : PStmt → Type 0 = λ x. Emits (stmt_syllables x) a b (Stands sc level x a b) in
       subst E (sym is) (emits_weaker (Stands sc level (tree.write n spot phrases es) a b) (h sc (subst F is fit)) (omega arith) (λ formats qs target hi x. x))
 
-pub else_emitted : (s : table.Scopes) (a b d : Draft) (p : PStmt) (e : PExpr) (x y : PStmt) → p ≡ tree.if_else e x y → EmitsThen s a b e x → EmitsStmt s b d y → EmitsStmt s a d p
+pub else_emitted : (s : Known) (a b d : Draft) (p : PStmt) (e : PExpr) (x y : PStmt) → p ≡ tree.if_else e x y → EmitsThen s a b e x → EmitsStmt s b d y → EmitsStmt s a d p
 else_emitted s a b d p e x y is h k = λ sc fit.
     let level = level_set a.out in
-    let F : PStmt → Type 0 = λ z. StmtFits sc (couples s) level z in
+    let F : PStmt → Type 0 = λ z. StmtFits sc s level z in
     let E : PStmt → Type 0 = λ z. Emits (stmt_syllables z) a d (Stands sc level z a d) in
     let there = subst F is fit in
     let first = h sc there.0 there.1 in

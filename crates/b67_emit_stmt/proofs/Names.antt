@@ -1,5 +1,5 @@
 -- The couples of names, and of intrinsics, can be spelled where they stand.
-use Rattle.std.proofs.Common.{◌≡◌, ℕ, ◌-◌, ◌^◌, ◌≤◌, ◌<◌, Bool, true, false, Option, Some, sym, ◌∙◌, subst, arith, lit≤, lit<}
+use Rattle.std.proofs.Common.{◌≡◌, ℕ, ◌+◌, ◌-◌, ◌^◌, ◌≤◌, ◌<◌, Bool, true, false, Option, Some, None, sym, ◌∙◌, subst, arith, lit≤, lit<}
 use Rattle.std.specs.Prelude.{if◌then◌else◌, nat_le}
 use Rattle.algol_tree.specs.declared.token.Spot.{Spot}
 use Rattle.algol_tree.specs.declared.tree.Kind.{Kind}
@@ -11,7 +11,10 @@ use Rattle.b67_ops.specs.declared.intrinsic.Intrinsic.TheVariants.{GoTo, Select,
 use Rattle.b67_ops.specs.Intrinsics.{couple_of_intrinsic}
 use Rattle.b67_ops.specs.Spelling.{level_bits, index_bits, IsSeen}
 use Rattle.b67_templates.specs.Cells.{IsVariable}
-use Rattle.b67_templates.specs.Fitting.{NameFits}
+use Rattle.b67_templates.specs.Fitting.{NameFits, couple_on_left}
+use Rattle.algol_scope.specs.declared.scopes.Scopes as table
+use Rattle.algol_tree.specs.declared.TheConstants.{MOST_BLOCK_CELLS}
+use Rattle.b67_emitter.specs.Values.{AreNear, couples, lefts, results}
 
 HasRoom : ℕ → Type 0
 HasRoom bits = 512 ≤ 2 ^ (14 - bits)
@@ -56,6 +59,15 @@ pub variable_is : (sc : Scopes) (known : Spot → Option Couple) (level : ℕ) (
     IsVariable sc level n k c
 variable_is sc known level k n c fit e =
     let V : Couple → Type 0 = λ d. IsVariable sc level n k d in subst V (some_same fit.0 c (sym fit.1 ∙ e)) fit.2
+
+-- the couple of a name on the left is that of its own cell or of a result
+pub left_near : (s : table.Scopes) (n : Named) (c : Couple) → AreNear s → lefts s n.spot ≡ Some c → c.index < 512
+left_near s n c near is = by (couples s n.spot) (results s n.spot) (near.own n.spot) (near.result n.spot) is
+  where
+    by : (own result : Option Couple) → ((d : Couple) → own ≡ Some d → d.index < 2 + MOST_BLOCK_CELLS) → ((d : Couple) → result ≡ Some d → d.index < 2 + MOST_BLOCK_CELLS) →
+        couple_on_left result own ≡ Some c → c.index < 512
+    by own None h k e = omega (arith, h c e)
+    by own (Some d) h k e = omega (arith, k c e)
 
 pub name_seen : (sc : Scopes) (known : Spot → Option Couple) (level : ℕ) (k : Kind) (n : Named) (c : Couple) → NameFits sc known level k n → known n.spot ≡ Some c → c.index < 512 →
     IsSeen level c

@@ -7,8 +7,9 @@ use Rattle.algol_tree.specs.declared.tree.Op.TheVariants as operators
 use Rattle.algol_tree.specs.declared.tree.Named.{Named}
 use Rattle.algol_tree.specs.Plain as tree
 use Rattle.algol_tree.specs.Plain.{PExpr}
-use Rattle.algol_tree.specs.Scopes.{Scopes}
-use Rattle.algol_scope.specs.declared.scopes.Scopes as table
+use Rattle.b67_emit_stmt.specs.Places.{Place, context_in}
+use Rattle.b67_templates.specs.Code.{reads}
+use Rattle.b67_emit_stmt.specs.declared.draft.Known.{Known}
 use Rattle.algol_meaning.specs.Statements.{alone}
 use Rattle.b67_ops.specs.declared.Couple.{Couple}
 use Rattle.b67_ops.specs.declared.Operator.TheVariants as ops
@@ -21,10 +22,10 @@ use Rattle.b67_segment.specs.Operators.{Placed, size}
 use Rattle.b67_segment.specs.Building.{Built, level_set}
 use Rattle.b67_templates.specs.Fragments.{Has, IntrinsicAt}
 use Rattle.b67_templates.specs.Cells.{IsVariable}
-use Rattle.b67_templates.specs.Code.{AssignAt, ExprAt, ReadAt, ReferenceAt}
+use Rattle.b67_emit_stmt.specs.Places.{AssignAt, ExprAt, ReadAt, ReferenceAt}
 use Rattle.b67_templates.specs.Emitting.{Emitted}
-use Rattle.b67_templates.specs.Fitting.{ExprFits, NameFits}
-use Rattle.b67_emitter.specs.Values.{couples, HasCode, ValueEmitted}
+use Rattle.b67_emit_stmt.specs.Fits.{ExprFits, VariableFits}
+use Rattle.b67_emitter.specs.Values.{HasCode, ValueEmitted}
 use Rattle.b67_emitter.proofs.Composing.{then, weaker}
 use Rattle.b67_emit_stmt.proofs.Drafts.{level_same}
 
@@ -41,20 +42,20 @@ pub plain_at : {b c : Built} (kind : PlainKind) (level : ℕ) → level_set b �
 plain_at {b} {c} kind level e h = leveled (λ l qs. Has qs l (size b.operators) (ops.Plain kind) (size c.operators)) level e h
 
 -- the expression has code at a level that is the same
-pub code_at : (s : table.Scopes) (level' level : ℕ) (sc : Scopes) (k : Kind) (e : PExpr) → level' ≡ level → ExprFits sc (couples s) level k e → HasCode s level' e
+pub code_at : (s : Known) (level' level : ℕ) (sc : Place) (k : Kind) (e : PExpr) → level' ≡ level → ExprFits sc s level k e → HasCode s.scopes.now level' e
 code_at s level' level sc k e q fit =
-    let F : ℕ → Type 0 = λ l. ExprFits sc (couples s) l k e in record { scopes = sc; kind = k; fits = subst F (sym q) fit }
+    let F : ℕ → Type 0 = λ l. ExprFits sc s l k e in record { scopes = sc.scopes; kind = k; fits = subst F (sym q) fit }
 
-pub name_at : (s : table.Scopes) (level' level : ℕ) (sc : Scopes) (k : Kind) (n : Named) → level' ≡ level → NameFits sc (couples s) level k n → NameFits sc (couples s) level' k n
-name_at s level' level sc k n q fit = let F : ℕ → Type 0 = λ l. NameFits sc (couples s) l k n in subst F (sym q) fit
+pub variable_at : (s : Known) (level' level : ℕ) (sc : Place) (n : Named) → level' ≡ level → VariableFits sc s level n → VariableFits sc s level' n
+variable_at s level' level sc n q fit = let F : ℕ → Type 0 = λ l. VariableFits sc s l n in subst F (sym q) fit
 
-pub value_at : (s : table.Scopes) (b c : Built) (level : ℕ) (sc : Scopes) (formats : List Format) (k : Kind) (e : PExpr) → level_set b ≡ level →
-    ValueEmitted s (level_set b) b c e → ExprFits sc (couples s) level k e →
+pub value_at : (s : Known) (b c : Built) (level : ℕ) (sc : Place) (formats : List Format) (k : Kind) (e : PExpr) → level_set b ≡ level →
+    ValueEmitted s.scopes.now (level_set b) b c e → ExprFits sc s level k e →
     Emitted b c (λ qs. ExprAt sc formats qs level k e (size b.operators) (size c.operators) (size c.operators))
 value_at s b c level sc formats k e q v fit =
-    let F : ℕ → Type 0 = λ l. ExprFits sc (couples s) l k e in
+    let F : ℕ → Type 0 = λ l. ExprFits sc s l k e in
     leveled (λ l qs. ExprAt sc formats qs l k e (size b.operators) (size c.operators) (size c.operators)) level q
-    (v.code sc formats k (subst F (sym q) fit))
+    (v.code sc.scopes (context_in sc formats) k (subst F (sym q) fit))
 
 -- ---- parts of statements
 
@@ -67,19 +68,19 @@ intrinsic_part name a b c e h k =
     (then h (leveled (λ l qs. Has qs l (size b.operators) (ops.Namc (couple_of_intrinsic name)) (size c.operators)) (level_set a) (level_same a b e) k))
     (λ qs p. (size b.operators, p.0, p.1))
 
-pub reference_part : (sc : Scopes) (formats : List Format) (k : Kind) (n : Named) (c : Couple) (a b : Built) → IsVariable sc (level_set a) n k c →
+pub reference_part : (sc : Place) (formats : List Format) (k : Kind) (n : Named) (c : Couple) (a b : Built) → IsVariable sc.scopes (level_set a) n k c →
     Emitted a b (λ qs. Has qs (level_set a) (size a.operators) (ops.Namc c) (size b.operators)) →
     Emitted a b (λ qs. ReferenceAt sc formats qs (level_set a) n k (size a.operators) (size b.operators))
 reference_part sc formats k n c a b v h =
     weaker (λ qs. ReferenceAt sc formats qs (level_set a) n k (size a.operators) (size b.operators)) h (λ qs p. (c, v, p))
 
-pub read_part : (sc : Scopes) (formats : List Format) (k : Kind) (n : Named) (c : Couple) (a b : Built) → IsVariable sc (level_set a) n k c →
+pub read_part : (sc : Place) (formats : List Format) (k : Kind) (n : Named) (c : Couple) (a b : Built) → IsVariable sc.scopes (level_set a) n k c →
     Emitted a b (λ qs. Has qs (level_set a) (size a.operators) (ops.Valc c) (size b.operators)) →
     Emitted a b (λ qs. ReadAt sc formats qs (level_set a) n k (size a.operators) (size b.operators))
 read_part sc formats k n c a b v h =
     weaker (λ qs. ReadAt sc formats qs (level_set a) n k (size a.operators) (size b.operators)) h (λ qs p. (c, v, p))
 
-module _ (sc : Scopes) (formats : List Format) (level : ℕ) where
+module _ (sc : Place) (formats : List Format) (level : ℕ) where
   pub assign_part : (k : Kind) (n : Named) (e : PExpr) (a b c d : Built) →
       Emitted a b (λ qs. ReferenceAt sc formats qs level n k (size a.operators) (size b.operators)) →
       Emitted b c (λ qs. ExprAt sc formats qs level k e (size b.operators) (size c.operators) (size c.operators)) →
@@ -96,7 +97,7 @@ module _ (sc : Scopes) (formats : List Format) (level : ℕ) where
       Emitted a d (λ qs. ExprAt sc formats qs level types.Number (tree.two operators.Sub (alone n) e) (size a.operators) (size d.operators) (size d.operators))
   difference_part n e a b c d h i j =
       weaker (λ qs. ExprAt sc formats qs level types.Number (tree.two operators.Sub (alone n) e) (size a.operators) (size d.operators) (size d.operators)) (then (then h i) j)
-      (λ qs p. (size b.operators, size b.operators, size c.operators, refl, p.0.0, refl, p.0.1, p.1))
+      (λ qs p. (size b.operators, size b.operators, size c.operators, refl, reads p.0.0, refl, p.0.1, p.1))
 
   pub advance_part : (n : Named) (e : PExpr) (a b c d x y : Built) →
       Emitted a b (λ qs. ReferenceAt sc formats qs level n types.Number (size a.operators) (size b.operators)) →
@@ -109,7 +110,7 @@ module _ (sc : Scopes) (formats : List Format) (level : ℕ) where
       weaker (λ qs. AssignAt sc formats qs level n (tree.two operators.Add (alone n) e) (size a.operators) (size y.operators))
       (then h (then (then (then i j) k) l))
       (λ qs p.
-      (types.Number, size b.operators, size x.operators, p.0, (size c.operators, size c.operators, size d.operators, refl, p.1.0.0.0, refl, p.1.0.0.1, p.1.0.1), p.1.1))
+      (types.Number, size b.operators, size x.operators, p.0, (size c.operators, size c.operators, size d.operators, refl, reads p.1.0.0.0, refl, p.1.0.0.1, p.1.0.1), p.1.1))
 
 -- ---- answers
 

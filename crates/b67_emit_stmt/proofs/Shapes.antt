@@ -3,6 +3,8 @@ use Rattle.std.proofs.Common.{rules, ◌≡◌, List, Option, Some, ap, sym, ◌
 use Rattle.std.specs.declared.boxed.Box.{Box}
 use Rattle.std.specs.declared.alloc.Global.{Global}
 use Rattle.algol_tree.specs.declared.token.Spot.{Spot}
+use Rattle.algol_tree.specs.declared.tree.Call.{Call}
+use Rattle.algol_tree.specs.declared.tree.Call as calls
 use Rattle.algol_tree.specs.declared.tree.Body.{Body}
 use Rattle.algol_tree.specs.declared.tree.Body as bodies
 use Rattle.algol_tree.specs.declared.tree.Expr.{Expr}
@@ -13,7 +15,7 @@ use Rattle.algol_tree.specs.declared.tree.Stmt as stmts'
 use Rattle.algol_tree.specs.declared.tree.Stmt.TheVariants as shapes
 use Rattle.algol_tree.specs.declared.tree.Variable.{Variable}
 use Rattle.algol_tree.specs.declared.tree.Variable as variables
-use Rattle.algol_tree.specs.Image.{body, decls, expr, exprs, stmt, stmts, variable}
+use Rattle.algol_tree.specs.Image.{body, call, decls, expr, exprs, stmt, stmts, variable}
 use Rattle.algol_tree.specs.Plain as tree
 
 -- ---- each form
@@ -39,7 +41,16 @@ body_is b = search (rules, bodies.the_lemmas)
 variable_is : (v : Variable) → variable v ≡ tree.subscripted v.name (exprs v.subs)
 variable_is v = search (rules, variables.the_lemmas)
 
+call_is : (c : Call) → call c ≡ tree.called c.name (exprs c.actuals)
+call_is c = search (rules, calls.the_lemmas)
+
+call_of_is : (c : Call) → stmt (shapes.Call c) ≡ tree.call_of (call c)
+call_of_is c = search (rules, stmts'.the_lemmas)
+
 -- ---- the same where a part is named otherwise
+
+pub call_as : (s : Stmt) (c : Call) → s ≡ shapes.Call c → stmt s ≡ tree.call_of (tree.called c.name (exprs c.actuals))
+call_as s c is = ap stmt is ∙ call_of_is c ∙ ap tree.call_of (call_is c)
 
 pub empty_as : (s : Stmt) → s ≡ shapes.Empty → stmt s ≡ tree.empty
 empty_as s is = ap stmt is ∙ empty_is

@@ -4,7 +4,7 @@ use Rattle.std.proofs.lemmas.Bool.{lt-ltb}
 use Rattle.std.specs.Prelude.{List, pos, negsuc, Some, int_lt, [], ◌∷◌}
 use Rattle.algol_tree.specs.declared.tree.Kind.TheVariants as types
 use Rattle.algol_tree.specs.Plain.{PExpr}
-use Rattle.algol_tree.specs.Scopes.{Scopes}
+use Rattle.b67_emit_stmt.specs.Places.{Place}
 use Rattle.b67_ops.specs.declared.Operator.TheVariants as ops
 use Rattle.b67_ops.specs.declared.PlainKind.{PlainKind}
 use Rattle.b67_ops.specs.declared.PlainKind.TheVariants as kinds
@@ -12,7 +12,8 @@ use Rattle.b67_ops.specs.declared.BranchKind.TheVariants.{Brtr}
 use Rattle.b67_segment.specs.declared.code.Format.{Format}
 use Rattle.b67_segment.specs.Operators.{Placed, size}
 use Rattle.b67_templates.specs.Fragments.{Has, AllAt, BranchAt}
-use Rattle.b67_templates.specs.Code.{ExprAt, PastAt, SignedAt, StepAt, StepSign, up, down, still, any, literal, literal_of}
+use Rattle.b67_templates.specs.Code.{StepSign, up, down, still, any, literal, literal_of}
+use Rattle.b67_emit_stmt.specs.Places.{ExprAt, PastAt, SignedAt, StepAt}
 use Rattle.b67_emit_stmt.specs.declared.draft.Draft.{Draft}
 use Rattle.b67_emit_stmt.specs.Drafts.{Emits}
 use Rattle.b67_emit_stmt.proofs.Drafts.{emits_then, emits_weaker}
@@ -21,16 +22,16 @@ abbrev pub Compared : ℕ → PlainKind → Draft → Draft → List Format → 
 Compared level kind a b formats qs target =
     (m : ℕ) × AllAt qs level (kinds.Zero ∷ kind ∷ []) (size a.out.operators) m × BranchAt qs level Brtr m target (size b.out.operators)
 
-abbrev pub Signed : Scopes → ℕ → ℤ → Draft → Draft → List Format → List Placed → ℕ → Type 0
+abbrev pub Signed : Place → ℕ → ℤ → Draft → Draft → List Format → List Placed → ℕ → Type 0
 Signed sc level z a b formats qs target = (sign : StepSign z) × SignedAt sc formats qs level sign (size a.out.operators) target (size b.out.operators)
 
-pub up_part : {n : ℕ} (sc : Scopes) (level : ℕ) (a b : Draft) (z : ℤ) → int_lt (pos 0) z ≡ true → Emits n a b (Compared level kinds.Grtr a b) → Emits n a b (Signed sc level z a b)
+pub up_part : {n : ℕ} (sc : Place) (level : ℕ) (a b : Draft) (z : ℤ) → int_lt (pos 0) z ≡ true → Emits n a b (Compared level kinds.Grtr a b) → Emits n a b (Signed sc level z a b)
 up_part {n} sc level a b z s h = emits_weaker (Signed sc level z a b) h (omega arith) (λ formats qs target hi p. (up s, p))
 
-pub down_part : {n : ℕ} (sc : Scopes) (level : ℕ) (a b : Draft) (z : ℤ) → int_lt z (pos 0) ≡ true → Emits n a b (Compared level kinds.Less a b) → Emits n a b (Signed sc level z a b)
+pub down_part : {n : ℕ} (sc : Place) (level : ℕ) (a b : Draft) (z : ℤ) → int_lt z (pos 0) ≡ true → Emits n a b (Compared level kinds.Less a b) → Emits n a b (Signed sc level z a b)
 down_part {n} sc level a b z s h = emits_weaker (Signed sc level z a b) h (omega arith) (λ formats qs target hi p. (down s, p))
 
-pub still_part : (sc : Scopes) (level : ℕ) (a b : Draft) (z : ℤ) → z ≡ pos 0 →
+pub still_part : (sc : Place) (level : ℕ) (a b : Draft) (z : ℤ) → z ≡ pos 0 →
     Emits 1 a b (λ formats qs target. Has qs level (size a.out.operators) (ops.Plain kinds.Dlet) (size b.out.operators)) → Emits 5 a b (Signed sc level z a b)
 still_part sc level a b z e h =
     let S : ℤ → Type 0 = λ y. Emits 5 a b (Signed sc level y a b) in
@@ -49,7 +50,7 @@ is_zero (pos zero) h k = refl
 is_zero (pos (suc n)) h k = let t = lt-ltb 0 (suc n) (omega arith) in cc
 is_zero (negsuc n) h k = cc
 
-module _ (sc : Scopes) (level : ℕ) (a b c : Draft) where
+module _ (sc : Place) (level : ℕ) (a b c : Draft) where
   pub past_part : {n m : ℕ} →
       Emits n a b
       (λ formats qs target.
@@ -71,7 +72,7 @@ module _ (sc : Scopes) (level : ℕ) (a b c : Draft) where
       emits_weaker (λ formats qs target. StepAt sc formats qs level step (size a.out.operators) target (size c.out.operators)) (emits_then h j) le
       (λ formats qs target hi p. any (size b.out.operators) p.0 p.1)
 
-pub literal_part : {n m : ℕ} (sc : Scopes) (level : ℕ) (a b : Draft) (step : PExpr) (z : ℤ) → literal_of step ≡ Some z → n ≤ m →
+pub literal_part : {n m : ℕ} (sc : Place) (level : ℕ) (a b : Draft) (step : PExpr) (z : ℤ) → literal_of step ≡ Some z → n ≤ m →
     Emits n a b (λ formats qs target. (sign : StepSign z) × SignedAt sc formats qs level sign (size a.out.operators) target (size b.out.operators)) →
     Emits m a b (λ formats qs target. StepAt sc formats qs level step (size a.out.operators) target (size b.out.operators))
 literal_part {n} {m} sc level a b step z e le h =

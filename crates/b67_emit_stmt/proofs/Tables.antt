@@ -7,8 +7,8 @@ use Rattle.algol_tree.specs.Counts.{stmts_tokens}
 use Rattle.algol_tree.specs.Image.{stmt, stmts}
 use Rattle.algol_tree.specs.Plain as tree
 use Rattle.algol_tree.specs.Plain.{PExpr}
-use Rattle.algol_tree.specs.Scopes.{Scopes}
-use Rattle.algol_scope.specs.declared.scopes.Scopes as table
+use Rattle.b67_emit_stmt.specs.Places.{Place}
+use Rattle.b67_emit_stmt.specs.declared.draft.Known.{Known}
 use Rattle.b67_ops.specs.declared.Operator.TheVariants as ops
 use Rattle.b67_ops.specs.declared.PlainKind.TheVariants as kinds
 use Rattle.b67_ops.specs.declared.BranchKind.TheVariants.{Brun}
@@ -17,12 +17,12 @@ use Rattle.b67_segment.specs.declared.code.Format.{Format}
 use Rattle.b67_segment.specs.Operators.{Placed, size}
 use Rattle.b67_segment.specs.Building.{Built, level_set}
 use Rattle.b67_templates.specs.Fragments.{Has, BranchAt, IntrinsicAt, IsWhole, NumberAt, two_bytes}
-use Rattle.b67_templates.specs.Code.{CasesAt, ExprAt, TableAt, stmts_count}
+use Rattle.b67_templates.specs.Code.{stmts_count}
+use Rattle.b67_emit_stmt.specs.Places.{CasesAt, ExprAt, TableAt}
 use Rattle.b67_templates.specs.Depths.{expr_syllables, stmt_syllables}
 use Rattle.b67_templates.specs.Emitting.{AreExits, Emitted, EmittedWithExits}
-use Rattle.b67_templates.specs.Fitting.{StmtFits}
+use Rattle.b67_emit_stmt.specs.Fits.{StmtFits}
 use Rattle.b67_emitter.specs.Aiming.{Aimed}
-use Rattle.b67_emitter.specs.Values.{couples}
 use Rattle.b67_emitter.proofs.Composing.{then, weaker}
 use Rattle.b67_emit_stmt.specs.declared.draft.Draft.{Draft}
 use Rattle.b67_emit_stmt.specs.Drafts.{Emits, HasFew, IsReady}
@@ -65,7 +65,7 @@ entries_whole level n many a b e h = let E : ℕ → Type 0 = λ m. Emitted a b 
 
 -- ---- the call of SELECT
 
-module _ (sc : Scopes) (formats : List Format) (level many : ℕ) (e : PExpr) (a b d x y z : Built) (place : ℕ) where
+module _ (sc : Place) (formats : List Format) (level many : ℕ) (e : PExpr) (a b d x y z : Built) (place : ℕ) where
   pub select_part : place ≡ size z.operators → IsWhole (pos place) → Emitted a b (λ qs. IntrinsicAt qs level Select (size a.operators) (size b.operators)) →
       Emitted b d (λ qs. ExprAt sc formats qs level types.Number e (size b.operators) (size d.operators) (size d.operators)) →
       Emitted d x (λ qs. NumberAt qs level (pos many) (size d.operators) (size x.operators)) →
@@ -81,7 +81,7 @@ module _ (sc : Scopes) (formats : List Format) (level many : ℕ) (e : PExpr) (a
 
 -- ---- the whole
 
-pub case_arm : (sc : Scopes) (level : ℕ) (e : PExpr) (ss : List Stmt) (a b d : Draft) →
+pub case_arm : (sc : Place) (level : ℕ) (e : PExpr) (ss : List Stmt) (a b d : Draft) →
     Emits (19 + expr_syllables e) a b (λ formats qs target. SelectAt sc formats qs level e (length ss) (size a.out.operators) (size b.out.operators)) →
     Emits (stmts_syllables (stmts ss)) b d (λ formats qs target. CasesAt sc formats qs level (stmts ss) (size b.out.operators) target) →
     Emits (stmt_syllables (tree.case e (stmts ss))) a d (Stands sc level (tree.case e (stmts ss)) a d)
@@ -94,7 +94,7 @@ case_arm sc level e ss a b d h i =
 -- ---- the statements behind the table, one after another
 
 -- none is done
-pub cases_begun : (sc : Scopes) (level many : ℕ) (xs : List Stmt) (a t : Draft) → many ≡ length xs → HasFew a → t.exits.items ≡ a.exits.items → t.formats.items ≡ a.formats.items →
+pub cases_begun : (sc : Place) (level many : ℕ) (xs : List Stmt) (a t : Draft) → many ≡ length xs → HasFew a → t.exits.items ≡ a.exits.items → t.formats.items ≡ a.formats.items →
     Emitted a.out t.out (λ qs. EntriesAt qs level many (size a.out.operators) (size t.out.operators)) → Midcase sc level (take 0 xs) (length xs - 0) a t t
 cases_begun sc level many xs a t is few es fs h =
     let M : ℕ → Type 0 = λ n. Midcase sc level [] n a t t in
@@ -102,7 +102,7 @@ cases_begun sc level many xs a t is few es fs h =
     subst M all (midcase-first sc level many a t few es fs h)
 
 -- all are done
-pub cases_ended : (sc : Scopes) (level : ℕ) (xs : List Stmt) (i : ℕ) (a t b : Draft) → take i xs ≡ xs → length xs ≤ i → Midcase sc level (take i xs) (length xs - i) a t b →
+pub cases_ended : (sc : Place) (level : ℕ) (xs : List Stmt) (i : ℕ) (a t b : Draft) → take i xs ≡ xs → length xs ≤ i → Midcase sc level (take i xs) (length xs - i) a t b →
     Emits (stmts_syllables (stmts xs)) a b (λ formats qs target. CasesAt sc formats qs level (stmts xs) (size a.out.operators) target)
 cases_ended sc level xs i a t b all over m =
     let none : length xs - i ≡ zero = omega (arith, over) in
@@ -111,7 +111,7 @@ cases_ended sc level xs i a t b all over m =
     let last = subst M none (subst L all m) in
     midcase-last sc level xs a t b (stmts_syllables (stmts xs)) last (omega (arith, last.short, last.pending))
 
-module _ (s : table.Scopes) (sc : Scopes) (level : ℕ) (xs : List Stmt) (i : ℕ) (x : Stmt) (lo : i < length xs) (is : x ≡ get_or xs i x) (a t b : Draft) (entry : ℕ)
+module _ (s : Known) (sc : Place) (level : ℕ) (xs : List Stmt) (i : ℕ) (x : Stmt) (lo : i < length xs) (is : x ≡ get_or xs i x) (a t b : Draft) (entry : ℕ)
     (at : entry ≡ size a.out.operators + 3 * i) (m : Midcase sc level (take i xs) (length xs - i) a t b) where
   left : Midcase sc level (take i xs) (suc (length xs - (i + 1))) a t b
   left =
@@ -147,12 +147,14 @@ module _ (s : table.Scopes) (sc : Scopes) (level : ℕ) (xs : List Stmt) (i : �
       record {
         set = set_same b.out d.out aimed.level (set_same a.out b.out m.level_is r.set);
         near = r.near;
+        many = r.many;
+        segment = r.segment;
         few = omega (arith, m.few, ap length fs, aimed.place);
         room = omega (arith, aimed.place, m.short, table_size, split, few_statements (drop (i + 1) xs), next_tokens xs i x lo is, le, r.room);
       }
 
   pub cases_more : (d e f : Draft) → level_set a.out ≡ level → Aimed (entry ∷ []) b.out d.out → d.exits.items ≡ b.exits.items → d.formats.items ≡ b.formats.items →
-      StmtFits sc (couples s) level (stmt x) → EmitsStmt s d e (stmt x) → f.formats.items ≡ e.formats.items →
+      StmtFits sc s level (stmt x) → EmitsStmt s d e (stmt x) → f.formats.items ≡ e.formats.items →
       EmittedWithExits e.out f.out e.exits.items f.exits.items (λ qs target. BranchAt qs (level_set e.out) Brun (size e.out.operators) target (size f.out.operators)) →
       size f.out.operators ≡ size e.out.operators + 3 → Midcase sc level (take (i + 1) xs) (length xs - (i + 1)) a t f
   cases_more d e f q aimed es fs fit k fs' h wide =

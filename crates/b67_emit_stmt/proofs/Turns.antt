@@ -1,12 +1,12 @@
 -- Loops and the first part of IF with ELSE, from what their calls promise one after the other.
-use Rattle.std.proofs.Common.{◌≡◌, ℕ, ◌+◌, ◌≤◌, ◌∙◌, List, [], ◌∷◌, length, refl, arith}
+use Rattle.std.proofs.Common.{◌≡◌, ℕ, ◌+◌, ◌≤◌, ◌∙◌, List, [], ◌∷◌, refl, arith}
 use Rattle.algol_tree.specs.declared.tree.Kind.TheVariants as types
 use Rattle.algol_tree.specs.declared.tree.Named.{Named}
 use Rattle.algol_tree.specs.declared.tree.Op.TheVariants as operators
 use Rattle.algol_tree.specs.Plain as tree
 use Rattle.algol_tree.specs.Plain.{PExpr, PStmt}
-use Rattle.algol_tree.specs.Scopes.{Scopes}
-use Rattle.algol_scope.specs.declared.scopes.Scopes as table
+use Rattle.b67_emit_stmt.specs.Places.{Place}
+use Rattle.b67_emit_stmt.specs.declared.draft.Known.{Known}
 use Rattle.algol_meaning.specs.Statements.{alone}
 use Rattle.b67_ops.specs.declared.Operator.TheVariants as ops
 use Rattle.b67_ops.specs.declared.BranchKind.TheVariants.{Brtr}
@@ -14,13 +14,13 @@ use Rattle.b67_ops.specs.declared.PlainKind.TheVariants as kinds
 use Rattle.b67_segment.specs.declared.code.Format.{Format}
 use Rattle.b67_segment.specs.Operators.{size}
 use Rattle.b67_segment.specs.Building.{Built, level_set}
-use Rattle.b67_templates.specs.Code.{AssignAt, ExprAt, StepAt}
+use Rattle.b67_emit_stmt.specs.Places.{AssignAt, ExprAt, StepAt}
 use Rattle.b67_templates.specs.Depths.{expr_syllables}
 use Rattle.b67_templates.specs.Emitting.{AreExits, Emitted, EmittedWithExits}
-use Rattle.b67_templates.specs.Fitting.{AssignFits, ExprFits, NameFits, StmtFits}
+use Rattle.b67_emit_stmt.specs.Fits.{AssignFits, ExprFits, ReadFits, StmtFits, VariableFits}
 use Rattle.b67_templates.specs.Fragments.{Has, AllAt, BranchAt, TurnAt}
 use Rattle.b67_emitter.specs.Aiming.{Aimed}
-use Rattle.b67_emitter.specs.Values.{couples, ValueEmitted}
+use Rattle.b67_emitter.specs.Values.{ValueEmitted}
 use Rattle.b67_emit_stmt.specs.declared.draft.Draft.{Draft}
 use Rattle.b67_emit_stmt.specs.Drafts.{Emits, HasFew}
 use Rattle.b67_emit_stmt.specs.Emits.{EmitsBody, EmitsStmt}
@@ -33,7 +33,7 @@ use Rattle.b67_emit_stmt.proofs.Ready.{all_piece, body_piece, turn_piece, value_
 
 -- ---- THRU
 
-module _ (s : table.Scopes) (p : PExpr) (x : PStmt) (a n : Draft) (b' d' e' f' o' : Built) (over start : ℕ) (few : HasFew a) (value : ValueEmitted s (level_set a.out) a.out b' p)
+module _ (s : Known) (p : PExpr) (x : PStmt) (a n : Draft) (b' d' e' f' o' : Built) (over start : ℕ) (few : HasFew a) (value : ValueEmitted s.scopes.now (level_set a.out) a.out b' p)
     (value_level : b'.level ≡ a.out.level) (value_short : size b'.operators ≤ size a.out.operators + expr_syllables p) (start_is : start ≡ size b'.operators)
     (tests : Emitted b' d' (λ qs. AllAt qs (level_set b') (kinds.Dupl ∷ kinds.One ∷ kinds.Less ∷ []) (size b'.operators) (size d'.operators))) (tests_level : d'.level ≡ b'.level)
     (tests_wide : size d'.operators ≡ size b'.operators + 3) (over_is : over ≡ size d'.operators)
@@ -44,7 +44,7 @@ module _ (s : table.Scopes) (p : PExpr) (x : PStmt) (a n : Draft) (b' d' e' f' o
     (turn : Emitted n.out o' (λ qs. TurnAt qs (level_set n.out) (size n.out.operators) start (size o'.operators))) (turn_level : o'.level ≡ n.out.level)
     (turn_wide : size o'.operators ≡ size n.out.operators + 3) where
   -- the branch past the last turn can be aimed
-  pub thru_lies : (sc : Scopes) → ExprFits sc (couples s) (level_set a.out) types.Number p → StmtFits sc (couples s) (level_set a.out) x → AreExits o'.operators (over ∷ []) 0 (size o'.operators)
+  pub thru_lies : (sc : Place) → ExprFits sc s (level_set a.out) types.Number p → StmtFits sc s (level_set a.out) x → AreExits o'.operators (over ∷ []) 0 (size o'.operators)
   thru_lies sc number fit =
       let level = level_set a.out in
       let b : Draft = record a { out = b' } in
@@ -56,7 +56,7 @@ module _ (s : table.Scopes) (p : PExpr) (x : PStmt) (a n : Draft) (b' d' e' f' o
       let r = level_same d.out e.out branch_level ∙ q in
       let u = level_same e.out f.out less_level ∙ r in
       let v = value_piece s a b level sc types.Number p refl refl refl few value value_short number in
-      let some : length a.formats.items ≤ size e.out.operators = omega (arith, v.few, tests_wide, branch_wide) in
+      let some : HasFew e = omega (arith, v.few, tests_wide, branch_wide) in
       let last = all_piece 2 (kinds.One ∷ kinds.Subt ∷ []) e f level r refl refl some less (omega (arith, less_wide)) in
       let part = body_piece s sc x f n level u code fit in
       let round = turn_piece sc b n o start level start_is (level_after part ∙ u) refl refl part.few turn turn_wide in
@@ -79,29 +79,29 @@ module _ (s : table.Scopes) (p : PExpr) (x : PStmt) (a n : Draft) (b' d' e' f' o
       let w = level_same e.out f.out less_level ∙ u in
       let v = value_piece s a b level sc types.Number p refl refl refl few value value_short fit.0 in
       let test = all_piece 3 (kinds.Dupl ∷ kinds.One ∷ kinds.Less ∷ []) b d level q refl refl v.few tests (omega (arith, tests_wide)) in
-      let some : length a.formats.items ≤ size e.out.operators = omega (arith, test.few, branch_wide) in
+      let some : HasFew e = omega (arith, test.few, branch_wide) in
       let minus = all_piece 2 (kinds.One ∷ kinds.Subt ∷ []) e f level u refl refl some less (omega (arith, less_wide)) in
       let part = body_piece s sc x f n level w code fit.1 in
       let z = level_after part ∙ w in
       let round = turn_piece sc b n o start level start_is z refl refl part.few turn turn_wide in
       let there : level_set j.out ≡ level = level_same o.out j.out aimed.level ∙ level_same n.out o.out turn_level ∙ z in
-      let lots : length n.formats.items ≤ size j.out.operators = omega (arith, round.few, aimed.place) in
+      let lots : HasFew j = omega (arith, round.few, aimed.place) in
       let last = piece {n = 1} {d = j} {e = k} refl refl lots (λ formats. plain_at kinds.Dlet level there h) (omega (arith, wide)) in
       thru_arm sc level p x a b d e f n o j k (over ∷ []) v test (hole_as Brtr d.out e.out level over r over_is branch) (omega (arith, branch_wide)) refl refl minus part round aimed refl refl last
 
 -- ---- FOR
 
-pub for_emitted : (s : table.Scopes) (v : Named) (first p l : PExpr) (x : PStmt) (a e f : Draft) (b' d' n' o' : Built) (start : ℕ) → HasFew a →
-    ((sc : Scopes) (formats : List Format) → AssignFits sc (couples s) (level_set a.out) v first →
+pub for_emitted : (s : Known) (v : Named) (first p l : PExpr) (x : PStmt) (a e f : Draft) (b' d' n' o' : Built) (start : ℕ) → HasFew a →
+    ((sc : Place) (formats : List Format) → AssignFits sc s (level_set a.out) v first →
     Emitted a.out b' (λ qs. AssignAt sc formats qs (level_set a.out) v first (size a.out.operators) (size b'.operators))) →
     b'.level ≡ a.out.level → size b'.operators ≤ size a.out.operators + (3 + expr_syllables first) → start ≡ size b'.operators →
-    ((sc : Scopes) (formats : List Format) → NameFits sc (couples s) (level_set b') types.Number v → ExprFits sc (couples s) (level_set b') types.Number l →
+    ((sc : Place) (formats : List Format) → ReadFits sc s (level_set b') types.Number v → ExprFits sc s (level_set b') types.Number l →
     Emitted b' d' (λ qs. ExprAt sc formats qs (level_set b') types.Number (tree.two operators.Sub (alone v) l) (size b'.operators) (size d'.operators) (size d'.operators))) →
     d'.level ≡ b'.level → size d'.operators ≤ size b'.operators + (3 + expr_syllables l) →
-    ((sc : Scopes) → ExprFits sc (couples s) (level_set d') types.Number p →
+    ((sc : Place) → ExprFits sc s (level_set d') types.Number p →
     Emits (13 + expr_syllables p) (record a { out = d' }) e (λ formats qs target. StepAt sc formats qs (level_set d') p (size d'.operators) target (size e.out.operators))) →
     EmitsBody s e f x →
-    ((sc : Scopes) (formats : List Format) → NameFits sc (couples s) (level_set f.out) types.Number v → ExprFits sc (couples s) (level_set f.out) types.Number p →
+    ((sc : Place) (formats : List Format) → VariableFits sc s (level_set f.out) v → ExprFits sc s (level_set f.out) types.Number p →
     Emitted f.out n' (λ qs. AssignAt sc formats qs (level_set f.out) v (tree.two operators.Add (alone v) p) (size f.out.operators) (size n'.operators))) →
     n'.level ≡ f.out.level → size n'.operators ≤ size f.out.operators + (6 + expr_syllables p) →
     Emitted n' o' (λ qs. TurnAt qs (level_set n') (size n'.operators) start (size o'.operators)) → size o'.operators ≡ size n'.operators + 3 →
@@ -115,8 +115,8 @@ for_emitted s v first p l x a e f b' d' n' o' start few assign assign_level assi
     let o : Draft = record f { out = o' } in
     let q = level_same a.out b.out assign_level in
     let r = level_same b.out d.out difference_level ∙ q in
-    let begin = matched.assigned s sc level v first a b refl refl refl few assign assign_short (types.Number, fit.0, fit.1) in
-    let test = matched.compared s sc level v l b d q refl refl begin.few difference difference_short fit.0 fit.3 in
+    let begin = matched.assigned s sc level v first a b refl refl refl few assign assign_short (types.Number, fit.0.1, fit.1) in
+    let test = matched.compared s sc level v l b d q refl refl begin.few difference difference_short fit.0.0 fit.3 in
     let past = matched.stepped s sc level p d e r step fit.2 in
     let part = body_piece s sc x e f level (level_after past ∙ r) code fit.4 in
     let u = level_after (emits_then past part) ∙ r in

@@ -1,6 +1,8 @@
--- How many variables are declared, and that declarations have as many tokens.
+-- The variables and procedures that are declared, and that declarations have as many tokens.
 use Rattle.std.proofs.Common.{rules, ◌≡◌, ◌+◌, ◌≤◌, Some, List, ◌∷◌, length, ap, sym, ◌∙◌, arith, length-append}
 use Rattle.std.proofs.lemmas.List.{length-map}
+use Rattle.std.specs.declared.boxed.Box.{Box}
+use Rattle.std.specs.declared.alloc.Global.{Global}
 use Rattle.algol_tree.specs.declared.tree.Body.{Body}
 use Rattle.algol_tree.specs.declared.tree.Stmt.{Stmt}
 use Rattle.algol_tree.specs.declared.tree.Decl.{Decl, out-Decl, roll-Decl, roll-out-Decl, the_lemmas}
@@ -9,10 +11,11 @@ use Rattle.algol_tree.specs.declared.tree.Decl.TheVariants as shapes
 use Rattle.algol_tree.specs.declared.tree.Kind.{Kind}
 use Rattle.algol_tree.specs.declared.tree.Named.{Named}
 use Rattle.algol_tree.specs.Counts.{decls_tokens}
-use Rattle.algol_tree.specs.Image.{decl, decls}
+use Rattle.algol_tree.specs.declared.tree.Heading.{Heading}
+use Rattle.algol_tree.specs.Image.{decl, decls, stmt}
 use Rattle.algol_tree.specs.Plain as tree
 use Rattle.algol_tree.specs.Plain.{PDecl, PDecls}
-use Rattle.b67_templates.specs.Cells.{Simple, of_kind, variables}
+use Rattle.b67_templates.specs.Cells.{Simple, of_kind, procedures, variables}
 
 declared : (kind : Kind) (ns : List Named) (ds : PDecls) → length (variables (tree.decls (tree.simple kind ns) ds)) ≡ length ns + length (variables ds)
 declared kind ns ds =
@@ -46,14 +49,42 @@ variables_same d ds other =
     ap (λ (e : Decl). length (variables (tree.decls (decl e) (decls ds)))) (sym (roll-out-Decl d))
     ∙ no_more (out-Decl d) (decls ds) (λ kind ns e. other kind ns (sym (roll-out-Decl d) ∙ e))
 
--- each variable has a token
+-- ---- procedures
+
+procedure_is : (h : Heading) (s : Box Stmt Global) → decl (shapes.Procedure h s) ≡ tree.procedure h (stmt s.value)
+procedure_is h s = search (rules, the_lemmas)
+
+-- a declaration of a procedure, and those behind it
+pub procedures_more : (d : Decl) (h : Heading) (s : Box Stmt Global) (ds : List Decl) → d ≡ shapes.Procedure h s → procedures (decls (d ∷ ds)) ≡ h.name ∷ procedures (decls ds)
+procedures_more d h s ds is = ap (λ (x : PDecl). procedures (tree.decls x (decls ds))) (ap decl is ∙ procedure_is h s)
+
+-- a declaration of something else
+none_more : (x : Decl-F Decl Stmt Body) (ds : PDecls) → ((h : Heading) (s : Box Stmt Global) → roll-Decl x ≡ shapes.Procedure h s → ⊥) →
+    procedures (tree.decls (decl (roll-Decl x)) ds) ≡ procedures ds
+none_more (Decl-F.Simple kind ns) ds other = search (rules, the_lemmas)
+none_more (Decl-F.Files ns) ds other = search (rules, the_lemmas)
+none_more (Decl-F.Events ns) ds other = search (rules, the_lemmas)
+none_more (Decl-F.Tasks ns) ds other = search (rules, the_lemmas)
+none_more (Decl-F.Labels ns) ds other = search (rules, the_lemmas)
+none_more (Decl-F.Arrays kind ns pairs) ds other = search (rules, the_lemmas)
+none_more (Decl-F.Forward h) ds other = search (rules, the_lemmas)
+none_more (Decl-F.Procedure h s) ds other = absurd (other h s (shapes.rolls-Procedure h s))
+
+pub procedures_same : (d : Decl) (ds : List Decl) → ((h : Heading) (s : Box Stmt Global) → d ≡ shapes.Procedure h s → ⊥) → procedures (decls (d ∷ ds)) ≡ procedures (decls ds)
+procedures_same d ds other =
+    ap (λ (e : Decl). procedures (tree.decls (decl e) (decls ds))) (sym (roll-out-Decl d)) ∙ none_more (out-Decl d) (decls ds) (λ h s e. other h s (sym (roll-out-Decl d) ∙ e))
+
+-- each variable and each procedure has a token
+pub cells_few : (ds : PDecls) → length (variables ds) + length (procedures ds) ≤ decls_tokens ds
+cells_few tree.no_decls = omega arith
+cells_few (tree.decls (tree.simple kind ns) ds) = omega (arith, declared kind ns ds, cells_few ds)
+cells_few (tree.decls (tree.files ns) ds) = omega (arith, cells_few ds)
+cells_few (tree.decls (tree.events ns) ds) = omega (arith, cells_few ds)
+cells_few (tree.decls (tree.tasks ns) ds) = omega (arith, cells_few ds)
+cells_few (tree.decls (tree.labels ns) ds) = omega (arith, cells_few ds)
+cells_few (tree.decls (tree.arrays kind ns pairs) ds) = omega (arith, cells_few ds)
+cells_few (tree.decls (tree.forward h) ds) = omega (arith, cells_few ds)
+cells_few (tree.decls (tree.procedure h s) ds) = omega (arith, cells_few ds)
+
 pub variables_few : (ds : PDecls) → length (variables ds) ≤ decls_tokens ds
-variables_few tree.no_decls = omega arith
-variables_few (tree.decls (tree.simple kind ns) ds) = omega (arith, declared kind ns ds, variables_few ds)
-variables_few (tree.decls (tree.files ns) ds) = omega (arith, variables_few ds)
-variables_few (tree.decls (tree.events ns) ds) = omega (arith, variables_few ds)
-variables_few (tree.decls (tree.tasks ns) ds) = omega (arith, variables_few ds)
-variables_few (tree.decls (tree.labels ns) ds) = omega (arith, variables_few ds)
-variables_few (tree.decls (tree.arrays kind ns pairs) ds) = omega (arith, variables_few ds)
-variables_few (tree.decls (tree.forward h) ds) = omega (arith, variables_few ds)
-variables_few (tree.decls (tree.procedure h s) ds) = omega (arith, variables_few ds)
+variables_few ds = omega (arith, cells_few ds)

@@ -3,14 +3,15 @@ use Rattle.std.proofs.Common.{◌≡◌, ℕ, ◌+◌, ◌≤◌, pos, List, [],
 use Rattle.std.specs.Prelude.{slice_get}
 use Rattle.algol_tree.specs.declared.tree.PhraseText.{PhraseText}
 use Rattle.algol_tree.specs.Plain.{PExprs}
-use Rattle.algol_tree.specs.Scopes.{Scopes}
+use Rattle.b67_emit_stmt.specs.Places.{Place}
 use Rattle.b67_ops.specs.declared.Operator.TheVariants as ops
 use Rattle.b67_ops.specs.declared.PlainKind.TheVariants as kinds
 use Rattle.b67_ops.specs.declared.intrinsic.Intrinsic.TheVariants.{Write}
 use Rattle.b67_segment.specs.declared.code.Format.{Format}
 use Rattle.b67_segment.specs.Operators.{Placed, size}
 use Rattle.b67_templates.specs.Fragments.{Has, IntrinsicAt, NumberAt}
-use Rattle.b67_templates.specs.Code.{AreParts, LineAt, WriteAt, numbers_in, exprs_count}
+use Rattle.b67_templates.specs.Code.{AreParts, numbers_in, exprs_count}
+use Rattle.b67_emit_stmt.specs.Places.{LineAt, WriteAt}
 use Rattle.b67_templates.specs.Fitting.{PhrasesFit}
 use Rattle.b67_templates.specs.Emitting.{Emitted, EmittedWithExits}
 use Rattle.b67_emitter.proofs.Composing.{no_exits, then}
@@ -28,7 +29,7 @@ format_there old new formats f e k =
     let whole : formats ≡ old ++ f ∷ k.0 = k.1 ∙ ap (λ l. l ++ k.0) e ∙ append_assoc old (f ∷ []) k.0 in
     ap (λ l. slice_get l (length old)) whole ∙ seam old f k.0
 
-module _ (sc : Scopes) (level : ℕ) (phrases : List PhraseText) (es : PExprs) (a b c d e : Draft) (f : Format) where
+module _ (sc : Place) (level : ℕ) (phrases : List PhraseText) (es : PExprs) (a b c d e : Draft) (f : Format) where
   pub write_part : (most : ℕ) → e.exits.items ≡ a.exits.items → e.formats.items ≡ a.formats.items ++ f ∷ [] → HasFew a → size a.out.operators + 1 ≤ size e.out.operators →
       size e.out.operators ≤ size a.out.operators + most → AreParts phrases f.phrases → PhrasesFit phrases → numbers_in f.phrases ≡ exprs_count es →
       Emitted a.out b.out (λ qs. IntrinsicAt qs level Write (size a.out.operators) (size b.out.operators)) →
@@ -64,5 +65,6 @@ module _ (sc : Scopes) (level : ℕ) (phrases : List PhraseText) (es : PExprs) (
         short = short;
         formats = (f ∷ [], fs);
         few = omega (arith, ap length fs, length-append a.formats.items (f ∷ []), few, more);
+        more = omega (arith, ap length fs, length-append a.formats.items (f ∷ []), more);
         listed = λ l. subst AreListed (sym fs) (format_listed a.formats.items f phrases parts fit l);
       }

@@ -1,18 +1,17 @@
 -- The cells of a block.
-use Rattle.std.proofs.Common.{◌≡◌, ℕ, zero, suc, ◌+◌, ◌≤◌, List, refl, sym, subst, arith}
+use Rattle.std.proofs.Common.{◌≡◌, ℕ, zero, suc, ◌+◌, ◌≤◌, List, length, refl, sym, subst, arith}
 use Rattle.std.specs.Prelude.{replicate}
-use Rattle.algol_tree.specs.Scopes.{Scopes}
 use Rattle.b67_ops.specs.declared.Operator.TheVariants as ops
 use Rattle.b67_ops.specs.declared.PlainKind.TheVariants as kinds
 use Rattle.b67_segment.specs.Operators.{Placed, size}
 use Rattle.b67_segment.specs.Building.{Built}
 use Rattle.b67_segment.specs.declared.code.Format.{Format}
-use Rattle.b67_templates.specs.Fragments.{Has, AllAt}
-use Rattle.b67_templates.specs.Code.{CellsAt, MadeAt}
+use Rattle.b67_templates.specs.Fragments.{Has, AllAt, ControlsAt}
 use Rattle.b67_templates.specs.Emitting.{Emitted}
 use Rattle.b67_emitter.proofs.Composing.{then, weaker}
 use Rattle.b67_emit_stmt.specs.declared.draft.Draft.{Draft}
 use Rattle.b67_emit_stmt.specs.Drafts.{Emits, HasFew}
+use Rattle.b67_emit_stmt.specs.Places.{Place, CellsAt, MadeAt}
 use Rattle.b67_emit_stmt.proofs.Drafts.{piece}
 
 zeros_more : (qs : List Placed) (level n f m t : ℕ) → AllAt qs level (replicate n kinds.Zero) f m → Has qs level m (ops.Plain kinds.Zero) t →
@@ -30,31 +29,30 @@ zeros_next level n a b d h k =
     let E : ℕ → Type 0 = λ m. AllAt qs level (replicate m kinds.Zero) (size a.operators) (size d.operators) in
     subst E next (zeros_more qs level n (size a.operators) (size b.operators) (size d.operators) p.0 p.1))
 
-pushed : (sc : Scopes) (formats : List Format) (qs : List Placed) (level many m t : ℕ) → 1 ≤ many → Has qs level m (ops.Plain kinds.Push) t → MadeAt sc formats qs level many m t
+pushed : (sc : Place) (formats : List Format) (qs : List Placed) (level many m t : ℕ) → 1 ≤ many → Has qs level m (ops.Plain kinds.Push) t → MadeAt sc formats qs level many m t
 pushed sc formats qs level zero m t h k = absurd (omega arith)
 pushed sc formats qs level (suc n) m t h k = k
 
-module _ (sc : Scopes) (level many n : ℕ) (a d : Draft) (b : Built) (is : n ≡ many) (es : d.exits.items ≡ a.exits.items) (fs : d.formats.items ≡ a.formats.items) (few : HasFew a)
-    (h : Emitted a.out b (λ qs. AllAt qs level (replicate n kinds.Zero) (size a.out.operators) (size b.operators))) (short : size d.out.operators ≤ size a.out.operators + (many + 1)) where
-  zeros : Emitted a.out b (λ qs. AllAt qs level (replicate many kinds.Zero) (size a.out.operators) (size b.operators))
-  zeros = let E : ℕ → Type 0 = λ m. Emitted a.out b (λ qs. AllAt qs level (replicate m kinds.Zero) (size a.out.operators) (size b.operators)) in subst E is h
-
-  pub cells_pushed : 1 ≤ many → Emitted b d.out (λ qs. Has qs level (size b.operators) (ops.Plain kinds.Push) (size d.out.operators)) →
-      Emits (many + 1) a d (λ formats qs target. CellsAt sc formats qs level many (size a.out.operators) (size d.out.operators))
+module _ (sc : Place) (level many : ℕ) (segments : List ℕ) (most : ℕ) (a d : Draft) (b e : Built) (es : d.exits.items ≡ a.exits.items) (fs : d.formats.items ≡ a.formats.items) (few : HasFew a)
+    (zeros : Emitted a.out b (λ qs. AllAt qs level (replicate many kinds.Zero) (size a.out.operators) (size b.operators)))
+    (words : Emitted b e (λ qs. ControlsAt qs level segments (size b.operators) (size e.operators)))
+    (short : size d.out.operators ≤ size a.out.operators + most) where
+  pub cells_pushed : 1 ≤ many + length segments → Emitted e d.out (λ qs. Has qs level (size e.operators) (ops.Plain kinds.Push) (size d.out.operators)) →
+      Emits most a d (λ formats qs target. CellsAt sc formats qs level many segments (size a.out.operators) (size d.out.operators))
   cells_pushed some k =
-      piece {n = many + 1} {d = a} {e = d} es fs few
+      piece {n = most} {d = a} {e = d} es fs few
       (λ formats.
-      weaker (λ qs. CellsAt sc formats qs level many (size a.out.operators) (size d.out.operators)) (then zeros k)
-      (λ qs p. (size b.operators, p.0, pushed sc formats qs level many (size b.operators) (size d.out.operators) some p.1)))
+      weaker (λ qs. CellsAt sc formats qs level many segments (size a.out.operators) (size d.out.operators)) (then (then zeros words) k)
+      (λ qs p. (size b.operators, size e.operators, p.0.0, p.0.1, pushed sc formats qs level (many + length segments) (size e.operators) (size d.out.operators) some p.1)))
       short
 
-  pub no_cells : many ≡ 0 → d.out ≡ b → Emits (many + 1) a d (λ formats qs target. CellsAt sc formats qs level many (size a.out.operators) (size d.out.operators))
+  pub no_cells : many + length segments ≡ 0 → d.out ≡ e → Emits most a d (λ formats qs target. CellsAt sc formats qs level many segments (size a.out.operators) (size d.out.operators))
   no_cells none same =
-      let E : Built → Type 0 = λ x. Emitted a.out x (λ qs. AllAt qs level (replicate many kinds.Zero) (size a.out.operators) (size x.operators)) in
-      piece {n = many + 1} {d = a} {e = d} es fs few
+      let E : Built → Type 0 = λ x. Emitted b x (λ qs. ControlsAt qs level segments (size b.operators) (size x.operators)) in
+      piece {n = most} {d = a} {e = d} es fs few
       (λ formats.
-      weaker (λ qs. CellsAt sc formats qs level many (size a.out.operators) (size d.out.operators)) (subst E (sym same) zeros)
+      weaker (λ qs. CellsAt sc formats qs level many segments (size a.out.operators) (size d.out.operators)) (then zeros (subst E (sym same) words))
       (λ qs p.
       let M : ℕ → Type 0 = λ m. MadeAt sc formats qs level m (size d.out.operators) (size d.out.operators) in
-      (size d.out.operators, p, subst M (sym none) refl)))
+      (size b.operators, size d.out.operators, p.0, p.1, subst M (sym none) refl)))
       short

@@ -2,17 +2,17 @@
 use Rattle.std.specs.Prelude.{◌≡◌, ℕ, zero, suc, ◌+◌, List}
 use Rattle.algol_tree.specs.declared.tree.Kind.TheVariants as types
 use Rattle.algol_tree.specs.Plain.{PExpr}
-use Rattle.algol_tree.specs.Scopes.{Scopes}
+use Rattle.b67_emit_stmt.specs.Places.{Place}
 use Rattle.b67_ops.specs.declared.Operator.TheVariants.{Branch}
 use Rattle.b67_ops.specs.declared.BranchKind.TheVariants.{Brun}
 use Rattle.b67_ops.specs.declared.intrinsic.Intrinsic.TheVariants.{Select}
 use Rattle.b67_segment.specs.declared.code.Format.{Format}
 use Rattle.b67_segment.specs.Operators.{Placed}
 use Rattle.b67_templates.specs.Fragments.{Has, IntrinsicAt}
-use Rattle.b67_templates.specs.Code.{ExprAt, TableAt}
+use Rattle.b67_emit_stmt.specs.Places.{ExprAt, TableAt}
 
 -- CASE up to its table
-abbrev pub SelectAt : Scopes → List Format → List Placed → ℕ → PExpr → ℕ → ℕ → ℕ → Type 0
+abbrev pub SelectAt : Place → List Format → List Placed → ℕ → PExpr → ℕ → ℕ → ℕ → Type 0
 SelectAt sc formats ps level e many f t =
     (a : ℕ) × (m : ℕ) × IntrinsicAt ps level Select f a × ExprAt sc formats ps level types.Number e a m m × TableAt sc formats ps level many m t
 

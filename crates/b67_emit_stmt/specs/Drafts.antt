@@ -1,7 +1,8 @@
 -- What a call that adds code to a draft promises of it.
-use Rattle.std.specs.Prelude.{◌≡◌, ℕ, ◌+◌, ◌*◌, ◌≤◌, List, ◌++◌, length, Some, IsSome}
+use Rattle.std.specs.Prelude.{◌≡◌, ℕ, ◌+◌, ◌*◌, ◌<◌, ◌≤◌, ◌^◌, List, ◌++◌, length, Some, IsSome}
 use Rattle.std.specs.List.{All}
-use Rattle.algol_scope.specs.declared.scopes.Scopes.{Scopes}
+use Rattle.algol_tree.specs.declared.TheConstants.{MOST_PROCEDURES}
+use Rattle.b67_emit_stmt.specs.declared.draft.Known.{Known}
 use Rattle.b67_ops.specs.declared.TheConstants.{OUTER_LEVEL}
 use Rattle.b67_segment.specs.declared.TheConstants.{MOST_SEGMENT_WORDS}
 use Rattle.b67_segment.specs.declared.code.Format.{Format}
@@ -15,9 +16,12 @@ use Rattle.b67_emit_stmt.specs.declared.draft.Draft.{Draft}
 abbrev pub IsFront : List Format → List Format → Type 0
 IsFront xs ys = (more : List Format) × (ys ≡ xs ++ more)
 
--- the line of each format has more code than a syllable
+-- how many formats a program has at most: the line of each has more code than a syllable
+abbrev pub most_formats : ℕ
+most_formats = 6 * MOST_SEGMENT_WORDS * (1 + MOST_PROCEDURES)
+
 abbrev pub HasFew : Draft → Type 0
-HasFew d = length d.formats.items ≤ size d.out.operators
+HasFew d = length d.formats.items ≤ most_formats + size d.out.operators
 
 -- the formats can be listed: their texts can stand between quotes
 abbrev pub AreListed : List Format → Type 0
@@ -29,9 +33,11 @@ pub record IsAt (level : ℕ) (d : Draft) : Type 0 where
   pub outer : OUTER_LEVEL ≤ level
 
 -- A level is set, what is known of names can be spelled, and there is room for so many syllables.
-pub record IsReady (scopes : Scopes) (d : Draft) (syllables : ℕ) : Type 0 where
+pub record IsReady (s : Known) (d : Draft) (syllables : ℕ) : Type 0 where
   pub set : IsSome d.out.level
-  pub near : AreNear scopes
+  pub near : AreNear s.scopes.now
+  pub many : length s.procedures.now ≤ MOST_PROCEDURES
+  pub segment : s.segment < 2 ^ 10
   pub few : HasFew d
   pub room : size d.out.operators + syllables ≤ 6 * MOST_SEGMENT_WORDS
 
@@ -44,4 +50,6 @@ pub record Emits (most : ℕ) (before after : Draft) (claim : List Format → Li
   pub short : size after.out.operators ≤ size before.out.operators + most
   pub formats : IsFront before.formats.items after.formats.items
   pub few : HasFew after
+  -- at most one for each syllable
+  pub more : length after.formats.items + size before.out.operators ≤ length before.formats.items + size after.out.operators
   pub listed : AreListed before.formats.items → AreListed after.formats.items

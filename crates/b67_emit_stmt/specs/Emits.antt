@@ -2,31 +2,30 @@
 use Rattle.std.specs.Prelude.{ℕ, ◌+◌, ◌*◌}
 use Rattle.algol_tree.specs.declared.tree.Kind.TheVariants as types
 use Rattle.algol_tree.specs.Plain.{PExpr, PExprs, PStmt, PStmts}
-use Rattle.algol_tree.specs.Scopes as names
+use Rattle.b67_emit_stmt.specs.Places.{Place}
 use Rattle.algol_tree.specs.Counts.{exprs_tokens, stmts_tokens}
-use Rattle.algol_scope.specs.declared.scopes.Scopes.{Scopes}
+use Rattle.b67_emit_stmt.specs.declared.draft.Known.{Known}
 use Rattle.b67_ops.specs.declared.BranchKind.TheVariants.{Brfl, Brun}
 use Rattle.b67_segment.specs.Operators.{size}
 use Rattle.b67_segment.specs.Building.{level_set}
 use Rattle.b67_templates.specs.Fragments.{BranchAt}
-use Rattle.b67_templates.specs.Code.{CasesAt, ExprAt, StmtAt, StmtsAt}
+use Rattle.b67_emit_stmt.specs.Places.{CasesAt, ExprAt, StmtAt, StmtsAt}
 use Rattle.b67_templates.specs.Depths.{expr_syllables, stmt_syllables}
-use Rattle.b67_templates.specs.Fitting.{ExprFits, StmtFits, StmtsFit}
-use Rattle.b67_emitter.specs.Values.{couples}
+use Rattle.b67_emit_stmt.specs.Fits.{ExprFits, StmtFits, StmtsFit}
 use Rattle.b67_emit_stmt.specs.declared.draft.Draft.{Draft}
 use Rattle.b67_emit_stmt.specs.Drafts.{Emits}
 
 -- the statement fits some scopes
-abbrev pub HasFit : Scopes → Draft → PStmt → Type 0
-HasFit scopes d s = (sc : names.Scopes) × StmtFits sc (couples scopes) (level_set d.out) s
+abbrev pub HasFit : Known → Draft → PStmt → Type 0
+HasFit scopes d s = (sc : Place) × StmtFits sc scopes (level_set d.out) s
 
-abbrev pub HaveFit : Scopes → Draft → PStmts → Type 0
-HaveFit scopes d ss = (sc : names.Scopes) × StmtsFit sc (couples scopes) (level_set d.out) ss
+abbrev pub HaveFit : Known → Draft → PStmts → Type 0
+HaveFit scopes d ss = (sc : Place) × StmtsFit sc scopes (level_set d.out) ss
 
 -- the code of a statement
-abbrev pub EmitsStmt : Scopes → Draft → Draft → PStmt → Type 0
+abbrev pub EmitsStmt : Known → Draft → Draft → PStmt → Type 0
 EmitsStmt scopes before after s =
-    (sc : names.Scopes) → StmtFits sc (couples scopes) (level_set before.out) s →
+    (sc : Place) → StmtFits sc scopes (level_set before.out) s →
     Emits (stmt_syllables s) before after
     (λ formats qs target. StmtAt sc formats qs (level_set before.out) s (size before.out.operators) (size after.out.operators) target)
 
@@ -34,30 +33,30 @@ abbrev pub stmts_syllables : PStmts → ℕ
 stmts_syllables ss = 24 * stmts_tokens ss
 
 -- the code of statements one after another
-abbrev pub EmitsStmts : Scopes → Draft → Draft → PStmts → Type 0
+abbrev pub EmitsStmts : Known → Draft → Draft → PStmts → Type 0
 EmitsStmts scopes before after ss =
-    (sc : names.Scopes) → StmtsFit sc (couples scopes) (level_set before.out) ss →
+    (sc : Place) → StmtsFit sc scopes (level_set before.out) ss →
     Emits (stmts_syllables ss) before after
     (λ formats qs target. StmtsAt sc formats qs (level_set before.out) ss (size before.out.operators) (size after.out.operators) target)
 
 -- the table of CASE, and the statements behind it
-abbrev pub EmitsCases : Scopes → Draft → Draft → PStmts → Type 0
+abbrev pub EmitsCases : Known → Draft → Draft → PStmts → Type 0
 EmitsCases scopes before after ss =
-    (sc : names.Scopes) → StmtsFit sc (couples scopes) (level_set before.out) ss →
+    (sc : Place) → StmtsFit sc scopes (level_set before.out) ss →
     Emits (stmts_syllables ss) before after
     (λ formats qs target. CasesAt sc formats qs (level_set before.out) ss (size before.out.operators) target)
 
 -- the code of a statement whose exits go to the place behind it
-abbrev pub EmitsBody : Scopes → Draft → Draft → PStmt → Type 0
+abbrev pub EmitsBody : Known → Draft → Draft → PStmt → Type 0
 EmitsBody scopes before after s =
-    (sc : names.Scopes) → StmtFits sc (couples scopes) (level_set before.out) s →
+    (sc : Place) → StmtFits sc scopes (level_set before.out) s →
     Emits (stmt_syllables s) before after
     (λ formats qs target. StmtAt sc formats qs (level_set before.out) s (size before.out.operators) (size after.out.operators) (size after.out.operators))
 
 -- the code of IF with ELSE up to its second statement
-abbrev pub EmitsThen : Scopes → Draft → Draft → PExpr → PStmt → Type 0
+abbrev pub EmitsThen : Known → Draft → Draft → PExpr → PStmt → Type 0
 EmitsThen scopes before after c x =
-    (sc : names.Scopes) → ExprFits sc (couples scopes) (level_set before.out) types.Truth c → StmtFits sc (couples scopes) (level_set before.out) x →
+    (sc : Place) → ExprFits sc scopes (level_set before.out) types.Truth c → StmtFits sc scopes (level_set before.out) x →
     Emits (expr_syllables c + stmt_syllables x + 6) before after
     (λ formats qs target.
     (m : ℕ) × (m' : ℕ) × (n : ℕ) × ExprAt sc formats qs (level_set before.out) types.Truth c (size before.out.operators) m m
@@ -68,6 +67,6 @@ EmitsThen scopes before after c x =
 abbrev pub write_syllables : PExprs → ℕ
 write_syllables es = 16 + 12 * exprs_tokens es
 
-abbrev pub HasFitThen : Scopes → Draft → PExpr → PStmt → Type 0
+abbrev pub HasFitThen : Known → Draft → PExpr → PStmt → Type 0
 HasFitThen scopes d c x =
-    (sc : names.Scopes) × ExprFits sc (couples scopes) (level_set d.out) types.Truth c × StmtFits sc (couples scopes) (level_set d.out) x
+    (sc : Place) × ExprFits sc scopes (level_set d.out) types.Truth c × StmtFits sc scopes (level_set d.out) x

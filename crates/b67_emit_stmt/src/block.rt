@@ -1,57 +1,78 @@
-//! Blocks, the program's own and those within others.
+//! Blocks, those of texts and those within others.
 
 ghost use Rattle.std.specs.Prelude.{◌≡◌, ◌+◌, ◌≤◌, OnOk};
 ghost use Rattle.algol_tree.specs.declared.TheConstants.{MOST_BLOCK_CELLS};
-ghost use Rattle.algol_tree.specs.Image.{stmts};
+ghost use Rattle.algol_tree.specs.Image.{decls, stmts};
 ghost use Rattle.b67_ops.specs.declared.TheConstants.{MOST_LEVEL};
 ghost use Rattle.b67_segment.specs.Building.{level_set};
+ghost use Rattle.b67_templates.specs.Cells as frames;
 ghost use Rattle.b67_emit_stmt.specs.Drafts.{IsAt, IsReady};
-ghost use Rattle.b67_emit_stmt.specs.Bodies.{EmitsBlock, EmitsInner, HaveFitInside, block_syllables, inner_syllables};
-ghost use Rattle.b67_emit_stmt.specs.Emits.{HaveFit};
+ghost use Rattle.b67_emit_stmt.specs.Bodies.{EmitsBlock, EmitsInner, EmitsInside, HaveFitInside, IsSmall, block_syllables, inner_syllables, inside_syllables, variables_in};
+ghost use Rattle.b67_emit_stmt.specs.Fits.{InsideFits};
+ghost use Rattle.b67_emit_stmt.specs.Places.{Place};
 
-use crate::body::cells;
+use crate::cells::variables;
 use crate::draft::{Draft, StmtEmitter};
-use algol_tree::Stmt;
+use algol_tree::{Decl, Stmt};
 use b67_emitter::{ExprEmitter, aim, aim_exits, append_branch, append_entry, append_plain};
 use b67_ops::{BranchKind, PlainKind};
 use std::alloc::AllocError;
 
 impl<'a, E: ExprEmitter> StmtEmitter<'a, E> {
-    /// The code of a block of so many variables, at the level that is set: its cells, its statements, whose exits go to the place
-    /// behind them, and EXIT.
+    /// The code of a block up to its end, at the level that is set: so many cells of 0, those of its procedures, and its statements, whose
+    /// exits go to the place behind them.
     #[cycle(statements)]
-    pub(crate) fn block(&self, ss: &[Stmt], many: usize, to: &mut Draft) -> Result<(), AllocError>
+    pub(crate) fn inside(
+        &self,
+        ss: &[Stmt],
+        ds: &[Decl],
+        many: usize,
+        to: &mut Draft,
+    ) -> Result<(), AllocError>
         requires level { IsAt self.now.level to.old }
-        requires ready { IsReady self.now.scopes.now to.old (block_syllables many (stmts ss.now)) }
-        requires few { many ≤ MOST_BLOCK_CELLS }
-        requires fits { HaveFit self.now.scopes.now to.old (stmts ss.now) }
-        ensures code { OnOk result (EmitsBlock self.now.scopes.now (level_set to.old.out) to.old to.new many (stmts ss.now)) }
+        requires ready { IsReady self.now.known.now to.old (inside_syllables many (decls ds.now) (stmts ss.now)) }
+        requires few { IsSmall many (decls ds.now) }
+        requires fits { (sc : Place) × InsideFits sc self.now.known.now self.now.level (decls ds.now) (stmts ss.now) }
+        ensures code { OnOk result (EmitsInside self.now.known.now self.now.level to.old to.new many (decls ds.now) (stmts ss.now)) }
         ensures exits { OnOk result (to.new.exits.items ≡ to.old.exits.items) }
     {
         let first = to.exits.len();
-        cells(many, to)?;
+        self.cells(many, ds, to)?;
         self.stmts(ss, to)?;
         aim_exits(&mut to.out, &mut to.exits, first);
+        Ok(())
+    }
+
+    /// The code of a block within another, at its level.
+    #[cycle(statements)]
+    fn block(&self, ss: &[Stmt], ds: &[Decl], to: &mut Draft) -> Result<(), AllocError>
+        requires level { IsAt self.now.level to.old }
+        requires ready { IsReady self.now.known.now to.old (block_syllables (decls ds.now) (stmts ss.now)) }
+        requires few { IsSmall (variables_in (decls ds.now)) (decls ds.now) }
+        requires fits { (sc : Place) × InsideFits sc self.now.known.now self.now.level (decls ds.now) (stmts ss.now) }
+        ensures { OnOk result (EmitsBlock self.now.known.now self.now.level to.old to.new (decls ds.now) (stmts ss.now)) }
+    {
+        self.inside(ss, ds, variables(ds), to)?;
         append_plain(&mut to.out, PlainKind::Exit)
     }
 
     /// The code of a block one level further in.
     #[cycle(statements)]
-    fn block_inside(&self, ss: &[Stmt], many: usize, to: &mut Draft) -> Result<(), AllocError>
+    fn block_inside(&self, ss: &[Stmt], ds: &[Decl], to: &mut Draft) -> Result<(), AllocError>
         requires level { IsAt self.now.level to.old }
         requires inner { self.now.level + 1 ≤ MOST_LEVEL }
-        requires ready { IsReady self.now.scopes.now to.old (block_syllables many (stmts ss.now)) }
-        requires few { many ≤ MOST_BLOCK_CELLS }
-        requires fits { HaveFitInside self.now.scopes.now to.old (stmts ss.now) }
-        ensures { OnOk result (EmitsBlock self.now.scopes.now (level_set to.old.out + 1) to.old to.new many (stmts ss.now)) }
+        requires ready { IsReady self.now.known.now to.old (block_syllables (decls ds.now) (stmts ss.now)) }
+        requires few { IsSmall (variables_in (decls ds.now)) (decls ds.now) }
+        requires fits { HaveFitInside self.now.known.now to.old (decls ds.now) (stmts ss.now) }
+        ensures { OnOk result (EmitsBlock self.now.known.now (level_set to.old.out + 1) to.old to.new (decls ds.now) (stmts ss.now)) }
     {
         let inner = StmtEmitter {
             exprs: self.exprs,
-            scopes: self.scopes,
+            known: self.known,
             level: self.level + 1,
         };
         to.out.level(inner.level)?;
-        inner.block(ss, many, to)?;
+        inner.block(ss, ds, to)?;
         to.out.level(self.level)
     }
 
@@ -60,20 +81,20 @@ impl<'a, E: ExprEmitter> StmtEmitter<'a, E> {
     pub(crate) fn inner_block(
         &self,
         ss: &[Stmt],
-        many: usize,
+        ds: &[Decl],
         to: &mut Draft,
     ) -> Result<(), AllocError>
         requires level { IsAt self.now.level to.old }
         requires inner { self.now.level + 1 ≤ MOST_LEVEL }
-        requires ready { IsReady self.now.scopes.now to.old (inner_syllables many (stmts ss.now)) }
-        requires few { many ≤ MOST_BLOCK_CELLS }
-        requires fits { HaveFitInside self.now.scopes.now to.old (stmts ss.now) }
-        ensures { OnOk result (EmitsInner self.now.scopes.now to.old to.new many (stmts ss.now)) }
+        requires ready { IsReady self.now.known.now to.old (inner_syllables (decls ds.now) (stmts ss.now)) }
+        requires few { IsSmall (variables_in (decls ds.now)) (decls ds.now) }
+        requires fits { HaveFitInside self.now.known.now to.old (decls ds.now) (stmts ss.now) }
+        ensures { OnOk result (EmitsInner self.now.known.now to.old to.new (decls ds.now) (stmts ss.now)) }
     {
         let over = append_branch(&mut to.out, BranchKind::Brun)?;
         let begin = to.out.place();
-        self.block_inside(ss, many, to)?;
+        self.block_inside(ss, ds, to)?;
         aim(&mut to.out, &[over]);
-        append_entry(&mut to.out, begin, self.level + 1)
+        append_entry(&mut to.out, self.known.segment, begin, self.level + 1)
     }
 }

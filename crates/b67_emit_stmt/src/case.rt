@@ -7,14 +7,14 @@ ghost use Rattle.b67_templates.specs.Depths.{stmt_syllables, expr_syllables};
 ghost use Rattle.b67_emit_stmt.specs.Drafts.{IsAt, IsReady};
 ghost use Rattle.b67_emit_stmt.specs.Emits.{HasFit, HaveFit, EmitsStmt, EmitsCases, stmts_syllables};
 ghost use Rattle.algol_tree.specs.declared.tree.Kind.TheVariants as types;
-ghost use Rattle.algol_tree.specs.Scopes as names;
+ghost use Rattle.b67_emit_stmt.specs.Places.{Place};
 ghost use Rattle.b67_segment.specs.declared.TheConstants.{MOST_SEGMENT_WORDS};
 ghost use Rattle.b67_segment.specs.declared.code.Format.{Format};
 ghost use Rattle.b67_segment.specs.Operators.{size};
 ghost use Rattle.b67_segment.specs.Building.{level_set};
-ghost use Rattle.b67_templates.specs.Fitting.{ExprFits};
+ghost use Rattle.b67_emit_stmt.specs.Fits.{ExprFits};
 ghost use Rattle.b67_templates.specs.Emitting.{Emitted};
-ghost use Rattle.b67_emitter.specs.Values.{couples, AreNear};
+ghost use Rattle.b67_emitter.specs.Values.{AreNear};
 ghost use Rattle.b67_emit_stmt.specs.Cases.{EntriesAt, SelectAt};
 
 use crate::draft::{Draft, StmtEmitter};
@@ -50,16 +50,16 @@ impl<'a, E: ExprEmitter> StmtEmitter<'a, E> {
     /// which the table begins.
     fn select(&self, e: &Expr, many: usize, out: &mut Builder) -> Result<(), AllocError>
         requires set { IsSome out.old.level }
-        requires near { AreNear self.now.scopes.now }
+        requires near { AreNear self.now.known.now.scopes.now }
         requires few { many ≤ 6 * MOST_SEGMENT_WORDS }
-        requires fits { (sc : names.Scopes) × ExprFits sc (couples self.now.scopes.now) (level_set out.old) types.Number (expr e.now) }
+        requires fits { (sc : Place) × ExprFits sc self.now.known.now (level_set out.old) types.Number (expr e.now) }
         requires room { size out.old.operators + (19 + expr_syllables (expr e.now)) ≤ 6 * MOST_SEGMENT_WORDS }
-        ensures code { OnOk result ((sc : names.Scopes) (formats : List Format) → ExprFits sc (couples self.now.scopes.now) (level_set out.old) types.Number (expr e.now) → Emitted out.old out.new (λ qs. SelectAt sc formats qs (level_set out.old) (expr e.now) many (size out.old.operators) (size out.new.operators))) }
+        ensures code { OnOk result ((sc : Place) (formats : List Format) → ExprFits sc self.now.known.now (level_set out.old) types.Number (expr e.now) → Emitted out.old out.new (λ qs. SelectAt sc formats qs (level_set out.old) (expr e.now) many (size out.old.operators) (size out.new.operators))) }
         ensures level { OnOk result (out.new.level ≡ out.old.level) }
         ensures size { OnOk result (size out.new.operators ≤ size out.old.operators + (19 + expr_syllables (expr e.now))) }
     {
         append_intrinsic(out, Intrinsic::Select)?;
-        self.exprs.value(e, self.scopes, out)?;
+        self.exprs.value(e, self.known.scopes, out)?;
         append_number(out, Whole::fitting(many as i64))?;
         let table = out.place() + TO_TABLE;
         append_operator(out, &Operator::Lt16(table))?;
@@ -70,9 +70,9 @@ impl<'a, E: ExprEmitter> StmtEmitter<'a, E> {
     #[cycle(statements)]
     fn cases(&self, ss: &[Stmt], to: &mut Draft) -> Result<(), AllocError>
         requires level { IsAt self.now.level to.old }
-        requires ready { IsReady self.now.scopes.now to.old (stmts_syllables (stmts ss.now)) }
-        requires fits { HaveFit self.now.scopes.now to.old (stmts ss.now) }
-        ensures { OnOk result (EmitsCases self.now.scopes.now to.old to.new (stmts ss.now)) }
+        requires ready { IsReady self.now.known.now to.old (stmts_syllables (stmts ss.now)) }
+        requires fits { HaveFit self.now.known.now to.old (stmts ss.now) }
+        ensures { OnOk result (EmitsCases self.now.known.now to.old to.new (stmts ss.now)) }
     {
         let mut entry = to.out.place();
         append_entries(ss.len(), &mut to.out)?;
@@ -89,9 +89,9 @@ impl<'a, E: ExprEmitter> StmtEmitter<'a, E> {
     #[cycle(statements)]
     pub(crate) fn case(&self, ss: &[Stmt], e: &Expr, to: &mut Draft) -> Result<(), AllocError>
         requires level { IsAt self.now.level to.old }
-        requires ready { IsReady self.now.scopes.now to.old (stmt_syllables (tree.case (expr e.now) (stmts ss.now))) }
-        requires fits { HasFit self.now.scopes.now to.old (tree.case (expr e.now) (stmts ss.now)) }
-        ensures { OnOk result (EmitsStmt self.now.scopes.now to.old to.new (tree.case (expr e.now) (stmts ss.now))) }
+        requires ready { IsReady self.now.known.now to.old (stmt_syllables (tree.case (expr e.now) (stmts ss.now))) }
+        requires fits { HasFit self.now.known.now to.old (tree.case (expr e.now) (stmts ss.now)) }
+        ensures { OnOk result (EmitsStmt self.now.known.now to.old to.new (tree.case (expr e.now) (stmts ss.now))) }
     {
         self.select(e, ss.len(), &mut to.out)?;
         self.cases(ss, to)

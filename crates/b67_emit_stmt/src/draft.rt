@@ -1,3 +1,4 @@
+use crate::texts::Procedure;
 use algol_scope::Scopes;
 use b67_segment::{Builder, Format};
 
@@ -10,10 +11,19 @@ pub struct Draft {
     pub formats: Vec<Format>,
 }
 
-/// How the statements of a block are emitted: the emitter of their expressions, what their names mean, and the block's level.
+/// What is known where a text is emitted: what the program's names mean, its procedures in the order of the text, and the number of
+/// the segment.
+#[derive(Drop)]
+pub struct Known<'a> {
+    pub scopes: &'a Scopes,
+    pub procedures: &'a [Procedure<'a>],
+    pub segment: u16,
+}
+
+/// How the statements of a block are emitted: the emitter of their expressions, what is known, and the block's level.
 #[derive(Drop)]
 pub struct StmtEmitter<'a, E> {
     pub exprs: &'a E,
-    pub scopes: &'a Scopes,
+    pub known: &'a Known<'a>,
     pub level: u8,
 }

@@ -4,16 +4,18 @@ ghost use Rattle.std.specs.Prelude.{◌≡◌, ◌+◌, ◌*◌, ◌≤◌, List
 ghost use Rattle.algol_tree.specs.declared.TheConstants.{MOST_LINE_WIDTH};
 ghost use Rattle.algol_tree.specs.Image.{exprs};
 ghost use Rattle.algol_tree.specs.Counts.{exprs_tokens};
-ghost use Rattle.algol_tree.specs.Scopes as names;
+ghost use Rattle.b67_emit_stmt.specs.Places.{Place};
 ghost use Rattle.algol_tree.specs.Spelling.{value_of};
 ghost use Rattle.b67_segment.specs.declared.TheConstants.{MOST_SEGMENT_WORDS};
 ghost use Rattle.b67_segment.specs.declared.code.Format.{Format};
 ghost use Rattle.b67_segment.specs.Operators.{size};
 ghost use Rattle.b67_segment.specs.Building.{level_set};
-ghost use Rattle.b67_templates.specs.Code.{AreParts, IsPart, LineAt, WriteAt, word_part};
-ghost use Rattle.b67_templates.specs.Fitting.{IsNarrowWord, PhraseFits, PhrasesFit, LineFits, WriteFits};
+ghost use Rattle.b67_templates.specs.Code.{AreParts, IsPart, word_part};
+ghost use Rattle.b67_emit_stmt.specs.Places.{LineAt, WriteAt};
+ghost use Rattle.b67_templates.specs.Fitting.{IsNarrowWord, PhraseFits, PhrasesFit};
+ghost use Rattle.b67_emit_stmt.specs.Fits.{LineFits, WriteFits};
 ghost use Rattle.b67_templates.specs.Emitting.{Emitted};
-ghost use Rattle.b67_emitter.specs.Values.{couples, AreNear};
+ghost use Rattle.b67_emitter.specs.Values.{AreNear};
 ghost use Rattle.b67_emit_stmt.specs.Drafts.{Emits, IsReady};
 ghost use Rattle.b67_emit_stmt.specs.Emits.{write_syllables};
 
@@ -80,15 +82,15 @@ impl<'a, E: ExprEmitter> StmtEmitter<'a, E> {
     /// The values of items.
     fn items(&self, items: &[Expr], out: &mut Builder) -> Result<(), AllocError>
         requires set { IsSome out.old.level }
-        requires near { AreNear self.now.scopes.now }
-        requires fits { (sc : names.Scopes) × LineFits sc (couples self.now.scopes.now) (level_set out.old) (exprs items.now) }
+        requires near { AreNear self.now.known.now.scopes.now }
+        requires fits { (sc : Place) × LineFits sc self.now.known.now (level_set out.old) (exprs items.now) }
         requires room { size out.old.operators + 12 * exprs_tokens (exprs items.now) ≤ 6 * MOST_SEGMENT_WORDS }
-        ensures code { OnOk result ((sc : names.Scopes) (formats : List Format) → LineFits sc (couples self.now.scopes.now) (level_set out.old) (exprs items.now) → Emitted out.old out.new (λ qs. LineAt sc formats qs (level_set out.old) (exprs items.now) (size out.old.operators) (size out.new.operators))) }
+        ensures code { OnOk result ((sc : Place) (formats : List Format) → LineFits sc self.now.known.now (level_set out.old) (exprs items.now) → Emitted out.old out.new (λ qs. LineAt sc formats qs (level_set out.old) (exprs items.now) (size out.old.operators) (size out.new.operators))) }
         ensures level { OnOk result (out.new.level ≡ out.old.level) }
         ensures size { OnOk result (size out.new.operators ≤ size out.old.operators + 12 * exprs_tokens (exprs items.now)) }
     {
         'items: for item in items {
-            self.exprs.value(item, self.scopes, out)?;
+            self.exprs.value(item, self.known.scopes, out)?;
         }
         Ok(())
     }
@@ -100,9 +102,9 @@ impl<'a, E: ExprEmitter> StmtEmitter<'a, E> {
         items: &[Expr],
         to: &mut Draft,
     ) -> Result<(), AllocError>
-        requires ready { IsReady self.now.scopes.now to.old (write_syllables (exprs items.now)) }
-        requires fits { (sc : names.Scopes) × WriteFits sc (couples self.now.scopes.now) (level_set to.old.out) phrases.now (exprs items.now) }
-        ensures { OnOk result ((sc : names.Scopes) → WriteFits sc (couples self.now.scopes.now) (level_set to.old.out) phrases.now (exprs items.now) → Emits (write_syllables (exprs items.now)) to.old to.new (λ formats qs target. WriteAt sc formats qs (level_set to.old.out) phrases.now (exprs items.now) (size to.old.out.operators) (size to.new.out.operators))) }
+        requires ready { IsReady self.now.known.now to.old (write_syllables (exprs items.now)) }
+        requires fits { (sc : Place) × WriteFits sc self.now.known.now (level_set to.old.out) phrases.now (exprs items.now) }
+        ensures { OnOk result ((sc : Place) → WriteFits sc self.now.known.now (level_set to.old.out) phrases.now (exprs items.now) → Emits (write_syllables (exprs items.now)) to.old to.new (λ formats qs target. WriteAt sc formats qs (level_set to.old.out) phrases.now (exprs items.now) (size to.old.out.operators) (size to.new.out.operators))) }
     {
         let number = to.formats.len();
         let format = format_of(*to.formats.allocator(), phrases)?;

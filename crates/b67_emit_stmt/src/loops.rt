@@ -20,9 +20,9 @@ impl<'a, E: ExprEmitter> StmtEmitter<'a, E> {
     #[cycle(statements)]
     fn loop_body(&self, b: &Stmt, to: &mut Draft) -> Result<(), AllocError>
         requires level { IsAt self.now.level to.old }
-        requires ready { IsReady self.now.scopes.now to.old (stmt_syllables (stmt b.now)) }
-        requires fits { HasFit self.now.scopes.now to.old (stmt b.now) }
-        ensures { OnOk result (EmitsBody self.now.scopes.now to.old to.new (stmt b.now)) }
+        requires ready { IsReady self.now.known.now to.old (stmt_syllables (stmt b.now)) }
+        requires fits { HasFit self.now.known.now to.old (stmt b.now) }
+        ensures { OnOk result (EmitsBody self.now.known.now to.old to.new (stmt b.now)) }
     {
         let first = to.exits.len();
         self.stmt(b, to)?;
@@ -34,12 +34,12 @@ impl<'a, E: ExprEmitter> StmtEmitter<'a, E> {
     #[cycle(statements)]
     pub(crate) fn while_loop(&self, b: &Stmt, c: &Expr, to: &mut Draft) -> Result<(), AllocError>
         requires level { IsAt self.now.level to.old }
-        requires ready { IsReady self.now.scopes.now to.old (stmt_syllables (tree.while (expr c.now) (stmt b.now))) }
-        requires fits { HasFit self.now.scopes.now to.old (tree.while (expr c.now) (stmt b.now)) }
-        ensures { OnOk result (EmitsStmt self.now.scopes.now to.old to.new (tree.while (expr c.now) (stmt b.now))) }
+        requires ready { IsReady self.now.known.now to.old (stmt_syllables (tree.while (expr c.now) (stmt b.now))) }
+        requires fits { HasFit self.now.known.now to.old (tree.while (expr c.now) (stmt b.now)) }
+        ensures { OnOk result (EmitsStmt self.now.known.now to.old to.new (tree.while (expr c.now) (stmt b.now))) }
     {
         let start = to.out.place();
-        self.exprs.value(c, self.scopes, &mut to.out)?;
+        self.exprs.value(c, self.known.scopes, &mut to.out)?;
         append_exit(&mut to.out, BranchKind::Brfl, &mut to.exits)?;
         self.loop_body(b, to)?;
         append_turn(&mut to.out, start)
@@ -49,13 +49,13 @@ impl<'a, E: ExprEmitter> StmtEmitter<'a, E> {
     #[cycle(statements)]
     pub(crate) fn until_loop(&self, b: &Stmt, c: &Expr, to: &mut Draft) -> Result<(), AllocError>
         requires level { IsAt self.now.level to.old }
-        requires ready { IsReady self.now.scopes.now to.old (stmt_syllables (tree.until (stmt b.now) (expr c.now))) }
-        requires fits { HasFit self.now.scopes.now to.old (tree.until (stmt b.now) (expr c.now)) }
-        ensures { OnOk result (EmitsStmt self.now.scopes.now to.old to.new (tree.until (stmt b.now) (expr c.now))) }
+        requires ready { IsReady self.now.known.now to.old (stmt_syllables (tree.until (stmt b.now) (expr c.now))) }
+        requires fits { HasFit self.now.known.now to.old (tree.until (stmt b.now) (expr c.now)) }
+        ensures { OnOk result (EmitsStmt self.now.known.now to.old to.new (tree.until (stmt b.now) (expr c.now))) }
     {
         let start = to.out.place();
         self.loop_body(b, to)?;
-        self.exprs.value(c, self.scopes, &mut to.out)?;
+        self.exprs.value(c, self.known.scopes, &mut to.out)?;
         append_exit(&mut to.out, BranchKind::Brtr, &mut to.exits)?;
         append_turn(&mut to.out, start)
     }
@@ -72,9 +72,9 @@ impl<'a, E: ExprEmitter> StmtEmitter<'a, E> {
         to: &mut Draft,
     ) -> Result<(), AllocError>
         requires level { IsAt self.now.level to.old }
-        requires ready { IsReady self.now.scopes.now to.old (stmt_syllables (tree.for v.now (expr a.now) (expr s.now) (expr l.now) (stmt b.now))) }
-        requires fits { HasFit self.now.scopes.now to.old (tree.for v.now (expr a.now) (expr s.now) (expr l.now) (stmt b.now)) }
-        ensures { OnOk result (EmitsStmt self.now.scopes.now to.old to.new (tree.for v.now (expr a.now) (expr s.now) (expr l.now) (stmt b.now))) }
+        requires ready { IsReady self.now.known.now to.old (stmt_syllables (tree.for v.now (expr a.now) (expr s.now) (expr l.now) (stmt b.now))) }
+        requires fits { HasFit self.now.known.now to.old (tree.for v.now (expr a.now) (expr s.now) (expr l.now) (stmt b.now)) }
+        ensures { OnOk result (EmitsStmt self.now.known.now to.old to.new (tree.for v.now (expr a.now) (expr s.now) (expr l.now) (stmt b.now))) }
     {
         self.assign(v, a, &mut to.out)?;
         let start = to.out.place();
@@ -89,11 +89,11 @@ impl<'a, E: ExprEmitter> StmtEmitter<'a, E> {
     #[cycle(statements)]
     pub(crate) fn thru_loop(&self, b: &Stmt, e: &Expr, to: &mut Draft) -> Result<(), AllocError>
         requires level { IsAt self.now.level to.old }
-        requires ready { IsReady self.now.scopes.now to.old (stmt_syllables (tree.thru (expr e.now) (stmt b.now))) }
-        requires fits { HasFit self.now.scopes.now to.old (tree.thru (expr e.now) (stmt b.now)) }
-        ensures { OnOk result (EmitsStmt self.now.scopes.now to.old to.new (tree.thru (expr e.now) (stmt b.now))) }
+        requires ready { IsReady self.now.known.now to.old (stmt_syllables (tree.thru (expr e.now) (stmt b.now))) }
+        requires fits { HasFit self.now.known.now to.old (tree.thru (expr e.now) (stmt b.now)) }
+        ensures { OnOk result (EmitsStmt self.now.known.now to.old to.new (tree.thru (expr e.now) (stmt b.now))) }
     {
-        self.exprs.value(e, self.scopes, &mut to.out)?;
+        self.exprs.value(e, self.known.scopes, &mut to.out)?;
         let start = to.out.place();
         append_all(
             &mut to.out,

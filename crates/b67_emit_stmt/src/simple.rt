@@ -3,21 +3,24 @@
 ghost use Rattle.std.specs.Prelude.{◌≡◌, ◌+◌, ◌*◌, ◌≤◌, List, IsSome, OnOk};
 ghost use Rattle.algol_tree.specs.declared.tree.Kind.{Kind};
 ghost use Rattle.algol_tree.specs.Image.{expr};
-ghost use Rattle.algol_tree.specs.Scopes as names;
+ghost use Rattle.b67_emit_stmt.specs.Places.{Place};
 ghost use Rattle.b67_segment.specs.declared.TheConstants.{MOST_SEGMENT_WORDS};
 ghost use Rattle.b67_segment.specs.declared.code.Format.{Format};
 ghost use Rattle.b67_segment.specs.Operators.{size};
 ghost use Rattle.b67_segment.specs.Building.{level_set};
 ghost use Rattle.b67_templates.specs.Fragments.{IntrinsicAt};
-ghost use Rattle.b67_templates.specs.Code.{AssignAt, ReadAt, ReferenceAt};
+ghost use Rattle.b67_emit_stmt.specs.Places.{AssignAt, CallStmtAt, ReadAt, ReferenceAt};
 ghost use Rattle.b67_templates.specs.Depths.{expr_syllables};
-ghost use Rattle.b67_templates.specs.Fitting.{AssignFits, NameFits};
+ghost use Rattle.b67_emit_stmt.specs.Fits.{AssignFits, CallStmtFits, LeftFits, ReadFits};
 ghost use Rattle.b67_templates.specs.Emitting.{Emitted};
-ghost use Rattle.b67_emitter.specs.Values.{couples, AreNear};
+ghost use Rattle.b67_emitter.specs.Values.{AreNear};
 
 use crate::draft::StmtEmitter;
 use algol_tree::{Expr, Named};
-use b67_emitter::{ExprEmitter, append_plain, append_reading, append_reference, couple_of};
+use b67_emitter::{
+    ExprEmitter, append_call, append_dropped, append_plain, append_reading, append_reference,
+    couple_of, left_of, result_of,
+};
 use b67_ops::{Intrinsic, PlainKind};
 use b67_segment::Builder;
 use std::alloc::AllocError;
@@ -34,44 +37,58 @@ pub(crate) fn append_intrinsic(out: &mut Builder, intrinsic: Intrinsic) -> Resul
 }
 
 impl<'a, E: ExprEmitter> StmtEmitter<'a, E> {
-    /// The reference of a variable.
+    /// The reference of a variable or a result that is assigned.
     pub(crate) fn reference(&self, v: &Named, out: &mut Builder) -> Result<(), AllocError>
         requires set { IsSome out.old.level }
-        requires near { AreNear self.now.scopes.now }
-        requires fits { (sc : names.Scopes) × (k : Kind) × NameFits sc (couples self.now.scopes.now) (level_set out.old) k v.now }
+        requires near { AreNear self.now.known.now.scopes.now }
+        requires fits { (sc : Place) × (k : Kind) × LeftFits sc self.now.known.now (level_set out.old) k v.now }
         requires room { size out.old.operators + 2 ≤ 6 * MOST_SEGMENT_WORDS }
-        ensures code { OnOk result ((sc : names.Scopes) (k : Kind) (formats : List Format) → NameFits sc (couples self.now.scopes.now) (level_set out.old) k v.now → Emitted out.old out.new (λ qs. ReferenceAt sc formats qs (level_set out.old) v.now k (size out.old.operators) (size out.new.operators))) }
+        ensures code { OnOk result ((sc : Place) (k : Kind) (formats : List Format) → LeftFits sc self.now.known.now (level_set out.old) k v.now → Emitted out.old out.new (λ qs. ReferenceAt sc formats qs (level_set out.old) v.now k (size out.old.operators) (size out.new.operators))) }
         ensures level { OnOk result (out.new.level ≡ out.old.level) }
         ensures size { OnOk result (size out.new.operators ≡ size out.old.operators + 2) }
     {
-        append_reference(out, couple_of(self.scopes, v))
+        append_reference(out, left_of(self.known.scopes, v))
     }
 
     /// The value of a variable.
     pub(crate) fn read(&self, v: &Named, out: &mut Builder) -> Result<(), AllocError>
         requires set { IsSome out.old.level }
-        requires near { AreNear self.now.scopes.now }
-        requires fits { (sc : names.Scopes) × (k : Kind) × NameFits sc (couples self.now.scopes.now) (level_set out.old) k v.now }
+        requires near { AreNear self.now.known.now.scopes.now }
+        requires fits { (sc : Place) × (k : Kind) × ReadFits sc self.now.known.now (level_set out.old) k v.now }
         requires room { size out.old.operators + 2 ≤ 6 * MOST_SEGMENT_WORDS }
-        ensures code { OnOk result ((sc : names.Scopes) (k : Kind) (formats : List Format) → NameFits sc (couples self.now.scopes.now) (level_set out.old) k v.now → Emitted out.old out.new (λ qs. ReadAt sc formats qs (level_set out.old) v.now k (size out.old.operators) (size out.new.operators))) }
+        ensures code { OnOk result ((sc : Place) (k : Kind) (formats : List Format) → ReadFits sc self.now.known.now (level_set out.old) k v.now → Emitted out.old out.new (λ qs. ReadAt sc formats qs (level_set out.old) v.now k (size out.old.operators) (size out.new.operators))) }
         ensures level { OnOk result (out.new.level ≡ out.old.level) }
         ensures size { OnOk result (size out.new.operators ≡ size out.old.operators + 2) }
     {
-        append_reading(out, couple_of(self.scopes, v))
+        append_reading(out, couple_of(self.known.scopes, v))
     }
 
     /// The reference of a variable, the value, the store.
     pub(crate) fn assign(&self, v: &Named, e: &Expr, out: &mut Builder) -> Result<(), AllocError>
         requires set { IsSome out.old.level }
-        requires near { AreNear self.now.scopes.now }
-        requires fits { (sc : names.Scopes) × AssignFits sc (couples self.now.scopes.now) (level_set out.old) v.now (expr e.now) }
+        requires near { AreNear self.now.known.now.scopes.now }
+        requires fits { (sc : Place) × AssignFits sc self.now.known.now (level_set out.old) v.now (expr e.now) }
         requires room { size out.old.operators + (3 + expr_syllables (expr e.now)) ≤ 6 * MOST_SEGMENT_WORDS }
-        ensures code { OnOk result ((sc : names.Scopes) (formats : List Format) → AssignFits sc (couples self.now.scopes.now) (level_set out.old) v.now (expr e.now) → Emitted out.old out.new (λ qs. AssignAt sc formats qs (level_set out.old) v.now (expr e.now) (size out.old.operators) (size out.new.operators))) }
+        ensures code { OnOk result ((sc : Place) (formats : List Format) → AssignFits sc self.now.known.now (level_set out.old) v.now (expr e.now) → Emitted out.old out.new (λ qs. AssignAt sc formats qs (level_set out.old) v.now (expr e.now) (size out.old.operators) (size out.new.operators))) }
         ensures level { OnOk result (out.new.level ≡ out.old.level) }
         ensures size { OnOk result (size out.new.operators ≤ size out.old.operators + (3 + expr_syllables (expr e.now))) }
     {
         self.reference(v, out)?;
-        self.exprs.value(e, self.scopes, out)?;
+        self.exprs.value(e, self.known.scopes, out)?;
         append_plain(out, PlainKind::Stod)
+    }
+
+    /// The call of a procedure. The result of a typed one is dropped.
+    pub(crate) fn call(&self, n: &Named, out: &mut Builder) -> Result<(), AllocError>
+        requires set { IsSome out.old.level }
+        requires near { AreNear self.now.known.now.scopes.now }
+        requires fits { (sc : Place) × CallStmtFits sc self.now.known.now (level_set out.old) n.now }
+        requires room { size out.old.operators + 5 ≤ 6 * MOST_SEGMENT_WORDS }
+        ensures code { OnOk result ((sc : Place) (formats : List Format) → CallStmtFits sc self.now.known.now (level_set out.old) n.now → Emitted out.old out.new (λ qs. CallStmtAt sc formats qs (level_set out.old) n.now (size out.old.operators) (size out.new.operators))) }
+        ensures level { OnOk result (out.new.level ≡ out.old.level) }
+        ensures size { OnOk result (size out.new.operators ≤ size out.old.operators + 5) }
+    {
+        append_call(out, couple_of(self.known.scopes, n))?;
+        append_dropped(out, result_of(self.known.scopes, n).is_some())
     }
 }

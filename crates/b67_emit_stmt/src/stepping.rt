@@ -7,18 +7,19 @@ ghost use Rattle.algol_tree.specs.declared.tree.Kind.TheVariants as types;
 ghost use Rattle.algol_tree.specs.declared.tree.Op.TheVariants as operators;
 ghost use Rattle.algol_tree.specs.Image.{expr};
 ghost use Rattle.algol_tree.specs.Plain as tree;
-ghost use Rattle.algol_tree.specs.Scopes as names;
+ghost use Rattle.b67_emit_stmt.specs.Places.{Place};
 ghost use Rattle.algol_meaning.specs.Statements.{alone};
 ghost use Rattle.b67_segment.specs.declared.TheConstants.{MOST_SEGMENT_WORDS};
 ghost use Rattle.b67_segment.specs.declared.code.Format.{Format};
 ghost use Rattle.b67_segment.specs.Operators.{size};
 ghost use Rattle.b67_segment.specs.Building.{level_set};
 ghost use Rattle.b67_templates.specs.Fragments.{AllAt, BranchAt};
-ghost use Rattle.b67_templates.specs.Code.{AssignAt, ExprAt, PastAt, SignedAt, StepAt, StepSign, literal_of};
+ghost use Rattle.b67_templates.specs.Code.{StepSign, literal_of};
+ghost use Rattle.b67_emit_stmt.specs.Places.{AssignAt, ExprAt, PastAt, SignedAt, StepAt};
 ghost use Rattle.b67_templates.specs.Depths.{expr_syllables};
-ghost use Rattle.b67_templates.specs.Fitting.{ExprFits, NameFits};
+ghost use Rattle.b67_emit_stmt.specs.Fits.{ExprFits, ReadFits, VariableFits};
 ghost use Rattle.b67_templates.specs.Emitting.{Emitted};
-ghost use Rattle.b67_emitter.specs.Values.{couples, AreNear};
+ghost use Rattle.b67_emitter.specs.Values.{AreNear};
 ghost use Rattle.b67_emit_stmt.specs.Drafts.{Emits, HasFew, IsReady};
 
 use crate::draft::{Draft, StmtEmitter};
@@ -58,7 +59,7 @@ fn append_signed(step: i64, to: &mut Draft) -> Result<(), AllocError>
     requires set { IsSome to.old.out.level }
     requires few { HasFew to.old }
     requires room { size to.old.out.operators + 5 ≤ 6 * MOST_SEGMENT_WORDS }
-    ensures { OnOk result ((sc : names.Scopes) → Emits 5 to.old to.new (λ formats qs target. (sign : StepSign step) × SignedAt sc formats qs (level_set to.old.out) sign (size to.old.out.operators) target (size to.new.out.operators))) }
+    ensures { OnOk result ((sc : Place) → Emits 5 to.old to.new (λ formats qs target. (sign : StepSign step) × SignedAt sc formats qs (level_set to.old.out) sign (size to.old.out.operators) target (size to.new.out.operators))) }
 {
     if step > 0 {
         append_comparison(PlainKind::Grtr, to)
@@ -74,7 +75,7 @@ fn append_past(to: &mut Draft) -> Result<(), AllocError>
     requires set { IsSome to.old.out.level }
     requires few { HasFew to.old }
     requires room { size to.old.out.operators + 13 ≤ 6 * MOST_SEGMENT_WORDS }
-    ensures { OnOk result ((sc : names.Scopes) → Emits 13 to.old to.new (λ formats qs target. PastAt sc formats qs (level_set to.old.out) (size to.old.out.operators) target (size to.new.out.operators))) }
+    ensures { OnOk result ((sc : Place) → Emits 13 to.old to.new (λ formats qs target. PastAt sc formats qs (level_set to.old.out) (size to.old.out.operators) target (size to.new.out.operators))) }
 {
     let operators = [
         PlainKind::Dupl,
@@ -101,45 +102,45 @@ impl<'a, E: ExprEmitter> StmtEmitter<'a, E> {
         out: &mut Builder,
     ) -> Result<(), AllocError>
         requires set { IsSome out.old.level }
-        requires near { AreNear self.now.scopes.now }
-        requires fits { (sc : names.Scopes) × NameFits sc (couples self.now.scopes.now) (level_set out.old) types.Number v.now × ExprFits sc (couples self.now.scopes.now) (level_set out.old) types.Number (expr l.now) }
+        requires near { AreNear self.now.known.now.scopes.now }
+        requires fits { (sc : Place) × ReadFits sc self.now.known.now (level_set out.old) types.Number v.now × ExprFits sc self.now.known.now (level_set out.old) types.Number (expr l.now) }
         requires room { size out.old.operators + (3 + expr_syllables (expr l.now)) ≤ 6 * MOST_SEGMENT_WORDS }
-        ensures code { OnOk result ((sc : names.Scopes) (formats : List Format) → NameFits sc (couples self.now.scopes.now) (level_set out.old) types.Number v.now → ExprFits sc (couples self.now.scopes.now) (level_set out.old) types.Number (expr l.now) → Emitted out.old out.new (λ qs. ExprAt sc formats qs (level_set out.old) types.Number (tree.two operators.Sub (alone v.now) (expr l.now)) (size out.old.operators) (size out.new.operators) (size out.new.operators))) }
+        ensures code { OnOk result ((sc : Place) (formats : List Format) → ReadFits sc self.now.known.now (level_set out.old) types.Number v.now → ExprFits sc self.now.known.now (level_set out.old) types.Number (expr l.now) → Emitted out.old out.new (λ qs. ExprAt sc formats qs (level_set out.old) types.Number (tree.two operators.Sub (alone v.now) (expr l.now)) (size out.old.operators) (size out.new.operators) (size out.new.operators))) }
         ensures level { OnOk result (out.new.level ≡ out.old.level) }
         ensures size { OnOk result (size out.new.operators ≤ size out.old.operators + (3 + expr_syllables (expr l.now))) }
     {
         self.read(v, out)?;
-        self.exprs.value(l, self.scopes, out)?;
+        self.exprs.value(l, self.known.scopes, out)?;
         append_plain(out, PlainKind::Subt)
     }
 
     /// The next value of a variable.
     pub(crate) fn advance(&self, v: &Named, s: &Expr, out: &mut Builder) -> Result<(), AllocError>
         requires set { IsSome out.old.level }
-        requires near { AreNear self.now.scopes.now }
-        requires fits { (sc : names.Scopes) × NameFits sc (couples self.now.scopes.now) (level_set out.old) types.Number v.now × ExprFits sc (couples self.now.scopes.now) (level_set out.old) types.Number (expr s.now) }
+        requires near { AreNear self.now.known.now.scopes.now }
+        requires fits { (sc : Place) × VariableFits sc self.now.known.now (level_set out.old) v.now × ExprFits sc self.now.known.now (level_set out.old) types.Number (expr s.now) }
         requires room { size out.old.operators + (6 + expr_syllables (expr s.now)) ≤ 6 * MOST_SEGMENT_WORDS }
-        ensures code { OnOk result ((sc : names.Scopes) (formats : List Format) → NameFits sc (couples self.now.scopes.now) (level_set out.old) types.Number v.now → ExprFits sc (couples self.now.scopes.now) (level_set out.old) types.Number (expr s.now) → Emitted out.old out.new (λ qs. AssignAt sc formats qs (level_set out.old) v.now (tree.two operators.Add (alone v.now) (expr s.now)) (size out.old.operators) (size out.new.operators))) }
+        ensures code { OnOk result ((sc : Place) (formats : List Format) → VariableFits sc self.now.known.now (level_set out.old) v.now → ExprFits sc self.now.known.now (level_set out.old) types.Number (expr s.now) → Emitted out.old out.new (λ qs. AssignAt sc formats qs (level_set out.old) v.now (tree.two operators.Add (alone v.now) (expr s.now)) (size out.old.operators) (size out.new.operators))) }
         ensures level { OnOk result (out.new.level ≡ out.old.level) }
         ensures size { OnOk result (size out.new.operators ≤ size out.old.operators + (6 + expr_syllables (expr s.now))) }
     {
         self.reference(v, out)?;
         self.read(v, out)?;
-        self.exprs.value(s, self.scopes, out)?;
+        self.exprs.value(s, self.known.scopes, out)?;
         append_plain(out, PlainKind::Add)?;
         append_plain(out, PlainKind::Stod)
     }
 
     /// Leaves the loop where the difference on top is past the limit. Where the step is a literal, its sign is known.
     pub(crate) fn step(&self, s: &Expr, to: &mut Draft) -> Result<(), AllocError>
-        requires ready { IsReady self.now.scopes.now to.old (13 + expr_syllables (expr s.now)) }
-        requires fits { (sc : names.Scopes) × ExprFits sc (couples self.now.scopes.now) (level_set to.old.out) types.Number (expr s.now) }
-        ensures { OnOk result ((sc : names.Scopes) → ExprFits sc (couples self.now.scopes.now) (level_set to.old.out) types.Number (expr s.now) → Emits (13 + expr_syllables (expr s.now)) to.old to.new (λ formats qs target. StepAt sc formats qs (level_set to.old.out) (expr s.now) (size to.old.out.operators) target (size to.new.out.operators))) }
+        requires ready { IsReady self.now.known.now to.old (13 + expr_syllables (expr s.now)) }
+        requires fits { (sc : Place) × ExprFits sc self.now.known.now (level_set to.old.out) types.Number (expr s.now) }
+        ensures { OnOk result ((sc : Place) → ExprFits sc self.now.known.now (level_set to.old.out) types.Number (expr s.now) → Emits (13 + expr_syllables (expr s.now)) to.old to.new (λ formats qs target. StepAt sc formats qs (level_set to.old.out) (expr s.now) (size to.old.out.operators) target (size to.new.out.operators))) }
     {
         match literal_of(s) {
             Some(step) => append_signed(step.number(), to),
             None => {
-                self.exprs.value(s, self.scopes, &mut to.out)?;
+                self.exprs.value(s, self.known.scopes, &mut to.out)?;
                 append_past(to)
             }
         }

@@ -7,7 +7,6 @@ ghost use Rattle.b67_templates.specs.Depths.{stmt_syllables, expr_syllables};
 ghost use Rattle.b67_emit_stmt.specs.Drafts.{IsAt, IsReady};
 ghost use Rattle.b67_emit_stmt.specs.Emits.{HasFit, HaveFit, EmitsStmt, EmitsStmts, EmitsThen, HasFitThen, stmts_syllables};
 
-use crate::body::variables;
 use crate::draft::{Draft, StmtEmitter};
 use algol_tree::{Expr, Stmt};
 use b67_emitter::{ExprEmitter, aim, aim_exits, append_branch, append_exit};
@@ -19,11 +18,11 @@ impl<'a, E: ExprEmitter> StmtEmitter<'a, E> {
     #[cycle(statements)]
     fn if_then(&self, x: &Stmt, c: &Expr, to: &mut Draft) -> Result<(), AllocError>
         requires level { IsAt self.now.level to.old }
-        requires ready { IsReady self.now.scopes.now to.old (stmt_syllables (tree.if_then (expr c.now) (stmt x.now))) }
-        requires fits { HasFit self.now.scopes.now to.old (tree.if_then (expr c.now) (stmt x.now)) }
-        ensures { OnOk result (EmitsStmt self.now.scopes.now to.old to.new (tree.if_then (expr c.now) (stmt x.now))) }
+        requires ready { IsReady self.now.known.now to.old (stmt_syllables (tree.if_then (expr c.now) (stmt x.now))) }
+        requires fits { HasFit self.now.known.now to.old (tree.if_then (expr c.now) (stmt x.now)) }
+        ensures { OnOk result (EmitsStmt self.now.known.now to.old to.new (tree.if_then (expr c.now) (stmt x.now))) }
     {
-        self.exprs.value(c, self.scopes, &mut to.out)?;
+        self.exprs.value(c, self.known.scopes, &mut to.out)?;
         append_exit(&mut to.out, BranchKind::Brfl, &mut to.exits)?;
         self.stmt(x, to)
     }
@@ -32,11 +31,11 @@ impl<'a, E: ExprEmitter> StmtEmitter<'a, E> {
     #[cycle(statements)]
     fn then_part(&self, x: &Stmt, c: &Expr, to: &mut Draft) -> Result<(), AllocError>
         requires level { IsAt self.now.level to.old }
-        requires ready { IsReady self.now.scopes.now to.old (expr_syllables (expr c.now) + stmt_syllables (stmt x.now) + 6) }
-        requires fits { HasFitThen self.now.scopes.now to.old (expr c.now) (stmt x.now) }
-        ensures { OnOk result (EmitsThen self.now.scopes.now to.old to.new (expr c.now) (stmt x.now)) }
+        requires ready { IsReady self.now.known.now to.old (expr_syllables (expr c.now) + stmt_syllables (stmt x.now) + 6) }
+        requires fits { HasFitThen self.now.known.now to.old (expr c.now) (stmt x.now) }
+        ensures { OnOk result (EmitsThen self.now.known.now to.old to.new (expr c.now) (stmt x.now)) }
     {
-        self.exprs.value(c, self.scopes, &mut to.out)?;
+        self.exprs.value(c, self.known.scopes, &mut to.out)?;
         let otherwise = append_branch(&mut to.out, BranchKind::Brfl)?;
         self.stmt(x, to)?;
         append_exit(&mut to.out, BranchKind::Brun, &mut to.exits)?;
@@ -48,18 +47,19 @@ impl<'a, E: ExprEmitter> StmtEmitter<'a, E> {
     #[cycle(statements)]
     pub fn stmt(&self, s: &Stmt, to: &mut Draft) -> Result<(), AllocError>
         requires level { IsAt self.now.level to.old }
-        requires ready { IsReady self.now.scopes.now to.old (stmt_syllables (stmt s.now)) }
-        requires fits { HasFit self.now.scopes.now to.old (stmt s.now) }
-        ensures { OnOk result (EmitsStmt self.now.scopes.now to.old to.new (stmt s.now)) }
+        requires ready { IsReady self.now.known.now to.old (stmt_syllables (stmt s.now)) }
+        requires fits { HasFit self.now.known.now to.old (stmt s.now) }
+        ensures { OnOk result (EmitsStmt self.now.known.now to.old to.new (stmt s.now)) }
     {
         match s {
             Stmt::Empty => Ok(()),
+            Stmt::Call(c) => self.call(&c.name, &mut to.out),
             Stmt::Assign(v, e) => self.assign(&v.name, e, &mut to.out),
             Stmt::Block(b) => {
                 if b.decls.items().is_empty() {
                     self.stmts(b.stmts.items(), to)
                 } else {
-                    self.inner_block(b.stmts.items(), variables(b.decls.items()), to)
+                    self.inner_block(b.stmts.items(), b.decls.items(), to)
                 }
             }
             Stmt::If(c, x, other) => match other {
@@ -77,7 +77,6 @@ impl<'a, E: ExprEmitter> StmtEmitter<'a, E> {
             Stmt::Write(_, _, phrases, items) => self.write(phrases.items(), items.items(), to),
             // None of these fits.
             Stmt::Label(_, _) => unreachable!(),
-            Stmt::Call(_) => unreachable!(),
             Stmt::GoTo(_) => unreachable!(),
             Stmt::Process(_, _) => unreachable!(),
             Stmt::Event(_, _) => unreachable!(),
@@ -88,9 +87,9 @@ impl<'a, E: ExprEmitter> StmtEmitter<'a, E> {
     #[cycle(statements)]
     pub fn stmts(&self, ss: &[Stmt], to: &mut Draft) -> Result<(), AllocError>
         requires level { IsAt self.now.level to.old }
-        requires ready { IsReady self.now.scopes.now to.old (stmts_syllables (stmts ss.now)) }
-        requires fits { HaveFit self.now.scopes.now to.old (stmts ss.now) }
-        ensures { OnOk result (EmitsStmts self.now.scopes.now to.old to.new (stmts ss.now)) }
+        requires ready { IsReady self.now.known.now to.old (stmts_syllables (stmts ss.now)) }
+        requires fits { HaveFit self.now.known.now to.old (stmts ss.now) }
+        ensures { OnOk result (EmitsStmts self.now.known.now to.old to.new (stmts ss.now)) }
     {
         let first = to.exits.len();
         'statements: for s in ss {

@@ -3,3 +3,4 @@ pub mod Composing
 pub mod Patching
 pub mod Appends
 pub mod Entries
+pub mod Calls

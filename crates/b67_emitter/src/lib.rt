@@ -5,6 +5,7 @@
 
 mod aiming;
 mod appending;
+mod calling;
 mod entering;
 mod expressions;
 mod numbers;
@@ -14,6 +15,7 @@ pub use appending::{
     append_all, append_branch, append_exit, append_number, append_operator, append_plain,
     append_reading, append_reference, append_turn,
 };
-pub use entering::append_entry;
-pub use expressions::{ExprEmitter, couple_of};
+pub use calling::{append_call, append_dropped};
+pub use entering::{append_control, append_controls, append_entry};
+pub use expressions::{ExprEmitter, couple_of, left_of, result_of};
 pub use numbers::literal;

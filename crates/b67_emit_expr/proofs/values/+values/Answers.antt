@@ -1,4 +1,4 @@
-use Rattle.std.proofs.Common.{◌≡◌, [], length, refl, sym, ap, ◌∙◌, arith}
+use Rattle.std.proofs.Common.{◌≡◌, length, refl, sym, ap, ◌∙◌, arith}
 use Rattle.std.proofs.lemmas.Result.{on_ok_weaker}
 use Rattle.algol_tree.specs.Image.{expr}
 use Rattle.algol_tree.specs.Plain as tree
@@ -8,8 +8,8 @@ use Rattle.b67_emitter.proofs.Appends.{same_level}
 use Rattle.b67_emit_expr.proofs.Shapes.{number_is, truth_is, paren_as, plus_as, neg_as, not_as, two_as, if_as}
 use Rattle.b67_emit_expr.proofs.Couples.{code_on}
 use Rattle.b67_emit_expr.proofs.Forms.{listed_as, plain_as, number_form, truth_form, paren_form, plus_form, neg_form, not_form, applied_form, exits_aimed, two_form, calculated_form, chosen_form}
-use Rattle.b67_emit_expr.proofs.Listed.{list_grown, exits_lie, exits_back, hole_lies}
-use Rattle.b67_emit_expr.proofs.Arms.{on_ok_both, emitted_as, name_seen, name_arm}
+use Rattle.b67_emit_expr.proofs.Listed.{nowhere, list_grown, exits_lie, exits_back, hole_lies}
+use Rattle.b67_emit_expr.proofs.Arms.{on_ok_both, emitted_as, name_has, name_arm}
 use Rattle.b67_emit_expr.proofs.values.+values.Goals as goal
 
 pub operand-aim_exits-requires-clause-list : goal.operand-aim_exits-requires-clause-list
@@ -60,7 +60,7 @@ chosen-aim-requires t c =
     let has = code_on c.args.scopes.now (level_set c.args.out.now) (level_set c.append_branch.new.out) (expr c.args.x.now)
     (same_level c.args.out.now c.append_branch.new.out (c.in_ok-otherwise.ensures.level ∙ c.in_ok-operand.ensures.level)) c.requires.first in
     hole_lies c.operand.new.out c.append_branch.new.out c.value_with_exits.new.out c.append_exit.new.out _ _ _ c.operand.new.exits.items c.value_with_exits.new.exits.items
-    c.append_exit.new.exits.items c.in_ok-otherwise.otherwise c.in_ok-otherwise.ensures.code (c.in_ok-value_with_exits.ensures.code.code has.scopes [] has.kind has.fits)
+    c.append_exit.new.exits.items c.in_ok-otherwise.otherwise c.in_ok-otherwise.ensures.code (c.in_ok-value_with_exits.ensures.code.code has.scopes nowhere has.kind has.fits)
     c.in_ok-append_exit.ensures.code c.in_ok-otherwise.ensures.place
 
 pub chosen-returns-clause-code : goal.chosen-returns-clause-code
@@ -74,9 +74,9 @@ chosen-returns-clause-code t c =
     c.in_ok-operand.ensures.level c.in_ok-value_with_exits.ensures.level)
     c.value_with_exits-2.ensures.code
 
-pub value_with_exits-append_reading-requires-clause-seen : goal.value_with_exits-append_reading-requires-clause-seen
-value_with_exits-append_reading-requires-clause-seen t c =
-    name_seen c.args.scopes.now (level_set c.args.out.now) c.args.e.now c.in-Variable.v c.in-Variable.is c.couple_of.result c.requires.code c.requires.near c.couple_of.ensures
+pub value_with_exits-append_name-requires-clause-code : goal.value_with_exits-append_name-requires-clause-code
+value_with_exits-append_name-requires-clause-code t c =
+    name_has c.args.scopes.now (level_set c.args.out.now) c.args.e.now c.in-Variable.v c.in-Variable.is c.requires.code
 
 pub value_with_exits-returns-in-Number-clause-code : goal.value_with_exits-returns-in-Number-clause-code
 value_with_exits-returns-in-Number-clause-code t c =
@@ -97,10 +97,9 @@ value_with_exits-returns-in-Truth-clause-code t c =
 
 pub value_with_exits-returns-in-Variable-clause-code : goal.value_with_exits-returns-in-Variable-clause-code
 value_with_exits-returns-in-Variable-clause-code t c =
-    on_ok_weaker c.append_reading.result
-    (name_arm c.args.scopes.now (level_set c.args.out.now) c.args.e.now c.in-Variable.v c.in-Variable.is c.args.out.now c.append_reading.new.out c.args.exits.now.items
-    c.couple_of.result c.couple_of.ensures)
-    c.append_reading.ensures.code
+    on_ok_weaker c.append_name.result
+    (name_arm c.args.scopes.now (level_set c.args.out.now) c.args.e.now c.in-Variable.v c.in-Variable.is c.args.out.now c.append_name.new.out c.args.exits.now.items)
+    c.append_name.ensures.code
 
 pub value_with_exits-returns-in-Paren-clause-code : goal.value_with_exits-returns-in-Paren-clause-code
 value_with_exits-returns-in-Paren-clause-code t c =

@@ -13,8 +13,8 @@ returns-clause-code c =
     let inner = level_set a + 1 in
     let bits = c.bits.ensures.value ∙ ap (λ (w : Word). w.bits) c.pack-control.ensures in
     on_ok_weaker c.append_plain-2.result
-    (entry_part c.args.place c.bits.result a b d c.append_plain-2.new.out c.in_ok-append_plain.ensures.level c.in_ok-append_operator.ensures.level
-    (bits_are c.bits.result c.code_at.result c.args.place c.args.level inner bits c.code_at.ensures.code c.requires.inner)
-    (fits_as c.code_at.result c.args.place c.args.level inner c.code_at.ensures.code c.requires.inner c.code_at.ensures.fits)
+    (entry_part c.args.segment c.args.place c.bits.result a b d c.append_plain-2.new.out c.in_ok-append_plain.ensures.level c.in_ok-append_operator.ensures.level
+    (bits_are c.bits.result c.code_at.result c.args.segment c.args.place c.args.level inner bits c.code_at.ensures.code c.requires.inner)
+    (fits_as c.code_at.result c.args.segment c.args.place c.args.level inner c.code_at.ensures.code c.requires.inner c.code_at.ensures.fits)
     c.in_ok-append_plain.ensures.code c.in_ok-append_operator.ensures.code)
     c.append_plain-2.ensures.code

@@ -6,15 +6,14 @@ use Rattle.algol_tree.specs.declared.tree.Body as bodies'
 use Rattle.algol_tree.specs.declared.tree.Decl as decls'
 use Rattle.algol_tree.specs.declared.tree.Stmt.{Stmt}
 use Rattle.algol_tree.specs.declared.tree.Stmt as stmts'
-use Rattle.algol_tree.specs.Image.{expr, exprs, stmt, stmts}
+use Rattle.algol_tree.specs.Image.{decls, expr, exprs, stmt, stmts}
 use Rattle.algol_tree.specs.Plain as tree
 use Rattle.b67_ops.specs.declared.BranchKind.TheVariants.{Brfl, Brtr, Brun}
 use Rattle.b67_segment.specs.Operators.{size}
 use Rattle.b67_segment.specs.Building.{level_set}
-use Rattle.b67_templates.specs.Code.{CasesAt}
+use Rattle.b67_emit_stmt.specs.Places.{CasesAt}
 use Rattle.b67_templates.specs.Depths.{expr_syllables, stmt_syllables}
-use Rattle.b67_templates.specs.Fitting.{ExprFits, StmtsFit}
-use Rattle.b67_emitter.specs.Values.{couples}
+use Rattle.b67_emit_stmt.specs.Fits.{ExprFits, StmtsFit}
 use Rattle.b67_emit_stmt.specs.declared.draft.Draft.{Draft}
 use Rattle.b67_emit_stmt.specs.Drafts.{Emits}
 use Rattle.b67_emit_stmt.specs.Emits.{HaveFit, stmts_syllables}
@@ -26,7 +25,7 @@ use Rattle.b67_emit_stmt.proofs.Drafts.{at_level, emits_then, hole_there, level_
 use Rattle.b67_emit_stmt.proofs.Listed.{StandTogether, done_level, done_set, next_fits, next_ready, together_more, together_none}
 use Rattle.b67_emit_stmt.proofs.Levels.{at_after, at_same}
 use Rattle.b67_emit_stmt.proofs.Matched as matched
-use Rattle.b67_emit_stmt.proofs.Parts.{code_at, name_at, on_ok_two, set_same}
+use Rattle.b67_emit_stmt.proofs.Parts.{code_at, variable_at, on_ok_two, set_same}
 use Rattle.b67_emit_stmt.proofs.Ready.{body_piece, branch_piece, fit_after, ready_after, stmt_piece, turn_piece, value_piece}
 use Rattle.b67_emit_stmt.proofs.Shapes as shaped
 use Rattle.b67_emit_stmt.proofs.Tables as tabled
@@ -37,7 +36,7 @@ use Rattle.b67_emit_stmt.proofs.draft.StmtEmitter.+statements.Goals as goal
 
 pub if_then-stmt-requires : goal.if_then-stmt-requires
 if_then-stmt-requires g t c =
-    let s = c.args.self.now.scopes.now in
+    let s = c.args.self.now.known.now in
     let a = c.args.to.now in
     let level = level_set a.out in
     let sc = c.requires.fits.0 in
@@ -55,7 +54,7 @@ if_then-stmt-requires g t c =
 
 pub if_then-returns : goal.if_then-returns
 if_then-returns g t c =
-    let s = c.args.self.now.scopes.now in
+    let s = c.args.self.now.known.now in
     let a = c.args.to.now in
     let level = level_set a.out in
     let x = stmt c.args.x.now in
@@ -73,7 +72,7 @@ if_then-returns g t c =
 
 pub then_part-stmt-requires : goal.then_part-stmt-requires
 then_part-stmt-requires g t c =
-    let s = c.args.self.now.scopes.now in
+    let s = c.args.self.now.known.now in
     let a = c.args.to.now in
     let x = stmt c.args.x.now in
     let e = expr c.args.c.now in
@@ -94,7 +93,7 @@ then_part-append_exit-requires g t c =
     let b : Draft = record a { out = c.value.new.out } in
     let d : Draft = record a { out = c.append_branch.new.out } in
     let r = level_same b.out d.out c.in_ok-otherwise.ensures.level ∙ level_same a.out b.out c.in_ok-value.ensures.level in
-    let part = stmt_piece c.args.self.now.scopes.now c.requires.fits.0 (stmt c.args.x.now) d c.stmt.new.to (level_set a.out) r c.in_ok-stmt.ensures c.requires.fits.2 in
+    let part = stmt_piece c.args.self.now.known.now c.requires.fits.0 (stmt c.args.x.now) d c.stmt.new.to (level_set a.out) r c.in_ok-stmt.ensures c.requires.fits.2 in
     record {
       set = matched.set_behind c.args.to.now.out part (c.in_ok-otherwise.ensures.level ∙ c.in_ok-value.ensures.level) c.requires.ready.set;
       room = omega (arith, part.short, c.in_ok-otherwise.ensures.size, c.in_ok-value.ensures.size, c.requires.ready.room);
@@ -111,14 +110,14 @@ then_part-aim-requires g t c =
     let f : Draft = record e { out = c.append_exit.new.out; exits = c.append_exit.new.exits } in
     let q = level_same a.out b.out c.in_ok-value.ensures.level in
     let r = level_same b.out d.out c.in_ok-otherwise.ensures.level ∙ q in
-    let part = stmt_piece c.args.self.now.scopes.now c.requires.fits.0 x d e level r c.in_ok-stmt.ensures c.requires.fits.2 in
+    let part = stmt_piece c.args.self.now.known.now c.requires.fits.0 x d e level r c.in_ok-stmt.ensures c.requires.fits.2 in
     let out = branch_piece c.requires.fits.0 Brun e f level (level_after part ∙ r) refl part.few c.in_ok-append_exit.ensures.code c.in_ok-append_exit.ensures.size in
     hole_there (c.in_ok-otherwise.otherwise ∷ []) b {b = d}
     (hole_as Brfl b.out d.out level c.in_ok-otherwise.otherwise q c.in_ok-otherwise.ensures.place c.in_ok-otherwise.ensures.code) (emits_then part out)
 
 pub then_part-returns : goal.then_part-returns
 then_part-returns g t c =
-    let s = c.args.self.now.scopes.now in
+    let s = c.args.self.now.known.now in
     let a = c.args.to.now in
     let level = level_set a.out in
     let x = stmt c.args.x.now in
@@ -157,7 +156,7 @@ loop_body-returns g t c =
 
 pub while_loop-loop_body-requires : goal.while_loop-loop_body-requires
 while_loop-loop_body-requires g t c =
-    let s = c.args.self.now.scopes.now in
+    let s = c.args.self.now.known.now in
     let a = c.args.to.now in
     let level = level_set a.out in
     let sc = c.requires.fits.0 in
@@ -175,7 +174,7 @@ while_loop-loop_body-requires g t c =
 
 pub while_loop-append_turn-requires : goal.while_loop-append_turn-requires
 while_loop-append_turn-requires g t c =
-    let s = c.args.self.now.scopes.now in
+    let s = c.args.self.now.known.now in
     let a = c.args.to.now in
     let b : Draft = record a { out = c.value.new.out } in
     let d : Draft = record a { out = c.append_exit.new.out; exits = c.append_exit.new.exits } in
@@ -190,7 +189,7 @@ while_loop-append_turn-requires g t c =
 
 pub while_loop-returns : goal.while_loop-returns
 while_loop-returns g t c =
-    let s = c.args.self.now.scopes.now in
+    let s = c.args.self.now.known.now in
     let a = c.args.to.now in
     let level = level_set a.out in
     let x = stmt c.args.b.now in
@@ -214,13 +213,13 @@ while_loop-returns g t c =
 pub until_loop-value-requires-clause-code : goal.until_loop-value-requires-clause-code
 until_loop-value-requires-clause-code g t c =
     let part = c.in_ok-loop_body.ensures c.requires.fits.0 c.requires.fits.1.0 in
-    code_at c.args.self.now.scopes.now (level_set c.loop_body.new.to.out) (level_set c.args.to.now.out) c.requires.fits.0 types.Truth (expr c.args.c.now) (level_after part) c.requires.fits.1.1
+    code_at c.args.self.now.known.now (level_set c.loop_body.new.to.out) (level_set c.args.to.now.out) c.requires.fits.0 types.Truth (expr c.args.c.now) (level_after part) c.requires.fits.1.1
 
 pub until_loop-append_turn-requires-clause-back : goal.until_loop-append_turn-requires-clause-back
 until_loop-append_turn-requires-clause-back g t c =
     let d : Draft = record c.loop_body.new.to { out = c.value.new.out } in
     let part = c.in_ok-loop_body.ensures c.requires.fits.0 c.requires.fits.1.0 in
-    let v = value_piece c.args.self.now.scopes.now c.loop_body.new.to d (level_set c.args.to.now.out) c.requires.fits.0 types.Truth (expr c.args.c.now) (level_after part) refl refl part.few c.in_ok-value.ensures.code
+    let v = value_piece c.args.self.now.known.now c.loop_body.new.to d (level_set c.args.to.now.out) c.requires.fits.0 types.Truth (expr c.args.c.now) (level_after part) refl refl part.few c.in_ok-value.ensures.code
     c.in_ok-value.ensures.size c.requires.fits.1.1 in
     omega (arith, c.place-start.ensures, part.code.grown, v.code.grown, c.in_ok-append_exit.ensures.size)
 
@@ -238,7 +237,7 @@ until_loop-returns g t c =
     (λ h wide sc fit.
     let part = c.in_ok-loop_body.ensures sc fit.0 in
     let q = level_after part in
-    let v = value_piece c.args.self.now.scopes.now b d level sc types.Truth p q refl refl part.few c.in_ok-value.ensures.code c.in_ok-value.ensures.size fit.1 in
+    let v = value_piece c.args.self.now.known.now b d level sc types.Truth p q refl refl part.few c.in_ok-value.ensures.code c.in_ok-value.ensures.size fit.1 in
     let r = level_same b.out d.out c.in_ok-value.ensures.level ∙ q in
     let left = branch_piece sc Brtr d e level r refl v.few c.in_ok-append_exit.ensures.code c.in_ok-append_exit.ensures.size in
     until_arm sc level p x a b d e f part v left
@@ -249,7 +248,7 @@ until_loop-returns g t c =
 
 pub for_loop-step-requires-clause-ready : goal.for_loop-step-requires-clause-ready
 for_loop-step-requires-clause-ready g t c =
-    let s = c.args.self.now.scopes.now in
+    let s = c.args.self.now.known.now in
     let a = c.args.to.now in
     let level = level_set a.out in
     let v = c.args.v.now in
@@ -260,13 +259,13 @@ for_loop-step-requires-clause-ready g t c =
     let d : Draft = record a { out = c.difference.new.out } in
     let q = level_same a.out b.out c.in_ok-assign.ensures.level in
     let begin = matched.assigned s c.requires.fits.0 level v first a b refl refl refl c.requires.ready.few c.in_ok-assign.ensures.code c.in_ok-assign.ensures.size
-    (types.Number, c.requires.fits.1.0, c.requires.fits.1.1) in
-    let test = matched.compared s c.requires.fits.0 level v l b d q refl refl begin.few c.in_ok-difference.ensures.code c.in_ok-difference.ensures.size c.requires.fits.1.0 c.requires.fits.1.3 in
+    (types.Number, c.requires.fits.1.0.1, c.requires.fits.1.1) in
+    let test = matched.compared s c.requires.fits.0 level v l b d q refl refl begin.few c.in_ok-difference.ensures.code c.in_ok-difference.ensures.size c.requires.fits.1.0.0 c.requires.fits.1.3 in
     ready_after s a (stmt_syllables (tree.for v first p l (stmt c.args.b.now))) (13 + expr_syllables p) c.requires.ready (emits_then begin test) (omega arith)
 
 pub for_loop-loop_body-requires : goal.for_loop-loop_body-requires
 for_loop-loop_body-requires g t c =
-    let s = c.args.self.now.scopes.now in
+    let s = c.args.self.now.known.now in
     let a = c.args.to.now in
     let level = level_set a.out in
     let sc = c.requires.fits.0 in
@@ -279,8 +278,8 @@ for_loop-loop_body-requires g t c =
     let d : Draft = record a { out = c.difference.new.out } in
     let q = level_same a.out b.out c.in_ok-assign.ensures.level in
     let begin = matched.assigned s sc level v first a b refl refl refl c.requires.ready.few c.in_ok-assign.ensures.code c.in_ok-assign.ensures.size
-    (types.Number, c.requires.fits.1.0, c.requires.fits.1.1) in
-    let test = matched.compared s sc level v l b d q refl refl begin.few c.in_ok-difference.ensures.code c.in_ok-difference.ensures.size c.requires.fits.1.0 c.requires.fits.1.3 in
+    (types.Number, c.requires.fits.1.0.1, c.requires.fits.1.1) in
+    let test = matched.compared s sc level v l b d q refl refl begin.few c.in_ok-difference.ensures.code c.in_ok-difference.ensures.size c.requires.fits.1.0.0 c.requires.fits.1.3 in
     let past = matched.stepped s sc level p d c.step.new.to (level_after test ∙ q) c.in_ok-step.ensures c.requires.fits.1.2 in
     let all = emits_then (emits_then begin test) past in
     let ready = ready_after s a (stmt_syllables (tree.for v first p l x)) (stmt_syllables x) c.requires.ready all (omega arith) in
@@ -290,7 +289,7 @@ for_loop-loop_body-requires g t c =
 
 pub for_loop-advance-requires : goal.for_loop-advance-requires
 for_loop-advance-requires g t c =
-    let s = c.args.self.now.scopes.now in
+    let s = c.args.self.now.known.now in
     let a = c.args.to.now in
     let level = level_set a.out in
     let sc = c.requires.fits.0 in
@@ -300,17 +299,17 @@ for_loop-advance-requires g t c =
     let past = matched.stepped s sc level (expr c.args.s.now) d c.step.new.to q c.in_ok-step.ensures c.requires.fits.1.2 in
     let part = body_piece s sc (stmt c.args.b.now) c.step.new.to f level (level_after past ∙ q) c.in_ok-loop_body.ensures c.requires.fits.1.4 in
     let there : level_set f.out ≡ level = level_after (emits_then past part) ∙ q in
-    let E : ℕ → Type 0 = λ l. ExprFits sc (couples s) l types.Number (expr c.args.s.now) in
+    let E : ℕ → Type 0 = λ l. ExprFits sc s l types.Number (expr c.args.s.now) in
     record {
       set = matched.set_behind c.args.to.now.out (emits_then past part) (c.in_ok-difference.ensures.level ∙ c.in_ok-assign.ensures.level) c.requires.ready.set;
       near = c.requires.ready.near;
-      fits = (sc, name_at s (level_set f.out) level sc types.Number c.args.v.now there c.requires.fits.1.0, subst E (sym there) c.requires.fits.1.2);
+      fits = (sc, variable_at s (level_set f.out) level sc c.args.v.now there c.requires.fits.1.0, subst E (sym there) c.requires.fits.1.2);
       room = omega (arith, part.short, past.short, c.in_ok-difference.ensures.size, c.in_ok-assign.ensures.size, c.requires.ready.room);
     }
 
 pub for_loop-append_turn-requires : goal.for_loop-append_turn-requires
 for_loop-append_turn-requires g t c =
-    let s = c.args.self.now.scopes.now in
+    let s = c.args.self.now.known.now in
     let a = c.args.to.now in
     let level = level_set a.out in
     let sc = c.requires.fits.0 in
@@ -321,8 +320,8 @@ for_loop-append_turn-requires g t c =
     let q = level_same a.out b.out c.in_ok-assign.ensures.level in
     let r = level_same b.out d.out c.in_ok-difference.ensures.level ∙ q in
     let begin = matched.assigned s sc level c.args.v.now (expr c.args.a.now) a b refl refl refl c.requires.ready.few c.in_ok-assign.ensures.code c.in_ok-assign.ensures.size
-    (types.Number, c.requires.fits.1.0, c.requires.fits.1.1) in
-    let test = matched.compared s sc level c.args.v.now (expr c.args.l.now) b d q refl refl begin.few c.in_ok-difference.ensures.code c.in_ok-difference.ensures.size c.requires.fits.1.0 c.requires.fits.1.3 in
+    (types.Number, c.requires.fits.1.0.1, c.requires.fits.1.1) in
+    let test = matched.compared s sc level c.args.v.now (expr c.args.l.now) b d q refl refl begin.few c.in_ok-difference.ensures.code c.in_ok-difference.ensures.size c.requires.fits.1.0.0 c.requires.fits.1.3 in
     let past = matched.stepped s sc level (expr c.args.s.now) d c.step.new.to r c.in_ok-step.ensures c.requires.fits.1.2 in
     let part = body_piece s sc (stmt c.args.b.now) c.step.new.to f level (level_after past ∙ r) c.in_ok-loop_body.ensures c.requires.fits.1.4 in
     let next = matched.advanced s sc level c.args.v.now (expr c.args.s.now) f n (level_after (emits_then past part) ∙ r) refl refl part.few c.in_ok-advance.ensures.code c.in_ok-advance.ensures.size
@@ -340,7 +339,7 @@ for_loop-returns g t c =
     let test = c.in_ok-difference.ensures in
     let next = c.in_ok-advance.ensures in
     on_ok_two c.append_turn.result
-    (turns.for_emitted c.args.self.now.scopes.now c.args.v.now (expr c.args.a.now) (expr c.args.s.now) (expr c.args.l.now) (stmt c.args.b.now) c.args.to.now c.step.new.to c.loop_body.new.to c.assign.new.out
+    (turns.for_emitted c.args.self.now.known.now c.args.v.now (expr c.args.a.now) (expr c.args.s.now) (expr c.args.l.now) (stmt c.args.b.now) c.args.to.now c.step.new.to c.loop_body.new.to c.assign.new.out
     c.difference.new.out c.advance.new.out c.append_turn.new.out c.place-start.result c.requires.ready.few assign.code assign.level assign.size c.place-start.ensures test.code test.level test.size c.in_ok-step.ensures
     c.in_ok-loop_body.ensures next.code next.level next.size)
     c.append_turn.ensures.code c.append_turn.ensures.size
@@ -349,7 +348,7 @@ for_loop-returns g t c =
 
 pub thru_loop-loop_body-requires : goal.thru_loop-loop_body-requires
 thru_loop-loop_body-requires g t c =
-    let s = c.args.self.now.scopes.now in
+    let s = c.args.self.now.known.now in
     let a = c.args.to.now in
     let x = stmt c.args.b.now in
     let p = expr c.args.e.now in
@@ -369,7 +368,7 @@ thru_loop-append_turn-requires g t c =
     let a = c.args.to.now in
     let f : Draft = record a { out = c.append_all-2.new.out } in
     let same = c.in_ok-append_all-2.ensures.level ∙ c.in_ok-over.ensures.level ∙ c.in_ok-append_all.ensures.level ∙ c.in_ok-value.ensures.level in
-    let part = body_piece c.args.self.now.scopes.now c.requires.fits.0 (stmt c.args.b.now) f c.loop_body.new.to (level_set a.out) (level_same a.out f.out same) c.in_ok-loop_body.ensures c.requires.fits.1.1 in
+    let part = body_piece c.args.self.now.known.now c.requires.fits.0 (stmt c.args.b.now) f c.loop_body.new.to (level_set a.out) (level_same a.out f.out same) c.in_ok-loop_body.ensures c.requires.fits.1.1 in
     record {
       set = matched.set_behind c.args.to.now.out part same c.requires.ready.set;
       back = omega (arith, c.place-start.ensures, c.in_ok-append_all.ensures.size, c.in_ok-over.ensures.size, c.in_ok-append_all-2.ensures.size, part.code.grown);
@@ -378,7 +377,7 @@ thru_loop-append_turn-requires g t c =
 
 pub thru_loop-aim-requires : goal.thru_loop-aim-requires
 thru_loop-aim-requires g t c =
-    let s = c.args.self.now.scopes.now in
+    let s = c.args.self.now.known.now in
     let p = expr c.args.e.now in
     let x = stmt c.args.b.now in
     let value = c.in_ok-value.ensures in
@@ -395,7 +394,7 @@ thru_loop-append_plain-requires g t c =
     let a = c.args.to.now in
     let f : Draft = record a { out = c.append_all-2.new.out } in
     let same = c.in_ok-append_all-2.ensures.level ∙ c.in_ok-over.ensures.level ∙ c.in_ok-append_all.ensures.level ∙ c.in_ok-value.ensures.level in
-    let part = body_piece c.args.self.now.scopes.now c.requires.fits.0 (stmt c.args.b.now) f c.loop_body.new.to (level_set a.out) (level_same a.out f.out same) c.in_ok-loop_body.ensures c.requires.fits.1.1 in
+    let part = body_piece c.args.self.now.known.now c.requires.fits.0 (stmt c.args.b.now) f c.loop_body.new.to (level_set a.out) (level_same a.out f.out same) c.in_ok-loop_body.ensures c.requires.fits.1.1 in
     record {
       set = matched.set_ahead c.aim.new.out part (c.aim.ensures.level ∙ c.in_ok-append_turn.ensures.level) (set_same a.out f.out same c.requires.ready.set);
       room = omega (arith, part.short, c.aim.ensures.place, c.in_ok-append_turn.ensures.size, c.in_ok-value.ensures.size, c.in_ok-append_all.ensures.size, c.in_ok-over.ensures.size, c.in_ok-append_all-2.ensures.size, c.requires.ready.room);
@@ -403,7 +402,7 @@ thru_loop-append_plain-requires g t c =
 
 pub thru_loop-returns : goal.thru_loop-returns
 thru_loop-returns g t c =
-    let s = c.args.self.now.scopes.now in
+    let s = c.args.self.now.known.now in
     let p = expr c.args.e.now in
     let x = stmt c.args.b.now in
     let value = c.in_ok-value.ensures in
@@ -424,7 +423,7 @@ case-select-requires-clause-few g t c = omega (arith, tabled.few_statements c.ar
 
 pub case-cases-requires : goal.case-cases-requires
 case-cases-requires g t c =
-    let s = c.args.self.now.scopes.now in
+    let s = c.args.self.now.known.now in
     let a = c.args.to.now in
     let ss = stmts c.args.ss.now in
     let e = expr c.args.e.now in
@@ -433,7 +432,7 @@ case-cases-requires g t c =
     let grown = (c.in_ok-select.ensures.code c.requires.fits.0 [] c.requires.fits.1.0).grown in
     let ready = matched.ready_behind s a b (stmt_syllables (tree.case e ss)) (stmts_syllables ss) c.requires.ready c.in_ok-select.ensures.level refl grown
     (omega (arith, c.in_ok-select.ensures.size)) in
-    let F : ℕ → Type 0 = λ l. StmtsFit c.requires.fits.0 (couples s) l ss in
+    let F : ℕ → Type 0 = λ l. StmtsFit c.requires.fits.0 s l ss in
     let fit : HaveFit s b ss = (c.requires.fits.0, subst F (sym q) c.requires.fits.1.1) in
     let at = at_same a b c.in_ok-select.ensures.level c.requires.level in
     search (rules, stmts'.the_lemmas, decls'.the_lemmas, bodies'.the_lemmas, ready, fit, at)
@@ -449,7 +448,7 @@ case-returns g t c =
     let q = level_same a.out b.out c.in_ok-select.ensures.level in
     on_ok_weaker c.cases.result
     (λ h sc fit.
-    let F : ℕ → Type 0 = λ l. StmtsFit sc (couples c.args.self.now.scopes.now) l (stmts ss) in
+    let F : ℕ → Type 0 = λ l. StmtsFit sc c.args.self.now.known.now l (stmts ss) in
     let first = piece {n = 19 + expr_syllables e} {d = a} {e = b} refl refl c.requires.ready.few (λ formats. c.in_ok-select.ensures.code sc formats fit.0) c.in_ok-select.ensures.size in
     let rest = at_level level (λ l formats qs target. CasesAt sc formats qs l (stmts ss) (size b.out.operators) target) q (h sc (subst F (sym q) fit.1)) in
     tabled.case_arm sc level e ss a b d first rest)
@@ -472,12 +471,12 @@ cases-aim-requires g t c =
     let a = c.args.to.now in
     let u : Draft = record a { out = c.append_entries.new.out } in
     let m = c.statements.invariant.code c.requires.fits.0 c.requires.fits.1 in
-    tabled.entry_lies c.args.self.now.scopes.now c.requires.fits.0 (level_set a.out) c.args.ss.now c.statements.s-index c.s-item.result c.statements-test.true c.s-item.is a u c.statements.to c.statements.entry
+    tabled.entry_lies c.args.self.now.known.now c.requires.fits.0 (level_set a.out) c.args.ss.now c.statements.s-index c.s-item.result c.statements-test.true c.s-item.is a u c.statements.to c.statements.entry
     c.statements.invariant.entry m
 
 pub cases-stmt-requires : goal.cases-stmt-requires
 cases-stmt-requires g t c =
-    let s = c.args.self.now.scopes.now in
+    let s = c.args.self.now.known.now in
     let a = c.args.to.now in
     let level = level_set a.out in
     let sc = c.requires.fits.0 in
@@ -497,7 +496,7 @@ cases-stmt-requires g t c =
 
 pub cases-append_exit-requires : goal.cases-append_exit-requires
 cases-append_exit-requires g t c =
-    let s = c.args.self.now.scopes.now in
+    let s = c.args.self.now.known.now in
     let a = c.args.to.now in
     let level = level_set a.out in
     let sc = c.requires.fits.0 in
@@ -521,13 +520,13 @@ cases-overflow_add-entry g t c =
     let a = c.args.to.now in
     let u : Draft = record a { out = c.append_entries.new.out } in
     let m = c.statements.invariant.code c.requires.fits.0 c.requires.fits.1 in
-    let below = tabled.entry_below c.args.self.now.scopes.now c.requires.fits.0 (level_set a.out) c.args.ss.now c.statements.s-index c.s-item.result c.statements-test.true c.s-item.is a u c.statements.to c.statements.entry
+    let below = tabled.entry_below c.args.self.now.known.now c.requires.fits.0 (level_set a.out) c.args.ss.now c.statements.s-index c.s-item.result c.statements-test.true c.s-item.is a u c.statements.to c.statements.entry
     c.statements.invariant.entry m in
     omega (arith, below, c.in_ok-append_entries.ensures.size, tabled.few_statements c.args.ss.now, c.requires.ready.room)
 
 pub cases-statements-preserved : goal.cases-statements-preserved
 cases-statements-preserved g t c =
-    let s = c.args.self.now.scopes.now in
+    let s = c.args.self.now.known.now in
     let a = c.args.to.now in
     let level = level_set a.out in
     let u : Draft = record a { out = c.append_entries.new.out } in
@@ -560,7 +559,7 @@ stmts-aim_exits-requires g t c =
 
 pub stmts-stmt-requires : goal.stmts-stmt-requires
 stmts-stmt-requires g t c =
-    let s = c.args.self.now.scopes.now in
+    let s = c.args.self.now.known.now in
     let a = c.args.to.now in
     let level = level_set a.out in
     let sc = c.requires.fits.0 in
@@ -580,7 +579,7 @@ stmts-stmt-requires g t c =
 
 pub stmts-statements-preserved : goal.stmts-statements-preserved
 stmts-statements-preserved g t c =
-    let s = c.args.self.now.scopes.now in
+    let s = c.args.self.now.known.now in
     let a = c.args.to.now in
     let level = level_set a.out in
     let d : Draft = record c.statements.to { out = c.aim_exits.new.out; exits = c.aim_exits.new.exits } in
@@ -601,7 +600,7 @@ stmts-returns g t c =
 
 pub stmt-returns-in-Empty : goal.stmt-returns-in-Empty
 stmt-returns-in-Empty g t c =
-    let s = c.args.self.now.scopes.now in
+    let s = c.args.self.now.known.now in
     let a = c.args.to.now in
     matched.emits_as s a a (stmt c.args.s.now) tree.empty (shaped.empty_as c.args.s.now c.in-Empty.is) (matched.empty_emitted s a c.requires.ready.few)
 
@@ -612,7 +611,7 @@ stmt-returns-in-Assign g t c =
     let e = expr c.in-Assign.e in
     let b : Draft = record a { out = c.assign.new.out } in
     on_ok_two c.assign.result
-    (λ h short. matched.assign_emitted c.args.self.now.scopes.now a b (stmt c.args.s.now) v.name (exprs v.subs) e (shaped.assign_as c.args.s.now v c.in-Assign.e c.in-Assign.is) refl refl c.requires.ready.few h short)
+    (λ h short. matched.assign_emitted c.args.self.now.known.now a b (stmt c.args.s.now) v.name (exprs v.subs) e (shaped.assign_as c.args.s.now v c.in-Assign.e c.in-Assign.is) refl refl c.requires.ready.few h short)
     c.assign.ensures.code c.assign.ensures.size
 
 pub stmt-returns-in_ok-then_part-in-Some : goal.stmt-returns-in_ok-then_part-in-Some
@@ -621,14 +620,14 @@ stmt-returns-in_ok-then_part-in-Some g t c =
     let y = c.deref-in-Some-2.result.now in
     let e = expr c.in-If.c in
     on_ok_weaker c.stmt.result
-    (λ h. matched.else_emitted c.args.self.now.scopes.now c.args.to.now c.then_part.new.to c.stmt.new.to (stmt c.args.s.now) e (stmt x) (stmt y)
+    (λ h. matched.else_emitted c.args.self.now.known.now c.args.to.now c.then_part.new.to c.stmt.new.to (stmt c.args.s.now) e (stmt x) (stmt y)
     (shaped.if_else_as c.args.s.now x y c.in-If.c c.in-If.x c.in-If.other c.in-Some.y c.in-If.is c.in-Some.is c.deref-in-Some.ensures c.deref-in-Some-2.ensures)
     c.in_ok-then_part-in-Some.ensures h)
     c.stmt.ensures
 
 pub stmt-stmt-requires : goal.stmt-stmt-requires
 stmt-stmt-requires g t c =
-    let s = c.args.self.now.scopes.now in
+    let s = c.args.self.now.known.now in
     let a = c.args.to.now in
     let x = c.deref-in-Some.result.now in
     let y = c.deref-in-Some-2.result.now in
@@ -649,78 +648,90 @@ stmt-returns-in-Write g t c =
     let ps = c.deref-in-Write.result.now in
     let es = c.deref-in-Write-2.result.now in
     on_ok_weaker c.write.result
-    (λ h. matched.write_emitted c.args.self.now.scopes.now c.args.to.now c.write.new.to (stmt c.args.s.now) w.field-0 w.field-1 ps (exprs es)
+    (λ h. matched.write_emitted c.args.self.now.known.now c.args.to.now c.write.new.to (stmt c.args.s.now) w.field-0 w.field-1 ps (exprs es)
     (shaped.write_as c.args.s.now w.field-0 w.field-1 w.phrases ps w.items es w.is (c.deref-in-Write.ensures.value ∙ c.items-in-Write.ensures) (c.deref-in-Write-2.ensures.value ∙ c.items-in-Write-2.ensures))
     h)
     c.write.ensures
 
 -- ---- blocks
 
-pub block-stmts-requires : goal.block-stmts-requires
-block-stmts-requires g t c =
-    let s = c.args.self.now.scopes.now in
+pub inside-cells-requires-clause-numbered : goal.inside-cells-requires-clause-numbered
+inside-cells-requires-clause-numbered g t c = (c.requires.fits.0, c.requires.fits.1.0)
+
+pub inside-stmts-requires : goal.inside-stmts-requires
+inside-stmts-requires g t c =
+    let s = c.args.self.now.known.now in
+    let level = c.args.self.now.level in
     let a = c.args.to.now in
+    let ds = decls c.args.ds.now in
     let ss = stmts c.args.ss.now in
-    let ready = blocks.stmts_ready s c.args.many ss a c.cells.new.to c.requires.fits c.in_ok-cells.ensures c.requires.ready in
-    let fit = blocks.stmts_fit s c.args.many ss a c.cells.new.to c.requires.fits c.in_ok-cells.ensures in
-    let at = at_after (c.in_ok-cells.ensures c.requires.fits.0) c.requires.level in
+    let ready = blocks.stmts_ready s level c.args.many ds ss a c.cells.new.to c.requires.level c.requires.fits c.in_ok-cells.ensures c.requires.ready in
+    let fit = blocks.stmts_fit s level c.args.many ds ss a c.cells.new.to c.requires.level c.requires.fits c.in_ok-cells.ensures in
+    let at = at_after (c.in_ok-cells.ensures c.requires.fits.0 c.requires.fits.1.0) c.requires.level in
     search (rules, stmts'.the_lemmas, decls'.the_lemmas, bodies'.the_lemmas, ready, fit, at)
 
-pub block-aim_exits-requires : goal.block-aim_exits-requires
-block-aim_exits-requires g t c =
+pub inside-aim_exits-requires : goal.inside-aim_exits-requires
+inside-aim_exits-requires g t c =
     let a = c.args.to.now in
     let is : c.len-first.result ≡ length a.exits.items = omega (arith, c.len-first.ensures, a.exits.ok.0) in
-    let lie = blocks.block_exits c.args.self.now.scopes.now c.args.many (stmts c.args.ss.now) a c.cells.new.to c.requires.fits c.in_ok-cells.ensures c.stmts.new.to c.len-first.result is c.in_ok-stmts.ensures in
+    let lie = blocks.block_exits c.args.self.now.known.now c.args.self.now.level c.args.many (decls c.args.ds.now) (stmts c.args.ss.now) a c.cells.new.to c.requires.level c.requires.fits c.in_ok-cells.ensures c.stmts.new.to
+    c.len-first.result is c.in_ok-stmts.ensures in
     record { list = lie.0; branches = lie.1 }
 
-pub block-append_plain-requires : goal.block-append_plain-requires
-block-append_plain-requires g t c =
-    let s = c.args.self.now.scopes.now in
+pub inside-returns : goal.inside-returns
+inside-returns g t c =
+    let s = c.args.self.now.known.now in
+    let level = c.args.self.now.level in
     let a = c.args.to.now in
+    let ds = decls c.args.ds.now in
     let ss = stmts c.args.ss.now in
     let d : Draft = record c.stmts.new.to { out = c.aim_exits.new.out; exits = c.aim_exits.new.exits } in
     let is : c.len-first.result ≡ length a.exits.items = omega (arith, c.len-first.ensures, a.exits.ok.0) in
     record {
-      set = blocks.exit_set s c.args.many ss a c.cells.new.to c.requires.fits c.in_ok-cells.ensures c.stmts.new.to c.len-first.result is c.in_ok-stmts.ensures d c.aim_exits.ensures.aimed c.aim_exits.ensures.list refl
-          c.requires.ready.set;
-      room = blocks.exit_room s c.args.many ss a c.cells.new.to c.requires.fits c.in_ok-cells.ensures c.stmts.new.to c.len-first.result is c.in_ok-stmts.ensures d c.aim_exits.ensures.aimed c.aim_exits.ensures.list
-          refl c.requires.ready;
+      code = blocks.inside_stands s level c.args.many ds ss a c.cells.new.to c.requires.level c.requires.fits c.in_ok-cells.ensures c.stmts.new.to c.len-first.result is c.in_ok-stmts.ensures d c.aim_exits.ensures.aimed
+          c.aim_exits.ensures.list refl;
+      exits = blocks.none_left s level c.args.many ds ss a c.cells.new.to c.requires.level c.requires.fits c.in_ok-cells.ensures c.stmts.new.to c.len-first.result is c.in_ok-stmts.ensures d c.aim_exits.ensures.aimed
+          c.aim_exits.ensures.list refl;
+    }
+
+pub block-append_plain-requires : goal.block-append_plain-requires
+block-append_plain-requires g t c =
+    let s = c.args.self.now.known.now in
+    let level = c.args.self.now.level in
+    let a = c.args.to.now in
+    let ds = decls c.args.ds.now in
+    let ss = stmts c.args.ss.now in
+    record {
+      set = blocks.exit_set s level ds ss a c.inside.new.to c.requires.level c.variables.result c.variables.ensures c.in_ok-inside.ensures.code c.requires.fits c.requires.ready.set;
+      room = blocks.exit_room s level ds ss a c.inside.new.to c.requires.level c.variables.result c.variables.ensures c.in_ok-inside.ensures.code c.requires.fits c.requires.ready;
     }
 
 pub block-returns : goal.block-returns
 block-returns g t c =
-    let s = c.args.self.now.scopes.now in
+    let s = c.args.self.now.known.now in
     let a = c.args.to.now in
-    let ss = stmts c.args.ss.now in
-    let d : Draft = record c.stmts.new.to { out = c.aim_exits.new.out; exits = c.aim_exits.new.exits } in
+    let d = c.inside.new.to in
     let e : Draft = record d { out = c.append_plain.new.out } in
-    let is : c.len-first.result ≡ length a.exits.items = omega (arith, c.len-first.ensures, a.exits.ok.0) in
-    record {
-      code = on_ok_two c.append_plain.result
-          (blocks.block_stands s c.args.many ss a c.cells.new.to c.requires.fits c.in_ok-cells.ensures c.stmts.new.to c.len-first.result is c.in_ok-stmts.ensures d c.aim_exits.ensures.aimed c.aim_exits.ensures.list refl
-          e refl refl)
-          c.append_plain.ensures.code c.append_plain.ensures.size;
-      exits = on_ok_weaker c.append_plain.result
-          (λ h. blocks.none_left s c.args.many ss a c.cells.new.to c.requires.fits c.in_ok-cells.ensures c.stmts.new.to c.len-first.result is c.in_ok-stmts.ensures d c.aim_exits.ensures.aimed c.aim_exits.ensures.list refl)
-          c.append_plain.ensures.size;
-    }
+    on_ok_two c.append_plain.result
+    (blocks.block_stands s c.args.self.now.level (decls c.args.ds.now) (stmts c.args.ss.now) a d c.requires.level c.variables.result c.variables.ensures c.in_ok-inside.ensures.code e refl refl)
+    c.append_plain.ensures.code c.append_plain.ensures.size
 
 pub block_inside-returns : goal.block_inside-returns
 block_inside-returns g t c =
     on_ok_weaker c.level-2.result
     (λ o.
-    blocks.inner_coded c.args.self.now.scopes.now c.args.many (stmts c.args.ss.now) c.args.to.now c.block.new.to c.level.new.self c.level-2.new.self c.args.self.now.level c.requires.level.set c.in_ok-level.ensures.ok o
-    c.in_ok-block.ensures.code)
+    blocks.inner_coded c.args.self.now.known.now (decls c.args.ds.now) (stmts c.args.ss.now) c.args.to.now c.block.new.to c.level.new.self c.level-2.new.self c.args.self.now.level c.requires.level.set c.in_ok-level.ensures.ok o
+    c.in_ok-block.ensures)
     c.level-2.ensures.ok
 
 pub inner_block-block_inside-requires : goal.inner_block-block_inside-requires
 inner_block-block_inside-requires g t c =
-    let s = c.args.self.now.scopes.now in
+    let s = c.args.self.now.known.now in
     let a = c.args.to.now in
     let b : Draft = record a { out = c.append_branch.new.out } in
     let over = c.in_ok-over.ensures in
-    let ready = blocks.inside_ready s c.args.many (stmts c.args.ss.now) a b over.level over.size refl c.requires.ready in
-    let fit = blocks.inside_fit s c.args.many (stmts c.args.ss.now) a b over.level over.size c.requires.fits in
+    let ready = blocks.inside_ready s (decls c.args.ds.now) (stmts c.args.ss.now) a b over.level over.size refl c.requires.ready in
+    let fit = blocks.inside_fit s (decls c.args.ds.now) (stmts c.args.ss.now) a b over.level over.size c.requires.fits in
     let at = at_same a b over.level c.requires.level in
     search (rules, stmts'.the_lemmas, decls'.the_lemmas, bodies'.the_lemmas, ready, fit, at)
 
@@ -729,11 +740,11 @@ inner_block-aim-requires g t c =
     let a = c.args.to.now in
     let b : Draft = record a { out = c.append_branch.new.out } in
     let over = c.in_ok-over.ensures in
-    blocks.over_lies c.args.self.now.scopes.now c.args.many (stmts c.args.ss.now) a b over.level over.size c.in_ok-over.over over.place over.code c.block_inside.new.to c.in_ok-block_inside.ensures c.requires.fits
+    blocks.over_lies c.args.self.now.known.now (decls c.args.ds.now) (stmts c.args.ss.now) a b over.level over.size c.in_ok-over.over over.place over.code c.block_inside.new.to c.in_ok-block_inside.ensures c.requires.fits
 
 pub inner_block-append_entry-requires : goal.inner_block-append_entry-requires
 inner_block-append_entry-requires g t c =
-    let s = c.args.self.now.scopes.now in
+    let s = c.args.self.now.known.now in
     let ss = stmts c.args.ss.now in
     let a = c.args.to.now in
     let b : Draft = record a { out = c.append_branch.new.out } in
@@ -741,11 +752,12 @@ inner_block-append_entry-requires g t c =
     let over = c.in_ok-over.ensures in
     let code = c.in_ok-block_inside.ensures in
     record {
-      set = set_same a.out d.out (blocks.entry_level s c.args.many ss a b over.level over.size c.in_ok-over.over over.place over.code c.block_inside.new.to code d c.aim.ensures c.requires.fits) c.requires.ready.set;
-      inner = blocks.entry_inner s c.args.many ss a b over.level over.size c.in_ok-over.over over.place over.code c.block_inside.new.to code d c.aim.ensures c.requires.fits c.args.self.now.level c.requires.level;
+      set = set_same a.out d.out (blocks.entry_level s (decls c.args.ds.now) ss a b over.level over.size c.in_ok-over.over over.place over.code c.block_inside.new.to code d c.aim.ensures c.requires.fits) c.requires.ready.set;
+      inner = blocks.entry_inner s (decls c.args.ds.now) ss a b over.level over.size c.in_ok-over.over over.place over.code c.block_inside.new.to code d c.aim.ensures c.requires.fits c.args.self.now.level c.requires.level;
       most = c.requires.inner;
+      segment = c.requires.ready.segment;
       place = omega (arith, c.place-begin.ensures, over.size, c.requires.ready.room);
-      room = blocks.entry_room s c.args.many ss a b over.level over.size c.in_ok-over.over over.place over.code c.block_inside.new.to code d c.aim.ensures c.requires.fits c.requires.ready;
+      room = blocks.entry_room s (decls c.args.ds.now) ss a b over.level over.size c.in_ok-over.over over.place over.code c.block_inside.new.to code d c.aim.ensures c.requires.fits c.requires.ready;
     }
 
 pub inner_block-returns : goal.inner_block-returns
@@ -756,13 +768,13 @@ inner_block-returns g t c =
     let e : Draft = record c.block_inside.new.to { out = c.append_entry.new.out } in
     let over = c.in_ok-over.ensures in
     on_ok_two c.append_entry.result
-    (blocks.inner_stands c.args.self.now.scopes.now c.args.many (stmts c.args.ss.now) a b over.level over.size c.in_ok-over.over over.place over.code c.block_inside.new.to c.in_ok-block_inside.ensures d c.aim.ensures e
+    (blocks.inner_stands c.args.self.now.known.now (decls c.args.ds.now) (stmts c.args.ss.now) a b over.level over.size c.in_ok-over.over over.place over.code c.block_inside.new.to c.in_ok-block_inside.ensures d c.aim.ensures e
     c.place-begin.result refl refl refl refl c.place-begin.ensures refl refl)
     c.append_entry.ensures.code c.append_entry.ensures.size
 
 pub stmt-inner_block-requires : goal.stmt-inner_block-requires
 stmt-inner_block-requires g t c κs within =
-    let s = c.args.self.now.scopes.now in
+    let s = c.args.self.now.known.now in
     let a = c.args.to.now in
     let x = c.args.s.now in
     let b = c.in-Block.b in
@@ -771,10 +783,10 @@ stmt-inner_block-requires g t c κs within =
     let same = c.deref-else-is_empty.ensures.value ∙ c.items-else-is_empty.ensures in
     let ds_are = c.deref-else-is_empty-2.ensures.value ∙ c.items-else-is_empty-2.ensures in
     let n : c.items.result.now.len ≡ length b.decls = omega (arith, c.items.result.now.ok.0, ap length c.items.ensures) in
-    let ready = blocked.inside_ready s a x b ss ds c.is_empty.result c.items.result.now.len c.variables.result c.in-Block.is same ds_are c.is_empty.ensures n c.if-is_empty.false c.variables.ensures c.requires.ready in
-    let fit = blocked.inside_fits s a x b ss ds c.is_empty.result c.items.result.now.len c.variables.result c.in-Block.is same ds_are c.is_empty.ensures n c.if-is_empty.false c.requires.fits in
-    let few = blocked.few_cells s a x b ss ds c.is_empty.result c.items.result.now.len c.variables.result c.in-Block.is same ds_are c.is_empty.ensures n c.if-is_empty.false c.variables.ensures c.requires.fits in
-    let inner = blocked.inside_level s a x b ss ds c.is_empty.result c.items.result.now.len c.variables.result c.in-Block.is same ds_are c.is_empty.ensures n c.if-is_empty.false c.args.self.now.level c.requires.level c.requires.fits in
+    let ready = blocked.inside_ready s a x b ss ds c.is_empty.result c.items.result.now.len c.in-Block.is same ds_are c.is_empty.ensures n c.if-is_empty.false c.requires.ready in
+    let fit = blocked.inside_fits s a x b ss ds c.is_empty.result c.items.result.now.len c.in-Block.is same ds_are c.is_empty.ensures n c.if-is_empty.false c.requires.fits in
+    let few = blocked.few_cells s a x b ss ds c.is_empty.result c.items.result.now.len c.in-Block.is same ds_are c.is_empty.ensures n c.if-is_empty.false c.requires.fits in
+    let inner = blocked.inside_level s a x b ss ds c.is_empty.result c.items.result.now.len c.in-Block.is same ds_are c.is_empty.ensures n c.if-is_empty.false c.args.self.now.level c.requires.level c.requires.fits in
     (search (rules, stmts'.the_lemmas, decls'.the_lemmas, bodies'.the_lemmas), (within, (c.requires.level, (inner, (ready, (few, fit))))))
 
 pub stmt-returns-else-is_empty : goal.stmt-returns-else-is_empty
@@ -784,8 +796,8 @@ stmt-returns-else-is_empty g t c =
     let ds_are = c.deref-else-is_empty-2.ensures.value ∙ c.items-else-is_empty-2.ensures in
     let n : c.items.result.now.len ≡ length b.decls = omega (arith, c.items.result.now.ok.0, ap length c.items.ensures) in
     on_ok_weaker c.inner_block.result
-    (blocked.inner_emitted c.args.self.now.scopes.now c.args.to.now c.args.s.now b c.deref-else-is_empty.result.now c.deref-else-is_empty-2.result.now c.is_empty.result c.items.result.now.len c.variables.result c.in-Block.is
-    same ds_are c.is_empty.ensures n c.if-is_empty.false c.variables.ensures c.inner_block.new.to)
+    (blocked.inner_emitted c.args.self.now.known.now c.args.to.now c.args.s.now b c.deref-else-is_empty.result.now c.deref-else-is_empty-2.result.now c.is_empty.result c.items.result.now.len c.in-Block.is
+    same ds_are c.is_empty.ensures n c.if-is_empty.false c.inner_block.new.to)
     c.inner_block.ensures
 
 pub stmt-returns-then-is_empty : goal.stmt-returns-then-is_empty
@@ -793,6 +805,27 @@ stmt-returns-then-is_empty g t c =
     let b = c.in-Block.b in
     let n : c.items.result.now.len ≡ length b.decls = omega (arith, c.items.result.now.ok.0, ap length c.items.ensures) in
     on_ok_weaker c.stmts.result
-    (blocked.compound_emitted c.args.self.now.scopes.now c.args.to.now c.stmts.new.to c.args.s.now b c.deref.result.now c.is_empty.result c.items.result.now.len c.in-Block.is
+    (blocked.compound_emitted c.args.self.now.known.now c.args.to.now c.stmts.new.to c.args.s.now b c.deref.result.now c.is_empty.result c.items.result.now.len c.in-Block.is
     (c.deref.ensures.value ∙ c.items-then-is_empty.ensures) c.is_empty.ensures n c.if-is_empty.true)
     c.stmts.ensures
+
+-- ---- a call
+
+pub stmt-call-requires-clause-fits : goal.stmt-call-requires-clause-fits
+stmt-call-requires-clause-fits g t c =
+    let s = c.args.self.now.known.now in
+    let a = c.args.to.now in
+    let n = c.in-Call.c.name in
+    let es = exprs c.in-Call.c.actuals in
+    let p = tree.call_of (tree.called n es) in
+    let fits = matched.fit_as s a (stmt c.args.s.now) p (shaped.call_as c.args.s.now c.in-Call.c c.in-Call.is) c.requires.fits in
+    (fits.0, matched.called s fits.0 (level_set a.out) n es fits.1)
+
+pub stmt-returns-in-Call : goal.stmt-returns-in-Call
+stmt-returns-in-Call g t c =
+    let a = c.args.to.now in
+    let n = c.in-Call.c.name in
+    let b : Draft = record a { out = c.call.new.out } in
+    on_ok_two c.call.result
+    (λ h short. matched.call_emitted c.args.self.now.known.now a b (stmt c.args.s.now) n (exprs c.in-Call.c.actuals) (shaped.call_as c.args.s.now c.in-Call.c c.in-Call.is) refl refl c.requires.ready.few h short)
+    c.call.ensures.code c.call.ensures.size

@@ -5,14 +5,14 @@ use Rattle.algol_tree.specs.Image.{expr}
 use Rattle.b67_ops.specs.declared.PlainKind.TheVariants as kinds
 use Rattle.b67_segment.specs.Building.{level_set}
 use Rattle.b67_emit_stmt.proofs.Drafts.{level_same}
-use Rattle.b67_templates.specs.Code.{ReadAt}
+use Rattle.b67_emit_stmt.specs.Places.{ReadAt}
 use Rattle.b67_segment.specs.Operators.{size}
-use Rattle.b67_emit_stmt.proofs.Parts.{advance_part, leveled, name_at, plain_at, value_at}
+use Rattle.b67_emit_stmt.proofs.Parts.{advance_part, leveled, variable_at, plain_at, value_at}
 use Rattle.b67_emit_stmt.proofs.draft.StmtEmitter.advance.Goals as goal
 
 pub returns-clause-code : goal.returns-clause-code
 returns-clause-code g c =
-    let s = c.args.self.now.scopes.now in
+    let s = c.args.self.now.known.now in
     let a = c.args.out.now in
     let b = c.reference.new.out in
     let d = c.read.new.out in
@@ -23,9 +23,9 @@ returns-clause-code g c =
     let t = level_same d e c.in_ok-value.ensures.level ∙ r in
     on_ok_weaker c.append_plain-2.result
     (λ h sc formats name fit.
-    advance_part sc formats (level_set a) c.args.v.now (expr c.args.s.now) a b d e x c.append_plain-2.new.out (c.in_ok-reference.ensures.code sc types.Number formats name)
+    advance_part sc formats (level_set a) c.args.v.now (expr c.args.s.now) a b d e x c.append_plain-2.new.out (c.in_ok-reference.ensures.code sc types.Number formats name.1)
     (leveled (λ l qs. ReadAt sc formats qs l c.args.v.now types.Number (size b.operators) (size d.operators)) (level_set a) q
-    (c.in_ok-read.ensures.code sc types.Number formats (name_at s (level_set b) (level_set a) sc types.Number c.args.v.now q name)))
+    (c.in_ok-read.ensures.code sc types.Number formats (variable_at s (level_set b) (level_set a) sc c.args.v.now q name).0))
     (value_at s d e (level_set a) sc formats types.Number (expr c.args.s.now) r c.in_ok-value.ensures.code fit)
     (plain_at kinds.Add (level_set a) t c.in_ok-append_plain.ensures.code)
     (plain_at kinds.Stod (level_set a) (level_same e x c.in_ok-append_plain.ensures.level ∙ t) h))

@@ -6,10 +6,9 @@ use Rattle.algol_tree.specs.Image.{expr, exprs}
 use Rattle.algol_tree.specs.Counts.{exprs_tokens}
 use Rattle.b67_segment.specs.Operators.{size}
 use Rattle.b67_segment.specs.Building.{level_set}
-use Rattle.b67_templates.specs.Code.{LineAt}
-use Rattle.b67_templates.specs.Fitting.{LineFits}
+use Rattle.b67_emit_stmt.specs.Places.{LineAt}
+use Rattle.b67_emit_stmt.specs.Fits.{LineFits}
 use Rattle.b67_templates.specs.Emitting.{Emitted}
-use Rattle.b67_emitter.specs.Values.{couples}
 use Rattle.b67_emit_stmt.proofs.Drafts.{level_same}
 use Rattle.b67_emit_stmt.proofs.Lines.{line_fits, line_part, line_tokens}
 use Rattle.b67_emit_stmt.proofs.Lists.{around, front_more}
@@ -28,15 +27,15 @@ value-requires-clause-set g c = set_same c.args.out.now c.items.out c.items.inva
 
 pub value-requires-clause-code : goal.value-requires-clause-code
 value-requires-clause-code g c =
-    let s = c.args.self.now.scopes.now in
+    let s = c.args.self.now.known.now in
     let level = level_set c.args.out.now in
     let xs = c.args.items.now in
     let i = c.items.item-index in
     let x = c.item-item.result in
     let sc = c.requires.fits.0 in
-    let F : List Expr → Type 0 = λ l. LineFits sc (couples s) level (exprs l) in
+    let F : List Expr → Type 0 = λ l. LineFits sc s level (exprs l) in
     code_at s (level_set c.items.out) level sc types.Number (expr x) (level_same c.args.out.now c.items.out c.items.invariant.level)
-    (line_fits sc (couples s) level (take i xs) x (drop (i + 1) xs) (subst F (around xs i x c.items-test.true c.item-item.is) c.requires.fits.1))
+    (line_fits sc s level (take i xs) x (drop (i + 1) xs) (subst F (around xs i x c.items-test.true c.item-item.is) c.requires.fits.1))
 
 pub value-requires-clause-room : goal.value-requires-clause-room
 value-requires-clause-room g c =
@@ -48,7 +47,7 @@ value-requires-clause-room g c =
 
 pub items-preserved : goal.items-preserved
 items-preserved g c =
-    let s = c.args.self.now.scopes.now in
+    let s = c.args.self.now.known.now in
     let a = c.args.out.now in
     let b = c.items.out in
     let d = c.value.new.out in
@@ -61,10 +60,10 @@ items-preserved g c =
       level = c.in_ok-value.ensures.level ∙ c.items.invariant.level;
       short = omega (arith, ap (λ (l : List Expr). exprs_tokens (exprs l)) more, line_tokens (take i xs) x [], c.in_ok-value.ensures.size, c.items.invariant.short);
       code = λ sc formats fit.
-          let F : List Expr → Type 0 = λ l. LineFits sc (couples s) (level_set a) (exprs l) in
+          let F : List Expr → Type 0 = λ l. LineFits sc s (level_set a) (exprs l) in
           line_part sc formats (level_set a) (take i xs) x (take (i + 1) xs) a b d more (c.items.invariant.code sc formats fit)
           (value_at s b d (level_set a) sc formats types.Number (expr x) q c.in_ok-value.ensures.code
-          (line_fits sc (couples s) (level_set a) (take i xs) x (drop (i + 1) xs) (subst F (around xs i x c.items-test.true c.item-item.is) fit)));
+          (line_fits sc s (level_set a) (take i xs) x (drop (i + 1) xs) (subst F (around xs i x c.items-test.true c.item-item.is) fit)));
     }
 
 pub returns-clause-code : goal.returns-clause-code

@@ -1,20 +1,19 @@
 use Rattle.std.proofs.Common.{◌≡◌, ◌+◌, ◌*◌, ◌≤◌, List, take}
 use Rattle.algol_tree.specs.Image.{exprs}
 use Rattle.algol_tree.specs.Counts.{exprs_tokens}
-use Rattle.algol_tree.specs.Scopes as names
+use Rattle.b67_emit_stmt.specs.Places.{Place}
 use Rattle.b67_segment.specs.declared.code.Format.{Format}
 use Rattle.b67_segment.specs.Operators.{size}
 use Rattle.b67_segment.specs.Building.{level_set}
-use Rattle.b67_templates.specs.Code.{LineAt}
-use Rattle.b67_templates.specs.Fitting.{LineFits}
+use Rattle.b67_emit_stmt.specs.Places.{LineAt}
+use Rattle.b67_emit_stmt.specs.Fits.{LineFits}
 use Rattle.b67_templates.specs.Emitting.{Emitted}
-use Rattle.b67_emitter.specs.Values.{couples}
 use Rattle.b67_emit_stmt.proofs.draft.StmtEmitter.items.Given as goal
 
 abbrev pub invariant-items : goal.invariant-items
 invariant-items g l = record {
   level : l.out.level ≡ l.fn.out.level;
   short : size l.out.operators ≤ size l.fn.out.operators + 12 * exprs_tokens (exprs (take l.item-index l.items));
-  code : (sc : names.Scopes) (formats : List Format) → LineFits sc (couples l.self.scopes.now) (level_set l.fn.out) (exprs l.items) →
+  code : (sc : Place) (formats : List Format) → LineFits sc l.self.known.now (level_set l.fn.out) (exprs l.items) →
       Emitted l.fn.out l.out (λ qs. LineAt sc formats qs (level_set l.fn.out) (exprs (take l.item-index l.items)) (size l.fn.out.operators) (size l.out.operators));
 }

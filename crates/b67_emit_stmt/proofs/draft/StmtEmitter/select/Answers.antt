@@ -21,12 +21,12 @@ pub value-requires-clause-code : goal.value-requires-clause-code
 value-requires-clause-code g c =
     let a = c.args.out.now in
     let b = c.append_intrinsic.new.out in
-    code_at c.args.self.now.scopes.now (level_set b) (level_set a) c.requires.fits.0 types.Number (expr c.args.e.now) (level_same a b c.in_ok-append_intrinsic.ensures.code.level)
+    code_at c.args.self.now.known.now (level_set b) (level_set a) c.requires.fits.0 types.Number (expr c.args.e.now) (level_same a b c.in_ok-append_intrinsic.ensures.code.level)
     c.requires.fits.1
 
 pub returns-clause-code : goal.returns-clause-code
 returns-clause-code g c =
-    let s = c.args.self.now.scopes.now in
+    let s = c.args.self.now.known.now in
     let a = c.args.out.now in
     let b = c.append_intrinsic.new.out in
     let d = c.value.new.out in

@@ -6,8 +6,9 @@ use Rattle.algol_tree.specs.declared.tree.Kind.TheVariants as types
 use Rattle.algol_tree.specs.Image.{expr}
 use Rattle.b67_segment.specs.Building.{level_set}
 use Rattle.b67_segment.specs.Operators.{size}
-use Rattle.b67_templates.specs.Code.{PastAt}
+use Rattle.b67_emit_stmt.specs.Places.{PastAt}
 use Rattle.b67_templates.specs.Depths.{expr_syllables}
+use Rattle.b67_emit_stmt.specs.Places.{context_in}
 use Rattle.b67_emit_stmt.specs.declared.draft.Draft.{Draft}
 use Rattle.b67_emit_stmt.proofs.Drafts.{at_level, level_same, piece}
 use Rattle.b67_emit_stmt.proofs.Parts.{value_at}
@@ -16,7 +17,7 @@ use Rattle.b67_emit_stmt.proofs.draft.StmtEmitter.step.Goals as goal
 
 pub append_past-requires-clause-few : goal.append_past-requires-clause-few
 append_past-requires-clause-few g c =
-    let grown = (c.in_ok-value-in-None.ensures.code.code c.requires.fits.0 [] types.Number c.requires.fits.1).grown in omega (arith, c.requires.ready.few, grown)
+    let grown = (c.in_ok-value-in-None.ensures.code.code c.requires.fits.0.scopes (context_in c.requires.fits.0 []) types.Number c.requires.fits.1).grown in omega (arith, c.requires.ready.few, grown)
 
 pub returns-in-Some : goal.returns-in-Some
 returns-in-Some g c =
@@ -37,7 +38,7 @@ returns-in_ok-value-in-None g c =
     (λ h sc fit.
     any_part sc (level_set a.out) a b d (13 + expr_syllables (expr c.args.s.now)) (expr c.args.s.now) (omega arith)
     (piece {n = expr_syllables (expr c.args.s.now)} {d = a} {e = b} refl refl c.requires.ready.few
-    (λ formats. value_at c.args.self.now.scopes.now a.out b.out (level_set a.out) sc formats types.Number (expr c.args.s.now) refl c.in_ok-value-in-None.ensures.code fit)
+    (λ formats. value_at c.args.self.now.known.now a.out b.out (level_set a.out) sc formats types.Number (expr c.args.s.now) refl c.in_ok-value-in-None.ensures.code fit)
     c.in_ok-value-in-None.ensures.size)
     (at_level (level_set a.out) (λ l formats qs target. PastAt sc formats qs l (size b.out.operators) target (size d.out.operators)) q (h sc)))
     c.append_past.ensures

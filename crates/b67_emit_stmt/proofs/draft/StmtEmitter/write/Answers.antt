@@ -4,11 +4,10 @@ use Rattle.algol_tree.specs.Image.{exprs}
 use Rattle.b67_ops.specs.declared.PlainKind.TheVariants as kinds
 use Rattle.b67_segment.specs.Operators.{size}
 use Rattle.b67_segment.specs.Building.{level_set}
-use Rattle.b67_templates.specs.Code.{LineAt}
-use Rattle.b67_templates.specs.Fitting.{LineFits}
+use Rattle.b67_emit_stmt.specs.Places.{LineAt}
+use Rattle.b67_emit_stmt.specs.Fits.{LineFits}
 use Rattle.b67_templates.specs.Fragments.{NumberAt}
 use Rattle.b67_templates.specs.Emitting.{Emitted}
-use Rattle.b67_emitter.specs.Values.{couples}
 use Rattle.b67_emit_stmt.specs.declared.draft.Draft.{Draft}
 use Rattle.b67_emit_stmt.specs.Emits.{write_syllables}
 use Rattle.b67_emit_stmt.proofs.Drafts.{level_same}
@@ -18,7 +17,7 @@ use Rattle.b67_emit_stmt.proofs.draft.StmtEmitter.write.Goals as goal
 
 pub returns : goal.returns
 returns g c =
-    let s = c.args.self.now.scopes.now in
+    let s = c.args.self.now.known.now in
     let es = exprs c.args.items.now in
     let a = c.args.to.now in
     let b : Draft = record a { out = c.append_intrinsic.new.out } in
@@ -33,7 +32,7 @@ returns g c =
     omega (arith, ints, c.fitting.ensures, c.len-number.ensures, c.requires.ready.few, c.requires.ready.room) in
     λ sc fit.
     let N : ℤ → Type 0 = λ z. Emitted b.out d.out (λ qs. NumberAt qs level z (size b.out.operators) (size d.out.operators)) in
-    let F : ℕ → Type 0 = λ l. LineFits sc (couples s) l es in
+    let F : ℕ → Type 0 = λ l. LineFits sc s l es in
     write_part sc level c.args.phrases.now es a b d e f c.in_ok-format.format (write_syllables es) refl c.in_ok-push.ensures.items c.requires.ready.few
     (omega (arith, c.in_ok-append_intrinsic.ensures.size, (c.in_ok-append_number.ensures.code).grown, (c.in_ok-items.ensures.code sc a.formats.items (subst F (sym r) fit.2)).grown, c.in_ok-append_plain.ensures.size))
     (omega (arith, c.in_ok-append_intrinsic.ensures.size, c.in_ok-append_number.ensures.size, c.in_ok-items.ensures.size, c.in_ok-append_plain.ensures.size))

@@ -3,8 +3,8 @@ use Rattle.std.proofs.lemmas.List.{drop_more}
 use Rattle.algol_tree.specs.Image.{decls}
 use Rattle.b67_templates.specs.Cells.{variables}
 use Rattle.b67_emit_stmt.proofs.Variables.{variables_more, variables_same}
-use Rattle.b67_emit_stmt.proofs.body.variables.Goals.{in-Simple, in_default}
-use Rattle.b67_emit_stmt.proofs.body.variables.Goals as goal
+use Rattle.b67_emit_stmt.proofs.cells.variables.Goals.{in-Simple, in_default}
+use Rattle.b67_emit_stmt.proofs.cells.variables.Goals as goal
 
 pub decls-preserved : goal.decls-preserved
 decls-preserved c =

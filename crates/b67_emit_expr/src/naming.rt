@@ -1,0 +1,31 @@
+//! A name alone in an expression.
+
+ghost use Rattle.std.specs.Prelude.{◌≡◌, ◌+◌, ◌*◌, ◌≤◌, IsSome, OnOk};
+ghost use Rattle.b67_segment.specs.declared.TheConstants.{MOST_SEGMENT_WORDS};
+ghost use Rattle.b67_segment.specs.Operators.{size};
+ghost use Rattle.b67_segment.specs.Building.{level_set};
+ghost use Rattle.b67_emitter.specs.Values.{AreNear};
+ghost use Rattle.b67_emit_expr.specs.Naming.{NameHasCode, NameEmitted};
+
+use algol_scope::Scopes;
+use algol_tree::Named;
+use b67_emitter::{append_call, append_reading, couple_of, result_of};
+use b67_segment::Builder;
+use std::alloc::AllocError;
+
+/// A variable is read, and a typed procedure is called.
+pub fn append_name(name: &Named, scopes: &Scopes, out: &mut Builder) -> Result<(), AllocError>
+    requires set { IsSome out.old.level }
+    requires near { AreNear scopes.now }
+    requires code { NameHasCode scopes.now (level_set out.old) name.now }
+    requires room { size out.old.operators + 4 ≤ 6 * MOST_SEGMENT_WORDS }
+    ensures code { OnOk result (NameEmitted scopes.now (level_set out.old) out.old out.new name.now) }
+    ensures level { OnOk result (out.new.level ≡ out.old.level) }
+    ensures size { OnOk result (size out.new.operators ≤ size out.old.operators + 4) }
+{
+    let couple = couple_of(scopes, name);
+    match result_of(scopes, name) {
+        Some(_) => append_call(out, couple),
+        None => append_reading(out, couple),
+    }
+}

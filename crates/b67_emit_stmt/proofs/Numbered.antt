@@ -1,0 +1,34 @@
+-- The numbers of the procedures that a block declares.
+use Rattle.std.proofs.Common.{◌≡◌, ℕ, ◌+◌, ◌<◌, ◌≤◌, ◌^◌, List, [], ◌∷◌, ◌++◌, map, length, sym, ap, ◌∙◌, refl, arith, append_assoc}
+use Rattle.std.proofs.lemmas.List.Elements.{All-nil, All-cons}
+use Rattle.std.proofs.lemmas.List.{length-map}
+use Rattle.std.specs.List.{All}
+use Rattle.algol_tree.specs.declared.tree.Named.{Named}
+use Rattle.algol_tree.specs.Blocks.{number_at}
+use Rattle.algol_tree.specs.Scopes.{Scopes}
+use Rattle.algol_paths.specs.Segments.{segment_of}
+use Rattle.b67_ops.specs.declared.TheConstants.{MOST_LEVEL}
+use Rattle.b67_emit_stmt.specs.declared.draft.Known.{Known}
+use Rattle.b67_emit_stmt.specs.Bodies.{numbers_of}
+use Rattle.b67_emit_stmt.specs.Fits.{AreNumbered, number_in, text_of}
+
+pub numbers_long : (s : Known) (ns : List Named) → length (numbers_of s ns) ≡ length ns
+numbers_long s ns = length-map ns (λ (n : Named). number_in (map text_of s.procedures.now) n.spot)
+
+module _ (s : Known) (sc : Scopes) (level : ℕ) where
+  pub numbers_fit : (ns : List Named) → AreNumbered sc s level ns → All (λ (k : ℕ). k < 2 ^ 10) (numbers_of s ns)
+  numbers_fit [] h = All-nil (λ (k : ℕ). k < 2 ^ 10)
+  numbers_fit (n ∷ ns) h = All-cons (λ (k : ℕ). k < 2 ^ 10) (number_in (map text_of s.procedures.now) n.spot) (numbers_of s ns) (omega (arith, h.0.few)) (numbers_fit ns h.1)
+
+  pub numbers_inner : (ns : List Named) → AreNumbered sc s level ns → 1 ≤ length (numbers_of s ns) → level + 1 ≤ MOST_LEVEL
+  numbers_inner [] h some = absurd (omega (arith, some))
+  numbers_inner (n ∷ ns) h some = h.0.inner
+
+  pub numbers_are : (ns : List Named) → AreNumbered sc s level ns → numbers_of s ns ≡ map (λ (n : Named). segment_of sc.blocks (number_at sc.blocks n.spot)) ns
+  numbers_are [] h = refl
+  numbers_are (n ∷ ns) h =
+      ap (λ k. k ∷ numbers_of s ns) (sym h.0.is) ∙ ap (λ l. segment_of sc.blocks (number_at sc.blocks n.spot) ∷ l) (numbers_are ns h.1)
+
+-- one more
+pub numbers_more : (s : Known) (xs ys all more rest : List ℕ) (k : ℕ) → xs ++ more ≡ all → more ≡ k ∷ rest → ys ≡ xs ++ k ∷ [] → ys ++ rest ≡ all
+numbers_more s xs ys all more rest k h is e = ap (λ l. l ++ rest) e ∙ append_assoc xs (k ∷ []) rest ∙ ap (λ l. xs ++ l) (sym is) ∙ h

@@ -1,0 +1,117 @@
+-- The code of each text stands in the segment of its number.
+use Rattle.std.proofs.Common.{◌≡◌, ℕ, zero, suc, ◌+◌, ◌*◌, ◌≤◌, List, [], ◌∷◌, ◌++◌, length, refl, sym, ap, ◌∙◌, subst, arith, length-append}
+use Rattle.std.specs.Prelude.{Option, Some, None, is_some, slice_get}
+use Rattle.algol_tree.specs.declared.tree.Kind.{Kind}
+use Rattle.algol_tree.specs.Plain.{PDecls}
+use Rattle.algol_tree.specs.Scopes.{Scopes}
+use Rattle.algol_scope.specs.declared.scopes.Scopes as table
+use Rattle.algol_paths.specs.Segments.{segment_of}
+use Rattle.b67_segment.specs.declared.code.Format.{Format}
+use Rattle.b67_segment.specs.declared.code.Segment.{Segment}
+use Rattle.b67_segment.specs.Operators.{Placed}
+use Rattle.b67_segment.specs.Syllables.{Spells}
+use Rattle.b67_templates.specs.Cells.{result_of, variables, control_segments}
+use Rattle.b67_templates.specs.Code.{CellsAt}
+use Rattle.b67_emit_stmt.specs.Bodies.{EndingAt, Stands, result_couple, zeros_for}
+use Rattle.b67_emit_stmt.specs.Places.{Place}
+use Rattle.b67_emit_stmt.specs.Programs.{AreShort, Coded, EndAt, IsDue, TextAt, block_of, context_of}
+use Rattle.b67_emit_stmt.specs.Texts.{Text}
+
+-- where a text stands
+abbrev pub place_of : Scopes → Text → Place
+place_of sc t = record { scopes = sc; segment = segment_of sc.blocks (block_of sc t); block = block_of sc t }
+
+-- the code of a text stands in a segment, which is short
+abbrev pub TextStands : Scopes → List Format → Segment → Text → Type 0
+TextStands sc all segment t = (ps : List Placed) × Spells ps segment × TextAt sc all ps t × (6 * length segment.words ≤ 24 * t.tokens + 48)
+
+abbrev pub AllStand : Scopes → List Format → List Segment → List Text → Type 0
+AllStand sc all [] [] = Unit {0}
+AllStand sc all [] (t ∷ ts) = ⊥
+AllStand sc all (x ∷ xs) [] = ⊥
+AllStand sc all (x ∷ xs) (t ∷ ts) = TextStands sc all x t × AllStand sc all xs ts
+
+pub stand_more : (sc : Scopes) (all : List Format) (xs : List Segment) (ts : List Text) (x : Segment) (t : Text) → AllStand sc all xs ts → TextStands sc all x t →
+    AllStand sc all (xs ++ x ∷ []) (ts ++ t ∷ [])
+stand_more sc all [] [] x t h k = (k, tt)
+stand_more sc all [] (u ∷ us) x t h k = absurd h
+stand_more sc all (y ∷ ys) [] x t h k = absurd h
+stand_more sc all (y ∷ ys) (u ∷ us) x t h k = (h.0, stand_more sc all ys us x t h.1 k)
+
+-- ---- one text
+
+pub zeros_are : (result : Option Kind) (name : List ℕ) (ds : PDecls) → zeros_for (is_some result) ds ≡ length (result_of result name ++ variables ds)
+zeros_are None name ds = omega arith
+zeros_are (Some kind) name ds = omega (arith, length-append (result_of (Some kind) name) (variables ds))
+
+-- a text with a result or without one
+ending : (sc : Scopes) (all : List Format) (known : table.Scopes) (number : ℕ) (t : Text) (ps : List Placed) (e : ℕ) (result : Option Kind) → IsDue sc known number t → t.result ≡ result →
+    EndingAt (is_some result) ps t.level e → EndAt sc (context_of sc all t) ps t.level result t.name e
+ending sc all known number t ps e None due is h = h
+ending sc all known number t ps e (Some kind) due is h = record {
+  kind = kind;
+  is = due.result ∙ is;
+  named = due.named;
+  couple = result_couple t.level;
+  level_is = refl;
+  index_is = ap (λ l. 2 + length l) (sym due.bare);
+  valued = h.0;
+  over = h.1;
+  read = h.2;
+  back = h.3;
+}
+
+pub text_at : (sc : Scopes) (all : List Format) (known : table.Scopes) (number : ℕ) (t : Text) (segment : Segment) → IsDue sc known number t →
+    Stands (place_of sc t) all segment t.level (is_some t.result) t.decls t.stmts → 6 * length segment.words ≤ 24 * t.tokens + 48 → TextStands sc all segment t
+text_at sc all known number t segment due h short =
+    let C : ℕ → Type 0 = λ many. CellsAt sc (context_of sc all t) h.operators t.level many (control_segments sc t.decls) 0 h.code.0 in (
+      h.operators,
+      h.spells,
+      (h.code.0, h.end, subst C (zeros_are t.result t.name t.decls) h.code.1, h.code.2, ending sc all known number t h.operators h.end t.result due refl h.ending),
+      short,
+    )
+
+-- ---- by number
+
+pub many_stand : (sc : Scopes) (all : List Format) (xs : List Segment) (ts : List Text) → AllStand sc all xs ts → length xs ≡ length ts
+many_stand sc all [] [] h = refl
+many_stand sc all [] (t ∷ ts) h = absurd h
+many_stand sc all (x ∷ xs) [] h = absurd h
+many_stand sc all (x ∷ xs) (t ∷ ts) h = ap suc (many_stand sc all xs ts h.1)
+
+abbrev operators_of : (sc : Scopes) (all : List Format) (xs : List Segment) (ts : List Text) → AllStand sc all xs ts → ℕ → List Placed
+operators_of sc all [] ts h k = []
+operators_of sc all (x ∷ xs) [] h k = []
+operators_of sc all (x ∷ xs) (t ∷ ts) h zero = h.0.0
+operators_of sc all (x ∷ xs) (t ∷ ts) h (suc k) = operators_of sc all xs ts h.1 k
+
+some_same : {X : Type 0} (x y : X) → Some x ≡ Some y → x ≡ y
+some_same x y e = cc
+
+spells_at : (sc : Scopes) (all : List Format) (xs : List Segment) (ts : List Text) (h : AllStand sc all xs ts) (k : ℕ) (x : Segment) → slice_get xs k ≡ Some x →
+    Spells (operators_of sc all xs ts h k) x
+spells_at sc all [] ts h zero x e = cc
+spells_at sc all [] ts h (suc k) x e = cc
+spells_at sc all (y ∷ ys) [] h k x e = absurd h
+spells_at sc all (y ∷ ys) (t ∷ ts) h zero x e = let S : Segment → Type 0 = λ z. Spells h.0.0 z in subst S (some_same y x e) h.0.1
+spells_at sc all (y ∷ ys) (t ∷ ts) h (suc k) x e = spells_at sc all ys ts h.1 k x e
+
+code_at : (sc : Scopes) (all : List Format) (xs : List Segment) (ts : List Text) (h : AllStand sc all xs ts) (k : ℕ) (t : Text) → slice_get ts k ≡ Some t →
+    TextAt sc all (operators_of sc all xs ts h k) t
+code_at sc all [] [] h zero t e = cc
+code_at sc all [] [] h (suc k) t e = cc
+code_at sc all [] (u ∷ us) h k t e = absurd h
+code_at sc all (y ∷ ys) [] h k t e = absurd h
+code_at sc all (y ∷ ys) (u ∷ us) h zero t e = let T : Text → Type 0 = λ z. TextAt sc all h.0.0 z in subst T (some_same u t e) h.0.2
+code_at sc all (y ∷ ys) (u ∷ us) h (suc k) t e = code_at sc all ys us h.1 k t e
+
+pub all_coded : (sc : Scopes) (all : List Format) (xs : List Segment) (ts : List Text) → AllStand sc all xs ts → Coded sc all xs ts
+all_coded sc all xs ts h = record { many = many_stand sc all xs ts h; placed = operators_of sc all xs ts h; spells = spells_at sc all xs ts h; code = code_at sc all xs ts h }
+
+pub all_short : (sc : Scopes) (all : List Format) (xs : List Segment) (ts : List Text) → AllStand sc all xs ts → AreShort xs ts
+all_short sc all [] ts h zero x t e f = cc
+all_short sc all [] ts h (suc k) x t e f = cc
+all_short sc all (y ∷ ys) [] h k x t e f = absurd h
+all_short sc all (y ∷ ys) (u ∷ us) h zero x t e f =
+    let S : Segment → Text → Type 0 = λ z v. 6 * length z.words ≤ 24 * v.tokens + 48 in subst (S x) (some_same u t f) (subst (λ z. S z u) (some_same y x e) h.0.3)
+all_short sc all (y ∷ ys) (u ∷ us) h (suc k) x t e f = all_short sc all ys us h.1 k x t e f

@@ -1,0 +1,107 @@
+//! The cells of a block.
+
+ghost use Rattle.std.specs.Prelude.{◌≡◌, ℕ, ◌+◌, ◌*◌, ◌<◌, ◌≤◌, ◌^◌, length, replicate, IfOk, IsSome, OnOk};
+ghost use Rattle.std.specs.List.{All};
+ghost use Rattle.algol_tree.specs.declared.TheConstants.{MOST_BLOCK_CELLS, MOST_PROCEDURES};
+ghost use Rattle.algol_tree.specs.Image as plain;
+ghost use Rattle.b67_ops.specs.declared.TheConstants.{MOST_LEVEL};
+ghost use Rattle.b67_ops.specs.declared.PlainKind.TheVariants as kinds;
+ghost use Rattle.b67_segment.specs.declared.TheConstants.{MOST_SEGMENT_WORDS};
+ghost use Rattle.b67_segment.specs.Operators.{size};
+ghost use Rattle.b67_segment.specs.Building.{level_set};
+ghost use Rattle.b67_templates.specs.Cells as frames;
+ghost use Rattle.b67_templates.specs.Fragments.{AllAt, ControlsAt};
+ghost use Rattle.b67_templates.specs.Emitting.{Emitted};
+ghost use Rattle.b67_emit_stmt.specs.Bodies.{EmitsCells, cells_syllables, numbers_of};
+ghost use Rattle.b67_emit_stmt.specs.Drafts.{HasFew, IsAt};
+ghost use Rattle.b67_emit_stmt.specs.Fits.{AreNumbered};
+ghost use Rattle.b67_emit_stmt.specs.Places.{Place};
+
+use crate::draft::{Draft, StmtEmitter};
+use crate::texts::number_of;
+use algol_tree::Decl;
+use b67_emitter::{ExprEmitter, append_controls, append_plain};
+use b67_ops::PlainKind;
+use b67_segment::Builder;
+use std::alloc::{AllocError, Global};
+
+/// How many simple variables are declared.
+pub(crate) fn variables(decls: &[Decl]) -> usize
+    requires { length (frames.variables (plain.decls decls.now)) ≤ MOST_BLOCK_CELLS }
+    ensures { result ≡ length (frames.variables (plain.decls decls.now)) }
+{
+    let mut many = 0;
+    'decls: for d in decls {
+        if let Decl::Simple(_, ns) = d {
+            many += ns.items().len();
+        }
+    }
+    many
+}
+
+/// So many zeros.
+fn append_zeros(many: usize, out: &mut Builder) -> Result<(), AllocError>
+    requires set { IsSome out.old.level }
+    requires room { size out.old.operators + many ≤ 6 * MOST_SEGMENT_WORDS }
+    ensures code { OnOk result (Emitted out.old out.new (λ qs. AllAt qs (level_set out.old) (replicate many kinds.Zero) (size out.old.operators) (size out.new.operators))) }
+    ensures level { OnOk result (out.new.level ≡ out.old.level) }
+    ensures size { OnOk result (size out.new.operators ≡ size out.old.operators + many) }
+{
+    'zeros: for _ in 0..many {
+        append_plain(out, PlainKind::Zero)?;
+    }
+    Ok(())
+}
+
+/// The control words of procedures, where there are any, one level further in than this.
+fn append_words(segments: &[u16], level: u8, out: &mut Builder) -> Result<(), AllocError>
+    requires set { IsSome out.old.level }
+    requires level { level ≡ level_set out.old }
+    requires inner { 1 ≤ length segments.now → level + 1 ≤ MOST_LEVEL }
+    requires segments { All (λ (segment : ℕ). segment < 2 ^ 10) segments.now }
+    requires room { size out.old.operators + 12 * length segments.now ≤ 6 * MOST_SEGMENT_WORDS }
+    ensures code { OnOk result (Emitted out.old out.new (λ qs. ControlsAt qs (level_set out.old) segments.now (size out.old.operators) (size out.new.operators))) }
+    ensures level { OnOk result (out.new.level ≡ out.old.level) }
+    ensures size { OnOk result (size out.new.operators ≤ size out.old.operators + 12 * length segments.now) }
+{
+    if segments.is_empty() {
+        Ok(())
+    } else {
+        append_controls(out, segments, level + 1)
+    }
+}
+
+impl<'a, E: ExprEmitter> StmtEmitter<'a, E> {
+    /// The numbers of the procedures that are declared.
+    fn numbers(&self, alloc: Global, ds: &[Decl]) -> Result<Vec<u16>, AllocError>
+        requires { length self.now.known.now.procedures.now ≤ MOST_PROCEDURES }
+        ensures { IfOk result (λ numbers. numbers.items ≡ numbers_of self.now.known.now (frames.procedures (plain.decls ds.now))) }
+    {
+        let mut numbers = Vec::new(alloc);
+        'decls: for d in ds {
+            if let Decl::Procedure(heading, _) = d {
+                numbers.push(number_of(self.known.procedures, heading.name.spot))?;
+            }
+        }
+        Ok(numbers)
+    }
+
+    /// A cell of 0 for each of so many, and one for each procedure that is declared.
+    pub(crate) fn cells(&self, many: usize, ds: &[Decl], to: &mut Draft) -> Result<(), AllocError>
+        requires level { IsAt self.now.level to.old }
+        requires few { HasFew to.old }
+        requires many { length self.now.known.now.procedures.now ≤ MOST_PROCEDURES }
+        requires most { many + length (frames.procedures (plain.decls ds.now)) ≤ MOST_BLOCK_CELLS }
+        requires numbered { (sc : Place) × AreNumbered sc.scopes self.now.known.now self.now.level (frames.procedures (plain.decls ds.now)) }
+        requires room { size to.old.out.operators + cells_syllables many (plain.decls ds.now) ≤ 6 * MOST_SEGMENT_WORDS }
+        ensures { OnOk result (EmitsCells self.now.known.now self.now.level to.old to.new many (plain.decls ds.now)) }
+    {
+        append_zeros(many, &mut to.out)?;
+        let numbers = self.numbers(*to.exits.allocator(), ds)?;
+        append_words(&numbers, self.level, &mut to.out)?;
+        if many + numbers.len() > 0 {
+            append_plain(&mut to.out, PlainKind::Push)?;
+        }
+        Ok(())
+    }
+}

@@ -1,0 +1,50 @@
+//! Calls of procedures without parameters.
+
+ghost use Rattle.std.specs.Prelude.{◌≡◌, ℕ, ◌+◌, ◌*◌, ◌≤◌, Option, is_some, IsSome, OnOk};
+ghost use Rattle.algol_tree.specs.declared.tree.Kind.{Kind};
+ghost use Rattle.algol_tree.specs.declared.tree.Named.{Named};
+ghost use Rattle.algol_tree.specs.Scopes as names;
+ghost use Rattle.b67_ops.specs.Spelling.{IsSeen};
+ghost use Rattle.b67_segment.specs.declared.TheConstants.{MOST_SEGMENT_WORDS};
+ghost use Rattle.b67_segment.specs.Operators.{size};
+ghost use Rattle.b67_segment.specs.Building.{level_set};
+ghost use Rattle.b67_templates.specs.Contexts.{Context};
+ghost use Rattle.b67_templates.specs.Cells.{IsProcedure};
+ghost use Rattle.b67_templates.specs.Code.{CallAt, DroppedAt};
+ghost use Rattle.b67_templates.specs.Emitting.{Emitted};
+
+use crate::appending::{append_plain, append_reference};
+use b67_ops::{Couple, PlainKind};
+use b67_segment::Builder;
+use std::alloc::AllocError;
+
+/// Appends the call of the procedure whose control word lies at a couple: a mark, the reference of the control word, the entry.
+pub fn append_call(out: &mut Builder, couple: Couple) -> Result<(), AllocError>
+    requires set { IsSome out.old.level }
+    requires seen { IsSeen (level_set out.old) couple }
+    requires room { size out.old.operators + 4 ≤ 6 * MOST_SEGMENT_WORDS }
+    ensures code { OnOk result ((sc : names.Scopes) (context : Context) (n : Named) (callee : ℕ) → IsProcedure sc (level_set out.old) n callee couple →
+        Emitted out.old out.new (λ qs. CallAt sc context qs (level_set out.old) n callee (size out.old.operators) (size out.new.operators))) }
+    ensures level { OnOk result (out.new.level ≡ out.old.level) }
+    ensures size { OnOk result (size out.new.operators ≡ size out.old.operators + 4) }
+{
+    append_plain(out, PlainKind::Mkst)?;
+    append_reference(out, couple)?;
+    append_plain(out, PlainKind::Entr)
+}
+
+/// Drops the result of a call that a statement makes, where the procedure is typed.
+pub fn append_dropped(out: &mut Builder, typed: bool) -> Result<(), AllocError>
+    requires set { IsSome out.old.level }
+    requires room { size out.old.operators + 1 ≤ 6 * MOST_SEGMENT_WORDS }
+    ensures code { OnOk result ((sc : names.Scopes) (context : Context) (result : Option Kind) → typed ≡ is_some result →
+        Emitted out.old out.new (λ qs. DroppedAt sc context qs (level_set out.old) result (size out.old.operators) (size out.new.operators))) }
+    ensures level { OnOk result (out.new.level ≡ out.old.level) }
+    ensures size { OnOk result (size out.new.operators ≤ size out.old.operators + 1) }
+{
+    if typed {
+        append_plain(out, PlainKind::Dlet)
+    } else {
+        Ok(())
+    }
+}
