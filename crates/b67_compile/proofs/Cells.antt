@@ -1,130 +1,96 @@
--- The cells that statements which have code bring are those of the blocks in them, each of which has few.
-use Rattle.std.proofs.Common.{◌≡◌, ℕ, ◌+◌, ◌≤◌, Bool, true, false, Option, List, [], ◌∷◌, ◌++◌, length, refl, sym, ap, ◌∙◌, subst}
+-- Each cell of a program is of one of its blocks: the place of its declaration stands in one, and each procedure has one. So it is of a
+-- block with few, if each block has few.
+use Rattle.std.proofs.Common.{ℕ, ◌<◌, ◌≤◌, Bool, true, false, List, [], ◌∷◌, ◌++◌, length, sym, subst, if◌then◌else◌, is_some}
 use Rattle.std.specs.List.{flat_map, AllByRecursion}
-use Rattle.std.proofs.lemmas.List.Concat.{flat_map-append}
 use Rattle.algol_tree.specs.declared.TheConstants.{MOST_BLOCK_CELLS}
 use Rattle.algol_tree.specs.declared.token.Spot.{Spot}
-use Rattle.algol_tree.specs.declared.tree.Kind.{Kind}
-use Rattle.algol_tree.specs.declared.tree.Kind.TheVariants as types
-use Rattle.algol_tree.specs.Blocks.{Block, of_statement, blocks_of, blocks_in_decls, blocks_in_stmts, number_at}
-use Rattle.algol_tree.specs.Cells.{Cell, cells_at, cells_of}
+use Rattle.algol_tree.specs.declared.tree.Named.{Named}
+use Rattle.algol_tree.specs.Blocks.{Block, number_at}
+use Rattle.algol_tree.specs.Cells as cells
+use Rattle.algol_tree.specs.Cells.{Cell, Content, cells_at, cells_for, cells_of, cells_of_decl, cells_of_part, first_spot, has_cell, result_cells}
+use Rattle.algol_tree.specs.Names.{Segment, segments_of_part}
 use Rattle.algol_tree.specs.Plain as tree
-use Rattle.algol_tree.specs.Plain.{PDecls, PExpr, PExprs, PStmt, PStmts}
-use Rattle.algol_tree.specs.Scopes.{Scopes}
-use Rattle.algol_tree.specs.Sites.{Site, sites, inside_list, here_stmt, inside_stmt, sites_in_decls, sites_in_stmts}
-use Rattle.algol_tree.specs.Sorts.{Declared}
-use Rattle.algol_tree.specs.Surroundings.{Surroundings, knowing_all, inside_begin}
-use Rattle.algol_tree.specs.Types.{taken_by}
-use Rattle.b67_ops.specs.declared.Couple.{Couple}
-use Rattle.b67_templates.specs.Fitting.{ExprFits, LineFits, StmtFits, StmtsFit}
-use Rattle.b67_fitting.specs.Built.{AreSimple, StmtBuilt, StmtsBuilt}
-use Rattle.b67_fitting.proofs.Aligned.{decl_cells, cells_declared, each_declared, IsVariableCell}
-use Rattle.b67_fitting.proofs.Lists.{each_back, each_both, each_front, each_of}
+use Rattle.algol_tree.specs.Plain.{PDecl, PDecls}
+use Rattle.algol_tree.specs.Sites as site
+use Rattle.algol_tree.specs.Sites.{Part, Site}
+use Rattle.algol_tree.specs.Surroundings.{Surroundings}
+use Rattle.b67_emit_stmt.specs.Texts.{Text}
+use Rattle.b67_fitting.proofs.Lists.{each_back, each_both, each_front}
+use Rattle.b67_compile.proofs.Matching.{Triples, segs}
+
+module _ (blocks : List Block) (all : List Site) where
+  abbrev pub HasFew : ℕ → Type 0
+  HasFew block = length (cells_of blocks all block) ≤ MOST_BLOCK_CELLS
+
+  abbrev pub HaveFew : List Block → Type 0
+  HaveFew bs = AllByRecursion (λ (b : Block). HasFew (number_at blocks b.spot)) bs
+
+  abbrev pub AreOfFew : List Site → Type 0
+  AreOfFew xs = AllByRecursion (λ (c : Cell). HasFew c.block) (flat_map (cells_at blocks) xs)
 
 module _ (blocks : List Block) where
-  abbrev NoCells : List Site → Type 0
-  NoCells xs = flat_map (cells_at blocks) xs ≡ []
+  abbrev pub IsOfOne : Cell → Type 0
+  IsOfOne c = c.block < length blocks
 
-  both : (xs ys : List Site) → NoCells xs → NoCells ys → NoCells (xs ++ ys)
-  both xs ys g h = flat_map-append (cells_at blocks) xs ys ∙ ap (λ z. z ++ flat_map (cells_at blocks) ys) g ∙ h
+  -- the segment's procedure has a block
+  abbrev pub HasBlock : Segment → Type 0
+  HasBlock s = number_at blocks s.spot < length blocks
 
-  module _ (sc : Scopes) (known : Spot → Option Couple) where
-    none_in_expr : (level : ℕ) (a : Surroundings) (k : Kind) (e : PExpr) → ExprFits sc known level k e → NoCells (sites e a)
-    none_in_expr l a k (tree.number z spot) f = refl
-    none_in_expr l a k (tree.truth b spot) f = refl
-    none_in_expr l a k (tree.variable (tree.subscripted n tree.none)) f = refl
-    none_in_expr l a k (tree.variable (tree.subscripted n (tree.more e es))) f = absurd f
-    none_in_expr l a k (tree.call c) f = absurd f
-    none_in_expr l a k (tree.happened e spot) f = absurd f
-    none_in_expr l a k (tree.paren e spot) f = none_in_expr l a k e f
-    none_in_expr l a k (tree.plus e spot) f = none_in_expr l a types.Number e f.1
-    none_in_expr l a k (tree.neg e spot) f = none_in_expr l a types.Number e f.1
-    none_in_expr l a k (tree.not e spot) f = none_in_expr l a types.Truth e f.1
-    none_in_expr l a k (tree.two op x y) f = both (sites x a) (sites y a) (none_in_expr l a (taken_by op) x f.1) (none_in_expr l a (taken_by op) y f.2)
-    none_in_expr l a k (tree.if c x y spot) f =
-        both (sites c a ++ sites x a) (sites y a) (both (sites c a) (sites x a) (none_in_expr l a types.Truth c f.0) (none_in_expr l a k x f.1)) (none_in_expr l a k y f.2)
+  segments_have : (bs : List Block) (ss : List Segment) (ts : List Text) → Triples bs ss ts → AllByRecursion (λ (b : Block). number_at blocks b.spot < length blocks) bs → AllByRecursion HasBlock ss
+  segments_have [] [] [] h f = tt
+  segments_have [] [] (t ∷ ts) h f = absurd h
+  segments_have [] (s ∷ ss) [] h f = absurd h
+  segments_have [] (s ∷ ss) (t ∷ ts) h f = absurd h
+  segments_have (b ∷ bs) [] [] h f = absurd h
+  segments_have (b ∷ bs) [] (t ∷ ts) h f = absurd h
+  segments_have (b ∷ bs) (s ∷ ss) [] h f = absurd h
+  segments_have (b ∷ bs) (s ∷ ss) (t ∷ ts) h f =
+      (subst (λ (z : Spot). number_at blocks z < length blocks) (sym h.0.place) f.0, segments_have bs ss ts h.1 f.1)
 
-    none_in_line : (level : ℕ) (a : Surroundings) (es : PExprs) → LineFits sc known level es → NoCells (inside_list es a)
-    none_in_line l a tree.none f = refl
-    none_in_line l a (tree.more e es) f = both (sites e a) (inside_list es a) (none_in_expr l a types.Number e f.0) (none_in_line l a es f.1)
+  for_names : (block : ℕ) (content : Content) (ns : List Named) → block < length blocks → AllByRecursion IsOfOne (cells_for block content ns)
+  for_names block content [] h = tt
+  for_names block content (n ∷ ns) h = (h, for_names block content ns h)
 
-  -- each of the cells is of a block with few
-  module _ (all : List Site) where
-    abbrev pub HasFew : ℕ → Type 0
-    HasFew block = length (cells_of blocks all block) ≤ MOST_BLOCK_CELLS
+  for_result : (b : Bool) (block : ℕ) (n : Named) → block < length blocks → AllByRecursion IsOfOne (if b then cells_for block cells.result (n ∷ []) else [])
+  for_result true block n h = (h, tt)
+  for_result false block n h = tt
 
-    abbrev pub AreOfFew : List Site → Type 0
-    AreOfFew xs = AllByRecursion (λ (c : Cell). HasFew c.block) (flat_map (cells_at blocks) xs)
+  for_actual : (b : Bool) (c : Cell) → IsOfOne c → AllByRecursion IsOfOne (if b then c ∷ [] else [])
+  for_actual true c h = (h, tt)
+  for_actual false c h = tt
 
-    abbrev pub HaveFew : List Block → Type 0
-    HaveFew bs = AllByRecursion (λ (b : Block). HasFew (number_at blocks b.spot)) bs
+  decl_of_one : (d : PDecl) (later : PDecls) (block : ℕ) → block < length blocks → AllByRecursion HasBlock (segments_of_part (site.declaration d later)) →
+      AllByRecursion IsOfOne (cells_of_decl blocks d block)
+  decl_of_one (tree.simple kind ns) later block h k = for_names block cells.variable ns h
+  decl_of_one (tree.files ns) later block h k = tt
+  decl_of_one (tree.events ns) later block h k = for_names block cells.made ns h
+  decl_of_one (tree.tasks ns) later block h k = for_names block cells.made ns h
+  decl_of_one (tree.labels ns) later block h k = tt
+  decl_of_one (tree.arrays kind ns pairs) later block h k = for_names block cells.made ns h
+  decl_of_one (tree.forward g) later block h k = tt
+  decl_of_one (tree.procedure g s) later block h k =
+      let own = number_at blocks g.name.spot in
+      let its = result_cells blocks g in
+      let ps = cells_for own cells.parameter g.params in
+      each_both IsOfOne (cells_for block cells.procedure (g.name ∷ [])) (its ++ ps) (h, tt)
+      (each_both IsOfOne its ps (for_result (is_some g.kind) own g.name k.0) (for_names own cells.parameter g.params k.0))
 
-    pub together : (xs ys : List Site) → AreOfFew xs → AreOfFew ys → AreOfFew (xs ++ ys)
-    together xs ys g h =
-        let P : Cell → Type 0 = λ c. HasFew c.block in
-        subst (λ (cs : List Cell). AllByRecursion P cs) (sym (flat_map-append (cells_at blocks) xs ys))
-        (each_both P (flat_map (cells_at blocks) xs) (flat_map (cells_at blocks) ys) g h)
+  part_of_one : (part : Part) (a : Surroundings) → a.block < length blocks → AllByRecursion HasBlock (segments_of_part part) → AllByRecursion IsOfOne (cells_of_part blocks part a)
+  part_of_one (site.name n) a h k = tt
+  part_of_one (site.expression e) a h k = tt
+  part_of_one (site.actual e f) a h k = for_actual (has_cell e f a) (record { block = a.block; spot = first_spot e; content = cells.actual }) h
+  part_of_one (site.bound e) a h k = tt
+  part_of_one (site.statement s listed) a h k = tt
+  part_of_one (site.declaration d later) a h k = decl_of_one d later a.block h k
 
-    none : (xs : List Site) → NoCells xs → AreOfFew xs
-    none xs e = subst (λ (cs : List Cell). AllByRecursion (λ (c : Cell). HasFew c.block) cs) (sym e) tt
+  each_of_one : (xs : List Site) → AllByRecursion (λ (x : Site). x.around.block < length blocks) xs → AllByRecursion HasBlock (segs xs) → AllByRecursion IsOfOne (flat_map (cells_at blocks) xs)
+  each_of_one [] h k = tt
+  each_of_one (x ∷ xs) h k =
+      let its = segments_of_part x.part in
+      each_both IsOfOne (cells_at blocks x) (flat_map (cells_at blocks) xs) (part_of_one x.part x.around h.0 (each_front HasBlock its (segs xs) k))
+      (each_of_one xs h.1 (each_back HasBlock its (segs xs) k))
 
-    front : (xs ys : List Block) → HaveFew (xs ++ ys) → HaveFew xs
-    front xs ys h = each_front (λ (b : Block). HasFew (number_at blocks b.spot)) xs ys h
-
-    back : (xs ys : List Block) → HaveFew (xs ++ ys) → HaveFew ys
-    back xs ys h = each_back (λ (b : Block). HasFew (number_at blocks b.spot)) xs ys h
-
-    pub declared_few : (ds : PDecls) (a : Surroundings) (first : List Declared) → AreSimple ds → HasFew a.block → AreOfFew (sites_in_decls blocks ds a first)
-    declared_few ds a first simple few =
-        let P : Cell → Type 0 = λ c. HasFew c.block in
-        subst (λ (cs : List Cell). AllByRecursion P cs) (sym (cells_declared blocks ds a first simple))
-        (each_of (IsVariableCell a.block) P (decl_cells a.block ds) (λ c v. subst HasFew (sym v.0) few) (each_declared a.block ds simple))
-
-    module _ (sc : Scopes) (known : Spot → Option Couple) where
-      abbrev stmt_sites : PStmt → Surroundings → List Site
-      stmt_sites s a = here_stmt s false a ∷ inside_stmt blocks s of_statement false a
-
-      mutual
-        few_in_stmt : (level : ℕ) (a : Surroundings) (outer : List Spot) (s : PStmt) (listed : Bool) → StmtFits sc known level s → StmtBuilt s → HaveFew (blocks_of s of_statement outer) →
-            AreOfFew (inside_stmt blocks s of_statement listed a)
-        few_in_stmt l a o tree.empty i f b h = tt
-        few_in_stmt l a o (tree.label n s) i f b h = absurd f
-        few_in_stmt l a o (tree.assign (tree.subscripted n tree.none) e) i f b h = none (sites e a) (none_in_expr sc known l a f.0 e f.2)
-        few_in_stmt l a o (tree.assign (tree.subscripted n (tree.more e es)) v) i f b h = absurd f
-        few_in_stmt l a o (tree.call_of c) i f b h = absurd f
-        few_in_stmt l a o (tree.go_to n) i f b h = absurd f
-        few_in_stmt l a o (tree.block (tree.body spot tree.no_decls ss)) i f b h = few_in_stmts l a o ss false f b.1 h
-        few_in_stmt l a o (tree.block (tree.body spot (tree.decls d ds) ss)) i f b h =
-            let inner = inside_begin blocks (tree.body spot (tree.decls d ds) ss) a in
-            together (sites_in_decls blocks (tree.decls d ds) inner inner.known) (sites_in_stmts blocks ss true (knowing_all blocks (tree.decls d ds) inner))
-            (declared_few (tree.decls d ds) inner inner.known b.0 h.0)
-            (few_in_stmts (l + 1) (knowing_all blocks (tree.decls d ds) inner) (spot ∷ o) ss true f.1 b.1 (back (blocks_in_decls (tree.decls d ds) (spot ∷ o)) (blocks_in_stmts ss (spot ∷ o)) h.1))
-        few_in_stmt l a o (tree.if_then c x) i f b h = together (sites c a) (stmt_sites x a) (none (sites c a) (none_in_expr sc known l a types.Truth c f.0)) (few_in_stmt l a o x false f.1 b h)
-        few_in_stmt l a o (tree.if_else c x y) i f b h =
-            let xs = blocks_of x of_statement o in
-            let ys = blocks_of y of_statement o in
-            together (sites c a ++ stmt_sites x a) (stmt_sites y a)
-            (together (sites c a) (stmt_sites x a) (none (sites c a) (none_in_expr sc known l a types.Truth c f.0)) (few_in_stmt l a o x false f.1 b.0 (front xs ys h)))
-            (few_in_stmt l a o y false f.2 b.1 (back xs ys h))
-        few_in_stmt l a o (tree.while c x) i f b h = together (sites c a) (stmt_sites x a) (none (sites c a) (none_in_expr sc known l a types.Truth c f.0)) (few_in_stmt l a o x false f.1 b h)
-        few_in_stmt l a o (tree.until x c) i f b h = together (stmt_sites x a) (sites c a) (few_in_stmt l a o x false f.0 b h) (none (sites c a) (none_in_expr sc known l a types.Truth c f.1))
-        few_in_stmt l a o (tree.for v x s m y) i f b h =
-            together (sites x a ++ sites s a ++ sites m a) (stmt_sites y a)
-            (none (sites x a ++ sites s a ++ sites m a)
-            (both (sites x a ++ sites s a) (sites m a)
-            (both (sites x a) (sites s a) (none_in_expr sc known l a types.Number x f.1) (none_in_expr sc known l a types.Number s f.2)) (none_in_expr sc known l a types.Number m f.3)))
-            (few_in_stmt l a o y false f.4 b h)
-        few_in_stmt l a o (tree.thru e x) i f b h = together (sites e a) (stmt_sites x a) (none (sites e a) (none_in_expr sc known l a types.Number e f.0)) (few_in_stmt l a o x false f.1 b h)
-        few_in_stmt l a o (tree.case e ss) i f b h =
-            together (sites e a) (sites_in_stmts blocks ss false a) (none (sites e a) (none_in_expr sc known l a types.Number e f.0)) (few_in_stmts l a o ss false f.1 b h)
-        few_in_stmt l a o (tree.process c task) i f b h = absurd f
-        few_in_stmt l a o (tree.event act e) i f b h = absurd f
-        few_in_stmt l a o (tree.write n spot phrases es) i f b h = none (inside_list es a) (none_in_line sc known l a es f.2)
-
-        pub few_in_stmts : (level : ℕ) (a : Surroundings) (outer : List Spot) (ss : PStmts) (listed : Bool) → StmtsFit sc known level ss → StmtsBuilt ss →
-            HaveFew (blocks_in_stmts ss outer) → AreOfFew (sites_in_stmts blocks ss listed a)
-        few_in_stmts l a o tree.no_stmts i f b h = tt
-        few_in_stmts l a o (tree.stmts s ss) i f b h =
-            let xs = blocks_of s of_statement o in
-            let ys = blocks_in_stmts ss o in
-            together (inside_stmt blocks s of_statement i a) (sites_in_stmts blocks ss i a) (few_in_stmt l a o s i f.0 b.0 (front xs ys h)) (few_in_stmts l a o ss i f.1 b.1 (back xs ys h))
+  -- where the blocks of the segments are known
+  pub all_of_one : (bs : List Block) (xs : List Site) (ts : List Text) → Triples bs (segs xs) ts → AllByRecursion (λ (b : Block). number_at blocks b.spot < length blocks) bs →
+      AllByRecursion (λ (x : Site). x.around.block < length blocks) xs → AllByRecursion IsOfOne (flat_map (cells_at blocks) xs)
+  all_of_one bs xs ts h f s = each_of_one xs s (segments_have bs (segs xs) ts h f)

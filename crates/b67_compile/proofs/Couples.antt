@@ -3,15 +3,15 @@ use Rattle.std.proofs.Common.{◌≡◌, ◌+◌, ◌<◌, Option, Some, None, r
 use Rattle.algol_tree.specs.declared.TheConstants.{MOST_BLOCK_CELLS}
 use Rattle.algol_tree.specs.declared.token.Spot.{Spot}
 use Rattle.algol_tree.specs.Cells as cells
-use Rattle.algol_tree.specs.Couples.{Located, declaration_at}
+use Rattle.algol_tree.specs.Couples.{Located, declaration_at, result_at}
 use Rattle.algol_tree.specs.Plain.{PProgram}
 use Rattle.algol_scope.specs.declared.scopes.Couple as found
 use Rattle.algol_scope.specs.declared.scopes.Declared.{Declared}
 use Rattle.algol_scope.specs.declared.scopes.Scopes.{Scopes}
-use Rattle.algol_scope.specs.Resolved.{couple, located, declaration_of, AreOf}
+use Rattle.algol_scope.specs.Resolved.{couple, located, declaration_of, result_of, AreOf}
 use Rattle.b67_ops.specs.declared.Couple.{Couple}
-use Rattle.b67_emitter.specs.Values.{couple_found, couple_declared, couples, AreNear}
-use Rattle.b67_fitting.specs.Fitted.{AreCouples}
+use Rattle.b67_emitter.specs.Values.{couple_found, couple_declared, couples, result_declared, results, AreNear}
+use Rattle.b67_fitting.specs.Fitted.{AreCouples, AreResults, spelled}
 
 same_couple : (o : Option found.Couple) (c : cells.Couple) → couple o ≡ Some c → couple_found o ≡ Some (record { level = c.level; index = c.index })
 same_couple None c h = absurd (let clash : None ≡ Some c = h in cc)
@@ -26,6 +26,11 @@ same_declared (Some x) d c h g =
     let same : record { spot = x.spot; level = x.level; couple = couple x.couple } ≡ d = cc in
     same_couple x.couple c (ap (λ (z : Located). z.couple) same ∙ g)
 
+-- as it is found, so it is spelled
+found_spelled : (o : Option found.Couple) → couple_found o ≡ spelled (couple o)
+found_spelled None = refl
+found_spelled (Some y) = refl
+
 -- the cell of a couple that is found, as its declaration tells it
 index_of : (o : Option found.Couple) (c : Couple) → couple_found o ≡ Some c → (e : cells.Couple) × (couple o ≡ Some e) × (e.index ≡ c.index)
 index_of None c h = absurd (let clash : None ≡ Some c = h in cc)
@@ -37,13 +42,32 @@ module _ (p : PProgram) (s : Scopes) (are : AreOf p s) where
   pub couples_known : AreCouples p (couples s)
   couples_known spot d c h g = same_declared (declaration_of s spot) d c (are.declarations spot ∙ h) g
 
-  pub couples_near : ((spot : Spot) (d : Located) (c : cells.Couple) → declaration_at p spot ≡ Some d → d.couple ≡ Some c → c.index < 2 + MOST_BLOCK_CELLS) →
-      AreNear s
-  couples_near near spot c h = by (declaration_of s spot) refl h
+  pub results_known : AreResults p (results s)
+  results_known spot d h = by (declaration_of s spot) (are.declarations spot ∙ h)
     where
-      by : (o : Option Declared) → declaration_of s spot ≡ o → couple_declared o ≡ Some c → c.index < 2 + MOST_BLOCK_CELLS
-      by None e g = absurd (let clash : None ≡ Some c = g in cc)
-      by (Some x) e g =
+      by : (o : Option Declared) → located o ≡ Some d → result_declared s o ≡ spelled (result_at p d.spot)
+      by None e = absurd (let clash : None ≡ Some d = e in cc)
+      by (Some x) e =
+          let same : record { spot = x.spot; level = x.level; couple = couple x.couple } ≡ d = cc in
+          found_spelled (result_of s x.spot) ∙ ap spelled (are.results x.spot ∙ ap (λ (z : Located). result_at p z.spot) same)
+
+  -- each couple lies near, where that of each declaration and of each result does
+  pub couples_near : ((spot : Spot) (d : Located) (c : cells.Couple) → declaration_at p spot ≡ Some d → d.couple ≡ Some c → c.index < 2 + MOST_BLOCK_CELLS) →
+      ((spot : Spot) (c : cells.Couple) → result_at p spot ≡ Some c → c.index < 2 + MOST_BLOCK_CELLS) → AreNear s
+  couples_near near near_result = record {
+    own = λ spot c h. own spot c (declaration_of s spot) refl h;
+    result = λ spot c h. result c (declaration_of s spot) h;
+  }
+    where
+      own : (spot : Spot) (c : Couple) (o : Option Declared) → declaration_of s spot ≡ o → couple_declared o ≡ Some c → c.index < 2 + MOST_BLOCK_CELLS
+      own spot c None e g = absurd (let clash : None ≡ Some c = g in cc)
+      own spot c (Some x) e g =
           let i = index_of x.couple c g in
           let there = sym (are.declarations spot) ∙ ap located e in
           subst (λ n. n < 2 + MOST_BLOCK_CELLS) i.2 (near spot (record { spot = x.spot; level = x.level; couple = couple x.couple }) i.0 there i.1)
+
+      result : (c : Couple) (o : Option Declared) → result_declared s o ≡ Some c → c.index < 2 + MOST_BLOCK_CELLS
+      result c None g = absurd (let clash : None ≡ Some c = g in cc)
+      result c (Some x) g =
+          let i = index_of (result_of s x.spot) c g in
+          subst (λ n. n < 2 + MOST_BLOCK_CELLS) i.2 (near_result x.spot i.0 (sym (are.results x.spot) ∙ i.1))

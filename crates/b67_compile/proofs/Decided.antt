@@ -1,12 +1,19 @@
 -- The tests of a program's declarations and statements decide whether it is built.
-use Rattle.std.proofs.Common.{◌≡◌, ◌&&◌, true, false, refl}
+use Rattle.std.proofs.Common.{◌≡◌, ℕ, ◌&&◌, not, true, false, List, [], ◌∷◌, length, refl, arith}
+use Rattle.std.specs.Prelude.{◌==◌}
+use Rattle.std.proofs.lemmas.Bool.{ne_eqb}
 use Rattle.std.specs.Bool.{Decides}
 use Rattle.std.proofs.lemmas.Bool.Decides.{Decides-and}
 use Rattle.algol_tree.specs.declared.token.Spot.{Spot}
 use Rattle.algol_tree.specs.Plain as tree
-use Rattle.algol_tree.specs.Plain.{PStmt, PStmts, PDecls}
-use Rattle.b67_fitting.specs.Built.{AreSimple, StmtBuilt, StmtsBuilt, IsBuilt}
-use Rattle.b67_compile.specs.Built.{are_cells_or_files, is_stmt_built, stmts_are_built}
+use Rattle.algol_tree.specs.Plain.{PStmt, PStmts, PDecl, PDecls}
+use Rattle.algol_tree.specs.Sorts.{same_name}
+use Rattle.b67_fitting.specs.Built.{DeclBuilt, DeclsBuilt, StmtBuilt, StmtsBuilt, IsBuilt}
+use Rattle.b67_compile.specs.Built.{is_nil, has_no_parameters, has_name, is_decl_built, decls_are_built, is_stmt_built, stmts_are_built}
+
+pub nil_length : {X : Type 0} (xs : List X) → (length xs == 0) ≡ is_nil xs
+nil_length [] = refl
+nil_length (x ∷ xs) = ne_eqb (length (x ∷ xs)) 0 (λ e. omega arith)
 
 yes : Decides true (Unit {0})
 yes = (λ e. tt, λ p. refl)
@@ -14,20 +21,39 @@ yes = (λ e. tt, λ p. refl)
 no : Decides false ⊥
 no = (λ e. absurd (let clash : false ≡ true = e in cc), λ p. absurd p)
 
-simple_decided : (ds : PDecls) → Decides (are_cells_or_files ds) (AreSimple ds)
-simple_decided tree.no_decls = yes
-simple_decided (tree.decls (tree.simple kind ns) ds) = simple_decided ds
-simple_decided (tree.decls (tree.files ns) ds) = simple_decided ds
-simple_decided (tree.decls d ds) = no
+bare_decided : {X : Type 0} (xs : List X) → Decides (is_nil xs) (xs ≡ [])
+bare_decided [] = (λ e. refl, λ p. refl)
+bare_decided (x ∷ xs) = (λ e. absurd (let clash : false ≡ true = e in cc), λ p. absurd (let clash : x ∷ xs ≡ [] = p in cc))
+
+named_decided : (name : List ℕ) → Decides (not (is_nil name)) (same_name name [] ≡ false)
+named_decided [] = (λ e. absurd (let clash : false ≡ true = e in cc), λ p. absurd (let clash : true ≡ false = p in cc))
+named_decided (c ∷ name) = (λ e. refl, λ p. refl)
 
 mutual
+  decl_decided : (d : PDecl) → Decides (is_decl_built d) (DeclBuilt d)
+  decl_decided (tree.simple kind ns) = yes
+  decl_decided (tree.files ns) = yes
+  decl_decided (tree.events ns) = no
+  decl_decided (tree.tasks ns) = no
+  decl_decided (tree.labels ns) = no
+  decl_decided (tree.arrays kind ns pairs) = no
+  decl_decided (tree.forward h) = bare_decided h.params
+  decl_decided (tree.procedure h s) =
+      let d = Decides-and (has_no_parameters h) (is_stmt_built s && has_name h) (bare_decided h.params)
+      (Decides-and (is_stmt_built s) (has_name h) (stmt_decided s) (named_decided h.name.name)) in
+      (λ e. let r = d.0 e in (r.0, r.1.0, r.1.1), λ r. d.1 (r.0, (r.1, r.2)))
+
+  decls_decided : (ds : PDecls) → Decides (decls_are_built ds) (DeclsBuilt ds)
+  decls_decided tree.no_decls = yes
+  decls_decided (tree.decls d ds) = Decides-and (is_decl_built d) (decls_are_built ds) (decl_decided d) (decls_decided ds)
+
   stmt_decided : (s : PStmt) → Decides (is_stmt_built s) (StmtBuilt s)
   stmt_decided tree.empty = yes
   stmt_decided (tree.label n s) = stmt_decided s
   stmt_decided (tree.assign v e) = yes
   stmt_decided (tree.call_of c) = yes
   stmt_decided (tree.go_to n) = yes
-  stmt_decided (tree.block (tree.body spot ds ss)) = Decides-and (are_cells_or_files ds) (stmts_are_built ss) (simple_decided ds) (stmts_decided ss)
+  stmt_decided (tree.block (tree.body spot ds ss)) = Decides-and (decls_are_built ds) (stmts_are_built ss) (decls_decided ds) (stmts_decided ss)
   stmt_decided (tree.if_then c x) = stmt_decided x
   stmt_decided (tree.if_else c x y) = Decides-and (is_stmt_built x) (is_stmt_built y) (stmt_decided x) (stmt_decided y)
   stmt_decided (tree.while c b) = stmt_decided b
@@ -35,7 +61,7 @@ mutual
   stmt_decided (tree.for v a s l b) = stmt_decided b
   stmt_decided (tree.thru e b) = stmt_decided b
   stmt_decided (tree.case e ss) = stmts_decided ss
-  stmt_decided (tree.process c task) = yes
+  stmt_decided (tree.process c task) = no
   stmt_decided (tree.event act e) = yes
   stmt_decided (tree.write n spot phrases es) = yes
 
@@ -43,5 +69,5 @@ mutual
   stmts_decided tree.no_stmts = yes
   stmts_decided (tree.stmts s ss) = Decides-and (is_stmt_built s) (stmts_are_built ss) (stmt_decided s) (stmts_decided ss)
 
-pub built_decided : (spot : Spot) (ds : PDecls) (ss : PStmts) → Decides (are_cells_or_files ds && stmts_are_built ss) (IsBuilt (tree.program (tree.body spot ds ss)))
-built_decided spot ds ss = Decides-and (are_cells_or_files ds) (stmts_are_built ss) (simple_decided ds) (stmts_decided ss)
+pub built_decided : (spot : Spot) (ds : PDecls) (ss : PStmts) → Decides (decls_are_built ds && stmts_are_built ss) (IsBuilt (tree.program (tree.body spot ds ss)))
+built_decided spot ds ss = Decides-and (decls_are_built ds) (stmts_are_built ss) (decls_decided ds) (stmts_decided ss)

@@ -1,7 +1,9 @@
 pub mod Decided
+pub mod Couples
+pub mod Matching
+pub mod Places
 pub mod Cells
 pub mod Near
-pub mod Couples
 pub mod Premises
-pub mod Standing
 pub mod Listed
+pub mod Standing

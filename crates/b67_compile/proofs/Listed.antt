@@ -1,5 +1,5 @@
 -- A segment that spells operators can be listed.
-use Rattle.std.proofs.Common.{arith, ◌≡◌, ℕ, ◌+◌, ◌≤◌, ◌==◌, nat_eq, false, List, [], ◌∷◌, ◌++◌, length, All, refl, sym, ap, ◌∙◌, subst, append_assoc, append-nil, length-append, if◌then◌else◌}
+use Rattle.std.proofs.Common.{arith, ◌≡◌, ℕ, suc, ◌+◌, ◌≤◌, ◌==◌, nat_eq, false, List, [], ◌∷◌, ◌++◌, length, All, refl, sym, ap, ◌∙◌, subst, append_assoc, append-nil, length-append, slice_get, if◌then◌else◌}
 use Rattle.std.proofs.lemmas.Bool.{ne_eqb}
 use Rattle.std.proofs.lemmas.Bool.Decides.{nat_tests}
 use Rattle.std.proofs.lemmas.List.Elements.{All-nil, All-cons}
@@ -8,14 +8,13 @@ use Rattle.b67_ops.specs.declared.Operator.{Operator}
 use Rattle.b67_ops.specs.Spelling.{spelling, Stands}
 use Rattle.b67_ops.proofs.Laws.{Stands-appended, Stands-kept, Stands-within}
 use Rattle.b67_segment.specs.declared.TheConstants.{MOST_SEGMENT_WORDS}
-use Rattle.b67_segment.specs.declared.code.Format.{Format}
 use Rattle.b67_segment.specs.declared.code.Mark.{Mark}
 use Rattle.b67_segment.specs.declared.code.Segment.{Segment}
 use Rattle.b67_segment.specs.Operators.{Placed, text, marks_after, AreFit, StandsAmong}
 use Rattle.b67_segment.specs.Syllables.{syllables, Spells}
 use Rattle.b67_segment.proofs.Fetches.{length-syllables}
 use Rattle.b67_listing.specs.Operators as listed
-use Rattle.b67_listing.specs.Listings.{StandInOrder, marks_of, IsSegment, HasOperators, IsPhrase, IsListable}
+use Rattle.b67_listing.specs.Listings.{StandInOrder, marks_of, IsSegment, HasOperators}
 
 -- the operators with their places, from this one on
 abbrev places : ℕ → List Placed → List listed.Placed
@@ -58,26 +57,22 @@ first_marks (p ∷ ps) fit =
     ap (λ ms. mark ∷ ms) (same_marks later p.level ps)
     ∙ sym (ap (λ b. if b then marks_of p.level (places later ps) else mark ∷ marks_of p.level (places later ps)) above)
 
-is_segment : (segment : Segment) (ps : List Placed) (at level : ℕ) (op : Operator) (next : ℕ) → Spells ps segment → StandsAmong ps at level op next →
-    length segment.words ≤ MOST_SEGMENT_WORDS → IsSegment segment (places 0 ps)
+pub is_segment : (segment : Segment) (ps : List Placed) (at level : ℕ) (op : Operator) (next : ℕ) → Spells ps segment → StandsAmong ps at level op next →
+    length segment.words ≤ MOST_SEGMENT_WORDS → HasOperators segment
 is_segment segment [] at level op next spells stands few =
     absurd (omega (arith, ap length stands.parts, length-append stands.before (record { level = level; operator = op } ∷ stands.after)))
 is_segment segment (p ∷ ps) at level op next spells stands few =
     let filled = in_order (syllables segment.words) [] (p ∷ ps) spells.fit spells.code in
-    record {
+    let is : IsSegment segment (places 0 (p ∷ ps)) = record {
       some = omega (arith, length-syllables segment.words, Stands-within filled.3.1);
       few = few;
       words = spells.small;
       filled = filled;
       marked = spells.marks ∙ first_marks (p ∷ ps) spells.fit;
-    }
+    } in
+    (places 0 (p ∷ ps), is)
 
--- a code of one segment, in which an operator stands
-pub listable : (segment : Segment) (formats : List Format) (ps : List Placed) (at level : ℕ) (op : Operator) (next : ℕ) → Spells ps segment → StandsAmong ps at level op next →
-    length segment.words ≤ MOST_SEGMENT_WORDS → All (λ (format : Format). All IsPhrase format.phrases) formats →
-    IsListable (record { segments = segment ∷ []; formats = formats })
-listable segment formats ps at level op next spells stands few phrases =
-    record {
-      segments = All-cons HasOperators segment [] (places 0 ps, is_segment segment ps at level op next spells stands few) (All-nil HasOperators);
-      formats = phrases;
-    }
+-- segments, each of which can be listed
+pub all_listed : (segments : List Segment) → ((k : ℕ) (segment : Segment) → slice_get segments k ≡ Some segment → HasOperators segment) → All HasOperators segments
+all_listed [] each = All-nil HasOperators
+all_listed (segment ∷ segments) each = All-cons HasOperators segment segments (each 0 segment refl) (all_listed segments (λ k later h. each (suc k) later h))

@@ -142,3 +142,8 @@ module _ (blocks : List Block) (all : List Site) where
             let same : Some (record { spot = x.spot; level = x.depth + 2; couple = couple_in blocks all x.block x.spot }) ≡ Some d = e in
             let here : couple_in blocks all x.block x.spot ≡ d.couple = cc in
             couple_near (level_of (block_numbered blocks x.block)) x.block x.spot (index_from 2 (layout (cells_of blocks all x.block)) x.spot) c refl (here ∙ g)
+
+    pub result_near : (spot : Spot) (c : cells.Couple) → couple_in blocks all (number_at blocks spot) spot ≡ Some c → c.index < 2 + MOST_BLOCK_CELLS
+    result_near spot c h =
+        let block = number_at blocks spot in
+        couple_near (level_of (block_numbered blocks block)) block spot (index_from 2 (layout (cells_of blocks all block)) spot) c refl h

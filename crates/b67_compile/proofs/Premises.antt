@@ -1,39 +1,45 @@
 -- An accepted program that is built, with its scopes, has all that its code wants.
-use Rattle.std.proofs.Common.{arith, ◌≡◌, ◌+◌, ◌*◌, ◌≤◌, Bool, [], ◌∷◌, ◌++◌, length, subst, if◌then◌else◌}
-use Rattle.algol_tree.specs.declared.TheConstants.{MOST_BLOCK_CELLS}
+use Rattle.std.proofs.Common.{arith, ◌≡◌, ℕ, ◌+◌, ◌<◌, ◌≤◌, suc, Bool, true, false, List, [], ◌∷◌, ◌++◌, length, filter, take, Some, refl, sym, ap, ◌∙◌, subst, length-append, slice_get, if◌then◌else◌}
+use Rattle.std.specs.List.{flat_map, AllByRecursion}
+use Rattle.std.proofs.lemmas.Option.{slice_get_within}
+use Rattle.algol_tree.specs.declared.TheConstants.{MOST_BLOCK_CELLS, MOST_PROCEDURES}
 use Rattle.algol_tree.specs.declared.token.Spot.{Spot}
 use Rattle.algol_tree.specs.declared.tree.Body.{Body}
-use Rattle.algol_tree.specs.Accepted.{Accepted, scope_faults}
+use Rattle.algol_tree.specs.Accepted.{Accepted, scope_faults, sites_of}
 use Rattle.algol_tree.specs.Ascending.{IsInOrder}
-use Rattle.algol_tree.specs.Blocks.{Block, blocks_of_program, blocks_in_decls, blocks_in_stmts, number_at}
-use Rattle.algol_tree.specs.Counts.{body_tokens}
-use Rattle.algol_tree.specs.Couples.{declaration_at}
+use Rattle.algol_tree.specs.Blocks.{Block, block_numbered, number_at, blocks_of_program}
+use Rattle.algol_tree.specs.Cells.{Cell, cells_at, level_of}
+use Rattle.algol_tree.specs.Couples.{declaration_at, result_at}
 use Rattle.algol_tree.specs.Image as plain
 use Rattle.algol_tree.specs.Names.{cells_beyond}
 use Rattle.algol_tree.specs.Plain as tree
 use Rattle.algol_tree.specs.Plain.{PDecls, PStmts, PBody, PProgram}
 use Rattle.algol_tree.specs.Scopes.{scopes_of}
-use Rattle.algol_tree.specs.Sites.{has_decls, sites_by, sites_in_decls, sites_in_stmts}
-use Rattle.algol_tree.specs.Surroundings.{outermost, knowing_all}
+use Rattle.algol_tree.specs.Sites.{Site}
+use Rattle.algol_paths.specs.Segments.{is_procedure, segment_of}
 use Rattle.algol_scope.specs.declared.scopes.Scopes.{Scopes}
 use Rattle.algol_scope.specs.Resolved.{AreOf}
 use Rattle.algol_scope.proofs.Bodies.{body_is}
-use Rattle.b67_ops.specs.declared.TheConstants.{OUTER_LEVEL}
-use Rattle.b67_segment.specs.declared.TheConstants.{MOST_SEGMENT_WORDS}
-use Rattle.b67_templates.specs.Cells.{variables}
+use Rattle.b67_ops.specs.declared.TheConstants.{MOST_LEVEL, OUTER_LEVEL}
+use Rattle.b67_templates.specs.Cells.{procedures, result_of, simple_cells, variables, zero_cells}
 use Rattle.b67_templates.specs.Fitting.{StmtsFit}
-use Rattle.b67_emitter.specs.Values.{couples, AreNear}
+use Rattle.b67_emitter.specs.Values.{couples, results, AreNear}
+use Rattle.b67_emit_stmt.specs.Programs.{AreDue, IsDue}
+use Rattle.b67_emit_stmt.specs.Texts.{Text, texts, texts_in_body}
 use Rattle.b67_fitting.specs.Built.{IsBuilt}
-use Rattle.b67_fitting.specs.Nested.{LiesNested}
+use Rattle.b67_fitting.specs.Nested.{IsText, LiesNested}
 use Rattle.b67_fitting.specs.Texts.{HasPlainTexts}
 use Rattle.b67_fitting.specs.Wholes.{HasWholeNumbers}
-use Rattle.b67_fitting.proofs.Apart.{same_self}
 use Rattle.b67_fitting.proofs.Fits.{accepted_fit}
-use Rattle.b67_fitting.proofs.Lists.{each_back, nil_back, nil_front, nil_map}
+use Rattle.b67_fitting.proofs.Lists.{each_of, nil_back, nil_front, nil_map}
 use Rattle.b67_fitting.proofs.Nesting.{built_programs_lie_nested}
-use Rattle.b67_compile.proofs.Cells.{AreOfFew, HasFew, HaveFew, declared_few, few_in_stmts, together}
-use Rattle.b67_compile.proofs.Couples.{couples_known, couples_near}
-use Rattle.b67_compile.proofs.Near.{blocks_few, located_near}
+use Rattle.b67_fitting.proofs.Numbering.{block_is, each_at}
+use Rattle.b67_fitting.proofs.SurroundedSites.{IsSurrounded, each_number, each_surrounded}
+use Rattle.b67_compile.proofs.Cells.{AreOfFew, HasFew, HaveFew, IsOfOne, all_of_one}
+use Rattle.b67_compile.proofs.Couples.{couples_known, results_known, couples_near}
+use Rattle.b67_compile.proofs.Matching.{all_match, text_of}
+use Rattle.b67_compile.proofs.Near.{blocks_few, located_near, result_near}
+use Rattle.b67_compile.proofs.Places.{IsOf, block_there, text_block, texts_many}
 
 pub record Given (p : PProgram) (s : Scopes) : Type 0 where
   pub resolved : AreOf p s
@@ -52,43 +58,103 @@ given b s resolved accepted order whole texts built =
     (record { resolved = resolved; accepted = accepted; order = order; whole = whole; texts = texts; built = built })
 
 -- no block has more cells than a block may have
-cells_kept : (p : PProgram) → Accepted p → cells_beyond (blocks_of_program p) (sites_by p (blocks_of_program p)) ≡ []
+cells_kept : (p : PProgram) → Accepted p → cells_beyond (blocks_of_program p) (sites_of p) ≡ []
 unfolding scope_faults
 cells_kept p accepted = nil_map _ _ (nil_back _ _ (nil_front _ _ (nil_front _ _ accepted.scoped)))
+
+-- what holds of each by its number
+each_by : {X : Type 0} (P : X → Type 0) (xs : List X) → ((i : ℕ) (x : X) → slice_get xs i ≡ Some x → P x) → AllByRecursion P xs
+each_by P [] f = tt
+each_by P (x ∷ xs) f = (f 0 x refl, each_by P xs (λ i y h. f (suc i) y h))
+
+each_kept_by : {X : Type 0} (P : X → Type 0) (test : X → Bool) (xs : List X) → AllByRecursion P xs → AllByRecursion P (filter test xs)
+each_kept_by P test [] h = tt
+each_kept_by P test (x ∷ xs) h = by (test x) (each_kept_by P test xs h.1)
+  where
+    by : (b : Bool) → AllByRecursion P (filter test xs) → AllByRecursion P (if b then x ∷ filter test xs else filter test xs)
+    by true later = (h.0, later)
+    by false later = later
+
+all_taken : {X : Type 0} (xs : List X) → take (length xs) xs ≡ xs
+all_taken [] = refl
+all_taken (x ∷ xs) = ap (λ (ys : List _). x ∷ ys) (all_taken xs)
+
+no_longer : {X : Type 0} (xs ys zs : List X) → length (ys ++ zs) ≤ length (xs ++ ys ++ zs)
+no_longer xs ys zs = omega (arith, length-append (xs ++ ys) zs, length-append xs ys, length-append ys zs)
+
+zeros_few : (b : Block) → length (zero_cells b) ≤ length (simple_cells b)
+zeros_few b = no_longer _ (result_of b.result b.name) (variables b.decls)
 
 module _ (spot : Spot) (ds : PDecls) (ss : PStmts) (s : Scopes) where
   abbrev p : PProgram
   p = tree.program (tree.body spot ds ss)
 
-  module _ (given : Given p s) where
-    lies : LiesNested p
-    lies = built_programs_lie_nested p given.accepted given.order given.built
+  module _ (has : Given p s) where
+    pub lies : LiesNested p
+    lies = built_programs_lie_nested p has.accepted has.order has.built
 
-    pub few : length (variables ds) ≤ MOST_BLOCK_CELLS
-    unfolding scopes_of blocks_of_program
-    few = (lies.nested.each 0 lies.nested.some).few
+    pub few : length (texts (tree.body spot ds ss)) ≤ 1 + MOST_PROCEDURES
+    unfolding scopes_of
+    few =
+        let bs = blocks_of_program p in
+        omega (arith, texts_many spot ds ss has.order has.built, lies.nested.procedures_few (length bs), ap (λ (z : List Block). length (filter is_procedure z)) (all_taken bs))
 
-    pub fits : StmtsFit (scopes_of p) (couples s) OUTER_LEVEL ss
-    unfolding scopes_of blocks_of_program
-    fits = accepted_fit p (couples s) given.accepted given.order given.built given.whole given.texts (couples_known p s given.resolved)
+    -- ---- each text
 
-    -- the cells are of blocks that have few
-    all_few : AreOfFew (blocks_of_program p) (sites_by p (blocks_of_program p)) (sites_by p (blocks_of_program p))
-    unfolding blocks_of_program
+    abbrev Due : ℕ → Text → Type 0
+    Due number t = IsDue (scopes_of p) s number t
+
+    due_of : (number : ℕ) (b : Block) (tokens : ℕ) → IsOf p number b tokens → Due number (text_of b tokens)
+    unfolding scopes_of
+    due_of number b tokens is =
+        let bs = blocks_of_program p in
+        let known = slice_get_within bs is.block b is.there in
+        let text : IsText (scopes_of p) is.block = lies.nested.each is.block known in
+        let here : block_numbered bs is.block ≡ b = block_is bs is.block b is.there in
+        let own : block_numbered bs (number_at bs b.spot) ≡ b = ap (block_numbered bs) is.number_is ∙ here in
+        let bare : b.parameters ≡ [] = ap (λ (z : Block). z.parameters) (sym here) ∙ text.plain in
+        let cells : length (simple_cells b) + length (procedures b.decls) ≤ MOST_BLOCK_CELLS =
+        subst (λ (z : Block). length (simple_cells z) + length (procedures z.decls) ≤ MOST_BLOCK_CELLS) here text.few in
+        record {
+          segment = ap (segment_of bs) is.number_is ∙ is.segment;
+          named = ap (λ (z : Block). z.name) own;
+          result = ap (λ (z : Block). z.result) own;
+          bare = ap (λ (z : Block). z.parameters) own ∙ bare;
+          level = subst (λ (z : Block). level_of z ≤ MOST_LEVEL) here text.low;
+          few = omega (arith, cells, zeros_few b);
+          fits = subst (λ (z : Block). StmtsFit (scopes_of p) (couples s) (results s) (level_of z) z.stmts) here
+              (accepted_fit p (couples s) (results s) has.accepted has.order has.built has.whole has.texts (couples_known p s has.resolved) (results_known p s has.resolved) is.block known);
+          room = omega (arith, lies.short number, is.short);
+        }
+
+    pub due : AreDue (scopes_of p) s (texts (tree.body spot ds ss))
+    due number t e =
+        let r = text_block spot ds ss has.order has.built number t e in
+        subst (Due number) (sym r.is) (due_of number r.block r.tokens r.of)
+
+    -- ---- cells
+
+    -- each block has few
+    block_few : HaveFew (blocks_of_program p) (sites_of p) (blocks_of_program p) → (k : ℕ) → k < length (blocks_of_program p) → HasFew (blocks_of_program p) (sites_of p) k
+    block_few have k known =
+        let bs = blocks_of_program p in
+        let there = block_there bs k known in
+        subst (HasFew bs (sites_of p)) (each_number p has.order has.built k (block_numbered bs k) there)
+        (each_at (λ (b : Block). HasFew bs (sites_of p) (number_at bs b.spot)) bs k (block_numbered bs k) have there)
+
+    all_few : AreOfFew (blocks_of_program p) (sites_of p) (sites_of p)
     all_few =
-        let blocks = blocks_of_program p in
-        let all = sites_by p blocks in
-        let around = knowing_all blocks ds outermost in
-        let have : HaveFew blocks all blocks = blocks_few blocks all (cells_kept p given.accepted) in
-        let others = blocks_in_decls ds (spot ∷ []) ++ blocks_in_stmts ss (spot ∷ []) in
-        let first : HasFew blocks all 0 = subst (λ (b : Bool). HasFew blocks all (if b then 0 else number_at others spot + 1)) (same_self spot) have.0 in
-        together blocks all (sites_in_decls blocks ds outermost []) (sites_in_stmts blocks ss (has_decls ds) around) (declared_few blocks all ds outermost [] given.built.0 first)
-        (few_in_stmts blocks all (scopes_of p) (couples s) OUTER_LEVEL around (spot ∷ []) ss (has_decls ds) fits given.built.1
-        (each_back (λ (b : Block). HasFew blocks all (number_at blocks b.spot)) (blocks_in_decls ds (spot ∷ [])) (blocks_in_stmts ss (spot ∷ [])) have.1))
+        let bs = blocks_of_program p in
+        let all = sites_of p in
+        let Known : Block → Type 0 = λ b. number_at bs b.spot < length bs in
+        let known : AllByRecursion Known bs =
+        each_by Known bs (λ i b h. subst (λ (n : ℕ). n < length bs) (sym (each_number p has.order has.built i b h)) (slice_get_within bs i b h)) in
+        let around = each_of (λ (x : Site). IsSurrounded bs x.around) (λ (x : Site). x.around.block < length bs) all (λ x h. h.some) (each_surrounded p has.accepted has.order has.built) in
+        each_of (IsOfOne bs) (λ (c : Cell). HasFew bs all c.block) (flat_map (cells_at bs) all) (λ c h. block_few (blocks_few bs all (cells_kept p has.accepted)) c.block h)
+        (all_of_one bs (filter is_procedure bs) all (texts_in_body (tree.body spot ds ss) OUTER_LEVEL) (all_match spot ds ss has.built) (each_kept_by Known is_procedure bs known) around)
 
     pub near : AreNear s
-    unfolding declaration_at
-    near = couples_near p s given.resolved (located_near (blocks_of_program p) (sites_by p (blocks_of_program p)) all_few)
-
-    pub room : 24 * body_tokens (tree.body spot ds ss) + 48 ≤ 6 * MOST_SEGMENT_WORDS
-    room = omega (arith, lies.short)
+    unfolding declaration_at result_at
+    near =
+        let bs = blocks_of_program p in
+        couples_near p s has.resolved (located_near bs (sites_of p) all_few) (result_near bs (sites_of p) all_few)

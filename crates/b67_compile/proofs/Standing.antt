@@ -1,54 +1,139 @@
--- The code of the outer block is that of its program.
-use Rattle.std.proofs.Common.{◌≡◌, ℕ, List, [], ◌∷◌, ◌++◌, length, refl, sym, subst}
+-- The code of the texts is that of their program.
+use Rattle.std.proofs.Common.{arith, ◌≡◌, ◌⊎◌, ℕ, zero, suc, ◌+◌, ◌<◌, ◌≤◌, true, List, [], ◌∷◌, ◌++◌, length, Option, Some, None, refl, sym, ap, ◌∙◌, subst, slice_get}
 use Rattle.algol_tree.specs.declared.token.Spot.{Spot}
-use Rattle.algol_tree.specs.Blocks.{blocks_of_program}
+use Rattle.algol_tree.specs.declared.tree.Kind.{Kind}
+use Rattle.algol_tree.specs.Blocks.{Block, block_numbered}
+use Rattle.algol_tree.specs.Cells.{level_of}
 use Rattle.algol_tree.specs.Plain as tree
-use Rattle.algol_tree.specs.Plain.{PDecls, PStmts}
+use Rattle.algol_tree.specs.Plain.{PDecls, PStmts, PProgram}
 use Rattle.algol_tree.specs.Scopes.{Scopes, scopes_of}
-use Rattle.algol_meaning.specs.Rest.{Item}
+use Rattle.algol_meaning.specs.Rest.{Item, result}
+use Rattle.algol_meaning.specs.Statements as statements
 use Rattle.algol_meaning.specs.Statements.{items, decls_items}
-use Rattle.b67_ops.specs.declared.TheConstants.{OUTER_LEVEL}
+use Rattle.algol_paths.specs.Segments.{is_procedure, segment_of}
+use Rattle.algol_scope.specs.declared.scopes.Scopes as table
 use Rattle.b67_segment.specs.Operators.{Placed}
+use Rattle.b67_segment.specs.Syllables.{Spells}
+use Rattle.b67_segment.specs.declared.TheConstants.{MOST_SEGMENT_WORDS}
+use Rattle.b67_segment.specs.declared.code.Code.{Code}
 use Rattle.b67_segment.specs.declared.code.Format.{Format}
 use Rattle.b67_segment.specs.declared.code.Segment.{Segment}
+use Rattle.b67_listing.specs.Listings.{HasOperators, IsListable}
+use Rattle.b67_templates.specs.Contexts.{Context}
 use Rattle.b67_templates.specs.Fragments.{stop}
-use Rattle.b67_templates.specs.Cells.{variables}
-use Rattle.b67_templates.specs.Code.{StmtsAt, KAt}
-use Rattle.b67_templates.specs.Programs.{ProgramAt}
-use Rattle.b67_emit_stmt.specs.Bodies.{OuterAt}
-use Rattle.b67_fitting.specs.Built.{AreSimple}
+use Rattle.b67_templates.specs.Cells.{zero_cells, control_segments}
+use Rattle.b67_templates.specs.Code.{CellsAt, StmtsAt, KAt}
+use Rattle.b67_templates.specs.Programs.{BodyAt, ProgramAt, context_of}
+use Rattle.b67_emit_stmt.specs.Drafts.{AreListed}
+use Rattle.b67_emit_stmt.specs.Programs as made
+use Rattle.b67_emit_stmt.specs.Programs.{AreShort, Coded, EndAt}
+use Rattle.b67_emit_stmt.specs.Texts.{Text, texts}
+use Rattle.b67_faithful.specs.Faithful.{IsShort}
+use Rattle.b67_compile.proofs.Listed.{all_listed, is_segment}
+use Rattle.b67_compile.proofs.Matching.{text_of}
+use Rattle.b67_compile.proofs.Places.{block_text, text_block, texts_many}
+use Rattle.b67_compile.proofs.Premises.{Given, due, lies}
+
+-- a typed procedure ends with its result
+abbrev ending : Option Kind → List ℕ → List Item
+ending None name = []
+ending (Some kind) name = result name ∷ []
+
+same_ending : (b : Block) → statements.ending b ≡ ending b.result b.name
+same_ending b = by b.result
+  where
+    by : (o : Option Kind) → statements.ending (record b { result = o }) ≡ ending o b.name
+    by None = refl
+    by (Some kind) = refl
 
 -- statements are followed by what comes after them
-module _ (sc : Scopes) (formats : List Format) (ps : List Placed) (level : ℕ) where
-  items_at : (ss : PStmts) (k : List Item) (f t : ℕ) → StmtsAt sc formats ps level ss f t t → KAt sc formats ps level k t → KAt sc formats ps level (items ss k) f
-  items_at tree.no_stmts k f t s after = subst (λ pc. KAt sc formats ps level k pc) (sym s) after
+module _ (sc : Scopes) (context : Context) (ps : List Placed) (level : ℕ) where
+  items_at : (ss : PStmts) (k : List Item) (f t : ℕ) → StmtsAt sc context ps level ss f t t → KAt sc context ps level k t → KAt sc context ps level (items ss k) f
+  items_at tree.no_stmts k f t s after = subst (λ pc. KAt sc context ps level k pc) (sym s) after
   items_at (tree.stmts s tree.no_stmts) k f t here after = (f, t, t, stop, here, stop, after)
   items_at (tree.stmts s (tree.stmts s' ss)) k f t here after = (f, here.0, here.0, stop, here.1, stop, items_at (tree.stmts s' ss) k here.0 t here.2 after)
 
--- the making of simple variables and files is no action
-no_items : (ds : PDecls) → AreSimple ds → decls_items ds ≡ []
-no_items tree.no_decls s = refl
-no_items (tree.decls (tree.simple kind ns) ds) s = no_items ds s
-no_items (tree.decls (tree.files ns) ds) s = no_items ds s
-no_items (tree.decls d ds) s = absurd s
+  -- EXIT, or the result is given back
+  ending_at : (o : Option Kind) (name : List ℕ) (at : ℕ) → (block_numbered sc.blocks context.block).result ≡ o → EndAt sc context ps level o name at → KAt sc context ps level (ending o name) at
+  ending_at None name at e there = (at, there.0, e, stop, there.1)
+  ending_at (Some kind) name at e there = (at, stop, there)
 
-module _ (spot : Spot) (ds : PDecls) (ss : PStmts) where
-  pub program_at : AreSimple ds → (formats : List Format) (segment : Segment) → OuterAt (scopes_of (tree.program (tree.body spot ds ss))) formats segment (length (variables ds)) ss →
-      ProgramAt (record { segments = segment ∷ []; formats = formats }) (tree.program (tree.body spot ds ss))
-  unfolding scopes_of blocks_of_program
-  program_at simple formats segment there =
-      let sc = scopes_of (tree.program (tree.body spot ds ss)) in
-      let stands = KAt sc formats there.operators OUTER_LEVEL in
-      let last : stands [] there.code.1 = (there.code.1, there.code.2, stop, there.code.5) in
-      let all : stands (items ss []) there.code.0 = items_at sc formats there.operators OUTER_LEVEL ss [] there.code.0 there.code.1 there.code.4 last in
-      record {
-        segment = segment;
-        alone = refl;
-        operators = there.operators;
-        spells = there.spells;
-        body = record {
-          start = there.code.0;
-          cells = there.code.3;
-          items = subst (λ (k : List Item). stands (k ++ items ss []) there.code.0) (sym (no_items ds simple)) all;
-        };
-      }
+  -- the code of a block's text: its declarations make nothing
+  body_at : (b : Block) → block_numbered sc.blocks context.block ≡ b → decls_items b.decls ≡ [] → (m e : ℕ) → CellsAt sc context ps level (length (zero_cells b)) (control_segments sc b.decls) 0 m →
+      StmtsAt sc context ps level b.stmts m e e → EndAt sc context ps level b.result b.name e → BodyAt sc context ps level b 0
+  body_at b is made m e cells stmts end = record {
+    start = m;
+    cells = cells;
+    items = subst (λ (k : List Item). KAt sc context ps level (k ++ items b.stmts (statements.ending b)) m) (sym made)
+        (subst (λ (k : List Item). KAt sc context ps level (items b.stmts k) m) (sym (same_ending b))
+        (items_at b.stmts (ending b.result b.name) m e stmts (ending_at b.result b.name e (ap (λ (z : Block). z.result) is) end)));
+  }
+
+-- an operator stands at the end of a text
+some_operator : (sc : Scopes) (context : Context) (ps : List Placed) (level : ℕ) (o : Option Kind) (name : List ℕ) (at : ℕ) (segment : Segment) → Spells ps segment →
+    length segment.words ≤ MOST_SEGMENT_WORDS → EndAt sc context ps level o name at → HasOperators segment
+some_operator sc context ps level None name at segment spells few end = is_segment segment ps at level _ end.0 spells end.1 few
+some_operator sc context ps level (Some kind) name at segment spells few end = is_segment segment ps at level _ end.valued spells end.read few
+
+module _ (spot : Spot) (ds : PDecls) (ss : PStmts) (s : table.Scopes) (has : Given (tree.program (tree.body spot ds ss)) s) where
+  abbrev p : PProgram
+  p = tree.program (tree.body spot ds ss)
+
+  abbrev ts : List Text
+  ts = texts (tree.body spot ds ss)
+
+  -- a place that both lists have
+  in_both : {X Y : Type 0} (xs : List X) (ys : List Y) (k : ℕ) (x : X) → length xs ≡ length ys → slice_get xs k ≡ Some x → (y : Y) × (slice_get ys k ≡ Some y)
+  in_both [] ys k x e h = absurd (let clash : None ≡ Some x = h in cc)
+  in_both (z ∷ xs) [] k x e h = absurd (omega (arith, e))
+  in_both (z ∷ xs) (y ∷ ys) zero x e h = (y, refl)
+  in_both (z ∷ xs) (y ∷ ys) (suc k) x e h = in_both xs ys k x (omega (arith, e)) h
+
+  module _ (segments : List Segment) (formats : List Format) where
+    abbrev code : Code
+    code = record { segments = segments; formats = formats }
+
+    pub short_code : length segments ≡ length ts → AreShort segments ts → IsShort p code
+    short_code many short k segment h =
+        let t = in_both segments ts k segment many h in
+        let r = text_block spot ds ss has.order has.built k t.0 t.1 in
+        omega (arith, short k segment t.0 h t.1, ap (λ (z : Text). z.tokens) r.is, r.of.short)
+
+    pub listable_code : Coded (scopes_of p) formats segments ts → AreShort segments ts → AreListed formats → IsListable code
+    listable_code coded short listed = record {
+      segments = all_listed segments each;
+      formats = listed;
+    }
+      where
+        each : (k : ℕ) (segment : Segment) → slice_get segments k ≡ Some segment → HasOperators segment
+        each k segment h =
+            let t = in_both segments ts k segment coded.many h in
+            let stands = coded.code k t.0 t.1 in
+            let room = (due spot ds ss s has k t.0 t.1).room in
+            some_operator (scopes_of p) (made.context_of (scopes_of p) formats t.0) (coded.placed k) t.0.level t.0.result t.0.name stands.1 segment (coded.spells k segment h)
+            (omega (arith, short k segment t.0 h t.1, room)) stands.4
+
+    pub program_at : Coded (scopes_of p) formats segments ts → ProgramAt code p
+    unfolding scopes_of
+    program_at coded = record {
+      many = coded.many ∙ texts_many spot ds ss has.order has.built;
+      texts = coded.placed;
+      spells = coded.spells;
+      bodies = bodies;
+    }
+      where
+        bodies : (j : ℕ) → j < length (scopes_of p).blocks → (j ≡ 0) ⊎ (is_procedure (block_numbered (scopes_of p).blocks j) ≡ true) →
+            BodyAt (scopes_of p) (context_of code (scopes_of p) j) (coded.placed (segment_of (scopes_of p).blocks j)) (level_of (block_numbered (scopes_of p).blocks j)) (block_numbered (scopes_of p).blocks j) 0
+        bodies j known own =
+            let sc = scopes_of p in
+            let b = block_numbered sc.blocks j in
+            let r = block_text spot ds ss has.order has.built j known own in
+            let at : Context = record { formats = formats; segment = segment_of sc.blocks j; block = j } in
+            let there = coded.code (segment_of sc.blocks j) (text_of b r.tokens) r.text in
+            let same : made.context_of sc formats (text_of b r.tokens) ≡ at = ap (λ (n : ℕ). record { formats = formats; segment = segment_of sc.blocks n; block = n }) r.number_is in
+            let ps = coded.placed (segment_of sc.blocks j) in
+            let l = level_of b in
+            body_at sc at ps l b refl ((lies spot ds ss s has).nested.each j known).made there.0 there.1
+            (subst (λ (c : Context). CellsAt sc c ps l (length (zero_cells b)) (control_segments sc b.decls) 0 there.0) same there.2)
+            (subst (λ (c : Context). StmtsAt sc c ps l b.stmts there.0 there.1 there.1) same there.3)
+            (subst (λ (c : Context). EndAt sc c ps l b.result b.name there.1) same there.4)

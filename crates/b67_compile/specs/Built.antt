@@ -1,31 +1,42 @@
 -- How it is tested that a program is built.
-use Rattle.std.specs.Prelude.{◌&&◌, Bool, true, false}
+use Rattle.std.specs.Prelude.{◌&&◌, not, Bool, true, false, List, [], ◌∷◌}
+use Rattle.algol_tree.specs.declared.tree.Heading.{Heading}
 use Rattle.algol_tree.specs.Plain as tree
 use Rattle.algol_tree.specs.Plain.{PStmt, PStmts, PDecl, PDecls}
 
-abbrev pub is_cell_or_file : PDecl → Bool
-is_cell_or_file (tree.simple kind ns) = true
-is_cell_or_file (tree.files ns) = true
-is_cell_or_file (tree.events ns) = false
-is_cell_or_file (tree.tasks ns) = false
-is_cell_or_file (tree.labels ns) = false
-is_cell_or_file (tree.arrays kind ns pairs) = false
-is_cell_or_file (tree.forward h) = false
-is_cell_or_file (tree.procedure h s) = false
+abbrev pub is_nil : {X : Type 0} → List X → Bool
+is_nil [] = true
+is_nil (x ∷ xs) = false
 
-abbrev pub are_cells_or_files : PDecls → Bool
-are_cells_or_files tree.no_decls = true
-are_cells_or_files (tree.decls d ds) = is_cell_or_file d && are_cells_or_files ds
+abbrev pub has_no_parameters : Heading → Bool
+has_no_parameters h = is_nil h.params
 
--- each declaration within a statement is of simple variables or of files
+abbrev pub has_name : Heading → Bool
+has_name h = not (is_nil h.name.name)
+
+-- each declaration is of simple variables, of files or of a procedure without parameters, also those within
 abbrev mutual
+  pub is_decl_built : PDecl → Bool
+  is_decl_built (tree.simple kind ns) = true
+  is_decl_built (tree.files ns) = true
+  is_decl_built (tree.events ns) = false
+  is_decl_built (tree.tasks ns) = false
+  is_decl_built (tree.labels ns) = false
+  is_decl_built (tree.arrays kind ns pairs) = false
+  is_decl_built (tree.forward h) = has_no_parameters h
+  is_decl_built (tree.procedure h s) = has_no_parameters h && (is_stmt_built s && has_name h)
+
+  pub decls_are_built : PDecls → Bool
+  decls_are_built tree.no_decls = true
+  decls_are_built (tree.decls d ds) = is_decl_built d && decls_are_built ds
+
   pub is_stmt_built : PStmt → Bool
   is_stmt_built tree.empty = true
   is_stmt_built (tree.label n s) = is_stmt_built s
   is_stmt_built (tree.assign v e) = true
   is_stmt_built (tree.call_of c) = true
   is_stmt_built (tree.go_to n) = true
-  is_stmt_built (tree.block (tree.body spot ds ss)) = are_cells_or_files ds && stmts_are_built ss
+  is_stmt_built (tree.block (tree.body spot ds ss)) = decls_are_built ds && stmts_are_built ss
   is_stmt_built (tree.if_then c x) = is_stmt_built x
   is_stmt_built (tree.if_else c x y) = is_stmt_built x && is_stmt_built y
   is_stmt_built (tree.while c b) = is_stmt_built b
@@ -33,7 +44,7 @@ abbrev mutual
   is_stmt_built (tree.for v a s l b) = is_stmt_built b
   is_stmt_built (tree.thru e b) = is_stmt_built b
   is_stmt_built (tree.case e ss) = stmts_are_built ss
-  is_stmt_built (tree.process c task) = true
+  is_stmt_built (tree.process c task) = false
   is_stmt_built (tree.event act e) = true
   is_stmt_built (tree.write n spot phrases es) = true
 

@@ -2,14 +2,27 @@
 
 ghost use Rattle.std.specs.Prelude.{◌≡◌, ◌↔◌, IsTrue};
 ghost use Rattle.algol_tree.specs.Image.{decl, decls, program, stmt, stmts};
-ghost use Rattle.b67_compile.specs.Built.{is_cell_or_file, are_cells_or_files, is_stmt_built, stmts_are_built};
+ghost use Rattle.b67_compile.specs.Built.{has_no_parameters, has_name, is_decl_built, decls_are_built, is_stmt_built, stmts_are_built};
 ghost use Rattle.b67_fitting.specs.Built.{IsBuilt};
 
-use algol_tree::{Decl, Program, Stmt};
+use algol_tree::{Decl, Heading, Program, Stmt};
 
-/// Tests that a declaration is of simple variables or of files.
-fn is_cell_or_file(d: &Decl) -> bool
-    ensures { result ≡ is_cell_or_file (decl d.now) }
+fn has_no_parameters(h: &Heading) -> bool
+    ensures { result ≡ has_no_parameters h.now }
+{
+    h.params.items().as_slice().is_empty()
+}
+
+fn has_name(h: &Heading) -> bool
+    ensures { result ≡ has_name h.now }
+{
+    !h.name.name.bytes().is_empty()
+}
+
+/// Tests that a declaration is of simple variables, of files or of a procedure without parameters, and so is each within it.
+#[cycle(statements)]
+fn is_decl_built(d: &Decl) -> bool
+    ensures { result ≡ is_decl_built (decl d.now) }
 {
     match d {
         Decl::Simple(_, _) => true,
@@ -18,32 +31,31 @@ fn is_cell_or_file(d: &Decl) -> bool
         Decl::Tasks(_) => false,
         Decl::Labels(_) => false,
         Decl::Arrays(_, _, _) => false,
-        Decl::Forward(_) => false,
-        Decl::Procedure(_, _) => false,
+        Decl::Forward(h) => has_no_parameters(h),
+        Decl::Procedure(h, s) => has_no_parameters(h) && is_stmt_built(s) && has_name(h),
     }
 }
 
-fn are_cells_or_files(ds: &[Decl]) -> bool
-    ensures { result ≡ are_cells_or_files (decls ds.now) }
+#[cycle(statements)]
+fn decls_are_built(ds: &[Decl]) -> bool
+    ensures { result ≡ decls_are_built (decls ds.now) }
 {
     'decls: for d in ds {
-        if !is_cell_or_file(d) {
+        if !is_decl_built(d) {
             return false;
         }
     }
     true
 }
 
-/// Tests that each declaration within a statement is of simple variables or of files.
+/// Tests the same of each declaration within a statement, and that no process is started in it.
 #[cycle(statements)]
 fn is_stmt_built(s: &Stmt) -> bool
     ensures { result ≡ is_stmt_built (stmt s.now) }
 {
     match s {
         Stmt::Label(_, s) => is_stmt_built(s),
-        Stmt::Block(b) => {
-            are_cells_or_files(b.decls.items()) && stmts_are_built(b.stmts.items())
-        }
+        Stmt::Block(b) => decls_are_built(b.decls.items()) && stmts_are_built(b.stmts.items()),
         Stmt::If(_, x, None) => is_stmt_built(x),
         Stmt::If(_, x, Some(y)) => is_stmt_built(x) && is_stmt_built(y),
         Stmt::While(_, b) => is_stmt_built(b),
@@ -51,11 +63,11 @@ fn is_stmt_built(s: &Stmt) -> bool
         Stmt::For(_, _, _, _, b) => is_stmt_built(b),
         Stmt::Thru(_, b) => is_stmt_built(b),
         Stmt::Case(_, ss) => stmts_are_built(ss.items()),
+        Stmt::Process(_, _) => false,
         Stmt::Empty => true,
         Stmt::Assign(_, _) => true,
         Stmt::Call(_) => true,
         Stmt::GoTo(_) => true,
-        Stmt::Process(_, _) => true,
         Stmt::Event(_, _) => true,
         Stmt::Write(_, _, _, _) => true,
     }
@@ -73,9 +85,10 @@ fn stmts_are_built(ss: &[Stmt]) -> bool
     true
 }
 
-/// Tests that a program is built: all that it declares are simple variables and files, in whatever block.
+/// Tests that a program is built: all that it declares are simple variables, files and procedures without parameters, in whatever
+/// block, and it starts no process.
 pub fn is_built(tree: &Program) -> bool
     ensures { IsTrue result ↔ IsBuilt (program tree.now) }
 {
-    are_cells_or_files(tree.body.decls.items()) && stmts_are_built(tree.body.stmts.items())
+    decls_are_built(tree.body.decls.items()) && stmts_are_built(tree.body.stmts.items())
 }

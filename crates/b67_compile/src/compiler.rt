@@ -14,14 +14,14 @@ ghost use Rattle.b67_faithful.specs.Faithful.{IsShort};
 
 use algol_scope::Scopes;
 use algol_tree::Program;
-use b67_emit_stmt::emit_body;
+use b67_emit_stmt::emit_program;
 use b67_emitter::ExprEmitter;
 use b67_list::List;
 use b67_segment::Code;
 use std::alloc::{AllocError, Global};
 
-/// The code of a program that declares simple variables and files alone, in whatever block: one segment, and a format for each line
-/// that is written, in order.
+/// The code of a program that declares simple variables, files and procedures without parameters alone, in whatever block: a segment
+/// for the program's text and one for each procedure in the order of the text, and a format for each line that is written, in order.
 pub fn compile<E: ExprEmitter>(
     alloc: Global,
     exprs: &E,
@@ -38,9 +38,7 @@ pub fn compile<E: ExprEmitter>(
     ensures short { IfOk result (IsShort (plain.program program.now)) }
     ensures listable { IfOk result IsListable }
 {
-    let (segment, formats) = emit_body(alloc, exprs, scopes, &program.body)?;
-    let mut segments = Vec::new(alloc);
-    segments.push(segment)?;
+    let (segments, formats) = emit_program(alloc, exprs, scopes, &program.body)?;
     Ok(Code {
         segments: List::of(segments),
         formats: List::of(formats),

@@ -12,7 +12,7 @@ use Rattle.b67_fitting.specs.Texts.{SourcesHavePlainTexts}
 use Rattle.b67_fitting.proofs.Numbered.{sources_whole}
 use Rattle.b67_fitting.proofs.Written.{sources_plain}
 use Rattle.b67_pictures.specs.Programs.{BuiltProgramsAreFaithful}
-use Rattle.b67_pictures.proofs.Joining.{built_programs_are_faithful}
+use Rattle.b67_pictures.proofs.Concluding.{built_programs_are_faithful}
 
 pub sources_in_order : (bytes : List ℕ) (tree : PProgram) → Source bytes tree → IsInOrder tree
 sources_in_order bytes tree s = in_order s.tokens tree (tokens_ascend bytes s.tokens s.lexes) s.reads

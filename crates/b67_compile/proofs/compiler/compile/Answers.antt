@@ -1,50 +1,42 @@
-use Rattle.std.proofs.Common.{arith, ◌≡◌, ◌+◌, ◌*◌, ◌≤◌, List, [], ◌∷◌, ◌++◌, length, sym, ap, ◌∙◌, subst}
-use Rattle.b67_segment.specs.declared.code.Segment.{Segment}
-use Rattle.algol_tree.specs.Counts.{body_tokens}
+use Rattle.std.proofs.Common.{◌+◌, ◌≤◌, subst, length, sym}
+use Rattle.algol_tree.specs.declared.TheConstants.{MOST_PROCEDURES}
 use Rattle.algol_tree.specs.Image as plain
 use Rattle.algol_tree.specs.Plain as tree
 use Rattle.algol_tree.specs.Plain.{PBody}
 use Rattle.algol_tree.specs.Scopes.{scopes_of}
 use Rattle.algol_scope.proofs.Bodies.{body_is}
-use Rattle.b67_segment.specs.declared.TheConstants.{MOST_SEGMENT_WORDS}
-use Rattle.b67_compile.proofs.Premises.{given, few, fits, near, room}
-use Rattle.b67_compile.proofs.Standing.{program_at}
-use Rattle.b67_compile.proofs.Listed.{listable}
+use Rattle.b67_segment.specs.declared.code.Code.{Code}
+use Rattle.b67_emit_stmt.specs.Programs.{AreDue, AreShort, Coded}
+use Rattle.b67_emit_stmt.specs.Texts.{texts}
+use Rattle.b67_faithful.specs.Faithful.{IsShort}
+use Rattle.b67_compile.proofs.Premises.{given, few, due, near}
+use Rattle.b67_compile.proofs.Standing.{listable_code, program_at, short_code}
 use Rattle.b67_compile.proofs.compiler.compile.Goals as goal
 
-pub emit_body-requires-clause-near : goal.emit_body-requires-clause-near
-emit_body-requires-clause-near g c =
+pub emit_program-requires-clause-near : goal.emit_program-requires-clause-near
+emit_program-requires-clause-near g c =
     let b = c.args.program.now.body in
     let s = c.args.scopes.now in
     let r = c.requires in
     near b.spot (plain.decls b.decls) (plain.stmts b.stmts) s (given b s r.resolved r.accepted r.order r.whole r.texts r.built)
 
-pub emit_body-requires-clause-few : goal.emit_body-requires-clause-few
-emit_body-requires-clause-few g c =
+pub emit_program-requires-clause-few : goal.emit_program-requires-clause-few
+emit_program-requires-clause-few g c =
     let b = c.args.program.now.body in
     let s = c.args.scopes.now in
     let r = c.requires in
-    few b.spot (plain.decls b.decls) (plain.stmts b.stmts) s (given b s r.resolved r.accepted r.order r.whole r.texts r.built)
+    subst (λ (z : PBody). length (texts z) ≤ 1 + MOST_PROCEDURES) (sym (body_is b))
+    (few b.spot (plain.decls b.decls) (plain.stmts b.stmts) s (given b s r.resolved r.accepted r.order r.whole r.texts r.built))
 
-pub emit_body-requires-clause-fits : goal.emit_body-requires-clause-fits
-emit_body-requires-clause-fits g c =
+pub emit_program-requires-clause-due : goal.emit_program-requires-clause-due
+emit_program-requires-clause-due g c =
     let b = c.args.program.now.body in
     let s = c.args.scopes.now in
     let r = c.requires in
     let ds = plain.decls b.decls in
     let ss = plain.stmts b.stmts in
-    (scopes_of (tree.program (tree.body b.spot ds ss)), fits b.spot ds ss s (given b s r.resolved r.accepted r.order r.whole r.texts r.built))
-
-pub emit_body-requires-clause-room : goal.emit_body-requires-clause-room
-emit_body-requires-clause-room g c =
-    let b = c.args.program.now.body in
-    let s = c.args.scopes.now in
-    let r = c.requires in
-    subst (λ (z : PBody). 24 * body_tokens z + 48 ≤ 6 * MOST_SEGMENT_WORDS) (sym (body_is b))
-    (room b.spot (plain.decls b.decls) (plain.stmts b.stmts) s (given b s r.resolved r.accepted r.order r.whole r.texts r.built))
-
-alone : {made pushed none : List Segment} {segment : Segment} → made ≡ pushed → pushed ≡ none ++ segment ∷ [] → none ≡ [] → made ≡ segment ∷ []
-alone {segment = segment} f g h = f ∙ g ∙ ap (λ segments. segments ++ segment ∷ []) h
+    let sc = scopes_of (tree.program (tree.body b.spot ds ss)) in
+    (sc, subst (λ (z : PBody). AreDue sc s (texts z)) (sym (body_is b)) (due b.spot ds ss s (given b s r.resolved r.accepted r.order r.whole r.texts r.built)))
 
 pub returns-clause-code : goal.returns-clause-code
 returns-clause-code g c =
@@ -54,11 +46,29 @@ returns-clause-code g c =
     let ds = plain.decls b.decls in
     let ss = plain.stmts b.stmts in
     let has = given b s r.resolved r.accepted r.order r.whole r.texts r.built in
-    let segment = c.in_ok-segment.segment in
-    let formats = c.in_ok-segment.formats.items in
-    let one = alone c.of.ensures c.in_ok-push.ensures.items c.new-segments.ensures.items in
-    let there = c.in_ok-segment.ensures.code (scopes_of (tree.program (tree.body b.spot ds ss))) (fits b.spot ds ss s has) in
-    rw (one, c.of-2.ensures, body_is b) (program_at b.spot ds ss has.built.0 formats segment there)
+    let sc = scopes_of (tree.program (tree.body b.spot ds ss)) in
+    let segments = c.in_ok-segments.segments.items in
+    let formats = c.in_ok-segments.formats.items in
+    let texts_due = subst (λ (z : PBody). AreDue sc s (texts z)) (sym (body_is b)) (due b.spot ds ss s has) in
+    let coded = subst (λ (z : PBody). Coded sc formats segments (texts z)) (body_is b) (c.in_ok-segments.ensures.code sc texts_due) in
+    rw (c.of.ensures, c.of-2.ensures, body_is b) (program_at b.spot ds ss s has segments formats coded)
+
+pub returns-clause-short : goal.returns-clause-short
+returns-clause-short g c =
+    let b = c.args.program.now.body in
+    let s = c.args.scopes.now in
+    let r = c.requires in
+    let ds = plain.decls b.decls in
+    let ss = plain.stmts b.stmts in
+    let has = given b s r.resolved r.accepted r.order r.whole r.texts r.built in
+    let sc = scopes_of (tree.program (tree.body b.spot ds ss)) in
+    let segments = c.in_ok-segments.segments.items in
+    let formats = c.in_ok-segments.formats.items in
+    let texts_due = subst (λ (z : PBody). AreDue sc s (texts z)) (sym (body_is b)) (due b.spot ds ss s has) in
+    let coded = subst (λ (z : PBody). Coded sc formats segments (texts z)) (body_is b) (c.in_ok-segments.ensures.code sc texts_due) in
+    let short = subst (λ (z : PBody). AreShort segments (texts z)) (body_is b) c.in_ok-segments.ensures.short in
+    let code : Code = record { segments = segments; formats = formats } in
+    rw c.of.ensures (subst (λ (z : PBody). IsShort (tree.program z) code) (sym (body_is b)) (short_code b.spot ds ss s has segments formats coded.many short))
 
 pub returns-clause-listable : goal.returns-clause-listable
 returns-clause-listable g c =
@@ -68,10 +78,10 @@ returns-clause-listable g c =
     let ds = plain.decls b.decls in
     let ss = plain.stmts b.stmts in
     let has = given b s r.resolved r.accepted r.order r.whole r.texts r.built in
-    let segment = c.in_ok-segment.segment in
-    let formats = c.in_ok-segment.formats.items in
-    let one = alone c.of.ensures c.in_ok-push.ensures.items c.new-segments.ensures.items in
-    let there = c.in_ok-segment.ensures.code (scopes_of (tree.program (tree.body b.spot ds ss))) (fits b.spot ds ss s has) in
-    let tokens = ap body_tokens (body_is b) in
-    let most : length segment.words ≤ MOST_SEGMENT_WORDS = omega (arith, c.in_ok-segment.ensures.short, room b.spot ds ss s has, tokens) in
-    rw (one, c.of-2.ensures) (listable segment formats there.operators there.code.1 _ _ there.code.2 there.spells there.code.5 most c.in_ok-segment.ensures.formats)
+    let sc = scopes_of (tree.program (tree.body b.spot ds ss)) in
+    let segments = c.in_ok-segments.segments.items in
+    let formats = c.in_ok-segments.formats.items in
+    let texts_due = subst (λ (z : PBody). AreDue sc s (texts z)) (sym (body_is b)) (due b.spot ds ss s has) in
+    let coded = subst (λ (z : PBody). Coded sc formats segments (texts z)) (body_is b) (c.in_ok-segments.ensures.code sc texts_due) in
+    let short = subst (λ (z : PBody). AreShort segments (texts z)) (body_is b) c.in_ok-segments.ensures.short in
+    rw (c.of.ensures, c.of-2.ensures) (listable_code b.spot ds ss s has segments formats coded short c.in_ok-segments.ensures.formats)
