@@ -11,7 +11,7 @@ use std::{fs, io};
 const ROOM: usize = 65_536;
 
 /// The examples' names.
-const NAMES: [&str; 12] = [
+const NAMES: [&str; 13] = [
     "first",
     "copies",
     "widest",
@@ -24,6 +24,7 @@ const NAMES: [&str; 12] = [
     "truth",
     "powers",
     "totient",
+    "formula",
 ];
 
 /// The words of the command under which the reports are.

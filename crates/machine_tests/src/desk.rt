@@ -11,7 +11,7 @@ const INNER: &[u8] = b"BEGIN INTEGER I; BEGIN LABEL L; L: I:=1 END END.";
 type Answer = (&'static str, &'static [u8], &'static [u8], u8);
 
 /// What is said of words and of sources.
-const SAID: [Answer; 26] = [
+const SAID: [Answer; 30] = [
     ("", SUMMED, b"USAGE 1 MISSING\n", 2),
     ("rum 1 100", SUMMED, b"USAGE 1 UNKNOWN\n", 2),
     ("run 1", SUMMED, b"USAGE 3 MISSING\n", 2),
@@ -62,7 +62,20 @@ const SAID: [Answer; 26] = [
     ("list", INNER, b"REFUSED U0 1:1\n", 1),
     (
         "run 1 100",
-        b"BEGIN PROCEDURE P; ; P END.",
+        b"BEGIN PROCEDURE P(I); INTEGER I; ; P(1) END.",
+        b"REFUSED U0 1:1\n",
+        1,
+    ),
+    (
+        "run 1 100",
+        b"BEGIN PROCEDURE P(I); VALUE I; INTEGER I; FORWARD;
+PROCEDURE P(I); VALUE I; INTEGER I; ; P(1) END.",
+        b"REFUSED U0 1:1\n",
+        1,
+    ),
+    (
+        "run 1 100",
+        b"BEGIN PROCEDURE P; ; PROCESS P END.",
         b"REFUSED U0 1:1\n",
         1,
     ),
@@ -80,7 +93,21 @@ const SAID: [Answer; 26] = [
     ),
     (
         "list",
-        b"BEGIN BEGIN INTEGER I; BEGIN PROCEDURE P; ; END END END.",
+        b"BEGIN BEGIN INTEGER I;
+PROCEDURE P; BEGIN LABEL L; L: I:=1 END; P END END.",
+        b"REFUSED U0 1:1\n",
+        1,
+    ),
+    (
+        "list",
+        b"BEGIN PROCEDURE P; BEGIN
+PROCEDURE Q; BEGIN ARRAY A[0:1]; END; Q END; P END.",
+        b"REFUSED U0 1:1\n",
+        1,
+    ),
+    (
+        "replay 100",
+        b"BEGIN PROCEDURE P; BEGIN EVENT E; CAUSE(E) END; P END.\n%%SCHEDULE\nSCHEDULE 1 0\n",
         b"REFUSED U0 1:1\n",
         1,
     ),
@@ -98,7 +125,7 @@ fn what_is_said(rt: HostRuntime) -> Result<(), Fail> {
 }
 
 /// Sources with the listings of their codes.
-const LISTED: [(&[u8], &[u8]); 3] = [
+const LISTED: [(&[u8], &[u8]); 5] = [
     (
         b"BEGIN END.",
         b"LISTING 7
@@ -141,6 +168,59 @@ SEGMENT 0 4
 00021 02 FE NOOP
 00022 02 FE NOOP
 00023 02 FE NOOP
+",
+    ),
+    (
+        b"BEGIN PROCEDURE P; P; P END.",
+        b"LISTING 13
+SEGMENT 0 3
+00000 02 BF0000000000001000018000 MPCW 001000018000
+00012 02 B4 PUSH
+00013 02 AE MKST
+00014 02 6002 NAMC 2,2
+00016 02 AB ENTR
+00017 02 A3 EXIT
+SEGMENT 1 1
+00000 03 AE MKST
+00001 03 6002 NAMC 2,2
+00003 03 AB ENTR
+00004 03 A3 EXIT
+00005 03 FE NOOP
+",
+    ),
+    (
+        b"BEGIN INTEGER PROCEDURE P; FORWARD; INTEGER I;
+INTEGER PROCEDURE P; I:=I+P; P END.",
+        b"LISTING 29
+SEGMENT 0 4
+00000 02 B0 ZERO
+00001 02 BF00000000001000018000 MPCW 001000018000
+00012 02 B4 PUSH
+00013 02 AE MKST
+00014 02 6003 NAMC 2,3
+00016 02 AB ENTR
+00017 02 B5 DLET
+00018 02 A3 EXIT
+00019 02 FE NOOP
+00020 02 FE NOOP
+00021 02 FE NOOP
+00022 02 FE NOOP
+00023 02 FE NOOP
+SEGMENT 1 3
+00000 03 B0 ZERO
+00001 03 B4 PUSH
+00002 03 6002 NAMC 2,2
+00004 03 2002 VALC 2,2
+00006 03 AE MKST
+00007 03 6003 NAMC 2,3
+00009 03 AB ENTR
+00010 03 80 ADD
+00011 03 B8 STOD
+00012 03 3002 VALC 3,2
+00014 03 A7 RETN
+00015 03 FE NOOP
+00016 03 FE NOOP
+00017 03 FE NOOP
 ",
     ),
 ];

@@ -4,6 +4,8 @@
 #[cfg(test)]
 mod blocks;
 #[cfg(test)]
+mod calls;
+#[cfg(test)]
 mod control;
 #[cfg(test)]
 mod descriptor;
@@ -31,6 +33,8 @@ mod operators;
 mod ops;
 #[cfg(test)]
 mod private;
+#[cfg(test)]
+mod procedures;
 #[cfg(test)]
 mod replays;
 #[cfg(test)]

@@ -1,7 +1,9 @@
 //! Schedules that are followed, and schedule texts that are none.
 
+use crate::calls::FOLLOWED_CALLS;
 use crate::told::answered;
 use std::alloc::{AllocError, Global};
+use std::process::Abort;
 use std::test::Fail;
 
 const SHORTEST: &[u8] = b"BEGIN END.\n";
@@ -14,7 +16,7 @@ const WITHIN: &[u8] =
     b"BEGIN FILE L; INTEGER I; I:=40;\nBEGIN INTEGER J; J:=I+2; WRITE(L,<I3>,J) END END.\n";
 
 /// The words of a command, a source, the text of a schedule, how the report ends, and the exit status.
-type Followed = (
+pub(crate) type Followed = (
     &'static str,
     &'static [u8],
     &'static [u8],
@@ -191,14 +193,30 @@ fn input(alloc: Global, source: &[u8], text: &[u8]) -> Result<Vec<u8>, AllocErro
     Ok(bytes)
 }
 
+/// Follows a schedule.
+fn follow(rt: &impl Abort, alloc: Global, followed: Followed) -> Result<(), Fail> {
+    let (words, source, text, end, status) = followed;
+    let bytes = input(alloc, source, text)?;
+    let told = answered(alloc, words, bytes.as_slice())?;
+    assert_eq!(rt; told.status.exit_status(), status);
+    assert!(rt; told.text.as_slice().ends_with(end));
+    Ok(())
+}
+
 #[test]
 fn schedules_that_are_followed(rt: HostRuntime) -> Result<(), Fail> {
     let alloc = rt.alloc();
-    for (words, source, text, end, status) in FOLLOWED {
-        let bytes = input(alloc, source, text)?;
-        let told = answered(alloc, words, bytes.as_slice())?;
-        assert_eq!(rt; told.status.exit_status(), status);
-        assert!(rt; told.text.as_slice().ends_with(end));
+    for followed in FOLLOWED {
+        follow(&rt, alloc, followed)?;
+    }
+    Ok(())
+}
+
+#[test]
+fn schedules_that_are_followed_through_calls(rt: HostRuntime) -> Result<(), Fail> {
+    let alloc = rt.alloc();
+    for followed in FOLLOWED_CALLS {
+        follow(&rt, alloc, followed)?;
     }
     Ok(())
 }

@@ -1,6 +1,7 @@
 //! Runs of the rows, and whole reports.
 
 use crate::blocks::BLOCK_ROWS;
+use crate::procedures::PROCEDURE_ROWS;
 use crate::rows::{ROWS, Row};
 use crate::told::answered;
 use b67_desk::Status;
@@ -57,6 +58,15 @@ fn sources_without_inner_blocks(rt: HostRuntime) -> Result<(), Fail> {
 fn sources_with_inner_blocks(rt: HostRuntime) -> Result<(), Fail> {
     let alloc = rt.alloc();
     for row in &BLOCK_ROWS {
+        run(&rt, alloc, row)?;
+    }
+    Ok(())
+}
+
+#[test]
+fn sources_with_procedures(rt: HostRuntime) -> Result<(), Fail> {
+    let alloc = rt.alloc();
+    for row in &PROCEDURE_ROWS {
         run(&rt, alloc, row)?;
     }
     Ok(())
