@@ -1,3 +1,4 @@
 pub mod Expressions
 pub mod Statements
 pub mod Rests
+pub mod Making

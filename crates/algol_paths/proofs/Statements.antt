@@ -1,4 +1,4 @@
--- The silent steps of statements, and of the items after them, keep to the text.
+-- The silent steps of statements, of the items after them, and of the items of a block keep to the text.
 use Rattle.std.proofs.Common.{Bool, true, false, List, [], ◌∷◌, ◌++◌}
 use Rattle.std.specs.Prelude.{if◌then◌else◌, ℤ, pos, int_lt, Option}
 use Rattle.algol_tree.specs.declared.tree.Kind.{Kind}
@@ -11,15 +11,18 @@ use Rattle.algol_meaning.specs.Value.{Value, whole_of, truth_of}
 use Rattle.algol_meaning.specs.Rest.{Place, Half, val, busy, HalfGiven, given, wants, HalfPlace, at, aims, Loop, Item, run, turn, count, check, test, result, make_arrays, make_event, Rest, turning}
 use Rattle.algol_meaning.specs.Settle.{sorts_of, callee, settle, settle_actuals, settle_place}
 use Rattle.algol_meaning.specs.Statements.{items, run_and, turn_and, assigned_of, aimed_at, chosen_of, looped_of, checked_of, repeated_of, counted_of, after_count, selected_of, statement_called_of, prepared_of, item_of, bound_of, is_past, difference_in, stepped, assignment, settle_line, settle_bounds, settle_stmt, settle_stmts, counted_body, again, tested_of, differed_of, settle_items}
-use Rattle.algol_paths.specs.Texts.{InExpr, InExprs, InPairs, InName, InPlace, InStmt, InStmts, InLoop, InItems, InRest}
+use Rattle.algol_paths.specs.Texts.{InExpr, InExprs, InPairs, InName, InPlace, InStmt, InStmts, InLoop, InItems, InDeclared, InRest}
 use Rattle.algol_paths.proofs.Expressions.{InHalf, InHalfGiven, InHalfPlace, settle_in, settle_actuals_in, settle_place_in}
 
-module _ (P : Named → Type 0) (Q : PBody → Type 0) where
+module _ (P : Named → Type 0) (Q : PBody → Type 0) (R : Named → Type 0) where
   abbrev Keeps : Rest → Type 0
-  Keeps = InRest P Q
+  Keeps = InRest P Q R
 
   abbrev Keep : List Item → Type 0
   Keep = InItems P Q
+
+  abbrev KeepDeclared : List Item → Type 0
+  KeepDeclared = InDeclared P Q R
 
   either_keeps : (b : Bool) (x y : Rest) → Keeps x → Keeps y → Keeps (if b then x else y)
   either_keeps true x y i j = i
@@ -77,8 +80,8 @@ module _ (P : Named → Type 0) (Q : PBody → Type 0) where
   item_keeps phrases vs (val v) es k go_on h i j g = g (vs ++ v ∷ [])
   item_keeps phrases vs (busy x) es k go_on h i j g = (h, i, j)
 
-  pub bound_keeps : (kind : Kind) (ns : List Named) (pairs : List PPair) (vs : List Value) (x : Half) (ps : List PPair) (k : List Item) (go_on : List Value → Rest) → InHalf P x →
-      InPairs P ps → Keep k → ((ws : List Value) → Keeps (go_on ws)) → Keeps (bound_of kind ns pairs vs x ps k go_on)
+  pub bound_keeps : (kind : Kind) (ns : List Named) (pairs : List PPair) (vs : List Value) (x : Half) (ps : List PPair) (k : List Item) (go_on : List Value → Rest) → InHalf R x →
+      InPairs R ps → KeepDeclared k → ((ws : List Value) → Keeps (go_on ws)) → Keeps (bound_of kind ns pairs vs x ps k go_on)
   bound_keeps kind ns pairs vs (val v) ps k go_on h i j g = g (vs ++ v ∷ [])
   bound_keeps kind ns pairs vs (busy x) ps k go_on h i j g = (h, i, j)
 
@@ -92,11 +95,11 @@ module _ (P : Named → Type 0) (Q : PBody → Type 0) where
     line_keeps (tree.more e es) phrases k vs i j =
         item_keeps phrases vs (settle sc e) es k (settle_line sc es phrases k) (settle_in P sc e i.0) i.1 j (λ ws. line_keeps es phrases k ws i.1 j)
 
-    pub bounds_keep : (ps : List PPair) (kind : Kind) (ns : List Named) (pairs : List PPair) (k : List Item) (vs : List Value) → InPairs P ps → Keep k →
+    pub bounds_keep : (ps : List PPair) (kind : Kind) (ns : List Named) (pairs : List PPair) (k : List Item) (vs : List Value) → InPairs R ps → KeepDeclared k →
         Keeps (settle_bounds sc ps kind ns pairs k vs)
     bounds_keep [] kind ns pairs k vs i j = j
     bounds_keep (p ∷ ps) kind ns pairs k vs i j =
-        bound_keeps kind ns pairs vs (settle sc p.high) ps k (settle_bounds sc ps kind ns pairs k) (settle_in P sc p.high i.0) i.1 j
+        bound_keeps kind ns pairs vs (settle sc p.high) ps k (settle_bounds sc ps kind ns pairs k) (settle_in R sc p.high i.0) i.1 j
         (λ ws. bounds_keep ps kind ns pairs k ws i.1 j)
 
     mutual
@@ -170,5 +173,9 @@ module _ (P : Named → Type 0) (Q : PBody → Type 0) where
         differed_keeps (settle sc (difference_in loop)) loop k (settle_items sc k) (settle_in P sc (difference_in loop) (((i.0).0, tt), (i.0).2)) i.0 i.1
         (settled_keeps k i.1)
     settled_keeps (result name ∷ k) i = tt
-    settled_keeps (make_arrays kind ns ps ∷ k) i = bounds_keep ps kind ns ps k [] i.0 i.1
-    settled_keeps (make_event n ∷ k) i = i.1
+    settled_keeps (make_arrays kind ns ps ∷ k) i = absurd i.0
+    settled_keeps (make_event n ∷ k) i = absurd i.0
+
+    pub declared_keeps : (k : List Item) → KeepDeclared k → Keeps (settle_items sc k)
+    declared_keeps (make_arrays kind ns ps ∷ k) i = bounds_keep ps kind ns ps k [] i.0 i.1
+    declared_keeps k i = settled_keeps k i

@@ -1,16 +1,21 @@
 -- Where the names and the blocks of a text stand among the blocks around it.
-use Rattle.std.specs.Prelude.{◌≡◌, ℕ, ◌<◌, ◌≤◌, [], ◌∷◌, length, Some, None, slice_get}
+use Rattle.std.specs.Prelude.{◌≡◌, ◌⊎◌, ℕ, ◌<◌, ◌≤◌, true, [], ◌∷◌, length, Some, None, slice_get}
 use Rattle.algol_tree.specs.declared.TheConstants.{MOST_LEVEL}
 use Rattle.algol_tree.specs.declared.tree.Named.{Named}
 use Rattle.algol_tree.specs.Plain as tree
 use Rattle.algol_tree.specs.Plain.{PStmts, PDecls, PBody}
 use Rattle.algol_tree.specs.Blocks.{block_numbered, number_at, around, spot_of}
 use Rattle.algol_tree.specs.Cells.{level_of}
+use Rattle.algol_tree.specs.Sorts.{is_variable}
 use Rattle.algol_tree.specs.Scopes.{Scopes, use_of}
 
 -- The name, in the text of the block with this number, means a declaration of the block that is so many up.
 abbrev pub IsSeen : Scopes → ℕ → Named → Type 0
 IsSeen sc j n = slice_get (j ∷ around sc.blocks j) ((use_of sc n).up) ≡ Some ((use_of sc n).block)
+
+-- .. of one around it, or of a parameter: a bound of an array knows nothing else of its own block
+abbrev pub IsSeenAround : Scopes → ℕ → Named → Type 0
+IsSeenAround sc j n = IsSeen sc j n × ((1 ≤ (use_of sc n).up) ⊎ (is_variable ((use_of sc n).sort) ≡ true))
 
 abbrev pub decls_in : PBody → PDecls
 decls_in (tree.body spot ds ss) = ds

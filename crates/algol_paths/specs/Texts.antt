@@ -1,4 +1,5 @@
--- What holds of each name that a text uses itself, and of each block that stands in it. What stands in such a block is text of its own.
+-- What holds of each name that a text uses itself, of each block that stands in it, and of each name in the bounds of its arrays. What
+-- stands in such a block is text of its own.
 use Rattle.std.specs.Prelude.{List, [], ◌∷◌, Option, Some, None}
 use Rattle.algol_tree.specs.declared.tree.Named.{Named}
 use Rattle.algol_tree.specs.Plain as tree
@@ -105,6 +106,7 @@ module _ (P : Named → Type 0) (Q : PBody → Type 0) where
 
   -- ---- what is still to be done
 
+  -- what is made by actions comes first
   abbrev pub InItem : Item → Type 0
   InItem (run s) = InStmt s
   InItem turn = Unit {0}
@@ -112,43 +114,50 @@ module _ (P : Named → Type 0) (Q : PBody → Type 0) where
   InItem (check b c) = InStmt b × InExpr P c
   InItem (test loop) = InLoop loop
   InItem (result name) = Unit {0}
-  InItem (make_arrays kind ns pairs) = InPairs P pairs
-  InItem (make_event n) = Unit {0}
+  InItem (make_arrays kind ns pairs) = ⊥
+  InItem (make_event n) = ⊥
 
   abbrev pub InItems : List Item → Type 0
   InItems [] = Unit {0}
   InItems (item ∷ k) = InItem item × InItems k
+
+-- .. where of names in bounds R holds
+module _ (P : Named → Type 0) (Q : PBody → Type 0) (R : Named → Type 0) where
+  -- the items of a block
+  abbrev pub InDeclared : List Item → Type 0
+  InDeclared (make_arrays kind ns pairs ∷ k) = InPairs R pairs × InDeclared k
+  InDeclared k = InItems P Q k
 
   abbrev pub InRest : Rest → Type 0
   InRest over = Unit {0}
   InRest (reading name) = Unit {0}
   InRest (giving v) = Unit {0}
   InRest (giving_place p) = InPlace P p
-  InRest (store p v k) = InPlace P p × InItems k
-  InRest (select v ss k) = InStmts ss × InItems k
-  InRest (turning k) = InItems k
+  InRest (store p v k) = InPlace P p × InItems P Q k
+  InRest (select v ss k) = InStmts P Q ss × InItems P Q k
+  InRest (turning k) = InItems P Q k
   InRest (going n) = P n
-  InRest (entering_block (tree.body spot ds ss) k) = Q (tree.body spot ds ss) × InItems k
-  InRest (entering n gs k) = P n × InGivens P gs × InItems k
-  InRest (starting n gs task k) = P n × InGivens P gs × InName P task × InItems k
-  InRest (acting act n k) = P n × InItems k
-  InRest (line phrases vs k) = InItems k
-  InRest (arrays kind ns pairs vs k) = InItems k
-  InRest (event n k) = InItems k
-  InRest (within k) = InItems k
-  InRest (dropping k) = InItems k
+  InRest (entering_block (tree.body spot ds ss) k) = Q (tree.body spot ds ss) × InItems P Q k
+  InRest (entering n gs k) = P n × InGivens P gs × InItems P Q k
+  InRest (starting n gs task k) = P n × InGivens P gs × InName P task × InItems P Q k
+  InRest (acting act n k) = P n × InItems P Q k
+  InRest (line phrases vs k) = InItems P Q k
+  InRest (arrays kind ns pairs vs k) = InDeclared k
+  InRest (event n k) = ⊥
+  InRest (within k) = InItems P Q k
+  InRest (dropping k) = InItems P Q k
   InRest (evaluating h) = InHole P h
   InRest (locating x) = InAim P x
-  InRest (aiming x e k) = InAim P x × InExpr P e × InItems k
-  InRest (storing p h k) = InPlace P p × InHole P h × InItems k
-  InRest (choosing h x y k) = InHole P h × InStmt x × InStmt y × InItems k
-  InRest (looping h c b k) = InHole P h × InExpr P c × InStmt b × InItems k
-  InRest (checking h b c k) = InHole P h × InStmt b × InExpr P c × InItems k
-  InRest (counting h b k) = InHole P h × InStmt b × InItems k
-  InRest (differing h loop k) = InHole P h × InLoop loop × InItems k
-  InRest (stepping d h loop k) = InHole P h × InLoop loop × InItems k
-  InRest (selecting h ss k) = InHole P h × InStmts ss × InItems k
-  InRest (calling n x k) = P n × InActuals P x × InItems k
-  InRest (preparing n x task k) = P n × InActuals P x × InName P task × InItems k
-  InRest (writing phrases vs h es k) = InHole P h × InExprs P es × InItems k
-  InRest (bounding kind ns pairs vs h ps k) = InHole P h × InPairs P ps × InItems k
+  InRest (aiming x e k) = InAim P x × InExpr P e × InItems P Q k
+  InRest (storing p h k) = InPlace P p × InHole P h × InItems P Q k
+  InRest (choosing h x y k) = InHole P h × InStmt P Q x × InStmt P Q y × InItems P Q k
+  InRest (looping h c b k) = InHole P h × InExpr P c × InStmt P Q b × InItems P Q k
+  InRest (checking h b c k) = InHole P h × InStmt P Q b × InExpr P c × InItems P Q k
+  InRest (counting h b k) = InHole P h × InStmt P Q b × InItems P Q k
+  InRest (differing h loop k) = InHole P h × InLoop P Q loop × InItems P Q k
+  InRest (stepping d h loop k) = InHole P h × InLoop P Q loop × InItems P Q k
+  InRest (selecting h ss k) = InHole P h × InStmts P Q ss × InItems P Q k
+  InRest (calling n x k) = P n × InActuals P x × InItems P Q k
+  InRest (preparing n x task k) = P n × InActuals P x × InName P task × InItems P Q k
+  InRest (writing phrases vs h es k) = InHole P h × InExprs P es × InItems P Q k
+  InRest (bounding kind ns pairs vs h ps k) = InHole R h × InPairs R ps × InDeclared k

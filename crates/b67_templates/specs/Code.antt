@@ -1,6 +1,6 @@
 -- Where the code of each construct stands: from one place to the place after it. What is left early goes on at a third place, to which
 -- branches lead from the place after the code; so a branch never leads to a branch.
-use Rattle.std.specs.Prelude.{◌≡◌, ℕ, zero, suc, ◌+◌, ℤ, pos, neg_ℤ, int_lt, ◌==◌, if◌then◌else◌, true, List, [], ◌∷◌, length, replicate, Option, Some, None, slice_get}
+use Rattle.std.specs.Prelude.{◌≡◌, ℕ, zero, suc, ◌+◌, ◌≤◌, ℤ, pos, neg_ℤ, int_lt, ◌==◌, if◌then◌else◌, true, List, [], ◌∷◌, length, replicate, Option, Some, None, slice_get}
 use Rattle.algol_tree.specs.declared.tree.Op.TheVariants as operators
 use Rattle.algol_tree.specs.declared.tree.Kind.{Kind}
 use Rattle.algol_tree.specs.declared.tree.Kind.TheVariants as types
@@ -8,24 +8,27 @@ use Rattle.algol_tree.specs.declared.tree.Named.{Named}
 use Rattle.algol_tree.specs.declared.tree.PhraseText.{PhraseText}
 use Rattle.algol_tree.specs.declared.tree.PhraseText.TheVariants as phrase
 use Rattle.algol_tree.specs.Plain as tree
-use Rattle.algol_tree.specs.Plain.{PExpr, PExprs, PStmt, PStmts, PDecls}
+use Rattle.algol_tree.specs.Plain.{PExpr, PExprs, PPair, PStmt, PStmts, PDecls}
 use Rattle.algol_tree.specs.Spelling.{value_of}
 use Rattle.algol_tree.specs.Types.{given_by, taken_by}
+use Rattle.algol_tree.specs.Sorts.{Sort, is_variable}
 use Rattle.algol_tree.specs.Blocks.{block_numbered, number_at}
 use Rattle.algol_tree.specs.Scopes.{Scopes}
 use Rattle.algol_meaning.specs.Rest.{Loop, Item, run, turn, count, check, test, result, make_arrays, make_event}
+use Rattle.algol_meaning.specs.Settle.{sorts_of}
 use Rattle.algol_meaning.specs.Statements.{difference_in, stepped, alone}
 use Rattle.b67_ops.specs.declared.Couple.{Couple}
 use Rattle.b67_ops.specs.declared.Operator.TheVariants as ops
 use Rattle.b67_ops.specs.declared.PlainKind.TheVariants as kinds
 use Rattle.b67_ops.specs.declared.BranchKind.TheVariants.{Brfl, Brtr, Brun}
-use Rattle.b67_ops.specs.declared.intrinsic.Intrinsic.TheVariants.{Write, Select}
+use Rattle.b67_ops.specs.declared.intrinsic.Intrinsic.TheVariants.{Write, Select, Arrays}
 use Rattle.b67_segment.specs.Operators.{Placed}
 use Rattle.b67_segment.specs.declared.code.Phrase.{Phrase}
 use Rattle.b67_segment.specs.declared.code.Phrase.TheVariants as parts
 use Rattle.b67_templates.specs.Contexts.{Context}
-use Rattle.b67_templates.specs.Fragments.{Has, AllAt, ControlsAt, NumberAt, ReadyAt, BranchAt, TurnAt, Goes, IntrinsicAt, EntryAt, operator_for, is_implication, truth_literal}
-use Rattle.b67_templates.specs.Cells.{variables, control_segments, IsVariable, IsProcedure}
+use Rattle.b67_templates.specs.Fragments.{Has, AllAt, ControlsAt, NumberAt, MovedAt, ReadyAt, BranchAt, TurnAt, Goes, IntrinsicAt, EntryAt, operator_for, is_implication, truth_literal}
+use Rattle.algol_paths.specs.Arrays.{DeclaredArray, lows_of}
+use Rattle.b67_templates.specs.Cells.{parameter_cells, parameter_kinds, variables, control_segments, IsVariable, IsProcedure, IsArray}
 
 -- ---- context
 
@@ -52,6 +55,18 @@ numbers_in (parts.Blanks n ∷ ps) = numbers_in ps
 abbrev pub exprs_count : PExprs → ℕ
 exprs_count tree.none = 0
 exprs_count (tree.more e es) = exprs_count es + 1
+
+-- an array has one dimension or two
+abbrev pub AreDimensions : List PPair → Type 0
+AreDimensions (p ∷ []) = Unit {0}
+AreDimensions (p ∷ q ∷ []) = Unit {0}
+AreDimensions _ = ⊥
+
+-- nothing of a THRU is among what comes after
+abbrev pub HasNoCounts : List Item → Type 0
+HasNoCounts [] = Unit {0}
+HasNoCounts (count n b ∷ k) = ⊥
+HasNoCounts (_ ∷ k) = HasNoCounts k
 
 abbrev pub stmts_count : PStmts → ℕ
 stmts_count tree.no_stmts = 0
@@ -85,46 +100,81 @@ module _ (sc : Scopes) (context : Context) (ps : List Placed) (level : ℕ) wher
 
   -- ---- calls
 
-  -- a mark, the reference of the procedure's control word, the entry
-  pub record CallAt (n : Named) (callee f t : ℕ) : Type 0 where
+  -- a mark, the reference of the procedure's control word
+  pub record BegunAt (n : Named) (callee f t : ℕ) : Type 0 where
     pub couple : Couple
     pub procedure : IsProcedure sc level n callee couple
     pub marked : ℕ
-    pub named : ℕ
     pub mark : Has ps level f (ops.Plain kinds.Mkst) marked
-    pub reference : Has ps level marked (ops.Namc couple) named
-    pub enter : Has ps level named (ops.Plain kinds.Entr) t
+    pub reference : Has ps level marked (ops.Namc couple) t
+
+  -- this beginning, the actuals, the entry
+  abbrev pub CallAt : Named → ℕ → (ℕ → ℕ → Type 0) → ℕ → ℕ → Type 0
+  CallAt n callee actuals f t = (begun : ℕ) × (filled : ℕ) × BegunAt n callee f begun × actuals begun filled × Has ps level filled (ops.Plain kinds.Entr) t
+
+  -- no actuals
+  abbrev pub without : ℕ → ℕ → Type 0
+  without f t = f ≡ t
 
   -- a name alone in an expression: a variable is read, a typed procedure is called
   pub data NameAt (k : Kind) (n : Named) (f t : ℕ) : Type 0 where
     reads : ReadAt n k f t → NameAt k n f t
-    calls : (callee : ℕ) → CallAt n callee f t → (block_numbered sc.blocks callee).result ≡ Some k → NameAt k n f t
+    calls : (callee : ℕ) → CallAt n callee without f t → parameter_kinds sc callee ≡ [] → (block_numbered sc.blocks callee).result ≡ Some k → NameAt k n f t
 
   -- the result of a call that a statement makes is dropped
   abbrev pub DroppedAt : Option Kind → ℕ → ℕ → Type 0
   DroppedAt None f t = f ≡ t
   DroppedAt (Some k) f t = Has ps level f (ops.Plain kinds.Dlet) t
 
-  abbrev pub CallStmtAt : Named → ℕ → ℕ → Type 0
-  CallStmtAt n f t = (callee : ℕ) × (m : ℕ) × CallAt n callee f m × DroppedAt (block_numbered sc.blocks callee).result m t
-
   -- ---- expressions: the value stands at the place after the code, or where that leads
 
-  abbrev pub ExprAt : Kind → PExpr → ℕ → ℕ → ℕ → Type 0
-  ExprAt k (tree.number z spot) f t u = (k ≡ types.Number) × NumberAt ps level z f t
-  ExprAt k (tree.truth b spot) f t u = (k ≡ types.Truth) × Has ps level f (ops.Plain (truth_literal b)) t
-  ExprAt k (tree.variable (tree.subscripted n tree.none)) f t u = NameAt k n f t
-  ExprAt k (tree.paren e spot) f t u = ExprAt k e f t u
-  ExprAt k (tree.plus e spot) f t u = (k ≡ types.Number) × ExprAt types.Number e f t u
-  ExprAt k (tree.neg e spot) f t u = (m : ℕ) × (k ≡ types.Number) × ExprAt types.Number e f m m × Has ps level m (ops.Plain kinds.Chsn) t
-  ExprAt k (tree.not e spot) f t u = (m : ℕ) × (k ≡ types.Truth) × ExprAt types.Truth e f m m × Has ps level m (ops.Plain kinds.Lnot) t
-  ExprAt k (tree.two op a b) f t u =
-      (m : ℕ) × (r : ℕ) × (n : ℕ) × (k ≡ given_by op) × ExprAt (taken_by op) a f m m × ReadyAt ps level (is_implication op) m r × ExprAt (taken_by op) b r n n
-      × Has ps level n (ops.Plain (operator_for op)) t
-  ExprAt k (tree.if c x y spot) f t u =
-      (m : ℕ) × (m' : ℕ) × (n : ℕ) × (n' : ℕ) × ExprAt types.Truth c f m m × BranchAt ps level Brfl m n' m' × ExprAt k x m' n u × BranchAt ps level Brun n u n'
-      × ExprAt k y n' t u
-  ExprAt k _ f t u = ⊥
+  abbrev mutual
+    pub ExprAt : Kind → PExpr → ℕ → ℕ → ℕ → Type 0
+    ExprAt k (tree.number z spot) f t u = (k ≡ types.Number) × NumberAt ps level z f t
+    ExprAt k (tree.truth b spot) f t u = (k ≡ types.Truth) × Has ps level f (ops.Plain (truth_literal b)) t
+    ExprAt k (tree.variable (tree.subscripted n tree.none)) f t u = NameAt k n f t
+    ExprAt k (tree.paren e spot) f t u = ExprAt k e f t u
+    ExprAt k (tree.plus e spot) f t u = (k ≡ types.Number) × ExprAt types.Number e f t u
+    ExprAt k (tree.neg e spot) f t u = (m : ℕ) × (k ≡ types.Number) × ExprAt types.Number e f m m × Has ps level m (ops.Plain kinds.Chsn) t
+    ExprAt k (tree.not e spot) f t u = (m : ℕ) × (k ≡ types.Truth) × ExprAt types.Truth e f m m × Has ps level m (ops.Plain kinds.Lnot) t
+    ExprAt k (tree.two op a b) f t u =
+        (m : ℕ) × (r : ℕ) × (n : ℕ) × (k ≡ given_by op) × ExprAt (taken_by op) a f m m × ReadyAt ps level (is_implication op) m r × ExprAt (taken_by op) b r n n
+        × Has ps level n (ops.Plain (operator_for op)) t
+    ExprAt k (tree.if c x y spot) f t u =
+        (m : ℕ) × (m' : ℕ) × (n : ℕ) × (n' : ℕ) × ExprAt types.Truth c f m m × BranchAt ps level Brfl m n' m' × ExprAt k x m' n u × BranchAt ps level Brun n u n'
+        × ExprAt k y n' t u
+    ExprAt k (tree.variable (tree.subscripted n (tree.more e es))) f t u =
+        (a : DeclaredArray) × (c : Couple) × (m : ℕ) × IsArray sc level n a c × (a.kind ≡ k) × SubscriptsAt c (lows_of a.pairs) (tree.more e es) f m
+        × Has ps level m (ops.Plain kinds.Nxlv) t
+    ExprAt k (tree.call (tree.called n es)) f t u =
+        (callee : ℕ) × CallAt n callee (ActualsAt (sorts_of ((block_numbered sc.blocks callee).parameters)) (parameter_kinds sc callee) es) f t × ((block_numbered sc.blocks callee).result ≡ Some k)
+    ExprAt k _ f t u = ⊥
+
+    -- The last subscript, moved by its lower bound, lies under the reference of the array, or under the descriptor of its row, once the
+    -- first subscript has led to that.
+    pub SubscriptsAt : Couple → List ℤ → PExprs → ℕ → ℕ → Type 0
+    SubscriptsAt c (low ∷ []) (tree.more e tree.none) f t =
+        (m : ℕ) × (n : ℕ) × ExprAt types.Number e f m m × MovedAt ps level low m n × Has ps level n (ops.Namc c) t
+    SubscriptsAt c (low ∷ low' ∷ []) (tree.more e (tree.more e' tree.none)) f t =
+        (m : ℕ) × (n : ℕ) × (q : ℕ) × (r : ℕ) × ExprAt types.Number e f m m × MovedAt ps level low m n × Has ps level n (ops.Namc c) q
+        × Has ps level q (ops.Plain kinds.Nxln) r
+        × ((x : ℕ) × (y : ℕ) × ExprAt types.Number e' r x x × MovedAt ps level low' x y × Has ps level y (ops.Plain kinds.Exch) t)
+    SubscriptsAt c _ _ f t = ⊥
+
+    -- actuals for parameters of these sorts and kinds, each of them by value
+    pub ActualsAt : List Sort → List (Option Kind) → PExprs → ℕ → ℕ → Type 0
+    ActualsAt [] [] tree.none f t = f ≡ t
+    ActualsAt (sort ∷ sorts) (Some kind ∷ kinds) (tree.more e es) f t =
+        (m : ℕ) × (is_variable sort ≡ true) × ExprAt kind e f m m × ActualsAt sorts kinds es m t
+    ActualsAt _ _ _ f t = ⊥
+
+  -- the second subscript, where the descriptor of the row lies below it
+  abbrev pub SecondAt : ℤ → PExpr → ℕ → ℕ → Type 0
+  SecondAt low e f t = (m : ℕ) × (n : ℕ) × ExprAt types.Number e f m m × MovedAt ps level low m n × Has ps level n (ops.Plain kinds.Exch) t
+
+  abbrev pub CallStmtAt : Named → PExprs → ℕ → ℕ → Type 0
+  CallStmtAt n es f t =
+      (callee : ℕ) × (m : ℕ) × CallAt n callee (ActualsAt (sorts_of ((block_numbered sc.blocks callee).parameters)) (parameter_kinds sc callee) es) f m × DroppedAt (block_numbered sc.blocks callee).result m t
 
   -- ---- statements: what comes next stands at the place after the code, or where that leads
 
@@ -132,6 +182,40 @@ module _ (sc : Scopes) (context : Context) (ps : List Placed) (level : ℕ) wher
   abbrev pub AssignAt : Named → PExpr → ℕ → ℕ → Type 0
   AssignAt n e f t =
       (k : Kind) × (m : ℕ) × (r : ℕ) × ReferenceAt n k f m × ExprAt k e m r r × Has ps level r (ops.Plain kinds.Stod) t
+
+  -- the descriptor of the element, the value, the store
+  abbrev pub ElementAssignAt : Named → PExprs → PExpr → ℕ → ℕ → Type 0
+  ElementAssignAt n es e f t =
+      (a : DeclaredArray) × (c : Couple) × (m : ℕ) × (q : ℕ) × (r : ℕ) × IsArray sc level n a c × SubscriptsAt c (lows_of a.pairs) es f m
+      × Has ps level m (ops.Plain kinds.Indx) q × ExprAt a.kind e q r r × Has ps level r (ops.Plain kinds.Stod) t
+
+  -- lower bounds as they stand, and the values of upper bounds
+  abbrev pub BoundsAt : List PPair → ℕ → ℕ → Type 0
+  BoundsAt [] f t = f ≡ t
+  BoundsAt (p ∷ pairs) f t = (m : ℕ) × (n : ℕ) × NumberAt ps level p.low f m × ExprAt types.Number p.high m n n × BoundsAt pairs n t
+
+  -- so many arrays are made, one at least: a mark, the reference of the intrinsic, their number, the bounds, the entry, and PUSH, which
+  -- makes cells of the descriptors
+  pub record ArraysAt (many : ℕ) (pairs : List PPair) (f t : ℕ) : Type 0 where
+    pub dimensions : AreDimensions pairs
+    pub named : ℕ
+    pub numbered : ℕ
+    pub bounded : ℕ
+    pub made : ℕ
+    pub intrinsic : IntrinsicAt ps level Arrays f named
+    pub number : NumberAt ps level (pos many) named numbered
+    pub bounds : BoundsAt pairs numbered bounded
+    pub enter : Has ps level bounded (ops.Plain kinds.Entr) made
+    pub push : Has ps level made (ops.Plain kinds.Push) t
+    pub some : 1 ≤ many
+
+  -- the arrays of declarations, in their order; events and tasks have no code
+  abbrev pub DeclsAt : PDecls → ℕ → ℕ → Type 0
+  DeclsAt tree.no_decls f t = f ≡ t
+  DeclsAt (tree.decls (tree.arrays kind ns pairs) ds) f t = (m : ℕ) × ArraysAt (length ns) pairs f m × DeclsAt ds m t
+  DeclsAt (tree.decls (tree.events ns) ds) f t = ⊥
+  DeclsAt (tree.decls (tree.tasks ns) ds) f t = ⊥
+  DeclsAt (tree.decls d ds) f t = DeclsAt ds f t
 
   -- items of a line
   abbrev pub LineAt : PExprs → ℕ → ℕ → Type 0
@@ -204,7 +288,7 @@ module _ (sc : Scopes) (context : Context) (ps : List Placed) (level : ℕ) wher
     pub named : (block_numbered sc.blocks context.block).name ≡ name
     pub couple : Couple
     pub level_is : couple.level ≡ level
-    pub index_is : couple.index ≡ 2 + length (block_numbered sc.blocks context.block).parameters
+    pub index_is : couple.index ≡ 2 + length (parameter_cells sc (block_numbered sc.blocks context.block))
     pub valued : ℕ
     pub over : ℕ
     pub read : Has ps level f (ops.Valc couple) valued
@@ -219,14 +303,16 @@ module _ (sc : Scopes) where
     pub StmtAt : Context → List Placed → ℕ → PStmt → ℕ → ℕ → ℕ → Type 0
     StmtAt context ps level tree.empty f t u = f ≡ t
     StmtAt context ps level (tree.assign (tree.subscripted n tree.none) e) f t u = AssignAt sc context ps level n e f t
-    StmtAt context ps level (tree.call_of (tree.called n tree.none)) f t u = CallStmtAt sc context ps level n f t
+    StmtAt context ps level (tree.assign (tree.subscripted n (tree.more i is)) e) f t u = ElementAssignAt sc context ps level n (tree.more i is) e f t
+    StmtAt context ps level (tree.call_of (tree.called n es)) f t u = CallStmtAt sc context ps level n es f t
     StmtAt context ps level (tree.block (tree.body spot tree.no_decls ss)) f t u = StmtsAt context ps level ss f t u
     -- the code of an inner block, `InnerAt`, stands before its entry
     StmtAt context ps level (tree.block (tree.body spot (tree.decls d ds) ss)) f t u =
         (o : ℕ) × (at : ℕ) × Goes ps level f o
-        × ((b : ℕ) × (e : ℕ) × (v : ℕ)
+        × ((b : ℕ) × (d' : ℕ) × (e : ℕ) × (v : ℕ)
         × CellsAt sc (in_block (number_at sc.blocks spot) context) ps (level + 1) (length (variables (tree.decls d ds))) (control_segments sc (tree.decls d ds)) at b
-        × StmtsAt (in_block (number_at sc.blocks spot) context) ps (level + 1) ss b e e
+        × DeclsAt sc (in_block (number_at sc.blocks spot) context) ps (level + 1) (tree.decls d ds) b d'
+        × StmtsAt (in_block (number_at sc.blocks spot) context) ps (level + 1) ss d' e e
         × Has ps (level + 1) e (ops.Plain kinds.Exit) v)
         × EntryAt ps level context.segment at o t
     StmtAt context ps level (tree.if_then c x) f t u =
@@ -259,11 +345,11 @@ module _ (sc : Scopes) where
     CasesAt context ps level (tree.stmts s ss) entry u =
         (p : ℕ) × (x : ℕ) × BranchAt ps level Brun entry p (entry + 3) × StmtAt context ps level s p x u × Goes ps level x u × CasesAt context ps level ss (entry + 3) u
 
-  -- the cells of an inner block, its statements, EXIT; the context is that of the block
+  -- the cells of an inner block, its arrays, its statements, EXIT; the context is that of the block
   abbrev pub InnerAt : Context → List Placed → ℕ → PDecls → PStmts → ℕ → Type 0
   InnerAt context ps level ds ss at =
-      (b : ℕ) × (e : ℕ) × (v : ℕ) × CellsAt sc context ps level (length (variables ds)) (control_segments sc ds) at b × StmtsAt context ps level ss b e e
-      × Has ps level e (ops.Plain kinds.Exit) v
+      (b : ℕ) × (d : ℕ) × (e : ℕ) × (v : ℕ) × CellsAt sc context ps level (length (variables ds)) (control_segments sc ds) at b
+      × DeclsAt sc context ps level ds b d × StmtsAt context ps level ss d e e × Has ps level e (ops.Plain kinds.Exit) v
 
 module _ (sc : Scopes) (context : Context) (ps : List Placed) (level : ℕ) where
   -- FOR from its test on
@@ -290,5 +376,7 @@ module _ (sc : Scopes) (context : Context) (ps : List Placed) (level : ℕ) wher
   -- the result comes last
   KAt (result name ∷ []) pc = (q : ℕ) × Goes ps level pc q × ResultAt sc context ps level name q
   KAt (result name ∷ item ∷ k) pc = ⊥
-  KAt (make_arrays kind ns pairs ∷ k) pc = ⊥
+  -- what is pushed before becomes cells as well, so nothing may lie there
+  KAt (make_arrays kind ns pairs ∷ k) pc =
+      (q : ℕ) × (t : ℕ) × Goes ps level pc q × ArraysAt sc context ps level (length ns) pairs q t × HasNoCounts k × KAt k t
   KAt (make_event n ∷ k) pc = ⊥

@@ -1,6 +1,6 @@
 -- Which trees have code: each part has the kind that its place wants, each name is a variable or a procedure whose couple is known, and
 -- of a format no word is wider than a line, and each text can stand between quotes.
-use Rattle.std.specs.Prelude.{◌≡◌, ◌⊎◌, ℕ, ◌+◌, ◌≤◌, not, IsTrue, Option, Some, None, is_some, List, [], ◌∷◌, length}
+use Rattle.std.specs.Prelude.{◌≡◌, ◌⊎◌, ℕ, ◌+◌, ◌≤◌, ℤ, not, true, IsTrue, Option, Some, None, is_some, List, [], ◌∷◌, length}
 use Rattle.std.specs.List.{All}
 use Rattle.algol_tree.specs.declared.token.Spot.{Spot}
 use Rattle.algol_tree.specs.declared.tree.Kind.{Kind}
@@ -12,16 +12,19 @@ use Rattle.algol_tree.specs.declared.TheConstants.{MOST_BLOCK_CELLS, MOST_LINE_W
 use Rattle.algol_tree.specs.Lexes.{is_printable, is_quote}
 use Rattle.algol_tree.specs.Spelling.{value_of}
 use Rattle.algol_tree.specs.Plain as tree
-use Rattle.algol_tree.specs.Plain.{PExpr, PExprs, PStmt, PStmts, PDecls}
+use Rattle.algol_tree.specs.Plain.{PExpr, PExprs, PPair, PStmt, PStmts, PDecls}
 use Rattle.algol_tree.specs.Types.{given_by, taken_by}
+use Rattle.algol_tree.specs.Sorts.{Sort, is_variable}
 use Rattle.algol_tree.specs.Blocks.{block_numbered}
 use Rattle.algol_tree.specs.Scopes.{Scopes}
+use Rattle.algol_meaning.specs.Settle.{sorts_of}
 use Rattle.b67_ops.specs.declared.Couple.{Couple}
 use Rattle.b67_ops.specs.declared.TheConstants.{MOST_LEVEL}
 use Rattle.b67_segment.specs.declared.code.Phrase.{Phrase}
 use Rattle.b67_templates.specs.Fragments.{IsWhole}
-use Rattle.b67_templates.specs.Cells.{variables, procedures, IsVariable, IsProcedure}
-use Rattle.b67_templates.specs.Code.{AreParts, numbers_in, exprs_count}
+use Rattle.algol_paths.specs.Arrays.{DeclaredArray, arrays_of, lows_of}
+use Rattle.b67_templates.specs.Cells.{parameter_kinds, variables, procedures, IsVariable, IsProcedure, IsArray}
+use Rattle.b67_templates.specs.Code.{AreParts, AreDimensions, numbers_in, exprs_count}
 
 -- each byte of the text is printable and no quote
 abbrev pub IsPlainText : List ℕ → Type 0
@@ -54,8 +57,9 @@ module _ (sc : Scopes) (known : Spot → Option Couple) (level : ℕ) where
   abbrev pub NameFits : Kind → Named → Type 0
   NameFits k n = (c : Couple) × (known n.spot ≡ Some c) × IsVariable sc level n k c
 
--- `results` are the couples of the results of the typed procedures that names mean, by their places in the text
-module _ (sc : Scopes) (known results : Spot → Option Couple) (level : ℕ) where
+-- `results` are the couples of the results of the typed procedures that names mean, and `lows` the lower bounds of the arrays, by the names'
+-- places in the text
+module _ (sc : Scopes) (known results : Spot → Option Couple) (lows : Spot → Option (List ℤ)) (level : ℕ) where
   -- a variable that is read
   abbrev pub ReadFits : Kind → Named → Type 0
   ReadFits k n = NameFits sc known level k n × (results n.spot ≡ None)
@@ -73,22 +77,67 @@ module _ (sc : Scopes) (known results : Spot → Option Couple) (level : ℕ) wh
 
   -- .. of a typed one
   abbrev pub CallFits : Kind → Named → Type 0
-  CallFits k n = (callee : ℕ) × ProcedureFits n callee × ((block_numbered sc.blocks callee).result ≡ Some k)
+  CallFits k n =
+      (callee : ℕ) × ProcedureFits n callee × (parameter_kinds sc callee ≡ []) × ((block_numbered sc.blocks callee).result ≡ Some k)
 
-  abbrev pub ExprFits : Kind → PExpr → Type 0
-  ExprFits k (tree.number z spot) = (k ≡ types.Number) × IsWhole z
-  ExprFits k (tree.truth b spot) = k ≡ types.Truth
-  ExprFits k (tree.variable (tree.subscripted n tree.none)) = ReadFits k n ⊎ CallFits k n
-  ExprFits k (tree.paren e spot) = ExprFits k e
-  ExprFits k (tree.plus e spot) = (k ≡ types.Number) × ExprFits types.Number e
-  ExprFits k (tree.neg e spot) = (k ≡ types.Number) × ExprFits types.Number e
-  ExprFits k (tree.not e spot) = (k ≡ types.Truth) × ExprFits types.Truth e
-  ExprFits k (tree.two op a b) = (k ≡ given_by op) × ExprFits (taken_by op) a × ExprFits (taken_by op) b
-  ExprFits k (tree.if c x y spot) = ExprFits types.Truth c × ExprFits k x × ExprFits k y
-  ExprFits k _ = ⊥
+  -- the name of an array, and the couple of its descriptor; its lower bounds are known
+  pub record ArrayFits (n : Named) (declared : DeclaredArray) : Type 0 where
+    pub couple : Couple
+    pub known_is : known n.spot ≡ Some couple
+    pub array : IsArray sc level n declared couple
+    pub lows_are : lows n.spot ≡ Some (lows_of declared.pairs)
+
+  abbrev mutual
+    pub ExprFits : Kind → PExpr → Type 0
+    ExprFits k (tree.number z spot) = (k ≡ types.Number) × IsWhole z
+    ExprFits k (tree.truth b spot) = k ≡ types.Truth
+    ExprFits k (tree.variable (tree.subscripted n tree.none)) = ReadFits k n ⊎ CallFits k n
+    ExprFits k (tree.variable (tree.subscripted n (tree.more e es))) =
+        (a : DeclaredArray) × ArrayFits n a × (a.kind ≡ k) × SubscriptsFit (lows_of a.pairs) (tree.more e es)
+    ExprFits k (tree.paren e spot) = ExprFits k e
+    ExprFits k (tree.plus e spot) = (k ≡ types.Number) × ExprFits types.Number e
+    ExprFits k (tree.neg e spot) = (k ≡ types.Number) × ExprFits types.Number e
+    ExprFits k (tree.not e spot) = (k ≡ types.Truth) × ExprFits types.Truth e
+    ExprFits k (tree.two op a b) = (k ≡ given_by op) × ExprFits (taken_by op) a × ExprFits (taken_by op) b
+    ExprFits k (tree.if c x y spot) = ExprFits types.Truth c × ExprFits k x × ExprFits k y
+    ExprFits k (tree.call (tree.called n es)) =
+        (callee : ℕ) × ProcedureFits n callee × ActualsFit (sorts_of ((block_numbered sc.blocks callee).parameters)) (parameter_kinds sc callee) es × ((block_numbered sc.blocks callee).result ≡ Some k)
+    ExprFits k _ = ⊥
+
+    -- a subscript for each of these lower bounds
+    pub SubscriptsFit : List ℤ → PExprs → Type 0
+    SubscriptsFit (low ∷ []) (tree.more e tree.none) = IsWhole low × ExprFits types.Number e
+    SubscriptsFit (low ∷ low' ∷ []) (tree.more e (tree.more e' tree.none)) =
+        IsWhole low × ExprFits types.Number e × IsWhole low' × ExprFits types.Number e'
+    SubscriptsFit _ _ = ⊥
+
+    -- actuals for parameters of these sorts and kinds, each of them by value
+    pub ActualsFit : List Sort → List (Option Kind) → PExprs → Type 0
+    ActualsFit [] [] tree.none = Unit {0}
+    ActualsFit (sort ∷ sorts) (Some kind ∷ kinds) (tree.more e es) = (is_variable sort ≡ true) × ExprFits kind e × ActualsFit sorts kinds es
+    ActualsFit _ _ _ = ⊥
+
+  -- the call that a statement makes
+  abbrev pub CallStmtFits : Named → PExprs → Type 0
+  CallStmtFits n es = (callee : ℕ) × ProcedureFits n callee × ActualsFit (sorts_of ((block_numbered sc.blocks callee).parameters)) (parameter_kinds sc callee) es
 
   abbrev pub AssignFits : Named → PExpr → Type 0
   AssignFits n e = (k : Kind) × LeftFits k n × ExprFits k e
+
+  abbrev pub ElementAssignFits : Named → PExprs → PExpr → Type 0
+  ElementAssignFits n es e = (a : DeclaredArray) × ArrayFits n a × SubscriptsFit (lows_of a.pairs) es × ExprFits a.kind e
+
+  abbrev pub BoundsFit : List PPair → Type 0
+  BoundsFit [] = Unit {0}
+  BoundsFit (p ∷ pairs) = IsWhole p.low × ExprFits types.Number p.high × BoundsFit pairs
+
+  -- the arrays of declarations, each of which has a name; there are no events and tasks
+  abbrev pub DeclsFit : PDecls → Type 0
+  DeclsFit tree.no_decls = Unit {0}
+  DeclsFit (tree.decls (tree.arrays kind ns pairs) ds) = AreDimensions pairs × BoundsFit pairs × DeclsFit ds × (1 ≤ length ns)
+  DeclsFit (tree.decls (tree.events ns) ds) = ⊥
+  DeclsFit (tree.decls (tree.tasks ns) ds) = ⊥
+  DeclsFit (tree.decls d ds) = DeclsFit ds
 
   abbrev pub LineFits : PExprs → Type 0
   LineFits tree.none = Unit {0}
@@ -98,28 +147,29 @@ module _ (sc : Scopes) (known results : Spot → Option Couple) (level : ℕ) wh
   abbrev pub WriteFits : List PhraseText → PExprs → Type 0
   WriteFits phrases es = PhrasesFit phrases × ((parts : List Phrase) → AreParts phrases parts → numbers_in parts ≡ exprs_count es) × LineFits es
 
--- an inner block has a level that the machine has, and no more variables and procedures than a block may have cells
+-- an inner block has a level that the machine has, and no more variables, procedures and arrays than a block may have cells
 abbrev pub BlockFits : ℕ → PDecls → Type 0
-BlockFits level ds = (level + 1 ≤ MOST_LEVEL) × (length (variables ds) + length (procedures ds) ≤ MOST_BLOCK_CELLS)
+BlockFits level ds = (level + 1 ≤ MOST_LEVEL) × (length (variables ds) + length (procedures ds) + length (arrays_of ds) ≤ MOST_BLOCK_CELLS)
 
-module _ (sc : Scopes) (known results : Spot → Option Couple) where
+module _ (sc : Scopes) (known results : Spot → Option Couple) (lows : Spot → Option (List ℤ)) where
   abbrev mutual
     pub StmtFits : ℕ → PStmt → Type 0
     StmtFits level tree.empty = Unit {0}
-    StmtFits level (tree.assign (tree.subscripted n tree.none) e) = AssignFits sc known results level n e
-    StmtFits level (tree.call_of (tree.called n tree.none)) = (callee : ℕ) × ProcedureFits sc known results level n callee
+    StmtFits level (tree.assign (tree.subscripted n tree.none) e) = AssignFits sc known results lows level n e
+    StmtFits level (tree.assign (tree.subscripted n (tree.more i is)) e) = ElementAssignFits sc known results lows level n (tree.more i is) e
+    StmtFits level (tree.call_of (tree.called n es)) = CallStmtFits sc known results lows level n es
     StmtFits level (tree.block (tree.body spot tree.no_decls ss)) = StmtsFit level ss
-    StmtFits level (tree.block (tree.body spot (tree.decls d ds) ss)) = BlockFits level (tree.decls d ds) × StmtsFit (level + 1) ss
-    StmtFits level (tree.if_then c x) = ExprFits sc known results level types.Truth c × StmtFits level x
-    StmtFits level (tree.if_else c x y) = ExprFits sc known results level types.Truth c × StmtFits level x × StmtFits level y
-    StmtFits level (tree.while c b) = ExprFits sc known results level types.Truth c × StmtFits level b
-    StmtFits level (tree.until b c) = StmtFits level b × ExprFits sc known results level types.Truth c
+    StmtFits level (tree.block (tree.body spot (tree.decls d ds) ss)) = BlockFits level (tree.decls d ds) × DeclsFit sc known results lows (level + 1) (tree.decls d ds) × StmtsFit (level + 1) ss
+    StmtFits level (tree.if_then c x) = ExprFits sc known results lows level types.Truth c × StmtFits level x
+    StmtFits level (tree.if_else c x y) = ExprFits sc known results lows level types.Truth c × StmtFits level x × StmtFits level y
+    StmtFits level (tree.while c b) = ExprFits sc known results lows level types.Truth c × StmtFits level b
+    StmtFits level (tree.until b c) = StmtFits level b × ExprFits sc known results lows level types.Truth c
     -- the control variable is read, and it is assigned
     StmtFits level (tree.for v a s l b) =
-        ReadFits sc known results level types.Number v × LeftFits sc known results level types.Number v × ExprFits sc known results level types.Number a × ExprFits sc known results level types.Number s × ExprFits sc known results level types.Number l × StmtFits level b
-    StmtFits level (tree.thru e b) = ExprFits sc known results level types.Number e × StmtFits level b
-    StmtFits level (tree.case e ss) = ExprFits sc known results level types.Number e × StmtsFit level ss
-    StmtFits level (tree.write n spot phrases es) = WriteFits sc known results level phrases es
+        ReadFits sc known results lows level types.Number v × LeftFits sc known results lows level types.Number v × ExprFits sc known results lows level types.Number a × ExprFits sc known results lows level types.Number s × ExprFits sc known results lows level types.Number l × StmtFits level b
+    StmtFits level (tree.thru e b) = ExprFits sc known results lows level types.Number e × StmtFits level b
+    StmtFits level (tree.case e ss) = ExprFits sc known results lows level types.Number e × StmtsFit level ss
+    StmtFits level (tree.write n spot phrases es) = WriteFits sc known results lows level phrases es
     StmtFits level _ = ⊥
 
     pub StmtsFit : ℕ → PStmts → Type 0

@@ -1,5 +1,5 @@
 -- The small pieces of which templates are made, in a segment of these operators, at one level.
-use Rattle.std.specs.Prelude.{◌≡◌, ℕ, ◌+◌, ◌/◌, ◌%◌, ◌<◌, ◌≤◌, unsigned_abs, ℤ, pos, Bool, true, false, List, [], ◌∷◌}
+use Rattle.std.specs.Prelude.{◌≡◌, ℕ, ◌+◌, ◌/◌, ◌%◌, ◌<◌, ◌≤◌, unsigned_abs, ℤ, pos, neg_ℤ, ◌-ℤ◌, int_le, int_lt, if◌then◌else◌, Bool, true, false, List, [], ◌∷◌}
 use Rattle.algol_tree.specs.declared.tree.Op.{Op}
 use Rattle.algol_tree.specs.declared.tree.Op.TheVariants as operators
 use Rattle.algol_tree.specs.declared.tree.Kind.{Kind}
@@ -67,6 +67,30 @@ abbrev pub is_implication : Op → Bool
 is_implication operators.Imp = true
 is_implication _ = false
 
+-- ---- subscripts
+
+-- Where a lower bound lies: at 0, above it, less than 1,048,576 below it, or further below, where each subscript of a row is below 0.
+pub data Low : Type 0 where
+  zero : Low
+  above : Low
+  near : Low
+  far : Low
+
+abbrev pub low_of : ℤ → Low
+low_of low =
+    if int_lt (pos 0) low then above else if int_le (pos 0) low then zero else if int_lt (neg_ℤ (pos 1048576)) low then near else far
+
+-- A subscript is moved by the lower bound where the result is surely a whole number; otherwise it leaves a number that is in no row, since
+-- no row has more than 1,048,576 elements.
+abbrev pub moved_by : Low → ℤ → ℤ → ℤ
+moved_by zero low i = i
+moved_by above low i = if int_le (pos 0) i then i -ℤ low else i
+moved_by near low i = if int_le i (pos 4294836225) then i -ℤ low else i
+moved_by far low i = if int_lt i (pos 0) then i -ℤ low else neg_ℤ low
+
+abbrev pub moved : ℤ → ℤ → ℤ
+moved low i = moved_by (low_of low) low i
+
 -- ---- code that is entered
 
 -- the control word of code that begins at a place of a segment and runs at a level
@@ -130,3 +154,19 @@ module _ (ps : List Placed) (level : ℕ) where
   ControlsAt [] from to = from ≡ to
   ControlsAt (segment ∷ segments) from to =
       (m : ℕ) × Has from (ops.Mpcw (pcw_word (code_at segment 0 (level + 1))).bits) m × Fits_pcw (code_at segment 0 (level + 1)) × ControlsAt segments m to
+
+  -- A subscript on top is moved to an index from 0: by the product of the bound with a comparison that says whether it may be.
+  abbrev pub MovedBy : Low → ℤ → ℕ → ℕ → Type 0
+  MovedBy zero low from to = from ≡ to
+  MovedBy above low from to =
+      (m : ℕ) × (n : ℕ) × AllAt (kinds.Dupl ∷ kinds.Zero ∷ kinds.Greq ∷ []) from m × NumberAt low m n × AllAt (kinds.Mult ∷ kinds.Subt ∷ []) n to
+  -- 4,294,836,225 is the square of 65,535
+  MovedBy near low from to =
+      (a : ℕ) × (b : ℕ) × (m : ℕ) × (n : ℕ) × Has from (ops.Plain kinds.Dupl) a × Has a (ops.Lt16 65535) b
+      × AllAt (kinds.Dupl ∷ kinds.Mult ∷ kinds.Lseq ∷ []) b m × NumberAt (neg_ℤ low) m n × AllAt (kinds.Mult ∷ kinds.Add ∷ []) n to
+  MovedBy far low from to =
+      (m : ℕ) × (n : ℕ) × AllAt (kinds.Dupl ∷ kinds.Zero ∷ kinds.Less ∷ kinds.Mult ∷ []) from m × NumberAt (neg_ℤ low) m n
+      × Has n (ops.Plain kinds.Add) to
+
+  abbrev pub MovedAt : ℤ → ℕ → ℕ → Type 0
+  MovedAt low from to = MovedBy (low_of low) low from to
