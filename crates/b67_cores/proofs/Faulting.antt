@@ -36,7 +36,7 @@ use Rattle.b67_table.proofs.Privacy.{raw_is}
 use Rattle.b67_templates.specs.Fragments.{Has, HasKind, operator_for}
 use Rattle.b67_standing.specs.Stepping.{Slot, operand, ready}
 use Rattle.b67_cores.specs.Cores.{Core, HasCore, part_of, CoreFaults}
-use Rattle.b67_cores.specs.Slots.{ValueIs, SlotsAre}
+use Rattle.b67_cores.specs.Slots.{Known, ValueIs, SlotsAre}
 use Rattle.b67_cores.specs.Stretches.{CoreAt, FaultsArePerformed}
 use Rattle.b67_cores.proofs.PartRows.{part, wholes_fault}
 use Rattle.b67_cores.proofs.Taking.{number_read}
@@ -135,9 +135,9 @@ fails operators.Mod (number a) (truth b) fault hv hw e = absurd hw
 fails operators.Mod (truth a) w fault hv hw e = absurd hv
 fails _ v w fault hv hw e = cc
 
-module _ (sc : Scopes) (code : Code) (ps : List Placed) (level from to : ℕ) (a b : Value) (x : List Slot) (core : Core) (kind : PlainKind) (fault : FaultKind)
-    (stands : Has ps level from (ops.Plain kind) to) (f : Fails kind a b fault) (at : CoreAt sc code ps level from (operand b ∷ operand a ∷ x) core) where
-  words_fault : (words : List Word) → SlotsAre sc level (frame core.registers) (length core.below) (operand b ∷ operand a ∷ x) words
+module _ (sc : Scopes) (known : List Known) (code : Code) (ps : List Placed) (level from to : ℕ) (a b : Value) (x : List Slot) (core : Core) (kind : PlainKind) (fault : FaultKind)
+    (stands : Has ps level from (ops.Plain kind) to) (f : Fails kind a b fault) (at : CoreAt sc known code ps level from (operand b ∷ operand a ∷ x) core) where
+  words_fault : (words : List Word) → SlotsAre sc known level (frame core.registers) (length core.below) (operand b ∷ operand a ∷ x) words
       → core.registers.s ≡ length core.below + length words → f.change (part core.registers core.registers.s words) ≡ faults fault
   words_fault [] are e = absurd are
   words_fault (w ∷ []) are e = absurd are.1
@@ -158,8 +158,8 @@ module _ (sc : Scopes) (code : Code) (ps : List Placed) (level from to : ℕ) (a
         ∙ ap (λ (e : Effect Private). e >>= (λ (q : Private). gives (pointed to q))) (words_fault core.words at.words_are at.is.top);
   }
 
-pub fault_is : (sc : Scopes) (code : Code) (ps : List Placed) (level from to : ℕ) (op : Op) (v w : Value) (fault : NumFault) (below : List Slot) (core : Core)
+pub fault_is : (sc : Scopes) (known : List Known) (code : Code) (ps : List Placed) (level from to : ℕ) (op : Op) (v w : Value) (fault : NumFault) (below : List Slot) (core : Core)
     → Has ps level from (ops.Plain (operator_for op)) to → HasKind (taken_by op) v → HasKind (taken_by op) w → result_of op v w ≡ Err fault
-    → CoreAt sc code ps level from (operand w ∷ operand (ready op v) ∷ below) core → CoreFaults code core (fault_of fault)
-fault_is sc code ps level from to op v w fault below core stands hv hw e at =
-    core_faults sc code ps level from to (ready op v) w below core (operator_for op) (fault_of fault) stands (fails op v w fault hv hw e) at
+    → CoreAt sc known code ps level from (operand w ∷ operand (ready op v) ∷ below) core → CoreFaults code core (fault_of fault)
+fault_is sc known code ps level from to op v w fault below core stands hv hw e at =
+    core_faults sc known code ps level from to (ready op v) w below core (operator_for op) (fault_of fault) stands (fails op v w fault hv hw e) at

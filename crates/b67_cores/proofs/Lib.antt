@@ -7,6 +7,8 @@ pub mod Operating
 pub mod Pushing
 pub mod Signs
 pub mod Looping
+pub mod Lows
+pub mod Subscripts
 pub mod Stepped
 pub mod Performing
 pub mod Faulting
@@ -17,4 +19,5 @@ pub mod Sizes
 pub mod Deciding
 pub mod Counting
 pub mod Staying
+pub mod Making
 pub mod Beginnings

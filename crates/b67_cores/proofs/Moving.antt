@@ -20,7 +20,7 @@ use Rattle.b67_table.specs.Rows.{Row, private_part, row}
 use Rattle.b67_table.specs.Table.{private_op, part_by, class_at, class_by}
 use Rattle.b67_standing.specs.Stepping.{Slot}
 use Rattle.b67_cores.specs.Cores.{Core, size, CoreStep, CoreSteps, here, onward}
-use Rattle.b67_cores.specs.Slots.{newest, SlotsAre}
+use Rattle.b67_cores.specs.Slots.{Known, newest, SlotsAre}
 use Rattle.b67_cores.proofs.PartRows.{part}
 
 -- ---- stretches
@@ -39,7 +39,7 @@ place_grows {at = at} {level = level} {op = op} s = omega (arith, s.next_is, (le
 -- ---- the core of a frame
 
 -- a frame of a code: what its core has below the floor, and where its operators stand
-pub record Standing (sc : Scopes) (code : Code) (ps : List Placed) (level most bound : ℕ) (core : Core) : Type 0 where
+pub record Standing (sc : Scopes) (known : List Known) (code : Code) (ps : List Placed) (level most bound : ℕ) (core : Core) : Type 0 where
   pub segment : Segment
   pub there : slice_get code.segments core.registers.segment ≡ Some segment
   pub spells : Spells ps segment
@@ -64,17 +64,17 @@ moved core place slots words = record {
   };
 }
 
-module _ (sc : Scopes) (level home base : ℕ) where
+module _ (sc : Scopes) (known : List Known) (level home base : ℕ) where
   -- there are as many words as slots
-  pub slots_length : (slots : List Slot) (words : List Word) → SlotsAre sc level home base slots words → length words ≡ length slots
+  pub slots_length : (slots : List Slot) (words : List Word) → SlotsAre sc known level home base slots words → length words ≡ length slots
   slots_length [] [] are = refl
   slots_length [] (w ∷ ws) are = absurd are
   slots_length (slot ∷ slots) [] are = absurd are
   slots_length (slot ∷ slots) (w ∷ ws) are = omega (arith, slots_length slots ws are.1)
 
-module _ (sc : Scopes) (code : Code) (ps : List Placed) (level most bound : ℕ) (core : Core) where
+module _ (sc : Scopes) (known : List Known) (code : Code) (ps : List Placed) (level most bound : ℕ) (core : Core) where
   abbrev pub Are : List Slot → List Word → Type 0
-  Are = SlotsAre sc level (frame core.registers) (length core.below)
+  Are = SlotsAre sc known level (frame core.registers) (length core.below)
 
   -- private operators lead from words at a place to those of other slots, at most as many as there are syllables between
   pub record Reaches (from : ℕ) (x : List Slot) (words : List Word) (to : ℕ) (y : List Slot) : Type 0 where
@@ -89,11 +89,11 @@ module _ (sc : Scopes) (code : Code) (ps : List Placed) (level most bound : ℕ)
   abbrev pub Performs : ℕ → List Slot → ℕ → List Slot → Type 0
   Performs from x to y = (words : List Word) → Are x words → length x ≤ most → Reaches from x words to y
 
-  module _ (st : Standing sc code ps level most bound core) where
+  module _ (st : Standing sc known code ps level most bound core) where
     pub nothing : (place : ℕ) (x : List Slot) → Performs place x place x
     nothing place x words are room =
         let small : size (moved core place x words) ≤ bound =
-        omega (arith, slots_length sc level (frame core.registers) (length core.below) x words are, st.room) in
+        omega (arith, slots_length sc known level (frame core.registers) (length core.below) x words are, st.room) in
         record { count = 0; left = words; are = are; steps = here small; few = omega arith; room = room }
 
     pub on : {a b c : ℕ} {x y z : List Slot} → Performs a x b y → Performs b y c z → Performs a x c z
@@ -132,9 +132,9 @@ module _ (sc : Scopes) (code : Code) (ps : List Placed) (level most bound : ℕ)
         → Reaches from x words to y
     single from next to op x y words left s change stands e forward are room are' room' long effect =
         let first : size (moved core from x words) ≤ bound =
-        omega (arith, slots_length sc level (frame core.registers) (length core.below) x words are, st.room) in
+        omega (arith, slots_length sc known level (frame core.registers) (length core.below) x words are, st.room) in
         let last : size (moved core to y left) ≤ bound =
-        omega (arith, slots_length sc level (frame core.registers) (length core.below) y left are', st.room) in
+        omega (arith, slots_length sc known level (frame core.registers) (length core.below) y left are', st.room) in
         let step : CoreStep code (moved core from x words) (moved core to y left) = record {
           op = op;
           next = next;

@@ -19,9 +19,9 @@ use Rattle.b67_table.specs.Private.{frame, push}
 use Rattle.b67_table.specs.PrivateRows.{pointed, onward, dropped, exchanged, doubled, open_mark, mark as mark_row, is_taken, branch}
 use Rattle.b67_table.specs.Rows.{private_part, row, own, pushes, acts, turn}
 use Rattle.b67_templates.specs.Fragments.{Has, BranchAt}
-use Rattle.b67_standing.specs.Stepping.{Slot, operand, reference, intrinsic, control, mark, HasRoom}
+use Rattle.b67_standing.specs.Stepping.{Held, Slot, operand, reference, intrinsic, control, descriptor, mark, HasRoom}
 use Rattle.b67_cores.specs.Cores.{Core}
-use Rattle.b67_cores.specs.Slots.{IsTruth, newest, SlotIs}
+use Rattle.b67_cores.specs.Slots.{Known, IsTruth, newest, SlotIs}
 use Rattle.b67_cores.proofs.PartRows.{part, dropped_is, doubled_is, exchanged_is, mark_is, by_bit_is}
 use Rattle.b67_cores.proofs.Taking.{Takes, Turns}
 use Rattle.b67_cores.proofs.Moving.{place_grows, Standing, registers_at, slots_length, Performs, single}
@@ -52,15 +52,16 @@ newest_low home base (operand v ∷ below) h = omega (arith, newest_low home bas
 newest_low home base (reference n ∷ below) h = omega (arith, newest_low home base below h)
 newest_low home base (intrinsic i ∷ below) h = omega (arith, newest_low home base below h)
 newest_low home base (control c ∷ below) h = omega (arith, newest_low home base below h)
+newest_low home base (descriptor d ∷ below) h = omega (arith, newest_low home base below h)
 newest_low home base (mark ∷ below) h = omega arith
 
 mark_row_is : (place : ℕ) → row (ops.Plain kinds.Mkst) place ≡ own mark_row
 unfolding row
 mark_row_is place = refl
 
-module _ (sc : Scopes) (code : Code) (ps : List Placed) (level most bound : ℕ) (core : Core) (st : Standing sc code ps level most bound core) where
+module _ (sc : Scopes) (known : List Known) (code : Code) (ps : List Placed) (level most bound : ℕ) (core : Core) (st : Standing sc known code ps level most bound core) where
   abbrev pub Goes : ℕ → List Slot → ℕ → List Slot → Type 0
-  Goes = Performs sc code ps level most bound core
+  Goes = Performs sc known code ps level most bound core
 
   abbrev base : ℕ
   base = length core.below
@@ -70,11 +71,11 @@ module _ (sc : Scopes) (code : Code) (ps : List Placed) (level most bound : ℕ)
 
   -- a word is pushed
   pub pushed : (from next : ℕ) (op : Operator) (slot : Slot) (x : List Slot) (w : Word) → Has ps level from op next → row op from ≡ pushes w
-      → SlotIs sc level (frame core.registers) (length core.below) x slot w
+      → SlotIs sc known level (frame core.registers) (length core.below) x slot w
       → newest (frame core.registers) (length core.below) (slot ∷ x) ≡ newest (frame core.registers) (length core.below) x → HasRoom most x 1
       → Goes from x next (slot ∷ x)
   pushed from next op slot x w stands e is same room words are r =
-      single sc code ps level most bound core st from next next op x (slot ∷ x) words (w ∷ words) (base + length words + 1)
+      single sc known code ps level most bound core st from next next op x (slot ∷ x) words (w ∷ words) (base + length words + 1)
       (onward (λ (p : Private). gives (push w p))) stands e (place_grows stands) are r (is, are) (omega (arith, room)) (omega arith)
       (ap (λ f. gives (part (record core.registers { f = f; place = next }) (base + length words + 1) (w ∷ words))) (sym same))
 
@@ -85,7 +86,7 @@ module _ (sc : Scopes) (code : Code) (ps : List Placed) (level most bound : ℕ)
   binary from next kind change a b c x stands e takes (w ∷ []) are r = absurd are.1
   binary from next kind change a b c x stands e takes (w ∷ v ∷ rest) are r =
       let t = takes v w are.1.0 are.0 in
-      single sc code ps level most bound core st from next next (ops.Plain kind) (operand b ∷ operand a ∷ x) (operand c ∷ x) (w ∷ v ∷ rest) (t.word ∷ rest)
+      single sc known code ps level most bound core st from next next (ops.Plain kind) (operand b ∷ operand a ∷ x) (operand c ∷ x) (w ∷ v ∷ rest) (t.word ∷ rest)
       (base + length (w ∷ v ∷ rest) - 1 - 1 + 1) (onward change) stands e (place_grows stands) are r (t.is, are.1.1) (omega (arith, r)) (omega arith)
       (ap (after next) (t.given (registers_at core from (operand b ∷ operand a ∷ x)) (base + length (w ∷ v ∷ rest)) rest (omega (arith, st.bottom))))
 
@@ -95,7 +96,7 @@ module _ (sc : Scopes) (code : Code) (ps : List Placed) (level most bound : ℕ)
   unary from next kind change a b x stands e turns [] are r = absurd are
   unary from next kind change a b x stands e turns (w ∷ rest) are r =
       let t = turns w are.0 in
-      single sc code ps level most bound core st from next next (ops.Plain kind) (operand a ∷ x) (operand b ∷ x) (w ∷ rest) (t.word ∷ rest)
+      single sc known code ps level most bound core st from next next (ops.Plain kind) (operand a ∷ x) (operand b ∷ x) (w ∷ rest) (t.word ∷ rest)
       (base + length (w ∷ rest) - 1 + 1) (onward change) stands e (place_grows stands) are r (t.is, are.1) (omega (arith, r)) (omega arith)
       (ap (after next) (t.given (registers_at core from (operand a ∷ x)) (base + length (w ∷ rest)) rest (omega (arith, st.bottom))))
 
@@ -106,26 +107,42 @@ module _ (sc : Scopes) (code : Code) (ps : List Placed) (level most bound : ℕ)
   unfolding row
   double from next v x stands room [] are r = absurd are
   double from next v x stands room (w ∷ rest) are r =
-      single sc code ps level most bound core st from next next (ops.Plain kinds.Dupl) (operand v ∷ x) (operand v ∷ operand v ∷ x) (w ∷ rest) (w ∷ w ∷ rest)
+      single sc known code ps level most bound core st from next next (ops.Plain kinds.Dupl) (operand v ∷ x) (operand v ∷ operand v ∷ x) (w ∷ rest) (w ∷ w ∷ rest)
       (base + length (w ∷ rest) - 1 + 1 + 1) (onward doubled) stands refl (place_grows stands) are r (are.0, are) (omega (arith, room)) (omega arith)
       (ap (after next) (doubled_is (registers_at core from (operand v ∷ x)) (base + length (w ∷ rest)) w rest (omega (arith, st.bottom))))
 
+  -- two slots change places, of which neither is a mark
+  exchanging : (from next : ℕ) (upper lower : Slot) (x : List Slot) → Has ps level from (ops.Plain kinds.Exch) next
+      → ((w : Word) → SlotIs sc known level (frame core.registers) (length core.below) (lower ∷ x) upper w
+      → SlotIs sc known level (frame core.registers) (length core.below) x upper w)
+      → ((w : Word) → SlotIs sc known level (frame core.registers) (length core.below) x lower w
+      → SlotIs sc known level (frame core.registers) (length core.below) (upper ∷ x) lower w)
+      → newest (frame core.registers) (length core.below) (upper ∷ lower ∷ x) ≡ newest (frame core.registers) (length core.below) (lower ∷ upper ∷ x)
+      → Goes from (upper ∷ lower ∷ x) next (lower ∷ upper ∷ x)
+  unfolding row
+  exchanging from next upper lower x stands down up same [] are r = absurd are
+  exchanging from next upper lower x stands down up same (w ∷ []) are r = absurd are.1
+  exchanging from next upper lower x stands down up same (w ∷ y ∷ rest) are r =
+      single sc known code ps level most bound core st from next next (ops.Plain kinds.Exch) (upper ∷ lower ∷ x) (lower ∷ upper ∷ x)
+      (w ∷ y ∷ rest) (y ∷ w ∷ rest) (base + length (w ∷ y ∷ rest) - 1 - 1 + 1 + 1) (onward exchanged) stands refl (place_grows stands) are r
+      (up y are.1.0, (down w are.0, are.1.1)) (omega (arith, r)) (omega arith)
+      (ap (after next) (exchanged_is (registers_at core from (upper ∷ lower ∷ x)) (base + length (w ∷ y ∷ rest)) y w rest (omega (arith, st.bottom)))
+      ∙ ap (λ f. gives (part (record core.registers { f = f; place = next }) (base + length (w ∷ y ∷ rest) - 1 - 1 + 1 + 1) (y ∷ w ∷ rest))) same)
+
   pub exchange : (from next : ℕ) (u v : Value) (x : List Slot) → Has ps level from (ops.Plain kinds.Exch) next
       → Goes from (operand v ∷ operand u ∷ x) next (operand u ∷ operand v ∷ x)
-  unfolding row
-  exchange from next u v x stands [] are r = absurd are
-  exchange from next u v x stands (w ∷ []) are r = absurd are.1
-  exchange from next u v x stands (w ∷ y ∷ rest) are r =
-      single sc code ps level most bound core st from next next (ops.Plain kinds.Exch) (operand v ∷ operand u ∷ x) (operand u ∷ operand v ∷ x)
-      (w ∷ y ∷ rest) (y ∷ w ∷ rest) (base + length (w ∷ y ∷ rest) - 1 - 1 + 1 + 1) (onward exchanged) stands refl (place_grows stands) are r
-      (are.1.0, (are.0, are.1.1)) (omega (arith, r)) (omega arith)
-      (ap (after next) (exchanged_is (registers_at core from (operand v ∷ operand u ∷ x)) (base + length (w ∷ y ∷ rest)) y w rest (omega (arith, st.bottom))))
+  exchange from next u v x stands = exchanging from next (operand v) (operand u) x stands (λ w i. i) (λ w i. i) refl
+
+  -- a descriptor comes on top
+  pub exchange_descriptor : (from next : ℕ) (v : Value) (h : Held) (x : List Slot) → Has ps level from (ops.Plain kinds.Exch) next
+      → Goes from (operand v ∷ descriptor h ∷ x) next (descriptor h ∷ operand v ∷ x)
+  exchange_descriptor from next v h x stands = exchanging from next (operand v) (descriptor h) x stands (λ w i. i) (λ w i. i) refl
 
   pub dropping : (from next : ℕ) (v : Value) (x : List Slot) → Has ps level from (ops.Plain kinds.Dlet) next → Goes from (operand v ∷ x) next x
   unfolding row
   dropping from next v x stands [] are r = absurd are
   dropping from next v x stands (w ∷ rest) are r =
-      single sc code ps level most bound core st from next next (ops.Plain kinds.Dlet) (operand v ∷ x) x (w ∷ rest) rest
+      single sc known code ps level most bound core st from next next (ops.Plain kinds.Dlet) (operand v ∷ x) x (w ∷ rest) rest
       (base + length (w ∷ rest) - 1) (onward dropped) stands refl (place_grows stands) are r are.1 (omega (arith, r)) (omega arith)
       (ap (after next) (dropped_is (registers_at core from (operand v ∷ x)) (base + length (w ∷ rest)) w rest (omega (arith, st.bottom))))
 
@@ -135,7 +152,7 @@ module _ (sc : Scopes) (code : Code) (ps : List Placed) (level most bound : ℕ)
   pub if_true : (from target next : ℕ) (b : Bool) (x : List Slot) → BranchAt ps level Brtr from target next → Goes from (operand (truth b) ∷ x) (if b then target else next) x
   if_true from target next b x at [] are r = absurd are
   if_true from target next b x at (w ∷ rest) are r =
-      single sc code ps level most bound core st from next (if b then target else next) (ops.Branch Brtr target) (operand (truth b) ∷ x) x (w ∷ rest) rest
+      single sc known code ps level most bound core st from next (if b then target else next) (ops.Branch Brtr target) (operand (truth b) ∷ x) x (w ∷ rest) rest
       (base + length (w ∷ rest) - 1) (branch Brtr target) at.stands (branch_row Brtr target from at.forward)
       (either_grows b from target next at.forward (place_grows at.stands)) are r are.1 (omega (arith, r)) (omega arith)
       (by_bit_is (registers_at core from (operand (truth b) ∷ x)) Brtr target next (base + length (w ∷ rest)) w rest are.0.tag (omega (arith, st.bottom))
@@ -145,7 +162,7 @@ module _ (sc : Scopes) (code : Code) (ps : List Placed) (level most bound : ℕ)
   pub if_false : (from target next : ℕ) (b : Bool) (x : List Slot) → BranchAt ps level Brfl from target next → Goes from (operand (truth b) ∷ x) (if b then next else target) x
   if_false from target next b x at [] are r = absurd are
   if_false from target next b x at (w ∷ rest) are r =
-      single sc code ps level most bound core st from next (if b then next else target) (ops.Branch Brfl target) (operand (truth b) ∷ x) x (w ∷ rest) rest
+      single sc known code ps level most bound core st from next (if b then next else target) (ops.Branch Brfl target) (operand (truth b) ∷ x) x (w ∷ rest) rest
       (base + length (w ∷ rest) - 1) (branch Brfl target) at.stands (branch_row Brfl target from at.forward)
       (either_grows b from next target (place_grows at.stands) at.forward) are r are.1 (omega (arith, r)) (omega arith)
       (by_bit_is (registers_at core from (operand (truth b) ∷ x)) Brfl target next (base + length (w ∷ rest)) w rest are.0.tag (omega (arith, st.bottom))
@@ -153,17 +170,17 @@ module _ (sc : Scopes) (code : Code) (ps : List Placed) (level most bound : ℕ)
 
   pub going : (from target next : ℕ) (x : List Slot) → BranchAt ps level Brun from target next → Goes from x target x
   going from target next x at words are r =
-      single sc code ps level most bound core st from next target (ops.Branch Brun target) x x words words (base + length words) (branch Brun target) at.stands
+      single sc known code ps level most bound core st from next target (ops.Branch Brun target) x x words words (base + length words) (branch Brun target) at.stands
       (branch_row Brun target from at.forward) at.forward are r are r refl refl
 
   -- ---- a mark
 
   pub marking : (from next : ℕ) (x : List Slot) → Has ps level from (ops.Plain kinds.Mkst) next → HasRoom most x 1 → Goes from x next (mark ∷ x)
   marking from next x stands room words are r =
-      let long : length words ≡ length x = slots_length sc level (frame core.registers) (length core.below) x words are in
+      let long : length words ≡ length x = slots_length sc known level (frame core.registers) (length core.below) x words are in
       let low : newest (frame core.registers) (length core.below) x < base + length words =
       omega (arith, newest_low (frame core.registers) (length core.below) x (omega (arith, st.bottom)), long) in
-      single sc code ps level most bound core st from next next (ops.Plain kinds.Mkst) x (mark ∷ x) words
+      single sc known code ps level most bound core st from next next (ops.Plain kinds.Mkst) x (mark ∷ x) words
       (open_mark (base + length words - newest (frame core.registers) (length core.below) x) ∷ words)
       (base + length words + 1) (onward mark_row) stands (mark_row_is from) (place_grows stands) are r
       (ap (λ n. open_mark (base + n - newest (frame core.registers) (length core.below) x)) long, are) (omega (arith, room)) (omega arith)

@@ -5,31 +5,35 @@ use Rattle.b67_segment.specs.Operators.{Placed}
 use Rattle.b67_segment.specs.declared.code.Code.{Code}
 use Rattle.b67_table.specs.Private.{frame}
 use Rattle.b67_standing.specs.Stepping.{Slot}
-use Rattle.b67_cores.specs.Cores.{Core, CoreSteps}
-use Rattle.b67_cores.specs.Slots.{newest}
+use Rattle.b67_cores.specs.Cores.{Core, size, CoreSteps}
+use Rattle.b67_cores.specs.Slots.{Known, newest}
 use Rattle.b67_cores.specs.Stretches.{CoreAt, Arrives, FragmentsArePerformed}
 use Rattle.b67_cores.proofs.Moving.{Standing, moved, Reaches}
 use Rattle.b67_cores.proofs.Faulting.{fault_is}
 use Rattle.b67_cores.proofs.Stepped.{stepped, led}
 
-module _ (sc : Scopes) (code : Code) (ps : List Placed) (level most bound place : ℕ) (slots : List Slot) (core : Core) (at : CoreAt sc code ps level place slots core) where
-  pub standing : length core.below + most ≤ bound → Standing sc code ps level most bound core
+-- a core is the one that its place and its slots make
+pub placed_as : (place : ℕ) (slots : List Slot) (core : Core) → core.registers.s ≡ size core
+    → core.registers.f ≡ newest (frame core.registers) (length core.below) slots → core.registers.place ≡ place → core ≡ moved core place slots core.words
+placed_as place slots core top mark_is place_is =
+    ap (λ n. record core { registers = record core.registers { s = n } }) top
+    ∙ ap (λ n. record core { registers = record core.registers { s = length core.below + length core.words; f = n } }) mark_is
+    ∙ ap (λ n. record core {
+      registers = record core.registers {
+        s = length core.below + length core.words;
+        f = newest (frame core.registers) (length core.below) slots;
+        place = n;
+      };
+    }) place_is
+
+module _ (sc : Scopes) (known : List Known) (code : Code) (ps : List Placed) (level most bound place : ℕ) (slots : List Slot) (core : Core) (at : CoreAt sc known code ps level place slots core) where
+  pub standing : length core.below + most ≤ bound → Standing sc known code ps level most bound core
   standing room = record { segment = at.segment; there = at.there; spells = at.spells; level_is = at.level_is; bottom = at.is.bottom; room = room }
 
-  -- the core is the one that its place and its slots make
   pub moved_is : core ≡ moved core place slots core.words
-  moved_is =
-      ap (λ n. record core { registers = record core.registers { s = n } }) at.is.top
-      ∙ ap (λ n. record core { registers = record core.registers { s = length core.below + length core.words; f = n } }) at.mark_is
-      ∙ ap (λ n. record core {
-        registers = record core.registers {
-          s = length core.below + length core.words;
-          f = newest (frame core.registers) (length core.below) slots;
-          place = n;
-        };
-      }) at.place_is
+  moved_is = placed_as place slots core at.is.top at.mark_is at.place_is
 
-  arrives : (to : ℕ) (y : List Slot) → Reaches sc code ps level most bound core place slots core.words to y → Arrives sc code ps level most bound to y core
+  arrives : (to : ℕ) (y : List Slot) → Reaches sc known code ps level most bound core place slots core.words to y → Arrives sc known code ps level most bound to y core
   arrives to y r = record {
     count = r.count;
     core = moved core to y r.left;
@@ -51,11 +55,11 @@ module _ (sc : Scopes) (code : Code) (ps : List Placed) (level most bound place 
 
 pub fragments_are_performed : FragmentsArePerformed
 fragments_are_performed = record {
-  step = λ sc context code ps level most bound from to x y core step at room bounded.
-      arrives sc code ps level most bound from x core at to y
-      (stepped sc context code ps level most bound core (standing sc code ps level most bound from x core at bounded) from to x y step core.words at.words_are room);
-  leads = λ sc context code ps level most bound from to x y core leads at room bounded.
-      arrives sc code ps level most bound from x core at to y
-      (led sc context code ps level most bound core (standing sc code ps level most bound from x core at bounded) from to x y leads core.words at.words_are room);
+  step = λ sc known context code ps level most bound from to x y core step at room bounded.
+      arrives sc known code ps level most bound from x core at to y
+      (stepped sc known context code ps level most bound core (standing sc known code ps level most bound from x core at bounded) from to x y step core.words at.words_are room);
+  leads = λ sc known context code ps level most bound from to x y core leads at room bounded.
+      arrives sc known code ps level most bound from x core at to y
+      (led sc known context code ps level most bound core (standing sc known code ps level most bound from x core at bounded) from to x y leads core.words at.words_are room);
   fault = fault_is;
 }

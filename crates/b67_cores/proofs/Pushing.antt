@@ -21,10 +21,10 @@ use Rattle.b67_templates.specs.Contexts.{Context}
 use Rattle.b67_table.specs.PrivateRows as rows
 use Rattle.b67_table.specs.Rows.{row, pushes}
 use Rattle.b67_templates.specs.Fragments.{Has, AllAt, NumberAt, IntrinsicAt, EntryAt, code_at, IsLiteral, zero_pushed, one_pushed, byte, two_bytes, whole_word, truth_literal}
-use Rattle.b67_templates.specs.Code.{ReferenceAt, CallAt}
+use Rattle.b67_templates.specs.Code.{ReferenceAt, BegunAt}
 use Rattle.b67_standing.specs.Stepping.{Slot, operand, reference, intrinsic, control, mark, HasRoom}
 use Rattle.b67_cores.specs.Cores.{Core}
-use Rattle.b67_cores.specs.Slots.{IsTruth}
+use Rattle.b67_cores.specs.Slots.{Known, IsTruth}
 use Rattle.b67_cores.proofs.Moving.{Standing, nothing, on}
 use Rattle.b67_cores.proofs.Operating.{Goes, pushed, marking}
 
@@ -57,30 +57,30 @@ control_row : (c : Pcw) (place : ℕ) → row (ops.Mpcw (pcw_word c).bits) place
 unfolding row pcw_word
 control_row c place = refl
 
-module _ (sc : Scopes) (context : Context) (code : Code) (ps : List Placed) (level most bound : ℕ) (core : Core) (st : Standing sc code ps level most bound core) where
+module _ (sc : Scopes) (known : List Known) (context : Context) (code : Code) (ps : List Placed) (level most bound : ℕ) (core : Core) (st : Standing sc known code ps level most bound core) where
   abbrev Gets : ℕ → List Slot → ℕ → List Slot → Type 0
-  Gets = Goes sc code ps level most bound core st
+  Gets = Goes sc known code ps level most bound core st
 
   pub push_number : (from next : ℕ) (z : ℤ) (x : List Slot) → NumberAt ps level z from next → HasRoom most x 1 → Gets from x next (operand (number z) ∷ x)
   push_number from next z x at room =
-      pushed sc code ps level most bound core st from next at.op (operand (number z)) x (words.operand z) at.stands (literal_row from at.literal)
+      pushed sc known code ps level most bound core st from next at.op (operand (number z)) x (words.operand z) at.stands (literal_row from at.literal)
       (record { is = refl; whole = at.whole }) refl room
 
   pub push_truth : (from next : ℕ) (b : Bool) (x : List Slot) → Has ps level from (ops.Plain (truth_literal b)) next → HasRoom most x 1
       → Gets from x next (operand (truth b) ∷ x)
   push_truth from next b x at room =
-      pushed sc code ps level most bound core st from next (ops.Plain (truth_literal b)) (operand (truth b)) x (literal_word b) at (truth_row b from)
+      pushed sc known code ps level most bound core st from next (ops.Plain (truth_literal b)) (operand (truth b)) x (literal_word b) at (truth_row b from)
       (literal_is b) refl room
 
   -- the reference of a cell, and a control word
-  reference_at : (from next : ℕ) (c : Couple) (x : List Slot) → Has ps level from (ops.Namc c) next → HasRoom most x 1 → Gets from x next (reference c ∷ x)
+  pub reference_at : (from next : ℕ) (c : Couple) (x : List Slot) → Has ps level from (ops.Namc c) next → HasRoom most x 1 → Gets from x next (reference c ∷ x)
   unfolding row
   reference_at from next c x at room =
-      pushed sc code ps level most bound core st from next (ops.Namc c) (reference c) x (rows.reference c) at refl refl refl room
+      pushed sc known code ps level most bound core st from next (ops.Namc c) (reference c) x (rows.reference c) at refl refl refl room
 
   pub control_at : (from next : ℕ) (c : Pcw) (x : List Slot) → Has ps level from (ops.Mpcw (pcw_word c).bits) next → HasRoom most x 1 → Gets from x next (control c ∷ x)
   control_at from next c x at room =
-      pushed sc code ps level most bound core st from next (ops.Mpcw (pcw_word c).bits) (control c) x (pcw_word c) at (control_row c from) refl refl room
+      pushed sc known code ps level most bound core st from next (ops.Mpcw (pcw_word c).bits) (control c) x (pcw_word c) at (control_row c from) refl refl room
 
   pub push_name : (from next : ℕ) (n : Named) (k : Kind) (x : List Slot) (at : ReferenceAt sc context ps level n k from next) → HasRoom most x 1
       → Gets from x next (reference at.0 ∷ x)
@@ -91,23 +91,23 @@ module _ (sc : Scopes) (context : Context) (code : Code) (ps : List Placed) (lev
       → Gets from x next (intrinsic name ∷ mark ∷ x)
   unfolding row
   push_intrinsic from next name x at room =
-      on sc code ps level most bound core st (marking sc code ps level most bound core st from at.0 x at.1 (omega (arith, room)))
-      (pushed sc code ps level most bound core st at.0 next (ops.Namc (couple_of_intrinsic name)) (intrinsic name) (mark ∷ x)
+      on sc known code ps level most bound core st (marking sc known code ps level most bound core st from at.0 x at.1 (omega (arith, room)))
+      (pushed sc known code ps level most bound core st at.0 next (ops.Namc (couple_of_intrinsic name)) (intrinsic name) (mark ∷ x)
       (rows.reference (couple_of_intrinsic name)) at.2 refl refl refl (omega (arith, room)))
 
   -- the start of the entry of a block: a mark and the control word of its code
   pub push_control : (from to begin : ℕ) (x : List Slot) (e : EntryAt ps level context.segment begin from to) → HasRoom most x 2
       → Gets from x e.named (control (code_at context.segment begin (level + 1)) ∷ mark ∷ x)
   push_control from to begin x e room =
-      on sc code ps level most bound core st (marking sc code ps level most bound core st from e.marked x e.mark (omega (arith, room)))
+      on sc known code ps level most bound core st (marking sc known code ps level most bound core st from e.marked x e.mark (omega (arith, room)))
       (control_at e.marked e.named (code_at context.segment begin (level + 1)) (mark ∷ x) e.control (omega (arith, room)))
 
   -- the start of the call of a procedure: a mark and the reference of its control word
-  pub push_procedure : (from to : ℕ) (n : Named) (callee : ℕ) (x : List Slot) (c : CallAt sc context ps level n callee from to) → HasRoom most x 2
-      → Gets from x c.named (reference c.couple ∷ mark ∷ x)
-  push_procedure from to n callee x c room =
-      on sc code ps level most bound core st (marking sc code ps level most bound core st from c.marked x c.mark (omega (arith, room)))
-      (reference_at c.marked c.named c.couple (mark ∷ x) c.reference (omega (arith, room)))
+  pub push_procedure : (from next : ℕ) (n : Named) (callee : ℕ) (x : List Slot) (c : BegunAt sc context ps level n callee from next) → HasRoom most x 2
+      → Gets from x next (reference c.couple ∷ mark ∷ x)
+  push_procedure from next n callee x c room =
+      on sc known code ps level most bound core st (marking sc known code ps level most bound core st from c.marked x c.mark (omega (arith, room)))
+      (reference_at c.marked next c.couple (mark ∷ x) c.reference (omega (arith, room)))
 
   -- ---- operators without operands
 
@@ -118,8 +118,8 @@ module _ (sc : Scopes) (context : Context) (code : Code) (ps : List Placed) (lev
         → Run more y z → Run (kind ∷ more) x z
 
   pub run_at : {kinds : List PlainKind} {x y : List Slot} (from to : ℕ) → Run kinds x y → AllAt ps level kinds from to → Gets from x to y
-  run_at from to (done {x = x}) e = subst (λ t. Gets from x t x) e (nothing sc code ps level most bound core st from x)
-  run_at from to (next p more) t = on sc code ps level most bound core st (p from t.0 t.1) (run_at t.0 to more t.2)
+  run_at from to (done {x = x}) e = subst (λ t. Gets from x t x) e (nothing sc known code ps level most bound core st from x)
+  run_at from to (next p more) t = on sc known code ps level most bound core st (p from t.0 t.1) (run_at t.0 to more t.2)
 
   pub zero_at : (x : List Slot) → HasRoom most x 1 → (from to : ℕ) → Has ps level from (ops.Plain kinds.Zero) to → Gets from x to (operand (number (pos 0)) ∷ x)
   zero_at x room from to at = push_number from to (pos 0) x (record { op = ops.Plain kinds.Zero; stands = at; literal = zero_pushed; whole = omega arith }) room

@@ -12,54 +12,60 @@ use Rattle.b67_templates.specs.Contexts.{Context}
 use Rattle.b67_table.specs.PrivateRows.{negated, complemented}
 use Rattle.b67_table.specs.Rows.{row}
 use Rattle.b67_templates.specs.Fragments.{operator_for}
-use Rattle.b67_standing.specs.Stepping.{Slot, ready, Step, Leads, push_number, push_truth, push_name, calculate, negate, invert, false_stays, false_goes, true_stays, true_goes, go, call, announce, summon, drop, counts, spent, within, past, within_literal, past_literal, there, first}
+use Rattle.b67_standing.specs.Stepping.{Slot, ready, Step, Leads, push_number, push_truth, push_name, push_array, move, exchange, calculate, negate, invert, false_stays, false_goes, true_stays, true_goes, go, call, announce, summon, drop, counts, spent, within, past, within_literal, past_literal, there, first}
 use Rattle.b67_cores.specs.Cores.{Core}
+use Rattle.b67_cores.specs.Slots.{Known}
 use Rattle.b67_cores.proofs.Taking.{negated_turns, complemented_turns}
 use Rattle.b67_cores.proofs.Calculating.{calculates}
 use Rattle.b67_cores.proofs.Moving.{Standing, nothing, on}
-use Rattle.b67_cores.proofs.Operating.{Goes, binary, unary, dropping, if_true, if_false, going}
+use Rattle.b67_cores.proofs.Operating.{Goes, binary, unary, exchange_descriptor, dropping, if_true, if_false, going}
 use Rattle.b67_cores.proofs.Pushing as pushing
+use Rattle.b67_cores.proofs.Subscripts.{subscript_moved}
 use Rattle.b67_cores.proofs.Looping.{counts_on, count_spent, past_tested, sign_tested}
 
-module _ (sc : Scopes) (context : Context) (code : Code) (ps : List Placed) (level most bound : ℕ) (core : Core) (st : Standing sc code ps level most bound core) where
+module _ (sc : Scopes) (known : List Known) (context : Context) (code : Code) (ps : List Placed) (level most bound : ℕ) (core : Core) (st : Standing sc known code ps level most bound core) where
   abbrev pub Gets : ℕ → List Slot → ℕ → List Slot → Type 0
-  Gets = Goes sc code ps level most bound core st
+  Gets = Goes sc known code ps level most bound core st
 
   aimed : (from m n : ℕ) (x y : List Slot) (b c : Bool) → b ≡ c → Gets from x (if b then m else n) y → Gets from x (if c then m else n) y
   aimed from m n x y b c e g = subst (λ (t : Bool). Gets from x (if t then m else n) y) e g
 
   pub stepped : (from to : ℕ) (x y : List Slot) → Step sc context ps level most from x to y → Gets from x to y
   unfolding row
-  stepped from to x y (push_number z at room) = pushing.push_number sc context code ps level most bound core st from to z x at room
-  stepped from to x y (push_truth b at room) = pushing.push_truth sc context code ps level most bound core st from to b x at room
-  stepped from to x y (push_name n k at room) = pushing.push_name sc context code ps level most bound core st from to n k x at room
+  stepped from to x y (push_number z at room) = pushing.push_number sc known context code ps level most bound core st from to z x at room
+  stepped from to x y (push_truth b at room) = pushing.push_truth sc known context code ps level most bound core st from to b x at room
+  stepped from to x y (push_name n k at room) = pushing.push_name sc known context code ps level most bound core st from to n k x at room
+  stepped from to x y (push_array n a c is at room) = pushing.reference_at sc known context code ps level most bound core st from to c x at room
+  stepped from to x y (move {below = below} low i at whole room forward) =
+      subscript_moved sc known context code ps level most bound core st low i below whole room from to at
+  stepped from to x y (exchange {below = below} v h at) = exchange_descriptor sc known code ps level most bound core st from to v h below at
   stepped from to x y (calculate {below = below} op v w u at hv hw e) =
       let c = calculates op v w u hv hw e in
-      binary sc code ps level most bound core st from to (operator_for op) c.change (ready op v) w u below at (c.row_is from) c.takes
+      binary sc known code ps level most bound core st from to (operator_for op) c.change (ready op v) w u below at (c.row_is from) c.takes
   stepped from to x y (negate {below = below} z at h) =
-      unary sc code ps level most bound core st from to kinds.Chsn negated (number z) (number (negation_of z)) below at refl (negated_turns z h)
+      unary sc known code ps level most bound core st from to kinds.Chsn negated (number z) (number (negation_of z)) below at refl (negated_turns z h)
   stepped from to x y (invert {below = below} b at) =
-      unary sc code ps level most bound core st from to kinds.Lnot complemented (truth b) _ below at refl (complemented_turns b)
-  stepped from to x y (false_stays {target = target} at) = if_false sc code ps level most bound core st from target to true y at
-  stepped from to x y (false_goes {next = next} at) = if_false sc code ps level most bound core st from to next false y at
-  stepped from to x y (true_stays {target = target} at) = if_true sc code ps level most bound core st from target to false y at
-  stepped from to x y (true_goes {next = next} at) = if_true sc code ps level most bound core st from to next true y at
-  stepped from to x y (go {next = next} at) = going sc code ps level most bound core st from to next x at
-  stepped from to x y (call name at room) = pushing.push_intrinsic sc context code ps level most bound core st from to name x at room
-  stepped from to x y (announce {to = end} begin e room) = pushing.push_control sc context code ps level most bound core st from end begin x e room
-  stepped from to x y (summon {to = end} n callee c room) = pushing.push_procedure sc context code ps level most bound core st from end n callee x c room
-  stepped from to x y (drop v at) = dropping sc code ps level most bound core st from to v y at
-  stepped from to x y (counts {l = l} {below = below} z at h e room) = counts_on sc context code ps level most bound core st from l to z below at room h e
-  stepped from to x y (spent {next = next} {below = below} z at h e room) = count_spent sc context code ps level most bound core st from to next z below at room e
+      unary sc known code ps level most bound core st from to kinds.Lnot complemented (truth b) _ below at refl (complemented_turns b)
+  stepped from to x y (false_stays {target = target} at) = if_false sc known code ps level most bound core st from target to true y at
+  stepped from to x y (false_goes {next = next} at) = if_false sc known code ps level most bound core st from to next false y at
+  stepped from to x y (true_stays {target = target} at) = if_true sc known code ps level most bound core st from target to false y at
+  stepped from to x y (true_goes {next = next} at) = if_true sc known code ps level most bound core st from to next true y at
+  stepped from to x y (go {next = next} at) = going sc known code ps level most bound core st from to next x at
+  stepped from to x y (call name at room) = pushing.push_intrinsic sc known context code ps level most bound core st from to name x at room
+  stepped from to x y (announce {to = end} begin e room) = pushing.push_control sc known context code ps level most bound core st from end begin x e room
+  stepped from to x y (summon n callee c room) = pushing.push_procedure sc known context code ps level most bound core st from to n callee x c room
+  stepped from to x y (drop v at) = dropping sc known code ps level most bound core st from to v y at
+  stepped from to x y (counts {l = l} {below = below} z at h e room) = counts_on sc known context code ps level most bound core st from l to z below at room h e
+  stepped from to x y (spent {next = next} {below = below} z at h e room) = count_spent sc known context code ps level most bound core st from to next z below at room e
   stepped from to x y (within {u = u} d z at hd hz e room) =
-      aimed from u to _ y (is_past d z) false e (past_tested sc context code ps level most bound core st from u to d z y at hd hz room)
+      aimed from u to _ y (is_past d z) false e (past_tested sc known context code ps level most bound core st from u to d z y at hd hz room)
   stepped from to x y (past {next = next} d z at hd hz e room) =
-      aimed from to next _ y (is_past d z) true e (past_tested sc context code ps level most bound core st from to next d z y at hd hz room)
+      aimed from to next _ y (is_past d z) true e (past_tested sc known context code ps level most bound core st from to next d z y at hd hz room)
   stepped from to x y (within_literal u d z s at hd e room) =
-      aimed from u to _ y (is_past d z) false e (sign_tested sc context code ps level most bound core st from u to d y s at room)
+      aimed from u to _ y (is_past d z) false e (sign_tested sc known context code ps level most bound core st from u to d y s at room)
   stepped from to x y (past_literal next d z s at hd e room) =
-      aimed from to next _ y (is_past d z) true e (sign_tested sc context code ps level most bound core st from to next d y s at room)
+      aimed from to next _ y (is_past d z) true e (sign_tested sc known context code ps level most bound core st from to next d y s at room)
 
   pub led : (from to : ℕ) (x y : List Slot) → Leads sc context ps level most from x to y → Gets from x to y
-  led from to x y there = nothing sc code ps level most bound core st from x
-  led from to x y (first {b = b} {y = z} step more) = on sc code ps level most bound core st (stepped from b x z step) (led b to z y more)
+  led from to x y there = nothing sc known code ps level most bound core st from x
+  led from to x y (first {b = b} {y = z} step more) = on sc known code ps level most bound core st (stepped from b x z step) (led b to z y more)

@@ -1,5 +1,5 @@
 -- Which words slots are, above the floor of a frame.
-use Rattle.std.specs.Prelude.{◌≡◌, ℕ, ◌+◌, ◌-◌, ◌%◌, ◌^◌, ◌<◌, if◌then◌else◌, ℤ, Bool, List, [], ◌∷◌, length}
+use Rattle.std.specs.Prelude.{◌≡◌, ◌⊎◌, ℕ, ◌+◌, ◌-◌, ◌%◌, ◌^◌, ◌<◌, if◌then◌else◌, ℤ, Bool, List, [], ◌∷◌, length}
 use Rattle.algol_tree.specs.Scopes.{Scopes}
 use Rattle.algol_meaning.specs.Value.{Value, number, truth}
 use Rattle.b67_word.specs.Word.{Word}
@@ -9,7 +9,7 @@ use Rattle.b67_ops.specs.Intrinsics.{couple_of_intrinsic}
 use Rattle.b67_table.specs.PrivateRows.{open_mark}
 use Rattle.b67_table.specs.PrivateRows as rows
 use Rattle.b67_templates.specs.Fragments.{IsWhole}
-use Rattle.b67_standing.specs.Stepping.{Slot, operand, reference, intrinsic, control, mark}
+use Rattle.b67_standing.specs.Stepping.{Held, Slot, operand, reference, intrinsic, control, descriptor, mark}
 
 -- ---- values
 
@@ -36,15 +36,27 @@ newest home base (operand v ∷ below) = newest home base below
 newest home base (reference n ∷ below) = newest home base below
 newest home base (intrinsic i ∷ below) = newest home base below
 newest home base (control c ∷ below) = newest home base below
+newest home base (descriptor h ∷ below) = newest home base below
 newest home base (mark ∷ below) = base + length below
 
-module _ (sc : Scopes) (level home base : ℕ) where
+-- a descriptor that lies on the stack: what it is of, and its word
+pub record Known : Type 0 where
+  pub held : Held
+  pub word : Word
+
+abbrev pub IsKnown : List Known → Held → Word → Type 0
+IsKnown [] held w = ⊥
+IsKnown (x ∷ known) held w = ((x.held ≡ held) × (x.word ≡ w)) ⊎ IsKnown known held w
+
+-- these are known as the words of descriptors
+module _ (sc : Scopes) (known : List Known) (level home base : ℕ) where
   -- the word of a slot above these: a mark has its distance to the newest of them, or to the frame's own
   abbrev pub SlotIs : List Slot → Slot → Word → Type 0
   SlotIs below (operand v) w = ValueIs v w
   SlotIs below (reference c) w = w ≡ rows.reference c
   SlotIs below (intrinsic i) w = w ≡ rows.reference (couple_of_intrinsic i)
   SlotIs below (control c) w = w ≡ pcw_word c
+  SlotIs below (descriptor held) w = IsKnown known held w
   SlotIs below mark w = w ≡ open_mark (base + length below - newest home base below)
 
   -- the words of slots, the top first

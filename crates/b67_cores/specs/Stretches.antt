@@ -1,5 +1,5 @@
 -- Stretches of private operators: what they do in an image, and what they do in a frame whose words are slots.
-use Rattle.std.specs.Prelude.{◌≡◌, ◌≢◌, ◌↔◌, ℕ, ◌+◌, ◌<◌, ◌≤◌, true, false, pos, List, [], ◌∷◌, ◌++◌, length, map, replicate, Some, Err, slice_get}
+use Rattle.std.specs.Prelude.{◌≡◌, ◌≢◌, ◌↔◌, ℕ, ◌+◌, ◌<◌, ◌≤◌, true, false, pos, List, [], ◌∷◌, ◌++◌, length, map, reverse, replicate, Some, Err, slice_get}
 use Rattle.b67_list.specs.Numbered.{numbered}
 use Rattle.algol_tree.specs.declared.tree.Op.{Op}
 use Rattle.algol_tree.specs.Scopes.{Scopes}
@@ -15,6 +15,7 @@ use Rattle.b67_word.specs.Word.{Word}
 use Rattle.b67_word.specs.Word as words
 use Rattle.b67_ops.specs.declared.TheConstants.{MOST_LEVEL}
 use Rattle.b67_ops.specs.declared.Operator.TheVariants as ops
+use Rattle.b67_ops.specs.declared.PlainKind.TheVariants as kinds
 use Rattle.b67_segment.specs.Operators.{Placed}
 use Rattle.b67_segment.specs.Syllables.{Spells}
 use Rattle.b67_segment.specs.declared.code.Code.{Code}
@@ -34,7 +35,7 @@ use Rattle.b67_templates.specs.Fragments.{Has, HasKind, code_at, operator_for}
 use Rattle.b67_templates.specs.Code.{CellsAt}
 use Rattle.b67_standing.specs.Stepping.{Slot, operand, ready, Step, Leads}
 use Rattle.b67_cores.specs.Cores.{Core, size, IsCore, over, HasCore, with_core, CoreFaults, CoreStep, CoreSteps}
-use Rattle.b67_cores.specs.Slots.{newest, SlotsAre}
+use Rattle.b67_cores.specs.Slots.{Known, newest, SlotsAre}
 
 -- ---- in an image
 
@@ -117,7 +118,7 @@ ValidImagesHaveCores =
 -- ---- in a frame
 
 -- the core is at a place of these operators, at their level, and its words are these slots
-pub record CoreAt (sc : Scopes) (code : Code) (ps : List Placed) (level place : ℕ) (slots : List Slot) (core : Core) : Type 0 where
+pub record CoreAt (sc : Scopes) (known : List Known) (code : Code) (ps : List Placed) (level place : ℕ) (slots : List Slot) (core : Core) : Type 0 where
   pub segment : Segment
   pub there : slice_get code.segments core.registers.segment ≡ Some segment
   pub spells : Spells ps segment
@@ -125,7 +126,7 @@ pub record CoreAt (sc : Scopes) (code : Code) (ps : List Placed) (level place : 
   pub place_is : core.registers.place ≡ place
   pub is : IsCore core
   pub mark_is : core.registers.f ≡ newest (frame core.registers) (length core.below) slots
-  pub words_are : SlotsAre sc level (frame core.registers) (length core.below) slots core.words
+  pub words_are : SlotsAre sc known level (frame core.registers) (length core.below) slots core.words
 
 -- the core is another one in the words above the floor and in S, F and the place of the pointer alone
 pub record IsMoved (a b : Core) : Type 0 where
@@ -133,11 +134,11 @@ pub record IsMoved (a b : Core) : Type 0 where
   pub registers : b.registers ≡ record a.registers { s = b.registers.s; f = b.registers.f; place = b.registers.place }
 
 -- private operators lead from the core to one at that place with those slots, at most as many as there are syllables between
-pub record Arrives (sc : Scopes) (code : Code) (ps : List Placed) (level most bound place : ℕ) (slots : List Slot) (a : Core) : Type 0 where
+pub record Arrives (sc : Scopes) (known : List Known) (code : Code) (ps : List Placed) (level most bound place : ℕ) (slots : List Slot) (a : Core) : Type 0 where
   pub count : ℕ
   pub core : Core
   pub steps : CoreSteps code bound count a core
-  pub at : CoreAt sc code ps level place slots core
+  pub at : CoreAt sc known code ps level place slots core
   pub moved : IsMoved a core
   pub room : length slots ≤ most
   pub few : count + a.registers.place ≤ place
@@ -145,16 +146,16 @@ pub record Arrives (sc : Scopes) (code : Code) (ps : List Placed) (level most bo
 -- What a fragment of private operators does by the meaning of its words the machine does, in each core that stands so: where most slots
 -- lie above the floor, its stack has the most words of the bound.
 pub record FragmentsArePerformed : Type 0 where
-  pub step : (sc : Scopes) (context : Context) (code : Code) (ps : List Placed) (level most bound from to : ℕ) (x y : List Slot) (core : Core)
-      → Step sc context ps level most from x to y → CoreAt sc code ps level from x core → length x ≤ most → length core.below + most ≤ bound
-      → Arrives sc code ps level most bound to y core
-  pub leads : (sc : Scopes) (context : Context) (code : Code) (ps : List Placed) (level most bound from to : ℕ) (x y : List Slot) (core : Core)
-      → Leads sc context ps level most from x to y → CoreAt sc code ps level from x core → length x ≤ most → length core.below + most ≤ bound
-      → Arrives sc code ps level most bound to y core
+  pub step : (sc : Scopes) (known : List Known) (context : Context) (code : Code) (ps : List Placed) (level most bound from to : ℕ) (x y : List Slot) (core : Core)
+      → Step sc context ps level most from x to y → CoreAt sc known code ps level from x core → length x ≤ most → length core.below + most ≤ bound
+      → Arrives sc known code ps level most bound to y core
+  pub leads : (sc : Scopes) (known : List Known) (context : Context) (code : Code) (ps : List Placed) (level most bound from to : ℕ) (x y : List Slot) (core : Core)
+      → Leads sc context ps level most from x to y → CoreAt sc known code ps level from x core → length x ≤ most → length core.below + most ≤ bound
+      → Arrives sc known code ps level most bound to y core
   -- an operator of the language without a result is a fault
-  pub fault : (sc : Scopes) (code : Code) (ps : List Placed) (level from to : ℕ) (op : Op) (v w : Value) (fault : NumFault) (below : List Slot) (core : Core)
+  pub fault : (sc : Scopes) (known : List Known) (code : Code) (ps : List Placed) (level from to : ℕ) (op : Op) (v w : Value) (fault : NumFault) (below : List Slot) (core : Core)
       → Has ps level from (ops.Plain (operator_for op)) to → HasKind (taken_by op) v → HasKind (taken_by op) w → result_of op v w ≡ Err fault
-      → CoreAt sc code ps level from (operand w ∷ operand (ready op v) ∷ below) core → CoreFaults code core (fault_of fault)
+      → CoreAt sc known code ps level from (operand w ∷ operand (ready op v) ∷ below) core → CoreFaults code core (fault_of fault)
 
 -- ---- the start of a block
 
@@ -163,19 +164,45 @@ abbrev pub control_words : ℕ → List ℕ → List Word
 control_words level segments = map (λ (segment : ℕ). pcw_word (code_at segment 0 (level + 1))) segments
 
 -- Private operators lead to a core with so many cells more that are 0, and those of procedures, and no words above the floor.
-pub record Begins (sc : Scopes) (code : Code) (ps : List Placed) (level bound many : ℕ) (segments : List ℕ) (place : ℕ) (a : Core) : Type 0 where
+pub record Begins (sc : Scopes) (known : List Known) (code : Code) (ps : List Placed) (level bound many : ℕ) (segments : List ℕ) (place : ℕ) (a : Core) : Type 0 where
   pub count : ℕ
   pub core : Core
   pub steps : CoreSteps code bound count a core
   pub below : core.below ≡ a.below ++ (replicate many (words.operand (pos 0)) ++ control_words level segments)
   pub registers : core.registers ≡ record a.registers { s = size core; f = frame a.registers; cells = a.registers.cells + (many + length segments); place = place }
-  pub at : CoreAt sc code ps level place [] core
+  pub at : CoreAt sc known code ps level place [] core
   pub few : count + a.registers.place ≤ place
 
 -- so do the zeros of a block's variables, the control words of its procedures, and PUSH, where the frame has room for the cells
 abbrev pub BlocksBegin : Type 0
 BlocksBegin =
-    (sc : Scopes) (context : Context) (code : Code) (ps : List Placed) (level bound many : ℕ) (segments : List ℕ) (from to : ℕ) (core : Core)
-    → CellsAt sc context ps level many segments from to → CoreAt sc code ps level from [] core
+    (sc : Scopes) (known : List Known) (context : Context) (code : Code) (ps : List Placed) (level bound many : ℕ) (segments : List ℕ) (from to : ℕ) (core : Core)
+    → CellsAt sc context ps level many segments from to → CoreAt sc known code ps level from [] core
     → core.registers.cells + (many + length segments) ≤ most_cells → length core.below + (many + length segments) ≤ bound
-    → Begins sc code ps level bound many segments to core
+    → Begins sc known code ps level bound many segments to core
+
+-- ---- cells that are made later
+
+-- the core is at a place of these operators, at their level
+pub record IsAt (code : Code) (ps : List Placed) (level place : ℕ) (core : Core) : Type 0 where
+  pub segment : Segment
+  pub there : slice_get code.segments core.registers.segment ≡ Some segment
+  pub spells : Spells ps segment
+  pub level_is : core.registers.ll ≡ level
+  pub place_is : core.registers.place ≡ place
+  pub is : IsCore core
+
+-- One private operator leads to a core whose cells are those that there were, and all words above them.
+pub record Becomes (sc : Scopes) (known : List Known) (code : Code) (ps : List Placed) (level bound place : ℕ) (a : Core) : Type 0 where
+  pub core : Core
+  pub steps : CoreSteps code bound 1 a core
+  pub below : core.below ≡ a.below ++ reverse a.words
+  pub registers : core.registers ≡ record a.registers { s = size core; f = frame a.registers; cells = a.registers.cells + length a.words; place = place }
+  pub at : CoreAt sc known code ps level place [] core
+
+-- so does PUSH where no mark lies above the cells, and the frame has room for them
+abbrev pub CellsAreMade : Type 0
+CellsAreMade =
+    (sc : Scopes) (known : List Known) (code : Code) (ps : List Placed) (level bound from to : ℕ) (core : Core)
+    → Has ps level from (ops.Plain kinds.Push) to → IsAt code ps level from core → core.registers.f ≡ frame core.registers
+    → core.registers.cells + length core.words ≤ most_cells → size core ≤ bound → Becomes sc known code ps level bound to core

@@ -2,7 +2,7 @@
 //! stands for a source.
 #![tactic(auto)]
 
-ghost use Rattle.b67_cores.specs.Stretches.{StepsArePerformed, StepsComeToLimit, FaultsArePerformed, CoresDecide, StepsGoForward, StepsStayAbove, ValidImagesHaveCores, FragmentsArePerformed, BlocksBegin};
+ghost use Rattle.b67_cores.specs.Stretches.{StepsArePerformed, StepsComeToLimit, FaultsArePerformed, CoresDecide, StepsGoForward, StepsStayAbove, ValidImagesHaveCores, FragmentsArePerformed, BlocksBegin, CellsAreMade};
 
 /// Law: each process of a valid image that lives has a core.
 pub fn valid_images_have_cores()
@@ -47,4 +47,9 @@ pub fn fragments_are_performed()
 /// procedures.
 pub fn blocks_begin()
     ensures { BlocksBegin }
+{}
+
+/// Law: PUSH makes cells of all words above the floor, as of the descriptors of a block's arrays.
+pub fn cells_are_made()
+    ensures { CellsAreMade }
 {}

@@ -4,17 +4,19 @@ use Rattle.algol_tree.specs.declared.tree.Kind.{Kind}
 use Rattle.algol_tree.specs.declared.tree.Kind.TheVariants as types
 use Rattle.algol_tree.specs.declared.tree.Named.{Named}
 use Rattle.algol_tree.specs.declared.tree.PhraseText.{PhraseText}
-use Rattle.algol_tree.specs.Plain.{PStmts, PBody}
+use Rattle.algol_tree.specs.Plain.{PPair, PStmts, PBody}
 use Rattle.algol_tree.specs.Types.{taken_by}
 use Rattle.algol_tree.specs.Scopes.{Scopes}
 use Rattle.algol_meaning.specs.Value.{Value}
 use Rattle.algol_meaning.specs.Rest as rests
-use Rattle.algol_meaning.specs.Rest.{Hole, Place, Given, Answer}
-use Rattle.algol_meaning.specs.Asks.{nothing, reads_result, enters, leaves, stores, selects, turns, writes, enters_block, ask_hole}
+use Rattle.algol_meaning.specs.Rest.{Hole, Actuals, Aim, Place, Given, Answer}
+use Rattle.algol_meaning.specs.Asks.{nothing, indexes, makes_arrays, reads_result, enters, leaves, stores, selects, turns, writes, enters_block, ask_hole, ask_actuals, ask_aim}
+use Rattle.algol_paths.specs.Arrays.{lows_of}
 use Rattle.b67_segment.specs.Operators.{Placed}
 use Rattle.b67_templates.specs.Contexts.{Context}
-use Rattle.b67_standing.specs.Stepping.{Slot, operand, ready}
-use Rattle.b67_standing.specs.Standing.{Holds}
+use Rattle.b67_standing.specs.Stepping.{Slot, operand, reference, mark, ready}
+use Rattle.b67_standing.specs.Standing.{operands, Holds, Fills, Aims}
+use Rattle.b67_standing.proofs.Seeking.{sought_in}
 
 -- ---- statements
 
@@ -42,16 +44,41 @@ calls_asks n gs e = cc
 pub result_asks : (name : List ℕ) → reads_result name ≡ nothing → ⊥
 result_asks name e = cc
 
+pub arrays_ask : (kind : Kind) (ns : List Named) (pairs : List PPair) (vs : List Value) → makes_arrays kind ns pairs vs ≡ nothing → ⊥
+arrays_ask kind ns pairs vs e = cc
+
+indexes_asks : (n : Named) (ks : List ℕ) (v : Value) → indexes n ks v ≡ nothing → ⊥
+indexes_asks n ks v e = cc
+
 -- ---- expressions
 
 module _ (sc : Scopes) (context : Context) (ps : List Placed) (level most : ℕ) where
-  pub holds_asks : (k : Kind) (h : Hole) (pc : ℕ) (slots below : List Slot) (to : ℕ) → Holds sc context ps level most k h pc slots below to → ask_hole h ≡ nothing → ⊥
-  holds_asks k (rests.read n) pc slots below to s e = cc
-  holds_asks k (rests.broken op v w fault) pc slots below to s e = cc
-  holds_asks k (rests.enter n gs) pc slots below to s e = cc
-  holds_asks k (rests.left op h b) pc slots below to s e = holds_asks (taken_by op) h pc slots below s.0 s.5 e
-  holds_asks k (rests.right op v h) pc slots below to s e = holds_asks (taken_by op) h pc slots (operand (ready op v) ∷ below) s.0 s.4 e
-  holds_asks k (rests.negated h) pc slots below to s e = holds_asks types.Number h pc slots below s.0 s.3 e
-  holds_asks k (rests.inverted h) pc slots below to s e = holds_asks types.Truth h pc slots below s.0 s.3 e
-  holds_asks k (rests.condition h x y) pc slots below to s e = holds_asks types.Truth h pc slots below s.0 s.6 e
-  holds_asks k _ pc slots below to s e = absurd s
+  mutual
+    pub holds_asks : (k : Kind) (h : Hole) (pc : ℕ) (slots below : List Slot) (to : ℕ) → Holds sc context ps level most k h pc slots below to → ask_hole h ≡ nothing → ⊥
+    holds_asks k (rests.read n) pc slots below to s e = cc
+    holds_asks k (rests.broken op v w fault) pc slots below to s e = cc
+    holds_asks k (rests.enter n gs) pc slots below to s e = cc
+    holds_asks k (rests.left op h b) pc slots below to s e = holds_asks (taken_by op) h pc slots below s.0 s.5 e
+    holds_asks k (rests.right op v h) pc slots below to s e = holds_asks (taken_by op) h pc slots (operand (ready op v) ∷ below) s.0 s.4 e
+    holds_asks k (rests.negated h) pc slots below to s e = holds_asks types.Number h pc slots below s.0 s.3 e
+    holds_asks k (rests.inverted h) pc slots below to s e = holds_asks types.Truth h pc slots below s.0 s.3 e
+    holds_asks k (rests.condition h x y) pc slots below to s e = holds_asks types.Truth h pc slots below s.0 s.6 e
+    holds_asks k (rests.element n ks v) pc slots below to s e = cc
+    holds_asks k (rests.index n ks v i is) pc slots below to s e = indexes_asks n ks v e
+    holds_asks k (rests.subscript n ks h es) pc slots below to s e =
+        let w = sought_in sc context ps level most h pc slots n s.1 (lows_of (s.0).pairs) ks es below s.2 s.6 in holds_asks types.Number h pc slots w.over w.at w.holds e
+    holds_asks k (rests.argument n x) pc slots below to s e = fills_asks n s.0 x pc slots below s.1 s.4 e
+    holds_asks k _ pc slots below to s e = absurd s
+
+    pub fills_asks : (n : Named) (callee : ℕ) (x : Actuals) (pc : ℕ) (slots below : List Slot) (filled : ℕ) →
+        Fills sc context ps level most n callee x pc slots below filled → ask_actuals x ≡ nothing → ⊥
+    fills_asks n callee (rests.in_value gs h sorts es) pc slots below filled s e =
+        holds_asks s.3 h pc slots (operands s.1 (reference s.0 ∷ mark ∷ below)) s.5 s.10 e
+    fills_asks n callee (rests.pass gs x sorts es) pc slots below filled s e = absurd s
+
+  pub aims_asks : (k : Kind) (x : Aim) (pc : ℕ) (slots below : List Slot) (to : ℕ) → Aims sc context ps level most k x pc slots below to → ask_aim x ≡ nothing → ⊥
+  aims_asks k (rests.place_index n ks v es) pc slots below to s e = indexes_asks n ks v e
+  aims_asks k (rests.place_subscript n ks h es) pc slots below to s e =
+      let w = sought_in sc context ps level most h pc slots n s.1 (lows_of (s.0).pairs) ks es below s.2 s.5 in holds_asks types.Number h pc slots w.over w.at w.holds e
+  aims_asks k (rests.resolve n) pc slots below to s e = absurd s
+  aims_asks k rests.inside_place pc slots below to s e = absurd s

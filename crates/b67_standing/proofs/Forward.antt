@@ -1,34 +1,26 @@
 -- Private operators lead forward, and neither they nor actions leave more words than there may be.
-use Rattle.std.proofs.Common.{◌≡◌, ap, ℕ, ◌<◌, ◌≤◌, arith, true, List, [], ◌∷◌, length}
+use Rattle.std.proofs.Common.{◌≡◌, ap, ℕ, ◌+◌, ◌<◌, ◌≤◌, arith, true, List, [], ◌∷◌, length}
 use Rattle.std.proofs.lemmas.Int.{ints}
 use Rattle.std.specs.Prelude.{ℤ, pos}
+use Rattle.algol_tree.specs.declared.tree.Named.{Named}
 use Rattle.algol_tree.specs.Scopes.{Scopes}
 use Rattle.algol_meaning.specs.Rest as rests
 use Rattle.algol_meaning.specs.Rest.{own, Answer}
 use Rattle.algol_meaning.specs.Statements.{is_past}
+use Rattle.algol_paths.specs.Arrays.{lows_of}
 use Rattle.algol_meaning.specs.Asks as asks
 use Rattle.algol_meaning.specs.Asks.{Ask}
-use Rattle.b67_ops.specs.declared.Operator.{Operator}
+use Rattle.b67_ops.specs.declared.Couple.{Couple}
 use Rattle.b67_ops.specs.declared.PlainKind.{PlainKind}
 use Rattle.b67_ops.specs.declared.PlainKind.TheVariants as kinds
-use Rattle.b67_ops.proofs.Laws.{length-spelling}
 use Rattle.b67_segment.specs.Operators.{Placed}
 use Rattle.b67_templates.specs.Contexts.{Context}
-use Rattle.b67_templates.specs.Fragments.{Has, AllAt}
 use Rattle.b67_templates.specs.Code.{StepSign, up, down, still, SignedAt}
-use Rattle.b67_standing.specs.Stepping.{Slot, Step, push_number, push_truth, push_name, calculate, negate, invert, false_stays, false_goes, true_stays, true_goes, go, call, announce, summon, drop, counts, spent, within, past, within_literal, past_literal}
-use Rattle.b67_standing.specs.Standing.{line_begun, ActionAt, Acted}
+use Rattle.b67_standing.specs.Stepping.{Slot, Step, push_number, push_truth, push_name, push_array, move, exchange, calculate, negate, invert, false_stays, false_goes, true_stays, true_goes, go, call, announce, summon, drop, counts, spent, within, past, within_literal, past_literal}
+use Rattle.b67_standing.specs.Standing.{line_begun, IsLast, of_row, of_element, ActionAt, Acted}
 use Rattle.b67_standing.specs.Laws.{LeadsHaveRoom, ActionsHaveRoom, StepsGoForward}
-use Rattle.b67_standing.proofs.Leading.{leads_within}
-use Rattle.b67_standing.proofs.Rests.{operands-length}
-
-module _ (ps : List Placed) (level : ℕ) where
-  forward : {at next : ℕ} {op : Operator} → Has ps level at op next → at < next
-  forward {at} {next} {op} h = omega (arith, h.next_is, (length-spelling at level op).0)
-
-  all_forward : (list : List PlainKind) (from to : ℕ) → AllAt ps level list from to → from ≤ to
-  all_forward [] from to h = omega (arith, h)
-  all_forward (kind ∷ more) from to h = omega (arith, forward h.1, all_forward more h.0 to h.2)
+use Rattle.b67_standing.proofs.Leading.{forward, all_forward, leads_within}
+use Rattle.b67_standing.proofs.Actuals.{operands-length}
 
 -- a step of 0 is never past its limit
 not_past : (d : ℤ) → is_past d (pos 0) ≡ true → ⊥
@@ -56,6 +48,9 @@ module _ (sc : Scopes) (context : Context) (ps : List Placed) (level most : ℕ)
   step_forward (push_number z h room) = forward ps level h.stands
   step_forward (push_truth b h room) = forward ps level h
   step_forward (push_name n k h room) = forward ps level h.2
+  step_forward (push_array n a c i h room) = forward ps level h
+  step_forward (move low i h w room on) = on
+  step_forward (exchange v h s) = forward ps level s
   step_forward (calculate op v w x h i j e) = forward ps level h
   step_forward (negate z h w) = forward ps level h
   step_forward (invert b h) = forward ps level h
@@ -76,10 +71,25 @@ module _ (sc : Scopes) (context : Context) (ps : List Placed) (level most : ℕ)
   step_forward {a} {b} (within_literal u d z s h w e room) = signed_next s a u b h
   step_forward {a} {b} (past_literal next d z s h w e room) = signed_out s d a b next h e
 
+  -- under the last subscript that is moved
+  last_within : (n : Named) (c : Couple) (lows : List ℤ) (ks : List ℕ) (i : ℤ) (slots below : List Slot) → IsLast n c lows ks i slots below → length slots ≡ 2 + length below
+  last_within n c (low ∷ []) [] i slots below e = omega (arith, ap length e)
+  last_within n c (low ∷ low' ∷ []) (k ∷ []) i slots below e = omega (arith, ap length e)
+  last_within n c _ _ i slots below e = absurd e
+
   -- what an action leaves
   acted_within : (q : Ask) (pc : ℕ) (slots : List Slot) (action : ActionAt sc context ps level most q pc slots) (a : Answer) (at : ℕ) (after : List Slot) →
       Acted sc context ps level most q pc slots action a at after → length slots ≤ most → length after ≤ most
   acted_within (asks.reads n) pc slots h (rests.value v) at after l room = omega (arith, h.3, ap length l.1)
+  acted_within (asks.reads_element n ks v) pc slots h (rests.value w) at after l room =
+      let r = h.2 in
+      omega (arith, room, last_within n r.couple (lows_of r.array.pairs) ks r.subscript slots h.1 r.lies, ap length l.1)
+  acted_within (asks.indexes n ks v) pc slots (of_row low second next below r) (rests.place (rests.element_of x more)) at after l room =
+      omega (arith, room, ap length r.lies, ap length l.1)
+  acted_within (asks.indexes n ks v) pc slots (of_element kind next below r) (rests.place (rests.element_of x more)) at after l room =
+      omega (arith, room, last_within n r.couple (lows_of r.array.pairs) ks r.subscript slots below r.lies, ap length l.1)
+  acted_within (asks.makes_arrays kind ns pairs vs) pc slots h rests.done at after l room = omega (arith, ap length l.1)
+  acted_within (asks.stores (rests.element_of r ks) v) pc slots h rests.done at after l room = omega (arith, room, ap length (h.2).lies, ap length l.1)
   acted_within (asks.reads_result name) pc slots h (rests.value v) at after l room = omega (arith, h.2, ap length h.1, ap length l.1)
   acted_within (asks.stores (own n) v) pc slots h rests.done at after l room = omega (arith, room, ap length (h.2).lies, ap length l.1)
   acted_within (asks.selects v ss) pc slots h rests.done at after l room = omega (arith, room, ap length (h.2).lies, ap length l.4)

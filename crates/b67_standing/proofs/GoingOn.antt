@@ -1,21 +1,21 @@
 -- Wherever the machine stands for something, the head acts, and from where it leaves the machine the rest goes on. Where a part inside
 -- was entered, the rest goes on when that has left.
-use Rattle.std.proofs.Common.{◌≡◌, refl, sym, ap, ◌∙◌, subst, ℕ, zero, suc, ◌+◌, ◌*◌, ◌<◌, ◌≤◌, arith, Bool, true, false, List, ◌∷◌, Option, Some, None}
+use Rattle.std.proofs.Common.{◌≡◌, refl, sym, ap, ◌∙◌, subst, ℕ, zero, suc, ◌+◌, ◌*◌, ◌<◌, ◌≤◌, arith, Bool, true, false, List, [], ◌∷◌, length, Option, Some, None}
 use Rattle.std.specs.Prelude.{nat_abs}
 use Rattle.algol_tree.specs.declared.tree.Kind.{Kind}
 use Rattle.algol_tree.specs.declared.tree.Kind.TheVariants as types
 use Rattle.algol_tree.specs.declared.tree.Named.{Named}
 use Rattle.algol_tree.specs.declared.tree.PhraseText.{PhraseText}
 use Rattle.algol_tree.specs.Plain as tree
-use Rattle.algol_tree.specs.Plain.{PStmts, PBody}
+use Rattle.algol_tree.specs.Plain.{PPair, PStmts, PBody}
 use Rattle.algol_tree.specs.Blocks.{block_numbered}
 use Rattle.algol_tree.specs.Scopes.{Scopes}
-use Rattle.algol_meaning.specs.Value.{Value, whole_of}
+use Rattle.algol_meaning.specs.Value.{Value, number, whole_of}
 use Rattle.algol_meaning.specs.Rest as rests
-use Rattle.algol_meaning.specs.Rest.{own, Given, Hole, Half, busy, Item, Rest, Answer}
-use Rattle.algol_meaning.specs.Settle.{half_of, is_typed, put}
-use Rattle.algol_meaning.specs.Statements.{run_and, turn_and, assigned_of, chosen_of, looped_of, checked_of, counted_of, counted_body, selected_of, item_of, tested_of, differed_of, settle_line, settle_stmt, settle_items}
-use Rattle.algol_meaning.specs.Asks.{nothing, reads_result, leaves, stores, selects, turns, writes, ask_hole, ask, evaluated_of, nth_stmt, called, resume}
+use Rattle.algol_meaning.specs.Rest.{own, Given, Hole, Actuals, HalfGiven, Item, Rest, Answer}
+use Rattle.algol_meaning.specs.Settle.{half_of, is_typed, put_actuals}
+use Rattle.algol_meaning.specs.Statements.{run_and, turn_and, assigned_of, chosen_of, looped_of, checked_of, counted_of, counted_body, selected_of, statement_called_of, item_of, bound_of, tested_of, differed_of, settle_line, settle_bounds, settle_stmt, settle_items}
+use Rattle.algol_meaning.specs.Asks.{nothing, reads_result, leaves, stores, selects, turns, writes, makes_arrays, ask, evaluated_of, nth_stmt, called, resume}
 use Rattle.b67_ops.specs.declared.Operator.TheVariants as ops
 use Rattle.b67_ops.specs.declared.PlainKind.TheVariants as kinds
 use Rattle.b67_ops.specs.declared.BranchKind.TheVariants.{Brun}
@@ -25,16 +25,21 @@ use Rattle.b67_templates.specs.Contexts.{Context}
 use Rattle.b67_templates.specs.Fragments.{Has, BranchAt, Goes, stop}
 use Rattle.b67_templates.specs.Code.{DroppedAt, StmtAt, CasesAt, any, stmts_count}
 use Rattle.b67_templates.specs.Depths.{stmt_depth, stmts_depth}
-use Rattle.b67_standing.specs.Stepping.{Slot, operand, reference, intrinsic, mark, HasRoom, go, drop, there, first}
-use Rattle.b67_standing.specs.Standing.{pend, operands, Gives, pushed, line_begun, Follows, Holds, Shows, StandsFor, ComesTo, ActionAt, Acted, GoesOn}
+use Rattle.b67_standing.specs.Stepping.{element as element_held, Slot, operand, reference, intrinsic, descriptor, mark, HasRoom, go, drop, there, first}
+use Rattle.b67_standing.specs.Standing.{pend, operands, Gives, pushed, line_begun, arrays_begun, extents, Follows, StandsFor, ComesTo, ActionAt, Acted, GoesOn}
 use Rattle.b67_standing.specs.Laws.{RestsGoOn}
+use Rattle.b67_standing.proofs.Leading.{pend-none}
 use Rattle.b67_standing.proofs.Asking.{leaves_asks}
-use Rattle.b67_standing.proofs.Settling.{Comes}
-use Rattle.b67_standing.proofs.Putting.{PutsOn, inside_of, inside_asks, puts_on}
-use Rattle.b67_standing.proofs.Rests.{after_rest, stays_here, assigned_stands, chosen_stands, looped_stands, checked_stands, selected_stands, item_stands, line_at}
+use Rattle.b67_standing.proofs.Actuals.{ComesFilled}
+use Rattle.b67_standing.proofs.Putting.{inside_actuals_ask, fills_on}
+use Rattle.b67_standing.proofs.Rests.{after_rest, stays_here, assigned_stands, chosen_stands, looped_stands, checked_stands, selected_stands, called_stands, item_stands, line_at}
 use Rattle.b67_standing.proofs.Loops.{counted_stands, again_at, tested_stands, differed_stands}
 use Rattle.b67_standing.proofs.Performing.{while_body, stmt_at}
+use Rattle.b67_standing.proofs.Elements.{element_assigned}
+use Rattle.b67_standing.proofs.Bounds.{BoundsOf, bound_stands, bounds_at}
 use Rattle.b67_standing.proofs.Items.{items_at}
+use Rattle.b67_standing.proofs.Heads.{next_at, by_head}
+use Rattle.b67_standing.proofs.Aiming.{aiming_on}
 
 nth-depth : (ss : PStmts) (i : ℕ) → i < stmts_count ss → stmt_depth (nth_stmt ss i) ≤ stmts_depth ss
 nth-depth tree.no_stmts i h = omega arith
@@ -51,20 +56,24 @@ module _ (sc : Scopes) (context : Context) (ps : List Placed) (level most : ℕ)
   abbrev Following : List Item → ℕ → Type 0
   Following = Follows sc context ps level most
 
-  -- at the next operator, with the counts of what comes after
-  next_at : (k : List Item) (r : Rest) (to at : ℕ) (after : List Slot) → at ≡ to → after ≡ pend k → Coming r to (pend k) → Coming r at after
-  next_at k r to at after e f c = subst (λ z. Coming r z after) (sym e) (subst (λ o. Coming r to o) (sym f) c)
-
   -- ---- the answers of statements, which are all `done`
 
   stored : (n : rests.Place) (v : Value) (k : List Item) (pc : ℕ) (slots : List Slot) → StandsFor sc context ps level most (rests.store n v k) pc slots →
       Going (rests.store n v k) pc slots
   stored (rests.there x) v k pc slots s = absurd s
-  stored (rests.element_of x ks) v k pc slots s = absurd s
+  stored (rests.element_of x ks) v k pc slots s = record { action = (s.0, pend k, s.1); answered = answer; waits = λ at left wanted l. absurd l; returns = λ at left wanted l. absurd l }
+    where
+      answer : (a : Answer) (at : ℕ) (after : List Slot) → Acted sc context ps level most (stores (rests.element_of x ks) v) pc slots (s.0, pend k, s.1) a at after →
+          Coming (settle_items sc k) at after
+      answer rests.done at after l = next_at sc context ps level most k (settle_items sc k) s.0 at after l.0 l.1 (items_at sc context ps level most k s.0 s.2)
+      answer (rests.value v) at after l = absurd l
+      answer (rests.cell c) at after l = absurd l
+      answer (rests.place p) at after l = absurd l
+      answer rests.entered at after l = absurd l
   stored (own n) v k pc slots s = record { action = (s.0, pend k, s.1); answered = answer; waits = λ at left wanted l. absurd l; returns = λ at left wanted l. absurd l }
     where
       answer : (a : Answer) (at : ℕ) (after : List Slot) → Acted sc context ps level most (stores (own n) v) pc slots (s.0, pend k, s.1) a at after → Coming (settle_items sc k) at after
-      answer rests.done at after l = next_at k (settle_items sc k) s.0 at after l.0 l.1 (items_at sc context ps level most k s.0 s.2)
+      answer rests.done at after l = next_at sc context ps level most k (settle_items sc k) s.0 at after l.0 l.1 (items_at sc context ps level most k s.0 s.2)
       answer (rests.value v) at after l = absurd l
       answer (rests.cell c) at after l = absurd l
       answer (rests.place p) at after l = absurd l
@@ -75,7 +84,19 @@ module _ (sc : Scopes) (context : Context) (ps : List Placed) (level most : ℕ)
   written phrases vs k pc slots s = record { action = (s.0, pend k, s.1); answered = answer; waits = λ at left wanted l. absurd l; returns = λ at left wanted l. absurd l }
     where
       answer : (a : Answer) (at : ℕ) (after : List Slot) → Acted sc context ps level most (writes phrases vs) pc slots (s.0, pend k, s.1) a at after → Coming (settle_items sc k) at after
-      answer rests.done at after l = next_at k (settle_items sc k) s.0 at after l.0 l.1 (items_at sc context ps level most k s.0 s.2)
+      answer rests.done at after l = next_at sc context ps level most k (settle_items sc k) s.0 at after l.0 l.1 (items_at sc context ps level most k s.0 s.2)
+      answer (rests.value v) at after l = absurd l
+      answer (rests.cell c) at after l = absurd l
+      answer (rests.place p) at after l = absurd l
+      answer rests.entered at after l = absurd l
+
+  arrays_made : (kind : Kind) (ns : List Named) (pairs : List PPair) (vs : List Value) (k : List Item) (pc : ℕ) (slots : List Slot) →
+      StandsFor sc context ps level most (rests.arrays kind ns pairs vs k) pc slots → Going (rests.arrays kind ns pairs vs k) pc slots
+  arrays_made kind ns pairs vs k pc slots s = record { action = (s.0, s.1); answered = answer; waits = λ at left wanted l. absurd l; returns = λ at left wanted l. absurd l }
+    where
+      answer : (a : Answer) (at : ℕ) (after : List Slot) → Acted sc context ps level most (makes_arrays kind ns pairs vs) pc slots (s.0, s.1) a at after → Coming (settle_items sc k) at after
+      answer rests.done at after l =
+          next_at sc context ps level most k (settle_items sc k) s.0 at after l.0 (l.1 ∙ sym (pend-none k s.2)) (items_at sc context ps level most k s.0 s.3)
       answer (rests.value v) at after l = absurd l
       answer (rests.cell c) at after l = absurd l
       answer (rests.place p) at after l = absurd l
@@ -85,7 +106,7 @@ module _ (sc : Scopes) (context : Context) (ps : List Placed) (level most : ℕ)
   turned k pc slots s = record { action = (s.0, s.1, s.2); answered = answer; waits = λ at left wanted l. absurd l; returns = λ at left wanted l. absurd l }
     where
       answer : (a : Answer) (at : ℕ) (after : List Slot) → Acted sc context ps level most turns pc slots (s.0, s.1, s.2) a at after → Coming (settle_items sc k) at after
-      answer rests.done at after l = next_at k (settle_items sc k) s.0 at after l.0 (l.1 ∙ s.3) (items_at sc context ps level most k s.0 s.4)
+      answer rests.done at after l = next_at sc context ps level most k (settle_items sc k) s.0 at after l.0 (l.1 ∙ s.3) (items_at sc context ps level most k s.0 s.4)
       answer (rests.value v) at after l = absurd l
       answer (rests.cell c) at after l = absurd l
       answer (rests.place p) at after l = absurd l
@@ -124,7 +145,7 @@ module _ (sc : Scopes) (context : Context) (ps : List Placed) (level most : ℕ)
   -- behind the entry a result is dropped, and what comes after goes on
   dropped : (o : Option Kind) (a : Answer) (k : List Item) (next u at : ℕ) (left : List Slot) → DroppedAt sc context ps level o next u → Gives o a → at ≡ next → left ≡ pend k →
       Following k u → Coming (settle_items sc k) at (pushed a left)
-  dropped None rests.done k next u at left d fits e l follows = next_at k (settle_items sc k) u at left (e ∙ d) l (items_at sc context ps level most k u follows)
+  dropped None rests.done k next u at left d fits e l follows = next_at sc context ps level most k (settle_items sc k) u at left (e ∙ d) l (items_at sc context ps level most k u follows)
   dropped (Some kind) (rests.value v) k next u at left d fits e l follows =
       subst (λ z. Coming (settle_items sc k) z (operand v ∷ left)) (sym e)
       (subst (λ o. Coming (settle_items sc k) next (operand v ∷ o)) (sym l)
@@ -208,7 +229,7 @@ module _ (sc : Scopes) (context : Context) (ps : List Placed) (level most : ℕ)
       answer rests.done at after l =
           let body = subst (λ v. Coming (settle_stmt sc (nth_stmt ss (nat_abs (whole_of v))) k (settle_items sc k)) (s.0 + 3 * l.0) (pend k)) (sym l.1)
           (case_entered ss l.0 s.0 s.1 k s.3 l.2 s.4 s.5) in
-          next_at k (settle_stmt sc (nth_stmt ss (nat_abs (whole_of v))) k (settle_items sc k)) (s.0 + 3 * l.0) at after l.3 l.4 body
+          next_at sc context ps level most k (settle_stmt sc (nth_stmt ss (nat_abs (whole_of v))) k (settle_items sc k)) (s.0 + 3 * l.0) at after l.3 l.4 body
       answer (rests.value v) at after l = absurd l
       answer (rests.cell c) at after l = absurd l
       answer (rests.place p) at after l = absurd l
@@ -216,33 +237,35 @@ module _ (sc : Scopes) (context : Context) (ps : List Placed) (level most : ℕ)
 
   -- ---- heads in expressions
 
-  -- What has its head in an expression does with the expression's value what it does, whether its head answers or a procedure that
-  -- it entered: `f` is what stands there for the expression.
-  by_head : (kind : Kind) (h : Hole) (pc : ℕ) (slots below : List Slot) (to : ℕ) (f : Half → Rest) → Holds sc context ps level most kind h pc slots below to →
-      ((g : Hole) → ask (f (busy g)) ≡ ask_hole g) → ((g : Hole) (a : Answer) → resume sc (f (busy g)) a ≡ f (put sc g a)) →
-      ((z : Half) (at : ℕ) (left : List Slot) → Shows sc context ps level most kind z at left below to → Coming (f z) at left) → Going (f (busy h)) pc slots
-  by_head kind h pc slots below to f holds asks resumes stands =
-      let p : PutsOn sc context ps level most (ask (f (busy h))) kind h pc slots below to =
-      subst (λ q. PutsOn sc context ps level most q kind h pc slots below to) (sym (asks h)) (puts_on sc context ps level most kind h pc slots below to holds) in
-      let goes : (z : Half) (at : ℕ) (left : List Slot) → Comes sc context ps level most kind at left z below to → Coming (f z) at left = λ z at left c.
-      after_rest sc context ps level most c.leads (stands z c.at c.with_slots c.shows) in
-      record {
-        action = p.action;
-        answered = λ a at left l. subst (λ r. Coming r at left) (sym (resumes h a)) (goes (put sc h a) at left (p.answered a at left l));
-        waits = λ at left wanted l. ap ask (resumes h rests.entered ∙ ap f p.inner) ∙ asks (inside_of h) ∙ inside_asks h;
-        returns = λ at left wanted l a fits.
-            let back : resume sc (resume sc (f (busy h)) rests.entered) a ≡ f (put sc h a) =
-            ap (λ r. resume sc r a) (resumes h rests.entered ∙ ap f p.inner) ∙ resumes (inside_of h) a ∙ ap f (p.same a) in
-            subst (λ r. Coming r at (pushed a left)) (sym back) (goes (put sc h a) at (pushed a left) (p.returns at left wanted l a fits));
-      }
-
   storing_on : (n : rests.Place) (h : Hole) (k : List Item) (pc : ℕ) (slots : List Slot) → StandsFor sc context ps level most (rests.storing n h k) pc slots →
       Going (rests.storing n h k) pc slots
   storing_on (rests.there x) h k pc slots s = absurd s
-  storing_on (rests.element_of x ks) h k pc slots s = absurd s
+  storing_on (rests.element_of x ks) h k pc slots s =
+      by_head sc context ps level most s.0 h pc slots (descriptor (element_held x ks s.0) ∷ pend k) s.1 (λ z. assigned_of (rests.element_of x ks) z k) s.3 (λ g. refl) (λ g a. refl)
+      (λ z at left shows. element_assigned sc context ps level most x ks s.0 z at left k s.1 s.2 shows s.4 s.5)
   storing_on (own n) h k pc slots s =
-      by_head s.0 h pc slots (reference s.1 ∷ pend k) s.2 (λ z. assigned_of (own n) z k) s.5 (λ g. refl) (λ g a. refl)
+      by_head sc context ps level most s.0 h pc slots (reference s.1 ∷ pend k) s.2 (λ z. assigned_of (own n) z k) s.5 (λ g. refl) (λ g a. refl)
       (λ z at left shows. assigned_stands sc context ps level most n s.0 s.1 z at left k s.2 s.3 s.4 shows s.6 s.7)
+
+  -- ---- heads in actuals
+
+  calling_on : (n : Named) (x : Actuals) (k : List Item) (pc : ℕ) (slots : List Slot) → StandsFor sc context ps level most (rests.calling n x k) pc slots →
+      Going (rests.calling n x k) pc slots
+  calling_on n x k pc slots s =
+      let p = fills_on sc context ps level most n s.0 x pc slots (pend k) s.1 s.2 s.4 s.5 in
+      let f : HalfGiven → Rest = λ z. statement_called_of n z k in
+      let goes : (z : HalfGiven) (at : ℕ) (left : List Slot) → ComesFilled sc context ps level most n s.0 z at left (pend k) s.2 → Coming (f z) at left = λ z at left c.
+      after_rest sc context ps level most c.leads (called_stands sc context ps level most n s.0 z k c.at c.with_slots s.2 s.3 c.fills s.6 s.7 s.8) in
+      record {
+        action = p.action;
+        answered = λ a at left l. goes (put_actuals sc x a) at left (p.answered a at left l);
+        waits = λ at left wanted l. ap (λ z. ask (f z)) (p.inside at left wanted l).inner ∙ inside_actuals_ask x;
+        returns = λ at left wanted l a fits.
+            let i = p.inside at left wanted l in
+            let back : resume sc (resume sc (rests.calling n x k) rests.entered) a ≡ f (put_actuals sc x a) =
+            ap (λ z. resume sc (f z) a) i.inner ∙ ap f (i.same a) in
+            subst (λ r. Coming r at (pushed a left)) (sym back) (goes (put_actuals sc x a) at (pushed a left) (p.returns at left wanted l a fits));
+      }
 
   -- ---- all rests
 
@@ -254,13 +277,15 @@ module _ (sc : Scopes) (context : Context) (ps : List Placed) (level most : ℕ)
   goes_on_at (rests.select v ss k) pc slots s asks = chosen v ss k pc slots s
   goes_on_at (rests.turning k) pc slots s asks = turned k pc slots s
   goes_on_at (rests.line phrases vs k) pc slots s asks = written phrases vs k pc slots s
+  goes_on_at (rests.arrays kind ns pairs vs k) pc slots s asks = arrays_made kind ns pairs vs k pc slots s
+  goes_on_at (rests.aiming x e k) pc slots s asks = aiming_on sc context ps level most x e k pc slots s
   goes_on_at (rests.entering_block b k) pc slots s asks = block_entered b k pc slots s
   goes_on_at (rests.entering n gs k) pc slots s asks = procedure_entered n gs k pc slots s
   goes_on_at (rests.storing n h k) pc slots s asks = storing_on n h k pc slots s
   goes_on_at (rests.choosing h x y k) pc slots s asks =
       let r = settle_items sc k in
       let more = items_at sc context ps level most k s.5 s.12 in
-      by_head types.Truth h pc slots (pend k) s.0 (λ z. chosen_of z x y k (settle_stmt sc x k r) (settle_stmt sc y k r)) s.6 (λ g. refl) (λ g a. refl)
+      by_head sc context ps level most types.Truth h pc slots (pend k) s.0 (λ z. chosen_of z x y k (settle_stmt sc x k r) (settle_stmt sc y k r)) s.6 (λ g. refl) (λ g a. refl)
       (λ z at left shows.
       chosen_stands sc context ps level most z x y k (settle_stmt sc x k r) (settle_stmt sc y k r) at left s.0 s.1 s.2 s.3 s.4 s.5 shows s.7 s.8 s.9 s.10 s.11 s.12 s.13
       (stmt_at sc context ps level most x s.1 s.2 s.5 s.8 s.9 k r s.12 (omega (arith, s.13)) more)
@@ -268,41 +293,60 @@ module _ (sc : Scopes) (context : Context) (ps : List Placed) (level most : ℕ)
   goes_on_at (rests.looping h e b k) pc slots s asks =
       let w = s.5 in
       let body = settle_stmt sc b (turn_and (tree.while e b) k) (rests.turning (run_and (tree.while e b) k)) in
-      by_head types.Truth h pc slots (pend k) s.1 (λ z. looped_of z e b k body (settle_items sc k)) s.4 (λ g. refl) (λ g a. refl)
+      by_head sc context ps level most types.Truth h pc slots (pend k) s.1 (λ z. looped_of z e b k body (settle_items sc k)) s.4 (λ g. refl) (λ g a. refl)
       (λ z at left shows.
       looped_stands sc context ps level most z e b k body (settle_items sc k) at left s.0 s.1 s.2 s.3 shows w s.6 s.7 s.8
       (while_body sc context ps level most e b k s.0 s.1 s.2 s.3 w s.6 s.7 s.8 (stmt_at sc context ps level most b w.0 w.1 w.1 w.4 stop)) (items_at sc context ps level most k s.3 s.7))
   goes_on_at (rests.checking h b e k) pc slots s asks =
-      by_head types.Truth h pc slots (pend k) s.2 (λ z. checked_of z b e k (settle_items sc k)) s.6 (λ g. refl) (λ g a. refl)
+      by_head sc context ps level most types.Truth h pc slots (pend k) s.2 (λ z. checked_of z b e k (settle_items sc k)) s.6 (λ g. refl) (λ g a. refl)
       (λ z at left shows.
       checked_stands sc context ps level most z b e k (settle_items sc k) at left s.0 s.1 s.2 s.3 s.4 s.5 shows s.7 s.8 s.9 s.10 s.11 s.12 s.13 (items_at sc context ps level most k s.5 s.12))
   goes_on_at (rests.counting h b k) pc slots s asks =
       let t = s.4 in
-      by_head types.Number h pc slots (pend k) s.0 (λ z. counted_of z b k (counted_body sc b k) (settle_items sc k)) s.3 (λ g. refl) (λ g a. refl)
+      by_head sc context ps level most types.Number h pc slots (pend k) s.0 (λ z. counted_of z b k (counted_body sc b k) (settle_items sc k)) s.3 (λ g. refl) (λ g a. refl)
       (λ z at left shows.
       counted_stands sc context ps level most z b k (settle_items sc k) at left s.0 s.1 s.2 shows t s.5 s.6 s.7
       (stmt_at sc context ps level most b t.1 t.2 t.2 t.4 stop) (items_at sc context ps level most k s.2 s.6))
   goes_on_at (rests.differing h loop k) pc slots s asks =
       let o = s.8 in
-      by_head types.Number h pc slots (pend k) s.1 (λ z. differed_of sc z loop k (settle_items sc k)) s.5 (λ g. refl) (λ g a. refl)
+      by_head sc context ps level most types.Number h pc slots (pend k) s.1 (λ z. differed_of sc z loop k (settle_items sc k)) s.5 (λ g. refl) (λ g a. refl)
       (λ z at left shows.
       differed_stands sc context ps level most z loop k (settle_items sc k) at left s.0 s.1 s.2 s.3 s.4 shows s.6 s.7 o s.9 s.10 (items_at sc context ps level most k s.4 s.9)
       (again_at sc context ps level most loop k s.0 s.1 s.2 s.3 s.4 s.6 s.7 o s.9 s.10 (stmt_at sc context ps level most loop.body s.2 o.0 o.0 o.2 stop)))
   goes_on_at (rests.stepping d h loop k) pc slots s asks =
       let o = s.11 in
-      by_head types.Number h pc slots (operand d ∷ pend k) s.2 (λ z. tested_of sc d z loop k (settle_items sc k)) s.7 (λ g. refl) (λ g a. refl)
+      by_head sc context ps level most types.Number h pc slots (operand d ∷ pend k) s.2 (λ z. tested_of sc d z loop k (settle_items sc k)) s.7 (λ g. refl) (λ g a. refl)
       (λ z at left shows.
       tested_stands sc context ps level most d z loop k (settle_items sc k) at left s.0 s.1 s.2 s.3 s.4 s.5 s.6 shows s.8 s.9 s.10 o s.12 s.13
       (items_at sc context ps level most k s.5 s.12)
       (again_at sc context ps level most loop k s.0 s.1 s.3 s.4 s.5 s.8 (any s.2 s.9 s.10) o s.12 s.13 (stmt_at sc context ps level most loop.body s.3 o.0 o.0 o.2 stop)))
   goes_on_at (rests.selecting h ss k) pc slots s asks =
-      by_head types.Number h pc slots (intrinsic Select ∷ mark ∷ pend k) s.0 (λ z. selected_of z ss k) s.3 (λ g. refl) (λ g a. refl)
+      by_head sc context ps level most types.Number h pc slots (intrinsic Select ∷ mark ∷ pend k) s.0 (λ z. selected_of z ss k) s.3 (λ g. refl) (λ g a. refl)
       (λ z at left shows. selected_stands sc context ps level most z ss k at left s.0 s.1 s.2 shows s.4 s.5 s.6 s.7)
   goes_on_at (rests.writing phrases vs h es k) pc slots s asks =
-      by_head types.Number h pc slots (operands vs (line_begun s.0 (pend k))) s.1 (λ z. item_of phrases vs z es k (settle_line sc es phrases k)) s.7 (λ g. refl) (λ g a. refl)
+      by_head sc context ps level most types.Number h pc slots (operands vs (line_begun s.0 (pend k))) s.1 (λ z. item_of phrases vs z es k (settle_line sc es phrases k)) s.7 (λ g. refl) (λ g a. refl)
       (λ z at left shows.
       item_stands sc context ps level most phrases vs z es k s.0 s.1 s.2 s.3 at left shows s.8 s.9 s.4 s.5 s.6 s.10 s.11
       (line_at sc context ps level most es phrases k s.0 s.1 s.2 s.3 s.8 s.9 s.5 s.10))
+  goes_on_at (rests.bounding kind ns pairs vs h later k) pc slots s asks =
+      let o : BoundsOf sc context ps level most ns pairs k s.3 = record {
+        dimensions = s.8;
+        many = s.9;
+        lows = s.10;
+        made = s.4;
+        next = s.5;
+        enter = s.14;
+        push = s.15;
+        none = s.16;
+        follows = s.17;
+        some = s.19;
+      } in
+      by_head sc context ps level most types.Number h pc slots (operand (number (s.1).low) ∷ extents s.0 vs (arrays_begun (length ns) [])) s.2
+      (λ z. bound_of kind ns pairs vs z later k (settle_bounds sc later kind ns pairs k)) s.12 (λ g. refl) (λ g a. refl)
+      (λ z at left shows.
+      bound_stands sc context ps level most kind ns pairs k s.0 s.1 later vs z at left s.2 s.3 o s.6 s.7 s.11 shows s.13 s.18
+      (bounds_at sc context ps level most later kind ns pairs k s.2 s.3 o s.13))
+  goes_on_at (rests.calling n x k) pc slots s asks = calling_on n x k pc slots s
   goes_on_at _ pc slots s asks = absurd s
 
 pub rests_go_on : RestsGoOn

@@ -1,17 +1,20 @@
 -- Fragments one after another, branches forward, and the counts that lie below.
-use Rattle.std.proofs.Common.{◌≡◌, refl, sym, subst, ℕ, ◌≤◌, arith, List, [], ◌∷◌, length}
+use Rattle.std.proofs.Common.{◌≡◌, refl, sym, subst, ℕ, ◌<◌, ◌≤◌, arith, List, [], ◌∷◌, length}
 use Rattle.algol_tree.specs.Plain as tree
 use Rattle.algol_tree.specs.Plain.{PExpr, PStmt, PStmts}
 use Rattle.algol_tree.specs.Scopes.{Scopes}
 use Rattle.algol_meaning.specs.Value.{Value}
 use Rattle.algol_meaning.specs.Rest as rests
 use Rattle.algol_meaning.specs.Rest.{Item}
+use Rattle.b67_ops.specs.declared.Operator.{Operator}
+use Rattle.b67_ops.specs.declared.PlainKind.{PlainKind}
+use Rattle.b67_ops.proofs.Laws.{length-spelling}
 use Rattle.b67_segment.specs.Operators.{Placed}
 use Rattle.b67_templates.specs.Contexts.{Context}
-use Rattle.b67_templates.specs.Fragments.{Goes, stop, over}
-use Rattle.b67_templates.specs.Code.{StmtAt, KAt}
+use Rattle.b67_templates.specs.Fragments.{Has, AllAt, Goes, stop, over}
+use Rattle.b67_templates.specs.Code.{HasNoCounts, StmtAt, KAt}
 use Rattle.b67_templates.specs.Depths.{depth, stmt_depth, counts_in}
-use Rattle.b67_standing.specs.Stepping.{Slot, operand, HasRoom, Step, push_number, push_truth, push_name, calculate, negate, invert, false_stays, false_goes, true_stays, true_goes, go, call, announce, summon, drop, counts, spent, within, past, within_literal, past_literal, Leads, there, first}
+use Rattle.b67_standing.specs.Stepping.{Slot, operand, HasRoom, Step, push_number, push_truth, push_name, push_array, move, exchange, calculate, negate, invert, false_stays, false_goes, true_stays, true_goes, go, call, announce, summon, drop, counts, spent, within, past, within_literal, past_literal, Leads, there, first}
 use Rattle.b67_standing.specs.Standing.{pend, Follows}
 
 -- an expression needs a word at least
@@ -24,6 +27,7 @@ depth-positive (tree.two op a b) = omega (arith, depth-positive a)
 depth-positive (tree.if c x y spot) = omega (arith, depth-positive c)
 depth-positive (tree.variable (tree.subscripted n tree.none)) = omega arith
 depth-positive (tree.variable (tree.subscripted n (tree.more e es))) = omega arith
+depth-positive (tree.call (tree.called n es)) = omega arith
 depth-positive _ = omega arith
 
 pub pend-length : (k : List Item) → length (pend k) ≡ counts_in k
@@ -37,7 +41,26 @@ pend-length (rests.result name ∷ k) = pend-length k
 pend-length (rests.make_arrays kind ns pairs ∷ k) = pend-length k
 pend-length (rests.make_event n ∷ k) = pend-length k
 
+-- without a THRU nothing waits
+pub pend-none : (k : List Item) → HasNoCounts k → pend k ≡ []
+pend-none [] h = refl
+pend-none (rests.count n b ∷ k) h = absurd h
+pend-none (rests.run s ∷ k) h = pend-none k h
+pend-none (rests.turn ∷ k) h = pend-none k h
+pend-none (rests.check b c ∷ k) h = pend-none k h
+pend-none (rests.test loop ∷ k) h = pend-none k h
+pend-none (rests.result name ∷ k) h = pend-none k h
+pend-none (rests.make_arrays kind ns pairs ∷ k) h = pend-none k h
+pend-none (rests.make_event n ∷ k) h = pend-none k h
+
 module _ (ps : List Placed) (level : ℕ) where
+  pub forward : {at next : ℕ} {op : Operator} → Has ps level at op next → at < next
+  forward {at} {next} {op} h = omega (arith, h.next_is, (length-spelling at level op).0)
+
+  pub all_forward : (list : List PlainKind) (from to : ℕ) → AllAt ps level list from to → from ≤ to
+  all_forward [] from to h = omega (arith, h)
+  all_forward (kind ∷ more) from to h = omega (arith, forward h.1, all_forward more h.0 to h.2)
+
   pub goes_on : {a b c : ℕ} → Goes ps level a b → Goes ps level b c → Goes ps level a c
   goes_on stop g = g
   goes_on (over next h k) g = over next h (goes_on k g)
@@ -67,7 +90,7 @@ module _ (sc : Scopes) (context : Context) (ps : List Placed) (level most : ℕ)
   before (rests.test loop ∷ k) g s = (s.0, s.1, s.2, goes_on ps level g s.3, s.4, s.5)
   before (rests.result name ∷ []) g s = (s.0, goes_on ps level g s.1, s.2)
   before (rests.result name ∷ item ∷ k) g s = absurd s
-  before (rests.make_arrays kind ns pairs ∷ k) g s = absurd s
+  before (rests.make_arrays kind ns pairs ∷ k) g s = (s.0, s.1, goes_on ps level g s.2, s.3, s.4, s.5)
   before (rests.make_event n ∷ k) g s = absurd s
 
   pub follows_before : (k : List Item) {a b : ℕ} → Goes ps level a b → Follows sc context ps level most k b → Follows sc context ps level most k a
@@ -87,6 +110,9 @@ module _ (sc : Scopes) (context : Context) (ps : List Placed) (level most : ℕ)
   within_most (push_number z h room) l = omega (arith, room)
   within_most (push_truth b h room) l = omega (arith, room)
   within_most (push_name n k h room) l = omega (arith, room)
+  within_most (push_array n a c i h room) l = omega (arith, room)
+  within_most (move low i h w room on) l = omega (arith, l)
+  within_most (exchange v h s) l = omega (arith, l)
   within_most (calculate op v w x h i j e) l = omega (arith, l)
   within_most (negate z h w) l = omega (arith, l)
   within_most (invert b h) l = omega (arith, l)

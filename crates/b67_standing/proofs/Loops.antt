@@ -95,7 +95,7 @@ module _ (sc : Scopes) (context : Context) (ps : List Placed) (level most : ℕ)
       let run = follows_run sc context ps level most (stepped loop) (rests.turn ∷ rests.test loop ∷ k) h.0 h.1 h.1 h.3 stop deep turned in
       p (rests.run (stepped loop) ∷ rests.turn ∷ rests.test loop ∷ k) (settle_stmt sc (stepped loop) (rests.turn ∷ rests.test loop ∷ k) (rests.turning (rests.test loop ∷ k))) run
       (omega (arith, room))
-      (assign_at sc context ps level most loop.control (tree.two operators.Add (alone loop.control) loop.step) h.0 h.1 (rests.turn ∷ rests.test loop ∷ k) h.3 turned deep)
+      (assign_at sc context ps level most loop.control (tree.two operators.Add (alone loop.control) loop.step) h.0 h.1 (rests.turn ∷ rests.test loop ∷ k) h.3 turned (omega (arith, deep)))
 
   past_by : (c : Bool) (d z : ℤ) (x y : Rest) (m u n : ℕ) (below : List Slot) → is_past d z ≡ c → PastAt sc context ps level m u n → IsWhole d → IsWhole z → HasRoom most below 4 →
       Coming x u below → Coming y n below → Coming (if c then x else y) m (operand (number z) ∷ operand (number d) ∷ below)

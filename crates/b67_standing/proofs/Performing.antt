@@ -7,23 +7,27 @@ use Rattle.algol_tree.specs.declared.token.Spot.{Spot}
 use Rattle.algol_tree.specs.declared.tree.PhraseText.{PhraseText}
 use Rattle.algol_tree.specs.Plain as tree
 use Rattle.algol_tree.specs.Plain.{PExpr, PExprs, PStmt, PStmts, PDecl, PDecls}
+use Rattle.algol_tree.specs.Blocks.{block_numbered}
 use Rattle.algol_tree.specs.Scopes.{Scopes}
 use Rattle.algol_meaning.specs.Rest as rests
-use Rattle.algol_meaning.specs.Rest.{Item, Rest}
-use Rattle.algol_meaning.specs.Settle.{settle}
-use Rattle.algol_meaning.specs.Statements.{items, checked_of, settle_stmt, settle_stmts}
+use Rattle.algol_meaning.specs.Rest.{HalfGiven, Item, Rest}
+use Rattle.algol_meaning.specs.Settle.{sorts_of, block_of, settle, settle_actuals}
+use Rattle.algol_meaning.specs.Statements.{items, checked_of, statement_called_of, settle_stmt, settle_stmts}
 use Rattle.b67_ops.specs.declared.intrinsic.Intrinsic.TheVariants.{Write, Select}
 use Rattle.b67_segment.specs.Operators.{Placed}
 use Rattle.b67_templates.specs.Contexts.{Context}
 use Rattle.b67_templates.specs.Fragments.{Goes, stop, over, code_at}
+use Rattle.b67_templates.specs.Cells.{parameter_kinds}
 use Rattle.b67_templates.specs.Code.{FormatIs, CallStmtAt, StmtAt, StmtsAt, WriteAt}
 use Rattle.b67_templates.specs.Depths.{depth, stmt_depth, stmts_depth}
-use Rattle.b67_standing.specs.Stepping.{Slot, reference, intrinsic, control, mark, HasRoom, push_number, call, announce, summon, there, first}
+use Rattle.b67_standing.specs.Stepping.{Slot, intrinsic, control, mark, HasRoom, push_number, call, announce, summon, there, first}
 use Rattle.b67_standing.specs.Standing.{pend, Follows, WhileAt, ComesTo}
 use Rattle.b67_standing.proofs.Leading.{depth-positive, pend-length, leads_by, follows_before, follows_run}
-use Rattle.b67_standing.proofs.Asking.{enters_asks, calls_asks}
-use Rattle.b67_standing.proofs.Settling.{settle_at}
-use Rattle.b67_standing.proofs.Rests.{after_rest, stays_here, follows_turn, turning_at, assign_at, chosen_stands, looped_stands, checked_stands, selected_stands, line_at}
+use Rattle.b67_standing.proofs.Asking.{enters_asks}
+use Rattle.b67_standing.proofs.Actuals.{ComesFilled, called_on}
+use Rattle.b67_standing.proofs.Settling.{settle_at, actuals_at}
+use Rattle.b67_standing.proofs.Rests.{after_rest, stays_here, follows_turn, turning_at, assign_at, chosen_stands, looped_stands, checked_stands, selected_stands, called_stands, line_at}
+use Rattle.b67_standing.proofs.Elements.{element_assign_at}
 use Rattle.b67_standing.proofs.Loops.{Performs, counted_stands}
 
 pub pend-items : (ss : PStmts) (k : List Item) → pend (items ss k) ≡ pend k
@@ -80,20 +84,20 @@ module _ (sc : Scopes) (context : Context) (ps : List Placed) (level most : ℕ)
 
   -- ---- calls
 
-  -- a mark and the reference of the procedure's control word, behind which it is entered
-  call_at : (n : Named) (f t u : ℕ) → CallStmtAt sc context ps level n f t → Goes ps level t u → Doing (tree.call_of (tree.called n tree.none)) f u
-  call_at n f t u h g k r follows room c =
+  -- a mark, the reference of the procedure's control word, the actuals, behind which it is entered
+  call_at : (n : Named) (es : PExprs) (f t u : ℕ) → CallStmtAt sc context ps level n es f t → Goes ps level t u → Doing (tree.call_of (tree.called n es)) f u
+  call_at n es f t u h g k r follows room c =
       let entry = h.2 in
-      after_rest sc context ps level most (first (summon n h.0 entry room) there)
-      (stays_here sc context ps level most entry.named (reference entry.couple ∷ mark ∷ pend k) (rests.entering n [] k) (calls_asks n []) (
-        h.0,
-        h.1,
-        t,
-        record { couple = entry.couple; procedure = entry.procedure; none = refl; lies = refl; stands = entry.enter },
-        h.3,
-        follows_before sc context ps level most k g follows,
-        room,
-      ))
+      let b = entry.2 in
+      let settled : ℕ → HalfGiven = λ z. settle_actuals sc es (sorts_of ((block_numbered sc.blocks z).parameters)) [] in
+      let filled : ComesFilled sc context ps level most n h.0 (settled h.0) entry.0 (called_on sc context ps level most b.couple (pend k)) (pend k) h.1 =
+      actuals_at sc context ps level most es (sorts_of ((block_numbered sc.blocks h.0).parameters)) (parameter_kinds sc h.0) n h.0 b.couple entry.0 entry.1 h.1 (pend k) b.procedure
+      entry.3 entry.4 [] [] [] refl refl tt (omega (arith, room)) in
+      subst (λ z. Coming (statement_called_of n (settled z) k) f (pend k)) (sym (ap block_of (b.procedure).sort_is))
+      (after_rest sc context ps level most (first (summon n h.0 b (omega (arith, room))) there)
+      (after_rest sc context ps level most filled.leads
+      (called_stands sc context ps level most n h.0 (settled h.0) k filled.at filled.with_slots h.1 t filled.fills h.3 (follows_before sc context ps level most k g follows)
+      (omega (arith, room)))))
 
   -- ---- all statements
 
@@ -114,8 +118,10 @@ module _ (sc : Scopes) (context : Context) (ps : List Placed) (level most : ℕ)
     pub stmt_at : (s : PStmt) (f t u : ℕ) → StmtAt sc context ps level s f t u → Goes ps level t u → Doing s f u
     stmt_at tree.empty f t u h g k r follows room c = after_rest sc context ps level most (leads_by sc context ps level most (subst (λ z. Goes ps level z u) (sym h) g)) c
     stmt_at (tree.assign (tree.subscripted n tree.none) e) f t u h g k r follows room c =
-        assign_at sc context ps level most n e f t k h (follows_before sc context ps level most k g follows) room
-    stmt_at (tree.call_of (tree.called n tree.none)) f t u h g k r follows room c = call_at n f t u h g k r follows room c
+        assign_at sc context ps level most n e f t k h (follows_before sc context ps level most k g follows) (omega (arith, room))
+    stmt_at (tree.assign (tree.subscripted n (tree.more i is)) e) f t u h g k r follows room c =
+        element_assign_at sc context ps level most n i is e f t k h (follows_before sc context ps level most k g follows) (omega (arith, room))
+    stmt_at (tree.call_of (tree.called n es)) f t u h g k r follows room c = call_at n es f t u h g k r follows room c
     stmt_at (tree.block (tree.body spot tree.no_decls ss)) f t u h g k r follows room c = stmts_at ss f t u h g k r follows room c
     stmt_at (tree.block (tree.body spot (tree.decls d ds) ss)) f t u h g k r follows room c = inner_at spot d ds ss f t u h g k r follows room c
     stmt_at (tree.if_then e x) f t u h g k r follows room c =

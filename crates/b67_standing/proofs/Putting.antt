@@ -1,41 +1,74 @@
 -- The action at the head of an expression stands where the machine stands for it, and from where it leaves the machine the rest of the
--- expression goes on. Where it entered a procedure, the rest goes on with the value that this gives.
-use Rattle.std.proofs.Common.{◌≡◌, refl, sym, ap, ◌∙◌, subst, ℕ, arith, List, ◌∷◌, Option, Some}
+-- expression goes on. Where it entered a procedure, the rest goes on with the value that this gives. So it is with the actuals of a call.
+use Rattle.std.proofs.Common.{◌≡◌, refl, sym, ap, ◌∙◌, subst, ℕ, arith, List, [], ◌∷◌, ◌++◌, Option, Some}
 use Rattle.algol_tree.specs.declared.tree.Kind.{Kind}
 use Rattle.algol_tree.specs.declared.tree.Kind.TheVariants as types
 use Rattle.algol_tree.specs.declared.tree.Named.{Named}
+use Rattle.algol_tree.specs.Plain as tree
+use Rattle.algol_tree.specs.Plain.{PExpr}
 use Rattle.algol_tree.specs.Types.{given_by, taken_by}
 use Rattle.algol_tree.specs.Scopes.{Scopes}
 use Rattle.b67_num.specs.declared.NumFault.{NumFault}
+use Rattle.algol_meaning.specs.Value.{Value}
 use Rattle.algol_meaning.specs.Rest as rests
-use Rattle.algol_meaning.specs.Rest.{Hole, Half, val, busy, Answer}
-use Rattle.algol_meaning.specs.Settle.{right_of, left_of, negated_of, inverted_of, condition_of, half_of, settle, put}
-use Rattle.algol_meaning.specs.Asks.{Ask, nothing, reads, fails, ask_hole}
+use Rattle.algol_meaning.specs.Rest.{Hole, Actuals, Half, val, busy, HalfGiven, wants, Answer}
+use Rattle.algol_meaning.specs.Settle.{subscripted_of, right_of, left_of, negated_of, inverted_of, condition_of, called_of, valued_of, half_of, settle, settle_actuals, put, put_actuals}
+use Rattle.algol_meaning.specs.Asks.{Ask, nothing, reads, reads_element, indexes, fails, ask_hole, ask_actuals}
+use Rattle.algol_paths.specs.Arrays.{lows_of}
+use Rattle.b67_ops.specs.declared.Operator.TheVariants as ops
+use Rattle.b67_ops.specs.declared.PlainKind.TheVariants as kinds
 use Rattle.b67_segment.specs.Operators.{Placed}
 use Rattle.b67_templates.specs.Contexts.{Context}
-use Rattle.b67_templates.specs.Fragments.{Goes, stop, over}
+use Rattle.b67_templates.specs.Fragments.{HasKind, Has, Goes, stop, over}
 use Rattle.b67_templates.specs.Code.{ReadAt}
-use Rattle.b67_standing.specs.Stepping.{Slot, operand, ready, HasRoom}
-use Rattle.b67_standing.specs.Standing.{Gives, pushed, Holds, ActionAt, Acted, Entered}
-use Rattle.b67_standing.proofs.Settling.{Comes, here, after, of_kind, right_at, left_at, negated_at, inverted_at, condition_at, settle_at}
+use Rattle.b67_standing.specs.Stepping.{row, Slot, operand, descriptor, ready, HasRoom}
+use Rattle.b67_standing.specs.Standing.{operands, Gives, pushed, IsNext, ElementReadAt, of_row, Holds, Fills, ActionAt, Acted, Entered}
+use Rattle.b67_standing.proofs.Actuals.{ComesFilled, after_filled, called_on, actual_stands, fills_room}
+use Rattle.b67_standing.proofs.Seeking.{Seeking, sought_in}
+use Rattle.b67_standing.proofs.Halves.{Comes, here, after, of_kind, right_at, left_at, negated_at, inverted_at, condition_at}
+use Rattle.b67_standing.proofs.Subscripts.{subscript_at}
+use Rattle.b67_standing.proofs.Settling.{called_stands, settle_at, actuals_at}
 
 -- the expression while a procedure that its head entered is in progress
-abbrev pub inside_of : Hole → Hole
-inside_of (rests.left op h b) = rests.left op (inside_of h) b
-inside_of (rests.right op v h) = rests.right op v (inside_of h)
-inside_of (rests.negated h) = rests.negated (inside_of h)
-inside_of (rests.inverted h) = rests.inverted (inside_of h)
-inside_of (rests.condition h x y) = rests.condition (inside_of h) x y
-inside_of _ = rests.inside
+abbrev mutual
+  pub inside_of : Hole → Hole
+  inside_of (rests.subscript n ks h es) = rests.subscript n ks (inside_of h) es
+  inside_of (rests.left op h b) = rests.left op (inside_of h) b
+  inside_of (rests.right op v h) = rests.right op v (inside_of h)
+  inside_of (rests.negated h) = rests.negated (inside_of h)
+  inside_of (rests.inverted h) = rests.inverted (inside_of h)
+  inside_of (rests.condition h x y) = rests.condition (inside_of h) x y
+  inside_of (rests.argument n x) = rests.argument n (inside_actuals x)
+  inside_of _ = rests.inside
+
+  pub inside_actuals : Actuals → Actuals
+  inside_actuals (rests.in_value gs h sorts es) = rests.in_value gs (inside_of h) sorts es
+  inside_actuals (rests.pass gs n sorts es) = rests.in_value gs rests.inside sorts es
 
 -- it asks for nothing
-pub inside_asks : (h : Hole) → ask_hole (inside_of h) ≡ nothing
-inside_asks (rests.left op h b) = inside_asks h
-inside_asks (rests.right op v h) = inside_asks h
-inside_asks (rests.negated h) = inside_asks h
-inside_asks (rests.inverted h) = inside_asks h
-inside_asks (rests.condition h x y) = inside_asks h
-inside_asks _ = refl
+mutual
+  pub inside_asks : (h : Hole) → ask_hole (inside_of h) ≡ nothing
+  inside_asks (rests.subscript n ks h es) = inside_asks h
+  inside_asks (rests.left op h b) = inside_asks h
+  inside_asks (rests.right op v h) = inside_asks h
+  inside_asks (rests.negated h) = inside_asks h
+  inside_asks (rests.inverted h) = inside_asks h
+  inside_asks (rests.condition h x y) = inside_asks h
+  inside_asks (rests.argument n x) = inside_actuals_ask x
+  inside_asks _ = refl
+
+  pub inside_actuals_ask : (x : Actuals) → ask_actuals (inside_actuals x) ≡ nothing
+  inside_actuals_ask (rests.in_value gs h sorts es) = inside_asks h
+  inside_actuals_ask (rests.pass gs n sorts es) = refl
+
+-- where the head enters a procedure, the expression is in progress, and goes on with its value as after an answer
+pub record Inside (sc : Scopes) (h : Hole) : Type 0 where
+  pub inner : put sc h rests.entered ≡ busy (inside_of h)
+  pub same : (a : Answer) → put sc (inside_of h) a ≡ put sc h a
+
+pub record InsideActuals (sc : Scopes) (x : Actuals) : Type 0 where
+  pub inner : put_actuals sc x rests.entered ≡ wants (inside_actuals x)
+  pub same : (a : Answer) → put_actuals sc (inside_actuals x) a ≡ put_actuals sc x a
 
 -- The head does what is asked for, and whatever it answers, the machine then comes to where it stands for the expression. Where a
 -- procedure was entered, what is in progress goes on with its value as after an answer.
@@ -45,8 +78,17 @@ pub record PutsOn (sc : Scopes) (context : Context) (ps : List Placed) (level mo
       Comes sc context ps level most k at after (put sc h a) below to
   pub returns : (at : ℕ) (after : List Slot) (wanted : Option Kind) → Entered sc context ps level most q pc slots action at after wanted → (a : Answer) → Gives wanted a →
       Comes sc context ps level most k at (pushed a after) (put sc h a) below to
-  pub inner : put sc h rests.entered ≡ busy (inside_of h)
-  pub same : (a : Answer) → put sc (inside_of h) a ≡ put sc h a
+  pub inside : (at : ℕ) (after : List Slot) (wanted : Option Kind) → Entered sc context ps level most q pc slots action at after wanted → Inside sc h
+
+-- the same of the actuals of a call
+pub record FillsOn (sc : Scopes) (context : Context) (ps : List Placed) (level most : ℕ) (q : Ask) (n : Named) (callee : ℕ) (x : Actuals) (pc : ℕ) (slots below : List Slot)
+    (next : ℕ) : Type 0 where
+  pub action : ActionAt sc context ps level most q pc slots
+  pub answered : (a : Answer) (at : ℕ) (after : List Slot) → Acted sc context ps level most q pc slots action a at after →
+      ComesFilled sc context ps level most n callee (put_actuals sc x a) at after below next
+  pub returns : (at : ℕ) (after : List Slot) (wanted : Option Kind) → Entered sc context ps level most q pc slots action at after wanted → (a : Answer) → Gives wanted a →
+      ComesFilled sc context ps level most n callee (put_actuals sc x a) at (pushed a after) below next
+  pub inside : (at : ℕ) (after : List Slot) (wanted : Option Kind) → Entered sc context ps level most q pc slots action at after wanted → InsideActuals sc x
 
 module _ (sc : Scopes) (context : Context) (ps : List Placed) (level most : ℕ) where
   abbrev Putting : Kind → Hole → ℕ → List Slot → List Slot → ℕ → Type 0
@@ -64,6 +106,47 @@ module _ (sc : Scopes) (context : Context) (ps : List Placed) (level most : ℕ)
   read_answered k n pc next slots below to h room e g (rests.cell c) at left l = absurd l
   read_answered k n pc next slots below to h room e g (rests.place p) at left l = absurd l
   read_answered k n pc next slots below to h room e g rests.entered at left l = absurd l
+
+  element_answered : (k : Kind) (n : Named) (ks : List ℕ) (v : Value) (pc next : ℕ) (slots below : List Slot) (to : ℕ)
+      (r : ElementReadAt sc context ps level most n ks v pc next slots below) → (r.array).kind ≡ k → Goes ps level next to → (a : Answer) (at : ℕ) (left : List Slot) →
+      Acted sc context ps level most (reads_element n ks v) pc slots (next, below, r) a at left → Coming k at left (half_of a) below to
+  element_answered k n ks v pc next slots below to r same g (rests.value w) at left l =
+      here sc context ps level most k at left (val w) below to (subst (λ z. Goes ps level z to) (sym l.0) g, l.1, subst (λ z. HasKind z w) same l.2)
+  element_answered k n ks v pc next slots below to r same g rests.done at left l = absurd l
+  element_answered k n ks v pc next slots below to r same g (rests.cell c) at left l = absurd l
+  element_answered k n ks v pc next slots below to r same g (rests.place p) at left l = absurd l
+  element_answered k n ks v pc next slots below to r same g rests.entered at left l = absurd l
+
+  -- on the descriptor of a row the second subscript comes to stand
+  pub row_on : (k : Kind) (n : Named) (ks : List ℕ) (v : Value) (e : PExpr) (pc : ℕ) (slots below : List Slot) (to : ℕ)
+      (s : Holds sc context ps level most k (rests.index n ks v e tree.none) pc slots below to) (more : List ℕ) → IsNext ks more →
+      Coming k s.2 (descriptor (row n more) ∷ below) (subscripted_of n more (settle sc e) tree.none) below to
+  row_on k n ks v e pc slots below to s more next =
+      let r = s.5 in
+      let two = s.7 in
+      let one : more ≡ next.0 ∷ [] = next.1 ∙ ap (λ js. js ++ next.0 ∷ []) r.first in
+      let over = descriptor (row n (next.0 ∷ [])) ∷ below in
+      let d = settle_at sc context ps level most types.Number e s.2 two.0 two.0 two.2 stop over (omega (arith, s.9)) in
+      let seeks : Seeking sc context ps level most (settle sc e) d.at d.with_slots n r.couple (lows_of (r.array).pairs) (next.0 ∷ []) tree.none below s.3 =
+      subst (λ lows. Seeking sc context ps level most (settle sc e) d.at d.with_slots n r.couple lows (next.0 ∷ []) tree.none below s.3) (sym r.lows_are)
+      (two.0, two.1, d.shows, two.3, two.4, omega (arith, s.9)) in
+      subst (λ js. Coming k s.2 (descriptor (row n js) ∷ below) (subscripted_of n js (settle sc e) tree.none) below to) (sym one)
+      (after sc context ps level most k d.leads
+      (subscript_at sc context ps level most k n r.array r.couple (settle sc e) d.at d.with_slots (next.0 ∷ []) tree.none below s.3 s.4 to r.is_array s.6 seeks s.8 s.10))
+
+  row_answered : (k : Kind) (n : Named) (ks : List ℕ) (v : Value) (e : PExpr) (pc : ℕ) (slots below : List Slot) (to : ℕ)
+      (s : Holds sc context ps level most k (rests.index n ks v e tree.none) pc slots below to) (a : Answer) (at : ℕ) (left : List Slot) →
+      Acted sc context ps level most (indexes n ks v) pc slots (of_row s.0 s.1 s.2 below s.5) a at left →
+      Coming k at left (put sc (rests.index n ks v e tree.none) a) below to
+  row_answered k n ks v e pc slots below to s (rests.place (rests.element_of r more)) at left l =
+      let half = subscripted_of n more (settle sc e) tree.none in
+      subst (λ z. Coming k z left half below to) (sym l.0) (subst (λ o. Coming k s.2 o half below to) (sym l.1) (row_on k n ks v e pc slots below to s more l.2))
+  row_answered k n ks v e pc slots below to s (rests.place (rests.own x)) at left l = absurd l
+  row_answered k n ks v e pc slots below to s (rests.place (rests.there x)) at left l = absurd l
+  row_answered k n ks v e pc slots below to s (rests.value w) at left l = absurd l
+  row_answered k n ks v e pc slots below to s rests.done at left l = absurd l
+  row_answered k n ks v e pc slots below to s (rests.cell c) at left l = absurd l
+  row_answered k n ks v e pc slots below to s rests.entered at left l = absurd l
 
   pub no_answer : (fault : NumFault) (pc : ℕ) (slots : List Slot) (h : ActionAt sc context ps level most (fails fault) pc slots) (a : Answer) (at : ℕ) (left : List Slot) →
       Acted sc context ps level most (fails fault) pc slots h a at left → ⊥
@@ -83,94 +166,150 @@ module _ (sc : Scopes) (context : Context) (ps : List Placed) (level most : ℕ)
   given_back k next below to g (rests.place p) at left e l fits = absurd fits
   given_back k next below to g rests.entered at left e l fits = absurd fits
 
-  pub puts_on : (k : Kind) (h : Hole) (pc : ℕ) (slots below : List Slot) (to : ℕ) → Holds sc context ps level most k h pc slots below to → Putting k h pc slots below to
-  puts_on k (rests.read n) pc slots below to s =
-      let room : HasRoom most slots 1 = subst (λ o. HasRoom most o 1) (sym s.2) s.3 in
-      record {
-        action = (k, s.0, s.1, room);
-        answered = read_answered k n pc s.0 slots below to s.1 room s.2 s.4;
-        returns = λ at left wanted l. absurd l;
-        inner = refl;
-        same = λ a. refl;
-      }
-  puts_on k (rests.enter n gs) pc slots below to s = record {
-    action = (s.0, s.1, below, s.2);
-    answered = λ a at left l. absurd l;
-    returns = λ at left wanted l a fits. given_back k s.1 below to s.5 a at left l.0 l.1 (subst (λ o. Gives o a) (l.2 ∙ s.3) fits);
-    inner = refl;
-    same = λ a. refl;
-  }
-  puts_on k (rests.broken op v w fault) pc slots below to s = record {
-    action = (op, v, w, s.0, below, s.2);
-    answered = λ a at left l. absurd (no_answer fault pc slots (op, v, w, s.0, below, s.2) a at left l);
-    returns = λ at left wanted l. absurd l;
-    inner = refl;
-    same = λ a. refl;
-  }
-  puts_on k (rests.left op h b) pc slots below to s =
-      let p = puts_on (taken_by op) h pc slots below s.0 s.5 in
-      let around : Half → Half = λ z. left_of op z b (settle sc b) in
-      let go : (z : Half) (at : ℕ) (left : List Slot) → Coming (taken_by op) at left z below s.0 → Coming k at left (around z) below to = λ z at left c.
-      of_kind sc context ps level most at left (around z) below to s.4
-      (after sc context ps level most (given_by op) c.leads
-      (left_at sc context ps level most op z b (settle sc b) c.at c.with_slots below s.0 s.1 s.2 s.3 to c.shows s.6 s.7 s.8
-      (λ o room. settle_at sc context ps level most (taken_by op) b s.1 s.2 s.2 s.7 stop o room) s.9 s.10)) in
-      record {
-        action = p.action;
-        answered = λ a at left l. go (put sc h a) at left (p.answered a at left l);
-        returns = λ at left wanted l a fits. go (put sc h a) at (pushed a left) (p.returns at left wanted l a fits);
-        inner = ap around p.inner;
-        same = λ a. ap around (p.same a);
-      }
-  puts_on k (rests.right op v h) pc slots below to s =
-      let p = puts_on (taken_by op) h pc slots (operand (ready op v) ∷ below) s.0 s.4 in
-      let go : (z : Half) (at : ℕ) (left : List Slot) → Coming (taken_by op) at left z (operand (ready op v) ∷ below) s.0 → Coming k at left (right_of op v z) below to = λ z at left c.
-      of_kind sc context ps level most at left (right_of op v z) below to s.2
-      (after sc context ps level most (given_by op) c.leads (right_at sc context ps level most op v z c.at c.with_slots below s.0 s.1 to c.shows s.3 s.5 s.6)) in
-      record {
-        action = p.action;
-        answered = λ a at left l. go (put sc h a) at left (p.answered a at left l);
-        returns = λ at left wanted l a fits. go (put sc h a) at (pushed a left) (p.returns at left wanted l a fits);
-        inner = ap (right_of op v) p.inner;
-        same = λ a. ap (right_of op v) (p.same a);
-      }
-  puts_on k (rests.negated h) pc slots below to s =
-      let p = puts_on types.Number h pc slots below s.0 s.3 in
-      let go : (z : Half) (at : ℕ) (left : List Slot) → Coming types.Number at left z below s.0 → Coming k at left (negated_of z) below to = λ z at left c.
-      of_kind sc context ps level most at left (negated_of z) below to s.2
-      (after sc context ps level most types.Number c.leads (negated_at sc context ps level most z c.at c.with_slots below s.0 s.1 to c.shows s.4 s.5)) in
-      record {
-        action = p.action;
-        answered = λ a at left l. go (put sc h a) at left (p.answered a at left l);
-        returns = λ at left wanted l a fits. go (put sc h a) at (pushed a left) (p.returns at left wanted l a fits);
-        inner = ap negated_of p.inner;
-        same = λ a. ap negated_of (p.same a);
-      }
-  puts_on k (rests.inverted h) pc slots below to s =
-      let p = puts_on types.Truth h pc slots below s.0 s.3 in
-      let go : (z : Half) (at : ℕ) (left : List Slot) → Coming types.Truth at left z below s.0 → Coming k at left (inverted_of z) below to = λ z at left c.
-      of_kind sc context ps level most at left (inverted_of z) below to s.2
-      (after sc context ps level most types.Truth c.leads (inverted_at sc context ps level most z c.at c.with_slots below s.0 s.1 to c.shows s.4 s.5)) in
-      record {
-        action = p.action;
-        answered = λ a at left l. go (put sc h a) at left (p.answered a at left l);
-        returns = λ at left wanted l a fits. go (put sc h a) at (pushed a left) (p.returns at left wanted l a fits);
-        inner = ap inverted_of p.inner;
-        same = λ a. ap inverted_of (p.same a);
-      }
-  puts_on k (rests.condition h x y) pc slots below to s =
-      let p = puts_on types.Truth h pc slots below s.0 s.6 in
-      let around : Half → Half = λ z. condition_of z x y (settle sc x) (settle sc y) in
-      let go : (z : Half) (at : ℕ) (left : List Slot) → Coming types.Truth at left z below s.0 → Coming k at left (around z) below to = λ z at left c.
-      after sc context ps level most k c.leads
-      (condition_at sc context ps level most k z x y (settle sc x) (settle sc y) c.at c.with_slots below s.0 s.1 s.2 s.3 s.4 s.5 to c.shows s.7 s.8 s.9 s.10 s.11 s.12 s.13
-      (settle_at sc context ps level most k x s.1 s.2 s.5 s.8 (over s.3 s.9 stop) below (omega (arith, s.13)))
-      (settle_at sc context ps level most k y s.3 s.4 s.5 s.10 s.11 below (omega (arith, s.13)))) in
-      record {
-        action = p.action;
-        answered = λ a at left l. go (put sc h a) at left (p.answered a at left l);
-        returns = λ at left wanted l a fits. go (put sc h a) at (pushed a left) (p.returns at left wanted l a fits);
-        inner = ap around p.inner;
-        same = λ a. ap around (p.same a);
-      }
-  puts_on k _ pc slots below to s = absurd s
+  mutual
+    pub puts_on : (k : Kind) (h : Hole) (pc : ℕ) (slots below : List Slot) (to : ℕ) → Holds sc context ps level most k h pc slots below to → Putting k h pc slots below to
+    puts_on k (rests.read n) pc slots below to s =
+        let room : HasRoom most slots 1 = subst (λ o. HasRoom most o 1) (sym s.2) s.3 in
+        record {
+          action = (k, s.0, s.1, room);
+          answered = read_answered k n pc s.0 slots below to s.1 room s.2 s.4;
+          returns = λ at left wanted l. absurd l;
+          inside = λ at left wanted l. record { inner = refl; same = λ a. refl };
+        }
+    puts_on k (rests.enter n gs) pc slots below to s = record {
+      action = (s.0, s.1, below, s.2);
+      answered = λ a at left l. absurd l;
+      returns = λ at left wanted l a fits. given_back k s.1 below to s.5 a at left l.0 l.1 (subst (λ o. Gives o a) (l.2 ∙ s.3) fits);
+      inside = λ at left wanted l. record { inner = refl; same = λ a. refl };
+    }
+    puts_on k (rests.element n ks v) pc slots below to s = record {
+      action = (s.0, below, s.1);
+      answered = element_answered k n ks v pc s.0 slots below to s.1 s.2 s.4;
+      returns = λ at left wanted l. absurd l;
+      inside = λ at left wanted l. absurd l;
+    }
+    puts_on k (rests.index n ks v e tree.none) pc slots below to s = record {
+      action = of_row s.0 s.1 s.2 below s.5;
+      answered = row_answered k n ks v e pc slots below to s;
+      returns = λ at left wanted l. absurd l;
+      inside = λ at left wanted l. absurd l;
+    }
+    puts_on k (rests.subscript n ks h es) pc slots below to s =
+        let w = sought_in sc context ps level most h pc slots n s.1 (lows_of (s.0).pairs) ks es below s.2 s.6 in
+        let p = puts_on types.Number h pc slots w.over w.at w.holds in
+        let go : (z : Half) (at : ℕ) (left : List Slot) → Coming types.Number at left z w.over w.at → Coming k at left (subscripted_of n ks z es) below to = λ z at left c.
+        after sc context ps level most k c.leads
+        (subscript_at sc context ps level most k n s.0 s.1 z c.at c.with_slots ks es below s.2 s.3 to s.4 s.5 (w.back z c.at c.with_slots c.shows) s.7 s.8) in
+        record {
+          action = p.action;
+          answered = λ a at left l. go (put sc h a) at left (p.answered a at left l);
+          returns = λ at left wanted l a fits. go (put sc h a) at (pushed a left) (p.returns at left wanted l a fits);
+          inside = λ at left wanted l.
+              let i = p.inside at left wanted l in record { inner = ap (λ z. subscripted_of n ks z es) i.inner; same = λ a. ap (λ z. subscripted_of n ks z es) (i.same a) };
+        }
+    puts_on k (rests.broken op v w fault) pc slots below to s = record {
+      action = (op, v, w, s.0, below, s.2);
+      answered = λ a at left l. absurd (no_answer fault pc slots (op, v, w, s.0, below, s.2) a at left l);
+      returns = λ at left wanted l. absurd l;
+      inside = λ at left wanted l. record { inner = refl; same = λ a. refl };
+    }
+    puts_on k (rests.left op h b) pc slots below to s =
+        let p = puts_on (taken_by op) h pc slots below s.0 s.5 in
+        let around : Half → Half = λ z. left_of op z b (settle sc b) in
+        let go : (z : Half) (at : ℕ) (left : List Slot) → Coming (taken_by op) at left z below s.0 → Coming k at left (around z) below to = λ z at left c.
+        of_kind sc context ps level most at left (around z) below to s.4
+        (after sc context ps level most (given_by op) c.leads
+        (left_at sc context ps level most op z b (settle sc b) c.at c.with_slots below s.0 s.1 s.2 s.3 to c.shows s.6 s.7 s.8
+        (λ o room. settle_at sc context ps level most (taken_by op) b s.1 s.2 s.2 s.7 stop o room) s.9 s.10)) in
+        record {
+          action = p.action;
+          answered = λ a at left l. go (put sc h a) at left (p.answered a at left l);
+          returns = λ at left wanted l a fits. go (put sc h a) at (pushed a left) (p.returns at left wanted l a fits);
+          inside = λ at left wanted l.
+              let i = p.inside at left wanted l in record { inner = ap around i.inner; same = λ a. ap around (i.same a) };
+        }
+    puts_on k (rests.right op v h) pc slots below to s =
+        let p = puts_on (taken_by op) h pc slots (operand (ready op v) ∷ below) s.0 s.4 in
+        let go : (z : Half) (at : ℕ) (left : List Slot) → Coming (taken_by op) at left z (operand (ready op v) ∷ below) s.0 → Coming k at left (right_of op v z) below to = λ z at left c.
+        of_kind sc context ps level most at left (right_of op v z) below to s.2
+        (after sc context ps level most (given_by op) c.leads (right_at sc context ps level most op v z c.at c.with_slots below s.0 s.1 to c.shows s.3 s.5 s.6)) in
+        record {
+          action = p.action;
+          answered = λ a at left l. go (put sc h a) at left (p.answered a at left l);
+          returns = λ at left wanted l a fits. go (put sc h a) at (pushed a left) (p.returns at left wanted l a fits);
+          inside = λ at left wanted l.
+              let i = p.inside at left wanted l in record { inner = ap (right_of op v) i.inner; same = λ a. ap (right_of op v) (i.same a) };
+        }
+    puts_on k (rests.negated h) pc slots below to s =
+        let p = puts_on types.Number h pc slots below s.0 s.3 in
+        let go : (z : Half) (at : ℕ) (left : List Slot) → Coming types.Number at left z below s.0 → Coming k at left (negated_of z) below to = λ z at left c.
+        of_kind sc context ps level most at left (negated_of z) below to s.2
+        (after sc context ps level most types.Number c.leads (negated_at sc context ps level most z c.at c.with_slots below s.0 s.1 to c.shows s.4 s.5)) in
+        record {
+          action = p.action;
+          answered = λ a at left l. go (put sc h a) at left (p.answered a at left l);
+          returns = λ at left wanted l a fits. go (put sc h a) at (pushed a left) (p.returns at left wanted l a fits);
+          inside = λ at left wanted l.
+              let i = p.inside at left wanted l in record { inner = ap negated_of i.inner; same = λ a. ap negated_of (i.same a) };
+        }
+    puts_on k (rests.inverted h) pc slots below to s =
+        let p = puts_on types.Truth h pc slots below s.0 s.3 in
+        let go : (z : Half) (at : ℕ) (left : List Slot) → Coming types.Truth at left z below s.0 → Coming k at left (inverted_of z) below to = λ z at left c.
+        of_kind sc context ps level most at left (inverted_of z) below to s.2
+        (after sc context ps level most types.Truth c.leads (inverted_at sc context ps level most z c.at c.with_slots below s.0 s.1 to c.shows s.4 s.5)) in
+        record {
+          action = p.action;
+          answered = λ a at left l. go (put sc h a) at left (p.answered a at left l);
+          returns = λ at left wanted l a fits. go (put sc h a) at (pushed a left) (p.returns at left wanted l a fits);
+          inside = λ at left wanted l.
+              let i = p.inside at left wanted l in record { inner = ap inverted_of i.inner; same = λ a. ap inverted_of (i.same a) };
+        }
+    puts_on k (rests.condition h x y) pc slots below to s =
+        let p = puts_on types.Truth h pc slots below s.0 s.6 in
+        let around : Half → Half = λ z. condition_of z x y (settle sc x) (settle sc y) in
+        let go : (z : Half) (at : ℕ) (left : List Slot) → Coming types.Truth at left z below s.0 → Coming k at left (around z) below to = λ z at left c.
+        after sc context ps level most k c.leads
+        (condition_at sc context ps level most k z x y (settle sc x) (settle sc y) c.at c.with_slots below s.0 s.1 s.2 s.3 s.4 s.5 to c.shows s.7 s.8 s.9 s.10 s.11 s.12 s.13
+        (settle_at sc context ps level most k x s.1 s.2 s.5 s.8 (over s.3 s.9 stop) below (omega (arith, s.13)))
+        (settle_at sc context ps level most k y s.3 s.4 s.5 s.10 s.11 below (omega (arith, s.13)))) in
+        record {
+          action = p.action;
+          answered = λ a at left l. go (put sc h a) at left (p.answered a at left l);
+          returns = λ at left wanted l a fits. go (put sc h a) at (pushed a left) (p.returns at left wanted l a fits);
+          inside = λ at left wanted l.
+              let i = p.inside at left wanted l in record { inner = ap around i.inner; same = λ a. ap around (i.same a) };
+        }
+    puts_on k (rests.argument n x) pc slots below to s =
+        let p = fills_on n s.0 x pc slots below s.1 s.2 s.4 s.5 in
+        let go : (z : HalfGiven) (at : ℕ) (left : List Slot) → ComesFilled sc context ps level most n s.0 z at left below s.2 → Coming k at left (called_of n z) below to = λ z at left c.
+        after sc context ps level most k c.leads
+        (called_stands sc context ps level most k n s.0 z c.at c.with_slots below s.2 to c.fills s.3 (fills_room sc context ps level most n s.0 x pc slots below s.1 s.4) s.6) in
+        record {
+          action = p.action;
+          answered = λ a at left l. go (put_actuals sc x a) at left (p.answered a at left l);
+          returns = λ at left wanted l a fits. go (put_actuals sc x a) at (pushed a left) (p.returns at left wanted l a fits);
+          inside = λ at left wanted l.
+              let i = p.inside at left wanted l in record { inner = ap (called_of n) i.inner; same = λ a. ap (called_of n) (i.same a) };
+        }
+    puts_on k _ pc slots below to s = absurd s
+
+    pub fills_on : (n : Named) (callee : ℕ) (x : Actuals) (pc : ℕ) (slots below : List Slot) (filled next : ℕ) →
+        Fills sc context ps level most n callee x pc slots below filled → Has ps level filled (ops.Plain kinds.Entr) next →
+        FillsOn sc context ps level most (ask_actuals x) n callee x pc slots below next
+    fills_on n callee (rests.in_value gs h sorts es) pc slots below filled next s enter =
+        let floor = operands s.1 (called_on sc context ps level most s.0 below) in
+        let p = puts_on s.3 h pc slots floor s.5 s.10 in
+        let around : Half → HalfGiven = λ z. valued_of gs z sorts es (settle_actuals sc es sorts) in
+        let go : (z : Half) (at : ℕ) (left : List Slot) → Coming s.3 at left z floor s.5 → ComesFilled sc context ps level most n callee (around z) at left below next = λ z at left c.
+        after_filled sc context ps level most n callee (around z) below next c.leads
+        (actual_stands sc context ps level most n callee s.0 s.1 gs s.2 s.3 s.4 sorts es s.5 filled next below z c.at c.with_slots
+        (record { procedure = s.6; given_is = s.7; kinds_are = s.8; fit = s.9; actuals = s.11; enter = enter; room = s.12 }) c.shows
+        (actuals_at sc context ps level most es sorts s.4 n callee s.0 s.5 filled next below s.6 s.11 enter)) in
+        record {
+          action = p.action;
+          answered = λ a at left l. go (put sc h a) at left (p.answered a at left l);
+          returns = λ at left wanted l a fits. go (put sc h a) at (pushed a left) (p.returns at left wanted l a fits);
+          inside = λ at left wanted l.
+              let i = p.inside at left wanted l in record { inner = ap around i.inner; same = λ a. ap around (i.same a) };
+        }
+    fills_on n callee (rests.pass gs x sorts es) pc slots below filled next s enter = absurd s

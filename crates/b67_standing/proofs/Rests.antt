@@ -7,12 +7,13 @@ use Rattle.algol_tree.specs.declared.tree.Named.{Named}
 use Rattle.algol_tree.specs.declared.tree.PhraseText.{PhraseText}
 use Rattle.algol_tree.specs.Plain as tree
 use Rattle.algol_tree.specs.Plain.{PExpr, PExprs, PStmt, PStmts}
+use Rattle.algol_tree.specs.Blocks.{block_numbered}
 use Rattle.algol_tree.specs.Scopes.{Scopes}
 use Rattle.algol_meaning.specs.Value.{Value, number, truth}
 use Rattle.algol_meaning.specs.Rest as rests
-use Rattle.algol_meaning.specs.Rest.{own, Hole, Half, val, busy, Item, Rest}
+use Rattle.algol_meaning.specs.Rest.{own, Hole, Half, val, busy, HalfGiven, given, wants, Item, Rest}
 use Rattle.algol_meaning.specs.Settle.{sort_at, settle, settle_place}
-use Rattle.algol_meaning.specs.Statements.{assigned_of, aimed_at, chosen_of, looped_of, checked_of, selected_of, item_of, run_and, settle_line}
+use Rattle.algol_meaning.specs.Statements.{assigned_of, aimed_at, chosen_of, looped_of, checked_of, selected_of, statement_called_of, item_of, run_and, settle_line}
 use Rattle.algol_meaning.specs.Asks.{nothing, ask_hole, ask}
 use Rattle.b67_ops.specs.declared.Couple.{Couple}
 use Rattle.b67_ops.specs.declared.Operator.TheVariants as ops
@@ -23,24 +24,17 @@ use Rattle.b67_segment.specs.Operators.{Placed}
 use Rattle.b67_templates.specs.Contexts.{Context}
 use Rattle.b67_templates.specs.Fragments.{IsWhole, HasKind, Has, BranchAt, TurnAt, Goes, stop}
 use Rattle.b67_templates.specs.Cells.{IsVariable}
-use Rattle.b67_templates.specs.Code.{FormatIs, ExprAt, AssignAt, LineAt, TableAt, StmtAt, CasesAt, exprs_count, stmts_count}
+use Rattle.b67_templates.specs.Code.{FormatIs, DroppedAt, ExprAt, AssignAt, LineAt, TableAt, StmtAt, CasesAt, exprs_count, stmts_count}
 use Rattle.b67_templates.specs.Depths.{depth, line_depth, stmt_depth, stmts_depth, counts_in, AreShallow}
 use Rattle.b67_standing.specs.Stepping.{Slot, operand, reference, intrinsic, mark, HasRoom, push_number, push_name, false_stays, false_goes, true_stays, true_goes, Leads, there, first}
 use Rattle.b67_standing.specs.Standing.{pend, operands, AreNumbers, line_begun, Follows, Holds, Shows, WhileAt, StandsFor, ComesTo}
 use Rattle.b67_standing.proofs.Leading.{depth-positive, on, valued_at, follows_run}
-use Rattle.b67_standing.proofs.Asking.{stores_asks, selects_asks, turns_asks, writes_asks, holds_asks}
+use Rattle.b67_standing.proofs.Asking.{stores_asks, selects_asks, turns_asks, writes_asks, calls_asks, holds_asks, fills_asks}
+use Rattle.b67_standing.proofs.Actuals.{operands-more, operands-length, Filled}
 use Rattle.b67_standing.proofs.Settling.{settle_at}
 use Rattle.b67_standing.proofs.Values.{variable_place}
 
-operands-more : (vs : List Value) (v : Value) (below : List Slot) → operands (vs ++ v ∷ []) below ≡ operand v ∷ operands vs below
-operands-more [] v below = refl
-operands-more (x ∷ vs) v below = operands-more vs v (operand x ∷ below)
-
-pub operands-length : (vs : List Value) (below : List Slot) → length (operands vs below) ≡ length vs + length below
-operands-length [] below = omega arith
-operands-length (v ∷ vs) below = omega (arith, operands-length vs (operand v ∷ below))
-
-are_numbers-more : (vs : List Value) (v : Value) → AreNumbers vs → HasKind types.Number v → AreNumbers (vs ++ v ∷ [])
+pub are_numbers-more : (vs : List Value) (v : Value) → AreNumbers vs → HasKind types.Number v → AreNumbers (vs ++ v ∷ [])
 are_numbers-more [] v h k = (k, tt)
 are_numbers-more (x ∷ vs) v h k = (h.0, are_numbers-more vs v h.1 k)
 
@@ -72,10 +66,10 @@ module _ (sc : Scopes) (context : Context) (ps : List Placed) (level most : ℕ)
   pub stays_here : (pc : ℕ) (slots : List Slot) (r : Rest) → (ask r ≡ nothing → ⊥) → StandsFor sc context ps level most r pc slots → Coming r pc slots
   stays_here pc slots r a s = record { at = pc; with_slots = slots; leads = there; stands = s; asks = a }
 
-  heads_ask : (k : Kind) (h : Hole) (pc : ℕ) (slots below : List Slot) (to : ℕ) → Holds sc context ps level most k h pc slots below to → ask_hole h ≡ nothing → ⊥
+  pub heads_ask : (k : Kind) (h : Hole) (pc : ℕ) (slots below : List Slot) (to : ℕ) → Holds sc context ps level most k h pc slots below to → ask_hole h ≡ nothing → ⊥
   heads_ask = holds_asks sc context ps level most
 
-  value_at : (pc : ℕ) (slots : List Slot) (v : Value) (below : List Slot) (to : ℕ) → Goes ps level pc to → slots ≡ operand v ∷ below →
+  pub value_at : (pc : ℕ) (slots : List Slot) (v : Value) (below : List Slot) (to : ℕ) → Goes ps level pc to → slots ≡ operand v ∷ below →
       Leads sc context ps level most pc slots to (operand v ∷ below)
   value_at = valued_at sc context ps level most
 
@@ -162,6 +156,16 @@ module _ (sc : Scopes) (context : Context) (ps : List Placed) (level most : ℕ)
       (table, u, record { fits = sh.2; many = (h.2).whole; place = (h.3).whole; lies = refl; stands = h.4 }, c, follows, omega (arith, room))))
   selected_stands (busy x) ss k pc slots m table u sh h c follows room =
       stays_here pc slots (rests.selecting x ss k) (heads_ask types.Number x pc slots (intrinsic Select ∷ mark ∷ pend k) m sh) (m, table, u, sh, h, c, follows, room)
+
+  -- ---- a call whose actuals are settled as far as that goes
+
+  pub called_stands : (n : Named) (callee : ℕ) (x : HalfGiven) (k : List Item) (pc : ℕ) (slots : List Slot) (next u : ℕ) →
+      Filled sc context ps level most n callee x pc slots (pend k) next → DroppedAt sc context ps level (block_numbered sc.blocks callee).result next u → Following k u →
+      HasRoom most (pend k) 2 → Coming (statement_called_of n x k) pc slots
+  called_stands n callee (given gs) k pc slots next u s d follows room =
+      stays_here pc slots (rests.entering n gs k) (calls_asks n gs) (callee, next, u, s, d, follows, room)
+  called_stands n callee (wants x) k pc slots next u s d follows room =
+      stays_here pc slots (rests.calling n x k) (fills_asks sc context ps level most n callee x pc slots (pend k) s.0 s.1) (callee, s.0, next, u, s.1, s.2, d, follows, room)
 
   -- ---- lines
 

@@ -1,195 +1,153 @@
 -- From the start of its code an expression comes, by private operators alone, to where the machine stands for it after the silent steps.
-use Rattle.std.proofs.Common.{◌≡◌, refl, sym, subst, ℕ, ◌+◌, arith, Bool, true, false, List, [], ◌∷◌}
-use Rattle.std.specs.Prelude.{not, if◌then◌else◌, Result, Ok, Err}
-use Rattle.algol_tree.specs.declared.tree.Op.{Op}
+use Rattle.std.proofs.Common.{◌≡◌, refl, sym, ap, ◌∙◌, subst, ℕ, ◌≤◌, arith, Bool, true, List, [], ◌∷◌, Option, Some, None}
+use Rattle.std.proofs.lemmas.List.{append-nil}
 use Rattle.algol_tree.specs.declared.tree.Kind.{Kind}
 use Rattle.algol_tree.specs.declared.tree.Kind.TheVariants as types
 use Rattle.algol_tree.specs.declared.tree.Named.{Named}
 use Rattle.algol_tree.specs.Plain as tree
-use Rattle.algol_tree.specs.Plain.{PExpr}
-use Rattle.algol_tree.specs.Sorts.{procedure_in}
+use Rattle.algol_tree.specs.Plain.{PExpr, PExprs}
+use Rattle.algol_tree.specs.Sorts.{Sort, procedure_in}
+use Rattle.algol_tree.specs.Blocks.{block_numbered}
 use Rattle.algol_tree.specs.Types.{given_by, taken_by}
 use Rattle.algol_tree.specs.Scopes.{Scopes}
-use Rattle.b67_num.specs.declared.NumFault.{NumFault}
-use Rattle.b67_num.specs.Whole.{negation_of}
-use Rattle.algol_meaning.specs.Value.{Value, number, truth, truth_of}
-use Rattle.algol_meaning.specs.Operators.{result_of}
+use Rattle.algol_meaning.specs.Value.{number, truth}
 use Rattle.algol_meaning.specs.Rest as rests
-use Rattle.algol_meaning.specs.Rest.{Hole, Half, val, busy}
-use Rattle.algol_meaning.specs.Settle.{after_result, right_of, left_of, negated_of, inverted_of, condition_of, named_of, sort_at, settle}
+use Rattle.algol_meaning.specs.Rest.{Half, val, busy, HalfGiven, given, wants}
+use Rattle.algol_meaning.specs.Settle.{left_of, negated_of, inverted_of, named_of, called_of, sorts_of, block_of, sort_at, actual_of, settle, settle_actuals}
+use Rattle.algol_paths.specs.Arrays.{lows_of}
+use Rattle.b67_ops.specs.declared.Couple.{Couple}
 use Rattle.b67_ops.specs.declared.Operator.TheVariants as ops
 use Rattle.b67_ops.specs.declared.PlainKind.TheVariants as kinds
-use Rattle.b67_ops.specs.declared.BranchKind.TheVariants.{Brfl, Brun}
 use Rattle.b67_segment.specs.Operators.{Placed}
 use Rattle.b67_templates.specs.Contexts.{Context}
-use Rattle.b67_templates.specs.Fragments.{HasKind, Has, ReadyAt, BranchAt, Goes, stop, over, operator_for, is_implication}
-use Rattle.b67_templates.specs.Code.{NameAt, reads, calls, ExprAt}
+use Rattle.b67_templates.specs.Fragments.{Has, Goes, stop, over}
+use Rattle.b67_templates.specs.Cells.{parameter_kinds, IsProcedure}
+use Rattle.b67_templates.specs.Code.{NameAt, reads, calls, ExprAt, ActualsAt}
 use Rattle.b67_templates.specs.Depths.{depth}
-use Rattle.b67_standing.specs.Stepping.{Slot, operand, reference, mark, ready, HasRoom, push_number, push_truth, calculate, negate, invert, false_stays, false_goes, summon, Leads, there, first}
-use Rattle.b67_standing.specs.Standing.{Holds, Shows}
-use Rattle.b67_standing.proofs.Leading.{depth-positive, goes_on, on, valued_at}
-use Rattle.b67_standing.proofs.Values.{result_kind, negation_whole, implication_takes, variable_reads, procedure_enters}
-
--- by private operators the machine comes to where that stands, of that kind
-pub record Comes (sc : Scopes) (context : Context) (ps : List Placed) (level most : ℕ) (k : Kind) (pc : ℕ) (slots : List Slot) (x : Half) (below : List Slot) (to : ℕ) :
-    Type 0 where
-  pub at : ℕ
-  pub with_slots : List Slot
-  pub leads : Leads sc context ps level most pc slots at with_slots
-  pub shows : Shows sc context ps level most k x at with_slots below to
+use Rattle.b67_standing.specs.Stepping.{Slot, operand, reference, mark, HasRoom, push_number, push_truth, summon, there, first}
+use Rattle.b67_standing.specs.Standing.{operands, AreOfKinds}
+use Rattle.b67_standing.proofs.Leading.{depth-positive}
+use Rattle.b67_standing.proofs.Actuals.{operands-length, Filled, ComesFilled, after_filled, called_on, ActualsOn, actual_stands}
+use Rattle.b67_standing.proofs.Values.{variable_reads, procedure_enters}
+use Rattle.b67_standing.proofs.Halves.{Comes, here, after, of_kind, negated_at, inverted_at, left_at, condition_at}
+use Rattle.b67_standing.proofs.Subscripts.{begun_at, subscript_at}
 
 module _ (sc : Scopes) (context : Context) (ps : List Placed) (level most : ℕ) where
-  abbrev pub Coming : Kind → ℕ → List Slot → Half → List Slot → ℕ → Type 0
+  abbrev Coming : Kind → ℕ → List Slot → Half → List Slot → ℕ → Type 0
   Coming = Comes sc context ps level most
-
-  abbrev Lead : ℕ → List Slot → ℕ → List Slot → Type 0
-  Lead = Leads sc context ps level most
-
-  abbrev Showing : Kind → Half → ℕ → List Slot → List Slot → ℕ → Type 0
-  Showing = Shows sc context ps level most
-
-  -- what is to come to n may come to where n goes
-  further : (k : Kind) (h : Hole) (pc : ℕ) (slots below : List Slot) (n to : ℕ) → Holds sc context ps level most k h pc slots below n → Goes ps level n to →
-      Holds sc context ps level most k h pc slots below to
-  further k (rests.read x) pc slots below n to s g = (s.0, s.1, s.2, s.3, goes_on ps level s.4 g)
-  further k (rests.broken op v w fault) pc slots below n to s g = s
-  further k (rests.enter x gs) pc slots below n to s g = (s.0, s.1, s.2, s.3, s.4, goes_on ps level s.5 g)
-  further k (rests.left op h b) pc slots below n to s g = (s.0, s.1, s.2, s.3, s.4, s.5, s.6, s.7, s.8, s.9, goes_on ps level s.10 g)
-  further k (rests.right op v h) pc slots below n to s g = (s.0, s.1, s.2, s.3, s.4, s.5, goes_on ps level s.6 g)
-  further k (rests.negated h) pc slots below n to s g = (s.0, s.1, s.2, s.3, s.4, goes_on ps level s.5 g)
-  further k (rests.inverted h) pc slots below n to s g = (s.0, s.1, s.2, s.3, s.4, goes_on ps level s.5 g)
-  further k (rests.condition h x y) pc slots below n to s g = (s.0, s.1, s.2, s.3, s.4, s.5, s.6, s.7, s.8, s.9, s.10, s.11, goes_on ps level s.12 g, s.13)
-  further k _ pc slots below n to s g = absurd s
-
-  widened : (k : Kind) (x : Half) (pc : ℕ) (slots below : List Slot) (n to : ℕ) → Showing k x pc slots below n → Goes ps level n to → Showing k x pc slots below to
-  widened k (val v) pc slots below n to s g = (goes_on ps level s.0 g, s.1, s.2)
-  widened k (busy h) pc slots below n to s g = further k h pc slots below n to s g
-
-  pub here : (k : Kind) (pc : ℕ) (slots : List Slot) (x : Half) (below : List Slot) (to : ℕ) → Showing k x pc slots below to → Coming k pc slots x below to
-  here k pc slots x below to s = record { at = pc; with_slots = slots; leads = there; shows = s }
-
-  pub after : (k : Kind) {a b : ℕ} {y z : List Slot} {x : Half} {below : List Slot} {to : ℕ} → Lead a y b z → Coming k b z x below to → Coming k a y x below to
-  after k l c = record { at = c.at; with_slots = c.with_slots; leads = on sc context ps level most l c.leads; shows = c.shows }
-
-  wider : (k : Kind) (x : Half) (pc : ℕ) (slots below : List Slot) (n to : ℕ) → Coming k pc slots x below n → Goes ps level n to → Coming k pc slots x below to
-  wider k x pc slots below n to c g =
-      record { at = c.at; with_slots = c.with_slots; leads = c.leads; shows = widened k x c.at c.with_slots below n to c.shows g }
-
-  value_at : (pc : ℕ) (slots : List Slot) (v : Value) (below : List Slot) (to : ℕ) → Goes ps level pc to → slots ≡ operand v ∷ below → Lead pc slots to (operand v ∷ below)
-  value_at = valued_at sc context ps level most
-
-  -- ---- one lemma for each form that settling and answering share
-
-  calc_at : (op : Op) (v w : Value) (r : Result Value NumFault) (pc next to : ℕ) (below : List Slot) → result_of op v w ≡ r → HasKind (taken_by op) v → HasKind (taken_by op) w →
-      Has ps level pc (ops.Plain (operator_for op)) next → Goes ps level next to →
-      Coming (given_by op) pc (operand w ∷ operand (ready op v) ∷ below) (after_result op v w r) below to
-  calc_at op v w (Ok x) pc next to below e kv kw h g =
-      record { at = next; with_slots = operand x ∷ below; leads = first (calculate op v w x h kv kw e) there; shows = (g, refl, result_kind op v w x e) }
-  calc_at op v w (Err fault) pc next to below e kv kw h g =
-      here (given_by op) pc (operand w ∷ operand (ready op v) ∷ below) (busy (rests.broken op v w fault)) below to
-      (next, refl, record { first_fits = kv; second_fits = kw; breaks = e; lies = refl; stands = h })
-
-  pub right_at : (op : Op) (v : Value) (x : Half) (pc : ℕ) (slots below : List Slot) (n next to : ℕ) → Showing (taken_by op) x pc slots (operand (ready op v) ∷ below) n →
-      HasKind (taken_by op) v → Has ps level n (ops.Plain (operator_for op)) next → Goes ps level next to → Coming (given_by op) pc slots (right_of op v x) below to
-  right_at op v (val w) pc slots below n next to s kv h g =
-      after (given_by op) (value_at pc slots w (operand (ready op v) ∷ below) n s.0 s.1) (calc_at op v w (result_of op v w) n next to below refl kv s.2 h g)
-  right_at op v (busy k) pc slots below n next to s kv h g = here (given_by op) pc slots (busy (rests.right op v k)) below to (n, next, refl, kv, s, h, g)
-
-  ready_by : (c : Bool) (v : Value) (m r : ℕ) (below : List Slot) → (c ≡ true → HasKind types.Truth v) → ReadyAt ps level c m r →
-      Lead m (operand v ∷ below) r (operand (if c then truth (not (truth_of v)) else v) ∷ below)
-  ready_by true (truth b) m r below k h = first (invert b h) there
-  ready_by true (number z) m r below k h = absurd (k refl)
-  ready_by false v m r below k h = subst (λ z. Lead m (operand v ∷ below) z (operand v ∷ below)) h there
-
-  ready_at : (op : Op) (v : Value) (m r : ℕ) (below : List Slot) → HasKind (taken_by op) v → ReadyAt ps level (is_implication op) m r →
-      Lead m (operand v ∷ below) r (operand (ready op v) ∷ below)
-  ready_at op v m r below k h = ready_by (is_implication op) v m r below (λ e. subst (λ z. HasKind z v) (implication_takes op e) k) h
-
-  -- the second operand comes by itself, on top of the first
-  pub left_at : (op : Op) (x : Half) (b : PExpr) (s : Half) (pc : ℕ) (slots below : List Slot) (m r n next to : ℕ) → Showing (taken_by op) x pc slots below m →
-      ReadyAt ps level (is_implication op) m r → ExprAt sc context ps level (taken_by op) b r n n → HasRoom most below (1 + depth b) →
-      ((o : List Slot) → HasRoom most o (depth b) → Coming (taken_by op) r o s o n) → Has ps level n (ops.Plain (operator_for op)) next → Goes ps level next to →
-      Coming (given_by op) pc slots (left_of op x b s) below to
-  left_at op (val v) b s pc slots below m r n next to sh d e room c h g =
-      let up = operand (ready op v) ∷ below in
-      let y = c up (omega (arith, room)) in
-      after (given_by op) (value_at pc slots v below m sh.0 sh.1) (after (given_by op) (ready_at op v m r below sh.2 d)
-      (after (given_by op) y.leads (right_at op v s y.at y.with_slots below n next to y.shows sh.2 h g)))
-  left_at op (busy k) b s pc slots below m r n next to sh d e room c h g =
-      here (given_by op) pc slots (busy (rests.left op k b)) below to (m, r, n, next, refl, sh, d, e, room, h, g)
-
-  pub negated_at : (x : Half) (pc : ℕ) (slots below : List Slot) (m next to : ℕ) → Showing types.Number x pc slots below m → Has ps level m (ops.Plain kinds.Chsn) next →
-      Goes ps level next to → Coming types.Number pc slots (negated_of x) below to
-  negated_at (val (number z)) pc slots below m next to s h g =
-      after types.Number (value_at pc slots (number z) below m s.0 s.1)
-      (record { at = next; with_slots = operand (number (negation_of z)) ∷ below; leads = first (negate z h s.2) there; shows = (g, refl, negation_whole z s.2) })
-  negated_at (val (truth b)) pc slots below m next to s h g = absurd s.2
-  negated_at (busy k) pc slots below m next to s h g = here types.Number pc slots (busy (rests.negated k)) below to (m, next, refl, s, h, g)
-
-  pub inverted_at : (x : Half) (pc : ℕ) (slots below : List Slot) (m next to : ℕ) → Showing types.Truth x pc slots below m → Has ps level m (ops.Plain kinds.Lnot) next →
-      Goes ps level next to → Coming types.Truth pc slots (inverted_of x) below to
-  inverted_at (val (truth b)) pc slots below m next to s h g =
-      after types.Truth (value_at pc slots (truth b) below m s.0 s.1)
-      (record { at = next; with_slots = operand (truth (not b)) ∷ below; leads = first (invert b h) there; shows = (g, refl, tt) })
-  inverted_at (val (number z)) pc slots below m next to s h g = absurd s.2
-  inverted_at (busy k) pc slots below m next to s h g = here types.Truth pc slots (busy (rests.inverted k)) below to (m, next, refl, s, h, g)
-
-  parted : (k : Kind) (b : Bool) (x y : Half) (below : List Slot) (m m' n' u to : ℕ) → BranchAt ps level Brfl m n' m' → Goes ps level u to → Coming k m' below x below u →
-      Coming k n' below y below u → Coming k m (operand (truth b) ∷ below) (if b then x else y) below to
-  parted k true x y below m m' n' u to h g c d = after k (first (false_stays h) there) (wider k x m' below below u to c g)
-  parted k false x y below m m' n' u to h g c d = after k (first (false_goes h) there) (wider k y n' below below u to d g)
-
-  pub condition_at : (k : Kind) (x : Half) (a b : PExpr) (s t : Half) (pc : ℕ) (slots below : List Slot) (m m' n n' e u to : ℕ) → Showing types.Truth x pc slots below m →
-      BranchAt ps level Brfl m n' m' → ExprAt sc context ps level k a m' n u → BranchAt ps level Brun n u n' → ExprAt sc context ps level k b n' e u → Goes ps level e u →
-      Goes ps level u to → HasRoom most below (depth a + depth b) → Coming k m' below s below u → Coming k n' below t below u → Coming k pc slots (condition_of x a b s t) below to
-  condition_at k (val (truth c)) a b s t pc slots below m m' n n' e u to sh h i j l g f room y z =
-      after k (value_at pc slots (truth c) below m sh.0 sh.1) (parted k c s t below m m' n' u to h f y z)
-  condition_at k (val (number c)) a b s t pc slots below m m' n n' e u to sh h i j l g f room y z = absurd sh.2
-  condition_at k (busy c) a b s t pc slots below m m' n n' e u to sh h i j l g f room y z =
-      here k pc slots (busy (rests.condition c a b)) below to (m, m', n, n', e, u, sh, h, i, j, l, g, f, room)
-
-  -- ---- settling
-
-  -- of this kind, or of one that is the same
-  pub of_kind : {k l : Kind} (pc : ℕ) (slots : List Slot) (x : Half) (below : List Slot) (to : ℕ) → l ≡ k → Coming k pc slots x below to → Coming l pc slots x below to
-  of_kind pc slots x below to e c = subst (λ z. Coming z pc slots x below to) (sym e) c
 
   -- a name alone: a variable that is read, or a typed procedure that is called
   name_at : (k : Kind) (n : Named) (f t u : ℕ) → NameAt sc context ps level k n f t → Goes ps level t u → (below : List Slot) → HasRoom most below 2 →
       Coming k f below (named_of (procedure_in (sort_at sc n)) n) below u
   name_at k n f t u (reads h) g below room =
       subst (λ x. Coming k f below x below u) (sym (variable_reads (sort_at sc n) n (h.1).variable))
-      (here k f below (busy (rests.read n)) below u (t, h, refl, omega (arith, room), g))
-  name_at k n f t u (calls callee c e) g below room =
-      subst (λ x. Coming k f below x below u) (sym (procedure_enters (sort_at sc n) n callee (c.procedure).sort_is))
-      (after k (first (summon n callee c room) there)
-      (here k c.named (reference c.couple ∷ mark ∷ below) (busy (rests.enter n [])) below u
-      (callee, t, record { couple = c.couple; procedure = c.procedure; none = refl; lies = refl; stands = c.enter }, e, room, g)))
+      (here sc context ps level most k f below (busy (rests.read n)) below u (t, h, refl, omega (arith, room), g))
+  name_at k n f t u (calls callee c none e) g below room =
+      let b = c.2 in
+      subst (λ x. Coming k f below x below u) (sym (procedure_enters (sort_at sc n) n callee (b.procedure).sort_is))
+      (after sc context ps level most k (first (summon n callee b room) there)
+      (here sc context ps level most k c.0 (reference b.couple ∷ mark ∷ below) (busy (rests.enter n [])) below u (
+        callee,
+        t,
+        record {
+          couple = b.couple;
+          procedure = b.procedure;
+          values = [];
+          given = refl;
+          fit = subst (λ o. AreOfKinds o []) (sym none) tt;
+          lies = refl;
+          stands = subst (λ z. Has ps level z (ops.Plain kinds.Entr) t) (sym c.3) c.4;
+        },
+        e,
+        room,
+        g,
+      )))
 
-  pub settle_at : (k : Kind) (e : PExpr) (f t u : ℕ) → ExprAt sc context ps level k e f t u → Goes ps level t u → (below : List Slot) → HasRoom most below (depth e) →
-      Coming k f below (settle sc e) below u
-  settle_at k (tree.number z spot) f t u h g below room =
-      of_kind f below (val (number z)) below u h.0
-      (record { at = t; with_slots = operand (number z) ∷ below; leads = first (push_number z h.1 room) there; shows = (g, refl, (h.1).whole) })
-  settle_at k (tree.truth b spot) f t u h g below room =
-      of_kind f below (val (truth b)) below u h.0
-      (record { at = t; with_slots = operand (truth b) ∷ below; leads = first (push_truth b h.1 room) there; shows = (g, refl, tt) })
-  settle_at k (tree.variable (tree.subscripted n tree.none)) f t u h g below room = name_at k n f t u h g below room
-  settle_at k (tree.paren e spot) f t u h g below room = settle_at k e f t u h g below room
-  settle_at k (tree.plus e spot) f t u h g below room = of_kind f below (settle sc e) below u h.0 (settle_at types.Number e f t u h.1 g below room)
-  settle_at k (tree.neg e spot) f t u h g below room =
-      let c = settle_at types.Number e f h.0 h.0 h.2 stop below room in
-      of_kind f below (negated_of (settle sc e)) below u h.1 (after types.Number c.leads (negated_at (settle sc e) c.at c.with_slots below h.0 t u c.shows h.3 g))
-  settle_at k (tree.not e spot) f t u h g below room =
-      let c = settle_at types.Truth e f h.0 h.0 h.2 stop below room in
-      of_kind f below (inverted_of (settle sc e)) below u h.1 (after types.Truth c.leads (inverted_at (settle sc e) c.at c.with_slots below h.0 t u c.shows h.3 g))
-  settle_at k (tree.two op a b) f t u h g below room =
-      let c = settle_at (taken_by op) a f h.0 h.0 h.4 stop below (omega (arith, room)) in
-      of_kind f below (left_of op (settle sc a) b (settle sc b)) below u h.3
-      (after (given_by op) c.leads (left_at op (settle sc a) b (settle sc b) c.at c.with_slots below h.0 h.1 h.2 t u c.shows h.5 h.6 (omega (arith, room, depth-positive a))
-      (λ o r. settle_at (taken_by op) b h.1 h.2 h.2 h.6 stop o r) h.7 g))
-  settle_at k (tree.if c x y spot) f t u h g below room =
-      let d = settle_at types.Truth c f h.0 h.0 h.4 stop below (omega (arith, room)) in
-      after k {b = d.at} {z = d.with_slots} d.leads (condition_at k (settle sc c) x y (settle sc x) (settle sc y) d.at d.with_slots below h.0 h.1 h.2 h.3 t u u d.shows h.5 h.6 h.7 h.8 g stop (omega (arith, room))
-      (settle_at k x h.1 h.2 u h.6 (over h.3 h.7 stop) below (omega (arith, room))) (settle_at k y h.3 t u h.8 g below (omega (arith, room))))
-  settle_at k _ f t u h g below room = absurd h
+  -- a call whose actuals are settled as far as that goes
+  pub called_stands : (k : Kind) (n : Named) (callee : ℕ) (x : HalfGiven) (pc : ℕ) (slots below : List Slot) (next to : ℕ) →
+      Filled sc context ps level most n callee x pc slots below next → (block_numbered sc.blocks callee).result ≡ Some k → HasRoom most below 2 → Goes ps level next to →
+      Coming k pc slots (called_of n x) below to
+  called_stands k n callee (given gs) pc slots below next to s e room g = here sc context ps level most k pc slots (busy (rests.enter n gs)) below to (callee, next, s, e, room, g)
+  called_stands k n callee (wants x) pc slots below next to s e room g =
+      here sc context ps level most k pc slots (busy (rests.argument n x)) below to (callee, s.0, next, e, s.1, s.2, g)
+
+  mutual
+    pub settle_at : (k : Kind) (e : PExpr) (f t u : ℕ) → ExprAt sc context ps level k e f t u → Goes ps level t u → (below : List Slot) → HasRoom most below (depth e) →
+        Coming k f below (settle sc e) below u
+    settle_at k (tree.number z spot) f t u h g below room =
+        of_kind sc context ps level most f below (val (number z)) below u h.0
+        (record { at = t; with_slots = operand (number z) ∷ below; leads = first (push_number z h.1 room) there; shows = (g, refl, (h.1).whole) })
+    settle_at k (tree.truth b spot) f t u h g below room =
+        of_kind sc context ps level most f below (val (truth b)) below u h.0
+        (record { at = t; with_slots = operand (truth b) ∷ below; leads = first (push_truth b h.1 room) there; shows = (g, refl, tt) })
+    settle_at k (tree.variable (tree.subscripted n tree.none)) f t u h g below room = name_at k n f t u h g below room
+    settle_at k (tree.variable (tree.subscripted n (tree.more e es))) f t u h g below room =
+        let begun = begun_at sc context ps level most n h.1 (lows_of (h.0).pairs) e es f h.2 below (omega (arith, room))
+        (λ m i. settle_at types.Number e f m m i stop below (omega (arith, room))) h.5 in
+        after sc context ps level most k begun.leads
+        (subscript_at sc context ps level most k n h.0 h.1 (settle sc e) begun.at begun.with_slots [] es below h.2 t u h.3 h.4 begun.seeks h.6 g)
+    settle_at k (tree.paren e spot) f t u h g below room = settle_at k e f t u h g below room
+    settle_at k (tree.plus e spot) f t u h g below room = of_kind sc context ps level most f below (settle sc e) below u h.0 (settle_at types.Number e f t u h.1 g below room)
+    settle_at k (tree.neg e spot) f t u h g below room =
+        let c = settle_at types.Number e f h.0 h.0 h.2 stop below room in
+        of_kind sc context ps level most f below (negated_of (settle sc e)) below u h.1 (after sc context ps level most types.Number c.leads (negated_at sc context ps level most (settle sc e) c.at c.with_slots below h.0 t u c.shows h.3 g))
+    settle_at k (tree.not e spot) f t u h g below room =
+        let c = settle_at types.Truth e f h.0 h.0 h.2 stop below room in
+        of_kind sc context ps level most f below (inverted_of (settle sc e)) below u h.1 (after sc context ps level most types.Truth c.leads (inverted_at sc context ps level most (settle sc e) c.at c.with_slots below h.0 t u c.shows h.3 g))
+    settle_at k (tree.two op a b) f t u h g below room =
+        let c = settle_at (taken_by op) a f h.0 h.0 h.4 stop below (omega (arith, room)) in
+        of_kind sc context ps level most f below (left_of op (settle sc a) b (settle sc b)) below u h.3
+        (after sc context ps level most (given_by op) c.leads (left_at sc context ps level most op (settle sc a) b (settle sc b) c.at c.with_slots below h.0 h.1 h.2 t u c.shows h.5 h.6 (omega (arith, room, depth-positive a))
+        (λ o r. settle_at (taken_by op) b h.1 h.2 h.2 h.6 stop o r) h.7 g))
+    settle_at k (tree.if c x y spot) f t u h g below room =
+        let d = settle_at types.Truth c f h.0 h.0 h.4 stop below (omega (arith, room)) in
+        after sc context ps level most k {b = d.at} {z = d.with_slots} d.leads (condition_at sc context ps level most k (settle sc c) x y (settle sc x) (settle sc y) d.at d.with_slots below h.0 h.1 h.2 h.3 t u u d.shows h.5 h.6 h.7 h.8 g stop (omega (arith, room))
+        (settle_at k x h.1 h.2 u h.6 (over h.3 h.7 stop) below (omega (arith, room))) (settle_at k y h.3 t u h.8 g below (omega (arith, room))))
+    settle_at k (tree.call (tree.called n es)) f t u h g below room =
+        let c = h.1 in
+        let b = c.2 in
+        let kinds = parameter_kinds sc h.0 in
+        let settled : ℕ → HalfGiven = λ z. settle_actuals sc es (sorts_of ((block_numbered sc.blocks z).parameters)) [] in
+        let filled : ComesFilled sc context ps level most n h.0 (settled h.0) c.0 (called_on sc context ps level most b.couple below) below t =
+        actuals_at es (sorts_of ((block_numbered sc.blocks h.0).parameters)) kinds n h.0 b.couple c.0 c.1 t below b.procedure c.3 c.4 [] [] [] refl refl tt (omega (arith, room)) in
+        subst (λ z. Coming k f below (called_of n (settled z)) below u) (sym (ap block_of (b.procedure).sort_is))
+        (after sc context ps level most k (first (summon n h.0 b (omega (arith, room))) there)
+        (after sc context ps level most k filled.leads (called_stands k n h.0 (settled h.0) filled.at filled.with_slots below t u filled.fills h.2 (omega (arith, room)) g)))
+    settle_at k _ f t u h g below room = absurd h
+
+    -- the values of the actuals come to lie there one after another
+    pub actuals_at : (es : PExprs) (sorts : List Sort) (after : List (Option Kind)) (n : Named) (callee : ℕ) (couple : Couple) (f filled next : ℕ) (below : List Slot) →
+        IsProcedure sc level n callee couple → ActualsAt sc context ps level sorts after es f filled → Has ps level filled (ops.Plain kinds.Entr) next →
+        ActualsOn sc context ps level most n callee couple es sorts after f below next
+    actuals_at tree.none [] [] n callee couple f filled next below procedure l enter us gs before given_is kinds_are fit room = record {
+      at = f;
+      with_slots = operands us (called_on sc context ps level most couple below);
+      leads = there;
+      fills = record {
+        couple = couple;
+        procedure = procedure;
+        values = us;
+        given = given_is;
+        fit = subst (λ o. AreOfKinds o us) (sym (kinds_are ∙ append-nil before)) fit;
+        lies = refl;
+        stands = subst (λ z. Has ps level z (ops.Plain kinds.Entr) next) (sym l) enter;
+      };
+    }
+    actuals_at (tree.more e es) (sort ∷ sorts) (Some kind ∷ after_kinds) n callee couple f filled next below procedure l enter us gs before given_is kinds_are fit room =
+        let floor = called_on sc context ps level most couple below in
+        let deep : 1 ≤ depth e = depth-positive e in
+        let c = settle_at kind e f l.0 l.0 l.2 stop (operands us floor) (omega (arith, room, operands-length us floor)) in
+        let settled : Bool → HalfGiven = λ b. actual_of sc b e (settle sc e) gs sorts es (settle_actuals sc es sorts) in
+        subst (λ b. ComesFilled sc context ps level most n callee (settled b) f (operands us floor) below next) (sym l.1)
+        (after_filled sc context ps level most n callee (settled true) below next c.leads
+        (actual_stands sc context ps level most n callee couple us gs before kind after_kinds sorts es l.0 filled next below (settle sc e) c.at c.with_slots
+        (record { procedure = procedure; given_is = given_is; kinds_are = kinds_are; fit = fit; actuals = l.3; enter = enter; room = omega (arith, room, deep) })
+        c.shows (actuals_at es sorts after_kinds n callee couple l.0 filled next below procedure l.3 enter)))
+    actuals_at tree.none [] (x ∷ after_kinds) n callee couple f filled next below procedure l enter us gs before given_is kinds_are fit room = absurd l
+    actuals_at tree.none (sort ∷ sorts) [] n callee couple f filled next below procedure l enter us gs before given_is kinds_are fit room = absurd l
+    actuals_at tree.none (sort ∷ sorts) (Some kind ∷ after_kinds) n callee couple f filled next below procedure l enter us gs before given_is kinds_are fit room = absurd l
+    actuals_at tree.none (sort ∷ sorts) (None ∷ after_kinds) n callee couple f filled next below procedure l enter us gs before given_is kinds_are fit room = absurd l
+    actuals_at (tree.more e es) [] [] n callee couple f filled next below procedure l enter us gs before given_is kinds_are fit room = absurd l
+    actuals_at (tree.more e es) [] (x ∷ after_kinds) n callee couple f filled next below procedure l enter us gs before given_is kinds_are fit room = absurd l
+    actuals_at (tree.more e es) (sort ∷ sorts) [] n callee couple f filled next below procedure l enter us gs before given_is kinds_are fit room = absurd l
+    actuals_at (tree.more e es) (sort ∷ sorts) (None ∷ after_kinds) n callee couple f filled next below procedure l enter us gs before given_is kinds_are fit room = absurd l

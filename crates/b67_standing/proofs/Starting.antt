@@ -1,5 +1,5 @@
--- The items of a block follow where their code stands, and so do the statements of an inner block.
-use Rattle.std.proofs.Common.{◌≡◌, refl, sym, ap, ◌∙◌, subst, ℕ, ◌+◌, ◌≤◌, arith, List, [], ◌∷◌, ◌++◌, append_assoc, Option, Some, None}
+-- The items of a block follow where their code stands, and so do the arrays and the statements of an inner block.
+use Rattle.std.proofs.Common.{◌≡◌, refl, sym, subst, ℕ, ◌≤◌, arith, List, [], ◌∷◌, ◌++◌, append_assoc, Option, Some, None}
 use Rattle.algol_tree.specs.declared.tree.Kind.{Kind}
 use Rattle.algol_tree.specs.declared.tree.Named.{Named}
 use Rattle.algol_tree.specs.Plain as tree
@@ -12,86 +12,147 @@ use Rattle.algol_meaning.specs.Statements.{items, event_items, decl_items, decls
 use Rattle.b67_segment.specs.Operators.{Placed}
 use Rattle.b67_templates.specs.Contexts.{Context}
 use Rattle.b67_templates.specs.Fragments.{stop}
-use Rattle.b67_templates.specs.Code.{KAt}
-use Rattle.b67_templates.specs.Depths.{stmts_depth, counts_in, AreShallow}
-use Rattle.b67_standing.specs.Standing.{pend, AreCounts, Follows, ComesTo}
+use Rattle.b67_templates.specs.Code.{HasNoCounts, DeclsAt, KAt}
+use Rattle.b67_templates.specs.Depths.{decls_depth, stmts_depth, counts_in, AreShallow}
+use Rattle.b67_standing.specs.Standing.{AreCounts, Follows, ComesTo}
 use Rattle.b67_standing.specs.Laws.{BlocksStart, InnerBlocksStart, CountsHaveRoom}
-use Rattle.b67_standing.proofs.Leading.{pend-length}
+use Rattle.b67_standing.proofs.Leading.{pend-length, pend-none}
 use Rattle.b67_standing.proofs.Rests.{counts_within}
-use Rattle.b67_standing.proofs.Performing.{pend-items, items_follow}
+use Rattle.b67_standing.proofs.Performing.{items_follow}
 use Rattle.b67_standing.proofs.Items.{items_at}
 
-items-counts : (ss : PStmts) (k : List Item) → counts_in (items ss k) ≡ counts_in k
-items-counts tree.no_stmts k = refl
-items-counts (tree.stmts s ss) k = items-counts ss k
+-- ---- nothing of a THRU is among statements and declarations
 
-items-waiting : (ss : PStmts) (k : List Item) → AreCounts k → AreCounts (items ss k)
-items-waiting tree.no_stmts k c = c
-items-waiting (tree.stmts s ss) k c = items-waiting ss k c
+items-uncounted : (ss : PStmts) (k : List Item) → HasNoCounts k → HasNoCounts (items ss k)
+items-uncounted tree.no_stmts k h = h
+items-uncounted (tree.stmts s ss) k h = items-uncounted ss k h
 
-items-shallow : (most : ℕ) (ss : PStmts) (k : List Item) → counts_in k + stmts_depth ss ≤ most → AreShallow most k → AreShallow most (items ss k)
-items-shallow most tree.no_stmts k l a = a
-items-shallow most (tree.stmts s ss) k l a = (omega (arith, l, items-counts ss k), items-shallow most ss k (omega (arith, l)) a)
+events-uncounted : (ns : List Named) (k : List Item) → HasNoCounts k → HasNoCounts (event_items ns ++ k)
+events-uncounted [] k h = h
+events-uncounted (n ∷ ns) k h = events-uncounted ns k h
+
+decl-uncounted : (d : PDecl) (k : List Item) → HasNoCounts k → HasNoCounts (decl_items d ++ k)
+decl-uncounted (tree.arrays kind ns pairs) k h = h
+decl-uncounted (tree.events ns) k h = events-uncounted ns k h
+decl-uncounted (tree.tasks ns) k h = events-uncounted ns k h
+decl-uncounted _ k h = h
+
+-- the declarations of a block are those of the first, and then the others
+decls-split : (d : PDecl) (ds : PDecls) (k : List Item) → decls_items (tree.decls d ds) ++ k ≡ decl_items d ++ (decls_items ds ++ k)
+decls-split d ds k = append_assoc (decl_items d) (decls_items ds) k
+
+decls-uncounted : (ds : PDecls) (k : List Item) → HasNoCounts k → HasNoCounts (decls_items ds ++ k)
+decls-uncounted tree.no_decls k h = h
+decls-uncounted (tree.decls d ds) k h =
+    subst HasNoCounts (sym (decls-split d ds k)) (decl-uncounted d (decls_items ds ++ k) (decls-uncounted ds k h))
+
+-- so there are no counts
+uncounted : (k : List Item) → HasNoCounts k → counts_in k ≡ 0
+uncounted [] h = refl
+uncounted (rests.count n b ∷ k) h = absurd h
+uncounted (rests.run s ∷ k) h = uncounted k h
+uncounted (rests.turn ∷ k) h = uncounted k h
+uncounted (rests.check b c ∷ k) h = uncounted k h
+uncounted (rests.test loop ∷ k) h = uncounted k h
+uncounted (rests.result name ∷ k) h = uncounted k h
+uncounted (rests.make_arrays kind ns pairs ∷ k) h = uncounted k h
+uncounted (rests.make_event n ∷ k) h = uncounted k h
+
+none_wait : (k : List Item) → HasNoCounts k → AreCounts k
+none_wait [] h = tt
+none_wait (rests.count n b ∷ k) h = absurd h
+none_wait (rests.run s ∷ k) h = none_wait k h
+none_wait (rests.turn ∷ k) h = none_wait k h
+none_wait (rests.check b c ∷ k) h = none_wait k h
+none_wait (rests.test loop ∷ k) h = none_wait k h
+none_wait (rests.result name ∷ k) h = none_wait k h
+none_wait (rests.make_arrays kind ns pairs ∷ k) h = none_wait k h
+none_wait (rests.make_event n ∷ k) h = none_wait k h
+
+-- ---- they need no more words than there may be
+
+items-shallow : (most : ℕ) (ss : PStmts) (k : List Item) → HasNoCounts k → stmts_depth ss ≤ most → AreShallow most k → AreShallow most (items ss k)
+items-shallow most tree.no_stmts k h l a = a
+items-shallow most (tree.stmts s ss) k h l a =
+    (omega (arith, l, uncounted (items ss k) (items-uncounted ss k h)), items-shallow most ss k h (omega (arith, l)) a)
+
+events-shallow : (most : ℕ) (ns : List Named) (k : List Item) → HasNoCounts k → AreShallow most k → AreShallow most (event_items ns ++ k)
+events-shallow most [] k h a = a
+events-shallow most (n ∷ ns) k h a = (omega (arith, uncounted (event_items ns ++ k) (events-uncounted ns k h)), events-shallow most ns k h a)
+
+decls-shallow : (most : ℕ) (ds : PDecls) (k : List Item) → HasNoCounts k → decls_depth ds ≤ most → AreShallow most k → AreShallow most (decls_items ds ++ k)
+decls-shallow most tree.no_decls k h l a = a
+decls-shallow most (tree.decls (tree.arrays kind ns pairs) ds) k h l a =
+    (omega (arith, l, uncounted (decls_items ds ++ k) (decls-uncounted ds k h)), decls-shallow most ds k h (omega (arith, l)) a)
+decls-shallow most (tree.decls (tree.events ns) ds) k h l a =
+    subst (AreShallow most) (sym (decls-split (tree.events ns) ds k))
+    (events-shallow most ns (decls_items ds ++ k) (decls-uncounted ds k h) (decls-shallow most ds k h l a))
+decls-shallow most (tree.decls (tree.tasks ns) ds) k h l a =
+    subst (AreShallow most) (sym (decls-split (tree.tasks ns) ds k))
+    (events-shallow most ns (decls_items ds ++ k) (decls-uncounted ds k h) (decls-shallow most ds k h l a))
+decls-shallow most (tree.decls (tree.simple kind ns) ds) k h l a = decls-shallow most ds k h l a
+decls-shallow most (tree.decls (tree.files ns) ds) k h l a = decls-shallow most ds k h l a
+decls-shallow most (tree.decls (tree.labels ns) ds) k h l a = decls-shallow most ds k h l a
+decls-shallow most (tree.decls (tree.forward heading) ds) k h l a = decls-shallow most ds k h l a
+decls-shallow most (tree.decls (tree.procedure heading s) ds) k h l a = decls-shallow most ds k h l a
+
+-- ---- blocks
 
 -- what a block ends with needs a word at most, and nothing waits there
 record Ends (most : ℕ) (k : List Item) : Type 0 where
-  pub none : counts_in k ≡ 0
-  pub counts : AreCounts k
+  pub none : HasNoCounts k
   pub shallow : AreShallow most k
-  pub bare : pend k ≡ []
 
 ends : (most : ℕ) (b : Block) (o : Option Kind) → b.result ≡ o → 1 ≤ most → Ends most (ending b)
 ends most b None e l =
-    let last : ending b ≡ [] = rw e refl in subst (Ends most) (sym last) (record { none = refl; counts = tt; shallow = tt; bare = refl })
+    let last : ending b ≡ [] = rw e refl in subst (Ends most) (sym last) (record { none = tt; shallow = tt })
 ends most b (Some kind) e l =
     let last : ending b ≡ rests.result b.name ∷ [] = rw e refl in
-    subst (Ends most) (sym last) (record { none = refl; counts = tt; shallow = (omega (arith, l), tt); bare = refl })
+    subst (Ends most) (sym last) (record { none = tt; shallow = (omega (arith, l), tt) })
 
-module _ (sc : Scopes) (context : Context) (ps : List Placed) (level : ℕ) where
-  abbrev Stands : List Item → Type 0
-  Stands k = (pc : ℕ) × KAt sc context ps level k pc
-
-  -- where the code stands nothing is made by an action
-  events_none : (ns : List Named) (k : List Item) → Stands (event_items ns ++ k) → event_items ns ≡ []
-  events_none [] k s = refl
-  events_none (n ∷ ns) k s = absurd s.1
-
-  decl_none : (d : PDecl) (k : List Item) → Stands (decl_items d ++ k) → decl_items d ≡ []
-  decl_none (tree.arrays kind ns pairs) k s = absurd s.1
-  decl_none (tree.events ns) k s = events_none ns k s
-  decl_none (tree.tasks ns) k s = events_none ns k s
-  decl_none _ k s = refl
-
-  decls_none : (ds : PDecls) (k : List Item) → Stands (decls_items ds ++ k) → decls_items ds ≡ []
-  decls_none tree.no_decls k s = refl
-  decls_none (tree.decls d ds) k s =
-      let more = decls_items ds ++ k in
-      let all : Stands (decl_items d ++ more) = subst Stands (append_assoc (decl_items d) (decls_items ds) k) s in
-      let none = decl_none d more all in
-      ap (λ xs. xs ++ decls_items ds) none ∙ decls_none ds k (subst (λ xs. Stands (xs ++ more)) none all)
-
-  only_statements : (b : Block) → Stands (items_of b) → items_of b ≡ items b.stmts (ending b)
-  only_statements b s =
-      let last = items b.stmts (ending b) in
-      ap (λ xs. xs ++ last) (decls_none b.decls last s)
+-- where nothing waits, nothing lies there
+bare_start : (sc : Scopes) (context : Context) (ps : List Placed) (level most : ℕ) (k : List Item) (pc : ℕ) → HasNoCounts k → Follows sc context ps level most k pc →
+    ComesTo sc context ps level most (settle_items sc k) pc []
+bare_start sc context ps level most k pc h follows =
+    subst (λ o. ComesTo sc context ps level most (settle_items sc k) pc o) (pend-none k h) (items_at sc context ps level most k pc follows)
 
 pub blocks_start : BlocksStart
 blocks_start sc context ps level most b pc h l one =
-    let same = only_statements sc context ps level b (pc, h) in
     let e = ends most b b.result refl one in
-    let follows : Follows sc context ps level most (items_of b) pc = record {
+    let statements = items b.stmts (ending b) in
+    let uncounts : HasNoCounts statements = items-uncounted b.stmts (ending b) e.none in
+    let all : HasNoCounts (items_of b) = decls-uncounted b.decls statements uncounts in
+    bare_start sc context ps level most (items_of b) pc all (record {
       at = h;
-      shallow = subst (AreShallow most) (sym same) (items-shallow most b.stmts (ending b) (omega (arith, l, e.none)) e.shallow);
-      counts = subst AreCounts (sym same) (items-waiting b.stmts (ending b) e.counts);
-    } in
-    subst (λ o. ComesTo sc context ps level most (settle_items sc (items_of b)) pc o) (ap pend same ∙ pend-items b.stmts (ending b) ∙ e.bare)
-    (items_at sc context ps level most (items_of b) pc follows)
+      shallow = decls-shallow most b.decls statements uncounts (omega (arith, l)) (items-shallow most b.stmts (ending b) e.none (omega (arith, l)) e.shallow);
+      counts = none_wait (items_of b) all;
+    })
+
+-- the arrays stand before what comes after them
+decls_at : (sc : Scopes) (context : Context) (ps : List Placed) (level : ℕ) (ds : PDecls) (k : List Item) (f t : ℕ) → HasNoCounts k → DeclsAt sc context ps level ds f t →
+    KAt sc context ps level k t → KAt sc context ps level (decls_items ds ++ k) f
+decls_at sc context ps level tree.no_decls k f t n h s = subst (λ z. KAt sc context ps level k z) (sym h) s
+decls_at sc context ps level (tree.decls (tree.arrays kind ns pairs) ds) k f t n h s =
+    (f, h.0, stop, h.1, decls-uncounted ds k n, decls_at sc context ps level ds k h.0 t n h.2 s)
+decls_at sc context ps level (tree.decls (tree.events ns) ds) k f t n h s = absurd h
+decls_at sc context ps level (tree.decls (tree.tasks ns) ds) k f t n h s = absurd h
+decls_at sc context ps level (tree.decls (tree.simple kind ns) ds) k f t n h s = decls_at sc context ps level ds k f t n h s
+decls_at sc context ps level (tree.decls (tree.files ns) ds) k f t n h s = decls_at sc context ps level ds k f t n h s
+decls_at sc context ps level (tree.decls (tree.labels ns) ds) k f t n h s = decls_at sc context ps level ds k f t n h s
+decls_at sc context ps level (tree.decls (tree.forward heading) ds) k f t n h s = decls_at sc context ps level ds k f t n h s
+decls_at sc context ps level (tree.decls (tree.procedure heading x) ds) k f t n h s = decls_at sc context ps level ds k f t n h s
 
 pub inner_blocks_start : InnerBlocksStart
-inner_blocks_start sc context ps level most ss pc end over h none exit l =
+inner_blocks_start sc context ps level most ds ss pc from end over h i none exit l =
     let last : Follows sc context ps level most [] end = record { at = (end, over, none, stop, exit); shallow = tt; counts = tt } in
-    let follows = items_follow sc context ps level most ss [] pc end end h stop last (omega (arith, l)) in
-    subst (λ o. ComesTo sc context ps level most (settle_items sc (items ss [])) pc o) (pend-items ss []) (items_at sc context ps level most (items ss []) pc follows)
+    let statements = items_follow sc context ps level most ss [] from end end i stop last (omega (arith, l)) in
+    let uncounts : HasNoCounts (items ss []) = items-uncounted ss [] tt in
+    let all : HasNoCounts (decls_items ds ++ items ss []) = decls-uncounted ds (items ss []) uncounts in
+    bare_start sc context ps level most (decls_items ds ++ items ss []) pc all (record {
+      at = decls_at sc context ps level ds (items ss []) pc from uncounts h statements.at;
+      shallow = decls-shallow most ds (items ss []) uncounts (omega (arith, l)) statements.shallow;
+      counts = none_wait (decls_items ds ++ items ss []) all;
+    })
 
 pub counts_have_room : CountsHaveRoom
 counts_have_room sc context ps level most k pc f = omega (arith, pend-length k, counts_within most k f.shallow)

@@ -16,12 +16,21 @@ use Rattle.b67_num.specs.declared.NumFault.{NumFault}
 use Rattle.b67_num.specs.declared.Calculation.TheVariants as calculation
 use Rattle.b67_num.specs.Whole.{calculated, negation_of}
 use Rattle.b67_num.proofs.WholeLaws.{calculated-fits, negation_of-fits}
-use Rattle.algol_meaning.specs.Value.{Value, number, whole_of}
+use Rattle.algol_meaning.specs.Value.{Value, number, truth, whole_of}
 use Rattle.algol_meaning.specs.Operators.{numeric, logical, result_of}
 use Rattle.algol_meaning.specs.Rest.{own, val, busy, read, enter, at}
 use Rattle.algol_meaning.specs.Settle.{named_of, left_alone_of, settle}
 use Rattle.b67_templates.specs.Fragments.{IsWhole, HasKind, is_implication}
 use Rattle.b67_templates.specs.Code.{literal_of}
+
+-- what has the kind of numbers is one
+pub number_is : (v : Value) → HasKind types.Number v → v ≡ number (whole_of v)
+number_is (number z) h = refl
+number_is (truth b) h = absurd h
+
+pub number_whole : (v : Value) → HasKind types.Number v → IsWhole (whole_of v)
+number_whole (number z) h = h
+number_whole (truth b) h = absurd h
 
 ok_is : (r : Result Value NumFault) {a b : Value} → r ≡ Ok a → r ≡ Ok b → a ≡ b
 ok_is r e f = cc

@@ -1,18 +1,18 @@
 -- The laws of where the machine stands: for every list of operators, every level and every number of words that there may be.
-use Rattle.std.specs.Prelude.{◌≡◌, ℕ, ◌<◌, ◌≤◌, List, [], length, None}
+use Rattle.std.specs.Prelude.{◌≡◌, ℕ, ◌+◌, ◌<◌, ◌≤◌, List, [], ◌++◌, length, None}
 use Rattle.algol_tree.specs.Blocks.{Block, block_numbered}
 use Rattle.algol_tree.specs.Scopes.{Scopes}
 use Rattle.algol_meaning.specs.Rest.{Item, Rest, Answer}
-use Rattle.algol_tree.specs.Plain.{PStmts}
-use Rattle.algol_meaning.specs.Statements.{settle_items, items, items_of}
+use Rattle.algol_tree.specs.Plain.{PDecls, PStmts}
+use Rattle.algol_meaning.specs.Statements.{settle_items, items, decls_items, items_of}
 use Rattle.algol_meaning.specs.Asks.{Ask, nothing, ask}
 use Rattle.b67_segment.specs.Operators.{Placed}
 use Rattle.b67_templates.specs.Contexts.{Context}
 use Rattle.b67_ops.specs.declared.Operator.TheVariants as ops
 use Rattle.b67_ops.specs.declared.PlainKind.TheVariants as kinds
 use Rattle.b67_templates.specs.Fragments.{Has}
-use Rattle.b67_templates.specs.Code.{StmtsAt, KAt}
-use Rattle.b67_templates.specs.Depths.{stmts_depth}
+use Rattle.b67_templates.specs.Code.{DeclsAt, StmtsAt, KAt}
+use Rattle.b67_templates.specs.Depths.{decls_depth, stmts_depth}
 use Rattle.b67_standing.specs.Stepping.{Slot, Step, Leads}
 use Rattle.b67_standing.specs.Standing.{pend, Follows, StandsFor, ComesTo, ActionAt, Acted, GoesOn}
 
@@ -26,14 +26,15 @@ ItemsStand =
 abbrev pub BlocksStart : Type 0
 BlocksStart =
     (sc : Scopes) (context : Context) (ps : List Placed) (level most : ℕ) (b : Block) (pc : ℕ) →
-    KAt sc context ps level (items_of b) pc → stmts_depth b.stmts ≤ most → 1 ≤ most → ComesTo sc context ps level most (settle_items sc (items_of b)) pc []
+    KAt sc context ps level (items_of b) pc → decls_depth b.decls + stmts_depth b.stmts ≤ most → 1 ≤ most → ComesTo sc context ps level most (settle_items sc (items_of b)) pc []
 
--- so it does from the statements of an inner block, behind which its EXIT stands
+-- so it does from the arrays and the statements of an inner block, behind which its EXIT stands
 abbrev pub InnerBlocksStart : Type 0
 InnerBlocksStart =
-    (sc : Scopes) (context : Context) (ps : List Placed) (level most : ℕ) (ss : PStmts) (pc end over : ℕ) →
-    StmtsAt sc context ps level ss pc end end → (block_numbered sc.blocks context.block).result ≡ None → Has ps level end (ops.Plain kinds.Exit) over → stmts_depth ss ≤ most →
-    ComesTo sc context ps level most (settle_items sc (items ss [])) pc []
+    (sc : Scopes) (context : Context) (ps : List Placed) (level most : ℕ) (ds : PDecls) (ss : PStmts) (pc from end over : ℕ) →
+    DeclsAt sc context ps level ds pc from → StmtsAt sc context ps level ss from end end → (block_numbered sc.blocks context.block).result ≡ None →
+    Has ps level end (ops.Plain kinds.Exit) over → decls_depth ds + stmts_depth ss ≤ most →
+    ComesTo sc context ps level most (settle_items sc (decls_items ds ++ items ss [])) pc []
 
 -- wherever the machine stands for a rest whose head asks for an action, that stands there, and from where it leaves the machine it goes on
 abbrev pub RestsGoOn : Type 0

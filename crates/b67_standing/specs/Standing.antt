@@ -1,35 +1,36 @@
 -- Where the machine stands for what a part has still to do: the place of the code, and what lies above the floor there.
-use Rattle.std.specs.Prelude.{◌≡◌, ℕ, ◌+◌, ◌*◌, ◌<◌, ◌≤◌, pos, List, [], ◌∷◌, length, Option, Some, None, Err}
+use Rattle.std.specs.Prelude.{◌≡◌, ℕ, ◌+◌, ◌*◌, ◌<◌, ◌≤◌, ℤ, pos, List, [], ◌∷◌, ◌++◌, map, length, Option, Some, None, Err}
 use Rattle.algol_tree.specs.declared.tree.Op.{Op}
 use Rattle.algol_tree.specs.declared.tree.Kind.{Kind}
 use Rattle.algol_tree.specs.declared.tree.Kind.TheVariants as types
 use Rattle.algol_tree.specs.declared.tree.Named.{Named}
 use Rattle.algol_tree.specs.declared.tree.PhraseText.{PhraseText}
 use Rattle.algol_tree.specs.Plain as tree
-use Rattle.algol_tree.specs.Plain.{PExpr, PStmt, PStmts, PDecls}
+use Rattle.algol_tree.specs.Plain.{PExpr, PExprs, PPair, PStmt, PStmts, PDecls}
 use Rattle.algol_tree.specs.Types.{given_by, taken_by}
 use Rattle.algol_tree.specs.declared.token.Spot.{Spot}
 use Rattle.algol_tree.specs.Blocks.{block_numbered, number_at}
 use Rattle.algol_tree.specs.Scopes.{Scopes}
 use Rattle.b67_num.specs.declared.NumFault.{NumFault}
-use Rattle.algol_meaning.specs.Value.{Value, number}
+use Rattle.algol_meaning.specs.Value.{Value, number, Reference}
 use Rattle.algol_meaning.specs.Operators.{result_of}
-use Rattle.algol_meaning.specs.Rest.{own, Hole, read, broken, left, right, negated, inverted, condition, Half, val, busy, Loop, Item, count, Rest, over, store, select, turning, line, storing, choosing, looping, checking, counting, differing, stepping, selecting, writing, Given, enter, entering_block, entering, reading, giving, Answer, done, value, entered}
+use Rattle.algol_meaning.specs.Rest.{own, element_of, Hole, read, element, index, subscript, broken, left, right, negated, inverted, condition, Half, val, busy, Aim, place_index, place_subscript, Loop, Item, count, Rest, over, store, select, turning, line, arrays, bounding, aiming, storing, choosing, looping, checking, counting, differing, stepping, selecting, writing, calling, Given, valued, argument, Actuals, in_value, enter, entering_block, entering, reading, giving, Answer, done, value, place, entered}
 use Rattle.algol_meaning.specs.Statements.{difference_in, stepped}
-use Rattle.algol_meaning.specs.Asks.{Ask, nothing, reads, reads_result, fails, enters, leaves, stores, selects, turns, writes, enters_block, ask, resume}
+use Rattle.algol_meaning.specs.Asks.{Ask, nothing, reads, reads_element, indexes, makes_arrays, reads_result, fails, enters, leaves, stores, selects, turns, writes, enters_block, ask, resume}
+use Rattle.algol_paths.specs.Arrays.{DeclaredArray, lows_of}
 use Rattle.b67_control.specs.Control.{Fits_pcw}
 use Rattle.b67_ops.specs.declared.Couple.{Couple}
 use Rattle.b67_ops.specs.declared.Operator.TheVariants as ops
 use Rattle.b67_ops.specs.declared.PlainKind.TheVariants as kinds
 use Rattle.b67_ops.specs.declared.BranchKind.TheVariants.{Brfl, Brtr, Brun}
-use Rattle.b67_ops.specs.declared.intrinsic.Intrinsic.TheVariants.{Write, Select}
+use Rattle.b67_ops.specs.declared.intrinsic.Intrinsic.TheVariants.{Write, Select, Arrays}
 use Rattle.b67_segment.specs.Operators.{Placed}
 use Rattle.b67_templates.specs.Contexts.{Context}
-use Rattle.b67_templates.specs.Fragments.{IsWhole, HasKind, Has, ReadyAt, BranchAt, TurnAt, Goes, code_at, operator_for, is_implication}
-use Rattle.b67_templates.specs.Cells.{procedures, IsVariable, IsProcedure}
-use Rattle.b67_templates.specs.Code.{FormatIs, DroppedAt, ResultAt, in_block, ReadAt, ExprAt, LineAt, TableAt, PastAt, StepAt, StmtAt, CasesAt, InnerAt, ThruAt, KAt, exprs_count, stmts_count}
-use Rattle.b67_templates.specs.Depths.{depth, line_depth, loop_depth, stmt_depth, stmts_depth, AreShallow}
-use Rattle.b67_standing.specs.Stepping.{Slot, operand, reference, intrinsic, control, mark, ready, HasRoom, Leads}
+use Rattle.b67_templates.specs.Fragments.{IsWhole, HasKind, Has, moved, MovedAt, ReadyAt, BranchAt, TurnAt, Goes, code_at, operator_for, is_implication}
+use Rattle.b67_templates.specs.Cells.{parameter_kinds, procedures, IsVariable, IsProcedure, IsArray}
+use Rattle.b67_templates.specs.Code.{FormatIs, DroppedAt, ResultAt, AreDimensions, HasNoCounts, in_block, ReadAt, ExprAt, SecondAt, ActualsAt, BoundsAt, LineAt, TableAt, PastAt, StepAt, StmtAt, CasesAt, InnerAt, ThruAt, KAt, exprs_count, stmts_count}
+use Rattle.b67_templates.specs.Depths.{depth, line_depth, bounds_depth, decls_depth, loop_depth, stmt_depth, stmts_depth, AreShallow}
+use Rattle.b67_standing.specs.Stepping.{row, element as element_held, Slot, operand, reference, intrinsic, control, descriptor, mark, ready, HasRoom, Leads}
 
 -- the counts that lie there while these items wait
 abbrev pub pend : List Item → List Slot
@@ -52,6 +53,12 @@ abbrev pub AreNumbers : List Value → Type 0
 AreNumbers [] = Unit {0}
 AreNumbers (v ∷ vs) = HasKind types.Number v × AreNumbers vs
 
+-- each has the kind of its parameter
+abbrev pub AreOfKinds : List (Option Kind) → List Value → Type 0
+AreOfKinds [] [] = Unit {0}
+AreOfKinds (Some kind ∷ kinds) (v ∷ vs) = HasKind kind v × AreOfKinds kinds vs
+AreOfKinds _ _ = ⊥
+
 -- a part that leaves gives a value of the kind that is wanted of it, or nothing
 abbrev pub Gives : Option Kind → Answer → Type 0
 Gives None done = Unit {0}
@@ -66,6 +73,31 @@ pushed _ slots = slots
 -- the start of a line: a mark, the reference of the intrinsic, the number of the format
 abbrev pub line_begun : ℕ → List Slot → List Slot
 line_begun format below = operand (number (pos format)) ∷ intrinsic Write ∷ mark ∷ below
+
+-- ---- arrays
+
+-- the start of the making of so many arrays: a mark, the reference of the intrinsic, their number
+abbrev pub arrays_begun : ℕ → List Slot → List Slot
+arrays_begun many below = operand (number (pos many)) ∷ intrinsic Arrays ∷ mark ∷ below
+
+-- the lower bounds and the values of the upper ones, the last on top
+abbrev pub extents : List PPair → List Value → List Slot → List Slot
+extents (p ∷ pairs) (v ∷ vs) below = extents pairs vs (operand v ∷ operand (number p.low) ∷ below)
+extents _ _ below = below
+
+abbrev pub AreWholeLows : List PPair → Type 0
+AreWholeLows [] = Unit {0}
+AreWholeLows (p ∷ pairs) = IsWhole p.low × AreWholeLows pairs
+
+-- the last subscript, behind these, moved by its lower bound: it lies under the reference of the array, or the descriptor of its row
+abbrev pub IsLast : Named → Couple → List ℤ → List ℕ → ℤ → List Slot → List Slot → Type 0
+IsLast n c (low ∷ []) [] i slots below = slots ≡ reference c ∷ operand (number (moved low i)) ∷ below
+IsLast n c (low ∷ low' ∷ []) (k ∷ []) i slots below = slots ≡ descriptor (row n (k ∷ [])) ∷ operand (number (moved low' i)) ∷ below
+IsLast n c _ _ i slots below = ⊥
+
+-- a subscript behind the others
+abbrev pub IsNext : List ℕ → List ℕ → Type 0
+IsNext ks more = (k : ℕ) × (more ≡ ks ++ k ∷ [])
 
 module _ (sc : Scopes) (context : Context) (ps : List Placed) (level most : ℕ) where
   -- what is still to be done stands from there on, no item of it needs more words than there may be, and its counts are whole
@@ -116,51 +148,164 @@ module _ (sc : Scopes) (context : Context) (ps : List Placed) (level most : ℕ)
     pub begin : ℕ
     pub fits : Fits_pcw (code_at context.segment begin (level + 1))
     pub code : InnerAt sc (in_block (number_at sc.blocks spot) context) ps (level + 1) ds ss begin
-    pub shallow : length (procedures ds) + stmts_depth ss ≤ most
+    pub shallow : length (procedures ds) + decls_depth ds + stmts_depth ss ≤ most
     pub lies : slots ≡ control (code_at context.segment begin (level + 1)) ∷ mark ∷ below
     pub stands : Has ps level pc (ops.Plain kinds.Entr) next
 
-  -- the reference of a procedure's control word lies on a mark
+  -- the values of the actuals lie on the reference of a procedure's control word, and that on a mark
   pub record CallsAt (n : Named) (gs : List Given) (callee pc next : ℕ) (slots below : List Slot) : Type 0 where
     pub couple : Couple
     pub procedure : IsProcedure sc level n callee couple
-    pub none : gs ≡ []
-    pub lies : slots ≡ reference couple ∷ mark ∷ below
+    pub values : List Value
+    pub given : gs ≡ map valued values
+    pub fit : AreOfKinds (parameter_kinds sc callee) values
+    pub lies : slots ≡ operands values (reference couple ∷ mark ∷ below)
     pub stands : Has ps level pc (ops.Plain kinds.Entr) next
+
+  -- ---- subscripts
+
+  -- what NXLV finds
+  pub record ElementReadAt (n : Named) (ks : List ℕ) (v : Value) (pc next : ℕ) (slots below : List Slot) : Type 0 where
+    pub array : DeclaredArray
+    pub couple : Couple
+    pub subscript : ℤ
+    pub is_array : IsArray sc level n array couple
+    pub is : v ≡ number subscript
+    pub whole : IsWhole subscript
+    pub lies : IsLast n couple (lows_of array.pairs) ks subscript slots below
+    pub stands : Has ps level pc (ops.Plain kinds.Nxlv) next
+
+  -- .. INDX
+  pub record ElementIndexAt (n : Named) (ks : List ℕ) (v : Value) (kind : Kind) (pc next : ℕ) (slots below : List Slot) : Type 0 where
+    pub array : DeclaredArray
+    pub couple : Couple
+    pub subscript : ℤ
+    pub is_array : IsArray sc level n array couple
+    pub kind_is : array.kind ≡ kind
+    pub is : v ≡ number subscript
+    pub whole : IsWhole subscript
+    pub lies : IsLast n couple (lows_of array.pairs) ks subscript slots below
+    pub stands : Has ps level pc (ops.Plain kinds.Indx) next
+
+  -- .. NXLN, which is for the first of two subscripts
+  pub record RowIndexAt (n : Named) (ks : List ℕ) (v : Value) (low second : ℤ) (pc next : ℕ) (slots below : List Slot) : Type 0 where
+    pub array : DeclaredArray
+    pub couple : Couple
+    pub subscript : ℤ
+    pub is_array : IsArray sc level n array couple
+    pub lows_are : lows_of array.pairs ≡ low ∷ second ∷ []
+    pub first : ks ≡ []
+    pub is : v ≡ number subscript
+    pub whole : IsWhole subscript
+    pub lies : slots ≡ reference couple ∷ operand (number (moved low subscript)) ∷ below
+    pub stands : Has ps level pc (ops.Plain kinds.Nxln) next
+
+  -- an index leads to a row, or to an element
+  pub data IndexesAt (n : Named) (ks : List ℕ) (v : Value) (pc : ℕ) (slots : List Slot) : Type 0 where
+    of_row : (low second : ℤ) (next : ℕ) (below : List Slot) → RowIndexAt n ks v low second pc next slots below → IndexesAt n ks v pc slots
+    of_element : (kind : Kind) (next : ℕ) (below : List Slot) → ElementIndexAt n ks v kind pc next slots below → IndexesAt n ks v pc slots
+
+  -- The head is in a subscript, behind these, before those; `holds` is where its value is to lie, and from which place on. At the place `to`
+  -- the last subscript is moved.
+  abbrev pub Seeks : (List Slot → ℕ → Type 0) → Named → Couple → List ℤ → List ℕ → PExprs → List Slot → ℕ → Type 0
+  Seeks holds n c (low ∷ []) [] tree.none below to =
+      (a : ℕ) × (b : ℕ) × holds below a × MovedAt ps level low a b × Has ps level b (ops.Namc c) to × HasRoom most below 5
+  Seeks holds n c (low ∷ low' ∷ []) [] (tree.more e tree.none) below to =
+      (a : ℕ) × (b : ℕ) × (q : ℕ) × (r : ℕ) × holds below a × MovedAt ps level low a b × Has ps level b (ops.Namc c) q
+      × Has ps level q (ops.Plain kinds.Nxln) r × SecondAt sc context ps level low' e r to × HasRoom most below (5 + depth e)
+  Seeks holds n c (low ∷ low' ∷ []) (k ∷ []) tree.none below to =
+      (a : ℕ) × (b : ℕ) × holds (descriptor (row n (k ∷ [])) ∷ below) a × MovedAt ps level low' a b × Has ps level b (ops.Plain kinds.Exch) to
+      × HasRoom most below 5
+  Seeks holds n c _ _ _ below to = ⊥
 
   -- ---- expressions
 
   -- Here the machine stands for an expression that is evaluated up to its head. Its value, of that kind, is to lie on `below` at the
   -- place `to`, or at one from which branches lead there.
-  abbrev pub Holds : Kind → Hole → ℕ → List Slot → List Slot → ℕ → Type 0
-  Holds k (read n) pc slots below to =
-      (next : ℕ) × ReadAt sc context ps level n k pc next × (slots ≡ below) × HasRoom most below 1 × Goes ps level next to
-  Holds k (enter n gs) pc slots below to =
-      (callee : ℕ) × (next : ℕ) × CallsAt n gs callee pc next slots below × ((block_numbered sc.blocks callee).result ≡ Some k) × HasRoom most below 2 × Goes ps level next to
-  Holds k (broken op v w fault) pc slots below to = (next : ℕ) × (k ≡ given_by op) × BreaksAt op v w fault pc next slots below
-  Holds k (left op h b) pc slots below to =
-      (m : ℕ) × (r : ℕ) × (n : ℕ) × (next : ℕ) × (k ≡ given_by op) × Holds (taken_by op) h pc slots below m × ReadyAt ps level (is_implication op) m r
-      × ExprAt sc context ps level (taken_by op) b r n n × HasRoom most below (1 + depth b) × Has ps level n (ops.Plain (operator_for op)) next
-      × Goes ps level next to
-  Holds k (right op v h) pc slots below to =
-      (n : ℕ) × (next : ℕ) × (k ≡ given_by op) × HasKind (taken_by op) v × Holds (taken_by op) h pc slots (operand (ready op v) ∷ below) n
-      × Has ps level n (ops.Plain (operator_for op)) next × Goes ps level next to
-  Holds k (negated h) pc slots below to =
-      (m : ℕ) × (next : ℕ) × (k ≡ types.Number) × Holds types.Number h pc slots below m × Has ps level m (ops.Plain kinds.Chsn) next × Goes ps level next to
-  Holds k (inverted h) pc slots below to =
-      (m : ℕ) × (next : ℕ) × (k ≡ types.Truth) × Holds types.Truth h pc slots below m × Has ps level m (ops.Plain kinds.Lnot) next × Goes ps level next to
-  Holds k (condition h x y) pc slots below to =
-      (m : ℕ) × (m' : ℕ) × (n : ℕ) × (n' : ℕ) × (t : ℕ) × (u : ℕ) × Holds types.Truth h pc slots below m × BranchAt ps level Brfl m n' m'
-      × ExprAt sc context ps level k x m' n u × BranchAt ps level Brun n u n' × ExprAt sc context ps level k y n' t u × Goes ps level t u × Goes ps level u to
-      × HasRoom most below (depth x + depth y)
-  Holds k _ pc slots below to = ⊥
+  abbrev mutual
+    pub Holds : Kind → Hole → ℕ → List Slot → List Slot → ℕ → Type 0
+    Holds k (read n) pc slots below to =
+        (next : ℕ) × ReadAt sc context ps level n k pc next × (slots ≡ below) × HasRoom most below 1 × Goes ps level next to
+    Holds k (enter n gs) pc slots below to =
+        (callee : ℕ) × (next : ℕ) × CallsAt n gs callee pc next slots below × ((block_numbered sc.blocks callee).result ≡ Some k) × HasRoom most below 2 × Goes ps level next to
+    Holds k (broken op v w fault) pc slots below to = (next : ℕ) × (k ≡ given_by op) × BreaksAt op v w fault pc next slots below
+    Holds k (left op h b) pc slots below to =
+        (m : ℕ) × (r : ℕ) × (n : ℕ) × (next : ℕ) × (k ≡ given_by op) × Holds (taken_by op) h pc slots below m × ReadyAt ps level (is_implication op) m r
+        × ExprAt sc context ps level (taken_by op) b r n n × HasRoom most below (1 + depth b) × Has ps level n (ops.Plain (operator_for op)) next
+        × Goes ps level next to
+    Holds k (right op v h) pc slots below to =
+        (n : ℕ) × (next : ℕ) × (k ≡ given_by op) × HasKind (taken_by op) v × Holds (taken_by op) h pc slots (operand (ready op v) ∷ below) n
+        × Has ps level n (ops.Plain (operator_for op)) next × Goes ps level next to
+    Holds k (negated h) pc slots below to =
+        (m : ℕ) × (next : ℕ) × (k ≡ types.Number) × Holds types.Number h pc slots below m × Has ps level m (ops.Plain kinds.Chsn) next × Goes ps level next to
+    Holds k (inverted h) pc slots below to =
+        (m : ℕ) × (next : ℕ) × (k ≡ types.Truth) × Holds types.Truth h pc slots below m × Has ps level m (ops.Plain kinds.Lnot) next × Goes ps level next to
+    Holds k (condition h x y) pc slots below to =
+        (m : ℕ) × (m' : ℕ) × (n : ℕ) × (n' : ℕ) × (t : ℕ) × (u : ℕ) × Holds types.Truth h pc slots below m × BranchAt ps level Brfl m n' m'
+        × ExprAt sc context ps level k x m' n u × BranchAt ps level Brun n u n' × ExprAt sc context ps level k y n' t u × Goes ps level t u × Goes ps level u to
+        × HasRoom most below (depth x + depth y)
+    Holds k (element n ks v) pc slots below to =
+        (next : ℕ) × (r : ElementReadAt n ks v pc next slots below) × (r.array.kind ≡ k) × HasRoom most below 2 × Goes ps level next to
+    -- the head is the first of two subscripts
+    Holds k (index n ks v e tree.none) pc slots below to =
+        (low : ℤ) × (second : ℤ) × (q : ℕ) × (t : ℕ) × (next : ℕ) × (r : RowIndexAt n ks v low second pc q slots below) × (r.array.kind ≡ k)
+        × SecondAt sc context ps level second e q t × Has ps level t (ops.Plain kinds.Nxlv) next × HasRoom most below (5 + depth e) × Goes ps level next to
+    Holds k (subscript n ks h es) pc slots below to =
+        (a : DeclaredArray) × (c : Couple) × (t : ℕ) × (next : ℕ) × IsArray sc level n a c × (a.kind ≡ k)
+        × Seeks (λ over m. Holds types.Number h pc slots over m) n c (lows_of a.pairs) ks es below t × Has ps level t (ops.Plain kinds.Nxlv) next × Goes ps level next to
+    Holds k (argument n x) pc slots below to =
+        (callee : ℕ) × (filled : ℕ) × (next : ℕ) × ((block_numbered sc.blocks callee).result ≡ Some k) × Fills n callee x pc slots below filled
+        × Has ps level filled (ops.Plain kinds.Entr) next × Goes ps level next to
+    Holds k _ pc slots below to = ⊥
+
+    -- .. for the actuals of a call: the values of those before the head lie on the reference of the procedure's control word
+    pub Fills : Named → ℕ → Actuals → ℕ → List Slot → List Slot → ℕ → Type 0
+    Fills n callee (in_value gs h sorts es) pc slots below filled =
+        (couple : Couple) × (values : List Value) × (before : List (Option Kind)) × (kind : Kind) × (after : List (Option Kind)) × (m : ℕ)
+        × IsProcedure sc level n callee couple × (gs ≡ map valued values) × (parameter_kinds sc callee ≡ before ++ Some kind ∷ after) × AreOfKinds before values
+        × Holds kind h pc slots (operands values (reference couple ∷ mark ∷ below)) m × ActualsAt sc context ps level sorts after es m filled
+        × HasRoom most below (2 + length values + 1 + line_depth es)
+    Fills n callee _ pc slots below filled = ⊥
 
   -- the same of an expression after the silent steps: its value lies there already, or it has a head
   abbrev pub Shows : Kind → Half → ℕ → List Slot → List Slot → ℕ → Type 0
   Shows k (val v) pc slots below to = Goes ps level pc to × (slots ≡ operand v ∷ below) × HasKind k v
   Shows k (busy h) pc slots below to = Holds k h pc slots below to
 
+  -- the same of a left side: the descriptor of an element of that kind is to lie on `below`, at the place `to`
+  abbrev pub Aims : Kind → Aim → ℕ → List Slot → List Slot → ℕ → Type 0
+  Aims k (place_index n ks v tree.none) pc slots below to = ElementIndexAt n ks v k pc to slots below
+  Aims k (place_index n ks v (tree.more e tree.none)) pc slots below to =
+      (low : ℤ) × (second : ℤ) × (q : ℕ) × (t : ℕ) × (r : RowIndexAt n ks v low second pc q slots below) × (r.array.kind ≡ k) × SecondAt sc context ps level second e q t
+      × Has ps level t (ops.Plain kinds.Indx) to × HasRoom most below (5 + depth e)
+  Aims k (place_subscript n ks h es) pc slots below to =
+      (a : DeclaredArray) × (c : Couple) × (t : ℕ) × IsArray sc level n a c × (a.kind ≡ k)
+      × Seeks (λ over m. Holds types.Number h pc slots over m) n c (lows_of a.pairs) ks es below t × Has ps level t (ops.Plain kinds.Indx) to
+  Aims k _ pc slots below to = ⊥
+
   -- ---- statements
+
+  -- the value of that kind lies on the descriptor of the element
+  pub record ElementStoreAt (r : Reference) (ks : List ℕ) (v : Value) (pc next : ℕ) (slots below : List Slot) : Type 0 where
+    pub kind : Kind
+    pub fits : HasKind kind v
+    pub lies : slots ≡ operand v ∷ descriptor (element_held r ks kind) ∷ below
+    pub stands : Has ps level pc (ops.Plain kinds.Stod) next
+
+  -- The bounds lie on the number of arrays, with nothing below: behind the entry PUSH makes cells of the descriptors. There is one at least,
+  -- and no more than there may be words.
+  pub record MakesAt (ns : List Named) (pairs : List PPair) (vs : List Value) (pc next : ℕ) (slots : List Slot) : Type 0 where
+    pub dimensions : AreDimensions pairs
+    pub many : IsWhole (pos (length ns))
+    pub lows : AreWholeLows pairs
+    pub highs : AreNumbers vs
+    pub each : length vs ≡ length pairs
+    pub lies : slots ≡ extents pairs vs (arrays_begun (length ns) [])
+    pub made : ℕ
+    pub stands : Has ps level pc (ops.Plain kinds.Entr) made
+    pub push : Has ps level made (ops.Plain kinds.Push) next
+    pub some : 1 ≤ length ns
+    pub room : length ns ≤ most
 
   -- WHILE, whose test begins at f and ends at m
   abbrev pub WhileAt : PExpr → PStmt → ℕ → ℕ → ℕ → ℕ → Type 0
@@ -185,6 +330,24 @@ module _ (sc : Scopes) (context : Context) (ps : List Placed) (level most : ℕ)
   StandsFor (entering n gs k) pc slots =
       (callee : ℕ) × (next : ℕ) × (u : ℕ) × CallsAt n gs callee pc next slots (pend k) × DroppedAt sc context ps level (block_numbered sc.blocks callee).result next u × Follows k u
       × HasRoom most (pend k) 2
+  StandsFor (calling n x k) pc slots =
+      (callee : ℕ) × (filled : ℕ) × (next : ℕ) × (u : ℕ) × Fills n callee x pc slots (pend k) filled × Has ps level filled (ops.Plain kinds.Entr) next
+      × DroppedAt sc context ps level (block_numbered sc.blocks callee).result next u × Follows k u × HasRoom most (pend k) 2
+  StandsFor (store (element_of r ks) v k) pc slots = (next : ℕ) × ElementStoreAt r ks v pc next slots (pend k) × Follows k next
+  StandsFor (storing (element_of r ks) h k) pc slots =
+      (kind : Kind) × (m : ℕ) × (next : ℕ) × Holds kind h pc slots (descriptor (element_held r ks kind) ∷ pend k) m × Has ps level m (ops.Plain kinds.Stod) next
+      × Follows k next
+  StandsFor (aiming x e k) pc slots =
+      (kind : Kind) × (m : ℕ) × (r : ℕ) × (next : ℕ) × Aims kind x pc slots (pend k) m × ExprAt sc context ps level kind e m r r × Has ps level r (ops.Plain kinds.Stod) next
+      × Follows k next × HasRoom most (pend k) (1 + depth e)
+  StandsFor (arrays kind ns pairs vs k) pc slots = (next : ℕ) × MakesAt ns pairs vs pc next slots × HasNoCounts k × Follows k next
+  -- vs are the values of the upper bounds before the head, and those before it are these
+  StandsFor (bounding kind ns pairs vs h later k) pc slots =
+      (before : List PPair) × (p : PPair) × (m : ℕ) × (b : ℕ) × (made : ℕ) × (next : ℕ) × (pairs ≡ before ++ p ∷ later) × (length vs ≡ length before)
+      × AreDimensions pairs × IsWhole (pos (length ns)) × AreWholeLows pairs × AreNumbers vs
+      × Holds types.Number h pc slots (operand (number p.low) ∷ extents before vs (arrays_begun (length ns) [])) m × BoundsAt sc context ps level later m b
+      × Has ps level b (ops.Plain kinds.Entr) made × Has ps level made (ops.Plain kinds.Push) next × HasNoCounts k × Follows k next
+      × HasRoom most [] (3 + 2 * length vs + 2 + bounds_depth later + length ns) × (1 ≤ length ns)
   -- the result of the procedure is read, and given back
   StandsFor (reading name) pc slots = ResultAt sc context ps level name pc × (slots ≡ []) × (1 ≤ most)
   StandsFor (giving v) pc slots =
@@ -241,6 +404,10 @@ module _ (sc : Scopes) (context : Context) (ps : List Placed) (level most : ℕ)
   -- the operator that does what the head asks for stands there, with what it takes
   abbrev pub ActionAt : Ask → ℕ → List Slot → Type 0
   ActionAt (reads n) pc slots = (kind : Kind) × (next : ℕ) × ReadAt sc context ps level n kind pc next × HasRoom most slots 1
+  ActionAt (reads_element n ks v) pc slots = (next : ℕ) × (below : List Slot) × ElementReadAt n ks v pc next slots below
+  ActionAt (indexes n ks v) pc slots = IndexesAt n ks v pc slots
+  ActionAt (stores (element_of r ks) v) pc slots = (next : ℕ) × (below : List Slot) × ElementStoreAt r ks v pc next slots below
+  ActionAt (makes_arrays kind ns pairs vs) pc slots = (next : ℕ) × MakesAt ns pairs vs pc next slots
   ActionAt (fails fault) pc slots =
       (op : Op) × (v : Value) × (w : Value) × (next : ℕ) × (below : List Slot) × BreaksAt op v w fault pc next slots below
   ActionAt (leaves done) pc slots =
@@ -267,6 +434,13 @@ module _ (sc : Scopes) (context : Context) (ps : List Placed) (level most : ℕ)
   Acted (stores (own n) v) pc slots a done at after = (at ≡ a.0) × (after ≡ a.1)
   Acted (selects v ss) pc slots a done at after =
       (i : ℕ) × (v ≡ number (pos i)) × (i < stmts_count ss) × (at ≡ a.0 + 3 * i) × (after ≡ a.1)
+  Acted (reads_element n ks v) pc slots a (value w) at after = (at ≡ a.0) × (after ≡ operand w ∷ a.1) × HasKind a.2.array.kind w
+  Acted (indexes n ks v) pc slots (of_row low second next below a) (place (element_of r more)) at after =
+      (at ≡ next) × (after ≡ descriptor (row n more) ∷ below) × IsNext ks more
+  Acted (indexes n ks v) pc slots (of_element kind next below a) (place (element_of r more)) at after =
+      (at ≡ next) × (after ≡ descriptor (element_held r more kind) ∷ below) × IsNext ks more
+  Acted (stores (element_of r ks) v) pc slots a done at after = (at ≡ a.0) × (after ≡ a.1)
+  Acted (makes_arrays kind ns pairs vs) pc slots a done at after = (at ≡ a.0) × (after ≡ [])
   Acted turns pc slots a done at after = (at ≡ a.0) × (after ≡ slots)
   Acted (writes phrases vs) pc slots a done at after = (at ≡ a.0) × (after ≡ a.1)
   Acted _ pc slots a _ at after = ⊥

@@ -1,12 +1,13 @@
 -- What private operators do to the words above the floor of a frame, by what those words mean.
-use Rattle.std.specs.Prelude.{◌≡◌, ℕ, ◌+◌, ◌≤◌, not, ℤ, pos, ◌-ℤ◌, int_lt, if◌then◌else◌, Bool, true, false, List, ◌∷◌, length, Ok}
+use Rattle.std.specs.Prelude.{◌≡◌, ℕ, ◌+◌, ◌<◌, ◌≤◌, not, ℤ, pos, ◌-ℤ◌, int_lt, if◌then◌else◌, Bool, true, false, List, ◌∷◌, length, Ok}
 use Rattle.algol_tree.specs.declared.tree.Op.{Op}
 use Rattle.algol_tree.specs.declared.tree.Kind.{Kind}
 use Rattle.algol_tree.specs.declared.tree.Named.{Named}
 use Rattle.algol_tree.specs.Types.{taken_by}
 use Rattle.algol_tree.specs.Scopes.{Scopes}
 use Rattle.b67_num.specs.Whole.{negation_of}
-use Rattle.algol_meaning.specs.Value.{Value, number, truth, truth_of}
+use Rattle.algol_meaning.specs.Value.{Value, number, truth, truth_of, Reference}
+use Rattle.algol_paths.specs.Arrays.{DeclaredArray}
 use Rattle.algol_meaning.specs.Operators.{result_of}
 use Rattle.algol_meaning.specs.Statements.{is_past}
 use Rattle.b67_ops.specs.declared.Couple.{Couple}
@@ -17,8 +18,14 @@ use Rattle.b67_control.specs.declared.Pcw.{Pcw}
 use Rattle.b67_ops.specs.declared.intrinsic.Intrinsic.{Intrinsic}
 use Rattle.b67_segment.specs.Operators.{Placed}
 use Rattle.b67_templates.specs.Contexts.{Context}
-use Rattle.b67_templates.specs.Fragments.{IsWhole, HasKind, Has, NumberAt, BranchAt, IntrinsicAt, EntryAt, code_at, operator_for, is_implication, truth_literal}
-use Rattle.b67_templates.specs.Code.{ReferenceAt, CallAt, CountAt, PastAt, StepSign, SignedAt}
+use Rattle.b67_templates.specs.Fragments.{IsWhole, HasKind, Has, NumberAt, moved, MovedAt, BranchAt, IntrinsicAt, EntryAt, code_at, operator_for, is_implication, truth_literal}
+use Rattle.b67_templates.specs.Cells.{IsArray}
+use Rattle.b67_templates.specs.Code.{ReferenceAt, BegunAt, CountAt, PastAt, StepSign, SignedAt}
+
+-- what a descriptor on the stack is of: the row that has these subscripts, of the array that a name means here, or an element of this kind
+pub data Held : Type 0 where
+  row : Named → List ℕ → Held
+  element : Reference → List ℕ → Kind → Held
 
 -- a word above the floor
 pub data Slot : Type 0 where
@@ -26,6 +33,7 @@ pub data Slot : Type 0 where
   reference : Couple → Slot  -- of a cell
   intrinsic : Intrinsic → Slot  -- of an intrinsic
   control : Pcw → Slot  -- of code that is entered
+  descriptor : Held → Slot  -- a copy, of a row or an element
   mark : Slot  -- one that is not entered
 
 -- the first operand of an operator as its code has it: of an implication it is inverted
@@ -42,6 +50,13 @@ module _ (sc : Scopes) (context : Context) (ps : List Placed) (level most : ℕ)
     push_number : {pc next : ℕ} {below : List Slot} (z : ℤ) → NumberAt ps level z pc next → HasRoom most below 1 → Step pc below next (operand (number z) ∷ below)
     push_truth : {pc next : ℕ} {below : List Slot} (b : Bool) → Has ps level pc (ops.Plain (truth_literal b)) next → HasRoom most below 1 → Step pc below next (operand (truth b) ∷ below)
     push_name : {pc next : ℕ} {below : List Slot} (n : Named) (k : Kind) → (r : ReferenceAt sc context ps level n k pc next) → HasRoom most below 1 → Step pc below next (reference r.0 ∷ below)
+    push_array : {pc next : ℕ} {below : List Slot} (n : Named) (a : DeclaredArray) (c : Couple) → IsArray sc level n a c → Has ps level pc (ops.Namc c) next → HasRoom most below 1 →
+        Step pc below next (reference c ∷ below)
+    -- a subscript is moved by a lower bound, which takes code where that is not 0
+    move : {pc next : ℕ} {below : List Slot} (low i : ℤ) → MovedAt ps level low pc next → IsWhole i → HasRoom most below 4 → pc < next →
+        Step pc (operand (number i) ∷ below) next (operand (number (moved low i)) ∷ below)
+    -- .. and the descriptor of its row comes on top
+    exchange : {pc next : ℕ} {below : List Slot} (v : Value) (h : Held) → Has ps level pc (ops.Plain kinds.Exch) next → Step pc (operand v ∷ descriptor h ∷ below) next (descriptor h ∷ operand v ∷ below)
     calculate : {pc next : ℕ} {below : List Slot} (op : Op) (v w x : Value) → Has ps level pc (ops.Plain (operator_for op)) next → HasKind (taken_by op) v → HasKind (taken_by op) w →
         result_of op v w ≡ Ok x → Step pc (operand w ∷ operand (ready op v) ∷ below) next (operand x ∷ below)
     negate : {pc next : ℕ} {below : List Slot} (z : ℤ) → Has ps level pc (ops.Plain kinds.Chsn) next → IsWhole z →
@@ -59,8 +74,8 @@ module _ (sc : Scopes) (context : Context) (ps : List Placed) (level most : ℕ)
     announce : {pc to : ℕ} {below : List Slot} (begin : ℕ) → (e : EntryAt ps level context.segment begin pc to) → HasRoom most below 2 →
         Step pc below e.named (control (code_at context.segment begin (level + 1)) ∷ mark ∷ below)
     -- the start of the call of a procedure
-    summon : {pc to : ℕ} {below : List Slot} (n : Named) (callee : ℕ) → (c : CallAt sc context ps level n callee pc to) → HasRoom most below 2 →
-        Step pc below c.named (reference c.couple ∷ mark ∷ below)
+    summon : {pc next : ℕ} {below : List Slot} (n : Named) (callee : ℕ) → (c : BegunAt sc context ps level n callee pc next) → HasRoom most below 2 →
+        Step pc below next (reference c.couple ∷ mark ∷ below)
     drop : {pc next : ℕ} {below : List Slot} (v : Value) → Has ps level pc (ops.Plain kinds.Dlet) next → Step pc (operand v ∷ below) next below
     -- THRU: one less, or none left
     counts : {pc l next : ℕ} {below : List Slot} (z : ℤ) → CountAt sc context ps level pc l next → IsWhole z → int_lt (pos 0) z ≡ true → HasRoom most below 3 →
