@@ -25,8 +25,7 @@ module _ (blocks : List Block) where
   bare (tree.label n x) i = record { decls_are = refl; stmts_are = refl; inside_are = λ l a. refl; blocks_are = λ outer. refl; typed = λ a t. t }
   bare (tree.assign (tree.subscripted n tree.none) e) i = record { decls_are = refl; stmts_are = refl; inside_are = λ l a. refl; blocks_are = λ outer. refl; typed = λ a t. t }
   bare (tree.assign (tree.subscripted n (tree.more x xs)) e) i = record { decls_are = refl; stmts_are = refl; inside_are = λ l a. refl; blocks_are = λ outer. refl; typed = λ a t. t }
-  bare (tree.call_of (tree.called n tree.none)) i = record { decls_are = refl; stmts_are = refl; inside_are = λ l a. refl; blocks_are = λ outer. refl; typed = λ a t. t }
-  bare (tree.call_of (tree.called n (tree.more x xs))) i = record { decls_are = refl; stmts_are = refl; inside_are = λ l a. refl; blocks_are = λ outer. refl; typed = λ a t. t }
+  bare (tree.call_of (tree.called n es)) i = record { decls_are = refl; stmts_are = refl; inside_are = λ l a. refl; blocks_are = λ outer. refl; typed = λ a t. t }
   bare (tree.go_to n) i = record { decls_are = refl; stmts_are = refl; inside_are = λ l a. refl; blocks_are = λ outer. refl; typed = λ a t. t }
   bare (tree.if_then c x) i = record { decls_are = refl; stmts_are = refl; inside_are = λ l a. refl; blocks_are = λ outer. refl; typed = λ a t. t }
   bare (tree.if_else c x y) i = record { decls_are = refl; stmts_are = refl; inside_are = λ l a. refl; blocks_are = λ outer. refl; typed = λ a t. t }

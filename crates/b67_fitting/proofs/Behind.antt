@@ -39,7 +39,7 @@ module _ (P : Token → Type 0) where
   behind_typed (headings.untyped rest) w = w
   behind_typed (headings.typed t kind rest i) w = w.1
 
-  pub behind_literal : {from : List Token} {low : ℤ} {rest : List Token} → IsLiteral from low rest → All from → All rest
+  behind_literal : {from : List Token} {low : ℤ} {rest : List Token} → IsLiteral from low rest → All from → All rest
   behind_literal (headings.positive t value rest i) w = w.1
   behind_literal (headings.negative t u value rest i j) w = w.1.1
 

@@ -1,5 +1,5 @@
--- Each block of a program has a number of its own, and its cells are those of its result and of its own declarations.
-use Rattle.std.proofs.Common.{arith, ◌≡◌, ◌⊎◌, inl, inr, ℕ, ◌+◌, ◌<◌, ◌==◌, Bool, true, false, List, [], ◌∷◌, ◌++◌, map, length, slice_get, Option, Some, refl, sym, ap, ◌∙◌, subst, add-one, append-nil, if◌then◌else◌}
+-- Each block of a program has a number of its own, and its cells are those of its heading and of its own declarations.
+use Rattle.std.proofs.Common.{arith, ◌≡◌, ◌⊎◌, inl, inr, ℕ, ◌+◌, ◌<◌, ◌==◌, Bool, true, false, List, [], ◌∷◌, ◌++◌, map, length, slice_get, Option, Some, None, refl, sym, ap, ◌∙◌, subst, add-one, append-nil, if◌then◌else◌}
 use Rattle.std.proofs.lemmas.Bool.{eqb-true}
 use Rattle.std.proofs.lemmas.Bool.Decides.{nat_tests}
 use Rattle.std.proofs.lemmas.List.Concat.{flat_map-append}
@@ -9,12 +9,13 @@ use Rattle.algol_tree.specs.declared.token.Spot.{Spot}
 use Rattle.algol_tree.specs.declared.tree.Kind.{Kind}
 use Rattle.algol_tree.specs.Ascending.{spots_of_names}
 use Rattle.algol_tree.specs.Blocks.{Block, same_spot, block_numbered, number_at}
-use Rattle.algol_tree.specs.Cells.{Cell, cells_at}
+use Rattle.algol_tree.specs.Cells as cells
+use Rattle.algol_tree.specs.Cells.{Cell, cells_for, cells_at}
 use Rattle.algol_tree.specs.Scopes.{names_in}
 use Rattle.algol_tree.specs.Sites.{Site}
 use Rattle.b67_fitting.proofs.Among.{in_among}
 use Rattle.b67_fitting.proofs.Apart.{IsIn, each_in, in_map, in_front, in_back, in_either, IsApart, Apart, same_self, apart_sym, apart_front, apart_back, apart_across}
-use Rattle.b67_fitting.proofs.Frames.{IsOwn, only, only_own, only_other, result_own, control_cell, result_cell, decl_cells, cells_of_block}
+use Rattle.b67_fitting.proofs.Frames.{IsOwn, only, only_own, only_other, front_own, control_cell, result_cell, named_of, front_cells, decl_cells, cells_of_block}
 use Rattle.b67_fitting.proofs.Listed.{Listed, over, passed, site, left, declared, both, block, procedure, AllThere}
 use Rattle.b67_fitting.proofs.Lists.{each_back}
 use Rattle.b67_fitting.proofs.Looked.{all_blocks}
@@ -79,10 +80,16 @@ module _ (blocks : List Block) (apart : Apart (block_spots blocks)) where
   abbrev pub IsElsewhere : ℕ → List Block → Type 0
   IsElsewhere m bs = (b : Block) → IsIn b bs → (number_of b == m) ≡ false
 
+  abbrev pub own_cells_of : Block → List Cell
+  own_cells_of b = cells_of_block (number_of b) (named_of blocks b) b
+
+  abbrev front_of : Block → List Cell
+  front_of b = front_cells (number_of b) (named_of blocks b) b
+
   -- The block with this number has these cells, those in it have their own, and no other block has one.
   pub record AreOf (k : ℕ) (own : List Cell) (bs : List Block) (cs : List Cell) : Type 0 where
     pub mine : only k cs ≡ own
-    pub here : (b : Block) → IsIn b bs → only (number_of b) cs ≡ cells_of_block (number_of b) b
+    pub here : (b : Block) → IsIn b bs → only (number_of b) cs ≡ own_cells_of b
     pub away : (m : ℕ) → (k == m) ≡ false → IsElsewhere m bs → only m cs ≡ []
 
   abbrev pub cells_in : List Site → List Cell
@@ -110,13 +117,13 @@ module _ (blocks : List Block) (apart : Apart (block_spots blocks)) where
       far : (b c : Block) → IsIn b bs → IsIn c cs → IsApart b.spot c.spot
       far b c m n = each_in (IsApart b.spot) c.spot q (apart_of b p q h (f b m)) (g c n)
 
-      by : (b : Block) → IsIn b bs ⊎ IsIn b cs → only (number_of b) (cells_in xs ++ cells_in ys) ≡ cells_of_block (number_of b) b
+      by : (b : Block) → IsIn b bs ⊎ IsIn b cs → only (number_of b) (cells_in xs ++ cells_in ys) ≡ own_cells_of b
       by b (inl m) =
-          parted (number_of b) (cells_in xs) (cells_in ys) (cells_of_block (number_of b) b) [] (i.here b m)
+          parted (number_of b) (cells_in xs) (cells_in ys) (own_cells_of b) [] (i.here b m)
           (j.away (number_of b) (eqb_sym (number_of b) k (o b (in_front b bs cs m))) (λ c n. other_number b c (t b (in_front b bs cs m)) (t c (in_back c bs cs n)) (far b c m n)))
-          ∙ append-nil (cells_of_block (number_of b) b)
+          ∙ append-nil (own_cells_of b)
       by b (inr m) =
-          parted (number_of b) (cells_in xs) (cells_in ys) [] (cells_of_block (number_of b) b)
+          parted (number_of b) (cells_in xs) (cells_in ys) [] (own_cells_of b)
           (i.away (number_of b) (eqb_sym (number_of b) k (o b (in_back b bs cs m)))
           (λ c n. other_number b c (t b (in_back b bs cs m)) (t c (in_front c bs cs n)) (apart_sym c.spot b.spot (far c b n m))))
           (j.here b m)
@@ -127,31 +134,35 @@ module _ (blocks : List Block) (apart : Apart (block_spots blocks)) where
       record {
         mine = parted k new cs new own (only_own k new w) i.mine;
         here =
-            λ b m. parted (number_of b) new cs [] (cells_of_block (number_of b) b) (only_other (number_of b) k new (eqb_sym (number_of b) k (o b m)) w) (i.here b m);
+            λ b m. parted (number_of b) new cs [] (own_cells_of b) (only_other (number_of b) k new (eqb_sym (number_of b) k (o b m)) w) (i.here b m);
         away = λ m e l. parted m new cs [] [] (only_other m k new e w) (i.away m e l);
       }
 
-  -- a block with the cell of its result in front
+  -- a block with the cells of its heading in front
   block_of : (k : ℕ) (b : Block) (own : List Cell) (bs : List Block) (cs : List Cell) → IsElsewhere k (b ∷ bs) → IsElsewhere (number_of b) bs → own ≡ decl_cells (number_of b) b.decls →
-      AreOf (number_of b) own bs cs → AreOf k [] (b ∷ bs) (result_cell b.result (number_of b) b.spot ++ cs)
+      AreOf (number_of b) own bs cs → AreOf k [] (b ∷ bs) (front_of b ++ cs)
   block_of k b own bs cs o inner e i =
       record { mine = none k (o b (inl refl)) (λ c m. o c (inr m)); here = λ c m. by c m; away = λ m g l. none m (l b (inl refl)) (λ c n. l c (inr n)) }
     where
       result : List Cell
-      result = result_cell b.result (number_of b) b.spot
+      result = front_of b
 
       owns : AllByRecursion (IsOwn (number_of b)) result
-      owns = result_own b.result (number_of b) b.spot
+      owns = front_own (number_of b) (named_of blocks b) b
 
       none : (m : ℕ) → (number_of b == m) ≡ false → IsElsewhere m bs → only m (result ++ cs) ≡ []
       none m g l = parted m result cs [] [] (only_other m (number_of b) result g owns) (i.away m g l)
 
-      by : (c : Block) → IsIn c (b ∷ bs) → only (number_of c) (result ++ cs) ≡ cells_of_block (number_of c) c
+      by : (c : Block) → IsIn c (b ∷ bs) → only (number_of c) (result ++ cs) ≡ own_cells_of c
       by c (inl same) =
-          subst (λ (z : Block). only (number_of z) (result ++ cs) ≡ cells_of_block (number_of z) z) (sym same)
+          subst (λ (z : Block). only (number_of z) (result ++ cs) ≡ own_cells_of z) (sym same)
           (parted (number_of b) result cs result (decl_cells (number_of b) b.decls) (only_own (number_of b) result owns) (i.mine ∙ e))
       by c (inr m) =
-          parted (number_of c) result cs [] (cells_of_block (number_of c) c) (only_other (number_of c) (number_of b) result (eqb_sym (number_of c) (number_of b) (inner c m)) owns) (i.here c m)
+          parted (number_of c) result cs [] (own_cells_of c) (only_other (number_of c) (number_of b) result (eqb_sym (number_of c) (number_of b) (inner c m)) owns) (i.here c m)
+
+  no_front : (b : Block) → b.result ≡ None → named_of blocks b ≡ [] → front_of b ≡ []
+  no_front b e n =
+      ap (λ (o : Option Kind). result_cell o (number_of b) b.spot ++ cells_for (number_of b) cells.parameter (named_of blocks b)) e ∙ ap (cells_for (number_of b) cells.parameter) n
 
   -- the blocks in a block have other numbers
   inner_elsewhere : (b : Block) (spots : List Spot) (bs : List Block) → AllThere blocks (b ∷ bs) → AllByRecursion (IsApart b.spot) spots → ((c : Block) → IsIn c bs → IsIn c.spot spots) →
@@ -175,11 +186,11 @@ module _ (blocks : List Block) (apart : Apart (block_spots blocks)) where
       (cells_are j (apart_back q r p) (λ b m. t b (in_back b bs cs m)) (λ b m. o b (in_back b bs cs m)))
   cells_are (block k b {spots = spots} {own = own} {bs = bs} {xs = xs} e i l) p t o =
       let inner = inner_elsewhere b spots bs t p.0 (in_spots l) in
-      subst (λ (r : Option Kind). AreOf k [] (b ∷ bs) (result_cell r (number_of b) b.spot ++ cells_in xs)) e
+      subst (λ (z : List Cell). AreOf k [] (b ∷ bs) (z ++ cells_in xs)) (no_front b e.0 e.1)
       (block_of k b own bs (cells_in xs) o inner i.own_is (cells_are l p.1 (λ c m. t c (inr m)) inner))
   cells_are (procedure k x b more {spots = spots} {own = own} {bs = bs} {xs = xs} f i l) p t o =
       let behind : Apart (b.spot ∷ (more ++ spots)) = p in
       let inner = inner_elsewhere b spots bs t (each_back (IsApart b.spot) more spots behind.0) (in_spots l) in
       let all = block_of k b own bs (cells_in xs) o inner i.own_is (cells_are l (apart_back more spots behind.1) (λ c m. t c (inr m)) inner) in
       subst (λ (z : List Cell). AreOf k (control_cell k b.spot ∷ []) (b ∷ bs) (z ++ cells_in xs)) (sym f.cells)
-      (own_of k (control_cell k b.spot ∷ []) [] (b ∷ bs) (result_cell b.result (number_of b) b.spot ++ cells_in xs) (refl, tt) o all)
+      (own_of k (control_cell k b.spot ∷ []) [] (b ∷ bs) (front_of b ++ cells_in xs) (refl, tt) o all)

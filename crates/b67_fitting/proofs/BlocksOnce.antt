@@ -1,7 +1,7 @@
 -- The blocks of a program that is built stand at places of its text, no two at one.
 use Rattle.std.proofs.Common.{arith, ◌≤◌, List, ◌∷◌, ◌++◌}
 use Rattle.algol_tree.specs.declared.token.Spot.{Spot}
-use Rattle.algol_tree.specs.Ascending.{spots_of_names, spots_of_expr, spots_of_heading, spots_of_stmt, spots_of_stmts, spots_of_decls}
+use Rattle.algol_tree.specs.Ascending.{spots_of_names, spots_of_expr, spots_of_pairs, spots_of_heading, spots_of_stmt, spots_of_stmts, spots_of_decls}
 use Rattle.algol_tree.specs.Blocks.{Begin, of_statement, of_procedure, begin_block, begin_outer, blocks_of, blocks_in_stmts, blocks_in_decls}
 use Rattle.algol_tree.specs.Plain as tree
 use Rattle.algol_tree.specs.Plain.{PStmt, PStmts, PDecls}
@@ -63,6 +63,7 @@ module _ (s : Spot) where
     in_decls tree.no_decls outer b = omega arith
     in_decls (tree.decls (tree.simple kind ns) ds) outer b = omega (arith, places_both s (spots_of_names ns) (spots_of_decls ds), in_decls ds outer b.1)
     in_decls (tree.decls (tree.files ns) ds) outer b = omega (arith, places_both s (spots_of_names ns) (spots_of_decls ds), in_decls ds outer b.1)
+    in_decls (tree.decls (tree.arrays kind ns pairs) ds) outer b = omega (arith, places_both s (spots_of_names ns ++ spots_of_pairs pairs) (spots_of_decls ds), in_decls ds outer b.1)
     in_decls (tree.decls (tree.forward h) ds) outer b = omega (arith, places_both s (spots_of_heading h) (spots_of_decls ds), in_decls ds outer b.1)
     in_decls (tree.decls (tree.procedure h t) ds) outer b =
         omega (

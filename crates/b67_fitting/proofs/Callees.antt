@@ -10,11 +10,11 @@ use Rattle.algol_tree.specs.Blocks.{Block, of_procedure, blocks_of, blocks_in_de
 use Rattle.algol_tree.specs.Names.{if_so, unknown_in_heading, unknown_names}
 use Rattle.algol_tree.specs.Plain as tree
 use Rattle.algol_tree.specs.Plain.{PStmt, PDecls}
-use Rattle.algol_tree.specs.Sites.{Site, here_stmt, inside_stmt, sites_in_decls}
+use Rattle.algol_tree.specs.Sites.{Site, sites_in_pairs, here_stmt, inside_stmt, sites_in_decls}
 use Rattle.algol_tree.specs.Sorts.{same_name, Declared}
 use Rattle.algol_tree.specs.Surroundings.{Surroundings, body_of, heading_or, announced, knowing, inside_procedure}
 use Rattle.algol_paths.specs.Segments.{is_procedure}
-use Rattle.b67_fitting.specs.Built.{DeclBuilt, DeclsBuilt}
+use Rattle.b67_fitting.specs.Built.{HeadingBuilt, DeclBuilt, DeclsBuilt}
 use Rattle.b67_fitting.proofs.Lists.{each_back, nil_front}
 use Rattle.b67_fitting.proofs.Numbering.{IsNumbered, block_is}
 
@@ -26,12 +26,12 @@ abbrev pub AreNamed : List Site → Type 0
 AreNamed xs = AllByRecursion IsNamed xs
 
 module _ (blocks : List Block) where
-  -- The block of the procedure with this heading stands in the block j. The procedure has no parameters.
+  -- The block of the procedure with this heading stands in the block j. Its parameters are simple ones, by value.
   pub record IsCallee (j : ℕ) (h : Heading) : Type 0 where
     pub some : number_at blocks h.name.spot < length blocks
     pub around_is : around blocks (number_at blocks h.name.spot) ≡ j ∷ around blocks j
     pub procedure : is_procedure (block_numbered blocks (number_at blocks h.name.spot)) ≡ true
-    pub plain : h.params ≡ []
+    pub built : HeadingBuilt h
 
   -- so do those of all procedures that these declarations declare or announce
   abbrev pub AreCallees : ℕ → PDecls → Type 0
@@ -50,7 +50,7 @@ module _ (blocks : List Block) where
         some = slice_get_within blocks k its n;
         around_is = ap (λ (z : Block). map (number_at blocks) z.outer) it_is ∙ e;
         procedure = ap is_procedure it_is ∙ ap not b.2;
-        plain = b.0;
+        built = b.0;
       }
 
   -- the procedure of that name that comes later
@@ -77,6 +77,9 @@ module _ (blocks : List Block) where
   are_callees j outer tree.no_decls a first e b n k = tt
   are_callees j outer (tree.decls (tree.simple kind ns) ds) a first e b n k = are_callees j outer ds (knowing blocks (tree.simple kind ns) ds a) first e b.1 n k.1
   are_callees j outer (tree.decls (tree.files ns) ds) a first e b n k = are_callees j outer ds (knowing blocks (tree.files ns) ds a) first e b.1 n k.1
+  are_callees j outer (tree.decls (tree.arrays kind ns pairs) ds) a first e b n k =
+      let after : Surroundings = knowing blocks (tree.arrays kind ns pairs) ds a in
+      are_callees j outer ds after first e b.1 n (each_back IsNamed (sites_in_pairs pairs (record after { known = first })) (sites_in_decls blocks ds after first) k.1)
   are_callees j outer (tree.decls (tree.forward h) ds) a first e b n k =
       let later = are_callees j outer ds (knowing blocks (tree.forward h) ds a) first e b.1 n k.1 in
       (announced_callee j h ds (body_of h.name.name ds) later refl (nil_front (if_so (not (is_some (body_of h.name.name ds))) h.name.spot) (unknown_in_heading h) k.0), later)

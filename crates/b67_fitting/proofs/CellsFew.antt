@@ -1,5 +1,5 @@
--- The cells of a block among those of the parts of a tree: its variables, its procedures and its result are no more than these.
-use Rattle.std.proofs.Common.{arith, ◌≡◌, ℕ, ◌+◌, ◌==◌, ◌≤◌, Bool, true, false, List, [], ◌∷◌, ◌++◌, filter, length, map, is_some, Option, Some, None, refl, ap, ◌∙◌, if◌then◌else◌, suc}
+-- The cells of a block among those of the parts of a tree: its variables, its procedures, its arrays and its result are no more than these.
+use Rattle.std.proofs.Common.{arith, ◌≡◌, ℕ, ◌+◌, ◌==◌, ◌≤◌, Bool, true, false, List, [], ◌∷◌, ◌++◌, filter, length, is_some, Option, Some, None, refl, ap, ◌∙◌, if◌then◌else◌, suc}
 use Rattle.std.proofs.lemmas.Bool.Decides.{nat_tests}
 use Rattle.std.proofs.lemmas.List.{length-append, length-map}
 use Rattle.std.proofs.lemmas.List.Concat.{flat_map-append}
@@ -14,13 +14,15 @@ use Rattle.algol_tree.specs.Cells as cells
 use Rattle.algol_tree.specs.Cells.{Cell, Content, cells_for, result_cells, cells_at, cells_of}
 use Rattle.algol_tree.specs.Plain as tree
 use Rattle.algol_tree.specs.Plain.{PStmt, PDecls}
+use Rattle.algol_tree.specs.Scopes.{Scopes}
 use Rattle.algol_tree.specs.Sites as site
-use Rattle.algol_tree.specs.Sites.{Site, here_stmt, inside_stmt, sites_in_stmts, sites_in_decls, has_decls}
+use Rattle.algol_tree.specs.Sites.{Site, sites_in_pairs, here_stmt, inside_stmt, sites_in_stmts, sites_in_decls, has_decls}
 use Rattle.algol_tree.specs.Sorts.{Parameter, Declared}
 use Rattle.algol_tree.specs.Surroundings.{Surroundings, knowing, knowing_all, inside_procedure}
-use Rattle.algol_meaning.specs.Statements.{decls_items}
-use Rattle.b67_templates.specs.Cells.{Simple, simple_cells, of_kind, result_of, variables, procedures}
+use Rattle.algol_paths.specs.Arrays.{DeclaredArray, arrays_in, arrays_of}
+use Rattle.b67_templates.specs.Cells.{Simple, parameter_cells, simple_cells, of_kind, result_of, variables, procedures}
 use Rattle.b67_fitting.specs.Built.{DeclsBuilt, StmtBuilt}
+use Rattle.b67_fitting.specs.Nested.{AreByValue}
 
 pub cells_both : (blocks : List Block) (xs ys : List Site) (k : ℕ) →
     length (cells_of blocks (xs ++ ys) k) ≡ length (cells_of blocks xs k) + length (cells_of blocks ys k)
@@ -46,7 +48,7 @@ one_there k spot content cs =
     let rest = filter (λ (c : Cell). c.block == k) cs in
     ap (λ (b : Bool). length (if b then record { block = k; spot = spot; content = content } ∷ rest else rest)) (is_own k)
 
--- ---- variables and procedures
+-- ---- variables, procedures and arrays
 
 module _ (blocks : List Block) where
   -- the parts of a procedure: its declaration, and its body
@@ -57,7 +59,7 @@ module _ (blocks : List Block) where
   body_sites t a = here_stmt t false a ∷ inside_stmt blocks t of_procedure false a
 
   pub as_many : (ds : PDecls) (a : Surroundings) (first : List Declared) → DeclsBuilt ds →
-      length (variables ds) + length (procedures ds) ≤ length (cells_of blocks (sites_in_decls blocks ds a first) a.block)
+      length (variables ds) + length (procedures ds) + length (arrays_of ds) ≤ length (cells_of blocks (sites_in_decls blocks ds a first) a.block)
   as_many tree.no_decls a first s = omega arith
   as_many (tree.decls (tree.simple kind ns) ds) a first s =
       let k = a.block in
@@ -75,6 +77,24 @@ module _ (blocks : List Block) where
         as_many ds after first s.1,
       )
   as_many (tree.decls (tree.files ns) ds) a first s = as_many ds (knowing blocks (tree.files ns) ds a) first s.1
+  as_many (tree.decls (tree.arrays kind ns pairs) ds) a first s =
+      let k = a.block in
+      let own : Cell → Bool = λ c. c.block == k in
+      let its : List Cell = cells_for k cells.made ns in
+      let after : Surroundings = knowing blocks (tree.arrays kind ns pairs) ds a in
+      let bounds : List Site = sites_in_pairs pairs (record after { known = first }) in
+      let later : List Site = sites_in_decls blocks ds after first in
+      let more : List Cell = flat_map (cells_at blocks) (bounds ++ later) in
+      omega (
+        arith,
+        length-append (arrays_in kind ns pairs) (arrays_of ds),
+        length-map {B = DeclaredArray} ns (λ (n : Named). record { name = n.name; kind = kind; pairs = pairs }),
+        ap length (filter-append own its more),
+        length-append (filter own its) (filter own more),
+        own_cells k cells.made ns,
+        cells_both blocks bounds later k,
+        as_many ds after first s.1,
+      )
   as_many (tree.decls (tree.forward h) ds) a first s = as_many ds (knowing blocks (tree.forward h) ds a) first s.1
   as_many (tree.decls (tree.procedure h t) ds) a first s =
       let k = a.block in
@@ -90,7 +110,8 @@ module _ (blocks : List Block) where
   -- ---- a procedure
 
   -- those of its own declarations
-  body_many : (t : PStmt) (a : Surroundings) → StmtBuilt t → length (variables (decls_of t)) + length (procedures (decls_of t)) ≤ length (cells_of blocks (body_sites t a) a.block)
+  body_many : (t : PStmt) (a : Surroundings) → StmtBuilt t →
+      length (variables (decls_of t)) + length (procedures (decls_of t)) + length (arrays_of (decls_of t)) ≤ length (cells_of blocks (body_sites t a) a.block)
   body_many (tree.block (tree.body spot ds ss)) a b =
       let declared = sites_in_decls blocks ds a a.known in
       omega (arith, as_many ds a a.known b.0, cells_both blocks declared (sites_in_stmts blocks ss (has_decls ds) (knowing_all blocks ds a)) a.block)
@@ -101,9 +122,9 @@ module _ (blocks : List Block) where
   result_many None k n = omega arith
   result_many (Some kind) k n = omega (arith, own_cells k cells.result (n ∷ []))
 
-  -- its result, whose cell stands in the block around
+  -- its parameters and its result, whose cells stand in the block around
   pub procedure_many : (h : Heading) (t : PStmt) (ds : PDecls) (a : Surroundings) (c : Surroundings) → c.block ≡ number_at blocks h.name.spot → StmtBuilt t →
-      length (result_of h.kind h.name.name) + (length (variables (decls_of t)) + length (procedures (decls_of t)))
+      length h.params + (length (result_of h.kind h.name.name) + (length (variables (decls_of t)) + length (procedures (decls_of t)) + length (arrays_of (decls_of t))))
       ≤ length (cells_of blocks (declaring h t ds a ∷ body_sites t c) (number_at blocks h.name.spot))
   procedure_many h t ds a c e b =
       let k = number_at blocks h.name.spot in
@@ -121,6 +142,7 @@ module _ (blocks : List Block) where
         ap length (filter-append own result params),
         length-append (filter own result) (filter own params),
         result_many h.kind k h.name,
+        own_cells k cells.parameter h.params,
         body_many t c b,
         ap (λ (i : ℕ). length (cells_of blocks (body_sites t c) i)) e,
       )
@@ -128,25 +150,20 @@ module _ (blocks : List Block) where
 -- ---- a block
 
 -- the cells that it has from its entry on
-pub simple_many : (b : Block) → length (simple_cells b) ≡ length b.parameters + (length (result_of b.result b.name) + length (variables b.decls))
-simple_many b =
-    let by_value : Parameter → Simple = λ p. record { name = p.name; kind = None } in
+pub simple_many : (sc : Scopes) (b : Block) → length (simple_cells sc b) ≡ length (parameter_cells sc b) + (length (result_of b.result b.name) + length (variables b.decls))
+simple_many sc b =
     omega (
       arith,
-      length-append (map by_value b.parameters ++ result_of b.result b.name) (variables b.decls),
-      length-append (map by_value b.parameters) (result_of b.result b.name),
-      length-map {B = Simple} b.parameters by_value,
+      length-append (parameter_cells sc b ++ result_of b.result b.name) (variables b.decls),
+      length-append (parameter_cells sc b) (result_of b.result b.name),
     )
 
--- no declaration is made by an action
-pub built_items : (ds : PDecls) → DeclsBuilt ds → decls_items ds ≡ []
-built_items tree.no_decls s = refl
-built_items (tree.decls (tree.simple kind ns) ds) s = built_items ds s.1
-built_items (tree.decls (tree.files ns) ds) s = built_items ds s.1
-built_items (tree.decls (tree.forward h) ds) s = built_items ds s.1
-built_items (tree.decls (tree.procedure h t) ds) s = built_items ds s.1
-built_items (tree.decls d ds) s = absurd s.0
-
-pub body_items : (t : PStmt) → StmtBuilt t → decls_items (decls_of t) ≡ []
-body_items (tree.block (tree.body spot ds ss)) b = built_items ds b.0
-body_items t b = refl
+-- a cell for each parameter
+pub parameters_many : (sc : Scopes) (b : Block) → AreByValue sc b → length (parameter_cells sc b) ≡ length b.parameters
+parameters_many sc b v =
+    omega (
+      arith,
+      ap length v.names,
+      length-map b.parameters (λ (p : Parameter). p.name),
+      length-map (parameter_cells sc b) (λ (c : Simple). c.name),
+    )

@@ -1,7 +1,7 @@
--- Parts of a tree at which no rule is broken, where the names that are known are simple variables, files and procedures without
--- parameters.
-use Rattle.std.proofs.Common.{arith, ◌≡◌, ◌⊎◌, inl, inr, ℕ, ◌+◌, ◌==◌, ◌&&◌, not, Bool, true, false, List, [], ◌∷◌, ◌++◌, length, is_some, Option, Some, None, refl, sym, ap, ◌∙◌, subst, if◌then◌else◌}
-use Rattle.std.proofs.lemmas.Bool.Decides.{nat_tests}
+-- Parts of a tree at which no rule is broken, where the names that are known are simple variables, arrays, files and procedures whose
+-- parameters are simple ones, by value.
+use Rattle.std.proofs.Common.{arith, ◌≡◌, ◌⊎◌, inl, inr, ℕ, ◌==◌, ◌&&◌, not, Bool, true, false, List, [], ◌∷◌, ◌++◌, length, is_some, Option, Some, None, refl, sym, ap, ◌∙◌, subst, if◌then◌else◌}
+use Rattle.std.proofs.lemmas.Bool.{eqb-true}
 use Rattle.std.specs.List.{AllByRecursion}
 use Rattle.algol_tree.specs.declared.token.Spot.{Spot}
 use Rattle.algol_tree.specs.declared.tree.Kind.{Kind}
@@ -10,9 +10,9 @@ use Rattle.algol_tree.specs.declared.tree.Named.{Named}
 use Rattle.algol_tree.specs.declared.tree.Heading.{Heading}
 use Rattle.algol_tree.specs.Blocks.{Block}
 use Rattle.algol_tree.specs.Cells.{first_spot}
-use Rattle.algol_tree.specs.Checks.{wrong_types, not_assignable}
+use Rattle.algol_tree.specs.Checks.{wrong_types, not_assignable, is_function}
 use Rattle.algol_tree.specs.Classes as class
-use Rattle.algol_tree.specs.Classes.{Class, same_kind, is_task, is_event, is_procedure, is_unspecified}
+use Rattle.algol_tree.specs.Classes.{Class, same_kind, is_array, is_task, is_event, is_procedure, is_unspecified}
 use Rattle.algol_tree.specs.Counted.{wrong_counts, bad_lists, wide_lines}
 use Rattle.algol_tree.specs.Names.{if_so, unknown_names, declared_twice}
 use Rattle.algol_tree.specs.Plain as tree
@@ -21,6 +21,7 @@ use Rattle.algol_tree.specs.Sites.{Site}
 use Rattle.algol_tree.specs.Sorts.{Declared, look_up}
 use Rattle.algol_tree.specs.Surroundings.{Surroundings, class_of, class_of_declared, declared_as}
 use Rattle.algol_tree.specs.Types.{read_type, type_of}
+use Rattle.b67_fitting.specs.Built.{HeadingBuilt}
 use Rattle.b67_fitting.proofs.Lists.{nil_front}
 
 pub record IsClean (blocks : List Block) (x : Site) : Type 0 where
@@ -38,8 +39,9 @@ AreClean blocks xs = AllByRecursion (IsClean blocks) xs
 -- what a name is in a program that is built
 pub data IsPlain : Class → Type 0 where
   simple : (kind : Kind) → IsPlain (class.simple kind)
+  array : (kind : Kind) (rank : ℕ) → IsPlain (class.array kind rank)
   file : IsPlain class.file
-  procedure : (h : Heading) → h.params ≡ [] → IsPlain (class.procedure h)
+  procedure : (h : Heading) → HeadingBuilt h → IsPlain (class.procedure h)
 
 pub record KnowsPlain (a : Surroundings) : Type 0 where
   pub each : (name : List ℕ) (d : Declared) → look_up a.known name ≡ Some d → IsPlain d.class
@@ -60,21 +62,25 @@ plain_first a k n more h = plain_name a k n (nil_front (if_so (not (is_some (dec
 abbrev pub misnamed : (Class → Bool) → Class → Spot → List Spot
 misnamed test c spot = if_so (not (test c) && not (is_unspecified c)) spot
 
-pub none_such : (test : Class → Bool) (c : Class) (spot : Spot) → ((kind : Kind) → test (class.simple kind) ≡ false) → test class.file ≡ false →
-    ((h : Heading) → test (class.procedure h) ≡ false) → IsPlain c → misnamed test c spot ≡ [] → ⊥
-none_such test c spot s f p (simple kind) h =
+pub none_such : (test : Class → Bool) (c : Class) (spot : Spot) → ((kind : Kind) → test (class.simple kind) ≡ false) →
+    ((kind : Kind) (rank : ℕ) → test (class.array kind rank) ≡ false) → test class.file ≡ false → ((h : Heading) → test (class.procedure h) ≡ false) → IsPlain c →
+    misnamed test c spot ≡ [] → ⊥
+none_such test c spot s y f p (simple kind) h =
     let clash : spot ∷ [] ≡ [] = sym (ap (λ b. if_so (not b && not (is_unspecified (class.simple kind))) spot) (s kind)) ∙ h in
     cc
-none_such test c spot s f p file h =
+none_such test c spot s y f p (array kind rank) h =
+    let clash : spot ∷ [] ≡ [] = sym (ap (λ b. if_so (not b && not (is_unspecified (class.array kind rank))) spot) (y kind rank)) ∙ h in
+    cc
+none_such test c spot s y f p file h =
     let clash : spot ∷ [] ≡ [] = sym (ap (λ b. if_so (not b && not (is_unspecified class.file)) spot) f) ∙ h in
     cc
-none_such test c spot s f p (procedure heading e) h =
+none_such test c spot s y f p (procedure heading e) h =
     let clash : spot ∷ [] ≡ [] = sym (ap (λ b. if_so (not b && not (is_unspecified (class.procedure heading))) spot) (p heading)) ∙ h in
     cc
 
 pub none_happens : (task : Bool) (c : Class) (spot : Spot) → IsPlain c → (if task then misnamed is_task c spot else misnamed is_event c spot) ≡ [] → ⊥
-none_happens true c spot p h = none_such is_task c spot (λ k. refl) refl (λ g. refl) p h
-none_happens false c spot p h = none_such is_event c spot (λ k. refl) refl (λ g. refl) p h
+none_happens true c spot p h = none_such is_task c spot (λ k. refl) (λ k r. refl) refl (λ g. refl) p h
+none_happens false c spot p h = none_such is_event c spot (λ k. refl) (λ k r. refl) refl (λ g. refl) p h
 
 -- a name that is read is a simple variable or a typed procedure
 abbrev pub IsRead : Class → Kind → Type 0
@@ -86,6 +92,7 @@ some_kind (Some k) spot h = (k, refl)
 
 pub read_kind : (c : Class) (spot : Spot) → IsPlain c → misnamed (λ d. is_some (read_type d)) c spot ≡ [] → (k : Kind) × IsRead c k
 read_kind c spot (simple kind) h = (kind, inl refl)
+read_kind c spot (array kind rank) h = absurd (let clash : spot ∷ [] ≡ [] = h in cc)
 read_kind c spot file h = absurd (let clash : spot ∷ [] ≡ [] = h in cc)
 read_kind c spot (procedure g e) h =
     let r = some_kind g.kind spot h in
@@ -95,32 +102,70 @@ pub read_as : (c : Class) (k : Kind) → IsRead c k → read_type c ≡ Some k
 read_as c k (inl e) = ap read_type e
 read_as c k (inr p) = ap read_type p.1 ∙ p.2
 
--- a procedure that is called has no actuals
+-- a procedure that is called has as many actuals as parameters
 abbrev pub takes_others : Class → ℕ → Bool
 takes_others (class.procedure h) count = not (length h.params == count)
 takes_others _ count = false
 
-pub no_actuals : (h : Heading) (count : ℕ) (spot : Spot) → h.params ≡ [] → if_so (takes_others (class.procedure h) (1 + count)) spot ≡ [] → ⊥
-no_actuals h count spot e g =
-    let other : (0 == (1 + count)) ≡ false = grind (arith, nat_tests) in
-    let clash : spot ∷ [] ≡ [] = sym (ap (λ (ns : List Named). if_so (not (length ns == (1 + count))) spot) e ∙ ap (λ (b : Bool). if_so (not b) spot) other) ∙ g in
-    cc
+pub as_many : (c : Class) (h : Heading) (count : ℕ) (spot : Spot) → c ≡ class.procedure h → if_so (takes_others c count) spot ≡ [] → length h.params ≡ count
+as_many c h count spot e g = by (length h.params == count) refl (subst (λ (d : Class). if_so (takes_others d count) spot ≡ []) e g)
+  where
+    by : (b : Bool) → (length h.params == count) ≡ b → if_so (not b) spot ≡ [] → length h.params ≡ count
+    by true f k = eqb-true (length h.params) count f
+    by false f k = absurd (let clash : spot ∷ [] ≡ [] = k in cc)
 
-pub none_called : (test : Class → Bool) (c : Class) (count : ℕ) (spot : Spot) → ((kind : Kind) → test (class.simple kind) ≡ false) → test class.file ≡ false → IsPlain c →
-    misnamed test c spot ≡ [] → if_so (takes_others c (1 + count)) spot ≡ [] → ⊥
-none_called test c count spot s f (simple kind) h g =
-    let clash : spot ∷ [] ≡ [] = sym (ap (λ b. if_so (not b && not (is_unspecified (class.simple kind))) spot) (s kind)) ∙ h in
-    cc
-none_called test c count spot s f file h g =
-    let clash : spot ∷ [] ≡ [] = sym (ap (λ b. if_so (not b && not (is_unspecified class.file)) spot) f) ∙ h in
-    cc
-none_called test c count spot s f (procedure heading e) h g = no_actuals heading count spot e g
+pub none_long : {X : Type 0} (xs : List X) → length xs ≡ 0 → xs ≡ []
+none_long [] h = refl
+none_long (x ∷ xs) h = absurd (omega (arith, h))
+
+-- .. also a typed one whose name is read
+pub none_taken : (c : Class) (h : Heading) (k : Kind) (spot : Spot) → c ≡ class.procedure h → h.kind ≡ Some k → if_so (is_function c && takes_others c 0) spot ≡ [] → h.params ≡ []
+none_taken c h k spot e f g =
+    let typed : if_so (is_some h.kind && takes_others (class.procedure h) 0) spot ≡ [] = subst (λ (d : Class). if_so (is_function d && takes_others d 0) spot ≡ []) e g in
+    none_long h.params (as_many (class.procedure h) h 0 spot refl (subst (λ (o : Option Kind). if_so (is_some o && takes_others (class.procedure h) 0) spot ≡ []) f typed))
+
+-- the name of a typed procedure
+pub record IsTyped (c : Class) : Type 0 where
+  pub heading : Heading
+  pub class_is : c ≡ class.procedure heading
+  pub built : HeadingBuilt heading
+  pub kind : Kind
+  pub kind_is : heading.kind ≡ Some kind
+
+pub function_of : (c : Class) (spot : Spot) → IsPlain c → misnamed is_function c spot ≡ [] → IsTyped c
+function_of c spot (simple kind) h = absurd (let clash : spot ∷ [] ≡ [] = h in cc)
+function_of c spot (array kind rank) h = absurd (let clash : spot ∷ [] ≡ [] = h in cc)
+function_of c spot file h = absurd (let clash : spot ∷ [] ≡ [] = h in cc)
+function_of c spot (procedure g b) h =
+    let r = some_kind g.kind spot h in
+    record { heading = g; class_is = refl; built = b; kind = r.0; kind_is = r.1 }
 
 -- a name that is called is that of a procedure
-pub call_of : (c : Class) (spot : Spot) → IsPlain c → misnamed is_procedure c spot ≡ [] → (h : Heading) × (c ≡ class.procedure h)
+pub call_of : (c : Class) (spot : Spot) → IsPlain c → misnamed is_procedure c spot ≡ [] → (h : Heading) × (c ≡ class.procedure h) × HeadingBuilt h
 call_of c spot (simple kind) h = absurd (let clash : spot ∷ [] ≡ [] = h in cc)
+call_of c spot (array kind rank) h = absurd (let clash : spot ∷ [] ≡ [] = h in cc)
 call_of c spot file h = absurd (let clash : spot ∷ [] ≡ [] = h in cc)
-call_of c spot (procedure g e) h = (g, refl)
+call_of c spot (procedure g e) h = (g, refl, e)
+
+-- a name with subscripts is that of an array, which has as many of them as it has bounds
+pub array_of : (c : Class) (spot : Spot) → IsPlain c → misnamed is_array c spot ≡ [] → (k : Kind) × (rank : ℕ) × (c ≡ class.array k rank)
+array_of c spot (simple kind) h = absurd (let clash : spot ∷ [] ≡ [] = h in cc)
+array_of c spot (array kind rank) h = (kind, rank, refl)
+array_of c spot file h = absurd (let clash : spot ∷ [] ≡ [] = h in cc)
+array_of c spot (procedure g b) h = absurd (let clash : spot ∷ [] ≡ [] = h in cc)
+
+abbrev pub has_others : Class → ℕ → Bool
+has_others (class.array kind rank) count = not (rank == count)
+has_others _ count = false
+
+same_count : (b : Bool) (m n : ℕ) (spot : Spot) → (m == n) ≡ b → if_so (not b) spot ≡ [] → m ≡ n
+same_count true m n spot e h = eqb-true m n e
+same_count false m n spot e h = absurd (let clash : spot ∷ [] ≡ [] = h in cc)
+
+pub subscripts_as_many : (c : Class) (k : Kind) (rank count : ℕ) (spot : Spot) → c ≡ class.array k rank → if_so (has_others c count) spot ≡ [] → c ≡ class.array k count
+subscripts_as_many c k rank count spot e h =
+    let same : rank ≡ count = same_count (rank == count) rank count spot refl (subst (λ (d : Class). if_so (has_others d count) spot ≡ []) e h) in
+    e ∙ ap (class.array k) same
 
 -- ---- kinds
 

@@ -1,5 +1,5 @@
 -- Each name that is used as a variable or a procedure has its couple, and its cell has the number that the couple says.
-use Rattle.std.proofs.Common.{arith, ◌≡◌, ℕ, ◌+◌, ◌-◌, ◌<◌, ◌≤◌, ◌==◌, ◌||◌, Bool, true, false, List, [], ◌∷◌, ◌++◌, map, length, slice_get, Option, Some, None, refl, sym, ap, ◌∙◌, subst, if◌then◌else◌, is_some}
+use Rattle.std.proofs.Common.{arith, ◌≡◌, ◌⊎◌, inl, inr, ℕ, ◌+◌, ◌-◌, ◌<◌, ◌≤◌, ◌==◌, ◌||◌, ℤ, Bool, true, false, List, [], ◌∷◌, ◌++◌, map, length, slice_get, Option, Some, None, refl, sym, ap, ◌∙◌, subst, is_some}
 use Rattle.std.proofs.lemmas.Bool.{eqb-true}
 use Rattle.std.specs.List.{flat_map, list_any, AllByRecursion}
 use Rattle.algol_tree.specs.declared.token.Spot.{Spot}
@@ -8,7 +8,7 @@ use Rattle.algol_tree.specs.declared.tree.Kind.{Kind}
 use Rattle.algol_tree.specs.declared.tree.Named.{Named}
 use Rattle.algol_tree.specs.Blocks.{Block, block_numbered, number_at, procedure_block}
 use Rattle.algol_tree.specs.Cells as cells
-use Rattle.algol_tree.specs.Cells.{Cell, cells_at, cells_of, index_from, layout, level_of, couple_at, couple_in}
+use Rattle.algol_tree.specs.Cells.{Cell, cells_for, cells_at, cells_of, index_from, layout, level_of, couple_at, couple_in}
 use Rattle.algol_tree.specs.Couples.{Known, Located, known_at, known_there, located, declaration_in}
 use Rattle.algol_tree.specs.Names.{is_one_of, result_names_of}
 use Rattle.algol_tree.specs.Scopes.{Scopes, Use, uses_at, declared_in, use_of}
@@ -17,17 +17,22 @@ use Rattle.algol_tree.specs.Sorts as sort
 use Rattle.algol_tree.specs.Sorts.{same_name, Declared, is_variable}
 use Rattle.algol_tree.specs.Surroundings.{Surroundings}
 use Rattle.b67_ops.specs.declared.Couple.{Couple}
-use Rattle.b67_templates.specs.Cells.{Simple, simple_cells, variables, result_of, procedures, found_from, IsVariable, IsProcedure}
-use Rattle.b67_templates.specs.Fitting.{couple_on_left, ReadFits, LeftFits, ProcedureFits}
+use Rattle.b67_templates.specs.Cells.{Simple, parameter_cells, simple_cells, variables, result_of, procedures, found_from, IsVariable, IsProcedure}
+use Rattle.b67_templates.specs.Fitting.{couple_on_left, ReadFits, LeftFits}
 use Rattle.b67_fitting.specs.Fitted.{spelled}
 use Rattle.b67_fitting.proofs.Aligned.{IsAt}
-use Rattle.b67_fitting.proofs.Apart.{IsIn, in_back, in_flat, IsApart, Apart, same_self}
+use Rattle.b67_fitting.proofs.Apart.{IsIn, in_front, in_back, in_flat, IsApart, Apart}
 use Rattle.b67_fitting.proofs.Blocked.{block_spots, numbered, number_none}
-use Rattle.b67_fitting.proofs.Frames.{variable_cells, control_cells, decl_cells, result_cell, cells_of_block, laid_out}
-use Rattle.b67_fitting.proofs.Framing.{variable_cell, in_filter, simple_is, framed, controlled, without}
-use Rattle.b67_fitting.proofs.Homed.{IsHome}
-use Rattle.b67_fitting.proofs.Known.{IsHeld, IsOwned, AreAround, Stands}
+use Rattle.b67_fitting.proofs.Frames.{named_of, front_cells, variable_cells, control_cells, made_cells, decl_cells, result_cell, cells_of_block, laid_out}
+use Rattle.b67_fitting.proofs.Framing.{variable_cell, in_filter, simple_is, framed, framed_parameter, controlled, without, result_index, result_found}
+use Rattle.b67_fitting.proofs.Given.{cell_of}
+use Rattle.b67_fitting.proofs.Lists.{each_map}
+use Rattle.b67_fitting.proofs.Placed.{CalleeFits}
+use Rattle.b67_fitting.proofs.ResultsApart.{result_other}
+use Rattle.b67_fitting.proofs.Homed.{IsHome, IsValue}
+use Rattle.b67_fitting.proofs.Known.{given_cells, given_places, IsVariableOf, IsParameterOf, IsHeld, IsOwned, AreAround, Stands}
 use Rattle.b67_fitting.proofs.Looked.{use_found, known_found}
+use Rattle.b67_fitting.proofs.Made.{made_places}
 use Rattle.b67_fitting.proofs.Stated.{is_around}
 
 pub use_is : (sc : Scopes) (n : Named) (u : Use) → declared_in sc.uses n.spot ≡ Some u → use_of sc n ≡ u
@@ -40,16 +45,23 @@ the_use a n d = record { spot = n.spot; block = d.block; up = a.depth - d.depth;
 abbrev pub result_use : Surroundings → Named → Declared → ℕ → Use
 result_use a n d callee = record { spot = n.spot; block = callee; up = a.depth - d.depth - 1; sort = sort.variable }
 
--- The parts of a program: what stands in one place stands there alone, the cells of each block are those of its result and its
+-- the cell of a parameter
+given_cell : (block : ℕ) (ns : List Named) (s : Spot) → IsIn s (map (λ (n : Named). n.spot) ns) → IsIn (record { block = block; spot = s; content = cells.parameter }) (cells_for block cells.parameter ns)
+given_cell block [] s i = absurd i
+given_cell block (n ∷ ns) s (inl e) = inl (ap (λ (z : Spot). record { block = block; spot = z; content = cells.parameter }) e)
+given_cell block (n ∷ ns) s (inr i) = inr (given_cell block ns s i)
+
+-- The parts of a program: what stands in one place stands there alone, the cells of each block are those of its heading and its
 -- declarations, and no other cells are there.
 pub record IsProgram (blocks : List Block) (all : List Site) : Type 0 where
   pub blocks_apart : Apart (block_spots blocks)
   pub uses_apart : Apart (map (λ (u : Use). u.spot) (flat_map uses_at all))
   pub known_apart : Apart (map (λ (k : Known). k.spot) (flat_map (known_at blocks) all))
-  pub own : (b : Block) → IsIn b blocks → cells_of blocks all (number_at blocks b.spot) ≡ cells_of_block (number_at blocks b.spot) b
+  pub own : (b : Block) → IsIn b blocks → cells_of blocks all (number_at blocks b.spot) ≡ cells_of_block (number_at blocks b.spot) (named_of blocks b) b
   pub none : cells_of blocks all (length blocks) ≡ []
-  pub far : (c : Cell) → IsIn c (flat_map (cells_at blocks) all) → c.content ≡ cells.variable → AllByRecursion (IsApart c.spot) (block_spots blocks)
-  pub homes : (b : Block) → IsIn b blocks → IsHome b
+  pub made_apart : Apart (made_places blocks all)
+  pub far : (c : Cell) → IsIn c (flat_map (cells_at blocks) all) → IsValue c → AllByRecursion (IsApart c.spot) (block_spots blocks)
+  pub homes : (b : Block) → IsIn b blocks → IsHome blocks b
 
 module _ (blocks : List Block) (all : List Site) (is : IsProgram blocks all) where
   abbrev pub scopes : Scopes
@@ -63,17 +75,20 @@ module _ (blocks : List Block) (all : List Site) (is : IsProgram blocks all) whe
 
   -- ---- couples
 
-  abbrev number_of : Block → ℕ
+  abbrev pub number_of : Block → ℕ
   number_of b = number_at blocks b.spot
 
-  abbrev frame_of : Block → List Cell
-  frame_of b = result_cell b.result (number_of b) b.spot ++ (variable_cells (number_of b) b.decls ++ control_cells (number_of b) b.decls)
+  abbrev pub frame_of : Block → List Cell
+  frame_of b = given_places blocks b ++ (result_cell b.result (number_of b) b.spot ++ (variable_cells (number_of b) b.decls ++ (control_cells (number_of b) b.decls ++ made_cells (number_of b) b.decls)))
 
-  coupled : (b : Block) → IsIn b blocks → (spot : Spot) (i : Option ℕ) → index_from 2 (frame_of b) spot ≡ i → couple_in blocks all (number_of b) spot ≡ couple_at (level_of b) i
+  abbrev pub simples_of : Block → List Simple
+  simples_of b = given_cells blocks b ++ (result_of b.result b.name ++ variables b.decls)
+
+  pub coupled : (b : Block) → IsIn b blocks → (spot : Spot) (i : Option ℕ) → index_from 2 (frame_of b) spot ≡ i → couple_in blocks all (number_of b) spot ≡ couple_at (level_of b) i
   coupled b t spot i e =
       ap (λ (z : Block). couple_at (level_of z) (index_from 2 (layout (cells_of blocks all (number_of b))) spot)) (numbered blocks b is.blocks_apart t)
       ∙ ap (λ (z : List Cell). couple_at (level_of b) (index_from 2 (layout z) spot)) (is.own b t)
-      ∙ ap (λ (z : List Cell). couple_at (level_of b) (index_from 2 z spot)) (laid_out (number_of b) b.result b.spot b.decls)
+      ∙ ap (λ (z : List Cell). couple_at (level_of b) (index_from 2 z spot)) (laid_out (number_of b) (named_of blocks b) b)
       ∙ ap (couple_at (level_of b)) e
 
   -- a variable is no result
@@ -82,18 +97,28 @@ module _ (blocks : List Block) (all : List Site) (is : IsProgram blocks all) whe
       ap (λ (k : ℕ). couple_in blocks all k spot) (number_none blocks spot far)
       ∙ ap (λ (z : List Cell). couple_at (level_of (block_numbered blocks (length blocks))) (index_from 2 (layout z) spot)) is.none
 
-  variable_far : (b : Block) → IsIn b blocks → (spot : Spot) → IsIn (record { block = number_of b; spot = spot; content = cells.variable }) (decl_cells (number_of b) b.decls) →
-      AllByRecursion (IsApart spot) (block_spots blocks)
-  variable_far b t spot i =
-      let c : Cell = record { block = number_of b; spot = spot; content = cells.variable } in
-      let own : IsIn c (cells_of blocks all (number_of b)) = subst (λ (z : List Cell). IsIn c z) (sym (is.own b t)) (in_back c (result_cell b.result (number_of b) b.spot) (decl_cells (number_of b) b.decls) i) in
-      is.far c (in_filter (λ (c : Cell). c.block == number_of b) c (flat_map (cells_at blocks) all) own) refl
+  value_far : (b : Block) → IsIn b blocks → (c : Cell) → IsIn c (cells_of_block (number_of b) (named_of blocks b) b) → IsValue c → AllByRecursion (IsApart c.spot) (block_spots blocks)
+  value_far b t c i v =
+      let own : IsIn c (cells_of blocks all (number_of b)) = subst (λ (z : List Cell). IsIn c z) (sym (is.own b t)) i in
+      is.far c (in_filter (λ (c : Cell). c.block == number_of b) c (flat_map (cells_at blocks) all) own) v
+
+  place_far : (b : Block) → IsIn b blocks → (name : List ℕ) (d : Declared) (k : Kind) → IsVariableOf blocks b name d k ⊎ IsParameterOf blocks b name d k →
+      AllByRecursion (IsApart d.spot) (block_spots blocks)
+  place_far b t name d k (inl v) =
+      let c : Cell = record { block = number_of b; spot = d.spot; content = cells.variable } in
+      value_far b t c (in_back c (front_cells (number_of b) (named_of blocks b) b) (decl_cells (number_of b) b.decls) (variable_cell (number_of b) b.decls d.spot v.among))
+      ((λ e. let clash : cells.variable ≡ cells.result = e in cc), (λ e. let clash : cells.variable ≡ cells.procedure = e in cc))
+  place_far b t name d k (inr v) =
+      let c : Cell = record { block = number_of b; spot = d.spot; content = cells.parameter } in
+      value_far b t c (in_front c (front_cells (number_of b) (named_of blocks b) b) (decl_cells (number_of b) b.decls)
+      (in_back c (result_cell b.result (number_of b) b.spot) (given_places blocks b) (given_cell (number_of b) (named_of blocks b) d.spot v.among)))
+      ((λ e. let clash : cells.parameter ≡ cells.result = e in cc), (λ e. let clash : cells.parameter ≡ cells.procedure = e in cc))
 
   -- ---- variables
 
   module _ (a : Surroundings) (level : ℕ) (at : a.depth + 2 ≡ level) (n : Named) (d : Declared) where
     variable_at : (k : Kind) → use_of scopes n ≡ the_use a n d → (h : IsHeld blocks a.depth n.name d k) →
-        (r : IsAt 0 2 (result_of h.in_block.result h.in_block.name ++ variables h.in_block.decls) (frame_of h.in_block) n.name d.spot k) →
+        (r : IsAt 0 2 (simples_of h.in_block) (frame_of h.in_block) n.name d.spot k) →
         IsVariable scopes level n k (record { level = level_of h.in_block; index = 2 + r.number })
     variable_at k u h r =
         let b = h.in_block in
@@ -102,10 +127,10 @@ module _ (blocks : List Block) (all : List Site) (is : IsProgram blocks all) whe
           variable = ap (λ (z : Use). is_variable z.sort) u ∙ ap is_variable h.sort_is;
           found = record { number = r.number; cell = r.cell };
           there =
-              ap (λ (z : Use). found_from 0 (simple_cells (block_numbered blocks z.block)) n.name) u
-              ∙ ap (λ (z : ℕ). found_from 0 (simple_cells (block_numbered blocks z)) n.name) h.block_is
-              ∙ ap (λ (z : Block). found_from 0 (simple_cells z) n.name) (numbered blocks b is.blocks_apart h.there)
-              ∙ ap (λ (z : List Simple). found_from 0 z n.name) (simple_is b (is.homes b h.there).plain) ∙ r.found;
+              ap (λ (z : Use). found_from 0 (simple_cells scopes (block_numbered blocks z.block)) n.name) u
+              ∙ ap (λ (z : ℕ). found_from 0 (simple_cells scopes (block_numbered blocks z)) n.name) h.block_is
+              ∙ ap (λ (z : Block). found_from 0 (simple_cells scopes z) n.name) (numbered blocks b is.blocks_apart h.there)
+              ∙ ap (λ (z : List Simple). found_from 0 z n.name) (simple_is blocks b (is.homes b h.there) scopes.uses) ∙ r.found;
           kind_is = r.kind_is;
           level_is = ap (λ (z : Use). length b.outer + 2 + z.up) u ∙ up;
           index_is = refl;
@@ -113,12 +138,18 @@ module _ (blocks : List Block) (all : List Site) (is : IsProgram blocks all) whe
 
     -- the same number by the name and by the place, among all cells of the block
     at_both : (k : Kind) → (h : IsHeld blocks a.depth n.name d k) →
-        IsAt 0 2 (result_of h.in_block.result h.in_block.name ++ variables h.in_block.decls) (frame_of h.in_block) n.name d.spot k
-    at_both k h =
-        let b = h.in_block in
-        let other : is_one_of (result_names_of b) n.name ≡ false =
-        subst (λ (z : Block). is_one_of (result_names_of z) n.name ≡ false) (ap (block_numbered blocks) h.block_is ∙ numbered blocks b is.blocks_apart h.there) h.other in
-        framed b (is.homes b h.there) (number_of b) n.name d.spot k h.among other h.aligned 0 2 refl
+        IsAt 0 2 (simples_of h.in_block) (frame_of h.in_block) n.name d.spot k
+    at_both k h = by h.place
+      where
+        b : Block
+        b = h.in_block
+
+        by : IsVariableOf blocks b n.name d k ⊎ IsParameterOf blocks b n.name d k → IsAt 0 2 (simples_of b) (frame_of b) n.name d.spot k
+        by (inl v) =
+            let other : is_one_of (result_names_of b) n.name ≡ false =
+            subst (λ (z : Block). is_one_of (result_names_of z) n.name ≡ false) (ap (block_numbered blocks) h.block_is ∙ numbered blocks b is.blocks_apart h.there) v.other in
+            framed blocks b (is.homes b h.there) n.name d.spot k v.among other v.past v.aligned 0 2 refl
+        by (inr v) = framed_parameter blocks b (is.homes b h.there) n.name d.spot k v.aligned 0 2 refl
 
     -- ---- procedures
 
@@ -129,13 +160,13 @@ module _ (blocks : List Block) (all : List Site) (is : IsProgram blocks all) whe
     control_couple g h =
         record {
           level = level_of h.in_block;
-          index = 2 + length (result_of h.in_block.result h.in_block.name ++ variables h.in_block.decls) + (controlled h.in_block (is.homes h.in_block h.there) (number_of h.in_block) g h.among).0.number;
+          index = 2 + length (simples_of h.in_block) + (controlled blocks h.in_block (is.homes h.in_block h.there) g h.among).0.number;
         }
 
     procedure_at : (g : Heading) → use_of scopes n ≡ the_use a n d → (h : IsOwned blocks a.depth n.name d g) → IsProcedure scopes level n (callee_of g) (control_couple g h)
     procedure_at g u h =
         let b = h.in_block in
-        let r = (controlled b (is.homes b h.there) (number_of b) g h.among).0 in
+        let r = (controlled blocks b (is.homes b h.there) g h.among).0 in
         let up : length b.outer + 2 + (a.depth - d.depth) ≡ level = omega (arith, at, h.within, h.depth_is) in
         let block_is : block_numbered blocks ((use_of scopes n).block) ≡ b =
         ap (λ (z : Use). block_numbered blocks z.block) u ∙ ap (block_numbered blocks) h.block_is ∙ numbered blocks b is.blocks_apart h.there in
@@ -146,48 +177,45 @@ module _ (blocks : List Block) (all : List Site) (is : IsProgram blocks all) whe
           there = ap (λ (z : Block). slice_get (procedures z.decls) r.number) block_is ∙ r.there;
           callee_is = ap (number_at blocks) r.spot_is;
           level_is = ap (λ (z : Use). length b.outer + 2 + z.up) u ∙ up;
-          index_is = ap (λ (z : List Simple). 2 + length z + r.number) (sym (ap simple_cells block_is ∙ simple_is b (is.homes b h.there).plain));
+          index_is = ap (λ (z : List Simple). 2 + length z + r.number) (sym (ap (simple_cells scopes) block_is ∙ simple_is blocks b (is.homes b h.there) scopes.uses));
         }
 
     -- ---- results
 
     result_at : (k : Kind) (g : Heading) → use_of scopes n ≡ result_use a n d (callee_of g) → (h : IsOwned blocks a.depth n.name d g) → g.kind ≡ Some k → d.depth < a.depth →
-        IsVariable scopes level n k (record { level = level_of (procedure_block g h.body (h.in_block.spot ∷ h.in_block.outer)); index = 2 })
+        IsVariable scopes level n k (record { level = level_of (procedure_block g h.body (h.in_block.spot ∷ h.in_block.outer)); index = 2 + length (given_cells blocks (procedure_block g h.body (h.in_block.spot ∷ h.in_block.outer))) })
     result_at k g u h e deep =
         let b = h.in_block in
         let c = procedure_block g h.body (b.spot ∷ b.outer) in
         let up : length (b.spot ∷ b.outer) + 2 + (a.depth - d.depth - 1) ≡ level = omega (arith, at, h.depth_is, deep) in
         record {
           variable = ap (λ (z : Use). is_variable z.sort) u;
-          found = record { number = 0; cell = record { name = g.name.name; kind = Some k } };
+          found = record { number = length (given_cells blocks c); cell = record { name = g.name.name; kind = Some k } };
           there =
-              ap (λ (z : Use). found_from 0 (simple_cells (block_numbered blocks z.block)) n.name) u
-              ∙ ap (λ (z : Block). found_from 0 (simple_cells z) n.name) (numbered blocks c is.blocks_apart h.body_there)
-              ∙ ap (λ (z : List Simple). found_from 0 z n.name) (simple_is c (is.homes c h.body_there).plain)
-              ∙ ap (λ (o : Option Kind). found_from 0 (result_of o g.name.name ++ variables c.decls) n.name) e
-              ∙ ap (λ (t : Bool). if t then Some (record { number = 0; cell = record { name = g.name.name; kind = Some k } }) else found_from (0 + 1) (variables c.decls) n.name) h.named;
+              ap (λ (z : Use). found_from 0 (simple_cells scopes (block_numbered blocks z.block)) n.name) u
+              ∙ ap (λ (z : Block). found_from 0 (simple_cells scopes z) n.name) (numbered blocks c is.blocks_apart h.body_there)
+              ∙ ap (λ (z : List Simple). found_from 0 z n.name) (simple_is blocks c (is.homes c h.body_there) scopes.uses)
+              ∙ result_found blocks c (is.homes c h.body_there) k n.name e h.named
+              (subst (λ (xs : List Simple). AllByRecursion (λ (x : Simple). same_name x.name n.name ≡ false) xs) (sym h.cells_are) (each_map (λ (x : Simple). same_name x.name n.name ≡ false) (cell_of g) g.params (result_other g k n.name e h.named h.once)));
           kind_is = refl;
           level_is = ap (λ (z : Use). length (b.spot ∷ b.outer) + 2 + z.up) u ∙ up;
           index_is = refl;
         }
 
     result_couple : (k : Kind) (g : Heading) → (h : IsOwned blocks a.depth n.name d g) → g.kind ≡ Some k →
-        couple_in blocks all (number_at blocks d.spot) d.spot ≡ Some (record { level = level_of (procedure_block g h.body (h.in_block.spot ∷ h.in_block.outer)); index = 2 })
+        couple_in blocks all (number_at blocks d.spot) d.spot ≡ Some (record { level = level_of (procedure_block g h.body (h.in_block.spot ∷ h.in_block.outer)); index = 2 + length (given_cells blocks (procedure_block g h.body (h.in_block.spot ∷ h.in_block.outer))) })
     result_couple k g h e =
         let b = h.in_block in
         let c = procedure_block g h.body (b.spot ∷ b.outer) in
-        let others = variable_cells (number_of c) c.decls ++ control_cells (number_of c) c.decls in
         ap (λ (s : Spot). couple_in blocks all (number_at blocks s) s) h.spot_is
-        ∙ coupled c h.body_there g.name.spot (Some 2)
-        (ap (λ (o : Option Kind). index_from 2 (result_cell o (number_of c) g.name.spot ++ others) g.name.spot) e
-        ∙ ap (λ (t : Bool). if t then Some 2 else index_from (2 + 1) others g.name.spot) (same_self g.name.spot))
+        ∙ coupled c h.body_there g.name.spot (Some (2 + length (given_cells blocks c))) (result_index blocks c (is.homes c h.body_there) k e)
 
     -- an untyped procedure has none
     no_couple : (g : Heading) → (h : IsOwned blocks a.depth n.name d g) → g.kind ≡ None → couple_in blocks all (number_at blocks d.spot) d.spot ≡ None
     no_couple g h e =
         let c = procedure_block g h.body (h.in_block.spot ∷ h.in_block.outer) in
         ap (λ (s : Spot). couple_in blocks all (number_at blocks s) s) h.spot_is
-        ∙ coupled c h.body_there g.name.spot None (without c (is.homes c h.body_there) (number_of c) e)
+        ∙ coupled c h.body_there g.name.spot None (without blocks c (is.homes c h.body_there) e)
 
   -- ---- inside a procedure
 
@@ -221,58 +249,62 @@ module _ (blocks : List Block) (all : List Site) (is : IsProgram blocks all) whe
 
   -- ---- names fit
 
-  module _ (known results : Spot → Option Couple)
+  module _ (known results : Spot → Option Couple) (lows : Spot → Option (List ℤ))
       (couples : (spot : Spot) (d : Located) (c : cells.Couple) → declaration_in blocks all spot ≡ Some d → d.couple ≡ Some c → known spot ≡ Some (record { level = c.level; index = c.index }))
       (results_are : (spot : Spot) (d : Located) → declaration_in blocks all spot ≡ Some d → results spot ≡ spelled (couple_in blocks all (number_at blocks d.spot) d.spot)) (a : Surroundings)
       (level : ℕ) (at : a.depth + 2 ≡ level) (n : Named) (d : Declared) (is_known : known_there (flat_map (known_at blocks) all) n.spot ≡ Some d) where
     result_is : (o : Option cells.Couple) → couple_in blocks all (number_at blocks d.spot) d.spot ≡ o → results n.spot ≡ spelled o
     result_is o e = results_are n.spot _ (ap (located blocks all) is_known) ∙ ap spelled e
 
-    own_couple : (b : Block) → IsIn b blocks → d.block ≡ number_of b → (i : ℕ) →
+    pub own_couple : (b : Block) → IsIn b blocks → d.block ≡ number_of b → (i : ℕ) →
         index_from 2 (frame_of b) d.spot ≡ Some i →
         couple_in blocks all d.block d.spot ≡ Some (record { level = level_of b; index = i })
     own_couple b t e i f = ap (λ (z : ℕ). couple_in blocks all z d.spot) e ∙ coupled b t d.spot (Some i) f
 
-    pub variable_fits : (k : Kind) → use_of scopes n ≡ the_use a n d → IsHeld blocks a.depth n.name d k → ReadFits scopes known results level k n × LeftFits scopes known results level k n
+    pub variable_fits : (k : Kind) → use_of scopes n ≡ the_use a n d → IsHeld blocks a.depth n.name d k → ReadFits scopes known results lows level k n × LeftFits scopes known results lows level k n
     variable_fits k u h =
         let b = h.in_block in
         let r = at_both a level at n d k h in
         let c : cells.Couple = record { level = level_of b; index = 2 + r.number } in
         let own : couple_in blocks all d.block d.spot ≡ Some c = own_couple b h.there h.block_is (2 + r.number) r.index in
-        let far = variable_far b h.there d.spot (variable_cell (number_of b) b.decls d.spot h.among) in
+        let far = place_far b h.there n.name d k h.place in
         let none : results n.spot ≡ None = result_is None (no_result b h.there d.spot far) in
         let mine : known n.spot ≡ Some (record { level = c.level; index = c.index }) = couples n.spot _ c (ap (located blocks all) is_known) own in
         let v = variable_at a level at n d k u h r in
         (((record { level = c.level; index = c.index }, mine, v), none), (record { level = c.level; index = c.index }, ap (λ (o : Option Couple). couple_on_left o (known n.spot)) none ∙ mine, v))
 
     pub procedure_fits : (g : Heading) → use_of scopes n ≡ the_use a n d → IsOwned blocks a.depth n.name d g →
-        (callee : ℕ) × ProcedureFits scopes known results level n callee × ((block_numbered blocks callee).result ≡ g.kind)
+        CalleeFits scopes known results lows level n g
     procedure_fits g u h =
         let b = h.in_block in
-        let r = controlled b (is.homes b h.there) (number_of b) g h.among in
-        let c : cells.Couple = record { level = level_of b; index = 2 + length (result_of b.result b.name ++ variables b.decls) + r.0.number } in
+        let r = controlled blocks b (is.homes b h.there) g h.among in
+        let c : cells.Couple = record { level = level_of b; index = 2 + length (simples_of b) + r.0.number } in
         let own : couple_in blocks all d.block d.spot ≡ Some c =
         own_couple b h.there h.block_is c.index (ap (λ (s : Spot). index_from 2 (frame_of b) s) h.spot_is ∙ r.1) in
-        let kind_is : (block_numbered blocks (number_at blocks g.name.spot)).result ≡ g.kind =
-        ap (λ (z : Block). z.result) (numbered blocks (procedure_block g h.body (b.spot ∷ b.outer)) is.blocks_apart h.body_there) in (
-          number_at blocks g.name.spot,
-          record {
+        let block_is : block_numbered blocks (number_at blocks g.name.spot) ≡ procedure_block g h.body (b.spot ∷ b.outer) =
+        numbered blocks (procedure_block g h.body (b.spot ∷ b.outer)) is.blocks_apart h.body_there in
+        let kind_is : (block_numbered blocks (number_at blocks g.name.spot)).result ≡ g.kind = ap (λ (z : Block). z.result) block_is in
+        record {
+          callee = number_at blocks g.name.spot;
+          fits = record {
             couple = control_couple a level at n d g h;
             known_is = couples n.spot _ c (ap (located blocks all) is_known) own;
             procedure = procedure_at a level at n d g u h;
             typed = is_typed g.kind refl ∙ sym (ap (λ (o : Option Kind). is_some o) kind_is);
-          },
-          kind_is,
-        )
+          };
+          result_is = kind_is;
+          parameters_are = ap (λ (z : Block). z.parameters) block_is;
+          cells_are = ap (λ (z : Block). parameter_cells scopes z) block_is ∙ h.cells_are;
+        }
       where
         is_typed : (o : Option Kind) → g.kind ≡ o → is_some (results n.spot) ≡ is_some o
         is_typed None e = ap (λ (o : Option Couple). is_some o) (result_is None (no_couple a level at n d g h e))
         is_typed (Some k) e = ap (λ (o : Option Couple). is_some o) (result_is _ (result_couple a level at n d k g h e))
 
     pub result_fits : (k : Kind) (g : Heading) → use_of scopes n ≡ result_use a n d (number_at blocks g.name.spot) → IsOwned blocks a.depth n.name d g → g.kind ≡ Some k → d.depth < a.depth →
-        LeftFits scopes known results level k n
+        LeftFits scopes known results lows level k n
     result_fits k g u h e deep =
         let b = h.in_block in
-        let c : cells.Couple = record { level = level_of (procedure_block g h.body (b.spot ∷ b.outer)); index = 2 } in
+        let c : cells.Couple = record { level = level_of (procedure_block g h.body (b.spot ∷ b.outer)); index = 2 + length (given_cells blocks (procedure_block g h.body (b.spot ∷ b.outer))) } in
         let found : results n.spot ≡ Some (record { level = c.level; index = c.index }) = result_is (Some c) (result_couple a level at n d k g h e) in
         (record { level = c.level; index = c.index }, ap (λ (o : Option Couple). couple_on_left o (known n.spot)) found, result_at a level at n d k g u h e deep)

@@ -1,5 +1,5 @@
 -- The parts of typed statements and declarations are listed.
-use Rattle.std.proofs.Common.{◌≡◌, inl, inr, ℕ, Bool, List, [], ◌∷◌, ◌++◌, map, is_some, if◌then◌else◌, None, Some, Option, refl, sym, ap, ◌∙◌, subst, append-nil}
+use Rattle.std.proofs.Common.{◌≡◌, inl, inr, ℕ, ◌-◌, Bool, true, List, [], ◌∷◌, ◌++◌, map, is_some, if◌then◌else◌, None, Some, Option, refl, sym, ap, ◌∙◌, subst, append-nil}
 use Rattle.std.proofs.lemmas.List.{map-append}
 use Rattle.std.specs.List.{flat_map, AllByRecursion}
 use Rattle.algol_tree.specs.declared.token.Spot.{Spot}
@@ -7,28 +7,37 @@ use Rattle.algol_tree.specs.declared.tree.Heading.{Heading}
 use Rattle.algol_tree.specs.declared.tree.Kind.{Kind}
 use Rattle.algol_tree.specs.declared.tree.Kind.TheVariants as types
 use Rattle.algol_tree.specs.declared.tree.Named.{Named}
-use Rattle.algol_tree.specs.Ascending.{spots_of_names, spots_of_expr, spots_of_exprs, spots_of_heading, spots_of_decl, spots_of_decls}
-use Rattle.algol_tree.specs.Blocks.{Block, procedure_block, number_at, blocks_in_decl, blocks_in_decls}
+use Rattle.algol_tree.specs.Ascending.{spots_of_names, spots_of_expr, spots_of_exprs, spots_of_heading, spots_of_pairs, spots_of_decl, spots_of_decls}
+use Rattle.algol_tree.specs.Blocks.{Block, procedure_block, block_numbered, number_at, blocks_in_decl, blocks_in_decls}
 use Rattle.algol_tree.specs.Cells as cells
-use Rattle.algol_tree.specs.Cells.{Cell, cells_for}
+use Rattle.algol_tree.specs.Cells.{Cell, Content, cells_for, holding}
+use Rattle.algol_tree.specs.Classes as class
+use Rattle.algol_tree.specs.Classes.{Class, Formal}
+use Rattle.algol_tree.specs.Counted.{exprs_count}
 use Rattle.algol_tree.specs.Couples.{Known, known_by, known_names}
 use Rattle.algol_tree.specs.Names.{specified}
 use Rattle.algol_tree.specs.Plain as tree
-use Rattle.algol_tree.specs.Plain.{PExpr, PExprs, PStmt, PStmts, PDecl, PDecls}
-use Rattle.algol_tree.specs.Scopes.{used, names_in_stmt, stmt_uses}
+use Rattle.algol_tree.specs.Plain.{PExpr, PExprs, PPair, PStmt, PStmts, PDecl, PDecls}
+use Rattle.algol_tree.specs.Scopes.{Use, use_by, left_use, left_uses, used, names_in_stmt, stmt_uses}
 use Rattle.algol_tree.specs.Sites as parts
-use Rattle.algol_tree.specs.Sites.{Site, here, sites, has_decls, here_stmt, inside_list, inside_stmt, inside_decl, sites_in_stmts, sites_in_decls}
-use Rattle.algol_tree.specs.Sorts.{Declared}
-use Rattle.algol_tree.specs.Surroundings.{Surroundings, declared_as, knowing, knowing_all, inside_procedure}
+use Rattle.algol_tree.specs.Sites.{Part, Site, here, sites, is_of_value, inside_expr, inside_actuals, has_decls, here_stmt, inside_list, inside_stmt, inside_decl, sites_in_pairs, sites_in_stmts, sites_in_decls}
+use Rattle.algol_tree.specs.Sorts as sort
+use Rattle.algol_tree.specs.Sorts.{Sort, Declared, formals_of}
+use Rattle.algol_tree.specs.Surroundings.{Surroundings, class_of, class_of_declared, formals_of_class, formals_at, declared_as, knowing, knowing_all, inside_procedure}
 use Rattle.algol_tree.specs.Types.{taken_by}
 use Rattle.b67_fitting.proofs.Among.{Among, nothing, skip, keep, none_among, join}
-use Rattle.b67_fitting.proofs.Apart.{IsIn, in_back, Apart, apart_back}
-use Rattle.b67_fitting.proofs.Frames.{IsOwn, control_cell, result_cell}
+use Rattle.b67_fitting.proofs.Apart.{IsIn, in_each, in_map, in_front, in_back, Apart, apart_back}
+use Rattle.b67_fitting.proofs.TypedBounds.{TypedPairs}
+use Rattle.b67_fitting.proofs.Frames.{each_own_for, control_cell, named_of, result_cell}
+use Rattle.b67_fitting.proofs.Given.{AreLastNamed, last_named, found_named, named_is}
+use Rattle.b67_fitting.proofs.Lists.{nil_back}
+use Rattle.b67_fitting.proofs.Parameters.{AreLast, last_step, found_last, around_is}
 use Rattle.b67_fitting.proofs.Known.{Stands}
 use Rattle.b67_fitting.proofs.Listed.{AllThere, reads_in, lefts_in, IsFair, IsDeclaring, IsProcedure, Listed, over, passed, site, both}
-use Rattle.b67_fitting.proofs.Started.{HasCallees, IsStarted, step}
+use Rattle.b67_fitting.proofs.Meant.{rowed_of}
+use Rattle.b67_fitting.proofs.Started.{IsCalleeOf, HasCallees, IsStarted, step}
 use Rattle.b67_fitting.proofs.Stated.{TypedDecls}
-use Rattle.b67_fitting.proofs.Typed.{TypedExpr, TypedLine}
+use Rattle.b67_fitting.proofs.Typed.{HasElements, TypedExpr, TypedActuals, TypedLine, actual_part_is}
 
 -- the block of a BEGIN with these declarations and statements
 abbrev pub begun : Spot → List Spot → PDecls → PStmts → Block
@@ -40,30 +49,73 @@ module _ (blocks : List Block) (k : ℕ) (b : Block) (a : Surroundings) (stands 
   fair_expr : (e : PExpr) → IsFair blocks (here e a)
   fair_expr e = record { uses = refl; knows = refl; cells = refl; reads = refl; lefts = refl; in_block = b; stands = stands }
 
-  pub listed_expr : (m : Kind) (e : PExpr) → TypedExpr a m e → Listed blocks k (spots_of_expr e) [] [] (sites e a)
-  listed_expr m (tree.number z spot) t = site k (here (tree.number z spot) a) (fair_expr (tree.number z spot)) (passed k spot (over k))
-  listed_expr m (tree.truth b spot) t = site k (here (tree.truth b spot) a) (fair_expr (tree.truth b spot)) (passed k spot (over k))
-  listed_expr m (tree.variable (tree.subscripted n tree.none)) t =
-      site k (here (tree.variable (tree.subscripted n tree.none)) a) (fair_expr (tree.variable (tree.subscripted n tree.none))) (over k)
-  listed_expr m (tree.variable (tree.subscripted n (tree.more e es))) t = absurd t
-  listed_expr m (tree.call c) t = absurd t
-  listed_expr m (tree.happened e spot) t = absurd t
-  listed_expr m (tree.paren e spot) t = site k (here (tree.paren e spot) a) (fair_expr (tree.paren e spot)) (passed k spot (listed_expr m e t))
-  listed_expr m (tree.plus e spot) t = site k (here (tree.plus e spot) a) (fair_expr (tree.plus e spot)) (passed k spot (listed_expr types.Number e t.1))
-  listed_expr m (tree.neg e spot) t = site k (here (tree.neg e spot) a) (fair_expr (tree.neg e spot)) (passed k spot (listed_expr types.Number e t.1))
-  listed_expr m (tree.not e spot) t = site k (here (tree.not e spot) a) (fair_expr (tree.not e spot)) (passed k spot (listed_expr types.Truth e t.1))
-  listed_expr m (tree.two op x y) t =
-      site k (here (tree.two op x y) a) (fair_expr (tree.two op x y)) (both k (listed_expr (taken_by op) x t.1) (listed_expr (taken_by op) y t.2))
-  listed_expr m (tree.if c x y spot) t =
-      site k (here (tree.if c x y spot) a) (fair_expr (tree.if c x y spot)) (passed k spot (both k (both k (listed_expr types.Truth c t.0) (listed_expr m x t.1)) (listed_expr m y t.2)))
+  pub listed_call : (n : Named) (es : PExprs) (h : Heading) → class_of a n ≡ class.procedure h → Listed blocks k (spots_of_exprs es) [] [] (inside_actuals es (formals_of h) a) →
+      Listed blocks k (spots_of_exprs es) [] [] (inside_actuals es (formals_at a n) a)
+  listed_call n es h e l = subst (λ (c : Class). Listed blocks k (spots_of_exprs es) [] [] (inside_actuals es (formals_of_class c) a)) (sym e) l
 
-  pub listed_line : (es : PExprs) → TypedLine a es → Listed blocks k (spots_of_exprs es) [] [] (inside_list es a)
-  listed_line tree.none t = over k
-  listed_line (tree.more e es) t = both k (listed_expr types.Number e t.0) (listed_line es t.1)
+  -- an actual by value has no cell of its own
+  fair_actual : (e : PExpr) (f : Formal) (m : Kind) → f.class ≡ class.simple m → f.by_value ≡ true → IsFair blocks (record { part = parts.actual e (Some f); around = a })
+  fair_actual e f m c v = record { uses = refl; knows = refl; cells = rw (c, v) refl; reads = refl; lefts = refl; in_block = b; stands = stands }
+
+  mutual
+    pub listed_expr : (m : Kind) (e : PExpr) → TypedExpr a m e → Listed blocks k (spots_of_expr e) [] [] (sites e a)
+    listed_expr m (tree.number z spot) t = site k (here (tree.number z spot) a) (fair_expr (tree.number z spot)) (passed k spot (over k))
+    listed_expr m (tree.truth b spot) t = site k (here (tree.truth b spot) a) (fair_expr (tree.truth b spot)) (passed k spot (over k))
+    listed_expr m (tree.variable (tree.subscripted n tree.none)) t =
+        site k (here (tree.variable (tree.subscripted n tree.none)) a) (fair_expr (tree.variable (tree.subscripted n tree.none))) (over k)
+    listed_expr m (tree.variable (tree.subscripted n (tree.more e es))) t =
+        site k (here (tree.variable (tree.subscripted n (tree.more e es))) a) (fair_expr (tree.variable (tree.subscripted n (tree.more e es)))) (listed_line (tree.more e es) t.1)
+    listed_expr m (tree.call (tree.called n es)) t =
+        site k (here (tree.call (tree.called n es)) a) (fair_expr (tree.call (tree.called n es))) (listed_call n es t.0 t.1 (listed_actuals (formals_of t.0) es t.4))
+    listed_expr m (tree.happened e spot) t = absurd t
+    listed_expr m (tree.paren e spot) t = site k (here (tree.paren e spot) a) (fair_expr (tree.paren e spot)) (passed k spot (listed_expr m e t))
+    listed_expr m (tree.plus e spot) t = site k (here (tree.plus e spot) a) (fair_expr (tree.plus e spot)) (passed k spot (listed_expr types.Number e t.1))
+    listed_expr m (tree.neg e spot) t = site k (here (tree.neg e spot) a) (fair_expr (tree.neg e spot)) (passed k spot (listed_expr types.Number e t.1))
+    listed_expr m (tree.not e spot) t = site k (here (tree.not e spot) a) (fair_expr (tree.not e spot)) (passed k spot (listed_expr types.Truth e t.1))
+    listed_expr m (tree.two op x y) t =
+        site k (here (tree.two op x y) a) (fair_expr (tree.two op x y)) (both k (listed_expr (taken_by op) x t.1) (listed_expr (taken_by op) y t.2))
+    listed_expr m (tree.if c x y spot) t =
+        site k (here (tree.if c x y spot) a) (fair_expr (tree.if c x y spot)) (passed k spot (both k (both k (listed_expr types.Truth c t.0) (listed_expr m x t.1)) (listed_expr m y t.2)))
+
+    pub listed_actuals : (fs : List Formal) (es : PExprs) → TypedActuals a fs es → Listed blocks k (spots_of_exprs es) [] [] (inside_actuals es fs a)
+    listed_actuals [] tree.none t = over k
+    listed_actuals (f ∷ fs) (tree.more e es) t =
+        let m = t.0 in
+        let rest = inside_actuals es fs a in
+        let those : Listed blocks k (spots_of_expr e ++ spots_of_exprs es) [] [] (here e a ∷ (inside_expr e a ++ rest)) = both k (listed_expr m e t.3) (listed_actuals fs es t.4) in
+        site k (record { part = parts.actual e (Some f); around = a }) (fair_actual e f m t.1 t.2)
+        (subst (λ (p : Part). Listed blocks k (spots_of_expr e ++ spots_of_exprs es) [] [] (record { part = p; around = a } ∷ (inside_expr e a ++ rest)))
+        (sym (actual_part_is e (Some f) (ap is_of_value t.1))) those)
+    listed_actuals [] (tree.more e es) t = absurd t
+    listed_actuals (f ∷ fs) tree.none t = absurd t
+
+    pub listed_line : (es : PExprs) → TypedLine a es → Listed blocks k (spots_of_exprs es) [] [] (inside_list es a)
+    listed_line tree.none t = over k
+    listed_line (tree.more e es) t = both k (listed_expr types.Number e t.0) (listed_line es t.1)
+
+  pub listed_pairs : (ps : List PPair) → TypedPairs a ps → Listed blocks k (spots_of_pairs ps) [] [] (sites_in_pairs ps a)
+  listed_pairs [] t = over k
+  listed_pairs (p ∷ ps) t =
+      site k (record { part = parts.bound p.high; around = a }) (record { uses = refl; knows = refl; cells = refl; reads = refl; lefts = refl; in_block = b; stands = stands })
+      (both k (listed_expr types.Number p.high t.1) (listed_pairs ps t.2))
 
   pub fair_stmt : (s : PStmt) (listed : Bool) → stmt_uses s a ≡ flat_map (used a) (names_in_stmt s) → reads_in (parts.statement s listed) ≡ names_in_stmt s → lefts_in (parts.statement s listed) ≡ [] →
       IsFair blocks (here_stmt s listed a)
   fair_stmt s listed u r l = record { uses = u; knows = refl; cells = refl; reads = r; lefts = l; in_block = b; stands = stands }
+
+  -- the name of an array is used on the left as elsewhere
+  left_same : (n : Named) (o : Option Declared) → ((d : Declared) → o ≡ Some d → d.sort ≡ sort.array) → left_uses (use_by a n o) ≡ use_by a n o ++ []
+  left_same n None f = refl
+  left_same n (Some d) f =
+      let u : Use = record { spot = n.spot; block = d.block; up = a.depth - d.depth; sort = d.sort } in
+      ap (λ (s : Sort). left_use u s ∷ []) (f d refl)
+
+  pub fair_element : (n : Named) (e : PExpr) (es : PExprs) (v : PExpr) (m : Kind) (listed : Bool) → HasElements a m n (tree.more e es) →
+      IsFair blocks (here_stmt (tree.assign (tree.subscripted n (tree.more e es)) v) listed a)
+  fair_element n e es v m listed h =
+      fair_stmt (tree.assign (tree.subscripted n (tree.more e es)) v) listed
+      (left_same n (declared_as a n)
+      (λ d is. (rowed_of blocks a.depth n.name d m (exprs_count (tree.more e es)) (sym (ap class_of_declared is) ∙ h) (stands.around.each n.name d is)).sort_is)) refl refl
 
 -- ---- declarations
 
@@ -83,16 +135,24 @@ names_among a (n ∷ ns) =
 both_among : (xs ys : List Known) {p q : List Spot} → Among (places xs) p → Among (places ys) q → Among (places (xs ++ ys)) (p ++ q)
 both_among xs ys {p} {q} g h = subst (λ (z : List Spot). Among z (p ++ q)) (sym (map-append (λ (k : Known). k.spot) xs ys)) (join g h)
 
-cells_among : (block : ℕ) (ns : List Named) → AllByRecursion (λ (c : Cell). IsIn c.spot (spots_of_names ns)) (cells_for block cells.variable ns)
-cells_among block ns = each ns (λ s i. i)
+cells_among : (block : ℕ) (x : Content) (ns : List Named) → AllByRecursion (λ (c : Cell). IsIn c.spot (spots_of_names ns)) (cells_for block x ns)
+cells_among block x ns = each ns (λ s i. i)
   where
-    each : (ms : List Named) → ((s : Spot) → IsIn s (spots_of_names ms) → IsIn s (spots_of_names ns)) → AllByRecursion (λ (c : Cell). IsIn c.spot (spots_of_names ns)) (cells_for block cells.variable ms)
+    each : (ms : List Named) → ((s : Spot) → IsIn s (spots_of_names ms) → IsIn s (spots_of_names ns)) → AllByRecursion (λ (c : Cell). IsIn c.spot (spots_of_names ns)) (cells_for block x ms)
     each [] f = tt
     each (m ∷ ms) f = (f m.spot (inl refl), each ms (λ s i. f s (inr i)))
 
-cells_own : (block : ℕ) (ns : List Named) → AllByRecursion (IsOwn block) (cells_for block cells.variable ns)
-cells_own block [] = tt
-cells_own block (n ∷ ns) = (refl, cells_own block ns)
+-- the places of the cells that are made
+abbrev made_places : List Cell → List Spot
+made_places cs = map (λ (c : Cell). c.spot) (holding cells.made cs)
+
+none_made : (block : ℕ) (ns : List Named) → Among (made_places (cells_for block cells.variable ns)) (spots_of_names ns)
+none_made block [] = nothing
+none_made block (n ∷ ns) = skip n.spot (none_made block ns)
+
+all_made : (block : ℕ) (ns : List Named) → Among (made_places (cells_for block cells.made ns)) (spots_of_names ns)
+all_made block [] = nothing
+all_made block (n ∷ ns) = keep n.spot (all_made block ns)
 
 result_is : (o : Option Kind) (n : Named) (block : ℕ) → (if is_some o then cells_for block cells.result (n ∷ []) else []) ≡ result_cell o block n.spot
 result_is None n block = refl
@@ -106,15 +166,30 @@ module _ (blocks : List Block) where
         uses = refl;
         knows = names_among (knowing blocks (tree.simple kind ns) ds a) ns;
         cells = refl;
-        owns = cells_own a.block ns;
-        among = cells_among a.block ns;
+        owns = each_own_for a.block cells.variable ns;
+        among = cells_among a.block cells.variable ns;
+        made = none_made a.block ns;
+        reads = refl;
+        lefts = refl;
+      }
+
+  pub declares_arrays : (a : Surroundings) (kind : Kind) (ns : List Named) (pairs : List PPair) (ds : PDecls) →
+      IsDeclaring blocks a.block (record { part = parts.declaration (tree.arrays kind ns pairs) ds; around = a }) (spots_of_names ns) (cells_for a.block cells.made ns)
+  declares_arrays a kind ns pairs ds =
+      record {
+        uses = refl;
+        knows = names_among (knowing blocks (tree.arrays kind ns pairs) ds a) ns;
+        cells = refl;
+        owns = each_own_for a.block cells.made ns;
+        among = cells_among a.block cells.made ns;
+        made = all_made a.block ns;
         reads = refl;
         lefts = refl;
       }
 
   pub declares_files : (a : Surroundings) (ns : List Named) (ds : PDecls) → IsDeclaring blocks a.block (record { part = parts.declaration (tree.files ns) ds; around = a }) (spots_of_names ns) []
   declares_files a ns ds =
-      record { uses = refl; knows = names_among (knowing blocks (tree.files ns) ds a) ns; cells = refl; owns = tt; among = tt; reads = refl; lefts = refl }
+      record { uses = refl; knows = names_among (knowing blocks (tree.files ns) ds a) ns; cells = refl; owns = tt; among = tt; made = none_among (spots_of_names ns); reads = refl; lefts = refl }
 
   pub declares_forward : (a : Surroundings) (h : Heading) (ds : PDecls) → IsDeclaring blocks a.block (record { part = parts.declaration (tree.forward h) ds; around = a }) (spots_of_heading h) []
   declares_forward a h ds =
@@ -126,11 +201,12 @@ module _ (blocks : List Block) where
         cells = refl;
         owns = tt;
         among = tt;
+        made = none_among (spots_of_heading h);
         reads = refl;
         lefts = refl;
       }
 
-  pub declares_procedure : (a : Surroundings) (h : Heading) (s : PStmt) (ds : PDecls) (outer : List Spot) → h.params ≡ [] →
+  pub declares_procedure : (a : Surroundings) (h : Heading) (s : PStmt) (ds : PDecls) (outer : List Spot) → named_of blocks (procedure_block h s outer) ≡ h.params →
       IsProcedure blocks a.block (record { part = parts.declaration (tree.procedure h s) ds; around = a }) (procedure_block h s outer)
       (spots_of_names h.params ++ spots_of_names h.values ++ spots_of_names (specified h))
   declares_procedure a h s ds outer e =
@@ -143,27 +219,48 @@ module _ (blocks : List Block) where
             (both_among (known_names within h.params ++ known_names within h.values) (known_names within (specified h))
             (both_among (known_names within h.params) (known_names within h.values) (names_among within h.params) (names_among within h.values)) (names_among within (specified h)));
         cells =
-            ap (λ (ns : List Named). (control_cell a.block h.name.spot ∷ []) ++ cells.result_cells blocks h ++ cells_for (number_at blocks h.name.spot) cells.parameter ns) e
-            ∙ append-nil ((control_cell a.block h.name.spot ∷ []) ++ cells.result_cells blocks h)
-            ∙ ap (λ z. (control_cell a.block h.name.spot ∷ []) ++ z) (result_is h.kind h.name (number_at blocks h.name.spot));
+            ap (λ z. control_cell a.block h.name.spot ∷ (z ++ cells_for (number_at blocks h.name.spot) cells.parameter h.params)) (result_is h.kind h.name (number_at blocks h.name.spot))
+            ∙ ap (λ (ns : List Named). control_cell a.block h.name.spot ∷ (result_cell h.kind (number_at blocks h.name.spot) h.name.spot ++ cells_for (number_at blocks h.name.spot) cells.parameter ns)) (sym e);
+        among =
+            subst (λ (ns : List Named). AllByRecursion (λ (n : Named). IsIn n.spot (spots_of_names h.params ++ spots_of_names h.values ++ spots_of_names (specified h))) ns) (sym e)
+            (in_each (λ (n : Named). IsIn n.spot (spots_of_names h.params ++ spots_of_names h.values ++ spots_of_names (specified h))) h.params
+            (λ n i. in_front n.spot (spots_of_names h.params ++ spots_of_names h.values) (spots_of_names (specified h))
+            (in_front n.spot (spots_of_names h.params) (spots_of_names h.values) (in_map (λ (m : Named). m.spot) n h.params i))));
         reads = refl;
         lefts = refl;
       }
 
   -- the blocks of the procedures
-  pub callees : (ds : PDecls) (a : Surroundings) (b : Block) → TypedDecls blocks a ds → AllThere blocks (blocks_in_decls ds (b.spot ∷ b.outer)) → HasCallees blocks b ds
-  callees tree.no_decls a b t f h i = absurd i
-  callees (tree.decls (tree.procedure g s) ds) a b t f h (inl e) =
-      subst (λ (z : Heading). (z.params ≡ []) × ((s : PStmt) × IsIn (procedure_block z s (b.spot ∷ b.outer)) blocks)) (sym e) (t.1.0, (s, f (procedure_block g s (b.spot ∷ b.outer)) (inl refl)))
-  callees (tree.decls (tree.procedure g s) ds) a b t f h (inr i) =
-      callees ds (knowing blocks (tree.procedure g s) ds a) b t.2
-      (λ c j. f c (in_back c (blocks_in_decl (tree.procedure g s) (b.spot ∷ b.outer)) (blocks_in_decls ds (b.spot ∷ b.outer)) j)) h i
-  callees (tree.decls (tree.simple kind ns) ds) a b t f h i = callees ds (knowing blocks (tree.simple kind ns) ds a) b t.2 f h i
-  callees (tree.decls (tree.files ns) ds) a b t f h i = callees ds (knowing blocks (tree.files ns) ds a) b t.2 f h i
-  callees (tree.decls (tree.forward g) ds) a b t f h i = callees ds (knowing blocks (tree.forward g) ds a) b t.2 f h i
-  callees (tree.decls d ds) a b t f h i = absurd t.1
+  pub callees : (ds : PDecls) (a : Surroundings) (first : List Declared) (b : Block) → TypedDecls blocks a first ds → AllThere blocks (blocks_in_decls ds (b.spot ∷ b.outer)) → block_numbered blocks (number_at blocks b.spot) ≡ b →
+      Apart (spots_of_decls ds) → AreLast b.decls ds → AreLastNamed b.decls ds → HasCallees blocks b ds
+  callees tree.no_decls a first b t f e p l m h i = absurd i
+  callees (tree.decls (tree.procedure g s) ds) a first b t f e p l m h (inl same) =
+      subst (IsCalleeOf blocks b) (sym same)
+      (record {
+        built = t.1.0;
+        once = nil_back _ _ t.0.once;
+        body = s;
+        body_there = f (procedure_block g s (b.spot ∷ b.outer)) (inl refl);
+        cells_are = around_is blocks b g.name.spot e ∙ found_last b.decls g ds s l;
+        named_are = named_is blocks b g.name.spot e ∙ found_named b.decls g ds s m;
+      })
+  callees (tree.decls (tree.procedure g s) ds) a first b t f e p l m h (inr i) =
+      callees ds (knowing blocks (tree.procedure g s) ds a) first b t.2
+      (λ c j. f c (in_back c (blocks_in_decl (tree.procedure g s) (b.spot ∷ b.outer)) (blocks_in_decls ds (b.spot ∷ b.outer)) j)) e
+      (apart_back (spots_of_decl (tree.procedure g s)) (spots_of_decls ds) p) (last_step b.decls (tree.procedure g s) ds p l) (last_named b.decls (tree.procedure g s) ds p m) h i
+  callees (tree.decls (tree.simple kind ns) ds) a first b t f e p l m h i =
+      callees ds (knowing blocks (tree.simple kind ns) ds a) first b t.2 f e (apart_back (spots_of_names ns) (spots_of_decls ds) p) (last_step b.decls (tree.simple kind ns) ds p l) (last_named b.decls (tree.simple kind ns) ds p m) h i
+  callees (tree.decls (tree.arrays kind ns pairs) ds) a first b t f e p l m h i =
+      callees ds (knowing blocks (tree.arrays kind ns pairs) ds a) first b t.2 f e (apart_back (spots_of_names ns ++ spots_of_pairs pairs) (spots_of_decls ds) p) (last_step b.decls (tree.arrays kind ns pairs) ds p l)
+      (last_named b.decls (tree.arrays kind ns pairs) ds p m) h i
+  callees (tree.decls (tree.files ns) ds) a first b t f e p l m h i =
+      callees ds (knowing blocks (tree.files ns) ds a) first b t.2 f e (apart_back (spots_of_names ns) (spots_of_decls ds) p) (last_step b.decls (tree.files ns) ds p l) (last_named b.decls (tree.files ns) ds p m) h i
+  callees (tree.decls (tree.forward g) ds) a first b t f e p l m h i =
+      callees ds (knowing blocks (tree.forward g) ds a) first b t.2 f e (apart_back (spots_of_heading g) (spots_of_decls ds) p) (last_step b.decls (tree.forward g) ds p l) (last_named b.decls (tree.forward g) ds p m) h i
+  callees (tree.decls d ds) a first b t f e p l m h i = absurd t.1
 
-  pub behind_decls : (b : Block) (a : Surroundings) (ds : PDecls) → IsStarted blocks b a ds → TypedDecls blocks a ds → Apart (spots_of_decls ds) → Stands blocks b (knowing_all blocks ds a)
-  behind_decls b a tree.no_decls s t p = s.stands
-  behind_decls b a (tree.decls d ds) s t p =
-      behind_decls b (knowing blocks d ds a) ds (step blocks b a d ds s t.1 t.0 p) t.2 (apart_back (spots_of_decl d) (spots_of_decls ds) p)
+  pub behind_decls : (b : Block) (a : Surroundings) (first : List Declared) (ds : PDecls) → IsStarted blocks b a ds → TypedDecls blocks a first ds → Apart (spots_of_decls ds) →
+      Stands blocks b (knowing_all blocks ds a)
+  behind_decls b a first tree.no_decls s t p = s.stands
+  behind_decls b a first (tree.decls d ds) s t p =
+      behind_decls b (knowing blocks d ds a) first ds (step blocks b a first d ds s t p) t.2 (apart_back (spots_of_decl d) (spots_of_decls ds) p)

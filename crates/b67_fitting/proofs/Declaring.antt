@@ -1,6 +1,8 @@
 -- Names that are declared once: where a name is found among what the declarations of a block make known.
-use Rattle.std.proofs.Common.{◌≡◌, ◌⊎◌, inl, inr, ℕ, ◌==◌, Bool, true, false, cond, List, [], ◌∷◌, ◌++◌, map, filter, Some, None, refl, sym, ap, subst, if◌then◌else◌}
+use Rattle.std.proofs.Common.{◌≡◌, ◌⊎◌, inl, inr, ℕ, ◌==◌, Bool, true, false, cond, List, [], ◌∷◌, ◌++◌, map, filter, Some, None, refl, sym, ap, ◌∙◌, subst, if◌then◌else◌}
 use Rattle.std.proofs.lemmas.Bool.{and_parts, eqb-true, eq-eqb}
+use Rattle.std.proofs.lemmas.List.{map-append}
+use Rattle.std.proofs.lemmas.List.Elements.{filter-append}
 use Rattle.std.specs.List.{AllByRecursion}
 use Rattle.algol_tree.specs.declared.tree.Named.{Named}
 use Rattle.algol_tree.specs.Classes.{Class}
@@ -22,6 +24,10 @@ same_is (x ∷ xs) (y ∷ ys) h =
     let first : x ≡ y = eqb-true x y parts.0 in
     let rest : xs ≡ ys = same_is xs ys parts.1 in
     cc
+
+pub same_name_self : (name : List ℕ) → same_name name name ≡ true
+same_name_self [] = refl
+same_name_self (x ∷ xs) = rw (eq-eqb x x refl) (same_name_self xs)
 
 -- what is found in joined lists
 pub found_either : (new known : List Declared) (name : List ℕ) (d : Declared) → look_up (new ++ known) name ≡ Some d → (look_up new name ≡ Some d) ⊎ (look_up known name ≡ Some d)
@@ -52,6 +58,30 @@ one_of_back (x ∷ xs) ys name h = by (same_name x name) (one_of_back xs ys name
 -- the names of this block among these
 abbrev pub names_of : ℕ → List Declared → List (List ℕ)
 names_of block known = map (λ (d : Declared). d.name) (filter (λ (d : Declared). d.block == block) known)
+
+-- one of these is one of more
+pub one_more : (more names : List (List ℕ)) (name : List ℕ) → is_one_of names name ≡ true → is_one_of (more ++ names) name ≡ true
+one_more [] names name h = h
+one_more (m ∷ more) names name h = by (same_name m name) (one_more more names name h)
+  where
+    by : (b : Bool) → is_one_of (more ++ names) name ≡ true → (if b then true else is_one_of (more ++ names) name) ≡ true
+    by true later = refl
+    by false later = later
+
+pub one_front : (names more : List (List ℕ)) (name : List ℕ) → is_one_of names name ≡ true → is_one_of (names ++ more) name ≡ true
+one_front [] more name h = absurd (let clash : false ≡ true = h in cc)
+one_front (m ∷ names) more name h = by (same_name m name) (one_front names more name) h
+  where
+    by : (t : Bool) → (is_one_of names name ≡ true → is_one_of (names ++ more) name ≡ true) → (if t then true else is_one_of names name) ≡ true →
+        (if t then true else is_one_of (names ++ more) name) ≡ true
+    by true later g = refl
+    by false later g = later g
+
+-- the names of the block among these and those
+pub names_both : (block : ℕ) (new known : List Declared) → names_of block (new ++ known) ≡ names_of block new ++ names_of block known
+names_both block new known =
+    ap (map (λ (d : Declared). d.name)) (filter-append (λ (d : Declared). d.block == block) new known)
+    ∙ map-append (λ (d : Declared). d.name) (filter (λ (d : Declared). d.block == block) new) (filter (λ (d : Declared). d.block == block) known)
 
 module _ (block depth : ℕ) (s : Sort) (c : Class) where
   abbrev pub entry : Named → Declared

@@ -1,5 +1,5 @@
 -- An accepted program that is built fits.
-use Rattle.std.proofs.Common.{arith, ◌≡◌, inl, inr, ℕ, ◌+◌, ◌<◌, ◌≤◌, ◌==◌, Bool, false, List, [], ◌∷◌, ◌++◌, length, Option, Some, zero, suc, refl, sym, ap, ◌∙◌, subst, append-nil, if◌then◌else◌}
+use Rattle.std.proofs.Common.{arith, ◌≡◌, inl, inr, ℕ, ◌+◌, ◌<◌, ◌≤◌, ◌==◌, ℤ, Bool, false, List, [], ◌∷◌, ◌++◌, length, Option, Some, zero, suc, refl, sym, ap, ◌∙◌, subst, append-nil, if◌then◌else◌}
 use Rattle.std.proofs.lemmas.Bool.Decides.{nat_tests}
 use Rattle.std.specs.List.{AllByRecursion}
 use Rattle.algol_tree.specs.declared.token.Spot.{Spot}
@@ -9,16 +9,17 @@ use Rattle.algol_tree.specs.Blocks.{Block, block_numbered, blocks_of_program, bl
 use Rattle.algol_tree.specs.Cells as cells
 use Rattle.algol_tree.specs.Cells.{level_of, couple_in}
 use Rattle.algol_tree.specs.Couples.{Located, declaration_at, result_at, declaration_in}
+use Rattle.algol_tree.specs.Names.{declared_twice}
 use Rattle.algol_tree.specs.Plain as tree
 use Rattle.algol_tree.specs.Plain.{PDecls, PStmts, PProgram}
 use Rattle.algol_tree.specs.Scopes.{scopes_of, scopes_by}
 use Rattle.algol_tree.specs.Sites.{Site, sites_by, sites_in_decls, sites_in_stmts, has_decls}
 use Rattle.algol_tree.specs.Surroundings.{Surroundings, outermost, knowing_all}
+use Rattle.algol_paths.specs.Arrays.{lows_at}
 use Rattle.b67_ops.specs.declared.Couple.{Couple}
 use Rattle.b67_ops.specs.declared.TheConstants.{MOST_LEVEL}
-use Rattle.b67_templates.specs.Fitting.{StmtsFit}
 use Rattle.b67_fitting.specs.Fitted.{spelled, AcceptedProgramsFit}
-use Rattle.b67_fitting.proofs.Lists.{each_front, each_back}
+use Rattle.b67_fitting.proofs.Lists.{each_front, each_back, each_of}
 use Rattle.b67_fitting.proofs.Among.{apart_among}
 use Rattle.b67_fitting.proofs.Apart.{IsIn, each_in, in_front, in_back, IsApart, Apart, same_self, ascending_apart, apart_front, apart_back}
 use Rattle.b67_fitting.proofs.Blocked.{block_spots, number_within, cells_are}
@@ -27,13 +28,16 @@ use Rattle.b67_fitting.proofs.Cleaned.{cleaned}
 use Rattle.b67_fitting.proofs.Coupled.{IsProgram}
 use Rattle.b67_fitting.proofs.Declares.{begun, callees, behind_decls}
 use Rattle.b67_fitting.proofs.Frames.{decl_cells}
+use Rattle.b67_fitting.proofs.Given.{AreWhole}
+use Rattle.b67_fitting.proofs.Nesting.{whole}
 use Rattle.b67_fitting.proofs.Homed.{IsHome, all_homes, all_far}
 use Rattle.b67_fitting.proofs.Known.{Stands, around_outermost, knows_plain}
 use Rattle.b67_fitting.proofs.Limits.{few_cells, not_deep}
 use Rattle.b67_fitting.proofs.Listed.{AllThere, Listed, both, block}
 use Rattle.b67_fitting.proofs.Listing.{listed_stmts, listed_decls}
 use Rattle.b67_fitting.proofs.Looked.{all_uses, all_known, all_blocks}
-use Rattle.b67_fitting.proofs.Placed.{Keep, all_fit}
+use Rattle.b67_fitting.proofs.Made.{all_made}
+use Rattle.b67_fitting.proofs.Placed.{Keep, BlockFits, all_fit}
 use Rattle.b67_fitting.proofs.Reached.{all_placed}
 use Rattle.b67_fitting.proofs.Started.{IsStarted, start}
 use Rattle.b67_fitting.proofs.Stated.{TypedStmts, TypedDecls, all_stated, all_declared}
@@ -76,7 +80,7 @@ module _ (spot : Spot) (ds : PDecls) (ss : PStmts) (blocks : List Block) where
   abbrev spots : List Spot
   spots = spot ∷ (spots_of_decls ds ++ spots_of_stmts ss)
 
-  module _ (same : in_text ≡ blocks) (apart : Apart spots) where
+  module _ (same : in_text ≡ blocks) (apart : Apart spots) (whole : AreWhole blocks) where
     there : AllThere blocks in_text
     there b i = subst (λ (z : List Block). IsIn b z) same i
 
@@ -99,34 +103,36 @@ module _ (spot : Spot) (ds : PDecls) (ss : PStmts) (blocks : List Block) where
     decls_apart : Apart (spots_of_decls ds)
     decls_apart = apart_front (spots_of_decls ds) (spots_of_stmts ss) apart.1
 
-    module _ (decls_typed : TypedDecls blocks outermost ds) where
+    module _ (decls_typed : TypedDecls blocks outermost [] ds) where
       started : IsStarted blocks first outermost ds
-      started = start blocks first outermost stands (callees blocks ds outermost first decls_typed in_decls)
+      started = start blocks first outermost stands (callees blocks ds outermost [] first decls_typed in_decls (whole.numbered first (there first (inl refl))) decls_apart (λ s i. refl) (λ s i. refl)) tt
 
       behind : Stands blocks first around
-      behind = behind_decls blocks first outermost ds started decls_typed decls_apart
+      behind = behind_decls blocks first outermost [] ds started decls_typed decls_apart
 
       module _ (typed : TypedStmts blocks around ss) where
         listed : Listed blocks (length blocks) spots [] in_text (decl_sites ++ stmt_sites)
         listed =
-            block (length blocks) first refl
+            block (length blocks) first (refl, refl)
             (record {
               there = there first (inl refl);
-              plain = refl;
               apart = (each_front (IsApart spot) (spots_of_decls ds) (spots_of_stmts ss) apart.0, decls_apart);
               own_is = append-nil (decl_cells (number_at blocks spot) ds);
+              begin = outermost;
+              begins = stands;
+              declares = decls_typed;
               around = around;
               stands = behind;
               typed = typed;
               inner = in_stmts;
-              front = decl_sites;
+              front = [];
               listed = has_decls ds;
               sites_are = refl;
             })
             (both (number_at blocks spot)
             (subst (λ (n : ℕ). Listed blocks n (spots_of_decls ds) (decl_cells n ds) decl_blocks decl_sites) (sym first_number)
-            (listed_decls blocks first outermost [] ds started decls_typed decls_apart in_decls))
-            (listed_stmts blocks (number_at blocks spot) first around behind ss (has_decls ds) typed (apart_back (spots_of_decls ds) (spots_of_stmts ss) apart.1) in_stmts))
+            (listed_decls blocks whole first outermost [] stands ds started decls_typed decls_apart in_decls))
+            (listed_stmts blocks whole (number_at blocks spot) first around behind ss (has_decls ds) typed (apart_back (spots_of_decls ds) (spots_of_stmts ss) apart.1) in_stmts))
 
         abbrev all : List Site
         all = decl_sites ++ stmt_sites
@@ -141,9 +147,10 @@ module _ (spot : Spot) (ds : PDecls) (ss : PStmts) (blocks : List Block) where
               known_apart = apart_among (all_known blocks listed) apart;
               own = λ b i. cells.here b (back b i);
               none = cells.mine;
+              made_apart = apart_among (all_made blocks listed) apart;
               far =
                   λ c i e. subst (λ (z : List Block). AllByRecursion (IsApart c.spot) (block_spots z)) same (all_far blocks listed apart c i e).apart;
-              homes = λ b i. each_in IsHome b in_text (all_homes blocks listed) (back b i);
+              homes = λ b i. each_in (IsHome blocks) b in_text (all_homes blocks listed) (back b i);
             }
 
         keeps : scope_faults_in program blocks all ≡ [] → Keep blocks
@@ -151,19 +158,20 @@ module _ (spot : Spot) (ds : PDecls) (ss : PStmts) (blocks : List Block) where
             let low : level_of b ≤ MOST_LEVEL = omega (arith, not_deep program blocks all faults b i) in
             (low, few_cells program blocks all faults b i (is_program.own b i))
 
-        fit_by : (known results : Spot → Option Couple) →
+        fit_by : (known results : Spot → Option Couple) (lows : Spot → Option (List ℤ)) →
             ((at : Spot) (d : Located) (c : cells.Couple) → declaration_in blocks all at ≡ Some d → d.couple ≡ Some c → known at ≡ Some (record { level = c.level; index = c.index })) →
             ((at : Spot) (d : Located) → declaration_in blocks all at ≡ Some d → results at ≡ spelled (couple_in blocks all (number_at blocks d.spot) d.spot)) →
-            scope_faults_in program blocks all ≡ [] → (j : ℕ) → j < length blocks → StmtsFit (scopes_by program blocks) known results (level_of (block_numbered blocks j)) ((block_numbered blocks j).stmts)
-        fit_by known results couples results_are faults j h =
+            ((at : Spot) (d : Located) (found : List ℤ) → declaration_in blocks all at ≡ Some d → lows_at blocks d.spot ≡ Some found → lows at ≡ Some found) →
+            (faults : scope_faults_in program blocks all ≡ []) → (j : ℕ) → j < length blocks → BlockFits blocks (scopes_by program blocks) known results lows (keeps faults) (block_numbered blocks j)
+        fit_by known results lows couples results_are lows_are faults j h =
             let sc = scopes_by program blocks in
-            let sites = all_placed blocks all is_program known results couples results_are listed (λ x i. i) in
-            let fits = all_fit blocks sc known results (keeps faults) listed sites in
-            each_in (λ (b : Block). StmtsFit sc known results (level_of b) b.stmts) (block_numbered blocks j) in_text fits (back (block_numbered blocks j) (in_numbered blocks j h))
+            let sites = all_placed blocks all is_program known results lows couples results_are lows_are listed (λ x i. i) in
+            let fits = all_fit blocks sc known results lows (keeps faults) listed sites in
+            each_in (BlockFits blocks sc known results lows (keeps faults)) (block_numbered blocks j) in_text fits (back (block_numbered blocks j) (in_numbered blocks j h))
 
 pub accepted_fit : AcceptedProgramsFit
 unfolding scopes_of blocks_of_program scope_faults check_faults declaration_at result_at
-accepted_fit (tree.program (tree.body spot ds ss)) known results accepted order built whole texts couples results_are j h =
+accepted_fit (tree.program (tree.body spot ds ss)) known results lows accepted order built numbers texts couples results_are lows_are j h =
     let p = tree.program (tree.body spot ds ss) in
     let blocks = blocks_of_program p in
     let decl_sites = sites_in_decls blocks ds outermost [] in
@@ -171,8 +179,11 @@ accepted_fit (tree.program (tree.body spot ds ss)) known results accepted order 
     let apart = ascending_apart (spots spot ds ss blocks) order in
     let clean = cleaned p blocks (sites_by p blocks) accepted.scoped accepted.checked in
     let plain = knows_plain blocks outermost (around_outermost blocks) in
-    let decls_typed : TypedDecls blocks outermost ds = all_declared blocks outermost [] plain ds built.0 whole.0 texts.0 (each_front (IsClean blocks) decl_sites stmt_sites clean) in
-    let stands_behind : Stands blocks (begun spot [] ds ss) (knowing_all blocks ds outermost) = behind spot ds ss blocks refl apart decls_typed in
+    let once = each_of (IsClean blocks) (λ (x : Site). declared_twice blocks x ≡ []) (decl_sites ++ stmt_sites) (λ x c. c.once) clean in
+    let whole_blocks : AreWhole blocks = whole spot ds ss order built.0 built.1 once in
+    let decls_typed : TypedDecls blocks outermost [] ds = all_declared blocks outermost [] plain plain ds built.0 numbers.0 texts.0 (each_front (IsClean blocks) decl_sites stmt_sites clean) in
+    let stands_behind : Stands blocks (begun spot [] ds ss) (knowing_all blocks ds outermost) = behind spot ds ss blocks refl apart whole_blocks decls_typed in
     let typed : TypedStmts blocks (knowing_all blocks ds outermost) ss =
-    all_stated blocks (knowing_all blocks ds outermost) (knows_plain blocks (knowing_all blocks ds outermost) stands_behind.around) ss (has_decls ds) built.1 whole.1 texts.1 (each_back (IsClean blocks) decl_sites stmt_sites clean) in
-    fit_by spot ds ss blocks refl apart decls_typed typed known results couples results_are accepted.scoped j h
+    all_stated blocks (knowing_all blocks ds outermost) (knows_plain blocks (knowing_all blocks ds outermost) stands_behind.around) ss (has_decls ds) built.1 numbers.1 texts.1 (each_back (IsClean blocks) decl_sites stmt_sites clean) in
+    let fits = fit_by spot ds ss blocks refl apart whole_blocks decls_typed typed known results lows couples results_are lows_are accepted.scoped j h in
+    record { decls = fits.0; stmts = fits.1 }

@@ -1,18 +1,21 @@
 -- The cells that declarations have, and how they lie in a frame.
-use Rattle.std.proofs.Common.{◌≡◌, ℕ, ◌==◌, Bool, true, false, cond, List, [], ◌∷◌, ◌++◌, filter, Option, Some, None, refl, ap, ◌∙◌, append-nil}
+use Rattle.std.proofs.Common.{◌≡◌, ℕ, ◌==◌, Bool, true, false, cond, List, [], ◌∷◌, ◌++◌, filter, length, Option, Some, None, refl, sym, ap, ◌∙◌, append-nil, append_assoc, if◌then◌else◌}
 use Rattle.std.proofs.lemmas.Bool.{eq-eqb}
+use Rattle.std.proofs.lemmas.List.{length-map}
 use Rattle.std.specs.List.{AllByRecursion}
 use Rattle.algol_tree.specs.declared.token.Spot.{Spot}
 use Rattle.algol_tree.specs.declared.tree.Kind.{Kind}
 use Rattle.algol_tree.specs.declared.tree.Named.{Named}
-use Rattle.algol_tree.specs.Blocks.{Block}
+use Rattle.algol_tree.specs.Blocks.{Block, same_spot, block_numbered, number_at}
 use Rattle.algol_tree.specs.Cells as cells
 use Rattle.algol_tree.specs.Cells.{Content, Cell, cells_for, content_number, holding, layout}
 use Rattle.algol_tree.specs.Plain as tree
 use Rattle.algol_tree.specs.Plain.{PDecls}
+use Rattle.algol_tree.specs.Sorts.{class_in}
+use Rattle.b67_templates.specs.Cells.{Simple, kind_of, parameters_in, parameters_declared, parameters_around}
 use Rattle.b67_fitting.proofs.Lists.{each_both, each_of, filter_none, filter_every}
 
--- ---- the cells of declarations: those of variables, those of procedures, and all in the order of the text
+-- ---- the cells of declarations: those of variables, those of procedures, those of arrays, and all in the order of the text
 
 abbrev pub variable_cells : ℕ → PDecls → List Cell
 variable_cells block tree.no_decls = []
@@ -27,39 +30,88 @@ control_cells block tree.no_decls = []
 control_cells block (tree.decls (tree.procedure h s) ds) = control_cell block h.name.spot ∷ control_cells block ds
 control_cells block (tree.decls d ds) = control_cells block ds
 
+abbrev pub made_cells : ℕ → PDecls → List Cell
+made_cells block tree.no_decls = []
+made_cells block (tree.decls (tree.arrays kind ns pairs) ds) = cells_for block cells.made ns ++ made_cells block ds
+made_cells block (tree.decls d ds) = made_cells block ds
+
 abbrev pub decl_cells : ℕ → PDecls → List Cell
 decl_cells block tree.no_decls = []
 decl_cells block (tree.decls (tree.simple kind ns) ds) = cells_for block cells.variable ns ++ decl_cells block ds
+decl_cells block (tree.decls (tree.arrays kind ns pairs) ds) = cells_for block cells.made ns ++ decl_cells block ds
 decl_cells block (tree.decls (tree.procedure h s) ds) = control_cell block h.name.spot ∷ decl_cells block ds
 decl_cells block (tree.decls d ds) = decl_cells block ds
+
+-- ---- the names of parameters
+
+-- those of the heading whose name stands there
+abbrev pub named_declared : PDecls → Spot → List Named
+named_declared tree.no_decls spot = []
+named_declared (tree.decls (tree.procedure h s) ds) spot = if same_spot h.name.spot spot then h.params else named_declared ds spot
+named_declared (tree.decls d ds) spot = named_declared ds spot
+
+abbrev pub named_around : List Block → List Spot → Spot → List Named
+named_around blocks [] spot = []
+named_around blocks (outer ∷ outers) spot = named_declared ((block_numbered blocks (number_at blocks outer)).decls) spot
+
+abbrev pub named_of : List Block → Block → List Named
+named_of blocks b = named_around blocks b.outer b.spot
+
+-- there are as many as cells
+declared_long : (ds : PDecls) (spot : Spot) → length (named_declared ds spot) ≡ length (parameters_declared ds spot)
+declared_long tree.no_decls spot = refl
+declared_long (tree.decls (tree.procedure h s) ds) spot = by (same_spot h.name.spot spot) (declared_long ds spot)
+  where
+    by : (b : Bool) → length (named_declared ds spot) ≡ length (parameters_declared ds spot) →
+        length (if b then h.params else named_declared ds spot) ≡ length (if b then parameters_in h else parameters_declared ds spot)
+    by true later = sym (length-map {B = Simple} h.params (λ (n : Named). record { name = n.name; kind = kind_of (class_in h.specs n.name) }))
+    by false later = later
+declared_long (tree.decls d ds) spot = declared_long ds spot
+
+around_long : (blocks : List Block) (outer : List Spot) (spot : Spot) → length (named_around blocks outer spot) ≡ length (parameters_around blocks outer spot)
+around_long blocks [] spot = refl
+around_long blocks (o ∷ outer) spot = declared_long ((block_numbered blocks (number_at blocks o)).decls) spot
+
+pub named_long : (blocks : List Block) (b : Block) → length (named_of blocks b) ≡ length (parameters_around blocks b.outer b.spot)
+named_long blocks b = around_long blocks b.outer b.spot
 
 -- the cell of a result
 abbrev pub result_cell : Option Kind → ℕ → Spot → List Cell
 result_cell None block spot = []
 result_cell (Some kind) block spot = record { block = block; spot = spot; content = cells.result } ∷ []
 
+-- those of the heading: the result and the parameters with these names
+abbrev pub front_cells : ℕ → List Named → Block → List Cell
+front_cells block ns b = result_cell b.result block b.spot ++ cells_for block cells.parameter ns
+
 -- all that a block has
-abbrev pub cells_of_block : ℕ → Block → List Cell
-cells_of_block block b = result_cell b.result block b.spot ++ decl_cells block b.decls
+abbrev pub cells_of_block : ℕ → List Named → Block → List Cell
+cells_of_block block ns b = front_cells block ns b ++ decl_cells block b.decls
 
 -- ---- their blocks
 
 abbrev pub IsOwn : ℕ → Cell → Type 0
 IsOwn block c = c.block ≡ block
 
-each_own_for : (block : ℕ) (ns : List Named) → AllByRecursion (IsOwn block) (cells_for block cells.variable ns)
-each_own_for block [] = tt
-each_own_for block (n ∷ ns) = (refl, each_own_for block ns)
+pub each_own_for : (block : ℕ) (k : Content) (ns : List Named) → AllByRecursion (IsOwn block) (cells_for block k ns)
+each_own_for block k [] = tt
+each_own_for block k (n ∷ ns) = (refl, each_own_for block k ns)
 
 pub each_own : (block : ℕ) (ds : PDecls) → AllByRecursion (IsOwn block) (decl_cells block ds)
 each_own block tree.no_decls = tt
-each_own block (tree.decls (tree.simple kind ns) ds) = each_both (IsOwn block) (cells_for block cells.variable ns) (decl_cells block ds) (each_own_for block ns) (each_own block ds)
+each_own block (tree.decls (tree.simple kind ns) ds) =
+    each_both (IsOwn block) (cells_for block cells.variable ns) (decl_cells block ds) (each_own_for block cells.variable ns) (each_own block ds)
+each_own block (tree.decls (tree.arrays kind ns pairs) ds) =
+    each_both (IsOwn block) (cells_for block cells.made ns) (decl_cells block ds) (each_own_for block cells.made ns) (each_own block ds)
 each_own block (tree.decls (tree.procedure h s) ds) = (refl, each_own block ds)
 each_own block (tree.decls d ds) = each_own block ds
 
 pub result_own : (o : Option Kind) (block : ℕ) (spot : Spot) → AllByRecursion (IsOwn block) (result_cell o block spot)
 result_own None block spot = tt
 result_own (Some kind) block spot = (refl, tt)
+
+pub front_own : (block : ℕ) (ns : List Named) (b : Block) → AllByRecursion (IsOwn block) (front_cells block ns b)
+front_own block ns b = each_both (IsOwn block) (result_cell b.result block b.spot) (cells_for block cells.parameter ns) (result_own b.result block b.spot) (each_own_for block cells.parameter ns)
 
 -- the cells of this block
 abbrev pub only : ℕ → List Cell → List Cell
@@ -77,56 +129,102 @@ only_other block other cs e h =
 -- ---- their layout
 
 module _ (block : ℕ) where
-  -- the cells of variables in front are kept, or passed over
-  kept : (ns : List Named) (cs : List Cell) → holding cells.variable (cells_for block cells.variable ns ++ cs) ≡ cells_for block cells.variable ns ++ holding cells.variable cs
-  kept [] cs = refl
-  kept (n ∷ ns) cs = ap (λ z. record { block = block; spot = n.spot; content = cells.variable } ∷ z) (kept ns cs)
+  -- the cells of names in front are kept, or passed over
+  kept : (x : Content) (ns : List Named) (cs : List Cell) → (content_number x == content_number x) ≡ true → holding x (cells_for block x ns ++ cs) ≡ cells_for block x ns ++ holding x cs
+  kept x [] cs e = refl
+  kept x (n ∷ ns) cs e =
+      ap (λ (b : Bool). cond b (record { block = block; spot = n.spot; content = x } ∷ holding x (cells_for block x ns ++ cs)) (holding x (cells_for block x ns ++ cs))) e
+      ∙ ap (λ z. record { block = block; spot = n.spot; content = x } ∷ z) (kept x ns cs e)
 
-  passed : (k : Content) (ns : List Named) (cs : List Cell) → (content_number cells.variable == content_number k) ≡ false → holding k (cells_for block cells.variable ns ++ cs) ≡ holding k cs
-  passed k [] cs e = refl
-  passed k (n ∷ ns) cs e =
-      ap (λ (b : Bool). cond b (record { block = block; spot = n.spot; content = cells.variable } ∷ holding k (cells_for block cells.variable ns ++ cs)) (holding k (cells_for block cells.variable ns ++ cs))) e
-      ∙ passed k ns cs e
+  passed : (x k : Content) (ns : List Named) (cs : List Cell) → (content_number x == content_number k) ≡ false → holding k (cells_for block x ns ++ cs) ≡ holding k cs
+  passed x k [] cs e = refl
+  passed x k (n ∷ ns) cs e =
+      ap (λ (b : Bool). cond b (record { block = block; spot = n.spot; content = x } ∷ holding k (cells_for block x ns ++ cs)) (holding k (cells_for block x ns ++ cs))) e
+      ∙ passed x k ns cs e
 
   held : (ds : PDecls) → holding cells.variable (decl_cells block ds) ≡ variable_cells block ds
   held tree.no_decls = refl
-  held (tree.decls (tree.simple kind ns) ds) = kept ns (decl_cells block ds) ∙ ap (λ z. cells_for block cells.variable ns ++ z) (held ds)
+  held (tree.decls (tree.simple kind ns) ds) = kept cells.variable ns (decl_cells block ds) refl ∙ ap (λ z. cells_for block cells.variable ns ++ z) (held ds)
+  held (tree.decls (tree.arrays kind ns pairs) ds) = passed cells.made cells.variable ns (decl_cells block ds) refl ∙ held ds
   held (tree.decls (tree.procedure h s) ds) = held ds
   held (tree.decls d ds) = held ds
 
   controlled : (ds : PDecls) → holding cells.procedure (decl_cells block ds) ≡ control_cells block ds
   controlled tree.no_decls = refl
-  controlled (tree.decls (tree.simple kind ns) ds) = passed cells.procedure ns (decl_cells block ds) refl ∙ controlled ds
+  controlled (tree.decls (tree.simple kind ns) ds) = passed cells.variable cells.procedure ns (decl_cells block ds) refl ∙ controlled ds
+  controlled (tree.decls (tree.arrays kind ns pairs) ds) = passed cells.made cells.procedure ns (decl_cells block ds) refl ∙ controlled ds
   controlled (tree.decls (tree.procedure h s) ds) = ap (λ z. control_cell block h.name.spot ∷ z) (controlled ds)
   controlled (tree.decls d ds) = controlled ds
 
+  made : (ds : PDecls) → holding cells.made (decl_cells block ds) ≡ made_cells block ds
+  made tree.no_decls = refl
+  made (tree.decls (tree.simple kind ns) ds) = passed cells.variable cells.made ns (decl_cells block ds) refl ∙ made ds
+  made (tree.decls (tree.arrays kind ns pairs) ds) = kept cells.made ns (decl_cells block ds) refl ∙ ap (λ z. cells_for block cells.made ns ++ z) (made ds)
+  made (tree.decls (tree.procedure h s) ds) = made ds
+  made (tree.decls d ds) = made ds
+
   no_parameter : (ds : PDecls) → holding cells.parameter (decl_cells block ds) ≡ []
   no_parameter tree.no_decls = refl
-  no_parameter (tree.decls (tree.simple kind ns) ds) = passed cells.parameter ns (decl_cells block ds) refl ∙ no_parameter ds
+  no_parameter (tree.decls (tree.simple kind ns) ds) = passed cells.variable cells.parameter ns (decl_cells block ds) refl ∙ no_parameter ds
+  no_parameter (tree.decls (tree.arrays kind ns pairs) ds) = passed cells.made cells.parameter ns (decl_cells block ds) refl ∙ no_parameter ds
   no_parameter (tree.decls (tree.procedure h s) ds) = no_parameter ds
   no_parameter (tree.decls d ds) = no_parameter ds
 
   no_result : (ds : PDecls) → holding cells.result (decl_cells block ds) ≡ []
   no_result tree.no_decls = refl
-  no_result (tree.decls (tree.simple kind ns) ds) = passed cells.result ns (decl_cells block ds) refl ∙ no_result ds
+  no_result (tree.decls (tree.simple kind ns) ds) = passed cells.variable cells.result ns (decl_cells block ds) refl ∙ no_result ds
+  no_result (tree.decls (tree.arrays kind ns pairs) ds) = passed cells.made cells.result ns (decl_cells block ds) refl ∙ no_result ds
   no_result (tree.decls (tree.procedure h s) ds) = no_result ds
   no_result (tree.decls d ds) = no_result ds
 
   no_actual : (ds : PDecls) → holding cells.actual (decl_cells block ds) ≡ []
   no_actual tree.no_decls = refl
-  no_actual (tree.decls (tree.simple kind ns) ds) = passed cells.actual ns (decl_cells block ds) refl ∙ no_actual ds
+  no_actual (tree.decls (tree.simple kind ns) ds) = passed cells.variable cells.actual ns (decl_cells block ds) refl ∙ no_actual ds
+  no_actual (tree.decls (tree.arrays kind ns pairs) ds) = passed cells.made cells.actual ns (decl_cells block ds) refl ∙ no_actual ds
   no_actual (tree.decls (tree.procedure h s) ds) = no_actual ds
   no_actual (tree.decls d ds) = no_actual ds
 
-  no_made : (ds : PDecls) → holding cells.made (decl_cells block ds) ≡ []
-  no_made tree.no_decls = refl
-  no_made (tree.decls (tree.simple kind ns) ds) = passed cells.made ns (decl_cells block ds) refl ∙ no_made ds
-  no_made (tree.decls (tree.procedure h s) ds) = no_made ds
-  no_made (tree.decls d ds) = no_made ds
+  joined : (p r v c m : List Cell) → p ++ r ++ v ++ c ++ [] ++ m ≡ p ++ (r ++ (v ++ (c ++ m)))
+  joined p r v c m =
+      ap (λ z. z ++ m) (append-nil (p ++ r ++ v ++ c)) ∙ append_assoc (p ++ r ++ v) c m ∙ append_assoc (p ++ r) v (c ++ m) ∙ append_assoc p r (v ++ (c ++ m))
 
-  -- first the result, then the variables, then the procedures
-  pub laid_out : (o : Option Kind) (spot : Spot) (ds : PDecls) → layout (result_cell o block spot ++ decl_cells block ds) ≡ result_cell o block spot ++ (variable_cells block ds ++ control_cells block ds)
-  laid_out None spot ds = rw (no_parameter ds, no_result ds, held ds, controlled ds, no_actual ds, no_made ds, append-nil, append-nil) refl
-  laid_out (Some kind) spot ds =
-      rw (no_parameter ds, no_result ds, held ds, controlled ds, no_actual ds, no_made ds)
-      (ap (λ z. record { block = block; spot = spot; content = cells.result } ∷ z) (append-nil (variable_cells block ds ++ control_cells block ds ++ []) ∙ append-nil (variable_cells block ds ++ control_cells block ds)))
+  module _ (ns : List Named) (ds : PDecls) where
+    abbrev params : List Cell
+    params = cells_for block cells.parameter ns
+
+    abbrev behind : List Cell
+    behind = params ++ decl_cells block ds
+
+    -- what lies behind the result
+    abbrev others : List Cell
+    others = variable_cells block ds ++ (control_cells block ds ++ made_cells block ds)
+
+    lies : (o : Option Kind) (spot : Spot) → layout (result_cell o block spot ++ behind) ≡ params ++ (result_cell o block spot ++ others)
+    lies o spot = by o
+      where
+        ps : holding cells.parameter behind ≡ params
+        ps = kept cells.parameter ns (decl_cells block ds) refl ∙ ap (λ z. params ++ z) (no_parameter ds) ∙ append-nil params
+
+        rs : holding cells.result behind ≡ []
+        rs = passed cells.parameter cells.result ns (decl_cells block ds) refl ∙ no_result ds
+
+        vs : holding cells.variable behind ≡ variable_cells block ds
+        vs = passed cells.parameter cells.variable ns (decl_cells block ds) refl ∙ held ds
+
+        cs : holding cells.procedure behind ≡ control_cells block ds
+        cs = passed cells.parameter cells.procedure ns (decl_cells block ds) refl ∙ controlled ds
+
+        xs : holding cells.actual behind ≡ []
+        xs = passed cells.parameter cells.actual ns (decl_cells block ds) refl ∙ no_actual ds
+
+        ms : holding cells.made behind ≡ made_cells block ds
+        ms = passed cells.parameter cells.made ns (decl_cells block ds) refl ∙ made ds
+
+        by : (o : Option Kind) → layout (result_cell o block spot ++ behind) ≡ params ++ (result_cell o block spot ++ others)
+        by None = rw (ps, rs, vs, cs, xs, ms) (joined params [] (variable_cells block ds) (control_cells block ds) (made_cells block ds))
+        by (Some kind) =
+            rw (ps, rs, vs, cs, xs, ms) (joined params (record { block = block; spot = spot; content = cells.result } ∷ []) (variable_cells block ds) (control_cells block ds) (made_cells block ds))
+
+  -- first the parameters, then the result, then the variables, then the procedures, then the arrays
+  pub laid_out : (ns : List Named) (b : Block) → layout (cells_of_block block ns b) ≡ cells_for block cells.parameter ns ++ (result_cell b.result block b.spot ++ (variable_cells block b.decls ++ (control_cells block b.decls ++ made_cells block b.decls)))
+  laid_out ns b = ap layout (append_assoc (result_cell b.result block b.spot) (cells_for block cells.parameter ns) (decl_cells block b.decls)) ∙ lies ns b.decls b.result b.spot

@@ -1,48 +1,58 @@
--- The blocks of a program are without parameters, the places of their declarations are apart, and no variable stands where a block does.
-use Rattle.std.proofs.Common.{◌≡◌, ◌⊎◌, inl, inr, ℕ, List, [], ◌∷◌, ◌++◌, Option, None, Some, sym, ap, ◌∙◌, subst}
+-- The places of the parameters and the declarations of each block are apart, and no variable and no parameter stands where a block does.
+use Rattle.std.proofs.Common.{◌≡◌, ◌⊎◌, inl, inr, ℕ, List, [], ◌∷◌, ◌++◌, Option, None, Some, sym, ap, subst}
 use Rattle.std.proofs.lemmas.List.{map-append}
 use Rattle.std.proofs.lemmas.List.Concat.{flat_map-append}
 use Rattle.std.specs.List.{flat_map, AllByRecursion}
 use Rattle.algol_tree.specs.declared.token.Spot.{Spot}
 use Rattle.algol_tree.specs.declared.tree.Kind.{Kind}
+use Rattle.algol_tree.specs.declared.tree.Named.{Named}
 use Rattle.algol_tree.specs.Ascending.{spots_of_names, spots_of_decls}
 use Rattle.algol_tree.specs.Blocks.{Block, number_at}
 use Rattle.algol_tree.specs.Cells as cells
-use Rattle.algol_tree.specs.Cells.{Cell, cells_at}
+use Rattle.algol_tree.specs.Cells.{Cell, cells_for, cells_at}
 use Rattle.algol_tree.specs.Scopes.{names_in}
 use Rattle.algol_tree.specs.Sites.{Site}
 use Rattle.b67_fitting.proofs.Among.{each_among}
 use Rattle.b67_fitting.proofs.Apart.{IsIn, each_in, in_front, in_back, in_either, IsApart, Apart, apart_sym, apart_front, apart_back, apart_from, apart_across}
 use Rattle.b67_fitting.proofs.Blocked.{block_spots}
-use Rattle.b67_fitting.proofs.Frames.{control_cell, result_cell}
+use Rattle.b67_fitting.proofs.Frames.{control_cell, result_cell, named_of}
 use Rattle.b67_fitting.proofs.Listed.{Listed, over, passed, site, left, declared, both, block, procedure}
 use Rattle.b67_fitting.proofs.Lists.{each_back, each_both, each_of}
 use Rattle.b67_fitting.proofs.Looked.{all_blocks}
 
--- a block without parameters, whose declarations are apart from one another and from its own place
-pub record IsHome (b : Block) : Type 0 where
-  pub plain : b.parameters ≡ []
-  pub apart : Apart (b.spot ∷ spots_of_decls b.decls)
+-- a block whose parameters and declarations are apart from one another and from its own place
+pub record IsHome (blocks : List Block) (b : Block) : Type 0 where
+  pub apart : Apart (b.spot ∷ (spots_of_names (named_of blocks b) ++ spots_of_decls b.decls))
 
-pub all_homes : (blocks : List Block) {k : ℕ} {spots : List Spot} {own : List Cell} {bs : List Block} {xs : List Site} → Listed blocks k spots own bs xs → AllByRecursion IsHome bs
+pub all_homes : (blocks : List Block) {k : ℕ} {spots : List Spot} {own : List Cell} {bs : List Block} {xs : List Site} → Listed blocks k spots own bs xs → AllByRecursion (IsHome blocks) bs
 all_homes blocks (over k) = tt
 all_homes blocks (passed k spot l) = all_homes blocks l
 all_homes blocks (site k x f l) = all_homes blocks l
 all_homes blocks (left k a n e listed b g l) = all_homes blocks l
 all_homes blocks (declared k x names new f l) = all_homes blocks l
-all_homes blocks (both k {bs = bs} {cs = cs} i j) = each_both IsHome bs cs (all_homes blocks i) (all_homes blocks j)
-all_homes blocks (block k b e i l) = (record { plain = i.plain; apart = i.apart }, all_homes blocks l)
-all_homes blocks (procedure k x b more f i l) = (record { plain = i.plain; apart = i.apart }, all_homes blocks l)
+all_homes blocks (both k {bs = bs} {cs = cs} i j) = each_both (IsHome blocks) bs cs (all_homes blocks i) (all_homes blocks j)
+all_homes blocks (block k b e i l) = (record { apart = i.apart }, all_homes blocks l)
+all_homes blocks (procedure k x b more f i l) = (record { apart = i.apart }, all_homes blocks l)
 
 -- the place is among these, and apart from the blocks
 pub record IsFar (spots : List Spot) (bs : List Block) (spot : Spot) : Type 0 where
   pub among : IsIn spot spots
   pub apart : AllByRecursion (IsApart spot) (block_spots bs)
 
-no_variable : (o : Option Kind) (k : ℕ) (spot : Spot) (c : Cell) → IsIn c (result_cell o k spot) → c.content ≡ cells.variable → ⊥
-no_variable None k spot c i e = absurd i
-no_variable (Some kind) k spot c (inl same) e = let clash : cells.result ≡ cells.variable = sym (ap (λ (z : Cell). z.content) same) ∙ e in cc
-no_variable (Some kind) k spot c (inr i) e = absurd i
+-- the cell of a variable or of a parameter
+abbrev pub IsValue : Cell → Type 0
+IsValue c = (c.content ≡ cells.result → ⊥) × (c.content ≡ cells.procedure → ⊥)
+
+no_value : (o : Option Kind) (k : ℕ) (spot : Spot) (c : Cell) → IsIn c (result_cell o k spot) → IsValue c → ⊥
+no_value None k spot c i e = absurd i
+no_value (Some kind) k spot c (inl same) e = e.0 (ap (λ (z : Cell). z.content) same)
+no_value (Some kind) k spot c (inr i) e = absurd i
+
+-- a parameter stands among these places
+parameter_there : (k : ℕ) (ns : List Named) (more : List Spot) (c : Cell) → AllByRecursion (λ (n : Named). IsIn n.spot more) ns → IsIn c (cells_for k cells.parameter ns) → IsIn c.spot more
+parameter_there k [] more c h i = absurd i
+parameter_there k (n ∷ ns) more c h (inl e) = subst (λ (z : Cell). IsIn z.spot more) (sym e) h.0
+parameter_there k (n ∷ ns) more c h (inr i) = parameter_there k ns more c h.1 i
 
 module _ (blocks : List Block) where
   abbrev cells_in : List Site → List Cell
@@ -73,7 +83,7 @@ module _ (blocks : List Block) where
   far_inner b spots bs spot h r = record { among = inr r.among; apart = (apart_sym b.spot spot (each_in (IsApart b.spot) spot spots h r.among), r.apart) }
 
   pub all_far : {k : ℕ} {spots : List Spot} {own : List Cell} {bs : List Block} {xs : List Site} → Listed blocks k spots own bs xs → Apart spots → (c : Cell) → IsIn c (cells_in xs) →
-      c.content ≡ cells.variable → IsFar spots bs c.spot
+      IsValue c → IsFar spots bs c.spot
   all_far (over k) p c i e = absurd i
   all_far (passed k spot l) p c i e =
       let r = all_far l p.1 c i e in
@@ -87,7 +97,7 @@ module _ (blocks : List Block) where
       record { among = inr r.among; apart = r.apart }
   all_far (declared k x names new {spots = spots} {bs = bs} {xs = xs} f l) p c i e = by (all_far l (apart_back names spots p) c) (in_either c new (cells_in xs) (subst (λ (z : List Cell). IsIn c (z ++ cells_in xs)) f.cells i))
     where
-      by : (IsIn c (cells_in xs) → c.content ≡ cells.variable → IsFar spots bs c.spot) → IsIn c new ⊎ IsIn c (cells_in xs) → IsFar (names ++ spots) bs c.spot
+      by : (IsIn c (cells_in xs) → IsValue c → IsFar spots bs c.spot) → IsIn c new ⊎ IsIn c (cells_in xs) → IsFar (names ++ spots) bs c.spot
       by later (inl j) =
           let among = each_in (λ (c : Cell). IsIn c.spot names) c new f.among j in
           record {
@@ -101,19 +111,29 @@ module _ (blocks : List Block) where
       by (all_far m (apart_front q r p) c) (all_far n (apart_back q r p) c)
       (in_either c (cells_in xs) (cells_in ys) (subst (λ (z : List Cell). IsIn c z) (flat_map-append (cells_at blocks) xs ys) i))
     where
-      by : (IsIn c (cells_in xs) → c.content ≡ cells.variable → IsFar q bs c.spot) → (IsIn c (cells_in ys) → c.content ≡ cells.variable → IsFar r cs c.spot) →
+      by : (IsIn c (cells_in xs) → IsValue c → IsFar q bs c.spot) → (IsIn c (cells_in ys) → IsValue c → IsFar r cs c.spot) →
           IsIn c (cells_in xs) ⊎ IsIn c (cells_in ys) → IsFar (q ++ r) (bs ++ cs) c.spot
       by first second (inl j) = far_front q r bs cs c.spot p (λ P h. each_among P (all_blocks blocks n) h) (first j e)
       by first second (inr j) = far_back q r bs cs c.spot p (λ P h. each_among P (all_blocks blocks m) h) (second j e)
   all_far (block k b {spots = spots} {bs = bs} v m l) p c i e = far_inner b spots bs c.spot p.0 (all_far l p.1 c i e)
   all_far (procedure k x b more {spots = spots} {bs = bs} {xs = xs} f m l) p c i e =
       by (all_far l (apart_back (b.spot ∷ more) spots p) c)
-      (in_either c ((control_cell k b.spot ∷ []) ++ result_cell b.result (number_at blocks b.spot) b.spot) (cells_in xs) (subst (λ (z : List Cell). IsIn c (z ++ cells_in xs)) f.cells i))
+      (in_either c (control_cell k b.spot ∷ (result_cell b.result (number_at blocks b.spot) b.spot ++ cells_for (number_at blocks b.spot) cells.parameter (named_of blocks b))) (cells_in xs) (subst (λ (z : List Cell). IsIn c (z ++ cells_in xs)) f.cells i))
     where
-      by : (IsIn c (cells_in xs) → c.content ≡ cells.variable → IsFar spots bs c.spot) →
-          IsIn c (control_cell k b.spot ∷ result_cell b.result (number_at blocks b.spot) b.spot) ⊎ IsIn c (cells_in xs) → IsFar ((b.spot ∷ more) ++ spots) (b ∷ bs) c.spot
-      by later (inl (inl same)) = absurd (let clash : cells.procedure ≡ cells.variable = sym (ap (λ (z : Cell). z.content) same) ∙ e in cc)
-      by later (inl (inr j)) = absurd (no_variable b.result (number_at blocks b.spot) b.spot c j e)
+      of_front : IsIn c (result_cell b.result (number_at blocks b.spot) b.spot) ⊎ IsIn c (cells_for (number_at blocks b.spot) cells.parameter (named_of blocks b)) → IsFar ((b.spot ∷ more) ++ spots) (b ∷ bs) c.spot
+      of_front (inl j) = absurd (no_value b.result (number_at blocks b.spot) b.spot c j e)
+      of_front (inr j) =
+          let among = parameter_there (number_at blocks b.spot) (named_of blocks b) more c f.among j in
+          let own : IsApart b.spot c.spot = each_in (IsApart b.spot) c.spot (more ++ spots) p.0 (in_front c.spot more spots among) in
+          record {
+            among = inr (in_front c.spot more spots among);
+            apart = (apart_sym b.spot c.spot own, each_among (IsApart c.spot) (all_blocks blocks l) (each_in (λ s. AllByRecursion (IsApart s) spots) c.spot more (apart_across more spots p.1) among));
+          }
+
+      by : (IsIn c (cells_in xs) → IsValue c → IsFar spots bs c.spot) →
+          IsIn c (control_cell k b.spot ∷ (result_cell b.result (number_at blocks b.spot) b.spot ++ cells_for (number_at blocks b.spot) cells.parameter (named_of blocks b))) ⊎ IsIn c (cells_in xs) → IsFar ((b.spot ∷ more) ++ spots) (b ∷ bs) c.spot
+      by later (inl (inl same)) = absurd (e.1 (ap (λ (z : Cell). z.content) same))
+      by later (inl (inr j)) = of_front (in_either c (result_cell b.result (number_at blocks b.spot) b.spot) (cells_for (number_at blocks b.spot) cells.parameter (named_of blocks b)) j)
       by later (inr j) =
           let r = far_inner b spots bs c.spot (each_back (IsApart b.spot) more spots p.0) (later j e) in
           record { among = in_skip r.among; apart = r.apart }

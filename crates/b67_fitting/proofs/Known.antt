@@ -1,25 +1,35 @@
--- What is known at a place of a program that is built: files, variables whose cells lie in blocks around the place, and procedures that
--- such blocks declare.
-use Rattle.std.proofs.Common.{arith, ◌≡◌, ◌⊎◌, inl, inr, ℕ, ◌+◌, ◌≤◌, true, false, List, [], ◌∷◌, ◌++◌, Some, None, length, sym, refl, subst}
+-- What is known at a place of a program that is built: files, variables whose cells lie in blocks around the place, and arrays and
+-- procedures that such blocks declare.
+use Rattle.std.proofs.Common.{arith, ◌≡◌, ◌⊎◌, inl, inr, ℕ, ◌+◌, ◌≤◌, true, false, List, [], ◌∷◌, ◌++◌, Some, None, length, sym, refl, ◌∙◌, subst}
+use Rattle.std.specs.List.{AllByRecursion}
 use Rattle.algol_tree.specs.declared.token.Spot.{Spot}
 use Rattle.algol_tree.specs.declared.tree.Heading.{Heading}
 use Rattle.algol_tree.specs.declared.tree.Kind.{Kind}
+use Rattle.algol_tree.specs.declared.tree.Named.{Named}
 use Rattle.algol_tree.specs.Ascending.{spots_of_names}
 use Rattle.algol_tree.specs.Blocks.{Block, block_numbered, number_at, procedure_block}
+use Rattle.algol_tree.specs.Cells as cells
+use Rattle.algol_tree.specs.Cells.{Cell, cells_for}
 use Rattle.algol_tree.specs.Classes as class
-use Rattle.algol_tree.specs.Names.{is_one_of, result_names_of}
+use Rattle.algol_tree.specs.Names.{is_one_of, result_names_of, twice_in_heading}
 use Rattle.algol_tree.specs.Plain as tree
 use Rattle.algol_tree.specs.Plain.{PStmt, PDecls}
 use Rattle.algol_tree.specs.Sorts as sort
-use Rattle.algol_tree.specs.Sorts.{same_name, Declared, look_up}
+use Rattle.algol_tree.specs.Sorts.{same_name, Declared, look_up, declared_parameters}
 use Rattle.algol_tree.specs.Surroundings.{Surroundings, outermost, inside_procedure}
-use Rattle.b67_templates.specs.Cells.{variables}
-use Rattle.b67_fitting.proofs.Aligned.{Aligned}
-use Rattle.b67_fitting.proofs.Apart.{IsIn}
-use Rattle.b67_fitting.proofs.Clean.{IsPlain, simple, file, procedure, KnowsPlain}
+use Rattle.algol_paths.specs.Arrays.{DeclaredArray, arrays_of, lows_of, lows_declared}
+use Rattle.b67_templates.specs.Cells.{Simple, variables, parameters_in, parameters_around}
+use Rattle.b67_templates.specs.Code.{AreDimensions}
+use Rattle.b67_fitting.specs.Built.{HeadingBuilt}
+use Rattle.b67_fitting.proofs.Aligned.{Aligned, AreOthers}
+use Rattle.b67_fitting.proofs.Apart.{IsIn, Apart}
+use Rattle.b67_fitting.proofs.Arrayed.{array_spots, IsArrayed}
+use Rattle.b67_fitting.proofs.TypedBounds.{LowsWhole}
+use Rattle.b67_fitting.proofs.Clean.{IsPlain, simple, array, file, procedure, KnowsPlain}
 use Rattle.b67_fitting.proofs.Declaring.{found_either}
-use Rattle.b67_fitting.proofs.Frames.{variable_cells}
-use Rattle.b67_fitting.proofs.Stated.{no_parameters}
+use Rattle.b67_fitting.proofs.Frames.{named_around, named_of, variable_cells, made_cells}
+use Rattle.b67_fitting.proofs.Given.{given}
+use Rattle.b67_fitting.proofs.Parameters.{by_value}
 
 -- the places of the simple variables, and the headings of the procedures
 abbrev pub variable_spots : PDecls → List Spot
@@ -33,8 +43,27 @@ headings (tree.decls (tree.procedure h s) ds) = h ∷ headings ds
 headings (tree.decls d ds) = headings ds
 
 module _ (blocks : List Block) where
-  -- The declaration is that of a variable in a block of the program, no deeper than this. By its name and by its place the cell has the
-  -- same number among those of variables, and the block is not of a typed procedure of that name.
+  -- the cells of the parameters of a block, by their names and by their places
+  abbrev pub given_cells : Block → List Simple
+  given_cells b = parameters_around blocks b.outer b.spot
+
+  abbrev pub given_places : Block → List Cell
+  given_places b = cells_for (number_at blocks b.spot) cells.parameter (named_of blocks b)
+
+  -- By its name and by its place the cell has the same number among those of variables. The block is not of a typed procedure of that
+  -- name, and has no parameter of that name.
+  pub record IsVariableOf (in_block : Block) (name : List ℕ) (d : Declared) (kind : Kind) : Type 0 where
+    pub among : IsIn d.spot (variable_spots in_block.decls)
+    pub other : is_one_of (result_names_of (block_numbered blocks d.block)) name ≡ false
+    pub past : AreOthers name d.spot (given_cells in_block) (given_places in_block)
+    pub aligned : Aligned (variables in_block.decls) (variable_cells (number_at blocks in_block.spot) in_block.decls) name d.spot kind
+
+  -- .. among those of parameters
+  pub record IsParameterOf (in_block : Block) (name : List ℕ) (d : Declared) (kind : Kind) : Type 0 where
+    pub among : IsIn d.spot (spots_of_names (named_of blocks in_block))
+    pub aligned : Aligned (given_cells in_block) (given_places in_block) name d.spot kind
+
+  -- The declaration is that of a variable or of a parameter in a block of the program, no deeper than this.
   pub record IsHeld (depth : ℕ) (name : List ℕ) (d : Declared) (kind : Kind) : Type 0 where
     pub in_block : Block
     pub there : IsIn in_block blocks
@@ -43,17 +72,40 @@ module _ (blocks : List Block) where
     pub block_is : d.block ≡ number_at blocks in_block.spot
     pub depth_is : d.depth ≡ length in_block.outer
     pub within : d.depth ≤ depth
-    pub among : IsIn d.spot (variable_spots in_block.decls)
-    pub other : is_one_of (result_names_of (block_numbered blocks d.block)) name ≡ false
-    pub aligned : Aligned (variables in_block.decls) (variable_cells (number_at blocks in_block.spot) in_block.decls) name d.spot kind
+    pub place : IsVariableOf in_block name d kind ⊎ IsParameterOf in_block name d kind
 
-  -- The declaration is that of a procedure without parameters, with this heading and body, in a block of the program.
+  -- The declaration is that of an array with such elements and so many bounds, in a block of the program. The block has no simple cell of
+  -- that name.
+  pub record IsRowed (depth : ℕ) (name : List ℕ) (d : Declared) (kind : Kind) (rank : ℕ) : Type 0 where
+    pub in_block : Block
+    pub there : IsIn in_block blocks
+    pub class_is : d.class ≡ class.array kind rank
+    pub sort_is : d.sort ≡ sort.array
+    pub block_is : d.block ≡ number_at blocks in_block.spot
+    pub depth_is : d.depth ≡ length in_block.outer
+    pub within : d.depth ≤ depth
+    pub array : DeclaredArray
+    pub kind_is : array.kind ≡ kind
+    pub rank_is : length array.pairs ≡ rank
+    pub dimensions : AreDimensions array.pairs
+    pub whole : LowsWhole array.pairs
+    pub among : IsIn d.spot (array_spots in_block.decls)
+    pub arrayed : IsArrayed (arrays_of in_block.decls) (made_cells (number_at blocks in_block.spot) in_block.decls) name d.spot array
+    pub lows : lows_declared in_block.decls d.spot ≡ Some (lows_of array.pairs)
+    pub other : is_one_of (result_names_of (block_numbered blocks d.block)) name ≡ false
+    pub past : AllByRecursion (λ (x : Simple). same_name x.name name ≡ false) (given_cells in_block)
+    pub simple : AllByRecursion (λ (x : Simple). same_name x.name name ≡ false) (variables in_block.decls)
+
+  -- The declaration is that of a procedure with this heading and body, in a block of the program.
   pub record IsOwned (depth : ℕ) (name : List ℕ) (d : Declared) (h : Heading) : Type 0 where
     pub in_block : Block
     pub there : IsIn in_block blocks
     pub body : PStmt
     pub body_there : IsIn (procedure_block h body (in_block.spot ∷ in_block.outer)) blocks
-    pub bare : h.params ≡ []
+    pub built : HeadingBuilt h
+    pub once : twice_in_heading h ≡ []
+    pub cells_are : parameters_around blocks (in_block.spot ∷ in_block.outer) h.name.spot ≡ parameters_in h
+    pub named_are : named_around blocks (in_block.spot ∷ in_block.outer) h.name.spot ≡ h.params
     pub named : same_name h.name.name name ≡ true
     pub among : IsIn h (headings in_block.decls)
     pub class_is : d.class ≡ class.procedure h
@@ -66,6 +118,7 @@ module _ (blocks : List Block) where
   pub data IsKnown (depth : ℕ) (name : List ℕ) (d : Declared) : Type 0 where
     known_file : d.class ≡ class.file → d.sort ≡ sort.file → IsKnown depth name d
     known_variable : (kind : Kind) → IsHeld depth name d kind → IsKnown depth name d
+    known_array : (kind : Kind) (rank : ℕ) → IsRowed depth name d kind rank → IsKnown depth name d
     known_procedure : (h : Heading) → IsOwned depth name d h → IsKnown depth name d
 
   pub record Around (a : Surroundings) : Type 0 where
@@ -107,9 +160,28 @@ module _ (blocks : List Block) where
         block_is = h.block_is;
         depth_is = h.depth_is;
         within = omega (arith, l, h.within);
+        place = h.place;
+      })
+  deeper depth more name d l (known_array kind rank h) =
+      known_array kind rank (record {
+        in_block = h.in_block;
+        there = h.there;
+        class_is = h.class_is;
+        sort_is = h.sort_is;
+        block_is = h.block_is;
+        depth_is = h.depth_is;
+        within = omega (arith, l, h.within);
+        array = h.array;
+        kind_is = h.kind_is;
+        rank_is = h.rank_is;
+        dimensions = h.dimensions;
+        whole = h.whole;
         among = h.among;
+        arrayed = h.arrayed;
+        lows = h.lows;
         other = h.other;
-        aligned = h.aligned;
+        past = h.past;
+        simple = h.simple;
       })
   deeper depth more name d l (known_procedure heading h) =
       known_procedure heading (record {
@@ -117,7 +189,10 @@ module _ (blocks : List Block) where
         there = h.there;
         body = h.body;
         body_there = h.body_there;
-        bare = h.bare;
+        built = h.built;
+        once = h.once;
+        cells_are = h.cells_are;
+        named_are = h.named_are;
         named = h.named;
         among = h.among;
         class_is = h.class_is;
@@ -143,16 +218,52 @@ module _ (blocks : List Block) where
         around = around_inner a (number_at blocks c.spot) s.around;
       }
 
-  pub stands_procedure : (b : Block) (h : Heading) (body : PStmt) (a : Surroundings) → Stands b a → h.params ≡ [] → IsIn (procedure_block h body (b.spot ∷ b.outer)) blocks →
-      Stands (procedure_block h body (b.spot ∷ b.outer)) (inside_procedure blocks h a)
-  stands_procedure b h body a s e i =
-      subst (λ (ks : List Declared). Stands (procedure_block h body (b.spot ∷ b.outer)) (record { block = number_at blocks h.name.spot; depth = a.depth + 1; known = ks }))
-      (sym (no_parameters h (number_at blocks h.name.spot) (a.depth + 1) a.known e)) (stands_inner b (procedure_block h body (b.spot ∷ b.outer)) a s i refl)
+  pub stands_procedure : (b : Block) (h : Heading) (body : PStmt) (a : Surroundings) → Stands b a → HeadingBuilt h → Apart (spots_of_names h.params) →
+      parameters_around blocks (b.spot ∷ b.outer) h.name.spot ≡ parameters_in h → named_around blocks (b.spot ∷ b.outer) h.name.spot ≡ h.params →
+      IsIn (procedure_block h body (b.spot ∷ b.outer)) blocks → Stands (procedure_block h body (b.spot ∷ b.outer)) (inside_procedure blocks h a)
+  stands_procedure b h body a s u p e f i =
+      record {
+        there = inner.there;
+        block_is = refl;
+        depth_is = inner.depth_is;
+        outer = inner.outer;
+        around = around_with (record { block = k; depth = a.depth + 1; known = a.known }) (declared_parameters k (a.depth + 1) h) inner.around found;
+      }
+    where
+      c : Block
+      c = procedure_block h body (b.spot ∷ b.outer)
+
+      k : ℕ
+      k = number_at blocks h.name.spot
+
+      inner : Stands c (record { block = k; depth = a.depth + 1; known = a.known })
+      inner = stands_inner b c a s i refl
+
+      found : (name : List ℕ) (d : Declared) → look_up (declared_parameters k (a.depth + 1) h) name ≡ Some d → IsKnown (a.depth + 1) name d
+      found name d g =
+          let r = given k (a.depth + 1) h h.params (by_value h u) p name d g in
+          known_variable r.kind (record {
+            in_block = c;
+            there = i;
+            class_is = r.var.class_is;
+            sort_is = r.var.sort_is;
+            block_is = r.var.block_is;
+            depth_is = r.var.depth_is ∙ inner.depth_is;
+            within = omega (arith, r.var.depth_is);
+            place =
+                inr (record {
+                  among = subst (λ (ns : List Named). IsIn d.spot (spots_of_names ns)) (sym f) r.inside;
+                  aligned =
+                      subst (λ (xs : List Simple). Aligned xs (given_places c) name d.spot r.kind) (sym e)
+                      (subst (λ (ns : List Named). Aligned (parameters_in h) (cells_for k cells.parameter ns) name d.spot r.kind) (sym f) r.aligned);
+                });
+          })
 
   plain_class : (depth : ℕ) (name : List ℕ) (d : Declared) → IsKnown depth name d → IsPlain d.class
   plain_class depth name d (known_file c s) = subst IsPlain (sym c) file
   plain_class depth name d (known_variable k h) = subst IsPlain (sym h.class_is) (simple k)
-  plain_class depth name d (known_procedure g h) = subst IsPlain (sym h.class_is) (procedure g h.bare)
+  plain_class depth name d (known_array k rank h) = subst IsPlain (sym h.class_is) (array k rank)
+  plain_class depth name d (known_procedure g h) = subst IsPlain (sym h.class_is) (procedure g h.built)
 
   pub knows_plain : (a : Surroundings) → Around a → KnowsPlain a
   knows_plain a g = record { each = λ name d h. plain_class a.depth name d (g.each name d h) }

@@ -1,10 +1,9 @@
 -- The blocks of an accepted program that is built keep to the limits of levels and of cells.
-use Rattle.std.proofs.Common.{arith, ◌≡◌, ℕ, ◌+◌, ◌≤◌, List, [], ◌∷◌, ◌++◌, map, length, slice_get, Option, Some, None, zero, suc, refl, ap}
+use Rattle.std.proofs.Common.{arith, ◌≡◌, ℕ, ◌+◌, ◌≤◌, List, [], ◌∷◌, map, length, slice_get, Option, Some, None, zero, suc, refl, ap}
 use Rattle.std.proofs.lemmas.Bool.{ltb-false}
-use Rattle.std.proofs.lemmas.List.{length-map}
+use Rattle.std.proofs.lemmas.List.{length-append, length-map}
 use Rattle.algol_tree.specs.declared.TheConstants.{MOST_BLOCK_CELLS, MOST_LEVEL}
 use Rattle.algol_tree.specs.declared.token.Spot.{Spot}
-use Rattle.algol_tree.specs.declared.tree.Kind.{Kind}
 use Rattle.algol_tree.specs.declared.tree.Named.{Named}
 use Rattle.algol_tree.specs.Accepted.{scope_faults_in}
 use Rattle.algol_tree.specs.Blocks.{Block, number_at}
@@ -13,8 +12,9 @@ use Rattle.algol_tree.specs.Names.{if_so, is_too_deep, found_place, place_beyond
 use Rattle.algol_tree.specs.Plain as tree
 use Rattle.algol_tree.specs.Plain.{PDecls, PProgram}
 use Rattle.algol_tree.specs.Sites.{Site}
+use Rattle.algol_paths.specs.Arrays.{arrays_of}
 use Rattle.b67_templates.specs.Cells.{variables, procedures}
-use Rattle.b67_fitting.proofs.Frames.{result_cell, decl_cells, cells_of_block}
+use Rattle.b67_fitting.proofs.Frames.{named_of, front_cells, decl_cells, cells_of_block}
 use Rattle.b67_fitting.proofs.Apart.{IsIn, each_in}
 use Rattle.b67_fitting.proofs.Lists.{nil_front, nil_back, nil_map, nil_each, not_so}
 
@@ -30,21 +30,23 @@ not_found (Some s) h = absurd (let clash : s ∷ [] ≡ [] = h in cc)
 none_beyond : (most : ℕ) (spots : List Spot) → place_beyond most spots ≡ [] → length spots ≤ most
 none_beyond most spots h = no_longer spots most (not_found (slice_get spots most) h)
 
--- declarations have as many cells as simple variables and procedures
-as_many : (block : ℕ) (ds : PDecls) → length (decl_cells block ds) ≡ length (variables ds) + length (procedures ds)
+-- declarations have as many cells as simple variables, procedures and arrays
+as_many : (block : ℕ) (ds : PDecls) → length (decl_cells block ds) ≡ length (variables ds) + length (procedures ds) + length (arrays_of ds)
 as_many block tree.no_decls = refl
 as_many block (tree.decls (tree.simple kind ns) ds) = more ns (as_many block ds)
   where
-    more : (ms : List Named) → length (decl_cells block ds) ≡ length (variables ds) + length (procedures ds) →
-        length (decl_cells block (tree.decls (tree.simple kind ms) ds)) ≡ length (variables (tree.decls (tree.simple kind ms) ds)) + length (procedures ds)
+    more : (ms : List Named) → length (decl_cells block ds) ≡ length (variables ds) + length (procedures ds) + length (arrays_of ds) →
+        length (decl_cells block (tree.decls (tree.simple kind ms) ds)) ≡ length (variables (tree.decls (tree.simple kind ms) ds)) + length (procedures ds) + length (arrays_of ds)
+    more [] h = h
+    more (m ∷ ms) h = omega (arith, more ms h)
+as_many block (tree.decls (tree.arrays kind ns pairs) ds) = more ns (as_many block ds)
+  where
+    more : (ms : List Named) → length (decl_cells block ds) ≡ length (variables ds) + length (procedures ds) + length (arrays_of ds) →
+        length (decl_cells block (tree.decls (tree.arrays kind ms pairs) ds)) ≡ length (variables ds) + length (procedures ds) + length (arrays_of (tree.decls (tree.arrays kind ms pairs) ds))
     more [] h = h
     more (m ∷ ms) h = omega (arith, more ms h)
 as_many block (tree.decls (tree.procedure h s) ds) = omega (arith, as_many block ds)
 as_many block (tree.decls d ds) = as_many block ds
-
-with_result : (o : Option Kind) (block : ℕ) (spot : Spot) (cs : List Cell) → length cs ≤ length (result_cell o block spot ++ cs)
-with_result None block spot cs = omega arith
-with_result (Some kind) block spot cs = omega arith
 
 module _ (p : PProgram) (blocks : List Block) (sites : List Site) (accepted : scope_faults_in p blocks sites ≡ []) where
   few_places : (b : Block) → IsIn b blocks → length (map (λ (c : Cell). c.spot) (cells_of blocks sites (number_at blocks b.spot))) ≤ MOST_BLOCK_CELLS
@@ -53,10 +55,10 @@ module _ (p : PProgram) (blocks : List Block) (sites : List Site) (accepted : sc
       none_beyond MOST_BLOCK_CELLS (map (λ (c : Cell). c.spot) (cells_of blocks sites (number_at blocks b.spot)))
       (each_in (λ (c : Block). place_beyond MOST_BLOCK_CELLS (map (λ (c : Cell). c.spot) (cells_of blocks sites (number_at blocks c.spot))) ≡ []) b blocks (nil_each _ blocks beyond) i)
 
-  pub few_cells : (b : Block) → IsIn b blocks → cells_of blocks sites (number_at blocks b.spot) ≡ cells_of_block (number_at blocks b.spot) b →
-      length (variables b.decls) + length (procedures b.decls) ≤ MOST_BLOCK_CELLS
+  pub few_cells : (b : Block) → IsIn b blocks → cells_of blocks sites (number_at blocks b.spot) ≡ cells_of_block (number_at blocks b.spot) (named_of blocks b) b →
+      length (variables b.decls) + length (procedures b.decls) + length (arrays_of b.decls) ≤ MOST_BLOCK_CELLS
   few_cells b i own =
-      omega (arith, few_places b i, length-map (cells_of blocks sites (number_at blocks b.spot)) (λ (c : Cell). c.spot), ap length own, as_many (number_at blocks b.spot) b.decls, with_result b.result (number_at blocks b.spot) b.spot (decl_cells (number_at blocks b.spot) b.decls))
+      omega (arith, few_places b i, length-map (cells_of blocks sites (number_at blocks b.spot)) (λ (c : Cell). c.spot), ap length own, as_many (number_at blocks b.spot) b.decls, length-append (front_cells (number_at blocks b.spot) (named_of blocks b) b) (decl_cells (number_at blocks b.spot) b.decls))
 
   pub not_deep : (b : Block) → IsIn b blocks → level_of b ≤ MOST_LEVEL
   not_deep b i =

@@ -5,19 +5,20 @@ use Rattle.algol_tree.specs.declared.token.Spot.{Spot}
 use Rattle.algol_tree.specs.declared.tree.Named.{Named}
 use Rattle.algol_tree.specs.Ascending.{spots_of_names, spots_of_decls}
 use Rattle.algol_tree.specs.Blocks.{Block, number_at, blocks_in_stmts}
-use Rattle.algol_tree.specs.Cells.{Cell, cells_at}
+use Rattle.algol_tree.specs.Cells as contents
+use Rattle.algol_tree.specs.Cells.{Cell, cells_at, holding}
 use Rattle.algol_tree.specs.Couples.{Known, known_names, known_at}
 use Rattle.algol_tree.specs.Plain as tree
 use Rattle.algol_tree.specs.Plain.{PExpr}
 use Rattle.algol_tree.specs.Scopes.{used, names_in, uses_at}
 use Rattle.algol_tree.specs.Sites as parts
-use Rattle.algol_tree.specs.Sites.{Part, Site, here_stmt, sites_in_stmts}
+use Rattle.algol_tree.specs.Sites.{Part, Site, here_stmt, sites_in_stmts, sites_in_decls}
 use Rattle.algol_tree.specs.Surroundings.{Surroundings}
 use Rattle.b67_fitting.proofs.Among.{Among}
 use Rattle.b67_fitting.proofs.Apart.{IsIn, Apart}
-use Rattle.b67_fitting.proofs.Frames.{IsOwn, control_cell, result_cell, decl_cells}
+use Rattle.b67_fitting.proofs.Frames.{IsOwn, control_cell, named_of, front_cells, decl_cells}
 use Rattle.b67_fitting.proofs.Known.{Stands}
-use Rattle.b67_fitting.proofs.Stated.{TypedStmts}
+use Rattle.b67_fitting.proofs.Stated.{TypedStmts, TypedDecls}
 
 -- all of these are blocks of the program
 abbrev pub AllThere : List Block → List Block → Type 0
@@ -50,6 +51,7 @@ module _ (blocks : List Block) where
     pub cells : cells_at blocks x ≡ own
     pub owns : AllByRecursion (IsOwn block) own
     pub among : AllByRecursion (λ (c : Cell). IsIn c.spot spots) own
+    pub made : Among (map (λ (c : Cell). c.spot) (holding contents.made own)) spots
     pub reads : reads_in x.part ≡ []
     pub lefts : lefts_in x.part ≡ []
 
@@ -57,23 +59,26 @@ module _ (blocks : List Block) where
   pub record IsProcedure (block : ℕ) (x : Site) (b : Block) (more : List Spot) : Type 0 where
     pub uses : uses_at x ≡ []
     pub knows : Among (map (λ (k : Known). k.spot) (known_at blocks x)) (b.spot ∷ more)
-    pub cells : cells_at blocks x ≡ (control_cell block b.spot ∷ []) ++ result_cell b.result (number_at blocks b.spot) b.spot
+    pub cells : cells_at blocks x ≡ (control_cell block b.spot ∷ []) ++ front_cells (number_at blocks b.spot) (named_of blocks b) b
+    pub among : AllByRecursion (λ (n : Named). IsIn n.spot more) (named_of blocks b)
     pub reads : reads_in x.part ≡ []
     pub lefts : lefts_in x.part ≡ []
 
-  -- A block of the program whose declarations have these cells. Of its parts the last are those of its statements.
+  -- A block of the program whose declarations have these cells. Of its parts the last are those of its declarations and its statements.
   pub record IsBlock (b : Block) (own : List Cell) (xs : List Site) : Type 0 where
     pub there : IsIn b blocks
-    pub plain : b.parameters ≡ []
-    pub apart : Apart (b.spot ∷ spots_of_decls b.decls)
+    pub apart : Apart (b.spot ∷ (spots_of_names (named_of blocks b) ++ spots_of_decls b.decls))
     pub own_is : own ≡ decl_cells (number_at blocks b.spot) b.decls
+    pub begin : Surroundings
+    pub begins : Stands blocks b begin
+    pub declares : TypedDecls blocks begin begin.known b.decls
     pub around : Surroundings
     pub stands : Stands blocks b around
     pub typed : TypedStmts blocks around b.stmts
     pub inner : AllThere blocks (blocks_in_stmts b.stmts (b.spot ∷ b.outer))
     pub front : List Site
     pub listed : Bool
-    pub sites_are : xs ≡ front ++ sites_in_stmts blocks b.stmts listed around
+    pub sites_are : xs ≡ front ++ sites_in_decls blocks b.decls begin begin.known ++ sites_in_stmts blocks b.stmts listed around
 
   -- Parts in the block with this number. The places of their names and of the blocks in them are among these, in this order. These are
   -- the cells of the block that they have, and the blocks in them.
@@ -88,7 +93,7 @@ module _ (blocks : List Block) where
         Listed k spots own bs xs → Listed k (names ++ spots) (new ++ own) bs (x ∷ xs)
     both : (k : ℕ) {p q : List Spot} {os ns : List Cell} {bs cs : List Block} {xs ys : List Site} → Listed k p os bs xs → Listed k q ns cs ys →
         Listed k (p ++ q) (os ++ ns) (bs ++ cs) (xs ++ ys)
-    block : (k : ℕ) (b : Block) {spots : List Spot} {own : List Cell} {bs : List Block} {xs : List Site} → b.result ≡ None → IsBlock b own xs →
+    block : (k : ℕ) (b : Block) {spots : List Spot} {own : List Cell} {bs : List Block} {xs : List Site} → (b.result ≡ None) × (named_of blocks b ≡ []) → IsBlock b own xs →
         Listed (number_at blocks b.spot) spots own bs xs → Listed k (b.spot ∷ spots) [] (b ∷ bs) xs
     procedure : (k : ℕ) (x : Site) (b : Block) (more : List Spot) {spots : List Spot} {own : List Cell} {bs : List Block} {xs : List Site} → IsProcedure k x b more → IsBlock b own xs →
         Listed (number_at blocks b.spot) spots own bs xs → Listed k ((b.spot ∷ more) ++ spots) (control_cell k b.spot ∷ []) (b ∷ bs) (x ∷ xs)

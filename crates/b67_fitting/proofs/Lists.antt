@@ -20,6 +20,10 @@ pub each_of : {X : Type 0} (P Q : X → Type 0) (xs : List X) → ((x : X) → P
 each_of P Q [] f h = tt
 each_of P Q (x ∷ xs) f h = (f x h.0, each_of P Q xs f h.1)
 
+pub each_map : {X Y : Type 0} (P : Y → Type 0) (f : X → Y) (xs : List X) → AllByRecursion (λ (x : X). P (f x)) xs → AllByRecursion P (map f xs)
+each_map P f [] h = tt
+each_map P f (x ∷ xs) h = (h.0, each_map P f xs h.1)
+
 pub nil_front : {X : Type 0} (xs ys : List X) → xs ++ ys ≡ [] → xs ≡ []
 nil_front [] ys h = refl
 nil_front (x ∷ xs) ys h = absurd (let clash : x ∷ (xs ++ ys) ≡ [] = h in cc)

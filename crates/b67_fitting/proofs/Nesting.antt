@@ -11,22 +11,31 @@ use Rattle.algol_tree.specs.Ascending.{IsInOrder, spots_of, spots_of_decls, spot
 use Rattle.algol_tree.specs.Blocks.{Block, blocks_of_program, blocks_in_decls, blocks_in_stmts, number_at, around}
 use Rattle.algol_tree.specs.Cells.{Cell, cells_of, level_of}
 use Rattle.algol_tree.specs.Checks.{wrong_types, not_assignable}
-use Rattle.algol_tree.specs.Names.{Segment, if_so, is_too_deep, found_place, place_beyond, cells_beyond, procedures, procedures_beyond, deep_blocks, segments, long_segments, unknown_names}
+use Rattle.algol_tree.specs.Names.{Segment, if_so, is_too_deep, declared_twice, found_place, place_beyond, cells_beyond, procedures, procedures_beyond, deep_blocks, segments, long_segments, unknown_names}
 use Rattle.algol_tree.specs.Plain as tree
 use Rattle.algol_tree.specs.Plain.{PDecls, PStmts, PProgram}
 use Rattle.algol_tree.specs.Scopes.{Scopes, scopes_of, scopes_by, uses_at}
 use Rattle.algol_tree.specs.Sites.{Site, sites_in_decls, sites_in_stmts, has_decls}
 use Rattle.algol_tree.specs.Surroundings.{Surroundings, outermost, knowing_all}
 use Rattle.algol_paths.specs.Segments.{is_procedure, procedures_before, tokens_or_none, segment_tokens}
+use Rattle.b67_templates.specs.Cells.{parameters_around}
 use Rattle.b67_fitting.specs.Built.{DeclsBuilt, StmtsBuilt}
-use Rattle.b67_fitting.specs.Nested.{IsText, AreNested, BuiltProgramsLieNested}
+use Rattle.b67_fitting.specs.Nested.{AreByValue, IsText, AreNested, BuiltProgramsLieNested}
 use Rattle.b67_fitting.proofs.Lists.{each_front, each_back, each_both, nil_front, nil_back, nil_map, nil_each, not_so}
-use Rattle.b67_fitting.proofs.Numbering.{times_both, places, places_both, once, Apart, once_apart, use_place, IsThere, all_there, block_place, IsNumbered, all_numbered, each_at, number_is, number_first}
+use Rattle.b67_fitting.proofs.Numbering.{times_both, places, places_both, once, Apart, once_apart, use_place, IsThere, all_there, block_place, IsNumbered, all_numbered, block_is, each_at, number_is, number_first}
+use Rattle.b67_fitting.proofs.Apart.{Apart as IsApartList, each_in, ascending_apart, apart_front, apart_back}
+use Rattle.b67_fitting.proofs.Clean.{none_long}
+use Rattle.b67_fitting.proofs.Frames.{named_of, named_long}
+use Rattle.b67_fitting.proofs.Given.{AreWhole}
+use Rattle.b67_fitting.proofs.Parameters.{outside}
+use Rattle.b67_fitting.proofs.ResultsApart.{IsClear, AreClear, AreOnce, in_stmts as clear_stmts, in_decls as clear_decls}
+use Rattle.b67_fitting.proofs.Headed.{IsIt, of_begin, in_stmts as headed_stmts, in_decls as headed_decls}
 use Rattle.b67_fitting.proofs.UsesOnce as uses
 use Rattle.b67_fitting.proofs.BlocksOnce as inner
 use Rattle.b67_fitting.proofs.Callees.{IsChain, AreCallees}
 use Rattle.b67_fitting.proofs.Surrounded.{IsAround, knows_all, AreKept, AreGood}
-use Rattle.b67_fitting.proofs.CellsFew.{as_many, built_items}
+use Rattle.b67_fitting.proofs.Bounds.{in_bounds}
+use Rattle.b67_fitting.proofs.CellsFew.{as_many, parameters_many}
 use Rattle.b67_fitting.proofs.OneBlock.{the_block, IsFine, AreFine, ArePart, front, back, IsTextOf, is_text}
 use Rattle.b67_fitting.proofs.TextsNested.{callees, in_stmts, in_decls}
 
@@ -99,18 +108,19 @@ module _ (sc : Scopes) (all : List Site) where
   abbrev HasFew : Block → Type 0
   HasFew b = place_beyond MOST_BLOCK_CELLS (map (λ (c : Cell). c.spot) (cells_of sc.blocks all (number_at sc.blocks b.spot))) ≡ []
 
-  one_fine : (b : Block) → IsNumbered sc.blocks b → IsLow b → HasFew b → IsFine sc all b
-  one_fine b n l h =
+  one_fine : (b : Block) → IsNumbered sc.blocks b → AreByValue sc b → IsLow b → HasFew b → IsFine sc all b
+  one_fine b n v l h =
       let its = cells_of sc.blocks all (number_at sc.blocks b.spot) in
       record {
         numbered = n;
+        headed = v;
         low = not_over MOST_LEVEL (level_of b) (not_so (is_too_deep (level_of b)) b.spot l);
         few = omega (arith, none_beyond MOST_BLOCK_CELLS (map (λ (c : Cell). c.spot) its) h, length-map its (λ (c : Cell). c.spot));
       }
 
-  all_fine : (bs : List Block) → AllByRecursion (IsNumbered sc.blocks) bs → AllByRecursion IsLow bs → AllByRecursion HasFew bs → AreFine sc all bs
-  all_fine [] n l h = tt
-  all_fine (b ∷ bs) n l h = (one_fine b n.0 l.0 h.0, all_fine bs n.1 l.1 h.1)
+  all_fine : (bs : List Block) → AllByRecursion (IsNumbered sc.blocks) bs → AllByRecursion (AreByValue sc) bs → AllByRecursion IsLow bs → AllByRecursion HasFew bs → AreFine sc all bs
+  all_fine [] n v l h = tt
+  all_fine (b ∷ bs) n v l h = (one_fine b n.0 v.0 l.0 h.0, all_fine bs n.1 v.1 l.1 h.1)
 
 -- ---- the program
 
@@ -170,6 +180,41 @@ module _ (spot : Spot) (ds : PDecls) (ss : PStmts) (order : IsInOrder (tree.prog
         places_both s (spots_of_decls ds) (spots_of_stmts ss),
       ))
 
+  -- no parameter of a typed procedure has its name, where nothing is declared twice
+  clear : AreOnce blocks all → AreClear blocks
+  clear once = (
+    λ kind e. absurd (let clash : None ≡ Some kind = e in cc),
+    each_both IsClear (blocks_in_decls ds outer) (blocks_in_stmts ss outer)
+        (clear_decls blocks ds outermost [] outer (each_front (λ (x : Site). declared_twice blocks x ≡ []) declared stated once))
+        (clear_stmts blocks ss (has_decls ds) behind outer (each_back (λ (x : Site). declared_twice blocks x ≡ []) declared stated once)),
+  )
+
+  its_own : (bs : List Block) → AllByRecursion (IsNumbered blocks) bs → AreClear bs → AllByRecursion (IsIt sc) bs
+  its_own [] n c = tt
+  its_own (b ∷ bs) n c = ((block_is blocks (number_at blocks b.spot) b n.0, c.0), its_own bs n.1 c.1)
+
+  -- all blocks have their parameters by value
+  pub headed : AreOnce blocks all → AllByRecursion (AreByValue sc) blocks
+  headed once =
+      let first : Block = the_block spot [] ds ss in
+      let declared = blocks_in_decls ds outer in
+      let stated = blocks_in_stmts ss outer in
+      let its = its_own blocks (all_numbered blocks blocks_apart) (clear once) in
+      let apart : IsApartList (spots_of_decls ds ++ spots_of_stmts ss) = (ascending_apart (spots_of program) order).1 in (
+        of_begin sc first refl refl,
+        each_both (AreByValue sc) declared stated
+            (headed_decls sc first its.0 ds built_decls (apart_front (spots_of_decls ds) (spots_of_stmts ss) apart) (λ s i. refl) (each_front (IsIt sc) declared stated its.1))
+            (headed_stmts sc first its.0 ss built (apart_back (spots_of_decls ds) (spots_of_stmts ss) apart) (outside ds (spots_of_stmts ss) apart) (each_back (IsIt sc) declared stated its.1)),
+      )
+
+  pub whole : AreOnce blocks all → AreWhole blocks
+  whole once =
+      record {
+        numbered = λ b i. block_is blocks (number_at blocks b.spot) b (each_in (IsNumbered blocks) b blocks (all_numbered blocks blocks_apart) i);
+        no_cells = λ b i e. none_long (parameters_around blocks b.outer b.spot) (omega (arith, parameters_many sc b (each_in (AreByValue sc) b blocks (headed once) i), ap length e));
+        no_names = λ b i e. none_long (named_of blocks b) (omega (arith, named_long blocks b, parameters_many sc b (each_in (AreByValue sc) b blocks (headed once) i), ap length e));
+      }
+
   -- the number of the outermost block
   abbrev pub first : ℕ
   first = number_at blocks spot
@@ -205,8 +250,9 @@ module _ (spot : Spot) (ds : PDecls) (ss : PStmts) (order : IsInOrder (tree.prog
         let in_procedures = in_decls sc all first outer outermost ds [] starts built_decls called part fine_decls in
         let nested = in_stmts sc all first outer behind ss (has_decls ds) begun built (back sc all declared stated parts) fine_stmts in
         let same_cells : length (cells_of blocks declared first) ≡ length (cells_of blocks declared 0) = ap (λ (i : ℕ). length (cells_of blocks declared i)) number_outer in
+        let bounds = in_bounds sc first outer outermost ds [] starts tt built_decls part.good in
         let its_text =
-        is_text sc all (the_block spot [] ds ss) fine.0 refl (built_items ds built_decls) called (omega (arith, as_many blocks ds outermost [] built_decls, same_cells, part.less first)) nested.0 in
+        is_text sc all (the_block spot [] ds ss) fine.0 built_decls called (omega (arith, as_many blocks ds outermost [] built_decls, same_cells, part.less first)) bounds nested.0 in
         (its_text, each_both (IsTextOf sc all) (blocks_in_decls ds outer) (blocks_in_stmts ss outer) in_procedures nested.1)
 
     nested_by : procedures_beyond blocks ≡ [] → AreNested sc
@@ -228,11 +274,11 @@ module _ (spot : Spot) (ds : PDecls) (ss : PStmts) (order : IsInOrder (tree.prog
   good_by unknown =
       all_good sc all (of_each (IsThere sc.uses) uses_at all (all_there sc.uses uses_apart)) (nil_each unknown_names all unknown)
 
-  lies_by : flat_map unknown_names all ≡ [] → deep_blocks blocks ≡ [] → cells_beyond blocks all ≡ [] → procedures_beyond blocks ≡ [] → flat_map (wrong_types blocks) all ≡ [] →
+  lies_by : flat_map unknown_names all ≡ [] → flat_map (declared_twice blocks) all ≡ [] → deep_blocks blocks ≡ [] → cells_beyond blocks all ≡ [] → procedures_beyond blocks ≡ [] → flat_map (wrong_types blocks) all ≡ [] →
       flat_map (not_assignable blocks) all ≡ [] → AreNested sc
-  lies_by unknown deep cells many wrong assigned =
+  lies_by unknown twice deep cells many wrong assigned =
       let kept = all_kept blocks all (nil_each (wrong_types blocks) all wrong) (nil_each (not_assignable blocks) all assigned) in
-      nested_by (good_by unknown) kept (all_fine sc all blocks (all_numbered blocks blocks_apart) (nil_each _ blocks deep) (nil_each _ blocks cells)) many
+      nested_by (good_by unknown) kept (all_fine sc all blocks (all_numbered blocks blocks_apart) (headed (nil_each (declared_twice blocks) all twice)) (nil_each _ blocks deep) (nil_each _ blocks cells)) many
 
 pub built_programs_lie_nested : BuiltProgramsLieNested
 unfolding scopes_of blocks_of_program scope_faults check_faults
@@ -240,7 +286,9 @@ built_programs_lie_nested (tree.program (tree.body spot ds ss)) accepted order b
     let up_to_procedures = nil_front _ _ accepted.scoped in
     let up_to_cells = nil_front _ _ up_to_procedures in
     let up_to_levels = nil_front _ _ up_to_cells in
-    let unknown = nil_front _ _ (nil_front _ _ up_to_levels) in
+    let names = nil_front _ _ up_to_levels in
+    let unknown = nil_front _ _ names in
+    let twice = nil_back _ _ names in
     let levels = nil_back _ _ up_to_levels in
     let cells = nil_back _ _ up_to_cells in
     let many = nil_back _ _ up_to_procedures in
@@ -250,6 +298,6 @@ built_programs_lie_nested (tree.program (tree.body spot ds ss)) accepted order b
     let assigned = nil_back _ _ up_to_assigned in
     record {
       nested =
-          lies_by spot ds ss order built.0 built.1 (nil_map _ _ unknown) (nil_front _ _ (nil_map _ _ levels)) (nil_map _ _ cells) (nil_map _ _ many) (nil_map _ _ wrong) (nil_map _ _ assigned);
+          lies_by spot ds ss order built.0 built.1 (nil_map _ _ unknown) (nil_map _ _ twice) (nil_front _ _ (nil_map _ _ levels)) (nil_map _ _ cells) (nil_map _ _ many) (nil_map _ _ wrong) (nil_map _ _ assigned);
       short = short_segments (tree.program (tree.body spot ds ss)) (nil_map _ _ long);
     }

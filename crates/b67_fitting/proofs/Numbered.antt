@@ -1,5 +1,6 @@
 -- The numbers of what is read from tokens are whole, where the tokens are right.
-use Rattle.std.proofs.Common.{ℕ, List, subst}
+use Rattle.std.proofs.Common.{ℕ, ℤ, pos, negsuc, neg_ℤ, ◌-ℤ◌, zero, suc, List, sym, subst}
+use Rattle.std.proofs.Math.IntN.{+ℤ_idl}
 use Rattle.algol_tree.specs.declared.level.Level.{Level}
 use Rattle.algol_tree.specs.declared.token.Spot.{Spot}
 use Rattle.algol_tree.specs.declared.token.Token.{Token}
@@ -7,15 +8,18 @@ use Rattle.algol_tree.specs.declared.tree.Kind.{Kind}
 use Rattle.algol_tree.specs.declared.tree.Named.{Named}
 use Rattle.algol_tree.specs.Expressions as grammar
 use Rattle.algol_tree.specs.Expressions.{IsPart, IsMore, IsExprs}
+use Rattle.algol_tree.specs.Headings as headings
+use Rattle.algol_tree.specs.Headings.{IsLiteral}
 use Rattle.algol_tree.specs.Operators.{Part}
 use Rattle.algol_tree.specs.Plain.{PExpr, call, called, PExprs, PPair, PStmt, PStmts, PDecls, no_decls, decls, PBody, PProgram}
 use Rattle.algol_tree.specs.Programs as programs
 use Rattle.algol_tree.specs.Programs.{IsProgram, Reads}
 use Rattle.algol_tree.specs.Statements as statements
 use Rattle.algol_tree.specs.Statements.{decls_and, IsWholes, IsActuals, IsSubscripts, IsItems, IsPair, IsPairs, IsSegments, IsStmt, IsStmts, IsDecl, IsDecls, IsBody}
+use Rattle.b67_templates.specs.Fragments.{IsWhole}
 use Rattle.b67_fitting.specs.Numbers.{SourcesHaveWholeNumbers}
 use Rattle.b67_fitting.specs.Wholes.{NumbersWhole, AllWhole, BoundsWhole, StmtWhole, StmtsWhole, DeclsWhole, BodyWhole, HasWholeNumbers}
-use Rattle.b67_fitting.proofs.Behind.{behind_event, behind_names, behind_files, behind_typed, behind_literal, behind_heading, behind_task, behind_to, behind_phrases}
+use Rattle.b67_fitting.proofs.Behind.{behind_event, behind_names, behind_files, behind_typed, behind_heading, behind_task, behind_to, behind_phrases}
 use Rattle.b67_fitting.proofs.Lexed.{KindRight, TokenRight, AreRight, text_right}
 
 -- what was read, and what stands behind it
@@ -113,17 +117,33 @@ pub items_whole : {free : ℕ} {from : List Token} {es : PExprs} {rest : List To
 items_whole (statements.nothing rest) w = (tt, w)
 items_whole (statements.items t es from rest i x) w = wholes_whole x w.1
 
-pair_whole : {free : ℕ} {from : List Token} {p : PPair} {rest : List Token} → IsPair free from p rest → AreRight from → Read (NumbersWhole p.high) rest
-pair_whole (statements.pair t low high from after rest x i y) w = expr_whole y (behind_literal TokenRight x w).1
+-- a sign leaves the magnitude
+negated_whole : (z : ℤ) → IsWhole z → IsWhole (neg_ℤ z)
+negated_whole (pos zero) h = h
+negated_whole (pos (suc n)) h = h
+negated_whole (negsuc n) h = h
+
+opposite_whole : (z : ℤ) → IsWhole z → IsWhole (pos 0 -ℤ z)
+opposite_whole z h = subst IsWhole (sym (+ℤ_idl (neg_ℤ z))) (negated_whole z h)
+
+literal_whole : {from : List Token} {low : ℤ} {rest : List Token} → IsLiteral from low rest → AreRight from → Read (IsWhole low) rest
+literal_whole (headings.positive t value rest i) w = (subst KindRight i w.0, w.1)
+literal_whole (headings.negative t u value rest i j) w = (opposite_whole value (subst KindRight j w.1.0), w.1.1)
+
+pair_whole : {free : ℕ} {from : List Token} {p : PPair} {rest : List Token} → IsPair free from p rest → AreRight from → Read (IsWhole p.low × NumbersWhole p.high) rest
+pair_whole (statements.pair t low high from after rest x i y) w =
+    let one = literal_whole x w in
+    let two = expr_whole y one.1.1 in
+    ((one.0, two.0), two.1)
 
 pairs_whole : {free : ℕ} {from : List Token} {ps : List PPair} {rest : List Token} → IsPairs free from ps rest → AreRight from → Read (BoundsWhole ps) rest
 pairs_whole (statements.one p from rest x) w =
     let one = pair_whole x w in
-    ((one.0, tt), one.1)
+    ((tt, (one.0, tt)), one.1)
 pairs_whole (statements.two t p q from after rest x i y) w =
     let one = pair_whole x w in
     let two = pair_whole y one.1.1 in
-    ((one.0, (two.0, tt)), two.1)
+    ((tt, (one.0, (two.0, tt))), two.1)
 
 pub segments_whole : {free : ℕ} {kind : Kind} {from : List Token} {ds : PDecls} {rest : List Token} → IsSegments free kind from ds rest → AreRight from → Read (DeclsWhole ds) rest
 segments_whole (statements.last kind u v ns ps from mid rest x i y j) w =

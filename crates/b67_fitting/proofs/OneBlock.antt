@@ -1,4 +1,4 @@
--- A block that keeps the rules: its text keeps to it where its statements and declarations do.
+-- A block that keeps the rules: its text keeps to it where its bounds and its statements do.
 use Rattle.std.proofs.Common.{arith, ◌≡◌, ℕ, ◌+◌, ◌<◌, ◌≤◌, List, [], ◌∷◌, ◌++◌, length, map, Some, None, sym, ap, ◌∙◌, subst, zero, suc, slice_get}
 use Rattle.std.proofs.lemmas.Option.{slice_get_within}
 use Rattle.std.specs.List.{AllByRecursion}
@@ -11,16 +11,21 @@ use Rattle.algol_tree.specs.Plain as tree
 use Rattle.algol_tree.specs.Plain.{PStmts, PDecls}
 use Rattle.algol_tree.specs.Scopes.{Scopes}
 use Rattle.algol_tree.specs.Sites.{Site}
-use Rattle.algol_meaning.specs.Statements.{decls_items}
-use Rattle.algol_paths.specs.Blocks.{IsSeen, IsInner}
+use Rattle.algol_meaning.specs.Statements.{items_of}
+use Rattle.algol_paths.specs.Arrays.{arrays_of}
+use Rattle.algol_paths.specs.Blocks.{IsSeen, IsSeenAround, IsInner}
+use Rattle.algol_paths.specs.Laws.{ItemsKeepToText}
 use Rattle.algol_paths.specs.Texts.{InStmts}
 use Rattle.b67_templates.specs.Cells.{simple_cells, result_of, variables, procedures}
-use Rattle.b67_fitting.specs.Nested.{IsDeclared, IsText}
+use Rattle.b67_fitting.specs.Built.{DeclsBuilt}
+use Rattle.b67_fitting.specs.Nested.{IsDeclared, AreByValue, IsText}
+use Rattle.b67_fitting.proofs.BlockItems.{in_items}
+use Rattle.b67_fitting.proofs.Bounds.{InBounds}
 use Rattle.b67_fitting.proofs.Lists.{each_front, each_back, each_of}
 use Rattle.b67_fitting.proofs.Numbering.{IsNumbered, block_is}
 use Rattle.b67_fitting.proofs.Callees.{IsNamed, AreNamed, AreCallees}
 use Rattle.b67_fitting.proofs.Surrounded.{IsGood, AreGood, IsKept, AreKept}
-use Rattle.b67_fitting.proofs.CellsFew.{cells_both, simple_many}
+use Rattle.b67_fitting.proofs.CellsFew.{cells_both, simple_many, parameters_many}
 
 -- the block of a BEGIN
 abbrev pub the_block : Spot → List Spot → PDecls → PStmts → Block
@@ -38,9 +43,10 @@ declared_by sc j (tree.decls d ds) c i declared h = declared_by sc j ds c i decl
 
 -- `all`: all parts of the tree
 module _ (sc : Scopes) (all : List Site) where
-  -- The block has its number by its place, is not too deep and has not too many cells.
+  -- The block has its number by its place and its parameters by value, is not too deep and has not too many cells.
   pub record IsFine (b : Block) : Type 0 where
     pub numbered : IsNumbered sc.blocks b
+    pub headed : AreByValue sc b
     pub low : level_of b ≤ MOST_LEVEL
     pub few : length (cells_of sc.blocks all (number_at sc.blocks b.spot)) ≤ MOST_BLOCK_CELLS
 
@@ -99,16 +105,15 @@ module _ (sc : Scopes) (all : List Site) where
     pub outer_is : around sc.blocks k ≡ map (number_at sc.blocks) b.outer
     outer_is = ap (λ (z : Block). map (number_at sc.blocks) z.outer) it_is
 
-    pub is_text : b.parameters ≡ [] → decls_items b.decls ≡ [] → AreCallees sc.blocks k b.decls →
-        length (result_of b.result b.name) + (length (variables b.decls) + length (procedures b.decls)) ≤ length (cells_of sc.blocks all k) →
-        InStmts (IsSeen sc k) (IsInner sc k) b.stmts → IsTextOf b
-    is_text p m c n t =
-        let few : length (simple_cells b) + length (procedures b.decls) ≤ MOST_BLOCK_CELLS = omega (arith, simple_many b, ap length p, n, f.few) in
+    pub is_text : DeclsBuilt b.decls → AreCallees sc.blocks k b.decls →
+        length b.parameters + (length (result_of b.result b.name) + (length (variables b.decls) + length (procedures b.decls) + length (arrays_of b.decls))) ≤ length (cells_of sc.blocks all k) →
+        InBounds (IsSeenAround sc k) b.decls → InStmts (IsSeen sc k) (IsInner sc k) b.stmts → IsTextOf b
+    is_text d c n s t =
+        let few : length (simple_cells sc b) + length (procedures b.decls) + length (arrays_of b.decls) ≤ MOST_BLOCK_CELLS = omega (arith, simple_many sc b, parameters_many sc b f.headed, n, f.few) in
         record {
-          text = subst (λ (z : Block). InStmts (IsSeen sc k) (IsInner sc k) z.stmts) (sym it_is) t;
-          plain = ap (λ (z : Block). z.parameters) it_is ∙ p;
-          made = ap (λ (z : Block). decls_items z.decls) it_is ∙ m;
-          few = subst (λ (z : Block). length (simple_cells z) + length (procedures z.decls) ≤ MOST_BLOCK_CELLS) (sym it_is) few;
+          items = subst (λ (z : Block). ItemsKeepToText sc k (items_of z)) (sym it_is) (in_items (IsSeen sc k) (IsInner sc k) (IsSeenAround sc k) b d s t);
+          parameters = subst (AreByValue sc) (sym it_is) f.headed;
+          few = subst (λ (z : Block). length (simple_cells sc z) + length (procedures z.decls) + length (arrays_of z.decls) ≤ MOST_BLOCK_CELLS) (sym it_is) few;
           low = subst (λ (z : Block). level_of z ≤ MOST_LEVEL) (sym it_is) f.low;
           procedure = λ i declared h. declared_by sc k b.decls c i declared (subst (λ (z : Block). slice_get (procedures z.decls) i ≡ Some declared) it_is h);
         }

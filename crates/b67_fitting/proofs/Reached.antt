@@ -1,66 +1,35 @@
 -- Each part of a program has the couples of its names.
-use Rattle.std.proofs.Common.{arith, ◌≡◌, inl, inr, ℕ, ◌<◌, Bool, List, [], ◌∷◌, ◌++◌, Option, Some, None, refl, sym, ap, ◌∙◌, subst}
+use Rattle.std.proofs.Common.{arith, ◌≡◌, inl, inr, ℕ, ◌<◌, ℤ, Bool, List, [], ◌∷◌, ◌++◌, Option, Some, refl, sym, ap, subst}
 use Rattle.std.specs.List.{flat_map, AllByRecursion}
 use Rattle.algol_tree.specs.declared.token.Spot.{Spot}
-use Rattle.algol_tree.specs.declared.tree.Heading.{Heading}
-use Rattle.algol_tree.specs.declared.tree.Kind.{Kind}
 use Rattle.algol_tree.specs.declared.tree.Named.{Named}
 use Rattle.algol_tree.specs.Blocks.{Block, number_at, procedure_block}
 use Rattle.algol_tree.specs.Cells as cells
 use Rattle.algol_tree.specs.Cells.{Cell, couple_in}
-use Rattle.algol_tree.specs.Classes as class
-use Rattle.algol_tree.specs.Classes.{Class}
 use Rattle.algol_tree.specs.Couples.{Known, Located, known_by, known_at, known_there, declaration_in}
 use Rattle.algol_tree.specs.Plain as tree
 use Rattle.algol_tree.specs.Plain.{PExpr}
 use Rattle.algol_tree.specs.Scopes.{Scopes, Use, used, use_by, left_use, left_uses, names_in, uses_at, declared_in, use_of}
 use Rattle.algol_tree.specs.Sites.{Site, here_stmt}
 use Rattle.algol_tree.specs.Sorts.{Declared}
-use Rattle.algol_tree.specs.Surroundings.{Surroundings, class_of, class_of_declared, declared_as}
+use Rattle.algol_tree.specs.Surroundings.{Surroundings, declared_as}
+use Rattle.algol_paths.specs.Arrays.{lows_at}
 use Rattle.b67_ops.specs.declared.Couple.{Couple}
 use Rattle.b67_fitting.specs.Fitted.{spelled}
 use Rattle.b67_fitting.proofs.Apart.{IsIn, in_each, in_front, in_back, in_flat}
 use Rattle.b67_fitting.proofs.Coupled.{the_use, result_use, use_is, IsProgram, scopes, used_at, known_at_place, inside_deep, variable_fits, procedure_fits, result_fits}
-use Rattle.b67_fitting.proofs.Known.{IsHeld, IsOwned, IsKnown, known_file, known_variable, known_procedure, Stands}
+use Rattle.b67_fitting.proofs.CoupledArrays.{row_fits}
+use Rattle.b67_fitting.proofs.Known.{Stands}
 use Rattle.b67_fitting.proofs.Listed as listing
 use Rattle.b67_fitting.proofs.Listed.{reads_in, lefts_in, IsFair, Listed, over, passed, site, declared, both, block, procedure}
 use Rattle.b67_fitting.proofs.Lists.{each_both}
+use Rattle.b67_fitting.proofs.Meant.{declared_simple, declared_array, declared_procedure, held_of, rowed_of, owned_of}
 use Rattle.b67_fitting.proofs.Placed.{IsPlaced, IsLeftPlaced, SitePlaced}
-use Rattle.b67_fitting.proofs.Typed.{IsOf}
 
-record IsDeclared (a : Surroundings) (c : Class) (n : Named) : Type 0 where
-  pub as_one : Declared
-  pub is : declared_as a n ≡ Some as_one
-  pub class_is : as_one.class ≡ c
-
-declared_of : (a : Surroundings) (c : Class) (n : Named) (o : Option Declared) → (class.unknown ≡ c → ⊥) → declared_as a n ≡ o → class_of_declared o ≡ c → IsDeclared a c n
-declared_of a c n None never e h = absurd (never h)
-declared_of a c n (Some d) never e h = record { as_one = d; is = e; class_is = h }
-
-declared_simple : (a : Surroundings) (k : Kind) (n : Named) → IsOf a k n → IsDeclared a (class.simple k) n
-declared_simple a k n h = declared_of a (class.simple k) n (declared_as a n) (λ e. let clash : class.unknown ≡ class.simple k = e in cc) refl h
-
-declared_procedure : (a : Surroundings) (g : Heading) (n : Named) → class_of a n ≡ class.procedure g → IsDeclared a (class.procedure g) n
-declared_procedure a g n h = declared_of a (class.procedure g) n (declared_as a n) (λ e. let clash : class.unknown ≡ class.procedure g = e in cc) refl h
-
-module _ (blocks : List Block) where
-  held_of : (depth : ℕ) (name : List ℕ) (d : Declared) (k : Kind) → d.class ≡ class.simple k → IsKnown blocks depth name d → IsHeld blocks depth name d k
-  held_of depth name d k c (known_file f s) = absurd (let clash : class.simple k ≡ class.file = sym c ∙ f in cc)
-  held_of depth name d k c (known_procedure g h) = absurd (let clash : class.simple k ≡ class.procedure g = sym c ∙ h.class_is in cc)
-  held_of depth name d k c (known_variable kind h) =
-      let same : kind ≡ k = (let e : class.simple kind ≡ class.simple k = sym h.class_is ∙ c in cc) in
-      subst (λ (z : Kind). IsHeld blocks depth name d z) same h
-
-  owned_of : (depth : ℕ) (name : List ℕ) (d : Declared) (g : Heading) → d.class ≡ class.procedure g → IsKnown blocks depth name d → IsOwned blocks depth name d g
-  owned_of depth name d g c (known_file f s) = absurd (let clash : class.procedure g ≡ class.file = sym c ∙ f in cc)
-  owned_of depth name d g c (known_variable kind h) = absurd (let clash : class.procedure g ≡ class.simple kind = sym c ∙ h.class_is in cc)
-  owned_of depth name d g c (known_procedure f h) =
-      let same : f ≡ g = (let e : class.procedure f ≡ class.procedure g = sym h.class_is ∙ c in cc) in
-      subst (λ (z : Heading). IsOwned blocks depth name d z) same h
-
-module _ (blocks : List Block) (all : List Site) (is : IsProgram blocks all) (known results : Spot → Option Couple)
+module _ (blocks : List Block) (all : List Site) (is : IsProgram blocks all) (known results : Spot → Option Couple) (lows : Spot → Option (List ℤ))
     (couples : (spot : Spot) (d : Located) (c : cells.Couple) → declaration_in blocks all spot ≡ Some d → d.couple ≡ Some c → known spot ≡ Some (record { level = c.level; index = c.index }))
-    (results_are : (spot : Spot) (d : Located) → declaration_in blocks all spot ≡ Some d → results spot ≡ spelled (couple_in blocks all (number_at blocks d.spot) d.spot)) where
+    (results_are : (spot : Spot) (d : Located) → declaration_in blocks all spot ≡ Some d → results spot ≡ spelled (couple_in blocks all (number_at blocks d.spot) d.spot))
+    (lows_are : (spot : Spot) (d : Located) (found : List ℤ) → declaration_in blocks all spot ≡ Some d → lows_at blocks d.spot ≡ Some found → lows spot ≡ Some found) where
   abbrev sc : Scopes
   sc = scopes blocks all is
 
@@ -82,38 +51,43 @@ module _ (blocks : List Block) (all : List Site) (is : IsProgram blocks all) (kn
       subst (λ (z : List Known). IsIn k z) (sym f.knows) (in_flat (λ (m : Named). known_by m.spot (declared_as x.around m)) n k (names_in x.part) j mine) in
       known_at_place blocks all is x i k here
 
-  placed : (x : Site) → IsIn x all → IsFair blocks x → SitePlaced blocks sc known results x
+  placed : (x : Site) → IsIn x all → IsFair blocks x → SitePlaced blocks sc known results lows x
   placed x i f = (
-    subst (AllByRecursion (IsPlaced blocks sc known results x.around)) (sym f.reads) (in_each (IsPlaced blocks sc known results x.around) (names_in x.part) (λ n j. one n j)),
-    subst (AllByRecursion (IsLeftPlaced blocks sc known results x.around)) (sym f.lefts) tt,
+    subst (AllByRecursion (IsPlaced blocks sc known results lows x.around)) (sym f.reads) (in_each (IsPlaced blocks sc known results lows x.around) (names_in x.part) (λ n j. one n j)),
+    subst (AllByRecursion (IsLeftPlaced blocks sc known results lows x.around)) (sym f.lefts) tt,
   )
     where
-      one : (n : Named) → IsIn n (names_in x.part) → IsPlaced blocks sc known results x.around n
+      one : (n : Named) → IsIn n (names_in x.part) → IsPlaced blocks sc known results lows x.around n
       one n j =
           record {
             simple =
                 λ k level at h.
                 let o = declared_simple x.around k n h in
-                variable_fits blocks all is known results couples results_are x.around level at n o.as_one (known_as x i f n o.as_one j o.is) k (used_as x i f n o.as_one j o.is)
+                variable_fits blocks all is known results lows couples results_are x.around level at n o.as_one (known_as x i f n o.as_one j o.is) k (used_as x i f n o.as_one j o.is)
                 (held_of blocks x.around.depth n.name o.as_one k o.class_is (f.stands.around.each n.name o.as_one o.is));
+            array =
+                λ k rank level at h.
+                let o = declared_array x.around k rank n h in
+                row_fits blocks all is known results lows couples results_are lows_are x.around level at n o.as_one (known_as x i f n o.as_one j o.is) k rank (used_as x i f n o.as_one j o.is)
+                (rowed_of blocks x.around.depth n.name o.as_one k rank o.class_is (f.stands.around.each n.name o.as_one o.is));
             called =
                 λ g level at h.
                 let o = declared_procedure x.around g n h in
-                procedure_fits blocks all is known results couples results_are x.around level at n o.as_one (known_as x i f n o.as_one j o.is) g (used_as x i f n o.as_one j o.is)
+                procedure_fits blocks all is known results lows couples results_are x.around level at n o.as_one (known_as x i f n o.as_one j o.is) g (used_as x i f n o.as_one j o.is)
                 (owned_of blocks x.around.depth n.name o.as_one g o.class_is (f.stands.around.each n.name o.as_one o.is));
           }
 
   -- ---- a name on the left
 
   left_placed : (a : Surroundings) (n : Named) (e : PExpr) (listed : Bool) (b : Block) → IsIn (here_stmt (tree.assign (tree.subscripted n tree.none) e) listed a) all → Stands blocks b a →
-      IsLeftPlaced blocks sc known results a n
+      IsLeftPlaced blocks sc known results lows a n
   left_placed a n e listed b i s =
       record {
         simple =
             λ k level at h.
             let o = declared_simple a k n h in
             let v = held_of blocks a.depth n.name o.as_one k o.class_is (s.around.each n.name o.as_one o.is) in
-            (variable_fits blocks all is known results couples results_are a level at n o.as_one (known_left o.as_one o.is) k
+            (variable_fits blocks all is known results lows couples results_are a level at n o.as_one (known_left o.as_one o.is) k
             (used_left (the_use a n o.as_one) o.as_one o.is (sym (ap (left_use (the_use a n o.as_one)) v.sort_is)) refl) v).1;
         result =
             λ k level at r.
@@ -121,7 +95,7 @@ module _ (blocks : List Block) (all : List Site) (is : IsProgram blocks all) (kn
             let v = owned_of blocks a.depth n.name o.as_one r.0 o.class_is (s.around.each n.name o.as_one o.is) in
             let c = procedure_block r.0 v.body (v.in_block.spot ∷ v.in_block.outer) in
             let deep : o.as_one.depth < a.depth = omega (arith, inside_deep blocks all is b a s r.0 c v.body_there refl r.3, v.depth_is) in
-            result_fits blocks all is known results couples results_are a level at n o.as_one (known_left o.as_one o.is) k r.0
+            result_fits blocks all is known results lows couples results_are a level at n o.as_one (known_left o.as_one o.is) k r.0
             (used_left (result_use a n o.as_one (number_at blocks r.0.name.spot)) o.as_one o.is (sym (ap (left_use (the_use a n o.as_one)) v.sort_is)) refl) v r.2 deep;
       }
     where
@@ -142,16 +116,16 @@ module _ (blocks : List Block) (all : List Site) (is : IsProgram blocks all) (kn
   -- ---- all parts
 
   pub all_placed : {k : ℕ} {spots : List Spot} {own : List Cell} {bs : List Block} {xs : List Site} → Listed blocks k spots own bs xs → ((x : Site) → IsIn x xs → IsIn x all) →
-      AllByRecursion (SitePlaced blocks sc known results) xs
+      AllByRecursion (SitePlaced blocks sc known results lows) xs
   all_placed (over k) g = tt
   all_placed (passed k spot l) g = all_placed l g
   all_placed (site k x f l) g = (placed x (g x (inl refl)) f, all_placed l (λ y i. g y (inr i)))
   all_placed (listing.left k a n e listed b s l) g =
       ((tt, (left_placed a n e listed b (g (here_stmt (tree.assign (tree.subscripted n tree.none) e) listed a) (inl refl)) s, tt)), all_placed l (λ y i. g y (inr i)))
   all_placed (declared k x names new f l) g =
-      ((subst (AllByRecursion (IsPlaced blocks sc known results x.around)) (sym f.reads) tt, subst (AllByRecursion (IsLeftPlaced blocks sc known results x.around)) (sym f.lefts) tt), all_placed l (λ y i. g y (inr i)))
+      ((subst (AllByRecursion (IsPlaced blocks sc known results lows x.around)) (sym f.reads) tt, subst (AllByRecursion (IsLeftPlaced blocks sc known results lows x.around)) (sym f.lefts) tt), all_placed l (λ y i. g y (inr i)))
   all_placed (both k {xs = xs} {ys = ys} i j) g =
-      each_both (SitePlaced blocks sc known results) xs ys (all_placed i (λ x m. g x (in_front x xs ys m))) (all_placed j (λ x m. g x (in_back x xs ys m)))
+      each_both (SitePlaced blocks sc known results lows) xs ys (all_placed i (λ x m. g x (in_front x xs ys m))) (all_placed j (λ x m. g x (in_back x xs ys m)))
   all_placed (block k b e i l) g = all_placed l g
   all_placed (procedure k x b more f i l) g =
-      ((subst (AllByRecursion (IsPlaced blocks sc known results x.around)) (sym f.reads) tt, subst (AllByRecursion (IsLeftPlaced blocks sc known results x.around)) (sym f.lefts) tt), all_placed l (λ y m. g y (inr m)))
+      ((subst (AllByRecursion (IsPlaced blocks sc known results lows x.around)) (sym f.reads) tt, subst (AllByRecursion (IsLeftPlaced blocks sc known results lows x.around)) (sym f.lefts) tt), all_placed l (λ y m. g y (inr m)))

@@ -1,35 +1,39 @@
 -- What is known behind each declaration of a block, in their order.
-use Rattle.std.proofs.Common.{arith, ◌≡◌, inl, inr, ℕ, ◌==◌, Bool, true, false, cond, not, List, [], ◌∷◌, ◌++◌, map, filter, is_some, Option, Some, None, sym, refl, ap, ◌∙◌, subst, append_assoc, if◌then◌else◌}
+use Rattle.std.proofs.Common.{arith, ◌≡◌, inl, inr, ℕ, ◌≤◌, ◌==◌, Bool, true, false, cond, not, List, [], ◌∷◌, ◌++◌, map, filter, length, is_some, Option, Some, None, sym, refl, ap, ◌∙◌, subst, append_assoc, if◌then◌else◌}
 use Rattle.std.proofs.lemmas.Bool.{eq-eqb}
-use Rattle.std.proofs.lemmas.List.{map-append}
-use Rattle.std.proofs.lemmas.List.Elements.{filter-append}
 use Rattle.std.specs.List.{AllByRecursion}
 use Rattle.algol_tree.specs.declared.token.Spot.{Spot}
 use Rattle.algol_tree.specs.declared.tree.Heading.{Heading}
 use Rattle.algol_tree.specs.declared.tree.Kind.{Kind}
 use Rattle.algol_tree.specs.declared.tree.Named.{Named}
-use Rattle.algol_tree.specs.Ascending.{spots_of_names, spots_of_decl, spots_of_decls}
+use Rattle.algol_tree.specs.Ascending.{spots_of_names, spots_of_pairs, spots_of_decl, spots_of_decls}
 use Rattle.algol_tree.specs.Blocks.{Block, block_numbered, number_at, procedure_block}
 use Rattle.algol_tree.specs.Cells as cells
 use Rattle.algol_tree.specs.Cells.{Cell, cells_for}
 use Rattle.algol_tree.specs.Classes as class
 use Rattle.algol_tree.specs.Classes.{Class}
-use Rattle.algol_tree.specs.Names.{if_so, is_one_of, result_names_of, unknown_in_heading}
+use Rattle.algol_tree.specs.Names.{if_so, is_one_of, result_names_of, twice_in_heading, unknown_in_heading}
 use Rattle.algol_tree.specs.Plain as tree
-use Rattle.algol_tree.specs.Plain.{PStmt, PDecl, PDecls}
+use Rattle.algol_tree.specs.Plain.{PPair, PStmt, PDecl, PDecls}
 use Rattle.algol_tree.specs.Sites as parts
 use Rattle.algol_tree.specs.Sorts as sort
 use Rattle.algol_tree.specs.Sorts.{same_name, Sort, Declared, look_up, declare}
 use Rattle.algol_tree.specs.Surroundings.{Surroundings, body_of, heading_or, announced, knowing}
-use Rattle.b67_templates.specs.Cells.{Simple, of_kind, variables}
+use Rattle.algol_paths.specs.Arrays.{arrays_of, lows_of}
+use Rattle.b67_templates.specs.Cells.{Simple, of_kind, variables, parameters_in, parameters_around}
+use Rattle.b67_templates.specs.Code.{AreDimensions}
+use Rattle.b67_fitting.specs.Built.{HeadingBuilt}
 use Rattle.b67_fitting.proofs.Aligned.{AreOthers, Aligned, aligned_over, hit}
 use Rattle.b67_fitting.proofs.Apart.{IsIn, each_in, in_front, in_back, IsApart, Apart, apart_front, apart_across}
+use Rattle.b67_fitting.proofs.Arrayed.{IsArrayed, array_names, AreArraysPassed, arrays_begin, arrays_step, array_there}
+use Rattle.b67_fitting.proofs.TypedBounds.{TypedPairs, LowsWhole, lows_whole}
 use Rattle.b67_fitting.proofs.Clean.{IsClean}
-use Rattle.b67_fitting.proofs.Declaring.{same_is, one_of_front, one_of_back, names_of, entry, declared_is, found_one, fresh}
-use Rattle.b67_fitting.proofs.Frames.{variable_cells}
-use Rattle.b67_fitting.proofs.Known.{variable_spots, headings, IsKnown, known_file, known_variable, known_procedure, around_with, Stands}
-use Rattle.b67_fitting.proofs.Lists.{each_back, nil_front}
-use Rattle.b67_fitting.proofs.Stated.{TypedDecl}
+use Rattle.b67_fitting.proofs.Declaring.{same_name_self, same_is, one_of_front, one_of_back, names_of, names_both, one_more, one_front, entry, declared_is, found_one, fresh}
+use Rattle.b67_fitting.proofs.Frames.{named_around, variable_cells, made_cells}
+use Rattle.b67_fitting.proofs.Known.{given_cells, given_places, variable_spots, headings, IsKnown, known_file, known_variable, known_array, known_procedure, around_with, Stands}
+use Rattle.b67_fitting.proofs.Later.{declared_name, later}
+use Rattle.b67_fitting.proofs.Lists.{each_back, each_both, nil_front}
+use Rattle.b67_fitting.proofs.Stated.{TypedDecls}
 
 -- ---- names that the block has already
 
@@ -45,14 +49,6 @@ passed_both names spots (x ∷ xs) ys (c ∷ cs) ds g h = (g.0, g.1, passed_both
 passed_both names spots [] ys (c ∷ cs) ds g h = absurd g
 passed_both names spots (x ∷ xs) ys [] ds g h = absurd g
 
-one_more : (more names : List (List ℕ)) (name : List ℕ) → is_one_of names name ≡ true → is_one_of (more ++ names) name ≡ true
-one_more [] names name h = h
-one_more (m ∷ more) names name h = by (same_name m name) (one_more more names name h)
-  where
-    by : (b : Bool) → is_one_of (more ++ names) name ≡ true → (if b then true else is_one_of (more ++ names) name) ≡ true
-    by true later = refl
-    by false later = later
-
 passed_more : (more names : List (List ℕ)) (p q : List Spot) (xs : List Simple) (cs : List Cell) → Passed names (p ++ q) xs cs → Passed (more ++ names) q xs cs
 passed_more more names p q [] [] h = tt
 passed_more more names p q (x ∷ xs) (c ∷ cs) h = (one_more more names x.name h.0, each_back (IsApart c.spot) p q h.1, passed_more more names p q xs cs h.2)
@@ -64,29 +60,36 @@ passed_new : (names : List (List ℕ)) (spots : List Spot) (block : ℕ) (kind :
 passed_new names spots block kind [] f g = tt
 passed_new names spots block kind (n ∷ ns) f g = (f n (inl refl), g.0, passed_new names spots block kind ns (λ m i. f m (inr i)) g.1)
 
-passed_others : (names : List (List ℕ)) (spots : List Spot) (name : List ℕ) (spot : Spot) (xs : List Simple) (cs : List Cell) → is_one_of names name ≡ false → IsIn spot spots →
-    Passed names spots xs cs → AreOthers name spot xs cs
-passed_others names spots name spot [] [] n i h = tt
-passed_others names spots name spot (x ∷ xs) (c ∷ cs) n i h =
-    (by (same_name x.name name) refl, each_in (IsApart c.spot) spot spots h.1 i, passed_others names spots name spot xs cs n i h.2)
+-- a name that the block has not is none of theirs
+other_named : (names : List (List ℕ)) (name : List ℕ) (x : Simple) → is_one_of names name ≡ false → is_one_of names x.name ≡ true → same_name x.name name ≡ false
+other_named names name x n h = by (same_name x.name name) refl
   where
     by : (b : Bool) → same_name x.name name ≡ b → b ≡ false
     by false e = refl
     by true e =
-        let clash : true ≡ false = sym h.0 ∙ ap (is_one_of names) (same_is x.name name e) ∙ n in
+        let clash : true ≡ false = sym h ∙ ap (is_one_of names) (same_is x.name name e) ∙ n in
         clash
+
+passed_named : (names : List (List ℕ)) (spots : List Spot) (name : List ℕ) (xs : List Simple) (cs : List Cell) → is_one_of names name ≡ false → Passed names spots xs cs →
+    AllByRecursion (λ (x : Simple). same_name x.name name ≡ false) xs
+passed_named names spots name [] [] n h = tt
+passed_named names spots name (x ∷ xs) (c ∷ cs) n h = (other_named names name x n h.0, passed_named names spots name xs cs n h.2)
+passed_named names spots name [] (c ∷ cs) n h = absurd h
+passed_named names spots name (x ∷ xs) [] n h = absurd h
+
+pub passed_others : (names : List (List ℕ)) (spots : List Spot) (name : List ℕ) (spot : Spot) (xs : List Simple) (cs : List Cell) → is_one_of names name ≡ false → IsIn spot spots →
+    Passed names spots xs cs → AreOthers name spot xs cs
+passed_others names spots name spot [] [] n i h = tt
+passed_others names spots name spot (x ∷ xs) (c ∷ cs) n i h =
+    (other_named names name x n h.0, each_in (IsApart c.spot) spot spots h.1 i, passed_others names spots name spot xs cs n i h.2)
 passed_others names spots name spot [] (c ∷ cs) n i h = absurd h
 passed_others names spots name spot (x ∷ xs) [] n i h = absurd h
 
--- the names of the block among these and those
-names_both : (block : ℕ) (new known : List Declared) → names_of block (new ++ known) ≡ names_of block new ++ names_of block known
-names_both block new known =
-    ap (map (λ (d : Declared). d.name)) (filter-append (λ (d : Declared). d.block == block) new known)
-    ∙ map-append (λ (d : Declared). d.name) (filter (λ (d : Declared). d.block == block) new) (filter (λ (d : Declared). d.block == block) known)
-
-same_name_self : (name : List ℕ) → same_name name name ≡ true
-same_name_self [] = refl
-same_name_self (x ∷ xs) = rw (eq-eqb x x refl) (same_name_self xs)
+-- no cell is passed
+pub none_passed : (names : List (List ℕ)) (spots : List Spot) (xs : List Simple) (block : ℕ) (ns : List Named) → xs ≡ [] → ns ≡ [] → Passed names spots xs (cells_for block cells.parameter ns)
+none_passed names spots xs block ns e f =
+    subst (λ (zs : List Simple). Passed names spots zs (cells_for block cells.parameter ns)) (sym e)
+    (subst (λ (zs : List Named). Passed names spots [] (cells_for block cells.parameter zs)) (sym f) tt)
 
 named_new : (block depth : ℕ) (s : Sort) (c : Class) (ns : List Named) (n : Named) → IsIn n ns → is_one_of (names_of block (declare block depth s c ns)) n.name ≡ true
 named_new block depth s c [] n i = absurd i
@@ -118,9 +121,18 @@ announced_there h ds None spot e g = absurd (let clash : spot ∷ [] ≡ [] = g 
 announced_there h ds (Some f) spot e g = found_body h.name.name ds f e
 
 module _ (blocks : List Block) where
-  -- of each procedure that the block declares the block is one of the program's
+  -- The procedure's block is one of the program's, in this block, and its heading is found there.
+  pub record IsCalleeOf (b : Block) (h : Heading) : Type 0 where
+    pub built : HeadingBuilt h
+    pub once : twice_in_heading h ≡ []
+    pub body : PStmt
+    pub body_there : IsIn (procedure_block h body (b.spot ∷ b.outer)) blocks
+    pub cells_are : parameters_around blocks (b.spot ∷ b.outer) h.name.spot ≡ parameters_in h
+    pub named_are : named_around blocks (b.spot ∷ b.outer) h.name.spot ≡ h.params
+
+  -- so is that of each procedure that the block declares
   abbrev pub HasCallees : Block → PDecls → Type 0
-  HasCallees b ds = (h : Heading) → IsIn h (headings ds) → (h.params ≡ []) × ((s : PStmt) × IsIn (procedure_block h s (b.spot ∷ b.outer)) blocks)
+  HasCallees b ds = (h : Heading) → IsIn h (headings ds) → IsCalleeOf b h
 
   -- the place is in front of these, the last declarations of the block
   pub record IsStarted (b : Block) (a : Surroundings) (ds : PDecls) : Type 0 where
@@ -131,12 +143,14 @@ module _ (blocks : List Block) where
     pub variables_are : variables b.decls ≡ passed_variables ++ variables ds
     pub cells_are : variable_cells a.block b.decls ≡ passed_cells ++ variable_cells a.block ds
     pub passed : Passed (names_of a.block a.known) (spots_of_decls ds) passed_variables passed_cells
+    pub given : Passed (names_of a.block a.known) (spots_of_decls ds) (given_cells blocks b) (given_places blocks b)
     pub owned : (h : Heading) → IsIn h (headings ds) → IsIn h (headings b.decls)
     pub held : (s : Spot) → IsIn s (variable_spots ds) → IsIn s (variable_spots b.decls)
+    pub arrays : AreArraysPassed a.block (names_of a.block a.known) b.decls ds
 
-  pub start : (b : Block) (a : Surroundings) → Stands blocks b a → HasCallees b b.decls → IsStarted b a b.decls
-  start b a s c =
-      record { stands = s; callees = c; passed_variables = []; passed_cells = []; variables_are = refl; cells_are = refl; passed = tt; owned = λ h i. i; held = λ t i. i }
+  pub start : (b : Block) (a : Surroundings) → Stands blocks b a → HasCallees b b.decls → Passed (names_of a.block a.known) (spots_of_decls b.decls) (given_cells blocks b) (given_places blocks b) → IsStarted b a b.decls
+  start b a s c q =
+      record { stands = s; callees = c; passed_variables = []; passed_cells = []; variables_are = refl; cells_are = refl; passed = tt; given = q; owned = λ h i. i; held = λ t i. i; arrays = arrays_begin a.block (names_of a.block a.known) b.decls }
 
   stands_with : (b : Block) (a : Surroundings) (new : List Declared) → Stands blocks b a → ((name : List ℕ) (d : Declared) → look_up new name ≡ Some d → IsKnown blocks a.depth name d) →
       Stands blocks b (record a { known = new ++ a.known })
@@ -160,21 +174,18 @@ module _ (blocks : List Block) where
             (passed_new (names_of a.block new ++ names_of a.block a.known) (spots_of_decls ds) a.block kind ns
             (λ n i. one_front (names_of a.block new) (names_of a.block a.known) n.name (named_new a.block a.depth sort.variable (class.simple kind) ns n i))
             (apart_across (spots_of_names ns) (spots_of_decls ds) p)));
+        given =
+            subst (λ (names : List (List ℕ)). Passed names (spots_of_decls ds) (given_cells blocks b) (given_places blocks b)) (sym (names_both a.block new a.known))
+            (passed_more (names_of a.block new) (names_of a.block a.known) (spots_of_names ns) (spots_of_decls ds) (given_cells blocks b) (given_places blocks b) s.given);
         owned = s.owned;
         held = λ t i. s.held t (in_back t (spots_of_names ns) (variable_spots ds) i);
+        arrays =
+            subst (λ (names : List (List ℕ)). AreArraysPassed a.block names b.decls ds) (sym (names_both a.block new a.known))
+            (arrays_step a.block (names_of a.block new) (names_of a.block a.known) b.decls (tree.simple kind ns) ds (λ n i. absurd i) p s.arrays);
       }
     where
       new : List Declared
       new = declare a.block a.depth sort.variable (class.simple kind) ns
-
-      one_front : (names more : List (List ℕ)) (name : List ℕ) → is_one_of names name ≡ true → is_one_of (names ++ more) name ≡ true
-      one_front [] more name h = absurd (let clash : false ≡ true = h in cc)
-      one_front (m ∷ names) more name h = by (same_name m name) (one_front names more name) h
-        where
-          by : (t : Bool) → (is_one_of names name ≡ true → is_one_of (names ++ more) name ≡ true) → (if t then true else is_one_of names name) ≡ true →
-              (if t then true else is_one_of (names ++ more) name) ≡ true
-          by true later g = refl
-          by false later g = later g
 
       found : (name : List ℕ) (d : Declared) → look_up new name ≡ Some d → IsKnown blocks a.depth name d
       found name d h =
@@ -194,20 +205,26 @@ module _ (blocks : List Block) where
             block_is = r.var.block_is ∙ s.stands.block_is;
             depth_is = r.var.depth_is ∙ s.stands.depth_is;
             within = omega (arith, r.var.depth_is);
-            among = s.held d.spot (in_front d.spot (spots_of_names ns) (variable_spots ds) r.inside);
-            other = subst (λ (k : ℕ). is_one_of (result_names_of (block_numbered blocks k)) name ≡ false) (sym r.var.block_is) (one_of_front results (names_of a.block a.known) name none);
-            aligned =
-                subst (λ (k : ℕ). Aligned (variables b.decls) (variable_cells k b.decls) name d.spot kind) s.stands.block_is
-                (subst (λ (xs : List Simple). Aligned xs (variable_cells a.block b.decls) name d.spot kind) (sym s.variables_are)
-                (subst (λ (cs : List Cell). Aligned (s.passed_variables ++ (of_kind kind ns ++ variables ds)) cs name d.spot kind) (sym s.cells_are) aligned));
+            place = inl (record {
+              among = s.held d.spot (in_front d.spot (spots_of_names ns) (variable_spots ds) r.inside);
+              past =
+                  passed_others (names_of a.block a.known) (spots_of_names ns ++ spots_of_decls ds) name d.spot (given_cells blocks b) (given_places blocks b)
+                  (one_of_back results (names_of a.block a.known) name none) (in_front d.spot (spots_of_names ns) (spots_of_decls ds) r.inside) s.given;
+              other = subst (λ (k : ℕ). is_one_of (result_names_of (block_numbered blocks k)) name ≡ false) (sym r.var.block_is) (one_of_front results (names_of a.block a.known) name none);
+              aligned =
+                  subst (λ (k : ℕ). Aligned (variables b.decls) (variable_cells k b.decls) name d.spot kind) s.stands.block_is
+                  (subst (λ (xs : List Simple). Aligned xs (variable_cells a.block b.decls) name d.spot kind) (sym s.variables_are)
+                  (subst (λ (cs : List Cell). Aligned (s.passed_variables ++ (of_kind kind ns ++ variables ds)) cs name d.spot kind) (sym s.cells_are) aligned));
+            });
           })
 
   -- a declaration that has no cell of a variable
   step_with : (b : Block) (a : Surroundings) (d : PDecl) (ds : PDecls) (new : List Declared) → IsStarted b a (tree.decls d ds) → variables (tree.decls d ds) ≡ variables ds →
       variable_cells a.block (tree.decls d ds) ≡ variable_cells a.block ds → ((h : Heading) → IsIn h (headings ds) → IsIn h (headings (tree.decls d ds))) →
       ((t : Spot) → IsIn t (variable_spots ds) → IsIn t (variable_spots (tree.decls d ds))) → ((name : List ℕ) (e : Declared) → look_up new name ≡ Some e → IsKnown blocks a.depth name e) →
+      ((n : Named) → IsIn n (array_names d) → is_one_of (names_of a.block new ++ names_of a.block a.known) n.name ≡ true) → Apart (spots_of_decl d ++ spots_of_decls ds) →
       IsStarted b (record a { known = new ++ a.known }) ds
-  step_with b a d ds new s v w o t f =
+  step_with b a d ds new s v w o t f g p =
       record {
         stands = stands_with b a new s.stands f;
         callees = s.callees;
@@ -218,8 +235,14 @@ module _ (blocks : List Block) where
         passed =
             subst (λ (names : List (List ℕ)). Passed names (spots_of_decls ds) s.passed_variables s.passed_cells) (sym (names_both a.block new a.known))
             (passed_more (names_of a.block new) (names_of a.block a.known) (spots_of_decl d) (spots_of_decls ds) s.passed_variables s.passed_cells s.passed);
+        given =
+            subst (λ (names : List (List ℕ)). Passed names (spots_of_decls ds) (given_cells blocks b) (given_places blocks b)) (sym (names_both a.block new a.known))
+            (passed_more (names_of a.block new) (names_of a.block a.known) (spots_of_decl d) (spots_of_decls ds) (given_cells blocks b) (given_places blocks b) s.given);
         owned = λ h i. s.owned h (o h i);
         held = λ x i. s.held x (t x i);
+        arrays =
+            subst (λ (names : List (List ℕ)). AreArraysPassed a.block names b.decls ds) (sym (names_both a.block new a.known))
+            (arrays_step a.block (names_of a.block new) (names_of a.block a.known) b.decls d ds g p s.arrays);
       }
 
   files_known : (a : Surroundings) (ns : List Named) (name : List ℕ) (d : Declared) → look_up (declare a.block a.depth sort.file class.file ns) name ≡ Some d → IsKnown blocks a.depth name d
@@ -235,9 +258,12 @@ module _ (blocks : List Block) where
       known_procedure g (record {
         in_block = b;
         there = s.stands.there;
-        body = callee.1.0;
-        body_there = callee.1.1;
-        bare = callee.0;
+        body = callee.body;
+        body_there = callee.body_there;
+        built = callee.built;
+        once = callee.once;
+        cells_are = callee.cells_are;
+        named_are = callee.named_are;
         named = r.0;
         among = s.owned g i;
         class_is = ap (λ (z : Declared). z.class) (sym r.1);
@@ -248,17 +274,66 @@ module _ (blocks : List Block) where
         within = omega (arith, ap (λ (z : Declared). z.depth) (sym r.1));
       })
 
-  pub step : (b : Block) (a : Surroundings) (d : PDecl) (ds : PDecls) → IsStarted b a (tree.decls d ds) → TypedDecl blocks (knowing blocks d ds a) d →
-      IsClean blocks (record { part = parts.declaration d ds; around = a }) → Apart (spots_of_decl d ++ spots_of_decls ds) → IsStarted b (knowing blocks d ds a) ds
-  step b a (tree.simple kind ns) ds s t c p = step_simple b a kind ns ds s c p
-  step b a (tree.files ns) ds s t c p =
-      step_with b a (tree.files ns) ds (declare a.block a.depth sort.file class.file ns) s refl refl (λ h i. i) (λ x i. i) (files_known a ns)
-  step b a (tree.forward h) ds s t c p =
+  array_known : (b : Block) (a : Surroundings) (first : List Declared) (kind : Kind) (ns : List Named) (pairs : List PPair) (ds : PDecls) → IsStarted b a (tree.decls (tree.arrays kind ns pairs) ds) →
+      IsClean blocks (record { part = parts.declaration (tree.arrays kind ns pairs) ds; around = a }) → AreDimensions pairs × TypedPairs (record a { known = first }) pairs × (1 ≤ length ns) →
+      TypedDecls blocks (knowing blocks (tree.arrays kind ns pairs) ds a) first ds → Apart ((spots_of_names ns ++ spots_of_pairs pairs) ++ spots_of_decls ds) → (name : List ℕ) (d : Declared) →
+      look_up (declare a.block a.depth sort.array (class.array kind (length pairs)) ns) name ≡ Some d → IsKnown blocks a.depth name d
+  array_known b a first kind ns pairs ds s c t behind p name d h =
+      let whole = class.array kind (length pairs) in
+      let new = declare a.block a.depth sort.array whole ns in
+      let names = names_of a.block a.known in
+      let results = result_names_of (block_numbered blocks a.block) in
+      let own = spots_of_names ns ++ spots_of_pairs pairs in
+      let none = fresh a.block a.depth sort.array whole ns (results ++ names) name d c.once h in
+      let other = one_of_back results names name none in
+      let r = array_there a.block a.depth names b.decls kind ns pairs ds name d p other s.arrays h in
+      let mine = one_front (names_of a.block new) names name (declared_name a.block a.depth sort.array whole ns name d h) in
+      let later_ones =
+      later blocks (knowing blocks (tree.arrays kind ns pairs) ds a) first ds behind name (subst (λ (z : List (List ℕ)). is_one_of z name ≡ true) (sym (names_both a.block new a.known)) mine) in
+      known_array kind (length pairs) (record {
+        in_block = b;
+        there = s.stands.there;
+        class_is = r.class_is;
+        sort_is = r.sort_is;
+        block_is = r.block_is ∙ s.stands.block_is;
+        depth_is = r.depth_is ∙ s.stands.depth_is;
+        within = omega (arith, r.depth_is);
+        array = r.array;
+        kind_is = r.kind_is;
+        rank_is = ap length r.pairs_are;
+        dimensions = subst AreDimensions (sym r.pairs_are) t.0;
+        whole = subst LowsWhole (sym r.pairs_are) (lows_whole (record a { known = first }) pairs t.1);
+        among = r.among;
+        arrayed = subst (λ (k : ℕ). IsArrayed (arrays_of b.decls) (made_cells k b.decls) name d.spot r.array) s.stands.block_is r.arrayed;
+        lows = r.lows ∙ ap (λ (ps : List PPair). Some (lows_of ps)) (sym r.pairs_are);
+        other = subst (λ (k : ℕ). is_one_of (result_names_of (block_numbered blocks k)) name ≡ false) (sym r.block_is) (one_of_front results names name none);
+        past = passed_named names (own ++ spots_of_decls ds) name (given_cells blocks b) (given_places blocks b) other s.given;
+        simple =
+            subst (AllByRecursion (λ (x : Simple). same_name x.name name ≡ false)) (sym s.variables_are)
+            (each_both (λ (x : Simple). same_name x.name name ≡ false) s.passed_variables (variables ds) (passed_named names (own ++ spots_of_decls ds) name s.passed_variables s.passed_cells other s.passed) later_ones);
+      })
+
+  -- the names of arrays are among those that the block has behind them
+  array_named : (a : Surroundings) (kind : Kind) (ns : List Named) (pairs : List PPair) (n : Named) → IsIn n ns →
+      is_one_of (names_of a.block (declare a.block a.depth sort.array (class.array kind (length pairs)) ns) ++ names_of a.block a.known) n.name ≡ true
+  array_named a kind ns pairs n i =
+      let whole = class.array kind (length pairs) in
+      one_front (names_of a.block (declare a.block a.depth sort.array whole ns)) (names_of a.block a.known) n.name (named_new a.block a.depth sort.array whole ns n i)
+
+  pub step : (b : Block) (a : Surroundings) (first : List Declared) (d : PDecl) (ds : PDecls) → IsStarted b a (tree.decls d ds) → TypedDecls blocks a first (tree.decls d ds) →
+      Apart (spots_of_decl d ++ spots_of_decls ds) → IsStarted b (knowing blocks d ds a) ds
+  step b a first (tree.simple kind ns) ds s t p = step_simple b a kind ns ds s t.0 p
+  step b a first (tree.files ns) ds s t p =
+      step_with b a (tree.files ns) ds (declare a.block a.depth sort.file class.file ns) s refl refl (λ h i. i) (λ x i. i) (files_known a ns) (λ n i. absurd i) p
+  step b a first (tree.arrays kind ns pairs) ds s t p =
+      step_with b a (tree.arrays kind ns pairs) ds (declare a.block a.depth sort.array (class.array kind (length pairs)) ns) s refl refl (λ h i. i) (λ x i. i)
+      (array_known b a first kind ns pairs ds s t.0 t.1 t.2 p) (array_named a kind ns pairs) p
+  step b a first (tree.forward h) ds s t p =
       let g = announced h ds in
-      let there = announced_there h ds (body_of h.name.name ds) h.name.spot refl (nil_front (if_so (not (is_some (body_of h.name.name ds))) h.name.spot) (unknown_in_heading h) c.known) in
+      let there = announced_there h ds (body_of h.name.name ds) h.name.spot refl (nil_front (if_so (not (is_some (body_of h.name.name ds))) h.name.spot) (unknown_in_heading h) t.0.known) in
       step_with b a (tree.forward h) ds (declare a.block a.depth (sort.procedure (number_at blocks g.name.spot)) (class.procedure g) (g.name ∷ [])) s refl refl (λ f i. i) (λ x i. i)
-      (procedure_known b a (tree.decls (tree.forward h) ds) g s there)
-  step b a (tree.procedure h body) ds s t c p =
+      (procedure_known b a (tree.decls (tree.forward h) ds) g s there) (λ n i. absurd i) p
+  step b a first (tree.procedure h body) ds s t p =
       step_with b a (tree.procedure h body) ds (declare a.block a.depth (sort.procedure (number_at blocks h.name.spot)) (class.procedure h) (h.name ∷ [])) s refl refl (λ f i. inr i) (λ x i. i)
-      (procedure_known b a (tree.decls (tree.procedure h body) ds) h s (inl refl))
-  step b a _ ds s t c p = absurd t
+      (procedure_known b a (tree.decls (tree.procedure h body) ds) h s (inl refl)) (λ n i. absurd i) p
+  step b a first d ds s t p = absurd t.1

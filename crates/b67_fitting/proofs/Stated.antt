@@ -1,6 +1,6 @@
--- Statements and declarations at which no rule is broken, where all that is declared are simple variables, files and procedures without
--- parameters.
-use Rattle.std.proofs.Common.{◌≡◌, ◌⊎◌, inl, inr, ℕ, ◌+◌, ◌==◌, ◌&&◌, not, Bool, true, false, List, [], ◌∷◌, ◌++◌, is_some, Option, Some, None, refl, sym, subst, if◌then◌else◌}
+-- Statements and declarations at which no rule is broken, where all that is declared are simple variables, arrays, files and procedures
+-- whose parameters are simple ones, by value.
+use Rattle.std.proofs.Common.{◌≡◌, ◌⊎◌, inl, inr, ℕ, ◌+◌, ◌≤◌, ◌==◌, ◌&&◌, not, Bool, true, false, List, [], ◌∷◌, ◌++◌, map, length, is_some, Option, Some, None, refl, sym, ap, subst, if◌then◌else◌}
 use Rattle.std.specs.List.{list_any}
 use Rattle.algol_tree.specs.declared.token.Spot.{Spot}
 use Rattle.algol_tree.specs.declared.tree.Heading.{Heading}
@@ -16,22 +16,25 @@ use Rattle.algol_tree.specs.Names.{if_so}
 use Rattle.algol_tree.specs.Plain as tree
 use Rattle.algol_tree.specs.Plain.{PExpr, PExprs, PStmt, PStmts, PDecl, PDecls}
 use Rattle.algol_tree.specs.Sites as parts
-use Rattle.algol_tree.specs.Sites.{sites, has_decls, here_stmt, inside_stmt, inside_decl, sites_in_stmts, sites_in_decls}
+use Rattle.algol_tree.specs.Sites.{sites, has_decls, here_stmt, inside_list, inside_actuals, inside_stmt, inside_decl, sites_in_stmts, sites_in_decls}
 use Rattle.algol_tree.specs.Sorts as sort
-use Rattle.algol_tree.specs.Sorts.{same_name, Sort, Declared, look_up, declare, declared_parameters}
-use Rattle.algol_tree.specs.Surroundings.{Surroundings, class_of, declared_as, body_of, heading_or, announced, knowing, knowing_all, inside, inside_procedure}
+use Rattle.algol_tree.specs.Sorts.{same_name, Sort, Declared, look_up, declare, is_named_in, sort_in, class_in, declared_parameters}
+use Rattle.algol_tree.specs.Surroundings.{Surroundings, class_of, formals_of_class, declared_as, body_of, heading_or, announced, knowing, knowing_all, inside, inside_procedure}
+use Rattle.algol_tree.specs.Types.{element_type}
 use Rattle.b67_segment.specs.declared.code.Phrase.{Phrase}
 use Rattle.b67_templates.specs.Code as code
-use Rattle.b67_templates.specs.Code.{AreParts, numbers_in}
+use Rattle.b67_templates.specs.Code.{AreParts, AreDimensions, numbers_in}
 use Rattle.b67_templates.specs.Fitting.{PhrasesFit}
-use Rattle.b67_fitting.specs.Built.{DeclBuilt, DeclsBuilt, StmtBuilt, StmtsBuilt}
+use Rattle.b67_fitting.specs.Built.{HeadingBuilt, DeclBuilt, DeclsBuilt, StmtBuilt, StmtsBuilt}
 use Rattle.b67_fitting.specs.Texts.{StmtPlain, StmtsPlain, DeclPlain, DeclsPlain}
-use Rattle.b67_fitting.specs.Wholes.{StmtWhole, StmtsWhole, DeclWhole, DeclsWhole}
+use Rattle.b67_fitting.specs.Wholes.{AllWhole, StmtWhole, StmtsWhole, DeclWhole, DeclsWhole}
+use Rattle.b67_fitting.proofs.TypedBounds.{TypedPairs, typed_pairs}
 use Rattle.b67_fitting.proofs.Lists.{each_front, each_back, nil_front, nil_back}
-use Rattle.b67_fitting.proofs.Clean.{IsClean, AreClean, IsPlain, simple, file, procedure, KnowsPlain, plain_first, misnamed, none_such, none_happens, none_called, call_of, wrong, wrong_list}
+use Rattle.b67_fitting.proofs.Clean.{IsClean, AreClean, IsPlain, simple, array, file, procedure, KnowsPlain, plain_first, misnamed, none_such, none_happens, as_many, call_of, wrong, wrong_for, wrong_if, wrong_list}
 use Rattle.b67_fitting.proofs.Declaring.{found_either, declared_is}
 use Rattle.b67_fitting.proofs.Formats.{fitting_line, fitting_phrases}
-use Rattle.b67_fitting.proofs.Typed.{IsOf, TypedExpr, TypedLine, HasKind, of_kind, typed, typed_line}
+use Rattle.b67_fitting.proofs.Typed.{IsOf, IsCalled, HasElements, TypedExpr, TypedLine, HasKind, of_kind, elements, typed, typed_actuals, typed_line}
+use Rattle.b67_fitting.proofs.Parameters.{AreByValue, by_value}
 
 module _ (blocks : List Block) where
   -- the place is inside the procedure
@@ -45,16 +48,15 @@ module _ (blocks : List Block) where
   abbrev pub IsLeft : Surroundings → Kind → Named → Type 0
   IsLeft a k n = IsOf a k n ⊎ IsResult a k n
 
-  abbrev pub IsCalled : Surroundings → Named → Type 0
-  IsCalled a n = (h : Heading) × (class_of a n ≡ class.procedure h)
-
   abbrev mutual
     pub TypedStmt : Begin → Surroundings → PStmt → Type 0
     TypedStmt begin a tree.empty = Unit {0}
     TypedStmt begin a (tree.assign (tree.subscripted n tree.none) e) = (k : Kind) × IsLeft a k n × TypedExpr a k e
-    TypedStmt begin a (tree.call_of (tree.called n tree.none)) = IsCalled a n
+    TypedStmt begin a (tree.assign (tree.subscripted n (tree.more i is)) e) = (k : Kind) × HasElements a k n (tree.more i is) × TypedLine a (tree.more i is) × TypedExpr a k e
+    TypedStmt begin a (tree.call_of (tree.called n es)) = IsCalled a n es
     TypedStmt begin a (tree.block (tree.body spot ds ss)) =
-        TypedDecls (inside blocks begin (tree.body spot ds ss) a) ds × TypedStmts (knowing_all blocks ds (inside blocks begin (tree.body spot ds ss) a)) ss
+        TypedDecls (inside blocks begin (tree.body spot ds ss) a) (inside blocks begin (tree.body spot ds ss) a).known ds
+        × TypedStmts (knowing_all blocks ds (inside blocks begin (tree.body spot ds ss) a)) ss
     TypedStmt begin a (tree.if_then c x) = TypedExpr a types.Truth c × TypedStmt of_statement a x
     TypedStmt begin a (tree.if_else c x y) = TypedExpr a types.Truth c × TypedStmt of_statement a x × TypedStmt of_statement a y
     TypedStmt begin a (tree.while c b) = TypedExpr a types.Truth c × TypedStmt of_statement a b
@@ -71,19 +73,20 @@ module _ (blocks : List Block) where
     TypedStmts a tree.no_stmts = Unit {0}
     TypedStmts a (tree.stmts s ss) = TypedStmt of_statement a s × TypedStmts a ss
 
-    -- the place is behind the declaration
-    pub TypedDecl : Surroundings → PDecl → Type 0
-    TypedDecl a (tree.simple kind ns) = Unit {0}
-    TypedDecl a (tree.files ns) = Unit {0}
-    TypedDecl a (tree.forward h) = h.params ≡ []
-    TypedDecl a (tree.procedure h s) = (h.params ≡ []) × TypedStmt of_procedure (inside_procedure blocks h a) s
-    TypedDecl a _ = ⊥
+    -- the place is behind the declaration; these are known at the begin of its block
+    pub TypedDecl : Surroundings → List Declared → PDecl → Type 0
+    TypedDecl a first (tree.simple kind ns) = Unit {0}
+    TypedDecl a first (tree.files ns) = Unit {0}
+    TypedDecl a first (tree.arrays kind ns pairs) = AreDimensions pairs × TypedPairs (record a { known = first }) pairs × (1 ≤ length ns)
+    TypedDecl a first (tree.forward h) = HeadingBuilt h
+    TypedDecl a first (tree.procedure h s) = HeadingBuilt h × TypedStmt of_procedure (inside_procedure blocks h a) s
+    TypedDecl a first _ = ⊥
 
     -- the place is in front of them
-    pub TypedDecls : Surroundings → PDecls → Type 0
-    TypedDecls a tree.no_decls = Unit {0}
-    TypedDecls a (tree.decls d ds) =
-        IsClean blocks (record { part = parts.declaration d ds; around = a }) × TypedDecl (knowing blocks d ds a) d × TypedDecls (knowing blocks d ds a) ds
+    pub TypedDecls : Surroundings → List Declared → PDecls → Type 0
+    TypedDecls a first tree.no_decls = Unit {0}
+    TypedDecls a first (tree.decls d ds) =
+        IsClean blocks (record { part = parts.declaration d ds; around = a }) × TypedDecl (knowing blocks d ds a) first d × TypedDecls (knowing blocks d ds a) first ds
 
 abbrev wrong_control : Class → Named → List Spot
 wrong_control (class.simple types.Truth) v = v.spot ∷ []
@@ -99,6 +102,7 @@ module _ (blocks : List Block) (a : Surroundings) (plain : KnowsPlain a) where
   left : (c : Class) (n : Named) (e : PExpr) (listed : Bool) → class_of a n ≡ c → IsPlain c →
       not_assignable blocks (here_stmt (tree.assign (tree.subscripted n tree.none) e) listed a) ≡ [] → (k : Kind) × IsLeft blocks a k n
   left c n e listed h (simple kind) g = (kind, inl h)
+  left c n e listed h (array kind rank) g = absurd (let clash : n.spot ∷ [] ≡ [] = rw h at g in cc)
   left c n e listed h file g = absurd (let clash : n.spot ∷ [] ≡ [] = rw h at g in cc)
   left c n e listed h (procedure heading p) g =
       let r = both_true heading.kind (is_around blocks heading a) n.spot (rw h at g) in
@@ -120,6 +124,7 @@ module _ (blocks : List Block) (a : Surroundings) (plain : KnowsPlain a) where
   controls : (c : Class) (v : Named) → IsPlain c → misnamed is_simple c v.spot ≡ [] → wrong_control c v ≡ [] → c ≡ class.simple types.Number
   controls c v (simple types.Number) g h = refl
   controls c v (simple types.Truth) g h = absurd (let clash : v.spot ∷ [] ≡ [] = h in cc)
+  controls c v (array kind rank) g h = absurd (let clash : v.spot ∷ [] ≡ [] = g in cc)
   controls c v file g h = absurd (let clash : v.spot ∷ [] ≡ [] = g in cc)
   controls c v (procedure heading p) g h = absurd (let clash : v.spot ∷ [] ≡ [] = g in cc)
 
@@ -137,15 +142,21 @@ module _ (blocks : List Block) (a : Surroundings) (plain : KnowsPlain a) where
         hb,
       )
 
-  -- no statement is on another name
-  no_such : (test : Class → Bool) (n : Named) (more others : List Spot) → ((kind : Kind) → test (class.simple kind) ≡ false) → test class.file ≡ false → ((h : Heading) → test (class.procedure h) ≡ false) →
-      if_so (not (is_some (declared_as a n))) n.spot ++ more ≡ [] → misnamed test (class_of a n) n.spot ++ others ≡ [] → ⊥
-  no_such test n more others s f p g h =
-      none_such test (class_of a n) n.spot s f p (plain_first a plain n more g) (nil_front (misnamed test (class_of a n) n.spot) others h)
+  -- of an element the value has the kind of the array
+  stored : (begin : Begin) (n : Named) (i : PExpr) (is : PExprs) (e : PExpr) (listed : Bool) → AllWhole (tree.more i is) → AreClean blocks (inside_list (tree.more i is) a) →
+      IsClean blocks (here_stmt (tree.assign (tree.subscripted n (tree.more i is)) e) listed a) → HasKind a e → TypedStmt blocks begin a (tree.assign (tree.subscripted n (tree.more i is)) e)
+  stored begin n i is e listed w s c h =
+      let es = tree.more i is in
+      let named = misnamed is_array (class_of a n) n.spot in
+      let numbers = wrong_list types.Number es a in
+      let value = wrong_for (element_type (class_of a n)) e a in
+      let two = nil_front (named ++ numbers) value c.typed in
+      let r = elements blocks a plain n es c.known (nil_front named numbers two) c.counted in
+      (r.0, r.1, typed_line blocks a plain es w s (nil_back named numbers two), of_kind a r.0 e h (wrong_if r.0 (element_type (class_of a n)) e a (ap element_type r.1) (nil_back (named ++ numbers) value c.typed)))
 
-  no_such_alone : (test : Class → Bool) (n : Named) → ((kind : Kind) → test (class.simple kind) ≡ false) → test class.file ≡ false → ((h : Heading) → test (class.procedure h) ≡ false) →
-      if_so (not (is_some (declared_as a n))) n.spot ++ [] ≡ [] → misnamed test (class_of a n) n.spot ≡ [] → ⊥
-  no_such_alone test n s f p g h = none_such test (class_of a n) n.spot s f p (plain_first a plain n [] g) h
+  -- no statement is on a label
+  no_label : (n : Named) → if_so (not (is_some (declared_as a n))) n.spot ++ [] ≡ [] → misnamed is_label (class_of a n) n.spot ≡ [] → ⊥
+  no_label n g h = none_such is_label (class_of a n) n.spot (λ k. refl) (λ k r. refl) refl (λ g. refl) (plain_first a plain n [] g) h
 
 -- what is declared is plain
 plain_found : (k : Sort) (c : Class) (block depth : ℕ) (ns : List Named) (known : List Declared) → IsPlain c → ((name : List ℕ) (d : Declared) → look_up known name ≡ Some d → IsPlain d.class) →
@@ -156,27 +167,44 @@ plain_found k c block depth ns known p f name d h = by (found_either (declare bl
     by (inl g) = subst IsPlain (sym (declared_is block depth k c ns name d g).0) p
     by (inr g) = f name d g
 
-pub bare_body : (name : List ℕ) (h : Heading) (ds : PDecls) → h.params ≡ [] → DeclsBuilt ds → (heading_or h (body_of name ds)).params ≡ []
-bare_body name h tree.no_decls p b = p
-bare_body name h (tree.decls (tree.procedure g s) ds) p b = by (same_name g.name.name name) (bare_body name h ds p b.1)
+pub built_body : (name : List ℕ) (h : Heading) (ds : PDecls) → HeadingBuilt h → DeclsBuilt ds → HeadingBuilt (heading_or h (body_of name ds))
+built_body name h tree.no_decls p b = p
+built_body name h (tree.decls (tree.procedure g s) ds) p b = by (same_name g.name.name name) (built_body name h ds p b.1)
   where
-    by : (t : Bool) → (heading_or h (body_of name ds)).params ≡ [] → (heading_or h (if t then Some g else body_of name ds)).params ≡ []
+    by : (t : Bool) → HeadingBuilt (heading_or h (body_of name ds)) → HeadingBuilt (heading_or h (if t then Some g else body_of name ds))
     by true later = b.0.0
     by false later = later
-bare_body name h (tree.decls d ds) p b = bare_body name h ds p b.1
+built_body name h (tree.decls d ds) p b = built_body name h ds p b.1
 
-pub no_parameters : (h : Heading) (block depth : ℕ) (known : List Declared) → h.params ≡ [] → declared_parameters block depth h ++ known ≡ known
-no_parameters h block depth known e = rw e refl
+-- so are parameters
+plain_parameters : (h : Heading) (block depth : ℕ) (ns : List Named) → AreByValue h ns → (name : List ℕ) (d : Declared) →
+    look_up (map (λ (n : Named). record { name = n.name; spot = n.spot; block = block; depth = depth; sort = sort_in h.specs (is_named_in h.values n.name) n.name; class = class_in h.specs n.name }) ns) name ≡ Some d → IsPlain d.class
+plain_parameters h block depth [] v name d g = absurd (let clash : None ≡ Some d = g in cc)
+plain_parameters h block depth (n ∷ ns) v name d g = by (same_name n.name name) (plain_parameters h block depth ns v.1 name d) g
+  where
+    first : Declared
+    first = record { name = n.name; spot = n.spot; block = block; depth = depth; sort = sort_in h.specs (is_named_in h.values n.name) n.name; class = class_in h.specs n.name }
+
+    others : List Declared
+    others = map (λ (n : Named). record { name = n.name; spot = n.spot; block = block; depth = depth; sort = sort_in h.specs (is_named_in h.values n.name) n.name; class = class_in h.specs n.name }) ns
+
+    by : (t : Bool) → (look_up others name ≡ Some d → IsPlain d.class) → (if t then Some first else look_up others name) ≡ Some d → IsPlain d.class
+    by true later f =
+        let same : first ≡ d = cc in
+        subst (λ (z : Declared). IsPlain z.class) same (subst IsPlain (sym v.0.class_is) (simple v.0.kind))
+    by false later f = later f
 
 module _ (blocks : List Block) where
   plain_knowing : (d : PDecl) (ds : PDecls) (a : Surroundings) → DeclBuilt d → DeclsBuilt ds → KnowsPlain a → KnowsPlain (knowing blocks d ds a)
   plain_knowing (tree.simple kind ns) ds a b c plain =
       record { each = plain_found sort.variable (class.simple kind) a.block a.depth ns a.known (simple kind) plain.each }
   plain_knowing (tree.files ns) ds a b c plain = record { each = plain_found sort.file class.file a.block a.depth ns a.known file plain.each }
+  plain_knowing (tree.arrays kind ns pairs) ds a b c plain =
+      record { each = plain_found sort.array (class.array kind (length pairs)) a.block a.depth ns a.known (array kind (length pairs)) plain.each }
   plain_knowing (tree.forward h) ds a b c plain =
       let g = announced h ds in
       record {
-        each = plain_found (sort.procedure (number_at blocks g.name.spot)) (class.procedure g) a.block a.depth (g.name ∷ []) a.known (procedure g (bare_body h.name.name h ds b c)) plain.each;
+        each = plain_found (sort.procedure (number_at blocks g.name.spot)) (class.procedure g) a.block a.depth (g.name ∷ []) a.known (procedure g (built_body h.name.name h ds b c)) plain.each;
       }
   plain_knowing (tree.procedure h s) ds a b c plain =
       record {
@@ -193,29 +221,35 @@ module _ (blocks : List Block) where
   plain_inside of_statement spot (tree.decls d ds) ss a plain = record { each = plain.each }
   plain_inside of_procedure spot ds ss a plain = plain
 
-  plain_procedure : (h : Heading) (a : Surroundings) → h.params ≡ [] → KnowsPlain a → KnowsPlain (inside_procedure blocks h a)
-  plain_procedure h a e plain =
-      record { each = λ name d g. plain.each name d (subst (λ (ks : List Declared). look_up ks name ≡ Some d) (no_parameters h (number_at blocks h.name.spot) (a.depth + 1) a.known e) g) }
+  plain_procedure : (h : Heading) (a : Surroundings) → HeadingBuilt h → KnowsPlain a → KnowsPlain (inside_procedure blocks h a)
+  plain_procedure h a b plain = record { each = λ name d g. by name d (found_either (declared_parameters (number_at blocks h.name.spot) (a.depth + 1) h) a.known name d g) }
+    where
+      by : (name : List ℕ) (d : Declared) → (look_up (declared_parameters (number_at blocks h.name.spot) (a.depth + 1) h) name ≡ Some d) ⊎ (look_up a.known name ≡ Some d) → IsPlain d.class
+      by name d (inl g) = plain_parameters h (number_at blocks h.name.spot) (a.depth + 1) h.params (by_value h b) name d g
+      by name d (inr g) = plain.each name d g
 
   mutual
     stated : (begin : Begin) (a : Surroundings) → KnowsPlain a → (s : PStmt) (listed : Bool) → StmtBuilt s → StmtWhole s → StmtPlain s → IsClean blocks (here_stmt s listed a) →
         AreClean blocks (inside_stmt blocks s begin listed a) → TypedStmt blocks begin a s
     stated begin a plain tree.empty listed b w t c i = tt
-    stated begin a plain (tree.label n s) listed b w t c i = absurd (no_such_alone blocks a plain is_label n (λ k. refl) refl (λ h. refl) c.known c.typed)
+    stated begin a plain (tree.label n s) listed b w t c i = absurd (no_label blocks a plain n c.known c.typed)
     stated begin a plain (tree.assign (tree.subscripted n tree.none) e) listed b w t c i = assigned blocks a plain begin n e listed c (typed blocks a plain e w.1 i)
     stated begin a plain (tree.assign (tree.subscripted n (tree.more e es)) v) listed b w t c i =
-        absurd (no_such blocks a plain is_array n [] (wrong_list types.Number (tree.more e es) a) (λ k. refl) refl (λ h. refl) c.known (nil_front _ _ c.typed))
-    stated begin a plain (tree.call_of (tree.called n tree.none)) listed b w t c i = call_of (class_of a n) n.spot (plain_first a plain n [] c.known) c.typed
-    stated begin a plain (tree.call_of (tree.called n (tree.more e es))) listed b w t c i =
-        absurd (none_called is_procedure (class_of a n) (exprs_count es) n.spot (λ k. refl) refl (plain_first a plain n [] c.known) c.typed c.counted)
-    stated begin a plain (tree.go_to n) listed b w t c i = absurd (no_such_alone blocks a plain is_label n (λ k. refl) refl (λ h. refl) c.known c.typed)
+        let those = inside_list (tree.more e es) a in
+        stored blocks a plain begin n e es v listed w.0 (each_front (IsClean blocks) those (sites v a) i) c (typed blocks a plain v w.1 (each_back (IsClean blocks) those (sites v a) i))
+    stated begin a plain (tree.call_of (tree.called n es)) listed b w t c i =
+        let f = call_of (class_of a n) n.spot (plain_first a plain n [] c.known) c.typed in
+        let many = as_many (class_of a n) f.0 (exprs_count es) n.spot f.1 c.counted in
+        let inside = subst (λ (d : Class). AreClean blocks (inside_actuals es (formals_of_class d) a)) f.1 i in
+        (f.0, f.1, f.2, typed_actuals blocks a plain f.0 f.0.params (by_value f.0 f.2) es w many inside)
+    stated begin a plain (tree.go_to n) listed b w t c i = absurd (no_label blocks a plain n c.known c.typed)
     stated begin a plain (tree.block (tree.body spot ds ss)) listed b w t c i =
         let start = inside blocks begin (tree.body spot ds ss) a in
         let within = knowing_all blocks ds start in
         let plain_start = plain_inside begin spot ds ss a plain in
         let decl_sites = sites_in_decls blocks ds start start.known in
         let stmt_sites = sites_in_stmts blocks ss (has_decls ds) within in (
-          all_declared start start.known plain_start ds b.0 w.0 t.0 (each_front (IsClean blocks) decl_sites stmt_sites i),
+          all_declared start start.known plain_start plain_start ds b.0 w.0 t.0 (each_front (IsClean blocks) decl_sites stmt_sites i),
           all_stated within (plain_all ds start b.0 plain_start) ss (has_decls ds) b.1 w.1 t.1 (each_back (IsClean blocks) decl_sites stmt_sites i),
         )
     stated begin a plain (tree.if_then e x) listed b w t c i =
@@ -267,22 +301,24 @@ module _ (blocks : List Block) where
         let others = sites_in_stmts blocks ss listed a in
         (stated of_statement a plain s listed b.0 w.0 t.0 i.0 (each_front (IsClean blocks) inside others i.1), all_stated a plain ss listed b.1 w.1 t.1 (each_back (IsClean blocks) inside others i.1))
 
-    pub all_declared : (a : Surroundings) (first : List Declared) → KnowsPlain a → (ds : PDecls) → DeclsBuilt ds → DeclsWhole ds → DeclsPlain ds → AreClean blocks (sites_in_decls blocks ds a first) →
-        TypedDecls blocks a ds
-    all_declared a first plain tree.no_decls b w t i = tt
-    all_declared a first plain (tree.decls d ds) b w t i =
+    pub all_declared : (a : Surroundings) (first : List Declared) → KnowsPlain a → KnowsPlain (record a { known = first }) → (ds : PDecls) → DeclsBuilt ds → DeclsWhole ds → DeclsPlain ds →
+        AreClean blocks (sites_in_decls blocks ds a first) → TypedDecls blocks a first ds
+    all_declared a first plain at_begin tree.no_decls b w t i = tt
+    all_declared a first plain at_begin (tree.decls d ds) b w t i =
         let behind = knowing blocks d ds a in
         let plain_behind = plain_knowing d ds a b.0 b.1 plain in
         let within = inside_decl blocks d behind first in
         let others = sites_in_decls blocks ds behind first in (
           i.0,
-          declared behind first plain_behind d b.0 w.0 t.0 (each_front (IsClean blocks) within others i.1),
-          all_declared behind first plain_behind ds b.1 w.1 t.1 (each_back (IsClean blocks) within others i.1),
+          declared behind first plain_behind at_begin d b.0 w.0 t.0 (each_front (IsClean blocks) within others i.1),
+          all_declared behind first plain_behind at_begin ds b.1 w.1 t.1 (each_back (IsClean blocks) within others i.1),
         )
 
-    declared : (a : Surroundings) (first : List Declared) → KnowsPlain a → (d : PDecl) → DeclBuilt d → DeclWhole d → DeclPlain d → AreClean blocks (inside_decl blocks d a first) → TypedDecl blocks a d
-    declared a first plain (tree.simple kind ns) b w t i = tt
-    declared a first plain (tree.files ns) b w t i = tt
-    declared a first plain (tree.forward h) b w t i = b
-    declared a first plain (tree.procedure h s) b w t i = (b.0, stated of_procedure (inside_procedure blocks h a) (plain_procedure h a b.0 plain) s false b.1 w t i.0 i.1)
-    declared a first plain _ b w t i = absurd b
+    declared : (a : Surroundings) (first : List Declared) → KnowsPlain a → KnowsPlain (record a { known = first }) → (d : PDecl) → DeclBuilt d → DeclWhole d → DeclPlain d →
+        AreClean blocks (inside_decl blocks d a first) → TypedDecl blocks a first d
+    declared a first plain at_begin (tree.simple kind ns) b w t i = tt
+    declared a first plain at_begin (tree.files ns) b w t i = tt
+    declared a first plain at_begin (tree.arrays kind ns pairs) b w t i = (w.0, typed_pairs blocks (record a { known = first }) at_begin pairs w.1 i, b)
+    declared a first plain at_begin (tree.forward h) b w t i = b
+    declared a first plain at_begin (tree.procedure h s) b w t i = (b.0, stated of_procedure (inside_procedure blocks h a) (plain_procedure h a b.0 plain) s false b.1 w t i.0 i.1)
+    declared a first plain at_begin _ b w t i = absurd b

@@ -17,13 +17,14 @@ use Rattle.algol_tree.specs.Plain.{PExpr, PExprs, PDecl, PDecls}
 use Rattle.algol_tree.specs.Scopes.{Scopes, Use, used, use_by, left_use, left_uses, uses_at, declared_in, use_of}
 use Rattle.algol_tree.specs.Sites.{Site, sites, here, here_stmt, first_formal, other_formals, wants_value, name_part, actual_part, inside_expr, inside_list, inside_actuals}
 use Rattle.algol_tree.specs.Sorts as sort
-use Rattle.algol_tree.specs.Sorts.{Sort, same_name, Declared, look_up, declare, declared_parameters}
+use Rattle.algol_tree.specs.Sorts.{Sort, same_name, Declared, look_up, declare, declared_parameters, is_named_in, sort_in, class_in}
 use Rattle.algol_tree.specs.Surroundings.{Surroundings, declared_as, class_of_declared, class_of, formals_at, announced, declare_procedure, knowing, knowing_all, inside_procedure}
 use Rattle.algol_paths.specs.Blocks.{IsSeen}
 use Rattle.algol_paths.specs.Texts.{InExpr, InExprs}
 use Rattle.b67_fitting.specs.Built.{DeclBuilt, DeclsBuilt}
-use Rattle.b67_fitting.proofs.Lists.{each_front, each_back, each_both, each_of, nil_front, nil_back, not_so, second_so, map_none}
+use Rattle.b67_fitting.proofs.Lists.{each_front, each_back, each_both, each_of, nil_front, nil_back, not_so, second_so}
 use Rattle.b67_fitting.proofs.Numbering.{IsThere}
+use Rattle.b67_fitting.proofs.Parameters.{AreByValue, by_value}
 use Rattle.b67_fitting.proofs.Callees.{IsCallee, AreCallees, IsChain, is_among, chain_at}
 
 -- ---- what is known
@@ -34,6 +35,7 @@ module _ (blocks : List Block) where
   pub data Means (block : ℕ) : Sort → Class → Type 0 where
     a_variable : (kind : Kind) → Means block sort.variable (class.simple kind)
     a_file : Means block sort.file class.file
+    an_array : (kind : Kind) (count : ℕ) → Means block sort.array (class.array kind count)
     a_procedure : (h : Heading) → IsCallee blocks block h → Means block (sort.procedure (number_at blocks h.name.spot)) (class.procedure h)
 
   -- The declaration stands in the block j or in one around it, so many up.
@@ -53,6 +55,24 @@ module _ (blocks : List Block) where
     pub chain : IsChain blocks (around blocks j)
     pub deep : length (around blocks j) ≡ a.depth
     pub known : AllByRecursion (IsKnown j a.depth) a.known
+
+  -- the parameters of a procedure are variables of its block
+  parameters_here : (k depth : ℕ) (h : Heading) (ns : List Named) → AreByValue h ns → k < length blocks → length (around blocks k) ≡ depth →
+      AllByRecursion (IsKnown k depth) (map (λ (n : Named). record { name = n.name; spot = n.spot; block = k; depth = depth; sort = sort_in h.specs (is_named_in h.values n.name) n.name; class = class_in h.specs n.name }) ns)
+  parameters_here k depth h [] v some deep = tt
+  parameters_here k depth h (n ∷ ns) v some deep =
+      let none_up : depth - depth ≡ 0 = omega arith in (
+        record {
+          some = some;
+          deep = deep;
+          shallow = omega arith;
+          found = ap (slice_get (k ∷ around blocks k)) none_up;
+          means =
+              subst (λ (s : Sort). Means k s (class_in h.specs n.name)) (sym v.0.sort_is)
+              (subst (λ (c : Class). Means k sort.variable c) (sym v.0.class_is) (a_variable v.0.kind));
+        },
+        parameters_here k depth h ns v.1 some deep,
+      )
 
   module _ (j : ℕ) (outer : List Spot) where
     declared_here : (a : Surroundings) → IsAround j outer a → (s : Sort) (c : Class) (ns : List Named) → Means a.block s c →
@@ -93,6 +113,7 @@ module _ (blocks : List Block) where
     pub knows_one : (d : PDecl) (ds : PDecls) (a : Surroundings) → DeclBuilt d → AreCallees blocks j (tree.decls d ds) → IsAround j outer a → IsAround j outer (knowing blocks d ds a)
     knows_one (tree.simple kind ns) ds a b c r = knows sort.variable (class.simple kind) ns a (a_variable kind) r
     knows_one (tree.files ns) ds a b c r = knows sort.file class.file ns a a_file r
+    knows_one (tree.arrays kind ns pairs) ds a b c r = knows sort.array (class.array kind (length pairs)) ns a (an_array kind (length pairs)) r
     knows_one (tree.forward h) ds a b c r = knows_procedure (announced h ds) a c.0 r
     knows_one (tree.procedure h t) ds a b c r = knows_procedure h a c.0 r
     knows_one d ds a b c r = absurd b
@@ -103,6 +124,8 @@ module _ (blocks : List Block) where
     knows_all (tree.decls (tree.simple kind ns) ds) a b c r =
         knows_all ds (knowing blocks (tree.simple kind ns) ds a) b.1 c (knows_one (tree.simple kind ns) ds a b.0 c r)
     knows_all (tree.decls (tree.files ns) ds) a b c r = knows_all ds (knowing blocks (tree.files ns) ds a) b.1 c (knows_one (tree.files ns) ds a b.0 c r)
+    knows_all (tree.decls (tree.arrays kind ns pairs) ds) a b c r =
+        knows_all ds (knowing blocks (tree.arrays kind ns pairs) ds a) b.1 c (knows_one (tree.arrays kind ns pairs) ds a b.0 c r)
     knows_all (tree.decls (tree.forward h) ds) a b c r = knows_all ds (knowing blocks (tree.forward h) ds a) b.1 c.1 (knows_one (tree.forward h) ds a b.0 c r)
     knows_all (tree.decls (tree.procedure h t) ds) a b c r =
         knows_all ds (knowing blocks (tree.procedure h t) ds a) b.1 c.1 (knows_one (tree.procedure h t) ds a b.0 c r)
@@ -134,18 +157,26 @@ module _ (blocks : List Block) where
               r.known;
         }
 
-    -- inside a procedure of the block j, which has no parameters
+    -- inside a procedure of the block j
     pub enters_procedure : (h : Heading) (a : Surroundings) → IsCallee blocks j h → IsAround j outer a →
         IsAround (number_at blocks h.name.spot) (h.name.spot ∷ outer) (inside_procedure blocks h a)
     enters_procedure h a c r =
         let k = number_at blocks h.name.spot in
-        let none : declared_parameters k (a.depth + 1) h ≡ [] = map_none _ h.params c.plain in
-        subst (λ (ps : List Declared). IsAround k (h.name.spot ∷ outer) (record { block = k; depth = a.depth + 1; known = ps ++ a.known })) (sym none)
-        (enters h.name.spot a c.some (c.around_is ∙ sym r.chain_is) r)
+        let inner = enters h.name.spot a c.some (c.around_is ∙ sym r.chain_is) r in
+        record {
+          block_is = refl;
+          some = inner.some;
+          chain_is = inner.chain_is;
+          chain = inner.chain;
+          deep = inner.deep;
+          known =
+              each_both (IsKnown k (a.depth + 1)) (declared_parameters k (a.depth + 1) h) a.known (parameters_here k (a.depth + 1) h h.params (by_value h c.built) inner.some inner.deep)
+              inner.known;
+        }
 
 -- ---- names that are used
 
-found_known : (P : Declared → Type 0) (known : List Declared) (name : List ℕ) (d : Declared) → AllByRecursion P known → look_up known name ≡ Some d → P d
+pub found_known : (P : Declared → Type 0) (known : List Declared) (name : List ℕ) (d : Declared) → AllByRecursion P known → look_up known name ≡ Some d → P d
 found_known P [] name d h g = absurd (let clash : None ≡ Some d = g in cc)
 found_known P (e ∷ known) name d h g = by (same_name e.name name) (found_known P known name d h.1) g
   where
@@ -223,6 +254,7 @@ module _ (sc : Scopes) (j : ℕ) (outer : List Spot) (a : Surroundings) (r : IsA
       IsThere sc.uses (left_use (the_use n d) s) → IsSeen sc j n
   left_as n d s c k (a_variable kind) e i t = seen_use n (the_use n d) t k.found
   left_as n d s c k a_file e i t = seen_use n (the_use n d) t k.found
+  left_as n d s c k (an_array kind count) e i t = seen_use n (the_use n d) t k.found
   left_as n d s c k (a_procedure h callee) e i t =
       let own = number_at sc.blocks h.name.spot in
       let inside : is_among sc.blocks own (j ∷ around sc.blocks j) ≡ true = subst (λ (m : ℕ). is_among sc.blocks own (m ∷ around sc.blocks m) ≡ true) r.block_is (i h e) in
@@ -268,37 +300,55 @@ module _ (sc : Scopes) (j : ℕ) (outer : List Spot) (a : Surroundings) (r : IsA
   abbrev Good : Site → Type 0
   Good x = IsGood sc x
 
+  abbrev pub KnownAs : (Named → Type 0) → Type 0
+  KnownAs P = (n : Named) → unknown (n ∷ []) ≡ [] → AllByRecursion (IsThere sc.uses) (flat_map (used a) (n ∷ [])) → P n
+
+  -- what holds of each name that is known there holds of those of an expression
+  module _ (P : Named → Type 0) (known : KnownAs P) where
+    mutual
+      pub expr_known : (e : PExpr) → AreGood sc (sites e a) → InExpr P e
+      expr_known (tree.number z spot) g = tt
+      expr_known (tree.truth z spot) g = tt
+      expr_known (tree.variable (tree.subscripted n es)) g = (known n g.0.known g.0.there, list_known es g.1)
+      expr_known (tree.call (tree.called n es)) g = (known n g.0.known g.0.there, actuals_known es (formals_at a n) g.1)
+      expr_known (tree.happened e spot) g = known e.name g.0.known g.0.there
+      expr_known (tree.paren e spot) g = expr_known e g.1
+      expr_known (tree.plus e spot) g = expr_known e g.1
+      expr_known (tree.neg e spot) g = expr_known e g.1
+      expr_known (tree.not e spot) g = expr_known e g.1
+      expr_known (tree.two op x y) g =
+          (expr_known x (each_front Good (sites x a) (sites y a) g.1), expr_known y (each_back Good (sites x a) (sites y a) g.1))
+      expr_known (tree.if c x y spot) g =
+          let front = each_front Good (sites c a ++ sites x a) (sites y a) g.1 in (
+            expr_known c (each_front Good (sites c a) (sites x a) front),
+            expr_known x (each_back Good (sites c a) (sites x a) front),
+            expr_known y (each_back Good (sites c a ++ sites x a) (sites y a) g.1),
+          )
+
+      pub list_known : (es : PExprs) → AreGood sc (inside_list es a) → InExprs P es
+      list_known tree.none g = tt
+      list_known (tree.more e es) g =
+          (expr_known e (each_front Good (sites e a) (inside_list es a) g), list_known es (each_back Good (sites e a) (inside_list es a) g))
+
+      pub actuals_known : (es : PExprs) (fs : List Formal) → AreGood sc (inside_actuals es fs a) → InExprs P es
+      actuals_known tree.none fs g = tt
+      actuals_known (tree.more e es) fs g =
+          let later = inside_actuals es (other_formals fs) a in (
+            expr_known e (actual_good sc e (first_formal fs) a g.1.0, each_front Good (inside_expr e a) later g.1.1),
+            actuals_known es (other_formals fs) (each_back Good (inside_expr e a) later g.1.1),
+          )
+
   abbrev Seen : Named → Type 0
   Seen n = IsSeen sc j n
 
-  mutual
-    pub in_expr : (e : PExpr) → AreGood sc (sites e a) → InExpr Seen e
-    in_expr (tree.number z spot) g = tt
-    in_expr (tree.truth z spot) g = tt
-    in_expr (tree.variable (tree.subscripted n es)) g = ((all_seen (n ∷ []) g.0.known g.0.there).0, in_list es g.1)
-    in_expr (tree.call (tree.called n es)) g = ((all_seen (n ∷ []) g.0.known g.0.there).0, in_actuals es (formals_at a n) g.1)
-    in_expr (tree.happened e spot) g = (all_seen (e.name ∷ []) g.0.known g.0.there).0
-    in_expr (tree.paren e spot) g = in_expr e g.1
-    in_expr (tree.plus e spot) g = in_expr e g.1
-    in_expr (tree.neg e spot) g = in_expr e g.1
-    in_expr (tree.not e spot) g = in_expr e g.1
-    in_expr (tree.two op x y) g = (in_expr x (each_front Good (sites x a) (sites y a) g.1), in_expr y (each_back Good (sites x a) (sites y a) g.1))
-    in_expr (tree.if c x y spot) g =
-        let front = each_front Good (sites c a ++ sites x a) (sites y a) g.1 in (
-          in_expr c (each_front Good (sites c a) (sites x a) front),
-          in_expr x (each_back Good (sites c a) (sites x a) front),
-          in_expr y (each_back Good (sites c a ++ sites x a) (sites y a) g.1),
-        )
+  one_seen : KnownAs Seen
+  one_seen n k t = (all_seen (n ∷ []) k t).0
 
-    pub in_list : (es : PExprs) → AreGood sc (inside_list es a) → InExprs Seen es
-    in_list tree.none g = tt
-    in_list (tree.more e es) g =
-        (in_expr e (each_front Good (sites e a) (inside_list es a) g), in_list es (each_back Good (sites e a) (inside_list es a) g))
+  pub in_expr : (e : PExpr) → AreGood sc (sites e a) → InExpr Seen e
+  in_expr e g = expr_known Seen one_seen e g
 
-    pub in_actuals : (es : PExprs) (fs : List Formal) → AreGood sc (inside_actuals es fs a) → InExprs Seen es
-    in_actuals tree.none fs g = tt
-    in_actuals (tree.more e es) fs g =
-        let later = inside_actuals es (other_formals fs) a in (
-          in_expr e (actual_good sc e (first_formal fs) a g.1.0, each_front Good (inside_expr e a) later g.1.1),
-          in_actuals es (other_formals fs) (each_back Good (inside_expr e a) later g.1.1),
-        )
+  pub in_list : (es : PExprs) → AreGood sc (inside_list es a) → InExprs Seen es
+  in_list es g = list_known Seen one_seen es g
+
+  pub in_actuals : (es : PExprs) (fs : List Formal) → AreGood sc (inside_actuals es fs a) → InExprs Seen es
+  in_actuals es fs g = actuals_known Seen one_seen es fs g

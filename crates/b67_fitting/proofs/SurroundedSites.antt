@@ -9,9 +9,9 @@ use Rattle.algol_tree.specs.Accepted.{Accepted, scope_faults, check_faults, site
 use Rattle.algol_tree.specs.Classes.{Formal}
 use Rattle.algol_tree.specs.Names.{unknown_names}
 use Rattle.algol_tree.specs.Plain as tree
-use Rattle.algol_tree.specs.Plain.{PExpr, PExprs, PStmt, PStmts, PDecls, PProgram}
+use Rattle.algol_tree.specs.Plain.{PExpr, PExprs, PPair, PStmt, PStmts, PDecls, PProgram}
 use Rattle.algol_tree.specs.Scopes.{scopes_of}
-use Rattle.algol_tree.specs.Sites.{Site, sites, other_formals, inside_expr, inside_list, inside_actuals, here_stmt, inside_stmt, sites_in_stmts, sites_in_decls, has_decls}
+use Rattle.algol_tree.specs.Sites.{Site, sites, other_formals, inside_expr, inside_list, inside_actuals, sites_in_pairs, here_stmt, inside_stmt, sites_in_stmts, sites_in_decls, has_decls}
 use Rattle.algol_tree.specs.Sorts.{Declared}
 use Rattle.algol_tree.specs.Surroundings.{Surroundings, outermost, formals_at, knowing, knowing_all, inside_begin, inside_procedure}
 use Rattle.b67_fitting.specs.Built.{DeclsBuilt, StmtBuilt, StmtsBuilt, IsBuilt}
@@ -58,6 +58,10 @@ module _ (P : Surroundings → Type 0) (a : Surroundings) (p : P a) where
     pub in_actuals : (es : PExprs) (fs : List Formal) → Each (inside_actuals es fs a)
     in_actuals tree.none fs = tt
     in_actuals (tree.more e es) fs = (p, (p, both (inside_expr e a) (inside_actuals es (other_formals fs) a) (in_expr e) (in_actuals es (other_formals fs))))
+
+  in_pairs : (ps : List PPair) → Each (sites_in_pairs ps a)
+  in_pairs [] = tt
+  in_pairs (q ∷ ps) = (p, both (sites q.high a) (sites_in_pairs ps a) (p, in_expr q.high) (in_pairs ps))
 
 -- ---- declarations and statements
 
@@ -121,7 +125,7 @@ module _ (blocks : List Block) where
         let numbered_stmts = each_back (IsNumbered blocks) (blocks_in_decls (tree.decls d ds) inner) (blocks_in_stmts ss inner) f.1 in
         let known = named_front declared stated k in
         let called = are_callees blocks i inner (tree.decls d ds) c c.known begun.chain_is b.0 numbered_decls known in
-        joined declared stated (in_decls i inner c (tree.decls d ds) c.known begun b.0 called known numbered_decls)
+        joined declared stated (in_decls i inner c (tree.decls d ds) c.known begun begun b.0 called known numbered_decls)
         (in_stmts i inner after ss true (knows_all blocks i inner (tree.decls d ds) c b.0 called begun) b.1 (named_back declared stated k) numbered_stmts)
     in_stmt j outer a (tree.block (tree.body spot ds ss)) of_procedure l r b k f =
         let after : Surroundings = knowing_all blocks ds a in
@@ -131,7 +135,7 @@ module _ (blocks : List Block) where
         let numbered_stmts = each_back (IsNumbered blocks) (blocks_in_decls ds outer) (blocks_in_stmts ss outer) f in
         let known = named_front declared stated k in
         let called = are_callees blocks j outer ds a a.known r.chain_is b.0 numbered_decls known in
-        joined declared stated (in_decls j outer a ds a.known r b.0 called known numbered_decls)
+        joined declared stated (in_decls j outer a ds a.known r r b.0 called known numbered_decls)
         (in_stmts j outer after ss (has_decls ds) (knows_all blocks j outer ds a b.0 called r) b.1 (named_back declared stated k) numbered_stmts)
     in_stmt j outer a (tree.if_then c x) g l r b k f =
         let its = named_back (sites c a) (stmt_sites x of_statement false a) k in
@@ -176,16 +180,26 @@ module _ (blocks : List Block) where
         (in_stmts j outer a ss l r b.1 (named_back (stmt_sites t of_statement l a) (sites_in_stmts blocks ss l a) k)
         (each_back (IsNumbered blocks) (blocks_of t of_statement outer) (blocks_in_stmts ss outer) f))
 
-    pub in_decls : (j : ℕ) (outer : List Spot) (a : Surroundings) (ds : PDecls) (first : List Declared) → IsAround blocks j outer a → DeclsBuilt ds → AreCallees blocks j ds →
+    -- `first`: what is known at the begin of the block, and so in its bounds
+    pub in_decls : (j : ℕ) (outer : List Spot) (a : Surroundings) (ds : PDecls) (first : List Declared) → IsAround blocks j outer (record a { known = first }) → IsAround blocks j outer a → DeclsBuilt ds → AreCallees blocks j ds →
         AreNamed (sites_in_decls blocks ds a first) → Numbered (blocks_in_decls ds outer) → ArePlaced (sites_in_decls blocks ds a first)
-    in_decls j outer a tree.no_decls first r b c k f = tt
-    in_decls j outer a (tree.decls (tree.simple kind ns) ds) first r b c k f =
-        (surrounded j outer a r, in_decls j outer (knowing blocks (tree.simple kind ns) ds a) ds first (knows_one blocks j outer (tree.simple kind ns) ds a b.0 c r) b.1 c k.1 f)
-    in_decls j outer a (tree.decls (tree.files ns) ds) first r b c k f =
-        (surrounded j outer a r, in_decls j outer (knowing blocks (tree.files ns) ds a) ds first (knows_one blocks j outer (tree.files ns) ds a b.0 c r) b.1 c k.1 f)
-    in_decls j outer a (tree.decls (tree.forward h) ds) first r b c k f =
-        (surrounded j outer a r, in_decls j outer (knowing blocks (tree.forward h) ds a) ds first (knows_one blocks j outer (tree.forward h) ds a b.0 c r) b.1 c.1 k.1 f)
-    in_decls j outer a (tree.decls (tree.procedure h t) ds) first r b c k f =
+    in_decls j outer a tree.no_decls first e r b c k f = tt
+    in_decls j outer a (tree.decls (tree.simple kind ns) ds) first e r b c k f =
+        (surrounded j outer a r, in_decls j outer (knowing blocks (tree.simple kind ns) ds a) ds first e (knows_one blocks j outer (tree.simple kind ns) ds a b.0 c r) b.1 c k.1 f)
+    in_decls j outer a (tree.decls (tree.files ns) ds) first e r b c k f =
+        (surrounded j outer a r, in_decls j outer (knowing blocks (tree.files ns) ds a) ds first e (knows_one blocks j outer (tree.files ns) ds a b.0 c r) b.1 c k.1 f)
+    in_decls j outer a (tree.decls (tree.arrays kind ns pairs) ds) first e r b c k f =
+        let after : Surroundings = knowing blocks (tree.arrays kind ns pairs) ds a in
+        let at : Surroundings = record a { known = first } in
+        let bounds : List Site = sites_in_pairs pairs at in
+        let later : List Site = sites_in_decls blocks ds after first in (
+          surrounded j outer a r,
+          joined bounds later (in_pairs (IsSurrounded blocks) at (surrounded j outer at e) pairs)
+              (in_decls j outer after ds first e (knows_one blocks j outer (tree.arrays kind ns pairs) ds a b.0 c r) b.1 c (named_back bounds later k.1) f),
+        )
+    in_decls j outer a (tree.decls (tree.forward h) ds) first e r b c k f =
+        (surrounded j outer a r, in_decls j outer (knowing blocks (tree.forward h) ds a) ds first e (knows_one blocks j outer (tree.forward h) ds a b.0 c r) b.1 c.1 k.1 f)
+    in_decls j outer a (tree.decls (tree.procedure h t) ds) first e r b c k f =
         let i = number_at blocks h.name.spot in
         let after : Surroundings = knowing blocks (tree.procedure h t) ds a in
         let known = knows_one blocks j outer (tree.procedure h t) ds a b.0 c r in
@@ -197,9 +211,9 @@ module _ (blocks : List Block) where
           surrounded j outer a r,
           joined its later
               (surrounded i (h.name.spot ∷ outer) d begun, in_stmt i (h.name.spot ∷ outer) d t of_procedure false begun b.0.1 named.1 (each_front (IsNumbered blocks) (blocks_of t of_procedure (h.name.spot ∷ outer)) (blocks_in_decls ds outer) f.1))
-              (in_decls j outer after ds first known b.1 c.1 (named_back its later k.1) (each_back (IsNumbered blocks) (blocks_of t of_procedure (h.name.spot ∷ outer)) (blocks_in_decls ds outer) f.1)),
+              (in_decls j outer after ds first e known b.1 c.1 (named_back its later k.1) (each_back (IsNumbered blocks) (blocks_of t of_procedure (h.name.spot ∷ outer)) (blocks_in_decls ds outer) f.1)),
         )
-    in_decls j outer a (tree.decls d ds) first r b c k f = absurd b.0
+    in_decls j outer a (tree.decls d ds) first e r b c k f = absurd b.0
 
 -- ---- the program
 
@@ -224,7 +238,7 @@ each_surrounded (tree.program (tree.body spot ds ss)) accepted order built =
     let numbered_stmts = each_back (IsNumbered blocks) (blocks_in_decls ds outer) (blocks_in_stmts ss outer) numbered.1 in
     let known = each_front IsNamed declared stated named in
     let called = are_callees blocks first outer ds outermost [] begun.chain_is built.0 numbered_decls known in
-    joined blocks declared stated (in_decls blocks first outer outermost ds [] begun built.0 called known numbered_decls)
+    joined blocks declared stated (in_decls blocks first outer outermost ds [] begun begun built.0 called known numbered_decls)
     (in_stmts blocks first outer after ss (has_decls ds) (knows_all blocks first outer ds outermost built.0 called begun) built.1 (each_back IsNamed declared stated named) numbered_stmts)
 
 -- the names of each part are known, and their uses are found at their places

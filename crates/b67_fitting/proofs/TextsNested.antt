@@ -1,21 +1,33 @@
--- The text of each block of a program that is built keeps to it: its names are seen from there, and the blocks in it stand in it.
-use Rattle.std.proofs.Common.{◌≡◌, arith, ℕ, Bool, true, false, List, ◌∷◌, ◌++◌, map, refl, []}
+-- The text of each block of a program that is built keeps to it: its names are seen from there, those in bounds from the block around it,
+-- but for parameters, and the blocks in it stand in it.
+use Rattle.std.proofs.Common.{◌≡◌, arith, ℕ, Bool, true, false, List, ◌∷◌, ◌++◌, map, length, refl, []}
+use Rattle.std.proofs.lemmas.List.{length-map}
 use Rattle.algol_tree.specs.declared.token.Spot.{Spot}
+use Rattle.algol_tree.specs.declared.tree.Heading.{Heading}
+use Rattle.algol_tree.specs.declared.tree.Named.{Named}
 use Rattle.algol_tree.specs.Blocks.{Block, Begin, of_statement, of_procedure, decls_of, stmts_of, blocks_of, blocks_in_decls, blocks_in_stmts, procedure_block, number_at, around}
 use Rattle.algol_tree.specs.Plain as tree
 use Rattle.algol_tree.specs.Plain.{PStmt, PStmts, PDecls}
 use Rattle.algol_tree.specs.Scopes.{Scopes}
-use Rattle.algol_tree.specs.Sites.{Site, sites, here_stmt, inside_list, inside_stmt, sites_in_stmts, sites_in_decls, has_decls}
-use Rattle.algol_tree.specs.Sorts.{Declared}
+use Rattle.algol_tree.specs.Sites.{Site, sites, sites_in_pairs, here_stmt, inside_list, inside_stmt, sites_in_stmts, sites_in_decls, has_decls}
+use Rattle.algol_tree.specs.Sorts.{Declared, Parameter, is_named_in, sort_in, parameters_of}
 use Rattle.algol_tree.specs.Surroundings.{Surroundings, formals_at, knowing, knowing_all, inside_begin, inside_procedure}
 use Rattle.algol_paths.specs.Blocks.{IsSeen, IsInner}
 use Rattle.algol_paths.specs.Texts.{InStmt, InStmts}
 use Rattle.b67_fitting.specs.Built.{DeclsBuilt, StmtBuilt, StmtsBuilt}
-use Rattle.b67_fitting.proofs.Lists.{each_front, each_back, each_both, map_none}
+use Rattle.b67_fitting.proofs.Lists.{each_front, each_back, each_both}
 use Rattle.b67_fitting.proofs.Callees.{AreCallees, are_callees}
 use Rattle.b67_fitting.proofs.Surrounded.{IsAround, knows_one, knows_all, enters, enters_procedure, IsGood, all_seen, left_seen, in_expr, in_list, in_actuals}
-use Rattle.b67_fitting.proofs.CellsFew.{declaring, as_many, procedure_many, built_items, body_items}
+use Rattle.b67_fitting.proofs.Bounds.{early_inside, early_procedure, in_bounds, in_body}
+use Rattle.b67_fitting.proofs.CellsFew.{declaring, as_many, procedure_many}
 use Rattle.b67_fitting.proofs.OneBlock.{the_block, IsFine, AreFine, fine_numbered, ArePart, part_named, front, back, rest, IsTextOf, AreTexts, is_there, outer_is, is_text, is_inner}
+
+heading_long : (h : Heading) → length (parameters_of h) ≡ length h.params
+heading_long h = length-map {B = Parameter} h.params (λ (n : Named). record { name = n.name; sort = sort_in h.specs (is_named_in h.values n.name) n.name })
+
+body_built : (t : PStmt) → StmtBuilt t → DeclsBuilt (decls_of t)
+body_built (tree.block (tree.body spot ds ss)) b = b.0
+body_built t b = tt
 
 abbrev IsNoBlock : PStmt → Type 0
 IsNoBlock (tree.block b) = ⊥
@@ -103,7 +115,8 @@ module _ (sc : Scopes) (all : List Site) where
         let called = callees k (spot ∷ outer) (tree.decls d ds) c c.known begun.chain_is b.0 fine_decls part in
         let inner = in_decls k (spot ∷ outer) c (tree.decls d ds) c.known begun b.0 called part fine_decls in
         let nested = in_stmts k (spot ∷ outer) after ss true (knows_all sc.blocks k (spot ∷ outer) (tree.decls d ds) c b.0 called begun) b.1 (back sc all declared stated parts) fine_stmts in
-        let its_text : IsTextOf sc all its = is_text sc all its f.0 refl (built_items (tree.decls d ds) b.0) called (omega (arith, as_many sc.blocks (tree.decls d ds) c c.known b.0, part.less k)) nested.0 in (
+        let bounds = in_bounds sc k (spot ∷ outer) c (tree.decls d ds) c.known begun (early_inside sc j outer a r) b.0 part.good in
+        let its_text : IsTextOf sc all its = is_text sc all its f.0 b.0 called (omega (arith, as_many sc.blocks (tree.decls d ds) c c.known b.0, part.less k)) bounds nested.0 in (
           is_inner sc all spot outer (tree.decls d ds) ss f.0 j r.chain_is,
           (its_text, each_both (IsTextOf sc all) (blocks_in_decls (tree.decls d ds) (spot ∷ outer)) (blocks_in_stmts ss (spot ∷ outer)) inner nested.1),
         )
@@ -191,6 +204,11 @@ module _ (sc : Scopes) (all : List Site) where
     in_decls j outer a (tree.decls (tree.files ns) ds) first r b c h f =
         let after : Surroundings = knowing sc.blocks (tree.files ns) ds a in
         in_decls j outer after ds first (knows_one sc.blocks j outer (tree.files ns) ds a b.0 c r) b.1 c (rest sc all _ (sites_in_decls sc.blocks ds after first) h) f
+    in_decls j outer a (tree.decls (tree.arrays kind ns pairs) ds) first r b c h f =
+        let after : Surroundings = knowing sc.blocks (tree.arrays kind ns pairs) ds a in
+        let bounds : List Site = sites_in_pairs pairs (record after { known = first }) in
+        let later : List Site = sites_in_decls sc.blocks ds after first in
+        in_decls j outer after ds first (knows_one sc.blocks j outer (tree.arrays kind ns pairs) ds a b.0 c r) b.1 c (back sc all bounds later (rest sc all _ (bounds ++ later) h)) f
     in_decls j outer a (tree.decls (tree.forward g) ds) first r b c h f =
         let after : Surroundings = knowing sc.blocks (tree.forward g) ds a in
         in_decls j outer after ds first (knows_one sc.blocks j outer (tree.forward g) ds a b.0 c r) b.1 c.1 (rest sc all _ (sites_in_decls sc.blocks ds after first) h) f
@@ -210,7 +228,8 @@ module _ (sc : Scopes) (all : List Site) where
         let nested = in_stmt k (g.name.spot ∷ outer) d t of_procedure false begun b.0.1 part fine_body in
         let inner = in_decls j outer after ds first known b.1 c.1 (back sc all (declaration ∷ its) later h) fine_later in
         let called = body_callees k (g.name.spot ∷ outer) t d begun.chain_is b.0.1 fine_body part in
+        let bounds = in_body sc k (g.name.spot ∷ outer) d t begun (early_procedure sc j outer after known g b.0.0) b.0.1 part.good in
         let its_text : IsTextOf sc all (procedure_block g t outer) =
-        is_text sc all (procedure_block g t outer) f.0 (map_none _ g.params c.0.plain) (body_items t b.0.1) called (omega (arith, procedure_many sc.blocks g t ds a d refl b.0.1, whole.less k)) nested.0 in
+        is_text sc all (procedure_block g t outer) f.0 (body_built t b.0.1) called (omega (arith, heading_long g, procedure_many sc.blocks g t ds a d refl b.0.1, whole.less k)) bounds nested.0 in
         (its_text, each_both (IsTextOf sc all) (blocks_of t of_procedure (g.name.spot ∷ outer)) (blocks_in_decls ds outer) nested.1 inner)
     in_decls j outer a (tree.decls d ds) first r b c h f = absurd b.0

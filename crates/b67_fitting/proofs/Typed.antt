@@ -1,47 +1,91 @@
 -- Expressions at which no rule is broken are of a kind, and so are the parts of them.
-use Rattle.std.proofs.Common.{◌≡◌, ◌⊎◌, List, [], ◌++◌, Some, refl, subst}
+use Rattle.std.proofs.Common.{arith, ◌≡◌, ◌⊎◌, inl, inr, not, Bool, true, is_some, List, [], ◌∷◌, ◌++◌, map, length, Option, Some, refl, ap, ◌∙◌, subst}
 use Rattle.algol_tree.specs.declared.tree.Kind.{Kind}
 use Rattle.algol_tree.specs.declared.tree.Kind.TheVariants as types
 use Rattle.algol_tree.specs.declared.tree.Named.{Named}
 use Rattle.algol_tree.specs.declared.tree.Heading.{Heading}
 use Rattle.algol_tree.specs.Blocks.{Block}
-use Rattle.algol_tree.specs.Checks.{is_function}
+use Rattle.algol_tree.specs.Checks.{wrong_actual}
 use Rattle.algol_tree.specs.Classes as class
-use Rattle.algol_tree.specs.Classes.{is_array}
-use Rattle.algol_tree.specs.Counted.{exprs_count}
+use Rattle.algol_tree.specs.Classes.{Class, Formal, is_array}
+use Rattle.algol_tree.specs.Counted.{exprs_count, wrong_counts}
+use Rattle.algol_tree.specs.Names.{if_so}
 use Rattle.algol_tree.specs.Plain as tree
 use Rattle.algol_tree.specs.Plain.{PExpr, PExprs}
-use Rattle.algol_tree.specs.Sites.{here, sites, inside_list}
-use Rattle.algol_tree.specs.Surroundings.{Surroundings, class_of}
-use Rattle.algol_tree.specs.Types.{given_by, taken_by, type_of}
+use Rattle.algol_tree.specs.Sites.{Part, expression, here, sites, is_of_value, wants_value, name_part, actual_part, inside_expr, inside_list, inside_actuals}
+use Rattle.algol_tree.specs.Sorts.{is_named_in, class_in, formals_of}
+use Rattle.algol_tree.specs.Surroundings.{Surroundings, class_of, formals_of_class, declared_as}
+use Rattle.algol_tree.specs.Types.{given_by, taken_by, element_type, result_type, type_of}
 use Rattle.b67_templates.specs.Fragments.{IsWhole}
+use Rattle.b67_fitting.specs.Built.{HeadingBuilt}
 use Rattle.b67_fitting.specs.Wholes.{NumbersWhole, AllWhole}
 use Rattle.b67_fitting.proofs.Lists.{each_front, each_back, nil_front, nil_back}
-use Rattle.b67_fitting.proofs.Clean.{IsClean, AreClean, KnowsPlain, plain_first, none_such, none_happens, none_called, read_kind, read_as, wrong, wrong_for, wrong_list, kind_wanted, wrong_if}
+use Rattle.b67_fitting.proofs.Parameters.{AreByValue, by_value}
+use Rattle.b67_fitting.proofs.Clean.{IsClean, AreClean, KnowsPlain, plain_first, misnamed, none_happens, array_of, has_others, subscripts_as_many, as_many, none_taken, function_of, IsRead, read_kind, read_as, wrong, wrong_for, wrong_list, kind_wanted, wrong_if}
+
+-- a parameter as its call sees it
+abbrev pub as_formal : Heading → Named → Formal
+as_formal h n = record { class = class_in h.specs n.name; by_value = is_named_in h.values n.name }
+
+-- an actual of which a value is wanted is a part as an expression
+name_is : (n : Named) (b : Bool) → b ≡ true → name_part n b ≡ expression (tree.variable (tree.subscripted n tree.none))
+name_is n b e = ap (name_part n) e
+
+pub actual_part_is : (e : PExpr) (f : Option Formal) → wants_value f ≡ true → actual_part e f ≡ expression e
+actual_part_is (tree.variable (tree.subscripted n tree.none)) f h = name_is n (wants_value f) h
+actual_part_is (tree.variable (tree.subscripted n (tree.more e es))) f h = refl
+actual_part_is (tree.number z spot) f h = refl
+actual_part_is (tree.truth z spot) f h = refl
+actual_part_is (tree.call c) f h = refl
+actual_part_is (tree.happened e spot) f h = refl
+actual_part_is (tree.paren e spot) f h = refl
+actual_part_is (tree.plus e spot) f h = refl
+actual_part_is (tree.neg e spot) f h = refl
+actual_part_is (tree.not e spot) f h = refl
+actual_part_is (tree.two op x y) f h = refl
+actual_part_is (tree.if c x y spot) f h = refl
 
 module _ (a : Surroundings) where
   abbrev pub IsOf : Kind → Named → Type 0
   IsOf k n = class_of a n ≡ class.simple k
 
-  -- the name of a typed procedure
+  -- the name of a typed procedure without parameters
   abbrev pub IsFunction : Kind → Named → Type 0
-  IsFunction k n = (h : Heading) × (class_of a n ≡ class.procedure h) × (h.kind ≡ Some k)
+  IsFunction k n = (h : Heading) × (class_of a n ≡ class.procedure h) × (h.kind ≡ Some k) × (h.params ≡ [])
 
-  abbrev pub TypedExpr : Kind → PExpr → Type 0
-  TypedExpr k (tree.number z spot) = (k ≡ types.Number) × IsWhole z
-  TypedExpr k (tree.truth b spot) = k ≡ types.Truth
-  TypedExpr k (tree.variable (tree.subscripted n tree.none)) = IsOf k n ⊎ IsFunction k n
-  TypedExpr k (tree.paren e spot) = TypedExpr k e
-  TypedExpr k (tree.plus e spot) = (k ≡ types.Number) × TypedExpr types.Number e
-  TypedExpr k (tree.neg e spot) = (k ≡ types.Number) × TypedExpr types.Number e
-  TypedExpr k (tree.not e spot) = (k ≡ types.Truth) × TypedExpr types.Truth e
-  TypedExpr k (tree.two op x y) = (k ≡ given_by op) × TypedExpr (taken_by op) x × TypedExpr (taken_by op) y
-  TypedExpr k (tree.if c x y spot) = TypedExpr types.Truth c × TypedExpr k x × TypedExpr k y
-  TypedExpr k _ = ⊥
+  -- the name of an array with elements of this kind and as many bounds as these subscripts
+  abbrev pub HasElements : Kind → Named → PExprs → Type 0
+  HasElements k n es = class_of a n ≡ class.array k (exprs_count es)
 
-  abbrev pub TypedLine : PExprs → Type 0
-  TypedLine tree.none = Unit {0}
-  TypedLine (tree.more e es) = TypedExpr types.Number e × TypedLine es
+  abbrev mutual
+    pub TypedExpr : Kind → PExpr → Type 0
+    TypedExpr k (tree.number z spot) = (k ≡ types.Number) × IsWhole z
+    TypedExpr k (tree.truth b spot) = k ≡ types.Truth
+    TypedExpr k (tree.variable (tree.subscripted n tree.none)) = IsOf k n ⊎ IsFunction k n
+    TypedExpr k (tree.variable (tree.subscripted n (tree.more e es))) = HasElements k n (tree.more e es) × TypedLine (tree.more e es)
+    TypedExpr k (tree.paren e spot) = TypedExpr k e
+    TypedExpr k (tree.plus e spot) = (k ≡ types.Number) × TypedExpr types.Number e
+    TypedExpr k (tree.neg e spot) = (k ≡ types.Number) × TypedExpr types.Number e
+    TypedExpr k (tree.not e spot) = (k ≡ types.Truth) × TypedExpr types.Truth e
+    TypedExpr k (tree.two op x y) = (k ≡ given_by op) × TypedExpr (taken_by op) x × TypedExpr (taken_by op) y
+    TypedExpr k (tree.if c x y spot) = TypedExpr types.Truth c × TypedExpr k x × TypedExpr k y
+    TypedExpr k (tree.call (tree.called n es)) =
+        (h : Heading) × (class_of a n ≡ class.procedure h) × HeadingBuilt h × (h.kind ≡ Some k) × TypedActuals (formals_of h) es
+    TypedExpr k _ = ⊥
+
+    -- actuals by value of these parameters
+    pub TypedActuals : List Formal → PExprs → Type 0
+    TypedActuals [] tree.none = Unit {0}
+    TypedActuals (f ∷ fs) (tree.more e es) = (k : Kind) × (f.class ≡ class.simple k) × (f.by_value ≡ true) × TypedExpr k e × TypedActuals fs es
+    TypedActuals _ _ = ⊥
+
+    pub TypedLine : PExprs → Type 0
+    TypedLine tree.none = Unit {0}
+    TypedLine (tree.more e es) = TypedExpr types.Number e × TypedLine es
+
+  -- a call that a statement makes
+  abbrev pub IsCalled : Named → PExprs → Type 0
+  IsCalled n es = (h : Heading) × (class_of a n ≡ class.procedure h) × HeadingBuilt h × TypedActuals (formals_of h) es
 
   pub record HasKind (e : PExpr) : Type 0 where
     pub kind : Kind
@@ -52,50 +96,91 @@ module _ (a : Surroundings) where
   of_kind m e h w = subst (λ (k : Kind). TypedExpr k e) (kind_wanted m h.kind e a h.is w) h.typed
 
 module _ (blocks : List Block) (a : Surroundings) (plain : KnowsPlain a) where
+  read_is : (n : Named) (k : Kind) → IsRead (class_of a n) k → wrong_counts (here (tree.variable (tree.subscripted n tree.none)) a) ≡ [] → IsOf a k n ⊎ IsFunction a k n
+  read_is n k (inl e) w = inl e
+  read_is n k (inr f) w = inr (f.0, f.1, f.2, none_taken (class_of a n) f.0 k n.spot f.1 f.2 w)
+
   of_variable : (n : Named) → IsClean blocks (here (tree.variable (tree.subscripted n tree.none)) a) → HasKind a (tree.variable (tree.subscripted n tree.none))
   of_variable n c =
       let r = read_kind (class_of a n) n.spot (plain_first a plain n [] c.known) c.typed in
-      record { kind = r.0; is = read_as (class_of a n) r.0 r.1; typed = r.1 }
+      record { kind = r.0; is = read_as (class_of a n) r.0 r.1; typed = read_is n r.0 r.1 c.counted }
 
-  pub typed : (e : PExpr) → NumbersWhole e → AreClean blocks (sites e a) → HasKind a e
-  typed (tree.number z spot) w c = record { kind = types.Number; is = refl; typed = (refl, w) }
-  typed (tree.truth b spot) w c = record { kind = types.Truth; is = refl; typed = refl }
-  typed (tree.variable (tree.subscripted n tree.none)) w c = of_variable n c.0
-  typed (tree.variable (tree.subscripted n (tree.more e es))) w c =
-      absurd (none_such is_array (class_of a n) n.spot (λ k. refl) refl (λ h. refl) (plain_first a plain n [] c.0.known) (nil_front _ _ c.0.typed))
-  typed (tree.call (tree.called n tree.none)) w c = absurd w
-  typed (tree.call (tree.called n (tree.more e es))) w c =
-      absurd (none_called is_function (class_of a n) (exprs_count es) n.spot (λ k. refl) refl (plain_first a plain n [] c.0.known) c.0.typed c.0.counted)
-  typed (tree.happened e spot) w c = absurd (none_happens e.task (class_of a e.name) e.name.spot (plain_first a plain e.name [] c.0.known) c.0.typed)
-  typed (tree.paren e spot) w c =
-      let h = typed e w c.1 in
-      record { kind = h.kind; is = h.is; typed = h.typed }
-  typed (tree.plus e spot) w c = record { kind = types.Number; is = refl; typed = (refl, of_kind a types.Number e (typed e w c.1) c.0.typed) }
-  typed (tree.neg e spot) w c = record { kind = types.Number; is = refl; typed = (refl, of_kind a types.Number e (typed e w c.1) c.0.typed) }
-  typed (tree.not e spot) w c = record { kind = types.Truth; is = refl; typed = (refl, of_kind a types.Truth e (typed e w c.1) c.0.typed) }
-  typed (tree.two op x y) w c =
-      let hx = typed x w.0 (each_front (IsClean blocks) (sites x a) (sites y a) c.1) in
-      let hy = typed y w.1 (each_back (IsClean blocks) (sites x a) (sites y a) c.1) in
-      record {
-        kind = given_by op;
-        is = refl;
-        typed =
-            (refl, of_kind a (taken_by op) x hx (nil_front (wrong (taken_by op) x a) (wrong (taken_by op) y a) c.0.typed), of_kind a (taken_by op) y hy (nil_back (wrong (taken_by op) x a) (wrong (taken_by op) y a) c.0.typed));
-      }
-  typed (tree.if s x y spot) w c =
-      let front = each_front (IsClean blocks) (sites s a ++ sites x a) (sites y a) c.1 in
-      let hs = typed s w.0 (each_front (IsClean blocks) (sites s a) (sites x a) front) in
-      let hx = typed x w.1 (each_back (IsClean blocks) (sites s a) (sites x a) front) in
-      let hy = typed y w.2 (each_back (IsClean blocks) (sites s a ++ sites x a) (sites y a) c.1) in
-      record {
-        kind = hx.kind;
-        is = hx.is;
-        typed =
-            (of_kind a types.Truth s hs (nil_front (wrong types.Truth s a) (wrong_for (type_of x a) y a) c.0.typed), hx.typed, of_kind a hx.kind y hy (wrong_if hx.kind (type_of x a) y a hx.is (nil_back (wrong types.Truth s a) (wrong_for (type_of x a) y a) c.0.typed)));
-      }
+  -- a name with subscripts, as many as its array has bounds
+  pub elements : (n : Named) (es : PExprs) → if_so (not (is_some (declared_as a n))) n.spot ++ [] ≡ [] → misnamed is_array (class_of a n) n.spot ≡ [] →
+      if_so (has_others (class_of a n) (exprs_count es)) n.spot ≡ [] → (k : Kind) × HasElements a k n es
+  elements n es known named counted =
+      let r = array_of (class_of a n) n.spot (plain_first a plain n [] known) named in
+      (r.0, subscripts_as_many (class_of a n) r.0 r.1 (exprs_count es) n.spot r.2 counted)
 
-  pub typed_line : (es : PExprs) → AllWhole es → AreClean blocks (inside_list es a) → wrong_list types.Number es a ≡ [] → TypedLine a es
-  typed_line tree.none w c h = tt
-  typed_line (tree.more e es) w c h =
-      let he = typed e w.0 (each_front (IsClean blocks) (sites e a) (inside_list es a) c) in
-      (of_kind a types.Number e he (nil_front (wrong types.Number e a) (wrong_list types.Number es a) h), typed_line es w.1 (each_back (IsClean blocks) (sites e a) (inside_list es a) c) (nil_back (wrong types.Number e a) (wrong_list types.Number es a) h))
+  mutual
+    pub typed : (e : PExpr) → NumbersWhole e → AreClean blocks (sites e a) → HasKind a e
+    typed (tree.number z spot) w c = record { kind = types.Number; is = refl; typed = (refl, w) }
+    typed (tree.truth b spot) w c = record { kind = types.Truth; is = refl; typed = refl }
+    typed (tree.variable (tree.subscripted n tree.none)) w c = of_variable n c.0
+    typed (tree.variable (tree.subscripted n (tree.more e es))) w c =
+        let r = elements n (tree.more e es) c.0.known (nil_front (misnamed is_array (class_of a n) n.spot) (wrong_list types.Number (tree.more e es) a) c.0.typed) c.0.counted in
+        record {
+          kind = r.0;
+          is = ap element_type r.1;
+          typed =
+              (r.1, typed_line (tree.more e es) w c.1 (nil_back (misnamed is_array (class_of a n) n.spot) (wrong_list types.Number (tree.more e es) a) c.0.typed));
+        }
+    typed (tree.call (tree.called n tree.none)) w c = absurd w
+    typed (tree.call (tree.called n (tree.more e es))) w c =
+        let f = function_of (class_of a n) n.spot (plain_first a plain n [] c.0.known) c.0.typed in
+        let h = f.heading in
+        let many = as_many (class_of a n) h (exprs_count (tree.more e es)) n.spot f.class_is c.0.counted in
+        let inside = subst (λ (d : Class). AreClean blocks (inside_actuals (tree.more e es) (formals_of_class d) a)) f.class_is c.1 in
+        record {
+          kind = f.kind;
+          is = ap result_type f.class_is ∙ f.kind_is;
+          typed = (h, f.class_is, f.built, f.kind_is, typed_actuals h h.params (by_value h f.built) (tree.more e es) w many inside);
+        }
+    typed (tree.happened e spot) w c = absurd (none_happens e.task (class_of a e.name) e.name.spot (plain_first a plain e.name [] c.0.known) c.0.typed)
+    typed (tree.paren e spot) w c =
+        let h = typed e w c.1 in
+        record { kind = h.kind; is = h.is; typed = h.typed }
+    typed (tree.plus e spot) w c = record { kind = types.Number; is = refl; typed = (refl, of_kind a types.Number e (typed e w c.1) c.0.typed) }
+    typed (tree.neg e spot) w c = record { kind = types.Number; is = refl; typed = (refl, of_kind a types.Number e (typed e w c.1) c.0.typed) }
+    typed (tree.not e spot) w c = record { kind = types.Truth; is = refl; typed = (refl, of_kind a types.Truth e (typed e w c.1) c.0.typed) }
+    typed (tree.two op x y) w c =
+        let hx = typed x w.0 (each_front (IsClean blocks) (sites x a) (sites y a) c.1) in
+        let hy = typed y w.1 (each_back (IsClean blocks) (sites x a) (sites y a) c.1) in
+        record {
+          kind = given_by op;
+          is = refl;
+          typed =
+              (refl, of_kind a (taken_by op) x hx (nil_front (wrong (taken_by op) x a) (wrong (taken_by op) y a) c.0.typed), of_kind a (taken_by op) y hy (nil_back (wrong (taken_by op) x a) (wrong (taken_by op) y a) c.0.typed));
+        }
+    typed (tree.if s x y spot) w c =
+        let front = each_front (IsClean blocks) (sites s a ++ sites x a) (sites y a) c.1 in
+        let hs = typed s w.0 (each_front (IsClean blocks) (sites s a) (sites x a) front) in
+        let hx = typed x w.1 (each_back (IsClean blocks) (sites s a) (sites x a) front) in
+        let hy = typed y w.2 (each_back (IsClean blocks) (sites s a ++ sites x a) (sites y a) c.1) in
+        record {
+          kind = hx.kind;
+          is = hx.is;
+          typed =
+              (of_kind a types.Truth s hs (nil_front (wrong types.Truth s a) (wrong_for (type_of x a) y a) c.0.typed), hx.typed, of_kind a hx.kind y hy (wrong_if hx.kind (type_of x a) y a hx.is (nil_back (wrong types.Truth s a) (wrong_for (type_of x a) y a) c.0.typed)));
+        }
+
+    pub typed_actuals : (h : Heading) (ns : List Named) → AreByValue h ns → (es : PExprs) → AllWhole es → length ns ≡ exprs_count es → AreClean blocks (inside_actuals es (map (as_formal h) ns) a) →
+        TypedActuals a (map (as_formal h) ns) es
+    typed_actuals h [] v tree.none w l c = tt
+    typed_actuals h [] v (tree.more e es) w l c = absurd (omega (arith, l))
+    typed_actuals h (n ∷ ns) v tree.none w l c = absurd (omega (arith, l))
+    typed_actuals h (n ∷ ns) v (tree.more e es) w l c =
+        let k = v.0.kind in
+        let f = as_formal h n in
+        let valued : wants_value (Some f) ≡ true = ap is_of_value v.0.class_is in
+        let own : IsClean blocks (here e a) = subst (λ (p : Part). IsClean blocks (record { part = p; around = a })) (actual_part_is e (Some f) valued) c.1.0 in
+        let rest = inside_actuals es (map (as_formal h) ns) a in
+        let he = typed e w.0 (own, each_front (IsClean blocks) (inside_expr e a) rest c.1.1) in
+        let right : wrong k e a ≡ [] = subst (λ (d : Class). wrong_actual (Some (record { class = d; by_value = f.by_value })) e a ≡ []) v.0.class_is c.0.typed in
+        (k, v.0.class_is, v.0.value_is, of_kind a k e he right, typed_actuals h ns v.1 es w.1 (omega (arith, l)) (each_back (IsClean blocks) (inside_expr e a) rest c.1.1))
+
+    pub typed_line : (es : PExprs) → AllWhole es → AreClean blocks (inside_list es a) → wrong_list types.Number es a ≡ [] → TypedLine a es
+    typed_line tree.none w c h = tt
+    typed_line (tree.more e es) w c h =
+        let he = typed e w.0 (each_front (IsClean blocks) (sites e a) (inside_list es a) c) in
+        (of_kind a types.Number e he (nil_front (wrong types.Number e a) (wrong_list types.Number es a) h), typed_line es w.1 (each_back (IsClean blocks) (sites e a) (inside_list es a) c) (nil_back (wrong types.Number e a) (wrong_list types.Number es a) h))

@@ -3,14 +3,14 @@ use Rattle.std.proofs.Common.{arith, ◌≡◌, ℕ, ◌+◌, ◌-◌, ◌≤◌
 use Rattle.std.specs.List.{flat_map}
 use Rattle.algol_tree.specs.declared.token.Spot.{Spot}
 use Rattle.algol_tree.specs.declared.tree.Named.{Named}
-use Rattle.algol_tree.specs.Ascending.{spots_of_names, spots_of_expr, spots_of_exprs, spots_of_heading, spots_of_stmt, spots_of_stmts, spots_of_decls}
+use Rattle.algol_tree.specs.Ascending.{spots_of_names, spots_of_expr, spots_of_exprs, spots_of_heading, spots_of_pairs, spots_of_stmt, spots_of_stmts, spots_of_decls}
 use Rattle.algol_tree.specs.Blocks.{Block, Begin, of_statement, of_procedure}
 use Rattle.algol_tree.specs.Classes.{Formal}
 use Rattle.algol_tree.specs.Plain as tree
-use Rattle.algol_tree.specs.Plain.{PExpr, PExprs, PStmt, PStmts, PDecls}
+use Rattle.algol_tree.specs.Plain.{PExpr, PExprs, PPair, PStmt, PStmts, PDecls}
 use Rattle.algol_tree.specs.Scopes.{Use, used, use_by, left_use, left_uses, part_uses, uses_at}
 use Rattle.algol_tree.specs.Sites as site
-use Rattle.algol_tree.specs.Sites.{Site, sites, first_formal, other_formals, wants_value, name_part, actual_part, inside_expr, inside_list, inside_actuals, here_stmt, inside_stmt, sites_in_stmts, sites_in_decls, has_decls}
+use Rattle.algol_tree.specs.Sites.{Site, sites, first_formal, other_formals, wants_value, name_part, actual_part, inside_expr, inside_list, inside_actuals, sites_in_pairs, here_stmt, inside_stmt, sites_in_stmts, sites_in_decls, has_decls}
 use Rattle.algol_tree.specs.Sorts as sort
 use Rattle.algol_tree.specs.Sorts.{Sort, Declared}
 use Rattle.algol_tree.specs.Surroundings.{Surroundings, declared_as, formals_at, knowing, knowing_all, inside, inside_procedure}
@@ -121,6 +121,11 @@ module _ (s : Spot) where
             in_actuals es (other_formals fs),
           )
 
+    in_pairs : (ps : List PPair) → uses_in (sites_in_pairs ps a) ≤ places s (spots_of_pairs ps)
+    in_pairs [] = omega arith
+    in_pairs (p ∷ ps) =
+        omega (arith, uses_both (sites p.high a) (sites_in_pairs ps a), places_both s (spots_of_expr p.high) (spots_of_pairs ps), in_expr p.high, in_pairs ps)
+
   -- ---- statements and declarations
 
   module _ (blocks : List Block) where
@@ -190,13 +195,24 @@ module _ (s : Spot) where
       in_stmts (tree.stmts t ss) l a b =
           omega (arith, uses_both (stmt_sites t of_statement l a) (sites_in_stmts blocks ss l a), places_both s (spots_of_stmt t) (spots_of_stmts ss), in_stmt t of_statement l a b.0, in_stmts ss l a b.1)
 
-      -- declarations use names only in the bodies of procedures
+      -- declarations use names only in bounds and in the bodies of procedures
       pub in_decls : (ds : PDecls) (a : Surroundings) (first : List Declared) → DeclsBuilt ds → uses_in (sites_in_decls blocks ds a first) ≤ places s (spots_of_decls ds)
       in_decls tree.no_decls a first b = omega arith
       in_decls (tree.decls (tree.simple kind ns) ds) a first b =
           omega (arith, places_both s (spots_of_names ns) (spots_of_decls ds), in_decls ds (knowing blocks (tree.simple kind ns) ds a) first b.1)
       in_decls (tree.decls (tree.files ns) ds) a first b =
           omega (arith, places_both s (spots_of_names ns) (spots_of_decls ds), in_decls ds (knowing blocks (tree.files ns) ds a) first b.1)
+      in_decls (tree.decls (tree.arrays kind ns pairs) ds) a first b =
+          let after : Surroundings = knowing blocks (tree.arrays kind ns pairs) ds a in
+          let bounds : Surroundings = record after { known = first } in
+          omega (
+            arith,
+            uses_both (sites_in_pairs pairs bounds) (sites_in_decls blocks ds after first),
+            places_both s (spots_of_names ns ++ spots_of_pairs pairs) (spots_of_decls ds),
+            places_both s (spots_of_names ns) (spots_of_pairs pairs),
+            in_pairs bounds pairs,
+            in_decls ds after first b.1,
+          )
       in_decls (tree.decls (tree.forward h) ds) a first b =
           omega (arith, places_both s (spots_of_heading h) (spots_of_decls ds), in_decls ds (knowing blocks (tree.forward h) ds a) first b.1)
       in_decls (tree.decls (tree.procedure h t) ds) a first b =

@@ -1,16 +1,26 @@
--- Which programs are built: all that they declare are simple variables, files and procedures without parameters, in whatever block. Each
--- procedure has a name, as in each tree that was read: by its name a block is known as that of a procedure.
-use Rattle.std.specs.Prelude.{◌≡◌, false, []}
+-- Which programs are built: all that they declare are simple variables, files, arrays and procedures whose parameters are simple and by value, in
+-- whatever block, and no process is started. Each procedure has a name, as in each tree that was read: by its name a block is known as that
+-- of a procedure. And each declaration of arrays has a name.
+use Rattle.std.specs.Prelude.{◌≡◌, ◌≤◌, true, false, [], length}
+use Rattle.std.specs.List.{All}
+use Rattle.algol_tree.specs.declared.tree.Heading.{Heading}
+use Rattle.algol_tree.specs.declared.tree.Named.{Named}
 use Rattle.algol_tree.specs.Plain as tree
 use Rattle.algol_tree.specs.Plain.{PStmt, PStmts, PDecl, PDecls, PProgram}
-use Rattle.algol_tree.specs.Sorts.{same_name}
+use Rattle.algol_tree.specs.Classes.{is_simple}
+use Rattle.algol_tree.specs.Sorts.{same_name, is_named_in, class_in}
+
+-- each parameter is specified as a simple one, and is by value
+abbrev pub HeadingBuilt : Heading → Type 0
+HeadingBuilt h = All (λ (n : Named). (is_simple (class_in h.specs n.name) ≡ true) × (is_named_in h.values n.name ≡ true)) h.params
 
 abbrev mutual
   pub DeclBuilt : PDecl → Type 0
   DeclBuilt (tree.simple kind ns) = Unit {0}
   DeclBuilt (tree.files ns) = Unit {0}
-  DeclBuilt (tree.forward h) = h.params ≡ []
-  DeclBuilt (tree.procedure h s) = (h.params ≡ []) × StmtBuilt s × (same_name h.name.name [] ≡ false)
+  DeclBuilt (tree.arrays kind ns pairs) = 1 ≤ length ns
+  DeclBuilt (tree.forward h) = HeadingBuilt h
+  DeclBuilt (tree.procedure h s) = HeadingBuilt h × StmtBuilt s × (same_name h.name.name [] ≡ false)
   DeclBuilt d = ⊥
 
   pub DeclsBuilt : PDecls → Type 0

@@ -1,18 +1,21 @@
 -- How the blocks of an accepted program that is built lie in one another.
-use Rattle.std.specs.Prelude.{◌≡◌, ℕ, ◌+◌, ◌<◌, ◌≤◌, true, [], ◌∷◌, length, None, Some, slice_get}
+use Rattle.std.specs.Prelude.{◌≡◌, ℕ, ◌+◌, ◌<◌, ◌≤◌, true, [], ◌∷◌, length, map, None, Some, slice_get, IsSome}
+use Rattle.std.specs.List.{All}
 use Rattle.algol_tree.specs.declared.TheConstants.{MOST_BLOCK_CELLS, MOST_LEVEL, MOST_PROCEDURES, MOST_SEGMENT_TOKENS}
+use Rattle.algol_tree.specs.declared.tree.Kind.{Kind}
 use Rattle.algol_tree.specs.declared.tree.Named.{Named}
 use Rattle.algol_tree.specs.Accepted.{Accepted}
 use Rattle.algol_tree.specs.Ascending.{IsInOrder}
-use Rattle.algol_tree.specs.Blocks.{block_numbered, number_at, around}
+use Rattle.algol_tree.specs.Sorts.{Parameter, is_variable}
+use Rattle.algol_tree.specs.Blocks.{Block, block_numbered, number_at, around}
 use Rattle.algol_tree.specs.Cells.{level_of}
 use Rattle.algol_tree.specs.Plain.{PProgram}
 use Rattle.algol_tree.specs.Scopes.{Scopes, scopes_of}
-use Rattle.algol_meaning.specs.Statements.{decls_items}
-use Rattle.algol_paths.specs.Blocks.{IsSeen, IsInner}
+use Rattle.algol_meaning.specs.Statements.{items_of}
+use Rattle.algol_paths.specs.Arrays.{arrays_of}
+use Rattle.algol_paths.specs.Laws.{ItemsKeepToText}
 use Rattle.algol_paths.specs.Segments.{is_procedure, procedures_before, segment_tokens}
-use Rattle.algol_paths.specs.Texts.{InStmts}
-use Rattle.b67_templates.specs.Cells.{simple_cells, procedures}
+use Rattle.b67_templates.specs.Cells.{Simple, parameter_cells, simple_cells, found_from, procedures}
 use Rattle.b67_fitting.specs.Built.{IsBuilt}
 
 -- the block of a procedure that the block with this number declares stands in it
@@ -21,14 +24,24 @@ pub record IsDeclared (sc : Scopes) (j : ℕ) (declared : Named) : Type 0 where
   pub around_is : around sc.blocks (number_at sc.blocks declared.spot) ≡ j ∷ around sc.blocks j
   pub procedure : is_procedure (block_numbered sc.blocks (number_at sc.blocks declared.spot)) ≡ true
 
--- Each block's text keeps to it: its names are seen from there, and the blocks in it stand in it. It has no parameters, no declaration of
--- it is made by an action, and it has no more cells than a block may have (rule TooManyCells), and a level that the machine has (rule
--- TooManyLevels).
+-- The parameters of a block are by value, and each has a cell of its kind. Where the block gives a result, no parameter has the block's name
+-- (rule DeclaredTwice), so the first cell with that name is the result's.
+pub record AreByValue (sc : Scopes) (b : Block) : Type 0 where
+  pub names : map (λ (p : Parameter). p.name) b.parameters ≡ map (λ (c : Simple). c.name) (parameter_cells sc b)
+  pub values : All (λ (p : Parameter). is_variable p.sort ≡ true) b.parameters
+  pub kinds : All (λ (c : Simple). IsSome c.kind) (parameter_cells sc b)
+  pub apart : (kind : Kind) → b.result ≡ Some kind → found_from 0 (parameter_cells sc b) b.name ≡ None
+
+-- Each block's text keeps to it: its names are seen from there, those in bounds from the block around it, but for parameters, and the
+-- blocks in it stand in it. Its parameters are by value, it has no more cells than a block may have (rule TooManyCells), and a level that
+-- the machine has (rule TooManyLevels).
 pub record IsText (sc : Scopes) (j : ℕ) : Type 0 where
-  pub text : InStmts (IsSeen sc j) (IsInner sc j) ((block_numbered sc.blocks j).stmts)
-  pub plain : (block_numbered sc.blocks j).parameters ≡ []
-  pub made : decls_items ((block_numbered sc.blocks j).decls) ≡ []
-  pub few : length (simple_cells (block_numbered sc.blocks j)) + length (procedures (block_numbered sc.blocks j).decls) ≤ MOST_BLOCK_CELLS
+  pub items : ItemsKeepToText sc j (items_of (block_numbered sc.blocks j))
+  pub parameters : AreByValue sc (block_numbered sc.blocks j)
+  pub few :
+      length (simple_cells sc (block_numbered sc.blocks j)) + length (procedures (block_numbered sc.blocks j).decls)
+      + length (arrays_of (block_numbered sc.blocks j).decls)
+      ≤ MOST_BLOCK_CELLS
   pub low : level_of (block_numbered sc.blocks j) ≤ MOST_LEVEL
   pub procedure : (k : ℕ) (declared : Named) → slice_get (procedures ((block_numbered sc.blocks j).decls)) k ≡ Some declared → IsDeclared sc j declared
 

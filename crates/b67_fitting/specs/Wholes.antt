@@ -1,10 +1,12 @@
 -- The numbers of a program are whole: the magnitude of each number in its expressions is at most the greatest that the machine has. And
--- each call in an expression has actuals, as in a tree that was read from a text, where a name alone reads as a variable.
+-- each call in an expression has actuals, and each array one dimension or two, as in a tree that was read from a text, where a name alone
+-- reads as a variable.
 use Rattle.std.specs.Prelude.{List}
 use Rattle.std.specs.List.{AllByRecursion}
 use Rattle.algol_tree.specs.Plain as tree
 use Rattle.algol_tree.specs.Plain.{PExpr, PExprs, PPair, PStmt, PStmts, PDecl, PDecls, PBody, PProgram}
 use Rattle.b67_templates.specs.Fragments.{IsWhole}
+use Rattle.b67_templates.specs.Code.{AreDimensions}
 
 abbrev mutual
   pub NumbersWhole : PExpr → Type 0
@@ -24,9 +26,9 @@ abbrev mutual
   AllWhole tree.none = Unit {0}
   AllWhole (tree.more e es) = NumbersWhole e × AllWhole es
 
--- in upper bounds
+-- in bounds; there is one pair or two
 abbrev pub BoundsWhole : List PPair → Type 0
-BoundsWhole pairs = AllByRecursion (λ (p : PPair). NumbersWhole p.high) pairs
+BoundsWhole pairs = AreDimensions pairs × AllByRecursion (λ (p : PPair). IsWhole p.low × NumbersWhole p.high) pairs
 
 abbrev mutual
   pub StmtWhole : PStmt → Type 0

@@ -1,0 +1,57 @@
+-- What a name means where it is of a class: a variable, an array or a procedure whose declaration is known.
+use Rattle.std.proofs.Common.{◌≡◌, ℕ, List, Option, Some, None, refl, sym, ◌∙◌, subst}
+use Rattle.algol_tree.specs.declared.tree.Heading.{Heading}
+use Rattle.algol_tree.specs.declared.tree.Kind.{Kind}
+use Rattle.algol_tree.specs.declared.tree.Named.{Named}
+use Rattle.algol_tree.specs.Blocks.{Block}
+use Rattle.algol_tree.specs.Classes as class
+use Rattle.algol_tree.specs.Classes.{Class}
+use Rattle.algol_tree.specs.Sorts.{Declared}
+use Rattle.algol_tree.specs.Surroundings.{Surroundings, class_of, class_of_declared, declared_as}
+use Rattle.b67_fitting.proofs.Known.{IsHeld, IsRowed, IsOwned, IsKnown, known_file, known_variable, known_array, known_procedure}
+use Rattle.b67_fitting.proofs.Typed.{IsOf}
+
+pub record IsDeclared (a : Surroundings) (c : Class) (n : Named) : Type 0 where
+  pub as_one : Declared
+  pub is : declared_as a n ≡ Some as_one
+  pub class_is : as_one.class ≡ c
+
+declared_of : (a : Surroundings) (c : Class) (n : Named) (o : Option Declared) → (class.unknown ≡ c → ⊥) → declared_as a n ≡ o → class_of_declared o ≡ c → IsDeclared a c n
+declared_of a c n None never e h = absurd (never h)
+declared_of a c n (Some d) never e h = record { as_one = d; is = e; class_is = h }
+
+pub declared_simple : (a : Surroundings) (k : Kind) (n : Named) → IsOf a k n → IsDeclared a (class.simple k) n
+declared_simple a k n h = declared_of a (class.simple k) n (declared_as a n) (λ e. let clash : class.unknown ≡ class.simple k = e in cc) refl h
+
+pub declared_procedure : (a : Surroundings) (g : Heading) (n : Named) → class_of a n ≡ class.procedure g → IsDeclared a (class.procedure g) n
+declared_procedure a g n h = declared_of a (class.procedure g) n (declared_as a n) (λ e. let clash : class.unknown ≡ class.procedure g = e in cc) refl h
+
+pub declared_array : (a : Surroundings) (k : Kind) (rank : ℕ) (n : Named) → class_of a n ≡ class.array k rank → IsDeclared a (class.array k rank) n
+declared_array a k rank n h = declared_of a (class.array k rank) n (declared_as a n) (λ e. let clash : class.unknown ≡ class.array k rank = e in cc) refl h
+
+module _ (blocks : List Block) where
+  pub held_of : (depth : ℕ) (name : List ℕ) (d : Declared) (k : Kind) → d.class ≡ class.simple k → IsKnown blocks depth name d → IsHeld blocks depth name d k
+  held_of depth name d k c (known_file f s) = absurd (let clash : class.simple k ≡ class.file = sym c ∙ f in cc)
+  held_of depth name d k c (known_array m rank h) = absurd (let clash : class.simple k ≡ class.array m rank = sym c ∙ h.class_is in cc)
+  held_of depth name d k c (known_procedure g h) = absurd (let clash : class.simple k ≡ class.procedure g = sym c ∙ h.class_is in cc)
+  held_of depth name d k c (known_variable kind h) =
+      let same : kind ≡ k = (let e : class.simple kind ≡ class.simple k = sym h.class_is ∙ c in cc) in
+      subst (λ (z : Kind). IsHeld blocks depth name d z) same h
+
+  pub owned_of : (depth : ℕ) (name : List ℕ) (d : Declared) (g : Heading) → d.class ≡ class.procedure g → IsKnown blocks depth name d → IsOwned blocks depth name d g
+  owned_of depth name d g c (known_file f s) = absurd (let clash : class.procedure g ≡ class.file = sym c ∙ f in cc)
+  owned_of depth name d g c (known_variable kind h) = absurd (let clash : class.procedure g ≡ class.simple kind = sym c ∙ h.class_is in cc)
+  owned_of depth name d g c (known_array m rank h) = absurd (let clash : class.procedure g ≡ class.array m rank = sym c ∙ h.class_is in cc)
+  owned_of depth name d g c (known_procedure f h) =
+      let same : f ≡ g = (let e : class.procedure f ≡ class.procedure g = sym h.class_is ∙ c in cc) in
+      subst (λ (z : Heading). IsOwned blocks depth name d z) same h
+
+  pub rowed_of : (depth : ℕ) (name : List ℕ) (d : Declared) (k : Kind) (rank : ℕ) → d.class ≡ class.array k rank → IsKnown blocks depth name d → IsRowed blocks depth name d k rank
+  rowed_of depth name d k rank c (known_file f s) = absurd (let clash : class.array k rank ≡ class.file = sym c ∙ f in cc)
+  rowed_of depth name d k rank c (known_variable kind h) = absurd (let clash : class.array k rank ≡ class.simple kind = sym c ∙ h.class_is in cc)
+  rowed_of depth name d k rank c (known_procedure g h) = absurd (let clash : class.array k rank ≡ class.procedure g = sym c ∙ h.class_is in cc)
+  rowed_of depth name d k rank c (known_array kind many h) =
+      let same : class.array kind many ≡ class.array k rank = sym h.class_is ∙ c in
+      let kinds : kind ≡ k = cc in
+      let ranks : many ≡ rank = cc in
+      subst (λ (z : Kind). IsRowed blocks depth name d z rank) kinds (subst (λ (r : ℕ). IsRowed blocks depth name d kind r) ranks h)
