@@ -1,5 +1,5 @@
 -- Which action of the source each operator that is not plain is, in the code of a tree.
-use Rattle.std.specs.Prelude.{ℕ, ◌+◌, if◌then◌else◌, nat_eq, List, [], ◌∷◌, Option, Some, None, Result, Ok, Err, reverse}
+use Rattle.std.specs.Prelude.{ℕ, ◌+◌, ◌-◌, if◌then◌else◌, nat_eq, List, [], ◌∷◌, Option, Some, None, Result, Ok, Err, reverse}
 use Rattle.b67_list.specs.Numbered.{numbered}
 use Rattle.algol_tree.specs.Plain.{PProgram}
 use Rattle.algol_tree.specs.Scopes.{scopes_of}
@@ -10,6 +10,7 @@ use Rattle.algol_meaning.specs.Choice.{choice}
 use Rattle.algol_meaning.specs.Run.{run}
 use Rattle.b67_word.specs.Word.{Word}
 use Rattle.b67_control.specs.declared.Registers.{Registers}
+use Rattle.b67_control.specs.declared.Descriptor.{Descriptor}
 use Rattle.b67_control.specs.declared.Irw.{Irw}
 use Rattle.b67_control.specs.Control.{as_irw}
 use Rattle.b67_ops.specs.declared.Operator.{Operator}
@@ -21,6 +22,7 @@ use Rattle.b67_ops.specs.declared.intrinsic.Intrinsic.{Intrinsic}
 use Rattle.b67_ops.specs.declared.intrinsic.Intrinsic.TheVariants as names
 use Rattle.b67_segment.specs.declared.code.Code.{Code}
 use Rattle.b67_store.specs.Store.{word_at}
+use Rattle.b67_table.specs.Arrays.{as_indexed}
 use Rattle.b67_table.specs.Outcome.{Outcome, faults}
 use Rattle.b67_table.specs.Image.{Image}
 use Rattle.b67_table.specs.Names.{intrinsic_numbered}
@@ -65,11 +67,26 @@ called_by img r = called_action (irw_in (word_at img.stacks (record { stack = r.
 abbrev pub left_action : Registers → Option Action
 left_action r = if nat_eq (frame r) 0 then Some act.End else Some act.Leave
 
--- The rows that are built: a read, a store, a turn, an entry, a leaving, an end, the intrinsics.
+-- what STOD does with the word under the top: it stores to the element of an indexed descriptor, or to a cell
+abbrev pub stored_action : Option Descriptor → Action
+stored_action None = act.Store
+stored_action (Some d) = act.ElementStore
+
+abbrev pub indexed_in : Option Word → Option Descriptor
+indexed_in None = None
+indexed_in (Some w) = as_indexed w
+
+abbrev pub stored_by : Image → Registers → Action
+stored_by img r = stored_action (indexed_in (word_at img.stacks (record { stack = r.stack; at = r.s - 2 })))
+
+-- The rows that are built: a read, an index, a store, a turn, an entry, a leaving, an end, the intrinsics.
 abbrev pub action_of : Image → Registers → Operator → Option Action
 action_of img r (ops.Valc couple) = Some act.Read
 action_of img r (ops.Branch Brun target) = Some act.Turn
-action_of img r (ops.Plain kinds.Stod) = Some act.Store
+action_of img r (ops.Plain kinds.Nxlv) = Some act.ElementRead
+action_of img r (ops.Plain kinds.Nxln) = Some act.Index
+action_of img r (ops.Plain kinds.Indx) = Some act.Index
+action_of img r (ops.Plain kinds.Stod) = Some (stored_by img r)
 action_of img r (ops.Plain kinds.Entr) = called_by img r
 action_of img r (ops.Plain kinds.Exit) = left_action r
 action_of img r (ops.Plain kinds.Retn) = Some act.Leave

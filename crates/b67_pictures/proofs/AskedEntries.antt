@@ -1,9 +1,10 @@
 -- The procedure that a head enters is seen from the text of its part, and a block that it enters stands in that.
-use Rattle.std.proofs.Common.{◌≡◌, List, subst}
+use Rattle.std.proofs.Common.{◌≡◌, ◌⊎◌, inl, inr, refl, List, [], subst}
 use Rattle.algol_tree.specs.declared.tree.Named.{Named}
 use Rattle.algol_tree.specs.Plain.{PBody, body}
 use Rattle.algol_meaning.specs.Rest.{Given, Hole, read, element, index, happens, broken, enter, inside, subscript, argument, left, right, negated, inverted, condition, Actuals, pass, in_value, Aim, resolve, place_index, inside_place, place_subscript, Rest, over, reading, giving, giving_place, store, select, turning, going, entering_block, entering, starting, acting, line, arrays, event, within, dropping, evaluating, locating, aiming, storing, choosing, looping, checking, counting, differing, stepping, selecting, calling, preparing, writing, bounding}
 use Rattle.algol_meaning.specs.Asks.{enters, enters_block, ask, ask_hole, ask_actuals, ask_aim}
+use Rattle.algol_paths.specs.Arrays.{to_make}
 use Rattle.algol_paths.specs.Texts.{InHole, InActuals, InAim, InRest}
 
 module _ (P : Named → Type 0) (n : Named) (gs : List Given) where
@@ -34,40 +35,46 @@ module _ (P : Named → Type 0) (n : Named) (gs : List Given) where
   aim_enters inside_place e is = cc
   aim_enters (place_subscript m ks h es) e is = hole_enters h e is.1
 
-  -- of a procedure
-  pub enters_seen : (Q : PBody → Type 0) (r : Rest) → ask r ≡ enters n gs → InRest P Q r → P n
-  enters_seen Q over e is = cc
-  enters_seen Q (reading name) e is = cc
-  enters_seen Q (giving v) e is = cc
-  enters_seen Q (giving_place p) e is = cc
-  enters_seen Q (store p v k) e is = cc
-  enters_seen Q (select i ss k) e is = cc
-  enters_seen Q (turning k) e is = cc
-  enters_seen Q (going m) e is = cc
-  enters_seen Q (entering_block b k) e is = cc
-  enters_seen Q (entering m hs k) e is = let same : m ≡ n = cc in subst P same is.0
-  enters_seen Q (starting m hs task k) e is = cc
-  enters_seen Q (acting act m k) e is = cc
-  enters_seen Q (line phrases vs k) e is = cc
-  enters_seen Q (arrays kind ns pairs vs k) e is = cc
-  enters_seen Q (event m k) e is = cc
-  enters_seen Q (within k) e is = cc
-  enters_seen Q (dropping k) e is = cc
-  enters_seen Q (evaluating h) e is = hole_enters h e is
-  enters_seen Q (storing p h k) e is = hole_enters h e is.1
-  enters_seen Q (choosing h x y k) e is = hole_enters h e is.0
-  enters_seen Q (looping h c b k) e is = hole_enters h e is.0
-  enters_seen Q (checking h b c k) e is = hole_enters h e is.0
-  enters_seen Q (counting h b k) e is = hole_enters h e is.0
-  enters_seen Q (differing h loop k) e is = hole_enters h e is.0
-  enters_seen Q (stepping d h loop k) e is = hole_enters h e is.0
-  enters_seen Q (selecting h ss k) e is = hole_enters h e is.0
-  enters_seen Q (writing phrases vs h es k) e is = hole_enters h e is.0
-  enters_seen Q (bounding kind ns pairs vs h ps k) e is = hole_enters h e is.0
-  enters_seen Q (locating a) e is = aim_enters a e is
-  enters_seen Q (aiming a x k) e is = aim_enters a e is.0
-  enters_seen Q (calling m x k) e is = actuals_enter x e is.1
-  enters_seen Q (preparing m x task k) e is = actuals_enter x e is.1
+-- of a procedure
+pub enters_seen : (P : Named → Type 0) (n : Named) (gs : List Given) (Q : PBody → Type 0) (R : Named → Type 0) → (R n → P n) → (r : Rest) → ask r ≡ enters n gs → InRest P Q R r → P n
+enters_seen P n gs Q R narrower over e is = cc
+enters_seen P n gs Q R narrower (reading name) e is = cc
+enters_seen P n gs Q R narrower (giving v) e is = cc
+enters_seen P n gs Q R narrower (giving_place p) e is = cc
+enters_seen P n gs Q R narrower (store p v k) e is = cc
+enters_seen P n gs Q R narrower (select i ss k) e is = cc
+enters_seen P n gs Q R narrower (turning k) e is = cc
+enters_seen P n gs Q R narrower (going m) e is = cc
+enters_seen P n gs Q R narrower (entering_block b k) e is = cc
+enters_seen P n gs Q R narrower (entering m hs k) e is = let same : m ≡ n = cc in subst P same is.0
+enters_seen P n gs Q R narrower (starting m hs task k) e is = cc
+enters_seen P n gs Q R narrower (acting act m k) e is = cc
+enters_seen P n gs Q R narrower (line phrases vs k) e is = cc
+enters_seen P n gs Q R narrower (arrays kind ns pairs vs k) e is = cc
+enters_seen P n gs Q R narrower (event m k) e is = cc
+enters_seen P n gs Q R narrower (within k) e is = cc
+enters_seen P n gs Q R narrower (dropping k) e is = cc
+enters_seen P n gs Q R narrower (evaluating h) e is = hole_enters P n gs h e is
+enters_seen P n gs Q R narrower (storing p h k) e is = hole_enters P n gs h e is.1
+enters_seen P n gs Q R narrower (choosing h x y k) e is = hole_enters P n gs h e is.0
+enters_seen P n gs Q R narrower (looping h c b k) e is = hole_enters P n gs h e is.0
+enters_seen P n gs Q R narrower (checking h b c k) e is = hole_enters P n gs h e is.0
+enters_seen P n gs Q R narrower (counting h b k) e is = hole_enters P n gs h e is.0
+enters_seen P n gs Q R narrower (differing h loop k) e is = hole_enters P n gs h e is.0
+enters_seen P n gs Q R narrower (stepping d h loop k) e is = hole_enters P n gs h e is.0
+enters_seen P n gs Q R narrower (selecting h ss k) e is = hole_enters P n gs h e is.0
+enters_seen P n gs Q R narrower (writing phrases vs h es k) e is = hole_enters P n gs h e is.0
+enters_seen P n gs Q R narrower (bounding kind ns pairs vs h ps k) e is = narrower (hole_enters R n gs h e is.0)
+enters_seen P n gs Q R narrower (locating a) e is = aim_enters P n gs a e is
+enters_seen P n gs Q R narrower (aiming a x k) e is = aim_enters P n gs a e is.0
+enters_seen P n gs Q R narrower (calling m x k) e is = actuals_enter P n gs x e is.1
+enters_seen P n gs Q R narrower (preparing m x task k) e is = actuals_enter P n gs x e is.1
+
+-- arrays are still to be made where it is entered in a bound
+pub entered_in_bound : (P : Named → Type 0) (n : Named) (gs : List Given) (Q : PBody → Type 0) (R : Named → Type 0) (r : Rest) → ask r ≡ enters n gs → InRest P Q R r → (to_make r ≡ []) ⊎ R n
+entered_in_bound P n gs Q R (arrays kind ns pairs vs k) e is = cc
+entered_in_bound P n gs Q R (bounding kind ns pairs vs h ps k) e is = inr (hole_enters R n gs h e is.0)
+entered_in_bound P n gs Q R r e is = inl refl
 
 -- no head in an expression enters a block
 mutual
@@ -98,36 +105,42 @@ aim_blocks inside_place b e = cc
 aim_blocks (place_subscript m ks h es) b e = hole_blocks h b e
 
 -- of a block
-pub blocks_seen : (P : Named → Type 0) (Q : PBody → Type 0) (b : PBody) (r : Rest) → ask r ≡ enters_block b → InRest P Q r → Q b
-blocks_seen P Q b over e is = cc
-blocks_seen P Q b (reading name) e is = cc
-blocks_seen P Q b (giving v) e is = cc
-blocks_seen P Q b (giving_place p) e is = cc
-blocks_seen P Q b (store p v k) e is = cc
-blocks_seen P Q b (select i ss k) e is = cc
-blocks_seen P Q b (turning k) e is = cc
-blocks_seen P Q b (going m) e is = cc
-blocks_seen P Q b (entering_block (body spot ds ss) k) e is = let same : body spot ds ss ≡ b = cc in subst Q same is.0
-blocks_seen P Q b (entering m hs k) e is = cc
-blocks_seen P Q b (starting m hs task k) e is = cc
-blocks_seen P Q b (acting act m k) e is = cc
-blocks_seen P Q b (line phrases vs k) e is = cc
-blocks_seen P Q b (arrays kind ns pairs vs k) e is = cc
-blocks_seen P Q b (event m k) e is = cc
-blocks_seen P Q b (within k) e is = cc
-blocks_seen P Q b (dropping k) e is = cc
-blocks_seen P Q b (evaluating h) e is = hole_blocks h b e
-blocks_seen P Q b (storing p h k) e is = hole_blocks h b e
-blocks_seen P Q b (choosing h x y k) e is = hole_blocks h b e
-blocks_seen P Q b (looping h c x k) e is = hole_blocks h b e
-blocks_seen P Q b (checking h x c k) e is = hole_blocks h b e
-blocks_seen P Q b (counting h x k) e is = hole_blocks h b e
-blocks_seen P Q b (differing h loop k) e is = hole_blocks h b e
-blocks_seen P Q b (stepping d h loop k) e is = hole_blocks h b e
-blocks_seen P Q b (selecting h ss k) e is = hole_blocks h b e
-blocks_seen P Q b (writing phrases vs h es k) e is = hole_blocks h b e
-blocks_seen P Q b (bounding kind ns pairs vs h ps k) e is = hole_blocks h b e
-blocks_seen P Q b (locating a) e is = aim_blocks a b e
-blocks_seen P Q b (aiming a x k) e is = aim_blocks a b e
-blocks_seen P Q b (calling m x k) e is = actuals_block x b e
-blocks_seen P Q b (preparing m x task k) e is = actuals_block x b e
+pub blocks_seen : (P : Named → Type 0) (Q : PBody → Type 0) (R : Named → Type 0) (b : PBody) (r : Rest) → ask r ≡ enters_block b → InRest P Q R r → Q b
+blocks_seen P Q R b over e is = cc
+blocks_seen P Q R b (reading name) e is = cc
+blocks_seen P Q R b (giving v) e is = cc
+blocks_seen P Q R b (giving_place p) e is = cc
+blocks_seen P Q R b (store p v k) e is = cc
+blocks_seen P Q R b (select i ss k) e is = cc
+blocks_seen P Q R b (turning k) e is = cc
+blocks_seen P Q R b (going m) e is = cc
+blocks_seen P Q R b (entering_block (body spot ds ss) k) e is = let same : body spot ds ss ≡ b = cc in subst Q same is.0
+blocks_seen P Q R b (entering m hs k) e is = cc
+blocks_seen P Q R b (starting m hs task k) e is = cc
+blocks_seen P Q R b (acting act m k) e is = cc
+blocks_seen P Q R b (line phrases vs k) e is = cc
+blocks_seen P Q R b (arrays kind ns pairs vs k) e is = cc
+blocks_seen P Q R b (event m k) e is = cc
+blocks_seen P Q R b (within k) e is = cc
+blocks_seen P Q R b (dropping k) e is = cc
+blocks_seen P Q R b (evaluating h) e is = hole_blocks h b e
+blocks_seen P Q R b (storing p h k) e is = hole_blocks h b e
+blocks_seen P Q R b (choosing h x y k) e is = hole_blocks h b e
+blocks_seen P Q R b (looping h c x k) e is = hole_blocks h b e
+blocks_seen P Q R b (checking h x c k) e is = hole_blocks h b e
+blocks_seen P Q R b (counting h x k) e is = hole_blocks h b e
+blocks_seen P Q R b (differing h loop k) e is = hole_blocks h b e
+blocks_seen P Q R b (stepping d h loop k) e is = hole_blocks h b e
+blocks_seen P Q R b (selecting h ss k) e is = hole_blocks h b e
+blocks_seen P Q R b (writing phrases vs h es k) e is = hole_blocks h b e
+blocks_seen P Q R b (bounding kind ns pairs vs h ps k) e is = hole_blocks h b e
+blocks_seen P Q R b (locating a) e is = aim_blocks a b e
+blocks_seen P Q R b (aiming a x k) e is = aim_blocks a b e
+blocks_seen P Q R b (calling m x k) e is = actuals_block x b e
+blocks_seen P Q R b (preparing m x task k) e is = actuals_block x b e
+
+-- and no arrays are still to be made there
+pub block_unmade : (b : PBody) (r : Rest) → ask r ≡ enters_block b → to_make r ≡ []
+block_unmade b (arrays kind ns pairs vs k) e = cc
+block_unmade b (bounding kind ns pairs vs h ps k) e = hole_blocks h b e
+block_unmade b r e = refl

@@ -11,13 +11,12 @@ use Rattle.algol_tree.specs.Cells.{level_of}
 use Rattle.algol_tree.specs.Scopes.{Scopes, scopes_of}
 use Rattle.algol_meaning.specs.Rest.{Item, Answer, entered}
 use Rattle.algol_meaning.specs.World.{Process, Part, block, able, World, instance_at}
-use Rattle.algol_meaning.specs.Statements.{settle_items, items}
+use Rattle.algol_meaning.specs.Statements.{settle_items, decls_items, items}
 use Rattle.algol_meaning.specs.Asks.{Ask, nothing, enters_block, ask, resume}
 use Rattle.algol_meaning.specs.Choice.{choice_of}
-use Rattle.algol_paths.specs.Blocks.{IsSeen, IsInner}
-use Rattle.algol_paths.specs.Laws.{RestsKeepToTheirText}
+use Rattle.algol_paths.specs.Blocks.{IsSeen, IsSeenAround, IsInner}
+use Rattle.algol_paths.specs.Laws.{RestsKeepToTheirText, ArraysAreMadeInOrder}
 use Rattle.algol_paths.specs.Segments.{segment_among, segment_of, segment_tokens}
-use Rattle.b67_word.specs.declared.Place.{Place}
 use Rattle.b67_word.specs.Word.{Word}
 use Rattle.b67_control.specs.declared.Pcw.{Pcw}
 use Rattle.b67_control.specs.Kind as kind
@@ -34,9 +33,9 @@ use Rattle.b67_table.specs.Image.{Image}
 use Rattle.b67_table.specs.Private.{frame, display_at}
 use Rattle.b67_table.specs.Rows.{level_below}
 use Rattle.b67_templates.specs.Cells.{result_of, variables, zero_cells, procedures, control_segments}
-use Rattle.b67_templates.specs.Code.{CellsAt, StmtsAt, in_block}
+use Rattle.b67_templates.specs.Code.{CellsAt, DeclsAt, StmtsAt, in_block}
 use Rattle.b67_templates.specs.Contexts.{Context}
-use Rattle.b67_templates.specs.Depths.{stmts_depth}
+use Rattle.b67_templates.specs.Depths.{decls_depth, stmts_depth}
 use Rattle.b67_templates.specs.Fragments.{Has, code_at}
 use Rattle.b67_templates.specs.Programs.{context_of}
 use Rattle.b67_standing.specs.Laws.{InnerBlocksStart}
@@ -48,11 +47,14 @@ use Rattle.b67_cores.specs.Stretches.{BlocksBegin, FragmentsArePerformed}
 use Rattle.b67_faithful.specs.Faithful.{IsShort}
 use Rattle.b67_faithful.specs.Weight.{tokens_around}
 use Rattle.b67_fitting.specs.Nested.{LiesNested}
+use Rattle.b67_pictures.specs.Arrays.{Layout}
 use Rattle.b67_pictures.specs.Acting.{Does}
-use Rattle.b67_pictures.specs.Frames.{most_around}
-use Rattle.b67_pictures.proofs.AskedEntries.{blocks_seen}
+use Rattle.b67_pictures.specs.Frames.{most_around, IsComplete}
+use Rattle.b67_pictures.proofs.AskedEntries.{blocks_seen, block_unmade}
+use Rattle.b67_pictures.proofs.Completing.{complete_of}
 use Rattle.b67_pictures.proofs.EnterBlockRow.{block_leads, block_calls}
 use Rattle.b67_pictures.proofs.Entries.{Calls}
+use Rattle.b67_pictures.proofs.FreshCells.{none_given, none_are}
 use Rattle.b67_pictures.proofs.EntryRow.{Leads}
 use Rattle.b67_pictures.proofs.FrameEntering.{Body, GoesOnBehind, entering}
 use Rattle.b67_pictures.proofs.Growing.{plain_items}
@@ -62,10 +64,11 @@ use Rattle.b67_pictures.proofs.Segmented.{inner_segment}
 use Rattle.b67_pictures.proofs.Stage.{choice_is}
 use Rattle.b67_pictures.proofs.Staying.{text_in, level_in, context_in, most_in}
 use Rattle.b67_pictures.proofs.StoreRow.{most_is}
+use Rattle.b67_pictures.proofs.Unmade.{makes, unmade}
 
 module _ (tree : PProgram) (code : Code) (texts : ℕ → List Placed) (nested : LiesNested tree) (short : IsShort tree code)
-    (fragments : FragmentsArePerformed) (begins_so : BlocksBegin) (starts : InnerBlocksStart) (keeps : RestsKeepToTheirText)
-    (w : World) (lay : List Place) (img : Image) (p : ℕ) (q : Process) (part : Part) (outer : List Part) (bound : ℕ) (core : Core)
+    (fragments : FragmentsArePerformed) (begins_so : BlocksBegin) (starts : InnerBlocksStart) (keeps : RestsKeepToTheirText) (order : ArraysAreMadeInOrder)
+    (w : World) (lay : Layout) (img : Image) (p : ℕ) (q : Process) (part : Part) (outer : List Part) (bound : ℕ) (core : Core)
     (s : Scene tree code texts w lay img p q part outer bound core) (able_is : q.state ≡ able) (able_p : numbered img.states p ≡ Some Able)
     (spot : Spot) (ds : PDecls) (ss : PStmts) (asks : ask part.rest ≡ enters_block (body spot ds ss))
     (a : ActionAt (scopes_of tree) (context_in tree code w part) (text_in tree texts w part) (level_in tree w part) (most_in tree w part) (enters_block (body spot ds ss)) s.stands.pc s.stands.slots)
@@ -95,7 +98,7 @@ module _ (tree : PProgram) (code : Code) (texts : ℕ → List Placed) (nested :
   at = a.2
 
   is_inner : IsInner sc around_block (body spot ds ss)
-  is_inner = blocks_seen (IsSeen sc around_block) (IsInner sc around_block) (body spot ds ss) part.rest asks s.stands.frame.text
+  is_inner = blocks_seen (IsSeen sc around_block) (IsInner sc around_block) (IsSeenAround sc around_block) (body spot ds ss) part.rest asks s.stands.frame.text
 
   level_new : level_of b ≡ level + 1
   level_new = omega (arith, level_around sc.blocks j, ap length is_inner.around_is, level_around sc.blocks around_block)
@@ -132,7 +135,7 @@ module _ (tree : PProgram) (code : Code) (texts : ℕ → List Placed) (nested :
       ∙ linked.laid
 
   abbrev HasControl : Word → Type 0
-  HasControl x = SlotIs sc level (frame core.registers) (length core.below) (mark ∷ a.1) (control c) x
+  HasControl x = SlotIs sc s.stands.held level (frame core.registers) (length core.below) (mark ∷ a.1) (control c) x
 
   no_irw : (x : Word) → HasControl x → as_irw x ≡ None
   no_irw x is = irw_laws.other x (λ k. let other = sym (ap kind.kind_of is ∙ kind_of-pcw_word c at.fits) ∙ k in cc)
@@ -140,13 +143,21 @@ module _ (tree : PProgram) (code : Code) (texts : ℕ → List Placed) (nested :
   no_sirw : (x : Word) → HasControl x → as_sirw x ≡ None
   no_sirw x is = as_sirw-other x (λ k. let other = sym (ap kind.kind_of is ∙ kind_of-pcw_word c at.fits) ∙ k in cc)
 
-  abbrev calls : Calls tree code texts nested short w lay img p q part outer bound core s (control c) a.0 a.1 part.instance j at.begin
+  -- no arrays are still to be made
+  complete : IsComplete sc w lay part.instance
+  complete =
+      complete_of sc w lay p part.instance outer (length s.stands.frame.lower) s.stands.frame.mark s.stands.frame.control s.stands.frame.cells s.stands.frame.framed
+      (s.stands.frame.making ∙ block_unmade (body spot ds ss) part.rest asks)
+
+  abbrev calls : Calls tree code texts nested short w lay img p q part outer bound core s [] (control c) a.0 a.1 part.instance j at.begin
   calls =
       record {
         lies = at.lies;
+        values_few = omega arith;
         marks = refl;
         stands = at.stands;
         own_parent = inl refl;
+        complete = complete;
         known = is_inner.known;
         around_is = is_inner.around_is;
         linked = linked;
@@ -166,33 +177,36 @@ module _ (tree : PProgram) (code : Code) (texts : ℕ → List Placed) (nested :
       ap (λ (x : PDecls). length (variables x)) (sym is_inner.decls_are)
       ∙ ap (λ (o : Option Kind). length (result_of o b.name ++ variables b.decls)) (sym is_inner.result)
 
-  room : length (procedures b.decls) + stmts_depth ss ≤ 4 * tokens_around tree j
+  room : length (procedures b.decls) + decls_depth ds + stmts_depth ss ≤ 4 * tokens_around tree j
   room =
       omega (arith, at.shallow, ap (λ (x : PDecls). length (procedures x)) is_inner.decls_are, ap (λ (k : ℕ). segment_tokens tree k) same_segment)
 
-  abbrev block_body : Body tree code texts nested short fragments begins_so keeps w lay img p q part outer bound core s able_is able_p j at.begin
+  abbrev block_body : Body tree code texts nested short fragments begins_so keeps order w lay img p q part outer bound core s able_is able_p j at.begin
   block_body =
       record {
         start = at.code.0;
         cells_at = subst (λ (n : ℕ). CellsAt sc (context_of code sc j) (texts (segment_of sc.blocks j)) (level_of b) n (control_segments sc b.decls) at.begin at.code.0) zeros_many
             (subst (λ (x : PDecls). CellsAt sc (context_of code sc j) (texts (segment_of sc.blocks j)) (level_of b) (length (variables ds)) (control_segments sc x) at.begin at.code.0) (sym is_inner.decls_are)
-            (in_text (λ x ps l. CellsAt sc x ps l (length (variables ds)) (control_segments sc ds) at.begin at.code.0) at.code.3));
+            (in_text (λ x ps l. CellsAt sc x ps l (length (variables ds)) (control_segments sc ds) at.begin at.code.0) at.code.4));
         comes = subst (λ (k : List Item). ComesTo sc (context_of code sc j) (texts (segment_of sc.blocks j)) (level_of b) (most_around tree j) (settle_items sc k) at.code.0 [])
-            (sym (plain_items b (nested.nested.each j is_inner.known).made is_inner.result ∙ ap (λ (x : PStmts). items x []) is_inner.stmts_are))
-            (starts sc (context_of code sc j) (texts (segment_of sc.blocks j)) (level_of b) (most_around tree j) ss at.code.0 at.code.1 at.code.2
-            (in_text (λ x ps l. StmtsAt sc x ps l ss at.code.0 at.code.1 at.code.1) at.code.4) is_inner.result
-            (in_text (λ x ps l. Has ps l at.code.1 (ops.Plain kinds.Exit) at.code.2) at.code.5) (omega (arith, room)));
+            (sym (plain_items b is_inner.result ∙ ap (λ (x : PDecls). decls_items x ++ items b.stmts []) is_inner.decls_are ∙ ap (λ (x : PStmts). decls_items ds ++ items x []) is_inner.stmts_are))
+            (starts sc (context_of code sc j) (texts (segment_of sc.blocks j)) (level_of b) (most_around tree j) ds ss at.code.0 at.code.1 at.code.2 at.code.3
+            (in_text (λ x ps l. DeclsAt sc x ps l ds at.code.0 at.code.1) at.code.5)
+            (in_text (λ x ps l. StmtsAt sc x ps l ss at.code.1 at.code.2 at.code.2) at.code.6) is_inner.result
+            (in_text (λ x ps l. Has ps l at.code.2 (ops.Plain kinds.Exit) at.code.3) at.code.7) (omega (arith, room)));
         small = omega (arith, room);
       }
 
-  abbrev behind : GoesOnBehind tree code texts nested short fragments begins_so keeps w lay img p q part outer bound core s able_is able_p a.0 a.1 j
+  abbrev behind : GoesOnBehind tree code texts nested short fragments begins_so keeps order w lay img p q part outer bound core s able_is able_p a.0 a.1 j
   behind =
       record {
+        unmade = unmade part.rest (ap makes asks);
         waits = waits a.0 a.1 None (refl, refl, refl);
         returns = λ r given. returns a.0 a.1 None (refl, refl, refl) r (subst (λ (o : Option Kind). Gives o r) is_inner.result given);
       }
 
   pub entering_block : Does tree code texts w img p
   entering_block =
-      entering tree code texts nested short fragments begins_so keeps w lay img p q part outer bound core s able_is able_p (control c) a.0 a.1 part.instance j at.begin calls block refl block_body behind
+      entering tree code texts nested short fragments begins_so keeps order w lay img p q part outer bound core s able_is able_p [] (control c) a.0 a.1 part.instance j at.begin calls block refl block_body behind []
+      (none_are sc b (none_given sc b (nested.nested.each j is_inner.known).parameters is_inner.parameters) is_inner.parameters)
       (choice_is sc w p q part outer s.at s.todo ∙ ap (λ (k : Ask). choice_of sc w p q part outer k) asks)

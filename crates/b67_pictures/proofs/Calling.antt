@@ -7,7 +7,6 @@ use Rattle.algol_tree.specs.Plain.{PProgram}
 use Rattle.algol_tree.specs.Scopes.{Scopes, scopes_of}
 use Rattle.algol_meaning.specs.Value.{Value, number, truth, whole_of}
 use Rattle.algol_meaning.specs.World.{Process, Part, World}
-use Rattle.b67_word.specs.declared.Place.{Place}
 use Rattle.b67_word.specs.Word.{Word, as_whole}
 use Rattle.b67_control.specs.declared.Mscw.{Mscw}
 use Rattle.b67_control.specs.declared.Pcw.{Pcw}
@@ -28,13 +27,14 @@ use Rattle.b67_table.specs.Names.{intrinsic_numbered}
 use Rattle.b67_table.specs.Private.{frame}
 use Rattle.b67_faithful.specs.Correspondence.{action_of_intrinsic, if_intrinsic, called_action, irw_in, called_by}
 use Rattle.b67_templates.specs.Fragments.{HasKind}
-use Rattle.b67_standing.specs.Stepping.{Slot, operand, reference, intrinsic, control, mark}
+use Rattle.b67_standing.specs.Stepping.{Slot, operand, reference, intrinsic, control, descriptor, mark}
 use Rattle.b67_standing.specs.Standing.{operands, AreNumbers}
 use Rattle.b67_cores.specs.Cores.{Core}
-use Rattle.b67_cores.specs.Slots.{ValueIs, newest, SlotsAre}
+use Rattle.b67_cores.specs.Slots.{Known, ValueIs, newest, SlotsAre}
 use Rattle.b67_cores.specs.Stretches.{CoreAt}
 use Rattle.b67_cores.proofs.Moving.{slots_length}
 use Rattle.b67_cores.proofs.Taking.{number_read}
+use Rattle.b67_pictures.specs.Arrays.{Layout}
 use Rattle.b67_pictures.proofs.EnterRow.{Called}
 use Rattle.b67_pictures.proofs.IntrinsicRows.{CallsIntrinsic, without_call}
 use Rattle.b67_pictures.proofs.Rows.{words_are}
@@ -91,22 +91,22 @@ number_word : (v : Value) (w : Word) → HasKind types.Number v → ValueIs v w 
 number_word (number z) w fits is = number_read z w is
 number_word (truth b) w fits is = absurd fits
 
-module _ (sc : Scopes) (level home base : ℕ) where
+module _ (sc : Scopes) (known : List Known) (level home base : ℕ) where
   -- numbers above other slots: their words, and the other words
   pub record Given (vs : List Value) (below : List Slot) (all : List Word) : Type 0 where
     pub arguments : List Word
     pub others : List Word
     pub is : all ≡ arguments ++ others
-    pub are : SlotsAre sc level home base below others
+    pub are : SlotsAre sc known level home base below others
     pub wholes : wholes_in (reverse arguments) ≡ Some (wholes_of vs)
     pub mark_is : newest home base (operands vs below) ≡ newest home base below
     pub many : length (operands vs below) ≡ length vs + length below
 
-  pub given : (vs : List Value) (below : List Slot) (all : List Word) → AreNumbers vs → SlotsAre sc level home base (operands vs below) all → Given vs below all
+  pub given : (vs : List Value) (below : List Slot) (all : List Word) → AreNumbers vs → SlotsAre sc known level home base (operands vs below) all → Given vs below all
   given [] below all fits are = record { arguments = []; others = all; is = refl; are = are; wholes = refl; mark_is = refl; many = omega arith }
   given (v ∷ vs) below all fits are =
       let g : Given vs (operand v ∷ below) all = given vs (operand v ∷ below) all fits.1 are in
-      let t : Top sc level home base (operand v) below g.others = top_slot sc level home base (operand v ∷ below) (operand v) below g.others g.are refl in
+      let t : Top sc known level home base (operand v) below g.others = top_slot sc known level home base (operand v ∷ below) (operand v) below g.others g.are refl in
       let first : as_whole t.word ≡ Some (whole_of v) = number_word v t.word fits.0 t.slot_is in
       record {
         arguments = g.arguments ++ t.word ∷ [];
@@ -130,6 +130,7 @@ module _ (sc : Scopes) (level home base : ℕ) where
   newest_low (reference n ∷ slots) low = omega (arith, newest_low slots low)
   newest_low (intrinsic i ∷ slots) low = omega (arith, newest_low slots low)
   newest_low (control c ∷ slots) low = omega (arith, newest_low slots low)
+  newest_low (descriptor h ∷ slots) low = omega (arith, newest_low slots low)
   newest_low (mark ∷ slots) low = omega arith
 
   pub record Marked (lower : List Word) (all : List Word) (at : ℕ) : Type 0 where
@@ -143,26 +144,27 @@ module _ (sc : Scopes) (level home base : ℕ) where
     under above x ws at k = subst (λ (all : List Word). Marked lower all at) (append_assoc above (x ∷ []) ws) k
 
     -- a mark stands where the newest one lies
-    pub marked_at : (slots : List Slot) (above all : List Word) → SlotsAre sc level home base slots all → base + length slots ≤ 2 ^ 16 → Marked lower (above ++ all) (newest home base slots)
+    pub marked_at : (slots : List Slot) (above all : List Word) → SlotsAre sc known level home base slots all → base + length slots ≤ 2 ^ 16 → Marked lower (above ++ all) (newest home base slots)
     marked_at [] above all are small = record { word = own; lies = get-front lower (reverse (above ++ all)) home own own_lies; m = own_mark; reads = own_reads }
     marked_at (slot ∷ slots) above [] are small = absurd are
     marked_at (operand v ∷ slots) above (x ∷ ws) are small = under above x ws (newest home base slots) (marked_at slots (above ++ x ∷ []) ws are.1 (omega (arith, small)))
     marked_at (reference n ∷ slots) above (x ∷ ws) are small = under above x ws (newest home base slots) (marked_at slots (above ++ x ∷ []) ws are.1 (omega (arith, small)))
     marked_at (intrinsic i ∷ slots) above (x ∷ ws) are small = under above x ws (newest home base slots) (marked_at slots (above ++ x ∷ []) ws are.1 (omega (arith, small)))
     marked_at (control c ∷ slots) above (x ∷ ws) are small = under above x ws (newest home base slots) (marked_at slots (above ++ x ∷ []) ws are.1 (omega (arith, small)))
+    marked_at (descriptor h ∷ slots) above (x ∷ ws) are small = under above x ws (newest home base slots) (marked_at slots (above ++ x ∷ []) ws are.1 (omega (arith, small)))
     marked_at (mark ∷ slots) above (x ∷ ws) are small =
         let df = base + length slots - newest home base slots in
         let low : df < 2 ^ 16 = omega (arith, small) in
         record {
           word = x;
-          lies = word-under lower above x ws (base + length slots) (omega (arith, long, slots_length sc level home base slots ws are.1));
+          lies = word-under lower above x ws (base + length slots) (omega (arith, long, slots_length sc known level home base slots ws are.1));
           m = record { entered = false; stack = 0; displacement = 0; df = df };
           reads = ap as_mscw are.0 ∙ mark_read df low;
         }
 
 -- ---- the call, in a scene
 
-module _ (tree : PProgram) (code : Code) (texts : ℕ → List Placed) (w : World) (lay : List Place) (img : Image)
+module _ (tree : PProgram) (code : Code) (texts : ℕ → List Placed) (w : World) (lay : Layout) (img : Image)
     (p : ℕ) (q : Process) (part : Part) (outer : List Part) (bound : ℕ) (core : Core) (s : Scene tree code texts w lay img p q part outer bound core)
     (name : Intrinsic) (vs : List Value) (below : List Slot) (fits : AreNumbers vs) (lies : s.stands.slots ≡ operands vs (intrinsic name ∷ mark ∷ below)) where
   abbrev sc : Scopes
@@ -183,7 +185,7 @@ module _ (tree : PProgram) (code : Code) (texts : ℕ → List Placed) (w : Worl
     pub calls : CallsIntrinsic img core name arguments reference marked others
     pub wholes : wholes_in (reverse arguments) ≡ Some (wholes_of vs)
     pub action : called_by img core.registers ≡ Some (action_of_intrinsic name)
-    pub after_at : (pc : ℕ) → CoreAt sc code (text_in tree texts w part) (level_in tree w part) pc below (without_call core others calls.m.df pc)
+    pub after_at : (pc : ℕ) → CoreAt sc s.stands.held code (text_in tree texts w part) (level_in tree w part) pc below (without_call core others calls.m.df pc)
     pub few : length below ≤ most_in tree w part
 
   -- the frame's own mark
@@ -204,8 +206,8 @@ module _ (tree : PProgram) (code : Code) (texts : ℕ → List Placed) (w : Worl
   entry_lies : word_at img.stacks (record { stack = 0; at = 0 + number_of name }) ≡ Some (intrinsic_pcw (number_of name))
   entry_lies = ap (λ (o : Option (List Word)). slice_get (words_or o) (0 + number_of name)) s.by.system ∙ intrinsic_is.lies
 
-  module _ (g : Given sc (level_in tree w part) home base vs (intrinsic name ∷ mark ∷ below) core.words) (i : Top sc (level_in tree w part) home base (intrinsic name) (mark ∷ below) g.others)
-      (k : Top sc (level_in tree w part) home base mark below i.words_below) where
+  module _ (g : Given sc s.stands.held (level_in tree w part) home base vs (intrinsic name ∷ mark ∷ below) core.words) (i : Top sc s.stands.held (level_in tree w part) home base (intrinsic name) (mark ∷ below) g.others)
+      (k : Top sc s.stands.held (level_in tree w part) home base mark below i.words_below) where
     abbrev df : ℕ
     df = base + length below - newest home base below
 
@@ -213,10 +215,10 @@ module _ (tree : PProgram) (code : Code) (texts : ℕ → List Placed) (w : Worl
     many = ap length lies ∙ g.many ∙ omega arith
 
     room : base + length below + 2 ≤ 2 ^ 16
-    room = omega (arith, many, s.small, slots_length sc (level_in tree w part) home base s.stands.slots core.words s.stands.there.words_are)
+    room = omega (arith, many, s.small, slots_length sc s.stands.held (level_in tree w part) home base s.stands.slots core.words s.stands.there.words_are)
 
     long : length k.words_below ≡ length below
-    long = slots_length sc (level_in tree w part) home base below k.words_below k.are
+    long = slots_length sc s.stands.held (level_in tree w part) home base below k.words_below k.are
 
     all_words : core.words ≡ g.arguments ++ i.word ∷ k.word ∷ k.words_below
     all_words = g.is ∙ ap (λ (ws : List Word). g.arguments ++ ws) (i.is ∙ ap (λ (ws : List Word). i.word ∷ ws) k.is)
@@ -225,14 +227,14 @@ module _ (tree : PProgram) (code : Code) (texts : ℕ → List Placed) (w : Worl
     mark_at = s.stands.there.mark_is ∙ ap (λ (l : List Slot). newest home base l) lies ∙ g.mark_is
 
     low : newest home base below ≤ base + length below
-    low = newest_low sc (level_in tree w part) home base below home_low
+    low = newest_low sc s.stands.held (level_in tree w part) home base below home_low
 
     reads_reference : as_irw i.word ≡ Some (record { level = 0; index = number_of name })
     reads_reference = ap as_irw i.slot_is ∙ reference_read (couple_of_intrinsic name) (lit< tt) intrinsic_is.small
 
-    lower : Marked sc (level_in tree w part) home base core.below ((g.arguments ++ i.word ∷ k.word ∷ []) ++ k.words_below) (newest home base below)
+    lower : Marked sc s.stands.held (level_in tree w part) home base core.below ((g.arguments ++ i.word ∷ k.word ∷ []) ++ k.words_below) (newest home base below)
     lower =
-        marked_at sc (level_in tree w part) home base core.below refl s.stands.frame.mark own_lies _ s.stands.frame.framed.mark_is below
+        marked_at sc s.stands.held (level_in tree w part) home base core.below refl s.stands.frame.mark own_lies _ s.stands.frame.framed.mark_is below
         (g.arguments ++ i.word ∷ k.word ∷ []) k.words_below k.are (omega (arith, room))
 
     stack_is : words_of img.stacks core.registers.stack ≡ core.below ++ reverse ((g.arguments ++ i.word ∷ k.word ∷ []) ++ k.words_below)
@@ -284,7 +286,7 @@ module _ (tree : PProgram) (code : Code) (texts : ℕ → List Placed) (w : Worl
         ∙ ap (λ (o : Option Irw). called_action o) reads_reference
         ∙ ap (λ (o : Option Intrinsic). if_intrinsic o) intrinsic_is.named
 
-    after_call : (pc : ℕ) → CoreAt sc code (text_in tree texts w part) (level_in tree w part) pc below (without_call core k.words_below df pc)
+    after_call : (pc : ℕ) → CoreAt sc s.stands.held code (text_in tree texts w part) (level_in tree w part) pc below (without_call core k.words_below df pc)
     after_call pc =
         record {
           segment = s.stands.there.segment;
@@ -313,10 +315,10 @@ module _ (tree : PProgram) (code : Code) (texts : ℕ → List Placed) (w : Worl
 
   pub call : IsCall
   call =
-      let g : Given sc (level_in tree w part) home base vs (intrinsic name ∷ mark ∷ below) core.words =
-      given sc (level_in tree w part) home base vs (intrinsic name ∷ mark ∷ below) core.words fits (subst (λ (l : List Slot). SlotsAre sc (level_in tree w part) home base l core.words) lies s.stands.there.words_are) in
-      let i : Top sc (level_in tree w part) home base (intrinsic name) (mark ∷ below) g.others =
-      top_slot sc (level_in tree w part) home base (intrinsic name ∷ mark ∷ below) (intrinsic name) (mark ∷ below) g.others g.are refl in
-      let k : Top sc (level_in tree w part) home base mark below i.words_below =
-      top_slot sc (level_in tree w part) home base (mark ∷ below) mark below i.words_below i.are refl in
+      let g : Given sc s.stands.held (level_in tree w part) home base vs (intrinsic name ∷ mark ∷ below) core.words =
+      given sc s.stands.held (level_in tree w part) home base vs (intrinsic name ∷ mark ∷ below) core.words fits (subst (λ (l : List Slot). SlotsAre sc s.stands.held (level_in tree w part) home base l core.words) lies s.stands.there.words_are) in
+      let i : Top sc s.stands.held (level_in tree w part) home base (intrinsic name) (mark ∷ below) g.others =
+      top_slot sc s.stands.held (level_in tree w part) home base (intrinsic name ∷ mark ∷ below) (intrinsic name) (mark ∷ below) g.others g.are refl in
+      let k : Top sc s.stands.held (level_in tree w part) home base mark below i.words_below =
+      top_slot sc s.stands.held (level_in tree w part) home base (mark ∷ below) mark below i.words_below i.are refl in
       is_call g i k

@@ -6,7 +6,6 @@ use Rattle.algol_tree.specs.Cells.{level_of}
 use Rattle.algol_tree.specs.Plain.{PProgram}
 use Rattle.algol_tree.specs.Scopes.{Scopes, scopes_of}
 use Rattle.algol_meaning.specs.World.{Instance, Process, Part, World, or_no_instance}
-use Rattle.b67_word.specs.declared.Place.{Place}
 use Rattle.b67_ops.specs.declared.TheConstants.{MOST_LEVEL}
 use Rattle.b67_segment.specs.Operators.{Placed}
 use Rattle.b67_segment.specs.declared.code.Code.{Code}
@@ -22,6 +21,7 @@ use Rattle.b67_cores.proofs.Performing.{steps_keep}
 use Rattle.b67_faithful.specs.Faithful.{longest}
 use Rattle.b67_faithful.specs.Simulation.{AreFew}
 use Rattle.b67_faithful.proofs.Counting.{longest_is}
+use Rattle.b67_pictures.specs.Arrays.{Layout}
 use Rattle.b67_pictures.specs.Frames.{Frames}
 use Rattle.b67_pictures.specs.Pictures.{Living, Pictured, living, dead, PicturesBy}
 use Rattle.b67_pictures.proofs.Numbers.{numbered_beyond}
@@ -49,7 +49,7 @@ none_few code p {img} gone (go {b = b} e t more) = no_operator code img b p gone
 abbrev pub HasLowBlocks : Scopes → Type 0
 HasLowBlocks sc = (j : ℕ) → j < length sc.blocks → level_of (block_numbered sc.blocks j) ≤ MOST_LEVEL
 
-module _ (tree : PProgram) (code : Code) (texts : ℕ → List Placed) (low : HasLowBlocks (scopes_of tree)) (w : World) (lay : List Place) (img : Image) (by : PicturesBy tree code texts w lay img) where
+module _ (tree : PProgram) (code : Code) (texts : ℕ → List Placed) (low : HasLowBlocks (scopes_of tree)) (w : World) (lay : Layout) (img : Image) (by : PicturesBy tree code texts w lay img) where
   -- it is at a level that the machine has
   settled_level : (p : ℕ) (q : Process) (l : Living tree code texts w lay img p q) → l.settled.registers.ll ≤ MOST_LEVEL
   settled_level p q l = by_parts q.todo l.frames

@@ -8,15 +8,14 @@ use Rattle.algol_tree.specs.declared.tree.Named.{Named}
 use Rattle.algol_tree.specs.declared.tree.PhraseText.{PhraseText}
 use Rattle.algol_tree.specs.Blocks.{Block, block_numbered}
 use Rattle.algol_tree.specs.Cells.{level_of}
-use Rattle.algol_tree.specs.Plain.{PProgram, PStmts, PBody}
+use Rattle.algol_tree.specs.Plain.{PProgram, PPair, PStmts, PBody}
 use Rattle.algol_tree.specs.Scopes.{Scopes, scopes_of, use_of}
 use Rattle.algol_tree.specs.Sorts.{same_name}
-use Rattle.algol_meaning.specs.Value.{Value}
+use Rattle.algol_meaning.specs.Value.{Value, Reference}
 use Rattle.algol_meaning.specs.Rest.{own, there, element_of, Given, Answer, done, value, cell, place, entered}
 use Rattle.algol_meaning.specs.World.{Instance, Process, Part, able, World, or_no_instance}
 use Rattle.algol_meaning.specs.Asks.{Ask, nothing, reads, reads_element, indexes, asks_happened, fails, enters, passes, resolves, reads_result, leaves, stores, selects, turns, goes_to, enters_block, starts, acts, writes, makes_arrays, makes_event, ask, resume}
-use Rattle.algol_paths.specs.Laws.{RestsKeepToTheirText}
-use Rattle.b67_word.specs.declared.Place.{Place}
+use Rattle.algol_paths.specs.Laws.{RestsKeepToTheirText, ArraysAreMadeInOrder}
 use Rattle.b67_ops.specs.declared.Couple.{Couple}
 use Rattle.b67_segment.specs.Operators.{Placed}
 use Rattle.b67_segment.specs.declared.code.Code.{Code}
@@ -29,6 +28,7 @@ use Rattle.b67_standing.specs.Laws.{RestsGoOn}
 use Rattle.b67_cores.specs.Cores.{Core}
 use Rattle.b67_cores.specs.Stretches.{FragmentsArePerformed}
 use Rattle.b67_fitting.specs.Nested.{AreNested}
+use Rattle.b67_pictures.specs.Arrays.{Layout}
 use Rattle.b67_pictures.specs.Acting.{Does}
 use Rattle.b67_pictures.proofs.Scene.{Scene}
 use Rattle.b67_pictures.proofs.Staying.{text_in, level_in, context_in, most_in}
@@ -51,21 +51,21 @@ found_below from (s ∷ ss) name f e = by_name (λ h. found_below (from + 1) ss 
         omega (arith, ap (λ (x : Found). x.number) is_f)
     by_name later false h = omega (arith, later h)
 
-known_or_empty : (bs : List Block) (j : ℕ) → (j < length bs → length (simple_cells (block_numbered bs j)) ≤ MOST_BLOCK_CELLS) → length (simple_cells (block_numbered bs j)) ≤ MOST_BLOCK_CELLS
-known_or_empty [] j few = omega arith
-known_or_empty (b ∷ bs) zero few = few (omega arith)
-known_or_empty (b ∷ bs) (suc j) few = known_or_empty bs j (λ low. few (omega (arith, low)))
+known_or_empty : (sc : Scopes) (bs : List Block) (j : ℕ) → (j < length bs → length (simple_cells sc (block_numbered bs j)) ≤ MOST_BLOCK_CELLS) → length (simple_cells sc (block_numbered bs j)) ≤ MOST_BLOCK_CELLS
+known_or_empty sc [] j few = omega arith
+known_or_empty sc (b ∷ bs) zero few = few (omega arith)
+known_or_empty sc (b ∷ bs) (suc j) few = known_or_empty sc bs j (λ low. few (omega (arith, low)))
 
 pub small_index : (sc : Scopes) → AreNested sc → (level : ℕ) (n : Named) (kind : Kind) (couple : Couple) → IsVariable sc level n kind couple → couple.index < 2 ^ 14
 small_index sc nested level n kind couple v =
-    let cells = simple_cells (block_numbered sc.blocks ((use_of sc n).block)) in
-    omega (arith, found_below 0 cells n.name v.found v.there, known_or_empty sc.blocks ((use_of sc n).block) (λ low. omega (arith, (nested.each ((use_of sc n).block) low).few)), v.index_is)
+    let cells = simple_cells sc (block_numbered sc.blocks ((use_of sc n).block)) in
+    omega (arith, found_below 0 cells n.name v.found v.there, known_or_empty sc sc.blocks ((use_of sc n).block) (λ low. omega (arith, (nested.each ((use_of sc n).block) low).few)), v.index_is)
 
 -- ---- the actions
 
 module _ (tree : PProgram) (code : Code) (texts : ℕ → List Placed) where
   -- what an action of a scene, which stands at what its head asks for, needs of the place to which it leads
-  abbrev pub GoesOnFrom : (w : World) (lay : List Place) (img : Image) (p : ℕ) (q : Process) (part : Part) (outer : List Part) (bound : ℕ) (core : Core) →
+  abbrev pub GoesOnFrom : (w : World) (lay : Layout) (img : Image) (p : ℕ) (q : Process) (part : Part) (outer : List Part) (bound : ℕ) (core : Core) →
       Scene tree code texts w lay img p q part outer bound core → (k : Ask) → Type 0
   GoesOnFrom w lay img p q part outer bound core s k =
       (a : ActionAt (scopes_of tree) (context_in tree code w part) (text_in tree texts w part) (level_in tree w part) (most_in tree w part) k s.stands.pc s.stands.slots) →
@@ -85,19 +85,23 @@ module _ (tree : PProgram) (code : Code) (texts : ℕ → List Placed) where
   -- each scene whose head asks for this does its action
   abbrev pub IsDone : Ask → Type 0
   IsDone k =
-      (w : World) (lay : List Place) (img : Image) (p : ℕ) (q : Process) (part : Part) (outer : List Part) (bound : ℕ) (core : Core) (s : Scene tree code texts w lay img p q part outer bound core) →
+      (w : World) (lay : Layout) (img : Image) (p : ℕ) (q : Process) (part : Part) (outer : List Part) (bound : ℕ) (core : Core) (s : Scene tree code texts w lay img p q part outer bound core) →
       q.state ≡ able → numbered img.states p ≡ Some Able → ask part.rest ≡ k → GoesOnFrom w lay img p q part outer bound core s k
 
-  -- a line, the choice of a statement, the entry of a block or of a procedure, the leaving of one, the end
+  -- a line, the choice of a statement, the entry of a block or of a procedure, what is done with arrays, the leaving of a block or a procedure, the end
   pub record OthersAreDone : Type 0 where
     pub writing : (phrases : List PhraseText) (vs : List Value) → IsDone (writes phrases vs)
     pub selecting : (v : Value) (ss : PStmts) → IsDone (selects v ss)
     pub entering : (b : PBody) → IsDone (enters_block b)
     pub calling : (n : Named) (gs : List Given) → IsDone (enters n gs)
+    pub reading : (n : Named) (ks : List ℕ) (v : Value) → IsDone (reads_element n ks v)
+    pub indexing : (n : Named) (ks : List ℕ) (v : Value) → IsDone (indexes n ks v)
+    pub storing : (r : Reference) (ks : List ℕ) (v : Value) → IsDone (stores (element_of r ks) v)
+    pub making : (kind : Kind) (ns : List Named) (pairs : List PPair) (vs : List Value) → IsDone (makes_arrays kind ns pairs vs)
     pub leaving : IsDone (leaves done)
     pub returning : (v : Value) → IsDone (leaves (value v))
 
-  module _ (nested : AreNested (scopes_of tree)) (fragments : FragmentsArePerformed) (keeps : RestsKeepToTheirText) (rests : RestsGoOn) (others : OthersAreDone) (w : World) (lay : List Place) (img : Image)
+  module _ (nested : AreNested (scopes_of tree)) (fragments : FragmentsArePerformed) (keeps : RestsKeepToTheirText) (order : ArraysAreMadeInOrder) (rests : RestsGoOn) (others : OthersAreDone) (w : World) (lay : Layout) (img : Image)
       (p : ℕ) (q : Process) (part : Part) (outer : List Part) (bound : ℕ) (core : Core) (s : Scene tree code texts w lay img p q part outer bound core) (able_is : q.state ≡ able) (able_p : numbered img.states p ≡ Some Able) where
     -- the part's level is one that the machine has
     low : level_in tree w part ≤ MOST_LEVEL
@@ -108,12 +112,12 @@ module _ (tree : PProgram) (code : Code) (texts : ℕ → List Placed) where
         omega (arith, same, (nested.each framed.instance.block framed.known).low)
 
     by_ask : (k : Ask) → ask part.rest ≡ k → GoesOnFrom w lay img p q part outer bound core s k
-    by_ask (reads n) e a answered waits returns = reading tree code texts fragments keeps w lay img p q part outer bound core s able_is able_p n e a answered
+    by_ask (reads n) e a answered waits returns = reading tree code texts fragments keeps order w lay img p q part outer bound core s able_is able_p n e a answered
     by_ask (fails fault) e a answered waits returns = failing tree code texts w lay img p q part outer bound core s fault e a
     by_ask (stores (own n) v) e a answered waits returns =
-        storing tree code texts fragments keeps w lay img p q part outer bound core s able_is able_p n v e a answered (omega (arith, a.2.variable.level_is, low))
+        storing tree code texts fragments keeps order w lay img p q part outer bound core s able_is able_p n v e a answered (omega (arith, a.2.variable.level_is, low))
         (small_index (scopes_of tree) nested (level_in tree w part) n a.2.kind a.2.couple a.2.variable)
-    by_ask turns e a answered waits returns = turning tree code texts fragments keeps w lay img p q part outer bound core s able_is able_p e a answered
+    by_ask turns e a answered waits returns = turning tree code texts fragments keeps order w lay img p q part outer bound core s able_is able_p e a answered
     by_ask (writes phrases vs) e a answered waits returns = others.writing phrases vs w lay img p q part outer bound core s able_is able_p e a answered waits returns
     by_ask (selects v ss) e a answered waits returns = others.selecting v ss w lay img p q part outer bound core s able_is able_p e a answered waits returns
     by_ask (enters_block b) e a answered waits returns = others.entering b w lay img p q part outer bound core s able_is able_p e a answered waits returns
@@ -123,20 +127,20 @@ module _ (tree : PProgram) (code : Code) (texts : ℕ → List Placed) where
     by_ask (leaves (place x)) e a answered waits returns = absurd a
     by_ask (leaves entered) e a answered waits returns = absurd a
     by_ask (stores (there r) v) e a answered waits returns = absurd a
-    by_ask (stores (element_of r ks) v) e a answered waits returns = absurd a
+    by_ask (stores (element_of r ks) v) e a answered waits returns = others.storing r ks v w lay img p q part outer bound core s able_is able_p e a answered waits returns
     by_ask nothing e a answered waits returns = absurd a
-    by_ask (reads_element n ks v) e a answered waits returns = absurd a
-    by_ask (indexes n ks v) e a answered waits returns = absurd a
+    by_ask (reads_element n ks v) e a answered waits returns = others.reading n ks v w lay img p q part outer bound core s able_is able_p e a answered waits returns
+    by_ask (indexes n ks v) e a answered waits returns = others.indexing n ks v w lay img p q part outer bound core s able_is able_p e a answered waits returns
     by_ask (asks_happened n) e a answered waits returns = absurd a
     by_ask (enters n gs) e a answered waits returns = others.calling n gs w lay img p q part outer bound core s able_is able_p e a answered waits returns
     by_ask (passes n) e a answered waits returns = absurd a
     by_ask (resolves n) e a answered waits returns = absurd a
     by_ask (reads_result name) e a answered waits returns =
-        reading_result tree code texts nested fragments keeps w lay img p q part outer bound core s able_is able_p name e a answered
+        reading_result tree code texts nested fragments keeps order w lay img p q part outer bound core s able_is able_p name e a answered
     by_ask (goes_to n) e a answered waits returns = absurd a
     by_ask (starts n gs task) e a answered waits returns = absurd a
     by_ask (acts x n) e a answered waits returns = absurd a
-    by_ask (makes_arrays kind ns pairs vs) e a answered waits returns = absurd a
+    by_ask (makes_arrays kind ns pairs vs) e a answered waits returns = others.making kind ns pairs vs w lay img p q part outer bound core s able_is able_p e a answered waits returns
     by_ask (makes_event n) e a answered waits returns = absurd a
 
     -- whatever its head asks for

@@ -14,7 +14,6 @@ use Rattle.algol_meaning.specs.Events.{caused_by_end}
 use Rattle.algol_meaning.specs.Instances.{leave}
 use Rattle.algol_meaning.specs.Choice.{Choice, choice, choice_of, left_with, left_or_ended, ended_releasing, fails}
 use Rattle.b67_num.specs.declared.FaultKind.TheVariants as fault
-use Rattle.b67_word.specs.declared.Place.{Place}
 use Rattle.b67_word.specs.Word.{Word}
 use Rattle.b67_control.specs.declared.Registers.{Registers}
 use Rattle.b67_ops.specs.declared.Operator.TheVariants as ops
@@ -31,9 +30,12 @@ use Rattle.b67_table.specs.Table.{table, operator_at}
 use Rattle.b67_standing.specs.Standing.{ActionAt}
 use Rattle.b67_cores.specs.Cores.{Core, HasCore}
 use Rattle.b67_faithful.proofs.Contradictions.{none_some}
+use Rattle.b67_pictures.specs.Arrays.{Layout}
 use Rattle.b67_pictures.specs.Acting.{Does, gave}
 use Rattle.b67_pictures.specs.Pictures.{Pictures, dead, PicturesBy}
-use Rattle.b67_pictures.proofs.ExitRow.{DescribeNothing, frame_describes_nothing, ended_at, exit_raw, exit_class, exit_action}
+use Rattle.b67_pictures.proofs.ArraysKept.{arrays_unchanged}
+use Rattle.b67_pictures.proofs.Closing.{IsClosed, FramesClose}
+use Rattle.b67_pictures.proofs.ExitRow.{ended_at, exit_raw, exit_class, exit_action}
 use Rattle.b67_pictures.proofs.Homes.{operator_there}
 use Rattle.b67_pictures.proofs.Independent.{none_critical, none_dependent}
 use Rattle.b67_pictures.proofs.Kept.{AreAlike, alike_but}
@@ -51,7 +53,7 @@ closed_other (z ∷ zs) zero (suc m) apart = refl
 closed_other (z ∷ zs) (suc n) zero apart = refl
 closed_other (z ∷ zs) (suc n) (suc m) apart = closed_other zs n m (λ e. apart (ap suc e))
 
-module _ (tree : PProgram) (code : Code) (texts : ℕ → List Placed) (w : World) (lay : List Place) (img : Image)
+module _ (tree : PProgram) (code : Code) (texts : ℕ → List Placed) (closing : FramesClose) (w : World) (lay : Layout) (img : Image)
     (p : ℕ) (q : Process) (part : Part) (bound : ℕ) (core : Core) (s : Scene tree code texts w lay img p q part [] bound core) (able_p : numbered img.states p ≡ Some Able) where
   abbrev sc : Scopes
   sc = scopes_of tree
@@ -87,13 +89,17 @@ module _ (tree : PProgram) (code : Code) (texts : ℕ → List Placed) (w : Worl
 
     module _ (a : ActionAt sc (context_in tree code w part) (text_in tree texts w part) (level_in tree w part) (most_in tree w part) (leaves done) s.stands.pc s.stands.slots) where
       there : operator_at code core.registers ≡ Ok (ops.Plain kinds.Exit, a.0)
-      there = operator_there sc code (text_in tree texts w part) (level_in tree w part) s.stands.pc s.stands.slots core (ops.Plain kinds.Exit) a.0 s.stands.there a.2
+      there = operator_there sc s.stands.held code (text_in tree texts w part) (level_in tree w part) s.stands.pc s.stands.slots core (ops.Plain kinds.Exit) a.0 s.stands.there a.2
 
       abbrev left : Registers
       left = record core.registers { place = a.0 }
 
+      -- the arrays of the instance are closed
+      shut : IsClosed sc w lay img i s.stands.frame.cells
+      shut = closing sc w lay img s.by.arrays p i [] (length s.stands.frame.lower) s.stands.frame.mark s.stands.frame.control s.stands.frame.cells s.stands.frame.framed
+
       abbrev after : Image
-      after = ended_at img p left
+      after = ended_at img shut.rows p left
 
       -- the frame is the base frame
       below_is : core.below ≡ s.stands.frame.mark ∷ s.stands.frame.control ∷ s.stands.frame.cells
@@ -101,10 +107,6 @@ module _ (tree : PProgram) (code : Code) (texts : ℕ → List Placed) (w : Worl
 
       base : frame core.registers ≡ 0
       base = frame_is tree code texts w lay img p q part [] bound core s ∙ ap length s.around.0
-
-      cells_plain : DescribeNothing s.stands.frame.cells
-      cells_plain =
-          frame_describes_nothing sc w lay p part.instance [] (length s.stands.frame.lower) s.stands.frame.mark s.stands.frame.control s.stands.frame.cells s.stands.frame.framed
 
       -- the others
       not_system : core.registers.stack ≢ 0
@@ -122,7 +124,7 @@ module _ (tree : PProgram) (code : Code) (texts : ℕ → List Placed) (w : Worl
 
       pictured : PicturesBy tree code texts w' lay after
       pictured =
-          comes_to tree code texts w lay img s.by p q s.at w' lay after q' refl (s.by.laid ∙ sym (length_set_numbered w.instances i left_instance)) alike s.by.output refl refl refl
+          comes_to tree code texts w lay img s.by p q s.at w' lay after q' refl (s.by.laid ∙ sym (length_set_numbered w.instances i left_instance)) (arrays_unchanged sc (leave w (i ∷ [])) w' lay shut.rows refl shut.are) alike s.by.output refl refl refl
           (length_set_numbered img.states p Ended) (λ r other. numbered_other img.states p r Ended (λ e. other (sym e))) (closed_other img.stacks core.registers.stack 0 not_system) others
           (dead refl (numbered_set img.states p Able Ended able_p))
 
@@ -135,15 +137,15 @@ module _ (tree : PProgram) (code : Code) (texts : ℕ → List Placed) (w : Worl
       table_is : table code img p ≡ outcomes.gives after
       table_is =
           gives_within code img after p left
-          (exit_raw code img p core s.has a.0 there s.stands.frame.mark s.stands.frame.control s.stands.frame.cells below_is s.stands.counted base s.idle cells_plain free)
+          (exit_raw code img p core s.has a.0 there s.stands.frame.mark s.stands.frame.control s.stands.frame.cells below_is s.stands.counted base s.idle shut.rows shut.changes free)
           (numbered_set img.regs p core.registers left s.has.registers) fits
 
       pub ending : Does tree code texts w img p
       ending =
           gave after
           (action_not_plain code img p core s.has (ops.Plain kinds.Exit) a.0 there
-          (exit_class code img p core s.has a.0 there s.stands.frame.mark s.stands.frame.control s.stands.frame.cells below_is s.stands.counted base s.idle cells_plain free))
+          (exit_class code img p core s.has a.0 there s.stands.frame.mark s.stands.frame.control s.stands.frame.cells below_is s.stands.counted base s.idle shut.rows shut.changes free))
           table_is
-          (exit_action code img p core s.has a.0 there s.stands.frame.mark s.stands.frame.control s.stands.frame.cells below_is s.stands.counted base s.idle cells_plain free table_is
+          (exit_action code img p core s.has a.0 there s.stands.frame.mark s.stands.frame.control s.stands.frame.cells below_is s.stands.counted base s.idle shut.rows shut.changes free table_is
           ∙ ap (λ (c : Choice). Some c.action) (sym chosen))
           (subst (λ (c : Choice). Pictures tree code texts c.world after) (sym chosen) (lay, pictured))

@@ -1,5 +1,5 @@
 -- The entry of a block or a procedure by the machine, where a process stands at it.
-use Rattle.std.proofs.Common.{◌≡◌, refl, sym, ap, ◌∙◌, subst, ℕ, ◌+◌, ◌-◌, ◌*◌, ◌/◌, ◌%◌, ◌≤◌, ◌<◌, ◌^◌, List, [], ◌∷◌, length, Option, Some, Ok, true, false, arith, length-append}
+use Rattle.std.proofs.Common.{◌≡◌, refl, sym, ap, ◌∙◌, subst, ℕ, ◌+◌, ◌-◌, ◌*◌, ◌/◌, ◌%◌, ◌≤◌, ◌<◌, ◌^◌, List, [], ◌∷◌, ◌++◌, length, Option, Some, Ok, true, false, arith, length-append}
 use Rattle.std.specs.Prelude.{◌==◌, ◌&&◌, nat_le, slice_get}
 use Rattle.algol_tree.specs.declared.TheConstants.{MOST_BLOCK_CELLS}
 use Rattle.algol_tree.specs.declared.tree.Named.{Named}
@@ -7,6 +7,7 @@ use Rattle.algol_tree.specs.Plain.{PProgram}
 use Rattle.algol_tree.specs.Blocks.{Block, block_numbered, number_at, around}
 use Rattle.algol_tree.specs.Cells.{level_of}
 use Rattle.algol_tree.specs.Scopes.{Scopes, scopes_of}
+use Rattle.algol_meaning.specs.Value.{Value}
 use Rattle.algol_meaning.specs.World.{Instance, Process, Part, World, instance_at, or_no_instance}
 use Rattle.algol_meaning.specs.Actions.{Enter}
 use Rattle.algol_paths.specs.Segments.{segment_of}
@@ -37,14 +38,18 @@ use Rattle.b67_table.specs.Table.{raw, table, plain, operator_at}
 use Rattle.b67_templates.specs.Fragments.{Has, code_at}
 use Rattle.b67_templates.specs.Cells.{simple_cells, procedures, control_segments}
 use Rattle.b67_standing.specs.Stepping.{Slot, mark}
+use Rattle.b67_standing.specs.Standing.{operands}
 use Rattle.b67_cores.specs.Cores.{Core, IsCore, with_core}
-use Rattle.b67_cores.specs.Slots.{newest, SlotIs}
+use Rattle.b67_cores.specs.Slots.{newest, SlotIs, SlotsAre}
 use Rattle.b67_cores.specs.Stretches.{CoreAt, control_words}
 use Rattle.b67_cores.proofs.Moving.{slots_length}
 use Rattle.b67_faithful.specs.Correspondence.{operator_action, called_action}
 use Rattle.b67_faithful.specs.Faithful.{IsShort}
 use Rattle.b67_fitting.specs.Nested.{AreNested, LiesNested}
-use Rattle.b67_pictures.specs.Frames.{IsOwn, Framed}
+use Rattle.b67_pictures.specs.Arrays.{Layout}
+use Rattle.b67_pictures.specs.Frames.{IsOwn, IsComplete, Framed}
+use Rattle.b67_pictures.proofs.Actuals.{Given_words, given_words, arguments_many}
+use Rattle.b67_pictures.proofs.Completing.{made_many}
 use Rattle.b67_pictures.proofs.Displays.{shown, shown_top, linked_seen}
 use Rattle.b67_pictures.proofs.EntryRow.{Leads, Enters, lower_of, with_frame, enter_raw, enter_class, enter_action, new_is}
 use Rattle.b67_pictures.proofs.FreshCells.{words_long}
@@ -65,21 +70,25 @@ home_level : (n level : ℕ) → n ≡ level → 2 ≤ n → (n + 1 == level + 1
 home_level n level e h = grind (arith, nat_tests)
 
 -- how many cells a frame has
-pub cells_few : (sc : Scopes) (w : World) (lay : List Place) (p i : ℕ) (outer : List Part) (at : ℕ) (mark control : Word) (cells : List Word) → Framed sc w lay p i outer at mark control cells → AreNested sc → length cells ≤ MOST_BLOCK_CELLS
+pub cells_few : (sc : Scopes) (w : World) (lay : Layout) (p i : ℕ) (outer : List Part) (at : ℕ) (mark control : Word) (cells : List Word) → Framed sc w lay p i outer at mark control cells → AreNested sc → length cells ≤ MOST_BLOCK_CELLS
 cells_few sc w lay p i outer at marked control cells f nested =
     let b : Block = block_numbered sc.blocks f.instance.block in
     omega (
       arith,
       ap length f.cells_is,
-      length-append f.values (control_words (level_of b) (control_segments sc b.decls)),
-      words_long (simple_cells b) f.instance.cells f.values f.cells_are,
+      length-append f.values (control_words (level_of b) (control_segments sc b.decls) ++ f.descriptors),
+      length-append (control_words (level_of b) (control_segments sc b.decls)) f.descriptors,
+      words_long (simple_cells sc b) f.simple f.values f.simple_are,
       length_mapped (λ (k : ℕ). pcw_word (code_at k 0 (level_of b + 1))) (control_segments sc b.decls),
       length_mapped (λ (n : Named). segment_of sc.blocks (number_at sc.blocks n.spot)) (procedures b.decls),
+      (made_many f.declared f.arrays (lay.rows i) f.descriptors f.made).words_many,
+      ap length f.order,
+      length-append f.declared f.later,
       (nested.each f.instance.block f.known).few,
     )
 
 module _ (tree : PProgram) (code : Code) (texts : ℕ → List Placed) (nested : LiesNested tree) (short : IsShort tree code)
-    (w : World) (lay : List Place) (img : Image) (p : ℕ) (q : Process) (part : Part) (outer : List Part) (bound : ℕ) (core : Core)
+    (w : World) (lay : Layout) (img : Image) (p : ℕ) (q : Process) (part : Part) (outer : List Part) (bound : ℕ) (core : Core)
     (s : Scene tree code texts w lay img p q part outer bound core) where
   abbrev pub sc : Scopes
   sc = scopes_of tree
@@ -96,12 +105,14 @@ module _ (tree : PProgram) (code : Code) (texts : ℕ → List Placed) (nested :
   pub begins : Begins_with img.stacks p core.below
   begins = begins_core img p core s.has
 
-  -- ENTR stands there, and finds a word on a mark. That leads to code of the block of this number, whose instance is to have that parent.
-  pub record Calls (slot : Slot) (next : ℕ) (waiting : List Slot) (h j begin : ℕ) : Type 0 where
-    pub lies : s.stands.slots ≡ slot ∷ mark ∷ waiting
+  -- ENTR stands there, and finds these values on a word on a mark. That leads to code of the block of this number, whose instance is to have that parent.
+  pub record Calls (values : List Value) (slot : Slot) (next : ℕ) (waiting : List Slot) (h j begin : ℕ) : Type 0 where
+    pub lies : s.stands.slots ≡ operands values (slot ∷ mark ∷ waiting)
+    pub values_few : length values ≤ MOST_BLOCK_CELLS
     pub marks : newest own base (slot ∷ mark ∷ waiting) ≡ base + length waiting
     pub stands : Has (text_in tree texts w part) level s.stands.pc (ops.Plain kinds.Entr) next
     pub own_parent : IsOwn (part ∷ outer) h
+    pub complete : IsComplete sc w lay h
     pub known : j < length sc.blocks
     pub around_is : around sc.blocks j ≡ (instance_at w h).block ∷ around sc.blocks ((instance_at w h).block)
     pub linked : Linked sc w lay img.stacks p h
@@ -109,11 +120,11 @@ module _ (tree : PProgram) (code : Code) (texts : ℕ → List Placed) (nested :
     pub segment : Segment
     pub there : slice_get code.segments (segment_of sc.blocks j) ≡ Some segment
     pub spells : Spells (texts (segment_of sc.blocks j)) segment
-    pub leads : (m : Mscw) (x : Word) → SlotIs sc level own base (mark ∷ waiting) slot x →
+    pub leads : (m : Mscw) (x : Word) → SlotIs sc s.stands.held level own base (mark ∷ waiting) slot x →
         Leads code img core next x m (code_at (segment_of sc.blocks j) begin (level_of (block_numbered sc.blocks j))) (place p linked.at)
-    pub calls : (x : Word) → SlotIs sc level own base (mark ∷ waiting) slot x → called_action (as_irw x) ≡ Some Enter
+    pub calls : (x : Word) → SlotIs sc s.stands.held level own base (mark ∷ waiting) slot x → called_action (as_irw x) ≡ Some Enter
 
-  module _ (slot : Slot) (next : ℕ) (waiting : List Slot) (h j begin : ℕ) (e : Calls slot next waiting h j begin) where
+  module _ (values : List Value) (slot : Slot) (next : ℕ) (waiting : List Slot) (h j begin : ℕ) (e : Calls values slot next waiting h j begin) where
     abbrev pub inner_level : ℕ
     inner_level = level_of (block_numbered sc.blocks j)
 
@@ -122,11 +133,21 @@ module _ (tree : PProgram) (code : Code) (texts : ℕ → List Placed) (nested :
 
     -- ---- the words
 
-    pub first : Top sc level own base slot (mark ∷ waiting) core.words
-    first = top_slot sc level own base s.stands.slots slot (mark ∷ waiting) core.words s.stands.there.words_are e.lies
+    pub given : Given_words sc s.stands.held level own base values (slot ∷ mark ∷ waiting) core.words
+    given =
+        given_words sc s.stands.held level own base values (slot ∷ mark ∷ waiting) core.words (subst (λ (l : List Slot). SlotsAre sc s.stands.held level own base l core.words) e.lies s.stands.there.words_are)
 
-    pub second : Top sc level own base mark waiting first.words_below
-    second = top_slot sc level own base (mark ∷ waiting) mark waiting first.words_below first.are refl
+    abbrev pub arguments : List Word
+    arguments = given.arguments
+
+    pub taken : length arguments ≡ length values
+    taken = arguments_many sc s.stands.held level own base values (slot ∷ mark ∷ waiting) core.words given
+
+    pub first : Top sc s.stands.held level own base slot (mark ∷ waiting) given.others
+    first = top_slot sc s.stands.held level own base (slot ∷ mark ∷ waiting) slot (mark ∷ waiting) given.others given.are refl
+
+    pub second : Top sc s.stands.held level own base mark waiting first.words_below
+    second = top_slot sc s.stands.held level own base (mark ∷ waiting) mark waiting first.words_below first.are refl
 
     abbrev pub more : List Word
     more = second.words_below
@@ -134,15 +155,15 @@ module _ (tree : PProgram) (code : Code) (texts : ℕ → List Placed) (nested :
     abbrev pub df : ℕ
     df = base + length waiting - newest own base waiting
 
-    pub all_words : core.words ≡ first.word ∷ second.word ∷ more
-    all_words = first.is ∙ ap (λ (ws : List Word). first.word ∷ ws) second.is
+    pub all_words : core.words ≡ arguments ++ first.word ∷ second.word ∷ more
+    all_words = given.is ∙ ap (λ (ws : List Word). arguments ++ ws) (first.is ∙ ap (λ (ws : List Word). first.word ∷ ws) second.is)
 
     pub as_many : length more ≡ length waiting
-    as_many = slots_length sc level own base waiting more second.are
+    as_many = slots_length sc s.stands.held level own base waiting more second.are
 
     pub mark_at : core.registers.f ≡ base + length more
     mark_at =
-        let here : core.registers.f ≡ base + length waiting = s.stands.there.mark_is ∙ ap (λ (l : List Slot). newest own base l) e.lies ∙ e.marks in
+        let here : core.registers.f ≡ base + length waiting = s.stands.there.mark_is ∙ ap (λ (l : List Slot). newest own base l) e.lies ∙ given.mark_is ∙ e.marks in
         omega (arith, here, as_many)
 
     abbrev pub at : ℕ
@@ -152,8 +173,8 @@ module _ (tree : PProgram) (code : Code) (texts : ℕ → List Placed) (nested :
     at_is = mark_at ∙ sym (length-stack core.below more)
 
     -- what lies below is less than a stack
-    pub room : base + length more + 2 ≤ stack_limit
-    room = omega (arith, ap length all_words, s.small)
+    pub room : base + length more + 2 + length arguments ≤ stack_limit
+    room = omega (arith, ap length all_words, length-append arguments (first.word ∷ second.word ∷ more), s.small)
 
     pub own_is : own ≡ length s.stands.frame.lower
     own_is = frame_is tree code texts w lay img p q part outer bound core s
@@ -240,10 +261,11 @@ module _ (tree : PProgram) (code : Code) (texts : ℕ → List Placed) (nested :
     abbrev pub m : Mscw
     m = record { entered = false; stack = 0; displacement = 0; df = df }
 
-    pub entry : Enters code img core next first.word second.word more m c home display
+    pub entry : Enters code img core next arguments first.word second.word more m c home display
     entry =
         record {
           words = all_words;
+          few = omega (arith, taken, e.values_few);
           mark_at = mark_at;
           reads_mark = ap as_mscw second.slot_is ∙ mark_read df (omega (arith, as_many, room));
           unentered = refl;
@@ -263,10 +285,10 @@ module _ (tree : PProgram) (code : Code) (texts : ℕ → List Placed) (nested :
         up_one = omega arith
 
     pub there : operator_at code core.registers ≡ Ok (ops.Plain kinds.Entr, next)
-    there = operator_there sc code (text_in tree texts w part) level s.stands.pc s.stands.slots core (ops.Plain kinds.Entr) next s.stands.there e.stands
+    there = operator_there sc s.stands.held code (text_in tree texts w part) level s.stands.pc s.stands.slots core (ops.Plain kinds.Entr) next s.stands.there e.stands
 
     abbrev pub new : Core
-    new = with_frame core more df next c home display
+    new = with_frame core arguments more df next c home display
 
     -- ---- what the operator does
 
@@ -277,10 +299,10 @@ module _ (tree : PProgram) (code : Code) (texts : ℕ → List Placed) (nested :
 
     pub new_core : IsCore new
     new_core =
-        new_is code img p core s.has next there first.word second.word more m c home display entry
+        new_is code img p core s.has next there arguments first.word second.word more m c home display entry
         (shown_here ∙ ap (λ (k : ℕ). Some (place k at)) (sym s.has.own) ∙ ap (λ (k : ℕ). Some (place core.registers.stack k)) (sym at_is))
 
-    pub core_at : CoreAt sc code (texts (segment_of sc.blocks j)) inner_level begin [] new
+    pub core_at : CoreAt sc [] code (texts (segment_of sc.blocks j)) inner_level begin [] new
     core_at =
         record {
           segment = e.segment;
@@ -294,11 +316,11 @@ module _ (tree : PProgram) (code : Code) (texts : ℕ → List Placed) (nested :
         }
 
     pub entry_raw : raw code img p ≡ gives (with_core img p new)
-    entry_raw = enter_raw code img p core s.has next there first.word second.word more m c home display entry
+    entry_raw = enter_raw code img p core s.has next there arguments first.word second.word more m c home display entry
 
     pub entry_not_plain : plain code img p ≡ false
     entry_not_plain =
-        action_not_plain code img p core s.has (ops.Plain kinds.Entr) next there (enter_class code img p core s.has next there first.word second.word more m c home display entry)
+        action_not_plain code img p core s.has (ops.Plain kinds.Entr) next there (enter_class code img p core s.has next there arguments first.word second.word more m c home display entry)
 
     pub entry_action : table code img p ≡ outcomes.gives (with_core img p new) → operator_action code img p ≡ Some Enter
-    entry_action = enter_action code img p core s.has next there first.word second.word more m c home display entry
+    entry_action = enter_action code img p core s.has next there arguments first.word second.word more m c home display entry

@@ -1,5 +1,5 @@
 -- ENTR on a word that leads to a procedure or a block: a frame is made of the mark under it and of the word itself.
-use Rattle.std.proofs.Common.{◌≡◌, refl, sym, ap, ◌∙◌, ℕ, zero, suc, ◌+◌, ◌-◌, ◌<◌, List, [], ◌∷◌, ◌++◌, length, Option, Some, Bool, true, false, Ok, arith, append-nil, length-append}
+use Rattle.std.proofs.Common.{◌≡◌, refl, sym, ap, ◌∙◌, ℕ, zero, suc, ◌+◌, ◌-◌, ◌<◌, ◌≤◌, List, [], ◌∷◌, ◌++◌, length, Option, Some, Bool, true, false, Ok, arith, append_assoc, append-nil, length-append}
 use Rattle.std.specs.Prelude.{if◌then◌else◌, nat_lt, nat_le, ◌&&◌, slice_get, slice_set, reverse}
 use Rattle.b67_word.specs.declared.Place.{Place}
 use Rattle.b67_word.specs.Word.{Word}
@@ -34,9 +34,10 @@ use Rattle.b67_cores.specs.Cores.{Core, IsCore, HasCore, with_core, stack_of}
 use Rattle.b67_faithful.specs.Correspondence.{operator_action, called_action, irw_in}
 use Rattle.b67_pictures.proofs.Looks.{then_seen, see_found}
 use Rattle.b67_pictures.proofs.Rows.{raw_is, words_are, action_is}
-use Rattle.b67_pictures.proofs.StackWords.{word-over, word-under, stack-over, length-stack, words-set, set-set}
+use Rattle.b67_pictures.proofs.StackWords.{word-under, stack-over, length-stack, words-set, set-set}
 use Rattle.b67_pictures.proofs.StoreRow.{most_is}
 use Rattle.std.proofs.lemmas.Bool.Decides.{nat_tests}
+use Rattle.std.proofs.lemmas.List.{reverse-append, length-reverse}
 
 fewer_is : (m n : ℕ) → m < n → nat_lt m n ≡ true
 fewer_is m n h = grind (arith, nat_tests)
@@ -52,12 +53,12 @@ abbrev pub lower_of : Core → List Word → List Word
 lower_of core more = core.below ++ reverse more
 
 -- The core in the frame that was entered: its mark leads to its home, its control word to the place after the operator.
-abbrev pub with_frame : Core → List Word → ℕ → ℕ → Pcw → Place → List (Option Place) → Core
-with_frame core more df next c home display =
+abbrev pub with_frame : Core → List Word → List Word → ℕ → ℕ → Pcw → Place → List (Option Place) → Core
+with_frame core arguments more df next c home display =
     record {
-      below = lower_of core more ++ entered_mark home df ∷ control_word core.registers next c.level ∷ [];
+      below = lower_of core more ++ entered_mark home df ∷ control_word core.registers next c.level ∷ reverse arguments;
       words = [];
-      registers = entered core.registers core.registers.s core.registers.f c (record { home = home; display = display }) 0;
+      registers = entered core.registers core.registers.s core.registers.f c (record { home = home; display = display }) (length arguments);
     }
 
 -- the word leads to this procedure and to its home
@@ -66,10 +67,11 @@ Leads code img core next w m c home =
     (p : ℕ) → effect_of p img (asked img (enter_by code core.registers next m w (irw_or_sirw core.registers (as_irw w) (as_sirw w))))
     ≡ effect_of p img (asked img (enter_procedure code core.registers next m c (Some home)))
 
--- A word on a mark, above other words. It leads to the control word of code and to the frame around that, which is the home; and the
+-- Arguments on a word on a mark, above other words. The word leads to the control word of code and to the frame around that, which is the home; and the
 -- display along the links from there.
-pub record Enters (code : Code) (img : Image) (core : Core) (next : ℕ) (control marked : Word) (more : List Word) (m : Mscw) (c : Pcw) (home : Place) (display : List (Option Place)) : Type 0 where
-  pub words : core.words ≡ control ∷ marked ∷ more
+pub record Enters (code : Code) (img : Image) (core : Core) (next : ℕ) (arguments : List Word) (control marked : Word) (more : List Word) (m : Mscw) (c : Pcw) (home : Place) (display : List (Option Place)) : Type 0 where
+  pub words : core.words ≡ arguments ++ control ∷ marked ∷ more
+  pub few : length arguments ≤ most_cells
   pub mark_at : core.registers.f ≡ length core.below + length more
   pub reads_mark : as_mscw marked ≡ Some m
   pub unentered : m.entered ≡ false
@@ -83,7 +85,7 @@ pub record Enters (code : Code) (img : Image) (core : Core) (next : ℕ) (contro
   pub linked : seen img.stacks (linked (place core.registers.stack core.registers.f) home c.level) ≡ Ok display
 
 module _ (code : Code) (img : Image) (p : ℕ) (core : Core) (has : HasCore img p core) (next : ℕ) (there : operator_at code core.registers ≡ Ok (ops.Plain kinds.Entr, next))
-    (control marked : Word) (more : List Word) (m : Mscw) (c : Pcw) (home : Place) (display : List (Option Place)) (e : Enters code img core next control marked more m c home display) where
+    (arguments : List Word) (control marked : Word) (more : List Word) (m : Mscw) (c : Pcw) (home : Place) (display : List (Option Place)) (e : Enters code img core next arguments control marked more m c home display) where
   abbrev r : Registers
   r = core.registers
 
@@ -93,23 +95,36 @@ module _ (code : Code) (img : Image) (p : ℕ) (core : Core) (has : HasCore img 
   abbrev tested : Program → Effect Image
   tested t = effect_of p img (asked img t)
 
-  long : r.s ≡ length core.below + length more + 2
-  long = omega (arith, has.is.top, ap length e.words)
+  long : r.s ≡ length core.below + length more + 2 + length arguments
+  long = omega (arith, has.is.top, ap length e.words, length-append arguments (control ∷ marked ∷ more))
 
   low : r.f ≡ length lower
   low = e.mark_at ∙ sym (length-stack core.below more)
 
-  whole : words_of img.stacks r.stack ≡ core.below ++ reverse (control ∷ marked ∷ more)
+  whole : words_of img.stacks r.stack ≡ core.below ++ reverse (arguments ++ control ∷ marked ∷ more)
   whole = words_are img p core has ∙ ap (λ (ws : List Word). core.below ++ reverse ws) e.words
 
+  -- the cells that the frame begins with
+  abbrev given : List Word
+  given = reverse arguments
+
+  laid : words_of img.stacks r.stack ≡ lower ++ marked ∷ control ∷ given
+  laid =
+      whole
+      ∙ ap (λ (ws : List Word). core.below ++ reverse ws) (sym (append_assoc arguments (control ∷ marked ∷ []) more))
+      ∙ stack-over core.below (arguments ++ control ∷ marked ∷ []) more
+      ∙ ap (λ (ws : List Word). lower ++ ws) (reverse-append arguments (control ∷ marked ∷ []))
+
   mark_word : word_at img.stacks (place r.stack r.f) ≡ Some marked
-  mark_word = ap (λ (ws : List Word). slice_get ws r.f) whole ∙ word-under core.below (control ∷ []) marked more r.f e.mark_at
+  mark_word =
+      ap (λ (ws : List Word). slice_get ws r.f) (whole ∙ ap (λ (ws : List Word). core.below ++ reverse ws) (sym (append_assoc arguments (control ∷ []) (marked ∷ more))))
+      ∙ word-under core.below (arguments ++ control ∷ []) marked more r.f e.mark_at
 
   control_there : word_at img.stacks (place r.stack (r.f + 1)) ≡ Some control
-  control_there = ap (λ (ws : List Word). slice_get ws (r.f + 1)) whole ∙ word-over core.below control (marked ∷ more) (r.f + 1) (omega (arith, e.mark_at))
+  control_there = ap (λ (ws : List Word). slice_get ws (r.f + 1)) whole ∙ word-under core.below arguments control (marked ∷ more) (r.f + 1) (omega (arith, e.mark_at))
 
-  none_more : r.s - (r.f + 2) ≡ 0
-  none_more = omega (arith, e.mark_at, long)
+  taken : r.s - (r.f + 2) ≡ length arguments
+  taken = omega (arith, e.mark_at, long)
 
   -- ---- the tests
 
@@ -122,7 +137,8 @@ module _ (code : Code) (img : Image) (p : ℕ) (core : Core) (has : HasCore img 
   entering_seen : seen img.stacks (entering r next (nat_le (r.s - (r.f + 2)) most_cells) r.f c (Some home)) ≡ Ok entry_of
   entering_seen =
       ap (λ (b : Bool). seen img.stacks (if b then if_fits (nat_le (r.s - (r.f + 2)) most_cells) (if_home (Some home) c.level linking) else stops BadCode)) (fewer_is next end_of_code e.returns)
-      ∙ ap (λ (n : ℕ). seen img.stacks (if_fits (nat_le n most_cells) (if_home (Some home) c.level linking))) none_more
+      ∙ ap (λ (n : ℕ). seen img.stacks (if_fits (nat_le n most_cells) (if_home (Some home) c.level linking))) taken
+      ∙ ap (λ (b : Bool). seen img.stacks (if_fits b (if_home (Some home) c.level linking))) (most_is (length arguments) most_cells e.few)
       ∙ ap (λ (o : Option Rcw). seen img.stacks (if_fits (is_home o c.level) (linking home))) e.outer_reads
       ∙ ap (λ (b : Bool). seen img.stacks (if_fits b (linking home))) e.is_home
       ∙ then_seen img.stacks (linked (place r.stack r.f) home c.level) display (λ (d : List (Option Place)). found (record { home = home; display = d })) e.linked
@@ -136,22 +152,22 @@ module _ (code : Code) (img : Image) (p : ℕ) (core : Core) (has : HasCore img 
   control_above = control_word r next c.level
 
   abbrev with_mark : List Word
-  with_mark = lower ++ mark ∷ control ∷ []
+  with_mark = lower ++ mark ∷ control ∷ given
 
-  saved : with_word (with_word img.stacks (place r.stack r.f) mark) (place r.stack (r.f + 1)) control_above ≡ with_stack img.stacks r.stack ((lower ++ mark ∷ control_above ∷ []) ++ [])
+  saved : with_word (with_word img.stacks (place r.stack r.f) mark) (place r.stack (r.f + 1)) control_above ≡ with_stack img.stacks r.stack ((lower ++ mark ∷ control_above ∷ given) ++ [])
   saved =
       ap (λ (ws : List Word). with_word (with_stack img.stacks r.stack (slice_set ws r.f mark)) (place r.stack (r.f + 1)) control_above)
-      (whole ∙ stack-over core.below (control ∷ marked ∷ []) more)
+      laid
       ∙ ap (λ (ws : List Word). with_word (with_stack img.stacks r.stack ws) (place r.stack (r.f + 1)) control_above)
-      (set-over lower (marked ∷ control ∷ []) 0 r.f mark (omega (arith, low)))
+      (set-over lower (marked ∷ control ∷ given) 0 r.f mark (omega (arith, low)))
       ∙ ap (λ (ws : List Word). with_stack (with_stack img.stacks r.stack with_mark) r.stack (slice_set ws (r.f + 1) control_above))
       (words-set img.stacks r.stack (stack_of core) with_mark has.stack)
-      ∙ ap (λ (ws : List Word). with_stack (with_stack img.stacks r.stack with_mark) r.stack ws) (set-over lower (mark ∷ control ∷ []) 1 (r.f + 1) control_above (omega (arith, low)))
-      ∙ set-set img.stacks r.stack with_mark (lower ++ mark ∷ control_above ∷ [])
-      ∙ ap (λ (ws : List Word). with_stack img.stacks r.stack ws) (sym (append-nil (lower ++ mark ∷ control_above ∷ [])))
+      ∙ ap (λ (ws : List Word). with_stack (with_stack img.stacks r.stack with_mark) r.stack ws) (set-over lower (mark ∷ control ∷ given) 1 (r.f + 1) control_above (omega (arith, low)))
+      ∙ set-set img.stacks r.stack with_mark (lower ++ mark ∷ control_above ∷ given)
+      ∙ ap (λ (ws : List Word). with_stack img.stacks r.stack ws) (sym (append-nil (lower ++ mark ∷ control_above ∷ given)))
 
   abbrev pub new : Core
-  new = with_frame core more m.df next c home display
+  new = with_frame core arguments more m.df next c home display
 
   -- ---- the row
 
@@ -181,7 +197,7 @@ module _ (code : Code) (img : Image) (p : ℕ) (core : Core) (has : HasCore img 
       ∙ ap (λ (x : Effect Change). effect_of p img x)
       (see_found img (entering r next (nat_le (r.s - (r.f + 2)) most_cells) r.f c (Some home)) entry_of on_entry entering_seen)
       ∙ ap (λ (ss : Stacks). gives (with_registers (with_stacks img ss) p (entered r r.s r.f c entry_of (r.s - (r.f + 2))))) saved
-      ∙ ap (λ (n : ℕ). gives (with_registers (with_stacks img (with_stack img.stacks r.stack (stack_of new))) p (entered r r.s r.f c entry_of n))) none_more
+      ∙ ap (λ (n : ℕ). gives (with_registers (with_stacks img (with_stack img.stacks r.stack (stack_of new))) p (entered r r.s r.f c entry_of n))) taken
 
   pub enter_raw : raw code img p ≡ gives (with_core img p new)
   unfolding row
@@ -202,6 +218,6 @@ module _ (code : Code) (img : Image) (p : ℕ) (core : Core) (has : HasCore img 
   new_is top =
       let own : frame new.registers ≡ r.f = ap at_or top in
       record {
-        bottom = length-append lower (mark ∷ control_above ∷ []) ∙ omega (arith, own, low);
-        top = omega (arith, long, low, e.mark_at, length-append lower (mark ∷ control_above ∷ []));
+        bottom = length-append lower (mark ∷ control_above ∷ given) ∙ omega (arith, own, low, length-reverse arguments);
+        top = omega (arith, long, low, e.mark_at, length-append lower (mark ∷ control_above ∷ given), length-reverse arguments);
       }

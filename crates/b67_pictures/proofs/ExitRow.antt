@@ -1,13 +1,10 @@
 -- EXIT of a base frame.
-use Rattle.std.proofs.Common.{◌≡◌, ◌⊎◌, inl, inr, refl, sym, ap, subst, ◌∙◌, ℕ, zero, suc, ◌+◌, List, [], ◌∷◌, ◌++◌, length, take, drop, Option, Some, None, Bool, true, false, Ok}
+use Rattle.std.proofs.Common.{◌≡◌, ◌⊎◌, inl, inr, refl, ap, ◌∙◌, ℕ, zero, suc, ◌+◌, List, [], ◌∷◌, ◌++◌, length, take, drop, Option, Some, None, Bool, true, false, Ok}
 use Rattle.std.specs.Prelude.{if◌then◌else◌, nat_eq, slice_get, reverse}
 use Rattle.b67_list.specs.Numbered.{set_numbered}
 use Rattle.algol_tree.specs.declared.tree.Kind.{Kind}
 use Rattle.algol_meaning.specs.Value.{Cell, simple, event, array, named, reference}
-use Rattle.algol_tree.specs.Blocks.{Block, block_numbered}
-use Rattle.algol_tree.specs.Cells.{level_of}
-use Rattle.algol_tree.specs.Scopes.{Scopes}
-use Rattle.algol_meaning.specs.World.{NamedCell, Part, World}
+use Rattle.algol_meaning.specs.World.{NamedCell}
 use Rattle.algol_meaning.specs.Actions as act
 use Rattle.algol_meaning.specs.Actions.{Action}
 use Rattle.b67_word.specs.declared.Place.{Place}
@@ -18,14 +15,14 @@ use Rattle.b67_control.specs.Control.{as_descriptor}
 use Rattle.b67_ops.specs.declared.Operator.TheVariants as ops
 use Rattle.b67_ops.specs.declared.PlainKind.TheVariants as kinds
 use Rattle.b67_segment.specs.declared.code.Code.{Code}
-use Rattle.b67_store.specs.Store.{words_of, closed_at}
+use Rattle.b67_store.specs.Store.{Rows, words_of, closed_at}
 use Rattle.b67_events.specs.Events.{closed_from}
 use Rattle.b67_table.specs.declared.Class.TheVariants as classes
 use Rattle.b67_table.specs.declared.ProcessState.{ProcessState}
 use Rattle.b67_table.specs.declared.ProcessState.TheVariants.{Ended}
 use Rattle.b67_table.specs.Effect.{Effect, gives}
 use Rattle.b67_table.specs.Outcome as outcomes
-use Rattle.b67_table.specs.Image.{Image, is_ended}
+use Rattle.b67_table.specs.Image.{Image, with_rows, is_ended}
 use Rattle.b67_table.specs.Linkage.{closed_by, array_closed, arrays_closed, caused_by, frame_left, is_critical, leave_base, leave_other}
 use Rattle.b67_table.specs.Private.{frame}
 use Rattle.b67_table.specs.Program.{Program, Change, done, changed, does, effect_of, asked, answer, fault, registers, end_process, close_events}
@@ -33,12 +30,12 @@ use Rattle.b67_table.specs.Questions.{with_critical, unless, live_criticals}
 use Rattle.b67_num.specs.declared.FaultKind.TheVariants.{CriticalBlockExit}
 use Rattle.b67_table.specs.Rows.{row, exit}
 use Rattle.b67_table.specs.Table.{raw, table, operator_at, class_at}
-use Rattle.b67_templates.specs.Cells.{Simple, simple_cells, control_segments}
+use Rattle.b67_templates.specs.Cells.{Simple}
 use Rattle.b67_templates.specs.Fragments.{code_at}
 use Rattle.b67_cores.specs.Stretches.{control_words}
 use Rattle.b67_cores.specs.Cores.{Core, HasCore}
 use Rattle.b67_faithful.specs.Correspondence.{operator_action}
-use Rattle.b67_pictures.specs.Frames.{CellIs, CellsAre, Framed}
+use Rattle.b67_pictures.specs.Frames.{CellIs, CellsAre}
 use Rattle.b67_pictures.proofs.Rows.{raw_is, words_are, action_is}
 use Rattle.b67_pictures.proofs.StackWords.{take-seam}
 use Rattle.b67_pictures.proofs.Words.{value_tag, no_descriptor, pcw_describes_nothing}
@@ -74,13 +71,6 @@ describe_both : (words more : List Word) → DescribeNothing words → DescribeN
 describe_both [] more none others = others
 describe_both (w ∷ words) more none others = (none.0, describe_both words more none.1 others)
 
-pub frame_describes_nothing : (sc : Scopes) (w : World) (lay : List Place) (p i : ℕ) (outer : List Part) (at : ℕ) (mark control : Word) (cells : List Word) → Framed sc w lay p i outer at mark control cells → DescribeNothing cells
-frame_describes_nothing sc w lay p i outer at mark control cells f =
-    let b : Block = block_numbered sc.blocks f.instance.block in
-    subst (λ (ws : List Word). DescribeNothing ws) (sym f.cells_is)
-    (describe_both f.values (control_words (level_of b) (control_segments sc b.decls)) (cells_describe_nothing (simple_cells b) f.instance.cells f.values f.cells_are)
-    (controls_describe_nothing (level_of b) (control_segments sc b.decls)))
-
 -- so no row is closed
 pub none_closed : (words : List Word) (next : Change) → DescribeNothing words → arrays_closed words next ≡ next
 none_closed [] next none = refl
@@ -114,10 +104,11 @@ no_criticals (state ∷ states) (r ∷ regs) free =
 
 -- ---- the row
 
--- the image in which a process has ended: its stack and its events are closed
-abbrev pub ended_at : Image → ℕ → Registers → Image
-ended_at img p r =
+-- the image in which a process has ended: its stack and its events are closed, and with these rows
+abbrev pub ended_at : Image → Rows → ℕ → Registers → Image
+ended_at img rows p r =
     record img {
+      rows = rows;
       stacks = closed_at img.stacks r.stack;
       events = closed_from r.stack 0 img.events;
       regs = set_numbered img.regs p r;
@@ -126,7 +117,7 @@ ended_at img p r =
 
 module _ (code : Code) (img : Image) (p : ℕ) (core : Core) (has : HasCore img p core) (next : ℕ) (at : operator_at code core.registers ≡ Ok (ops.Plain kinds.Exit, next))
     (mark control : Word) (cells : List Word) (below : core.below ≡ mark ∷ control ∷ cells) (counted : core.registers.cells ≡ length cells) (base : frame core.registers ≡ 0)
-    (idle : core.registers.task ≡ None) (plain_cells : DescribeNothing cells) (free : live_criticals img.states img.regs ≡ []) where
+    (idle : core.registers.task ≡ None) (rows : Rows) (closed : (q : ℕ) (more : Change) → changed q (arrays_closed cells more) img ≡ changed q more (with_rows img rows)) (free : live_criticals img.states img.regs ≡ []) where
   abbrev r : Registers
   r = core.registers
 
@@ -151,15 +142,15 @@ module _ (code : Code) (img : Image) (p : ℕ) (core : Core) (has : HasCore img 
       ap (λ (ws : List Word). take r.cells (drop (0 + 2) ws)) whole
       ∙ take-seam cells (reverse core.words) r.cells counted
 
-  exit_does : does p (exit r next) img ≡ gives (ended_at img p left)
+  exit_does : does p (exit r next) img ≡ gives (ended_at img rows p left)
   exit_does =
       ap (λ (f : ℕ). tested (left_with f (take r.cells (drop (f + 2) (words_of img.stacks r.stack))))) base
       ∙ ap (λ (ws : List Word). tested (leave_base r ws next)) cells_there
       ∙ ap (λ (places : List Place). tested (if is_critical r.stack (0 ∷ []) places then fault CriticalBlockExit else answer (ends cells))) free
-      ∙ ap (λ (c : Change). gives (changed p c img)) (none_closed cells (close_events r.stack 0 (registers left (caused_by r.task (end_process r.stack done)))) plain_cells)
-      ∙ ap (λ (t : Option Place). gives (changed p (close_events r.stack 0 (registers left (caused_by t (end_process r.stack done)))) img)) idle
+      ∙ ap gives (closed p (close_events r.stack 0 (registers left (caused_by r.task (end_process r.stack done)))))
+      ∙ ap (λ (t : Option Place). gives (changed p (close_events r.stack 0 (registers left (caused_by t (end_process r.stack done)))) (with_rows img rows))) idle
 
-  pub exit_raw : raw code img p ≡ gives (ended_at img p left)
+  pub exit_raw : raw code img p ≡ gives (ended_at img rows p left)
   unfolding row
   exit_raw = raw_is code img p core has (ops.Plain kinds.Exit) next at ∙ exit_does
 
@@ -167,7 +158,7 @@ module _ (code : Code) (img : Image) (p : ℕ) (core : Core) (has : HasCore img 
   unfolding class_at row
   exit_class = refl
 
-  pub exit_action : table code img p ≡ outcomes.gives (ended_at img p left) → operator_action code img p ≡ Some act.End
+  pub exit_action : table code img p ≡ outcomes.gives (ended_at img rows p left) → operator_action code img p ≡ Some act.End
   exit_action t =
-      action_is code img p core has (ops.Plain kinds.Exit) next at (outcomes.gives (ended_at img p left)) t
+      action_is code img p core has (ops.Plain kinds.Exit) next at (outcomes.gives (ended_at img rows p left)) t
       ∙ ap (λ (f : ℕ). if nat_eq f 0 then Some act.End else Some act.Leave) base

@@ -12,7 +12,6 @@ use Rattle.algol_meaning.specs.Asks.{Ask, fails, ask}
 use Rattle.algol_meaning.specs.Choice.{Choice, choice, choice_of}
 use Rattle.b67_num.specs.declared.NumFault.{NumFault}
 use Rattle.b67_num.specs.Whole.{fault_of}
-use Rattle.b67_word.specs.declared.Place.{Place}
 use Rattle.b67_word.specs.Word.{Word}
 use Rattle.b67_ops.specs.declared.Operator.TheVariants as ops
 use Rattle.b67_segment.specs.Operators.{Placed}
@@ -27,6 +26,7 @@ use Rattle.b67_standing.specs.Stepping.{operand, ready}
 use Rattle.b67_standing.specs.Standing.{ActionAt}
 use Rattle.b67_cores.specs.Cores.{Core}
 use Rattle.b67_cores.specs.Slots.{ValueIs}
+use Rattle.b67_pictures.specs.Arrays.{Layout}
 use Rattle.b67_pictures.specs.Acting.{Does, failed_by}
 use Rattle.b67_pictures.specs.Pictures.{Pictures}
 use Rattle.b67_pictures.proofs.Rows.{fault_not_plain, action_is}
@@ -56,18 +56,18 @@ ready_same operators.And v w f e = refl
 ready_same operators.Or v w f e = refl
 ready_same operators.Eqv v w f e = refl
 
-module _ (tree : PProgram) (code : Code) (texts : ℕ → List Placed) (w : World) (lay : List Place) (img : Image)
+module _ (tree : PProgram) (code : Code) (texts : ℕ → List Placed) (w : World) (lay : Layout) (img : Image)
     (p : ℕ) (q : Process) (part : Part) (outer : List Part) (bound : ℕ) (core : Core) (s : Scene tree code texts w lay img p q part outer bound core)
     (fault : NumFault) (asks : ask part.rest ≡ fails fault) (a : ActionAt (scopes_of tree) (context_in tree code w part) (text_in tree texts w part) (level_in tree w part) (most_in tree w part) (fails fault) s.stands.pc s.stands.slots) where
   there : operator_at code core.registers ≡ Ok (ops.Plain (operator_for a.0), a.3)
-  there = operator_there (scopes_of tree) code (text_in tree texts w part) (level_in tree w part) s.stands.pc s.stands.slots core (ops.Plain (operator_for a.0)) a.3 s.stands.there a.5.stands
+  there = operator_there (scopes_of tree) s.stands.held code (text_in tree texts w part) (level_in tree w part) s.stands.pc s.stands.slots core (ops.Plain (operator_for a.0)) a.3 s.stands.there a.5.stands
 
   table_is : table code img p ≡ outcomes.faults (fault_of fault)
   table_is =
-      let second : Top (scopes_of tree) (level_in tree w part) (frame core.registers) (length core.below) (operand a.2) (operand (ready a.0 a.1) ∷ a.4) core.words =
-      top_slot (scopes_of tree) (level_in tree w part) (frame core.registers) (length core.below) s.stands.slots (operand a.2) (operand (ready a.0 a.1) ∷ a.4) core.words s.stands.there.words_are a.5.lies in
-      let first : Top (scopes_of tree) (level_in tree w part) (frame core.registers) (length core.below) (operand (ready a.0 a.1)) a.4 second.words_below =
-      top_slot (scopes_of tree) (level_in tree w part) (frame core.registers) (length core.below) (operand (ready a.0 a.1) ∷ a.4) (operand (ready a.0 a.1)) a.4 second.words_below second.are refl in
+      let second : Top (scopes_of tree) s.stands.held (level_in tree w part) (frame core.registers) (length core.below) (operand a.2) (operand (ready a.0 a.1) ∷ a.4) core.words =
+      top_slot (scopes_of tree) s.stands.held (level_in tree w part) (frame core.registers) (length core.below) s.stands.slots (operand a.2) (operand (ready a.0 a.1) ∷ a.4) core.words s.stands.there.words_are a.5.lies in
+      let first : Top (scopes_of tree) s.stands.held (level_in tree w part) (frame core.registers) (length core.below) (operand (ready a.0 a.1)) a.4 second.words_below =
+      top_slot (scopes_of tree) s.stands.held (level_in tree w part) (frame core.registers) (length core.below) (operand (ready a.0 a.1) ∷ a.4) (operand (ready a.0 a.1)) a.4 second.words_below second.are refl in
       faults_so code img p (fault_of fault)
       (break_raw code img p core s.has a.0 a.3 there a.1 a.2 first.word second.word first.words_below (second.is ∙ ap (λ (ws : List Word). second.word ∷ ws) first.is) a.5.first_fits a.5.second_fits
       (subst (λ (v : Value). ValueIs v first.word) (ready_same a.0 a.1 a.2 fault a.5.breaks) first.slot_is) second.slot_is fault a.5.breaks)

@@ -1,6 +1,7 @@
 -- A frame is entered: the instance of a block or a procedure has it above the words of the part around, which waits.
-use Rattle.std.proofs.Common.{◌≡◌, ◌≢◌, inl, refl, sym, ap, ◌∙◌, subst, ℕ, zero, suc, ◌+◌, ◌*◌, ◌≤◌, ◌<◌, List, [], ◌∷◌, ◌++◌, length, Option, Some, None, Bool, false, arith, append_assoc, length-append}
-use Rattle.std.specs.Prelude.{if◌then◌else◌, replicate, slice_get}
+use Rattle.std.proofs.Common.{◌≡◌, ◌≢◌, inl, refl, sym, ap, ◌∙◌, subst, ℕ, zero, suc, ◌+◌, ◌*◌, ◌≤◌, ◌<◌, List, [], ◌∷◌, ◌++◌, length, Option, Some, None, Bool, false, arith, append_assoc, append-nil, length-append}
+use Rattle.std.specs.Prelude.{if◌then◌else◌, replicate, reverse, slice_get}
+use Rattle.std.proofs.lemmas.List.{length-reverse}
 use Rattle.b67_list.specs.Numbered.{numbered}
 use Rattle.algol_tree.specs.declared.tree.Named.{Named}
 use Rattle.algol_tree.specs.Plain.{PProgram}
@@ -10,15 +11,16 @@ use Rattle.algol_tree.specs.Scopes.{Scopes, scopes_of}
 use Rattle.algol_meaning.specs.Rest.{Answer, entered}
 use Rattle.algol_meaning.specs.World.{Instance, Process, Purpose, Part, able, World, instance_at, or_no_instance, ancestor, with_process}
 use Rattle.algol_meaning.specs.Critical.{is_evaluation}
+use Rattle.algol_meaning.specs.Instances as instances
 use Rattle.algol_meaning.specs.Instances.{fresh_cells}
+use Rattle.algol_meaning.specs.Value.{Value, Cell}
 use Rattle.algol_meaning.specs.Statements.{settle_items, items_of}
 use Rattle.algol_meaning.specs.Actions.{Enter}
 use Rattle.algol_meaning.specs.Asks.{nothing, ask, resume}
 use Rattle.algol_meaning.specs.Choice.{Choice, choice}
-use Rattle.algol_paths.specs.Blocks.{IsSeen, IsInner}
-use Rattle.algol_paths.specs.Laws.{RestsKeepToTheirText}
+use Rattle.algol_paths.specs.Arrays.{arrays_of, to_make, left_to_make}
+use Rattle.algol_paths.specs.Laws.{KeepsToText, RestsKeepToTheirText, ArraysAreMadeInOrder}
 use Rattle.algol_paths.specs.Segments.{segment_of}
-use Rattle.algol_paths.specs.Texts.{InRest}
 use Rattle.b67_word.specs.declared.Place.{Place}
 use Rattle.b67_word.specs.Word.{Word}
 use Rattle.b67_control.specs.declared.Registers.{Registers}
@@ -33,10 +35,11 @@ use Rattle.b67_table.specs.Image.{Image}
 use Rattle.b67_table.specs.Linkage.{entered_mark, control_word}
 use Rattle.b67_table.specs.Outcome as outcomes
 use Rattle.b67_table.specs.Table.{table}
-use Rattle.b67_templates.specs.Cells.{zero_cells, simple_cells, procedures, control_segments}
+use Rattle.b67_templates.specs.Cells.{parameter_cells, zero_cells, simple_cells, procedures, control_segments}
 use Rattle.b67_templates.specs.Code.{CellsAt}
 use Rattle.b67_templates.specs.Fragments.{code_at}
 use Rattle.b67_templates.specs.Programs.{context_of}
+use Rattle.b67_standing.specs.Stepping as marks
 use Rattle.b67_standing.specs.Stepping.{Slot}
 use Rattle.b67_standing.specs.Standing.{Gives, pushed, ComesTo}
 use Rattle.b67_cores.specs.Cores.{Core, size, IsCore, HasCore, with_core}
@@ -46,16 +49,19 @@ use Rattle.b67_faithful.specs.Faithful.{IsShort}
 use Rattle.b67_faithful.specs.Weight.{tokens_around, part_weight, weight, parts_weight}
 use Rattle.b67_faithful.proofs.Contradictions.{none_some, some_same}
 use Rattle.b67_fitting.specs.Nested.{LiesNested, IsText}
+use Rattle.b67_pictures.specs.Arrays.{Allotted, Layout, AreMade, AreKnown}
 use Rattle.b67_pictures.specs.Acting.{Does, gave}
-use Rattle.b67_pictures.specs.Frames.{most_around, CellsAre, IsChained, home_of, inside, Framed, Frame, Waits, Around}
+use Rattle.b67_pictures.specs.Frames.{most_around, CellsAre, IsChained, IsComplete, home_of, inside, Framed, Frame, Waits, Around}
 use Rattle.b67_pictures.specs.Pictures.{Living, Pictures, PicturesBy}
+use Rattle.b67_pictures.proofs.Actuals.{AreValues, operands_many}
 use Rattle.b67_pictures.proofs.Ancestors.{same_place}
+use Rattle.b67_pictures.proofs.ArraysKept.{rows_but, rows_there, rows_other, no_elements, no_rows, arrays_joined}
 use Rattle.b67_pictures.proofs.Cored.{has_now, others_have, system_stays}
 use Rattle.b67_pictures.proofs.EntryRow.{lower_of}
 use Rattle.b67_pictures.proofs.Entries as entries
 use Rattle.b67_pictures.proofs.Entries.{Calls}
-use Rattle.b67_pictures.proofs.FreshCells.{fresh_zeros, words_long}
-use Rattle.b67_pictures.proofs.Growing.{numbered_last, numbered_before}
+use Rattle.b67_pictures.proofs.FreshCells.{fresh_are, simple_many, words_long}
+use Rattle.b67_pictures.proofs.Growing.{numbered_last, numbered_before, numbered_low}
 use Rattle.b67_pictures.proofs.Kept.{AreAlike}
 use Rattle.b67_pictures.proofs.Landing.{living_of}
 use Rattle.b67_pictures.proofs.Linked.{all_each, level_around, shown_chained}
@@ -65,13 +71,13 @@ use Rattle.b67_pictures.proofs.Scene.{Scene}
 use Rattle.b67_pictures.proofs.Segmented.{length_mapped}
 use Rattle.b67_pictures.proofs.StackWords.{length-stack}
 use Rattle.b67_pictures.proofs.Stage.{gives_within, goes_on, weight_of}
-use Rattle.b67_pictures.proofs.Staying.{text_in, level_in, context_in, most_in, wanted_in, FrameStill, frame_still, same_instance, parts_weigh}
-use Rattle.b67_pictures.proofs.Texted.{block_keeps}
-use Rattle.b67_pictures.proofs.Zeros.{zero_word, plain_cells, cells_length}
+use Rattle.b67_pictures.proofs.Staying.{text_in, level_in, context_in, most_in, wanted_in, FrameStill, frame_still, same_instance, known_stays, parts_weigh}
+use Rattle.b67_pictures.proofs.Texted.{block_keeps, block_makes}
+use Rattle.b67_pictures.proofs.Zeros.{zero_word, cells_length}
 
 -- the new instance of a block or a procedure, and its part
-abbrev pub made_of : Scopes → ℕ → ℕ → ℕ → Instance
-made_of sc p h j = record { block = j; parent = h; process = p; cells = fresh_cells (block_numbered sc.blocks j) []; left = false }
+abbrev pub made_of : Scopes → ℕ → ℕ → ℕ → List Cell → Instance
+made_of sc p h j given = record { block = j; parent = h; process = p; cells = fresh_cells (block_numbered sc.blocks j) given; left = false }
 
 abbrev pub inner_of : Scopes → World → ℕ → Purpose → Part
 inner_of sc w j purpose = record { instance = length w.instances + 1; purpose = purpose; rest = settle_items sc (items_of (block_numbered sc.blocks j)) }
@@ -80,19 +86,19 @@ abbrev pub around_of : Scopes → Part → Part
 around_of sc part = record part { rest = resume sc part.rest entered }
 
 -- the world in which they are made
-abbrev pub entered_world : Scopes → World → ℕ → Process → Part → List Part → ℕ → ℕ → Purpose → World
-entered_world sc w p q part outer h j purpose =
-    with_process (record w { instances = w.instances ++ made_of sc p h j ∷ [] }) p (record q { todo = inner_of sc w j purpose ∷ around_of sc part ∷ outer })
+abbrev pub entered_world : Scopes → World → ℕ → Process → Part → List Part → ℕ → ℕ → List Cell → Purpose → World
+entered_world sc w p q part outer h j given purpose =
+    with_process (record w { instances = w.instances ++ made_of sc p h j given ∷ [] }) p (record q { todo = inner_of sc w j purpose ∷ around_of sc part ∷ outer })
 
 module _ (tree : PProgram) (code : Code) (texts : ℕ → List Placed) (nested : LiesNested tree) (short : IsShort tree code)
-    (fragments : FragmentsArePerformed) (begins : BlocksBegin) (keeps : RestsKeepToTheirText)
-    (w : World) (lay : List Place) (img : Image) (p : ℕ) (q : Process) (part : Part) (outer : List Part) (bound : ℕ) (core : Core)
+    (fragments : FragmentsArePerformed) (begins : BlocksBegin) (keeps : RestsKeepToTheirText) (order : ArraysAreMadeInOrder)
+    (w : World) (lay : Layout) (img : Image) (p : ℕ) (q : Process) (part : Part) (outer : List Part) (bound : ℕ) (core : Core)
     (s : Scene tree code texts w lay img p q part outer bound core) (able_is : q.state ≡ able) (able_p : numbered img.states p ≡ Some Able) where
   abbrev sc : Scopes
   sc = scopes_of tree
 
-  abbrev CallsThere : Slot → ℕ → List Slot → ℕ → ℕ → ℕ → Type 0
-  CallsThere slot next waiting h j begin = Calls tree code texts nested short w lay img p q part outer bound core s slot next waiting h j begin
+  abbrev CallsThere : List Value → Slot → ℕ → List Slot → ℕ → ℕ → ℕ → Type 0
+  CallsThere values slot next waiting h j begin = Calls tree code texts nested short w lay img p q part outer bound core s values slot next waiting h j begin
 
   -- The code of the block: its cells, and what it has to do, for which its segment has the room.
   pub record Body (j begin : ℕ) : Type 0 where
@@ -104,12 +110,14 @@ module _ (tree : PProgram) (code : Code) (texts : ℕ → List Placed) (nested :
 
   -- behind the entry the part around goes on, once the value that is wanted was given
   pub record GoesOnBehind (next : ℕ) (waiting : List Slot) (j : ℕ) : Type 0 where
+    pub unmade : left_to_make part.rest ≡ to_make part.rest
     pub waits : ask (resume sc part.rest entered) ≡ nothing
     pub returns : (a : Answer) → Gives ((block_numbered sc.blocks j).result) a →
         ComesTo sc (context_in tree code w part) (text_in tree texts w part) (level_in tree w part) (most_in tree w part) (resume sc (resume sc part.rest entered) a) next (pushed a waiting)
 
-  module _ (slot : Slot) (next : ℕ) (waiting : List Slot) (h j begin : ℕ) (e : CallsThere slot next waiting h j begin) (purpose : Purpose) (owns : is_evaluation purpose ≡ false) (body : Body j begin)
-      (behind : GoesOnBehind next waiting j) where
+  module _ (values : List Value) (slot : Slot) (next : ℕ) (waiting : List Slot) (h j begin : ℕ) (e : CallsThere values slot next waiting h j begin) (purpose : Purpose) (owns : is_evaluation purpose ≡ false) (body : Body j begin)
+      (behind : GoesOnBehind next waiting j) (given : List Cell)
+      (fit : (ws : List Word) → AreValues values ws → CellsAre (parameter_cells sc (block_numbered sc.blocks j)) (instances.parameter_cells (block_numbered sc.blocks j).parameters given) ws) where
     abbrev i : ℕ
     i = part.instance
 
@@ -136,31 +144,47 @@ module _ (tree : PProgram) (code : Code) (texts : ℕ → List Placed) (nested :
     abbrev segments : List ℕ
     segments = control_segments sc b.decls
 
+    -- what was given, and behind it zeros
+    abbrev arguments : List Word
+    arguments = entries.arguments tree code texts nested short w lay img p q part outer bound core s values slot next waiting h j begin e
+
+    abbrev taken : List Word
+    taken = reverse arguments
+
     abbrev zeros : List Word
     zeros = replicate many zero_word
 
     abbrev cells : List Word
-    cells = zeros ++ control_words inner_level segments
+    cells = (taken ++ zeros) ++ control_words inner_level segments
 
-    simple_many : length (simple_cells b) ≡ many
-    simple_many = ap length (plain_cells b is_text.plain)
+    given_there : CellsAre (parameter_cells sc b) (instances.parameter_cells b.parameters given) taken
+    given_there = fit taken (entries.given tree code texts nested short w lay img p q part outer bound core s values slot next waiting h j begin e).values
+
+    taken_many : length taken ≡ length (parameter_cells sc b)
+    taken_many = words_long (parameter_cells sc b) (instances.parameter_cells b.parameters given) taken given_there
+
+    as_given : length taken ≡ length arguments
+    as_given = length-reverse arguments
+
+    all_many : length (simple_cells sc b) ≡ length taken + many
+    all_many = omega (arith, simple_many sc b, taken_many)
 
     segments_many : length segments ≡ length (procedures b.decls)
     segments_many = length_mapped (λ (n : Named). segment_of sc.blocks (number_at sc.blocks n.spot)) (procedures b.decls)
 
-    few_cells : many + length segments ≤ 400
-    few_cells = omega (arith, simple_many, segments_many, is_text.few)
+    few_cells : length taken + (many + length segments) ≤ 400
+    few_cells = omega (arith, all_many, segments_many, is_text.few)
 
-    cells_are : CellsAre (simple_cells b) (fresh_cells b []) zeros
-    cells_are = fresh_zeros b is_text.plain
+    cells_are : CellsAre (simple_cells sc b) (fresh_cells b given) (taken ++ zeros)
+    cells_are = fresh_are sc b given taken given_there
 
-    cells_many : length cells ≡ many + length segments
+    cells_many : length cells ≡ length taken + (many + length segments)
     cells_many =
         omega (
           arith,
-          length-append zeros (control_words inner_level segments),
-          words_long (simple_cells b) (fresh_cells b []) zeros cells_are,
-          simple_many,
+          length-append (taken ++ zeros) (control_words inner_level segments),
+          words_long (simple_cells sc b) (fresh_cells b given) (taken ++ zeros) cells_are,
+          all_many,
           length_mapped (λ (k : ℕ). pcw_word (code_at k 0 (inner_level + 1))) segments,
         )
 
@@ -170,7 +194,7 @@ module _ (tree : PProgram) (code : Code) (texts : ℕ → List Placed) (nested :
     n = length w.instances + 1
 
     abbrev made : Instance
-    made = made_of sc p h j
+    made = made_of sc p h j given
 
     abbrev inner : Part
     inner = inner_of sc w j purpose
@@ -182,31 +206,45 @@ module _ (tree : PProgram) (code : Code) (texts : ℕ → List Placed) (nested :
     q' = record q { todo = inner ∷ part' ∷ outer }
 
     abbrev w' : World
-    w' = entered_world sc w p q part outer h j purpose
+    w' = entered_world sc w p q part outer h j given purpose
 
     abbrev at : ℕ
-    at = entries.at tree code texts nested short w lay img p q part outer bound core s slot next waiting h j begin e
+    at = entries.at tree code texts nested short w lay img p q part outer bound core s values slot next waiting h j begin e
 
-    abbrev lay' : List Place
-    lay' = lay ++ place p at ∷ []
+    abbrev lay' : Layout
+    lay' = record { places = lay.places ++ place p at ∷ []; rows = rows_but lay.rows n [] }
 
     made_there : numbered w'.instances n ≡ Some made
     made_there = numbered_last w.instances made n refl
 
-    made_laid : numbered lay' n ≡ Some (place p at)
-    made_laid = numbered_last lay (place p at) n (omega (arith, s.by.laid))
+    made_laid : numbered lay'.places n ≡ Some (place p at)
+    made_laid = numbered_last lay.places (place p at) n (omega (arith, s.by.laid))
 
     block_in : (instance_at w' n).block ≡ j
     block_in = ap (λ (o : Option Instance). (or_no_instance o).block) made_there
 
+    -- the rows of all others are those that they were
+    rows_before : (k : ℕ) (x : Instance) → numbered w.instances k ≡ Some x → lay'.rows k ≡ lay.rows k
+    rows_before k x e = rows_other lay.rows n [] k (λ (same : k ≡ n). let low : k ≤ length w.instances = numbered_low w.instances k x e in omega (arith, same, low))
+
     alike : (r : ℕ) → r ≢ p → AreAlike w w' lay lay' r
-    alike r other = record { own = λ k x e own. numbered_before w.instances (made ∷ []) k x e; places = λ k x e. numbered_before lay (place p at ∷ []) k x e }
+    alike r other =
+        record {
+          own = λ k x e own. numbered_before w.instances (made ∷ []) k x e;
+          places = λ k x e. numbered_before lay.places (place p at ∷ []) k x e;
+          rows = λ k x e own. rows_before k x e;
+        }
 
     abbrev limit : ℕ
     limit = length core.below
 
     abbrev stay : StayBelow w w' lay lay' p limit
-    stay = record { instances = λ k f x e own laid under. numbered_before w.instances (made ∷ []) k x e; places = λ k x e. numbered_before lay (place p at ∷ []) k x e }
+    stay =
+        record {
+          instances = λ k f x e own laid under. numbered_before w.instances (made ∷ []) k x e;
+          places = λ k x e. numbered_before lay.places (place p at ∷ []) k x e;
+          rows = λ k f x e own laid under. rows_before k x e;
+        }
 
     all_low : length core.below ≤ limit
     all_low = omega arith
@@ -214,7 +252,7 @@ module _ (tree : PProgram) (code : Code) (texts : ℕ → List Placed) (nested :
     still : FrameStill tree code texts w w' lay lay' p limit stay part outer core.below s.stands.frame.cells
     still =
         frame_still tree code texts w w' lay lay' p limit stay part outer core.below s.stands.frame s.around
-        (omega (arith, entries.own_low tree code texts nested short w lay img p q part outer bound core s slot next waiting h j begin e))
+        (omega (arith, entries.own_low tree code texts nested short w lay img p q part outer bound core s values slot next waiting h j begin e))
 
     here : instance_at w i ≡ instance_at w' i
     here = sym (same_instance tree code texts w w' lay lay' p limit stay part outer core s.stands s.around all_low i (inl refl))
@@ -228,10 +266,10 @@ module _ (tree : PProgram) (code : Code) (texts : ℕ → List Placed) (nested :
     -- ---- the core in the frame
 
     abbrev more : List Word
-    more = entries.more tree code texts nested short w lay img p q part outer bound core s slot next waiting h j begin e
+    more = entries.more tree code texts nested short w lay img p q part outer bound core s values slot next waiting h j begin e
 
     abbrev df : ℕ
-    df = entries.df tree code texts nested short w lay img p q part outer bound core s slot next waiting h j begin e
+    df = entries.df tree code texts nested short w lay img p q part outer bound core s values slot next waiting h j begin e
 
     abbrev home : Place
     home = place p e.linked.at
@@ -249,39 +287,43 @@ module _ (tree : PProgram) (code : Code) (texts : ℕ → List Placed) (nested :
     control = control_word core.registers next inner_level
 
     abbrev new : Core
-    new = entries.new tree code texts nested short w lay img p q part outer bound core s slot next waiting h j begin e
+    new = entries.new tree code texts nested short w lay img p q part outer bound core s values slot next waiting h j begin e
 
     level_is : inner_level ≡ length frames + 2
-    level_is = omega (arith, entries.level_is tree code texts nested short w lay img p q part outer bound core s slot next waiting h j begin e)
+    level_is = omega (arith, entries.level_is tree code texts nested short w lay img p q part outer bound core s values slot next waiting h j begin e)
 
     new_core : IsCore new
-    new_core = entries.new_core tree code texts nested short w lay img p q part outer bound core s slot next waiting h j begin e
+    new_core = entries.new_core tree code texts nested short w lay img p q part outer bound core s values slot next waiting h j begin e
 
-    new_long : length new.below ≡ at + 2
-    new_long = length-append lower (mark ∷ control ∷ [])
+    new_long : length new.below ≡ at + 2 + length taken
+    new_long = length-append lower (mark ∷ control ∷ taken) ∙ omega arith
 
     more_long : at ≡ length core.below + length more
     more_long = length-stack core.below more
 
     abbrev bound' : ℕ
-    bound' = at + 2 + (many + length segments) + most_around tree j
+    bound' = at + 2 + length taken + (many + length segments) + most_around tree j
 
-    g : Begins sc code ps inner_level bound' many segments body.start new
+    g : Begins sc [] code ps inner_level bound' many segments body.start new
     g =
-        begins sc (context_of code sc j) code ps inner_level bound' many segments begin body.start new body.cells_at
-        (entries.core_at tree code texts nested short w lay img p q part outer bound core s slot next waiting h j begin e) (omega (arith, few_cells)) (omega (arith, new_long))
+        begins sc [] (context_of code sc j) code ps inner_level bound' many segments begin body.start new body.cells_at
+        (entries.core_at tree code texts nested short w lay img p q part outer bound core s values slot next waiting h j begin e) (omega (arith, few_cells, as_given)) (omega (arith, new_long))
 
     -- ---- its frame
 
     home_there : home_of sc w' lay' h ≡ Some home
     home_there = by_number h (stay.places h home e.linked.laid)
       where
-        by_number : (k : ℕ) → numbered lay' k ≡ Some home → home_of sc w' lay' k ≡ Some home
+        by_number : (k : ℕ) → numbered lay'.places k ≡ Some home → home_of sc w' lay' k ≡ Some home
         by_number zero e = none_some e
         by_number (suc k) e = e
 
     around_now : around sc.blocks j ≡ (instance_at w' h).block ∷ around sc.blocks (instance_at w' h).block
     around_now = subst (λ (x : Instance). around sc.blocks j ≡ x.block ∷ around sc.blocks x.block) parent_here e.around_is
+
+    complete_now : IsComplete sc w' lay' h
+    complete_now =
+        subst (λ (x : Instance). length x.cells ≡ length (simple_cells sc (block_numbered sc.blocks x.block)) + length (arrays_of (block_numbered sc.blocks x.block).decls)) parent_here e.complete
 
     abbrev framed : Framed sc w' lay' p n (part' ∷ outer) (length lower) mark control cells
     framed =
@@ -291,20 +333,29 @@ module _ (tree : PProgram) (code : Code) (texts : ℕ → List Placed) (nested :
           own = refl;
           known = e.known;
           laid = made_laid;
-          values = zeros;
-          cells_are = cells_are;
-          cells_is = refl;
-          placed = inside e.own_parent around_now;
+          stands = refl;
+          simple = fresh_cells b given;
+          values = taken ++ zeros;
+          simple_are = cells_are;
+          arrays = [];
+          declared = [];
+          later = arrays_of b.decls;
+          order = refl;
+          descriptors = [];
+          made = subst (λ (as' : List Allotted). AreMade [] [] as' []) (sym (rows_there lay.rows n [] n refl)) tt;
+          has = sym (append-nil (fresh_cells b given));
+          cells_is = ap (λ (ws : List Word). (taken ++ zeros) ++ ws) (sym (append-nil (control_words inner_level segments)));
+          placed = inside e.own_parent around_now complete_now;
           home = home;
           linked = home_there;
           df = df;
-          mark_is = entries.mark_reads tree code texts nested short w lay img p q part outer bound core s slot next waiting h j begin e;
-          back = entries.back tree code texts nested short w lay img p q part outer bound core s slot next waiting h j begin e;
-          control_is = entries.control_reads tree code texts nested short w lay img p q part outer bound core s slot next waiting h j begin e;
+          mark_is = entries.mark_reads tree code texts nested short w lay img p q part outer bound core s values slot next waiting h j begin e;
+          back = entries.back tree code texts nested short w lay img p q part outer bound core s values slot next waiting h j begin e;
+          control_is = entries.control_reads tree code texts nested short w lay img p q part outer bound core s values slot next waiting h j begin e;
           level_is = refl;
         }
 
-    text_in_block : InRest (IsSeen sc j) (IsInner sc j) inner.rest
+    text_in_block : KeepsToText sc j inner.rest
     text_in_block = block_keeps sc j keeps is_text
 
     abbrev frame_in : Frame tree code texts w' lay' p inner (part' ∷ outer) g.core.below
@@ -315,9 +366,11 @@ module _ (tree : PProgram) (code : Code) (texts : ℕ → List Placed) (nested :
           mark = mark;
           control = control;
           cells = cells;
-          words_are = g.below ∙ append_assoc lower (mark ∷ control ∷ []) cells;
+          words_are = g.below ∙ append_assoc lower (mark ∷ control ∷ taken) (zeros ++ control_words inner_level segments)
+              ∙ ap (λ (ws : List Word). lower ++ mark ∷ control ∷ ws) (sym (append_assoc taken zeros (control_words inner_level segments)));
           framed = framed;
-          text = subst (λ (k : ℕ). InRest (IsSeen sc k) (IsInner sc k) inner.rest) (sym block_in) text_in_block;
+          text = subst (λ (k : ℕ). KeepsToText sc k inner.rest) (sym block_in) text_in_block;
+          making = sym (block_makes sc j order is_text);
         }
 
     abbrev frame_around : Frame tree code texts w' lay' p part' outer core.below
@@ -331,6 +384,7 @@ module _ (tree : PProgram) (code : Code) (texts : ℕ → List Placed) (nested :
           words_are = still.frame.words_are;
           framed = still.frame.framed;
           text = keeps.resumed sc ((instance_at w' i).block) part.rest entered still.frame.text tt;
+          making = still.frame.making ∙ sym behind.unmade ∙ sym (order.resumed sc ((instance_at w' i).block) part.rest entered still.frame.text);
         }
 
     -- ---- what waits
@@ -342,12 +396,15 @@ module _ (tree : PProgram) (code : Code) (texts : ℕ → List Placed) (nested :
         ComesTo sc (context_of code sc x.block) (texts (segment_of sc.blocks x.block)) (level_of (block_numbered sc.blocks x.block)) (most_around tree x.block) (resume sc part'.rest a) next (pushed a waiting)) here
         behind.returns
 
-    words_now : SlotsAre sc (level_in tree w' part') (length still.frame.lower) (length core.below) waiting more
+    words_now : SlotsAre sc s.stands.held (level_in tree w' part') (length still.frame.lower) (length core.below) waiting more
     words_now =
-        subst (λ (x : Instance). SlotsAre sc (level_of (block_numbered sc.blocks x.block)) (length still.frame.lower) (length core.below) waiting more) here
-        (subst (λ (k : ℕ). SlotsAre sc level k (length core.below) waiting more)
-        (entries.own_is tree code texts nested short w lay img p q part outer bound core s slot next waiting h j begin e ∙ same_lower)
-        (entries.second tree code texts nested short w lay img p q part outer bound core s slot next waiting h j begin e).are)
+        subst (λ (x : Instance). SlotsAre sc s.stands.held (level_of (block_numbered sc.blocks x.block)) (length still.frame.lower) (length core.below) waiting more) here
+        (subst (λ (k : ℕ). SlotsAre sc s.stands.held level k (length core.below) waiting more)
+        (entries.own_is tree code texts nested short w lay img p q part outer bound core s values slot next waiting h j begin e ∙ same_lower)
+        (entries.second tree code texts nested short w lay img p q part outer bound core s values slot next waiting h j begin e).are)
+
+    known_now : AreKnown sc w' lay' i level s.stands.held
+    known_now = known_stays tree code texts w w' lay lay' p limit stay part outer core s.stands s.around all_low s.stands.held s.stands.held_are
 
     weight_before : weight tree w p ≡ parts_weight tree w' (part' ∷ outer)
     weight_before =
@@ -355,7 +412,7 @@ module _ (tree : PProgram) (code : Code) (texts : ℕ → List Placed) (nested :
         ∙ sym (parts_weigh tree code texts w w' lay lay' p limit stay part outer core s.stands s.around all_low)
 
     few_waiting : length waiting + 2 ≤ most_in tree w part
-    few_waiting = omega (arith, ap length e.lies, s.stands.few)
+    few_waiting = omega (arith, ap length e.lies, operands_many values (slot ∷ marks.mark ∷ waiting), s.stands.few)
 
     abbrev waits_now : Waits tree code texts w' lay' p part' outer lower mark control b.result
     waits_now =
@@ -369,13 +426,15 @@ module _ (tree : PProgram) (code : Code) (texts : ℕ → List Placed) (nested :
           slots = waiting;
           returns = returns_now;
           few = subst (λ (x : Instance). length waiting + 1 ≤ most_around tree x.block) here (omega (arith, few_waiting));
+          held = s.stands.held;
+          held_are = subst (λ (x : Instance). AreKnown sc w' lay' i (level_of (block_numbered sc.blocks x.block)) s.stands.held) here known_now;
           words_are = words_now;
           home = home;
           df = df;
-          mark_is = entries.mark_reads tree code texts nested short w lay img p q part outer bound core s slot next waiting h j begin e;
-          far = ap (λ (k : ℕ). df + newest k (length core.below) waiting) (sym same_lower) ∙ entries.far tree code texts nested short w lay img p q part outer bound core s slot next waiting h j begin e;
-          back = entries.back tree code texts nested short w lay img p q part outer bound core s slot next waiting h j begin e;
-          control_is = entries.control_reads tree code texts nested short w lay img p q part outer bound core s slot next waiting h j begin e;
+          mark_is = entries.mark_reads tree code texts nested short w lay img p q part outer bound core s values slot next waiting h j begin e;
+          far = ap (λ (k : ℕ). df + newest k (length core.below) waiting) (sym same_lower) ∙ entries.far tree code texts nested short w lay img p q part outer bound core s values slot next waiting h j begin e;
+          back = entries.back tree code texts nested short w lay img p q part outer bound core s values slot next waiting h j begin e;
+          control_is = entries.control_reads tree code texts nested short w lay img p q part outer bound core s values slot next waiting h j begin e;
           segment_is = s.stands.segment_is ∙ ap (λ (x : Instance). segment_of sc.blocks x.block) here;
           place_is = omega arith;
           level_is = s.stands.there.level_is ∙ ap (λ (x : Instance). level_of (block_numbered sc.blocks x.block)) here;
@@ -388,20 +447,20 @@ module _ (tree : PProgram) (code : Code) (texts : ℕ → List Placed) (nested :
 
     -- ---- the new part goes on
 
-    cells_in : length ((instance_at w' n).cells) ≡ many
+    cells_in : length ((instance_at w' n).cells) ≡ length taken + many
     cells_in =
         ap (λ (o : Option Instance). length ((or_no_instance o).cells)) made_there
-        ∙ cells_length (simple_cells b) (fresh_cells b []) zeros cells_are
-        ∙ simple_many
+        ∙ cells_length (simple_cells sc b) (fresh_cells b given) (taken ++ zeros) cells_are
+        ∙ all_many
 
     more_few : length more + 2 ≤ most_in tree w part
-    more_few = omega (arith, entries.as_many tree code texts nested short w lay img p q part outer bound core s slot next waiting h j begin e, few_waiting)
+    more_few = omega (arith, entries.as_many tree code texts nested short w lay img p q part outer bound core s values slot next waiting h j begin e, few_waiting)
 
-    inner_weight : part_weight tree w' inner ≡ 8 + many + 4 * tokens_around tree j
+    inner_weight : part_weight tree w' inner ≡ 8 + (length taken + many) + 4 * tokens_around tree j
     inner_weight =
         ap (λ (t : Bool). 8 + (if t then 0 else length ((instance_at w' n).cells)) + 4 * tokens_around tree ((instance_at w' n).block)) owns
         ∙ ap (λ (k : ℕ). 8 + k + 4 * tokens_around tree ((instance_at w' n).block)) cells_in
-        ∙ ap (λ (k : ℕ). 8 + many + 4 * tokens_around tree k) block_in
+        ∙ ap (λ (k : ℕ). 8 + (length taken + many) + 4 * tokens_around tree k) block_in
 
     light' : bound' + 3 ≤ weight tree w' p
     light' =
@@ -418,11 +477,11 @@ module _ (tree : PProgram) (code : Code) (texts : ℕ → List Placed) (nested :
           more_long,
         )
 
-    each_now : (up : ℕ) → up < length frames → slice_get frames up ≡ numbered lay' (ancestor w' up ((instance_at w' n).parent))
+    each_now : (up : ℕ) → up < length frames → slice_get frames up ≡ numbered lay'.places (ancestor w' up ((instance_at w' n).parent))
     each_now up under =
         all_each sc w lay img.stacks p h e.linked up under
         ∙ sym (same_place tree code texts w w' lay lay' p limit stay part outer core s.stands s.around all_low h e.own_parent up high)
-        ∙ ap (λ (o : Option Instance). numbered lay' (ancestor w' up ((or_no_instance o).parent))) (sym made_there)
+        ∙ ap (λ (o : Option Instance). numbered lay'.places (ancestor w' up ((or_no_instance o).parent))) (sym made_there)
       where
         high : up + OUTER_LEVEL ≤ level_of (block_numbered sc.blocks ((instance_at w h).block))
         high = omega (arith, under, level_is, level_around sc.blocks j, ap length e.around_is, level_around sc.blocks ((instance_at w h).block))
@@ -431,10 +490,10 @@ module _ (tree : PProgram) (code : Code) (texts : ℕ → List Placed) (nested :
     has_here = has_now img p core new s.has refl new_core
 
     new_small : size new ≤ stack_limit
-    new_small = omega (arith, new_long, entries.room tree code texts nested short w lay img p q part outer bound core s slot next waiting h j begin e, more_long)
+    new_small = omega (arith, new_long, entries.room tree code texts nested short w lay img p q part outer bound core s values slot next waiting h j begin e, more_long, as_given)
 
-    cells_counted : 0 + (many + length segments) ≡ length cells
-    cells_counted = omega (arith, cells_many)
+    cells_counted : length arguments + (many + length segments) ≡ length cells
+    cells_counted = omega (arith, cells_many, as_given)
 
     living_now : Living tree code texts w' lay' (with_core img p new) p q'
     living_now =
@@ -457,26 +516,29 @@ module _ (tree : PProgram) (code : Code) (texts : ℕ → List Placed) (nested :
           segment_is = ap (λ (r : Registers). r.segment) g.registers ∙ ap (segment_of sc.blocks) (sym block_in);
           pc = body.start;
           slots = [];
-          at = subst (λ (k : ℕ). CoreAt sc code (texts (segment_of sc.blocks k)) (level_of (block_numbered sc.blocks k)) body.start [] g.core) (sym block_in) g.at;
+          known = [];
+          known_are = tt;
+          at = subst (λ (k : ℕ). CoreAt sc [] code (texts (segment_of sc.blocks k)) (level_of (block_numbered sc.blocks k)) body.start [] g.core) (sym block_in) g.at;
           held = omega arith;
           comes = subst (λ (k : ℕ). ComesTo sc (context_of code sc k) (texts (segment_of sc.blocks k)) (level_of (block_numbered sc.blocks k)) (most_around tree k) inner.rest body.start []) (sym block_in) body.comes;
-          room = subst (λ (k : ℕ). length g.core.below + most_around tree k ≤ bound') (sym block_in) (omega (arith, ap length g.below, length-append new.below cells, new_long, cells_many));
+          room = subst (λ (k : ℕ). length g.core.below + most_around tree k ≤ bound') (sym block_in) (omega (arith, ap length frame_in.words_are, length-append lower (mark ∷ control ∷ cells), cells_many));
           light = light';
         })
 
     pictured : PicturesBy tree code texts w' lay' (with_core img p new)
     pictured =
-        goes_on tree code texts w lay img s.by p q s.at w' lay' (with_core img p new) q' refl able_is (omega (arith, length-append lay (place p at ∷ []), length-append w.instances (made ∷ []), s.by.laid))
-        alike s.by.output refl refl refl refl (system_stays img p core new s.has refl q w s.at) able_p (others_have img p core new s.has refl) living_now
+        goes_on tree code texts w lay img s.by p q s.at w' lay' (with_core img p new) q' refl able_is (omega (arith, length-append lay.places (place p at ∷ []), length-append w.instances (made ∷ []), s.by.laid))
+        (arrays_joined sc w w' lay lay' made refl (no_elements (simple_cells sc b) (fresh_cells b given) (taken ++ zeros) cells_are) (no_rows (simple_cells sc b) (fresh_cells b given) (taken ++ zeros) cells_are) (λ k. refl)
+        img.rows s.by.arrays) alike s.by.output refl refl refl refl (system_stays img p core new s.has refl q w s.at) able_p (others_have img p core new s.has refl) living_now
 
     table_is : table code img p ≡ outcomes.gives (with_core img p new)
     table_is =
-        gives_within code img (with_core img p new) p new.registers (entries.entry_raw tree code texts nested short w lay img p q part outer bound core s slot next waiting h j begin e) has_here.registers
+        gives_within code img (with_core img p new) p new.registers (entries.entry_raw tree code texts nested short w lay img p q part outer bound core s values slot next waiting h j begin e) has_here.registers
         (omega (arith, s.has.is.top, s.small))
 
     -- where the choice is the entry, the operator does it
     pub entering : choice sc w p ≡ record { action = Enter; world = w'; released = []; started = None } → Does tree code texts w img p
     entering chosen =
-        gave (with_core img p new) (entries.entry_not_plain tree code texts nested short w lay img p q part outer bound core s slot next waiting h j begin e) table_is
-        (entries.entry_action tree code texts nested short w lay img p q part outer bound core s slot next waiting h j begin e table_is ∙ ap (λ (x : Choice). Some x.action) (sym chosen))
+        gave (with_core img p new) (entries.entry_not_plain tree code texts nested short w lay img p q part outer bound core s values slot next waiting h j begin e) table_is
+        (entries.entry_action tree code texts nested short w lay img p q part outer bound core s values slot next waiting h j begin e table_is ∙ ap (λ (x : Choice). Some x.action) (sym chosen))
         (subst (λ (x : Choice). Pictures tree code texts x.world (with_core img p new)) (sym chosen) (lay', pictured))

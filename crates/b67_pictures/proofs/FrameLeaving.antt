@@ -11,12 +11,13 @@ use Rattle.algol_tree.specs.Scopes.{Scopes, scopes_of}
 use Rattle.algol_meaning.specs.Value.{Value}
 use Rattle.algol_meaning.specs.Rest.{Answer, done, value}
 use Rattle.algol_meaning.specs.World.{Instance, Process, Part, able, World, instance_at, or_no_instance, ancestor}
+use Rattle.algol_meaning.specs.Instances.{leave}
 use Rattle.algol_meaning.specs.Actions.{Leave}
 use Rattle.algol_meaning.specs.Asks.{Ask, leaves, ask, resume}
 use Rattle.algol_meaning.specs.Choice.{Choice, choice, choice_of, left_with, left_or_ended, fails}
 use Rattle.algol_meaning.specs.Critical.{some_depends}
 use Rattle.algol_paths.specs.Blocks.{IsSeen}
-use Rattle.algol_paths.specs.Laws.{RestsKeepToTheirText}
+use Rattle.algol_paths.specs.Laws.{RestsKeepToTheirText, ArraysAreMadeInOrder}
 use Rattle.algol_paths.specs.Segments.{segment_of}
 use Rattle.algol_paths.specs.Texts.{InAnswer}
 use Rattle.b67_word.specs.declared.Place.{Place}
@@ -25,7 +26,7 @@ use Rattle.b67_control.specs.Control.{as_mscw, as_rcw}
 use Rattle.b67_control.specs.Display.{place_at}
 use Rattle.b67_segment.specs.Operators.{Placed}
 use Rattle.b67_segment.specs.declared.code.Code.{Code}
-use Rattle.b67_store.specs.Store.{stack_limit}
+use Rattle.b67_store.specs.Store.{Rows, stack_limit}
 use Rattle.b67_table.specs.declared.Below.{Below}
 use Rattle.b67_table.specs.declared.ProcessState.TheVariants.{Able}
 use Rattle.b67_table.specs.Chains.{place, left_to, rebuilt}
@@ -45,18 +46,20 @@ use Rattle.b67_cores.proofs.Moving.{slots_length}
 use Rattle.b67_faithful.specs.Correspondence.{operator_action}
 use Rattle.b67_faithful.specs.Weight.{weight}
 use Rattle.b67_faithful.proofs.Contradictions.{some_same}
+use Rattle.b67_pictures.specs.Arrays.{Layout, ArraysAre, AreKnown}
 use Rattle.b67_pictures.specs.Acting.{Does, gave}
 use Rattle.b67_pictures.specs.Frames.{most_around, Frame, Waits}
 use Rattle.b67_pictures.specs.Pictures.{Living, Pictures, PicturesBy}
+use Rattle.b67_pictures.proofs.ArraysKept.{arrays_unchanged}
+use Rattle.b67_pictures.proofs.Closing.{IsClosed, FramesClose}
 use Rattle.b67_pictures.proofs.Cored.{has_now, others_have, system_stays}
 use Rattle.b67_pictures.proofs.Displays.{IsEntered, entered_to, shown, shown_top, rebuilt_seen}
-use Rattle.b67_pictures.proofs.ExitRow.{DescribeNothing, frame_describes_nothing}
 use Rattle.b67_pictures.proofs.Independent.{none_critical, none_dependent}
 use Rattle.b67_pictures.proofs.Kept.{AreAlike, alike_but}
 use Rattle.b67_pictures.proofs.Landing.{steps_none, living_of}
 use Rattle.b67_pictures.proofs.LeaveRow.{Leaves, given_words, without_frame, after, outer_is}
 use Rattle.b67_pictures.proofs.Linked.{Linked, Begins_with, begins_front, begins_core, mark_there, control_there, around_linked, frame_linked, shown_chained}
-use Rattle.b67_pictures.proofs.Lying.{StayBelow}
+use Rattle.b67_pictures.proofs.Lying.{StayBelow, known_after}
 use Rattle.b67_pictures.proofs.Marks.{Above, left_seen}
 use Rattle.b67_pictures.proofs.Numbers.{numbered_set, length_set_numbered}
 use Rattle.b67_pictures.proofs.Parting.{IsSameBut, parted, same_but, same_ancestors, others_stay}
@@ -65,14 +68,15 @@ use Rattle.b67_pictures.proofs.Spelled.{HasText, HaveTexts}
 use Rattle.b67_pictures.proofs.StackWords.{length-stack}
 use Rattle.b67_pictures.proofs.Stage.{choice_is, gives_within, goes_on, weight_of}
 use Rattle.b67_pictures.proofs.Staying.{text_in, level_in, most_in, wanted_in, FrameStill, frame_still, frame_low, same_weight}
+use Rattle.b67_pictures.proofs.Unmade.{makes, unmade}
 
 -- what a part gives, and the word of it
 pub data IsGiven : Answer → Option Word → Type 0 where
   nothing_given : IsGiven done None
   value_given : (v : Value) (x : Word) → ValueIs v x → IsGiven (value v) (Some x)
 
-module _ (tree : PProgram) (code : Code) (texts : ℕ → List Placed) (stand : HaveTexts tree code texts) (fragments : FragmentsArePerformed) (keeps : RestsKeepToTheirText)
-    (w : World) (lay : List Place) (img : Image) (p : ℕ) (q : Process) (part next : Part) (parts : List Part) (bound : ℕ) (core : Core)
+module _ (tree : PProgram) (code : Code) (texts : ℕ → List Placed) (stand : HaveTexts tree code texts) (fragments : FragmentsArePerformed) (keeps : RestsKeepToTheirText) (order : ArraysAreMadeInOrder) (closing : FramesClose)
+    (w : World) (lay : Layout) (img : Image) (p : ℕ) (q : Process) (part next : Part) (parts : List Part) (bound : ℕ) (core : Core)
     (s : Scene tree code texts w lay img p q part (next ∷ parts) bound core) (able_is : q.state ≡ able) (able_p : numbered img.states p ≡ Some Able) where
   abbrev sc : Scopes
   sc = scopes_of tree
@@ -102,7 +106,7 @@ module _ (tree : PProgram) (code : Code) (texts : ℕ → List Placed) (stand : 
   low = frame_low tree code texts w lay p next parts u.below u.frame
 
   many : length u.words ≡ length u.slots
-  many = slots_length sc (level_in tree w next) home (length u.below) u.slots u.words u.words_are
+  many = slots_length sc u.held (level_in tree w next) home (length u.below) u.slots u.words u.words_are
 
   height : f ≡ length u.below + length u.words
   height = same_f ∙ length-stack u.below u.words
@@ -161,7 +165,7 @@ module _ (tree : PProgram) (code : Code) (texts : ℕ → List Placed) (stand : 
 
   left_there : seen img.stacks (left_to (place p f)) ≡ Ok b
   left_there =
-      left_seen sc (level_in tree w next) img.stacks p home u.below u.words above f (entered_to u.home u.df)
+      left_seen sc u.held (level_in tree w next) img.stacks p home u.below u.words above f (entered_to u.home u.df)
       (ap (read_as as_mscw) (mark_there tree code texts w lay p img.stacks part (next ∷ parts) core.below s.stands.frame begins) ∙ u.mark_is) u.back
       (ap (read_as as_rcw) (control_there tree code texts w lay p img.stacks part (next ∷ parts) core.below s.stands.frame begins) ∙ u.control_is)
       u.slots u.words_are (omega (arith, height, many, top, s.small)) u.far (omega (arith, u.cells_are, low, height))
@@ -174,9 +178,9 @@ module _ (tree : PProgram) (code : Code) (texts : ℕ → List Placed) (stand : 
       rebuilt_seen (place p home) l.home l.more u.back.caller_level
       (subst (λ (n : ℕ). IsEntered img.stacks (place p home) l.home n) (sym (u.level_is ∙ level_is)) entered_home) l.links (u.level_is ∙ level_is)
 
-  cells_plain : DescribeNothing s.stands.frame.cells
-  cells_plain =
-      frame_describes_nothing sc w lay p i (next ∷ parts) f s.stands.frame.mark s.stands.frame.control s.stands.frame.cells s.stands.frame.framed
+  -- the arrays of the instance are closed
+  pub shut : IsClosed sc w lay img i s.stands.frame.cells
+  shut = closing sc w lay img s.by.arrays p i (next ∷ parts) f s.stands.frame.mark s.stands.frame.control s.stands.frame.cells s.stands.frame.framed
 
   pub e : Leaves img core u.below u.words s.stands.frame.mark s.stands.frame.control s.stands.frame.cells b display
   e =
@@ -185,11 +189,16 @@ module _ (tree : PProgram) (code : Code) (texts : ℕ → List Placed) (stand : 
         some = omega (arith, same_f, height, low);
         frame_is = frame_is tree code texts w lay img p q part (next ∷ parts) bound core s ∙ same_f;
         counted = s.stands.counted;
-        plain_cells = cells_plain;
+        rows = shut.rows;
+        closed = shut.changes;
         left_to = subst (λ (n : ℕ). seen img.stacks (left_to (place n f')) ≡ Ok b) (sym s.has.own) (subst (λ (n : ℕ). seen img.stacks (left_to (place p n)) ≡ Ok b) same_f left_there);
         rebuilt = subst (λ (n : ℕ). seen img.stacks (rebuilt (place n home) u.back.caller_level) ≡ Ok display) (sym s.has.own) rebuilt_there;
         free = none_critical tree code texts w lay img s.by;
       }
+
+  rows_are : e.rows ≡ shut.rows
+  unfolding e
+  rows_are = refl
 
   own_is : numbered w.instances i ≡ Some s.stands.frame.framed.instance
   own_is = s.stands.frame.framed.is
@@ -213,10 +222,10 @@ module _ (tree : PProgram) (code : Code) (texts : ℕ → List Placed) (stand : 
         by_given a o nothing_given = tt
         by_given a o (value_given v x is) = tt
 
-    words_are : SlotsAre sc (level_in tree w next) home (length u.below) slots words
+    words_are : SlotsAre sc u.held (level_in tree w next) home (length u.below) slots words
     words_are = by_given r given g
       where
-        by_given : (a : Answer) (o : Option Word) → IsGiven a o → SlotsAre sc (level_in tree w next) home (length u.below) (pushed a u.slots) (given_words o ++ u.words)
+        by_given : (a : Answer) (o : Option Word) → IsGiven a o → SlotsAre sc u.held (level_in tree w next) home (length u.below) (pushed a u.slots) (given_words o ++ u.words)
         by_given a o nothing_given = u.words_are
         by_given a o (value_given v x is) = (is, u.words_are)
 
@@ -235,7 +244,7 @@ module _ (tree : PProgram) (code : Code) (texts : ℕ → List Placed) (stand : 
         by_given a o (value_given v x is) = omega arith
 
     few : length slots ≤ most_in tree w next
-    few = omega (arith, slots_length sc (level_in tree w next) home (length u.below) slots words words_are, many, one_more, u.few)
+    few = omega (arith, slots_length sc u.held (level_in tree w next) home (length u.below) slots words words_are, many, one_more, u.few)
 
     -- ---- the world
 
@@ -258,11 +267,12 @@ module _ (tree : PProgram) (code : Code) (texts : ℕ → List Placed) (stand : 
         record {
           instances = λ j at x there own laid under. others_stay w p q' i s.stands.frame.framed.instance own_is j (λ (same : i ≡ j). lower j at laid under same) ∙ there;
           places = λ j x there. there;
+          rows = λ j at x there own laid under. refl;
         }
       where
-        lower : (j at : ℕ) → numbered lay j ≡ Some (place p at) → at < f → i ≡ j → ⊥
+        lower : (j at : ℕ) → numbered lay.places j ≡ Some (place p at) → at < f → i ≡ j → ⊥
         lower j at laid under same =
-            let k : f ≡ at = ap (λ (x : Place). x.at) (some_same (sym s.stands.frame.framed.laid ∙ ap (numbered lay) same ∙ laid)) in
+            let k : f ≡ at = ap (λ (x : Place). x.at) (some_same (sym s.stands.frame.framed.laid ∙ ap (numbered lay.places) same ∙ laid)) in
             absurd (omega (arith, k, under))
 
     still : FrameStill tree code texts w w' lay lay p f stay next parts u.below u.frame.cells
@@ -273,6 +283,10 @@ module _ (tree : PProgram) (code : Code) (texts : ℕ → List Placed) (stand : 
 
     block_now : (instance_at w next.instance).block ≡ (instance_at w' next.instance).block
     block_now = sym (same_now next.instance).block
+
+    -- what is known of descriptors holds as it did
+    known_now : AreKnown sc w' lay next.instance (level_in tree w next) u.held
+    known_now = known_after tree code texts w w' lay lay p f stay next parts u.below u.frame s.around.1 (omega (arith, low, height)) u.held u.held_are
 
     -- ---- the part around goes on
 
@@ -307,7 +321,7 @@ module _ (tree : PProgram) (code : Code) (texts : ℕ → List Placed) (stand : 
       abbrev text : HasText code texts (segment_of sc.blocks ((instance_at w next.instance).block))
       text = stand ((instance_at w next.instance).block)
 
-      core_at : CoreAt sc code (text_in tree texts w next) (level_in tree w next) u.pc slots new
+      core_at : CoreAt sc u.held code (text_in tree texts w next) (level_in tree w next) u.pc slots new
       core_at =
           record {
             segment = text.segment;
@@ -317,15 +331,15 @@ module _ (tree : PProgram) (code : Code) (texts : ℕ → List Placed) (stand : 
             place_is = u.place_is;
             is = is_core;
             mark_is = same_newest ∙ ap (λ (n : ℕ). newest n (length u.below) slots) (sym frame_now);
-            words_are = subst (λ (n : ℕ). SlotsAre sc (level_in tree w next) n (length u.below) slots words) (sym frame_now) words_are;
+            words_are = subst (λ (n : ℕ). SlotsAre sc u.held (level_in tree w next) n (length u.below) slots words) (sym frame_now) words_are;
           }
 
-      each_now : (up : ℕ) → up < length l.more → slice_get l.more up ≡ numbered lay (ancestor w' up ((instance_at w' next.instance).parent))
+      each_now : (up : ℕ) → up < length l.more → slice_get l.more up ≡ numbered lay.places (ancestor w' up ((instance_at w' next.instance).parent))
       each_now up under =
           l.each up under
-          ∙ ap (λ (o : Option Instance). numbered lay (ancestor w up ((or_no_instance o).parent))) (sym l.is)
-          ∙ ap (λ (j : ℕ). numbered lay j) (sym (same_ancestors w p q' i s.stands.frame.framed.instance own_is up ((instance_at w next.instance).parent)))
-          ∙ ap (λ (j : ℕ). numbered lay (ancestor w' up j)) (sym (same_now next.instance).parent)
+          ∙ ap (λ (o : Option Instance). numbered lay.places (ancestor w up ((or_no_instance o).parent))) (sym l.is)
+          ∙ ap (λ (j : ℕ). numbered lay.places j) (sym (same_ancestors w p q' i s.stands.frame.framed.instance own_is up ((instance_at w next.instance).parent)))
+          ∙ ap (λ (j : ℕ). numbered lay.places (ancestor w' up j)) (sym (same_now next.instance).parent)
 
       abbrev frame_there : Frame tree code texts w' lay p part' parts u.below
       frame_there =
@@ -338,6 +352,7 @@ module _ (tree : PProgram) (code : Code) (texts : ℕ → List Placed) (stand : 
             words_are = still.frame.words_are;
             framed = still.frame.framed;
             text = keeps.resumed sc ((instance_at w' next.instance).block) next.rest r still.frame.text (nameless (IsSeen sc ((instance_at w' next.instance).block)));
+            making = still.frame.making ∙ sym (unmade next.rest (ap makes u.waits)) ∙ sym (order.resumed sc ((instance_at w' next.instance).block) next.rest r still.frame.text);
           }
 
       abbrev bound' : ℕ
@@ -361,7 +376,7 @@ module _ (tree : PProgram) (code : Code) (texts : ℕ → List Placed) (stand : 
             sees = refl;
             small = smaller;
             begun = 0;
-            begins = steps_none sc code (text_in tree texts w next) (level_in tree w next) (most_in tree w next) bound' u.pc slots new core_at few (omega arith);
+            begins = steps_none sc u.held code (text_in tree texts w next) (level_in tree w next) (most_in tree w next) bound' u.pc slots new core_at few (omega arith);
             frame = frame_there;
             around = still.around;
             counted = u.cells_are ∙ sym (ap length still.cells_are);
@@ -369,7 +384,9 @@ module _ (tree : PProgram) (code : Code) (texts : ℕ → List Placed) (stand : 
             segment_is = u.segment_is ∙ ap (segment_of sc.blocks) block_now;
             pc = u.pc;
             slots = slots;
-            at = subst (λ (j : ℕ). CoreAt sc code (texts (segment_of sc.blocks j)) (level_of (block_numbered sc.blocks j)) u.pc slots new) block_now core_at;
+            known = u.held;
+            known_are = subst (λ (j : ℕ). AreKnown sc w' lay next.instance (level_of (block_numbered sc.blocks j)) u.held) block_now known_now;
+            at = subst (λ (j : ℕ). CoreAt sc u.held code (texts (segment_of sc.blocks j)) (level_of (block_numbered sc.blocks j)) u.pc slots new) block_now core_at;
             held = subst (λ (j : ℕ). length slots ≤ most_around tree j) block_now few;
             comes = subst (λ (j : ℕ). ComesTo sc (context_of code sc j) (texts (segment_of sc.blocks j)) (level_of (block_numbered sc.blocks j)) (most_around tree j) (resume sc next.rest r) u.pc slots) block_now
                 (u.returns r gives_it);
@@ -379,7 +396,8 @@ module _ (tree : PProgram) (code : Code) (texts : ℕ → List Placed) (stand : 
 
       pictured : PicturesBy tree code texts w' lay now
       pictured =
-          goes_on tree code texts w lay img s.by p q s.at w' lay now q' refl able_is (s.by.laid ∙ sym (length_set_numbered w.instances i (record (instance_at w i) { left = true }))) alike
+          goes_on tree code texts w lay img s.by p q s.at w' lay now q' refl able_is (s.by.laid ∙ sym (length_set_numbered w.instances i (record (instance_at w i) { left = true })))
+          (subst (λ (rows : Rows). ArraysAre sc w' lay rows) (sym rows_are) (arrays_unchanged sc (leave w (i ∷ [])) w' lay shut.rows refl shut.are)) alike
           s.by.output refl refl refl refl (system_stays img p core new s.has refl q w s.at) able_p others living_now
 
       chosen : ask part.rest ≡ leaves r → choice sc w p ≡ record { action = Leave; world = w'; released = []; started = None }

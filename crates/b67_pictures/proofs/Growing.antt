@@ -3,7 +3,6 @@ use Rattle.std.proofs.Common.{◌≡◌, sym, ap, ◌∙◌, ℕ, zero, suc, ◌
 use Rattle.b67_list.specs.Numbered.{numbered}
 use Rattle.algol_tree.specs.declared.tree.Kind.{Kind}
 use Rattle.algol_tree.specs.Blocks.{Block}
-use Rattle.algol_meaning.specs.Rest.{Item}
 use Rattle.algol_meaning.specs.Statements.{items, items_of, decls_items, ending}
 use Rattle.b67_ops.specs.declared.Operator.{Operator}
 use Rattle.b67_ops.specs.Spelling.{spelling}
@@ -51,8 +50,6 @@ next_within ps segment at level op next spells stands =
 
 -- ---- what a block has to do
 
--- where no declaration is made by an action, and the block has no result, it has its statements to do
-pub plain_items : (b : Block) → decls_items b.decls ≡ [] → b.result ≡ None → items_of b ≡ items b.stmts []
-plain_items b made untyped =
-    ap (λ (k : List Item). k ++ items b.stmts (ending b)) made
-    ∙ ap (λ (o : Option Kind). items b.stmts (ending (record b { result = o }))) untyped
+-- where the block has no result, it has its declarations and its statements to do
+pub plain_items : (b : Block) → b.result ≡ None → items_of b ≡ decls_items b.decls ++ items b.stmts []
+plain_items b untyped = ap (λ (o : Option Kind). decls_items b.decls ++ items b.stmts (ending (record b { result = o }))) untyped

@@ -8,9 +8,8 @@ use Rattle.algol_tree.specs.Blocks.{block_numbered, around}
 use Rattle.algol_tree.specs.Plain.{PProgram}
 use Rattle.algol_tree.specs.Scopes.{Scopes, scopes_of, use_of}
 use Rattle.algol_meaning.specs.Value.{Value, simple}
-use Rattle.algol_meaning.specs.World.{Instance, Part, Process, World, instance_at, or_no_instance, ancestor, cell_at, cell_in}
+use Rattle.algol_meaning.specs.World.{NamedCell, Instance, Part, Process, World, instance_at, or_no_instance, ancestor, cell_at, cell_in}
 use Rattle.algol_paths.specs.Blocks.{IsSeen}
-use Rattle.b67_word.specs.declared.Place.{Place}
 use Rattle.b67_word.specs.Word.{Word}
 use Rattle.b67_ops.specs.declared.Couple.{Couple}
 use Rattle.b67_ops.specs.declared.Operator.{Operator}
@@ -27,20 +26,22 @@ use Rattle.b67_templates.specs.Fragments.{HasKind, Has}
 use Rattle.b67_templates.specs.Cells.{simple_cells, IsVariable}
 use Rattle.b67_standing.specs.Stepping.{Slot}
 use Rattle.b67_cores.specs.Cores.{Core}
-use Rattle.b67_cores.specs.Slots.{ValueIs}
+use Rattle.b67_cores.specs.Slots.{Known, ValueIs}
 use Rattle.b67_cores.specs.Stretches.{CoreAt}
+use Rattle.b67_pictures.specs.Arrays.{Layout}
 use Rattle.b67_pictures.specs.Frames.{CellIs, CellsAre}
 use Rattle.b67_pictures.proofs.Lying.{Lies, lies_in, IsParent, parents_in}
 use Rattle.b67_pictures.proofs.Numbers.{get_below}
 use Rattle.b67_pictures.proofs.Scene.{Scene}
 use Rattle.b67_pictures.proofs.StackWords.{get-front}
-use Rattle.b67_pictures.proofs.Staying.{level_in, length_around}
-use Rattle.b67_pictures.proofs.Variables.{Cell_of, variable_cell, Holds_value, value_of_cell}
+use Rattle.b67_pictures.proofs.Parents.{length_around}
+use Rattle.b67_pictures.proofs.Staying.{level_in}
+use Rattle.b67_pictures.proofs.Variables.{Cell_of, variable_cell, cell_front, Holds_value, value_of_cell}
 
 -- the operator that stands where a core stands
-pub operator_there : (sc : Scopes) (code : Code) (ps : List Placed) (level pc : ℕ) (slots : List Slot) (core : Core) (op : Operator) (next : ℕ) → CoreAt sc code ps level pc slots core →
+pub operator_there : (sc : Scopes) (known : List Known) (code : Code) (ps : List Placed) (level pc : ℕ) (slots : List Slot) (core : Core) (op : Operator) (next : ℕ) → CoreAt sc known code ps level pc slots core →
     Has ps level pc op next → operator_at code core.registers ≡ Ok (op, next)
-operator_there sc code ps level pc slots core op next at has =
+operator_there sc known code ps level pc slots core op next at has =
     ap (λ (n : ℕ). fetched code (record { segment = core.registers.segment; place = n }) core.registers.ll) at.place_is
     ∙ ap (λ (l : ℕ). fetched code (record { segment = core.registers.segment; place = pc }) l) at.level_is
     ∙ fetched-spelled code core.registers.segment at.there at.spells has
@@ -52,7 +53,7 @@ get-behind (x ∷ front) back k n e =
     let far : n ≡ suc (length front + k) = omega (arith, e) in
     ap (λ (m : ℕ). slice_get (x ∷ front ++ back) m) far ∙ get-behind front back k (length front + k) refl
 
-module _ (tree : PProgram) (code : Code) (texts : ℕ → List Placed) (w : World) (lay : List Place) (img : Image)
+module _ (tree : PProgram) (code : Code) (texts : ℕ → List Placed) (w : World) (lay : Layout) (img : Image)
     (p : ℕ) (q : Process) (part : Part) (outer : List Part) (bound : ℕ) (core : Core) (s : Scene tree code texts w lay img p q part outer bound core) where
   abbrev sc : Scopes
   sc = scopes_of tree
@@ -98,14 +99,23 @@ module _ (tree : PProgram) (code : Code) (texts : ℕ → List Placed) (w : Worl
       block_here : here.block ≡ (use_of sc n).block
       block_here = sym (ap (λ (x : Instance). x.block) instance_here) ∙ parent.block
 
-      own_cells : CellsAre (simple_cells (block_numbered sc.blocks ((use_of sc n).block))) here.cells l.frame.framed.values
-      own_cells = subst (λ (k : ℕ). CellsAre (simple_cells (block_numbered sc.blocks k)) here.cells l.frame.framed.values) block_here l.frame.framed.cells_are
+      abbrev first_cells : List NamedCell
+      first_cells = l.frame.framed.simple
 
-      c : Cell_of v.found 0 n.name here.cells l.frame.framed.values
-      c = variable_cell (simple_cells (block_numbered sc.blocks ((use_of sc n).block))) here.cells l.frame.framed.values 0 n.name v.found own_cells v.there
+      own_cells : CellsAre (simple_cells sc (block_numbered sc.blocks ((use_of sc n).block))) first_cells l.frame.framed.values
+      own_cells = subst (λ (k : ℕ). CellsAre (simple_cells sc (block_numbered sc.blocks k)) first_cells l.frame.framed.values) block_here l.frame.framed.simple_are
 
-      held : Holds_value kind (cell_in here.cells n.name) c.word
-      held = value_of_cell kind (cell_in here.cells n.name) c.word (subst (λ (o : Option Kind). CellIs o (cell_in here.cells n.name) c.word) v.kind_is c.is)
+      c : Cell_of v.found 0 n.name first_cells l.frame.framed.values
+      c = variable_cell (simple_cells sc (block_numbered sc.blocks ((use_of sc n).block))) first_cells l.frame.framed.values 0 n.name v.found own_cells v.there
+
+      held : Holds_value kind (cell_in first_cells n.name) c.word
+      held = value_of_cell kind (cell_in first_cells n.name) c.word (subst (λ (o : Option Kind). CellIs o (cell_in first_cells n.name) c.word) v.kind_is c.is)
+
+      -- it lies before the arrays
+      cell_here : cell_in here.cells n.name ≡ cell_in first_cells n.name
+      cell_here =
+          ap (λ (cells : List NamedCell). cell_in cells n.name) l.frame.framed.has
+          ∙ cell_front (simple_cells sc (block_numbered sc.blocks ((use_of sc n).block))) first_cells l.frame.framed.arrays l.frame.framed.values 0 n.name v.found own_cells v.there
 
       -- the values lie before the control words
       cells_lie : slice_get l.frame.cells c.far ≡ Some c.word
@@ -127,7 +137,7 @@ module _ (tree : PProgram) (code : Code) (texts : ℕ → List Placed) (w : Worl
             number = c.far;
             index = omega (arith, v.index_is, c.number);
             value = held.value;
-            cell_is = ap (λ (x : Instance). cell_in x.cells n.name) instance_here ∙ held.is;
+            cell_is = ap (λ (x : Instance). cell_in x.cells n.name) instance_here ∙ cell_here ∙ held.is;
             fits = held.kind;
             word = c.word;
             word_is = held.word;
@@ -142,7 +152,7 @@ module _ (tree : PProgram) (code : Code) (texts : ℕ → List Placed) (w : Worl
             shown =
                 ap (λ (k : ℕ). display_at core.registers k) level_up
                 ∙ s.stands.chained up low
-                ∙ ap (λ (k : ℕ). numbered lay k) (sym l.instance_is)
+                ∙ ap (λ (k : ℕ). numbered lay.places k) (sym l.instance_is)
                 ∙ l.frame.framed.laid;
           }
 

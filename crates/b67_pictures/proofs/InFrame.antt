@@ -8,10 +8,10 @@ use Rattle.algol_meaning.specs.World.{Process, Part, able, World, instance_at, w
 use Rattle.algol_meaning.specs.Actions.{Action}
 use Rattle.algol_meaning.specs.Asks.{resume}
 use Rattle.algol_meaning.specs.Choice.{Choice, choice}
+use Rattle.algol_paths.specs.Arrays.{to_make, left_to_make}
 use Rattle.algol_paths.specs.Blocks.{IsSeen}
-use Rattle.algol_paths.specs.Laws.{RestsKeepToTheirText}
+use Rattle.algol_paths.specs.Laws.{RestsKeepToTheirText, ArraysAreMadeInOrder}
 use Rattle.algol_paths.specs.Texts.{InAnswer}
-use Rattle.b67_word.specs.declared.Place.{Place}
 use Rattle.b67_control.specs.declared.Registers.{Registers}
 use Rattle.b67_control.specs.Display.{place_at}
 use Rattle.b67_segment.specs.Operators.{Placed}
@@ -28,11 +28,14 @@ use Rattle.b67_faithful.specs.Weight.{weight}
 use Rattle.b67_standing.specs.Stepping.{Slot}
 use Rattle.b67_standing.specs.Standing.{ComesTo}
 use Rattle.b67_cores.specs.Cores.{Core, size, HasCore, with_core}
+use Rattle.b67_cores.specs.Slots.{Known}
 use Rattle.b67_cores.specs.Stretches.{CoreAt, FragmentsArePerformed}
 use Rattle.b67_cores.proofs.Moving.{slots_length}
+use Rattle.b67_pictures.specs.Arrays.{Layout, AreKnown}
 use Rattle.b67_pictures.specs.Acting.{Does, gave, stopped}
 use Rattle.b67_pictures.specs.Frames.{IsChained, Frame}
 use Rattle.b67_pictures.specs.Pictures.{Pictures, PicturesBy}
+use Rattle.b67_pictures.proofs.ArraysKept.{arrays_unchanged}
 use Rattle.b67_pictures.proofs.Cored.{has_now, others_have, system_stays}
 use Rattle.b67_pictures.proofs.Kept.{alike_by}
 use Rattle.b67_pictures.proofs.Landing.{steps_none, living_of}
@@ -40,16 +43,18 @@ use Rattle.b67_pictures.proofs.Lying.{StayBelow}
 use Rattle.b67_pictures.proofs.Numbers.{numbered_set, most_or_more}
 use Rattle.b67_pictures.proofs.Scene.{Scene}
 use Rattle.b67_pictures.proofs.Stage.{gives_within, limit_beyond, goes_on, weight_of}
-use Rattle.b67_pictures.proofs.Staying.{text_in, level_in, context_in, most_in, FrameStill, frame_still, frame_low, chained_stays, parts_weigh}
+use Rattle.b67_pictures.proofs.Staying.{text_in, level_in, context_in, most_in, FrameStill, frame_still, frame_low, chained_stays, known_stays, parts_weigh}
 
 -- the registers but for S, F and the place
 pub record SameFrame (a b : Registers) : Type 0 where
   pub is : b ≡ record a { s = b.s; f = b.f; place = b.place }
 
-module _ (tree : PProgram) (code : Code) (texts : ℕ → List Placed) (fragments : FragmentsArePerformed) (keeps : RestsKeepToTheirText) (w : World) (lay : List Place) (img : Image)
+module _ (tree : PProgram) (code : Code) (texts : ℕ → List Placed) (fragments : FragmentsArePerformed) (keeps : RestsKeepToTheirText) (order : ArraysAreMadeInOrder) (w : World) (lay : Layout) (img : Image)
     (p : ℕ) (q : Process) (part : Part) (outer : List Part) (bound : ℕ) (core : Core) (s : Scene tree code texts w lay img p q part outer bound core) (able_is : q.state ≡ able) (able_p : numbered img.states p ≡ Some Able)
+    (unmade : left_to_make part.rest ≡ to_make part.rest)
     (a : Answer) (nameless : InAnswer (IsSeen (scopes_of tree) ((instance_at w part.instance).block)) a) (out : List (List ℕ)) (new : Core) (below : new.below ≡ core.below) (frame_is : SameFrame core.registers new.registers)
-    (pc : ℕ) (slots : List Slot) (there : CoreAt (scopes_of tree) code (text_in tree texts w part) (level_in tree w part) pc slots new) (few : length slots ≤ most_in tree w part)
+    (known : List Known) (known_are : AreKnown (scopes_of tree) w lay part.instance (level_in tree w part) known)
+    (pc : ℕ) (slots : List Slot) (there : CoreAt (scopes_of tree) known code (text_in tree texts w part) (level_in tree w part) pc slots new) (few : length slots ≤ most_in tree w part)
     (comes : ComesTo (scopes_of tree) (context_in tree code w part) (text_in tree texts w part) (level_in tree w part) (most_in tree w part) (resume (scopes_of tree) part.rest a) pc slots) where
   abbrev pub part' : Part
   part' = record part { rest = resume (scopes_of tree) part.rest a }
@@ -75,7 +80,7 @@ module _ (tree : PProgram) (code : Code) (texts : ℕ → List Placed) (fragment
 
   -- no instance changes
   abbrev stay : StayBelow w w' lay lay p (length core.below)
-  stay = record { instances = λ i at x e own laid low. e; places = λ i f e. e }
+  stay = record { instances = λ i at x e own laid low. e; places = λ i f e. e; rows = λ i at x e own laid low. refl }
 
   all_low : length core.below ≤ length core.below
   all_low = omega arith
@@ -96,6 +101,7 @@ module _ (tree : PProgram) (code : Code) (texts : ℕ → List Placed) (fragment
         words_are = below ∙ still.frame.words_are;
         framed = still.frame.framed;
         text = keeps.resumed (scopes_of tree) ((instance_at w part.instance).block) part.rest a s.stands.frame.text nameless;
+        making = still.frame.making ∙ sym unmade ∙ sym (order.resumed (scopes_of tree) ((instance_at w part.instance).block) part.rest a s.stands.frame.text);
       }
 
   light' : bound + 3 ≤ weight tree w' p
@@ -110,11 +116,11 @@ module _ (tree : PProgram) (code : Code) (texts : ℕ → List Placed) (fragment
 
   -- how many words its stack has
   pub top_is : new.registers.s ≡ length new.below + length slots
-  top_is = omega (arith, there.is.top, slots_length (scopes_of tree) (level_in tree w part) (frame new.registers) (length new.below) slots new.words there.words_are)
+  top_is = omega (arith, there.is.top, slots_length (scopes_of tree) known (level_in tree w part) (frame new.registers) (length new.below) slots new.words there.words_are)
 
   pub in_frame : size new ≤ stack_limit → PicturesBy tree code texts w' lay after
   in_frame small =
-      goes_on tree code texts w lay img s.by p q s.at w' lay after q' refl able_is s.by.laid (λ r other. alike_by w w' lay r refl) refl refl refl refl refl
+      goes_on tree code texts w lay img s.by p q s.at w' lay after q' refl able_is s.by.laid (arrays_unchanged (scopes_of tree) w w' lay img.rows refl s.by.arrays) (λ r other. alike_by w w' lay r refl) refl refl refl refl refl
       (system_stays img p core new s.has same_stack q w s.at) able_p others
       (living_of tree code texts w' lay after fragments p q' part' outer bound new new (record {
         todo = refl;
@@ -126,7 +132,7 @@ module _ (tree : PProgram) (code : Code) (texts : ℕ → List Placed) (fragment
         sees = ap (λ (r : Registers). place_at r.display 0) frame_is.is ∙ s.sees;
         small = small;
         begun = 0;
-        begins = steps_none (scopes_of tree) code (text_in tree texts w part) (level_in tree w part) (most_in tree w part) bound pc slots new there few room';
+        begins = steps_none (scopes_of tree) known code (text_in tree texts w part) (level_in tree w part) (most_in tree w part) bound pc slots new there few room';
         frame = frame';
         around = still.around;
         counted = ap (λ (r : Registers). r.cells) frame_is.is ∙ s.stands.counted ∙ sym (ap length still.cells_are);
@@ -135,6 +141,8 @@ module _ (tree : PProgram) (code : Code) (texts : ℕ → List Placed) (fragment
         segment_is = ap (λ (r : Registers). r.segment) frame_is.is ∙ s.stands.segment_is;
         pc = pc;
         slots = slots;
+        known = known;
+        known_are = known_stays tree code texts w w' lay lay p (length core.below) stay part outer core s.stands s.around all_low known known_are;
         at = there;
         held = few;
         comes = comes;

@@ -69,10 +69,10 @@ module _ (code : Code) (img : Image) (p : ℕ) (core : Core) (has : HasCore img 
   abbrev r : Registers
   r = core.registers
 
-  abbrev tested : Program → Effect Image
+  abbrev pub tested : Program → Effect Image
   tested t = effect_of p img (asked img t)
 
-  entered : raw code img p ≡ tested (intrinsic_row (Some name) code r next c.m (reverse arguments))
+  pub entered : raw code img p ≡ tested (intrinsic_row (Some name) code r next c.m (reverse arguments))
   unfolding row
   entered =
       raw_is code img p core has (ops.Plain kinds.Entr) next there
@@ -80,13 +80,13 @@ module _ (code : Code) (img : Image) (p : ℕ) (core : Core) (has : HasCore img 
       c.pcw c.reads_entry c.is_intrinsic
       ∙ ap (λ (o : Option Intrinsic). tested (intrinsic_row o code r next c.m (reverse arguments))) c.numbered
 
-  cut_words : take r.f (words_of img.stacks r.stack) ≡ core.below ++ reverse below
+  pub cut_words : take r.f (words_of img.stacks r.stack) ≡ core.below ++ reverse below
   cut_words =
       ap (take r.f) (words_are img p core has
       ∙ ap (λ (ws : List Word). core.below ++ reverse ws) (c.called.words ∙ sym (append_assoc arguments (reference ∷ marked ∷ []) below)))
       ∙ cut-stack core.below (arguments ++ reference ∷ marked ∷ []) below r.f c.called.mark_at
 
-  chained_is : (t : Program) → tested (if_chained r c.m t) ≡ tested t
+  pub chained_is : (t : Program) → tested (if_chained r c.m t) ≡ tested t
   chained_is t =
       ap (λ (b : Bool). tested (see (if b then mark_at (place r.stack (r.f - c.m.df)) else broken) >>= (λ (lower : Mscw). t))) (most_is c.m.df r.f c.short)
       ∙ ap (λ (o : Option Word). tested (see (chained (read_as as_mscw o)) >>= (λ (lower : Mscw). t))) c.lower_lies

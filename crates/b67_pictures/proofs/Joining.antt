@@ -1,14 +1,15 @@
 -- A code in which a program that is built stands, and which is short and can be listed, is faithful to it.
 use Rattle.std.proofs.Common.{sym, ◌∙◌, ℕ, ◌≤◌, List, [], ◌∷◌, length}
 use Rattle.std.specs.Prelude.{All}
+use Rattle.algol_tree.specs.declared.tree.Kind.{Kind}
 use Rattle.algol_tree.specs.declared.tree.Named.{Named}
 use Rattle.algol_tree.specs.Plain as plain
-use Rattle.algol_tree.specs.Plain.{PProgram, PBody}
+use Rattle.algol_tree.specs.Plain.{PProgram, PPair, PBody}
 use Rattle.algol_tree.specs.Scopes.{scopes_of}
-use Rattle.algol_meaning.specs.Value.{Value}
-use Rattle.algol_meaning.specs.Rest.{Given, done, value}
-use Rattle.algol_meaning.specs.Asks.{leaves, enters, enters_block}
-use Rattle.algol_paths.specs.Laws.{RestsKeepToTheirText}
+use Rattle.algol_meaning.specs.Value.{Value, Reference}
+use Rattle.algol_meaning.specs.Rest.{element_of, Given, done, value}
+use Rattle.algol_meaning.specs.Asks.{reads_element, indexes, leaves, enters, stores, enters_block, makes_arrays}
+use Rattle.algol_paths.specs.Laws.{RestsKeepToTheirText, ArraysAreMadeInOrder}
 use Rattle.b67_segment.specs.Operators.{Placed}
 use Rattle.b67_segment.specs.declared.code.Code.{Code}
 use Rattle.b67_segment.specs.declared.code.Segment.{Segment}
@@ -26,6 +27,7 @@ use Rattle.b67_faithful.proofs.Contradictions.{none_some}
 use Rattle.b67_fitting.specs.Built.{IsBuilt}
 use Rattle.b67_fitting.specs.Nested.{AreNested, LiesNested, BuiltProgramsLieNested}
 use Rattle.b67_pictures.specs.Programs.{BuiltProgramsAreFaithful}
+use Rattle.b67_pictures.proofs.Closing.{FramesClose}
 use Rattle.b67_pictures.proofs.Dispatching.{IsDone, OthersAreDone, scene_does}
 use Rattle.b67_pictures.proofs.Writing.{writing}
 use Rattle.b67_pictures.proofs.Selecting.{selecting}
@@ -43,40 +45,52 @@ use Rattle.b67_pictures.proofs.Simulating.{StandApart}
 use Rattle.b67_pictures.proofs.Starting.{first_pictured}
 use Rattle.b67_pictures.proofs.Counting.{operators_are_few}
 
-module _ (keeps : RestsKeepToTheirText) (tree : PProgram) (code : Code) (built : IsBuilt tree) (lies : LiesNested tree) (short : IsShort tree code)
-    (segments : All (λ (segment : Segment). length segment.words ≤ segment_limit) code.segments) (at : ProgramAt code tree) (apart : StandApart tree code at.texts) where
+-- what is done with arrays: an element is read, indexed, or stored, and arrays are made
+pub record ArraysAreDone (tree : PProgram) (code : Code) (texts : ℕ → List Placed) : Type 0 where
+  pub reading : (n : Named) (ks : List ℕ) (v : Value) → IsDone tree code texts (reads_element n ks v)
+  pub indexing : (n : Named) (ks : List ℕ) (v : Value) → IsDone tree code texts (indexes n ks v)
+  pub storing : (r : Reference) (ks : List ℕ) (v : Value) → IsDone tree code texts (stores (element_of r ks) v)
+  pub making : (kind : Kind) (ns : List Named) (pairs : List PPair) (vs : List Value) → IsDone tree code texts (makes_arrays kind ns pairs vs)
+
+module _ (keeps : RestsKeepToTheirText) (order : ArraysAreMadeInOrder) (closing : FramesClose) (tree : PProgram) (code : Code) (built : IsBuilt tree) (lies : LiesNested tree) (short : IsShort tree code)
+    (segments : All (λ (segment : Segment). length segment.words ≤ segment_limit) code.segments) (at : ProgramAt code tree) (apart : StandApart tree code at.texts)
+    (arrays : ArraysAreDone tree code at.texts) where
   abbrev texts : ℕ → List Placed
   texts = at.texts
 
   -- a block or a procedure is left, or the process ends
   leaves_done : IsDone tree code texts (leaves done)
-  leaves_done w lay img p q part [] bound core s able_is able_p asks a answered waits returns = ending tree code texts w lay img p q part bound core s able_p asks a
+  leaves_done w lay img p q part [] bound core s able_is able_p asks a answered waits returns = ending tree code texts closing w lay img p q part bound core s able_p asks a
   leaves_done w lay img p q part (next ∷ parts) bound core s able_is able_p asks a answered waits returns =
-      leaving tree code texts (have_texts tree code at) fragments_are_performed keeps w lay img p q part next parts bound core s able_is able_p asks a
+      leaving tree code texts (have_texts tree code at) fragments_are_performed keeps order closing w lay img p q part next parts bound core s able_is able_p asks a
 
   -- of the outermost part no value is wanted
   gives_back : (v : Value) → IsDone tree code texts (leaves (value v))
   gives_back v w lay img p q part [] bound core s able_is able_p asks a answered waits returns = none_some (sym s.around.3 ∙ a.2)
   gives_back v w lay img p q part (next ∷ parts) bound core s able_is able_p asks a answered waits returns =
-      leaving_with tree code texts (have_texts tree code at) fragments_are_performed keeps w lay img p q part next parts bound core s able_is able_p v asks a
+      leaving_with tree code texts (have_texts tree code at) fragments_are_performed keeps order closing w lay img p q part next parts bound core s able_is able_p v asks a
 
   enters_done : (b : PBody) → IsDone tree code texts (enters_block b)
   enters_done (plain.body spot ds ss) w lay img p q part outer bound core s able_is able_p asks a answered waits returns =
-      entering_block tree code texts lies short fragments_are_performed blocks_begin inner_blocks_start keeps w lay img p q part outer bound core s able_is able_p spot ds ss asks a waits returns
+      entering_block tree code texts lies short fragments_are_performed blocks_begin inner_blocks_start keeps order w lay img p q part outer bound core s able_is able_p spot ds ss asks a waits returns
 
   calls_done : (n : Named) (gs : List Given) → IsDone tree code texts (enters n gs)
   calls_done n gs w lay img p q part outer bound core s able_is able_p asks a answered waits returns =
-      entering_procedure tree code at lies short (block_small tree built) fragments_are_performed blocks_begin blocks_start keeps w lay img p q part outer bound core s able_is able_p n gs asks a waits returns
+      entering_procedure tree code at lies short (block_small tree built) fragments_are_performed blocks_begin blocks_start keeps order w lay img p q part outer bound core s able_is able_p n gs asks a waits returns
 
   others : OthersAreDone tree code texts
   others =
       record {
         writing = λ ts vs w lay img p q part outer bound core s able_is able_p asks a answered waits returns.
-            writing tree code texts fragments_are_performed keeps w lay img p q part outer bound core s able_is able_p ts vs asks a answered;
+            writing tree code texts fragments_are_performed keeps order w lay img p q part outer bound core s able_is able_p ts vs asks a answered;
         selecting = λ v ss w lay img p q part outer bound core s able_is able_p asks a answered waits returns.
-            selecting tree code texts fragments_are_performed keeps segments w lay img p q part outer bound core s able_is able_p v ss asks a answered;
+            selecting tree code texts fragments_are_performed keeps order segments w lay img p q part outer bound core s able_is able_p v ss asks a answered;
         entering = enters_done;
         calling = calls_done;
+        reading = arrays.reading;
+        indexing = arrays.indexing;
+        storing = arrays.storing;
+        making = arrays.making;
         leaving = leaves_done;
         returning = gives_back;
       }
@@ -84,14 +98,14 @@ module _ (keeps : RestsKeepToTheirText) (tree : PProgram) (code : Code) (built :
   settled_act : SettledAct tree code texts
   settled_act w lay img p q by at_p able_is able_p l has =
       let s = scene_of tree code texts w lay img p q by at_p l has in
-      scene_does tree code texts lies.nested fragments_are_performed keeps rests_go_on others w lay img p q s.0 s.1 l.bound l.settled s.2 able_is able_p
+      scene_does tree code texts lies.nested fragments_are_performed keeps order rests_go_on others w lay img p q s.0 s.1 l.bound l.settled s.2 able_is able_p
 
   program_is_faithful : IsListable code → Faithful tree code
   program_is_faithful =
       simulating.code_is_faithful tree code texts steps_are_performed steps_come_to_limit settled_act
       (λ w lay img p q by at_p l. same_number tree code texts rests_go_on w lay img p q at_p l) apart
       (λ w lay a by b p n plains. operators_are_few tree code texts (λ j known. (lies.nested.each j known).low) w lay a by b p n plains)
-      (first_pictured tree code built lies.nested at fragments_are_performed blocks_begin blocks_start keeps) short
+      (first_pictured tree code built lies.nested at fragments_are_performed blocks_begin blocks_start keeps order) short
 
 -- segments that can be listed have no more words than a segment may have
 within_limit : (segments : List Segment) → All HasOperators segments → All (λ (segment : Segment). length segment.words ≤ segment_limit) segments
@@ -102,7 +116,8 @@ abbrev pub ProcessesStandApart : Type 0
 ProcessesStandApart = (tree : PProgram) (code : Code) (texts : ℕ → List Placed) → AreNested (scopes_of tree) → RestsGoOn → StandApart tree code texts
 
 -- The blocks of an accepted program that is built lie in one another, so a code in which it stands is faithful to it.
-pub built_programs_follow : RestsKeepToTheirText → BuiltProgramsLieNested → ProcessesStandApart → BuiltProgramsAreFaithful
-built_programs_follow keeps lie_nested apart tree code accepted order built at short listable =
+pub built_programs_follow : RestsKeepToTheirText → ArraysAreMadeInOrder → FramesClose → BuiltProgramsLieNested → ProcessesStandApart →
+    ((tree : PProgram) (code : Code) (at : ProgramAt code tree) → IsBuilt tree → LiesNested tree → IsShort tree code → ArraysAreDone tree code at.texts) → BuiltProgramsAreFaithful
+built_programs_follow keeps in_order closing lie_nested apart arrays tree code accepted order built at short listable =
     let lies : LiesNested tree = lie_nested tree accepted order built in
-    program_is_faithful keeps tree code built lies short (within_limit code.segments listable.segments) at (apart tree code at.texts lies.nested rests_go_on) listable
+    program_is_faithful keeps in_order closing tree code built lies short (within_limit code.segments listable.segments) at (apart tree code at.texts lies.nested rests_go_on) (arrays tree code at built lies short) listable

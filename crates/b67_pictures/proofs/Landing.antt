@@ -4,7 +4,6 @@ use Rattle.algol_tree.specs.Plain.{PProgram}
 use Rattle.algol_tree.specs.Scopes.{Scopes, scopes_of}
 use Rattle.algol_meaning.specs.World.{Process, Part, World, instance_at}
 use Rattle.algol_paths.specs.Segments.{segment_of}
-use Rattle.b67_word.specs.declared.Place.{Place}
 use Rattle.b67_control.specs.declared.Registers.{Registers}
 use Rattle.b67_control.specs.Display.{place_at}
 use Rattle.b67_segment.specs.Operators.{Placed}
@@ -16,20 +15,22 @@ use Rattle.b67_table.specs.Private.{frame}
 use Rattle.b67_standing.specs.Stepping.{Slot}
 use Rattle.b67_standing.specs.Standing.{ComesTo}
 use Rattle.b67_cores.specs.Cores.{Core, size, HasCore, CoreSteps, here}
+use Rattle.b67_cores.specs.Slots.{Known}
 use Rattle.b67_cores.specs.Stretches.{CoreAt, Arrives, FragmentsArePerformed}
 use Rattle.b67_cores.proofs.Moving.{slots_length, steps_on}
 use Rattle.b67_faithful.specs.Weight.{weight}
+use Rattle.b67_pictures.specs.Arrays.{Layout, AreKnown}
 use Rattle.b67_pictures.specs.Frames.{IsChained, Frame, Around, Frames}
 use Rattle.b67_pictures.specs.Pictures.{innermost_most, Living}
 use Rattle.b67_pictures.proofs.Staying.{text_in, level_in, context_in, most_in, wanted_in}
 
 -- a core at a place is there, after no step, where its stack has the room of the bound
-pub steps_none : (sc : Scopes) (code : Code) (ps : List Placed) (level most bound pc : ℕ) (slots : List Slot) (core : Core) → CoreAt sc code ps level pc slots core → length slots ≤ most → length core.below + most ≤ bound →
+pub steps_none : (sc : Scopes) (known : List Known) (code : Code) (ps : List Placed) (level most bound pc : ℕ) (slots : List Slot) (core : Core) → CoreAt sc known code ps level pc slots core → length slots ≤ most → length core.below + most ≤ bound →
     CoreSteps code bound 0 core core
-steps_none sc code ps level most bound pc slots core at few room =
-    here (omega (arith, slots_length sc level (frame core.registers) (length core.below) slots core.words at.words_are, few, room))
+steps_none sc known code ps level most bound pc slots core at few room =
+    here (omega (arith, slots_length sc known level (frame core.registers) (length core.below) slots core.words at.words_are, few, room))
 
-module _ (tree : PProgram) (code : Code) (texts : ℕ → List Placed) (w : World) (lay : List Place) (img : Image) where
+module _ (tree : PProgram) (code : Code) (texts : ℕ → List Placed) (w : World) (lay : Layout) (img : Image) where
   -- The process has the core `first`, from which private operators lead to `core`. That has the frame of the innermost part, and stands at
   -- a place from where the machine comes to where it stands for what the part has still to do.
   pub record Landed (p : ℕ) (q : Process) (part : Part) (outer : List Part) (bound : ℕ) (first core : Core) : Type 0 where
@@ -50,7 +51,9 @@ module _ (tree : PProgram) (code : Code) (texts : ℕ → List Placed) (w : Worl
     pub segment_is : core.registers.segment ≡ segment_of (scopes_of tree).blocks ((instance_at w part.instance).block)
     pub pc : ℕ
     pub slots : List Slot
-    pub at : CoreAt (scopes_of tree) code (text_in tree texts w part) (level_in tree w part) pc slots core
+    pub known : List Known
+    pub known_are : AreKnown (scopes_of tree) w lay part.instance (level_in tree w part) known
+    pub at : CoreAt (scopes_of tree) known code (text_in tree texts w part) (level_in tree w part) pc slots core
     pub held : length slots ≤ most_in tree w part
     pub comes : ComesTo (scopes_of tree) (context_in tree code w part) (text_in tree texts w part) (level_in tree w part) (most_in tree w part) part.rest pc slots
     pub room : length core.below + most_in tree w part ≤ bound
@@ -58,8 +61,8 @@ module _ (tree : PProgram) (code : Code) (texts : ℕ → List Placed) (w : Worl
 
   pub living_of : FragmentsArePerformed → (p : ℕ) (q : Process) (part : Part) (outer : List Part) (bound : ℕ) (first core : Core) → Landed p q part outer bound first core → Living tree code texts w lay img p q
   living_of fragments p q part outer bound first core l =
-      let a : Arrives (scopes_of tree) code (text_in tree texts w part) (level_in tree w part) (most_in tree w part) bound l.comes.at l.comes.with_slots core =
-      fragments.leads (scopes_of tree) (context_in tree code w part) code (text_in tree texts w part) (level_in tree w part) (most_in tree w part) bound l.pc l.comes.at l.slots l.comes.with_slots core l.comes.leads l.at l.held l.room in
+      let a : Arrives (scopes_of tree) l.known code (text_in tree texts w part) (level_in tree w part) (most_in tree w part) bound l.comes.at l.comes.with_slots core =
+      fragments.leads (scopes_of tree) l.known (context_in tree code w part) code (text_in tree texts w part) (level_in tree w part) (most_in tree w part) bound l.pc l.comes.at l.slots l.comes.with_slots core l.comes.leads l.at l.held l.room in
       let stands : Frames tree code texts w lay p (part ∷ outer) a.core = (
         record {
           frame = record {
@@ -71,6 +74,7 @@ module _ (tree : PProgram) (code : Code) (texts : ℕ → List Placed) (w : Worl
             words_are = a.moved.below ∙ l.frame.words_are;
             framed = l.frame.framed;
             text = l.frame.text;
+            making = l.frame.making;
           };
           counted = ap (λ (r : Registers). r.cells) a.moved.registers ∙ l.counted;
           chained = subst (λ d. IsChained (scopes_of tree) w lay part.instance (level_in tree w part) d) (sym (ap (λ (r : Registers). r.display) a.moved.registers)) l.chained;
@@ -78,6 +82,8 @@ module _ (tree : PProgram) (code : Code) (texts : ℕ → List Placed) (w : Worl
           asks = l.comes.asks;
           pc = l.comes.at;
           slots = l.comes.with_slots;
+          held = l.known;
+          held_are = l.known_are;
           stands = l.comes.stands;
           there = a.at;
           few = a.room;

@@ -10,14 +10,14 @@ use Rattle.b67_control.specs.Display.{place_at}
 use Rattle.b67_ops.specs.declared.Operator.TheVariants as ops
 use Rattle.b67_ops.specs.declared.PlainKind.TheVariants as kinds
 use Rattle.b67_segment.specs.declared.code.Code.{Code}
-use Rattle.b67_store.specs.Store.{Stacks, words_of, with_stack, with_cut, with_push}
+use Rattle.b67_store.specs.Store.{Stacks, Rows, words_of, with_stack, with_cut, with_push}
 use Rattle.b67_events.specs.Events.{closed_from}
 use Rattle.b67_table.specs.declared.Below.{Below}
 use Rattle.b67_table.specs.declared.Class.TheVariants as classes
 use Rattle.b67_table.specs.declared.Leaving.{Leaving}
 use Rattle.b67_table.specs.Effect.{Effect, gives}
 use Rattle.b67_table.specs.Outcome as outcomes
-use Rattle.b67_table.specs.Image.{Image, with_stacks, with_registers, with_events}
+use Rattle.b67_table.specs.Image.{Image, with_stacks, with_rows, with_registers, with_events}
 use Rattle.b67_table.specs.Chains.{place, left_to, rebuilt}
 use Rattle.b67_table.specs.Linkage.{arrays_closed, frame_left, is_critical, if_not_critical, leave_base, leave_other, leave, leaving, left}
 use Rattle.b67_table.specs.Look.{found, ◌>->◌, seen}
@@ -29,7 +29,6 @@ use Rattle.b67_table.specs.Rows.{row}
 use Rattle.b67_table.specs.Table.{raw, table, operator_at, class_at}
 use Rattle.b67_cores.specs.Cores.{Core, IsCore, HasCore, with_core, stack_of}
 use Rattle.b67_faithful.specs.Correspondence.{operator_action}
-use Rattle.b67_pictures.proofs.ExitRow.{DescribeNothing, none_closed}
 use Rattle.b67_pictures.proofs.Looks.{then_seen, see_found}
 use Rattle.b67_pictures.proofs.Rows.{raw_is, words_are, action_is}
 use Rattle.b67_pictures.proofs.StackWords.{take-seam, drop-seam, stack-over, length-stack, words-set, set-set}
@@ -48,14 +47,15 @@ abbrev pub without_frame : Core → List Word → List Word → ℕ → Leaving 
 without_frame core below words f l given =
     record { below = below; words = given_words given ++ words; registers = left core.registers (f + length (given_words given)) f l }
 
--- The frame of a core, above the words of the part around: its cells describe no rows, and the marks under it lead to where the machine
--- goes on.
+-- The frame of a core, above the words of the part around: the rows that its cells describe are closed, and the marks under it lead to where
+-- the machine goes on.
 pub record Leaves (img : Image) (core : Core) (below words : List Word) (mark control : Word) (cells : List Word) (b : Below) (display : List (Option Place)) : Type 0 where
   pub is : core.below ≡ (below ++ reverse words) ++ mark ∷ control ∷ cells
   pub some : 1 ≤ length (below ++ reverse words)
   pub frame_is : frame core.registers ≡ length (below ++ reverse words)
   pub counted : core.registers.cells ≡ length cells
-  pub plain_cells : DescribeNothing cells
+  pub rows : Rows
+  pub closed : (q : ℕ) (next : Change) → changed q (arrays_closed cells next) img ≡ changed q next (with_rows img rows)
   pub left_to : seen img.stacks (left_to (place core.registers.stack (length (below ++ reverse words)))) ≡ Ok b
   pub rebuilt : seen img.stacks (rebuilt (place core.registers.stack b.frame) b.control.caller_level) ≡ Ok display
   -- no process depends on a frame
@@ -124,16 +124,16 @@ module _ (code : Code) (img : Image) (p : ℕ) (core : Core) (has : HasCore img 
 
     -- the events of the frame are closed
     abbrev pub after : Image
-    after = with_core (with_events img (closed_from r.stack f img.events)) p outer_core
+    after = with_core (with_events (with_rows img e.rows) (closed_from r.stack f img.events)) p outer_core
 
-    changed_to : changed p gone img ≡ after
+    changed_to : changed p gone (with_rows img e.rows) ≡ after
     changed_to = by_given given
       where
         by_given : (g : Option Word) →
-            changed p (close_events r.stack f (cut r.stack f (pushed r.stack (given_words g) (registers (left r (f + length (given_words g)) f leaving_of) done)))) img
-            ≡ with_core (with_events img (closed_from r.stack f img.events)) p (without_frame core below words f leaving_of g)
-        by_given None = ap (λ (ss : Stacks). with_registers (with_stacks (with_events img (closed_from r.stack f img.events)) ss) p (left r (f + 0) f leaving_of)) cut_there
-        by_given (Some x) = ap (λ (ss : Stacks). with_registers (with_stacks (with_events img (closed_from r.stack f img.events)) ss) p (left r (f + 1) f leaving_of)) (pushed_there x)
+            changed p (close_events r.stack f (cut r.stack f (pushed r.stack (given_words g) (registers (left r (f + length (given_words g)) f leaving_of) done)))) (with_rows img e.rows)
+            ≡ with_core (with_events (with_rows img e.rows) (closed_from r.stack f img.events)) p (without_frame core below words f leaving_of g)
+        by_given None = ap (λ (ss : Stacks). with_registers (with_stacks (with_events (with_rows img e.rows) (closed_from r.stack f img.events)) ss) p (left r (f + 0) f leaving_of)) cut_there
+        by_given (Some x) = ap (λ (ss : Stacks). with_registers (with_stacks (with_events (with_rows img e.rows) (closed_from r.stack f img.events)) ss) p (left r (f + 1) f leaving_of)) (pushed_there x)
 
     pub leave_does : tested (leave r next (given_words given)) ≡ gives after
     leave_does =
@@ -142,7 +142,7 @@ module _ (code : Code) (img : Image) (p : ℕ) (core : Core) (has : HasCore img 
         ∙ ap (λ (t : Bool). tested (if t then leave_base r cells next else leave_other r cells f (given_words given))) (not_zero f e.some)
         ∙ ap (λ (x : Effect Change). effect_of p img x) (see_found img (leaving (place r.stack f)) leaving_of (after_leaving cells) leaving_seen)
         ∙ ap (λ (places : List Place). tested (if is_critical r.stack (f ∷ []) places then fault CriticalBlockExit else answer (arrays_closed cells gone))) e.free
-        ∙ ap (λ (c : Change). gives (changed p c img)) (none_closed cells gone e.plain_cells)
+        ∙ ap gives (e.closed p gone)
         ∙ ap gives changed_to
 
     -- the new core is one, where the display names the frame below, and its cells end at the floor

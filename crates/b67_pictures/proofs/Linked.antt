@@ -20,11 +20,13 @@ use Rattle.b67_table.specs.Image.{Image}
 use Rattle.b67_table.specs.Look.{read_as}
 use Rattle.b67_cores.specs.Cores.{Core, HasCore}
 use Rattle.b67_faithful.proofs.Contradictions.{some_same, none_some}
+use Rattle.b67_pictures.specs.Arrays.{Layout}
 use Rattle.b67_pictures.specs.Frames.{IsOwn, IsChained, home_of, IsPlaced, outermost, inside, Frame, Stands, Around}
 use Rattle.b67_pictures.proofs.Displays.{IsEntered, Links, root, onward, shown, shown_top, shown_below}
 use Rattle.b67_pictures.proofs.Lying.{Lies, lies_in, lies_low}
 use Rattle.b67_pictures.proofs.Rows.{words_are}
-use Rattle.b67_pictures.proofs.Staying.{length_around, wanted_in}
+use Rattle.b67_pictures.proofs.Parents.{length_around}
+use Rattle.b67_pictures.proofs.Staying.{wanted_in}
 use Rattle.b67_pictures.proofs.StackWords.{get-seam, get-front}
 
 -- the level of a block, by the blocks around it
@@ -35,30 +37,30 @@ level_around bs i = sym (length_around bs i)
 abbrev pub Begins_with : Stacks → ℕ → List Word → Type 0
 Begins_with stacks p words = (n : ℕ) (x : Word) → slice_get words n ≡ Some x → word_at stacks (place p n) ≡ Some x
 
-module _ (sc : Scopes) (w : World) (lay : List Place) (stacks : Stacks) (p : ℕ) where
+module _ (sc : Scopes) (w : World) (lay : Layout) (stacks : Stacks) (p : ℕ) where
   -- The frame of an instance stands in the stack of process p, linked to its home, from which links lead down along the frames of its
   -- static parents.
   pub record Linked (i : ℕ) : Type 0 where
     pub instance : Instance
     pub is : numbered w.instances i ≡ Some instance
     pub at : ℕ
-    pub laid : numbered lay i ≡ Some (place p at)
+    pub laid : numbered lay.places i ≡ Some (place p at)
     pub home : Place
     pub more : List Place
     pub entered : IsEntered stacks (place p at) home (length more + 2)
     pub links : Links stacks home more
     pub level_is : level_of (block_numbered sc.blocks instance.block) ≡ length more + 2
-    pub each : (up : ℕ) → up < length more → slice_get more up ≡ numbered lay (ancestor w up instance.parent)
+    pub each : (up : ℕ) → up < length more → slice_get more up ≡ numbered lay.places (ancestor w up instance.parent)
 
   -- so the frames from that of the instance on
   pub all_linked : (i : ℕ) (l : Linked i) → Links stacks (place p l.at) (place p l.at ∷ l.more)
   all_linked i l = onward l.entered l.links
 
-  pub all_each : (i : ℕ) (l : Linked i) (up : ℕ) → up < suc (length l.more) → slice_get (place p l.at ∷ l.more) up ≡ numbered lay (ancestor w up i)
+  pub all_each : (i : ℕ) (l : Linked i) (up : ℕ) → up < suc (length l.more) → slice_get (place p l.at ∷ l.more) up ≡ numbered lay.places (ancestor w up i)
   all_each i l zero low = sym l.laid
   all_each i l (suc up) low =
       l.each up (omega (arith, low))
-      ∙ ap (λ (o : Option Instance). numbered lay (ancestor w up ((or_no_instance o).parent))) (sym l.is)
+      ∙ ap (λ (o : Option Instance). numbered lay.places (ancestor w up ((or_no_instance o).parent))) (sym l.is)
 
 -- what begins with words begins with those before them
 pub begins_front : (stacks : Stacks) (p : ℕ) (front back : List Word) → Begins_with stacks p (front ++ back) → Begins_with stacks p front
@@ -71,7 +73,7 @@ begins_core img p core has n x e =
     ∙ ap (λ (ws : List Word). slice_get ws n) (words_are img p core has)
     ∙ get-front core.below (reverse core.words) n x e
 
-module _ (tree : PProgram) (code : Code) (texts : ℕ → List Placed) (w : World) (lay : List Place) (p : ℕ) (stacks : Stacks) where
+module _ (tree : PProgram) (code : Code) (texts : ℕ → List Placed) (w : World) (lay : Layout) (p : ℕ) (stacks : Stacks) where
   abbrev sc : Scopes
   sc = scopes_of tree
 
@@ -143,7 +145,7 @@ module _ (tree : PProgram) (code : Code) (texts : ℕ → List Placed) (w : Worl
           each = all_each sc w lay stacks p x.parent l;
         }
       where
-        home_is : (k : ℕ) → numbered lay k ≡ Some (place p l.at) → home_of sc w lay k ≡ Some (place p l.at)
+        home_is : (k : ℕ) → numbered lay.places k ≡ Some (place p l.at) → home_of sc w lay k ≡ Some (place p l.at)
         home_is zero e = none_some e
         home_is (suc k) e = e
 
@@ -153,7 +155,7 @@ module _ (tree : PProgram) (code : Code) (texts : ℕ → List Placed) (w : Worl
       where
         by_place : IsPlaced sc w lay outer x → Linked sc w lay stacks p part.instance
         by_place (outermost none alone) = from_outermost none alone
-        by_place (inside own alone) = from_parent (around_linked x.parent own) alone
+        by_place (inside own alone made) = from_parent (around_linked x.parent own) alone
 
   -- so stand the frames of all parts around, whose words begin the stack
   pub around_linked : (parts : List Part) (lower : List Word) (mark control : Word) (wanted : Option Kind) → Around tree code texts w lay p parts lower mark control wanted → Begins_with stacks p lower → (i : ℕ) → IsOwn parts i →
@@ -188,7 +190,7 @@ module _ (tree : PProgram) (code : Code) (texts : ℕ → List Placed) (w : Worl
       (i : ℕ) (own : IsOwn (part ∷ outer) i) (l : Linked sc w lay stacks p i) → l.at ≡ length (lies_in tree code texts w lay p part outer core s a i own).frame.lower
   linked_lies part outer core s a i own l =
       let x : Lies tree code texts w lay p (part ∷ outer) i core.below = lies_in tree code texts w lay p part outer core s a i own in
-      ap (λ (f : Place). f.at) (some_same (sym l.laid ∙ ap (λ (k : ℕ). numbered lay k) (sym x.instance_is) ∙ x.frame.framed.laid))
+      ap (λ (f : Place). f.at) (some_same (sym l.laid ∙ ap (λ (k : ℕ). numbered lay.places k) (sym x.instance_is) ∙ x.frame.framed.laid))
 
   pub linked_low : (part : Part) (outer : List Part) (core : Core) (s : Stands tree code texts w lay p part outer core) (a : Around tree code texts w lay p outer s.frame.lower s.frame.mark s.frame.control (wanted_in tree w part))
       (i : ℕ) (own : IsOwn (part ∷ outer) i) (l : Linked sc w lay stacks p i) → l.at + 2 ≤ length core.below
@@ -197,8 +199,8 @@ module _ (tree : PProgram) (code : Code) (texts : ℕ → List Placed) (w : Worl
 
 -- ---- the display of a frame, and of those down its links
 
-pub shown_chained : (sc : Scopes) (w : World) (lay : List Place) (i level : ℕ) (top : Place) (more : List Place) → numbered lay i ≡ Some top → level ≡ length more + 2 →
-    ((up : ℕ) → up < length more → slice_get more up ≡ numbered lay (ancestor w up ((instance_at w i).parent))) → IsChained sc w lay i level (shown top more)
+pub shown_chained : (sc : Scopes) (w : World) (lay : Layout) (i level : ℕ) (top : Place) (more : List Place) → numbered lay.places i ≡ Some top → level ≡ length more + 2 →
+    ((up : ℕ) → up < length more → slice_get more up ≡ numbered lay.places (ancestor w up ((instance_at w i).parent))) → IsChained sc w lay i level (shown top more)
 shown_chained sc w lay i level top more laid is each zero low =
     let here : level - 0 ≡ length more + 2 = omega (arith, is) in
     ap (place_at (shown top more)) here ∙ shown_top top more ∙ sym laid

@@ -11,21 +11,27 @@ use Rattle.algol_meaning.specs.World.{Instance, Part, World, instance_at, or_no_
 use Rattle.algol_meaning.specs.Rest.{Answer}
 use Rattle.algol_meaning.specs.Asks.{resume}
 use Rattle.algol_meaning.specs.Critical.{is_evaluation}
-use Rattle.algol_paths.specs.Blocks.{IsSeen, IsInner}
+use Rattle.algol_paths.specs.Arrays.{arrays_of}
+use Rattle.algol_paths.specs.Laws.{KeepsToText}
 use Rattle.algol_paths.specs.Segments.{segment_of}
-use Rattle.algol_paths.specs.Texts.{InRest}
 use Rattle.b67_word.specs.declared.Place.{Place}
 use Rattle.b67_word.specs.Word.{Word}
 use Rattle.b67_segment.specs.Operators.{Placed}
 use Rattle.b67_segment.specs.declared.code.Code.{Code}
 use Rattle.b67_table.specs.Chains.{place}
+use Rattle.b67_ops.specs.declared.TheConstants.{OUTER_LEVEL}
+use Rattle.b67_templates.specs.Cells.{simple_cells}
 use Rattle.b67_templates.specs.Programs.{context_of}
 use Rattle.b67_standing.specs.Standing.{Gives, pushed, ComesTo}
 use Rattle.b67_cores.specs.Cores.{Core}
-use Rattle.b67_cores.specs.Slots.{SlotsAre}
+use Rattle.b67_cores.specs.Slots.{Known, SlotsAre}
 use Rattle.b67_faithful.specs.Weight.{part_weight, parts_weight, tokens_around}
 use Rattle.b67_faithful.proofs.Contradictions.{some_same, none_some}
-use Rattle.b67_pictures.specs.Frames.{most_around, IsOwn, IsPlaced, outermost, inside, home_of, Framed, result_of_part, Frame, Stands, Waits, Around}
+use Rattle.b67_pictures.specs.Arrays.{Allotted, Layout, AreMade, AreKnown}
+use Rattle.b67_pictures.specs.Frames.{most_around, IsOwn, IsComplete, IsPlaced, outermost, inside, home_of, Framed, result_of_part, Frame, Stands, Waits, Around}
+use Rattle.b67_pictures.proofs.Knowing.{keeps_same, known_lasts}
+use Rattle.b67_pictures.proofs.Numbers.{get_within}
+use Rattle.b67_pictures.proofs.Parents.{ancestor_up, length_around}
 
 -- the words below a frame end before those of the frame
 pub below_frame : (words lower : List Word) (mark control : Word) (cells : List Word) → words ≡ lower ++ mark ∷ control ∷ cells → length lower + 2 + length cells ≡ length words
@@ -35,7 +41,7 @@ below_frame words lower mark control cells e = omega (arith, ap length e, length
 further : (words lower back front rest : List Word) → words ≡ lower ++ back → lower ≡ front ++ rest → words ≡ front ++ (rest ++ back)
 further words lower back front rest e f = e ∙ ap (λ (ws : List Word). ws ++ back) f ∙ append_assoc front rest back
 
-module _ (tree : PProgram) (code : Code) (texts : ℕ → List Placed) (w : World) (lay : List Place) (p : ℕ) where
+module _ (tree : PProgram) (code : Code) (texts : ℕ → List Placed) (w : World) (lay : Layout) (p : ℕ) where
   -- The frame of an instance of these parts: these words begin with it and with what lies below it.
   pub record Lies (parts : List Part) (i : ℕ) (words : List Word) : Type 0 where
     pub part : Part
@@ -84,70 +90,92 @@ module _ (tree : PProgram) (code : Code) (texts : ℕ → List Placed) (w : Worl
         inside = λ j own. inr (l.inside j own);
       }
 
-  pub lies_in : (part : Part) (outer : List Part) (core : Core) (s : Stands tree code texts w lay p part outer core) → Around tree code texts w lay p outer s.frame.lower s.frame.mark s.frame.control (result_of_part tree code texts w lay p part) →
-      (i : ℕ) → IsOwn (part ∷ outer) i → Lies (part ∷ outer) i core.below
-  lies_in part outer core s a i (inl e) =
+  -- those of a frame's part and of the parts around it
+  pub lies_frame : (part : Part) (outer : List Part) (words : List Word) (f : Frame tree code texts w lay p part outer words) → Around tree code texts w lay p outer f.lower f.mark f.control (result_of_part tree code texts w lay p part) →
+      (i : ℕ) → IsOwn (part ∷ outer) i → Lies (part ∷ outer) i words
+  lies_frame part outer words f a i (inl e) =
       record {
         part = part;
         outer = outer;
         instance_is = e;
-        front = core.below;
+        front = words;
         rest = [];
-        words_are = sym (append-nil core.below);
-        frame = s.frame;
+        words_are = sym (append-nil words);
+        frame = f;
         around = a;
         inside = λ j o. inr o;
       }
-  lies_in part outer core s a i (inr o) =
-      let l : Lies outer i s.frame.lower = lies_around outer s.frame.lower s.frame.mark s.frame.control (result_of_part tree code texts w lay p part) a i o in
+  lies_frame part outer words f a i (inr o) =
+      let l : Lies outer i f.lower = lies_around outer f.lower f.mark f.control (result_of_part tree code texts w lay p part) a i o in
       record {
         part = l.part;
         outer = l.outer;
         instance_is = l.instance_is;
         front = l.front;
-        rest = l.rest ++ s.frame.mark ∷ s.frame.control ∷ s.frame.cells;
-        words_are = further core.below s.frame.lower (s.frame.mark ∷ s.frame.control ∷ s.frame.cells) l.front l.rest s.frame.words_are l.words_are;
+        rest = l.rest ++ f.mark ∷ f.control ∷ f.cells;
+        words_are = further words f.lower (f.mark ∷ f.control ∷ f.cells) l.front l.rest f.words_are l.words_are;
         frame = l.frame;
         around = l.around;
         inside = λ j own. inr (l.inside j own);
       }
 
+  pub lies_in : (part : Part) (outer : List Part) (core : Core) (s : Stands tree code texts w lay p part outer core) → Around tree code texts w lay p outer s.frame.lower s.frame.mark s.frame.control (result_of_part tree code texts w lay p part) →
+      (i : ℕ) → IsOwn (part ∷ outer) i → Lies (part ∷ outer) i core.below
+  lies_in part outer core s a = lies_frame part outer core.below s.frame a
+
   -- ---- static parents
 
   -- So many up, where there is a block b around that of the instance, a static parent is an instance of b, and one of those of these parts.
+  -- It has made all its arrays, if it is another one.
   pub record IsParent (parts : List Part) (i up b : ℕ) : Type 0 where
     pub own : IsOwn parts (ancestor w up i)
     pub block : (instance_at w (ancestor w up i)).block ≡ b
+    pub complete : 1 ≤ up → IsComplete (scopes_of tree) w lay (ancestor w up i)
+
+  parents_by : (parts : List Part) (words : List Word) → ((i : ℕ) → IsOwn parts i → Lies parts i words) →
+      (i : ℕ) → IsOwn parts i → (up b : ℕ) → slice_get ((instance_at w i).block ∷ around (scopes_of tree).blocks ((instance_at w i).block)) up ≡ Some b → IsParent parts i up b
+  parents_by parts words lies i own zero b e = record { own = own; block = some_same e; complete = λ far. absurd (omega (arith, far)) }
+  parents_by parts words lies i own (suc up) b e =
+      let l : Lies parts i words = lies i own in
+      let here : l.frame.framed.instance ≡ instance_at w i = sym (ap or_no_instance l.frame.framed.is) ∙ ap (λ (k : ℕ). instance_at w k) l.instance_is in
+      by_placed l.outer l.inside l.frame.framed.instance here l.frame.framed.placed (λ j o h. parents_by parts words lies j o up b h)
+    where
+      by_placed : (around_it : List Part) → ((j : ℕ) → IsOwn around_it j → IsOwn parts j) → (x : Instance) → x ≡ instance_at w i → IsPlaced (scopes_of tree) w lay around_it x →
+          ((j : ℕ) → IsOwn parts j → slice_get ((instance_at w j).block ∷ around (scopes_of tree).blocks ((instance_at w j).block)) up ≡ Some b → IsParent parts j up b) → IsParent parts i (suc up) b
+      by_placed around_it within x here (outermost none_up alone) again =
+          absurd (none_some (ap (λ (bs : List ℕ). slice_get bs up) (sym alone) ∙ ap (λ (y : Instance). slice_get (around (scopes_of tree).blocks y.block) up) here ∙ e))
+      by_placed around_it within x here (inside own_up next made) again =
+          let one : slice_get ((instance_at w x.parent).block ∷ around (scopes_of tree).blocks ((instance_at w x.parent).block)) up ≡ Some b =
+          ap (λ (bs : List ℕ). slice_get bs up) (sym next) ∙ ap (λ (y : Instance). slice_get (around (scopes_of tree).blocks y.block) up) here ∙ e in
+          let up_one : IsParent parts x.parent up b = again x.parent (within x.parent own_up) one in
+          record {
+            own = subst (λ (y : Instance). IsOwn parts (ancestor w up y.parent)) here up_one.own;
+            block = subst (λ (y : Instance). (instance_at w (ancestor w up y.parent)).block ≡ b) here up_one.block;
+            complete = λ far. subst (λ (y : Instance). IsComplete (scopes_of tree) w lay (ancestor w up y.parent)) here (made_up up made up_one.complete);
+          }
+        where
+          made_up : (k : ℕ) → IsComplete (scopes_of tree) w lay x.parent → (1 ≤ k → IsComplete (scopes_of tree) w lay (ancestor w k x.parent)) → IsComplete (scopes_of tree) w lay (ancestor w k x.parent)
+          made_up zero made more = made
+          made_up (suc k) made more = more (omega arith)
+
+  -- of a frame's part
+  pub parents_of : (part : Part) (outer : List Part) (words : List Word) (f : Frame tree code texts w lay p part outer words) → Around tree code texts w lay p outer f.lower f.mark f.control (result_of_part tree code texts w lay p part) →
+      (i : ℕ) → IsOwn (part ∷ outer) i → (up b : ℕ) → slice_get ((instance_at w i).block ∷ around (scopes_of tree).blocks ((instance_at w i).block)) up ≡ Some b → IsParent (part ∷ outer) i up b
+  parents_of part outer words f a = parents_by (part ∷ outer) words (lies_frame part outer words f a)
 
   pub parents_in : (part : Part) (outer : List Part) (core : Core) (s : Stands tree code texts w lay p part outer core) → Around tree code texts w lay p outer s.frame.lower s.frame.mark s.frame.control (result_of_part tree code texts w lay p part) →
       (i : ℕ) → IsOwn (part ∷ outer) i → (up b : ℕ) → slice_get ((instance_at w i).block ∷ around (scopes_of tree).blocks ((instance_at w i).block)) up ≡ Some b → IsParent (part ∷ outer) i up b
-  parents_in part outer core s a i own zero b e = record { own = own; block = some_same e }
-  parents_in part outer core s a i own (suc up) b e =
-      let l : Lies (part ∷ outer) i core.below = lies_in part outer core s a i own in
-      let here : l.frame.framed.instance ≡ instance_at w i = sym (ap or_no_instance l.frame.framed.is) ∙ ap (λ (k : ℕ). instance_at w k) l.instance_is in
-      by_placed l.outer l.inside l.frame.framed.instance here l.frame.framed.placed (λ j o h. parents_in part outer core s a j o up b h)
-    where
-      by_placed : (around_it : List Part) → ((j : ℕ) → IsOwn around_it j → IsOwn (part ∷ outer) j) → (x : Instance) → x ≡ instance_at w i → IsPlaced (scopes_of tree) w lay around_it x →
-          ((j : ℕ) → IsOwn (part ∷ outer) j → slice_get ((instance_at w j).block ∷ around (scopes_of tree).blocks ((instance_at w j).block)) up ≡ Some b → IsParent (part ∷ outer) j up b) → IsParent (part ∷ outer) i (suc up) b
-      by_placed around_it within x here (outermost none_up alone) again =
-          absurd (none_some (ap (λ (bs : List ℕ). slice_get bs up) (sym alone) ∙ ap (λ (y : Instance). slice_get (around (scopes_of tree).blocks y.block) up) here ∙ e))
-      by_placed around_it within x here (inside own_up next) again =
-          let one : slice_get ((instance_at w x.parent).block ∷ around (scopes_of tree).blocks ((instance_at w x.parent).block)) up ≡ Some b =
-          ap (λ (bs : List ℕ). slice_get bs up) (sym next) ∙ ap (λ (y : Instance). slice_get (around (scopes_of tree).blocks y.block) up) here ∙ e in
-          let up_one : IsParent (part ∷ outer) x.parent up b = again x.parent (within x.parent own_up) one in
-          record {
-            own = subst (λ (y : Instance). IsOwn (part ∷ outer) (ancestor w up y.parent)) here up_one.own;
-            block = subst (λ (y : Instance). (instance_at w (ancestor w up y.parent)).block ≡ b) here up_one.block;
-          }
+  parents_in part outer core s a = parents_by (part ∷ outer) core.below (lies_in part outer core s a)
 
 -- ---- what a change of the world leaves
 
--- The instances of process p whose frames lie so low are as they were, and so are the places of all.
-pub record StayBelow (w w' : World) (lay lay' : List Place) (p limit : ℕ) : Type 0 where
-  pub instances : (i at : ℕ) (x : Instance) → numbered w.instances i ≡ Some x → x.process ≡ p → numbered lay i ≡ Some (place p at) → at < limit → numbered w'.instances i ≡ Some x
-  pub places : (i : ℕ) (f : Place) → numbered lay i ≡ Some f → numbered lay' i ≡ Some f
+-- The instances of process p whose frames lie so low are as they were, with the rows of their arrays, and so are the places of all.
+pub record StayBelow (w w' : World) (lay lay' : Layout) (p limit : ℕ) : Type 0 where
+  pub instances : (i at : ℕ) (x : Instance) → numbered w.instances i ≡ Some x → x.process ≡ p → numbered lay.places i ≡ Some (place p at) → at < limit → numbered w'.instances i ≡ Some x
+  pub places : (i : ℕ) (f : Place) → numbered lay.places i ≡ Some f → numbered lay'.places i ≡ Some f
+  pub rows : (i at : ℕ) (x : Instance) → numbered w.instances i ≡ Some x → x.process ≡ p → numbered lay.places i ≡ Some (place p at) → at < limit → lay'.rows i ≡ lay.rows i
 
-module _ (tree : PProgram) (code : Code) (texts : ℕ → List Placed) (w w' : World) (lay lay' : List Place) (p limit : ℕ) (stay : StayBelow w w' lay lay' p limit) where
+module _ (tree : PProgram) (code : Code) (texts : ℕ → List Placed) (w w' : World) (lay lay' : Layout) (p limit : ℕ) (stay : StayBelow w w' lay lay' p limit) where
   abbrev sc : Scopes
   sc = scopes_of tree
 
@@ -160,6 +188,9 @@ module _ (tree : PProgram) (code : Code) (texts : ℕ → List Placed) (w w' : W
   is_after : (part : Part) (outer : List Part) (words : List Word) (f : OldFrame part outer words) → length f.lower < limit → numbered w'.instances part.instance ≡ Some f.framed.instance
   is_after part outer words f low = stay.instances part.instance (length f.lower) f.framed.instance f.framed.is f.framed.own f.framed.laid low
 
+  rows_after : (part : Part) (outer : List Part) (words : List Word) (f : OldFrame part outer words) → length f.lower < limit → lay'.rows part.instance ≡ lay.rows part.instance
+  rows_after part outer words f low = stay.rows part.instance (length f.lower) f.framed.instance f.framed.is f.framed.own f.framed.laid low
+
   pub same_instance : (part : Part) (outer : List Part) (words : List Word) (f : OldFrame part outer words) → length f.lower < limit → instance_at w part.instance ≡ instance_at w' part.instance
   same_instance part outer words f low = ap or_no_instance f.framed.is ∙ sym (ap or_no_instance (is_after part outer words f low))
 
@@ -168,17 +199,18 @@ module _ (tree : PProgram) (code : Code) (texts : ℕ → List Placed) (w w' : W
   home_after (suc i) h e = stay.places (suc i) h e
 
   -- the parent of an instance is one of the parts around, whose frames lie lower
-  placed_after : (outer : List Part) (lower : List Word) (mark control : Word) (wanted : Option Kind) → Around tree code texts w lay p outer lower mark control wanted → length lower < limit → (x : Instance) → IsPlaced sc w lay outer x →
+  pub placed_after : (outer : List Part) (lower : List Word) (mark control : Word) (wanted : Option Kind) → Around tree code texts w lay p outer lower mark control wanted → length lower < limit → (x : Instance) → IsPlaced sc w lay outer x →
       IsPlaced sc w' lay' outer x
   placed_after outer lower mark control wanted a low x (outermost none_up alone) = outermost none_up alone
-  placed_after outer lower mark control wanted a low x (inside own next) =
+  placed_after outer lower mark control wanted a low x (inside own next made) =
       let l : Lies tree code texts w lay p outer x.parent lower = lies_around tree code texts w lay p outer lower mark control wanted a x.parent own in
       let lowest : length l.frame.lower < limit = omega (arith, lies_low tree code texts w lay p outer x.parent lower l, low) in
       let same : instance_at w x.parent ≡ instance_at w' x.parent =
       ap (λ (k : ℕ). instance_at w k) (sym l.instance_is) ∙ same_instance l.part l.outer l.front l.frame lowest ∙ ap (λ (k : ℕ). instance_at w' k) l.instance_is in
       inside own (subst (λ (y : Instance). around sc.blocks x.block ≡ y.block ∷ around sc.blocks y.block) same next)
+      (subst (λ (y : Instance). length y.cells ≡ length (simple_cells sc (block_numbered sc.blocks y.block)) + length (arrays_of (block_numbered sc.blocks y.block).decls)) same made)
 
-  framed_after : (part : Part) (outer : List Part) (words : List Word) (f : OldFrame part outer words) → Around tree code texts w lay p outer f.lower f.mark f.control (wanted_old part) → length f.lower < limit →
+  abbrev framed_after : (part : Part) (outer : List Part) (words : List Word) (f : OldFrame part outer words) → Around tree code texts w lay p outer f.lower f.mark f.control (wanted_old part) → length f.lower < limit →
       Framed sc w' lay' p part.instance outer (length f.lower) f.mark f.control f.cells
   framed_after part outer words f a low =
       record {
@@ -187,8 +219,17 @@ module _ (tree : PProgram) (code : Code) (texts : ℕ → List Placed) (w w' : W
         own = f.framed.own;
         known = f.framed.known;
         laid = stay.places part.instance (place p (length f.lower)) f.framed.laid;
+        stands = f.framed.stands;
+        simple = f.framed.simple;
         values = f.framed.values;
-        cells_are = f.framed.cells_are;
+        simple_are = f.framed.simple_are;
+        arrays = f.framed.arrays;
+        declared = f.framed.declared;
+        later = f.framed.later;
+        order = f.framed.order;
+        descriptors = f.framed.descriptors;
+        made = subst (λ (rows : List Allotted). AreMade f.framed.declared f.framed.arrays rows f.framed.descriptors) (sym (rows_after part outer words f low)) f.framed.made;
+        has = f.framed.has;
         cells_is = f.framed.cells_is;
         placed = placed_after outer f.lower f.mark f.control (wanted_old part) a low f.framed.instance f.framed.placed;
         home = f.framed.home;
@@ -211,8 +252,57 @@ module _ (tree : PProgram) (code : Code) (texts : ℕ → List Placed) (w w' : W
         cells = f.cells;
         words_are = f.words_are;
         framed = framed_after part outer words f a low;
-        text = subst (λ (x : Instance). InRest (IsSeen sc x.block) (IsInner sc x.block) part.rest) (same_instance part outer words f low) f.text;
+        text = subst (λ (x : Instance). KeepsToText sc x.block part.rest) (same_instance part outer words f low) f.text;
+        making = f.making;
       }
+
+  -- ---- descriptors
+
+  module _ (part : Part) (outer : List Part) (words : List Word) (f : OldFrame part outer words) (a : Around tree code texts w lay p outer f.lower f.mark f.control (wanted_old part)) (low : length f.lower < limit) where
+    abbrev i : ℕ
+    i = part.instance
+
+    abbrev level : ℕ
+    level = level_of (block_numbered sc.blocks ((instance_at w i).block))
+
+    -- an instance of the parts is as it was, and so are its rows
+    pub record Lasts (j : ℕ) : Type 0 where
+      pub instance : instance_at w' j ≡ instance_at w j
+      pub rows : lay'.rows j ≡ lay.rows j
+
+    lasts : (j : ℕ) → IsOwn (part ∷ outer) j → Lasts j
+    lasts j (inl e) = subst (λ (n : ℕ). Lasts n) e (record { instance = sym (same_instance part outer words f low); rows = rows_after part outer words f low })
+    lasts j (inr own) =
+        let l : Lies tree code texts w lay p outer j f.lower = lies_around tree code texts w lay p outer f.lower f.mark f.control (wanted_old part) a j own in
+        let lower : length l.frame.lower < limit = omega (arith, lies_low tree code texts w lay p outer j f.lower l, low) in
+        subst (λ (n : ℕ). Lasts n) l.instance_is (record {
+          instance = sym (same_instance l.part l.outer l.front l.frame lower);
+          rows = rows_after l.part l.outer l.front l.frame lower;
+        })
+
+    -- so far up there are parents
+    own_parent : (up : ℕ) → up + OUTER_LEVEL ≤ level → IsOwn (part ∷ outer) (ancestor w up i)
+    own_parent up h =
+        let j : ℕ = (instance_at w i).block in
+        let there = get_within (j ∷ around sc.blocks j) up (omega (arith, h, length_around sc.blocks j)) in
+        (parents_of tree code texts w lay p part outer words f a i (inl refl) up there.0 there.1).own
+
+    -- and they are the same
+    parent_stays : (up : ℕ) → up + OUTER_LEVEL ≤ level → ancestor w' up i ≡ ancestor w up i
+    parent_stays zero h = refl
+    parent_stays (suc up) h =
+        let lower : up + OUTER_LEVEL ≤ level = omega (arith, h) in
+        ancestor_up w' up i
+        ∙ ap (λ (j : ℕ). (instance_at w' j).parent) (parent_stays up lower)
+        ∙ ap (λ (x : Instance). x.parent) (lasts (ancestor w up i) (own_parent up lower)).instance
+        ∙ sym (ancestor_up w up i)
+
+    -- what is known of descriptors holds as it did
+    pub known_after : (known : List Known) → AreKnown sc w lay i level known → AreKnown sc w' lay' i level known
+    known_after =
+        known_lasts sc w w' lay lay' i level parent_stays (λ up h.
+        let l : Lasts (ancestor w up i) = lasts (ancestor w up i) (own_parent up h) in
+        keeps_same sc w w' lay lay' (ancestor w up i) l.instance l.rows)
 
   frame_low : (part : Part) (outer : List Part) (lower : List Word) (mark control : Word) (wanted : Option Kind) → length lower ≤ limit → (s : Waits tree code texts w lay p part outer lower mark control wanted) → length (s.frame.lower) < limit
   frame_low part outer lower mark control wanted low s =
@@ -248,7 +338,10 @@ module _ (tree : PProgram) (code : Code) (texts : ℕ → List Placed) (w w' : W
           returns = subst (λ (x : Instance). (r : Answer) → Gives wanted r →
               ComesTo sc (context_of code sc x.block) (texts (segment_of sc.blocks x.block)) (level_of (block_numbered sc.blocks x.block)) (most_around tree x.block) (resume sc part.rest r) s.pc (pushed r s.slots)) same s.returns;
           few = subst (λ (x : Instance). length s.slots + 1 ≤ most_around tree x.block) same s.few;
-          words_are = subst (λ (x : Instance). SlotsAre sc (level_of (block_numbered sc.blocks x.block)) (length s.frame.lower) (length s.below) s.slots s.words) same s.words_are;
+          held = s.held;
+          held_are = subst (λ (x : Instance). AreKnown sc w' lay' part.instance (level_of (block_numbered sc.blocks x.block)) s.held) same
+              (known_after part outer s.below s.frame a.1 lowest s.held s.held_are);
+          words_are = subst (λ (x : Instance). SlotsAre sc s.held (level_of (block_numbered sc.blocks x.block)) (length s.frame.lower) (length s.below) s.slots s.words) same s.words_are;
           home = s.home;
           df = s.df;
           mark_is = s.mark_is;

@@ -10,8 +10,8 @@ use Rattle.b67_store.specs.Store.{Stacks, word_at}
 use Rattle.b67_table.specs.declared.Below.{Below}
 use Rattle.b67_table.specs.Look.{Look, found, ◌>->◌, chained, read_as, seen}
 use Rattle.b67_table.specs.Chains.{place, broken, control_at, below, entered_from, entered_below, left_to, if_apart}
-use Rattle.b67_standing.specs.Stepping.{Slot, operand, reference, intrinsic, control, mark}
-use Rattle.b67_cores.specs.Slots.{newest, SlotsAre}
+use Rattle.b67_standing.specs.Stepping.{Slot, operand, reference, intrinsic, control, descriptor, mark}
+use Rattle.b67_cores.specs.Slots.{Known, newest, SlotsAre}
 use Rattle.b67_cores.proofs.Moving.{slots_length}
 use Rattle.b67_pictures.proofs.Looks.{then_seen}
 use Rattle.b67_pictures.proofs.StackWords.{word-under}
@@ -25,6 +25,7 @@ newest_low home base (operand v ∷ slots) low = omega (arith, newest_low home b
 newest_low home base (reference n ∷ slots) low = omega (arith, newest_low home base slots low)
 newest_low home base (intrinsic i ∷ slots) low = omega (arith, newest_low home base slots low)
 newest_low home base (control c ∷ slots) low = omega (arith, newest_low home base slots low)
+newest_low home base (descriptor h ∷ slots) low = omega (arith, newest_low home base slots low)
 newest_low home base (mark ∷ slots) low = omega arith
 
 -- In a stack these words lie above a floor, and a frame's own mark, with a control word, lies below it.
@@ -37,7 +38,7 @@ pub record Above (stacks : Stacks) (stack home : ℕ) (lower words : List Word) 
   pub controlled : read_as as_rcw (word_at stacks (place stack (home + 1))) ≡ Some control
   pub low : home < length lower
 
-module _ (sc : Scopes) (level : ℕ) (stacks : Stacks) (stack home : ℕ) (lower all : List Word) (above : Above stacks stack home lower all) where
+module _ (sc : Scopes) (known : List Known) (level : ℕ) (stacks : Stacks) (stack home : ℕ) (lower all : List Word) (above : Above stacks stack home lower all) where
   abbrev base : ℕ
   base = length lower
 
@@ -45,7 +46,7 @@ module _ (sc : Scopes) (level : ℕ) (stacks : Stacks) (stack home : ℕ) (lower
   on_mark here steps m = if m.entered then found here else below here m.df (entered_from steps stack)
 
   -- from the newest mark the marks lead to the frame's own
-  walk : (slots : List Slot) (front words : List Word) → all ≡ front ++ words → SlotsAre sc level home base slots words → base + length slots ≤ 2 ^ 16 → (steps : ℕ) → newest home base slots < steps →
+  walk : (slots : List Slot) (front words : List Word) → all ≡ front ++ words → SlotsAre sc known level home base slots words → base + length slots ≤ 2 ^ 16 → (steps : ℕ) → newest home base slots < steps →
       seen stacks (entered_from steps stack (newest home base slots)) ≡ Ok home
   walk slots front words is are small zero few = absurd (omega (arith, few))
   walk [] front words is are small (suc steps) few =
@@ -60,9 +61,11 @@ module _ (sc : Scopes) (level : ℕ) (stacks : Stacks) (stack home : ℕ) (lower
       walk slots (front ++ x ∷ []) ws (is ∙ sym (append_assoc front (x ∷ []) ws)) are.1 (omega (arith, small)) (suc steps) few
   walk (control c ∷ slots) front (x ∷ ws) is are small (suc steps) few =
       walk slots (front ++ x ∷ []) ws (is ∙ sym (append_assoc front (x ∷ []) ws)) are.1 (omega (arith, small)) (suc steps) few
+  walk (descriptor h ∷ slots) front (x ∷ ws) is are small (suc steps) few =
+      walk slots (front ++ x ∷ []) ws (is ∙ sym (append_assoc front (x ∷ []) ws)) are.1 (omega (arith, small)) (suc steps) few
   walk (mark ∷ slots) front (x ∷ ws) is are small (suc steps) few =
       let there : word_at stacks (place stack here) ≡ Some x =
-      above.lies here x (ap (λ (zs : List Word). slice_get (lower ++ reverse zs) here) is ∙ word-under lower front x ws here (omega (arith, slots_length sc level home base slots ws are.1))) in
+      above.lies here x (ap (λ (zs : List Word). slice_get (lower ++ reverse zs) here) is ∙ word-under lower front x ws here (omega (arith, slots_length sc known level home base slots ws are.1))) in
       ap (λ (o : Option Word). seen stacks (chained (read_as as_mscw o) >-> on_mark here steps)) there
       ∙ ap (λ (o : Option Mscw). seen stacks (chained o >-> on_mark here steps)) (ap as_mscw are.0 ∙ mark_read df (omega (arith, small)))
       ∙ ap (λ (b : Bool). seen stacks (if b && nat_le df here then entered_from steps stack (here - df) else broken)) (most_is 1 df (omega (arith, lowest)))
@@ -83,7 +86,7 @@ module _ (sc : Scopes) (level : ℕ) (stacks : Stacks) (stack home : ℕ) (lower
       back = omega (arith, lowest)
 
   module _ (f : ℕ) (own : Mscw) (marked : read_as as_mscw (word_at stacks (place stack f)) ≡ Some own) (back : Rcw) (controlled : read_as as_rcw (word_at stacks (place stack (f + 1))) ≡ Some back)
-      (slots : List Slot) (are : SlotsAre sc level home base slots all) (small : base + length slots ≤ 2 ^ 16) (far : own.df + newest home base slots ≡ f) (apart : home + 2 + back.caller_cells ≤ f) where
+      (slots : List Slot) (are : SlotsAre sc known level home base slots all) (small : base + length slots ≤ 2 ^ 16) (far : own.df + newest home base slots ≡ f) (apart : home + 2 + back.caller_cells ≤ f) where
     abbrev pub below_is : Below
     below_is = record { mark = newest home base slots; frame = home; control = back }
 

@@ -1,23 +1,24 @@
 -- A procedure is entered.
-use Rattle.std.proofs.Common.{◌≡◌, ◌⊎◌, inl, inr, refl, sym, ap, ◌∙◌, subst, ℕ, suc, ◌+◌, ◌-◌, ◌*◌, ◌≤◌, ◌<◌, List, ◌∷◌, length, Option, Some, None, true, false, arith}
-use Rattle.std.specs.Prelude.{slice_get}
+use Rattle.std.proofs.Common.{◌≡◌, ◌⊎◌, inl, inr, refl, sym, ap, ◌∙◌, subst, ℕ, zero, suc, ◌+◌, ◌-◌, ◌*◌, ◌≤◌, ◌<◌, List, [], ◌∷◌, ◌++◌, length, Option, Some, None, true, false, arith}
+use Rattle.std.specs.Prelude.{slice_get, map}
 use Rattle.b67_list.specs.Numbered.{numbered}
 use Rattle.algol_tree.specs.declared.tree.Kind.{Kind}
 use Rattle.algol_tree.specs.declared.tree.Named.{Named}
 use Rattle.algol_tree.specs.Plain.{PProgram}
-use Rattle.algol_tree.specs.Sorts.{Sort}
+use Rattle.algol_tree.specs.Sorts.{Sort, is_variable}
 use Rattle.algol_tree.specs.Blocks.{Block, block_numbered, number_at, around}
 use Rattle.algol_tree.specs.Cells.{level_of}
 use Rattle.algol_tree.specs.Scopes.{Scopes, scopes_of, use_of}
-use Rattle.algol_meaning.specs.Rest.{Answer, Given, entered}
+use Rattle.algol_meaning.specs.Rest.{Answer, Given, valued, entered}
+use Rattle.algol_meaning.specs.Value.{Value, Cell, simple}
 use Rattle.algol_meaning.specs.World.{Instance, Process, Part, procedure, able, World, instance_at, or_no_instance, ancestor}
 use Rattle.algol_meaning.specs.Asks.{Ask, nothing, enters, ask, resume}
 use Rattle.algol_meaning.specs.Choice.{choice_of, entered_procedure, given_cells}
 use Rattle.algol_meaning.specs.Settle.{block_of}
-use Rattle.algol_paths.specs.Blocks.{IsSeen, IsInner}
-use Rattle.algol_paths.specs.Laws.{RestsKeepToTheirText}
+use Rattle.algol_paths.specs.Arrays.{to_make}
+use Rattle.algol_paths.specs.Blocks.{IsSeen, IsSeenAround, IsInner}
+use Rattle.algol_paths.specs.Laws.{RestsKeepToTheirText, ArraysAreMadeInOrder}
 use Rattle.algol_paths.specs.Segments.{is_procedure, segment_of}
-use Rattle.b67_word.specs.declared.Place.{Place}
 use Rattle.b67_word.specs.Word.{Word}
 use Rattle.b67_control.specs.declared.Pcw.{Pcw}
 use Rattle.b67_control.specs.Control.{Fits_pcw, as_irw, as_sirw, pcw_word}
@@ -32,8 +33,8 @@ use Rattle.b67_table.specs.declared.ProcessState.TheVariants.{Able}
 use Rattle.b67_table.specs.Chains.{place}
 use Rattle.b67_table.specs.Image.{Image}
 use Rattle.b67_table.specs.Private.{frame, display_at}
-use Rattle.b67_templates.specs.Cells.{simple_cells, procedures, control_segments, IsProcedure}
-use Rattle.b67_templates.specs.Depths.{stmts_depth}
+use Rattle.b67_templates.specs.Cells.{Simple, parameter_cells, parameter_kinds, simple_cells, procedures, control_segments, IsProcedure}
+use Rattle.b67_templates.specs.Depths.{decls_depth, stmts_depth}
 use Rattle.b67_templates.specs.Fragments.{code_at}
 use Rattle.b67_templates.specs.Programs.{context_of, BodyAt, ProgramAt}
 use Rattle.b67_standing.specs.Laws.{BlocksStart}
@@ -44,34 +45,41 @@ use Rattle.b67_cores.specs.Slots.{SlotIs}
 use Rattle.b67_cores.specs.Stretches.{BlocksBegin, FragmentsArePerformed, control_words}
 use Rattle.b67_faithful.specs.Faithful.{IsShort}
 use Rattle.b67_faithful.specs.Weight.{tokens_around}
-use Rattle.b67_fitting.specs.Nested.{LiesNested, IsDeclared}
+use Rattle.b67_fitting.specs.Nested.{LiesNested, IsDeclared, AreByValue}
+use Rattle.b67_pictures.specs.Arrays.{Layout}
 use Rattle.b67_pictures.specs.Acting.{Does}
-use Rattle.b67_pictures.specs.Frames.{most_around}
-use Rattle.b67_pictures.proofs.AskedEntries.{enters_seen}
+use Rattle.b67_pictures.specs.Frames.{most_around, IsComplete}
+use Rattle.b67_pictures.proofs.Actuals.{given_are, kinds_many}
+use Rattle.b67_pictures.proofs.AskedEntries.{enters_seen, entered_in_bound}
+use Rattle.b67_pictures.proofs.Completing.{complete_of}
 use Rattle.b67_pictures.proofs.EnterProcedureRow.{procedure_leads, procedure_calls}
 use Rattle.b67_pictures.proofs.Entries.{Calls}
 use Rattle.b67_pictures.proofs.FrameEntering.{Body, GoesOnBehind, entering}
-use Rattle.b67_pictures.proofs.FreshCells.{words_long}
+use Rattle.b67_pictures.proofs.FreshCells.{simple_many, words_long}
 use Rattle.b67_pictures.proofs.Homes.{get-behind}
 use Rattle.b67_pictures.proofs.Linked.{Linked, begins_core, own_linked, linked_lies, linked_low, level_around}
 use Rattle.b67_pictures.proofs.Lying.{Lies, lies_in, IsParent, parents_in}
 use Rattle.b67_pictures.proofs.Numbers.{get_within, get_below}
 use Rattle.b67_pictures.proofs.Scene.{Scene}
-use Rattle.b67_pictures.proofs.Segmented.{before_whole, segment_low, procedure_segment, get_mapped}
+use Rattle.b67_pictures.proofs.Segmented.{before_whole, segment_low, procedure_segment, get_mapped, length_mapped}
 use Rattle.b67_pictures.proofs.StackWords.{get-front}
 use Rattle.b67_pictures.proofs.Stage.{choice_is}
-use Rattle.b67_pictures.proofs.Staying.{text_in, level_in, context_in, most_in, length_around}
+use Rattle.b67_pictures.proofs.Parents.{length_around}
+use Rattle.b67_pictures.proofs.Staying.{text_in, level_in, context_in, most_in}
+use Rattle.b67_pictures.proofs.Unmade.{makes, unmade}
 use Rattle.b67_pictures.proofs.Words.{reference_read}
 
--- the statements of a procedure, with the control words of those that it declares, need no more words than its segment has room for
+-- what makes the arrays of a procedure, and its statements, with the control words of those that it declares, need no more words than its
+-- segment has room for
 abbrev pub HasRoomFor : PProgram → Type 0
 HasRoomFor tree =
     (j : ℕ) → j < length (scopes_of tree).blocks → (j ≡ 0) ⊎ (is_procedure (block_numbered (scopes_of tree).blocks j) ≡ true) →
-    stmts_depth ((block_numbered (scopes_of tree).blocks j).stmts) + length (procedures (block_numbered (scopes_of tree).blocks j).decls) + 1 ≤ 4 * tokens_around tree j
+    decls_depth ((block_numbered (scopes_of tree).blocks j).decls) + stmts_depth ((block_numbered (scopes_of tree).blocks j).stmts)
+    + length (procedures (block_numbered (scopes_of tree).blocks j).decls) + 1 ≤ 4 * tokens_around tree j
 
 module _ (tree : PProgram) (code : Code) (program : ProgramAt code tree) (nested : LiesNested tree) (short : IsShort tree code) (small : HasRoomFor tree)
-    (fragments : FragmentsArePerformed) (begins_so : BlocksBegin) (starts : BlocksStart) (keeps : RestsKeepToTheirText)
-    (w : World) (lay : List Place) (img : Image) (p : ℕ) (q : Process) (part : Part) (outer : List Part) (bound : ℕ) (core : Core)
+    (fragments : FragmentsArePerformed) (begins_so : BlocksBegin) (starts : BlocksStart) (keeps : RestsKeepToTheirText) (order : ArraysAreMadeInOrder)
+    (w : World) (lay : Layout) (img : Image) (p : ℕ) (q : Process) (part : Part) (outer : List Part) (bound : ℕ) (core : Core)
     (s : Scene tree code program.texts w lay img p q part outer bound core) (able_is : q.state ≡ able) (able_p : numbered img.states p ≡ Some Able)
     (n : Named) (gs : List Given) (asks : ask part.rest ≡ enters n gs)
     (a : ActionAt (scopes_of tree) (context_in tree code w part) (text_in tree program.texts w part) (level_in tree w part) (most_in tree w part) (enters n gs) s.stands.pc s.stands.slots)
@@ -118,7 +126,7 @@ module _ (tree : PProgram) (code : Code) (program : ProgramAt code tree) (nested
   h = ancestor w up part.instance
 
   seen_there : IsSeen sc block n
-  seen_there = enters_seen (IsSeen sc block) n gs (IsInner sc block) part.rest asks s.stands.frame.text
+  seen_there = enters_seen (IsSeen sc block) n gs (IsInner sc block) (IsSeenAround sc block) (λ (seen : IsSeenAround sc block n). seen.0) part.rest asks s.stands.frame.text
 
   high : up + OUTER_LEVEL ≤ level
   high = omega (arith, length_around sc.blocks block, get_below (block ∷ around sc.blocks block) up u seen_there)
@@ -140,6 +148,24 @@ module _ (tree : PProgram) (code : Code) (program : ProgramAt code tree) (nested
 
   u_known : u < length sc.blocks
   u_known = subst (λ (k : ℕ). k < length sc.blocks) block_is lies.frame.framed.known
+
+  -- It has made all its arrays: no bound of an array calls a procedure of its own block.
+  complete : IsComplete sc w lay h
+  complete = by_up up parent.complete (by_text (entered_in_bound (IsSeen sc block) n gs (IsInner sc block) (IsSeenAround sc block) part.rest asks s.stands.frame.text))
+    where
+      by_text : (to_make part.rest ≡ []) ⊎ IsSeenAround sc block n → (to_make part.rest ≡ []) ⊎ (1 ≤ up)
+      by_text (inl none) = inl none
+      by_text (inr seen) = far seen.1
+        where
+          far : (1 ≤ up) ⊎ (is_variable ((use_of sc n).sort) ≡ true) → (to_make part.rest ≡ []) ⊎ (1 ≤ up)
+          far (inl more) = inr more
+          far (inr variable) = absurd (let clash : false ≡ true = sym (ap is_variable named.sort_is) ∙ variable in cc)
+
+      by_up : (k : ℕ) → (1 ≤ k → IsComplete sc w lay (ancestor w k part.instance)) → (to_make part.rest ≡ []) ⊎ (1 ≤ k) → IsComplete sc w lay (ancestor w k part.instance)
+      by_up zero more (inl none) =
+          complete_of sc w lay p part.instance outer (length s.stands.frame.lower) s.stands.frame.mark s.stands.frame.control s.stands.frame.cells s.stands.frame.framed (s.stands.frame.making ∙ none)
+      by_up zero more (inr far) = absurd (omega (arith, far))
+      by_up (suc k) more known_so = more (omega arith)
 
   -- ---- the procedure
 
@@ -182,19 +208,31 @@ module _ (tree : PProgram) (code : Code) (program : ProgramAt code tree) (nested
   -- ---- its control word
 
   abbrev far : ℕ
-  far = length (simple_cells (block_numbered sc.blocks u)) + named.number
+  far = length (simple_cells sc (block_numbered sc.blocks u)) + named.number
 
-  cells_lie : slice_get lies.frame.cells far ≡ Some (pcw_word c)
-  cells_lie =
-      ap (λ (ws : List Word). slice_get ws far) lies.frame.framed.cells_is
-      ∙ get-behind lies.frame.framed.values (control_words (level_of (block_numbered sc.blocks x.block)) (control_segments sc (block_numbered sc.blocks x.block).decls)) named.number far
-      (omega (arith, words_long (simple_cells (block_numbered sc.blocks x.block)) x.cells lies.frame.framed.values lies.frame.framed.cells_are, ap (λ (k : ℕ). length (simple_cells (block_numbered sc.blocks k))) block_is))
-      ∙ ap (λ (k : ℕ). slice_get (control_words (level_of (block_numbered sc.blocks k)) (control_segments sc (block_numbered sc.blocks k).decls)) named.number) block_is
+  abbrev controls_there : List Word
+  controls_there = control_words (level_of (block_numbered sc.blocks x.block)) (control_segments sc (block_numbered sc.blocks x.block).decls)
+
+  control_lies : slice_get controls_there named.number ≡ Some (pcw_word c)
+  control_lies =
+      ap (λ (k : ℕ). slice_get (control_words (level_of (block_numbered sc.blocks k)) (control_segments sc (block_numbered sc.blocks k).decls)) named.number) block_is
       ∙ get_mapped (λ (k : ℕ). pcw_word (code_at k 0 (level_of (block_numbered sc.blocks u) + 1))) (control_segments sc (block_numbered sc.blocks u).decls) named.number
       (segment_of sc.blocks (number_at sc.blocks named.declared.spot))
       (get_mapped (λ (m : Named). segment_of sc.blocks (number_at sc.blocks m.spot)) (procedures (block_numbered sc.blocks u).decls) named.number named.declared named.there)
       ∙ ap (λ (k : ℕ). Some (pcw_word (code_at (segment_of sc.blocks k) 0 (level_of (block_numbered sc.blocks u) + 1)))) named.callee_is
       ∙ ap (λ (l : ℕ). Some (pcw_word (code_at (segment_of sc.blocks callee) 0 l))) (sym level_new)
+
+  -- it lies behind the values, before the descriptors of arrays
+  cells_lie : slice_get lies.frame.cells far ≡ Some (pcw_word c)
+  cells_lie =
+      ap (λ (ws : List Word). slice_get ws far) lies.frame.framed.cells_is
+      ∙ get-behind lies.frame.framed.values (controls_there ++ lies.frame.framed.descriptors) named.number far
+      (omega (
+        arith,
+        words_long (simple_cells sc (block_numbered sc.blocks x.block)) lies.frame.framed.simple lies.frame.framed.values lies.frame.framed.simple_are,
+        ap (λ (k : ℕ). length (simple_cells sc (block_numbered sc.blocks k))) block_is,
+      ))
+      ∙ get-front controls_there lies.frame.framed.descriptors named.number (pcw_word c) control_lies
 
   abbrev there : ℕ
   there = length lies.frame.lower + couple.index
@@ -233,7 +271,7 @@ module _ (tree : PProgram) (code : Code) (program : ProgramAt code tree) (nested
       )
 
   abbrev IsReference : Word → Type 0
-  IsReference y = SlotIs sc level (frame core.registers) (length core.below) (mark ∷ a.2) (reference couple) y
+  IsReference y = SlotIs sc s.stands.held level (frame core.registers) (length core.below) (mark ∷ a.2) (reference couple) y
 
   reads : (y : Word) → IsReference y → as_irw y ≡ Some (record { level = couple.level; index = couple.index })
   reads y is =
@@ -244,13 +282,27 @@ module _ (tree : PProgram) (code : Code) (program : ProgramAt code tree) (nested
   no_sirw : as_sirw (pcw_word c) ≡ None
   no_sirw = as_sirw-other (pcw_word c) (λ k. let other = sym (kind_of-pcw_word c fits) ∙ k in cc)
 
-  abbrev calls : Calls tree code texts nested short w lay img p q part outer bound core s (reference couple) a.1 a.2 h callee 0
+  -- ---- what is given
+
+  by_value : AreByValue sc b
+  by_value = (nested.nested.each callee known).parameters
+
+  values_many : length at.values ≡ length (parameter_cells sc b)
+  values_many = kinds_many (parameter_kinds sc callee) at.values at.fit ∙ length_mapped (λ (c : Simple). c.kind) (parameter_cells sc b)
+
+  cells_given : (vs : List Value) → given_cells sc w p q part outer (map valued vs) ≡ map simple vs
+  cells_given [] = refl
+  cells_given (v ∷ vs) = ap (λ (cs : List Cell). simple v ∷ cs) (cells_given vs)
+
+  abbrev calls : Calls tree code texts nested short w lay img p q part outer bound core s at.values (reference couple) a.1 a.2 h callee 0
   calls =
       record {
         lies = at.lies;
+        values_few = omega (arith, values_many, simple_many sc b, (nested.nested.each callee known).few);
         marks = refl;
         stands = at.stands;
         own_parent = parent.own;
+        complete = complete;
         known = known;
         around_is = around_is;
         linked = linked;
@@ -268,10 +320,10 @@ module _ (tree : PProgram) (code : Code) (program : ProgramAt code tree) (nested
   code_there : BodyAt sc (context_of code sc callee) (texts (segment_of sc.blocks callee)) (level_of b) b 0
   code_there = program.bodies callee known (inr is_own)
 
-  room : stmts_depth b.stmts + length (procedures b.decls) + 1 ≤ 4 * tokens_around tree callee
+  room : decls_depth b.decls + stmts_depth b.stmts + length (procedures b.decls) + 1 ≤ 4 * tokens_around tree callee
   room = small callee known (inr is_own)
 
-  abbrev procedure_body : Body tree code texts nested short fragments begins_so keeps w lay img p q part outer bound core s able_is able_p callee 0
+  abbrev procedure_body : Body tree code texts nested short fragments begins_so keeps order w lay img p q part outer bound core s able_is able_p callee 0
   procedure_body =
       record {
         start = code_there.start;
@@ -280,13 +332,15 @@ module _ (tree : PProgram) (code : Code) (program : ProgramAt code tree) (nested
         small = omega (arith, room);
       }
 
-  abbrev behind : GoesOnBehind tree code texts nested short fragments begins_so keeps w lay img p q part outer bound core s able_is able_p a.1 a.2 callee
-  behind = record { waits = waits a.1 a.2 b.result (refl, refl, refl); returns = returns a.1 a.2 b.result (refl, refl, refl) }
+  abbrev behind : GoesOnBehind tree code texts nested short fragments begins_so keeps order w lay img p q part outer bound core s able_is able_p a.1 a.2 callee
+  behind = record { unmade = unmade part.rest (ap makes asks); waits = waits a.1 a.2 b.result (refl, refl, refl); returns = returns a.1 a.2 b.result (refl, refl, refl) }
 
   pub entering_procedure : Does tree code texts w img p
   entering_procedure =
-      entering tree code texts nested short fragments begins_so keeps w lay img p q part outer bound core s able_is able_p (reference couple) a.1 a.2 h callee 0 calls procedure refl procedure_body behind
+      entering tree code texts nested short fragments begins_so keeps order w lay img p q part outer bound core s able_is able_p at.values (reference couple) a.1 a.2 h callee 0 calls procedure refl procedure_body behind (map simple at.values)
+      (λ ws are. given_are (parameter_cells sc b) b.parameters at.values ws by_value.names at.fit are)
       (choice_is sc w p q part outer s.at s.todo
       ∙ ap (λ (k : Ask). choice_of sc w p q part outer k) asks
       ∙ ap (λ (x : Sort). entered_procedure sc w p q part outer (block_of x) h (given_cells sc w p q part outer gs)) named.sort_is
-      ∙ ap (λ (xs : List Given). entered_procedure sc w p q part outer callee h (given_cells sc w p q part outer xs)) at.none)
+      ∙ ap (λ (xs : List Given). entered_procedure sc w p q part outer callee h (given_cells sc w p q part outer xs)) at.given
+      ∙ ap (λ (xs : List Cell). entered_procedure sc w p q part outer callee h xs) (cells_given at.values))

@@ -4,7 +4,6 @@ use Rattle.std.proofs.Common.{◌≡◌, ◌⊎◌, inl, inr, refl, sym, ◌∙�
 use Rattle.b67_list.specs.Numbered.{numbered}
 use Rattle.algol_tree.specs.Plain.{PProgram}
 use Rattle.algol_meaning.specs.World.{Process, able, World}
-use Rattle.b67_word.specs.declared.Place.{Place}
 use Rattle.b67_segment.specs.Operators.{Placed}
 use Rattle.b67_segment.specs.declared.code.Code.{Code}
 use Rattle.b67_store.specs.Store.{stack_limit}
@@ -15,6 +14,7 @@ use Rattle.b67_table.specs.Table.{table, plain}
 use Rattle.b67_table.specs.Runs.{Plains, stay, go}
 use Rattle.b67_cores.specs.Cores.{Core, HasCore, with_core, size, CoreStep, CoreSteps, here, onward}
 use Rattle.b67_cores.specs.Stretches.{StepsArePerformed, StepsComeToLimit}
+use Rattle.b67_pictures.specs.Arrays.{Layout}
 use Rattle.b67_pictures.specs.Acting.{Does, gave, failed_by, stopped}
 use Rattle.b67_pictures.specs.Pictures.{Living, PicturesBy}
 use Rattle.b67_pictures.proofs.Plainly.{steps_fit, stepped, within_or_beyond, Nearer, step_made, pictured_nearer, plain_pictured}
@@ -22,7 +22,7 @@ use Rattle.b67_pictures.proofs.Plainly.{steps_fit, stepped, within_or_beyond, Ne
 -- each process of a picture whose core is settled does its action
 abbrev pub SettledAct : PProgram → Code → (ℕ → List Placed) → Type 0
 SettledAct tree code texts =
-    (w : World) (lay : List Place) (img : Image) (p : ℕ) (q : Process) → PicturesBy tree code texts w lay img → numbered w.processes p ≡ Some q → q.state ≡ able → numbered img.states p ≡ Some Able →
+    (w : World) (lay : Layout) (img : Image) (p : ℕ) (q : Process) → PicturesBy tree code texts w lay img → numbered w.processes p ≡ Some q → q.state ≡ able → numbered img.states p ≡ Some Able →
     (l : Living tree code texts w lay img p q) → HasCore img p l.settled → Does tree code texts w img p
 
 module _ (tree : PProgram) (code : Code) (texts : ℕ → List Placed) (performed : StepsArePerformed) (limits : StepsComeToLimit) (settled_does : SettledAct tree code texts) where
@@ -33,27 +33,27 @@ module _ (tree : PProgram) (code : Code) (texts : ℕ → List Placed) (performe
   not_plain (stopped np t heavy) = np
 
   -- a settled process's operator is not plain
-  pub is_quiet : (w : World) (lay : List Place) (img : Image) (p : ℕ) → PicturesBy tree code texts w lay img → (q : Process) → numbered w.processes p ≡ Some q → q.state ≡ able → numbered img.states p ≡ Some Able →
+  pub is_quiet : (w : World) (lay : Layout) (img : Image) (p : ℕ) → PicturesBy tree code texts w lay img → (q : Process) → numbered w.processes p ≡ Some q → q.state ≡ able → numbered img.states p ≡ Some Able →
       (l : Living tree code texts w lay img p q) → HasCore img p l.settled → plain code img p ≡ false
   is_quiet w lay img p by q at able_is able_p l has = not_plain (settled_does w lay img p q by at able_is able_p l has)
 
   -- a plain operator leaves an image of the same world, and so do many
-  pub through_plain : (w : World) (lay : List Place) (a b : Image) (p : ℕ) → PicturesBy tree code texts w lay a → plain code a p ≡ true → table code a p ≡ gives b → PicturesBy tree code texts w lay b
+  pub through_plain : (w : World) (lay : Layout) (a b : Image) (p : ℕ) → PicturesBy tree code texts w lay a → plain code a p ≡ true → table code a p ≡ gives b → PicturesBy tree code texts w lay b
   through_plain w lay a b p by e t = plain_pictured performed limits tree code texts w lay a b p e t by (is_quiet w lay a p by)
 
   -- the operator of an able process
-  pub data Operates (w : World) (lay : List Place) (img : Image) (p : ℕ) : Type 0 where
+  pub data Operates (w : World) (lay : Layout) (img : Image) (p : ℕ) : Type 0 where
     plainly : (after : Image) → plain code img p ≡ true → table code img p ≡ gives after → Operates w lay img p
     acting : Does tree code texts w img p → Operates w lay img p
 
   -- by plain operators it comes to an image in which it does its action, or comes to the limit
-  pub record Settles (w : World) (lay : List Place) (img : Image) (p : ℕ) : Type 0 where
+  pub record Settles (w : World) (lay : Layout) (img : Image) (p : ℕ) : Type 0 where
     pub count : ℕ
     pub quiet : Image
     pub plains : Plains code p img count quiet
     pub does : Does tree code texts w quiet p
 
-  module _ (w : World) (lay : List Place) (p : ℕ) (q : Process) (at : numbered w.processes p ≡ Some q) (able_is : q.state ≡ able) where
+  module _ (w : World) (lay : Layout) (p : ℕ) (q : Process) (at : numbered w.processes p ≡ Some q) (able_is : q.state ≡ able) where
     -- a step that is too long comes to the limit
     too_long : (img : Image) (l : Living tree code texts w lay img p q) (c b : Core) (n : ℕ) → HasCore img p c → CoreStep code c b → CoreSteps code l.bound n b l.settled → stack_limit < size b → Does tree code texts w img p
     too_long img l c b n has step more long =

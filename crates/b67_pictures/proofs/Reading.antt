@@ -11,9 +11,8 @@ use Rattle.algol_meaning.specs.World.{Process, Part, able, World, instance_at}
 use Rattle.algol_meaning.specs.Actions.{Read}
 use Rattle.algol_meaning.specs.Asks.{Ask, reads, ask, resume}
 use Rattle.algol_meaning.specs.Choice.{choice_of, read_of}
-use Rattle.algol_paths.specs.Blocks.{IsSeen, IsInner}
-use Rattle.algol_paths.specs.Laws.{RestsKeepToTheirText}
-use Rattle.b67_word.specs.declared.Place.{Place}
+use Rattle.algol_paths.specs.Blocks.{IsSeen, IsSeenAround, IsInner}
+use Rattle.algol_paths.specs.Laws.{RestsKeepToTheirText, ArraysAreMadeInOrder}
 use Rattle.b67_word.specs.Word.{Word}
 use Rattle.b67_ops.specs.declared.Operator.TheVariants as ops
 use Rattle.b67_segment.specs.Operators.{Placed}
@@ -29,6 +28,7 @@ use Rattle.b67_standing.specs.Stepping.{Slot, operand}
 use Rattle.b67_standing.specs.Standing.{ActionAt, Acted, ComesTo}
 use Rattle.b67_cores.specs.Cores.{Core, IsCore, with_core}
 use Rattle.b67_cores.specs.Stretches.{CoreAt, FragmentsArePerformed}
+use Rattle.b67_pictures.specs.Arrays.{Layout}
 use Rattle.b67_pictures.specs.Acting.{Does}
 use Rattle.b67_pictures.proofs.Asked.{reads_seen}
 use Rattle.b67_pictures.proofs.Homes.{operator_there, Home, home}
@@ -40,8 +40,9 @@ use Rattle.b67_pictures.proofs.StackWords.{get-front}
 use Rattle.b67_pictures.proofs.Staying.{text_in, level_in, context_in, most_in}
 use Rattle.b67_pictures.proofs.ValueRow.{with_top, value_raw, value_class}
 use Rattle.b67_pictures.proofs.Words.{value_tag, no_sirw, no_pcw}
+use Rattle.b67_pictures.proofs.Unmade.{makes, unmade}
 
-module _ (tree : PProgram) (code : Code) (texts : ℕ → List Placed) (fragments : FragmentsArePerformed) (keeps : RestsKeepToTheirText) (w : World) (lay : List Place) (img : Image)
+module _ (tree : PProgram) (code : Code) (texts : ℕ → List Placed) (fragments : FragmentsArePerformed) (keeps : RestsKeepToTheirText) (order : ArraysAreMadeInOrder) (w : World) (lay : Layout) (img : Image)
     (p : ℕ) (q : Process) (part : Part) (outer : List Part) (bound : ℕ) (core : Core) (s : Scene tree code texts w lay img p q part outer bound core) (able_is : q.state ≡ able) (able_p : numbered img.states p ≡ Some Able) where
   abbrev sc : Scopes
   sc = scopes_of tree
@@ -51,7 +52,7 @@ module _ (tree : PProgram) (code : Code) (texts : ℕ → List Placed) (fragment
       ComesTo sc (context_in tree code w part) (text_in tree texts w part) (level_in tree w part) (most_in tree w part) (resume sc part.rest r) at after) where
     -- the operator, and where it finds the variable
     there : operator_at code core.registers ≡ Ok (ops.Valc a.2.0, a.1)
-    there = operator_there sc code (text_in tree texts w part) (level_in tree w part) s.stands.pc s.stands.slots core (ops.Valc a.2.0) a.1 s.stands.there a.2.2
+    there = operator_there sc s.stands.held code (text_in tree texts w part) (level_in tree w part) s.stands.pc s.stands.slots core (ops.Valc a.2.0) a.1 s.stands.there a.2.2
 
     abbrev Found : Type 0
     Found = Home tree code texts w lay img p q part outer bound core s n a.0 a.2.0
@@ -59,7 +60,8 @@ module _ (tree : PProgram) (code : Code) (texts : ℕ → List Placed) (fragment
     found : Found
     found =
         home tree code texts w lay img p q part outer bound core s n a.0 a.2.0
-        (reads_seen (IsSeen sc ((instance_at w part.instance).block)) n (IsInner sc ((instance_at w part.instance).block)) part.rest asks s.stands.frame.text) a.2.1
+        (reads_seen (IsSeen sc ((instance_at w part.instance).block)) n (IsInner sc ((instance_at w part.instance).block)) (IsSeenAround sc ((instance_at w part.instance).block))
+        (λ (seen : IsSeenAround sc ((instance_at w part.instance).block) n). seen.0) part.rest asks s.stands.frame.text) a.2.1
 
     module _ (f : Found) where
       tag : f.word.tag ≡ 0
@@ -80,7 +82,7 @@ module _ (tree : PProgram) (code : Code) (texts : ℕ → List Placed) (fragment
       is_new : IsCore new
       is_new = record { bottom = s.has.is.bottom; top = omega (arith, s.has.is.top) }
 
-      core_at : CoreAt sc code (text_in tree texts w part) (level_in tree w part) a.1 (operand f.value ∷ s.stands.slots) new
+      core_at : CoreAt sc s.stands.held code (text_in tree texts w part) (level_in tree w part) a.1 (operand f.value ∷ s.stands.slots) new
       core_at =
           record {
             segment = s.stands.there.segment;
@@ -95,7 +97,7 @@ module _ (tree : PProgram) (code : Code) (texts : ℕ → List Placed) (fragment
 
       pub read_does : Does tree code texts w img p
       read_does =
-          does_in_frame tree code texts fragments keeps w lay img p q part outer bound core s able_is able_p (value f.value) tt w.output new refl (record { is = refl }) a.1 (operand f.value ∷ s.stands.slots)
+          does_in_frame tree code texts fragments keeps order w lay img p q part outer bound core s able_is able_p (unmade part.rest (ap makes asks)) (value f.value) tt w.output new refl (record { is = refl }) s.stands.held s.stands.held_are a.1 (operand f.value ∷ s.stands.slots)
           core_at (omega (arith, a.3)) (answered (value f.value) a.1 (operand f.value ∷ s.stands.slots) (refl, refl, f.fits)) Read
           (action_not_plain code img p core s.has (ops.Valc a.2.0) a.1 there
           (value_class code img p core s.has a.2.0 a.1 there (place p at) f.shown f.word lies tag (no_sirw f.word tag) (no_pcw f.word tag)))

@@ -1,21 +1,20 @@
 -- The read of a procedure's result, at its end.
-use Rattle.std.proofs.Common.{◌≡◌, refl, sym, ap, ◌∙◌, subst, ℕ, suc, ◌+◌, List, [], ◌∷◌, ◌++◌, length, Option, Some, Bool, true, Ok, arith}
+use Rattle.std.proofs.Common.{◌≡◌, refl, sym, ap, ◌∙◌, subst, ℕ, suc, ◌+◌, List, [], ◌∷◌, ◌++◌, length, Option, Some, None, Bool, true, false, Ok, arith}
 use Rattle.std.specs.Prelude.{if◌then◌else◌, ◌&&◌, ◌==◌, slice_get}
 use Rattle.std.proofs.lemmas.Bool.Decides.{nat_tests}
 use Rattle.b67_list.specs.Numbered.{numbered}
 use Rattle.algol_tree.specs.declared.tree.Kind.{Kind}
-use Rattle.algol_tree.specs.Sorts.{Parameter, same_name}
+use Rattle.algol_tree.specs.Sorts.{same_name}
 use Rattle.algol_tree.specs.Blocks.{Block, block_numbered}
 use Rattle.algol_tree.specs.Plain.{PProgram}
 use Rattle.algol_tree.specs.Scopes.{Scopes, scopes_of}
 use Rattle.algol_meaning.specs.Value.{Cell, simple}
 use Rattle.algol_meaning.specs.Rest.{Answer, value}
-use Rattle.algol_meaning.specs.World.{Instance, Process, Part, able, World, instance_at, or_no_instance, cell_at, cell_in, value_in}
+use Rattle.algol_meaning.specs.World.{NamedCell, Instance, Process, Part, able, World, instance_at, or_no_instance, cell_at, cell_in, value_in}
 use Rattle.algol_meaning.specs.Actions.{Read}
 use Rattle.algol_meaning.specs.Asks.{Ask, reads_result, ask, resume}
 use Rattle.algol_meaning.specs.Choice.{choice_of, goes}
-use Rattle.algol_paths.specs.Laws.{RestsKeepToTheirText}
-use Rattle.b67_word.specs.declared.Place.{Place}
+use Rattle.algol_paths.specs.Laws.{RestsKeepToTheirText, ArraysAreMadeInOrder}
 use Rattle.b67_word.specs.Word.{Word}
 use Rattle.b67_ops.specs.declared.Operator.TheVariants as ops
 use Rattle.b67_segment.specs.Operators.{Placed}
@@ -28,14 +27,16 @@ use Rattle.b67_table.specs.Effect as effects
 use Rattle.b67_table.specs.Outcome as outcomes
 use Rattle.b67_table.specs.Private.{display_at}
 use Rattle.b67_table.specs.Table.{operator_at}
-use Rattle.b67_templates.specs.Cells.{result_of, variables, simple_cells, Found, found_from}
+use Rattle.b67_templates.specs.Cells.{Simple, parameter_cells, result_of, variables, simple_cells, Found, found_from}
 use Rattle.b67_templates.specs.Code.{ResultAt}
 use Rattle.b67_fitting.specs.Nested.{AreNested}
 use Rattle.b67_standing.specs.Stepping.{Slot, operand}
 use Rattle.b67_standing.specs.Standing.{ActionAt, Acted, ComesTo}
 use Rattle.b67_cores.specs.Cores.{Core, IsCore, with_core}
 use Rattle.b67_cores.specs.Stretches.{CoreAt, FragmentsArePerformed}
+use Rattle.b67_pictures.specs.Arrays.{Layout}
 use Rattle.b67_pictures.specs.Acting.{Does}
+use Rattle.b67_pictures.proofs.FreshCells.{cells_joined}
 use Rattle.b67_pictures.proofs.Homes.{operator_there, get-behind}
 use Rattle.b67_pictures.proofs.InFrame.{does_in_frame}
 use Rattle.b67_pictures.proofs.Linked.{begins_core}
@@ -45,8 +46,9 @@ use Rattle.b67_pictures.proofs.Stage.{choice_is}
 use Rattle.b67_pictures.proofs.StackWords.{get-front}
 use Rattle.b67_pictures.proofs.Staying.{text_in, level_in, context_in, most_in}
 use Rattle.b67_pictures.proofs.ValueRow.{with_top, value_raw, value_class}
-use Rattle.b67_pictures.proofs.Variables.{Cell_of, variable_cell, Holds_value, value_of_cell}
+use Rattle.b67_pictures.proofs.Variables.{Cell_of, variable_cell, cell_front, Holds_value, value_of_cell}
 use Rattle.b67_pictures.proofs.Words.{value_tag, no_sirw, no_pcw}
+use Rattle.b67_pictures.proofs.Unmade.{makes, unmade}
 
 itself : (n : ℕ) → (n == n) ≡ true
 itself n = grind (arith, nat_tests)
@@ -55,14 +57,28 @@ same_itself : (name : List ℕ) → same_name name name ≡ true
 same_itself [] = refl
 same_itself (x ∷ xs) = ap (λ (t : Bool). t && same_name xs xs) (itself x) ∙ same_itself xs
 
--- the result comes first among the cells of a block without parameters
-result_found : (b : Block) (kind : Kind) → b.parameters ≡ [] → b.result ≡ Some kind → found_from 0 (simple_cells b) b.name ≡ Some (record { number = 0; cell = record { name = b.name; kind = Some kind } })
-result_found b kind plain typed =
-    ap (λ (ps : List Parameter). found_from 0 (simple_cells (record b { parameters = ps })) b.name) plain
-    ∙ ap (λ (o : Option Kind). found_from 0 (result_of o b.name ++ variables b.decls) b.name) typed
-    ∙ ap (λ (t : Bool). if t then Some (record { number = 0; cell = record { name = b.name; kind = Some kind } }) else found_from 1 (variables b.decls) b.name) (same_itself b.name)
+-- what is not found among the first cells is found behind them
+found_behind : (from : ℕ) (ss others : List Simple) (name : List ℕ) (f : Found) → found_from from ss name ≡ None → found_from (from + length ss) others name ≡ Some f → found_from from (ss ++ others) name ≡ Some f
+found_behind from [] others name f none e = subst (λ (n : ℕ). found_from n others name ≡ Some f) (omega arith) e
+found_behind from (s ∷ ss) others name f none e = by_name (same_name s.name name) none (λ h. found_behind (from + 1) ss others name f h (subst (λ (n : ℕ). found_from n others name ≡ Some f) (omega arith) e))
+  where
+    by_name : (t : Bool) → (if t then Some (record { number = from; cell = s }) else found_from (from + 1) ss name) ≡ None → (found_from (from + 1) ss name ≡ None → found_from (from + 1) (ss ++ others) name ≡ Some f) →
+        (if t then Some (record { number = from; cell = s }) else found_from (from + 1) (ss ++ others) name) ≡ Some f
+    by_name true h later = cc
+    by_name false h later = later h
 
-module _ (tree : PProgram) (code : Code) (texts : ℕ → List Placed) (nested : AreNested (scopes_of tree)) (fragments : FragmentsArePerformed) (keeps : RestsKeepToTheirText) (w : World) (lay : List Place) (img : Image)
+-- the result comes first behind the cells of the parameters
+result_found : (sc : Scopes) (b : Block) (kind : Kind) → found_from 0 (parameter_cells sc b) b.name ≡ None → b.result ≡ Some kind →
+    found_from 0 (simple_cells sc b) b.name ≡ Some (record { number = length (parameter_cells sc b); cell = record { name = b.name; kind = Some kind } })
+result_found sc b kind apart typed =
+    let far = length (parameter_cells sc b) in
+    ap (λ (ss : List Simple). found_from 0 ss b.name) (cells_joined sc b)
+    ∙ found_behind 0 (parameter_cells sc b) (result_of b.result b.name ++ variables b.decls) b.name (record { number = far; cell = record { name = b.name; kind = Some kind } }) apart
+    (ap (λ (n : ℕ). found_from n (result_of b.result b.name ++ variables b.decls) b.name) (let same : 0 + far ≡ far = omega arith in same)
+    ∙ ap (λ (o : Option Kind). found_from far (result_of o b.name ++ variables b.decls) b.name) typed
+    ∙ ap (λ (t : Bool). if t then Some (record { number = far; cell = record { name = b.name; kind = Some kind } }) else found_from (far + 1) (variables b.decls) b.name) (same_itself b.name))
+
+module _ (tree : PProgram) (code : Code) (texts : ℕ → List Placed) (nested : AreNested (scopes_of tree)) (fragments : FragmentsArePerformed) (keeps : RestsKeepToTheirText) (order : ArraysAreMadeInOrder) (w : World) (lay : Layout) (img : Image)
     (p : ℕ) (q : Process) (part : Part) (outer : List Part) (bound : ℕ) (core : Core) (s : Scene tree code texts w lay img p q part outer bound core) (able_is : q.state ≡ able) (able_p : numbered img.states p ≡ Some Able)
     (name : List ℕ) (asks : ask part.rest ≡ reads_result name)
     (a : ActionAt (scopes_of tree) (context_in tree code w part) (text_in tree texts w part) (level_in tree w part) (most_in tree w part) (reads_result name) s.stands.pc s.stands.slots)
@@ -79,7 +95,7 @@ module _ (tree : PProgram) (code : Code) (texts : ℕ → List Placed) (nested :
   next = at.valued
 
   there : operator_at code core.registers ≡ Ok (ops.Valc at.couple, next)
-  there = operator_there sc code (text_in tree texts w part) (level_in tree w part) s.stands.pc s.stands.slots core (ops.Valc at.couple) next s.stands.there at.read
+  there = operator_there sc s.stands.held code (text_in tree texts w part) (level_in tree w part) s.stands.pc s.stands.slots core (ops.Valc at.couple) next s.stands.there at.read
 
   -- ---- its cell
 
@@ -98,29 +114,29 @@ module _ (tree : PProgram) (code : Code) (texts : ℕ → List Placed) (nested :
   named : b.name ≡ name
   named = subst (λ (x : Instance). (block_numbered sc.blocks x.block).name ≡ name) own_is at.named
 
-  plain : b.parameters ≡ []
-  plain = (nested.each own.block s.stands.frame.framed.known).plain
+  apart : found_from 0 (parameter_cells sc b) b.name ≡ None
+  apart = (nested.each own.block s.stands.frame.framed.known).parameters.apart at.kind typed
 
-  index_is : at.couple.index ≡ 2
-  index_is =
-      at.index_is
-      ∙ ap (λ (x : Instance). 2 + length (block_numbered sc.blocks x.block).parameters) own_is
-      ∙ ap (λ (ps : List Parameter). 2 + length ps) plain
+  index_is : at.couple.index ≡ 2 + length (parameter_cells sc b)
+  index_is = at.index_is ∙ ap (λ (x : Instance). 2 + length (parameter_cells sc (block_numbered sc.blocks x.block))) own_is
 
   abbrev found : Found
-  found = record { number = 0; cell = record { name = b.name; kind = Some at.kind } }
+  found = record { number = length (parameter_cells sc b); cell = record { name = b.name; kind = Some at.kind } }
+
+  abbrev first_cells : List NamedCell
+  first_cells = s.stands.frame.framed.simple
 
   abbrev Cell_there : Type 0
-  Cell_there = Cell_of found 0 b.name own.cells s.stands.frame.framed.values
+  Cell_there = Cell_of found 0 b.name first_cells s.stands.frame.framed.values
 
   c : Cell_there
-  c = variable_cell (simple_cells b) own.cells s.stands.frame.framed.values 0 b.name found s.stands.frame.framed.cells_are (result_found b at.kind plain typed)
+  c = variable_cell (simple_cells sc b) first_cells s.stands.frame.framed.values 0 b.name found s.stands.frame.framed.simple_are (result_found sc b at.kind apart typed)
 
   module _ (c : Cell_there) where
-    held : Holds_value at.kind (cell_in own.cells b.name) c.word
-    held = value_of_cell at.kind (cell_in own.cells b.name) c.word c.is
+    held : Holds_value at.kind (cell_in first_cells b.name) c.word
+    held = value_of_cell at.kind (cell_in first_cells b.name) c.word c.is
 
-    module _ (held : Holds_value at.kind (cell_in own.cells b.name) c.word) where
+    module _ (held : Holds_value at.kind (cell_in first_cells b.name) c.word) where
       tag : c.word.tag ≡ 0
       tag = value_tag held.value c.word held.word
 
@@ -148,7 +164,7 @@ module _ (tree : PProgram) (code : Code) (texts : ℕ → List Placed) (nested :
       is_new : IsCore new
       is_new = record { bottom = s.has.is.bottom; top = omega (arith, s.has.is.top) }
 
-      core_at : CoreAt sc code (text_in tree texts w part) (level_in tree w part) next (operand held.value ∷ s.stands.slots) new
+      core_at : CoreAt sc s.stands.held code (text_in tree texts w part) (level_in tree w part) next (operand held.value ∷ s.stands.slots) new
       core_at =
           record {
             segment = s.stands.there.segment;
@@ -161,12 +177,18 @@ module _ (tree : PProgram) (code : Code) (texts : ℕ → List Placed) (nested :
             words_are = (held.word, s.stands.there.words_are);
           }
 
+      -- it lies before the arrays
+      cell_here : cell_in own.cells b.name ≡ cell_in first_cells b.name
+      cell_here =
+          ap (λ (cells : List NamedCell). cell_in cells b.name) s.stands.frame.framed.has
+          ∙ cell_front (simple_cells sc b) first_cells s.stands.frame.framed.arrays s.stands.frame.framed.values 0 b.name found s.stands.frame.framed.simple_are (result_found sc b at.kind apart typed)
+
       cell_is : cell_at w (record { instance = part.instance; name = name }) ≡ simple held.value
-      cell_is = ap (λ (x : Instance). cell_in x.cells name) own_is ∙ ap (cell_in own.cells) (sym named) ∙ held.is
+      cell_is = ap (λ (x : Instance). cell_in x.cells name) own_is ∙ ap (cell_in own.cells) (sym named) ∙ cell_here ∙ held.is
 
       pub result_read : Does tree code texts w img p
       result_read =
-          does_in_frame tree code texts fragments keeps w lay img p q part outer bound core s able_is able_p (value held.value) tt w.output new refl (record { is = refl }) next (operand held.value ∷ s.stands.slots)
+          does_in_frame tree code texts fragments keeps order w lay img p q part outer bound core s able_is able_p (unmade part.rest (ap makes asks)) (value held.value) tt w.output new refl (record { is = refl }) s.stands.held s.stands.held_are next (operand held.value ∷ s.stands.slots)
           core_at (omega (arith, ap length a.1, a.2)) (answered (value held.value) next (operand held.value ∷ s.stands.slots) (refl, refl, held.kind)) Read
           (action_not_plain code img p core s.has (ops.Valc at.couple) next there
           (value_class code img p core s.has at.couple next there (place p base) shown c.word lies tag (no_sirw c.word tag) (no_pcw c.word tag)))

@@ -3,7 +3,6 @@ use Rattle.std.proofs.Common.{◌≡◌, refl, sym, ap, ◌∙◌, ℕ, ◌+◌,
 use Rattle.b67_list.specs.Numbered.{numbered}
 use Rattle.algol_tree.specs.Plain.{PProgram}
 use Rattle.algol_meaning.specs.World.{Process, Part, World}
-use Rattle.b67_word.specs.declared.Place.{Place}
 use Rattle.b67_control.specs.declared.Registers.{Registers}
 use Rattle.b67_control.specs.Display.{place_at}
 use Rattle.b67_segment.specs.Operators.{Placed}
@@ -16,11 +15,12 @@ use Rattle.b67_cores.specs.Cores.{Core, size, HasCore}
 use Rattle.b67_faithful.specs.Weight.{weight}
 use Rattle.b67_faithful.proofs.Contradictions.{some_same}
 use Rattle.b67_ops.specs.declared.TheConstants.{OUTER_LEVEL}
+use Rattle.b67_pictures.specs.Arrays.{Layout}
 use Rattle.b67_pictures.specs.Frames.{Stands, Around, Frames}
 use Rattle.b67_pictures.specs.Pictures.{innermost_most, Living, PicturesBy}
 use Rattle.b67_pictures.proofs.Staying.{level_in, most_in, wanted_in}
 
-module _ (tree : PProgram) (code : Code) (texts : ℕ → List Placed) (w : World) (lay : List Place) (img : Image) where
+module _ (tree : PProgram) (code : Code) (texts : ℕ → List Placed) (w : World) (lay : Layout) (img : Image) where
   -- process p, whose innermost part stands at its head: there its core is
   pub record Scene (p : ℕ) (q : Process) (part : Part) (outer : List Part) (bound : ℕ) (core : Core) : Type 0 where
     pub by : PicturesBy tree code texts w lay img

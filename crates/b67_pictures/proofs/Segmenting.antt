@@ -1,4 +1,5 @@
--- The statements of the program's outer block, and those of each procedure, need no more words than four for each token of their segment.
+-- The arrays and the statements of the program's outer block, and those of each procedure, need no more words than four for each token of
+-- their segment.
 use Rattle.std.proofs.Common.{◌≡◌, ◌⊎◌, inl, inr, refl, sym, ap, ◌∙◌, subst, ℕ, zero, suc, ◌+◌, ◌*◌, ◌<◌, ◌≤◌, Bool, true, false, List, [], ◌∷◌, ◌++◌, length, take, filter, Option, Some, arith, add-one, append-nil}
 use Rattle.std.specs.Prelude.{if◌then◌else◌, not, slice_get}
 use Rattle.std.specs.List.{flat_map}
@@ -13,25 +14,25 @@ use Rattle.algol_tree.specs.Classes.{Formal}
 use Rattle.algol_tree.specs.Counts.{heading_tokens, stmt_tokens}
 use Rattle.algol_tree.specs.Names.{Segment, segments_of_part}
 use Rattle.algol_tree.specs.Plain as tree
-use Rattle.algol_tree.specs.Plain.{PExpr, PExprs, PStmt, PStmts, PDecls, PProgram}
+use Rattle.algol_tree.specs.Plain.{PExpr, PExprs, PPair, PStmt, PStmts, PDecls, PProgram}
 use Rattle.algol_tree.specs.Scopes.{scopes_of}
-use Rattle.algol_tree.specs.Sites.{Site, name_part, wants_value, actual_part, first_formal, other_formals, inside_expr, inside_list, inside_actuals, sites, here_stmt, has_decls, inside_stmt, sites_in_stmts, sites_in_decls}
+use Rattle.algol_tree.specs.Sites.{Site, name_part, wants_value, actual_part, first_formal, other_formals, inside_expr, inside_list, inside_actuals, sites, sites_in_pairs, here_stmt, has_decls, inside_stmt, sites_in_stmts, sites_in_decls}
 use Rattle.algol_tree.specs.Sorts.{Declared}
 use Rattle.algol_tree.specs.Surroundings.{Surroundings, outermost, formals_at, knowing, knowing_all, inside, inside_procedure}
 use Rattle.algol_paths.specs.Segments.{is_procedure, procedures_before, segment_among, tokens_or_none, segment_tokens}
 use Rattle.b67_templates.specs.Cells.{procedures}
-use Rattle.b67_templates.specs.Depths.{stmts_depth}
+use Rattle.b67_templates.specs.Depths.{decls_depth, stmts_depth}
 use Rattle.b67_faithful.specs.Weight.{tokens_around}
 use Rattle.b67_fitting.specs.Built.{DeclsBuilt, StmtBuilt, StmtsBuilt, IsBuilt}
-use Rattle.b67_pictures.proofs.Weighing.{procedures_small, stmt_small, stmts_small}
+use Rattle.b67_pictures.proofs.Weighing.{decls_small, stmt_small, stmts_small}
 
 -- the segments that begin at these places of the text
 abbrev segs : List Site → List Segment
 segs xs = flat_map (λ (x : Site). segments_of_part x.part) xs
 
--- what a block's statements need, and the control words of its procedures, and one word more
+-- what a block's arrays and its statements need, and the control words of its procedures, and one word more
 abbrev pub needs : Block → ℕ
-needs b = stmts_depth b.stmts + length (procedures b.decls) + 1
+needs b = decls_depth b.decls + stmts_depth b.stmts + length (procedures b.decls) + 1
 
 -- each block has room in its segment
 abbrev Pairs : List Block → List Segment → Type 0
@@ -116,6 +117,10 @@ mutual
       ap (λ (ss : List Segment). ss ++ segs (inside_expr e a ++ inside_actuals es (other_formals fs) a)) (actual_none e (first_formal fs))
       ∙ both_none (inside_expr e a) (inside_actuals es (other_formals fs) a) (expr_none e a) (actuals_none es (other_formals fs) a)
 
+pairs_none : (pairs : List PPair) (a : Surroundings) → segs (sites_in_pairs pairs a) ≡ []
+pairs_none [] a = refl
+pairs_none (p ∷ pairs) a = both_none (sites p.high a) (sites_in_pairs pairs a) (expr_none p.high a) (pairs_none pairs a)
+
 -- ---- statements and declarations
 
 -- the statements of a procedure
@@ -125,7 +130,7 @@ head_small h (tree.label n s) outer = omega (arith, stmt_small (tree.label n s))
 head_small h (tree.assign v e) outer = omega (arith, stmt_small (tree.assign v e))
 head_small h (tree.call_of c) outer = omega (arith, stmt_small (tree.call_of c))
 head_small h (tree.go_to n) outer = omega arith
-head_small h (tree.block (tree.body spot ds ss)) outer = omega (arith, procedures_small ds, stmts_small ss)
+head_small h (tree.block (tree.body spot ds ss)) outer = omega (arith, decls_small ds, stmts_small ss)
 head_small h (tree.if_then c x) outer = omega (arith, stmt_small (tree.if_then c x))
 head_small h (tree.if_else c x y) outer = omega (arith, stmt_small (tree.if_else c x y))
 head_small h (tree.while c b) outer = omega (arith, stmt_small (tree.while c b))
@@ -198,7 +203,9 @@ module _ (blocks : List Block) where
     decls_match (tree.decls (tree.events ns) ds) a first outer built = absurd built.0
     decls_match (tree.decls (tree.tasks ns) ds) a first outer built = absurd built.0
     decls_match (tree.decls (tree.labels ns) ds) a first outer built = absurd built.0
-    decls_match (tree.decls (tree.arrays kind ns pairs) ds) a first outer built = absurd built.0
+    decls_match (tree.decls (tree.arrays kind ns pairs) ds) a first outer built =
+        let k : Surroundings = knowing blocks (tree.arrays kind ns pairs) ds a in
+        front (blocks_in_decls ds outer) (sites_in_pairs pairs (record k { known = first })) (sites_in_decls blocks ds k first) (pairs_none pairs (record k { known = first })) (decls_match ds k first outer built.1)
     -- the segment begins at the declaration
     decls_match (tree.decls (tree.procedure h s) ds) a first outer built =
         let k : Surroundings = knowing blocks (tree.procedure h s) ds a in
@@ -239,7 +246,7 @@ pub block_small : (p : PProgram) → IsBuilt p → (j : ℕ) → j < length (sco
 unfolding scopes_of blocks_of_program
 block_small (tree.program (tree.body spot ds ss)) built j known (inl first) =
     subst (λ (k : ℕ). needs (block_numbered (scopes_of (tree.program (tree.body spot ds ss))).blocks k) ≤ 4 * tokens_around (tree.program (tree.body spot ds ss)) k) (sym first)
-    (omega (arith, procedures_small ds, stmts_small ss))
+    (omega (arith, decls_small ds, stmts_small ss))
 block_small (tree.program (tree.body spot ds ss)) built j known (inr own) =
     let p : PProgram = tree.program (tree.body spot ds ss) in
     let bs : List Block = blocks_of_program p in

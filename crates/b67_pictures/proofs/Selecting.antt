@@ -17,7 +17,6 @@ use Rattle.algol_meaning.specs.World.{Process, Part, able, World}
 use Rattle.algol_meaning.specs.Actions as act
 use Rattle.algol_meaning.specs.Asks.{Ask, selects, ask, resume}
 use Rattle.algol_meaning.specs.Choice.{Choice, choice, choice_of, nth_exists, goes, fails}
-use Rattle.b67_word.specs.declared.Place.{Place}
 use Rattle.b67_ops.specs.declared.Operator.{Operator}
 use Rattle.b67_ops.specs.declared.Operator.TheVariants as ops
 use Rattle.b67_ops.specs.declared.PlainKind.TheVariants as kinds
@@ -42,7 +41,8 @@ use Rattle.b67_standing.specs.Stepping.{Slot}
 use Rattle.b67_standing.specs.Standing.{AreNumbers, ActionAt, Acted, ComesTo}
 use Rattle.b67_cores.specs.Cores.{Core, with_core}
 use Rattle.b67_cores.specs.Stretches.{FragmentsArePerformed}
-use Rattle.algol_paths.specs.Laws.{RestsKeepToTheirText}
+use Rattle.algol_paths.specs.Laws.{RestsKeepToTheirText, ArraysAreMadeInOrder}
+use Rattle.b67_pictures.specs.Arrays.{Layout}
 use Rattle.b67_pictures.specs.Acting.{Does, failed_by}
 use Rattle.b67_pictures.specs.Pictures.{Pictures}
 use Rattle.b67_pictures.proofs.Rows.{action_not_plain, action_is, fault_not_plain}
@@ -53,6 +53,7 @@ use Rattle.b67_pictures.proofs.Stage.{choice_is, faults_so, faulted}
 use Rattle.b67_pictures.proofs.Scene.{Scene}
 use Rattle.b67_pictures.proofs.Staying.{text_in, level_in, context_in, most_in}
 use Rattle.b67_pictures.proofs.InFrame.{does_in_frame}
+use Rattle.b67_pictures.proofs.Unmade.{makes, unmade}
 
 -- ---- places of a segment
 
@@ -132,8 +133,8 @@ number_is (truth b) z fits e = absurd fits
 
 -- ---- the action
 
-module _ (tree : PProgram) (code : Code) (texts : ℕ → List Placed) (fragments : FragmentsArePerformed) (keeps : RestsKeepToTheirText)
-    (short : All (λ (o : Segment). length o.words ≤ segment_limit) code.segments) (w : World) (lay : List Place) (img : Image)
+module _ (tree : PProgram) (code : Code) (texts : ℕ → List Placed) (fragments : FragmentsArePerformed) (keeps : RestsKeepToTheirText) (order : ArraysAreMadeInOrder)
+    (short : All (λ (o : Segment). length o.words ≤ segment_limit) code.segments) (w : World) (lay : Layout) (img : Image)
     (p : ℕ) (q : Process) (part : Part) (outer : List Part) (bound : ℕ) (core : Core) (s : Scene tree code texts w lay img p q part outer bound core) (able_is : q.state ≡ able) (able_p : numbered img.states p ≡ Some Able)
     (v : Value) (ss : PStmts) (asks : ask part.rest ≡ selects v ss) (a : ActionAt (scopes_of tree) (context_in tree code w part) (text_in tree texts w part) (level_in tree w part) (most_in tree w part) (selects v ss) s.stands.pc s.stands.slots)
     (answered : (r : Answer) (at : ℕ) (left : List Slot) → Acted (scopes_of tree) (context_in tree code w part) (text_in tree texts w part) (level_in tree w part) (most_in tree w part) (selects v ss) s.stands.pc s.stands.slots a r at left →
@@ -149,7 +150,7 @@ module _ (tree : PProgram) (code : Code) (texts : ℕ → List Placed) (fragment
   given_fit = (a.2.fits, (a.2.many, (a.2.place, tt)))
 
   there : operator_at code core.registers ≡ Ok (ops.Plain kinds.Entr, a.0)
-  there = operator_there sc code (text_in tree texts w part) (level_in tree w part) s.stands.pc s.stands.slots core (ops.Plain kinds.Entr) a.0 s.stands.there a.2.stands
+  there = operator_there sc s.stands.held code (text_in tree texts w part) (level_in tree w part) s.stands.pc s.stands.slots core (ops.Plain kinds.Entr) a.0 s.stands.there a.2.stands
 
   abbrev Called : Type 0
   Called = IsCall tree code texts w lay img p q part outer bound core s Select given a.1 given_fit a.2.lies
@@ -166,7 +167,7 @@ module _ (tree : PProgram) (code : Code) (texts : ℕ → List Placed) (fragment
 
     goes_to_case : (i : ℕ) → whole_of v ≡ pos i → i < stmts_count ss → nth_exists (whole_of v) ss ≡ true → case_in (whole_of v) (pos (stmts_count ss)) ≡ Some i → Does tree code texts w img p
     goes_to_case i is h exists inside =
-        does_in_frame tree code texts fragments keeps w lay img p q part outer bound core s able_is able_p done tt w.output (new i) refl (record { is = refl }) (a.0 + 3 * i) a.1
+        does_in_frame tree code texts fragments keeps order w lay img p q part outer bound core s able_is able_p (unmade part.rest (ap makes asks)) done tt w.output (new i) refl (record { is = refl }) s.stands.held s.stands.held_are (a.0 + 3 * i) a.1
         (c.after_at (a.0 + 3 * i)) c.few
         (answered done (a.0 + 3 * i) a.1 (i, number_is v (pos i) a.2.fits is, h, refl, refl)) act.Select
         (action_not_plain code img p core s.has (ops.Plain kinds.Entr) a.0 there

@@ -7,7 +7,6 @@ use Rattle.algol_meaning.specs.World.{Process, State, able, ended, lives, World,
 use Rattle.algol_meaning.specs.World.{is_able as meaning_able}
 use Rattle.algol_meaning.specs.Run.{end_of}
 use Rattle.algol_meaning.specs.Run as meaning
-use Rattle.b67_word.specs.declared.Place.{Place}
 use Rattle.b67_control.specs.declared.Registers.{Registers}
 use Rattle.b67_segment.specs.Operators.{Placed}
 use Rattle.b67_segment.specs.declared.code.Code.{Code}
@@ -24,6 +23,7 @@ use Rattle.b67_table.specs.Ending as machine
 use Rattle.b67_faithful.specs.Agreement.{end_as}
 use Rattle.b67_faithful.specs.Weight.{weight}
 use Rattle.b67_faithful.proofs.Contradictions.{true_false, some_same}
+use Rattle.b67_pictures.specs.Arrays.{Layout}
 use Rattle.b67_pictures.specs.Pictures.{failure_of, Living, Pictured, living, dead, PicturesBy}
 use Rattle.b67_pictures.proofs.Numbers.{numbered_beyond}
 use Rattle.b67_pictures.proofs.Plainly.{steps_fit}
@@ -85,7 +85,7 @@ no_limit code img p gone t = by_live (is_live (numbered img.states p)) (by_regis
     by_live true x f h = true_false refl f
     by_live false x f h = cc
 
-module _ (tree : PProgram) (code : Code) (texts : ℕ → List Placed) (w : World) (lay : List Place) (img : Image) (by : PicturesBy tree code texts w lay img) where
+module _ (tree : PProgram) (code : Code) (texts : ℕ → List Placed) (w : World) (lay : Layout) (img : Image) (by : PicturesBy tree code texts w lay img) where
   -- an able process, and how it is pictured
   pub record IsAble (p : ℕ) : Type 0 where
     pub process : Process

@@ -29,6 +29,7 @@ use Rattle.b67_faithful.specs.Weight.{weight}
 use Rattle.b67_faithful.specs.Simulation.{AreFew, Acted, Comes, acts, stops, Simulates}
 use Rattle.b67_faithful.proofs.Contradictions.{true_false, gives_same, faults_same, gives_faults}
 use Rattle.b67_faithful.proofs.Counting.{simulations_are_faithful}
+use Rattle.b67_pictures.specs.Arrays.{Layout}
 use Rattle.b67_pictures.specs.Acting.{Does, gave, failed_by, stopped}
 use Rattle.b67_pictures.specs.Pictures.{Living, Pictured, living, dead, PicturesBy, Pictures}
 use Rattle.b67_pictures.proofs.Numbers.{numbered_beyond}
@@ -59,29 +60,29 @@ PicturesSome tree code texts w img = Pictures tree code texts w img × (1 ≤ le
 -- what no operator of a pictured image touches: a word in another process's private part
 abbrev pub StandApart : PProgram → Code → (ℕ → List Placed) → Type 0
 StandApart tree code texts =
-    (w : World) (lay : List Place) (a : Image) → PicturesBy tree code texts w lay a → (p q : ℕ) (x : Place) (r : Registers) → OperatorTouches code a p x → Lives a q r → IsPrivate r x → p ≡ q
+    (w : World) (lay : Layout) (a : Image) → PicturesBy tree code texts w lay a → (p q : ℕ) (x : Place) (r : Registers) → OperatorTouches code a p x → Lives a q r → IsPrivate r x → p ≡ q
 
 -- the plain operators of a process of a pictured image are few
 abbrev pub OperatorsAreFew : PProgram → Code → (ℕ → List Placed) → Type 0
 OperatorsAreFew tree code texts =
-    (w : World) (lay : List Place) (a : Image) → PicturesBy tree code texts w lay a → (b : Image) (p n : ℕ) → Plains code p a n b → AreFew code p n b
+    (w : World) (lay : Layout) (a : Image) → PicturesBy tree code texts w lay a → (b : Image) (p n : ℕ) → Plains code p a n b → AreFew code p n b
 
 -- no action of a process that is pictured makes a process or takes one away
 abbrev pub ProcessesLast : PProgram → Code → (ℕ → List Placed) → Type 0
 ProcessesLast tree code texts =
-    (w : World) (lay : List Place) (img : Image) (p : ℕ) (q : Process) → PicturesBy tree code texts w lay img → numbered w.processes p ≡ Some q → Living tree code texts w lay img p q →
+    (w : World) (lay : Layout) (img : Image) (p : ℕ) (q : Process) → PicturesBy tree code texts w lay img → numbered w.processes p ≡ Some q → Living tree code texts w lay img p q →
     length (choice (scopes_of tree) w p).world.processes ≡ length w.processes
 
 module _ (tree : PProgram) (code : Code) (texts : ℕ → List Placed) (performed : StepsArePerformed) (limits : StepsComeToLimit) (settled_does : SettledAct tree code texts) (last : ProcessesLast tree code texts) where
   abbrev Pic : World → Image → Type 0
   Pic w img = PicturesSome tree code texts w img
 
-  abbrev Operator : World → List Place → Image → ℕ → Type 0
+  abbrev Operator : World → Layout → Image → ℕ → Type 0
   Operator w lay img p = Operates tree code texts performed limits settled_does w lay img p
 
   -- ---- an able process
 
-  module _ (w : World) (lay : List Place) (a : Image) (by : PicturesBy tree code texts w lay a) (p : ℕ) where
+  module _ (w : World) (lay : Layout) (a : Image) (by : PicturesBy tree code texts w lay a) (p : ℕ) where
     operator_of : IsAble tree code texts w lay a by p → Operator w lay a p
     operator_of one = operates tree code texts performed limits settled_does w lay p one.process one.at one.able_is a by one.able_p one.lives_so
 

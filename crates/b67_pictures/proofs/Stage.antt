@@ -5,11 +5,10 @@ use Rattle.std.proofs.lemmas.Bool.Decides.{nat_tests}
 use Rattle.b67_list.specs.Numbered.{numbered, set_numbered}
 use Rattle.b67_num.specs.declared.FaultKind.{FaultKind}
 use Rattle.algol_tree.specs.Plain.{PProgram}
-use Rattle.algol_tree.specs.Scopes.{Scopes}
+use Rattle.algol_tree.specs.Scopes.{Scopes, scopes_of}
 use Rattle.algol_meaning.specs.World.{Part, Process, able, World, process_at, or_no_process}
 use Rattle.algol_meaning.specs.Asks.{ask}
 use Rattle.algol_meaning.specs.Choice.{choice, choice_in, choice_of}
-use Rattle.b67_word.specs.declared.Place.{Place}
 use Rattle.b67_control.specs.declared.Registers.{Registers}
 use Rattle.b67_segment.specs.Operators.{Placed}
 use Rattle.b67_segment.specs.declared.code.Code.{Code}
@@ -24,7 +23,9 @@ use Rattle.b67_table.specs.Ending.{failed}
 use Rattle.b67_cores.specs.Cores.{Core, HasCore}
 use Rattle.b67_faithful.proofs.Contradictions.{some_same}
 use Rattle.b67_faithful.specs.Weight.{weight, parts_weight}
+use Rattle.b67_pictures.specs.Arrays.{Layout, ArraysAre}
 use Rattle.b67_pictures.specs.Pictures.{failure_of, Living, Pictured, living, PicturesBy}
+use Rattle.b67_pictures.proofs.ArraysKept.{arrays_unchanged}
 use Rattle.b67_pictures.proofs.Numbers.{same_or_not, numbered_set, numbered_other, length_set_numbered}
 use Rattle.b67_pictures.proofs.Kept.{AreAlike, alike_by, pictured_alike}
 use Rattle.b67_pictures.proofs.StoreRow.{most_is}
@@ -69,17 +70,18 @@ weight_of tree w p q parts at todo = ap (λ (o : Process). parts_weight tree w o
 
 -- ---- the picture after an action
 
-module _ (tree : PProgram) (code : Code) (texts : ℕ → List Placed) (w : World) (lay : List Place) (img : Image) (by : PicturesBy tree code texts w lay img) (p : ℕ) (q : Process)
+module _ (tree : PProgram) (code : Code) (texts : ℕ → List Placed) (w : World) (lay : Layout) (img : Image) (by : PicturesBy tree code texts w lay img) (p : ℕ) (q : Process)
     (at : numbered w.processes p ≡ Some q) where
   -- process p has come to this state in an image in which each other process has its core, and is pictured there
-  pub comes_to : (w' : World) (lay' : List Place) (img' : Image) (q' : Process) → w'.processes ≡ set_numbered w.processes p q' → length lay' ≡ length w'.instances →
+  pub comes_to : (w' : World) (lay' : Layout) (img' : Image) (q' : Process) → w'.processes ≡ set_numbered w.processes p q' → length lay'.places ≡ length w'.instances → ArraysAre (scopes_of tree) w' lay' img'.rows →
       ((r : ℕ) → r ≢ p → AreAlike w w' lay lay' r) → img'.output ≡ w'.output → w'.fault ≡ w.fault → img'.fault ≡ img.fault → img'.started ≡ img.started → length img'.states ≡ length img.states →
       ((r : ℕ) → r ≢ p → numbered img'.states r ≡ numbered img.states r) → stack_at img'.stacks 0 ≡ stack_at img.stacks 0 →
       ((r : ℕ) (core : Core) → r ≢ p → HasCore img r core → HasCore img' r core) → Pictured tree code texts w' lay' img' p q' → PicturesBy tree code texts w' lay' img'
-  comes_to w' lay' img' q' processes laid alike output world_fault fault started many states system keeps own =
+  comes_to w' lay' img' q' processes laid arrays alike output world_fault fault started many states system keeps own =
       let same_number : length w'.processes ≡ length w.processes = ap length processes ∙ length_set_numbered w.processes p q' in
       record {
         laid = laid;
+        arrays = arrays;
         output = output;
         fault = fault ∙ by.fault ∙ ap failure_of (sym world_fault);
         started = started ∙ by.started ∙ sym same_number;
@@ -100,12 +102,12 @@ module _ (tree : PProgram) (code : Code) (texts : ℕ → List Placed) (w : Worl
           pictured_alike tree code texts w w' lay lay' r (alike r other) img img' o (process_is w r o before) (process_is w' r o e') (states r other) (λ core has. keeps r core other has) (by.each r o before)
 
   -- it goes on, and stands for what it has still to do
-  pub goes_on : (w' : World) (lay' : List Place) (img' : Image) (q' : Process) → w'.processes ≡ set_numbered w.processes p q' → q'.state ≡ able → length lay' ≡ length w'.instances →
+  pub goes_on : (w' : World) (lay' : Layout) (img' : Image) (q' : Process) → w'.processes ≡ set_numbered w.processes p q' → q'.state ≡ able → length lay'.places ≡ length w'.instances → ArraysAre (scopes_of tree) w' lay' img'.rows →
       ((r : ℕ) → r ≢ p → AreAlike w w' lay lay' r) → img'.output ≡ w'.output → w'.fault ≡ w.fault → img'.fault ≡ img.fault → img'.started ≡ img.started → img'.states ≡ img.states →
       stack_at img'.stacks 0 ≡ stack_at img.stacks 0 → numbered img.states p ≡ Some Able → ((r : ℕ) (core : Core) → r ≢ p → HasCore img r core → HasCore img' r core) →
       Living tree code texts w' lay' img' p q' → PicturesBy tree code texts w' lay' img'
-  goes_on w' lay' img' q' processes able_is laid alike output world_fault fault started states system able_p keeps l =
-      comes_to w' lay' img' q' processes laid alike output world_fault fault started (ap length states) (λ r other. ap (λ (ss : List ProcessState). numbered ss r) states) system keeps
+  goes_on w' lay' img' q' processes able_is laid arrays alike output world_fault fault started states system able_p keeps l =
+      comes_to w' lay' img' q' processes laid arrays alike output world_fault fault started (ap length states) (λ r other. ap (λ (ss : List ProcessState). numbered ss r) states) system keeps
       (living able_is (ap (λ (ss : List ProcessState). numbered ss p) states ∙ able_p) l)
 
   -- a fault changes nothing else
@@ -114,6 +116,7 @@ module _ (tree : PProgram) (code : Code) (texts : ℕ → List Placed) (w : Worl
   faulted kind =
       record {
         laid = by.laid;
+        arrays = arrays_unchanged (scopes_of tree) w (record w { fault = Some (record { kind = kind; process = p }) }) lay img.rows refl by.arrays;
         output = by.output;
         fault = refl;
         started = by.started;

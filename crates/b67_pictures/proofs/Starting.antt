@@ -1,12 +1,12 @@
 -- The first image pictures the first world.
-use Rattle.std.proofs.Common.{◌≡◌, inl, refl, sym, ap, ◌∙◌, subst, ℕ, zero, suc, ◌+◌, ◌-◌, ◌*◌, ◌<◌, ◌≤◌, List, [], ◌∷◌, ◌++◌, length, Some, None, true, false, arith, length-append}
+use Rattle.std.proofs.Common.{◌≡◌, inl, refl, sym, ap, ◌∙◌, subst, ℕ, zero, suc, ◌+◌, ◌-◌, ◌*◌, ◌<◌, ◌≤◌, List, [], ◌∷◌, ◌++◌, length, Some, None, true, false, arith, length-append, append-nil}
 use Rattle.std.specs.Prelude.{map, replicate, not, if◌then◌else◌, slice_get}
 use Rattle.std.proofs.lemmas.List.{length-replicate, length-map}
 use Rattle.b67_list.specs.Numbered.{numbered}
 use Rattle.algol_tree.specs.declared.token.Spot.{Spot}
 use Rattle.algol_tree.specs.declared.tree.Named.{Named}
 use Rattle.algol_tree.specs.Blocks.{Block, block_numbered, number_at, around}
-use Rattle.algol_tree.specs.Sorts.{same_name}
+use Rattle.algol_tree.specs.Sorts.{Parameter, same_name}
 use Rattle.algol_tree.specs.Cells.{level_of}
 use Rattle.algol_tree.specs.Plain.{PProgram}
 use Rattle.algol_tree.specs.Scopes.{Scopes, scopes_of}
@@ -15,9 +15,11 @@ use Rattle.algol_meaning.specs.World.{Instance, Part, Process, World, able}
 use Rattle.algol_meaning.specs.World as worlds
 use Rattle.algol_meaning.specs.Instances.{fresh_cells}
 use Rattle.algol_meaning.specs.Run.{start}
-use Rattle.algol_paths.specs.Laws.{RestsKeepToTheirText}
+use Rattle.algol_meaning.specs.Arrays.{size_of_cells}
+use Rattle.algol_meaning.specs.Value.{ArrayCell}
+use Rattle.algol_paths.specs.Arrays.{DeclaredArray, arrays_of}
+use Rattle.algol_paths.specs.Laws.{RestsKeepToTheirText, ArraysAreMadeInOrder}
 use Rattle.algol_paths.specs.Segments.{procedures_before, segment_among, segment_of}
-use Rattle.b67_word.specs.declared.Place.{Place}
 use Rattle.b67_word.specs.Word.{Word}
 use Rattle.b67_control.specs.declared.Registers.{Registers}
 use Rattle.b67_control.specs.declared.Rcw.{Rcw}
@@ -32,7 +34,7 @@ use Rattle.b67_segment.specs.declared.code.Segment.{Segment}
 use Rattle.b67_table.specs.Beginning.{base_mark, base_frame, first_registers, first_image}
 use Rattle.b67_table.specs.Chains.{place}
 use Rattle.b67_table.specs.Linkage.{base_control}
-use Rattle.b67_templates.specs.Cells.{simple_cells, zero_cells, procedures, control_segments}
+use Rattle.b67_templates.specs.Cells.{Simple, parameters_around, parameter_cells, simple_cells, zero_cells, procedures, control_segments}
 use Rattle.b67_templates.specs.Fragments.{code_at}
 use Rattle.b67_templates.specs.Programs.{BodyAt, context_of, ProgramAt}
 use Rattle.b67_standing.specs.Standing.{ComesTo}
@@ -43,12 +45,15 @@ use Rattle.b67_faithful.specs.Weight.{tokens_around, weight}
 use Rattle.b67_faithful.proofs.Contradictions.{some_same, none_some}
 use Rattle.b67_fitting.specs.Built.{IsBuilt}
 use Rattle.b67_fitting.specs.Nested.{AreNested}
+use Rattle.b67_pictures.specs.Arrays.{Allotted, Layout, rows_of_cells, HasArray, ArraysAre}
 use Rattle.b67_pictures.specs.Frames.{most_around, CellsAre, IsChained, Framed, outermost}
 use Rattle.b67_pictures.specs.Pictures.{Pictured, living, Pictures}
+use Rattle.b67_pictures.proofs.ArraysKept.{no_elements, no_rows}
 use Rattle.b67_pictures.proofs.Landing.{Landed, living_of}
-use Rattle.b67_pictures.proofs.Texted.{block_keeps}
+use Rattle.b67_pictures.proofs.Texted.{block_keeps, block_makes}
 use Rattle.b67_pictures.proofs.Segmenting.{needs, block_small}
-use Rattle.b67_pictures.proofs.Zeros.{zero_word, block_zeros, plain_cells, cells_length}
+use Rattle.b67_pictures.proofs.FreshCells.{fresh_are, none_are, simple_many}
+use Rattle.b67_pictures.proofs.Zeros.{zero_word, cells_length}
 
 abbrev pub first_core : Core
 first_core = record { below = base_frame; words = []; registers = first_registers }
@@ -66,7 +71,7 @@ first_there [] h = absurd (omega (arith, h))
 first_there (s ∷ segments) h = (s, refl)
 
 module _ (tree : PProgram) (code : Code) (built : IsBuilt tree) (nested : AreNested (scopes_of tree)) (stands : ProgramAt code tree)
-    (fragments : FragmentsArePerformed) (begin : BlocksBegin) (starts : BlocksStart) (keeps : RestsKeepToTheirText) where
+    (fragments : FragmentsArePerformed) (begin : BlocksBegin) (starts : BlocksStart) (keeps : RestsKeepToTheirText) (order : ArraysAreMadeInOrder) where
   abbrev sc : Scopes
   sc = scopes_of tree
 
@@ -113,13 +118,24 @@ module _ (tree : PProgram) (code : Code) (built : IsBuilt tree) (nested : AreNes
   body : BodyAt sc (context_of code sc 0) text level block 0
   body = stands.bodies 0 nested.some (inl refl)
 
+  -- the outermost block has no parameters
+  no_cells : parameter_cells sc block ≡ []
+  no_cells = ap (λ (o : List Spot). parameters_around sc.blocks o block.spot) nested.outer
+
   plain : block.parameters ≡ []
-  plain = (nested.each 0 nested.some).plain
+  plain = none_named block.parameters ((nested.each 0 nested.some).parameters.names ∙ ap (λ (ss : List Simple). map (λ (c : Simple). c.name) ss) no_cells)
+    where
+      none_named : (ps : List Parameter) → map (λ (p : Parameter). p.name) ps ≡ [] → ps ≡ []
+      none_named [] e = refl
+      none_named (p ∷ ps) e = absurd (let clash : p.name ∷ map (λ (p : Parameter). p.name) ps ≡ [] = e in cc)
+
+  all_many : length (simple_cells sc block) ≡ many
+  all_many = omega (arith, simple_many sc block, ap length no_cells)
 
   many_controls : length controls ≡ length (procedures block.decls)
   many_controls = length-map (procedures block.decls) (λ (n : Named). segment_of sc.blocks (number_at sc.blocks n.spot))
 
-  at_first : CoreAt sc code text level 0 [] first_core
+  at_first : CoreAt sc [] code text level 0 [] first_core
   at_first =
       record {
         segment = segment.0;
@@ -132,10 +148,10 @@ module _ (tree : PProgram) (code : Code) (built : IsBuilt tree) (nested : AreNes
         words_are = tt;
       }
 
-  begun : Begins sc code text level bound many controls body.start first_core
+  begun : Begins sc [] code text level bound many controls body.start first_core
   begun =
-      begin sc (context_of code sc 0) code text level bound many controls 0 body.start first_core body.cells at_first
-      (omega (arith, (nested.each 0 nested.some).few, ap length (plain_cells block plain), many_controls)) (omega arith)
+      begin sc [] (context_of code sc 0) code text level bound many controls 0 body.start first_core body.cells at_first
+      (omega (arith, (nested.each 0 nested.some).few, all_many, many_controls)) (omega arith)
 
   small : needs block ≤ 4 * tokens_around tree 0
   small = block_small tree built 0 nested.some (inl refl)
@@ -152,8 +168,9 @@ module _ (tree : PProgram) (code : Code) (built : IsBuilt tree) (nested : AreNes
   abbrev first_instance : Instance
   first_instance = record { block = 0; parent = 0; process = 1; cells = fresh_cells block []; left = false }
 
-  abbrev first_lay : List Place
-  first_lay = place 1 0 ∷ []
+  -- no array is made yet
+  abbrev first_lay : Layout
+  first_lay = record { places = place 1 0 ∷ []; rows = λ i. [] }
 
   abbrev w : World
   w = start sc
@@ -166,8 +183,8 @@ module _ (tree : PProgram) (code : Code) (built : IsBuilt tree) (nested : AreNes
   chained zero low = ap (λ (l : ℕ). place_at first_registers.display (l - 0)) outer
   chained (suc up) low = absurd (omega (arith, named_so (suc up) low))
 
-  zeros : CellsAre (simple_cells block) (fresh_cells block []) (replicate many zero_word)
-  zeros = subst (λ (n : ℕ). CellsAre (simple_cells block) (fresh_cells block []) (replicate n zero_word)) (ap length (plain_cells block plain)) (block_zeros block plain)
+  zeros : CellsAre (simple_cells sc block) (fresh_cells block []) (replicate many zero_word)
+  zeros = fresh_are sc block [] [] (none_are sc block no_cells plain [] tt)
 
   abbrev framed : Framed sc w first_lay 1 1 [] 0 base_mark (base_control OUTER_LEVEL) cells
   unfolding start
@@ -178,9 +195,18 @@ module _ (tree : PProgram) (code : Code) (built : IsBuilt tree) (nested : AreNes
         own = refl;
         known = nested.some;
         laid = refl;
+        stands = refl;
+        simple = fresh_cells block [];
         values = replicate many zero_word;
-        cells_are = zeros;
-        cells_is = refl;
+        simple_are = zeros;
+        arrays = [];
+        declared = [];
+        later = arrays_of block.decls;
+        order = refl;
+        descriptors = [];
+        made = tt;
+        has = sym (append-nil (fresh_cells block []));
+        cells_is = ap (λ (ws : List Word). replicate many zero_word ++ ws) (sym (append-nil (control_words level controls)));
         placed = outermost refl (ap (λ (o : List Spot). map (number_at sc.blocks) o) nested.outer);
         home = place 0 0;
         linked = refl;
@@ -200,7 +226,7 @@ module _ (tree : PProgram) (code : Code) (built : IsBuilt tree) (nested : AreNes
   weight_is = refl
 
   many_cells : length (fresh_cells block []) ≡ many
-  many_cells = cells_length (simple_cells block) (fresh_cells block []) (replicate many zero_word) zeros ∙ ap length (plain_cells block plain)
+  many_cells = cells_length (simple_cells sc block) (fresh_cells block []) (replicate many zero_word) zeros ∙ all_many
 
   length_cells : length cells ≡ many + length controls
   length_cells =
@@ -231,6 +257,7 @@ module _ (tree : PProgram) (code : Code) (built : IsBuilt tree) (nested : AreNes
           words_are = begun.below;
           framed = framed;
           text = block_keeps sc 0 keeps (nested.each 0 nested.some);
+          making = sym (block_makes sc 0 order (nested.each 0 nested.some));
         };
         around = (refl, refl, refl, nested.untyped);
         counted = omega (arith, ap (λ (r : Registers). r.cells) begun.registers, length_cells);
@@ -238,6 +265,8 @@ module _ (tree : PProgram) (code : Code) (built : IsBuilt tree) (nested : AreNes
         segment_is = ap (λ (r : Registers). r.segment) begun.registers ∙ sym segment_first;
         pc = body.start;
         slots = [];
+        known = [];
+        known_are = tt;
         at = begun.at;
         held = omega arith;
         comes = comes;
@@ -253,12 +282,35 @@ module _ (tree : PProgram) (code : Code) (built : IsBuilt tree) (nested : AreNes
       (living refl refl (living_of tree code texts w first_lay first_image fragments 1 first_process first_part [] bound first_core begun.core landed))
   only_process (suc (suc k)) q e = none_some e
 
+  no_array : (i number : ℕ) (declared : DeclaredArray) (cell : ArrayCell) (a : Allotted) → HasArray sc w first_lay i number declared cell a → ⊥
+  no_array i number declared cell a h = none_some h.allotted
+
+  only_instance : (i : ℕ) (x : Instance) → numbered w.instances i ≡ Some x → first_instance ≡ x
+  unfolding start
+  only_instance zero x e = none_some e
+  only_instance (suc zero) x e = some_same e
+  only_instance (suc (suc k)) x e = none_some e
+
+  -- no row is open
+  first_arrays : ArraysAre sc w first_lay []
+  unfolding start
+  first_arrays =
+      record {
+        held = λ i number declared cell a h. absurd (no_array i number declared cell a h);
+        apart = λ i j number other k l n h o. absurd (no_array i number h.declared h.cell h.allotted h.array);
+        counted = omega (arith, no_elements (simple_cells sc block) (fresh_cells block []) (replicate many zero_word) zeros);
+        opened = omega (arith, no_rows (simple_cells sc block) (fresh_cells block []) (replicate many zero_word) zeros);
+        few = λ i x there stands. subst (λ (y : Instance). rows_of_cells y.cells ≤ 2 * size_of_cells y.cells) (only_instance i x there)
+            (omega (arith, no_rows (simple_cells sc block) (fresh_cells block []) (replicate many zero_word) zeros));
+      }
+
   pub first_pictured : Pictures tree code texts (start (scopes_of tree)) first_image
   unfolding start first_image
   first_pictured = (
     first_lay,
     record {
       laid = refl;
+      arrays = first_arrays;
       output = refl;
       fault = refl;
       started = refl;

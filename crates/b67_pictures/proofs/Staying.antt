@@ -1,10 +1,9 @@
 -- What a change of the world leaves of the parts of a process: their static parents, their frames, and where they stand.
 use Rattle.std.proofs.Common.{◌≡◌, inl, inr, refl, sym, ap, ◌∙◌, subst, ℕ, zero, suc, ◌+◌, ◌*◌, ◌<◌, ◌≤◌, List, [], ◌∷◌, length, Option, Some, arith, length-append}
-use Rattle.std.specs.Prelude.{if◌then◌else◌, map}
+use Rattle.std.specs.Prelude.{if◌then◌else◌}
 use Rattle.b67_list.specs.Numbered.{numbered}
-use Rattle.algol_tree.specs.declared.token.Spot.{Spot}
 use Rattle.algol_tree.specs.declared.tree.Kind.{Kind}
-use Rattle.algol_tree.specs.Blocks.{Block, block_numbered, number_at, around}
+use Rattle.algol_tree.specs.Blocks.{block_numbered, around}
 use Rattle.algol_tree.specs.Cells.{level_of}
 use Rattle.algol_tree.specs.Plain.{PProgram}
 use Rattle.algol_tree.specs.Scopes.{Scopes, scopes_of}
@@ -20,13 +19,16 @@ use Rattle.b67_templates.specs.Contexts.{Context}
 use Rattle.b67_templates.specs.Programs.{context_of}
 use Rattle.b67_standing.specs.Standing.{StandsFor}
 use Rattle.b67_cores.specs.Cores.{Core}
+use Rattle.b67_cores.specs.Slots.{Known}
 use Rattle.b67_cores.specs.Stretches.{CoreAt}
 use Rattle.b67_faithful.specs.Weight.{parts_weight, tokens_around}
+use Rattle.b67_pictures.specs.Arrays.{Layout, AreKnown}
 use Rattle.b67_pictures.specs.Frames.{most_around, IsOwn, IsChained, Frame, Stands, Around, Frames}
 use Rattle.b67_pictures.specs.Pictures.{innermost_most}
-use Rattle.b67_pictures.proofs.Lying.{Lies, lies_in, parents_in, StayBelow, around_stays, Stayed, frame_stays}
+use Rattle.b67_pictures.proofs.Lying.{Lies, lies_in, parents_in, StayBelow, known_after, around_stays, Stayed, frame_stays}
 use Rattle.b67_pictures.proofs.Lying.{same_instance as same_before}
 use Rattle.b67_pictures.proofs.Numbers.{get_within}
+use Rattle.b67_pictures.proofs.Parents.{ancestor_up, length_around}
 
 -- the operators of the segment in which the text of a part stands, and its level
 abbrev pub text_in : PProgram → (ℕ → List Placed) → World → Part → List Placed
@@ -44,20 +46,6 @@ most_in tree w part = most_around tree ((instance_at w part.instance).block)
 
 abbrev pub wanted_in : PProgram → World → Part → Option Kind
 wanted_in tree w part = (block_numbered (scopes_of tree).blocks ((instance_at w part.instance).block)).result
-
--- ---- static parents
-
-pub ancestor_up : (w : World) (up i : ℕ) → ancestor w (suc up) i ≡ (instance_at w (ancestor w up i)).parent
-ancestor_up w zero i = refl
-ancestor_up w (suc up) i = ancestor_up w up ((instance_at w i).parent)
-
-length_numbers : (bs : List Block) (spots : List Spot) → length (map (number_at bs) spots) ≡ length spots
-length_numbers bs [] = refl
-length_numbers bs (spot ∷ spots) = ap suc (length_numbers bs spots)
-
--- as many blocks are around a block as its level is above the outermost one's
-pub length_around : (bs : List Block) (j : ℕ) → length (around bs j) + OUTER_LEVEL ≡ level_of (block_numbered bs j)
-length_around bs j = omega (arith, length_numbers bs ((block_numbered bs j).outer))
 
 -- ---- weights
 
@@ -78,7 +66,7 @@ same_weight tree w w' (part ∷ parts) each =
 -- ---- frames
 
 -- the parts around, below a frame of the same words
-pub around_at : (tree : PProgram) (code : Code) (texts : ℕ → List Placed) (w : World) (lay : List Place) (p : ℕ) (parts : List Part) (l l' : List Word) (m m' c c' : Word) (wanted : Option Kind) → l ≡ l' → m ≡ m' → c ≡ c' →
+pub around_at : (tree : PProgram) (code : Code) (texts : ℕ → List Placed) (w : World) (lay : Layout) (p : ℕ) (parts : List Part) (l l' : List Word) (m m' c c' : Word) (wanted : Option Kind) → l ≡ l' → m ≡ m' → c ≡ c' →
     Around tree code texts w lay p parts l m c wanted → Around tree code texts w lay p parts l' m' c' wanted
 around_at tree code texts w lay p parts l l' m m' c c' wanted el em ec a =
     subst (λ (x : List Word). Around tree code texts w lay p parts x m' c' wanted) el
@@ -86,12 +74,12 @@ around_at tree code texts w lay p parts l l' m m' c c' wanted el em ec a =
     (subst (λ (x : Word). Around tree code texts w lay p parts l m x wanted) ec a))
 
 -- the mark of a frame lies below its words
-pub frame_low : (tree : PProgram) (code : Code) (texts : ℕ → List Placed) (w : World) (lay : List Place) (p : ℕ) (part : Part) (outer : List Part) (words : List Word) →
+pub frame_low : (tree : PProgram) (code : Code) (texts : ℕ → List Placed) (w : World) (lay : Layout) (p : ℕ) (part : Part) (outer : List Part) (words : List Word) →
     (f : Frame tree code texts w lay p part outer words) → length f.lower + 2 + length f.cells ≡ length words
 frame_low tree code texts w lay p part outer words f =
     omega (arith, ap length f.words_are, length-append f.lower (f.mark ∷ f.control ∷ f.cells))
 
-module _ (tree : PProgram) (code : Code) (texts : ℕ → List Placed) (w w' : World) (lay lay' : List Place) (p limit : ℕ) (stay : StayBelow w w' lay lay' p limit) where
+module _ (tree : PProgram) (code : Code) (texts : ℕ → List Placed) (w w' : World) (lay lay' : Layout) (p limit : ℕ) (stay : StayBelow w w' lay lay' p limit) where
   abbrev sc : Scopes
   sc = scopes_of tree
 
@@ -119,12 +107,13 @@ module _ (tree : PProgram) (code : Code) (texts : ℕ → List Placed) (w w' : W
     abbrev i : ℕ
     i = part.instance
 
-    -- an instance of the parts is as it was, and so is the place of its frame
+    -- an instance of the parts is as it was, and so are the place of its frame and its rows
     pub record Remains (j : ℕ) : Type 0 where
       pub instance : Instance
       pub is : numbered w.instances j ≡ Some instance
       pub still : numbered w'.instances j ≡ Some instance
-      pub place : numbered lay' j ≡ numbered lay j
+      pub place : numbered lay'.places j ≡ numbered lay.places j
+      pub rows : lay'.rows j ≡ lay.rows j
 
     pub remains : (j : ℕ) → IsOwn (part ∷ outer) j → Remains j
     remains j own =
@@ -136,6 +125,7 @@ module _ (tree : PProgram) (code : Code) (texts : ℕ → List Placed) (w w' : W
           is = l.frame.framed.is;
           still = stay.instances l.part.instance (length l.frame.lower) l.frame.framed.instance l.frame.framed.is l.frame.framed.own l.frame.framed.laid under;
           place = stay.places l.part.instance _ l.frame.framed.laid ∙ sym l.frame.framed.laid;
+          rows = stay.rows l.part.instance (length l.frame.lower) l.frame.framed.instance l.frame.framed.is l.frame.framed.own l.frame.framed.laid under;
         })
 
     -- so far up there are parents
@@ -158,7 +148,7 @@ module _ (tree : PProgram) (code : Code) (texts : ℕ → List Placed) (w w' : W
 
     pub chained_stays : (display : List (Option Place)) → IsChained sc w lay i (level_in tree w part) display → IsChained sc w' lay' i (level_in tree w part) display
     chained_stays display chained up h =
-        chained up h ∙ sym (remains (ancestor w up i) (parent_own up h)).place ∙ ap (λ (j : ℕ). numbered lay' j) (sym (same_parent up h))
+        chained up h ∙ sym (remains (ancestor w up i) (parent_own up h)).place ∙ ap (λ (j : ℕ). numbered lay'.places j) (sym (same_parent up h))
 
     pub same_instance : (j : ℕ) → IsOwn (part ∷ outer) j → instance_at w' j ≡ instance_at w j
     same_instance j own = let r : Remains j = remains j own in ap or_no_instance (r.still ∙ sym r.is)
@@ -169,8 +159,15 @@ module _ (tree : PProgram) (code : Code) (texts : ℕ → List Placed) (w w' : W
         same_weight tree w w' (part ∷ outer)
         (λ j own. record { block = ap (λ (x : Instance). x.block) (same_instance j own); cells = ap (λ (x : Instance). length x.cells) (same_instance j own) })
 
+    frame_below : length s.frame.lower < limit
+    frame_below = omega (arith, low, frame_low tree code texts w lay p part outer core.below s.frame)
+
     still : FrameStill part outer core.below s.frame.cells
-    still = frame_still part outer core.below s.frame a (omega (arith, low, frame_low tree code texts w lay p part outer core.below s.frame))
+    still = frame_still part outer core.below s.frame a frame_below
+
+    -- what is known of descriptors holds as it did
+    pub known_stays : (known : List Known) → AreKnown sc w lay i (level_in tree w part) known → AreKnown sc w' lay' i (level_in tree w part) known
+    known_stays = known_after tree code texts w w' lay lay' p limit stay part outer core.below s.frame a frame_below
 
     here : instance_at w i ≡ instance_at w' i
     here = sym (same_instance i (inl refl))
@@ -187,7 +184,9 @@ module _ (tree : PProgram) (code : Code) (texts : ℕ → List Placed) (w w' : W
         slots = s.slots;
         stands = subst (λ (x : Instance). StandsFor sc (context_of code sc x.block) (texts (segment_of sc.blocks x.block)) (level_of (block_numbered sc.blocks x.block)) (most_around tree x.block) part.rest s.pc s.slots) here
             s.stands;
-        there = subst (λ (x : Instance). CoreAt sc code (texts (segment_of sc.blocks x.block)) (level_of (block_numbered sc.blocks x.block)) s.pc s.slots core) here s.there;
+        held = s.held;
+        held_are = subst (λ (x : Instance). AreKnown sc w' lay' i (level_of (block_numbered sc.blocks x.block)) s.held) here (known_stays s.held s.held_are);
+        there = subst (λ (x : Instance). CoreAt sc s.held code (texts (segment_of sc.blocks x.block)) (level_of (block_numbered sc.blocks x.block)) s.pc s.slots core) here s.there;
         few = subst (λ (x : Instance). length s.slots ≤ most_around tree x.block) here s.few;
       },
       still.around,

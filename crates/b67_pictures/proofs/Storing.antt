@@ -1,6 +1,6 @@
 -- A store.
-use Rattle.std.proofs.Common.{◌≡◌, ◌≢◌, refl, sym, ap, ◌∙◌, subst, ℕ, suc, ◌+◌, ◌<◌, ◌≤◌, ◌^◌, List, [], ◌∷◌, length, Option, Some, None, Bool, true, false, Ok, arith}
-use Rattle.std.specs.Prelude.{slice_set, if◌then◌else◌}
+use Rattle.std.proofs.Common.{◌≡◌, ◌≢◌, refl, sym, ap, ◌∙◌, subst, ℕ, suc, ◌+◌, ◌-◌, ◌<◌, ◌≤◌, ◌^◌, List, [], ◌∷◌, ◌++◌, length, Option, Some, None, Bool, true, false, Ok, arith}
+use Rattle.std.specs.Prelude.{slice_get, slice_set, reverse, if◌then◌else◌}
 use Rattle.b67_list.specs.Numbered.{numbered}
 use Rattle.algol_tree.specs.declared.tree.Named.{Named}
 use Rattle.algol_tree.specs.Blocks.{block_numbered}
@@ -10,14 +10,14 @@ use Rattle.algol_tree.specs.Scopes.{Scopes, scopes_of, use_of}
 use Rattle.algol_tree.specs.Sorts.{same_name}
 use Rattle.algol_meaning.specs.Value.{Value, Cell, simple}
 use Rattle.algol_meaning.specs.Rest.{Answer, done, own}
-use Rattle.algol_meaning.specs.World.{NamedCell, Instance, Process, Part, able, World, instance_at, or_no_instance, with_instance, with_process, ancestor, cells_with}
+use Rattle.algol_meaning.specs.World.{NamedCell, Instance, Process, Part, able, World, instance_at, or_no_instance, with_instance, with_process, ancestor, cell_in, cells_with}
 use Rattle.algol_meaning.specs.Actions.{Store}
 use Rattle.algol_meaning.specs.Asks.{Ask, stores, ask, resume}
 use Rattle.algol_meaning.specs.Choice.{Choice, choice, choice_of}
-use Rattle.algol_paths.specs.Blocks.{IsSeen, IsInner}
-use Rattle.algol_paths.specs.Laws.{RestsKeepToTheirText}
+use Rattle.algol_paths.specs.Arrays.{DeclaredArray}
+use Rattle.algol_paths.specs.Blocks.{IsSeen, IsSeenAround, IsInner}
+use Rattle.algol_paths.specs.Laws.{RestsKeepToTheirText, ArraysAreMadeInOrder}
 use Rattle.algol_paths.specs.Segments.{segment_of}
-use Rattle.b67_word.specs.declared.Place.{Place}
 use Rattle.b67_word.specs.Word.{Word}
 use Rattle.b67_control.specs.Control.{as_irw}
 use Rattle.b67_ops.specs.declared.Couple.{Couple}
@@ -35,7 +35,7 @@ use Rattle.b67_table.specs.Outcome as outcomes
 use Rattle.b67_table.specs.Private.{frame, display_at}
 use Rattle.b67_table.specs.PrivateRows as rows
 use Rattle.b67_table.specs.Table.{table, raw, operator_at}
-use Rattle.b67_templates.specs.Cells.{simple_cells}
+use Rattle.b67_templates.specs.Cells.{Simple, simple_cells}
 use Rattle.b67_templates.specs.Programs.{context_of}
 use Rattle.b67_standing.specs.Stepping.{Slot, operand, reference}
 use Rattle.b67_standing.specs.Standing.{ActionAt, Acted, ComesTo}
@@ -43,26 +43,32 @@ use Rattle.b67_cores.specs.Cores.{Core, size, IsCore, with_core, here}
 use Rattle.b67_cores.specs.Slots.{ValueIs, newest, SlotsAre}
 use Rattle.b67_cores.specs.Stretches.{CoreAt, FragmentsArePerformed}
 use Rattle.b67_cores.proofs.Moving.{slots_length}
+use Rattle.b67_faithful.specs.Correspondence.{stored_action, indexed_in, stored_by}
 use Rattle.b67_faithful.specs.Weight.{weight}
+use Rattle.b67_pictures.specs.Arrays.{Layout, AreMade, AreKnown}
 use Rattle.b67_pictures.specs.Acting.{Does, gave}
 use Rattle.b67_pictures.specs.Frames.{CellsAre, most_around, IsChained, Frame, Stands}
 use Rattle.b67_pictures.specs.Pictures.{Living, PicturesBy}
+use Rattle.b67_pictures.proofs.ArraysKept.{arrays_stored}
 use Rattle.b67_pictures.proofs.Asked.{stores_seen}
 use Rattle.b67_pictures.proofs.Cored.{registers_now, has_now, others_have, system_stays}
 use Rattle.b67_pictures.proofs.Kept.{AreAlike, alike_but}
+use Rattle.b67_pictures.proofs.FreshCells.{words_long}
 use Rattle.b67_pictures.proofs.Homes.{operator_there, Home, home}
+use Rattle.b67_pictures.proofs.Knowing.{KeepsArrays, keeps_same, keeps_stored, known_lasts}
 use Rattle.b67_pictures.proofs.Landing.{living_of}
 use Rattle.b67_pictures.proofs.Lying.{StayBelow}
 use Rattle.b67_pictures.proofs.Numbers.{get_below, numbered_set, length_set_numbered}
-use Rattle.b67_pictures.proofs.Rows.{action_not_plain, action_is}
+use Rattle.b67_pictures.proofs.Rows.{action_not_plain, action_is, words_are}
 use Rattle.b67_pictures.proofs.Scene.{Scene}
 use Rattle.b67_pictures.proofs.Stage.{gives_within, choice_is, goes_on, weight_of}
 use Rattle.b67_pictures.proofs.Slotted.{Top, top_slot}
-use Rattle.b67_pictures.proofs.StackWords.{length-set}
+use Rattle.b67_pictures.proofs.StackWords.{length-set, word-under}
 use Rattle.b67_pictures.proofs.Staying.{text_in, level_in, context_in, most_in, IsAsHeavy, same_weight, FrameStill, frame_still}
 use Rattle.b67_pictures.proofs.StoreRow.{with_cell, store_raw, store_class}
-use Rattle.b67_pictures.proofs.StoringFrames.{as_many_words, changed, stored_world, same_of, same_ancestors, as_heavy, Stored, frame_stored}
-use Rattle.b67_pictures.proofs.Variables.{cell_changed}
+use Rattle.b67_pictures.proofs.StoringFrames.{changed, stored_world, changed_at, same_of, same_ancestors, as_heavy, ChangedCells, Stored, known_stored, frame_stored}
+use Rattle.b67_pictures.proofs.Unmade.{makes, unmade}
+use Rattle.b67_pictures.proofs.Variables.{cell_changed, changed_front}
 use Rattle.b67_pictures.proofs.Words.{value_tag, reference_read, reference_unindexed}
 
 pub length_cells : (cells : List NamedCell) (name : List ℕ) (c : Cell) → length (cells_with cells name c) ≡ length cells
@@ -77,7 +83,7 @@ length_cells (x ∷ cells) name c = by_name (same_name x.name name) (length_cell
 two_words : (words left : List Word) (x y : Word) (rest : List Word) → words ≡ x ∷ left → left ≡ y ∷ rest → words ≡ x ∷ y ∷ rest
 two_words words left x y rest e f = e ∙ ap (λ (ws : List Word). x ∷ ws) f
 
-module _ (tree : PProgram) (code : Code) (texts : ℕ → List Placed) (fragments : FragmentsArePerformed) (kept : RestsKeepToTheirText) (w : World) (lay : List Place) (img : Image)
+module _ (tree : PProgram) (code : Code) (texts : ℕ → List Placed) (fragments : FragmentsArePerformed) (kept : RestsKeepToTheirText) (order : ArraysAreMadeInOrder) (w : World) (lay : Layout) (img : Image)
     (p : ℕ) (q : Process) (part : Part) (outer : List Part) (bound : ℕ) (core : Core) (s : Scene tree code texts w lay img p q part outer bound core)
     (able_is : q.state ≡ able) (able_p : numbered img.states p ≡ Some Able) (n : Named) (v : Value) (asks : ask part.rest ≡ stores (own n) v)
     (a : ActionAt (scopes_of tree) (context_in tree code w part) (text_in tree texts w part) (level_in tree w part) (most_in tree w part) (stores (own n) v) s.stands.pc s.stands.slots)
@@ -106,16 +112,16 @@ module _ (tree : PProgram) (code : Code) (texts : ℕ → List Placed) (fragment
   i = ancestor w ((use_of sc n).up) part.instance
 
   there : operator_at code core.registers ≡ Ok (ops.Plain kinds.Stod, a.0)
-  there = operator_there sc code text level st.pc st.slots core (ops.Plain kinds.Stod) a.0 st.there a.2.stands
+  there = operator_there sc st.held code text level st.pc st.slots core (ops.Plain kinds.Stod) a.0 st.there a.2.stands
 
   abbrev IsHome : Type 0
   IsHome = Home tree code texts w lay img p q part outer bound core s n a.2.kind couple
 
   found : IsHome
-  found = home tree code texts w lay img p q part outer bound core s n a.2.kind couple (stores_seen (IsSeen sc b) n (IsInner sc b) part.rest v asks st.frame.text) a.2.variable
+  found = home tree code texts w lay img p q part outer bound core s n a.2.kind couple (stores_seen (IsSeen sc b) n (IsInner sc b) (IsSeenAround sc b) (λ (seen : IsSeenAround sc b n). seen.0) part.rest v asks st.frame.text) a.2.variable
 
   module _ (f : IsHome) (x y : Word) (words : List Word) (top : core.words ≡ x ∷ y ∷ words) (x_is : ValueIs v x) (y_is : y ≡ rows.reference couple)
-      (left_are : SlotsAre sc level (frame core.registers) (length core.below) a.1 words) where
+      (left_are : SlotsAre sc st.held level (frame core.registers) (length core.below) a.1 words) where
     abbrev instance : Instance
     instance = f.lies.frame.framed.instance
 
@@ -126,15 +132,18 @@ module _ (tree : PProgram) (code : Code) (texts : ℕ → List Placed) (fragment
     abbrev high : ℕ
     high = length f.lies.frame.lower
 
-    laid : numbered lay i ≡ Some (place p high)
-    laid = ap (λ (j : ℕ). numbered lay j) (sym f.lies.instance_is) ∙ f.lies.frame.framed.laid
+    laid : numbered lay.places i ≡ Some (place p high)
+    laid = ap (λ (j : ℕ). numbered lay.places j) (sym f.lies.instance_is) ∙ f.lies.frame.framed.laid
 
-    short : f.number < length instance.cells
+    abbrev ss : List Simple
+    ss = simple_cells sc (block_numbered sc.blocks instance.block)
+
+    short : f.number < length ss
     short =
         omega (
           arith,
           get_below f.lies.frame.framed.values f.number f.word f.value_lies,
-          as_many_words (simple_cells (block_numbered sc.blocks instance.block)) instance.cells f.lies.frame.framed.values f.lies.frame.framed.cells_are,
+          words_long ss f.lies.frame.framed.simple f.lies.frame.framed.values f.lies.frame.framed.simple_are,
         )
 
     tag : f.word.tag ≡ 0
@@ -175,27 +184,55 @@ module _ (tree : PProgram) (code : Code) (texts : ℕ → List Placed) (fragment
     number_is : a.2.variable.found.number ≡ 0 + f.number
     number_is = omega (arith, a.2.variable.index_is, f.index)
 
-    changes : (ws : List Word) → CellsAre (simple_cells (block_numbered sc.blocks instance.block)) instance.cells ws →
-        CellsAre (simple_cells (block_numbered sc.blocks instance.block)) cells' (slice_set ws f.number x)
-    changes ws are =
-        let block_is : instance.block ≡ (use_of sc n).block = f.block_is in
-        subst (λ (m : ℕ). CellsAre (simple_cells (block_numbered sc.blocks m)) cells' (slice_set ws f.number x)) (sym block_is)
-        (cell_changed (simple_cells (block_numbered sc.blocks ((use_of sc n).block))) instance.cells ws 0 n.name a.2.variable.found a.2.kind v x f.number
-        (subst (λ (m : ℕ). CellsAre (simple_cells (block_numbered sc.blocks m)) instance.cells ws) block_is are) a.2.variable.there a.2.variable.kind_is number_is a.2.fits x_is)
+    -- its simple cells are those of the block that declares the variable
+    abbrev ss_there : List Simple
+    ss_there = simple_cells sc (block_numbered sc.blocks ((use_of sc n).block))
+
+    same_cells : ss ≡ ss_there
+    same_cells = ap (λ (m : ℕ). simple_cells sc (block_numbered sc.blocks m)) f.block_is
+
+    changes : (first : List NamedCell) (values : List Word) (arrays : List NamedCell) (declared : List DeclaredArray) (descriptors : List Word) → CellsAre ss first values → AreMade declared arrays (lay.rows i) descriptors →
+        instance.cells ≡ first ++ arrays → ChangedCells ss (lay.rows i) cells' (slice_set values f.number x) declared descriptors
+    changes first values arrays declared descriptors are made has =
+        record {
+          simple = cells_with first n.name (simple v);
+          arrays = arrays;
+          simple_are = subst (λ (l : List Simple). CellsAre l (cells_with first n.name (simple v)) (slice_set values f.number x)) (sym same_cells)
+              (cell_changed ss_there first values 0 n.name a.2.variable.found a.2.kind v x f.number are_there a.2.variable.there a.2.variable.kind_is number_is a.2.fits x_is);
+          made = made;
+          has = ap (λ (cells : List NamedCell). cells_with cells n.name (simple v)) has
+              ∙ changed_front ss_there first arrays values 0 n.name a.2.variable.found (simple v) are_there a.2.variable.there;
+        }
+      where
+        are_there : CellsAre ss_there first values
+        are_there = subst (λ (l : List Simple). CellsAre l first values) same_cells are
+
+    -- it holds a value
+    cell_is : cell_in instance.cells n.name ≡ simple f.value
+    cell_is = ap (λ (z : Instance). cell_in z.cells n.name) (sym f.instance_is) ∙ f.cell_is
+
+    instance_now : instance_at w i ≡ instance
+    instance_now = f.instance_is
+
+    keeps : KeepsArrays sc w stored lay lay i
+    keeps =
+        keeps_stored sc w stored lay i n.name f.value v f.cell_is
+        (ap or_no_instance (changed_at w i instance instance_there cells')
+        ∙ ap (λ (z : Instance). record z { cells = cells_with z.cells n.name (simple v) }) (sym instance_now))
 
     place_is : k ≡ high + 2 + f.number
     place_is = omega (arith, f.index)
 
     abbrev AfterStore : Type 0
-    AfterStore = Stored tree code texts w lay p i instance instance_there cells' high laid f.number k place_is x many short changes part outer core.below st.frame
+    AfterStore = Stored tree code texts w lay p i instance instance_there cells' high laid f.number k place_is (Some x) many (λ set. short) keeps changes part outer core.below st.frame
 
     frames : AfterStore
     frames =
-        frame_stored tree code texts w lay p i instance instance_there cells' high laid f.number k place_is x many short changes part outer core.below st.frame s.around f.parent.own
+        frame_stored tree code texts w lay p i instance instance_there cells' high laid f.number k place_is (Some x) many (λ set. short) keeps changes part outer core.below st.frame s.around f.parent.own
 
     -- the world with the process's part gone on has the same instances
     stay : StayBelow stored w' lay lay p (suc (length frames.frame.lower))
-    stay = record { instances = λ j at y e mine lies low. e; places = λ j g e. e }
+    stay = record { instances = λ j at y e mine lies low. e; places = λ j g e. e; rows = λ j at y e mine lies low. refl }
 
     abbrev IsStill : Type 0
     IsStill = FrameStill tree code texts stored w' lay lay p (suc (length frames.frame.lower)) stay part outer new.below frames.frame.cells
@@ -218,12 +255,20 @@ module _ (tree : PProgram) (code : Code) (texts : ℕ → List Placed) (fragment
           words_are = still.frame.words_are;
           framed = still.frame.framed;
           text = kept.resumed sc ((instance_at w' part.instance).block) part.rest done still.frame.text tt;
+          making = still.frame.making ∙ sym (unmade part.rest (ap makes asks)) ∙ sym (order.resumed sc ((instance_at w' part.instance).block) part.rest done still.frame.text);
         }
 
     chained : IsChained sc w' lay part.instance level core.registers.display
     chained up low =
         st.chained up low
-        ∙ ap (λ (j : ℕ). numbered lay j) (same_ancestors w w' (λ j. same_of w i instance instance_there cells' (λ (z : Instance). z.parent) refl j) up part.instance)
+        ∙ ap (λ (j : ℕ). numbered lay.places j) (same_ancestors w w' (λ j. same_of w i instance instance_there cells' (λ (z : Instance). z.parent) refl j) up part.instance)
+
+    -- what is known of descriptors holds as it did
+    known_now : AreKnown sc w' lay part.instance level st.held
+    known_now =
+        known_lasts sc stored w' lay lay part.instance level (λ up low. same_ancestors w' stored (λ j. refl) up part.instance)
+        (λ up low. keeps_same sc stored w' lay lay (ancestor stored up part.instance) refl refl) st.held
+        (known_stored tree code texts w lay p i instance instance_there cells' high laid f.number k place_is (Some x) many (λ set. short) keeps changes part.instance level st.held st.held_are)
 
     -- ---- the core after it
 
@@ -233,7 +278,7 @@ module _ (tree : PProgram) (code : Code) (texts : ℕ → List Placed) (fragment
     is_new : IsCore new
     is_new = record { bottom = length-set core.below k x ∙ s.has.is.bottom; top = omega (arith, long, length-set core.below k x) }
 
-    core_at : CoreAt sc code text level a.0 a.1 new
+    core_at : CoreAt sc st.held code text level a.0 a.1 new
     core_at =
         record {
           segment = st.there.segment;
@@ -243,7 +288,7 @@ module _ (tree : PProgram) (code : Code) (texts : ℕ → List Placed) (fragment
           place_is = refl;
           is = is_new;
           mark_is = mark_is;
-          words_are = subst (λ (m : ℕ). SlotsAre sc level (frame core.registers) m a.1 words) (sym (length-set core.below k x)) left_are;
+          words_are = subst (λ (m : ℕ). SlotsAre sc st.held level (frame core.registers) m a.1 words) (sym (length-set core.below k x)) left_are;
         }
       where
         -- a reference and a value are no marks
@@ -260,6 +305,14 @@ module _ (tree : PProgram) (code : Code) (texts : ℕ → List Placed) (fragment
     raw_is : as_irw y ≡ Some (record { level = couple.level; index = couple.index }) → as_indexed y ≡ None → raw code img p ≡ effects.gives (with_core img p new)
     raw_is reads plain_word =
         store_raw code img p core s.has a.0 there x y f.word words top couple.level couple.index high shown reads plain_word f.below_lies (value_tag v x x_is) tag
+
+    -- the word under the top is no descriptor of an element
+    stored_here : as_indexed y ≡ None → Some (stored_by img core.registers) ≡ Some Store
+    stored_here plain_word =
+        ap (λ (o : Option Word). Some (stored_action (indexed_in o)))
+        (ap (λ (ws : List Word). slice_get ws (core.registers.s - 2)) (words_are img p core s.has ∙ ap (λ (ws : List Word). core.below ++ reverse ws) top)
+        ∙ word-under core.below (x ∷ []) y words (core.registers.s - 2) (omega (arith, long)))
+        ∙ ap (λ o. Some (stored_action o)) plain_word
 
     held : length a.1 ≤ most_in tree w part
     held = let more : length st.slots ≡ length a.1 + 2 = ap length a.2.lies ∙ omega arith in omega (arith, st.few, more)
@@ -291,7 +344,7 @@ module _ (tree : PProgram) (code : Code) (texts : ℕ → List Placed) (fragment
           sees = s.sees;
           small = smaller;
           begun = 0;
-          begins = here (omega (arith, slots_length sc level (frame core.registers) (length core.below) a.1 words left_are, held, s.room, length-set core.below k x));
+          begins = here (omega (arith, slots_length sc st.held level (frame core.registers) (length core.below) a.1 words left_are, held, s.room, length-set core.below k x));
           frame = frame';
           around = still.around;
           counted = st.counted ∙ sym frames.cells ∙ sym (ap length still.cells_are);
@@ -299,7 +352,9 @@ module _ (tree : PProgram) (code : Code) (texts : ℕ → List Placed) (fragment
           segment_is = st.segment_is ∙ ap (λ (m : ℕ). segment_of sc.blocks m) block_is;
           pc = a.0;
           slots = a.1;
-          at = subst (λ (m : ℕ). CoreAt sc code (texts (segment_of sc.blocks m)) (level_of (block_numbered sc.blocks m)) a.0 a.1 new) block_is core_at;
+          known = st.held;
+          known_are = subst (λ (m : ℕ). AreKnown sc w' lay part.instance (level_of (block_numbered sc.blocks m)) st.held) block_is known_now;
+          at = subst (λ (m : ℕ). CoreAt sc st.held code (texts (segment_of sc.blocks m)) (level_of (block_numbered sc.blocks m)) a.0 a.1 new) block_is core_at;
           held = subst (λ (m : ℕ). length a.1 ≤ most_around tree m) block_is held;
           comes = subst (λ (m : ℕ). ComesTo sc (context_of code sc m) (texts (segment_of sc.blocks m)) (level_of (block_numbered sc.blocks m)) (most_around tree m) (resume sc part.rest done) a.0 a.1) block_is (answered done a.0 a.1 (refl, refl));
           room = subst (λ (m : ℕ). length new.below + most_around tree m ≤ bound) block_is (omega (arith, s.room, length-set core.below k x));
@@ -314,7 +369,8 @@ module _ (tree : PProgram) (code : Code) (texts : ℕ → List Placed) (fragment
     pictured : PicturesBy tree code texts w' lay (with_core img p new)
     pictured =
         goes_on tree code texts w lay img s.by p q s.at w' lay (with_core img p new) q' refl able_is
-        (s.by.laid ∙ sym (length_set_numbered w.instances i (changed w i instance instance_there cells'))) alike s.by.output refl refl refl refl
+        (s.by.laid ∙ sym (length_set_numbered w.instances i (changed w i instance instance_there cells')))
+        (arrays_stored sc w w' lay i instance instance_there n.name f.value v cell_is refl img.rows s.by.arrays) alike s.by.output refl refl refl refl
         (system_stays img p core new s.has refl q w s.at) able_p (λ r other_core apart has. others_have img p core new s.has refl r other_core apart has) lives
 
     does : couple.level < 32 → couple.index < 2 ^ 14 → Does tree code texts w img p
@@ -327,15 +383,15 @@ module _ (tree : PProgram) (code : Code) (texts : ℕ → List Placed) (fragment
         (action_not_plain code img p core s.has (ops.Plain kinds.Stod) a.0 there
         (store_class code img p core s.has a.0 there x y f.word words top couple.level couple.index high shown reads plain_word f.below_lies (value_tag v x x_is) tag))
         is
-        (action_is code img p core s.has (ops.Plain kinds.Stod) a.0 there (outcomes.gives (with_core img p new)) is ∙ ap (λ (c : Choice). Some c.action) (sym chosen))
+        (action_is code img p core s.has (ops.Plain kinds.Stod) a.0 there (outcomes.gives (with_core img p new)) is ∙ stored_here plain_word ∙ ap (λ (c : Choice). Some c.action) (sym chosen))
         (lay, subst (λ (c : Choice). PicturesBy tree code texts c.world lay (with_core img p new)) (sym chosen) pictured)
 
   pub storing : a.2.couple.level < 32 → a.2.couple.index < 2 ^ 14 → Does tree code texts w img p
   storing low little =
-      let first : Top sc level (frame core.registers) (length core.below) (operand v) (reference couple ∷ a.1) core.words =
-      top_slot sc level (frame core.registers) (length core.below) st.slots (operand v) (reference couple ∷ a.1) core.words st.there.words_are a.2.lies in
-      let second : Top sc level (frame core.registers) (length core.below) (reference couple) a.1 first.words_below =
-      top_slot sc level (frame core.registers) (length core.below) (reference couple ∷ a.1) (reference couple) a.1 first.words_below first.are refl in
+      let first : Top sc st.held level (frame core.registers) (length core.below) (operand v) (reference couple ∷ a.1) core.words =
+      top_slot sc st.held level (frame core.registers) (length core.below) st.slots (operand v) (reference couple ∷ a.1) core.words st.there.words_are a.2.lies in
+      let second : Top sc st.held level (frame core.registers) (length core.below) (reference couple) a.1 first.words_below =
+      top_slot sc st.held level (frame core.registers) (length core.below) (reference couple ∷ a.1) (reference couple) a.1 first.words_below first.are refl in
       let top : core.words ≡ first.word ∷ second.word ∷ second.words_below =
       two_words core.words first.words_below first.word second.word second.words_below first.is second.is in
       does found first.word second.word second.words_below top first.slot_is second.slot_is second.are low little

@@ -1,5 +1,6 @@
--- The frames of a process's parts after a store into a cell of one of them: the cell has the value in the world, and its word in the stack.
-use Rattle.std.proofs.Common.{◌≡◌, ◌≢◌, ◌⊎◌, inl, inr, refl, sym, ap, ◌∙◌, subst, ℕ, zero, suc, ◌+◌, ◌<◌, ◌≤◌, List, [], ◌∷◌, ◌++◌, length, Option, Some, arith, length-append}
+-- The frames of a process's parts after a store into a cell of one of them: of a variable, whose word in the stack is another one, or of an
+-- array, whose word stays.
+use Rattle.std.proofs.Common.{◌≡◌, ◌≢◌, ◌⊎◌, inl, inr, refl, sym, ap, ◌∙◌, subst, ℕ, zero, suc, ◌+◌, ◌<◌, ◌≤◌, List, [], ◌∷◌, ◌++◌, length, Option, Some, None, arith, length-append}
 use Rattle.std.specs.Prelude.{slice_set, reverse}
 use Rattle.b67_list.specs.Numbered.{numbered}
 use Rattle.algol_tree.specs.declared.tree.Kind.{Kind}
@@ -10,8 +11,8 @@ use Rattle.algol_tree.specs.Scopes.{Scopes, scopes_of}
 use Rattle.algol_meaning.specs.World.{NamedCell, Instance, Part, World, instance_at, or_no_instance, with_instance, ancestor}
 use Rattle.algol_meaning.specs.Rest.{Answer}
 use Rattle.algol_meaning.specs.Asks.{resume}
-use Rattle.algol_paths.specs.Blocks.{IsSeen, IsInner}
-use Rattle.algol_paths.specs.Texts.{InRest}
+use Rattle.algol_paths.specs.Arrays.{DeclaredArray, arrays_of}
+use Rattle.algol_paths.specs.Laws.{KeepsToText}
 use Rattle.algol_paths.specs.Segments.{segment_of}
 use Rattle.b67_word.specs.declared.Place.{Place}
 use Rattle.b67_word.specs.Word.{Word}
@@ -21,11 +22,14 @@ use Rattle.b67_table.specs.Chains.{place}
 use Rattle.b67_templates.specs.Cells.{Simple, simple_cells, control_segments}
 use Rattle.b67_templates.specs.Programs.{context_of}
 use Rattle.b67_standing.specs.Standing.{Gives, pushed, ComesTo}
-use Rattle.b67_cores.specs.Slots.{newest, SlotsAre}
+use Rattle.b67_cores.specs.Slots.{Known, newest, SlotsAre}
 use Rattle.b67_cores.specs.Stretches.{control_words}
 use Rattle.b67_faithful.specs.Weight.{parts_weight}
 use Rattle.b67_faithful.proofs.Contradictions.{some_same}
-use Rattle.b67_pictures.specs.Frames.{CellsAre, most_around, IsOwn, IsPlaced, outermost, inside, home_of, Framed, Frame, Waits, Around}
+use Rattle.b67_pictures.specs.Arrays.{Allotted, Layout, AreMade, AreKnown}
+use Rattle.b67_pictures.specs.Frames.{CellsAre, most_around, IsOwn, IsComplete, IsPlaced, outermost, inside, home_of, Framed, Frame, Waits, Around}
+use Rattle.b67_pictures.proofs.FreshCells.{words_long}
+use Rattle.b67_pictures.proofs.Knowing.{KeepsArrays, keeps_same, known_lasts}
 use Rattle.b67_pictures.proofs.Numbers.{same_or_not, numbered_set, numbered_other}
 use Rattle.b67_pictures.proofs.StackWords.{length-set}
 use Rattle.b67_pictures.proofs.Staying.{most_in, wanted_in, IsAsHeavy, same_weight}
@@ -44,14 +48,30 @@ set_second [] second k n y e = ap (λ (m : ℕ). slice_set second m y) (omega (a
 set_second (z ∷ zs) second zero n y e = absurd (omega (arith, e))
 set_second (z ∷ zs) second (suc k) n y e = ap (λ (xs : List _). z ∷ xs) (set_second zs second k n y (omega (arith, e)))
 
--- a block's cells have as many words
-pub as_many_words : (ss : List Simple) (cells : List NamedCell) (words : List Word) → CellsAre ss cells words → length words ≡ length cells
-as_many_words [] [] [] are = refl
-as_many_words [] [] (w ∷ words) are = absurd are
-as_many_words [] (c ∷ cells) words are = absurd are
-as_many_words (s ∷ ss) [] words are = absurd are
-as_many_words (s ∷ ss) (c ∷ cells) [] are = absurd are
-as_many_words (s ∷ ss) (c ∷ cells) (w ∷ words) are = ap suc (as_many_words ss cells words are.2)
+-- a word is stored in the stack, or none
+abbrev pub IsStored : Option Word → Type 0
+IsStored None = ⊥
+IsStored (Some x) = Unit {0}
+
+abbrev pub put : Option Word → List Word → ℕ → List Word
+put None words k = words
+put (Some x) words k = slice_set words k x
+
+length_put : (o : Option Word) (words : List Word) (k : ℕ) → length (put o words k) ≡ length words
+length_put None words k = refl
+length_put (Some x) words k = length-set words k x
+
+put_first : (o : Option Word) (first second : List Word) (k : ℕ) → (IsStored o → k < length first) → put o (first ++ second) k ≡ put o first k ++ second
+put_first None first second k low = refl
+put_first (Some x) first second k low = set_first first second k x (low tt)
+
+put_second : (o : Option Word) (first second : List Word) (k n : ℕ) → k ≡ length first + n → put o (first ++ second) k ≡ first ++ put o second n
+put_second None first second k n e = refl
+put_second (Some x) first second k n e = set_second first second k n x e
+
+put_cells : (o : Option Word) (mark control : Word) (cells : List Word) (n : ℕ) → put o (mark ∷ control ∷ cells) (suc (suc n)) ≡ mark ∷ control ∷ put o cells n
+put_cells None mark control cells n = refl
+put_cells (Some x) mark control cells n = refl
 
 -- ---- the world after a store in a cell of an instance
 
@@ -96,16 +116,29 @@ module _ (w : World) (i : ℕ) (x : Instance) (at : numbered w.instances i ≡ S
 
 -- ---- the frames after it
 
--- The instance's frame lies so high in the stack of process p, and the cell lies so far above the frame's two words, at the place k.
-module _ (tree : PProgram) (code : Code) (texts : ℕ → List Placed) (w : World) (lay : List Place) (p : ℕ) (i : ℕ) (x : Instance) (at : numbered w.instances i ≡ Some x) (with_cells : List NamedCell)
-    (high : ℕ) (laid : numbered lay i ≡ Some (place p high)) (far k : ℕ) (place_is : k ≡ high + 2 + far) (word : Word) (many : length with_cells ≡ length x.cells) (short : far < length x.cells)
-    (changes : (words : List Word) → CellsAre (simple_cells (block_numbered (scopes_of tree).blocks x.block)) x.cells words →
-    CellsAre (simple_cells (block_numbered (scopes_of tree).blocks x.block)) with_cells (slice_set words far word)) where
+-- the cells of an instance after it: the words of the simple cells are these, and the arrays have their descriptors and rows
+pub record ChangedCells (ss : List Simple) (rows : List Allotted) (cells : List NamedCell) (values : List Word) (declared : List DeclaredArray) (descriptors : List Word) : Type 0 where
+  pub simple : List NamedCell
+  pub arrays : List NamedCell
+  pub simple_are : CellsAre ss simple values
+  pub made : AreMade declared arrays rows descriptors
+  pub has : cells ≡ simple ++ arrays
+
+-- The instance's frame lies so high in the stack of process p. A word that is stored lies so far above the frame's two words, at the place k.
+module _ (tree : PProgram) (code : Code) (texts : ℕ → List Placed) (w : World) (lay : Layout) (p : ℕ) (i : ℕ) (x : Instance) (at : numbered w.instances i ≡ Some x) (with_cells : List NamedCell)
+    (high : ℕ) (laid : numbered lay.places i ≡ Some (place p high)) (far k : ℕ) (place_is : k ≡ high + 2 + far) (word : Option Word) (many : length with_cells ≡ length x.cells)
+    (short : IsStored word → far < length (simple_cells (scopes_of tree) (block_numbered (scopes_of tree).blocks x.block))) (keeps : KeepsArrays (scopes_of tree) w (stored_world w i x at with_cells) lay lay i)
+    (changes : (simple : List NamedCell) (values : List Word) (arrays : List NamedCell) (declared : List DeclaredArray) (descriptors : List Word) →
+    CellsAre (simple_cells (scopes_of tree) (block_numbered (scopes_of tree).blocks x.block)) simple values → AreMade declared arrays (lay.rows i) descriptors → x.cells ≡ simple ++ arrays →
+    ChangedCells (simple_cells (scopes_of tree) (block_numbered (scopes_of tree).blocks x.block)) (lay.rows i) with_cells (put word values far) declared descriptors) where
   abbrev sc : Scopes
   sc = scopes_of tree
 
   abbrev w' : World
   w' = stored_world w i x at with_cells
+
+  abbrev ss : List Simple
+  ss = simple_cells sc (block_numbered sc.blocks x.block)
 
   abbrev Before : Part → List Part → List Word → Type 0
   Before part outer words = Frame tree code texts w lay p part outer words
@@ -115,52 +148,57 @@ module _ (tree : PProgram) (code : Code) (texts : ℕ → List Placed) (w : Worl
 
   -- a frame of the instance lies there
   frame_high : (part : Part) (outer : List Part) (words : List Word) (f : Before part outer words) → part.instance ≡ i → length f.lower ≡ high
-  frame_high part outer words f e = same_height (length f.lower) high (sym f.framed.laid ∙ ap (λ (j : ℕ). numbered lay j) e ∙ laid)
+  frame_high part outer words f e = same_height (length f.lower) high (sym f.framed.laid ∙ ap (λ (j : ℕ). numbered lay.places j) e ∙ laid)
 
   frame_is : (part : Part) (outer : List Part) (words : List Word) (f : Before part outer words) → part.instance ≡ i → f.framed.instance ≡ x
   frame_is part outer words f e = some_same (sym f.framed.is ∙ ap (λ (j : ℕ). numbered w.instances j) e ∙ at)
 
-  frame_values : (part : Part) (outer : List Part) (words : List Word) (f : Before part outer words) → part.instance ≡ i → length f.framed.values ≡ length x.cells
+  frame_values : (part : Part) (outer : List Part) (words : List Word) (f : Before part outer words) → part.instance ≡ i → length f.framed.values ≡ length ss
   frame_values part outer words f e =
-      as_many_words (simple_cells (block_numbered sc.blocks f.framed.instance.block)) f.framed.instance.cells f.framed.values f.framed.cells_are
-      ∙ ap (λ (y : Instance). length y.cells) (frame_is part outer words f e)
+      words_long (simple_cells sc (block_numbered sc.blocks f.framed.instance.block)) f.framed.simple f.framed.values f.framed.simple_are
+      ∙ ap (λ (y : Instance). length (simple_cells sc (block_numbered sc.blocks y.block))) (frame_is part outer words f e)
 
   abbrev controls_of : Instance → List Word
   controls_of y = control_words (level_of (block_numbered sc.blocks y.block)) (control_segments sc (block_numbered sc.blocks y.block).decls)
 
-  frame_cells : (part : Part) (outer : List Part) (words : List Word) (f : Before part outer words) → part.instance ≡ i → length x.cells ≤ length f.cells
+  frame_cells : (part : Part) (outer : List Part) (words : List Word) (f : Before part outer words) → part.instance ≡ i → length ss ≤ length f.cells
   frame_cells part outer words f e =
-      omega (arith, frame_values part outer words f e, ap length f.framed.cells_is, length-append f.framed.values (controls_of f.framed.instance))
+      omega (arith, frame_values part outer words f e, ap length f.framed.cells_is, length-append f.framed.values (controls_of f.framed.instance ++ f.framed.descriptors))
 
   -- so the cell lies among the words of the parts
-  cell_low : (parts : List Part) (words : List Word) → Lies tree code texts w lay p parts i words → (k < length words) × (high + 2 ≤ length words)
+  cell_low : (parts : List Part) (words : List Word) → Lies tree code texts w lay p parts i words → (IsStored word → k < length words) × (high + 2 ≤ length words)
   cell_low parts words l =
       let lies : length l.frame.lower + 2 + length l.frame.cells ≤ length words = lies_low tree code texts w lay p parts i words l in
       let height : length l.frame.lower ≡ high = frame_high l.part l.outer l.front l.frame l.instance_is in
-      let as_many : length x.cells ≤ length l.frame.cells = frame_cells l.part l.outer l.front l.frame l.instance_is in
-      (omega (arith, lies, height, as_many, short, place_is), omega (arith, lies, height))
+      let as_many : length ss ≤ length l.frame.cells = frame_cells l.part l.outer l.front l.frame l.instance_is in
+      (λ set. omega (arith, lies, height, as_many, short set, place_is), omega (arith, lies, height))
 
   stays : StayBelow w w' lay lay p high
   stays =
       record {
         instances = λ j there y e mine lies lower.
-            others_at w i x at with_cells j (λ (same : j ≡ i). let height : there ≡ high = same_height there high (sym lies ∙ ap (λ (n : ℕ). numbered lay n) same ∙ laid) in omega (arith, height, lower)) ∙ e;
+            others_at w i x at with_cells j (λ (same : j ≡ i). let height : there ≡ high = same_height there high (sym lies ∙ ap (λ (n : ℕ). numbered lay.places n) same ∙ laid) in omega (arith, height, lower)) ∙ e;
         places = λ j f e. e;
+        rows = λ j there y e mine lies lower. refl;
       }
 
   placed_so : (outer : List Part) (y z : Instance) → y.parent ≡ z.parent → y.block ≡ z.block → IsPlaced sc w lay outer y → IsPlaced sc w' lay outer z
   placed_so outer y z parent block (outermost none_up alone) = outermost (sym parent ∙ none_up) (ap (λ (b : ℕ). around sc.blocks b) (sym block) ∙ alone)
-  placed_so outer y z parent block (inside own next) =
+  placed_so outer y z parent block (inside own next made) =
       inside (subst (λ (j : ℕ). IsOwn outer j) parent own)
       (ap (λ (b : ℕ). around sc.blocks b) (sym block)
       ∙ next
       ∙ ap (λ (b : ℕ). b ∷ around sc.blocks b) (same_of w i x at with_cells (λ (y : Instance). y.block) refl y.parent)
       ∙ ap (λ (j : ℕ). (instance_at w' j).block ∷ around sc.blocks ((instance_at w' j).block)) parent)
+      (subst (λ (j : ℕ). IsComplete sc w' lay j) parent
+      (sym (same_of w i x at with_cells (λ (y : Instance). length y.cells) many y.parent)
+      ∙ made
+      ∙ same_of w i x at with_cells (λ (y : Instance). length (simple_cells sc (block_numbered sc.blocks y.block)) + length (arrays_of (block_numbered sc.blocks y.block).decls)) refl y.parent))
 
   -- a frame after the store, and the parts around it
   pub record Stored (part : Part) (outer : List Part) (words : List Word) (f : Frame tree code texts w lay p part outer words) : Type 0 where
-    pub frame : Frame tree code texts (stored_world w i x at with_cells) lay p part outer (slice_set words k word)
-    pub low : k < length words
+    pub frame : Frame tree code texts (stored_world w i x at with_cells) lay p part outer (put word words k)
+    pub low : IsStored word → k < length words
     pub lower : length frame.lower ≡ length f.lower
     pub mark : frame.mark ≡ f.mark
     pub control : frame.control ≡ f.control
@@ -173,48 +211,93 @@ module _ (tree : PProgram) (code : Code) (texts : ℕ → List Placed) (w : Worl
   wanted_so part outer lower mark control a =
       subst (λ (b : ℕ). Around tree code texts w' lay p outer lower mark control ((block_numbered sc.blocks b).result)) (same_of w i x at with_cells (λ (y : Instance). y.block) refl part.instance) a
 
-  text_so : (part : Part) (outer : List Part) (words : List Word) (f : Before part outer words) →
-      InRest (IsSeen sc ((instance_at w' part.instance).block)) (IsInner sc ((instance_at w' part.instance).block)) part.rest
-  text_so part outer words f =
-      subst (λ (b : ℕ). InRest (IsSeen sc b) (IsInner sc b) part.rest) (same_of w i x at with_cells (λ (y : Instance). y.block) refl part.instance) f.text
+  text_so : (part : Part) (outer : List Part) (words : List Word) (f : Before part outer words) → KeepsToText sc ((instance_at w' part.instance).block) part.rest
+  text_so part outer words f = subst (λ (b : ℕ). KeepsToText sc b part.rest) (same_of w i x at with_cells (λ (y : Instance). y.block) refl part.instance) f.text
+
+  -- ---- descriptors
+
+  ancestors_same : (up j : ℕ) → ancestor w' up j ≡ ancestor w up j
+  ancestors_same up j = sym (same_ancestors w w' (λ k. same_of w i x at with_cells (λ (y : Instance). y.parent) refl k) up j)
+
+  each_keeps : (j : ℕ) → KeepsArrays sc w w' lay lay j
+  each_keeps j = by_number (same_or_not j i)
+    where
+      by_number : (j ≡ i) ⊎ (j ≢ i) → KeepsArrays sc w w' lay lay j
+      by_number (inl e) = subst (λ (n : ℕ). KeepsArrays sc w w' lay lay n) (sym e) keeps
+      by_number (inr n) = keeps_same sc w w' lay lay j (ap or_no_instance (others_at w i x at with_cells j n)) refl
+
+  -- what is known of descriptors holds as it did
+  pub known_stored : (j level : ℕ) (known : List Known) → AreKnown sc w lay j level known → AreKnown sc (stored_world w i x at with_cells) lay j level known
+  known_stored j level = known_lasts sc w w' lay lay j level (λ up near. ancestors_same up j) (λ up near. each_keeps (ancestor w up j))
 
   -- the frame of the instance
-  own_framed : (part : Part) (outer : List Part) (words : List Word) (f : Before part outer words) → part.instance ≡ i →
-      Framed sc w' lay p part.instance outer (length f.lower) f.mark f.control (slice_set f.cells far word)
-  own_framed part outer words f e =
-      let is : f.framed.instance ≡ x = frame_is part outer words f e in
-      record {
-        instance = changed w i x at with_cells;
-        is = ap (λ (j : ℕ). numbered w'.instances j) e ∙ changed_at w i x at with_cells;
-        own = ap (λ (y : Instance). y.process) (sym is) ∙ f.framed.own;
-        known = subst (λ (y : Instance). y.block < length sc.blocks) is f.framed.known;
-        laid = f.framed.laid;
-        values = slice_set f.framed.values far word;
-        cells_are = changes f.framed.values (subst (λ (y : Instance). CellsAre (simple_cells (block_numbered sc.blocks y.block)) y.cells f.framed.values) is f.framed.cells_are);
-        cells_is = ap (λ (ws : List Word). slice_set ws far word) (subst (λ (y : Instance). f.cells ≡ f.framed.values ++ controls_of y) is f.framed.cells_is)
-            ∙ set_first f.framed.values (controls_of x) far word (omega (arith, short, frame_values part outer words f e));
-        placed = placed_so outer f.framed.instance (changed w i x at with_cells) (ap (λ (y : Instance). y.parent) is) (ap (λ (y : Instance). y.block) is) f.framed.placed;
-        home = f.framed.home;
-        linked = subst (λ (y : Instance). home_of sc w' lay y.parent ≡ Some f.framed.home) is (home_after tree code texts w w' lay lay p high stays f.framed.instance.parent f.framed.home f.framed.linked);
-        df = f.framed.df;
-        mark_is = f.framed.mark_is;
-        back = f.framed.back;
-        control_is = f.framed.control_is;
-        level_is = f.framed.level_is ∙ ap (λ (y : Instance). level_of (block_numbered sc.blocks y.block)) is;
-      }
+  module _ (part : Part) (outer : List Part) (words : List Word) (f : Before part outer words) (e : part.instance ≡ i) where
+    is_x : f.framed.instance ≡ x
+    is_x = frame_is part outer words f e
+
+    abbrev Changed_cells : Type 0
+    Changed_cells = ChangedCells ss (lay.rows i) with_cells (put word f.framed.values far) f.framed.declared f.framed.descriptors
+
+    own_cells : Changed_cells
+    own_cells =
+        changes f.framed.simple f.framed.values f.framed.arrays f.framed.declared f.framed.descriptors
+        (subst (λ (y : Instance). CellsAre (simple_cells sc (block_numbered sc.blocks y.block)) f.framed.simple f.framed.values) is_x f.framed.simple_are)
+        (subst (λ (j : ℕ). AreMade f.framed.declared f.framed.arrays (lay.rows j) f.framed.descriptors) e f.framed.made)
+        (subst (λ (y : Instance). y.cells ≡ f.framed.simple ++ f.framed.arrays) is_x f.framed.has)
+
+    abbrev own_framed : Changed_cells → Framed sc w' lay p part.instance outer (length f.lower) f.mark f.control (put word f.cells far)
+    own_framed c =
+        record {
+          instance = changed w i x at with_cells;
+          is = ap (λ (j : ℕ). numbered w'.instances j) e ∙ changed_at w i x at with_cells;
+          own = ap (λ (y : Instance). y.process) (sym is_x) ∙ f.framed.own;
+          known = subst (λ (y : Instance). y.block < length sc.blocks) is_x f.framed.known;
+          stands = ap (λ (y : Instance). y.left) (sym is_x) ∙ f.framed.stands;
+          laid = f.framed.laid;
+          simple = c.simple;
+          values = put word f.framed.values far;
+          simple_are = c.simple_are;
+          arrays = c.arrays;
+          declared = f.framed.declared;
+          later = f.framed.later;
+          order = subst (λ (y : Instance). arrays_of (block_numbered sc.blocks y.block).decls ≡ f.framed.declared ++ f.framed.later) is_x f.framed.order;
+          descriptors = f.framed.descriptors;
+          made = subst (λ (j : ℕ). AreMade f.framed.declared c.arrays (lay.rows j) f.framed.descriptors) (sym e) c.made;
+          has = c.has;
+          cells_is =
+              ap (λ (ws : List Word). put word ws far) (subst (λ (y : Instance). f.cells ≡ f.framed.values ++ (controls_of y ++ f.framed.descriptors)) is_x f.framed.cells_is)
+              ∙ put_first word f.framed.values (controls_of x ++ f.framed.descriptors) far (λ set. omega (arith, short set, frame_values part outer words f e));
+          placed = placed_so outer f.framed.instance (changed w i x at with_cells) (ap (λ (y : Instance). y.parent) is_x) (ap (λ (y : Instance). y.block) is_x) f.framed.placed;
+          home = f.framed.home;
+          linked = subst (λ (y : Instance). home_of sc w' lay y.parent ≡ Some f.framed.home) is_x (home_after tree code texts w w' lay lay p high stays f.framed.instance.parent f.framed.home f.framed.linked);
+          df = f.framed.df;
+          mark_is = f.framed.mark_is;
+          back = f.framed.back;
+          control_is = f.framed.control_is;
+          level_is = f.framed.level_is ∙ ap (λ (y : Instance). level_of (block_numbered sc.blocks y.block)) is_x;
+        }
 
   -- one above it
-  other_framed : (part : Part) (outer : List Part) (words : List Word) (f : Before part outer words) → part.instance ≢ i →
-      Framed sc w' lay p part.instance outer (length (slice_set f.lower k word)) f.mark f.control f.cells
+  abbrev other_framed : (part : Part) (outer : List Part) (words : List Word) (f : Before part outer words) → part.instance ≢ i →
+      Framed sc w' lay p part.instance outer (length (put word f.lower k)) f.mark f.control f.cells
   other_framed part outer words f apart =
       record {
         instance = f.framed.instance;
         is = others_at w i x at with_cells part.instance apart ∙ f.framed.is;
         own = f.framed.own;
         known = f.framed.known;
-        laid = f.framed.laid ∙ ap (λ (n : ℕ). Some (place p n)) (sym (length-set f.lower k word));
+        laid = f.framed.laid ∙ ap (λ (n : ℕ). Some (place p n)) (sym (length_put word f.lower k));
+        stands = f.framed.stands;
+        simple = f.framed.simple;
         values = f.framed.values;
-        cells_are = f.framed.cells_are;
+        simple_are = f.framed.simple_are;
+        arrays = f.framed.arrays;
+        declared = f.framed.declared;
+        later = f.framed.later;
+        order = f.framed.order;
+        descriptors = f.framed.descriptors;
+        made = f.framed.made;
+        has = f.framed.has;
         cells_is = f.framed.cells_is;
         placed = placed_so outer f.framed.instance f.framed.instance refl refl f.framed.placed;
         home = f.framed.home;
@@ -227,7 +310,7 @@ module _ (tree : PProgram) (code : Code) (texts : ℕ → List Placed) (w : Worl
       }
 
   stored_by : (part : Part) (outer : List Part) (words : List Word) (f : Before part outer words) → Around tree code texts w lay p outer f.lower f.mark f.control (wanted_in tree w part) →
-      (IsOwn outer i → Around tree code texts w' lay p outer (slice_set f.lower k word) f.mark f.control (wanted_in tree w part)) → IsOwn (part ∷ outer) i → Stored part outer words f
+      (IsOwn outer i → Around tree code texts w' lay p outer (put word f.lower k) f.mark f.control (wanted_in tree w part)) → IsOwn (part ∷ outer) i → Stored part outer words f
   stored_by part outer words f a deeper (inl e) =
       let height : length f.lower ≡ high = frame_high part outer words f e in
       record {
@@ -236,54 +319,57 @@ module _ (tree : PProgram) (code : Code) (texts : ℕ → List Placed) (w : Worl
           lower = f.lower;
           mark = f.mark;
           control = f.control;
-          cells = slice_set f.cells far word;
-          words_are = ap (λ (ws : List Word). slice_set ws k word) f.words_are
-              ∙ set_second f.lower (f.mark ∷ f.control ∷ f.cells) k (suc (suc far)) word (omega (arith, place_is, height));
-          framed = own_framed part outer words f e;
+          cells = put word f.cells far;
+          words_are = ap (λ (ws : List Word). put word ws k) f.words_are
+              ∙ put_second word f.lower (f.mark ∷ f.control ∷ f.cells) k (suc (suc far)) (omega (arith, place_is, height))
+              ∙ ap (λ (ws : List Word). f.lower ++ ws) (put_cells word f.mark f.control f.cells far);
+          framed = own_framed part outer words f e (own_cells part outer words f e);
           text = text_so part outer words f;
+          making = f.making;
         };
-        low = omega (arith, place_is, height, short, frame_cells part outer words f e, below_frame words f.lower f.mark f.control f.cells f.words_are);
+        low = λ set. omega (arith, place_is, height, short set, frame_cells part outer words f e, below_frame words f.lower f.mark f.control f.cells f.words_are);
         lower = refl;
         mark = refl;
         control = refl;
-        cells = length-set f.cells far word;
+        cells = length_put word f.cells far;
         around = wanted_so part outer f.lower f.mark f.control (around_stays tree code texts w w' lay lay p high stays outer f.lower f.mark f.control (wanted_in tree w part) (omega (arith, height)) a);
       }
   stored_by part outer words f a deeper (inr o) =
-      let lies : (k < length f.lower) × (high + 2 ≤ length f.lower) = cell_low outer f.lower (lies_around tree code texts w lay p outer f.lower f.mark f.control (wanted_in tree w part) a i o) in
+      let lies : (IsStored word → k < length f.lower) × (high + 2 ≤ length f.lower) = cell_low outer f.lower (lies_around tree code texts w lay p outer f.lower f.mark f.control (wanted_in tree w part) a i o) in
       record {
         frame = record {
           owns = f.owns;
-          lower = slice_set f.lower k word;
+          lower = put word f.lower k;
           mark = f.mark;
           control = f.control;
           cells = f.cells;
-          words_are = ap (λ (ws : List Word). slice_set ws k word) f.words_are
-              ∙ set_first f.lower (f.mark ∷ f.control ∷ f.cells) k word lies.0;
+          words_are = ap (λ (ws : List Word). put word ws k) f.words_are
+              ∙ put_first word f.lower (f.mark ∷ f.control ∷ f.cells) k lies.0;
           framed = other_framed part outer words f (λ (e : part.instance ≡ i). let height : length f.lower ≡ high = frame_high part outer words f e in omega (arith, height, lies.1));
           text = text_so part outer words f;
+          making = f.making;
         };
-        low = omega (arith, lies.0, below_frame words f.lower f.mark f.control f.cells f.words_are);
-        lower = length-set f.lower k word;
+        low = λ set. omega (arith, lies.0 set, below_frame words f.lower f.mark f.control f.cells f.words_are);
+        lower = length_put word f.lower k;
         mark = refl;
         control = refl;
         cells = refl;
-        around = wanted_so part outer (slice_set f.lower k word) f.mark f.control (deeper o);
+        around = wanted_so part outer (put word f.lower k) f.mark f.control (deeper o);
       }
 
   -- the parts around
   pub around_stored : (parts : List Part) (lower : List Word) (mark control : Word) (wanted : Option Kind) → Around tree code texts w lay p parts lower mark control wanted → IsOwn parts i →
-      Around tree code texts (stored_world w i x at with_cells) lay p parts (slice_set lower k word) mark control wanted
+      Around tree code texts (stored_world w i x at with_cells) lay p parts (put word lower k) mark control wanted
   around_stored [] lower mark control wanted a own = absurd own
   around_stored (part ∷ outer) lower mark control wanted a own =
       let s : Waits tree code texts w lay p part outer lower mark control wanted = a.0 in
       let g : Stored part outer s.below s.frame = stored_by part outer s.below s.frame a.1 (λ o. around_stored outer s.frame.lower s.frame.mark s.frame.control (wanted_in tree w part) a.1 o) own in
       let block_is : (instance_at w part.instance).block ≡ (instance_at w' part.instance).block = same_of w i x at with_cells (λ (y : Instance). y.block) refl part.instance in
-      let as_high : length s.below ≡ length (slice_set s.below k word) = sym (length-set s.below k word) in (
+      let as_high : length s.below ≡ length (put word s.below k) = sym (length_put word s.below k) in (
         record {
-          below = slice_set s.below k word;
+          below = put word s.below k;
           words = s.words;
-          lower_is = ap (λ (ws : List Word). slice_set ws k word) s.lower_is ∙ set_first s.below (reverse s.words) k word g.low;
+          lower_is = ap (λ (ws : List Word). put word ws k) s.lower_is ∙ put_first word s.below (reverse s.words) k g.low;
           frame = g.frame;
           waits = s.waits;
           pc = s.pc;
@@ -291,23 +377,26 @@ module _ (tree : PProgram) (code : Code) (texts : ℕ → List Placed) (w : Worl
           returns = subst (λ (b : ℕ). (r : Answer) → Gives wanted r →
               ComesTo sc (context_of code sc b) (texts (segment_of sc.blocks b)) (level_of (block_numbered sc.blocks b)) (most_around tree b) (resume sc part.rest r) s.pc (pushed r s.slots)) block_is s.returns;
           few = subst (λ (b : ℕ). length s.slots + 1 ≤ most_around tree b) block_is s.few;
-          words_are = subst (λ (b : ℕ). SlotsAre sc (level_of (block_numbered sc.blocks b)) (length g.frame.lower) (length (slice_set s.below k word)) s.slots s.words) block_is
-              (subst (λ (n : ℕ). SlotsAre sc (level_of (block_numbered sc.blocks ((instance_at w part.instance).block))) (length g.frame.lower) n s.slots s.words) as_high
-              (subst (λ (n : ℕ). SlotsAre sc (level_of (block_numbered sc.blocks ((instance_at w part.instance).block))) n (length s.below) s.slots s.words) (sym g.lower) s.words_are));
+          held = s.held;
+          held_are = subst (λ (b : ℕ). AreKnown sc w' lay part.instance (level_of (block_numbered sc.blocks b)) s.held) block_is
+              (known_stored part.instance (level_of (block_numbered sc.blocks ((instance_at w part.instance).block))) s.held s.held_are);
+          words_are = subst (λ (b : ℕ). SlotsAre sc s.held (level_of (block_numbered sc.blocks b)) (length g.frame.lower) (length (put word s.below k)) s.slots s.words) block_is
+              (subst (λ (n : ℕ). SlotsAre sc s.held (level_of (block_numbered sc.blocks ((instance_at w part.instance).block))) (length g.frame.lower) n s.slots s.words) as_high
+              (subst (λ (n : ℕ). SlotsAre sc s.held (level_of (block_numbered sc.blocks ((instance_at w part.instance).block))) n (length s.below) s.slots s.words) (sym g.lower) s.words_are));
           home = s.home;
           df = s.df;
           mark_is = s.mark_is;
-          far = ap (λ (n : ℕ). s.df + newest n (length (slice_set s.below k word)) s.slots) g.lower
-              ∙ ap (λ (n : ℕ). s.df + newest (length s.frame.lower) n s.slots) (length-set s.below k word)
+          far = ap (λ (n : ℕ). s.df + newest n (length (put word s.below k)) s.slots) g.lower
+              ∙ ap (λ (n : ℕ). s.df + newest (length s.frame.lower) n s.slots) (length_put word s.below k)
               ∙ s.far
-              ∙ sym (length-set lower k word);
+              ∙ sym (length_put word lower k);
           back = s.back;
           control_is = s.control_is;
           segment_is = s.segment_is ∙ ap (λ (b : ℕ). segment_of sc.blocks b) block_is;
           place_is = s.place_is;
           level_is = s.level_is ∙ ap (λ (b : ℕ). level_of (block_numbered sc.blocks b)) block_is;
           cells_are = s.cells_are ∙ sym g.cells;
-          light = subst (λ (b : ℕ). length (slice_set s.below k word) + most_around tree b + 3 ≤ parts_weight tree w' (part ∷ outer)) block_is
+          light = subst (λ (b : ℕ). length (put word s.below k) + most_around tree b + 3 ≤ parts_weight tree w' (part ∷ outer)) block_is
               (subst (λ (n : ℕ). n + most_in tree w part + 3 ≤ parts_weight tree w' (part ∷ outer)) as_high
               (subst (λ (n : ℕ). length s.below + most_in tree w part + 3 ≤ n) (sym (same_weight tree w w' (part ∷ outer) (λ j own_part. as_heavy w i x at with_cells many j))) s.light));
         },

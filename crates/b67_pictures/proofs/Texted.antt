@@ -1,32 +1,62 @@
--- What a block has to do keeps to its text.
-use Rattle.std.proofs.Common.{◌≡◌, refl, sym, subst, ℕ, List, ◌++◌, Option, Some, None}
+-- What a block has to do keeps to its text, and makes all its arrays.
+use Rattle.std.proofs.Common.{◌≡◌, refl, sym, ap, ◌∙◌, ℕ, List, [], ◌∷◌, ◌++◌, Option, Some, None, append_assoc, append-nil}
 use Rattle.algol_tree.specs.declared.tree.Kind.{Kind}
+use Rattle.algol_tree.specs.declared.tree.Named.{Named}
 use Rattle.algol_tree.specs.Plain as tree
-use Rattle.algol_tree.specs.Plain.{PStmts}
+use Rattle.algol_tree.specs.Plain.{PStmts, PDecls}
 use Rattle.algol_tree.specs.Blocks.{Block, block_numbered}
 use Rattle.algol_tree.specs.Scopes.{Scopes}
 use Rattle.algol_meaning.specs.Rest.{Item}
-use Rattle.algol_meaning.specs.Statements.{items, items_of, ending, settle_items}
-use Rattle.algol_paths.specs.Blocks.{IsSeen, IsInner}
-use Rattle.algol_paths.specs.Laws.{RestsKeepToTheirText}
-use Rattle.algol_paths.specs.Texts.{InStmts, InItems, InRest}
+use Rattle.algol_meaning.specs.Statements.{event_items, decls_items, items, items_of, ending, settle_items}
+use Rattle.algol_paths.specs.Arrays.{DeclaredArray, arrays_in, arrays_of, arrays_to_come, to_make}
+use Rattle.algol_paths.specs.Laws.{KeepsToText, RestsKeepToTheirText, ArraysAreMadeInOrder}
 use Rattle.b67_fitting.specs.Nested.{IsText}
 
+-- ---- the arrays among items
+
+events_to_come : (ns : List Named) (k : List Item) → arrays_to_come (event_items ns ++ k) ≡ arrays_to_come k
+events_to_come [] k = refl
+events_to_come (n ∷ ns) k = events_to_come ns k
+
+-- those of declarations come first
+decls_to_come : (ds : PDecls) (k : List Item) → arrays_to_come (decls_items ds ++ k) ≡ arrays_of ds ++ arrays_to_come k
+decls_to_come tree.no_decls k = refl
+decls_to_come (tree.decls (tree.arrays kind ns pairs) ds) k =
+    ap (λ (ds' : List DeclaredArray). arrays_in kind ns pairs ++ ds') (decls_to_come ds k) ∙ sym (append_assoc (arrays_in kind ns pairs) (arrays_of ds) (arrays_to_come k))
+decls_to_come (tree.decls (tree.events ns) ds) k =
+    ap arrays_to_come (append_assoc (event_items ns) (decls_items ds) k) ∙ events_to_come ns (decls_items ds ++ k) ∙ decls_to_come ds k
+decls_to_come (tree.decls (tree.tasks ns) ds) k =
+    ap arrays_to_come (append_assoc (event_items ns) (decls_items ds) k) ∙ events_to_come ns (decls_items ds ++ k) ∙ decls_to_come ds k
+decls_to_come (tree.decls (tree.simple kind ns) ds) k = decls_to_come ds k
+decls_to_come (tree.decls (tree.files ns) ds) k = decls_to_come ds k
+decls_to_come (tree.decls (tree.labels ns) ds) k = decls_to_come ds k
+decls_to_come (tree.decls (tree.forward h) ds) k = decls_to_come ds k
+decls_to_come (tree.decls (tree.procedure h s) ds) k = decls_to_come ds k
+
+-- statements make none
+stmts_to_come : (ss : PStmts) (k : List Item) → arrays_to_come (items ss k) ≡ arrays_to_come k
+stmts_to_come tree.no_stmts k = refl
+stmts_to_come (tree.stmts s ss) k = stmts_to_come ss k
+
+ending_to_come : (b : Block) → arrays_to_come (ending b) ≡ []
+ending_to_come b = by_result b.result
+  where
+    by_result : (o : Option Kind) → arrays_to_come (ending (record b { result = o })) ≡ []
+    by_result None = refl
+    by_result (Some kind) = refl
+
+-- so a block has those of its declarations to make
+block_to_come : (b : Block) → arrays_to_come (items_of b) ≡ arrays_of b.decls
+block_to_come b =
+    decls_to_come b.decls (items b.stmts (ending b))
+    ∙ ap (λ (as' : List DeclaredArray). arrays_of b.decls ++ as') (stmts_to_come b.stmts (ending b) ∙ ending_to_come b)
+    ∙ append-nil (arrays_of b.decls)
+
+-- ---- from the start of a block on
+
 module _ (sc : Scopes) (j : ℕ) where
-  abbrev In : List Item → Type 0
-  In k = InItems (IsSeen sc j) (IsInner sc j) k
+  pub block_keeps : RestsKeepToTheirText → IsText sc j → KeepsToText sc j (settle_items sc (items_of (block_numbered sc.blocks j)))
+  block_keeps keeps t = keeps.settled sc j (items_of (block_numbered sc.blocks j)) t.items
 
-  items_in : (ss : PStmts) (k : List Item) → InStmts (IsSeen sc j) (IsInner sc j) ss → In k → In (items ss k)
-  items_in tree.no_stmts k h more = more
-  items_in (tree.stmts s ss) k h more = (h.0, items_in ss k h.1 more)
-
-  ending_in : (b : Block) (o : Option Kind) → b.result ≡ o → In (ending b)
-  ending_in b None e = rw e tt
-  ending_in b (Some kind) e = rw e (tt, tt)
-
-  -- from the start of the block on
-  pub block_keeps : RestsKeepToTheirText → IsText sc j → InRest (IsSeen sc j) (IsInner sc j) (settle_items sc (items_of (block_numbered sc.blocks j)))
-  block_keeps keeps t =
-      let b = block_numbered sc.blocks j in
-      keeps.settled sc j (items_of b)
-      (subst (λ (k : List Item). In (k ++ items b.stmts (ending b))) (sym t.made) (items_in b.stmts (ending b) t.text (ending_in b b.result refl)))
+  pub block_makes : ArraysAreMadeInOrder → IsText sc j → to_make (settle_items sc (items_of (block_numbered sc.blocks j))) ≡ arrays_of (block_numbered sc.blocks j).decls
+  block_makes order t = order.settled sc j (items_of (block_numbered sc.blocks j)) t.items ∙ block_to_come (block_numbered sc.blocks j)

@@ -3,16 +3,17 @@ use Rattle.std.proofs.Common.{◌≡◌, inl, inr, refl, sym, ap, ◌∙◌, sub
 use Rattle.std.specs.Prelude.{if◌then◌else◌, nat_le, pos}
 use Rattle.b67_list.specs.Numbered.{numbered}
 use Rattle.algol_tree.specs.declared.token.Spot.{Spot}
+use Rattle.algol_tree.specs.declared.tree.Kind.{Kind}
 use Rattle.algol_tree.specs.declared.tree.Named.{Named}
 use Rattle.algol_tree.specs.declared.tree.PhraseText.{PhraseText}
 use Rattle.algol_tree.specs.Plain as tree_forms
-use Rattle.algol_tree.specs.Plain.{PProgram, PStmts, PDecls}
+use Rattle.algol_tree.specs.Plain.{PProgram, PStmts, PDecls, PPair}
 use Rattle.algol_tree.specs.Scopes.{Scopes, scopes_of}
-use Rattle.algol_meaning.specs.Value.{Value, number}
+use Rattle.algol_meaning.specs.Value.{Value, number, Reference}
 use Rattle.algol_meaning.specs.Rest.{own, there, element_of, Given, done, value, cell, place as at_place, entered}
 use Rattle.algol_meaning.specs.World.{Process, Part, World, instance_at}
 use Rattle.algol_meaning.specs.Asks.{Ask, nothing, reads, reads_element, indexes, asks_happened, fails, enters, passes, resolves, reads_result, leaves, stores, selects, turns, goes_to, enters_block, starts, acts, writes, makes_arrays, makes_event, ask}
-use Rattle.algol_paths.specs.Blocks.{IsSeen, IsInner}
+use Rattle.algol_paths.specs.Blocks.{IsSeen, IsSeenAround, IsInner}
 use Rattle.b67_word.specs.declared.Place.{Place}
 use Rattle.b67_word.specs.Word.{Word}
 use Rattle.b67_control.specs.declared.Pcw.{Pcw}
@@ -40,14 +41,16 @@ use Rattle.b67_templates.specs.Code.{stmts_count}
 use Rattle.b67_templates.specs.Contexts.{Context}
 use Rattle.b67_templates.specs.Fragments.{Has, operator_for, code_at}
 use Rattle.b67_standing.specs.Laws.{RestsGoOn}
-use Rattle.b67_standing.specs.Standing.{ActionAt, GoesOn}
+use Rattle.b67_standing.specs.Standing.{ActionAt, GoesOn, operands}
 use Rattle.b67_standing.specs.Stepping.{Slot, control, mark, operand, reference}
 use Rattle.b67_cores.specs.Cores.{Core, HasCore, CoreStep, CoreSteps, here, onward}
-use Rattle.b67_cores.specs.Slots.{newest}
+use Rattle.b67_cores.specs.Slots.{newest, SlotIs, SlotsAre}
 use Rattle.b67_cores.proofs.Moving.{slots_length}
 use Rattle.b67_faithful.proofs.Contradictions.{some_same, none_some, true_false}
 use Rattle.b67_fitting.specs.Nested.{AreNested}
+use Rattle.b67_pictures.specs.Arrays.{Layout}
 use Rattle.b67_pictures.specs.Pictures.{Living, Pictured, living, dead, PicturesBy}
+use Rattle.b67_pictures.proofs.Actuals.{Given_words, given_words}
 use Rattle.b67_pictures.proofs.Asked.{reads_seen, stores_seen}
 use Rattle.b67_pictures.proofs.AskedEntries.{enters_seen}
 use Rattle.b67_pictures.proofs.Homes.{operator_there}
@@ -66,9 +69,24 @@ use Rattle.b67_pictures.proofs.TouchingCells.{IsOperand, IsEntry, Names, variabl
 use Rattle.b67_pictures.proofs.TouchingCalls.{under_top, call_touches, write_touches, select_touches}
 use Rattle.b67_pictures.proofs.TouchingWords.{image_leads, level_known, couple_fits, procedure_fits, pcw_kind}
 
+-- ---- what is done with arrays
+
+-- The operator of a scene whose head asks for this touches no stack but that of its process, and the system's.
+abbrev pub IsNear : (tree : PProgram) (code : Code) (texts : ℕ → List Placed) → Ask → Type 0
+IsNear tree code texts k =
+    (w : World) (lay : Layout) (img : Image) (p : ℕ) (q : Process) (part : Part) (outer : List Part) (bound : ℕ) (core : Core) (s : Scene tree code texts w lay img p q part outer bound core) (x : Place) →
+    TouchesFrom code img p x core.registers → ask part.rest ≡ k →
+    ActionAt (scopes_of tree) (context_in tree code w part) (text_in tree texts w part) (level_in tree w part) (most_in tree w part) k s.stands.pc s.stands.slots → Near p x.stack
+
+pub record ArraysAreNear (tree : PProgram) (code : Code) (texts : ℕ → List Placed) : Type 0 where
+  pub reading : (n : Named) (ks : List ℕ) (v : Value) → IsNear tree code texts (reads_element n ks v)
+  pub indexing : (n : Named) (ks : List ℕ) (v : Value) → IsNear tree code texts (indexes n ks v)
+  pub storing : (r : Reference) (ks : List ℕ) (v : Value) → IsNear tree code texts (stores (element_of r ks) v)
+  pub making : (kind : Kind) (ns : List Named) (pairs : List PPair) (vs : List Value) → IsNear tree code texts (makes_arrays kind ns pairs vs)
+
 -- ---- a process at its action
 
-module _ (tree : PProgram) (code : Code) (texts : ℕ → List Placed) (nested : AreNested (scopes_of tree)) (rests : RestsGoOn) (w : World) (lay : List Place) (img : Image) where
+module _ (tree : PProgram) (code : Code) (texts : ℕ → List Placed) (nested : AreNested (scopes_of tree)) (rests : RestsGoOn) (arrays : ArraysAreNear tree code texts) (w : World) (lay : Layout) (img : Image) where
   abbrev sc : Scopes
   sc = scopes_of tree
 
@@ -102,7 +120,7 @@ module _ (tree : PProgram) (code : Code) (texts : ℕ → List Placed) (nested :
     known = level_known tree code texts w lay p part outer core s.stands s.around
 
     stands : (op : Operator) (next : ℕ) → Has text level s.stands.pc op next → operator_at code r ≡ Ok (op, next)
-    stands op next has_it = operator_there sc code text level s.stands.pc s.stands.slots core op next s.stands.there has_it
+    stands op next has_it = operator_there sc s.stands.held code text level s.stands.pc s.stands.slots core op next s.stands.there has_it
 
     -- ---- cells
 
@@ -119,7 +137,7 @@ module _ (tree : PProgram) (code : Code) (texts : ℕ → List Placed) (nested :
 
     read_near : (n : Named) → ask part.rest ≡ reads n → At (reads n) → Near p x.stack
     read_near n e a =
-        let seen : IsSeen sc block n = reads_seen (IsSeen sc block) n (IsInner sc block) part.rest e s.stands.frame.text in
+        let seen : IsSeen sc block n = reads_seen (IsSeen sc block) n (IsInner sc block) (IsSeenAround sc block) (λ (seen : IsSeenAround sc block n). seen.0) part.rest e s.stands.frame.text in
         operand_near a.2.0 a.1 a.2.2 (variable_there tree code texts nested w lay img p q part outer bound core s n a.0 a.2.0 seen a.2.1)
 
     result_near : (name : List ℕ) → At (reads_result name) → Near p x.stack
@@ -129,12 +147,12 @@ module _ (tree : PProgram) (code : Code) (texts : ℕ → List Placed) (nested :
 
     stored_near : (n : Named) (v : Value) → ask part.rest ≡ stores (own n) v → At (stores (own n) v) → Near p x.stack
     stored_near n v e a =
-        let seen : IsSeen sc block n = stores_seen (IsSeen sc block) n (IsInner sc block) part.rest v e s.stands.frame.text in
+        let seen : IsSeen sc block n = stores_seen (IsSeen sc block) n (IsInner sc block) (IsSeenAround sc block) (λ (seen : IsSeenAround sc block n). seen.0) part.rest v e s.stands.frame.text in
         let couple : Couple = a.2.couple in
-        let first : Top sc level (frame r) (length core.below) (operand v) (reference couple ∷ a.1) core.words =
-        top_slot sc level (frame r) (length core.below) s.stands.slots (operand v) (reference couple ∷ a.1) core.words s.stands.there.words_are a.2.lies in
-        let second : Top sc level (frame r) (length core.below) (reference couple) a.1 first.words_below =
-        top_slot sc level (frame r) (length core.below) (reference couple ∷ a.1) (reference couple) a.1 first.words_below first.are refl in
+        let first : Top sc s.stands.held level (frame r) (length core.below) (operand v) (reference couple ∷ a.1) core.words =
+        top_slot sc s.stands.held level (frame r) (length core.below) s.stands.slots (operand v) (reference couple ∷ a.1) core.words s.stands.there.words_are a.2.lies in
+        let second : Top sc s.stands.held level (frame r) (length core.below) (reference couple) a.1 first.words_below =
+        top_slot sc s.stands.held level (frame r) (length core.below) (reference couple ∷ a.1) (reference couple) a.1 first.words_below first.are refl in
         let fits : (couple.level < 32) × (couple.index < 2 ^ 14) = couple_fits sc nested level n a.2.kind couple a.2.variable known in
         let top : core.words ≡ (first.word ∷ []) ++ second.word ∷ second.words_below = first.is ∙ ap (λ (ws : List Word). first.word ∷ ws) second.is in
         let c : InCell couple IsOperand = variable_there tree code texts nested w lay img p q part outer bound core s n a.2.kind couple seen a.2.variable in
@@ -153,24 +171,26 @@ module _ (tree : PProgram) (code : Code) (texts : ℕ → List Placed) (nested :
     written_near : (phrases : List PhraseText) (vs : List Value) → At (writes phrases vs) → Near p x.stack
     written_near phrases vs a =
         enter_near code img p x r s.has.own t a.0 (stands (ops.Plain kinds.Entr) a.0 a.2.stands)
-        (call_touches img p code core s.has a.0 s.by.system s.sees sc level (frame r) s.stands.slots s.stands.there.mark_is s.stands.there.words_are names.Write (number (pos a.2.format) ∷ vs) a.1 a.2.lies
+        (call_touches img p code core s.has a.0 s.by.system s.sees sc s.stands.held level (frame r) s.stands.slots s.stands.there.mark_is s.stands.there.words_are names.Write (number (pos a.2.format) ∷ vs) a.1 a.2.lies
         (write_touches p img code r s.has.own a.0))
 
     selected_near : (v : Value) (ss : PStmts) → At (selects v ss) → Near p x.stack
     selected_near v ss a =
         enter_near code img p x r s.has.own t a.0 (stands (ops.Plain kinds.Entr) a.0 a.2.stands)
-        (call_touches img p code core s.has a.0 s.by.system s.sees sc level (frame r) s.stands.slots s.stands.there.mark_is s.stands.there.words_are names.Select
+        (call_touches img p code core s.has a.0 s.by.system s.sees sc s.stands.held level (frame r) s.stands.slots s.stands.there.mark_is s.stands.there.words_are names.Select
         (v ∷ number (pos (stmts_count ss)) ∷ number (pos a.0) ∷ []) a.1 a.2.lies (select_touches p img code r s.has.own a.0))
 
-    -- the word above the mark
-    above_mark : (slot : Slot) (below : List Slot) → s.stands.slots ≡ slot ∷ mark ∷ below → newest (frame r) (length core.below) (slot ∷ mark ∷ below) ≡ length core.below + length below →
-        (first : Top sc level (frame r) (length core.below) slot (mark ∷ below) core.words) × (word_at img.stacks (place r.stack (r.f + 1)) ≡ Some first.word)
-    above_mark slot below lies marks =
-        let first : Top sc level (frame r) (length core.below) slot (mark ∷ below) core.words =
-        top_slot sc level (frame r) (length core.below) s.stands.slots slot (mark ∷ below) core.words s.stands.there.words_are lies in
-        let many : length first.words_below ≡ length (mark ∷ below) = slots_length sc level (frame r) (length core.below) (mark ∷ below) first.words_below first.are in
-        let f : r.f ≡ length core.below + length below = s.stands.there.mark_is ∙ ap (newest (frame r) (length core.below)) lies ∙ marks in
-        (first, under_top img p core s.has [] first.word first.words_below first.is (r.f + 1) (omega (arith, f, many)))
+    -- the word above the mark, under values
+    above_mark : (values : List Value) (slot : Slot) (below : List Slot) → s.stands.slots ≡ operands values (slot ∷ mark ∷ below) → newest (frame r) (length core.below) (slot ∷ mark ∷ below) ≡ length core.below + length below →
+        (y : Word) × SlotIs sc s.stands.held level (frame r) (length core.below) (mark ∷ below) slot y × (word_at img.stacks (place r.stack (r.f + 1)) ≡ Some y)
+    above_mark values slot below lies marks =
+        let base : ℕ = length core.below in
+        let g : Given_words sc s.stands.held level (frame r) base values (slot ∷ mark ∷ below) core.words =
+        given_words sc s.stands.held level (frame r) base values (slot ∷ mark ∷ below) core.words (subst (λ (l : List Slot). SlotsAre sc s.stands.held level (frame r) base l core.words) lies s.stands.there.words_are) in
+        let first : Top sc s.stands.held level (frame r) base slot (mark ∷ below) g.others = top_slot sc s.stands.held level (frame r) base (slot ∷ mark ∷ below) slot (mark ∷ below) g.others g.are refl in
+        let many : length first.words_below ≡ length (mark ∷ below) = slots_length sc s.stands.held level (frame r) base (mark ∷ below) first.words_below first.are in
+        let f : r.f ≡ base + length below = s.stands.there.mark_is ∙ ap (newest (frame r) base) lies ∙ g.mark_is ∙ marks in
+        (first.word, first.slot_is, under_top img p core s.has g.arguments first.word first.words_below (g.is ∙ ap (λ (ws : List Word). g.arguments ++ ws) first.is) (r.f + 1) (omega (arith, f, many)))
 
     -- the level around a block is that of the part's own frame
     home_near : (h : Place) → level_below r (level + 1) ≡ Some h → Near p h.stack
@@ -187,23 +207,23 @@ module _ (tree : PProgram) (code : Code) (texts : ℕ → List Placed) (nested :
     block_near : (spot : Spot) (ds : PDecls) (ss : PStmts) → At (enters_block (tree_forms.body spot ds ss)) → Near p x.stack
     block_near spot ds ss a =
         let c : Pcw = code_at context.segment a.2.begin (level + 1) in
-        let above = above_mark (control c) a.1 a.2.lies refl in
+        let above = above_mark [] (control c) a.1 a.2.lies refl in
         enter_near code img p x r s.has.own t a.0 (stands (ops.Plain kinds.Entr) a.0 a.2.stands)
-        (block_touches p img code r s.has.own a.0 above.0.word above.1 leads c refl
-        (ap as_irw above.0.slot_is ∙ irw_laws.other (pcw_word c) (λ k. let is = sym (pcw_kind c) ∙ k in cc))
-        (ap as_sirw above.0.slot_is ∙ as_sirw-other (pcw_word c) (λ k. let is = sym (pcw_kind c) ∙ k in cc))
-        (ap as_pcw above.0.slot_is ∙ as_pcw-pcw_word c a.2.fits) home_near)
+        (block_touches p img code r s.has.own a.0 above.0 above.2 leads c refl
+        (ap as_irw above.1 ∙ irw_laws.other (pcw_word c) (λ k. let is = sym (pcw_kind c) ∙ k in cc))
+        (ap as_sirw above.1 ∙ as_sirw-other (pcw_word c) (λ k. let is = sym (pcw_kind c) ∙ k in cc))
+        (ap as_pcw above.1 ∙ as_pcw-pcw_word c a.2.fits) home_near)
 
     called_near : (n : Named) (gs : List Given) → ask part.rest ≡ enters n gs → At (enters n gs) → Near p x.stack
     called_near n gs e a =
-        let seen : IsSeen sc block n = enters_seen (IsSeen sc block) n gs (IsInner sc block) part.rest e s.stands.frame.text in
+        let seen : IsSeen sc block n = enters_seen (IsSeen sc block) n gs (IsInner sc block) (IsSeenAround sc block) (λ (seen : IsSeenAround sc block n). seen.0) part.rest e s.stands.frame.text in
         let couple : Couple = a.3.couple in
         let fits : (couple.level < 32) × (couple.index < 2 ^ 14) = procedure_fits sc nested level n a.0 couple a.3.procedure known in
-        let above = above_mark (reference couple) a.2 a.3.lies refl in
+        let above = above_mark a.3.values (reference couple) a.2 a.3.lies refl in
         let c : InCell couple IsEntry = procedure_there tree code texts nested w lay img p q part outer bound core s n a.0 couple seen a.3.procedure in
         enter_near code img p x r s.has.own t a.1 (stands (ops.Plain kinds.Entr) a.1 a.3.stands)
-        (procedure_touches p img code r s.has.own a.1 above.0.word above.1 leads c.is.control c.is.no_intrinsic (record { level = couple.level; index = couple.index })
-        (ap as_irw above.0.slot_is ∙ reference_read couple fits.0 fits.1) (place p c.at) c.shown (inl refl) c.word c.lies c.is.no_sirw c.is.reads)
+        (procedure_touches p img code r s.has.own a.1 above.0 above.2 leads c.is.control c.is.no_intrinsic (record { level = couple.level; index = couple.index })
+        (ap as_irw above.1 ∙ reference_read couple fits.0 fits.1) (place p c.at) c.shown (inl refl) c.word c.lies c.is.no_sirw c.is.reads)
 
     by_ask : (k : Ask) → ask part.rest ≡ k → At k → Near p x.stack
     by_ask (reads n) e a = read_near n e a
@@ -223,17 +243,17 @@ module _ (tree : PProgram) (code : Code) (texts : ℕ → List Placed) (nested :
     by_ask (leaves (at_place y)) e a = absurd a
     by_ask (leaves entered) e a = absurd a
     by_ask (stores (there y) v) e a = absurd a
-    by_ask (stores (element_of y ks) v) e a = absurd a
+    by_ask (stores (element_of y ks) v) e a = arrays.storing y ks v w lay img p q part outer bound core s x t e a
     by_ask nothing e a = absurd a
-    by_ask (reads_element n ks v) e a = absurd a
-    by_ask (indexes n ks v) e a = absurd a
+    by_ask (reads_element n ks v) e a = arrays.reading n ks v w lay img p q part outer bound core s x t e a
+    by_ask (indexes n ks v) e a = arrays.indexing n ks v w lay img p q part outer bound core s x t e a
     by_ask (asks_happened n) e a = absurd a
     by_ask (passes n) e a = absurd a
     by_ask (resolves n) e a = absurd a
     by_ask (goes_to n) e a = absurd a
     by_ask (starts n gs task) e a = absurd a
     by_ask (acts y n) e a = absurd a
-    by_ask (makes_arrays kind ns pairs vs) e a = absurd a
+    by_ask (makes_arrays kind ns pairs vs) e a = arrays.making kind ns pairs vs w lay img p q part outer bound core s x t e a
     by_ask (makes_event n) e a = absurd a
 
     pub standing_near : Near p x.stack
@@ -293,6 +313,6 @@ module _ (tree : PProgram) (code : Code) (texts : ℕ → List Placed) (nested :
         by_stack o e lies (inr system) = none_some (ap (λ (n : ℕ). numbered w.processes n) (sym system ∙ lies) ∙ e)
 
 -- no operator of a pictured image reads or writes a word in the private part of another process
-pub processes_apart : (tree : PProgram) (code : Code) (texts : ℕ → List Placed) → AreNested (scopes_of tree) → RestsGoOn →
-    (w : World) (lay : List Place) (a : Image) → PicturesBy tree code texts w lay a → (p q : ℕ) (x : Place) (r : Registers) → OperatorTouches code a p x → Lives a q r → IsPrivate r x → p ≡ q
-processes_apart tree code texts nested rests w lay a by = stand_apart tree code texts nested rests w lay a by
+pub processes_apart : (tree : PProgram) (code : Code) (texts : ℕ → List Placed) → AreNested (scopes_of tree) → RestsGoOn → ArraysAreNear tree code texts →
+    (w : World) (lay : Layout) (a : Image) → PicturesBy tree code texts w lay a → (p q : ℕ) (x : Place) (r : Registers) → OperatorTouches code a p x → Lives a q r → IsPrivate r x → p ≡ q
+processes_apart tree code texts nested rests arrays w lay a by = stand_apart tree code texts nested rests arrays w lay a by

@@ -1,5 +1,5 @@
 -- What WRITE and SELECT read and write, and their entry.
-use Rattle.std.proofs.Common.{◌≡◌, inl, inr, refl, sym, ap, ◌∙◌, subst, ℕ, ◌+◌, ◌-◌, List, [], ◌∷◌, ◌++◌, Option, Some, None, true, false, arith, append_assoc, length, lit<, ℤ}
+use Rattle.std.proofs.Common.{◌≡◌, inl, inr, refl, sym, ap, ◌∙◌, subst, ℕ, ◌+◌, ◌-◌, List, [], ◌∷◌, ◌++◌, Option, Some, None, true, false, arith, length, lit<, ℤ}
 use Rattle.std.specs.Prelude.{slice_get, take, drop, reverse}
 use Rattle.algol_tree.specs.Scopes.{Scopes}
 use Rattle.algol_meaning.specs.Value.{Value}
@@ -33,11 +33,12 @@ use Rattle.b67_table.specs.Names.{intrinsic_numbered}
 use Rattle.b67_table.specs.Program.{Program, answer, see, ◌>>=◌, done, registers, line}
 use Rattle.b67_table.specs.References.{cell_in, irw_or_sirw, reached_in, one_sirw}
 use Rattle.b67_table.specs.Rows.{enter, enter_by, enter_procedure}
-use Rattle.b67_standing.specs.Stepping.{Slot, operand, intrinsic, mark}
+use Rattle.b67_standing.specs.Stepping.{Slot, intrinsic, mark}
 use Rattle.b67_standing.specs.Standing.{operands}
 use Rattle.b67_cores.specs.Cores.{Core, HasCore}
-use Rattle.b67_cores.specs.Slots.{newest, SlotsAre}
+use Rattle.b67_cores.specs.Slots.{Known, newest, SlotsAre}
 use Rattle.b67_cores.proofs.Moving.{slots_length}
+use Rattle.b67_pictures.proofs.Actuals.{Given_words, given_words}
 use Rattle.b67_pictures.proofs.Rows.{words_are}
 use Rattle.b67_pictures.proofs.Slotted.{Top, top_slot}
 use Rattle.b67_pictures.proofs.StackWords.{word-under}
@@ -113,28 +114,6 @@ pub under_top : (img : Image) (p : ℕ) (core : Core) → HasCore img p core →
 under_top img p core has above y words top n e =
     ap (λ (ws : List Word). slice_get ws n) (words_are img p core has ∙ ap (λ (ws : List Word). core.below ++ reverse ws) top)
     ∙ word-under core.below above y words n e
-
-module _ (sc : Scopes) (level home base : ℕ) where
-  -- the words under those of arguments
-  record Under (vs : List Value) (below : List Slot) (all : List Word) : Type 0 where
-    arguments : List Word
-    others : List Word
-    is : all ≡ arguments ++ others
-    are : SlotsAre sc level home base below others
-    mark_is : newest home base (operands vs below) ≡ newest home base below
-
-  under : (vs : List Value) (below : List Slot) (all : List Word) → SlotsAre sc level home base (operands vs below) all → Under vs below all
-  under [] below all are = record { arguments = []; others = all; is = refl; are = are; mark_is = refl }
-  under (v ∷ vs) below all are =
-      let g : Under vs (operand v ∷ below) all = under vs (operand v ∷ below) all are in
-      let t : Top sc level home base (operand v) below g.others = top_slot sc level home base (operand v ∷ below) (operand v) below g.others g.are refl in
-      record {
-        arguments = g.arguments ++ t.word ∷ [];
-        others = t.words_below;
-        is = g.is ∙ ap (λ (ws : List Word). g.arguments ++ ws) t.is ∙ sym (append_assoc g.arguments (t.word ∷ []) t.words_below);
-        are = t.are;
-        mark_is = g.mark_is;
-      }
 
 -- ---- their entry
 
@@ -215,18 +194,18 @@ module _ (img : Image) (p : ℕ) (code : Code) (r : Registers) (at_home : r.stac
 -- ---- where a process stands at it
 
 module _ (img : Image) (p : ℕ) (code : Code) (core : Core) (has : HasCore img p core) (next : ℕ) (system : stack_at img.stacks 0 ≡ Some system_stack) (sees : place_at core.registers.display 0 ≡ Some (place 0 0))
-    (sc : Scopes) (level home : ℕ) (slots : List Slot) (mark_is : core.registers.f ≡ newest home (length core.below) slots) (words_here : SlotsAre sc level home (length core.below) slots core.words)
+    (sc : Scopes) (known : List Known) (level home : ℕ) (slots : List Slot) (mark_is : core.registers.f ≡ newest home (length core.below) slots) (words_here : SlotsAre sc known level home (length core.below) slots core.words)
     (name : Intrinsic) (vs : List Value) (below : List Slot) (lies : slots ≡ operands vs (intrinsic name ∷ mark ∷ below))
     (stays : (m : Mscw) (words : List Word) → Stays p img (intrinsic_row (Some name) code core.registers next m words)) where
   pub call_touches : Stays p img (enter code core.registers next)
   call_touches =
       let base : ℕ = length core.below in
-      let g : Under sc level home base vs (intrinsic name ∷ mark ∷ below) core.words =
-      under sc level home base vs (intrinsic name ∷ mark ∷ below) core.words (subst (λ (l : List Slot). SlotsAre sc level home base l core.words) lies words_here) in
-      let i : Top sc level home base (intrinsic name) (mark ∷ below) g.others =
-      top_slot sc level home base (intrinsic name ∷ mark ∷ below) (intrinsic name) (mark ∷ below) g.others g.are refl in
+      let g : Given_words sc known level home base vs (intrinsic name ∷ mark ∷ below) core.words =
+      given_words sc known level home base vs (intrinsic name ∷ mark ∷ below) core.words (subst (λ (l : List Slot). SlotsAre sc known level home base l core.words) lies words_here) in
+      let i : Top sc known level home base (intrinsic name) (mark ∷ below) g.others =
+      top_slot sc known level home base (intrinsic name ∷ mark ∷ below) (intrinsic name) (mark ∷ below) g.others g.are refl in
       let f : core.registers.f ≡ base + length below = mark_is ∙ ap (newest home base) lies ∙ g.mark_is in
-      let many : length i.words_below ≡ length (mark ∷ below) = slots_length sc level home base (mark ∷ below) i.words_below i.are in
+      let many : length i.words_below ≡ length (mark ∷ below) = slots_length sc known level home base (mark ∷ below) i.words_below i.are in
       intrinsic_touches img p code core.registers has.own next system sees name i.word
       (under_top img p core has g.arguments i.word i.words_below (g.is ∙ ap (λ (ws : List Word). g.arguments ++ ws) i.is) (core.registers.f + 1) (omega (arith, f, many)))
       (ap as_irw i.slot_is ∙ reference_read (couple_of_intrinsic name) (lit< tt) (numbers_small name)) stays

@@ -1,5 +1,5 @@
 -- Where a process finds what an action reads: the operand in the cell of a variable or a result, and the control word of a procedure.
-use Rattle.std.proofs.Common.{◌≡◌, inl, refl, sym, ap, ◌∙◌, subst, ℕ, suc, ◌+◌, ◌-◌, ◌≤◌, List, [], ◌∷◌, ◌++◌, length, map, Option, Some, None, false, arith, lit<}
+use Rattle.std.proofs.Common.{◌≡◌, inl, refl, sym, ap, ◌∙◌, subst, ℕ, suc, ◌+◌, ◌-◌, ◌≤◌, List, [], ◌∷◌, ◌++◌, length, Option, Some, None, false, arith, lit<}
 use Rattle.std.specs.Prelude.{slice_get, reverse}
 use Rattle.b67_list.specs.Numbered.{numbered}
 use Rattle.algol_tree.specs.declared.tree.Kind.{Kind}
@@ -8,11 +8,9 @@ use Rattle.algol_tree.specs.Blocks.{Block, block_numbered, number_at, around}
 use Rattle.algol_tree.specs.Cells.{level_of}
 use Rattle.algol_tree.specs.Plain.{PProgram}
 use Rattle.algol_tree.specs.Scopes.{Scopes, scopes_of, use_of}
-use Rattle.algol_tree.specs.Sorts.{Parameter}
 use Rattle.algol_meaning.specs.World.{NamedCell, Instance, Part, Process, World, instance_at, or_no_instance, ancestor}
 use Rattle.algol_paths.specs.Blocks.{IsSeen}
 use Rattle.algol_paths.specs.Segments.{procedures_before, segment_of}
-use Rattle.b67_word.specs.declared.Place.{Place}
 use Rattle.b67_word.specs.Word.{Word}
 use Rattle.b67_control.specs.declared.Pcw.{Pcw}
 use Rattle.b67_control.specs.Control.{Fits_pcw, as_pcw, as_sirw, pcw_word}
@@ -25,12 +23,14 @@ use Rattle.b67_store.specs.Store.{words_of, word_at}
 use Rattle.b67_table.specs.Chains.{place}
 use Rattle.b67_table.specs.Image.{Image}
 use Rattle.b67_table.specs.Private.{display_at}
-use Rattle.b67_templates.specs.Cells.{Simple, result_of, variables, simple_cells, procedures, control_segments, IsVariable, IsProcedure}
+use Rattle.b67_templates.specs.Cells.{Simple, result_of, variables, parameter_cells, simple_cells, procedures, control_segments, IsVariable, IsProcedure}
 use Rattle.b67_templates.specs.Fragments.{code_at}
 use Rattle.b67_cores.specs.Cores.{Core}
 use Rattle.b67_cores.specs.Stretches.{control_words}
 use Rattle.b67_fitting.specs.Nested.{IsDeclared, AreNested}
+use Rattle.b67_pictures.specs.Arrays.{Layout}
 use Rattle.b67_pictures.specs.Frames.{CellsAre}
+use Rattle.b67_pictures.proofs.FreshCells.{cells_joined}
 use Rattle.b67_pictures.proofs.Homes.{Home, home, get-behind}
 use Rattle.b67_pictures.proofs.Lying.{Lies, lies_in, IsParent, parents_in}
 use Rattle.b67_pictures.proofs.Numbers.{get_below}
@@ -38,7 +38,8 @@ use Rattle.b67_pictures.proofs.Rows.{words_are}
 use Rattle.b67_pictures.proofs.Scene.{Scene, shown_frame}
 use Rattle.b67_pictures.proofs.Segmented.{procedure_segment, get_mapped}
 use Rattle.b67_pictures.proofs.StackWords.{get-front}
-use Rattle.b67_pictures.proofs.Staying.{level_in, length_around}
+use Rattle.b67_pictures.proofs.Parents.{length_around}
+use Rattle.b67_pictures.proofs.Staying.{level_in}
 use Rattle.b67_pictures.proofs.TouchingWords.{pcw_kind}
 use Rattle.b67_pictures.proofs.Variables.{Holds_value, value_of_cell}
 use Rattle.b67_pictures.proofs.Words.{value_tag}
@@ -66,30 +67,34 @@ words_many (s ∷ ss) [] words are = absurd are
 words_many (s ∷ ss) (c ∷ cells) [] are = absurd are
 words_many (s ∷ ss) (c ∷ cells) (w ∷ words) are = ap suc (words_many ss cells words are.2)
 
-record First (words : List Word) : Type 0 where
+record First (far : ℕ) (words : List Word) : Type 0 where
   word : Word
-  lies : slice_get words 0 ≡ Some word
+  lies : slice_get words far ≡ Some word
   is : IsOperand word
 
--- the first cell of a block without parameters is that of its result
-first_value : (b : Block) (kind : Kind) → b.parameters ≡ [] → b.result ≡ Some kind → (cells : List NamedCell) (words : List Word) → CellsAre (simple_cells b) cells words → First words
-first_value b kind plain typed cells words are = by_cells cells words (subst (λ (ss : List Simple). CellsAre ss cells words) is are)
-  where
-    is : simple_cells b ≡ record { name = b.name; kind = Some kind } ∷ variables b.decls
-    is =
-        ap (λ (ps : List Parameter). map (λ (p : Parameter). record { name = p.name; kind = None }) ps ++ result_of b.result b.name ++ variables b.decls) plain
-        ∙ ap (λ (o : Option Kind). result_of o b.name ++ variables b.decls) typed
+-- the result and what lies behind it
+abbrev from_result : Block → Kind → List Simple
+from_result b kind = record { name = b.name; kind = Some kind } ∷ variables b.decls
 
-    by_cells : (cs : List NamedCell) (ws : List Word) → CellsAre (record { name = b.name; kind = Some kind } ∷ variables b.decls) cs ws → First ws
-    by_cells [] ws a = absurd a
-    by_cells (c ∷ cs) [] a = absurd a
-    by_cells (c ∷ cs) (w ∷ ws) a =
+-- the cell behind those of the parameters is that of the result
+first_value : (sc : Scopes) (b : Block) (kind : Kind) → b.result ≡ Some kind → (cells : List NamedCell) (words : List Word) → CellsAre (simple_cells sc b) cells words → First (length (parameter_cells sc b)) words
+first_value sc b kind typed cells words are = behind (parameter_cells sc b) cells words (subst (λ (ss : List Simple). CellsAre ss cells words) (cells_joined sc b ∙ ap (λ (o : Option Kind). parameter_cells sc b ++ (result_of o b.name ++ variables b.decls)) typed) are)
+  where
+    behind : (ss : List Simple) (cs : List NamedCell) (ws : List Word) → CellsAre (ss ++ from_result b kind) cs ws → First (length ss) ws
+    behind [] [] ws a = absurd a
+    behind [] (c ∷ cs) [] a = absurd a
+    behind [] (c ∷ cs) (w ∷ ws) a =
         let held : Holds_value kind c.cell w = value_of_cell kind c.cell w a.1 in
         record { word = w; lies = refl; is = value_tag held.value w held.word }
+    behind (s ∷ ss) [] ws a = absurd a
+    behind (s ∷ ss) (c ∷ cs) [] a = absurd a
+    behind (s ∷ ss) (c ∷ cs) (w ∷ ws) a =
+        let later = behind ss cs ws a.2 in
+        record { word = later.word; lies = later.lies; is = later.is }
 
 -- ---- where a process stands
 
-module _ (tree : PProgram) (code : Code) (texts : ℕ → List Placed) (nested : AreNested (scopes_of tree)) (w : World) (lay : List Place) (img : Image)
+module _ (tree : PProgram) (code : Code) (texts : ℕ → List Placed) (nested : AreNested (scopes_of tree)) (w : World) (lay : Layout) (img : Image)
     (p : ℕ) (q : Process) (part : Part) (outer : List Part) (bound : ℕ) (core : Core) (s : Scene tree code texts w lay img p q part outer bound core) where
   abbrev sc : Scopes
   sc = scopes_of tree
@@ -129,30 +134,30 @@ module _ (tree : PProgram) (code : Code) (texts : ℕ → List Placed) (nested :
   -- ---- the own result
 
   module _ (kind : Kind) (typed : (block_numbered sc.blocks block).result ≡ Some kind) (couple : Couple) (level_is : couple.level ≡ level)
-      (index_is : couple.index ≡ 2 + length (block_numbered sc.blocks block).parameters) where
+      (index_is : couple.index ≡ 2 + length (parameter_cells sc (block_numbered sc.blocks block))) where
     abbrev own : Instance
     own = s.stands.frame.framed.instance
 
     own_block : own.block ≡ block
     own_block = sym (ap (λ (o : Option Instance). (or_no_instance o).block) s.stands.frame.framed.is)
 
-    plain : (block_numbered sc.blocks own.block).parameters ≡ []
-    plain = (nested.each own.block s.stands.frame.framed.known).plain
+    abbrev many : ℕ
+    many = length (parameter_cells sc (block_numbered sc.blocks own.block))
 
-    first : First s.stands.frame.framed.values
+    first : First many s.stands.frame.framed.values
     first =
-        first_value (block_numbered sc.blocks own.block) kind plain (ap (λ (j : ℕ). (block_numbered sc.blocks j).result) own_block ∙ typed) own.cells s.stands.frame.framed.values
-        s.stands.frame.framed.cells_are
+        first_value sc (block_numbered sc.blocks own.block) kind (ap (λ (j : ℕ). (block_numbered sc.blocks j).result) own_block ∙ typed) s.stands.frame.framed.simple s.stands.frame.framed.values
+        s.stands.frame.framed.simple_are
 
-    third : couple.index ≡ 2
-    third = omega (arith, index_is, ap (λ (j : ℕ). length (block_numbered sc.blocks j).parameters) own_block, ap length plain)
+    third : couple.index ≡ 2 + many
+    third = index_is ∙ ap (λ (j : ℕ). 2 + length (parameter_cells sc (block_numbered sc.blocks j))) (sym own_block)
 
     result_lies : slice_get core.below (length s.stands.frame.lower + couple.index) ≡ Some first.word
     result_lies =
         ap (λ (ws : List Word). slice_get ws (length s.stands.frame.lower + couple.index)) s.stands.frame.words_are
-        ∙ get-behind s.stands.frame.lower (s.stands.frame.mark ∷ s.stands.frame.control ∷ s.stands.frame.cells) 2 (length s.stands.frame.lower + couple.index) (omega (arith, third))
-        ∙ ap (λ (ws : List Word). slice_get ws 0) s.stands.frame.framed.cells_is
-        ∙ get-front s.stands.frame.framed.values _ 0 first.word first.lies
+        ∙ get-behind s.stands.frame.lower (s.stands.frame.mark ∷ s.stands.frame.control ∷ s.stands.frame.cells) (suc (suc many)) (length s.stands.frame.lower + couple.index) (omega (arith, third))
+        ∙ ap (λ (ws : List Word). slice_get ws many) s.stands.frame.framed.cells_is
+        ∙ get-front s.stands.frame.framed.values _ many first.word first.lies
 
     pub result_there : Names couple IsOperand
     result_there =
@@ -210,23 +215,27 @@ module _ (tree : PProgram) (code : Code) (texts : ℕ → List Placed) (nested :
           omega (arith, length_around sc.blocks called, ap length is_declared.around_is, length_around sc.blocks here.block) in
           (omega (arith, procedure_segment sc.blocks called is_declared.procedure, few), (lit< tt, (lit< tt, (omega (arith, further, deep), (lit< tt, tt)))))
 
-      cells_lie : slice_get l.frame.cells (length (simple_cells declaring) + c.number) ≡ Some (pcw_word control)
-      cells_lie =
-          ap (λ (ws : List Word). slice_get ws (length (simple_cells declaring) + c.number)) l.frame.framed.cells_is
-          ∙ get-behind l.frame.framed.values (control_words (level_of declaring) (control_segments sc declaring.decls)) c.number (length (simple_cells declaring) + c.number)
-          (omega (arith, words_many (simple_cells declaring) here.cells l.frame.framed.values l.frame.framed.cells_are))
-          ∙ get_mapped (λ (k : ℕ). pcw_word (code_at k 0 (level_of declaring + 1))) (control_segments sc declaring.decls) c.number segment
-          (get_mapped (λ (m : Named). segment_of sc.blocks (number_at sc.blocks m.spot)) (procedures declaring.decls) c.number c.declared declared_there)
+      abbrev controls_there : List Word
+      controls_there = control_words (level_of declaring) (control_segments sc declaring.decls)
 
-      far : length l.frame.lower + couple.index ≡ length l.frame.lower + suc (suc (length (simple_cells declaring) + c.number))
-      far = omega (arith, c.index_is, ap (λ (j : ℕ). length (simple_cells (block_numbered sc.blocks j))) block_here)
+      cells_lie : slice_get l.frame.cells (length (simple_cells sc declaring) + c.number) ≡ Some (pcw_word control)
+      cells_lie =
+          ap (λ (ws : List Word). slice_get ws (length (simple_cells sc declaring) + c.number)) l.frame.framed.cells_is
+          ∙ get-behind l.frame.framed.values (controls_there ++ l.frame.framed.descriptors) c.number (length (simple_cells sc declaring) + c.number)
+          (omega (arith, words_many (simple_cells sc declaring) l.frame.framed.simple l.frame.framed.values l.frame.framed.simple_are))
+          ∙ get-front controls_there l.frame.framed.descriptors c.number (pcw_word control)
+          (get_mapped (λ (k : ℕ). pcw_word (code_at k 0 (level_of declaring + 1))) (control_segments sc declaring.decls) c.number segment
+          (get_mapped (λ (m : Named). segment_of sc.blocks (number_at sc.blocks m.spot)) (procedures declaring.decls) c.number c.declared declared_there))
+
+      far : length l.frame.lower + couple.index ≡ length l.frame.lower + suc (suc (length (simple_cells sc declaring) + c.number))
+      far = omega (arith, c.index_is, ap (λ (j : ℕ). length (simple_cells sc (block_numbered sc.blocks j))) block_here)
 
       below_lies : slice_get core.below (length l.frame.lower + couple.index) ≡ Some (pcw_word control)
       below_lies =
           ap (λ (ws : List Word). slice_get ws (length l.frame.lower + couple.index)) l.words_are
           ∙ get-front l.front l.rest (length l.frame.lower + couple.index) (pcw_word control)
           (ap (λ (ws : List Word). slice_get ws (length l.frame.lower + couple.index)) l.frame.words_are
-          ∙ get-behind l.frame.lower (l.frame.mark ∷ l.frame.control ∷ l.frame.cells) (suc (suc (length (simple_cells declaring) + c.number))) (length l.frame.lower + couple.index) far
+          ∙ get-behind l.frame.lower (l.frame.mark ∷ l.frame.control ∷ l.frame.cells) (suc (suc (length (simple_cells sc declaring) + c.number))) (length l.frame.lower + couple.index) far
           ∙ cells_lie)
 
       level_up : couple.level ≡ level - up
@@ -239,7 +248,7 @@ module _ (tree : PProgram) (code : Code) (texts : ℕ → List Placed) (nested :
             shown =
                 ap (λ (k : ℕ). display_at core.registers k) level_up
                 ∙ s.stands.chained up low
-                ∙ ap (λ (k : ℕ). numbered lay k) (sym l.instance_is)
+                ∙ ap (λ (k : ℕ). numbered lay.places k) (sym l.instance_is)
                 ∙ l.frame.framed.laid;
             word = pcw_word control;
             lies = below_there (length l.frame.lower + couple.index) (pcw_word control) below_lies;

@@ -11,17 +11,19 @@ use Rattle.algol_tree.specs.Cells.{level_of}
 use Rattle.algol_tree.specs.Plain.{PProgram}
 use Rattle.algol_tree.specs.Scopes.{Scopes, scopes_of, use_of}
 use Rattle.algol_tree.specs.Sorts.{same_name}
-use Rattle.algol_meaning.specs.Value.{Value, Cell, simple, event, array, named, reference as refers}
+use Rattle.algol_meaning.specs.Value.{Value, Bounds, Cell, simple, event, array, named, reference as refers}
 use Rattle.algol_meaning.specs.World.{NamedCell, Instance, Part, World, or_no_instance}
+use Rattle.algol_paths.specs.Arrays.{DeclaredArray, arrays_of}
 use Rattle.b67_word.specs.declared.Place.{Place}
 use Rattle.b67_word.specs.Word.{Word, field}
 use Rattle.b67_control.specs.Kind as kind
 use Rattle.b67_control.specs.Kind.{kind_of}
+use Rattle.b67_control.specs.declared.Descriptor.{Descriptor}
 use Rattle.b67_control.specs.declared.Irw.{Irw}
 use Rattle.b67_control.specs.declared.Mscw.{Mscw}
 use Rattle.b67_control.specs.declared.Pcw.{Pcw}
 use Rattle.b67_control.specs.declared.Rcw.{Rcw}
-use Rattle.b67_control.specs.Control.{as_mscw, as_rcw, irw_word, pcw_word}
+use Rattle.b67_control.specs.Control.{as_mscw, as_rcw, descriptor_word, irw_word, pcw_word}
 use Rattle.b67_control.proofs.ControlLaws.{as_rcw-rcw_word, Fits-as_rcw, mscw_laws, rcw_laws, as_mscw-mscw_word}
 use Rattle.b67_ops.specs.declared.Couple.{Couple}
 use Rattle.b67_ops.specs.declared.intrinsic.Intrinsic.{Intrinsic}
@@ -36,14 +38,15 @@ use Rattle.b67_table.specs.Image.{Image}
 use Rattle.b67_table.specs.PrivateRows.{open_mark}
 use Rattle.b67_table.specs.PrivateRows as rows
 use Rattle.b67_templates.specs.Fragments.{code_at}
-use Rattle.b67_templates.specs.Cells.{Simple, Found, simple_cells, found_from, procedures, control_segments, IsVariable, IsProcedure}
-use Rattle.b67_standing.specs.Stepping.{Slot, operand, reference, intrinsic, control, mark}
+use Rattle.b67_templates.specs.Cells.{Simple, Found, simple_cells, found_from, FoundArray, array_from, procedures, control_segments, IsVariable, IsProcedure, IsArray}
+use Rattle.b67_standing.specs.Stepping.{Held, row, element, Slot, operand, reference, intrinsic, control, descriptor, mark}
 use Rattle.b67_cores.specs.Cores.{Core, size, stack_of, HasCore}
-use Rattle.b67_cores.specs.Slots.{ValueIs, SlotsAre}
+use Rattle.b67_cores.specs.Slots.{ValueIs, Known, IsKnown, SlotsAre}
 use Rattle.b67_cores.specs.Stretches.{control_words}
 use Rattle.b67_cores.proofs.Moving.{slots_length}
 use Rattle.b67_faithful.proofs.Contradictions.{some_same}
 use Rattle.b67_fitting.specs.Nested.{AreNested}
+use Rattle.b67_pictures.specs.Arrays.{Allotted, Layout, DescriptorIs, AreMade, HeldIs, AreKnown}
 use Rattle.b67_pictures.specs.Frames.{CellIs, CellsAre, IsPlaced, outermost, inside, home_of, result_of_part, Frame, Stands, Waits, Around, level_at}
 use Rattle.b67_pictures.proofs.Lying.{Lies, lies_around}
 use Rattle.b67_pictures.proofs.Numbers.{get_below}
@@ -96,6 +99,14 @@ no_mark w e k = by_top (field 47 1 w.bits == 0) (sym (tag_reference w e) ∙ k)
     by_top true same = cc
     by_top false same = cc
 
+tag_descriptor : (w : Word) → w.tag ≡ 5 → kind_of w ≡ kind.descriptor
+unfolding kind_of
+tag_descriptor w e = rw e refl
+
+descriptor_tag : (d : Descriptor) → (descriptor_word d).tag ≡ 5
+unfolding descriptor_word
+descriptor_tag d = refl
+
 reference_tag : (i : Irw) → (irw_word i).tag ≡ 1
 unfolding irw_word
 reference_tag i = refl
@@ -113,6 +124,9 @@ module _ (p : ℕ) where
 
   control_leads : (c : Pcw) → LeadsNear p (pcw_word c)
   control_leads c = leads_kind (pcw_word c) kind.pcw (pcw_kind c) (λ e. cc)
+
+  pub descriptor_leads : (d : Descriptor) → LeadsNear p (descriptor_word d)
+  descriptor_leads d = leads_kind (descriptor_word d) kind.descriptor (tag_descriptor (descriptor_word d) (descriptor_tag d)) (λ e. cc)
 
   back_leads : (w : Word) (back : Rcw) → as_rcw w ≡ Some back → LeadsNear p w
   back_leads w back e = leads_kind w kind.rcw (rcw_laws.kind w back e) (λ e. cc)
@@ -182,6 +196,39 @@ module _ (p : ℕ) where
   controls_lead level [] = tt
   controls_lead level (segment ∷ segments) = (control_leads (code_at segment 0 (level + 1)), controls_lead level segments)
 
+  -- the descriptors of arrays
+  array_leads : (bs : List Bounds) (a : Allotted) (w : Word) → DescriptorIs bs a w → LeadsNear p w
+  array_leads [] a w is = absurd is
+  array_leads (b ∷ []) a w is = subst (LeadsNear p) (sym is.3) (descriptor_leads _)
+  array_leads (b ∷ c ∷ []) a w is = subst (LeadsNear p) (sym is.4) (descriptor_leads _)
+  array_leads (b ∷ c ∷ d ∷ bs) a w is = absurd is
+
+  arrays_lead : (ds : List DeclaredArray) (cells : List NamedCell) (as' : List Allotted) (words : List Word) → AreMade ds cells as' words → AllLead words
+  arrays_lead ds cells as' [] are = tt
+  arrays_lead [] [] [] (w ∷ words) are = absurd are
+  arrays_lead [] [] (a ∷ as') (w ∷ words) are = absurd are
+  arrays_lead [] (c ∷ cells) as' (w ∷ words) are = absurd are
+  arrays_lead (d ∷ ds) [] as' (w ∷ words) are = absurd are
+  arrays_lead (d ∷ ds) (c ∷ cells) [] (w ∷ words) are = absurd are
+  arrays_lead (d ∷ ds) (c ∷ cells) (a ∷ as') (w ∷ words) are = (array_leads are.0.cell.bounds a w are.0.descriptor, arrays_lead ds cells as' words are.1)
+
+-- what is known of descriptors is of no marks
+abbrev pub KnownLead : ℕ → List Known → Type 0
+KnownLead p known = (h : Held) (x : Word) → IsKnown known h x → LeadsNear p x
+
+module _ (sc : Scopes) (w : World) (lay : Layout) (p i level : ℕ) where
+  held_leads : (h : Held) (x : Word) → HeldIs sc w lay i level h x → LeadsNear p x
+  held_leads (row n ks) x is = subst (LeadsNear p) (sym is.word_is) (descriptor_leads p _)
+  held_leads (element r ks kind) x is = subst (LeadsNear p) (sym is.word_is) (descriptor_leads p _)
+
+  pub known_lead : (known : List Known) → AreKnown sc w lay i level known → KnownLead p known
+  known_lead [] are h x is = absurd is
+  known_lead (k ∷ known) are h x is = by_place is (known_lead known are.1 h x)
+    where
+      by_place : ((k.held ≡ h) × (k.word ≡ x)) ⊎ IsKnown known h x → (IsKnown known h x → LeadsNear p x) → LeadsNear p x
+      by_place (inl same) rest = subst (LeadsNear p) same.1 (held_leads k.held k.word are.0)
+      by_place (inr later) rest = rest later
+
 -- ---- references to variables
 
 found_low : (k : ℕ) (cells : List Simple) (name : List ℕ) (f : Found) → found_from k cells name ≡ Some f → f.number < k + length cells
@@ -192,24 +239,32 @@ found_low k (c ∷ cells) name f e = by_name (same_name c.name name) e (λ h. fo
     by_name true h later = omega (arith, ap (λ (x : Found). x.number) (some_same h))
     by_name false h later = omega (arith, later h)
 
--- a number has a block, or the block that it stands for has no cells
-abbrev cells_of : Block → ℕ
-cells_of b = length (simple_cells b) + length (procedures b.decls)
-
-block_or_none : (bs : List Block) (b : ℕ) → (b < length bs) ⊎ (cells_of (block_numbered bs b) ≡ 0)
-block_or_none [] b = inr refl
-block_or_none (x ∷ bs) zero = inl (omega arith)
-block_or_none (x ∷ bs) (suc b) = later (block_or_none bs b)
+pub array_low : (k : ℕ) (ds : List DeclaredArray) (name : List ℕ) (f : FoundArray) → array_from k ds name ≡ Some f → f.number < k + length ds
+array_low k [] name f e = cc
+array_low k (d ∷ ds) name f e = by_name (same_name d.name name) e (λ h. array_low (k + 1) ds name f h)
   where
-    later : (b < length bs) ⊎ (cells_of (block_numbered bs b) ≡ 0) → (suc b < length (x ∷ bs)) ⊎ (cells_of (block_numbered (x ∷ bs) (suc b)) ≡ 0)
+    by_name : (b : Bool) → (if b then Some (record { number = k; array = d }) else array_from (k + 1) ds name) ≡ Some f → (array_from (k + 1) ds name ≡ Some f → f.number < k + 1 + length ds) → f.number < k + length (d ∷ ds)
+    by_name true h later = omega (arith, ap (λ (x : FoundArray). x.number) (some_same h))
+    by_name false h later = omega (arith, later h)
+
+-- a number has a block, or the block that it stands for has no cells
+abbrev cells_of : Scopes → Block → ℕ
+cells_of sc b = length (simple_cells sc b) + length (procedures b.decls) + length (arrays_of b.decls)
+
+block_or_none : (sc : Scopes) (bs : List Block) (b : ℕ) → (b < length bs) ⊎ (cells_of sc (block_numbered bs b) ≡ 0)
+block_or_none sc [] b = inr refl
+block_or_none sc (x ∷ bs) zero = inl (omega arith)
+block_or_none sc (x ∷ bs) (suc b) = later (block_or_none sc bs b)
+  where
+    later : (b < length bs) ⊎ (cells_of sc (block_numbered bs b) ≡ 0) → (suc b < length (x ∷ bs)) ⊎ (cells_of sc (block_numbered (x ∷ bs) (suc b)) ≡ 0)
     later (inl low) = inl (omega (arith, low))
     later (inr e) = inr e
 
 module _ (sc : Scopes) (nested : AreNested sc) where
-  few_cells : (b : ℕ) → cells_of (block_numbered sc.blocks b) ≤ MOST_BLOCK_CELLS
-  few_cells b = by_number (block_or_none sc.blocks b)
+  few_cells : (b : ℕ) → cells_of sc (block_numbered sc.blocks b) ≤ MOST_BLOCK_CELLS
+  few_cells b = by_number (block_or_none sc sc.blocks b)
     where
-      by_number : (b < length sc.blocks) ⊎ (cells_of (block_numbered sc.blocks b) ≡ 0) → cells_of (block_numbered sc.blocks b) ≤ MOST_BLOCK_CELLS
+      by_number : (b < length sc.blocks) ⊎ (cells_of sc (block_numbered sc.blocks b) ≡ 0) → cells_of sc (block_numbered sc.blocks b) ≤ MOST_BLOCK_CELLS
       by_number (inl low) = (nested.each b low).few
       by_number (inr e) = omega (arith, e)
 
@@ -217,21 +272,28 @@ module _ (sc : Scopes) (nested : AreNested sc) where
   pub couple_fits : (level : ℕ) (n : Named) (k : Kind) (c : Couple) → IsVariable sc level n k c → level < 32 → (c.level < 32) × (c.index < 2 ^ 14)
   couple_fits level n k c v known =
       let b : Block = block_numbered sc.blocks ((use_of sc n).block) in
-      let low : v.found.number < 0 + length (simple_cells b) = found_low 0 (simple_cells b) n.name v.found v.there in
-      let few : length (simple_cells b) + length (procedures b.decls) ≤ 400 = few_cells ((use_of sc n).block) in
+      let low : v.found.number < 0 + length (simple_cells sc b) = found_low 0 (simple_cells sc b) n.name v.found v.there in
+      let few : length (simple_cells sc b) + length (procedures b.decls) + length (arrays_of b.decls) ≤ 400 = few_cells ((use_of sc n).block) in
       (omega (arith, v.level_is, known), omega (arith, v.index_is, low, few))
 
   pub procedure_fits : (level : ℕ) (n : Named) (callee : ℕ) (c : Couple) → IsProcedure sc level n callee c → level < 32 → (c.level < 32) × (c.index < 2 ^ 14)
   procedure_fits level n callee c is known =
       let b : Block = block_numbered sc.blocks ((use_of sc n).block) in
       let low : is.number < length (procedures b.decls) = get_below (procedures b.decls) is.number is.declared is.there in
-      let few : length (simple_cells b) + length (procedures b.decls) ≤ 400 = few_cells ((use_of sc n).block) in
+      let few : length (simple_cells sc b) + length (procedures b.decls) + length (arrays_of b.decls) ≤ 400 = few_cells ((use_of sc n).block) in
+      (omega (arith, is.level_is, known), omega (arith, is.index_is, low, few))
+
+  pub array_fits : (level : ℕ) (n : Named) (declared : DeclaredArray) (c : Couple) → IsArray sc level n declared c → level < 32 → (c.level < 32) × (c.index < 2 ^ 14)
+  array_fits level n declared c is known =
+      let b : Block = block_numbered sc.blocks ((use_of sc n).block) in
+      let low : is.number < 0 + length (arrays_of b.decls) = array_low 0 (arrays_of b.decls) n.name (record { number = is.number; array = declared }) is.there in
+      let few : length (simple_cells sc b) + length (procedures b.decls) + length (arrays_of b.decls) ≤ 400 = few_cells ((use_of sc n).block) in
       (omega (arith, is.level_is, known), omega (arith, is.index_is, low, few))
 
 -- ---- slots
 
-module _ (sc : Scopes) (p level home base : ℕ) where
-  slots_lead : (slots : List Slot) (words : List Word) → SlotsAre sc level home base slots words → base + length slots ≤ 2 ^ 16 → AllLead p words
+module _ (sc : Scopes) (known : List Known) (p level home base : ℕ) (described : KnownLead p known) where
+  slots_lead : (slots : List Slot) (words : List Word) → SlotsAre sc known level home base slots words → base + length slots ≤ 2 ^ 16 → AllLead p words
   slots_lead [] [] are room = tt
   slots_lead [] (w ∷ ws) are room = absurd are
   slots_lead (slot ∷ slots) [] are room = absurd are
@@ -239,11 +301,12 @@ module _ (sc : Scopes) (p level home base : ℕ) where
   slots_lead (reference c ∷ slots) (w ∷ ws) are room = (subst (LeadsNear p) (sym are.0) (reference_leads p c), slots_lead slots ws are.1 (omega (arith, room)))
   slots_lead (intrinsic i ∷ slots) (w ∷ ws) are room = (subst (LeadsNear p) (sym are.0) (reference_leads p (couple_of_intrinsic i)), slots_lead slots ws are.1 (omega (arith, room)))
   slots_lead (control c ∷ slots) (w ∷ ws) are room = (subst (LeadsNear p) (sym are.0) (control_leads p c), slots_lead slots ws are.1 (omega (arith, room)))
+  slots_lead (descriptor h ∷ slots) (w ∷ ws) are room = (described h w are.0, slots_lead slots ws are.1 (omega (arith, room)))
   slots_lead (mark ∷ slots) (w ∷ ws) are room = (subst (LeadsNear p) (sym are.0) (open_leads p _ (omega (arith, room))), slots_lead slots ws are.1 (omega (arith, room)))
 
 -- ---- the frames of a process
 
-module _ (tree : PProgram) (code : Code) (texts : ℕ → List Placed) (w : World) (lay : List Place) (p : ℕ) where
+module _ (tree : PProgram) (code : Code) (texts : ℕ → List Placed) (w : World) (lay : Layout) (p : ℕ) where
   abbrev sc : Scopes
   sc = scopes_of tree
 
@@ -254,9 +317,9 @@ module _ (tree : PProgram) (code : Code) (texts : ℕ → List Placed) (w : Worl
   wanted_of part = result_of_part tree code texts w lay p part
 
   -- the frame of an instance that lies in these parts
-  laid_near : (outer : List Part) (lower : List Word) (m c : Word) (wanted : Option Kind) → Outer outer lower m c wanted → (i : ℕ) (home : Place) → numbered lay i ≡ Some home → Lies tree code texts w lay p outer i lower → Near p home.stack
+  laid_near : (outer : List Part) (lower : List Word) (m c : Word) (wanted : Option Kind) → Outer outer lower m c wanted → (i : ℕ) (home : Place) → numbered lay.places i ≡ Some home → Lies tree code texts w lay p outer i lower → Near p home.stack
   laid_near outer lower m c wanted a i home e l =
-      let at : numbered lay i ≡ Some (place p (length l.frame.lower)) = ap (numbered lay) (sym l.instance_is) ∙ l.frame.framed.laid in
+      let at : numbered lay.places i ≡ Some (place p (length l.frame.lower)) = ap (numbered lay.places) (sym l.instance_is) ∙ l.frame.framed.laid in
       inl (ap (λ (x : Place). x.stack) (some_same (sym e ∙ at)))
 
   root_near : (home : Place) → Some (place 0 0) ≡ Some home → Near p home.stack
@@ -264,7 +327,7 @@ module _ (tree : PProgram) (code : Code) (texts : ℕ → List Placed) (w : Worl
 
   home_near : (outer : List Part) (lower : List Word) (m c : Word) (wanted : Option Kind) → Outer outer lower m c wanted → (x : Instance) → IsPlaced sc w lay outer x → (home : Place) → home_of sc w lay x.parent ≡ Some home → Near p home.stack
   home_near outer lower m c wanted a x (outermost none_up alone) home e = root_near home (sym (ap (home_of sc w lay) none_up) ∙ e)
-  home_near outer lower m c wanted a x (inside own next) home e = by_parent x.parent e (lies_around tree code texts w lay p outer lower m c wanted a x.parent own)
+  home_near outer lower m c wanted a x (inside own next made) home e = by_parent x.parent e (lies_around tree code texts w lay p outer lower m c wanted a x.parent own)
     where
       by_parent : (i : ℕ) → home_of sc w lay i ≡ Some home → Lies tree code texts w lay p outer i lower → Near p home.stack
       by_parent zero f l = root_near home f
@@ -279,8 +342,10 @@ module _ (tree : PProgram) (code : Code) (texts : ℕ → List Placed) (w : Worl
         (
           back_leads p f.control f.framed.back f.framed.control_is,
           subst (AllLead p) (sym f.framed.cells_is)
-              (lead_both p f.framed.values _ (cells_lead p (simple_cells (block_numbered sc.blocks f.framed.instance.block)) f.framed.instance.cells f.framed.values f.framed.cells_are)
-              (controls_lead p (level_of (block_numbered sc.blocks f.framed.instance.block)) (control_segments sc (block_numbered sc.blocks f.framed.instance.block).decls))),
+              (lead_both p f.framed.values _ (cells_lead p (simple_cells sc (block_numbered sc.blocks f.framed.instance.block)) f.framed.simple f.framed.values f.framed.simple_are)
+              (lead_both p (control_words (level_of (block_numbered sc.blocks f.framed.instance.block)) (control_segments sc (block_numbered sc.blocks f.framed.instance.block).decls)) f.framed.descriptors
+              (controls_lead p (level_of (block_numbered sc.blocks f.framed.instance.block)) (control_segments sc (block_numbered sc.blocks f.framed.instance.block).decls))
+              (arrays_lead p f.framed.declared f.framed.arrays (lay.rows part.instance) f.framed.descriptors f.framed.made))),
         ),
       ))
 
@@ -290,11 +355,12 @@ module _ (tree : PProgram) (code : Code) (texts : ℕ → List Placed) (w : Worl
       let s : Waits tree code texts w lay p part outer lower m c wanted = a.0 in
       let long : length lower ≡ length s.below + length s.words = ap length s.lower_is ∙ length-append s.below (reverse s.words) ∙ ap (λ (n : ℕ). length s.below + n) (length-reverse s.words) in
       let lowest : length s.below ≡ length s.frame.lower + (2 + length s.frame.cells) = ap length s.frame.words_are ∙ length-append s.frame.lower (s.frame.mark ∷ s.frame.control ∷ s.frame.cells) ∙ omega arith in
-      let many : length s.words ≡ length s.slots = slots_length sc (level_at tree code texts w lay p part) (length s.frame.lower) (length s.below) s.slots s.words s.words_are in
+      let many : length s.words ≡ length s.slots = slots_length sc s.held (level_at tree code texts w lay p part) (length s.frame.lower) (length s.below) s.slots s.words s.words_are in
       subst (AllLead p) (sym s.lower_is)
       (lead_both p s.below (reverse s.words)
       (frame_leads part outer s.below s.frame a.1 (around_leads outer s.frame.lower s.frame.mark s.frame.control (wanted_of part) a.1 (omega (arith, room, long, lowest))))
-      (lead_turned p s.words (slots_lead sc p (level_at tree code texts w lay p part) (length s.frame.lower) (length s.below) s.slots s.words s.words_are (omega (arith, room, long, many)))))
+      (lead_turned p s.words (slots_lead sc s.held p (level_at tree code texts w lay p part) (length s.frame.lower) (length s.below)
+      (known_lead sc w lay p part.instance (level_at tree code texts w lay p part) s.held s.held_are) s.slots s.words s.words_are (omega (arith, room, long, many)))))
 
   module _ (part : Part) (outer : List Part) (core : Core) (s : Stands tree code texts w lay p part outer core) (a : Outer outer s.frame.lower s.frame.mark s.frame.control (wanted_of part)) where
     pub level_known : level_at tree code texts w lay p part < 32
@@ -307,10 +373,11 @@ module _ (tree : PProgram) (code : Code) (texts : ℕ → List Placed) (w : Worl
     core_leads room =
         let lowest : length core.below ≡ length s.frame.lower + (2 + length s.frame.cells) = ap length s.frame.words_are ∙ length-append s.frame.lower (s.frame.mark ∷ s.frame.control ∷ s.frame.cells) ∙ omega arith in
         let many : length core.words ≡ length s.slots =
-        slots_length sc (level_at tree code texts w lay p part) _ (length core.below) s.slots core.words s.there.words_are in
+        slots_length sc s.held (level_at tree code texts w lay p part) _ (length core.below) s.slots core.words s.there.words_are in
         lead_both p core.below (reverse core.words)
         (frame_leads part outer core.below s.frame a (around_leads outer s.frame.lower s.frame.mark s.frame.control (wanted_of part) a (omega (arith, room, lowest))))
-        (lead_turned p core.words (slots_lead sc p (level_at tree code texts w lay p part) _ (length core.below) s.slots core.words s.there.words_are (omega (arith, room, many))))
+        (lead_turned p core.words (slots_lead sc s.held p (level_at tree code texts w lay p part) _ (length core.below)
+        (known_lead sc w lay p part.instance (level_at tree code texts w lay p part) s.held s.held_are) s.slots core.words s.there.words_are (omega (arith, room, many))))
 
     -- so do all words of the two stacks, in an image in which the process stands so
     pub image_leads : (img : Image) → HasCore img p core → stack_at img.stacks 0 ≡ Some system_stack → size core ≤ stack_limit → AllLeadNear p img

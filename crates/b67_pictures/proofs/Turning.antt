@@ -8,7 +8,6 @@ use Rattle.algol_meaning.specs.World.{Process, Part, able, World}
 use Rattle.algol_meaning.specs.Actions.{Turn}
 use Rattle.algol_meaning.specs.Asks.{Ask, turns, ask, resume}
 use Rattle.algol_meaning.specs.Choice.{choice_of}
-use Rattle.b67_word.specs.declared.Place.{Place}
 use Rattle.b67_ops.specs.declared.Operator.TheVariants as ops
 use Rattle.b67_ops.specs.declared.BranchKind.TheVariants.{Brun}
 use Rattle.b67_segment.specs.Operators.{Placed}
@@ -22,7 +21,8 @@ use Rattle.b67_standing.specs.Stepping.{Slot}
 use Rattle.b67_standing.specs.Standing.{ActionAt, Acted, ComesTo}
 use Rattle.b67_cores.specs.Cores.{Core, with_core}
 use Rattle.b67_cores.specs.Stretches.{CoreAt, FragmentsArePerformed}
-use Rattle.algol_paths.specs.Laws.{RestsKeepToTheirText}
+use Rattle.algol_paths.specs.Laws.{RestsKeepToTheirText, ArraysAreMadeInOrder}
+use Rattle.b67_pictures.specs.Arrays.{Layout}
 use Rattle.b67_pictures.specs.Acting.{Does}
 use Rattle.b67_pictures.proofs.Rows.{action_not_plain, action_is}
 use Rattle.b67_pictures.proofs.TurnRow.{at_place, turn_raw, turn_class}
@@ -31,8 +31,9 @@ use Rattle.b67_pictures.proofs.Stage.{choice_is}
 use Rattle.b67_pictures.proofs.Scene.{Scene}
 use Rattle.b67_pictures.proofs.Staying.{text_in, level_in, context_in, most_in}
 use Rattle.b67_pictures.proofs.InFrame.{does_in_frame}
+use Rattle.b67_pictures.proofs.Unmade.{makes, unmade}
 
-module _ (tree : PProgram) (code : Code) (texts : ℕ → List Placed) (fragments : FragmentsArePerformed) (keeps : RestsKeepToTheirText) (w : World) (lay : List Place) (img : Image)
+module _ (tree : PProgram) (code : Code) (texts : ℕ → List Placed) (fragments : FragmentsArePerformed) (keeps : RestsKeepToTheirText) (order : ArraysAreMadeInOrder) (w : World) (lay : Layout) (img : Image)
     (p : ℕ) (q : Process) (part : Part) (outer : List Part) (bound : ℕ) (core : Core) (s : Scene tree code texts w lay img p q part outer bound core) (able_is : q.state ≡ able) (able_p : numbered img.states p ≡ Some Able) where
   abbrev sc : Scopes
   sc = scopes_of tree
@@ -41,7 +42,7 @@ module _ (tree : PProgram) (code : Code) (texts : ℕ → List Placed) (fragment
       (answered : (r : Answer) (at : ℕ) (left : List Slot) → Acted sc (context_in tree code w part) (text_in tree texts w part) (level_in tree w part) (most_in tree w part) turns s.stands.pc s.stands.slots a r at left →
       ComesTo sc (context_in tree code w part) (text_in tree texts w part) (level_in tree w part) (most_in tree w part) (resume sc part.rest r) at left) where
     there : operator_at code core.registers ≡ Ok (ops.Branch Brun a.0, a.1)
-    there = operator_there sc code (text_in tree texts w part) (level_in tree w part) s.stands.pc s.stands.slots core (ops.Branch Brun a.0) a.1 s.stands.there a.2.stands
+    there = operator_there sc s.stands.held code (text_in tree texts w part) (level_in tree w part) s.stands.pc s.stands.slots core (ops.Branch Brun a.0) a.1 s.stands.there a.2.stands
 
     abbrev new : Core
     new = at_place core a.0
@@ -49,7 +50,7 @@ module _ (tree : PProgram) (code : Code) (texts : ℕ → List Placed) (fragment
     back : a.0 ≤ core.registers.place
     back = omega (arith, a.2.back, s.stands.there.place_is)
 
-    core_at : CoreAt sc code (text_in tree texts w part) (level_in tree w part) a.0 s.stands.slots new
+    core_at : CoreAt sc s.stands.held code (text_in tree texts w part) (level_in tree w part) a.0 s.stands.slots new
     core_at =
         record {
           segment = s.stands.there.segment;
@@ -64,7 +65,7 @@ module _ (tree : PProgram) (code : Code) (texts : ℕ → List Placed) (fragment
 
     pub turning : Does tree code texts w img p
     turning =
-        does_in_frame tree code texts fragments keeps w lay img p q part outer bound core s able_is able_p done tt w.output new refl (record { is = refl }) a.0 s.stands.slots core_at s.stands.few
+        does_in_frame tree code texts fragments keeps order w lay img p q part outer bound core s able_is able_p (unmade part.rest (ap makes asks)) done tt w.output new refl (record { is = refl }) s.stands.held s.stands.held_are a.0 s.stands.slots core_at s.stands.few
         (answered done a.0 s.stands.slots (refl, refl)) Turn
         (action_not_plain code img p core s.has (ops.Branch Brun a.0) a.1 there (turn_class code img p core s.has a.0 a.1 there back))
         (turn_raw code img p core s.has a.0 a.1 there back ∙ ap (λ (o : List (List ℕ)). effects.gives (record (with_core img p new) { output = o })) s.by.output)

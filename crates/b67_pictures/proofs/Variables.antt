@@ -1,5 +1,5 @@
 -- The cell and the word of a variable.
-use Rattle.std.proofs.Common.{◌≡◌, refl, sym, ap, ◌∙◌, subst, ℕ, zero, suc, ◌+◌, List, [], ◌∷◌, Option, Some, Bool, true, false, arith}
+use Rattle.std.proofs.Common.{◌≡◌, refl, sym, ap, ◌∙◌, subst, ℕ, zero, suc, ◌+◌, List, [], ◌∷◌, ◌++◌, Option, Some, Bool, true, false, arith}
 use Rattle.std.specs.Prelude.{slice_get, slice_set, if◌then◌else◌}
 use Rattle.algol_tree.specs.declared.tree.Kind.{Kind}
 use Rattle.algol_tree.specs.Sorts.{same_name}
@@ -48,6 +48,43 @@ variable_cell (s ∷ ss) (c ∷ cells) (w ∷ words) from name f are e =
           lies = later.lies;
           is = subst (λ (k : Cell). CellIs f.cell.kind k later.word) (sym cell_is) later.is;
         }
+
+-- cells behind do not hide it
+pub cell_front : (ss : List Simple) (cells more : List NamedCell) (words : List Word) (from : ℕ) (name : List ℕ) (f : Found) → CellsAre ss cells words → found_from from ss name ≡ Some f →
+    cell_in (cells ++ more) name ≡ cell_in cells name
+cell_front [] cells more words from name f are e = cc
+cell_front (s ∷ ss) [] more words from name f are e = absurd are
+cell_front (s ∷ ss) (c ∷ cells) more [] from name f are e = absurd are
+cell_front (s ∷ ss) (c ∷ cells) more (w ∷ words) from name f are e =
+    by_name (cell_front ss cells more words (from + 1) name f are.2) (same_name s.name name) e (ap (λ (n : List ℕ). same_name n name) are.0)
+  where
+    by_name : (found_from (from + 1) ss name ≡ Some f → cell_in (cells ++ more) name ≡ cell_in cells name) → (b : Bool) →
+        (if b then Some (record { number = from; cell = s }) else found_from (from + 1) ss name) ≡ Some f → same_name c.name name ≡ b →
+        (if same_name c.name name then c.cell else cell_in (cells ++ more) name) ≡ (if same_name c.name name then c.cell else cell_in cells name)
+    by_name rest true h same = ap (λ b. if b then c.cell else cell_in (cells ++ more) name) same ∙ sym (ap (λ b. if b then c.cell else cell_in cells name) same)
+    by_name rest false h same =
+        ap (λ b. if b then c.cell else cell_in (cells ++ more) name) same ∙ rest h ∙ sym (ap (λ b. if b then c.cell else cell_in cells name) same)
+
+-- it is changed among the first cells
+pub changed_front : (ss : List Simple) (cells more : List NamedCell) (words : List Word) (from : ℕ) (name : List ℕ) (f : Found) (cell : Cell) → CellsAre ss cells words → found_from from ss name ≡ Some f →
+    cells_with (cells ++ more) name cell ≡ cells_with cells name cell ++ more
+changed_front [] cells more words from name f cell are e = cc
+changed_front (s ∷ ss) [] more words from name f cell are e = absurd are
+changed_front (s ∷ ss) (c ∷ cells) more [] from name f cell are e = absurd are
+changed_front (s ∷ ss) (c ∷ cells) more (w ∷ words) from name f cell are e =
+    by_name (changed_front ss cells more words (from + 1) name f cell are.2) (same_name s.name name) e (ap (λ (n : List ℕ). same_name n name) are.0)
+  where
+    by_name : (found_from (from + 1) ss name ≡ Some f → cells_with (cells ++ more) name cell ≡ cells_with cells name cell ++ more) → (b : Bool) →
+        (if b then Some (record { number = from; cell = s }) else found_from (from + 1) ss name) ≡ Some f → same_name c.name name ≡ b →
+        (if same_name c.name name then record c { cell = cell } ∷ (cells ++ more) else c ∷ cells_with (cells ++ more) name cell)
+        ≡ (if same_name c.name name then record c { cell = cell } ∷ cells else c ∷ cells_with cells name cell) ++ more
+    by_name rest true h same =
+        ap (λ b. if b then record c { cell = cell } ∷ (cells ++ more) else c ∷ cells_with (cells ++ more) name cell) same
+        ∙ sym (ap (λ b. (if b then record c { cell = cell } ∷ cells else c ∷ cells_with cells name cell) ++ more) same)
+    by_name rest false h same =
+        ap (λ b. if b then record c { cell = cell } ∷ (cells ++ more) else c ∷ cells_with (cells ++ more) name cell) same
+        ∙ ap (λ (cs : List NamedCell). c ∷ cs) (rest h)
+        ∙ sym (ap (λ b. (if b then record c { cell = cell } ∷ cells else c ∷ cells_with cells name cell) ++ more) same)
 
 -- a cell of a kind holds a value of that kind
 pub record Holds_value (k : Kind) (c : Cell) (w : Word) : Type 0 where

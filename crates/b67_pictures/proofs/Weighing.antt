@@ -1,52 +1,58 @@
 -- What is evaluated and performed needs no more words than four for each of its tokens.
-use Rattle.std.proofs.Common.{◌*◌, ◌≤◌, length, arith}
+use Rattle.std.proofs.Common.{◌+◌, ◌*◌, ◌≤◌, List, [], ◌∷◌, length, arith}
 use Rattle.algol_tree.specs.Plain as tree
-use Rattle.algol_tree.specs.Plain.{PExpr, PExprs, PStmt, PStmts, PDecls}
-use Rattle.algol_tree.specs.Counts.{expr_tokens, exprs_tokens, stmt_tokens, stmts_tokens, decls_tokens}
+use Rattle.algol_tree.specs.Plain.{PExpr, PExprs, PPair, PStmt, PStmts, PDecls}
+use Rattle.algol_tree.specs.Counts.{expr_tokens, exprs_tokens, pairs_tokens, stmt_tokens, stmts_tokens, decls_tokens}
 use Rattle.b67_templates.specs.Cells.{procedures}
-use Rattle.b67_templates.specs.Depths.{depth, line_depth, stmt_depth, stmts_depth}
+use Rattle.b67_templates.specs.Depths.{depth, line_depth, bounds_depth, decls_depth, stmt_depth, stmts_depth}
 
-depth_small : (e : PExpr) → depth e ≤ 2 * expr_tokens e
-depth_small (tree.number value spot) = omega arith
-depth_small (tree.truth value spot) = omega arith
-depth_small (tree.variable (tree.subscripted n tree.none)) = omega arith
-depth_small (tree.variable (tree.subscripted n (tree.more e es))) = omega arith
-depth_small (tree.call (tree.called n tree.none)) = omega arith
-depth_small (tree.call (tree.called n (tree.more e es))) = omega arith
-depth_small (tree.happened e spot) = omega arith
-depth_small (tree.paren e spot) = omega (arith, depth_small e)
-depth_small (tree.plus e spot) = omega (arith, depth_small e)
-depth_small (tree.neg e spot) = omega (arith, depth_small e)
-depth_small (tree.not e spot) = omega (arith, depth_small e)
-depth_small (tree.two op a b) = omega (arith, depth_small a, depth_small b)
-depth_small (tree.if c x y spot) = omega (arith, depth_small c, depth_small x, depth_small y)
+mutual
+  depth_small : (e : PExpr) → depth e ≤ 2 * expr_tokens e
+  depth_small (tree.number value spot) = omega arith
+  depth_small (tree.truth value spot) = omega arith
+  depth_small (tree.variable (tree.subscripted n tree.none)) = omega arith
+  depth_small (tree.variable (tree.subscripted n (tree.more e es))) = omega (arith, depth_small e, line_small es)
+  depth_small (tree.call (tree.called n tree.none)) = omega arith
+  depth_small (tree.call (tree.called n (tree.more e es))) = omega (arith, depth_small e, line_small es)
+  depth_small (tree.happened e spot) = omega arith
+  depth_small (tree.paren e spot) = omega (arith, depth_small e)
+  depth_small (tree.plus e spot) = omega (arith, depth_small e)
+  depth_small (tree.neg e spot) = omega (arith, depth_small e)
+  depth_small (tree.not e spot) = omega (arith, depth_small e)
+  depth_small (tree.two op a b) = omega (arith, depth_small a, depth_small b)
+  depth_small (tree.if c x y spot) = omega (arith, depth_small c, depth_small x, depth_small y)
 
-line_small : (es : PExprs) → line_depth es ≤ 2 * exprs_tokens es
-line_small tree.none = omega arith
-line_small (tree.more e es) = omega (arith, depth_small e, line_small es)
+  line_small : (es : PExprs) → line_depth es ≤ 2 * exprs_tokens es
+  line_small tree.none = omega arith
+  line_small (tree.more e es) = omega (arith, depth_small e, line_small es)
+
+bounds_small : (pairs : List PPair) → bounds_depth pairs ≤ 2 * pairs_tokens pairs
+bounds_small [] = omega arith
+bounds_small (p ∷ pairs) = omega (arith, depth_small p.high, bounds_small pairs)
 
 -- a declaration has a semicolon
-pub procedures_small : (ds : PDecls) → length (procedures ds) ≤ decls_tokens ds
-procedures_small tree.no_decls = omega arith
-procedures_small (tree.decls (tree.simple kind ns) ds) = omega (arith, procedures_small ds)
-procedures_small (tree.decls (tree.files ns) ds) = omega (arith, procedures_small ds)
-procedures_small (tree.decls (tree.events ns) ds) = omega (arith, procedures_small ds)
-procedures_small (tree.decls (tree.tasks ns) ds) = omega (arith, procedures_small ds)
-procedures_small (tree.decls (tree.labels ns) ds) = omega (arith, procedures_small ds)
-procedures_small (tree.decls (tree.arrays kind ns pairs) ds) = omega (arith, procedures_small ds)
-procedures_small (tree.decls (tree.forward h) ds) = omega (arith, procedures_small ds)
-procedures_small (tree.decls (tree.procedure h s) ds) = omega (arith, procedures_small ds)
+pub decls_small : (ds : PDecls) → length (procedures ds) + decls_depth ds ≤ 4 * decls_tokens ds
+decls_small tree.no_decls = omega arith
+decls_small (tree.decls (tree.simple kind ns) ds) = omega (arith, decls_small ds)
+decls_small (tree.decls (tree.files ns) ds) = omega (arith, decls_small ds)
+decls_small (tree.decls (tree.events ns) ds) = omega (arith, decls_small ds)
+decls_small (tree.decls (tree.tasks ns) ds) = omega (arith, decls_small ds)
+decls_small (tree.decls (tree.labels ns) ds) = omega (arith, decls_small ds)
+decls_small (tree.decls (tree.arrays kind ns pairs) ds) = omega (arith, decls_small ds, bounds_small pairs)
+decls_small (tree.decls (tree.forward h) ds) = omega (arith, decls_small ds)
+decls_small (tree.decls (tree.procedure h s) ds) = omega (arith, decls_small ds)
 
 mutual
   pub stmt_small : (s : PStmt) → stmt_depth s ≤ 4 * stmt_tokens s
   stmt_small tree.empty = omega arith
   stmt_small (tree.label n s) = omega arith
-  stmt_small (tree.assign v e) = omega (arith, depth_small e)
+  stmt_small (tree.assign (tree.subscripted n tree.none) e) = omega (arith, depth_small e)
+  stmt_small (tree.assign (tree.subscripted n (tree.more i is)) e) = omega (arith, depth_small i, line_small is, depth_small e)
   stmt_small (tree.call_of (tree.called n tree.none)) = omega arith
-  stmt_small (tree.call_of (tree.called n (tree.more e es))) = omega arith
+  stmt_small (tree.call_of (tree.called n (tree.more e es))) = omega (arith, depth_small e, line_small es)
   stmt_small (tree.go_to n) = omega arith
   stmt_small (tree.block (tree.body spot tree.no_decls ss)) = omega (arith, stmts_small ss)
-  stmt_small (tree.block (tree.body spot (tree.decls d ds) ss)) = omega (arith, procedures_small (tree.decls d ds), stmts_small ss)
+  stmt_small (tree.block (tree.body spot (tree.decls d ds) ss)) = omega (arith, decls_small (tree.decls d ds), stmts_small ss)
   stmt_small (tree.if_then c x) = omega (arith, depth_small c, stmt_small x)
   stmt_small (tree.if_else c x y) = omega (arith, depth_small c, stmt_small x, stmt_small y)
   stmt_small (tree.while c b) = omega (arith, depth_small c, stmt_small b)

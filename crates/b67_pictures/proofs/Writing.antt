@@ -14,7 +14,6 @@ use Rattle.algol_meaning.specs.World.{Process, Part, able, World, instance_at}
 use Rattle.algol_meaning.specs.Actions.{Line}
 use Rattle.algol_meaning.specs.Asks.{Ask, writes, ask, resume}
 use Rattle.algol_meaning.specs.Choice.{choice_of}
-use Rattle.b67_word.specs.declared.Place.{Place}
 use Rattle.b67_ops.specs.declared.Operator.TheVariants as ops
 use Rattle.b67_ops.specs.declared.PlainKind.TheVariants as kinds
 use Rattle.b67_ops.specs.declared.intrinsic.Intrinsic.TheVariants.{Write}
@@ -35,7 +34,8 @@ use Rattle.b67_standing.specs.Stepping.{Slot}
 use Rattle.b67_standing.specs.Standing.{ActionAt, Acted, ComesTo}
 use Rattle.b67_cores.specs.Cores.{Core, with_core}
 use Rattle.b67_cores.specs.Stretches.{FragmentsArePerformed}
-use Rattle.algol_paths.specs.Laws.{RestsKeepToTheirText}
+use Rattle.algol_paths.specs.Laws.{RestsKeepToTheirText, ArraysAreMadeInOrder}
+use Rattle.b67_pictures.specs.Arrays.{Layout}
 use Rattle.b67_pictures.specs.Acting.{Does}
 use Rattle.b67_pictures.proofs.Rows.{action_not_plain, action_is}
 use Rattle.b67_pictures.proofs.Calling.{wholes_of, IsCall, call}
@@ -45,6 +45,7 @@ use Rattle.b67_pictures.proofs.Stage.{choice_is}
 use Rattle.b67_pictures.proofs.Scene.{Scene}
 use Rattle.b67_pictures.proofs.Staying.{text_in, level_in, context_in, most_in}
 use Rattle.b67_pictures.proofs.InFrame.{does_in_frame}
+use Rattle.b67_pictures.proofs.Unmade.{makes, unmade}
 
 -- ---- the line
 
@@ -81,7 +82,7 @@ line_is sc code j ps level format ts vs f =
 
 -- ---- the action
 
-module _ (tree : PProgram) (code : Code) (texts : ℕ → List Placed) (fragments : FragmentsArePerformed) (keeps : RestsKeepToTheirText) (w : World) (lay : List Place) (img : Image)
+module _ (tree : PProgram) (code : Code) (texts : ℕ → List Placed) (fragments : FragmentsArePerformed) (keeps : RestsKeepToTheirText) (order : ArraysAreMadeInOrder) (w : World) (lay : Layout) (img : Image)
     (p : ℕ) (q : Process) (part : Part) (outer : List Part) (bound : ℕ) (core : Core) (s : Scene tree code texts w lay img p q part outer bound core) (able_is : q.state ≡ able) (able_p : numbered img.states p ≡ Some Able)
     (ts : List PhraseText) (vs : List Value) (asks : ask part.rest ≡ writes ts vs) (a : ActionAt (scopes_of tree) (context_in tree code w part) (text_in tree texts w part) (level_in tree w part) (most_in tree w part) (writes ts vs) s.stands.pc s.stands.slots)
     (answered : (r : Answer) (at : ℕ) (left : List Slot) → Acted (scopes_of tree) (context_in tree code w part) (text_in tree texts w part) (level_in tree w part) (most_in tree w part) (writes ts vs) s.stands.pc s.stands.slots a r at left →
@@ -94,7 +95,7 @@ module _ (tree : PProgram) (code : Code) (texts : ℕ → List Placed) (fragment
   given = number (pos a.2.format) ∷ vs
 
   there : operator_at code core.registers ≡ Ok (ops.Plain kinds.Entr, a.0)
-  there = operator_there sc code (text_in tree texts w part) (level_in tree w part) s.stands.pc s.stands.slots core (ops.Plain kinds.Entr) a.0 s.stands.there a.2.stands
+  there = operator_there sc s.stands.held code (text_in tree texts w part) (level_in tree w part) s.stands.pc s.stands.slots core (ops.Plain kinds.Entr) a.0 s.stands.there a.2.stands
 
   abbrev Called : Type 0
   Called = IsCall tree code texts w lay img p q part outer bound core s Write given a.1 (a.2.whole, a.2.fits) a.2.lies
@@ -108,7 +109,7 @@ module _ (tree : PProgram) (code : Code) (texts : ℕ → List Placed) (fragment
 
     does : Does tree code texts w img p
     does =
-        does_in_frame tree code texts fragments keeps w lay img p q part outer bound core s able_is able_p done tt out new refl (record { is = refl }) a.0 a.1 (c.after_at a.0) c.few
+        does_in_frame tree code texts fragments keeps order w lay img p q part outer bound core s able_is able_p (unmade part.rest (ap makes asks)) done tt out new refl (record { is = refl }) s.stands.held s.stands.held_are a.0 a.1 (c.after_at a.0) c.few
         (answered done a.0 a.1 (refl, refl)) Line
         (action_not_plain code img p core s.has (ops.Plain kinds.Entr) a.0 there
         (enter_class code img p core s.has a.0 there Write c.arguments c.reference c.marked c.others c.calls))

@@ -1,20 +1,19 @@
 -- The cells of a new instance are zeros.
-use Rattle.std.proofs.Common.{◌≡◌, refl, sym, ap, subst, ℕ, suc, List, [], ◌∷◌, ◌++◌, length, Option, Some, None, arith}
-use Rattle.std.specs.Prelude.{pos, map, replicate}
+use Rattle.std.proofs.Common.{◌≡◌, refl, ap, ℕ, suc, List, [], ◌∷◌, ◌++◌, length, Option, Some, None, arith}
+use Rattle.std.specs.Prelude.{pos, replicate}
 use Rattle.algol_tree.specs.declared.tree.Kind.{Kind}
 use Rattle.algol_tree.specs.declared.tree.Kind.TheVariants as types
 use Rattle.algol_tree.specs.declared.tree.Named.{Named}
 use Rattle.algol_tree.specs.Plain as tree
 use Rattle.algol_tree.specs.Plain.{PDecls}
 use Rattle.algol_tree.specs.Blocks.{Block}
-use Rattle.algol_tree.specs.Sorts.{Parameter}
 use Rattle.algol_meaning.specs.Value.{initial_value}
 use Rattle.algol_meaning.specs.World.{NamedCell}
-use Rattle.algol_meaning.specs.Instances.{parameter_cells, result_cells, initial_cells, variable_cells, fresh_cells}
+use Rattle.algol_meaning.specs.Instances.{result_cells, initial_cells, variable_cells}
 use Rattle.b67_word.specs.Word.{Word}
 use Rattle.b67_word.specs.Word as words
 use Rattle.b67_templates.specs.Fragments.{HasKind}
-use Rattle.b67_templates.specs.Cells.{Simple, of_kind, result_of, variables, simple_cells, zero_cells}
+use Rattle.b67_templates.specs.Cells.{Simple, of_kind, result_of, variables, zero_cells}
 use Rattle.b67_cores.specs.Slots.{ValueIs}
 use Rattle.b67_pictures.specs.Frames.{CellsAre}
 
@@ -48,15 +47,9 @@ result_zeros : (o : Option Kind) (name : List ℕ) (ss : List Simple) (cells : L
 result_zeros None name ss cells are = are
 result_zeros (Some kind) name ss cells are = (refl, zero_is kind, are)
 
--- the cells of a block without parameters are zeros at first
-pub block_zeros : (b : Block) → b.parameters ≡ [] → AreZeroCells (simple_cells b) (fresh_cells b [])
-block_zeros b plain =
-    let at : List Parameter → Type 0 = λ ps. AreZeroCells (map (λ (p : Parameter). record { name = p.name; kind = None }) ps ++ result_of b.result b.name ++ variables b.decls) (parameter_cells ps [] ++ result_cells b.result b.name ++ variable_cells b.decls) in
-    subst at (sym plain) (result_zeros b.result b.name (variables b.decls) (variable_cells b.decls) (declared_zeros b.decls))
-
--- and those cells are all that it has from its entry on
-pub plain_cells : (b : Block) → b.parameters ≡ [] → simple_cells b ≡ zero_cells b
-plain_cells b plain = ap (λ (ps : List Parameter). map (λ (p : Parameter). record { name = p.name; kind = None }) ps ++ result_of b.result b.name ++ variables b.decls) plain
+-- the result and the variables of a block are zeros at first
+pub block_zeros : (b : Block) → AreZeroCells (zero_cells b) (result_cells b.result b.name ++ variable_cells b.decls)
+block_zeros b = result_zeros b.result b.name (variables b.decls) (variable_cells b.decls) (declared_zeros b.decls)
 
 pub cells_length : (ss : List Simple) (cells : List NamedCell) (ws : List Word) → CellsAre ss cells ws → length cells ≡ length ss
 cells_length [] [] [] are = refl

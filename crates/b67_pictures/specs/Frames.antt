@@ -11,9 +11,9 @@ use Rattle.algol_meaning.specs.World.{NamedCell, Instance, Part, World, instance
 use Rattle.algol_meaning.specs.Rest.{Answer}
 use Rattle.algol_meaning.specs.Asks.{nothing, ask, resume}
 use Rattle.algol_meaning.specs.Critical.{is_evaluation}
-use Rattle.algol_paths.specs.Blocks.{IsSeen, IsInner}
+use Rattle.algol_paths.specs.Arrays.{DeclaredArray, arrays_of, to_make}
+use Rattle.algol_paths.specs.Laws.{KeepsToText}
 use Rattle.algol_paths.specs.Segments.{segment_of}
-use Rattle.algol_paths.specs.Texts.{InRest}
 use Rattle.b67_word.specs.declared.Place.{Place}
 use Rattle.b67_word.specs.Word.{Word}
 use Rattle.b67_control.specs.declared.Rcw.{Rcw}
@@ -32,9 +32,10 @@ use Rattle.b67_templates.specs.Cells.{Simple, simple_cells, procedures, control_
 use Rattle.b67_standing.specs.Stepping.{Slot}
 use Rattle.b67_standing.specs.Standing.{Gives, pushed, StandsFor, ComesTo}
 use Rattle.b67_cores.specs.Cores.{Core}
-use Rattle.b67_cores.specs.Slots.{ValueIs, newest, SlotsAre}
+use Rattle.b67_cores.specs.Slots.{ValueIs, Known, newest, SlotsAre}
 use Rattle.b67_cores.specs.Stretches.{CoreAt, control_words}
 use Rattle.b67_faithful.specs.Weight.{tokens_around, parts_weight}
+use Rattle.b67_pictures.specs.Arrays.{Layout, AreMade, AreKnown}
 
 -- ---- cells
 
@@ -58,24 +59,29 @@ abbrev pub IsOwn : List Part → ℕ → Type 0
 IsOwn [] i = ⊥
 IsOwn (part ∷ parts) i = (part.instance ≡ i) ⊎ IsOwn parts i
 
-module _ (sc : Scopes) (w : World) (lay : List Place) where
+module _ (sc : Scopes) (w : World) (lay : Layout) where
   -- the block of an instance
   abbrev pub block_at : ℕ → Block
   block_at i = block_numbered sc.blocks ((instance_at w i).block)
 
   -- The display names the frames of the instance and of its static parents, each at the level of its block.
   abbrev pub IsChained : ℕ → ℕ → List (Option Place) → Type 0
-  IsChained i level display = (up : ℕ) → up + OUTER_LEVEL ≤ level → place_at display (level - up) ≡ numbered lay (ancestor w up i)
+  IsChained i level display = (up : ℕ) → up + OUTER_LEVEL ≤ level → place_at display (level - up) ≡ numbered lay.places (ancestor w up i)
 
   -- where the static link of a frame leads: to the frame of the instance's parent, that of an outermost one to the system's stack
   abbrev pub home_of : ℕ → Option Place
   home_of zero = Some (place 0 0)
-  home_of (suc i) = numbered lay (suc i)
+  home_of (suc i) = numbered lay.places (suc i)
 
-  -- An instance of an outermost block has no parent. That of another block has one among those of these parts, of the block around it.
+  -- the instance has made all arrays of its block
+  abbrev pub IsComplete : ℕ → Type 0
+  IsComplete i = length ((instance_at w i).cells) ≡ length (simple_cells sc (block_at i)) + length (arrays_of (block_at i).decls)
+
+  -- An instance of an outermost block has no parent. That of another block has one among those of these parts, of the block around it, and
+  -- that has all its cells.
   pub data IsPlaced (outer : List Part) (x : Instance) : Type 0 where
     outermost : x.parent ≡ 0 → around sc.blocks x.block ≡ [] → IsPlaced outer x
-    inside : IsOwn outer x.parent → around sc.blocks x.block ≡ (instance_at w x.parent).block ∷ around sc.blocks (instance_at w x.parent).block → IsPlaced outer x
+    inside : IsOwn outer x.parent → around sc.blocks x.block ≡ (instance_at w x.parent).block ∷ around sc.blocks (instance_at w x.parent).block → IsComplete x.parent → IsPlaced outer x
 
   -- The frame of an instance of process p, so high in its stack, below which those of these parts lie: its mark and its control word, which
   -- are read as such, and these words for its cells.
@@ -84,11 +90,24 @@ module _ (sc : Scopes) (w : World) (lay : List Place) where
     pub is : numbered w.instances i ≡ Some instance
     pub own : instance.process ≡ p
     pub known : instance.block < length sc.blocks
-    pub laid : numbered lay i ≡ Some (place p at)
+    pub stands : instance.left ≡ false
+    pub laid : numbered lay.places i ≡ Some (place p at)
+    pub simple : List NamedCell
     pub values : List Word
-    pub cells_are : CellsAre (simple_cells (block_numbered sc.blocks instance.block)) instance.cells values
-    -- behind them lie the control words of the block's procedures
-    pub cells_is : cells ≡ values ++ control_words (level_of (block_numbered sc.blocks instance.block)) (control_segments sc (block_numbered sc.blocks instance.block).decls)
+    pub simple_are : CellsAre (simple_cells sc (block_numbered sc.blocks instance.block)) simple values
+    -- behind them lie the control words of the block's procedures, and then the descriptors of the arrays that are made
+    pub arrays : List NamedCell
+    pub declared : List DeclaredArray
+    pub later : List DeclaredArray
+    pub order : arrays_of (block_numbered sc.blocks instance.block).decls ≡ declared ++ later
+    pub descriptors : List Word
+    pub made : AreMade declared arrays (lay.rows i) descriptors
+    pub has : instance.cells ≡ simple ++ arrays
+    pub cells_is :
+        cells
+        ≡ values
+        ++ (control_words (level_of (block_numbered sc.blocks instance.block)) (control_segments sc (block_numbered sc.blocks instance.block).decls)
+        ++ descriptors)
     pub placed : IsPlaced outer instance
     pub home : Place
     pub linked : home_of instance.parent ≡ Some home
@@ -98,7 +117,7 @@ module _ (sc : Scopes) (w : World) (lay : List Place) where
     pub control_is : as_rcw control ≡ Some back
     pub level_is : back.own_level ≡ level_of (block_numbered sc.blocks instance.block)
 
-module _ (tree : PProgram) (code : Code) (texts : ℕ → List Placed) (w : World) (lay : List Place) (p : ℕ) where
+module _ (tree : PProgram) (code : Code) (texts : ℕ → List Placed) (w : World) (lay : Layout) (p : ℕ) where
   -- the number of a part's block, the segment in which its text stands, and its level
   abbrev pub block_of : Part → ℕ
   block_of part = (instance_at w part.instance).block
@@ -132,7 +151,9 @@ module _ (tree : PProgram) (code : Code) (texts : ℕ → List Placed) (w : Worl
     pub cells : List Word
     pub words_are : words ≡ lower ++ mark ∷ control ∷ cells
     pub framed : Framed (scopes_of tree) w lay p part.instance outer (length lower) mark control cells
-    pub text : InRest (IsSeen (scopes_of tree) (block_of part)) (IsInner (scopes_of tree) (block_of part)) part.rest
+    pub text : KeepsToText (scopes_of tree) (block_of part) part.rest
+    -- what it has still to make is what its instance has not made
+    pub making : framed.later ≡ to_make part.rest
 
   -- The innermost part: the core is at the place, and has the words, where the machine stands for what the part has still to do.
   pub record Stands (part : Part) (outer : List Part) (core : Core) : Type 0 where
@@ -143,8 +164,10 @@ module _ (tree : PProgram) (code : Code) (texts : ℕ → List Placed) (w : Worl
     pub asks : ask part.rest ≡ nothing → ⊥
     pub pc : ℕ
     pub slots : List Slot
+    pub held : List Known
+    pub held_are : AreKnown (scopes_of tree) w lay part.instance (level_at part) held
     pub stands : StandsFor (scopes_of tree) (context_at part) (text_of part) (level_at part) (most_of part) part.rest pc slots
-    pub there : CoreAt (scopes_of tree) code (text_of part) (level_at part) pc slots core
+    pub there : CoreAt (scopes_of tree) held code (text_of part) (level_at part) pc slots core
     pub few : length slots ≤ most_of part
 
   -- A part around, which waits for the one inside it. Once that has left with what is wanted of it, it goes on. The mark and the control word of the frame above lead back: the mark to the newest
@@ -160,7 +183,9 @@ module _ (tree : PProgram) (code : Code) (texts : ℕ → List Placed) (w : Worl
     pub returns : (a : Answer) → Gives wanted a →
         ComesTo (scopes_of tree) (context_at part) (text_of part) (level_at part) (most_of part) (resume (scopes_of tree) part.rest a) pc (pushed a slots)
     pub few : length slots + 1 ≤ most_of part
-    pub words_are : SlotsAre (scopes_of tree) (level_at part) (length frame.lower) (length below) slots words
+    pub held : List Known
+    pub held_are : AreKnown (scopes_of tree) w lay part.instance (level_at part) held
+    pub words_are : SlotsAre (scopes_of tree) held (level_at part) (length frame.lower) (length below) slots words
     pub home : Place
     pub df : ℕ
     pub mark_is : as_mscw mark ≡ Some (record { entered = true; stack = home.stack; displacement = home.at; df = df })

@@ -1,3 +1,4 @@
+pub mod Arrays
 pub mod Frames
 pub mod Pictures
 pub mod Acting

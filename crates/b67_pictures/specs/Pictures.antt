@@ -2,8 +2,8 @@
 use Rattle.std.specs.Prelude.{◌≡◌, ℕ, ◌+◌, ◌≤◌, List, [], ◌∷◌, length, Option, Some, None}
 use Rattle.b67_list.specs.Numbered.{numbered}
 use Rattle.algol_tree.specs.Plain.{PProgram}
+use Rattle.algol_tree.specs.Scopes.{scopes_of}
 use Rattle.algol_meaning.specs.World.{Part, Process, able, ended, WorldFault, World, instance_at}
-use Rattle.b67_word.specs.declared.Place.{Place}
 use Rattle.b67_segment.specs.Operators.{Placed}
 use Rattle.b67_segment.specs.declared.code.Code.{Code}
 use Rattle.b67_store.specs.Store.{stack_at, stack_limit}
@@ -15,6 +15,7 @@ use Rattle.b67_table.specs.declared.ProcessState.TheVariants.{Able, Ended}
 use Rattle.b67_table.specs.Image.{Image, Failure}
 use Rattle.b67_cores.specs.Cores.{Core, size, HasCore, CoreSteps}
 use Rattle.b67_faithful.specs.Weight.{weight}
+use Rattle.b67_pictures.specs.Arrays.{Layout, ArraysAre}
 use Rattle.b67_pictures.specs.Frames.{most_around, Frames}
 
 -- the fault that ended a world, as one of an image
@@ -27,7 +28,7 @@ abbrev pub innermost_most : PProgram → World → List Part → ℕ
 innermost_most tree w [] = 0
 innermost_most tree w (part ∷ outer) = most_around tree ((instance_at w part.instance).block)
 
-module _ (tree : PProgram) (code : Code) (texts : ℕ → List Placed) (w : World) (lay : List Place) (img : Image) where
+module _ (tree : PProgram) (code : Code) (texts : ℕ → List Placed) (w : World) (lay : Layout) (img : Image) where
   -- A process that is able comes by private operators alone to where its core stands for its parts. It depends on no instance, and has
   -- no task: that comes with PROCESS.
   pub record Living (p : ℕ) (q : Process) : Type 0 where
@@ -54,7 +55,8 @@ module _ (tree : PProgram) (code : Code) (texts : ℕ → List Placed) (w : Worl
     dead : q.state ≡ ended → numbered img.states p ≡ Some Ended → Pictured p q
 
   pub record PicturesBy : Type 0 where
-    pub laid : length lay ≡ length w.instances
+    pub laid : length lay.places ≡ length w.instances
+    pub arrays : ArraysAre (scopes_of tree) w lay img.rows
     pub output : img.output ≡ w.output
     pub fault : img.fault ≡ failure_of w.fault
     pub started : img.started ≡ length w.processes
@@ -65,4 +67,4 @@ module _ (tree : PProgram) (code : Code) (texts : ℕ → List Placed) (w : Worl
 
 -- an image pictures a world: for some layout of the frames of its instances
 abbrev pub Pictures : PProgram → Code → (ℕ → List Placed) → World → Image → Type 0
-Pictures tree code texts w img = (lay : List Place) × PicturesBy tree code texts w lay img
+Pictures tree code texts w img = (lay : Layout) × PicturesBy tree code texts w lay img

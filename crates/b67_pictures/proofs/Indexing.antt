@@ -1,0 +1,278 @@
+-- An index, to a row or to an element.
+use Rattle.std.proofs.Common.{◌≡◌, inl, inr, refl, sym, ap, ◌∙◌, subst, ℕ, ◌<◌, ◌^◌, List, [], ◌∷◌, ◌++◌, length, Option, Some, None, Bool, true, false, Ok, ℤ}
+use Rattle.std.specs.Prelude.{map}
+use Rattle.b67_list.specs.Numbered.{numbered}
+use Rattle.b67_num.specs.declared.FaultKind.TheVariants.{InvalidIndex}
+use Rattle.algol_tree.specs.declared.tree.Kind.{Kind}
+use Rattle.algol_tree.specs.declared.tree.Named.{Named}
+use Rattle.algol_tree.specs.Plain.{PProgram}
+use Rattle.algol_tree.specs.Scopes.{Scopes, scopes_of, use_of}
+use Rattle.algol_meaning.specs.Value.{Value, number, whole_of, Cell}
+use Rattle.algol_meaning.specs.Arrays.{size_of, subscript_place}
+use Rattle.algol_meaning.specs.Rest.{Answer, place, element_of}
+use Rattle.algol_meaning.specs.World.{Process, Part, able, World, ancestor, followed, array_in, by_cell}
+use Rattle.algol_meaning.specs.Actions.{Index, Fault}
+use Rattle.algol_meaning.specs.Asks.{Ask, indexes, ask, resume}
+use Rattle.algol_meaning.specs.Choice.{Choice, choice, choice_of, indexed, indexed_at, here}
+use Rattle.algol_paths.specs.Laws.{RestsKeepToTheirText, ArraysAreMadeInOrder}
+use Rattle.algol_paths.specs.Arrays.{DeclaredArray}
+use Rattle.b67_word.specs.Word.{Word}
+use Rattle.b67_control.specs.declared.Descriptor.{Descriptor}
+use Rattle.b67_ops.specs.declared.Couple.{Couple}
+use Rattle.b67_ops.specs.declared.Operator.{Operator}
+use Rattle.b67_ops.specs.declared.Operator.TheVariants as ops
+use Rattle.b67_ops.specs.declared.PlainKind.TheVariants as kinds
+use Rattle.b67_segment.specs.Operators.{Placed}
+use Rattle.b67_segment.specs.declared.code.Code.{Code}
+use Rattle.b67_store.specs.Store.{Row, row_at}
+use Rattle.b67_table.specs.Arrays.{array_word, index_in}
+use Rattle.b67_table.specs.declared.Class.TheVariants as classes
+use Rattle.b67_table.specs.declared.ProcessState.TheVariants.{Able}
+use Rattle.b67_table.specs.Ending.{failed}
+use Rattle.b67_table.specs.Image.{Image}
+use Rattle.b67_table.specs.Effect as effects
+use Rattle.b67_table.specs.Outcome.{Outcome}
+use Rattle.b67_table.specs.Outcome as outcomes
+use Rattle.b67_table.specs.Private.{frame}
+use Rattle.b67_table.specs.Table.{table, raw, operator_at, class_at}
+use Rattle.b67_faithful.specs.Correspondence.{action_by}
+use Rattle.b67_standing.specs.Stepping.{Held, row, element, Slot, operand, reference, intrinsic, control, descriptor, mark}
+use Rattle.b67_standing.specs.Standing.{ActionAt, Acted, ComesTo, ElementIndexAt, RowIndexAt, of_row, of_element}
+use Rattle.b67_cores.specs.Cores.{Core, with_core}
+use Rattle.b67_cores.specs.Slots.{Known, SlotIs, SlotsAre}
+use Rattle.b67_cores.specs.Stretches.{FragmentsArePerformed}
+use Rattle.b67_fitting.specs.Nested.{AreNested}
+use Rattle.b67_pictures.specs.Arrays.{Layout, row_length, HoldElements, row_copy, element_copy, IsRow, IsElement, HeldIs}
+use Rattle.b67_pictures.specs.Acting.{Does, failed_by}
+use Rattle.b67_pictures.specs.Pictures.{Pictures}
+use Rattle.b67_pictures.proofs.ArrayHomes.{ArrayHome, array_home, array_fits}
+use Rattle.b67_pictures.proofs.AskedElements.{array_asked}
+use Rattle.b67_pictures.proofs.ElementRows.{array_read, RowFound, row_found}
+use Rattle.b67_pictures.proofs.Homes.{operator_there}
+use Rattle.b67_pictures.proofs.IndexRows.{with_one, index_gives, index_faults, index_raw, index_class, mother_gives, mother_faults, mother_raw, mother_class}
+use Rattle.b67_pictures.proofs.Described.{whole_array}
+use Rattle.b67_pictures.proofs.Indices.{Finds, in_place, has_room, LastIndex, last_index, FirstIndex, first_of_two}
+use Rattle.b67_pictures.proofs.InFrame.{does_in_frame}
+use Rattle.b67_pictures.proofs.Rows.{action_not_plain, fault_not_plain, action_is}
+use Rattle.b67_pictures.proofs.Scene.{Scene}
+use Rattle.b67_pictures.proofs.Stage.{choice_is, faults_so, faulted}
+use Rattle.b67_pictures.proofs.Staying.{text_in, level_in, context_in, most_in}
+use Rattle.b67_pictures.proofs.Subscripts.{index_below}
+use Rattle.b67_pictures.proofs.Unmade.{makes, unmade}
+
+-- one more is known
+more_known : (known : List Known) (one : Known) (sc : Scopes) (level home base : ℕ) (slots : List Slot) (words : List Word) → SlotsAre sc known level home base slots words → SlotsAre sc (one ∷ known) level home base slots words
+more_known known one sc level home base [] [] are = tt
+more_known known one sc level home base [] (w ∷ words) are = absurd are
+more_known known one sc level home base (slot ∷ slots) [] are = absurd are
+more_known known one sc level home base (slot ∷ slots) (w ∷ words) are = (of_slot slot are.0, more_known known one sc level home base slots words are.1)
+  where
+    of_slot : (slot : Slot) → SlotIs sc known level home base slots slot w → SlotIs sc (one ∷ known) level home base slots slot w
+    of_slot (operand x) is = is
+    of_slot (reference c) is = is
+    of_slot (intrinsic i) is = is
+    of_slot (control c) is = is
+    of_slot (descriptor h) is = inr is
+    of_slot mark is = is
+
+module _ (tree : PProgram) (code : Code) (texts : ℕ → List Placed) (nested : AreNested (scopes_of tree)) (fragments : FragmentsArePerformed) (keeps : RestsKeepToTheirText) (order : ArraysAreMadeInOrder)
+    (w : World) (lay : Layout) (img : Image) (p : ℕ) (q : Process) (part : Part) (outer : List Part) (bound : ℕ) (core : Core) (s : Scene tree code texts w lay img p q part outer bound core)
+    (able_is : q.state ≡ able) (able_p : numbered img.states p ≡ Some Able) (n : Named) (ks : List ℕ) (v : Value) (asks : ask part.rest ≡ indexes n ks v) where
+  abbrev sc : Scopes
+  sc = scopes_of tree
+
+  abbrev level : ℕ
+  level = level_in tree w part
+
+  abbrev text : List Placed
+  text = text_in tree texts w part
+
+  abbrev at_home : ℕ
+  at_home = ancestor w ((use_of sc n).up) part.instance
+
+  -- ---- whichever operator it is
+
+  module _ (declared : DeclaredArray) (couple : Couple) (h : ArrayHome tree code texts w lay img p q part outer bound core s n declared couple) (z : ℤ) (is : v ≡ number z) (op : Operator) (next : ℕ)
+      (there : operator_at code core.registers ≡ Ok (op, next)) where
+    -- what the meaning chooses
+    chosen : choice sc w p ≡ indexed_at sc w p q part outer (here sc w p q part outer n) ks (subscript_place ((use_of sc n).sort) h.cell ks z)
+    chosen =
+        choice_is sc w p q part outer s.at s.todo
+        ∙ ap (λ (k : Ask). choice_of sc w p q part outer k) asks
+        ∙ ap (λ (u : Value). indexed sc w p q part outer n ks (whole_of u) (followed w (here sc w p q part outer n))) is
+        ∙ ap (λ (c : Cell). indexed sc w p q part outer n ks z (by_cell c (here sc w p q part outer n))) h.of.is
+        ∙ ap (λ (c : Cell). indexed_at sc w p q part outer (here sc w p q part outer n) ks (subscript_place ((use_of sc n).sort) (array_in c) ks z)) h.of.is
+
+    -- a subscript outside the bounds
+    index_fails : subscript_place ((use_of sc n).sort) h.cell ks z ≡ None → raw code img p ≡ effects.faults InvalidIndex → Does tree code texts w img p
+    index_fails e raw_is =
+        failed_by InvalidIndex (fault_not_plain code img p core s.has op next there InvalidIndex table_is) table_is
+        (action_is code img p core s.has op next there (outcomes.faults InvalidIndex) table_is ∙ ap (λ (c : Choice). Some c.action) (sym fails_so))
+        (subst (λ (c : Choice). Pictures tree code texts c.world (failed img p InvalidIndex)) (sym fails_so) (lay, faulted tree code texts w lay img s.by p q s.at InvalidIndex))
+      where
+        table_is : table code img p ≡ outcomes.faults InvalidIndex
+        table_is = faults_so code img p InvalidIndex raw_is
+
+        fails_so : choice sc w p ≡ record { action = Fault; world = record w { fault = Some (record { kind = InvalidIndex; process = p }) }; released = []; started = None }
+        fails_so = chosen ∙ ap (λ (o : Option ℕ). indexed_at sc w p q part outer (here sc w p q part outer n) ks o) e
+
+    -- one within them: the word of a descriptor comes in place of the two
+    module _ (mother : Bool) (moved_subscript : ℤ) (d : Descriptor) (below : List Slot) (f : Finds tree code texts w lay img p q part outer bound core s mother moved_subscript d below)
+        (k : ℕ) (e : subscript_place ((use_of sc n).sort) h.cell ks z ≡ Some k) (held : Held) (word : Word) (held_is : HeldIs sc w lay part.instance level held word)
+        (comes : ComesTo sc (context_in tree code w part) text level (most_in tree w part) (resume sc part.rest (place (element_of (here sc w p q part outer n) (ks ++ k ∷ [])))) next (descriptor held ∷ below))
+        (class_is : class_at op core.registers.place ≡ classes.Action) (raw_is : raw code img p ≡ effects.gives (with_core img p (with_one core word f.words next)))
+        (acts : (after : Image) → action_by (outcomes.gives after) img core.registers op ≡ Some Index) where
+      abbrev new : Core
+      new = with_one core word f.words next
+
+      abbrev one : Known
+      one = record { held = held; word = word }
+
+      index_does : Does tree code texts w img p
+      index_does =
+          does_in_frame tree code texts fragments keeps order w lay img p q part outer bound core s able_is able_p (unmade part.rest (ap makes asks))
+          (place (element_of (here sc w p q part outer n) (ks ++ k ∷ []))) tt w.output new refl (record { is = refl }) (one ∷ s.stands.held) (held_is, s.stands.held_are) next (descriptor held ∷ below)
+          (in_place tree code texts w lay img p q part outer bound core s mother moved_subscript d below f (one ∷ s.stands.held) (descriptor held) word next
+          (inl (refl, refl), more_known s.stands.held one sc level (frame core.registers) (length core.below) below f.words f.left_are) refl)
+          (has_room tree code texts w lay img p q part outer bound core s mother moved_subscript d below f (descriptor held)) comes Index
+          (action_not_plain code img p core s.has op next there class_is)
+          (raw_is ∙ ap (λ (o : List (List ℕ)). effects.gives (record (with_core img p new) { output = o })) s.by.output)
+          (chosen ∙ ap (λ (o : Option ℕ). indexed_at sc w p q part outer (here sc w p q part outer n) ks o) e)
+          (λ t. action_is code img p core s.has op next there (outcomes.gives (record (with_core img p new) { output = w.output })) t ∙ acts (record (with_core img p new) { output = w.output }))
+
+  -- ---- by what stands there
+
+  abbrev Goes_on : ActionAt sc (context_in tree code w part) text level (most_in tree w part) (indexes n ks v) s.stands.pc s.stands.slots → Type 0
+  Goes_on a =
+      (r : Answer) (at : ℕ) (after : List Slot) → Acted sc (context_in tree code w part) text level (most_in tree w part) (indexes n ks v) s.stands.pc s.stands.slots a r at after →
+      ComesTo sc (context_in tree code w part) text level (most_in tree w part) (resume sc part.rest r) at after
+
+  -- NXLN, which leads to a row
+  module _ (low second : ℤ) (next : ℕ) (below : List Slot) (found : RowIndexAt sc (context_in tree code w part) text level (most_in tree w part) n ks v low second s.stands.pc next s.stands.slots below)
+      (answered : Goes_on (of_row low second next below found)) where
+    row_there : operator_at code core.registers ≡ Ok (ops.Plain kinds.Nxln, next)
+    row_there = operator_there sc s.stands.held code text level s.stands.pc s.stands.slots core (ops.Plain kinds.Nxln) next s.stands.there found.stands
+
+    abbrev IsRowHome : Type 0
+    IsRowHome = ArrayHome tree code texts w lay img p q part outer bound core s n found.array found.couple
+
+    module _ (h : IsRowHome) (fits : (found.couple.level < 32) × (found.couple.index < 2 ^ 14))
+        (l : FirstIndex tree code texts w lay img p q part outer bound core s n found.array found.couple h found.is_array fits found.subscript below) where
+      place_first : subscript_place ((use_of sc n).sort) h.cell ks found.subscript ≡ index_in l.moved_subscript (size_of l.first)
+      place_first = ap (λ (js : List ℕ). subscript_place ((use_of sc n).sort) h.cell js found.subscript) found.first ∙ sym l.place_is
+
+      row_holds : HoldElements img.rows found.array.kind h.cell h.allotted
+      row_holds = s.by.arrays.held at_home h.number found.array h.cell h.allotted h.has
+
+      abbrev mother_row : Row
+      mother_row = record { words = map (λ (m : ℕ). array_word false (row_length h.cell.bounds) m) h.allotted.parts; counted = false }
+
+      mother_open : row_at img.rows l.mother ≡ Some mother_row
+      mother_open = row_holds.mother l.mother l.mother_is
+
+      abbrev mother_array : Descriptor
+      mother_array = whole_array false true (size_of l.first) l.mother
+
+      of_row_at : (o : Option ℕ) → index_in l.moved_subscript (size_of l.first) ≡ o → Does tree code texts w img p
+      of_row_at None e =
+          index_fails found.array found.couple h found.subscript found.is (ops.Plain kinds.Nxln) next row_there (place_first ∙ e)
+          (mother_raw code img p core s.has next row_there
+          ∙ mother_faults img p core s.has l.finds.first l.finds.second l.finds.words l.finds.top l.moved_subscript mother_array l.finds.is_whole l.finds.array_is mother_row mother_open next e)
+      of_row_at (Some k) e =
+          let under : k < size_of l.first = index_below l.moved_subscript (size_of l.first) k e in
+          let f : RowFound sc w lay img.rows found.array.kind h.cell h.allotted row_holds l.second l.mother k =
+          row_found sc w lay img.rows found.array.kind h.cell h.allotted row_holds l.first l.second l.mother k l.bounds l.mother_is l.many under in
+          let held_is : IsRow sc w lay part.instance level n (ks ++ k ∷ []) (row_copy sc w lay (size_of l.second) f.number) =
+          record {
+            near = h.near;
+            declared = found.array;
+            cell = h.cell;
+            allotted = h.allotted;
+            array = h.of;
+            first = l.first;
+            second = l.second;
+            bounds = l.bounds;
+            index = k;
+            subscripts = ap (λ (js : List ℕ). js ++ k ∷ []) found.first;
+            within = under;
+            number = f.number;
+            part = f.part;
+            few = f.low;
+            word_is = refl;
+          } in
+          index_does found.array found.couple h found.subscript found.is (ops.Plain kinds.Nxln) next row_there true l.moved_subscript mother_array below l.finds k (place_first ∙ e) (row n (ks ++ k ∷ []))
+          (row_copy sc w lay (size_of l.second) f.number) held_is
+          (answered (place (element_of (here sc w p q part outer n) (ks ++ k ∷ []))) next (descriptor (row n (ks ++ k ∷ [])) ∷ below) (refl, refl, (k, refl)))
+          (mother_class core.registers.place)
+          (mother_raw code img p core s.has next row_there
+          ∙ mother_gives img p core s.has l.finds.first l.finds.second l.finds.words l.finds.top l.moved_subscript mother_array l.finds.is_whole l.finds.array_is mother_row mother_open next k
+          (array_word false (size_of l.second) f.number) (whole_array false false (size_of l.second) f.number) e f.lies (array_read false (size_of l.second) f.number l.few f.low))
+          (λ after. refl)
+
+      row_by_index : Does tree code texts w img p
+      row_by_index = of_row_at (index_in l.moved_subscript (size_of l.first)) refl
+
+    row_indexing : Does tree code texts w img p
+    row_indexing =
+        let h : IsRowHome = array_home tree code texts w lay img p q part outer bound core s n found.array found.couple (ap array_asked asks) found.is_array in
+        let fits : (found.couple.level < 32) × (found.couple.index < 2 ^ 14) = array_fits tree code texts w lay img p q part outer bound core s n found.array found.couple (ap array_asked asks) found.is_array nested h in
+        row_by_index h fits (first_of_two tree code texts w lay img p q part outer bound core s n found.array found.couple h found.is_array fits found.subscript low second below found.lows_are found.lies)
+
+  -- INDX, which leads to an element
+  module _ (kind : Kind) (next : ℕ) (below : List Slot) (found : ElementIndexAt sc (context_in tree code w part) text level (most_in tree w part) n ks v kind s.stands.pc next s.stands.slots below)
+      (answered : Goes_on (of_element kind next below found)) where
+    element_there : operator_at code core.registers ≡ Ok (ops.Plain kinds.Indx, next)
+    element_there = operator_there sc s.stands.held code text level s.stands.pc s.stands.slots core (ops.Plain kinds.Indx) next s.stands.there found.stands
+
+    abbrev IsElementHome : Type 0
+    IsElementHome = ArrayHome tree code texts w lay img p q part outer bound core s n found.array found.couple
+
+    module _ (h : IsElementHome) (fits : (found.couple.level < 32) × (found.couple.index < 2 ^ 14))
+        (l : LastIndex tree code texts w lay img p q part outer bound core s n found.array found.couple h found.is_array fits ks found.subscript below) where
+      abbrev last_array : Descriptor
+      last_array = whole_array l.copied false l.size l.number
+
+      of_element_at : (o : Option ℕ) → index_in l.moved_subscript l.size ≡ o → Does tree code texts w img p
+      of_element_at None e =
+          index_fails found.array found.couple h found.subscript found.is (ops.Plain kinds.Indx) next element_there (sym l.place_is ∙ e)
+          (index_raw code img p core s.has next element_there
+          ∙ index_faults img p core s.has l.finds.first l.finds.second l.finds.words l.finds.top l.moved_subscript last_array l.finds.is_whole l.finds.array_is next e)
+      of_element_at (Some k) e =
+          let held_is : IsElement sc w lay part.instance level (here sc w p q part outer n) (ks ++ k ∷ []) kind (element_copy sc w lay k l.number) =
+          record {
+            up = (use_of sc n).up;
+            near = h.near;
+            home = refl;
+            declared = found.array;
+            kind_is = found.kind_is;
+            cell = h.cell;
+            allotted = h.allotted;
+            array = h.of;
+            index = l.index;
+            at = k;
+            within = l.within k (index_below l.moved_subscript l.size k e);
+            number = l.number;
+            part = l.row_there;
+            few = l.low;
+            word_is = refl;
+          } in
+          index_does found.array found.couple h found.subscript found.is (ops.Plain kinds.Indx) next element_there false l.moved_subscript last_array below l.finds k (sym l.place_is ∙ e)
+          (element (here sc w p q part outer n) (ks ++ k ∷ []) kind) (element_copy sc w lay k l.number) held_is
+          (answered (place (element_of (here sc w p q part outer n) (ks ++ k ∷ []))) next (descriptor (element (here sc w p q part outer n) (ks ++ k ∷ []) kind) ∷ below) (refl, refl, (k, refl)))
+          (index_class core.registers.place)
+          (index_raw code img p core s.has next element_there
+          ∙ index_gives img p core s.has l.finds.first l.finds.second l.finds.words l.finds.top l.moved_subscript last_array l.finds.is_whole l.finds.array_is next k e)
+          (λ after. refl)
+
+      element_by_index : Does tree code texts w img p
+      element_by_index = of_element_at (index_in l.moved_subscript l.size) refl
+
+    element_indexing : Does tree code texts w img p
+    element_indexing =
+        let h : IsElementHome = array_home tree code texts w lay img p q part outer bound core s n found.array found.couple (ap array_asked asks) found.is_array in
+        let fits : (found.couple.level < 32) × (found.couple.index < 2 ^ 14) = array_fits tree code texts w lay img p q part outer bound core s n found.array found.couple (ap array_asked asks) found.is_array nested h in
+        element_by_index h fits (last_index tree code texts w lay img p q part outer bound core s n found.array found.couple h found.is_array fits ks found.subscript below found.lies)
+
+  pub indexing : (a : ActionAt sc (context_in tree code w part) text level (most_in tree w part) (indexes n ks v) s.stands.pc s.stands.slots) → Goes_on a → Does tree code texts w img p
+  indexing (of_row low second next below found) answered = row_indexing low second next below found answered
+  indexing (of_element kind next below found) answered = element_indexing kind next below found answered

@@ -1,0 +1,335 @@
+-- The frame of a part in which arrays are made: behind its cells lie their descriptors.
+use Rattle.std.proofs.Common.{◌≡◌, ◌≢◌, refl, sym, ap, ◌∙◌, subst, ℕ, suc, ◌+◌, ◌*◌, ◌<◌, ◌≤◌, List, [], ◌∷◌, ◌++◌, length, Option, Some, Bool, false, arith, append_assoc, length-append}
+use Rattle.std.specs.Prelude.{if◌then◌else◌}
+use Rattle.b67_list.specs.Numbered.{numbered}
+use Rattle.algol_tree.specs.declared.tree.Kind.{Kind}
+use Rattle.algol_tree.specs.declared.tree.Named.{Named}
+use Rattle.algol_tree.specs.Blocks.{Block, block_numbered, number_at, around}
+use Rattle.algol_tree.specs.Cells.{level_of}
+use Rattle.algol_tree.specs.Plain.{PProgram, PPair}
+use Rattle.algol_tree.specs.Scopes.{Scopes, scopes_of}
+use Rattle.algol_meaning.specs.Rest.{done}
+use Rattle.algol_meaning.specs.Value.{Value, Bounds}
+use Rattle.algol_meaning.specs.Arrays.{new_arrays, has_wrong_size, has_no_room, bounds_of}
+use Rattle.algol_meaning.specs.World.{NamedCell, Instance, Process, Part, World, instance_at, or_no_instance, with_process}
+use Rattle.algol_meaning.specs.Asks.{makes_arrays, ask, resume}
+use Rattle.algol_paths.specs.Arrays.{DeclaredArray, arrays_of, arrays_in, left_to_make}
+use Rattle.algol_paths.specs.Laws.{KeepsToText, RestsKeepToTheirText, ArraysAreMadeInOrder}
+use Rattle.algol_paths.specs.Segments.{segment_of}
+use Rattle.b67_word.specs.declared.Place.{Place}
+use Rattle.b67_word.specs.Word.{Word}
+use Rattle.b67_control.specs.Control.{pcw_word}
+use Rattle.b67_segment.specs.Operators.{Placed}
+use Rattle.b67_segment.specs.declared.code.Code.{Code}
+use Rattle.b67_table.specs.Chains.{place}
+use Rattle.b67_table.specs.Image.{Image}
+use Rattle.b67_table.specs.Limits.{most_cells, most_arrays}
+use Rattle.b67_templates.specs.Cells.{simple_cells, procedures, control_segments}
+use Rattle.b67_templates.specs.Code.{AreDimensions}
+use Rattle.b67_templates.specs.Fragments.{code_at}
+use Rattle.b67_cores.specs.Cores.{Core}
+use Rattle.b67_cores.specs.Stretches.{control_words}
+use Rattle.b67_faithful.specs.Weight.{tokens_around, part_weight, weight}
+use Rattle.b67_faithful.proofs.Contradictions.{some_same}
+use Rattle.b67_fitting.specs.Nested.{AreNested, IsText}
+use Rattle.b67_pictures.specs.Arrays.{Allotted, Layout, AreMade, ArraysAre}
+use Rattle.b67_pictures.specs.Frames.{IsPlaced, outermost, inside, IsChained, Framed, Frame, Around}
+use Rattle.b67_pictures.proofs.ArraySizes.{bounds_lows}
+use Rattle.b67_pictures.proofs.ArraysKept.{rows_but, rows_there, rows_other}
+use Rattle.b67_pictures.proofs.ArraysMade.{Makes, allotted_new, descriptors_new, rows_after, all_made, arrays_after}
+use Rattle.b67_pictures.proofs.Completing.{made_many}
+use Rattle.b67_pictures.proofs.FreshCells.{words_long}
+use Rattle.b67_pictures.proofs.Kept.{AreAlike}
+use Rattle.b67_pictures.proofs.Lying.{Lies, lies_low, lies_around, StayBelow, same_instance, home_after, weight_stays, around_stays}
+use Rattle.b67_pictures.proofs.MakingAsked.{makes_first}
+use Rattle.b67_pictures.proofs.Numbers.{numbered_set}
+use Rattle.b67_pictures.proofs.Scene.{Scene}
+use Rattle.b67_pictures.proofs.Segmented.{length_mapped}
+use Rattle.b67_pictures.proofs.Stage.{weight_of}
+use Rattle.b67_pictures.proofs.Staying.{level_in, wanted_in}
+use Rattle.b67_pictures.proofs.StoringFrames.{same_ancestors, changed, stored_world, changed_at, others_at, same_of}
+use Rattle.b67_pictures.proofs.Zeros.{cells_length}
+
+-- there are as many arrays as names
+pub new_many : (kind : Kind) (bs : List Bounds) (ns : List Named) → length (new_arrays kind bs ns) ≡ length ns
+new_many kind bs [] = refl
+new_many kind bs (n ∷ ns) = ap suc (new_many kind bs ns)
+
+module _ (tree : PProgram) (code : Code) (texts : ℕ → List Placed) (nested : AreNested (scopes_of tree)) (keeps : RestsKeepToTheirText) (order : ArraysAreMadeInOrder) (w : World) (lay : Layout) (img : Image)
+    (p : ℕ) (q : Process) (part : Part) (outer : List Part) (bound : ℕ) (core : Core) (s : Scene tree code texts w lay img p q part outer bound core)
+    (kind : Kind) (ns : List Named) (pairs : List PPair) (vs : List Value) (asks : ask part.rest ≡ makes_arrays kind ns pairs vs) where
+  abbrev sc : Scopes
+  sc = scopes_of tree
+
+  abbrev i : ℕ
+  i = part.instance
+
+  abbrev bs : List Bounds
+  bs = bounds_of pairs vs
+
+  abbrev f : Frame tree code texts w lay p part outer core.below
+  f = s.stands.frame
+
+  abbrev framed : Framed sc w lay p part.instance outer (length f.lower) f.mark f.control f.cells
+  framed = f.framed
+
+  abbrev x : Instance
+  x = framed.instance
+
+  abbrev b : Block
+  b = block_numbered sc.blocks x.block
+
+  -- ---- how many there are
+
+  pub ordered : arrays_of b.decls ≡ framed.declared ++ (arrays_in kind ns pairs ++ left_to_make part.rest)
+  ordered = framed.order ∙ ap (λ (ds : List DeclaredArray). framed.declared ++ ds) (f.making ∙ makes_first part.rest kind ns pairs vs asks)
+
+  text : IsText sc x.block
+  text = nested.each x.block framed.known
+
+  declared_many : length (arrays_of b.decls) ≡ length framed.declared + (length ns + length (left_to_make part.rest))
+  declared_many =
+      omega (
+        arith,
+        ap length ordered,
+        length-append framed.declared (arrays_in kind ns pairs ++ left_to_make part.rest),
+        length-append (arrays_in kind ns pairs) (left_to_make part.rest),
+        length_mapped (λ (n : Named). declared_as n) ns,
+      )
+    where
+      declared_as : Named → DeclaredArray
+      declared_as n = record { name = n.name; kind = kind; pairs = pairs }
+
+  -- no more than are made at once
+  pub few_arrays : length ns ≤ most_arrays
+  few_arrays = omega (arith, declared_many, text.few)
+
+  cells_many : length f.cells ≡ length (simple_cells sc b) + (length (procedures b.decls) + length framed.declared)
+  cells_many =
+      omega (
+        arith,
+        ap length framed.cells_is,
+        length-append framed.values (control_words (level_of b) (control_segments sc b.decls) ++ framed.descriptors),
+        length-append (control_words (level_of b) (control_segments sc b.decls)) framed.descriptors,
+        words_long (simple_cells sc b) framed.simple framed.values framed.simple_are,
+        length_mapped (λ (k : ℕ). pcw_word (code_at k 0 (level_of b + 1))) (control_segments sc b.decls),
+        length_mapped (λ (n : Named). segment_of sc.blocks (number_at sc.blocks n.spot)) (procedures b.decls),
+        (made_many framed.declared framed.arrays (lay.rows i) framed.descriptors framed.made).words_many,
+      )
+
+  -- nor more than a frame has cells
+  pub few_cells : length f.cells + length ns ≤ most_cells
+  few_cells = omega (arith, cells_many, declared_many, text.few)
+
+  -- ---- the world after
+
+  abbrev pub cells' : List NamedCell
+  cells' = x.cells ++ new_arrays kind bs ns
+
+  abbrev pub grown : World
+  grown = stored_world w i x framed.is cells'
+
+  abbrev pub part' : Part
+  part' = record part { rest = resume sc part.rest done }
+
+  abbrev pub q' : Process
+  q' = record q { todo = part' ∷ outer }
+
+  abbrev pub w' : World
+  w' = with_process grown p q'
+
+  abbrev pub allotted : List Allotted
+  allotted = allotted_new ns bs img.rows
+
+  abbrev pub descriptors : List Word
+  descriptors = descriptors_new ns bs img.rows
+
+  abbrev pub lay' : Layout
+  lay' = record lay { rows = rows_but lay.rows i (lay.rows i ++ allotted) }
+
+  pub block_is : (instance_at w part.instance).block ≡ (instance_at w' part.instance).block
+  block_is = same_of w i x framed.is cells' (λ (z : Instance). z.block) refl part.instance
+
+  rows_here : lay'.rows i ≡ lay.rows i ++ allotted
+  rows_here = rows_there lay.rows i (lay.rows i ++ allotted) i refl
+
+  pub rows_elsewhere : (j : ℕ) → j ≢ i → lay'.rows j ≡ lay.rows j
+  rows_elsewhere j other = rows_other lay.rows i (lay.rows i ++ allotted) j other
+
+  -- the frames below are of other instances
+  pub lower_apart : (j there : ℕ) → numbered lay.places j ≡ Some (place p there) → there < length f.lower → j ≢ i
+  lower_apart j there lies low same =
+      let height : there ≡ length f.lower = ap (λ (l : Place). l.at) (some_same (sym lies ∙ ap (λ (n : ℕ). numbered lay.places n) same ∙ framed.laid)) in
+      omega (arith, height, low)
+
+  abbrev stays : StayBelow w w' lay lay' p (length f.lower)
+  stays =
+      record {
+        instances = λ j there y e mine lies low. others_at w i x framed.is cells' j (lower_apart j there lies low) ∙ e;
+        places = λ j g e. e;
+        rows = λ j there y e mine lies low. rows_elsewhere j (lower_apart j there lies low);
+      }
+
+  -- those of other processes are as they were
+  pub alike : (r : ℕ) → r ≢ p → AreAlike w w' lay lay' r
+  alike r other =
+      record {
+        own = λ j y e mine. others_at w i x framed.is cells' j (apart j y e mine) ∙ e;
+        places = λ j g e. e;
+        rows = λ j y e mine. rows_elsewhere j (apart j y e mine);
+      }
+    where
+      apart : (j : ℕ) (y : Instance) → numbered w.instances j ≡ Some y → y.process ≡ r → j ≢ i
+      apart j y e mine same =
+          let here : y ≡ x = some_same (sym e ∙ ap (λ (n : ℕ). numbered w.instances n) same ∙ framed.is) in
+          other (sym mine ∙ ap (λ (z : Instance). z.process) here ∙ framed.own)
+
+  pub chained : IsChained sc w' lay' i (level_in tree w part) core.registers.display
+  chained up low =
+      s.stands.chained up low
+      ∙ ap (λ (j : ℕ). numbered lay.places j) (same_ancestors w w' (λ j. same_of w i x framed.is cells' (λ (z : Instance). z.parent) refl j) up i)
+
+  -- ---- the frame, with the descriptors behind its cells
+
+  module _ (dimensions : AreDimensions pairs) (each : length vs ≡ length pairs) (right : has_wrong_size bs ≡ false) (room : has_no_room w bs ns ≡ false) where
+    abbrev making : Makes sc w lay i kind ns pairs bs
+    making =
+        record {
+          instance = x;
+          is = framed.is;
+          stands = framed.stands;
+          simple = framed.simple;
+          arrays = framed.arrays;
+          has = framed.has;
+          many = cells_length (simple_cells sc b) framed.simple framed.values framed.simple_are;
+          declared = framed.declared;
+          later = left_to_make part.rest;
+          order = ordered;
+          descriptors = framed.descriptors;
+          made = framed.made;
+          dimensions = dimensions;
+          lows = bounds_lows pairs vs each;
+          right = right;
+          room = room;
+        }
+
+    pub arrays_now : ArraysAre sc w' lay' (rows_after ns bs img.rows)
+    arrays_now =
+        arrays_after sc w lay img.rows s.by.arrays i kind ns pairs bs making w' lay' refl rows_here (λ j other. rows_elsewhere j (λ same. other (sym same)))
+
+    pub made_now : AreMade (framed.declared ++ arrays_in kind ns pairs) (framed.arrays ++ new_arrays kind bs ns) (lay'.rows i) (framed.descriptors ++ descriptors)
+    made_now =
+        subst (λ (rows : List Allotted). AreMade (framed.declared ++ arrays_in kind ns pairs) (framed.arrays ++ new_arrays kind bs ns) rows (framed.descriptors ++ descriptors)) (sym rows_here)
+        (all_made sc w lay img.rows s.by.arrays i kind ns pairs bs making)
+
+    pub descriptors_many : length descriptors ≡ length ns
+    descriptors_many =
+        let before = made_many framed.declared framed.arrays (lay.rows i) framed.descriptors framed.made in
+        let after = made_many (framed.declared ++ arrays_in kind ns pairs) (framed.arrays ++ new_arrays kind bs ns) (lay'.rows i) (framed.descriptors ++ descriptors) made_now in
+        omega (
+          arith,
+          before.words_many,
+          before.cells_many,
+          after.words_many,
+          after.cells_many,
+          length-append framed.descriptors descriptors,
+          length-append framed.arrays (new_arrays kind bs ns),
+          new_many kind bs ns,
+        )
+
+    abbrev later : Instance
+    later = changed w i x framed.is cells'
+
+    -- the parent's frame lies below
+    pub placed_now : IsPlaced sc w' lay' outer later
+    placed_now = again framed.placed
+      where
+        again : IsPlaced sc w lay outer x → IsPlaced sc w' lay' outer later
+        again (outermost none_up alone) = outermost none_up alone
+        again (inside own next complete) =
+            let l : Lies tree code texts w lay p outer x.parent f.lower = lies_around tree code texts w lay p outer f.lower f.mark f.control (wanted_in tree w part) s.around x.parent own in
+            let lowest : length l.frame.lower < length f.lower = omega (arith, lies_low tree code texts w lay p outer x.parent f.lower l) in
+            let same : instance_at w x.parent ≡ instance_at w' x.parent =
+            ap (λ (k : ℕ). instance_at w k) (sym l.instance_is)
+            ∙ same_instance tree code texts w w' lay lay' p (length f.lower) stays l.part l.outer l.front l.frame lowest
+            ∙ ap (λ (k : ℕ). instance_at w' k) l.instance_is in
+            inside own (subst (λ (y : Instance). around sc.blocks x.block ≡ y.block ∷ around sc.blocks y.block) same next)
+            (subst (λ (y : Instance). length y.cells ≡ length (simple_cells sc (block_numbered sc.blocks y.block)) + length (arrays_of (block_numbered sc.blocks y.block).decls)) same complete)
+
+    abbrev framed' : Framed sc w' lay' p i outer (length f.lower) f.mark f.control (f.cells ++ descriptors)
+    framed' =
+        record {
+          instance = later;
+          is = changed_at w i x framed.is cells';
+          own = framed.own;
+          known = framed.known;
+          stands = framed.stands;
+          laid = framed.laid;
+          simple = framed.simple;
+          values = framed.values;
+          simple_are = framed.simple_are;
+          arrays = framed.arrays ++ new_arrays kind bs ns;
+          declared = framed.declared ++ arrays_in kind ns pairs;
+          later = left_to_make part.rest;
+          order = ordered ∙ sym (append_assoc framed.declared (arrays_in kind ns pairs) (left_to_make part.rest));
+          descriptors = framed.descriptors ++ descriptors;
+          made = made_now;
+          has = ap (λ (cs : List NamedCell). cs ++ new_arrays kind bs ns) framed.has ∙ append_assoc framed.simple framed.arrays (new_arrays kind bs ns);
+          cells_is =
+              ap (λ (ws : List Word). ws ++ descriptors) framed.cells_is
+              ∙ append_assoc framed.values (control_words (level_of b) (control_segments sc b.decls) ++ framed.descriptors) descriptors
+              ∙ ap (λ (ws : List Word). framed.values ++ ws) (append_assoc (control_words (level_of b) (control_segments sc b.decls)) framed.descriptors descriptors);
+          placed = placed_now;
+          home = framed.home;
+          linked = home_after tree code texts w w' lay lay' p (length f.lower) stays x.parent framed.home framed.linked;
+          df = framed.df;
+          mark_is = framed.mark_is;
+          back = framed.back;
+          control_is = framed.control_is;
+          level_is = framed.level_is;
+        }
+
+    abbrev pub frame' : (words : List Word) → words ≡ core.below ++ descriptors → Frame tree code texts w' lay' p part' outer words
+    frame' words are =
+        record {
+          owns = f.owns;
+          lower = f.lower;
+          mark = f.mark;
+          control = f.control;
+          cells = f.cells ++ descriptors;
+          words_are = are ∙ ap (λ (ws : List Word). ws ++ descriptors) f.words_are ∙ append_assoc f.lower (f.mark ∷ f.control ∷ f.cells) descriptors;
+          framed = framed';
+          text = subst (λ (j : ℕ). KeepsToText sc j part'.rest) block_is (keeps.resumed sc ((instance_at w i).block) part.rest done f.text tt);
+          making = sym (order.resumed sc ((instance_at w i).block) part.rest done f.text);
+        }
+
+    -- the parts around stand as they did
+    pub around' : Around tree code texts w' lay' p outer f.lower f.mark f.control (wanted_in tree w' part')
+    around' =
+        subst (λ (j : ℕ). Around tree code texts w' lay' p outer f.lower f.mark f.control ((block_numbered sc.blocks j).result)) block_is
+        (around_stays tree code texts w w' lay lay' p (length f.lower) stays outer f.lower f.mark f.control (wanted_in tree w part) (omega arith) s.around)
+
+    -- ---- weights
+
+    part_heavier : part_weight tree w' part' ≡ part_weight tree w part + length ns
+    part_heavier =
+        ap (λ (t : Bool). 8 + (if t then 0 else length ((instance_at w' i).cells)) + 4 * tokens_around tree ((instance_at w' i).block)) f.owns
+        ∙ ap (λ (j : ℕ). 8 + length ((instance_at w' i).cells) + 4 * tokens_around tree j) (sym block_is)
+        ∙ omega (
+          arith,
+          ap (λ (o : Option Instance). length ((or_no_instance o).cells)) (changed_at w i x framed.is cells'),
+          length-append x.cells (new_arrays kind bs ns),
+          new_many kind bs ns,
+          ap (λ (o : Option Instance). length ((or_no_instance o).cells)) framed.is,
+          ap (λ (t : Bool). 8 + (if t then 0 else length ((instance_at w i).cells)) + 4 * tokens_around tree ((instance_at w i).block)) f.owns,
+        )
+
+    pub heavier : weight tree w' p ≡ weight tree w p + length ns
+    heavier =
+        weight_of tree w' p q' (part' ∷ outer) (numbered_set w.processes p q q' s.at) refl
+        ∙ omega (
+          arith,
+          part_heavier,
+          weight_stays tree code texts w w' lay lay' p (length f.lower) stays outer f.lower f.mark f.control (wanted_in tree w part) (omega arith) s.around,
+          weight_of tree w p q (part ∷ outer) s.at s.todo,
+        )

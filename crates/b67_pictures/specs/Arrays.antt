@@ -1,0 +1,212 @@
+-- How the rows of an image hold the arrays of a world.
+use Rattle.std.specs.Prelude.{◌≡◌, ℕ, ◌+◌, ◌*◌, ◌<◌, ◌≤◌, true, false, List, [], ◌∷◌, length, map, Option, Some, None, slice_get}
+use Rattle.b67_list.specs.Numbered.{numbered}
+use Rattle.algol_tree.specs.declared.tree.Kind.{Kind}
+use Rattle.algol_tree.specs.declared.tree.Named.{Named}
+use Rattle.algol_tree.specs.Blocks.{block_numbered}
+use Rattle.algol_tree.specs.Scopes.{Scopes, use_of}
+use Rattle.algol_meaning.specs.declared.TheConstants.{MOST_ELEMENTS}
+use Rattle.algol_meaning.specs.Value.{Value, Reference, Bounds, ArrayCell, Cell, array}
+use Rattle.algol_meaning.specs.Arrays.{size_of, elements_of, size_of_cells, size_unless, live_elements}
+use Rattle.algol_meaning.specs.World.{NamedCell, Instance, World, instance_at, ancestor, cell_in}
+use Rattle.algol_paths.specs.Arrays.{DeclaredArray, arrays_of, lows_of}
+use Rattle.b67_word.specs.declared.Place.{Place}
+use Rattle.b67_word.specs.Word.{Word}
+use Rattle.b67_control.specs.Control.{descriptor_word}
+use Rattle.b67_ops.specs.declared.TheConstants.{OUTER_LEVEL}
+use Rattle.b67_store.specs.Store.{Rows, row_at, row_limit, counted_words}
+use Rattle.b67_table.specs.Arrays.{array_word}
+use Rattle.b67_templates.specs.Fragments.{HasKind}
+use Rattle.b67_templates.specs.Cells.{simple_cells, array_from}
+use Rattle.b67_standing.specs.Stepping.{Held, row, element}
+use Rattle.b67_cores.specs.Slots.{Known, ValueIs}
+
+-- ---- layouts
+
+-- the rows of an array: of two dimensions there is one for its descriptors, and one for each of these; of one dimension there is one
+pub record Allotted : Type 0 where
+  pub mother : Option ℕ
+  pub parts : List ℕ
+
+-- where an image has the frames of instances, by their numbers from 1, and the rows of the arrays that each has made
+pub record Layout : Type 0 where
+  pub places : List Place
+  pub rows : ℕ → List Allotted
+
+-- the numbers of all rows of an array
+abbrev pub numbers_after : Option ℕ → List ℕ → List ℕ
+numbers_after None parts = parts
+numbers_after (Some m) parts = m ∷ parts
+
+abbrev pub numbers_of : Allotted → List ℕ
+numbers_of a = numbers_after a.mother a.parts
+
+-- ---- an array and its descriptor
+
+-- how many elements each of the rows has that hold elements
+abbrev pub row_length : List Bounds → ℕ
+row_length (b ∷ []) = size_of b
+row_length (b ∷ c ∷ []) = size_of c
+row_length _ = 0
+
+-- Its descriptor names the row, or the row of its rows' descriptors. Each number is one that a descriptor can hold.
+abbrev pub DescriptorIs : List Bounds → Allotted → Word → Type 0
+DescriptorIs (b ∷ []) a w = (n : ℕ) × (n < row_limit) × (a ≡ record { mother = None; parts = n ∷ [] }) × (w ≡ array_word false (size_of b) n)
+DescriptorIs (b ∷ c ∷ []) a w =
+    (m : ℕ) × (m < row_limit) × (a.mother ≡ Some m) × (length a.parts ≡ size_of b) × (w ≡ array_word true (size_of b) m)
+DescriptorIs _ a w = ⊥
+
+-- each dimension has an element, and all together no more than there may be
+abbrev pub AreSized : List Bounds → Type 0
+AreSized bs = EachSized bs × (elements_of bs ≤ MOST_ELEMENTS)
+  where
+    EachSized : List Bounds → Type 0
+    EachSized [] = Unit {0}
+    EachSized (b ∷ bs) = (1 ≤ size_of b) × EachSized bs
+
+-- the cell of an array that is declared so
+pub record IsMade (declared : DeclaredArray) (c : NamedCell) (a : Allotted) (w : Word) : Type 0 where
+  pub named : c.name ≡ declared.name
+  pub cell : ArrayCell
+  pub is : c.cell ≡ array cell
+  pub lows : map (λ (b : Bounds). b.low) cell.bounds ≡ lows_of declared.pairs
+  pub sized : AreSized cell.bounds
+  pub whole : length cell.elements ≡ elements_of cell.bounds
+  pub descriptor : DescriptorIs cell.bounds a w
+
+-- the arrays that an instance has made, in the order of their declarations
+abbrev pub AreMade : List DeclaredArray → List NamedCell → List Allotted → List Word → Type 0
+AreMade [] [] [] [] = Unit {0}
+AreMade (d ∷ ds) (c ∷ cells) (a ∷ as') (w ∷ words) = IsMade d c a w × AreMade ds cells as' words
+AreMade _ _ _ _ = ⊥
+
+-- ---- elements
+
+-- The rows of an array hold its elements, row by row, and count as live elements; the row of their descriptors does not count.
+pub record HoldElements (rows : Rows) (kind : Kind) (cell : ArrayCell) (a : Allotted) : Type 0 where
+  pub opened : (j n : ℕ) → slice_get a.parts j ≡ Some n →
+      (n < row_limit) × ((words : List Word) × (row_at rows n ≡ Some (record { words = words; counted = true })) × (length words ≡ row_length cell.bounds))
+  pub elements : (j k n : ℕ) (words : List Word) → slice_get a.parts j ≡ Some n → k < row_length cell.bounds →
+      row_at rows n ≡ Some (record { words = words; counted = true }) →
+      (v : Value) × (w : Word) × (slice_get cell.elements (j * row_length cell.bounds + k) ≡ Some v) × (slice_get words k ≡ Some w) × HasKind kind v × ValueIs v w
+  pub mother : (m : ℕ) → a.mother ≡ Some m →
+      row_at rows m ≡ Some (record { words = map (λ (n : ℕ). array_word false (row_length cell.bounds) n) a.parts; counted = false })
+
+-- how many rows are open
+abbrev pub open_rows : Rows → ℕ
+open_rows [] = 0
+open_rows (None ∷ rows) = open_rows rows
+open_rows (Some r ∷ rows) = 1 + open_rows rows
+
+-- how many the arrays of the instances that stand have
+abbrev pub rows_of_bounds : List Bounds → ℕ
+rows_of_bounds (b ∷ c ∷ []) = 1 + size_of b
+rows_of_bounds _ = 1
+
+abbrev pub rows_of_cell : Cell → ℕ
+rows_of_cell (array a) = rows_of_bounds a.bounds
+rows_of_cell _ = 0
+
+abbrev pub rows_of_cells : List NamedCell → ℕ
+rows_of_cells [] = 0
+rows_of_cells (c ∷ cells) = rows_of_cell c.cell + rows_of_cells cells
+
+abbrev pub live_rows : List Instance → ℕ
+live_rows [] = 0
+live_rows (x ∷ xs) = size_unless x.left (rows_of_cells x.cells) + live_rows xs
+
+module _ (sc : Scopes) (w : World) (lay : Layout) where
+  -- the instance stands, and has this array by this number among its declared ones
+  pub record HasArray (i number : ℕ) (declared : DeclaredArray) (cell : ArrayCell) (a : Allotted) : Type 0 where
+    pub instance : Instance
+    pub is : numbered w.instances i ≡ Some instance
+    pub stands : instance.left ≡ false
+    pub declares : slice_get (arrays_of (block_numbered sc.blocks instance.block).decls) number ≡ Some declared
+    pub has :
+        slice_get instance.cells (length (simple_cells sc (block_numbered sc.blocks instance.block)) + number)
+        ≡ Some (record { name = declared.name; cell = array cell })
+    pub allotted : slice_get (lay.rows i) number ≡ Some a
+
+  -- so the row with this number is the k-th of that array
+  pub record HasRow (i number k n : ℕ) : Type 0 where
+    pub declared : DeclaredArray
+    pub cell : ArrayCell
+    pub allotted : Allotted
+    pub array : HasArray i number declared cell allotted
+    pub there : slice_get (numbers_of allotted) k ≡ Some n
+
+  -- The arrays of the instances that stand are held by rows of their own, and no other rows are open. Each of these instances has at most
+  -- two rows for each element, so that there is always a number for one row more.
+  pub record ArraysAre (rows : Rows) : Type 0 where
+    pub held : (i number : ℕ) (declared : DeclaredArray) (cell : ArrayCell) (a : Allotted) → HasArray i number declared cell a →
+        HoldElements rows declared.kind cell a
+    pub apart : (i j number other k l n : ℕ) → HasRow i number k n → HasRow j other l n → (i ≡ j) × (number ≡ other) × (k ≡ l)
+    pub counted : counted_words rows ≡ live_elements w.instances
+    pub opened : open_rows rows ≡ live_rows w.instances
+    pub few : (i : ℕ) (x : Instance) → numbered w.instances i ≡ Some x → x.left ≡ false → rows_of_cells x.cells ≤ 2 * size_of_cells x.cells
+
+  -- ---- descriptors on the stack
+
+  -- an instance's array by its name
+  pub record IsArrayOf (i : ℕ) (name : List ℕ) (declared : DeclaredArray) (cell : ArrayCell) (a : Allotted) : Type 0 where
+    pub number : ℕ
+    pub found : array_from 0 (arrays_of (block_numbered sc.blocks ((instance_at w i).block)).decls) name ≡ Some (record { number = number; array = declared })
+    pub is : cell_in ((instance_at w i).cells) name ≡ array cell
+    pub allotted : slice_get (lay.rows i) number ≡ Some a
+
+  -- the place of an element among the rows of an array, and in its row
+  abbrev pub IsIn : List Bounds → List ℕ → ℕ → ℕ → Type 0
+  IsIn (b ∷ []) (k ∷ []) part at = (part ≡ 0) × (at ≡ k) × (k < size_of b)
+  IsIn (b ∷ c ∷ []) (j ∷ k ∷ []) part at = (part ≡ j) × (at ≡ k) × (j < size_of b) × (k < size_of c)
+  IsIn _ _ part at = ⊥
+
+  -- a copy of the descriptor of a row, and one of its element
+  abbrev pub row_copy : ℕ → ℕ → Word
+  row_copy size n = descriptor_word (record { presence = true; copy = true; indexed = false; mother = false; length = size; address = n })
+
+  abbrev pub element_copy : ℕ → ℕ → Word
+  element_copy at n = descriptor_word (record { presence = true; copy = true; indexed = true; mother = false; length = at; address = n })
+
+  -- For a part of instance i, whose level is this: the array stands in the instance or in a static parent of it.
+  pub record IsRow (i level : ℕ) (n : Named) (ks : List ℕ) (word : Word) : Type 0 where
+    pub near : (use_of sc n).up + OUTER_LEVEL ≤ level
+    pub declared : DeclaredArray
+    pub cell : ArrayCell
+    pub allotted : Allotted
+    pub array : IsArrayOf (ancestor w ((use_of sc n).up) i) n.name declared cell allotted
+    pub first : Bounds
+    pub second : Bounds
+    pub bounds : cell.bounds ≡ first ∷ second ∷ []
+    pub index : ℕ
+    pub subscripts : ks ≡ index ∷ []
+    pub within : index < size_of first
+    pub number : ℕ
+    pub part : slice_get allotted.parts index ≡ Some number
+    pub few : number < row_limit
+    pub word_is : word ≡ row_copy (size_of second) number
+
+  pub record IsElement (i level : ℕ) (r : Reference) (ks : List ℕ) (kind : Kind) (word : Word) : Type 0 where
+    pub up : ℕ
+    pub near : up + OUTER_LEVEL ≤ level
+    pub home : r.instance ≡ ancestor w up i
+    pub declared : DeclaredArray
+    pub kind_is : declared.kind ≡ kind
+    pub cell : ArrayCell
+    pub allotted : Allotted
+    pub array : IsArrayOf r.instance r.name declared cell allotted
+    pub index : ℕ
+    pub at : ℕ
+    pub within : IsIn cell.bounds ks index at
+    pub number : ℕ
+    pub part : slice_get allotted.parts index ≡ Some number
+    pub few : number < row_limit
+    pub word_is : word ≡ element_copy at number
+
+  abbrev pub HeldIs : ℕ → ℕ → Held → Word → Type 0
+  HeldIs i level (row n ks) word = IsRow i level n ks word
+  HeldIs i level (element r ks kind) word = IsElement i level r ks kind word
+
+  -- what is known of descriptors on the stack is so
+  abbrev pub AreKnown : ℕ → ℕ → List Known → Type 0
+  AreKnown i level [] = Unit {0}
+  AreKnown i level (x ∷ known) = HeldIs i level x.held x.word × AreKnown i level known
