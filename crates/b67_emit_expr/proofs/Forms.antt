@@ -1,30 +1,29 @@
 -- The code of each form of expression, of the code of its parts.
-use Rattle.std.proofs.Common.{◌≡◌, ℕ, ℤ, Bool, List, [], ◌∷◌, length, drop, sym, ◌∙◌, subst}
+use Rattle.std.proofs.Common.{◌≡◌, ℕ, ℤ, Bool, List, [], ◌∷◌, length, drop, refl, sym, ◌∙◌, subst}
 use Rattle.algol_tree.specs.declared.token.Spot.{Spot}
 use Rattle.algol_tree.specs.declared.tree.Kind.TheVariants as types
-use Rattle.algol_tree.specs.declared.tree.Named.{Named}
 use Rattle.algol_tree.specs.declared.tree.Op.{Op}
 use Rattle.algol_tree.specs.Plain as tree
-use Rattle.algol_tree.specs.Plain.{PExpr, PExprs}
+use Rattle.algol_tree.specs.Plain.{PExpr, PVariable, PCall}
 use Rattle.algol_tree.specs.Types.{taken_by}
-use Rattle.algol_scope.specs.declared.scopes.Scopes as table
 use Rattle.b67_ops.specs.declared.Operator.TheVariants as ops
 use Rattle.b67_ops.specs.declared.PlainKind.{PlainKind}
 use Rattle.b67_ops.specs.declared.PlainKind.TheVariants as kinds
 use Rattle.b67_ops.specs.declared.BranchKind.TheVariants.{Brfl, Brun}
 use Rattle.b67_segment.specs.Operators.{Placed, size}
 use Rattle.b67_segment.specs.Building.{Built, level_set}
-use Rattle.b67_templates.specs.Fragments.{Has, NumberAt, ReadyAt, BranchAt, operator_for, is_implication, truth_literal}
+use Rattle.b67_templates.specs.Fragments.{Has, NumberAt, MovedAt, ReadyAt, BranchAt, operator_for, is_implication, truth_literal}
 use Rattle.b67_templates.specs.Code.{ExprAt}
 use Rattle.b67_templates.specs.Emitting.{Emitted, EmittedWithExits}
+use Rattle.b67_emitter.specs.declared.names.Names.{Names}
 use Rattle.b67_emitter.specs.Aiming.{Aimed}
-use Rattle.b67_emitter.specs.Values.{ValueEmitted, ValueWithExits}
+use Rattle.b67_emitter.specs.Values.{ValueEmitted, ValueWithExits, CallEmitted}
 use Rattle.b67_emitter.proofs.Appends.{same_level}
 use Rattle.b67_emitter.proofs.Composing.{weaker, weaker_exits, no_exits, then, then_exits, all_aimed, aimed_later}
 use Rattle.b67_emit_expr.specs.Applying.{AppliedEmitted}
-use Rattle.b67_emit_expr.specs.Naming.{NameEmitted}
+use Rattle.b67_emit_expr.specs.Subscripting.{SubscriptEmitted}
 
-module _ (s : table.Scopes) where
+module _ (s : Names) where
   -- ---- at which level
 
   pub value_on : (l m : ℕ) (a b : Built) (e : PExpr) → l ≡ m → ValueEmitted s l a b e → ValueEmitted s m a b e
@@ -61,10 +60,32 @@ module _ (s : table.Scopes) where
         no_exits xs (weaker (λ qs. ExprAt scopes context qs level kind (tree.truth t spot) (size a.operators) (size b.operators) (size b.operators)) h (λ qs x. (fits, x)));
   }
 
-  pub name_form : (level : ℕ) (a b : Built) (xs : List ℕ) (n : Named) (es : PExprs) → NameEmitted s level a b n →
-      ValueWithExits s level a b xs xs (tree.variable (tree.subscripted n es))
-  name_form level a b xs n (tree.more e es) h = record { code = λ scopes context kind fits. absurd fits }
-  name_form level a b xs n tree.none h = record { code = λ scopes context kind fits. no_exits xs (h.code scopes context kind fits) }
+  -- ---- variables
+
+  -- the subscripts are evaluated first, so no branch leads out
+  pub variable_form : (level : ℕ) (a b : Built) (xs : List ℕ) (v : PVariable) → ValueEmitted s level a b (tree.variable v) →
+      ValueWithExits s level a b xs xs (tree.variable v)
+  variable_form level a b xs (tree.subscripted n tree.none) h = record { code = λ scopes context kind fits. no_exits xs (h.code scopes context kind fits) }
+  variable_form level a b xs (tree.subscripted n (tree.more e es)) h = record { code = λ scopes context kind fits. no_exits xs (h.code scopes context kind fits) }
+
+  -- a subscript, moved
+  pub moved_form : (a b c : Built) (low : ℤ) (e : PExpr) → ValueEmitted s (level_set a) a b e →
+      Emitted b c (λ qs. MovedAt qs (level_set b) low (size b.operators) (size c.operators)) → b.level ≡ a.level → SubscriptEmitted s (level_set a) a c low e
+  moved_form a b c low e h k l = record {
+    code = λ scopes context fits.
+        let K : ℕ → Type 0 = λ n. Emitted b c (λ qs. MovedAt qs n low (size b.operators) (size c.operators)) in
+        weaker (λ qs. (m : ℕ) × ExprAt scopes context qs (level_set a) types.Number e (size a.operators) m m × MovedAt qs (level_set a) low m (size c.operators))
+        (then (h.code scopes context types.Number fits) (subst K (same_level a b l) k)) (λ qs w. (size b.operators, w.0, w.1));
+  }
+
+  -- ---- calls
+
+  pub call_form : (level : ℕ) (a b : Built) (xs : List ℕ) (c : PCall) → CallEmitted s level a b c → ValueWithExits s level a b xs xs (tree.call c)
+  call_form level a b xs (tree.called n es) h = record {
+    code = λ scopes context kind fits.
+        no_exits xs (weaker (λ qs. ExprAt scopes context qs level kind (tree.call (tree.called n es)) (size a.operators) (size b.operators) (size b.operators))
+        (h.code scopes context n es fits.0 refl fits.1 fits.2) (λ qs x. (fits.0, x, fits.3)));
+  }
 
   -- ---- with one part
 
@@ -120,9 +141,9 @@ module _ (s : table.Scopes) where
   -- ---- with two parts
 
   -- the operands are evaluated first, so no branch leads out
-  pub two_form : (level : ℕ) (a b : Built) (xs : List ℕ) (op : Op) (x y : PExpr) → ValueEmitted s level a b (tree.two op x y) →
+  pub operands_form : (level : ℕ) (a b : Built) (xs : List ℕ) (op : Op) (x y : PExpr) → ValueEmitted s level a b (tree.two op x y) →
       ValueWithExits s level a b xs xs (tree.two op x y)
-  two_form level a b xs op x y h = record { code = λ scopes context kind fits. no_exits xs (h.code scopes context kind fits) }
+  operands_form level a b xs op x y h = record { code = λ scopes context kind fits. no_exits xs (h.code scopes context kind fits) }
 
   pub calculated_form : (a b c d e : Built) (op : Op) (x y : PExpr) → ValueEmitted s (level_set a) a b x →
       Emitted b c (λ qs. ReadyAt qs (level_set b) (is_implication op) (size b.operators) (size c.operators)) → ValueEmitted s (level_set c) c d y →

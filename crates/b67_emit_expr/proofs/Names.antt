@@ -1,31 +1,33 @@
 -- A name alone: a variable that is read, or a typed procedure that is called.
-use Rattle.std.proofs.Common.{◌≡◌, ℕ, true, false, Option, Some, None, inl, inr, sym, ap, ◌∙◌, subst}
+use Rattle.std.proofs.Common.{◌≡◌, ℕ, true, false, Option, Some, None, inl, inr, refl, sym, ap, ◌∙◌, subst}
 use Rattle.std.specs.Prelude.{is_some}
 use Rattle.algol_tree.specs.declared.tree.Kind.{Kind}
 use Rattle.algol_tree.specs.declared.tree.Named.{Named}
 use Rattle.algol_tree.specs.Scopes.{Scopes}
-use Rattle.algol_scope.specs.declared.scopes.Scopes as table
 use Rattle.b67_ops.specs.declared.Couple.{Couple}
 use Rattle.b67_ops.specs.declared.Operator.TheVariants as ops
+use Rattle.b67_ops.specs.declared.PlainKind.TheVariants as kinds
 use Rattle.b67_segment.specs.Operators.{size}
-use Rattle.b67_segment.specs.Building.{Built}
+use Rattle.b67_segment.specs.Building.{Built, level_set}
 use Rattle.b67_templates.specs.Contexts.{Context}
 use Rattle.b67_templates.specs.Cells.{IsProcedure}
-use Rattle.b67_templates.specs.Code.{NameAt, CallAt, reads, calls}
+use Rattle.b67_templates.specs.Code.{NameAt, BegunAt, without, reads, calls}
 use Rattle.b67_templates.specs.Fragments.{Has}
 use Rattle.b67_templates.specs.Emitting.{Emitted}
+use Rattle.b67_emitter.specs.declared.names.Names.{Names}
 use Rattle.b67_emitter.specs.Values.{couples, results}
 use Rattle.b67_emitter.proofs.Composing.{weaker}
 use Rattle.b67_emit_expr.specs.Naming.{NameMeans, NameEmitted}
+use Rattle.b67_emit_expr.proofs.Calls.{emitted_none, call_part}
 
 -- what has no result is not typed
 untyped : (result : Option Couple) (typed : Option Kind) (k : Kind) → result ≡ None → is_some result ≡ is_some typed → typed ≡ Some k → ⊥
 untyped result typed k none same is =
     let clash : false ≡ true = ap (λ (o : Option Couple). is_some o) (sym none) ∙ same ∙ ap (λ (o : Option Kind). is_some o) is in cc
 
-module _ (s : table.Scopes) (level : ℕ) (n : Named) (a b : Built) (c : Couple) (known : couples s n.spot ≡ Some c) where
-  pub read_name : results s n.spot ≡ None → Emitted a b (λ qs. Has qs level (size a.operators) (ops.Valc c) (size b.operators)) → NameEmitted s level a b n
-  read_name none h = record { code = λ scopes context kind fits. by scopes context kind fits }
+module _ (s : Names) (n : Named) (a b : Built) (c : Couple) (known : couples s n.spot ≡ Some c) where
+  pub read_name : (level : ℕ) → results s n.spot ≡ None → Emitted a b (λ qs. Has qs level (size a.operators) (ops.Valc c) (size b.operators)) → NameEmitted s level a b n
+  read_name level none h = record { code = λ scopes context kind fits. by scopes context kind fits }
     where
       by : (scopes : Scopes) (context : Context) (kind : Kind) → NameMeans s scopes level kind n →
           Emitted a b (λ qs. NameAt scopes context qs level kind n (size a.operators) (size b.operators))
@@ -33,19 +35,22 @@ module _ (s : table.Scopes) (level : ℕ) (n : Named) (a b : Built) (c : Couple)
           let same : d ≡ c = cc (is, known) in
           let H : Couple → Type 0 = λ x. Emitted a b (λ qs. Has qs level (size a.operators) (ops.Valc x) (size b.operators)) in
           weaker (λ qs. NameAt scopes context qs level kind n (size a.operators) (size b.operators)) (subst H (sym same) h) (λ qs x. reads (d, v, x))
-      by scopes context kind (inr (callee, p, is)) = absurd (untyped (results s n.spot) _ kind none p.typed is)
+      by scopes context kind (inr (callee, p, alone, is)) = absurd (untyped (results s n.spot) _ kind none p.typed is)
 
-  pub call_name : (r : Couple) → results s n.spot ≡ Some r →
-      ((scopes : Scopes) (context : Context) (m : Named) (callee : ℕ) → IsProcedure scopes level m callee c →
-      Emitted a b (λ qs. CallAt scopes context qs level m callee (size a.operators) (size b.operators))) →
-      NameEmitted s level a b n
-  call_name r some h = record { code = λ scopes context kind fits. by scopes context kind fits }
+  -- between the beginning of the call and its entry nothing was appended
+  pub call_name : (m : Built) (r : Couple) → results s n.spot ≡ Some r → m.level ≡ a.level →
+      ((scopes : Scopes) (context : Context) (n : Named) (callee : ℕ) → IsProcedure scopes (level_set a) n callee c →
+      Emitted a m (λ qs. BegunAt scopes context qs (level_set a) n callee (size a.operators) (size m.operators))) →
+      Emitted m b (λ qs. Has qs (level_set m) (size m.operators) (ops.Plain kinds.Entr) (size b.operators)) → NameEmitted s (level_set a) a b n
+  call_name m r some level begun enter = record { code = λ scopes context kind fits. by scopes context kind fits }
     where
-      by : (scopes : Scopes) (context : Context) (kind : Kind) → NameMeans s scopes level kind n →
-          Emitted a b (λ qs. NameAt scopes context qs level kind n (size a.operators) (size b.operators))
+      by : (scopes : Scopes) (context : Context) (kind : Kind) → NameMeans s scopes (level_set a) kind n →
+          Emitted a b (λ qs. NameAt scopes context qs (level_set a) kind n (size a.operators) (size b.operators))
       by scopes context kind (inl (f, none)) = absurd (let clash : None ≡ Some r = sym none ∙ some in cc)
-      by scopes context kind (inr (callee, p, is)) =
+      by scopes context kind (inr (callee, p, alone, is)) =
           let same : p.couple ≡ c = cc (p.known_is, known) in
-          let P : Couple → Type 0 = λ x. IsProcedure scopes level n callee x in
-          weaker (λ qs. NameAt scopes context qs level kind n (size a.operators) (size b.operators)) (h scopes context n callee (subst P same p.procedure))
-          (λ qs x. calls callee x is)
+          let P : Couple → Type 0 = λ x. IsProcedure scopes (level_set a) n callee x in
+          weaker (λ qs. NameAt scopes context qs (level_set a) kind n (size a.operators) (size b.operators))
+          (call_part scopes context n callee a m m b (λ qs. without scopes context qs (level_set a)) level (begun scopes context n callee (subst P same p.procedure))
+          (emitted_none m (λ qs. size m.operators ≡ size m.operators) (λ qs. refl)) enter)
+          (λ qs x. calls callee x alone is)

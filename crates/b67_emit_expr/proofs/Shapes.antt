@@ -1,5 +1,5 @@
 -- The plain tree of each form of expression.
-use Rattle.std.proofs.Common.{rules, ◌≡◌, ℤ, Bool, ap, sym, ◌∙◌}
+use Rattle.std.proofs.Common.{rules, ◌≡◌, ◌+◌, ◌≤◌, ℤ, Bool, ap, sym, ◌∙◌, arith}
 use Rattle.std.specs.declared.boxed.Box.{Box}
 use Rattle.std.specs.declared.alloc.Global.{Global}
 use Rattle.algol_tree.specs.declared.token.Spot.{Spot}
@@ -8,8 +8,13 @@ use Rattle.algol_tree.specs.declared.tree.Expr.{Expr}
 use Rattle.algol_tree.specs.declared.tree.Expr as expressions
 use Rattle.algol_tree.specs.declared.tree.Variable.{Variable}
 use Rattle.algol_tree.specs.declared.tree.Variable as variables
-use Rattle.algol_tree.specs.Image.{expr, exprs, variable}
+use Rattle.algol_tree.specs.declared.tree.Call.{Call}
+use Rattle.algol_tree.specs.declared.tree.Call as calls
+use Rattle.algol_tree.specs.declared.tree.Named.{Named}
+use Rattle.algol_tree.specs.Counts.{call_tokens, exprs_tokens}
+use Rattle.algol_tree.specs.Image.{expr, exprs, call, variable}
 use Rattle.algol_tree.specs.Plain as tree
+use Rattle.algol_tree.specs.Plain.{PExprs}
 
 pub number_is : (z : ℤ) (spot : Spot) → expr (expressions.Number z spot) ≡ tree.number z spot
 number_is z spot = search (rules, expressions.the_lemmas)
@@ -20,8 +25,22 @@ truth_is b spot = search (rules, expressions.the_lemmas)
 pub variable_is : (v : Variable) → variable v ≡ tree.subscripted v.name (exprs v.subs)
 variable_is v = search (rules, variables.the_lemmas)
 
-pub name_is : (v : Variable) → expr (expressions.Variable v) ≡ tree.variable (tree.subscripted v.name (exprs v.subs))
-name_is v = search (rules, expressions.the_lemmas, variables.the_lemmas)
+pub naming_is : (v : Variable) → expr (expressions.Variable v) ≡ tree.variable (variable v)
+naming_is v = search (rules, expressions.the_lemmas)
+
+-- the name and the subscripts of a variable are its own
+module _ (v : Variable) (n : Named) (es : PExprs) (is : variable v ≡ tree.subscripted n es) where
+  pub own_name : n ≡ v.name
+  own_name = let same : tree.subscripted n es ≡ tree.subscripted v.name (exprs v.subs) = sym is ∙ variable_is v in cc same
+
+  pub own_subscripts : es ≡ exprs v.subs
+  own_subscripts = let same : tree.subscripted n es ≡ tree.subscripted v.name (exprs v.subs) = sym is ∙ variable_is v in cc same
+
+pub call_is : (c : Call) → call c ≡ tree.called c.name (exprs c.actuals)
+call_is c = search (rules, calls.the_lemmas)
+
+pub calling_is : (c : Call) → expr (expressions.Call c) ≡ tree.call (call c)
+calling_is c = search (rules, expressions.the_lemmas)
 
 pub paren_is : (x : Box Expr Global) (spot : Spot) → expr (expressions.Paren x spot) ≡ tree.paren (expr x.value) spot
 paren_is x spot = search (rules, expressions.the_lemmas)
@@ -40,6 +59,16 @@ two_is op x y = search (rules, expressions.the_lemmas)
 
 pub if_is : (c x y : Box Expr Global) (spot : Spot) → expr (expressions.If c x y spot) ≡ tree.if (expr c.value) (expr x.value) (expr y.value) spot
 if_is c x y spot = search (rules, expressions.the_lemmas)
+
+-- ---- the tokens of a call
+
+called_long : (n : Named) (es : PExprs) → 1 + exprs_tokens es ≤ call_tokens (tree.called n es)
+called_long n tree.none = omega arith
+called_long n (tree.more e es) = omega arith
+
+-- the name and the actuals, each with the comma or the parenthesis before it
+pub call_long : (c : Call) → 1 + exprs_tokens (exprs c.actuals) ≤ call_tokens (call c)
+call_long c = omega (arith, ap call_tokens (call_is c), called_long c.name (exprs c.actuals))
 
 -- ---- the same where a part is named otherwise
 

@@ -7,25 +7,28 @@ ghost use Rattle.b67_segment.specs.Building.{level_set};
 ghost use Rattle.b67_emitter.specs.Values.{AreNear};
 ghost use Rattle.b67_emit_expr.specs.Naming.{NameHasCode, NameEmitted};
 
-use algol_scope::Scopes;
 use algol_tree::Named;
-use b67_emitter::{append_call, append_reading, couple_of, result_of};
+use b67_emitter::{Names, append_begun, append_plain, append_reading, couple_of, result_of};
+use b67_ops::PlainKind;
 use b67_segment::Builder;
 use std::alloc::AllocError;
 
 /// A variable is read, and a typed procedure is called.
-pub fn append_name(name: &Named, scopes: &Scopes, out: &mut Builder) -> Result<(), AllocError>
+pub fn append_name(name: &Named, names: &Names, out: &mut Builder) -> Result<(), AllocError>
     requires set { IsSome out.old.level }
-    requires near { AreNear scopes.now }
-    requires code { NameHasCode scopes.now (level_set out.old) name.now }
+    requires near { AreNear names.now }
+    requires code { NameHasCode names.now (level_set out.old) name.now }
     requires room { size out.old.operators + 4 ≤ 6 * MOST_SEGMENT_WORDS }
-    ensures code { OnOk result (NameEmitted scopes.now (level_set out.old) out.old out.new name.now) }
+    ensures code { OnOk result (NameEmitted names.now (level_set out.old) out.old out.new name.now) }
     ensures level { OnOk result (out.new.level ≡ out.old.level) }
     ensures size { OnOk result (size out.new.operators ≤ size out.old.operators + 4) }
 {
-    let couple = couple_of(scopes, name);
-    match result_of(scopes, name) {
-        Some(_) => append_call(out, couple),
+    let couple = couple_of(names, name);
+    match result_of(names, name) {
+        Some(_) => {
+            append_begun(out, couple)?;
+            append_plain(out, PlainKind::Entr)
+        }
         None => append_reading(out, couple),
     }
 }

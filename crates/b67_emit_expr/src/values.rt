@@ -2,20 +2,24 @@
 
 ghost use Rattle.std.specs.Prelude.{◌≡◌, ◌+◌, ◌*◌, ◌≤◌, IsSome, OnOk};
 ghost use Rattle.algol_tree.specs.declared.token.Spot.{Spot};
-ghost use Rattle.algol_tree.specs.Image.{expr};
+ghost use Rattle.algol_tree.specs.Image.{expr, call, variable};
 ghost use Rattle.algol_tree.specs.Plain as tree;
 ghost use Rattle.b67_segment.specs.declared.TheConstants.{MOST_SEGMENT_WORDS};
 ghost use Rattle.b67_segment.specs.Operators.{size};
 ghost use Rattle.b67_segment.specs.Building.{level_set};
 ghost use Rattle.b67_templates.specs.Depths.{expr_syllables};
-ghost use Rattle.b67_emitter.specs.Values.{AreNear, HasCode, ValueEmitted, ValueWithExits};
+ghost use Rattle.b67_emitter.specs.Values.{AreNear, HasCode, ValueEmitted, ValueWithExits, HasCall, CallEmitted};
+ghost use Rattle.b67_templates.specs.Fragments.{IsWhole};
 ghost use Rattle.b67_emit_expr.specs.Applying.{AppliedEmitted};
+ghost use Rattle.b67_emit_expr.specs.Subscripting.{SubscriptEmitted, HasSubscripts, SubscriptsEmitted};
 
 use crate::naming::append_name;
 use crate::operators::{append_ready, operator_for, truth_literal};
-use algol_scope::Scopes;
-use algol_tree::{Expr, Op};
-use b67_emitter::{aim, aim_exits, append_branch, append_exit, append_number, append_plain};
+use algol_tree::{Call, Expr, Op, Variable};
+use b67_emitter::{
+    Names, aim, aim_exits, append_begun, append_branch, append_exit, append_moved, append_number,
+    append_plain, append_reference, couple_of, lows_of,
+};
 use b67_ops::{BranchKind, PlainKind};
 use b67_segment::Builder;
 use std::alloc::AllocError;
@@ -24,21 +28,21 @@ use std::alloc::AllocError;
 #[cycle(values)]
 pub fn operand(
     e: &Expr,
-    scopes: &Scopes,
+    names: &Names,
     out: &mut Builder,
     exits: &mut Vec<u16>,
 ) -> Result<(), AllocError>
     requires set { IsSome out.old.level }
-    requires near { AreNear scopes.now }
-    requires code { HasCode scopes.now (level_set out.old) (expr e.now) }
+    requires near { AreNear names.now }
+    requires code { HasCode names.now (level_set out.old) (expr e.now) }
     requires room { size out.old.operators + expr_syllables (expr e.now) ≤ 6 * MOST_SEGMENT_WORDS }
-    ensures code { OnOk result (ValueEmitted scopes.now (level_set out.old) out.old out.new (expr e.now)) }
+    ensures code { OnOk result (ValueEmitted names.now (level_set out.old) out.old out.new (expr e.now)) }
     ensures level { OnOk result (out.new.level ≡ out.old.level) }
     ensures size { OnOk result (size out.new.operators ≤ size out.old.operators + expr_syllables (expr e.now)) }
     ensures exits { OnOk result (exits.new.items ≡ exits.old.items) }
 {
     let first = exits.len();
-    value_with_exits(e, scopes, out, exits)?;
+    value_with_exits(e, names, out, exits)?;
     aim_exits(out, exits, first);
     Ok(())
 }
@@ -48,20 +52,20 @@ pub fn operand(
 fn applied(
     kind: PlainKind,
     e: &Expr,
-    scopes: &Scopes,
+    names: &Names,
     out: &mut Builder,
     exits: &mut Vec<u16>,
 ) -> Result<(), AllocError>
     requires set { IsSome out.old.level }
-    requires near { AreNear scopes.now }
-    requires code { HasCode scopes.now (level_set out.old) (expr e.now) }
+    requires near { AreNear names.now }
+    requires code { HasCode names.now (level_set out.old) (expr e.now) }
     requires room { size out.old.operators + expr_syllables (expr e.now) + 1 ≤ 6 * MOST_SEGMENT_WORDS }
-    ensures code { OnOk result (AppliedEmitted scopes.now (level_set out.old) out.old out.new kind (expr e.now)) }
+    ensures code { OnOk result (AppliedEmitted names.now (level_set out.old) out.old out.new kind (expr e.now)) }
     ensures level { OnOk result (out.new.level ≡ out.old.level) }
     ensures size { OnOk result (size out.new.operators ≤ size out.old.operators + expr_syllables (expr e.now) + 1) }
     ensures exits { OnOk result (exits.new.items ≡ exits.old.items) }
 {
-    operand(e, scopes, out, exits)?;
+    operand(e, names, out, exits)?;
     append_plain(out, kind)
 }
 
@@ -71,24 +75,127 @@ fn calculated(
     op: Op,
     a: &Expr,
     b: &Expr,
-    scopes: &Scopes,
+    names: &Names,
     out: &mut Builder,
     exits: &mut Vec<u16>,
 ) -> Result<(), AllocError>
     requires set { IsSome out.old.level }
-    requires near { AreNear scopes.now }
-    requires code { HasCode scopes.now (level_set out.old) (tree.two op (expr a.now) (expr b.now)) }
+    requires near { AreNear names.now }
+    requires code { HasCode names.now (level_set out.old) (tree.two op (expr a.now) (expr b.now)) }
     requires room { size out.old.operators + expr_syllables (tree.two op (expr a.now) (expr b.now)) ≤ 6 * MOST_SEGMENT_WORDS }
-    ensures code { OnOk result (ValueEmitted scopes.now (level_set out.old) out.old out.new (tree.two op (expr a.now) (expr b.now))) }
+    ensures code { OnOk result (ValueEmitted names.now (level_set out.old) out.old out.new (tree.two op (expr a.now) (expr b.now))) }
     ensures level { OnOk result (out.new.level ≡ out.old.level) }
     ensures size { OnOk result (size out.new.operators
         ≤ size out.old.operators + expr_syllables (tree.two op (expr a.now) (expr b.now))) }
     ensures exits { OnOk result (exits.new.items ≡ exits.old.items) }
 {
-    operand(a, scopes, out, exits)?;
+    operand(a, names, out, exits)?;
     append_ready(out, op)?;
-    operand(b, scopes, out, exits)?;
+    operand(b, names, out, exits)?;
     append_plain(out, operator_for(op))
+}
+
+/// A call: its beginning, the actuals in their order, the entry.
+#[cycle(values)]
+pub fn called(
+    c: &Call,
+    names: &Names,
+    out: &mut Builder,
+    exits: &mut Vec<u16>,
+) -> Result<(), AllocError>
+    requires set { IsSome out.old.level }
+    requires near { AreNear names.now }
+    requires code { HasCall names.now (level_set out.old) (call c.now) }
+    requires room { size out.old.operators + expr_syllables (tree.call (call c.now)) ≤ 6 * MOST_SEGMENT_WORDS }
+    ensures code { OnOk result (CallEmitted names.now (level_set out.old) out.old out.new (call c.now)) }
+    ensures level { OnOk result (out.new.level ≡ out.old.level) }
+    ensures size { OnOk result (size out.new.operators ≤ size out.old.operators + expr_syllables (tree.call (call c.now))) }
+    ensures exits { OnOk result (exits.new.items ≡ exits.old.items) }
+{
+    append_begun(out, couple_of(names, &c.name))?;
+    let actuals = c.actuals.items().as_slice();
+    'actuals: for actual in actuals {
+        operand(actual, names, out, exits)?;
+    }
+    append_plain(out, PlainKind::Entr)
+}
+
+/// A subscript, moved by this lower bound.
+#[cycle(values)]
+fn subscript(
+    e: &Expr,
+    low: i64,
+    names: &Names,
+    out: &mut Builder,
+    exits: &mut Vec<u16>,
+) -> Result<(), AllocError>
+    requires set { IsSome out.old.level }
+    requires near { AreNear names.now }
+    requires code { HasCode names.now (level_set out.old) (expr e.now) }
+    requires whole { IsWhole low }
+    requires room { size out.old.operators + expr_syllables (expr e.now) + 21 ≤ 6 * MOST_SEGMENT_WORDS }
+    ensures code { OnOk result (SubscriptEmitted names.now (level_set out.old) out.old out.new low (expr e.now)) }
+    ensures level { OnOk result (out.new.level ≡ out.old.level) }
+    ensures size { OnOk result (size out.new.operators ≤ size out.old.operators + expr_syllables (expr e.now) + 21) }
+    ensures exits { OnOk result (exits.new.items ≡ exits.old.items) }
+{
+    operand(e, names, out, exits)?;
+    append_moved(out, low)
+}
+
+/// The subscripts of an element: the last of them lies under the reference of the array, or under the descriptor of the row to which the
+/// first has led.
+#[cycle(values)]
+pub fn subscripts(
+    v: &Variable,
+    names: &Names,
+    out: &mut Builder,
+    exits: &mut Vec<u16>,
+) -> Result<(), AllocError>
+    requires set { IsSome out.old.level }
+    requires near { AreNear names.now }
+    requires code { HasSubscripts names.now (level_set out.old) (variable v.now) }
+    requires room { size out.old.operators + expr_syllables (tree.variable (variable v.now)) ≤ 6 * MOST_SEGMENT_WORDS }
+    ensures code { OnOk result (SubscriptsEmitted names.now (level_set out.old) out.old out.new (variable v.now)) }
+    ensures level { OnOk result (out.new.level ≡ out.old.level) }
+    ensures size { OnOk result (size out.new.operators + 1 ≤ size out.old.operators + expr_syllables (tree.variable (variable v.now))) }
+    ensures exits { OnOk result (exits.new.items ≡ exits.old.items) }
+{
+    let lows = lows_of(names, &v.name);
+    let subs = v.subs.items().as_slice();
+    subscript(&subs[0], lows[0], names, out, exits)?;
+    append_reference(out, couple_of(names, &v.name))?;
+    if subs.len() > 1 {
+        append_plain(out, PlainKind::Nxln)?;
+        subscript(&subs[1], lows[1], names, out, exits)?;
+        append_plain(out, PlainKind::Exch)?;
+    }
+    Ok(())
+}
+
+/// The value of a variable: an element is read, and a name alone is read or called.
+#[cycle(values)]
+fn read(
+    v: &Variable,
+    names: &Names,
+    out: &mut Builder,
+    exits: &mut Vec<u16>,
+) -> Result<(), AllocError>
+    requires set { IsSome out.old.level }
+    requires near { AreNear names.now }
+    requires code { HasCode names.now (level_set out.old) (tree.variable (variable v.now)) }
+    requires room { size out.old.operators + expr_syllables (tree.variable (variable v.now)) ≤ 6 * MOST_SEGMENT_WORDS }
+    ensures code { OnOk result (ValueEmitted names.now (level_set out.old) out.old out.new (tree.variable (variable v.now))) }
+    ensures level { OnOk result (out.new.level ≡ out.old.level) }
+    ensures size { OnOk result (size out.new.operators ≤ size out.old.operators + expr_syllables (tree.variable (variable v.now))) }
+    ensures exits { OnOk result (exits.new.items ≡ exits.old.items) }
+{
+    if v.subs.items().is_empty() {
+        append_name(&v.name, names, out)
+    } else {
+        subscripts(v, names, out, exits)?;
+        append_plain(out, PlainKind::Nxlv)
+    }
 }
 
 /// A conditional expression: past its first part it is left by an exit.
@@ -97,58 +204,58 @@ fn chosen(
     condition: &Expr,
     x: &Expr,
     y: &Expr,
-    scopes: &Scopes,
+    names: &Names,
     out: &mut Builder,
     exits: &mut Vec<u16>,
 ) -> Result<(), AllocError>
     requires set { IsSome out.old.level }
-    requires near { AreNear scopes.now }
-    requires condition { HasCode scopes.now (level_set out.old) (expr condition.now) }
-    requires first { HasCode scopes.now (level_set out.old) (expr x.now) }
-    requires second { HasCode scopes.now (level_set out.old) (expr y.now) }
+    requires near { AreNear names.now }
+    requires condition { HasCode names.now (level_set out.old) (expr condition.now) }
+    requires first { HasCode names.now (level_set out.old) (expr x.now) }
+    requires second { HasCode names.now (level_set out.old) (expr y.now) }
     requires room { size out.old.operators + expr_syllables (expr condition.now) + expr_syllables (expr x.now) + expr_syllables (expr y.now) + 6
         ≤ 6 * MOST_SEGMENT_WORDS }
-    ensures code { OnOk result ((spot : Spot) → ValueWithExits scopes.now (level_set out.old) out.old out.new exits.old.items exits.new.items
+    ensures code { OnOk result ((spot : Spot) → ValueWithExits names.now (level_set out.old) out.old out.new exits.old.items exits.new.items
         (tree.if (expr condition.now) (expr x.now) (expr y.now) spot)) }
     ensures level { OnOk result (out.new.level ≡ out.old.level) }
     ensures size { OnOk result (size out.new.operators
         ≤ size out.old.operators + expr_syllables (expr condition.now) + expr_syllables (expr x.now) + expr_syllables (expr y.now) + 6) }
 {
-    operand(condition, scopes, out, exits)?;
+    operand(condition, names, out, exits)?;
     let otherwise = append_branch(out, BranchKind::Brfl)?;
-    value_with_exits(x, scopes, out, exits)?;
+    value_with_exits(x, names, out, exits)?;
     append_exit(out, BranchKind::Brun, exits)?;
     aim(out, &[otherwise]);
-    value_with_exits(y, scopes, out, exits)
+    value_with_exits(y, names, out, exits)
 }
 
 /// The code of a value, with the exits out of it behind those that there are.
 #[cycle(values)]
 fn value_with_exits(
     e: &Expr,
-    scopes: &Scopes,
+    names: &Names,
     out: &mut Builder,
     exits: &mut Vec<u16>,
 ) -> Result<(), AllocError>
     requires set { IsSome out.old.level }
-    requires near { AreNear scopes.now }
-    requires code { HasCode scopes.now (level_set out.old) (expr e.now) }
+    requires near { AreNear names.now }
+    requires code { HasCode names.now (level_set out.old) (expr e.now) }
     requires room { size out.old.operators + expr_syllables (expr e.now) ≤ 6 * MOST_SEGMENT_WORDS }
-    ensures code { OnOk result (ValueWithExits scopes.now (level_set out.old) out.old out.new exits.old.items exits.new.items (expr e.now)) }
+    ensures code { OnOk result (ValueWithExits names.now (level_set out.old) out.old out.new exits.old.items exits.new.items (expr e.now)) }
     ensures level { OnOk result (out.new.level ≡ out.old.level) }
     ensures size { OnOk result (size out.new.operators ≤ size out.old.operators + expr_syllables (expr e.now)) }
 {
     match e {
         Expr::Number(value, _) => append_number(out, *value),
         Expr::Truth(value, _) => append_plain(out, truth_literal(*value)),
-        Expr::Variable(v) => append_name(&v.name, scopes, out),
-        Expr::Paren(e, _) => value_with_exits(e, scopes, out, exits),
-        Expr::Plus(e, _) => value_with_exits(e, scopes, out, exits),
-        Expr::Neg(e, _) => applied(PlainKind::Chsn, e, scopes, out, exits),
-        Expr::Not(e, _) => applied(PlainKind::Lnot, e, scopes, out, exits),
-        Expr::Two(op, a, b) => calculated(*op, a, b, scopes, out, exits),
-        Expr::If(condition, x, y, _) => chosen(condition, x, y, scopes, out, exits),
-        Expr::Call(_) => unreachable!(),
+        Expr::Variable(v) => read(v, names, out, exits),
+        Expr::Paren(e, _) => value_with_exits(e, names, out, exits),
+        Expr::Plus(e, _) => value_with_exits(e, names, out, exits),
+        Expr::Neg(e, _) => applied(PlainKind::Chsn, e, names, out, exits),
+        Expr::Not(e, _) => applied(PlainKind::Lnot, e, names, out, exits),
+        Expr::Two(op, a, b) => calculated(*op, a, b, names, out, exits),
+        Expr::If(condition, x, y, _) => chosen(condition, x, y, names, out, exits),
+        Expr::Call(c) => called(c, names, out, exits),
         Expr::Happened(_, _) => unreachable!(),
     }
 }

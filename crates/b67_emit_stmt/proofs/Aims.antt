@@ -1,13 +1,12 @@
 -- Branches that are aimed behind a loop's body or behind the first part of an IF.
 use Rattle.std.proofs.Common.{◌≡◌, ℕ, ◌≤◌, List, [], ◌∷◌, length, take, drop, sym, subst, arith}
 use Rattle.algol_tree.specs.Plain.{PStmt}
-use Rattle.b67_emit_stmt.specs.Places.{Place}
+use Rattle.b67_emit_stmt.specs.Places.{Place, StmtAt}
 use Rattle.b67_ops.specs.declared.BranchKind.{BranchKind}
 use Rattle.b67_segment.specs.declared.code.Format.{Format}
 use Rattle.b67_segment.specs.Operators.{Placed, size}
 use Rattle.b67_segment.specs.Building.{Built, level_set}
 use Rattle.b67_templates.specs.Fragments.{BranchAt}
-use Rattle.b67_emit_stmt.specs.Places.{StmtAt}
 use Rattle.b67_templates.specs.Depths.{stmt_syllables}
 use Rattle.b67_templates.specs.Emitting.{AreExits, EmittedWithExits}
 use Rattle.b67_emitter.specs.Aiming.{Aimed}

@@ -7,7 +7,7 @@ use Rattle.algol_tree.specs.declared.tree.Named.{Named}
 use Rattle.algol_tree.specs.declared.tree.Op.TheVariants as operators
 use Rattle.algol_tree.specs.Plain as tree
 use Rattle.algol_tree.specs.Plain.{PExpr, PStmt, PStmts}
-use Rattle.b67_emit_stmt.specs.Places.{Place}
+use Rattle.b67_emit_stmt.specs.Places.{Place, AssignAt, ExprAt, StepAt, StmtAt, StmtsAt}
 use Rattle.algol_meaning.specs.Statements.{alone}
 use Rattle.b67_ops.specs.declared.Operator.TheVariants as ops
 use Rattle.b67_ops.specs.declared.PlainKind.TheVariants as kinds
@@ -16,7 +16,6 @@ use Rattle.b67_ops.specs.declared.BranchKind.TheVariants.{Brfl, Brtr, Brun}
 use Rattle.b67_segment.specs.declared.code.Format.{Format}
 use Rattle.b67_segment.specs.Operators.{Placed, size}
 use Rattle.b67_templates.specs.Fragments.{Has, AllAt, BranchAt, TurnAt}
-use Rattle.b67_emit_stmt.specs.Places.{AssignAt, ExprAt, StepAt, StmtAt, StmtsAt}
 use Rattle.b67_templates.specs.Depths.{expr_syllables, stmt_syllables}
 use Rattle.b67_templates.specs.Emitting.{EmittedWithExits}
 use Rattle.b67_emitter.specs.Aiming.{Aimed}
@@ -146,8 +145,3 @@ module _ (sc : Place) (level : ℕ) where
       Emits (stmts_syllables ss) a b (λ formats qs target. StmtsAt sc formats qs level ss (size a.out.operators) (size b.out.operators) target) →
       Emits (stmt_syllables (tree.block (tree.body spot tree.no_decls ss))) a b (Stands (tree.block (tree.body spot tree.no_decls ss)) a b)
   block_arm spot ss a b h = emits_weaker (Stands (tree.block (tree.body spot tree.no_decls ss)) a b) h (omega arith) (λ formats qs target hi p. p)
-
-  pub assign_arm : (v : Named) (e : PExpr) (a b : Draft) →
-      Emits (3 + expr_syllables e) a b (λ formats qs target. AssignAt sc formats qs level v e (size a.out.operators) (size b.out.operators)) →
-      Emits (stmt_syllables (tree.assign (tree.subscripted v tree.none) e)) a b (Stands (tree.assign (tree.subscripted v tree.none) e) a b)
-  assign_arm v e a b h = emits_weaker (Stands (tree.assign (tree.subscripted v tree.none) e) a b) h (omega arith) (λ formats qs target hi p. p)

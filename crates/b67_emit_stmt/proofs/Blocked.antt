@@ -10,14 +10,13 @@ use Rattle.algol_tree.specs.declared.tree.Stmt.TheVariants as shapes
 use Rattle.algol_tree.specs.Image.{decls, stmt, stmts}
 use Rattle.algol_tree.specs.Plain as tree
 use Rattle.algol_tree.specs.Plain.{PStmt, PStmts}
-use Rattle.b67_emit_stmt.specs.Places.{Place}
+use Rattle.b67_emit_stmt.specs.Places.{Place, StmtAt, inside}
 use Rattle.b67_emit_stmt.specs.declared.draft.Known.{Known}
 use Rattle.b67_ops.specs.declared.TheConstants.{MOST_LEVEL}
 use Rattle.b67_segment.specs.declared.code.Format.{Format}
 use Rattle.b67_segment.specs.Operators.{Placed, size}
 use Rattle.b67_segment.specs.Building.{level_set}
 use Rattle.algol_tree.specs.Blocks.{number_at}
-use Rattle.b67_emit_stmt.specs.Places.{StmtAt, inside}
 use Rattle.b67_templates.specs.Depths.{stmt_syllables}
 use Rattle.b67_templates.specs.Fitting.{BlockFits}
 use Rattle.b67_emit_stmt.specs.Fits.{InsideFits, StmtFits}
@@ -29,7 +28,7 @@ use Rattle.b67_emit_stmt.proofs.Arms.{Stands, block_arm}
 use Rattle.b67_emit_stmt.proofs.Drafts.{emits_weaker}
 use Rattle.b67_emit_stmt.proofs.Matched.{emits_as, ready_as, ready_less}
 use Rattle.b67_emit_stmt.proofs.Shapes.{block_as}
-use Rattle.b67_emit_stmt.proofs.Variables.{cells_few}
+use Rattle.b67_emit_stmt.proofs.Variables.{declared_few}
 
 -- ---- whether something is declared
 
@@ -58,13 +57,13 @@ compound_emitted s a b x body ss t n is same e m h k =
 -- the code of a block has room
 body_room : (spot : Spot) (t : Bool) (ds : List Decl) (ss : PStmts) → t ≡ (length ds == 0) → t ≡ false → inner_syllables (decls ds) ss ≤ stmt_syllables (tree.block (tree.body spot (decls ds) ss))
 body_room spot t [] ss e h = absurd (let clash : true ≡ false = sym e ∙ h in cc)
-body_room spot t (d ∷ ds) ss e h = omega (arith, cells_few (decls (d ∷ ds)))
+body_room spot t (d ∷ ds) ss e h = omega (arith, declared_few (decls (d ∷ ds)))
 
 module _ (s : Known) (sc : Place) (level : ℕ) (spot : Spot) (ss : PStmts) where
   some_of : (t : Bool) (ds : List Decl) → t ≡ (length ds == 0) → t ≡ false → StmtFits sc s level (tree.block (tree.body spot (decls ds) ss)) →
       BlockFits level (decls ds) × (sc.segment ≡ s.segment) × InsideFits sc s (level + 1) (decls ds) ss
   some_of t [] e h fit = absurd (let clash : true ≡ false = sym e ∙ h in cc)
-  some_of t (d ∷ ds) e h fit = (fit.0, fit.1, (fit.2, fit.3))
+  some_of t (d ∷ ds) e h fit = (fit.0, fit.1, (fit.2, fit.3, fit.4))
 
   entered : (t : Bool) (ds : List Decl) (formats : List Format) (qs : List Placed) (from to target : ℕ) → t ≡ (length ds == 0) → t ≡ false →
       InnerAt (inside (number_at sc.scopes.blocks spot) sc) formats qs level (decls ds) ss from to → StmtAt sc formats qs level (tree.block (tree.body spot (decls ds) ss)) from to target

@@ -1,4 +1,4 @@
--- The code of a block: its cells, its statements, whose exits go to the place behind them, and EXIT; and that of a block within another.
+-- The code of a block: its cells, its arrays, its statements, whose exits go to the place behind them, and EXIT; and that of a block within another.
 use Rattle.std.proofs.Common.{◌≡◌, ℕ, ◌+◌, ◌*◌, ◌≤◌, [], ◌∷◌, length, take, drop, refl, sym, ap, ◌∙◌, subst, arith}
 use Rattle.std.specs.Prelude.{unwrap_or, Option, Some, IsSome}
 use Rattle.std.proofs.lemmas.List.{take_at}
@@ -15,7 +15,7 @@ use Rattle.b67_templates.specs.Fragments.{Has, BranchAt, EntryAt, over, stop}
 use Rattle.b67_emitter.specs.Aiming.{Aimed}
 use Rattle.b67_emit_stmt.specs.declared.draft.Draft.{Draft}
 use Rattle.b67_emit_stmt.specs.declared.draft.Known.{Known}
-use Rattle.b67_emit_stmt.specs.Bodies.{BlockAt, EmitsBlock, EmitsCells, EmitsInner, EmitsInside, HaveFitInside, InnerAt, block_syllables, inner_syllables, inside_syllables, variables_in}
+use Rattle.b67_emit_stmt.specs.Bodies.{BlockAt, EmitsBegin, EmitsBlock, EmitsInner, EmitsInside, HaveFitInside, InnerAt, InsideAt, block_syllables, inner_syllables, inside_syllables, variables_in}
 use Rattle.b67_emit_stmt.specs.Drafts.{Emits, IsAt, IsReady}
 use Rattle.b67_emit_stmt.specs.Emits.{EmitsStmts, HaveFit, stmts_syllables}
 use Rattle.b67_emit_stmt.specs.Fits.{InsideFits, StmtsFit}
@@ -32,26 +32,26 @@ use Rattle.b67_emit_stmt.proofs.Ready.{ready_after}
 pub level_at : {level : ℕ} (a : Draft) → IsAt level a → level_set a.out ≡ level
 level_at a at = ap (λ (o : Option ℕ). unwrap_or o 0) at.set
 
-module _ (s : Known) (level many : ℕ) (ds : PDecls) (ss : PStmts) (a b : Draft) (at : IsAt level a) (fits : (sc : Place) × InsideFits sc s level ds ss) (cells : EmitsCells s level a b many ds) where
-  behind_cells : level_set b.out ≡ level
-  behind_cells = level_after (cells fits.0 fits.1.0) ∙ level_at a at
+module _ (s : Known) (level many : ℕ) (ds : PDecls) (ss : PStmts) (a b : Draft) (at : IsAt level a) (fits : (sc : Place) × InsideFits sc s level ds ss) (begun : EmitsBegin s level a b many ds) where
+  behind_begin : level_set b.out ≡ level
+  behind_begin = level_after (begun fits.0 fits.1.0 fits.1.1) ∙ level_at a at
 
   pub stmts_ready : IsReady s a (inside_syllables many ds ss) → IsReady s b (stmts_syllables ss)
-  stmts_ready r = ready_after s a (inside_syllables many ds ss) (stmts_syllables ss) r (cells fits.0 fits.1.0) (omega arith)
+  stmts_ready r = ready_after s a (inside_syllables many ds ss) (stmts_syllables ss) r (begun fits.0 fits.1.0 fits.1.1) (omega arith)
 
   pub stmts_fit : HaveFit s b ss
-  stmts_fit = let F : ℕ → Type 0 = λ l. StmtsFit fits.0 s l ss in (fits.0, subst F (sym behind_cells) fits.1.1)
+  stmts_fit = let F : ℕ → Type 0 = λ l. StmtsFit fits.0 s l ss in (fits.0, subst F (sym behind_begin) fits.1.2)
 
   module _ (c : Draft) (first : ℕ) (is : first ≡ length a.exits.items) (behind : EmitsStmts s b c ss) where
     performed : (sc : Place) → InsideFits sc s level ds ss → Emits (stmts_syllables ss) b c
         (λ formats qs target. StmtsAt sc formats qs level ss (size b.out.operators) (size c.out.operators) target)
     performed sc fit =
         let F : ℕ → Type 0 = λ l. StmtsFit sc s l ss in
-        at_level {b = b} {c = c} level (λ l formats qs target. StmtsAt sc formats qs l ss (size b.out.operators) (size c.out.operators) target) behind_cells (behind sc (subst F (sym behind_cells) fit.1))
+        at_level {b = b} {c = c} level (λ l formats qs target. StmtsAt sc formats qs l ss (size b.out.operators) (size c.out.operators) target) behind_begin (behind sc (subst F (sym behind_begin) fit.2))
 
     -- what leaves the statements can be aimed
     pub block_exits : (first ≤ length c.exits.items) × AreExits c.out.operators (drop first c.exits.items) 0 (size c.out.operators)
-    block_exits = exits_lie a c first is (emits_then (cells fits.0 fits.1.0) (performed fits.0 fits.1))
+    block_exits = exits_lie a c first is (emits_then (begun fits.0 fits.1.0 fits.1.1) (performed fits.0 fits.1))
 
     module _ (d : Draft) (aimed : Aimed (drop first c.exits.items) c.out d.out) (es : d.exits.items ≡ take first c.exits.items) (fs : d.formats.items ≡ c.formats.items) where
       -- with the exits of the statements aimed
@@ -59,18 +59,18 @@ module _ (s : Known) (level many : ℕ) (ds : PDecls) (ss : PStmts) (a b : Draft
       inside_stands = λ sc fit.
           let A : ℕ → Type 0 = λ n. Aimed (drop n c.exits.items) c.out d.out in
           let E : ℕ → Type 0 = λ n. d.exits.items ≡ take n c.exits.items in
-          let through = closed (emits_then (cells sc fit.0) (performed sc fit)) (subst A is aimed) (subst E is es) fs in
+          let through = closed (emits_then (begun sc fit.0 fit.1) (performed sc fit)) (subst A is aimed) (subst E is es) fs in
           emits_weaker
-          (λ formats qs target. (x : ℕ) × CellsAt sc formats qs level many (control_segments sc.scopes ds) (size a.out.operators) x × StmtsAt sc formats qs level ss x (size d.out.operators) (size d.out.operators))
+          (λ formats qs target. InsideAt sc formats qs level many ds ss (size a.out.operators) (size d.out.operators))
           through (omega arith)
           (λ formats qs target hi p.
           let S : ℕ → Type 0 = λ e. StmtsAt sc formats qs level ss (size b.out.operators) e e in
-          (size b.out.operators, p.0, subst S (sym aimed.place) p.1))
+          (p.0.0, size b.out.operators, p.0.1, p.0.2, subst S (sym aimed.place) p.1))
 
       -- no exit is left
       pub none_left : d.exits.items ≡ a.exits.items
       none_left =
-          let whole = emits_then (cells fits.0 fits.1.0) (performed fits.0 fits.1) in
+          let whole = emits_then (begun fits.0 fits.1.0 fits.1.1) (performed fits.0 fits.1) in
           es ∙ ap (take first) whole.code.added ∙ take_at a.exits.items whole.code.exits first (sym is)
 
 -- the block ends behind that
@@ -91,7 +91,7 @@ module _ (s : Known) (level : ℕ) (ds : PDecls) (ss : PStmts) (a d : Draft) (at
       emits_weaker (λ formats qs target. BlockAt sc formats qs level ds ss (size a.out.operators)) (emits_then front last) (omega (arith, is))
       (λ formats qs target hi p.
       let C : ℕ → Type 0 = λ n. CellsAt sc formats qs level n (control_segments sc.scopes ds) (size a.out.operators) p.0.0 in
-      (p.0.0, size d.out.operators, size e.out.operators, subst C is p.0.1, p.0.2, p.1))
+      (p.0.0, p.0.1, size d.out.operators, size e.out.operators, subst C is p.0.2, p.0.3, p.0.4, p.1))
 
 -- ---- one level further in
 

@@ -6,7 +6,7 @@ use Rattle.std.proofs.lemmas.List.{append-nil}
 use Rattle.algol_tree.specs.declared.tree.Stmt.{Stmt}
 use Rattle.algol_tree.specs.Counts.{stmt_tokens, stmts_tokens}
 use Rattle.algol_tree.specs.Image.{stmt, stmts}
-use Rattle.b67_emit_stmt.specs.Places.{Place}
+use Rattle.b67_emit_stmt.specs.Places.{Place, StmtAt, CasesAt}
 use Rattle.b67_ops.specs.declared.Operator.{Operator}
 use Rattle.b67_ops.specs.declared.Operator.TheVariants.{Branch}
 use Rattle.b67_ops.specs.declared.BranchKind.{BranchKind}
@@ -14,7 +14,6 @@ use Rattle.b67_ops.specs.declared.BranchKind.TheVariants.{Brun}
 use Rattle.b67_segment.specs.declared.code.Format.{Format}
 use Rattle.b67_segment.specs.Operators.{Placed, StandsAmong, size}
 use Rattle.b67_templates.specs.Fragments.{Has, BranchAt, Goes, over, stop}
-use Rattle.b67_emit_stmt.specs.Places.{StmtAt, CasesAt}
 use Rattle.b67_templates.specs.Emitting.{Keeps, Emitted, is_among, Leaves, AreExits}
 use Rattle.b67_emitter.specs.Aiming.{Aimed}
 use Rattle.b67_emitter.proofs.Exits.{next-behind, is_among-append, or-left, or-right, none_before, none_behind, exits_kept, exits-append}

@@ -16,12 +16,18 @@ pub mod Aims
 pub mod Listed
 pub mod Tables
 pub mod Turns
+pub mod Fors
+pub mod Thrus
 pub mod Levels
 pub mod Zeros
 pub mod Variables
 pub mod Numbered
 pub mod Walks
+pub mod Stores
+pub mod Bounds
+pub mod ArrayLists
 pub mod Blocks
+pub mod Begins
 pub mod Blocked
 pub mod TextEnds
 pub mod TextSegments
@@ -29,3 +35,4 @@ pub mod TextStanding
 pub mod TextTrees
 pub mod TextNumbers
 pub mod TextProgram
+pub mod TextParts

@@ -7,7 +7,7 @@ use Rattle.algol_tree.specs.Counts.{expr_tokens, exprs_tokens}
 use Rattle.algol_tree.specs.declared.tree.Expr.{Expr}
 use Rattle.algol_tree.specs.declared.tree.Kind.TheVariants as types
 use Rattle.b67_emit_stmt.specs.declared.draft.Known.{Known}
-use Rattle.b67_emit_stmt.specs.Places.{Place}
+use Rattle.b67_emit_stmt.specs.Places.{Place, ExprAt, LineAt}
 use Rattle.b67_segment.specs.declared.code.Format.{Format}
 use Rattle.b67_segment.specs.Operators.{Placed, size}
 use Rattle.b67_segment.specs.Building.{Built}
@@ -15,7 +15,6 @@ use Rattle.b67_templates.specs.Emitting.{Emitted}
 use Rattle.b67_emitter.proofs.Composing.{then, weaker}
 use Rattle.b67_segment.specs.declared.code.Phrase.{Phrase}
 use Rattle.b67_templates.specs.Code.{AreParts, IsPart}
-use Rattle.b67_emit_stmt.specs.Places.{ExprAt, LineAt}
 use Rattle.b67_templates.specs.Fitting.{PhraseFits, PhrasesFit}
 use Rattle.b67_emit_stmt.specs.Fits.{ExprFits, LineFits}
 

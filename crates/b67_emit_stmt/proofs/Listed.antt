@@ -3,12 +3,11 @@ use Rattle.std.proofs.Common.{◌≡◌, ℕ, ◌+◌, ◌≤◌, ◌<◌, List,
 use Rattle.algol_tree.specs.declared.tree.Stmt.{Stmt}
 use Rattle.algol_tree.specs.Counts.{stmt_tokens, stmts_tokens}
 use Rattle.algol_tree.specs.Image.{stmt, stmts}
-use Rattle.b67_emit_stmt.specs.Places.{Place}
+use Rattle.b67_emit_stmt.specs.Places.{Place, StmtAt, StmtsAt}
 use Rattle.b67_emit_stmt.specs.declared.draft.Known.{Known}
 use Rattle.b67_segment.specs.declared.code.Format.{Format}
 use Rattle.b67_segment.specs.Operators.{Placed, size}
 use Rattle.b67_segment.specs.Building.{level_set}
-use Rattle.b67_emit_stmt.specs.Places.{StmtAt, StmtsAt}
 use Rattle.b67_templates.specs.Depths.{stmt_syllables}
 use Rattle.b67_emit_stmt.specs.Fits.{StmtFits, StmtsFit}
 use Rattle.b67_emitter.specs.Aiming.{Aimed}

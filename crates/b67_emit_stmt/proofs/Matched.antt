@@ -1,5 +1,5 @@
 -- A statement whose plain tree is known: what it needs, and what its code is.
-use Rattle.std.proofs.Common.{◌≡◌, ℕ, ◌+◌, ◌≤◌, List, length, refl, sym, ap, ◌∙◌, subst, arith}
+use Rattle.std.proofs.Common.{◌≡◌, ℕ, ◌+◌, ◌*◌, ◌≤◌, List, length, refl, sym, ap, ◌∙◌, subst, arith}
 use Rattle.std.specs.Prelude.{IsSome}
 use Rattle.algol_tree.specs.declared.token.Spot.{Spot}
 use Rattle.algol_tree.specs.declared.tree.Kind.TheVariants as types
@@ -7,21 +7,22 @@ use Rattle.algol_tree.specs.declared.tree.Named.{Named}
 use Rattle.algol_tree.specs.declared.tree.Op.TheVariants as operators
 use Rattle.algol_tree.specs.declared.tree.PhraseText.{PhraseText}
 use Rattle.algol_tree.specs.Plain as tree
-use Rattle.algol_tree.specs.Plain.{PDecls, PExpr, PExprs, PStmt, PStmts}
-use Rattle.b67_emit_stmt.specs.Places.{Place}
+use Rattle.algol_tree.specs.Plain.{PCall, PDecls, PExpr, PExprs, PStmt, PStmts}
+use Rattle.b67_emit_stmt.specs.Places.{Place, AssignAt, CallStmtAt, ExprAt, StepAt, WriteAt}
 use Rattle.b67_emit_stmt.specs.declared.draft.Known.{Known}
 use Rattle.algol_meaning.specs.Statements as meaning
+use Rattle.b67_segment.specs.declared.TheConstants.{MOST_SEGMENT_WORDS}
 use Rattle.b67_segment.specs.declared.code.Format.{Format}
 use Rattle.b67_segment.specs.Operators.{Placed, size}
 use Rattle.b67_segment.specs.Building.{Built, level_set}
-use Rattle.b67_emit_stmt.specs.Places.{AssignAt, CallStmtAt, ExprAt, StepAt, WriteAt}
 use Rattle.b67_templates.specs.Depths.{expr_syllables, stmt_syllables}
 use Rattle.b67_templates.specs.Emitting.{Emitted}
 use Rattle.b67_emit_stmt.specs.Fits.{AssignFits, CallStmtFits, ExprFits, ReadFits, VariableFits, StmtFits, WriteFits}
 use Rattle.b67_emit_stmt.specs.declared.draft.Draft.{Draft}
 use Rattle.b67_emit_stmt.specs.Drafts.{Emits, IsReady, HasFew}
 use Rattle.b67_emit_stmt.specs.Emits.{HasFit, EmitsStmt, EmitsThen, write_syllables}
-use Rattle.b67_emit_stmt.proofs.Arms.{Stands, assign_arm, if_else_arm}
+use Rattle.b67_emit_stmt.proofs.Arms.{Stands, if_else_arm}
+use Rattle.b67_emit_stmt.proofs.Calls.{call_room}
 use Rattle.b67_emit_stmt.proofs.Drafts.{at_level, emits_none, emits_weaker, level_after, piece}
 use Rattle.b67_emit_stmt.proofs.Parts.{leveled, set_same}
 use Rattle.b67_emit_stmt.proofs.Ready.{stmt_piece}
@@ -36,6 +37,14 @@ fit_as s a p q is f = let F : PStmt → Type 0 = λ x. HasFit s a x in subst F i
 
 pub emits_as : (s : Known) (a b : Draft) (p q : PStmt) → p ≡ q → EmitsStmt s a b q → EmitsStmt s a b p
 emits_as s a b p q is e = let E : PStmt → Type 0 = λ x. EmitsStmt s a b x in subst E (sym is) e
+
+-- a call has room where its statement has
+pub call_fits : (s : Known) (a : Draft) (p : PStmt) (c : PCall) (n : Named) (es : PExprs) → p ≡ tree.call_of (tree.called n es) → c ≡ tree.called n es → IsReady s a (stmt_syllables p) →
+    size a.out.operators + (expr_syllables (tree.call c) + 1) ≤ 6 * MOST_SEGMENT_WORDS
+call_fits s a p c n es is same ready =
+    let Z : PCall → Type 0 = λ x. size a.out.operators + (expr_syllables (tree.call x) + 1) ≤ 6 * MOST_SEGMENT_WORDS in
+    let there : Z (tree.called n es) = omega (arith, call_room n es, (ready_as s a p (tree.call_of (tree.called n es)) is ready).room) in
+    subst Z (sym same) there
 
 -- ---- less room
 
@@ -62,24 +71,6 @@ fit_at s sc x b level q fit = let F : ℕ → Type 0 = λ l. StmtFits sc s l x i
 -- nothing
 pub empty_emitted : (s : Known) (a : Draft) → HasFew a → EmitsStmt s a a tree.empty
 empty_emitted s a few = λ sc fit. emits_weaker (Stands sc (level_set a.out) tree.empty a a) (emits_none a few) (omega arith) (λ formats qs target hi p. refl)
-
-module _ (s : Known) (sc : Place) (level : ℕ) where
-  -- the variable is a name alone
-  pub alone : (n : Named) (es : PExprs) (e : PExpr) → StmtFits sc s level (tree.assign (tree.subscripted n es) e) → es ≡ tree.none
-  alone n tree.none e h = refl
-  alone n (tree.more x xs) e h = absurd h
-
-  pub assigns : (n : Named) (es : PExprs) (e : PExpr) → StmtFits sc s level (tree.assign (tree.subscripted n es) e) → AssignFits sc s level n e
-  assigns n tree.none e h = h
-  assigns n (tree.more x xs) e h = absurd h
-
-  pub called : (n : Named) (es : PExprs) → StmtFits sc s level (tree.call_of (tree.called n es)) → CallStmtFits sc s level n
-  called n tree.none h = h
-  called n (tree.more x xs) h = absurd h
-
-  bare_call : (n : Named) (es : PExprs) → StmtFits sc s level (tree.call_of (tree.called n es)) → es ≡ tree.none
-  bare_call n tree.none h = refl
-  bare_call n (tree.more x xs) h = absurd h
 
 -- ---- levels
 
@@ -122,6 +113,16 @@ module _ (s : Known) (sc : Place) (level : ℕ) where
       (h sc formats (subst N (sym q) name) (subst F (sym q) fit)))
       short
 
+  -- what the difference and the step want, at a level that is the same
+  pub compared_fits : (n : Named) (e : PExpr) (level' : ℕ) → level' ≡ level → ReadFits sc s level types.Number n → ExprFits sc s level types.Number e →
+      (sc' : Place) × ReadFits sc' s level' types.Number n × ExprFits sc' s level' types.Number e
+  compared_fits n e level' q name fit =
+      let F : ℕ → Type 0 = λ l. (sc' : Place) × ReadFits sc' s l types.Number n × ExprFits sc' s l types.Number e in subst F (sym q) (sc, name, fit)
+
+  pub stepped_fits : (e : PExpr) (level' : ℕ) → level' ≡ level → ExprFits sc s level types.Number e → (sc' : Place) × ExprFits sc' s level' types.Number e
+  stepped_fits e level' q fit =
+      let F : ℕ → Type 0 = λ l. (sc' : Place) × ExprFits sc' s l types.Number e in subst F (sym q) (sc, fit)
+
   pub stepped : (e : PExpr) (a b : Draft) → level_set a.out ≡ level →
       ((sc' : Place) → ExprFits sc' s (level_set a.out) types.Number e →
       Emits (13 + expr_syllables e) a b (λ formats qs target. StepAt sc' formats qs (level_set a.out) e (size a.out.operators) target (size b.out.operators))) →
@@ -150,32 +151,19 @@ module _ (s : Known) (sc : Place) (level : ℕ) where
 -- ---- whole statements
 
 module _ (s : Known) (a b : Draft) (p : PStmt) where
-  pub assign_emitted : (n : Named) (es : PExprs) (e : PExpr) → p ≡ tree.assign (tree.subscripted n es) e → b.exits.items ≡ a.exits.items → b.formats.items ≡ a.formats.items →
-      HasFew a →
-      ((sc' : Place) (formats : List Format) → AssignFits sc' s (level_set a.out) n e →
-      Emitted a.out b.out (λ qs. AssignAt sc' formats qs (level_set a.out) n e (size a.out.operators) (size b.out.operators))) →
-      size b.out.operators ≤ size a.out.operators + (3 + expr_syllables e) → EmitsStmt s a b p
-  assign_emitted n es e is xs fs few h short = λ sc fit.
+  pub call_emitted : (c : PCall) (n : Named) (es : PExprs) → p ≡ tree.call_of (tree.called n es) → c ≡ tree.called n es → b.exits.items ≡ a.exits.items → b.formats.items ≡ a.formats.items → HasFew a →
+      ((sc : Place) (formats : List Format) → CallStmtFits sc s (level_set a.out) n es →
+      Emitted a.out b.out (λ qs. CallStmtAt sc formats qs (level_set a.out) n es (size a.out.operators) (size b.out.operators))) →
+      size b.out.operators ≤ size a.out.operators + (expr_syllables (tree.call c) + 1) → EmitsStmt s a b p
+  call_emitted c n es is same xs fs few h short = λ sc fit.
       let level = level_set a.out in
+      let Z : PCall → Type 0 = λ x. size b.out.operators ≤ size a.out.operators + (expr_syllables (tree.call x) + 1) in
+      let most = expr_syllables (tree.call (tree.called n es)) + 1 in
       let F : PStmt → Type 0 = λ x. StmtFits sc s level x in
-      let there = subst F is fit in
-      let bare : p ≡ tree.assign (tree.subscripted n tree.none) e = is ∙ ap (λ l. tree.assign (tree.subscripted n l) e) (alone s sc level n es e there) in
       let E : PStmt → Type 0 = λ x. Emits (stmt_syllables x) a b (Stands sc level x a b) in
-      subst E (sym bare) (assign_arm sc level n e a b (assigned s sc level n e a b refl xs fs few h short (assigns s sc level n es e there)))
-
-  pub call_emitted : (n : Named) (es : PExprs) → p ≡ tree.call_of (tree.called n es) → b.exits.items ≡ a.exits.items → b.formats.items ≡ a.formats.items → HasFew a →
-      ((sc : Place) (formats : List Format) → CallStmtFits sc s (level_set a.out) n →
-      Emitted a.out b.out (λ qs. CallStmtAt sc formats qs (level_set a.out) n (size a.out.operators) (size b.out.operators))) →
-      size b.out.operators ≤ size a.out.operators + 5 → EmitsStmt s a b p
-  call_emitted n es is xs fs few h short = λ sc fit.
-      let level = level_set a.out in
-      let F : PStmt → Type 0 = λ x. StmtFits sc s level x in
-      let there = subst F is fit in
-      let bare : p ≡ tree.call_of (tree.called n tree.none) = is ∙ ap (λ l. tree.call_of (tree.called n l)) (bare_call s sc level n es there) in
-      let E : PStmt → Type 0 = λ x. Emits (stmt_syllables x) a b (Stands sc level x a b) in
-      let code : Emits 5 a b (λ formats qs target. CallStmtAt sc formats qs level n (size a.out.operators) (size b.out.operators)) =
-      piece {n = 5} {d = a} {e = b} xs fs few (λ formats. h sc formats (called s sc level n es there)) short in
-      subst E (sym bare) (emits_weaker (Stands sc level (tree.call_of (tree.called n tree.none)) a b) code (omega arith) (λ formats qs target hi x. x))
+      let code : Emits most a b (λ formats qs target. CallStmtAt sc formats qs level n es (size a.out.operators) (size b.out.operators)) =
+      piece {n = most} {d = a} {e = b} xs fs few (λ formats. h sc formats (subst F is fit)) (subst Z same short) in
+      subst E (sym is) (emits_weaker (Stands sc level (tree.call_of (tree.called n es)) a b) code (call_room n es) (λ formats qs target hi x. x))
 
   pub write_emitted : (n : Named) (spot : Spot) (phrases : List PhraseText) (es : PExprs) → p ≡ tree.write n spot phrases es →
       ((sc : Place) → WriteFits sc s (level_set a.out) phrases es →

@@ -12,7 +12,7 @@ use Rattle.b67_ops.specs.Intrinsics.{couple_of_intrinsic}
 use Rattle.b67_ops.specs.Spelling.{level_bits, index_bits, IsSeen}
 use Rattle.b67_templates.specs.Cells.{IsVariable}
 use Rattle.b67_templates.specs.Fitting.{NameFits, couple_on_left}
-use Rattle.algol_scope.specs.declared.scopes.Scopes as table
+use Rattle.b67_emitter.specs.declared.names.Names.{Names}
 use Rattle.algol_tree.specs.declared.TheConstants.{MOST_BLOCK_CELLS}
 use Rattle.b67_emitter.specs.Values.{AreNear, couples, lefts, results}
 
@@ -61,7 +61,7 @@ variable_is sc known level k n c fit e =
     let V : Couple → Type 0 = λ d. IsVariable sc level n k d in subst V (some_same fit.0 c (sym fit.1 ∙ e)) fit.2
 
 -- the couple of a name on the left is that of its own cell or of a result
-pub left_near : (s : table.Scopes) (n : Named) (c : Couple) → AreNear s → lefts s n.spot ≡ Some c → c.index < 512
+pub left_near : (s : Names) (n : Named) (c : Couple) → AreNear s → lefts s n.spot ≡ Some c → c.index < 512
 left_near s n c near is = by (couples s n.spot) (results s n.spot) (near.own n.spot) (near.result n.spot) is
   where
     by : (own result : Option Couple) → ((d : Couple) → own ≡ Some d → d.index < 2 + MOST_BLOCK_CELLS) → ((d : Couple) → result ≡ Some d → d.index < 2 + MOST_BLOCK_CELLS) →

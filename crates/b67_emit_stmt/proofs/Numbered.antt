@@ -1,24 +1,26 @@
 -- The numbers of the procedures that a block declares.
-use Rattle.std.proofs.Common.{◌≡◌, ℕ, ◌+◌, ◌<◌, ◌≤◌, ◌^◌, List, [], ◌∷◌, ◌++◌, map, length, sym, ap, ◌∙◌, refl, arith, append_assoc}
+use Rattle.std.proofs.Common.{◌≡◌, ℕ, ◌+◌, ◌<◌, ◌≤◌, ◌^◌, Bool, true, false, if◌then◌else◌, Some, None, List, [], ◌∷◌, ◌++◌, map, length, sym, ap, ◌∙◌, refl, arith, append_assoc}
 use Rattle.std.proofs.lemmas.List.Elements.{All-nil, All-cons}
 use Rattle.std.proofs.lemmas.List.{length-map}
 use Rattle.std.specs.List.{All}
+use Rattle.algol_tree.specs.declared.token.Spot.{Spot}
 use Rattle.algol_tree.specs.declared.tree.Named.{Named}
-use Rattle.algol_tree.specs.Blocks.{number_at}
+use Rattle.algol_tree.specs.Blocks.{number_at, same_spot}
 use Rattle.algol_tree.specs.Scopes.{Scopes}
+use Rattle.algol_places.specs.Numbers.{number_from, number_of}
 use Rattle.algol_paths.specs.Segments.{segment_of}
 use Rattle.b67_ops.specs.declared.TheConstants.{MOST_LEVEL}
 use Rattle.b67_emit_stmt.specs.declared.draft.Known.{Known}
 use Rattle.b67_emit_stmt.specs.Bodies.{numbers_of}
-use Rattle.b67_emit_stmt.specs.Fits.{AreNumbered, number_in, text_of}
+use Rattle.b67_emit_stmt.specs.Fits.{AreNumbered, number_in}
 
 pub numbers_long : (s : Known) (ns : List Named) → length (numbers_of s ns) ≡ length ns
-numbers_long s ns = length-map ns (λ (n : Named). number_in (map text_of s.procedures.now) n.spot)
+numbers_long s ns = length-map ns (λ (n : Named). number_in s.procedures.now n.spot)
 
 module _ (s : Known) (sc : Scopes) (level : ℕ) where
   pub numbers_fit : (ns : List Named) → AreNumbered sc s level ns → All (λ (k : ℕ). k < 2 ^ 10) (numbers_of s ns)
   numbers_fit [] h = All-nil (λ (k : ℕ). k < 2 ^ 10)
-  numbers_fit (n ∷ ns) h = All-cons (λ (k : ℕ). k < 2 ^ 10) (number_in (map text_of s.procedures.now) n.spot) (numbers_of s ns) (omega (arith, h.0.few)) (numbers_fit ns h.1)
+  numbers_fit (n ∷ ns) h = All-cons (λ (k : ℕ). k < 2 ^ 10) (number_in s.procedures.now n.spot) (numbers_of s ns) (omega (arith, h.0.few)) (numbers_fit ns h.1)
 
   pub numbers_inner : (ns : List Named) → AreNumbered sc s level ns → 1 ≤ length (numbers_of s ns) → level + 1 ≤ MOST_LEVEL
   numbers_inner [] h some = absurd (omega (arith, some))
@@ -28,6 +30,20 @@ module _ (s : Known) (sc : Scopes) (level : ℕ) where
   numbers_are [] h = refl
   numbers_are (n ∷ ns) h =
       ap (λ k. k ∷ numbers_of s ns) (sym h.0.is) ∙ ap (λ l. segment_of sc.blocks (number_at sc.blocks n.spot) ∷ l) (numbers_are ns h.1)
+
+from_within : (k : ℕ) (ps : List Spot) (spot : Spot) (n : ℕ) → number_from k ps spot ≡ Some n → n < k + length ps
+from_within k [] spot n e = absurd (let clash : None ≡ Some n = e in cc)
+from_within k (p ∷ ps) spot n e = by (same_spot p spot) (from_within (k + 1) ps spot n) e
+  where
+    by : (b : Bool) → (number_from (k + 1) ps spot ≡ Some n → n < k + 1 + length ps) → (if b then Some k else number_from (k + 1) ps spot) ≡ Some n → n < k + length (p ∷ ps)
+    by true later f =
+        let same : k ≡ n = cc in
+        omega (arith, same)
+    by false later f = omega (arith, later f)
+
+-- a number is that of one of the places
+pub number_within : (ps : List Spot) (spot : Spot) (n : ℕ) → number_of ps spot ≡ Some n → n < length ps
+number_within ps spot n e = omega (arith, from_within 0 ps spot n e)
 
 -- one more
 pub numbers_more : (s : Known) (xs ys all more rest : List ℕ) (k : ℕ) → xs ++ more ≡ all → more ≡ k ∷ rest → ys ≡ xs ++ k ∷ [] → ys ++ rest ≡ all

@@ -7,7 +7,7 @@ use Rattle.algol_tree.specs.declared.tree.Op.TheVariants as operators
 use Rattle.algol_tree.specs.declared.tree.Named.{Named}
 use Rattle.algol_tree.specs.Plain as tree
 use Rattle.algol_tree.specs.Plain.{PExpr}
-use Rattle.b67_emit_stmt.specs.Places.{Place, context_in}
+use Rattle.b67_emit_stmt.specs.Places.{Place, context_in, AssignAt, ExprAt, ReadAt, ReferenceAt}
 use Rattle.b67_templates.specs.Code.{reads}
 use Rattle.b67_emit_stmt.specs.declared.draft.Known.{Known}
 use Rattle.algol_meaning.specs.Statements.{alone}
@@ -22,7 +22,6 @@ use Rattle.b67_segment.specs.Operators.{Placed, size}
 use Rattle.b67_segment.specs.Building.{Built, level_set}
 use Rattle.b67_templates.specs.Fragments.{Has, IntrinsicAt}
 use Rattle.b67_templates.specs.Cells.{IsVariable}
-use Rattle.b67_emit_stmt.specs.Places.{AssignAt, ExprAt, ReadAt, ReferenceAt}
 use Rattle.b67_templates.specs.Emitting.{Emitted}
 use Rattle.b67_emit_stmt.specs.Fits.{ExprFits, VariableFits}
 use Rattle.b67_emitter.specs.Values.{HasCode, ValueEmitted}
@@ -42,7 +41,7 @@ pub plain_at : {b c : Built} (kind : PlainKind) (level : ℕ) → level_set b �
 plain_at {b} {c} kind level e h = leveled (λ l qs. Has qs l (size b.operators) (ops.Plain kind) (size c.operators)) level e h
 
 -- the expression has code at a level that is the same
-pub code_at : (s : Known) (level' level : ℕ) (sc : Place) (k : Kind) (e : PExpr) → level' ≡ level → ExprFits sc s level k e → HasCode s.scopes.now level' e
+pub code_at : (s : Known) (level' level : ℕ) (sc : Place) (k : Kind) (e : PExpr) → level' ≡ level → ExprFits sc s level k e → HasCode s.names.now level' e
 code_at s level' level sc k e q fit =
     let F : ℕ → Type 0 = λ l. ExprFits sc s l k e in record { scopes = sc.scopes; kind = k; fits = subst F (sym q) fit }
 
@@ -50,7 +49,7 @@ pub variable_at : (s : Known) (level' level : ℕ) (sc : Place) (n : Named) → 
 variable_at s level' level sc n q fit = let F : ℕ → Type 0 = λ l. VariableFits sc s l n in subst F (sym q) fit
 
 pub value_at : (s : Known) (b c : Built) (level : ℕ) (sc : Place) (formats : List Format) (k : Kind) (e : PExpr) → level_set b ≡ level →
-    ValueEmitted s.scopes.now (level_set b) b c e → ExprFits sc s level k e →
+    ValueEmitted s.names.now (level_set b) b c e → ExprFits sc s level k e →
     Emitted b c (λ qs. ExprAt sc formats qs level k e (size b.operators) (size c.operators) (size c.operators))
 value_at s b c level sc formats k e q v fit =
     let F : ℕ → Type 0 = λ l. ExprFits sc s l k e in

@@ -2,7 +2,7 @@
 use Rattle.std.proofs.Common.{◌≡◌, ℕ, ◌+◌, ◌≤◌, List, sym, subst, arith}
 use Rattle.algol_tree.specs.declared.tree.Kind.{Kind}
 use Rattle.algol_tree.specs.Plain.{PExpr, PStmt}
-use Rattle.b67_emit_stmt.specs.Places.{Place}
+use Rattle.b67_emit_stmt.specs.Places.{Place, ExprAt}
 use Rattle.b67_emit_stmt.specs.declared.draft.Known.{Known}
 use Rattle.b67_ops.specs.declared.BranchKind.{BranchKind}
 use Rattle.b67_ops.specs.declared.PlainKind.{PlainKind}
@@ -10,7 +10,6 @@ use Rattle.b67_segment.specs.declared.code.Format.{Format}
 use Rattle.b67_segment.specs.Operators.{Placed, size}
 use Rattle.b67_segment.specs.Building.{level_set}
 use Rattle.b67_templates.specs.Fragments.{AllAt, BranchAt, TurnAt}
-use Rattle.b67_emit_stmt.specs.Places.{ExprAt}
 use Rattle.b67_templates.specs.Depths.{expr_syllables, stmt_syllables}
 use Rattle.b67_templates.specs.Emitting.{Emitted, EmittedWithExits}
 use Rattle.b67_emit_stmt.specs.Fits.{ExprFits, StmtFits}
@@ -30,7 +29,7 @@ pub fit_after : {n : ℕ} {a b : Draft} {P : List Format → List Placed → ℕ
 fit_after {n} {a} {b} s sc x e fit = let F : ℕ → Type 0 = λ l. StmtFits sc s l x in (sc, subst F (sym (level_after e)) fit)
 
 pub value_piece : (s : Known) (a b : Draft) (level : ℕ) (sc : Place) (k : Kind) (e : PExpr) → level_set a.out ≡ level → b.exits.items ≡ a.exits.items →
-    b.formats.items ≡ a.formats.items → HasFew a → ValueEmitted s.scopes.now (level_set a.out) a.out b.out e → size b.out.operators ≤ size a.out.operators + expr_syllables e →
+    b.formats.items ≡ a.formats.items → HasFew a → ValueEmitted s.names.now (level_set a.out) a.out b.out e → size b.out.operators ≤ size a.out.operators + expr_syllables e →
     ExprFits sc s level k e →
     Emits (expr_syllables e) a b (λ formats qs target. ExprAt sc formats qs level k e (size a.out.operators) (size b.out.operators) (size b.out.operators))
 value_piece s a b level sc k e q es fs few v short fit =

@@ -14,7 +14,6 @@ use Rattle.algol_tree.specs.declared.tree.Stmt.{Stmt}
 use Rattle.algol_tree.specs.declared.tree.Stmt as stmts'
 use Rattle.algol_tree.specs.declared.tree.Stmt.TheVariants as shapes
 use Rattle.algol_tree.specs.declared.tree.Variable.{Variable}
-use Rattle.algol_tree.specs.declared.tree.Variable as variables
 use Rattle.algol_tree.specs.Image.{body, call, decls, expr, exprs, stmt, stmts, variable}
 use Rattle.algol_tree.specs.Plain as tree
 
@@ -38,10 +37,7 @@ write_is n spot ps es = search (rules, stmts'.the_lemmas)
 pub body_is : (b : Body) → body b ≡ tree.body b.spot (decls b.decls) (stmts b.stmts)
 body_is b = search (rules, bodies.the_lemmas)
 
-variable_is : (v : Variable) → variable v ≡ tree.subscripted v.name (exprs v.subs)
-variable_is v = search (rules, variables.the_lemmas)
-
-call_is : (c : Call) → call c ≡ tree.called c.name (exprs c.actuals)
+pub call_is : (c : Call) → call c ≡ tree.called c.name (exprs c.actuals)
 call_is c = search (rules, calls.the_lemmas)
 
 call_of_is : (c : Call) → stmt (shapes.Call c) ≡ tree.call_of (call c)
@@ -55,8 +51,8 @@ call_as s c is = ap stmt is ∙ call_of_is c ∙ ap tree.call_of (call_is c)
 pub empty_as : (s : Stmt) → s ≡ shapes.Empty → stmt s ≡ tree.empty
 empty_as s is = ap stmt is ∙ empty_is
 
-pub assign_as : (s : Stmt) (v : Variable) (e : Expr) → s ≡ shapes.Assign v e → stmt s ≡ tree.assign (tree.subscripted v.name (exprs v.subs)) (expr e)
-assign_as s v e is = ap stmt is ∙ assign_is v e ∙ ap (λ w. tree.assign w (expr e)) (variable_is v)
+pub assign_as : (s : Stmt) (v : Variable) (e : Expr) → s ≡ shapes.Assign v e → stmt s ≡ tree.assign (variable v) (expr e)
+assign_as s v e is = ap stmt is ∙ assign_is v e
 
 pub block_as : (s : Stmt) (b : Body) (ss : List Stmt) → s ≡ shapes.Block b → ss ≡ b.stmts → stmt s ≡ tree.block (tree.body b.spot (decls b.decls) (stmts ss))
 block_as s b ss is same =

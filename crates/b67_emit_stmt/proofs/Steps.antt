@@ -4,7 +4,7 @@ use Rattle.std.proofs.lemmas.Bool.{lt-ltb}
 use Rattle.std.specs.Prelude.{List, pos, negsuc, Some, int_lt, [], ◌∷◌}
 use Rattle.algol_tree.specs.declared.tree.Kind.TheVariants as types
 use Rattle.algol_tree.specs.Plain.{PExpr}
-use Rattle.b67_emit_stmt.specs.Places.{Place}
+use Rattle.b67_emit_stmt.specs.Places.{Place, ExprAt, PastAt, SignedAt, StepAt}
 use Rattle.b67_ops.specs.declared.Operator.TheVariants as ops
 use Rattle.b67_ops.specs.declared.PlainKind.{PlainKind}
 use Rattle.b67_ops.specs.declared.PlainKind.TheVariants as kinds
@@ -13,7 +13,6 @@ use Rattle.b67_segment.specs.declared.code.Format.{Format}
 use Rattle.b67_segment.specs.Operators.{Placed, size}
 use Rattle.b67_templates.specs.Fragments.{Has, AllAt, BranchAt}
 use Rattle.b67_templates.specs.Code.{StepSign, up, down, still, any, literal, literal_of}
-use Rattle.b67_emit_stmt.specs.Places.{ExprAt, PastAt, SignedAt, StepAt}
 use Rattle.b67_emit_stmt.specs.declared.draft.Draft.{Draft}
 use Rattle.b67_emit_stmt.specs.Drafts.{Emits}
 use Rattle.b67_emit_stmt.proofs.Drafts.{emits_then, emits_weaker}

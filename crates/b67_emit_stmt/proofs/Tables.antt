@@ -1,38 +1,41 @@
 -- CASE: the call of SELECT, the table, and the statements behind it.
 use Rattle.std.proofs.Common.{◌≡◌, ℕ, zero, suc, ◌+◌, ◌*◌, ◌-◌, ◌≤◌, ◌<◌, List, [], ◌∷◌, length, take, drop, get_or, pos, refl, sym, ap, ◌∙◌, subst, arith, length-append}
 use Rattle.std.proofs.lemmas.List.{length-take-le}
+use Rattle.std.specs.Prelude.{IsSome}
 use Rattle.algol_tree.specs.declared.tree.Kind.TheVariants as types
 use Rattle.algol_tree.specs.declared.tree.Stmt.{Stmt}
 use Rattle.algol_tree.specs.Counts.{stmts_tokens}
 use Rattle.algol_tree.specs.Image.{stmt, stmts}
 use Rattle.algol_tree.specs.Plain as tree
 use Rattle.algol_tree.specs.Plain.{PExpr}
-use Rattle.b67_emit_stmt.specs.Places.{Place}
+use Rattle.b67_emit_stmt.specs.Places.{Place, CasesAt, ExprAt, TableAt}
 use Rattle.b67_emit_stmt.specs.declared.draft.Known.{Known}
 use Rattle.b67_ops.specs.declared.Operator.TheVariants as ops
 use Rattle.b67_ops.specs.declared.PlainKind.TheVariants as kinds
 use Rattle.b67_ops.specs.declared.BranchKind.TheVariants.{Brun}
 use Rattle.b67_ops.specs.declared.intrinsic.Intrinsic.TheVariants.{Select}
+use Rattle.b67_segment.specs.declared.TheConstants.{MOST_SEGMENT_WORDS}
 use Rattle.b67_segment.specs.declared.code.Format.{Format}
 use Rattle.b67_segment.specs.Operators.{Placed, size}
 use Rattle.b67_segment.specs.Building.{Built, level_set}
 use Rattle.b67_templates.specs.Fragments.{Has, BranchAt, IntrinsicAt, IsWhole, NumberAt, two_bytes}
 use Rattle.b67_templates.specs.Code.{stmts_count}
-use Rattle.b67_emit_stmt.specs.Places.{CasesAt, ExprAt, TableAt}
 use Rattle.b67_templates.specs.Depths.{expr_syllables, stmt_syllables}
 use Rattle.b67_templates.specs.Emitting.{AreExits, Emitted, EmittedWithExits}
-use Rattle.b67_emit_stmt.specs.Fits.{StmtFits}
+use Rattle.b67_emit_stmt.specs.Fits.{StmtFits, StmtsFit}
 use Rattle.b67_emitter.specs.Aiming.{Aimed}
 use Rattle.b67_emitter.proofs.Composing.{then, weaker}
 use Rattle.b67_emit_stmt.specs.declared.draft.Draft.{Draft}
-use Rattle.b67_emit_stmt.specs.Drafts.{Emits, HasFew, IsReady}
-use Rattle.b67_emit_stmt.specs.Emits.{EmitsStmt, stmts_syllables}
+use Rattle.b67_emit_stmt.specs.Drafts.{Emits, HasFew, IsAt, IsReady}
+use Rattle.b67_emit_stmt.specs.Emits.{EmitsStmt, HasFit, stmts_syllables}
 use Rattle.b67_emit_stmt.specs.Cases.{EntriesAt, SelectAt}
 use Rattle.b67_emit_stmt.proofs.Arms.{Stands}
 use Rattle.b67_emit_stmt.proofs.Cases.{Midcase, entries_more, entries_size, midcase-first, midcase-last, midcase-more}
 use Rattle.b67_emit_stmt.proofs.Drafts.{emits_then, emits_weaker, level_same}
 use Rattle.b67_emit_stmt.proofs.Lists.{around, front_more}
-use Rattle.b67_emit_stmt.proofs.Listed.{next_tokens}
+use Rattle.b67_emit_stmt.proofs.Levels.{at_same}
+use Rattle.b67_emit_stmt.proofs.Listed.{next_fits, next_tokens}
+use Rattle.b67_emit_stmt.proofs.Matched.{fit_at, ready_less, set_behind}
 use Rattle.b67_emit_stmt.proofs.Parts.{leveled, set_same}
 use Rattle.b67_emit_stmt.proofs.Ready.{branch_piece, stmt_piece}
 
@@ -139,7 +142,7 @@ module _ (s : Known) (sc : Place) (level : ℕ) (xs : List Stmt) (i : ℕ) (x : 
   pub entry_below : entry + 3 ≤ size t.out.operators
   entry_below = omega (arith, at, lo, table_size)
 
-  pub next_ready : (d : Draft) (n : ℕ) → Aimed (entry ∷ []) b.out d.out → d.formats.items ≡ b.formats.items → stmts_syllables (stmts xs) ≤ n → IsReady s a n →
+  next_ready : (d : Draft) (n : ℕ) → Aimed (entry ∷ []) b.out d.out → d.formats.items ≡ b.formats.items → stmts_syllables (stmts xs) ≤ n → IsReady s a n →
       IsReady s d (stmt_syllables (stmt x) + 3)
   next_ready d n aimed fs le r =
       let split : length xs ≡ length (take i xs) + (1 + length (drop (i + 1) xs)) =
@@ -152,6 +155,25 @@ module _ (s : Known) (sc : Place) (level : ℕ) (xs : List Stmt) (i : ℕ) (x : 
         few = omega (arith, m.few, ap length fs, aimed.place);
         room = omega (arith, aimed.place, m.short, table_size, split, few_statements (drop (i + 1) xs), next_tokens xs i x lo is, le, r.room);
       }
+
+  next_level : (d : Draft) → level_set a.out ≡ level → Aimed (entry ∷ []) b.out d.out → level_set d.out ≡ level
+  next_level d q aimed = level_same b.out d.out aimed.level ∙ level_same a.out b.out m.level_is ∙ q
+
+  -- what the next statement needs
+  pub stmt_needs : (d : Draft) (n : ℕ) → Aimed (entry ∷ []) b.out d.out → d.formats.items ≡ b.formats.items → stmts_syllables (stmts xs) ≤ n → IsReady s a n → level_set a.out ≡ level →
+      StmtsFit sc s level (stmts xs) → (own : ℕ) → IsAt own a → IsReady s d (stmt_syllables (stmt x)) × HasFit s d (stmt x) × IsAt own d
+  stmt_needs d n aimed fs le r q fits own at = (
+    ready_less s d (stmt_syllables (stmt x) + 3) (stmt_syllables (stmt x)) (next_ready d n aimed fs le r) (omega arith),
+    fit_at s sc (stmt x) d level (next_level d q aimed) (next_fits s sc level xs i x lo is fits),
+    at_same a d (aimed.level ∙ m.level_is) at,
+  )
+
+  -- .. and the branch behind it
+  pub exit_needs : (d : Draft) (n : ℕ) → Aimed (entry ∷ []) b.out d.out → d.formats.items ≡ b.formats.items → stmts_syllables (stmts xs) ≤ n → IsReady s a n → level_set a.out ≡ level →
+      StmtsFit sc s level (stmts xs) → (e : Draft) → EmitsStmt s d e (stmt x) → IsSome e.out.level × (size e.out.operators + 3 ≤ 6 * MOST_SEGMENT_WORDS)
+  exit_needs d n aimed fs le r q fits e k =
+      let part = stmt_piece s sc (stmt x) d e level (next_level d q aimed) k (next_fits s sc level xs i x lo is fits) in
+      (set_behind a.out part (aimed.level ∙ m.level_is) r.set, omega (arith, part.short, (next_ready d n aimed fs le r).room))
 
   pub cases_more : (d e f : Draft) → level_set a.out ≡ level → Aimed (entry ∷ []) b.out d.out → d.exits.items ≡ b.exits.items → d.formats.items ≡ b.formats.items →
       StmtFits sc s level (stmt x) → EmitsStmt s d e (stmt x) → f.formats.items ≡ e.formats.items →

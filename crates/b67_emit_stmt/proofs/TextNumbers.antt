@@ -1,5 +1,5 @@
 -- The texts of a program fit where they are emitted: the numbers that are known of their procedures are those of their segments.
-use Rattle.std.proofs.Common.{◌≡◌, ℕ, zero, suc, ◌+◌, ◌<◌, ◌≤◌, ◌==◌, Bool, true, false, List, [], ◌∷◌, length, map, refl, sym, ap, ◌∙◌, subst, arith, if◌then◌else◌}
+use Rattle.std.proofs.Common.{◌≡◌, ℕ, zero, suc, ◌+◌, ◌<◌, ◌≤◌, ◌==◌, Bool, true, false, Option, List, [], ◌∷◌, length, refl, sym, ap, ◌∙◌, subst, arith, if◌then◌else◌}
 use Rattle.std.specs.Prelude.{Some, slice_get}
 use Rattle.std.proofs.lemmas.Bool.{and_parts, eqb-true}
 use Rattle.std.proofs.lemmas.Bool.Decides.{nat_tests}
@@ -10,17 +10,18 @@ use Rattle.algol_tree.specs.Blocks.{of_statement, same_spot, number_at}
 use Rattle.algol_tree.specs.Plain as tree
 use Rattle.algol_tree.specs.Plain.{PStmt, PStmts, PDecls, PBody}
 use Rattle.algol_tree.specs.Scopes.{Scopes}
-use Rattle.algol_scope.specs.declared.scopes.Scopes as table
+use Rattle.b67_emitter.specs.declared.names.Names.{Names}
+use Rattle.algol_places.specs.Numbers.{number_from}
 use Rattle.algol_paths.specs.Segments.{segment_of}
 use Rattle.b67_ops.specs.declared.TheConstants.{OUTER_LEVEL}
 use Rattle.b67_templates.specs.Cells.{procedures}
 use Rattle.b67_templates.specs.Fitting as fitting
-use Rattle.b67_emitter.specs.Values.{couples, results}
+use Rattle.b67_emitter.specs.Values.{couples, lows, results}
 use Rattle.b67_emit_stmt.specs.declared.draft.Known.{Known}
-use Rattle.b67_emit_stmt.specs.Fits.{AreNumbered, InsideFits, IsNumbered, StmtFits, StmtsFit, number_in, text_of}
+use Rattle.b67_emit_stmt.specs.Fits.{AreNumbered, InsideFits, IsNumbered, StmtFits, StmtsFit, next_to, number_in}
 use Rattle.b67_emit_stmt.specs.Places.{Place}
 use Rattle.b67_emit_stmt.specs.Programs.{AreDue}
-use Rattle.b67_emit_stmt.specs.Texts.{Text, HaveLevelsBody, outer_text, texts, texts_of, texts_in_body, texts_in_decl, texts_in_decls, texts_in_stmts}
+use Rattle.b67_emit_stmt.specs.Texts.{Text, HaveLevelsBody, outer_text, places_of, texts, texts_of, texts_in_body, texts_in_decl, texts_in_decls, texts_in_stmts}
 use Rattle.b67_emit_stmt.proofs.TextStanding.{place_of}
 use Rattle.b67_emit_stmt.proofs.TextTrees.{Each, Fine, Within, each_at, each_from, each_left, each_right, hold_body, levels_all, levels_decls, within_procedure}
 
@@ -46,20 +47,19 @@ module _ (place : Place) (s : Known) where
 
   module _ (same : place.segment ≡ s.segment) where
     mutual
-      known_fits : (x : PStmt) (level : ℕ) → fitting.StmtFits place.scopes (couples s.scopes.now) (results s.scopes.now) level x → Each Numbered (texts_of x of_statement level) →
+      known_fits : (x : PStmt) (level : ℕ) → fitting.StmtFits place.scopes (couples s.names.now) (results s.names.now) (lows s.names.now) level x → Each Numbered (texts_of x of_statement level) →
           StmtFits place s level x
       known_fits tree.empty level fit h = tt
       known_fits (tree.label n t) level fit h = absurd fit
       known_fits (tree.assign (tree.subscripted n tree.none) e) level fit h = fit
-      known_fits (tree.assign (tree.subscripted n (tree.more i is)) e) level fit h = absurd fit
-      known_fits (tree.call_of (tree.called n tree.none)) level fit h = fit
-      known_fits (tree.call_of (tree.called n (tree.more i is))) level fit h = absurd fit
+      known_fits (tree.assign (tree.subscripted n (tree.more i is)) e) level fit h = fit
+      known_fits (tree.call_of (tree.called n es)) level fit h = fit
       known_fits (tree.go_to n) level fit h = absurd fit
       known_fits (tree.block (tree.body spot tree.no_decls ss)) level fit h = known_all ss level fit h
       known_fits (tree.block (tree.body spot (tree.decls d ds) ss)) level fit h =
           let declared = texts_in_decls (tree.decls d ds) (level + 1) in
           let behind = texts_in_stmts ss (level + 1) in
-          (fit.0, same, known_procedures (tree.decls d ds) (level + 1) (each_left Numbered declared behind h), known_all ss (level + 1) fit.1 (each_right Numbered declared behind h))
+          (fit.0, same, known_procedures (tree.decls d ds) (level + 1) (each_left Numbered declared behind h), fit.1, known_all ss (level + 1) fit.2 (each_right Numbered declared behind h))
       known_fits (tree.if_then c x) level fit h = (fit.0, known_fits x level fit.1 h)
       known_fits (tree.if_else c x y) level fit h = (
         fit.0,
@@ -75,7 +75,7 @@ module _ (place : Place) (s : Known) where
       known_fits (tree.event act e) level fit h = absurd fit
       known_fits (tree.write n spot phrases es) level fit h = fit
 
-      pub known_all : (xs : PStmts) (level : ℕ) → fitting.StmtsFit place.scopes (couples s.scopes.now) (results s.scopes.now) level xs → Each Numbered (texts_in_stmts xs level) →
+      pub known_all : (xs : PStmts) (level : ℕ) → fitting.StmtsFit place.scopes (couples s.names.now) (results s.names.now) (lows s.names.now) level xs → Each Numbered (texts_in_stmts xs level) →
           StmtsFit place s level xs
       known_all tree.no_stmts level fit h = tt
       known_all (tree.stmts x xs) level fit h = (
@@ -90,11 +90,11 @@ spot_same s t h =
     let parts = and_parts (s.column == t.column) (s.line == t.line) h in
     ap (λ n. record { line = s.line; column = n }) (eqb-true s.column t.column parts.0) ∙ ap (λ n. record { line = n; column = t.column }) (eqb-true s.line t.line parts.1)
 
--- the first text that stands there
-record First (ts : List Text) (spot : Spot) : Type 0 where
+-- the first text that stands there, where they are counted from a number on
+record First (from : ℕ) (ts : List Text) (spot : Spot) : Type 0 where
   place : ℕ
   text : Text
-  is : number_in ts spot ≡ place + 1
+  is : number_from from (places_of ts) spot ≡ Some (from + place)
   there : slice_get ts place ≡ Some text
   same : text.spot ≡ spot
 
@@ -104,18 +104,25 @@ same_some x y e = cc
 spot_self : (s : Spot) → same_spot s s ≡ true
 spot_self s = grind (arith, nat_tests)
 
-first_there : (ts : List Text) (k : ℕ) (t : Text) → slice_get ts k ≡ Some t → First ts t.spot
-first_there [] zero t e = cc
-first_there [] (suc k) t e = cc
-first_there (x ∷ xs) k t e = by (λ i u. first_there xs i t u) (same_spot x.spot t.spot) refl k e
+first_there : (from : ℕ) (ts : List Text) (k : ℕ) (t : Text) → slice_get ts k ≡ Some t → First from ts t.spot
+first_there from [] zero t e = cc
+first_there from [] (suc k) t e = cc
+first_there from (x ∷ xs) k t e = by (λ i u. first_there (from + 1) xs i t u) (same_spot x.spot t.spot) refl k e
   where
-    by : ((i : ℕ) → slice_get xs i ≡ Some t → First xs t.spot) → (b : Bool) → same_spot x.spot t.spot ≡ b → (k : ℕ) → slice_get (x ∷ xs) k ≡ Some t → First (x ∷ xs) t.spot
-    by behind true q k e = record { place = 0; text = x; is = ap (λ (c : Bool). if c then 1 else number_in xs t.spot + 1) q; there = refl; same = spot_same x.spot t.spot q }
+    number : Bool → Option ℕ
+    number b = if b then Some from else number_from (from + 1) (places_of xs) t.spot
+
+    by : ((i : ℕ) → slice_get xs i ≡ Some t → First (from + 1) xs t.spot) → (b : Bool) → same_spot x.spot t.spot ≡ b → (k : ℕ) → slice_get (x ∷ xs) k ≡ Some t →
+        First from (x ∷ xs) t.spot
+    by behind true q k e =
+        let own : from ≡ from + 0 = omega arith in
+        record { place = 0; text = x; is = ap number q ∙ ap Some own; there = refl; same = spot_same x.spot t.spot q }
     by behind false q zero e =
         let self : same_spot x.spot t.spot ≡ true = ap (λ (u : Text). same_spot u.spot t.spot) (same_some x t e) ∙ spot_self t.spot in cc
     by behind false q (suc k) e =
         let f = behind k e in
-        record { place = suc f.place; text = f.text; is = ap (λ (c : Bool). if c then 1 else number_in xs t.spot + 1) q ∙ omega (arith, f.is); there = f.there; same = f.same }
+        let more : from + 1 + f.place ≡ from + suc f.place = omega arith in
+        record { place = suc f.place; text = f.text; is = ap number q ∙ f.is ∙ ap Some more; there = f.there; same = f.same }
 
 pub lies_within : (ts : List Text) (k : ℕ) (t : Text) → slice_get ts k ≡ Some t → k < length ts
 lies_within [] zero t e = cc
@@ -129,30 +136,30 @@ outer_within : (P : Text → Type 0) (b : PBody) → Each P (texts_in_body b OUT
 outer_within P (tree.body spot ds ss) h =
     (each_left P (texts_in_decls ds OUTER_LEVEL) (texts_in_stmts ss OUTER_LEVEL) h, each_right P (texts_in_decls ds OUTER_LEVEL) (texts_in_stmts ss OUTER_LEVEL) h)
 
-module _ (sc : Scopes) (known : table.Scopes) where
-  levels_by : (b : PBody) → fitting.StmtsFit sc (couples known) (results known) (outer_text b).level (outer_text b).stmts →
-      Each (Fine sc (couples known) (results known)) (texts_in_body b OUTER_LEVEL) → HaveLevelsBody b OUTER_LEVEL
+module _ (sc : Scopes) (known : Names) where
+  levels_by : (b : PBody) → fitting.StmtsFit sc (couples known) (results known) (lows known) (outer_text b).level (outer_text b).stmts →
+      Each (Fine sc (couples known) (results known) (lows known)) (texts_in_body b OUTER_LEVEL) → HaveLevelsBody b OUTER_LEVEL
   levels_by (tree.body spot ds ss) fit h =
-      let F = Fine sc (couples known) (results known) in (
-        levels_decls sc (couples known) (results known) ds OUTER_LEVEL (each_left F (texts_in_decls ds OUTER_LEVEL) (texts_in_stmts ss OUTER_LEVEL) h),
-        levels_all sc (couples known) (results known) ss OUTER_LEVEL (omega arith) fit (each_right F (texts_in_decls ds OUTER_LEVEL) (texts_in_stmts ss OUTER_LEVEL) h),
+      let F = Fine sc (couples known) (results known) (lows known) in (
+        levels_decls sc (couples known) (results known) (lows known) ds OUTER_LEVEL (each_left F (texts_in_decls ds OUTER_LEVEL) (texts_in_stmts ss OUTER_LEVEL) h),
+        levels_all sc (couples known) (results known) (lows known) ss OUTER_LEVEL (omega arith) fit (each_right F (texts_in_decls ds OUTER_LEVEL) (texts_in_stmts ss OUTER_LEVEL) h),
       )
 
   -- its blocks have levels
   pub levels_there : (b : PBody) → AreDue sc known (texts b) → HaveLevelsBody b OUTER_LEVEL
   levels_there b due =
       levels_by b (due 0 (outer_text b) refl).fits
-      (each_from (Fine sc (couples known) (results known)) (texts_in_body b OUTER_LEVEL) (λ k t e. ((due (suc k) t e).level, (due (suc k) t e).fits)))
+      (each_from (Fine sc (couples known) (results known) (lows known)) (texts_in_body b OUTER_LEVEL) (λ k t e. ((due (suc k) t e).level, (due (suc k) t e).fits)))
 
-module _ (sc : Scopes) (s : Known) (b : PBody) (are : map text_of s.procedures.now ≡ texts_in_body b OUTER_LEVEL) (few : length (texts b) ≤ 1 + MOST_PROCEDURES)
-    (due : AreDue sc s.scopes.now (texts b)) where
+module _ (sc : Scopes) (s : Known) (b : PBody) (are : s.procedures.now ≡ places_of (texts_in_body b OUTER_LEVEL)) (few : length (texts b) ≤ 1 + MOST_PROCEDURES)
+    (due : AreDue sc s.names.now (texts b)) where
   numbered_at : (place : Place) → place.scopes ≡ sc → (k : ℕ) (t : Text) → slice_get (texts_in_body b OUTER_LEVEL) k ≡ Some t → Numbered place s t
   numbered_at place same k t e n at =
       let ts = texts_in_body b OUTER_LEVEL in
-      let first = first_there ts k t e in
+      let first = first_there 0 ts k t e in
       let number : Spot → ℕ = λ spot. segment_of sc.blocks (number_at sc.blocks spot) in
-      let number_is : number_in (map text_of s.procedures.now) n.spot ≡ first.place + 1 =
-      ap (λ l. number_in l n.spot) are ∙ ap (λ spot. number_in ts spot) at ∙ first.is in
+      let number_is : number_in s.procedures.now n.spot ≡ first.place + 1 =
+      ap (λ l. number_in l n.spot) are ∙ ap (λ spot. number_in (places_of ts) spot) at ∙ ap next_to first.is ∙ omega arith in
       let I : Scopes → Type 0 = λ x. IsNumbered x s t.level n in
       subst I (sym same)
       (record {
@@ -170,4 +177,4 @@ module _ (sc : Scopes) (s : Known) (b : PBody) (are : map text_of s.procedures.n
       let W : Text → Type 0 = λ u. Within P u.level u.decls u.stmts in
       let within : Each W (texts b) = (outer_within P b all, hold_body 0 P W (λ level h x le own. within_procedure P level x own) b OUTER_LEVEL (omega arith) all) in
       let here = each_at W (texts b) k t within e in
-      (known_procedures place s t.decls t.level here.0, known_all place s ((due k t e).segment ∙ sym is) t.stmts t.level (due k t e).fits here.1)
+      (known_procedures place s t.decls t.level here.0, (due k t e).decls, known_all place s ((due k t e).segment ∙ sym is) t.stmts t.level (due k t e).fits here.1)

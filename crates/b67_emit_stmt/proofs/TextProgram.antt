@@ -1,28 +1,30 @@
 -- The segments of a program: that of its outer block, and those of its procedures behind it.
-use Rattle.std.proofs.Common.{rules, ◌≡◌, ℕ, zero, suc, ◌+◌, ◌*◌, ◌<◌, ◌≤◌, Bool, true, false, List, [], ◌∷◌, ◌++◌, length, map, take, get_or, sym, ap, ◌∙◌, subst, arith}
-use Rattle.std.specs.Prelude.{Some, is_some, slice_get}
+use Rattle.std.proofs.Common.{rules, ◌≡◌, ℕ, zero, suc, ◌+◌, ◌*◌, ◌<◌, ◌≤◌, Option, None, List, [], ◌∷◌, ◌++◌, length, map, take, get_or, sym, ap, ◌∙◌, subst, arith}
+use Rattle.std.specs.Prelude.{Some, slice_get}
 use Rattle.std.proofs.lemmas.List.{length-map, take_all, take_more}
-use Rattle.algol_tree.specs.declared.TheConstants.{MOST_PROCEDURES}
+use Rattle.algol_tree.specs.declared.TheConstants.{MOST_BLOCK_CELLS, MOST_PROCEDURES}
+use Rattle.algol_tree.specs.declared.token.Spot.{Spot}
 use Rattle.algol_tree.specs.declared.tree.Body.{Body}
 use Rattle.algol_tree.specs.declared.tree.Body as bodies
 use Rattle.algol_tree.specs.declared.tree.Decl.{Decl}
+use Rattle.algol_tree.specs.declared.tree.Kind.{Kind}
 use Rattle.algol_tree.specs.declared.tree.Stmt.{Stmt}
 use Rattle.algol_tree.specs.Image.{body, decls, stmts}
 use Rattle.algol_tree.specs.Plain as tree
 use Rattle.algol_tree.specs.Plain.{PDecls, PStmts, PBody}
 use Rattle.algol_tree.specs.Scopes.{Scopes}
+use Rattle.b67_emitter.specs.declared.names.Names.{Names}
 use Rattle.b67_ops.specs.declared.TheConstants.{OUTER_LEVEL}
-use Rattle.b67_segment.specs.declared.TheConstants.{MOST_SEGMENT_WORDS}
 use Rattle.b67_segment.specs.declared.code.Format.{Format}
 use Rattle.b67_segment.specs.declared.code.Segment.{Segment}
 use Rattle.b67_templates.specs.Cells.{variables}
 use Rattle.b67_emit_stmt.specs.declared.draft.Known.{Known}
 use Rattle.b67_emit_stmt.specs.declared.texts.Procedure.{Procedure}
-use Rattle.b67_emit_stmt.specs.Bodies.{IsSmall, Stands, text_syllables, zeros_for}
-use Rattle.b67_emit_stmt.specs.Fits.{InsideFits, text_of}
+use Rattle.b67_emit_stmt.specs.Bodies.{IsNear, result_index, zeros_for}
 use Rattle.b67_emit_stmt.specs.Places.{Place}
 use Rattle.b67_emit_stmt.specs.Programs.{AreDue}
-use Rattle.b67_emit_stmt.specs.Texts.{Text, outer_text, texts, texts_in_body}
+use Rattle.b67_emit_stmt.specs.Segments.{CanStand, HasSegment, TextFits, code_syllables, returned_in}
+use Rattle.b67_emit_stmt.specs.Texts.{Text, outer_text, places_of, text_of, texts, texts_in_body}
 use Rattle.b67_emit_stmt.proofs.TextNumbers.{fits_there, lies_within}
 use Rattle.b67_emit_stmt.proofs.TextStanding.{AllStand, TextStands, place_of, stand_more, text_at, zeros_are}
 use Rattle.b67_emit_stmt.proofs.TextTrees.{Each, Roomy, each_at, each_from, hold_body, outer_roomy, procedure_roomy}
@@ -33,8 +35,8 @@ body_is : (b : Body) → body b ≡ tree.body b.spot (decls b.decls) (stmts b.st
 body_is b = search (rules, bodies.the_lemmas)
 
 module _ (b : Body) where
-  pub outer_typed : false ≡ is_some ((outer_text (body b)).result)
-  outer_typed = ap (λ x. is_some ((outer_text x).result)) (sym (body_is b))
+  pub outer_returned : None ≡ result_index (outer_text (body b)).result (outer_text (body b)).parameters
+  outer_returned = ap (λ x. result_index (outer_text x).result (outer_text x).parameters) (sym (body_is b))
 
   pub outer_level : OUTER_LEVEL ≡ (outer_text (body b)).level
   outer_level = ap (λ x. (outer_text x).level) (sym (body_is b))
@@ -51,6 +53,11 @@ module _ (b : Body) where
 pub texts_found : (b : PBody) (before now items : List Procedure) → before ≡ [] → map text_of now ≡ map text_of before ++ texts_in_body b OUTER_LEVEL → items ≡ now →
     map text_of items ≡ texts_in_body b OUTER_LEVEL
 texts_found b before now items none found same = ap (map text_of) same ∙ found ∙ ap (λ l. map text_of l ++ texts_in_body b OUTER_LEVEL) none
+
+-- where they stand
+pub places_found : (b : PBody) (before now items : List Procedure) (spots : List Spot) → before ≡ [] → map text_of now ≡ map text_of before ++ texts_in_body b OUTER_LEVEL →
+    items ≡ now → spots ≡ places_of (map text_of items) → spots ≡ places_of (texts_in_body b OUTER_LEVEL)
+places_found b before now items spots none found same are = are ∙ ap places_of (texts_found b before now items none found same)
 
 text_of_item : (ps : List Procedure) (i : ℕ) (p : Procedure) → i < length ps → p ≡ get_or ps i p → slice_get (map text_of ps) i ≡ Some (text_of p)
 text_of_item [] i p within e = absurd (omega arith)
@@ -74,58 +81,59 @@ behind b k t e = let next : suc k ≡ k + 1 = omega arith in ap (λ n. slice_get
 nothing : (ts : List Text) → Each (λ t. Unit {0}) ts
 nothing ts = each_from (λ t. Unit {0}) ts (λ k t e. tt)
 
+outer_deep : (b : PBody) → OUTER_LEVEL ≤ (outer_text b).level
+outer_deep (tree.body spot ds ss) = omega arith
+
 -- their levels are further in than the outer block's, or the same
-pub deep_there : (b : PBody) (k : ℕ) (t : Text) → slice_get (texts_in_body b OUTER_LEVEL) k ≡ Some t → OUTER_LEVEL ≤ t.level
+deep_there : (b : PBody) (k : ℕ) (t : Text) → slice_get (texts b) k ≡ Some t → OUTER_LEVEL ≤ t.level
 deep_there b k t e =
     let D : Text → Type 0 = λ u. OUTER_LEVEL ≤ u.level in
-    each_at D (texts_in_body b OUTER_LEVEL) k t
-    (hold_body OUTER_LEVEL (λ u. Unit {0}) D (λ level h x le own. le) b OUTER_LEVEL (omega arith) (nothing (texts_in_body b OUTER_LEVEL))) e
+    let all : Each D (texts b) = (
+      outer_deep b,
+      hold_body OUTER_LEVEL (λ u. Unit {0}) D (λ level h x le own. le) b OUTER_LEVEL (omega arith) (nothing (texts_in_body b OUTER_LEVEL)),
+    ) in
+    each_at D (texts b) k t all e
 
 -- ---- one text
 
-zeros_few : (typed : Bool) (ds : PDecls) → zeros_for typed ds ≤ 1 + length (variables ds)
-zeros_few true ds = omega arith
-zeros_few false ds = omega arith
+zeros_few : (returned : Option ℕ) (ds : PDecls) → zeros_for returned ds ≤ 1 + length (variables ds)
+zeros_few None ds = omega arith
+zeros_few (Some index) ds = omega arith
 
-module _ (sc : Scopes) (s : Known) (b : PBody) (due : AreDue sc s.scopes.now (texts b)) (k : ℕ) (t : Text) (e : slice_get (texts b) k ≡ Some t) (typed : Bool) (level : ℕ)
-    (ds : PDecls) (ss : PStmts) (typed_is : typed ≡ is_some t.result) (level_is : level ≡ t.level) (ds_are : ds ≡ t.decls) (ss_are : ss ≡ t.stmts) where
-  pub small_there : IsSmall (zeros_for typed ds) ds
-  small_there =
-      let Z : Bool → PDecls → Type 0 = λ y xs. IsSmall (zeros_for y xs) xs in
-      let there : Z (is_some t.result) t.decls = omega (arith, zeros_are t.result t.name t.decls, (due k t e).few) in
-      subst (λ y. Z y ds) (sym typed_is) (subst (Z (is_some t.result)) (sym ds_are) there)
+near_by : (result : Option Kind) (parameters : ℕ) (ds : PDecls) → parameters + zeros_for (result_index result parameters) ds ≤ MOST_BLOCK_CELLS → IsNear (result_index result parameters)
+near_by None parameters ds few = tt
+near_by (Some kind) parameters ds few = omega (arith, few)
 
-  syllables_there : text_syllables typed ds ss + 5 ≤ 24 * t.tokens + 48
+module _ (sc : Scopes) (known : Names) (b : PBody) (due : AreDue sc known (texts b)) (k : ℕ) (t : Text) (e : slice_get (texts b) k ≡ Some t) where
+  syllables_there : code_syllables t + 5 ≤ 24 * t.tokens + 48
   syllables_there =
       let R : Each Roomy (texts b) = (
         outer_roomy b,
         hold_body 0 (λ u. Unit {0}) Roomy (λ l h x le own. procedure_roomy l h x) b OUTER_LEVEL (omega arith) (nothing (texts_in_body b OUTER_LEVEL)),
       ) in
-      let S : PDecls → PStmts → Type 0 = λ xs ys. text_syllables typed xs ys + 5 ≤ 24 * t.tokens + 48 in
-      let there : S t.decls t.stmts = omega (arith, zeros_few typed t.decls, each_at Roomy (texts b) k t R e) in
-      subst (λ xs. S xs ss) (sym ds_are) (subst (S t.decls) (sym ss_are) there)
+      omega (arith, zeros_few (returned_in t) t.decls, each_at Roomy (texts b) k t R e)
 
-  pub room_there : text_syllables typed ds ss + 5 ≤ 6 * MOST_SEGMENT_WORDS
-  room_there = omega (arith, syllables_there, (due k t e).room)
+  module _ (s : Known) (same : s.names.now ≡ known) (are : s.procedures.now ≡ places_of (texts_in_body b OUTER_LEVEL)) (few : length (texts b) ≤ 1 + MOST_PROCEDURES) (is : s.segment ≡ k) where
+    inside_there : TextFits (place_of sc t) s t
+    inside_there = let D : Names → Type 0 = λ x. AreDue sc x (texts b) in fits_there sc s b are few (subst D (sym same) due) k t e is
 
-  module _ (are : map text_of s.procedures.now ≡ texts_in_body b OUTER_LEVEL) (few : length (texts b) ≤ 1 + MOST_PROCEDURES) (is : s.segment ≡ k) where
-    inside_there : InsideFits (place_of sc t) s level ds ss
-    inside_there =
-        let F : ℕ → PDecls → PStmts → Type 0 = λ l xs ys. InsideFits (place_of sc t) s l xs ys in
-        subst (λ l. F l ds ss) (sym level_is) (subst (λ xs. F t.level xs ss) (sym ds_are) (subst (λ ys. F t.level t.decls ys) (sym ss_are) (fits_there sc s b are few due k t e is)))
+    pub can_stand : CanStand s t
+    can_stand =
+        let d = due k t e in
+        let zeros = zeros_are t.result t.parameters t.name t.decls in
+        record {
+          outer = deep_there b k t e;
+          most = d.level;
+          parameters = omega (arith, d.few);
+          cell = near_by t.result t.parameters t.decls (omega (arith, zeros, d.few));
+          small = omega (arith, zeros, d.few);
+          fits = (place_of sc t, inside_there);
+          room = omega (arith, syllables_there, d.room);
+        }
 
-    pub text_fits : (place : Place) × InsideFits place s level ds ss
-    text_fits = (place_of sc t, inside_there)
-
-    pub stands_there : (all : List Format) (segment : Segment) → ((place : Place) → InsideFits place s level ds ss → Stands place all segment level typed ds ss) →
-        6 * length segment.words ≤ text_syllables typed ds ss + 5 → TextStands sc all segment t
-    stands_there all segment h short =
-        let S : Bool → ℕ → PDecls → PStmts → Type 0 = λ y l xs ys. Stands (place_of sc t) all segment l y xs ys in
-        text_at sc all s.scopes.now k t segment (due k t e)
-        (subst (λ y. S y t.level t.decls t.stmts) typed_is
-        (subst (λ l. S typed l t.decls t.stmts) level_is
-        (subst (λ xs. S typed level xs t.stmts) ds_are (subst (λ ys. S typed level ds ys) ss_are (h (place_of sc t) inside_there)))))
-        (omega (arith, short, syllables_there))
+    pub stands_there : (all : List Format) (segment : Segment) → ((place : Place) → TextFits place s t → HasSegment place all segment t) →
+        6 * length segment.words ≤ code_syllables t + 5 → TextStands sc all segment t
+    stands_there all segment h short = text_at sc all known k t segment (due k t e) (h (place_of sc t) inside_there) (omega (arith, short, syllables_there))
 
 -- ---- one more of them
 

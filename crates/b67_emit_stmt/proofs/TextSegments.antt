@@ -1,5 +1,5 @@
 -- The code of a text, in a segment of its own.
-use Rattle.std.proofs.Common.{◌≡◌, ℕ, ◌+◌, ◌*◌, ◌≤◌, Bool, List, [], ◌∷◌, ◌++◌, length, replicate, refl, sym, ap, ◌∙◌, subst, arith}
+use Rattle.std.proofs.Common.{◌≡◌, ℕ, ◌+◌, ◌*◌, ◌≤◌, List, [], ◌∷◌, ◌++◌, length, replicate, refl, sym, ap, ◌∙◌, subst, arith}
 use Rattle.std.specs.Prelude.{unwrap_or, Option, Some, None, IsSome}
 use Rattle.algol_tree.specs.declared.TheConstants.{MOST_PROCEDURES}
 use Rattle.algol_tree.specs.Plain.{PDecls, PStmts}
@@ -46,7 +46,7 @@ module _ {level : ℕ} {formats : List Format} {a : Draft} (new : IsNew level fo
   pub at_new : OUTER_LEVEL ≤ level → IsAt level a
   at_new outer = record { set = new.set; outer = outer }
 
-  pub ready_new : (s : Known) (n : ℕ) → AreNear s.scopes.now → length s.procedures.now ≤ MOST_PROCEDURES → s.segment ≤ MOST_PROCEDURES →
+  pub ready_new : (s : Known) (n : ℕ) → AreNear s.names.now → length s.procedures.now ≤ MOST_PROCEDURES → s.segment ≤ MOST_PROCEDURES →
       length formats ≤ 6 * MOST_SEGMENT_WORDS * s.segment → n ≤ 6 * MOST_SEGMENT_WORDS → IsReady s a n
   ready_new s n near many segment few room = record {
     set = set_new;
@@ -59,10 +59,10 @@ module _ {level : ℕ} {formats : List Format} {a : Draft} (new : IsNew level fo
 
 -- ---- the end
 
-module _ (s : Known) (level : ℕ) (formats : List Format) (many : ℕ) (typed : Bool) (ds : PDecls) (ss : PStmts) (a d : Draft) (new : IsNew level formats a) (is : many ≡ zeros_for typed ds)
+module _ (s : Known) (level : ℕ) (formats : List Format) (many : ℕ) (returned : Option ℕ) (ds : PDecls) (ss : PStmts) (a d : Draft) (new : IsNew level formats a) (is : many ≡ zeros_for returned ds)
     (none : d.exits.items ≡ a.exits.items) (inside : EmitsInside s level a d many ds ss) where
-  whole : (sc : Place) → InsideFits sc s level ds ss → Emits (inside_syllables (zeros_for typed ds) ds ss) a d
-      (λ fs qs target. InsideAt sc fs qs level (zeros_for typed ds) ds ss (size a.out.operators) (size d.out.operators))
+  whole : (sc : Place) → InsideFits sc s level ds ss → Emits (inside_syllables (zeros_for returned ds) ds ss) a d
+      (λ fs qs target. InsideAt sc fs qs level (zeros_for returned ds) ds ss (size a.out.operators) (size d.out.operators))
   whole sc fit =
       let E : ℕ → Type 0 = λ m. Emits (inside_syllables m ds ss) a d (λ fs qs target. InsideAt sc fs qs level m ds ss (size a.out.operators) (size d.out.operators)) in
       subst E is (inside sc fit)
@@ -77,7 +77,7 @@ module _ (s : Known) (level : ℕ) (formats : List Format) (many : ℕ) (typed :
     pub end_at : level ≡ level_set d.out
     end_at = sym (ap (λ (o : Option ℕ). unwrap_or o 0) end_level)
 
-    pub end_room : text_syllables typed ds ss + 5 ≤ 6 * MOST_SEGMENT_WORDS → size d.out.operators + 3 ≤ 6 * MOST_SEGMENT_WORDS
+    pub end_room : text_syllables returned ds ss + 5 ≤ 6 * MOST_SEGMENT_WORDS → size d.out.operators + 3 ≤ 6 * MOST_SEGMENT_WORDS
     end_room room = omega (arith, (whole fits.0 fits.1).short, new.start, room)
 
     pub front_after : IsFront formats d.formats.items
@@ -86,10 +86,10 @@ module _ (s : Known) (level : ℕ) (formats : List Format) (many : ℕ) (typed :
     pub listed_after : AreListed formats → AreListed d.formats.items
     listed_after l = (whole fits.0 fits.1).listed (subst AreListed (sym new.formats_are) l)
 
-    pub few_after : text_syllables typed ds ss + 5 ≤ 6 * MOST_SEGMENT_WORDS → length d.formats.items ≤ length formats + 6 * MOST_SEGMENT_WORDS
+    pub few_after : text_syllables returned ds ss + 5 ≤ 6 * MOST_SEGMENT_WORDS → length d.formats.items ≤ length formats + 6 * MOST_SEGMENT_WORDS
     few_after room = omega (arith, (whole fits.0 fits.1).more, (whole fits.0 fits.1).short, new.start, ap length new.formats_are, room)
 
-    pub short_after : (e : Built) → size e.operators ≤ size d.out.operators + 3 → size e.operators + 5 ≤ text_syllables typed ds ss + 5
+    pub short_after : (e : Built) → size e.operators ≤ size d.out.operators + 3 → size e.operators + 5 ≤ text_syllables returned ds ss + 5
     short_after e wide = omega (arith, (whole fits.0 fits.1).short, new.start, wide)
 
 -- ---- code that nothing leaves
@@ -112,15 +112,15 @@ stands_filled {n} {a} {b} {P} h none all front =
     } in
     h.code.claimed (filled ps) (size ps) (omega arith) (subst L (sym left) leaves) all front
 
-pub text_stands : (s : Known) (level : ℕ) (formats : List Format) (many : ℕ) (typed : Bool) (ds : PDecls) (ss : PStmts) (a d : Draft) (e : Built) (segment : Segment) →
-    IsNew level formats a → many ≡ zeros_for typed ds → d.exits.items ≡ a.exits.items → EmitsInside s level a d many ds ss →
-    Emitted d.out e (λ qs. EndingAt typed qs level (size d.out.operators)) → size e.operators ≤ size d.out.operators + 3 → Spells (filled e.operators) segment →
-    (sc : Place) → InsideFits sc s level ds ss → (all : List Format) → IsFront d.formats.items all → Stands sc all segment level typed ds ss
-text_stands s level formats many typed ds ss a d e segment new is none inside ending wide spells sc fit all front =
-    let front_part = whole s level formats many typed ds ss a d new is none inside sc fit in
+pub text_stands : (s : Known) (level : ℕ) (formats : List Format) (many : ℕ) (returned : Option ℕ) (ds : PDecls) (ss : PStmts) (a d : Draft) (e : Built) (segment : Segment) →
+    IsNew level formats a → many ≡ zeros_for returned ds → d.exits.items ≡ a.exits.items → EmitsInside s level a d many ds ss →
+    Emitted d.out e (λ qs. EndingAt returned qs level (size d.out.operators)) → size e.operators ≤ size d.out.operators + 3 → Spells (filled e.operators) segment →
+    (sc : Place) → InsideFits sc s level ds ss → (all : List Format) → IsFront d.formats.items all → Stands sc all segment level returned ds ss
+text_stands s level formats many returned ds ss a d e segment new is none inside ending wide spells sc fit all front =
+    let front_part = whole s level formats many returned ds ss a d new is none inside sc fit in
     let b : Draft = record d { out = e } in
-    let last : Emits 3 d b (λ fs qs target. EndingAt typed qs level (size d.out.operators)) =
+    let last : Emits 3 d b (λ fs qs target. EndingAt returned qs level (size d.out.operators)) =
     piece {n = 3} {d = d} {e = b} refl refl front_part.few (λ fs. ending) wide in
     let there = stands_filled (emits_then front_part last) (none ∙ new.exits) all front in
-    let F : ℕ → Type 0 = λ from. InsideAt sc all (filled e.operators) level (zeros_for typed ds) ds ss from (size d.out.operators) in
+    let F : ℕ → Type 0 = λ from. InsideAt sc all (filled e.operators) level (zeros_for returned ds) ds ss from (size d.out.operators) in
     record { operators = filled e.operators; spells = spells; end = size d.out.operators; code = subst F new.start there.0; ending = there.1 }

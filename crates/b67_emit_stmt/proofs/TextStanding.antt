@@ -1,10 +1,10 @@
 -- The code of each text stands in the segment of its number.
 use Rattle.std.proofs.Common.{◌≡◌, ℕ, zero, suc, ◌+◌, ◌*◌, ◌≤◌, List, [], ◌∷◌, ◌++◌, length, refl, sym, ap, ◌∙◌, subst, arith, length-append}
-use Rattle.std.specs.Prelude.{Option, Some, None, is_some, slice_get}
+use Rattle.std.specs.Prelude.{Option, Some, None, slice_get}
 use Rattle.algol_tree.specs.declared.tree.Kind.{Kind}
 use Rattle.algol_tree.specs.Plain.{PDecls}
 use Rattle.algol_tree.specs.Scopes.{Scopes}
-use Rattle.algol_scope.specs.declared.scopes.Scopes as table
+use Rattle.b67_emitter.specs.declared.names.Names.{Names}
 use Rattle.algol_paths.specs.Segments.{segment_of}
 use Rattle.b67_segment.specs.declared.code.Format.{Format}
 use Rattle.b67_segment.specs.declared.code.Segment.{Segment}
@@ -12,7 +12,7 @@ use Rattle.b67_segment.specs.Operators.{Placed}
 use Rattle.b67_segment.specs.Syllables.{Spells}
 use Rattle.b67_templates.specs.Cells.{result_of, variables, control_segments}
 use Rattle.b67_templates.specs.Code.{CellsAt}
-use Rattle.b67_emit_stmt.specs.Bodies.{EndingAt, Stands, result_couple, zeros_for}
+use Rattle.b67_emit_stmt.specs.Bodies.{EndingAt, Stands, result_couple, result_index, zeros_for}
 use Rattle.b67_emit_stmt.specs.Places.{Place}
 use Rattle.b67_emit_stmt.specs.Programs.{AreShort, Coded, EndAt, IsDue, TextAt, block_of, context_of}
 use Rattle.b67_emit_stmt.specs.Texts.{Text}
@@ -40,34 +40,35 @@ stand_more sc all (y ∷ ys) (u ∷ us) x t h k = (h.0, stand_more sc all ys us 
 
 -- ---- one text
 
-pub zeros_are : (result : Option Kind) (name : List ℕ) (ds : PDecls) → zeros_for (is_some result) ds ≡ length (result_of result name ++ variables ds)
-zeros_are None name ds = omega arith
-zeros_are (Some kind) name ds = omega (arith, length-append (result_of (Some kind) name) (variables ds))
+pub zeros_are : (result : Option Kind) (parameters : ℕ) (name : List ℕ) (ds : PDecls) →
+    zeros_for (result_index result parameters) ds ≡ length (result_of result name ++ variables ds)
+zeros_are None parameters name ds = omega arith
+zeros_are (Some kind) parameters name ds = omega (arith, length-append (result_of (Some kind) name) (variables ds))
 
 -- a text with a result or without one
-ending : (sc : Scopes) (all : List Format) (known : table.Scopes) (number : ℕ) (t : Text) (ps : List Placed) (e : ℕ) (result : Option Kind) → IsDue sc known number t → t.result ≡ result →
-    EndingAt (is_some result) ps t.level e → EndAt sc (context_of sc all t) ps t.level result t.name e
+ending : (sc : Scopes) (all : List Format) (known : Names) (number : ℕ) (t : Text) (ps : List Placed) (e : ℕ) (result : Option Kind) → IsDue sc known number t → t.result ≡ result →
+    EndingAt (result_index result t.parameters) ps t.level e → EndAt sc (context_of sc all t) ps t.level result t.name e
 ending sc all known number t ps e None due is h = h
 ending sc all known number t ps e (Some kind) due is h = record {
   kind = kind;
   is = due.result ∙ is;
   named = due.named;
-  couple = result_couple t.level;
+  couple = result_couple t.level (2 + t.parameters);
   level_is = refl;
-  index_is = ap (λ l. 2 + length l) (sym due.bare);
+  index_is = ap (λ n. 2 + n) (sym due.parameters);
   valued = h.0;
   over = h.1;
   read = h.2;
   back = h.3;
 }
 
-pub text_at : (sc : Scopes) (all : List Format) (known : table.Scopes) (number : ℕ) (t : Text) (segment : Segment) → IsDue sc known number t →
-    Stands (place_of sc t) all segment t.level (is_some t.result) t.decls t.stmts → 6 * length segment.words ≤ 24 * t.tokens + 48 → TextStands sc all segment t
+pub text_at : (sc : Scopes) (all : List Format) (known : Names) (number : ℕ) (t : Text) (segment : Segment) → IsDue sc known number t →
+    Stands (place_of sc t) all segment t.level (result_index t.result t.parameters) t.decls t.stmts → 6 * length segment.words ≤ 24 * t.tokens + 48 → TextStands sc all segment t
 text_at sc all known number t segment due h short =
     let C : ℕ → Type 0 = λ many. CellsAt sc (context_of sc all t) h.operators t.level many (control_segments sc t.decls) 0 h.code.0 in (
       h.operators,
       h.spells,
-      (h.code.0, h.end, subst C (zeros_are t.result t.name t.decls) h.code.1, h.code.2, ending sc all known number t h.operators h.end t.result due refl h.ending),
+      (h.code.0, h.code.1, h.end, subst C (zeros_are t.result t.parameters t.name t.decls) h.code.2, h.code.3, h.code.4, ending sc all known number t h.operators h.end t.result due refl h.ending),
       short,
     )
 

@@ -1,19 +1,20 @@
 -- What holds of each text of a program, by the trees that they are.
-use Rattle.std.proofs.Common.{◌≡◌, ℕ, zero, suc, ◌+◌, ◌*◌, ◌≤◌, List, [], ◌∷◌, ◌++◌, length, refl, subst, arith, length-append}
-use Rattle.std.specs.Prelude.{Option, Some, slice_get}
+use Rattle.std.proofs.Common.{◌≡◌, ℕ, zero, suc, ◌+◌, ◌*◌, ◌≤◌, List, [], ◌∷◌, ◌++◌, length, refl, subst, arith}
+use Rattle.std.specs.Prelude.{ℤ, Option, Some, slice_get}
 use Rattle.algol_tree.specs.declared.token.Spot.{Spot}
 use Rattle.algol_tree.specs.declared.tree.Heading.{Heading}
 use Rattle.algol_tree.specs.Blocks.{Begin, of_statement, of_procedure, decls_of, stmts_of}
-use Rattle.algol_tree.specs.Counts.{decls_tokens, stmt_tokens, stmts_tokens}
+use Rattle.algol_tree.specs.Counts.{stmt_tokens, stmts_tokens}
 use Rattle.algol_tree.specs.Plain as tree
 use Rattle.algol_tree.specs.Plain.{PStmt, PStmts, PDecl, PDecls, PBody}
 use Rattle.b67_ops.specs.declared.Couple.{Couple}
 use Rattle.b67_ops.specs.declared.TheConstants.{MOST_LEVEL}
 use Rattle.algol_tree.specs.Scopes.{Scopes}
-use Rattle.b67_templates.specs.Cells.{of_kind, procedures, variables}
+use Rattle.b67_templates.specs.Cells.{procedures, variables}
 use Rattle.b67_templates.specs.Fitting.{StmtFits, StmtsFit}
+use Rattle.b67_emit_stmt.specs.Bodies.{decls_syllables}
 use Rattle.b67_emit_stmt.specs.Texts.{Text, begin_level, outer_text, procedure_text, texts_of, texts_in_body, texts_in_decl, texts_in_decls, texts_in_stmts, HaveLevels, HaveLevelsDecl, HaveLevelsDecls, HaveLevelsStmts}
-use Rattle.b67_emit_stmt.proofs.Variables.{variables_few}
+use Rattle.b67_emit_stmt.proofs.Variables.{declared_few}
 
 -- ---- each of a list
 
@@ -129,12 +130,12 @@ within_procedure P level (tree.write n spot phrases es) h = (tt, tt)
 
 -- ---- levels
 
-module _ (sc : Scopes) (known results : Spot → Option Couple) where
+module _ (sc : Scopes) (known results : Spot → Option Couple) (lows : Spot → Option (List ℤ)) where
   abbrev pub Fine : Text → Type 0
-  Fine t = (t.level ≤ MOST_LEVEL) × StmtsFit sc known results t.level t.stmts
+  Fine t = (t.level ≤ MOST_LEVEL) × StmtsFit sc known results lows t.level t.stmts
 
   mutual
-    levels : (s : PStmt) (level : ℕ) → level ≤ MOST_LEVEL → StmtFits sc known results level s → Each Fine (texts_of s of_statement level) → HaveLevels s of_statement level
+    levels : (s : PStmt) (level : ℕ) → level ≤ MOST_LEVEL → StmtFits sc known results lows level s → Each Fine (texts_of s of_statement level) → HaveLevels s of_statement level
     levels tree.empty level le fit h = tt
     levels (tree.label n s) level le fit h = absurd fit
     levels (tree.assign v e) level le fit h = tt
@@ -145,7 +146,7 @@ module _ (sc : Scopes) (known results : Spot → Option Couple) where
       fit.0.0,
       (
         levels_decls (tree.decls d ds) (level + 1) (each_left Fine (texts_in_decls (tree.decls d ds) (level + 1)) (texts_in_stmts ss (level + 1)) h),
-        levels_all ss (level + 1) fit.0.0 fit.1 (each_right Fine (texts_in_decls (tree.decls d ds) (level + 1)) (texts_in_stmts ss (level + 1)) h),
+        levels_all ss (level + 1) fit.0.0 fit.2 (each_right Fine (texts_in_decls (tree.decls d ds) (level + 1)) (texts_in_stmts ss (level + 1)) h),
       ),
     )
     levels (tree.if_then c x) level le fit h = levels x level le fit.1 h
@@ -162,7 +163,7 @@ module _ (sc : Scopes) (known results : Spot → Option Couple) where
     levels (tree.event act e) level le fit h = tt
     levels (tree.write n spot phrases es) level le fit h = tt
 
-    pub levels_all : (ss : PStmts) (level : ℕ) → level ≤ MOST_LEVEL → StmtsFit sc known results level ss → Each Fine (texts_in_stmts ss level) → HaveLevelsStmts ss level
+    pub levels_all : (ss : PStmts) (level : ℕ) → level ≤ MOST_LEVEL → StmtsFit sc known results lows level ss → Each Fine (texts_in_stmts ss level) → HaveLevelsStmts ss level
     levels_all tree.no_stmts level le fit h = tt
     levels_all (tree.stmts s ss) level le fit h = (
       levels s level le fit.0 (each_left Fine (texts_of s of_statement level) (texts_in_stmts ss level) h),
@@ -186,7 +187,7 @@ module _ (sc : Scopes) (known results : Spot → Option Couple) where
     levels_decl (tree.arrays kind ns pairs) level h = tt
     levels_decl (tree.forward g) level h = tt
 
-    levels_procedure : (s : PStmt) (level : ℕ) → level ≤ MOST_LEVEL → StmtsFit sc known results level (stmts_of s) → Each Fine (texts_of s of_procedure level) → HaveLevels s of_procedure level
+    levels_procedure : (s : PStmt) (level : ℕ) → level ≤ MOST_LEVEL → StmtsFit sc known results lows level (stmts_of s) → Each Fine (texts_of s of_procedure level) → HaveLevels s of_procedure level
     levels_procedure (tree.block (tree.body spot ds ss)) level le fit h = (
       le,
       (
@@ -215,21 +216,7 @@ module _ (sc : Scopes) (known results : Spot → Option Couple) where
 
 -- ---- room
 
--- cells and control words are no more than the declarations' tokens have room for
-pub declared_few : (ds : PDecls) → length (variables ds) + 12 * length (procedures ds) ≤ 24 * decls_tokens ds
-declared_few tree.no_decls = omega arith
-declared_few (tree.decls (tree.simple kind ns) ds) =
-    let one = variables_few (tree.decls (tree.simple kind ns) tree.no_decls) in
-    omega (arith, length-append (of_kind kind ns) (variables ds), length-append (of_kind kind ns) [], one, declared_few ds)
-declared_few (tree.decls (tree.files ns) ds) = omega (arith, declared_few ds)
-declared_few (tree.decls (tree.events ns) ds) = omega (arith, declared_few ds)
-declared_few (tree.decls (tree.tasks ns) ds) = omega (arith, declared_few ds)
-declared_few (tree.decls (tree.labels ns) ds) = omega (arith, declared_few ds)
-declared_few (tree.decls (tree.arrays kind ns pairs) ds) = omega (arith, declared_few ds)
-declared_few (tree.decls (tree.forward h) ds) = omega (arith, declared_few ds)
-declared_few (tree.decls (tree.procedure h s) ds) = omega (arith, declared_few ds)
-
-begun_few : (s : PStmt) → length (variables (decls_of s)) + 12 * length (procedures (decls_of s)) + 24 * stmts_tokens (stmts_of s) ≤ 24 * stmt_tokens s + 24
+begun_few : (s : PStmt) → length (variables (decls_of s)) + 12 * length (procedures (decls_of s)) + decls_syllables (decls_of s) + 24 * stmts_tokens (stmts_of s) ≤ 24 * stmt_tokens s + 24
 begun_few (tree.block (tree.body spot ds ss)) = omega (arith, declared_few ds)
 begun_few tree.empty = omega arith
 begun_few (tree.label n s) = omega arith
@@ -249,7 +236,7 @@ begun_few (tree.write n spot phrases es) = omega arith
 
 -- the code of a text has room where its tokens have
 abbrev pub Roomy : Text → Type 0
-Roomy t = 1 + length (variables t.decls) + 12 * length (procedures t.decls) + 24 * stmts_tokens t.stmts + 9 ≤ 24 * t.tokens + 48
+Roomy t = 1 + length (variables t.decls) + 12 * length (procedures t.decls) + decls_syllables t.decls + 24 * stmts_tokens t.stmts + 9 ≤ 24 * t.tokens + 48
 
 pub procedure_roomy : (level : ℕ) (h : Heading) (s : PStmt) → Roomy (procedure_text level h s)
 procedure_roomy level h s = omega (arith, begun_few s)

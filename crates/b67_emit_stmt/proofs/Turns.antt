@@ -5,7 +5,7 @@ use Rattle.algol_tree.specs.declared.tree.Named.{Named}
 use Rattle.algol_tree.specs.declared.tree.Op.TheVariants as operators
 use Rattle.algol_tree.specs.Plain as tree
 use Rattle.algol_tree.specs.Plain.{PExpr, PStmt}
-use Rattle.b67_emit_stmt.specs.Places.{Place}
+use Rattle.b67_emit_stmt.specs.Places.{Place, AssignAt, ExprAt, StepAt}
 use Rattle.b67_emit_stmt.specs.declared.draft.Known.{Known}
 use Rattle.algol_meaning.specs.Statements.{alone}
 use Rattle.b67_ops.specs.declared.Operator.TheVariants as ops
@@ -14,7 +14,6 @@ use Rattle.b67_ops.specs.declared.PlainKind.TheVariants as kinds
 use Rattle.b67_segment.specs.declared.code.Format.{Format}
 use Rattle.b67_segment.specs.Operators.{size}
 use Rattle.b67_segment.specs.Building.{Built, level_set}
-use Rattle.b67_emit_stmt.specs.Places.{AssignAt, ExprAt, StepAt}
 use Rattle.b67_templates.specs.Depths.{expr_syllables}
 use Rattle.b67_templates.specs.Emitting.{AreExits, Emitted, EmittedWithExits}
 use Rattle.b67_emit_stmt.specs.Fits.{AssignFits, ExprFits, ReadFits, StmtFits, VariableFits}
@@ -33,7 +32,7 @@ use Rattle.b67_emit_stmt.proofs.Ready.{all_piece, body_piece, turn_piece, value_
 
 -- ---- THRU
 
-module _ (s : Known) (p : PExpr) (x : PStmt) (a n : Draft) (b' d' e' f' o' : Built) (over start : ℕ) (few : HasFew a) (value : ValueEmitted s.scopes.now (level_set a.out) a.out b' p)
+module _ (s : Known) (p : PExpr) (x : PStmt) (a n : Draft) (b' d' e' f' o' : Built) (over start : ℕ) (few : HasFew a) (value : ValueEmitted s.names.now (level_set a.out) a.out b' p)
     (value_level : b'.level ≡ a.out.level) (value_short : size b'.operators ≤ size a.out.operators + expr_syllables p) (start_is : start ≡ size b'.operators)
     (tests : Emitted b' d' (λ qs. AllAt qs (level_set b') (kinds.Dupl ∷ kinds.One ∷ kinds.Less ∷ []) (size b'.operators) (size d'.operators))) (tests_level : d'.level ≡ b'.level)
     (tests_wide : size d'.operators ≡ size b'.operators + 3) (over_is : over ≡ size d'.operators)

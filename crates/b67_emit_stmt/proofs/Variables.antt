@@ -1,5 +1,5 @@
--- The variables and procedures that are declared, and that declarations have as many tokens.
-use Rattle.std.proofs.Common.{rules, ◌≡◌, ◌+◌, ◌≤◌, Some, List, ◌∷◌, length, ap, sym, ◌∙◌, arith, length-append}
+-- The variables and procedures that are declared, and that the code of declarations has room where their tokens have.
+use Rattle.std.proofs.Common.{rules, ◌≡◌, ◌+◌, ◌*◌, ◌≤◌, Some, List, ◌∷◌, length, ap, sym, ◌∙◌, arith, length-append}
 use Rattle.std.proofs.lemmas.List.{length-map}
 use Rattle.std.specs.declared.boxed.Box.{Box}
 use Rattle.std.specs.declared.alloc.Global.{Global}
@@ -16,6 +16,7 @@ use Rattle.algol_tree.specs.Image.{decl, decls, stmt}
 use Rattle.algol_tree.specs.Plain as tree
 use Rattle.algol_tree.specs.Plain.{PDecl, PDecls}
 use Rattle.b67_templates.specs.Cells.{Simple, of_kind, procedures, variables}
+use Rattle.b67_emit_stmt.specs.Bodies.{decls_syllables}
 
 declared : (kind : Kind) (ns : List Named) (ds : PDecls) → length (variables (tree.decls (tree.simple kind ns) ds)) ≡ length ns + length (variables ds)
 declared kind ns ds =
@@ -74,17 +75,16 @@ pub procedures_same : (d : Decl) (ds : List Decl) → ((h : Heading) (s : Box St
 procedures_same d ds other =
     ap (λ (e : Decl). procedures (tree.decls (decl e) (decls ds))) (sym (roll-out-Decl d)) ∙ none_more (out-Decl d) (decls ds) (λ h s e. other h s (sym (roll-out-Decl d) ∙ e))
 
--- each variable and each procedure has a token
-pub cells_few : (ds : PDecls) → length (variables ds) + length (procedures ds) ≤ decls_tokens ds
-cells_few tree.no_decls = omega arith
-cells_few (tree.decls (tree.simple kind ns) ds) = omega (arith, declared kind ns ds, cells_few ds)
-cells_few (tree.decls (tree.files ns) ds) = omega (arith, cells_few ds)
-cells_few (tree.decls (tree.events ns) ds) = omega (arith, cells_few ds)
-cells_few (tree.decls (tree.tasks ns) ds) = omega (arith, cells_few ds)
-cells_few (tree.decls (tree.labels ns) ds) = omega (arith, cells_few ds)
-cells_few (tree.decls (tree.arrays kind ns pairs) ds) = omega (arith, cells_few ds)
-cells_few (tree.decls (tree.forward h) ds) = omega (arith, cells_few ds)
-cells_few (tree.decls (tree.procedure h s) ds) = omega (arith, cells_few ds)
+-- ---- room
 
-pub variables_few : (ds : PDecls) → length (variables ds) ≤ decls_tokens ds
-variables_few ds = omega (arith, cells_few ds)
+-- cells, control words and what makes arrays are no more than the declarations' tokens have room for
+pub declared_few : (ds : PDecls) → length (variables ds) + 12 * length (procedures ds) + decls_syllables ds ≤ 24 * decls_tokens ds
+declared_few tree.no_decls = omega arith
+declared_few (tree.decls (tree.simple kind ns) ds) = omega (arith, declared kind ns ds, declared_few ds)
+declared_few (tree.decls (tree.files ns) ds) = omega (arith, declared_few ds)
+declared_few (tree.decls (tree.events ns) ds) = omega (arith, declared_few ds)
+declared_few (tree.decls (tree.tasks ns) ds) = omega (arith, declared_few ds)
+declared_few (tree.decls (tree.labels ns) ds) = omega (arith, declared_few ds)
+declared_few (tree.decls (tree.arrays kind ns pairs) ds) = omega (arith, declared_few ds)
+declared_few (tree.decls (tree.forward h) ds) = omega (arith, declared_few ds)
+declared_few (tree.decls (tree.procedure h s) ds) = omega (arith, declared_few ds)

@@ -3,7 +3,7 @@ use Rattle.std.proofs.Common.{◌≡◌, ℕ, ◌+◌, ◌≤◌, pos, List, [],
 use Rattle.std.specs.Prelude.{slice_get}
 use Rattle.algol_tree.specs.declared.tree.PhraseText.{PhraseText}
 use Rattle.algol_tree.specs.Plain.{PExprs}
-use Rattle.b67_emit_stmt.specs.Places.{Place}
+use Rattle.b67_emit_stmt.specs.Places.{Place, LineAt, WriteAt}
 use Rattle.b67_ops.specs.declared.Operator.TheVariants as ops
 use Rattle.b67_ops.specs.declared.PlainKind.TheVariants as kinds
 use Rattle.b67_ops.specs.declared.intrinsic.Intrinsic.TheVariants.{Write}
@@ -11,7 +11,6 @@ use Rattle.b67_segment.specs.declared.code.Format.{Format}
 use Rattle.b67_segment.specs.Operators.{Placed, size}
 use Rattle.b67_templates.specs.Fragments.{Has, IntrinsicAt, NumberAt}
 use Rattle.b67_templates.specs.Code.{AreParts, numbers_in, exprs_count}
-use Rattle.b67_emit_stmt.specs.Places.{LineAt, WriteAt}
 use Rattle.b67_templates.specs.Fitting.{PhrasesFit}
 use Rattle.b67_templates.specs.Emitting.{Emitted, EmittedWithExits}
 use Rattle.b67_emitter.proofs.Composing.{no_exits, then}

@@ -1,8 +1,12 @@
 -- The code of blocks and of texts.
-use Rattle.std.specs.Prelude.{◌≡◌, ℕ, ◌+◌, ◌*◌, ◌≤◌, if◌then◌else◌, Bool, true, false, List, map, length}
+use Rattle.std.specs.Prelude.{◌≡◌, ℕ, ◌+◌, ◌*◌, ◌<◌, ◌≤◌, Option, Some, None, List, map, length}
 use Rattle.algol_tree.specs.declared.TheConstants.{MOST_BLOCK_CELLS}
+use Rattle.algol_tree.specs.declared.tree.Kind.{Kind}
 use Rattle.algol_tree.specs.declared.tree.Named.{Named}
-use Rattle.algol_tree.specs.Plain.{PDecls, PStmts}
+use Rattle.algol_tree.specs.Plain as tree
+use Rattle.algol_tree.specs.Plain.{PDecls, PPair, PStmts}
+use Rattle.algol_tree.specs.Counts.{pairs_tokens}
+use Rattle.algol_paths.specs.Arrays.{arrays_of}
 use Rattle.b67_ops.specs.declared.Couple.{Couple}
 use Rattle.b67_ops.specs.declared.Operator.TheVariants as ops
 use Rattle.b67_ops.specs.declared.PlainKind.TheVariants as kinds
@@ -18,8 +22,8 @@ use Rattle.b67_emit_stmt.specs.declared.draft.Draft.{Draft}
 use Rattle.b67_emit_stmt.specs.declared.draft.Known.{Known}
 use Rattle.b67_emit_stmt.specs.Drafts.{Emits}
 use Rattle.b67_emit_stmt.specs.Emits.{stmts_syllables}
-use Rattle.b67_emit_stmt.specs.Fits.{AreNumbered, InsideFits, number_in, text_of}
-use Rattle.b67_emit_stmt.specs.Places.{Place, CellsAt, StmtsAt, context_in}
+use Rattle.b67_emit_stmt.specs.Fits.{AreNumbered, DeclsFit, InsideFits, number_in}
+use Rattle.b67_emit_stmt.specs.Places.{Place, CellsAt, DeclsAt, StmtsAt, context_in}
 
 -- ---- cells
 
@@ -27,13 +31,13 @@ use Rattle.b67_emit_stmt.specs.Places.{Place, CellsAt, StmtsAt, context_in}
 abbrev pub variables_in : PDecls → ℕ
 variables_in ds = length (variables ds)
 
--- so many cells of 0 and those of procedures are no more than a block may have
+-- so many cells of 0 and those of procedures and arrays are no more than a block may have
 abbrev pub IsSmall : ℕ → PDecls → Type 0
-IsSmall many ds = many + length (procedures ds) ≤ MOST_BLOCK_CELLS
+IsSmall many ds = many + length (procedures ds) + length (arrays_of ds) ≤ MOST_BLOCK_CELLS
 
 -- the numbers that are known of procedures
 abbrev pub numbers_of : Known → List Named → List ℕ
-numbers_of s ns = map (λ (n : Named). number_in (map text_of s.procedures.now) n.spot) ns
+numbers_of s ns = map (λ (n : Named). number_in s.procedures.now n.spot) ns
 
 -- a zero for each of so many, the control words, their making into cells
 abbrev pub cells_syllables : ℕ → PDecls → ℕ
@@ -45,14 +49,47 @@ EmitsCells s level before after many ds =
     Emits (cells_syllables many ds) before after
     (λ formats qs target. CellsAt sc formats qs level many (control_segments sc.scopes ds) (size before.out.operators) (size after.out.operators))
 
+-- ---- arrays
+
+-- a lower bound as it stands, and the value of an upper bound
+abbrev pub bounds_syllables : List PPair → ℕ
+bounds_syllables pairs = 12 * pairs_tokens pairs
+
+-- a mark, a reference, how many arrays, their bounds, the entry, and PUSH
+abbrev pub arrays_syllables : List PPair → ℕ
+arrays_syllables pairs = 17 + bounds_syllables pairs
+
+abbrev pub decls_syllables : PDecls → ℕ
+decls_syllables tree.no_decls = 0
+decls_syllables (tree.decls (tree.arrays kind ns pairs) ds) = arrays_syllables pairs + decls_syllables ds
+decls_syllables (tree.decls d ds) = decls_syllables ds
+
+-- ---- what a block begins with
+
+-- the cells, and behind them the arrays
+abbrev pub BeginAt : Place → List Format → List Placed → ℕ → ℕ → PDecls → ℕ → ℕ → Type 0
+BeginAt sc formats ps level many ds f t =
+    (b : ℕ) × CellsAt sc formats ps level many (control_segments sc.scopes ds) f b × DeclsAt sc formats ps level ds b t
+
+abbrev pub begin_syllables : ℕ → PDecls → ℕ
+begin_syllables many ds = cells_syllables many ds + decls_syllables ds
+
+abbrev pub EmitsBegin : Known → ℕ → Draft → Draft → ℕ → PDecls → Type 0
+EmitsBegin s level before after many ds =
+    (sc : Place) → AreNumbered sc.scopes s level (procedures ds) → DeclsFit sc s level ds →
+    Emits (begin_syllables many ds) before after
+    (λ formats qs target. BeginAt sc formats qs level many ds (size before.out.operators) (size after.out.operators))
+
 -- ---- a block up to its end
 
--- the cells, and the statements, whose exits go to the place behind them
+-- the cells, the arrays, and the statements, whose exits go to the place behind them
 abbrev pub InsideAt : Place → List Format → List Placed → ℕ → ℕ → PDecls → PStmts → ℕ → ℕ → Type 0
-InsideAt sc formats ps level many ds ss f e = (b : ℕ) × CellsAt sc formats ps level many (control_segments sc.scopes ds) f b × StmtsAt sc formats ps level ss b e e
+InsideAt sc formats ps level many ds ss f e =
+    (b : ℕ) × (d : ℕ) × CellsAt sc formats ps level many (control_segments sc.scopes ds) f b × DeclsAt sc formats ps level ds b d
+    × StmtsAt sc formats ps level ss d e e
 
 abbrev pub inside_syllables : ℕ → PDecls → PStmts → ℕ
-inside_syllables many ds ss = cells_syllables many ds + stmts_syllables ss
+inside_syllables many ds ss = begin_syllables many ds + stmts_syllables ss
 
 abbrev pub EmitsInside : Known → ℕ → Draft → Draft → ℕ → PDecls → PStmts → Type 0
 EmitsInside s level before after many ds ss =
@@ -62,7 +99,7 @@ EmitsInside s level before after many ds ss =
 
 -- ---- a block within another
 
--- the cells, the statements, EXIT
+-- the cells, the arrays, the statements, EXIT
 abbrev pub BlockAt : Place → List Format → List Placed → ℕ → PDecls → PStmts → ℕ → Type 0
 BlockAt sc formats ps level ds ss at = code.InnerAt sc.scopes (context_in sc formats) ps level ds ss at
 
@@ -96,26 +133,36 @@ EmitsInner s before after ds ss =
 
 -- ---- a text
 
--- the couple of the result of a procedure without parameters
-abbrev pub result_couple : ℕ → Couple
-result_couple level = record { level = level; index = 2 }
+-- the index of the result's cell, where there is a result: it lies behind the frame's two words and so many parameters
+abbrev pub result_index : Option Kind → ℕ → Option ℕ
+result_index None parameters = None
+result_index (Some kind) parameters = Some (2 + parameters)
 
--- EXIT, or the result is given back
-abbrev pub EndingAt : Bool → List Placed → ℕ → ℕ → Type 0
-EndingAt false ps level at = (over : ℕ) × Has ps level at (ops.Plain kinds.Exit) over
-EndingAt true ps level at = (m : ℕ) × (over : ℕ) × Has ps level at (ops.Valc (result_couple level)) m × Has ps level m (ops.Plain kinds.Retn) over
+-- the result's cell, if there is one, lies among those that a block may have
+abbrev pub IsNear : Option ℕ → Type 0
+IsNear None = Unit {0}
+IsNear (Some index) = index < 2 + MOST_BLOCK_CELLS
+
+abbrev pub result_couple : ℕ → ℕ → Couple
+result_couple level index = record { level = level; index = index }
+
+-- EXIT, or the result, whose cell has this index, is given back
+abbrev pub EndingAt : Option ℕ → List Placed → ℕ → ℕ → Type 0
+EndingAt None ps level at = (over : ℕ) × Has ps level at (ops.Plain kinds.Exit) over
+EndingAt (Some index) ps level at = (m : ℕ) × (over : ℕ) × Has ps level at (ops.Valc (result_couple level index)) m × Has ps level m (ops.Plain kinds.Retn) over
 
 -- a cell for the result
-abbrev pub zeros_for : Bool → PDecls → ℕ
-zeros_for typed ds = (if typed then 1 else 0) + variables_in ds
+abbrev pub zeros_for : Option ℕ → PDecls → ℕ
+zeros_for None ds = variables_in ds
+zeros_for (Some index) ds = 1 + variables_in ds
 
-abbrev pub text_syllables : Bool → PDecls → PStmts → ℕ
-text_syllables typed ds ss = inside_syllables (zeros_for typed ds) ds ss + 3
+abbrev pub text_syllables : Option ℕ → PDecls → PStmts → ℕ
+text_syllables returned ds ss = inside_syllables (zeros_for returned ds) ds ss + 3
 
 -- the code of a text in a segment of its own
-pub record Stands (sc : Place) (formats : List Format) (segment : Segment) (level : ℕ) (typed : Bool) (ds : PDecls) (ss : PStmts) : Type 0 where
+pub record Stands (sc : Place) (formats : List Format) (segment : Segment) (level : ℕ) (returned : Option ℕ) (ds : PDecls) (ss : PStmts) : Type 0 where
   pub operators : List Placed
   pub spells : Spells operators segment
   pub end : ℕ
-  pub code : InsideAt sc formats operators level (zeros_for typed ds) ds ss 0 end
-  pub ending : EndingAt typed operators level end
+  pub code : InsideAt sc formats operators level (zeros_for returned ds) ds ss 0 end
+  pub ending : EndingAt returned operators level end

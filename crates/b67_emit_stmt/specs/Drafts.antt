@@ -35,7 +35,7 @@ pub record IsAt (level : ℕ) (d : Draft) : Type 0 where
 -- A level is set, what is known of names can be spelled, and there is room for so many syllables.
 pub record IsReady (s : Known) (d : Draft) (syllables : ℕ) : Type 0 where
   pub set : IsSome d.out.level
-  pub near : AreNear s.scopes.now
+  pub near : AreNear s.names.now
   pub many : length s.procedures.now ≤ MOST_PROCEDURES
   pub segment : s.segment < 2 ^ 10
   pub few : HasFew d

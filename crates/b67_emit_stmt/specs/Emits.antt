@@ -2,14 +2,13 @@
 use Rattle.std.specs.Prelude.{ℕ, ◌+◌, ◌*◌}
 use Rattle.algol_tree.specs.declared.tree.Kind.TheVariants as types
 use Rattle.algol_tree.specs.Plain.{PExpr, PExprs, PStmt, PStmts}
-use Rattle.b67_emit_stmt.specs.Places.{Place}
+use Rattle.b67_emit_stmt.specs.Places.{Place, CasesAt, ExprAt, StmtAt, StmtsAt}
 use Rattle.algol_tree.specs.Counts.{exprs_tokens, stmts_tokens}
 use Rattle.b67_emit_stmt.specs.declared.draft.Known.{Known}
 use Rattle.b67_ops.specs.declared.BranchKind.TheVariants.{Brfl, Brun}
 use Rattle.b67_segment.specs.Operators.{size}
 use Rattle.b67_segment.specs.Building.{level_set}
 use Rattle.b67_templates.specs.Fragments.{BranchAt}
-use Rattle.b67_emit_stmt.specs.Places.{CasesAt, ExprAt, StmtAt, StmtsAt}
 use Rattle.b67_templates.specs.Depths.{expr_syllables, stmt_syllables}
 use Rattle.b67_emit_stmt.specs.Fits.{ExprFits, StmtFits, StmtsFit}
 use Rattle.b67_emit_stmt.specs.declared.draft.Draft.{Draft}

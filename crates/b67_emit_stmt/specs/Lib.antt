@@ -6,3 +6,4 @@ pub mod Drafts
 pub mod Emits
 pub mod Cases
 pub mod Bodies
+pub mod Segments

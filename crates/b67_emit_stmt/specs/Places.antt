@@ -3,7 +3,8 @@ use Rattle.std.specs.Prelude.{ℕ, ℤ, List}
 use Rattle.algol_tree.specs.declared.tree.Kind.{Kind}
 use Rattle.algol_tree.specs.declared.tree.Named.{Named}
 use Rattle.algol_tree.specs.declared.tree.PhraseText.{PhraseText}
-use Rattle.algol_tree.specs.Plain.{PExpr, PExprs, PStmt, PStmts}
+use Rattle.algol_tree.specs.Plain as tree
+use Rattle.algol_tree.specs.Plain.{PExpr, PExprs, PVariable, PPair, PStmt, PStmts, PDecls}
 use Rattle.algol_tree.specs.Scopes.{Scopes}
 use Rattle.b67_segment.specs.Operators.{Placed}
 use Rattle.b67_segment.specs.declared.code.Format.{Format}
@@ -32,14 +33,31 @@ module _ (sc : Place) (formats : List Format) (ps : List Placed) (level : ℕ) w
   abbrev pub ReferenceAt : Named → Kind → ℕ → ℕ → Type 0
   ReferenceAt n kind f t = code.ReferenceAt sc.scopes (context_in sc formats) ps level n kind f t
 
-  abbrev pub CallStmtAt : Named → ℕ → ℕ → Type 0
-  CallStmtAt n f t = code.CallStmtAt sc.scopes (context_in sc formats) ps level n f t
+  abbrev pub CallStmtAt : Named → PExprs → ℕ → ℕ → Type 0
+  CallStmtAt n es f t = code.CallStmtAt sc.scopes (context_in sc formats) ps level n es f t
 
   abbrev pub ExprAt : Kind → PExpr → ℕ → ℕ → ℕ → Type 0
   ExprAt kind e f t u = code.ExprAt sc.scopes (context_in sc formats) ps level kind e f t u
 
   abbrev pub AssignAt : Named → PExpr → ℕ → ℕ → Type 0
   AssignAt n e f t = code.AssignAt sc.scopes (context_in sc formats) ps level n e f t
+
+  abbrev pub ElementAssignAt : Named → PExprs → PExpr → ℕ → ℕ → Type 0
+  ElementAssignAt n es e f t = code.ElementAssignAt sc.scopes (context_in sc formats) ps level n es e f t
+
+  -- an assignment to a variable, a result or an element
+  abbrev pub StoredAt : PVariable → PExpr → ℕ → ℕ → Type 0
+  StoredAt (tree.subscripted n tree.none) e f t = AssignAt n e f t
+  StoredAt (tree.subscripted n (tree.more i is)) e f t = ElementAssignAt n (tree.more i is) e f t
+
+  abbrev pub BoundsAt : List PPair → ℕ → ℕ → Type 0
+  BoundsAt pairs f t = code.BoundsAt sc.scopes (context_in sc formats) ps level pairs f t
+
+  abbrev pub ArraysAt : ℕ → List PPair → ℕ → ℕ → Type 0
+  ArraysAt many pairs f t = code.ArraysAt sc.scopes (context_in sc formats) ps level many pairs f t
+
+  abbrev pub DeclsAt : PDecls → ℕ → ℕ → Type 0
+  DeclsAt ds f t = code.DeclsAt sc.scopes (context_in sc formats) ps level ds f t
 
   abbrev pub LineAt : PExprs → ℕ → ℕ → Type 0
   LineAt es f t = code.LineAt sc.scopes (context_in sc formats) ps level es f t

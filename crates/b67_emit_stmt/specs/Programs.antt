@@ -1,11 +1,12 @@
 -- The code of a program: which trees have it, and what it is.
-use Rattle.std.specs.Prelude.{◌≡◌, ℕ, ◌+◌, ◌*◌, ◌≤◌, List, [], ◌++◌, length, Option, Some, None, slice_get}
+use Rattle.std.specs.Prelude.{◌≡◌, ℕ, ◌+◌, ◌*◌, ◌≤◌, List, ◌++◌, length, Option, Some, None, slice_get}
 use Rattle.algol_tree.specs.declared.TheConstants.{MOST_BLOCK_CELLS}
 use Rattle.algol_tree.specs.declared.tree.Kind.{Kind}
 use Rattle.algol_tree.specs.Blocks.{block_numbered, number_at}
 use Rattle.algol_tree.specs.Scopes.{Scopes}
+use Rattle.algol_paths.specs.Arrays.{arrays_of}
 use Rattle.algol_paths.specs.Segments.{segment_of}
-use Rattle.algol_scope.specs.declared.scopes.Scopes as table
+use Rattle.b67_emitter.specs.declared.names.Names.{Names}
 use Rattle.b67_ops.specs.declared.Operator.TheVariants as ops
 use Rattle.b67_ops.specs.declared.PlainKind.TheVariants as kinds
 use Rattle.b67_ops.specs.declared.TheConstants.{MOST_LEVEL}
@@ -16,10 +17,10 @@ use Rattle.b67_segment.specs.declared.code.Format.{Format}
 use Rattle.b67_segment.specs.declared.code.Segment.{Segment}
 use Rattle.b67_templates.specs.Contexts.{Context}
 use Rattle.b67_templates.specs.Fragments.{Has}
-use Rattle.b67_templates.specs.Cells.{Simple, variables, result_of, procedures, control_segments}
-use Rattle.b67_templates.specs.Code.{CellsAt, StmtsAt, ResultAt}
-use Rattle.b67_templates.specs.Fitting.{StmtsFit}
-use Rattle.b67_emitter.specs.Values.{couples, results}
+use Rattle.b67_templates.specs.Cells.{Simple, parameter_cells, variables, result_of, procedures, control_segments}
+use Rattle.b67_templates.specs.Code.{CellsAt, DeclsAt, StmtsAt, ResultAt}
+use Rattle.b67_templates.specs.Fitting.{DeclsFit, StmtsFit}
+use Rattle.b67_emitter.specs.Values.{couples, lows, results}
 use Rattle.b67_emit_stmt.specs.Texts.{Text}
 
 -- the cells of 0 that a text begins with: its result and its simple variables
@@ -30,20 +31,22 @@ zeros_of t = result_of t.result t.name ++ variables t.decls
 abbrev pub block_of : Scopes → Text → ℕ
 block_of sc t = number_at sc.blocks t.spot
 
--- What is wanted of the text with this number: it is that of its block and has its segment's number, its parts fit, its block has a level
--- that the machine has and no more cells than a block may have, and its code has room in a segment.
-pub record IsDue (sc : Scopes) (known : table.Scopes) (number : ℕ) (t : Text) : Type 0 where
+-- What is wanted of the text with this number: it is that of its block and has its segment's number, its block's first cells are those of
+-- its parameters, its parts fit, its block has a level that the machine has and no more cells than a block may have, and its code has room
+-- in a segment.
+pub record IsDue (sc : Scopes) (known : Names) (number : ℕ) (t : Text) : Type 0 where
   pub segment : segment_of sc.blocks (block_of sc t) ≡ number
   pub named : (block_numbered sc.blocks (block_of sc t)).name ≡ t.name
   pub result : (block_numbered sc.blocks (block_of sc t)).result ≡ t.result
-  pub bare : (block_numbered sc.blocks (block_of sc t)).parameters ≡ []
+  pub parameters : length (parameter_cells sc (block_numbered sc.blocks (block_of sc t))) ≡ t.parameters
   pub level : t.level ≤ MOST_LEVEL
-  pub few : length (zeros_of t) + length (procedures t.decls) ≤ MOST_BLOCK_CELLS
-  pub fits : StmtsFit sc (couples known) (results known) t.level t.stmts
+  pub few : t.parameters + length (zeros_of t) + length (procedures t.decls) + length (arrays_of t.decls) ≤ MOST_BLOCK_CELLS
+  pub decls : DeclsFit sc (couples known) (results known) (lows known) t.level t.decls
+  pub fits : StmtsFit sc (couples known) (results known) (lows known) t.level t.stmts
   pub room : 24 * t.tokens + 48 ≤ 6 * MOST_SEGMENT_WORDS
 
 -- .. of each text, numbered from 0
-abbrev pub AreDue : Scopes → table.Scopes → List Text → Type 0
+abbrev pub AreDue : Scopes → Names → List Text → Type 0
 AreDue sc known ts = (number : ℕ) (t : Text) → slice_get ts number ≡ Some t → IsDue sc known number t
 
 -- the end of a text: EXIT, or where it has a result, that is given back
@@ -55,12 +58,13 @@ EndAt sc context ps level (Some kind) name at = ResultAt sc context ps level nam
 abbrev pub context_of : Scopes → List Format → Text → Context
 context_of sc formats t = record { formats = formats; segment = segment_of sc.blocks (block_of sc t); block = block_of sc t }
 
--- its cells from the start on, its statements, whose exits go to the end, and the end
+-- its cells from the start on, its arrays, its statements, whose exits go to the end, and the end
 abbrev pub TextAt : Scopes → List Format → List Placed → Text → Type 0
 TextAt sc formats ps t =
-    (b : ℕ) × (e : ℕ)
+    (b : ℕ) × (d : ℕ) × (e : ℕ)
     × CellsAt sc (context_of sc formats t) ps t.level (length (zeros_of t)) (control_segments sc t.decls) 0 b
-    × StmtsAt sc (context_of sc formats t) ps t.level t.stmts b e e
+    × DeclsAt sc (context_of sc formats t) ps t.level t.decls b d
+    × StmtsAt sc (context_of sc formats t) ps t.level t.stmts d e e
     × EndAt sc (context_of sc formats t) ps t.level t.result t.name e
 
 -- The segments are those of the texts. In each stands the text's code.

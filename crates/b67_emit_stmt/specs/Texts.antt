@@ -1,21 +1,24 @@
 -- The texts of a program: that of its outer block, and behind it those of its procedures in the order in which they stand. Each has a
 -- segment of its own.
-use Rattle.std.specs.Prelude.{ℕ, ◌+◌, ◌≤◌, List, [], ◌∷◌, ◌++◌, Option, None}
+use Rattle.std.specs.Prelude.{ℕ, ◌+◌, ◌≤◌, List, [], ◌∷◌, ◌++◌, map, length, Option, None}
 use Rattle.algol_tree.specs.declared.token.Spot.{Spot}
 use Rattle.algol_tree.specs.declared.tree.Kind.{Kind}
 use Rattle.algol_tree.specs.declared.tree.Heading.{Heading}
+use Rattle.algol_tree.specs.Image.{stmt}
 use Rattle.algol_tree.specs.Plain as tree
 use Rattle.algol_tree.specs.Plain.{PStmt, PStmts, PDecl, PDecls, PBody}
 use Rattle.algol_tree.specs.Blocks.{Begin, of_statement, of_procedure, decls_of, stmts_of}
 use Rattle.algol_tree.specs.Counts.{body_tokens, heading_tokens, stmt_tokens}
 use Rattle.b67_ops.specs.declared.TheConstants.{MOST_LEVEL, OUTER_LEVEL}
+use Rattle.b67_emit_stmt.specs.declared.texts.Procedure.{Procedure}
 
--- A text: the level of its block and where that stands; of a procedure its name and the kind of its result; the declarations and the
--- statements; how many tokens it has
+-- A text: the level of its block and where that stands; of a procedure its name, how many parameters it has and the kind of its result; the
+-- declarations and the statements; how many tokens it has
 pub record Text : Type 0 where
   pub level : ℕ
   pub spot : Spot
   pub name : List ℕ
+  pub parameters : ℕ
   pub result : Option Kind
   pub decls : PDecls
   pub stmts : PStmts
@@ -27,15 +30,23 @@ procedure_text level h s =
       level = level;
       spot = h.name.spot;
       name = h.name.name;
+      parameters = length h.params;
       result = h.kind;
       decls = decls_of s;
       stmts = stmts_of s;
       tokens = heading_tokens h + stmt_tokens s;
     }
 
+abbrev pub text_of : Procedure → Text
+text_of p = procedure_text p.level p.heading.now (stmt p.body.now)
+
+-- where they stand
+abbrev pub places_of : List Text → List Spot
+places_of ts = map (λ (t : Text). t.spot) ts
+
 abbrev pub outer_text : PBody → Text
 outer_text (tree.body spot ds ss) =
-    record { level = OUTER_LEVEL; spot = spot; name = []; result = None; decls = ds; stmts = ss; tokens = body_tokens (tree.body spot ds ss) }
+    record { level = OUTER_LEVEL; spot = spot; name = []; parameters = 0; result = None; decls = ds; stmts = ss; tokens = body_tokens (tree.body spot ds ss) }
 
 -- the level of what stands in a body, where that stands at a level
 abbrev pub begin_level : Begin → PBody → ℕ → ℕ

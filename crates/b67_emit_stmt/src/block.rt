@@ -1,11 +1,9 @@
 //! Blocks, those of texts and those within others.
 
 ghost use Rattle.std.specs.Prelude.{◌≡◌, ◌+◌, ◌≤◌, OnOk};
-ghost use Rattle.algol_tree.specs.declared.TheConstants.{MOST_BLOCK_CELLS};
 ghost use Rattle.algol_tree.specs.Image.{decls, stmts};
 ghost use Rattle.b67_ops.specs.declared.TheConstants.{MOST_LEVEL};
 ghost use Rattle.b67_segment.specs.Building.{level_set};
-ghost use Rattle.b67_templates.specs.Cells as frames;
 ghost use Rattle.b67_emit_stmt.specs.Drafts.{IsAt, IsReady};
 ghost use Rattle.b67_emit_stmt.specs.Bodies.{EmitsBlock, EmitsInner, EmitsInside, HaveFitInside, IsSmall, block_syllables, inner_syllables, inside_syllables, variables_in};
 ghost use Rattle.b67_emit_stmt.specs.Fits.{InsideFits};
@@ -19,8 +17,8 @@ use b67_ops::{BranchKind, PlainKind};
 use std::alloc::AllocError;
 
 impl<'a, E: ExprEmitter> StmtEmitter<'a, E> {
-    /// The code of a block up to its end, at the level that is set: so many cells of 0, those of its procedures, and its statements, whose
-    /// exits go to the place behind them.
+    /// The code of a block up to its end, at the level that is set: what it begins with, and its statements, whose exits go to the place
+    /// behind them.
     #[cycle(statements)]
     pub(crate) fn inside(
         &self,
@@ -37,7 +35,7 @@ impl<'a, E: ExprEmitter> StmtEmitter<'a, E> {
         ensures exits { OnOk result (to.new.exits.items ≡ to.old.exits.items) }
     {
         let first = to.exits.len();
-        self.cells(many, ds, to)?;
+        self.begin(many, ds, to)?;
         self.stmts(ss, to)?;
         aim_exits(&mut to.out, &mut to.exits, first);
         Ok(())

@@ -50,7 +50,7 @@ impl<'a, E: ExprEmitter> StmtEmitter<'a, E> {
     /// which the table begins.
     fn select(&self, e: &Expr, many: usize, out: &mut Builder) -> Result<(), AllocError>
         requires set { IsSome out.old.level }
-        requires near { AreNear self.now.known.now.scopes.now }
+        requires near { AreNear self.now.known.now.names.now }
         requires few { many ≤ 6 * MOST_SEGMENT_WORDS }
         requires fits { (sc : Place) × ExprFits sc self.now.known.now (level_set out.old) types.Number (expr e.now) }
         requires room { size out.old.operators + (19 + expr_syllables (expr e.now)) ≤ 6 * MOST_SEGMENT_WORDS }
@@ -59,7 +59,7 @@ impl<'a, E: ExprEmitter> StmtEmitter<'a, E> {
         ensures size { OnOk result (size out.new.operators ≤ size out.old.operators + (19 + expr_syllables (expr e.now))) }
     {
         append_intrinsic(out, Intrinsic::Select)?;
-        self.exprs.value(e, self.known.scopes, out)?;
+        self.exprs.value(e, self.known.names, out)?;
         append_number(out, Whole::fitting(many as i64))?;
         let table = out.place() + TO_TABLE;
         append_operator(out, &Operator::Lt16(table))?;

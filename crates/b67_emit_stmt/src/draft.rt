@@ -1,5 +1,5 @@
-use crate::texts::Procedure;
-use algol_scope::Scopes;
+use algol_places::Places;
+use b67_emitter::Names;
 use b67_segment::{Builder, Format};
 
 /// What is emitted: the operators, the places of branches that leave a statement early and are not aimed yet, and the formats of
@@ -11,12 +11,12 @@ pub struct Draft {
     pub formats: Vec<Format>,
 }
 
-/// What is known where a text is emitted: what the program's names mean, its procedures in the order of the text, and the number of
-/// the segment.
+/// What is known where a text is emitted: what the program's names mean, where the names of its procedures stand in the order of the
+/// text, and the number of the segment.
 #[derive(Drop)]
 pub struct Known<'a> {
-    pub scopes: &'a Scopes,
-    pub procedures: &'a [Procedure<'a>],
+    pub names: &'a Names<'a>,
+    pub procedures: &'a Places,
     pub segment: u16,
 }
 

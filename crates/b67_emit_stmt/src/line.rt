@@ -4,14 +4,13 @@ ghost use Rattle.std.specs.Prelude.{◌≡◌, ◌+◌, ◌*◌, ◌≤◌, List
 ghost use Rattle.algol_tree.specs.declared.TheConstants.{MOST_LINE_WIDTH};
 ghost use Rattle.algol_tree.specs.Image.{exprs};
 ghost use Rattle.algol_tree.specs.Counts.{exprs_tokens};
-ghost use Rattle.b67_emit_stmt.specs.Places.{Place};
+ghost use Rattle.b67_emit_stmt.specs.Places.{Place, LineAt, WriteAt};
 ghost use Rattle.algol_tree.specs.Spelling.{value_of};
 ghost use Rattle.b67_segment.specs.declared.TheConstants.{MOST_SEGMENT_WORDS};
 ghost use Rattle.b67_segment.specs.declared.code.Format.{Format};
 ghost use Rattle.b67_segment.specs.Operators.{size};
 ghost use Rattle.b67_segment.specs.Building.{level_set};
 ghost use Rattle.b67_templates.specs.Code.{AreParts, IsPart, word_part};
-ghost use Rattle.b67_emit_stmt.specs.Places.{LineAt, WriteAt};
 ghost use Rattle.b67_templates.specs.Fitting.{IsNarrowWord, PhraseFits, PhrasesFit};
 ghost use Rattle.b67_emit_stmt.specs.Fits.{LineFits, WriteFits};
 ghost use Rattle.b67_templates.specs.Emitting.{Emitted};
@@ -82,7 +81,7 @@ impl<'a, E: ExprEmitter> StmtEmitter<'a, E> {
     /// The values of items.
     fn items(&self, items: &[Expr], out: &mut Builder) -> Result<(), AllocError>
         requires set { IsSome out.old.level }
-        requires near { AreNear self.now.known.now.scopes.now }
+        requires near { AreNear self.now.known.now.names.now }
         requires fits { (sc : Place) × LineFits sc self.now.known.now (level_set out.old) (exprs items.now) }
         requires room { size out.old.operators + 12 * exprs_tokens (exprs items.now) ≤ 6 * MOST_SEGMENT_WORDS }
         ensures code { OnOk result ((sc : Place) (formats : List Format) → LineFits sc self.now.known.now (level_set out.old) (exprs items.now) → Emitted out.old out.new (λ qs. LineAt sc formats qs (level_set out.old) (exprs items.now) (size out.old.operators) (size out.new.operators))) }
@@ -90,7 +89,7 @@ impl<'a, E: ExprEmitter> StmtEmitter<'a, E> {
         ensures size { OnOk result (size out.new.operators ≤ size out.old.operators + 12 * exprs_tokens (exprs items.now)) }
     {
         'items: for item in items {
-            self.exprs.value(item, self.known.scopes, out)?;
+            self.exprs.value(item, self.known.names, out)?;
         }
         Ok(())
     }

@@ -39,7 +39,7 @@ impl<'a, E: ExprEmitter> StmtEmitter<'a, E> {
         ensures { OnOk result (EmitsStmt self.now.known.now to.old to.new (tree.while (expr c.now) (stmt b.now))) }
     {
         let start = to.out.place();
-        self.exprs.value(c, self.known.scopes, &mut to.out)?;
+        self.exprs.value(c, self.known.names, &mut to.out)?;
         append_exit(&mut to.out, BranchKind::Brfl, &mut to.exits)?;
         self.loop_body(b, to)?;
         append_turn(&mut to.out, start)
@@ -55,7 +55,7 @@ impl<'a, E: ExprEmitter> StmtEmitter<'a, E> {
     {
         let start = to.out.place();
         self.loop_body(b, to)?;
-        self.exprs.value(c, self.known.scopes, &mut to.out)?;
+        self.exprs.value(c, self.known.names, &mut to.out)?;
         append_exit(&mut to.out, BranchKind::Brtr, &mut to.exits)?;
         append_turn(&mut to.out, start)
     }
@@ -93,7 +93,7 @@ impl<'a, E: ExprEmitter> StmtEmitter<'a, E> {
         requires fits { HasFit self.now.known.now to.old (tree.thru (expr e.now) (stmt b.now)) }
         ensures { OnOk result (EmitsStmt self.now.known.now to.old to.new (tree.thru (expr e.now) (stmt b.now))) }
     {
-        self.exprs.value(e, self.known.scopes, &mut to.out)?;
+        self.exprs.value(e, self.known.names, &mut to.out)?;
         let start = to.out.place();
         append_all(
             &mut to.out,

@@ -1,10 +1,10 @@
 //! The segments of a program: one for each text.
 
-ghost use Rattle.std.specs.Prelude.{◌≡◌, ◌+◌, ◌*◌, ◌≤◌, ◌<◌, ◌^◌, List, length, IfOk, OnOk, IsSome};
-ghost use Rattle.algol_tree.specs.declared.TheConstants.{MOST_PROCEDURES};
+ghost use Rattle.std.specs.Prelude.{◌≡◌, ◌+◌, ◌*◌, ◌≤◌, ◌<◌, List, length, IfOk, OnOk, IsSome};
+ghost use Rattle.algol_tree.specs.declared.TheConstants.{MOST_BLOCK_CELLS, MOST_PROCEDURES};
 ghost use Rattle.algol_tree.specs.Blocks.{decls_of, stmts_of};
 ghost use Rattle.algol_tree.specs.Image as plain;
-ghost use Rattle.algol_tree.specs.Scopes as names;
+ghost use Rattle.algol_tree.specs.Scopes as scoped;
 ghost use Rattle.b67_ops.specs.declared.TheConstants as machine;
 ghost use Rattle.b67_segment.specs.declared.TheConstants.{MOST_SEGMENT_WORDS};
 ghost use Rattle.b67_segment.specs.declared.code.Format.{Format};
@@ -12,19 +12,19 @@ ghost use Rattle.b67_segment.specs.Operators.{size};
 ghost use Rattle.b67_segment.specs.Building.{level_set};
 ghost use Rattle.b67_templates.specs.Emitting.{Emitted};
 ghost use Rattle.b67_emitter.specs.Values.{AreNear};
-ghost use Rattle.b67_emit_stmt.specs.Bodies.{EndingAt, IsSmall, Stands, text_syllables, zeros_for};
+ghost use Rattle.b67_emit_stmt.specs.Bodies.{EndingAt, IsNear, IsSmall, Stands, result_index, text_syllables, zeros_for};
 ghost use Rattle.b67_emit_stmt.specs.Drafts.{AreListed, IsFront};
 ghost use Rattle.b67_emit_stmt.specs.Fits.{InsideFits};
 ghost use Rattle.b67_emit_stmt.specs.Places.{Place};
 ghost use Rattle.b67_emit_stmt.specs.Programs.{AreDue, AreShort, Coded};
-ghost use Rattle.b67_emit_stmt.specs.Texts.{texts};
+ghost use Rattle.b67_emit_stmt.specs.Segments.{CanStand, HasSegment, TextFits, code_syllables};
+ghost use Rattle.b67_emit_stmt.specs.Texts.{outer_text, text_of, texts};
 
 use crate::cells::variables;
 use crate::draft::{Draft, Known, StmtEmitter};
-use crate::texts::within_body;
-use algol_scope::Scopes;
-use algol_tree::{Body, Decl, Stmt};
-use b67_emitter::{ExprEmitter, append_plain, append_reading};
+use crate::texts::{Procedure, places_of_names, within_body};
+use algol_tree::{Body, Decl, Heading, Stmt};
+use b67_emitter::{ExprEmitter, Names, append_plain, append_reading};
 use b67_ops::{Couple, OUTER_LEVEL, PlainKind};
 use b67_segment::{Builder, Format, Segment};
 use std::alloc::{AllocError, Global};
@@ -40,32 +40,44 @@ fn parts(body: &Stmt) -> (&[Decl], &[Stmt])
     }
 }
 
-/// How many cells of 0 a text has: one for its result, and its simple variables.
-fn zeros(typed: bool, ds: &[Decl]) -> usize
-    requires { IsSmall (zeros_for typed (plain.decls ds.now)) (plain.decls ds.now) }
-    ensures { result ≡ zeros_for typed (plain.decls ds.now) }
+/// The index of the cell of its result, where a procedure with this heading has one: it lies behind the frame's two words and the
+/// parameters.
+fn returned_by(heading: &Heading) -> Option<u16>
+    requires { length heading.now.params ≤ MOST_BLOCK_CELLS }
+    ensures { result ≡ result_index heading.now.kind (length heading.now.params) }
 {
-    if typed {
-        1 + variables(ds)
-    } else {
-        variables(ds)
+    match heading.kind {
+        None => None,
+        Some(_) => Some(2 + heading.params.items().len() as u16),
     }
 }
 
-/// EXIT, or the result is given back.
-fn append_end(level: u8, typed: bool, out: &mut Builder) -> Result<(), AllocError>
+/// How many cells of 0 a text has: one for its result, if it has any, and its simple variables.
+fn zeros(returned: Option<u16>, ds: &[Decl]) -> usize
+    requires { IsSmall (zeros_for returned (plain.decls ds.now)) (plain.decls ds.now) }
+    ensures { result ≡ zeros_for returned (plain.decls ds.now) }
+{
+    match returned {
+        None => variables(ds),
+        Some(_) => 1 + variables(ds),
+    }
+}
+
+/// EXIT, or the result, whose cell has this index, is given back.
+fn append_end(level: u8, returned: Option<u16>, out: &mut Builder) -> Result<(), AllocError>
     requires set { IsSome out.old.level }
     requires level { level ≡ level_set out.old }
-    requires outer { machine.OUTER_LEVEL ≤ level }
+    requires near { IsNear returned }
     requires room { size out.old.operators + 3 ≤ 6 * MOST_SEGMENT_WORDS }
-    ensures code { OnOk result (Emitted out.old out.new (λ qs. EndingAt typed qs level (size out.old.operators))) }
+    ensures code { OnOk result (Emitted out.old out.new (λ qs. EndingAt returned qs level (size out.old.operators))) }
     ensures size { OnOk result (size out.new.operators ≤ size out.old.operators + 3) }
 {
-    if typed {
-        append_reading(out, Couple { level, index: 2 })?;
-        append_plain(out, PlainKind::Retn)
-    } else {
-        append_plain(out, PlainKind::Exit)
+    match returned {
+        None => append_plain(out, PlainKind::Exit),
+        Some(index) => {
+            append_reading(out, Couple { level, index })?;
+            append_plain(out, PlainKind::Retn)
+        }
     }
 }
 
@@ -73,26 +85,27 @@ fn append_end(level: u8, typed: bool, out: &mut Builder) -> Result<(), AllocErro
 fn emit_text<E: ExprEmitter>(
     alloc: Global,
     emitter: &StmtEmitter<E>,
-    typed: bool,
+    returned: Option<u16>,
     ds: &[Decl],
     ss: &[Stmt],
     formats: Vec<Format>,
 ) -> Result<(Segment, Vec<Format>), AllocError>
-    requires near { AreNear emitter.now.known.now.scopes.now }
+    requires near { AreNear emitter.now.known.now.names.now }
+    requires cell { IsNear returned }
     requires many { length emitter.now.known.now.procedures.now ≤ MOST_PROCEDURES }
     requires segment { emitter.now.known.now.segment ≤ MOST_PROCEDURES }
     requires formats { length formats.items ≤ 6 * MOST_SEGMENT_WORDS * emitter.now.known.now.segment }
     requires outer { machine.OUTER_LEVEL ≤ emitter.now.level }
     requires most { emitter.now.level ≤ machine.MOST_LEVEL }
-    requires small { IsSmall (zeros_for typed (plain.decls ds.now)) (plain.decls ds.now) }
+    requires small { IsSmall (zeros_for returned (plain.decls ds.now)) (plain.decls ds.now) }
     requires fits { (sc : Place) × InsideFits sc emitter.now.known.now emitter.now.level (plain.decls ds.now) (plain.stmts ss.now) }
-    requires room { text_syllables typed (plain.decls ds.now) (plain.stmts ss.now) + 5 ≤ 6 * MOST_SEGMENT_WORDS }
+    requires room { text_syllables returned (plain.decls ds.now) (plain.stmts ss.now) + 5 ≤ 6 * MOST_SEGMENT_WORDS }
     ensures code { IfOk result (λ made. (sc : Place) → InsideFits sc emitter.now.known.now emitter.now.level (plain.decls ds.now) (plain.stmts ss.now) →
-        (all : List Format) → IsFront made.1.items all → Stands sc all made.0 emitter.now.level typed (plain.decls ds.now) (plain.stmts ss.now)) }
+        (all : List Format) → IsFront made.1.items all → Stands sc all made.0 emitter.now.level returned (plain.decls ds.now) (plain.stmts ss.now)) }
     ensures formats { IfOk result (λ made. IsFront formats.items made.1.items) }
     ensures listed { IfOk result (λ made. AreListed formats.items → AreListed made.1.items) }
     ensures few { IfOk result (λ made. length made.1.items ≤ length formats.items + 6 * MOST_SEGMENT_WORDS) }
-    ensures short { IfOk result (λ made. 6 * length made.0.words ≤ text_syllables typed (plain.decls ds.now) (plain.stmts ss.now) + 5) }
+    ensures short { IfOk result (λ made. 6 * length made.0.words ≤ text_syllables returned (plain.decls ds.now) (plain.stmts ss.now) + 5) }
 {
     let mut to = Draft {
         out: Builder::new(alloc),
@@ -100,8 +113,8 @@ fn emit_text<E: ExprEmitter>(
         formats,
     };
     to.out.level(emitter.level)?;
-    emitter.inside(ss, ds, zeros(typed, ds), &mut to)?;
-    append_end(emitter.level, typed, &mut to.out)?;
+    emitter.inside(ss, ds, zeros(returned, ds), &mut to)?;
+    append_end(emitter.level, returned, &mut to.out)?;
     let Draft {
         out,
         exits: _,
@@ -110,64 +123,102 @@ fn emit_text<E: ExprEmitter>(
     Ok((out.finish()?, formats))
 }
 
+/// The code of the outer block, in the first segment, and the formats of its lines.
+fn emit_outer<E: ExprEmitter>(
+    alloc: Global,
+    exprs: &E,
+    known: &Known,
+    body: &Body,
+) -> Result<(Segment, Vec<Format>), AllocError>
+    requires near { AreNear known.now.names.now }
+    requires many { length known.now.procedures.now ≤ MOST_PROCEDURES }
+    requires segment { known.now.segment ≡ 0 }
+    requires text { CanStand known.now (outer_text (plain.body body.now)) }
+    ensures code { IfOk result (λ made. (sc : Place) → TextFits sc known.now (outer_text (plain.body body.now)) →
+        (all : List Format) → IsFront made.1.items all → HasSegment sc all made.0 (outer_text (plain.body body.now))) }
+    ensures listed { IfOk result (λ made. AreListed made.1.items) }
+    ensures few { IfOk result (λ made. length made.1.items ≤ 6 * MOST_SEGMENT_WORDS) }
+    ensures short { IfOk result (λ made. 6 * length made.0.words ≤ code_syllables (outer_text (plain.body body.now)) + 5) }
+{
+    let emitter = StmtEmitter {
+        exprs,
+        known,
+        level: OUTER_LEVEL,
+    };
+    let none = Vec::new(alloc);
+    emit_text(
+        alloc,
+        &emitter,
+        None,
+        body.decls.items(),
+        body.stmts.items(),
+        none,
+    )
+}
+
+/// The code of a procedure, in the segment that is known, and the formats with those of its lines.
+fn emit_procedure<E: ExprEmitter>(
+    alloc: Global,
+    exprs: &E,
+    known: &Known,
+    procedure: &Procedure,
+    formats: Vec<Format>,
+) -> Result<(Segment, Vec<Format>), AllocError>
+    requires near { AreNear known.now.names.now }
+    requires many { length known.now.procedures.now ≤ MOST_PROCEDURES }
+    requires segment { known.now.segment ≤ MOST_PROCEDURES }
+    requires formats { length formats.items ≤ 6 * MOST_SEGMENT_WORDS * known.now.segment }
+    requires text { CanStand known.now (text_of procedure.now) }
+    ensures code { IfOk result (λ made. (sc : Place) → TextFits sc known.now (text_of procedure.now) →
+        (all : List Format) → IsFront made.1.items all → HasSegment sc all made.0 (text_of procedure.now)) }
+    ensures formats { IfOk result (λ made. IsFront formats.items made.1.items) }
+    ensures listed { IfOk result (λ made. AreListed formats.items → AreListed made.1.items) }
+    ensures few { IfOk result (λ made. length made.1.items ≤ length formats.items + 6 * MOST_SEGMENT_WORDS) }
+    ensures short { IfOk result (λ made. 6 * length made.0.words ≤ code_syllables (text_of procedure.now) + 5) }
+{
+    let emitter = StmtEmitter {
+        exprs,
+        known,
+        level: procedure.level,
+    };
+    let (ds, ss) = parts(procedure.body);
+    let returned = returned_by(procedure.heading);
+    emit_text(alloc, &emitter, returned, ds, ss, formats)
+}
+
 /// The segments of a program: that of its outer block, and those of its procedures in the order of the text; and the formats of all
 /// their lines.
 pub fn emit_program<E: ExprEmitter>(
     alloc: Global,
     exprs: &E,
-    scopes: &Scopes,
+    names: &Names,
     body: &Body,
 ) -> Result<(Vec<Segment>, Vec<Format>), AllocError>
-    requires near { AreNear scopes.now }
+    requires near { AreNear names.now }
     requires few { length (texts (plain.body body.now)) ≤ 1 + MOST_PROCEDURES }
-    requires due { (sc : names.Scopes) × AreDue sc scopes.now (texts (plain.body body.now)) }
-    ensures code { IfOk result (λ made. (sc : names.Scopes) → AreDue sc scopes.now (texts (plain.body body.now)) → Coded sc made.1.items made.0.items (texts (plain.body body.now))) }
+    requires due { (sc : scoped.Scopes) × AreDue sc names.now (texts (plain.body body.now)) }
+    ensures code { IfOk result (λ made. (sc : scoped.Scopes) → AreDue sc names.now (texts (plain.body body.now)) → Coded sc made.1.items made.0.items (texts (plain.body body.now))) }
     ensures formats { IfOk result (λ made. AreListed made.1.items) }
     ensures short { IfOk result (λ made. AreShort made.0.items (texts (plain.body body.now))) }
 {
     let mut procedures = Vec::new(alloc);
     within_body(body, OUTER_LEVEL, &mut procedures)?;
+    let places = places_of_names(alloc, &procedures)?;
     let outer = Known {
-        scopes,
-        procedures: &procedures,
+        names: &*names,
+        procedures: &places,
         segment: 0,
     };
-    let emitter = StmtEmitter {
-        exprs,
-        known: &outer,
-        level: OUTER_LEVEL,
-    };
-    let none = Vec::new(alloc);
-    let (first, mut formats) = emit_text(
-        alloc,
-        &emitter,
-        false,
-        body.decls.items(),
-        body.stmts.items(),
-        none,
-    )?;
+    let (first, mut formats) = emit_outer(alloc, exprs, &outer, body)?;
     let mut segments = Vec::new(alloc);
     segments.push(first)?;
     'procedures: for procedure in &procedures {
         let known = Known {
-            scopes,
-            procedures: &procedures,
+            names: &*names,
+            procedures: &places,
             segment: segments.len() as u16,
         };
-        let emitter = StmtEmitter {
-            exprs,
-            known: &known,
-            level: procedure.level,
-        };
-        let (ds, ss) = parts(procedure.body);
-        let (segment, more) = emit_text(
-            alloc,
-            &emitter,
-            procedure.heading.kind.is_some(),
-            ds,
-            ss,
-            formats,
-        )?;
+        let (segment, more) = emit_procedure(alloc, exprs, &known, procedure, formats)?;
         segments.push(segment)?;
         formats = more;
     }

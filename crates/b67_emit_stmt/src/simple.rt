@@ -2,24 +2,24 @@
 
 ghost use Rattle.std.specs.Prelude.{◌≡◌, ◌+◌, ◌*◌, ◌≤◌, List, IsSome, OnOk};
 ghost use Rattle.algol_tree.specs.declared.tree.Kind.{Kind};
-ghost use Rattle.algol_tree.specs.Image.{expr};
-ghost use Rattle.b67_emit_stmt.specs.Places.{Place};
+ghost use Rattle.algol_tree.specs.Image.{call, expr, exprs, variable};
+ghost use Rattle.algol_tree.specs.Plain as tree;
+ghost use Rattle.b67_emit_stmt.specs.Places.{Place, AssignAt, CallStmtAt, ReadAt, ReferenceAt, StoredAt};
 ghost use Rattle.b67_segment.specs.declared.TheConstants.{MOST_SEGMENT_WORDS};
 ghost use Rattle.b67_segment.specs.declared.code.Format.{Format};
 ghost use Rattle.b67_segment.specs.Operators.{size};
 ghost use Rattle.b67_segment.specs.Building.{level_set};
 ghost use Rattle.b67_templates.specs.Fragments.{IntrinsicAt};
-ghost use Rattle.b67_emit_stmt.specs.Places.{AssignAt, CallStmtAt, ReadAt, ReferenceAt};
 ghost use Rattle.b67_templates.specs.Depths.{expr_syllables};
-ghost use Rattle.b67_emit_stmt.specs.Fits.{AssignFits, CallStmtFits, LeftFits, ReadFits};
+ghost use Rattle.b67_emit_stmt.specs.Fits.{AssignFits, CallStmtFits, LeftFits, ReadFits, StoreFits};
 ghost use Rattle.b67_templates.specs.Emitting.{Emitted};
-ghost use Rattle.b67_emitter.specs.Values.{AreNear};
+ghost use Rattle.b67_emitter.specs.Values.{AreNear, place_syllables};
 
 use crate::draft::StmtEmitter;
-use algol_tree::{Expr, Named};
+use algol_tree::{Call, Expr, Named, Variable};
 use b67_emitter::{
-    ExprEmitter, append_call, append_dropped, append_plain, append_reading, append_reference,
-    couple_of, left_of, result_of,
+    ExprEmitter, append_dropped, append_plain, append_reading, append_reference, couple_of,
+    left_of, result_of,
 };
 use b67_ops::{Intrinsic, PlainKind};
 use b67_segment::Builder;
@@ -40,33 +40,33 @@ impl<'a, E: ExprEmitter> StmtEmitter<'a, E> {
     /// The reference of a variable or a result that is assigned.
     pub(crate) fn reference(&self, v: &Named, out: &mut Builder) -> Result<(), AllocError>
         requires set { IsSome out.old.level }
-        requires near { AreNear self.now.known.now.scopes.now }
+        requires near { AreNear self.now.known.now.names.now }
         requires fits { (sc : Place) × (k : Kind) × LeftFits sc self.now.known.now (level_set out.old) k v.now }
         requires room { size out.old.operators + 2 ≤ 6 * MOST_SEGMENT_WORDS }
         ensures code { OnOk result ((sc : Place) (k : Kind) (formats : List Format) → LeftFits sc self.now.known.now (level_set out.old) k v.now → Emitted out.old out.new (λ qs. ReferenceAt sc formats qs (level_set out.old) v.now k (size out.old.operators) (size out.new.operators))) }
         ensures level { OnOk result (out.new.level ≡ out.old.level) }
         ensures size { OnOk result (size out.new.operators ≡ size out.old.operators + 2) }
     {
-        append_reference(out, left_of(self.known.scopes, v))
+        append_reference(out, left_of(self.known.names, v))
     }
 
     /// The value of a variable.
     pub(crate) fn read(&self, v: &Named, out: &mut Builder) -> Result<(), AllocError>
         requires set { IsSome out.old.level }
-        requires near { AreNear self.now.known.now.scopes.now }
+        requires near { AreNear self.now.known.now.names.now }
         requires fits { (sc : Place) × (k : Kind) × ReadFits sc self.now.known.now (level_set out.old) k v.now }
         requires room { size out.old.operators + 2 ≤ 6 * MOST_SEGMENT_WORDS }
         ensures code { OnOk result ((sc : Place) (k : Kind) (formats : List Format) → ReadFits sc self.now.known.now (level_set out.old) k v.now → Emitted out.old out.new (λ qs. ReadAt sc formats qs (level_set out.old) v.now k (size out.old.operators) (size out.new.operators))) }
         ensures level { OnOk result (out.new.level ≡ out.old.level) }
         ensures size { OnOk result (size out.new.operators ≡ size out.old.operators + 2) }
     {
-        append_reading(out, couple_of(self.known.scopes, v))
+        append_reading(out, couple_of(self.known.names, v))
     }
 
     /// The reference of a variable, the value, the store.
     pub(crate) fn assign(&self, v: &Named, e: &Expr, out: &mut Builder) -> Result<(), AllocError>
         requires set { IsSome out.old.level }
-        requires near { AreNear self.now.known.now.scopes.now }
+        requires near { AreNear self.now.known.now.names.now }
         requires fits { (sc : Place) × AssignFits sc self.now.known.now (level_set out.old) v.now (expr e.now) }
         requires room { size out.old.operators + (3 + expr_syllables (expr e.now)) ≤ 6 * MOST_SEGMENT_WORDS }
         ensures code { OnOk result ((sc : Place) (formats : List Format) → AssignFits sc self.now.known.now (level_set out.old) v.now (expr e.now) → Emitted out.old out.new (λ qs. AssignAt sc formats qs (level_set out.old) v.now (expr e.now) (size out.old.operators) (size out.new.operators))) }
@@ -74,21 +74,35 @@ impl<'a, E: ExprEmitter> StmtEmitter<'a, E> {
         ensures size { OnOk result (size out.new.operators ≤ size out.old.operators + (3 + expr_syllables (expr e.now))) }
     {
         self.reference(v, out)?;
-        self.exprs.value(e, self.known.scopes, out)?;
+        self.exprs.value(e, self.known.names, out)?;
+        append_plain(out, PlainKind::Stod)
+    }
+
+    /// What an assignment stores through, which is a variable, a result or an element, the value, the store.
+    pub(crate) fn store(&self, v: &Variable, e: &Expr, out: &mut Builder) -> Result<(), AllocError>
+        requires set { IsSome out.old.level }
+        requires near { AreNear self.now.known.now.names.now }
+        requires fits { (sc : Place) × StoreFits sc self.now.known.now (level_set out.old) (variable v.now) (expr e.now) }
+        requires room { size out.old.operators + (place_syllables (variable v.now) + expr_syllables (expr e.now) + 1) ≤ 6 * MOST_SEGMENT_WORDS }
+        ensures code { OnOk result ((sc : Place) (formats : List Format) → StoreFits sc self.now.known.now (level_set out.old) (variable v.now) (expr e.now) → Emitted out.old out.new (λ qs. StoredAt sc formats qs (level_set out.old) (variable v.now) (expr e.now) (size out.old.operators) (size out.new.operators))) }
+        ensures size { OnOk result (size out.new.operators ≤ size out.old.operators + (place_syllables (variable v.now) + expr_syllables (expr e.now) + 1)) }
+    {
+        self.exprs.name(v, self.known.names, out)?;
+        self.exprs.value(e, self.known.names, out)?;
         append_plain(out, PlainKind::Stod)
     }
 
     /// The call of a procedure. The result of a typed one is dropped.
-    pub(crate) fn call(&self, n: &Named, out: &mut Builder) -> Result<(), AllocError>
+    pub(crate) fn call(&self, c: &Call, out: &mut Builder) -> Result<(), AllocError>
         requires set { IsSome out.old.level }
-        requires near { AreNear self.now.known.now.scopes.now }
-        requires fits { (sc : Place) × CallStmtFits sc self.now.known.now (level_set out.old) n.now }
-        requires room { size out.old.operators + 5 ≤ 6 * MOST_SEGMENT_WORDS }
-        ensures code { OnOk result ((sc : Place) (formats : List Format) → CallStmtFits sc self.now.known.now (level_set out.old) n.now → Emitted out.old out.new (λ qs. CallStmtAt sc formats qs (level_set out.old) n.now (size out.old.operators) (size out.new.operators))) }
+        requires near { AreNear self.now.known.now.names.now }
+        requires fits { (sc : Place) × CallStmtFits sc self.now.known.now (level_set out.old) c.now.name (exprs c.now.actuals) }
+        requires room { size out.old.operators + (expr_syllables (tree.call (call c.now)) + 1) ≤ 6 * MOST_SEGMENT_WORDS }
+        ensures code { OnOk result ((sc : Place) (formats : List Format) → CallStmtFits sc self.now.known.now (level_set out.old) c.now.name (exprs c.now.actuals) → Emitted out.old out.new (λ qs. CallStmtAt sc formats qs (level_set out.old) c.now.name (exprs c.now.actuals) (size out.old.operators) (size out.new.operators))) }
         ensures level { OnOk result (out.new.level ≡ out.old.level) }
-        ensures size { OnOk result (size out.new.operators ≤ size out.old.operators + 5) }
+        ensures size { OnOk result (size out.new.operators ≤ size out.old.operators + (expr_syllables (tree.call (call c.now)) + 1)) }
     {
-        append_call(out, couple_of(self.known.scopes, n))?;
-        append_dropped(out, result_of(self.known.scopes, n).is_some())
+        self.exprs.call(c, self.known.names, out)?;
+        append_dropped(out, result_of(self.known.names, &c.name).is_some())
     }
 }

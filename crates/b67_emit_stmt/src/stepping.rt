@@ -7,7 +7,7 @@ ghost use Rattle.algol_tree.specs.declared.tree.Kind.TheVariants as types;
 ghost use Rattle.algol_tree.specs.declared.tree.Op.TheVariants as operators;
 ghost use Rattle.algol_tree.specs.Image.{expr};
 ghost use Rattle.algol_tree.specs.Plain as tree;
-ghost use Rattle.b67_emit_stmt.specs.Places.{Place};
+ghost use Rattle.b67_emit_stmt.specs.Places.{Place, AssignAt, ExprAt, PastAt, SignedAt, StepAt};
 ghost use Rattle.algol_meaning.specs.Statements.{alone};
 ghost use Rattle.b67_segment.specs.declared.TheConstants.{MOST_SEGMENT_WORDS};
 ghost use Rattle.b67_segment.specs.declared.code.Format.{Format};
@@ -15,7 +15,6 @@ ghost use Rattle.b67_segment.specs.Operators.{size};
 ghost use Rattle.b67_segment.specs.Building.{level_set};
 ghost use Rattle.b67_templates.specs.Fragments.{AllAt, BranchAt};
 ghost use Rattle.b67_templates.specs.Code.{StepSign, literal_of};
-ghost use Rattle.b67_emit_stmt.specs.Places.{AssignAt, ExprAt, PastAt, SignedAt, StepAt};
 ghost use Rattle.b67_templates.specs.Depths.{expr_syllables};
 ghost use Rattle.b67_emit_stmt.specs.Fits.{ExprFits, ReadFits, VariableFits};
 ghost use Rattle.b67_templates.specs.Emitting.{Emitted};
@@ -102,7 +101,7 @@ impl<'a, E: ExprEmitter> StmtEmitter<'a, E> {
         out: &mut Builder,
     ) -> Result<(), AllocError>
         requires set { IsSome out.old.level }
-        requires near { AreNear self.now.known.now.scopes.now }
+        requires near { AreNear self.now.known.now.names.now }
         requires fits { (sc : Place) × ReadFits sc self.now.known.now (level_set out.old) types.Number v.now × ExprFits sc self.now.known.now (level_set out.old) types.Number (expr l.now) }
         requires room { size out.old.operators + (3 + expr_syllables (expr l.now)) ≤ 6 * MOST_SEGMENT_WORDS }
         ensures code { OnOk result ((sc : Place) (formats : List Format) → ReadFits sc self.now.known.now (level_set out.old) types.Number v.now → ExprFits sc self.now.known.now (level_set out.old) types.Number (expr l.now) → Emitted out.old out.new (λ qs. ExprAt sc formats qs (level_set out.old) types.Number (tree.two operators.Sub (alone v.now) (expr l.now)) (size out.old.operators) (size out.new.operators) (size out.new.operators))) }
@@ -110,14 +109,14 @@ impl<'a, E: ExprEmitter> StmtEmitter<'a, E> {
         ensures size { OnOk result (size out.new.operators ≤ size out.old.operators + (3 + expr_syllables (expr l.now))) }
     {
         self.read(v, out)?;
-        self.exprs.value(l, self.known.scopes, out)?;
+        self.exprs.value(l, self.known.names, out)?;
         append_plain(out, PlainKind::Subt)
     }
 
     /// The next value of a variable.
     pub(crate) fn advance(&self, v: &Named, s: &Expr, out: &mut Builder) -> Result<(), AllocError>
         requires set { IsSome out.old.level }
-        requires near { AreNear self.now.known.now.scopes.now }
+        requires near { AreNear self.now.known.now.names.now }
         requires fits { (sc : Place) × VariableFits sc self.now.known.now (level_set out.old) v.now × ExprFits sc self.now.known.now (level_set out.old) types.Number (expr s.now) }
         requires room { size out.old.operators + (6 + expr_syllables (expr s.now)) ≤ 6 * MOST_SEGMENT_WORDS }
         ensures code { OnOk result ((sc : Place) (formats : List Format) → VariableFits sc self.now.known.now (level_set out.old) v.now → ExprFits sc self.now.known.now (level_set out.old) types.Number (expr s.now) → Emitted out.old out.new (λ qs. AssignAt sc formats qs (level_set out.old) v.now (tree.two operators.Add (alone v.now) (expr s.now)) (size out.old.operators) (size out.new.operators))) }
@@ -126,7 +125,7 @@ impl<'a, E: ExprEmitter> StmtEmitter<'a, E> {
     {
         self.reference(v, out)?;
         self.read(v, out)?;
-        self.exprs.value(s, self.known.scopes, out)?;
+        self.exprs.value(s, self.known.names, out)?;
         append_plain(out, PlainKind::Add)?;
         append_plain(out, PlainKind::Stod)
     }
@@ -140,7 +139,7 @@ impl<'a, E: ExprEmitter> StmtEmitter<'a, E> {
         match literal_of(s) {
             Some(step) => append_signed(step.number(), to),
             None => {
-                self.exprs.value(s, self.known.scopes, &mut to.out)?;
+                self.exprs.value(s, self.known.names, &mut to.out)?;
                 append_past(to)
             }
         }

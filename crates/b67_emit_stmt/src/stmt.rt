@@ -22,7 +22,7 @@ impl<'a, E: ExprEmitter> StmtEmitter<'a, E> {
         requires fits { HasFit self.now.known.now to.old (tree.if_then (expr c.now) (stmt x.now)) }
         ensures { OnOk result (EmitsStmt self.now.known.now to.old to.new (tree.if_then (expr c.now) (stmt x.now))) }
     {
-        self.exprs.value(c, self.known.scopes, &mut to.out)?;
+        self.exprs.value(c, self.known.names, &mut to.out)?;
         append_exit(&mut to.out, BranchKind::Brfl, &mut to.exits)?;
         self.stmt(x, to)
     }
@@ -35,7 +35,7 @@ impl<'a, E: ExprEmitter> StmtEmitter<'a, E> {
         requires fits { HasFitThen self.now.known.now to.old (expr c.now) (stmt x.now) }
         ensures { OnOk result (EmitsThen self.now.known.now to.old to.new (expr c.now) (stmt x.now)) }
     {
-        self.exprs.value(c, self.known.scopes, &mut to.out)?;
+        self.exprs.value(c, self.known.names, &mut to.out)?;
         let otherwise = append_branch(&mut to.out, BranchKind::Brfl)?;
         self.stmt(x, to)?;
         append_exit(&mut to.out, BranchKind::Brun, &mut to.exits)?;
@@ -53,8 +53,8 @@ impl<'a, E: ExprEmitter> StmtEmitter<'a, E> {
     {
         match s {
             Stmt::Empty => Ok(()),
-            Stmt::Call(c) => self.call(&c.name, &mut to.out),
-            Stmt::Assign(v, e) => self.assign(&v.name, e, &mut to.out),
+            Stmt::Call(c) => self.call(c, &mut to.out),
+            Stmt::Assign(v, e) => self.store(v, e, &mut to.out),
             Stmt::Block(b) => {
                 if b.decls.items().is_empty() {
                     self.stmts(b.stmts.items(), to)

@@ -1,14 +1,15 @@
 //! The procedures of a program in the order of the text, and their numbers.
 
-ghost use Rattle.std.specs.Prelude.{◌≡◌, ◌++◌, ◌+◌, ◌≤◌, length, map, OnOk};
+ghost use Rattle.std.specs.Prelude.{◌≡◌, ◌++◌, ◌+◌, ◌≤◌, length, map, IfOk, OnOk};
 ghost use Rattle.algol_tree.specs.declared.TheConstants.{MOST_PROCEDURES};
-ghost use Rattle.algol_tree.specs.Blocks.{of_statement, of_procedure};
+ghost use Rattle.algol_tree.specs.Blocks.{of_statement};
 ghost use Rattle.algol_tree.specs.Image.{body, decl, decls, stmt, stmts};
-ghost use Rattle.b67_emit_stmt.specs.Fits.{number_in, text_of};
-ghost use Rattle.b67_emit_stmt.specs.Texts.{texts_of, texts_in_body, texts_in_decl, texts_in_decls, texts_in_stmts, HaveLevels, HaveLevelsBody, HaveLevelsDecl, HaveLevelsDecls, HaveLevelsStmts};
+ghost use Rattle.b67_emit_stmt.specs.Fits.{number_in};
+ghost use Rattle.b67_emit_stmt.specs.Texts.{places_of, text_of, texts_of, texts_in_body, texts_in_decl, texts_in_decls, texts_in_stmts, HaveLevels, HaveLevelsBody, HaveLevelsDecl, HaveLevelsDecls, HaveLevelsStmts};
 
+use algol_places::Places;
 use algol_tree::{Body, Decl, Heading, Spot, Stmt};
-use std::alloc::AllocError;
+use std::alloc::{AllocError, Global};
 
 /// A procedure: the level of its block, its heading with the body, and its body.
 #[derive(Clone, Copy)]
@@ -18,20 +19,27 @@ pub struct Procedure<'a> {
     pub body: &'a Stmt,
 }
 
-/// The number of the procedure whose name stands there: its place among them, from 1.
-pub(crate) fn number_of(procedures: &[Procedure], spot: Spot) -> u16
-    requires { length procedures.now ≤ MOST_PROCEDURES }
-    ensures { result ≡ number_in (map text_of procedures.now) spot }
+/// Where the names of these procedures stand.
+pub(crate) fn places_of_names(alloc: Global, procedures: &[Procedure]) -> Result<Places, AllocError>
+    ensures { IfOk result (λ places. places ≡ places_of (map text_of procedures.now)) }
 {
-    let mut number = 1;
+    let mut spots = Vec::new(alloc);
     'procedures: for procedure in procedures {
-        let there = procedure.heading.name.spot;
-        if there.column == spot.column && there.line == spot.line {
-            return number;
-        }
-        number += 1;
+        spots.push(procedure.heading.name.spot)?;
     }
-    number
+    Places::of(alloc, spots)
+}
+
+/// The number of the procedure whose name stands there: its place among them, from 1; 0 where there is none.
+#[tactic(auto, using(crate::proofs::Numbered::number_within))]
+pub(crate) fn number_of(procedures: &Places, spot: Spot) -> u16
+    requires { length procedures.now ≤ MOST_PROCEDURES }
+    ensures { result ≡ number_in procedures.now spot }
+{
+    match procedures.number_of(spot) {
+        None => 0,
+        Some(number) => number as u16 + 1,
+    }
 }
 
 /// The procedures that are declared within a statement at a level.

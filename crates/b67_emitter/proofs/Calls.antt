@@ -1,5 +1,5 @@
--- A call is a mark, the reference of a control word, and ENTR.
-use Rattle.std.proofs.Common.{◌≡◌, ℕ, ◌∙◌, subst}
+-- A call begins with a mark and the reference of a control word.
+use Rattle.std.proofs.Common.{◌≡◌, ℕ, subst}
 use Rattle.algol_tree.specs.declared.tree.Named.{Named}
 use Rattle.algol_tree.specs.Scopes as names
 use Rattle.b67_ops.specs.declared.Couple.{Couple}
@@ -9,22 +9,19 @@ use Rattle.b67_segment.specs.Operators.{size}
 use Rattle.b67_segment.specs.Building.{Built, level_set}
 use Rattle.b67_templates.specs.Contexts.{Context}
 use Rattle.b67_templates.specs.Cells.{IsProcedure}
-use Rattle.b67_templates.specs.Code.{CallAt}
+use Rattle.b67_templates.specs.Code.{BegunAt}
 use Rattle.b67_templates.specs.Fragments.{Has}
 use Rattle.b67_templates.specs.Emitting.{Emitted}
 use Rattle.b67_emitter.proofs.Appends.{same_level}
 use Rattle.b67_emitter.proofs.Composing.{weaker, then}
 
-pub call_part : (couple : Couple) (a b c d : Built) → b.level ≡ a.level → c.level ≡ b.level →
+pub begun_part : (couple : Couple) (a b c : Built) → b.level ≡ a.level →
     Emitted a b (λ qs. Has qs (level_set a) (size a.operators) (ops.Plain kinds.Mkst) (size b.operators)) →
     Emitted b c (λ qs. Has qs (level_set b) (size b.operators) (ops.Namc couple) (size c.operators)) →
-    Emitted c d (λ qs. Has qs (level_set c) (size c.operators) (ops.Plain kinds.Entr) (size d.operators)) →
     (sc : names.Scopes) (context : Context) (n : Named) (callee : ℕ) → IsProcedure sc (level_set a) n callee couple →
-    Emitted a d (λ qs. CallAt sc context qs (level_set a) n callee (size a.operators) (size d.operators))
-call_part couple a b c d e f h i j sc context n callee is =
+    Emitted a c (λ qs. BegunAt sc context qs (level_set a) n callee (size a.operators) (size c.operators))
+begun_part couple a b c e h i sc context n callee is =
     let q = same_level a b e in
-    let r = same_level b c f ∙ q in
     let N : ℕ → Type 0 = λ l. Emitted b c (λ qs. Has qs l (size b.operators) (ops.Namc couple) (size c.operators)) in
-    let E : ℕ → Type 0 = λ l. Emitted c d (λ qs. Has qs l (size c.operators) (ops.Plain kinds.Entr) (size d.operators)) in
-    weaker (λ qs. CallAt sc context qs (level_set a) n callee (size a.operators) (size d.operators)) (then (then h (subst N q i)) (subst E r j))
-    (λ qs p. record { couple = couple; procedure = is; marked = size b.operators; named = size c.operators; mark = p.0.0; reference = p.0.1; enter = p.1 })
+    weaker (λ qs. BegunAt sc context qs (level_set a) n callee (size a.operators) (size c.operators)) (then h (subst N q i))
+    (λ qs p. record { couple = couple; procedure = is; marked = size b.operators; mark = p.0; reference = p.1 })

@@ -1,4 +1,4 @@
-//! Calls of procedures without parameters.
+//! The beginning of a call, and what a statement does with its result.
 
 ghost use Rattle.std.specs.Prelude.{◌≡◌, ℕ, ◌+◌, ◌*◌, ◌≤◌, Option, is_some, IsSome, OnOk};
 ghost use Rattle.algol_tree.specs.declared.tree.Kind.{Kind};
@@ -10,7 +10,7 @@ ghost use Rattle.b67_segment.specs.Operators.{size};
 ghost use Rattle.b67_segment.specs.Building.{level_set};
 ghost use Rattle.b67_templates.specs.Contexts.{Context};
 ghost use Rattle.b67_templates.specs.Cells.{IsProcedure};
-ghost use Rattle.b67_templates.specs.Code.{CallAt, DroppedAt};
+ghost use Rattle.b67_templates.specs.Code.{BegunAt, DroppedAt};
 ghost use Rattle.b67_templates.specs.Emitting.{Emitted};
 
 use crate::appending::{append_plain, append_reference};
@@ -18,19 +18,18 @@ use b67_ops::{Couple, PlainKind};
 use b67_segment::Builder;
 use std::alloc::AllocError;
 
-/// Appends the call of the procedure whose control word lies at a couple: a mark, the reference of the control word, the entry.
-pub fn append_call(out: &mut Builder, couple: Couple) -> Result<(), AllocError>
+/// Appends the beginning of the call of the procedure whose control word lies at a couple: a mark, the reference of the control word.
+pub fn append_begun(out: &mut Builder, couple: Couple) -> Result<(), AllocError>
     requires set { IsSome out.old.level }
     requires seen { IsSeen (level_set out.old) couple }
-    requires room { size out.old.operators + 4 ≤ 6 * MOST_SEGMENT_WORDS }
+    requires room { size out.old.operators + 3 ≤ 6 * MOST_SEGMENT_WORDS }
     ensures code { OnOk result ((sc : names.Scopes) (context : Context) (n : Named) (callee : ℕ) → IsProcedure sc (level_set out.old) n callee couple →
-        Emitted out.old out.new (λ qs. CallAt sc context qs (level_set out.old) n callee (size out.old.operators) (size out.new.operators))) }
+        Emitted out.old out.new (λ qs. BegunAt sc context qs (level_set out.old) n callee (size out.old.operators) (size out.new.operators))) }
     ensures level { OnOk result (out.new.level ≡ out.old.level) }
-    ensures size { OnOk result (size out.new.operators ≡ size out.old.operators + 4) }
+    ensures size { OnOk result (size out.new.operators ≡ size out.old.operators + 3) }
 {
     append_plain(out, PlainKind::Mkst)?;
-    append_reference(out, couple)?;
-    append_plain(out, PlainKind::Entr)
+    append_reference(out, couple)
 }
 
 /// Drops the result of a call that a statement makes, where the procedure is typed.

@@ -1,25 +1,27 @@
 //! What appends the code of expressions.
 
 ghost use Rattle.std.specs.Prelude.{◌≡◌, ◌+◌, ◌*◌, ◌≤◌, Some, IsSome, OnOk};
-ghost use Rattle.algol_tree.specs.Image.{expr, variable};
+ghost use Rattle.algol_tree.specs.Plain as tree;
+ghost use Rattle.algol_tree.specs.Image.{expr, call, variable};
 ghost use Rattle.b67_segment.specs.declared.TheConstants.{MOST_SEGMENT_WORDS};
 ghost use Rattle.b67_segment.specs.Operators.{size};
 ghost use Rattle.b67_segment.specs.Building.{level_set};
 ghost use Rattle.b67_templates.specs.Depths.{expr_syllables};
-ghost use Rattle.b67_emitter.specs.Values.{couples, results, lefts, AreNear, HasCode, ValueEmitted, HasReference, ReferenceEmitted};
+ghost use Rattle.b67_emitter.specs.Values.{couples, results, lefts, lows, AreNear, HasCode, ValueEmitted, HasCall, CallEmitted, HasReference, ReferenceEmitted, place_syllables};
 
-use algol_scope::{Declared, Scopes};
-use algol_tree::{Expr, Named, Variable};
+use crate::names::Names;
+use algol_scope::Declared;
+use algol_tree::{Call, Expr, Named, Variable};
 use b67_ops::Couple;
 use b67_segment::Builder;
 use std::alloc::AllocError;
 
 /// The couple of the cell that a name means.
-pub fn couple_of(scopes: &Scopes, name: &Named) -> Couple
-    requires { IsSome (couples scopes.now name.now.spot) }
-    ensures { couples scopes.now name.now.spot ≡ Some result }
+pub fn couple_of(names: &Names, name: &Named) -> Couple
+    requires { IsSome (couples names.now name.now.spot) }
+    ensures { couples names.now name.now.spot ≡ Some result }
 {
-    match scopes.declaration(name.spot) {
+    match names.scopes.declaration(name.spot) {
         Some(
             Declared {
                 couple: Some(couple),
@@ -34,11 +36,11 @@ pub fn couple_of(scopes: &Scopes, name: &Named) -> Couple
 }
 
 /// The couple of the result of the typed procedure that a name means, none where it means none.
-pub fn result_of(scopes: &Scopes, name: &Named) -> Option<Couple>
-    ensures { result ≡ results scopes.now name.now.spot }
+pub fn result_of(names: &Names, name: &Named) -> Option<Couple>
+    ensures { result ≡ results names.now name.now.spot }
 {
-    match scopes.declaration(name.spot) {
-        Some(declared) => match scopes.result(declared.spot) {
+    match names.scopes.declaration(name.spot) {
+        Some(declared) => match names.scopes.result(declared.spot) {
             Some(couple) => Some(Couple {
                 level: couple.level,
                 index: couple.index,
@@ -50,13 +52,27 @@ pub fn result_of(scopes: &Scopes, name: &Named) -> Option<Couple>
 }
 
 /// The couple of the cell that a name means on the left of an assignment: of a typed procedure, the cell of its result.
-pub fn left_of(scopes: &Scopes, name: &Named) -> Couple
-    requires { IsSome (lefts scopes.now name.now.spot) }
-    ensures { lefts scopes.now name.now.spot ≡ Some result }
+pub fn left_of(names: &Names, name: &Named) -> Couple
+    requires { IsSome (lefts names.now name.now.spot) }
+    ensures { lefts names.now name.now.spot ≡ Some result }
 {
-    match result_of(scopes, name) {
+    match result_of(names, name) {
         Some(couple) => couple,
-        None => couple_of(scopes, name),
+        None => couple_of(names, name),
+    }
+}
+
+/// The lower bounds of the array that a name means.
+pub fn lows_of<'f>(names: &'f Names, name: &Named) -> &'f [i64]
+    requires { IsSome (lows names.now name.now.spot) }
+    ensures { lows names.now name.now.spot ≡ Some result.now }
+{
+    match names.scopes.declaration(name.spot) {
+        Some(declared) => match names.lows.get(&declared.spot) {
+            Some(lows) => lows.items().as_slice(),
+            None => unreachable!(),
+        },
+        None => unreachable!(),
     }
 }
 
@@ -66,22 +82,32 @@ pub fn left_of(scopes: &Scopes, name: &Named) -> Couple
 /// the greatest length of the code. After an `Err`, which is want of memory, the code may be longer.
 pub trait ExprEmitter {
     /// The code of an expression: its value stands behind it.
-    fn value(&self, e: &Expr, scopes: &Scopes, out: &mut Builder) -> Result<(), AllocError>
+    fn value(&self, e: &Expr, names: &Names, out: &mut Builder) -> Result<(), AllocError>
         requires set { IsSome out.old.level }
-        requires near { AreNear scopes.now }
-        requires code { HasCode scopes.now (level_set out.old) (expr e.now) }
+        requires near { AreNear names.now }
+        requires code { HasCode names.now (level_set out.old) (expr e.now) }
         requires room { size out.old.operators + expr_syllables (expr e.now) ≤ 6 * MOST_SEGMENT_WORDS }
-        ensures code { OnOk result (ValueEmitted scopes.now (level_set out.old) out.old out.new (expr e.now)) }
+        ensures code { OnOk result (ValueEmitted names.now (level_set out.old) out.old out.new (expr e.now)) }
         ensures level { OnOk result (out.new.level ≡ out.old.level) }
         ensures size { OnOk result (size out.new.operators ≤ size out.old.operators + expr_syllables (expr e.now)) };
 
-    /// The reference to the cell of a variable on the left of an assignment.
-    fn name(&self, v: &Variable, scopes: &Scopes, out: &mut Builder) -> Result<(), AllocError>
+    /// The code of a call, with its actuals and its entry: behind it the result lies on top, if the procedure is typed.
+    fn call(&self, c: &Call, names: &Names, out: &mut Builder) -> Result<(), AllocError>
         requires set { IsSome out.old.level }
-        requires near { AreNear scopes.now }
-        requires code { HasReference scopes.now (level_set out.old) (variable v.now) }
-        requires room { size out.old.operators + 2 ≤ 6 * MOST_SEGMENT_WORDS }
-        ensures code { OnOk result (ReferenceEmitted scopes.now (level_set out.old) out.old out.new (variable v.now)) }
+        requires near { AreNear names.now }
+        requires code { HasCall names.now (level_set out.old) (call c.now) }
+        requires room { size out.old.operators + expr_syllables (tree.call (call c.now)) ≤ 6 * MOST_SEGMENT_WORDS }
+        ensures code { OnOk result (CallEmitted names.now (level_set out.old) out.old out.new (call c.now)) }
         ensures level { OnOk result (out.new.level ≡ out.old.level) }
-        ensures size { OnOk result (size out.new.operators ≡ size out.old.operators + 2) };
+        ensures size { OnOk result (size out.new.operators ≤ size out.old.operators + expr_syllables (tree.call (call c.now))) };
+
+    /// What an assignment stores through: the reference to the cell of a variable or a result, or the descriptor of an element.
+    fn name(&self, v: &Variable, names: &Names, out: &mut Builder) -> Result<(), AllocError>
+        requires set { IsSome out.old.level }
+        requires near { AreNear names.now }
+        requires code { HasReference names.now (level_set out.old) (variable v.now) }
+        requires room { size out.old.operators + place_syllables (variable v.now) ≤ 6 * MOST_SEGMENT_WORDS }
+        ensures code { OnOk result (ReferenceEmitted names.now (level_set out.old) out.old out.new (variable v.now)) }
+        ensures level { OnOk result (out.new.level ≡ out.old.level) }
+        ensures size { OnOk result (size out.new.operators ≤ size out.old.operators + place_syllables (variable v.now)) };
 }

@@ -1,63 +1,155 @@
-use Rattle.std.proofs.Common.{◌≡◌, length, refl, sym, ap, ◌∙◌, arith}
+use Rattle.std.proofs.Common.{◌≡◌, ℕ, ◌+◌, ◌*◌, ◌≤◌, ◌<◌, List, drop, length, get_or, ℤ, pos, to_z, of_z, w64, refl, sym, ap, ◌∙◌, subst, arith}
+use Rattle.std.proofs.lemmas.List.{drop_all}
 use Rattle.std.proofs.lemmas.Result.{on_ok_weaker}
-use Rattle.algol_tree.specs.Image.{expr}
+use Rattle.algol_tree.specs.declared.tree.Expr.{Expr}
+use Rattle.algol_tree.specs.Counts.{expr_tokens, variable_tokens, call_tokens, exprs_tokens}
+use Rattle.algol_tree.specs.Image.{expr, exprs, variable, call}
 use Rattle.algol_tree.specs.Plain as tree
+use Rattle.b67_segment.specs.declared.TheConstants.{MOST_SEGMENT_WORDS}
+use Rattle.b67_segment.specs.Operators.{size}
 use Rattle.b67_segment.specs.Building.{level_set}
-use Rattle.b67_templates.specs.Fragments.{operator_for, truth_literal}
+use Rattle.b67_templates.specs.Fragments.{MovedAt, operator_for, truth_literal}
+use Rattle.b67_templates.specs.Emitting.{Emitted}
 use Rattle.b67_emitter.proofs.Appends.{same_level}
-use Rattle.b67_emit_expr.proofs.Shapes.{number_is, truth_is, paren_as, plus_as, neg_as, not_as, two_as, if_as}
-use Rattle.b67_emit_expr.proofs.Couples.{code_on}
-use Rattle.b67_emit_expr.proofs.Forms.{listed_as, plain_as, number_form, truth_form, paren_form, plus_form, neg_form, not_form, applied_form, exits_aimed, two_form, calculated_form, chosen_form}
+use Rattle.b67_emit_expr.proofs.Shapes.{call_long, number_is, truth_is, paren_as, plus_as, neg_as, not_as, two_as, if_as}
+use Rattle.b67_emit_expr.proofs.Couples.{code_on, second_code, set_after}
+use Rattle.b67_emit_expr.proofs.Forms.{value_on, listed_as, plain_as, number_form, truth_form, moved_form, paren_form, plus_form, neg_form, not_form, applied_form, exits_aimed, operands_form, calculated_form, chosen_form}
 use Rattle.b67_emit_expr.proofs.Listed.{nowhere, list_grown, exits_lie, exits_back, hole_lies}
-use Rattle.b67_emit_expr.proofs.Arms.{on_ok_both, emitted_as, name_has, name_arm}
+use Rattle.b67_emit_expr.proofs.Called.{known_call, seen_call, begin_left, next_is, next_tokens, next_code, next_one, called_form}
+use Rattle.b67_emit_expr.proofs.Arms.{on_ok_both, emitted_as, variable_as, variable_has, variable_arm, calling_tokens, call_has, call_arm}
+use Rattle.b67_emit_expr.proofs.Subscripts.{first_tokens, both_tokens, subscripts_fewer, read_back, known_lows, known_element, seen_element, some_subscripts, as_many_lows, own_tokens, first_has, first_back, first_whole, second_has, second_back, second_whole, one_form, two_form}
+use Rattle.b67_emit_expr.proofs.Elements.{is_element, some_in, none_in, element_has, element_form, alone_has, alone_form}
 use Rattle.b67_emit_expr.proofs.values.+values.Goals as goal
 
 pub operand-aim_exits-requires-clause-list : goal.operand-aim_exits-requires-clause-list
 operand-aim_exits-requires-clause-list t c =
     let is : c.len-first.result ≡ length c.args.exits.now.items = omega (arith, c.len-first.ensures, c.args.exits.now.ok.0) in
     let grown =
-    list_grown c.args.scopes.now (level_set c.args.out.now) c.args.out.now c.value_with_exits.new.out c.args.exits.now.items c.value_with_exits.new.exits.items (expr c.args.e.now) c.requires.code
+    list_grown c.args.names.now (level_set c.args.out.now) c.args.out.now c.value_with_exits.new.out c.args.exits.now.items c.value_with_exits.new.exits.items (expr c.args.e.now) c.requires.code
     c.in_ok-value_with_exits.ensures.code in
     omega arith
 
 pub operand-aim_exits-requires-clause-branches : goal.operand-aim_exits-requires-clause-branches
 operand-aim_exits-requires-clause-branches t c =
     let is : c.len-first.result ≡ length c.args.exits.now.items = omega (arith, c.len-first.ensures, c.args.exits.now.ok.0) in
-    exits_lie c.args.scopes.now (level_set c.args.out.now) c.args.out.now c.value_with_exits.new.out c.args.exits.now.items c.value_with_exits.new.exits.items (expr c.args.e.now)
+    exits_lie c.args.names.now (level_set c.args.out.now) c.args.out.now c.value_with_exits.new.out c.args.exits.now.items c.value_with_exits.new.exits.items (expr c.args.e.now)
     c.requires.code c.in_ok-value_with_exits.ensures.code c.len-first.result is
 
 pub operand-returns-clause-code : goal.operand-returns-clause-code
 operand-returns-clause-code t c =
     let is : c.len-first.result ≡ length c.args.exits.now.items = omega (arith, c.len-first.ensures, c.args.exits.now.ok.0) in
-    exits_aimed c.args.scopes.now (level_set c.args.out.now) c.args.out.now c.value_with_exits.new.out c.aim_exits.new.out c.args.exits.now.items
+    exits_aimed c.args.names.now (level_set c.args.out.now) c.args.out.now c.value_with_exits.new.out c.aim_exits.new.out c.args.exits.now.items
     c.value_with_exits.new.exits.items c.len-first.result (expr c.args.e.now) is c.in_ok-value_with_exits.ensures.code c.aim_exits.ensures.aimed
 
 pub operand-returns-clause-exits : goal.operand-returns-clause-exits
 operand-returns-clause-exits t c =
     let is : c.len-first.result ≡ length c.args.exits.now.items = omega (arith, c.len-first.ensures, c.args.exits.now.ok.0) in
     c.aim_exits.ensures.list
-    ∙ exits_back c.args.scopes.now (level_set c.args.out.now) c.args.out.now c.value_with_exits.new.out c.args.exits.now.items c.value_with_exits.new.exits.items (expr c.args.e.now)
+    ∙ exits_back c.args.names.now (level_set c.args.out.now) c.args.out.now c.value_with_exits.new.out c.args.exits.now.items c.value_with_exits.new.exits.items (expr c.args.e.now)
     c.requires.code c.in_ok-value_with_exits.ensures.code c.len-first.result is
 
 pub applied-returns-clause-code : goal.applied-returns-clause-code
 applied-returns-clause-code t c =
     on_ok_weaker c.append_plain.result
-    (λ h. applied_form c.args.scopes.now c.args.out.now c.operand.new.out c.append_plain.new.out (expr c.args.e.now) c.args.kind c.in_ok-operand.ensures.code h
+    (λ h. applied_form c.args.names.now c.args.out.now c.operand.new.out c.append_plain.new.out (expr c.args.e.now) c.args.kind c.in_ok-operand.ensures.code h
     c.in_ok-operand.ensures.level)
     c.append_plain.ensures.code
 
 pub calculated-returns-clause-code : goal.calculated-returns-clause-code
 calculated-returns-clause-code t c =
     on_ok_weaker c.append_plain.result
-    (λ h. calculated_form c.args.scopes.now c.args.out.now c.operand.new.out c.append_ready.new.out c.operand-2.new.out c.append_plain.new.out c.args.op
+    (λ h. calculated_form c.args.names.now c.args.out.now c.operand.new.out c.append_ready.new.out c.operand-2.new.out c.append_plain.new.out c.args.op
     (expr c.args.a.now) (expr c.args.b.now) c.in_ok-operand.ensures.code c.in_ok-append_ready.ensures.code c.in_ok-operand-2.ensures.code
-    (plain_as c.args.scopes.now (level_set c.operand-2.new.out) c.operand-2.new.out c.append_plain.new.out c.operator_for.result (operator_for c.args.op) c.operator_for.ensures h)
+    (plain_as c.args.names.now (level_set c.operand-2.new.out) c.operand-2.new.out c.append_plain.new.out c.operator_for.result (operator_for c.args.op) c.operator_for.ensures h)
     c.in_ok-operand.ensures.level c.in_ok-operand-2.ensures.level)
+    c.append_plain.ensures.code
+
+pub calculated-operand-requires-2 : goal.calculated-operand-requires-2
+calculated-operand-requires-2 t c =
+    let s = c.args.names.now in
+    let a = c.args.out.now in
+    let b = c.append_ready.new.out in
+    let level = c.in_ok-append_ready.ensures.level ∙ c.in_ok-operand.ensures.level in
+    let smaller : 3 * expr_tokens (expr c.args.b.now) + 1 < t = omega (arith, c.decreases) in
+    let room : size b.operators + 12 * expr_tokens (expr c.args.b.now) ≤ 6 * MOST_SEGMENT_WORDS = omega (arith, c.in_ok-append_ready.ensures.size, c.in_ok-operand.ensures.size, c.requires.room) in
+    let code = code_on s (level_set a) (level_set b) (expr c.args.b.now) (same_level a b level)
+    (second_code s (level_set a) c.args.op (expr c.args.a.now) (expr c.args.b.now) c.requires.code) in
+    (smaller, (set_after a b level c.requires.set, (c.requires.near, (code, room))))
+
+pub called-couple_of-requires : goal.called-couple_of-requires
+called-couple_of-requires t c = known_call c.args.names.now (level_set c.args.out.now) c.args.c.now c.requires.code
+
+pub called-append_begun-requires-clause-seen : goal.called-append_begun-requires-clause-seen
+called-append_begun-requires-clause-seen t c =
+    seen_call c.args.names.now (level_set c.args.out.now) c.args.c.now c.requires.code c.couple_of.result c.requires.near c.couple_of.ensures
+
+pub called-append_begun-requires-clause-room : goal.called-append_begun-requires-clause-room
+called-append_begun-requires-clause-room t c = omega (arith, call_long c.args.c.now, c.requires.room)
+
+pub called-actuals-init : goal.called-actuals-init
+called-actuals-init t c = record {
+  level = c.in_ok-append_begun.ensures.level;
+  exits = refl;
+  few = omega arith;
+  short = omega (arith, c.in_ok-append_begun.ensures.size);
+  code = begin_left c.args.names.now (level_set c.args.out.now) c.append_begun.new.out c.append_begun.new.out c.as_slice-actuals.result.now;
+}
+
+pub called-operand-requires : goal.called-operand-requires
+called-operand-requires t c =
+    let s = c.args.names.now in
+    let a = c.args.out.now in
+    let b = c.actuals.out in
+    let xs = c.as_slice-actuals.result.now in
+    let i = c.actuals.actual-index in
+    let x = c.actual-item.result in
+    let whole : xs ≡ c.args.c.now.actuals = c.as_slice-actuals.ensures.value ∙ c.items.ensures in
+    let next = next_is xs i x c.actuals-test.true c.actual-item.is in
+    let tokens = next_tokens xs i x c.actuals-test.true c.actual-item.is in
+    let same = ap (λ (l : List Expr). exprs_tokens (exprs l)) whole in
+    let smaller : 3 * expr_tokens (expr x) + 1 < t = omega (arith, tokens, c.actuals.invariant.few, same, c.decreases) in
+    let room : size b.operators + 12 * expr_tokens (expr x) ≤ 6 * MOST_SEGMENT_WORDS = omega (arith, tokens, same, c.actuals.invariant.short, call_long c.args.c.now, c.requires.room) in
+    let code = code_on s (level_set a) (level_set b) (expr x) (same_level a b c.actuals.invariant.level)
+    (next_code s (level_set a) c.append_begun.new.out b xs c.args.c.now x (drop i xs) (drop (i + 1) xs) whole next c.requires.code c.actuals.invariant.code) in
+    (smaller, (set_after a b c.actuals.invariant.level c.requires.set, (c.requires.near, (code, room))))
+
+pub called-append_plain-requires-clause-room : goal.called-append_plain-requires-clause-room
+called-append_plain-requires-clause-room t c =
+    let whole : c.as_slice-actuals.result.now ≡ c.args.c.now.actuals = c.as_slice-actuals.ensures.value ∙ c.items.ensures in
+    omega (arith, ap (λ (l : List Expr). exprs_tokens (exprs l)) whole, c.actuals.invariant.short, call_long c.args.c.now, c.requires.room)
+
+pub called-actuals-preserved : goal.called-actuals-preserved
+called-actuals-preserved t c =
+    let s = c.args.names.now in
+    let a = c.args.out.now in
+    let b = c.actuals.out in
+    let d = c.operand.new.out in
+    let xs = c.as_slice-actuals.result.now in
+    let i = c.actuals.actual-index in
+    let x = c.actual-item.result in
+    let next = next_is xs i x c.actuals-test.true c.actual-item.is in
+    let tokens = next_tokens xs i x c.actuals-test.true c.actual-item.is in
+    record {
+      level = c.in_ok-operand.ensures.level ∙ c.actuals.invariant.level;
+      exits = ◌∙◌ {A = List ℕ} c.in_ok-operand.ensures.exits c.actuals.invariant.exits;
+      few = omega (arith, tokens, c.actuals.invariant.few);
+      short = omega (arith, tokens, c.in_ok-operand.ensures.size, c.actuals.invariant.short);
+      code = next_one s (level_set a) c.append_begun.new.out b xs d x (drop i xs) (drop (i + 1) xs) next
+          (value_on s (level_set b) (level_set a) b d (expr x) (same_level a b c.actuals.invariant.level) c.in_ok-operand.ensures.code) c.actuals.invariant.code;
+    }
+
+pub called-returns-clause-code : goal.called-returns-clause-code
+called-returns-clause-code t c =
+    let xs = c.as_slice-actuals.result.now in
+    on_ok_weaker c.append_plain.result
+    (called_form c.args.names.now c.args.out.now c.append_begun.new.out c.actuals.out c.append_plain.new.out c.args.c.now xs (drop c.actuals.actual-index xs)
+    (c.as_slice-actuals.ensures.value ∙ c.items.ensures) (drop_all c.actuals.actual-index xs c.actuals-test.false) c.couple_of.result c.couple_of.ensures c.actuals.invariant.level
+    c.in_ok-append_begun.ensures.code c.actuals.invariant.code)
     c.append_plain.ensures.code
 
 pub chosen-aim-requires : goal.chosen-aim-requires
 chosen-aim-requires t c =
-    let has = code_on c.args.scopes.now (level_set c.args.out.now) (level_set c.append_branch.new.out) (expr c.args.x.now)
+    let has = code_on c.args.names.now (level_set c.args.out.now) (level_set c.append_branch.new.out) (expr c.args.x.now)
     (same_level c.args.out.now c.append_branch.new.out (c.in_ok-otherwise.ensures.level ∙ c.in_ok-operand.ensures.level)) c.requires.first in
     hole_lies c.operand.new.out c.append_branch.new.out c.value_with_exits.new.out c.append_exit.new.out _ _ _ c.operand.new.exits.items c.value_with_exits.new.exits.items
     c.append_exit.new.exits.items c.in_ok-otherwise.otherwise c.in_ok-otherwise.ensures.code (c.in_ok-value_with_exits.ensures.code.code has.scopes nowhere has.kind has.fits)
@@ -66,49 +158,285 @@ chosen-aim-requires t c =
 pub chosen-returns-clause-code : goal.chosen-returns-clause-code
 chosen-returns-clause-code t c =
     on_ok_weaker c.value_with_exits-2.result
-    (λ h spot. chosen_form c.args.scopes.now c.args.out.now c.operand.new.out c.append_branch.new.out c.value_with_exits.new.out c.append_exit.new.out c.aim.new.out
+    (λ h spot. chosen_form c.args.names.now c.args.out.now c.operand.new.out c.append_branch.new.out c.value_with_exits.new.out c.append_exit.new.out c.aim.new.out
     c.value_with_exits-2.new.out c.args.exits.now.items c.value_with_exits.new.exits.items c.append_exit.new.exits.items c.value_with_exits-2.new.exits.items
     c.in_ok-otherwise.otherwise (expr c.args.condition.now) (expr c.args.x.now) (expr c.args.y.now) spot c.in_ok-operand.ensures.code c.in_ok-otherwise.ensures.code
-    (listed_as c.args.scopes.now (level_set c.append_branch.new.out) c.append_branch.new.out c.value_with_exits.new.out c.operand.new.exits.items c.args.exits.now.items
+    (listed_as c.args.names.now (level_set c.append_branch.new.out) c.append_branch.new.out c.value_with_exits.new.out c.operand.new.exits.items c.args.exits.now.items
     c.value_with_exits.new.exits.items c.value_with_exits.new.exits.items (expr c.args.x.now) c.in_ok-operand.ensures.exits refl c.in_ok-value_with_exits.ensures.code) c.in_ok-append_exit.ensures.code c.in_ok-otherwise.ensures.place c.aim.ensures h
     c.in_ok-operand.ensures.level c.in_ok-value_with_exits.ensures.level)
     c.value_with_exits-2.ensures.code
 
-pub value_with_exits-append_name-requires-clause-code : goal.value_with_exits-append_name-requires-clause-code
-value_with_exits-append_name-requires-clause-code t c =
-    name_has c.args.scopes.now (level_set c.args.out.now) c.args.e.now c.in-Variable.v c.in-Variable.is c.requires.code
+pub subscript-returns-clause-code : goal.subscript-returns-clause-code
+subscript-returns-clause-code t c =
+    let same : to_z w64 (of_z w64 c.args.low) ≡ c.args.low = read_back c.args.low c.requires.whole in
+    let M : ℤ → Type 0 = λ z. Emitted c.operand.new.out c.append_moved.new.out
+    (λ qs. MovedAt qs (level_set c.operand.new.out) z (size c.operand.new.out.operators) (size c.append_moved.new.out.operators)) in
+    on_ok_weaker c.append_moved.result
+    (λ h. moved_form c.args.names.now c.args.out.now c.operand.new.out c.append_moved.new.out c.args.low (expr c.args.e.now) c.in_ok-operand.ensures.code (subst M same h)
+    c.in_ok-operand.ensures.level)
+    c.append_moved.ensures.code
+
+pub subscripts-lows_of-lows-requires : goal.subscripts-lows_of-lows-requires
+subscripts-lows_of-lows-requires t c = known_lows c.args.names.now (level_set c.args.out.now) c.args.v.now c.requires.code
+
+pub subscripts-couple_of-requires : goal.subscripts-couple_of-requires
+subscripts-couple_of-requires t c = known_element c.args.names.now (level_set c.args.out.now) c.args.v.now c.requires.code
+
+pub subscripts-bounds-subs-0 : goal.subscripts-bounds-subs-0
+subscripts-bounds-subs-0 t c =
+    let s = c.args.names.now in
+    let a = c.args.out.now in
+    let v = c.args.v.now in
+    let ls = c.lows_of-lows.result.now in
+    let xs = c.as_slice-subs.result.now in
+    let whole : xs ≡ v.subs = c.as_slice-subs.ensures.value ∙ c.items.ensures in
+    some_subscripts s (level_set a) v c.requires.code ls xs c.lows_of-lows.ensures whole
+
+pub subscripts-bounds-lows-0 : goal.subscripts-bounds-lows-0
+subscripts-bounds-lows-0 t c =
+    let s = c.args.names.now in
+    let a = c.args.out.now in
+    let v = c.args.v.now in
+    let ls = c.lows_of-lows.result.now in
+    let xs = c.as_slice-subs.result.now in
+    let whole : xs ≡ v.subs = c.as_slice-subs.ensures.value ∙ c.items.ensures in
+    let lt : 0 < length ls = omega (arith, as_many_lows s (level_set a) v c.requires.code ls xs c.lows_of-lows.ensures whole, some_subscripts s (level_set a) v c.requires.code ls xs c.lows_of-lows.ensures whole) in
+    lt
+
+pub subscripts-bounds-lows-1 : goal.subscripts-bounds-lows-1
+subscripts-bounds-lows-1 t c =
+    let s = c.args.names.now in
+    let a = c.args.out.now in
+    let v = c.args.v.now in
+    let ls = c.lows_of-lows.result.now in
+    let xs = c.as_slice-subs.result.now in
+    let whole : xs ≡ v.subs = c.as_slice-subs.ensures.value ∙ c.items.ensures in
+    let lt : 1 < length ls = omega (arith, as_many_lows s (level_set a) v c.requires.code ls xs c.lows_of-lows.ensures whole, c.if-subs-gt1.true) in
+    lt
+
+pub subscripts-subscript-requires : goal.subscripts-subscript-requires
+subscripts-subscript-requires t c =
+    let s = c.args.names.now in
+    let a = c.args.out.now in
+    let v = c.args.v.now in
+    let ls = c.lows_of-lows.result.now in
+    let xs = c.as_slice-subs.result.now in
+    let whole : xs ≡ v.subs = c.as_slice-subs.ensures.value ∙ c.items.ensures in
+    let x = c.index-subs-0.result in
+    let tokens = first_tokens xs c.index-subs-0.result (some_subscripts s (level_set a) v c.requires.code ls xs c.lows_of-lows.ensures whole) c.index-subs-0.is in
+    let all = own_tokens s (level_set a) v c.requires.code ls xs c.lows_of-lows.ensures whole in
+    let same = ap (λ (l : List Expr). exprs_tokens (exprs l)) whole in
+    let smaller : 3 * expr_tokens (expr x) + 2 < t = omega (arith, tokens, same, c.decreases) in
+    let room : size a.operators + 12 * expr_tokens (expr x) + 21 ≤ 6 * MOST_SEGMENT_WORDS = omega (arith, tokens, all, c.requires.room) in
+    let has = first_has s (level_set a) v c.requires.code ls xs c.lows_of-lows.ensures whole x c.index-subs-0.is in
+    let fits = first_whole s (level_set a) v c.requires.code ls xs c.lows_of-lows.ensures whole x c.index-subs-0.is in
+    (smaller, (c.requires.set, (c.requires.near, (has, (fits, room)))))
+
+pub subscripts-append_reference-requires-clause-seen : goal.subscripts-append_reference-requires-clause-seen
+subscripts-append_reference-requires-clause-seen t c =
+    seen_element c.args.names.now (level_set c.args.out.now) c.args.v.now c.requires.code (level_set c.subscript.new.out) c.couple_of.result
+    (same_level c.args.out.now c.subscript.new.out c.in_ok-subscript.ensures.level) c.requires.near c.couple_of.ensures
+
+pub subscripts-append_reference-requires-clause-room : goal.subscripts-append_reference-requires-clause-room
+subscripts-append_reference-requires-clause-room t c =
+    let s = c.args.names.now in
+    let a = c.args.out.now in
+    let v = c.args.v.now in
+    let ls = c.lows_of-lows.result.now in
+    let xs = c.as_slice-subs.result.now in
+    let whole : xs ≡ v.subs = c.as_slice-subs.ensures.value ∙ c.items.ensures in
+    let tokens = first_tokens xs c.index-subs-0.result (some_subscripts s (level_set a) v c.requires.code ls xs c.lows_of-lows.ensures whole) c.index-subs-0.is in
+    let all = own_tokens s (level_set a) v c.requires.code ls xs c.lows_of-lows.ensures whole in
+    omega (arith, tokens, all, c.in_ok-subscript.ensures.size, c.requires.room)
+
+pub subscripts-append_plain-requires-clause-room : goal.subscripts-append_plain-requires-clause-room
+subscripts-append_plain-requires-clause-room t c =
+    let s = c.args.names.now in
+    let a = c.args.out.now in
+    let v = c.args.v.now in
+    let ls = c.lows_of-lows.result.now in
+    let xs = c.as_slice-subs.result.now in
+    let whole : xs ≡ v.subs = c.as_slice-subs.ensures.value ∙ c.items.ensures in
+    let tokens = first_tokens xs c.index-subs-0.result (some_subscripts s (level_set a) v c.requires.code ls xs c.lows_of-lows.ensures whole) c.index-subs-0.is in
+    let all = own_tokens s (level_set a) v c.requires.code ls xs c.lows_of-lows.ensures whole in
+    omega (arith, tokens, all, c.in_ok-subscript.ensures.size, c.in_ok-append_reference.ensures.size, c.requires.room)
+
+pub subscripts-subscript-requires-then-subs-gt1 : goal.subscripts-subscript-requires-then-subs-gt1
+subscripts-subscript-requires-then-subs-gt1 t c =
+    let s = c.args.names.now in
+    let a = c.args.out.now in
+    let v = c.args.v.now in
+    let ls = c.lows_of-lows.result.now in
+    let xs = c.as_slice-subs.result.now in
+    let whole : xs ≡ v.subs = c.as_slice-subs.ensures.value ∙ c.items.ensures in
+    let d = c.append_plain.new.out in
+    let y = c.index-subs-1.result in
+    let level = c.in_ok-append_plain.ensures.level ∙ c.in_ok-append_reference.ensures.level ∙ c.in_ok-subscript.ensures.level in
+    let tokens = both_tokens xs c.index-subs-0.result c.index-subs-1.result c.if-subs-gt1.true c.index-subs-0.is c.index-subs-1.is in
+    let all = own_tokens s (level_set a) v c.requires.code ls xs c.lows_of-lows.ensures whole in
+    let same = ap (λ (l : List Expr). exprs_tokens (exprs l)) whole in
+    let smaller : 3 * expr_tokens (expr y) + 2 < t = omega (arith, tokens, same, c.decreases) in
+    let room : size d.operators + 12 * expr_tokens (expr y) + 21 ≤ 6 * MOST_SEGMENT_WORDS =
+    omega (arith, tokens, all, c.in_ok-subscript.ensures.size, c.in_ok-append_reference.ensures.size, c.in_ok-append_plain.ensures.size, c.requires.room) in
+    let has = code_on s (level_set a) (level_set d) (expr y) (same_level a d level)
+    (second_has s (level_set a) v c.requires.code ls xs c.lows_of-lows.ensures whole y c.if-subs-gt1.true c.index-subs-1.is) in
+    let fits = second_whole s (level_set a) v c.requires.code ls xs c.lows_of-lows.ensures whole y c.if-subs-gt1.true c.index-subs-1.is in
+    (smaller, (set_after a d level c.requires.set, (c.requires.near, (has, (fits, room)))))
+
+pub subscripts-append_plain-requires-then-subs-gt1-clause-room : goal.subscripts-append_plain-requires-then-subs-gt1-clause-room
+subscripts-append_plain-requires-then-subs-gt1-clause-room t c =
+    let s = c.args.names.now in
+    let a = c.args.out.now in
+    let v = c.args.v.now in
+    let ls = c.lows_of-lows.result.now in
+    let xs = c.as_slice-subs.result.now in
+    let whole : xs ≡ v.subs = c.as_slice-subs.ensures.value ∙ c.items.ensures in
+    let tokens = both_tokens xs c.index-subs-0.result c.index-subs-1.result c.if-subs-gt1.true c.index-subs-0.is c.index-subs-1.is in
+    let all = own_tokens s (level_set a) v c.requires.code ls xs c.lows_of-lows.ensures whole in
+    omega
+    (arith, tokens, all, c.in_ok-subscript.ensures.size, c.in_ok-append_reference.ensures.size, c.in_ok-append_plain.ensures.size, c.in_ok-subscript-2.ensures.size, c.requires.room)
+
+pub subscripts-returns-in_ok-append_plain-2-clause-code : goal.subscripts-returns-in_ok-append_plain-2-clause-code
+subscripts-returns-in_ok-append_plain-2-clause-code t c =
+    let s = c.args.names.now in
+    let a = c.args.out.now in
+    let v = c.args.v.now in
+    let ls = c.lows_of-lows.result.now in
+    let xs = c.as_slice-subs.result.now in
+    let whole : xs ≡ v.subs = c.as_slice-subs.ensures.value ∙ c.items.ensures in
+    let x = c.index-subs-0.result in
+    let y = c.index-subs-1.result in
+    two_form s v ls xs c.couple_of.result c.lows_of-lows.ensures c.couple_of.ensures whole a c.subscript.new.out c.append_reference.new.out
+    (to_z w64 (of_z w64 (get_or ls 0 (pos 0)))) x (first_back s (level_set a) v c.requires.code ls xs c.lows_of-lows.ensures whole x c.index-subs-0.is) c.index-subs-0.is
+    c.in_ok-subscript.ensures.code c.in_ok-append_reference.ensures.code c.in_ok-subscript.ensures.level c.append_plain.new.out
+    c.subscript-then-subs-gt1.new.out c.append_plain-then-subs-gt1.new.out (to_z w64 (of_z w64 (get_or ls 1 (pos 0)))) y
+    (second_back s (level_set a) v c.requires.code ls xs c.lows_of-lows.ensures whole y c.if-subs-gt1.true c.index-subs-1.is) c.index-subs-1.is
+    c.in_ok-append_plain.ensures.code c.in_ok-subscript-2.ensures.code c.in_ok-append_plain-2.ensures.code c.in_ok-append_reference.ensures.level
+    c.in_ok-append_plain.ensures.level c.in_ok-subscript-2.ensures.level c.if-subs-gt1.true
+
+pub subscripts-returns-in_ok-append_plain-2-clause-size : goal.subscripts-returns-in_ok-append_plain-2-clause-size
+subscripts-returns-in_ok-append_plain-2-clause-size t c =
+    let s = c.args.names.now in
+    let a = c.args.out.now in
+    let v = c.args.v.now in
+    let ls = c.lows_of-lows.result.now in
+    let xs = c.as_slice-subs.result.now in
+    let whole : xs ≡ v.subs = c.as_slice-subs.ensures.value ∙ c.items.ensures in
+    let tokens = both_tokens xs c.index-subs-0.result c.index-subs-1.result c.if-subs-gt1.true c.index-subs-0.is c.index-subs-1.is in
+    let all = own_tokens s (level_set a) v c.requires.code ls xs c.lows_of-lows.ensures whole in
+    omega (
+      arith,
+      tokens,
+      all,
+      c.in_ok-subscript.ensures.size,
+      c.in_ok-append_reference.ensures.size,
+      c.in_ok-append_plain.ensures.size,
+      c.in_ok-subscript-2.ensures.size,
+      c.in_ok-append_plain-2.ensures.size,
+    )
+
+pub subscripts-returns-else-subs-gt1-clause-code : goal.subscripts-returns-else-subs-gt1-clause-code
+subscripts-returns-else-subs-gt1-clause-code t c =
+    let s = c.args.names.now in
+    let a = c.args.out.now in
+    let v = c.args.v.now in
+    let ls = c.lows_of-lows.result.now in
+    let xs = c.as_slice-subs.result.now in
+    let whole : xs ≡ v.subs = c.as_slice-subs.ensures.value ∙ c.items.ensures in
+    let x = c.index-subs-0.result in
+    let few : length xs ≤ 1 = omega (arith, c.if-subs-gt1.false) in
+    one_form s v ls xs c.couple_of.result c.lows_of-lows.ensures c.couple_of.ensures whole a c.subscript.new.out c.append_reference.new.out
+    (to_z w64 (of_z w64 (get_or ls 0 (pos 0)))) x (first_back s (level_set a) v c.requires.code ls xs c.lows_of-lows.ensures whole x c.index-subs-0.is) c.index-subs-0.is
+    c.in_ok-subscript.ensures.code c.in_ok-append_reference.ensures.code c.in_ok-subscript.ensures.level few
+
+pub subscripts-returns-else-subs-gt1-clause-size : goal.subscripts-returns-else-subs-gt1-clause-size
+subscripts-returns-else-subs-gt1-clause-size t c =
+    let s = c.args.names.now in
+    let a = c.args.out.now in
+    let v = c.args.v.now in
+    let ls = c.lows_of-lows.result.now in
+    let xs = c.as_slice-subs.result.now in
+    let whole : xs ≡ v.subs = c.as_slice-subs.ensures.value ∙ c.items.ensures in
+    let tokens = first_tokens xs c.index-subs-0.result (some_subscripts s (level_set a) v c.requires.code ls xs c.lows_of-lows.ensures whole) c.index-subs-0.is in
+    let all = own_tokens s (level_set a) v c.requires.code ls xs c.lows_of-lows.ensures whole in
+    omega (arith, tokens, all, c.in_ok-subscript.ensures.size, c.in_ok-append_reference.ensures.size)
+
+pub read-subscripts-requires : goal.read-subscripts-requires
+read-subscripts-requires t c =
+    let v = c.args.v.now in
+    let some = some_in c.is_empty.result c.items.result.now.len v.subs c.is_empty.ensures (c.items.result.now.ok.0 ∙ ap length c.items.ensures) c.if-is_empty.false in
+    let smaller : 3 * exprs_tokens (exprs v.subs) + 1 < t = omega (arith, c.decreases) in (
+      smaller,
+      (
+        c.requires.set,
+        (c.requires.near, (element_has c.args.names.now (level_set c.args.out.now) (variable v) (is_element v some) c.requires.code, c.requires.room)),
+      ),
+    )
+
+pub read-append_name-requires-clause-code : goal.read-append_name-requires-clause-code
+read-append_name-requires-clause-code t c =
+    let v = c.args.v.now in
+    let none = none_in c.is_empty.result c.items.result.now.len v.subs c.is_empty.ensures (c.items.result.now.ok.0 ∙ ap length c.items.ensures) c.if-is_empty.true in
+    alone_has c.args.names.now (level_set c.args.out.now) v none c.requires.code
+
+pub read-returns-then-is_empty-clause-code : goal.read-returns-then-is_empty-clause-code
+read-returns-then-is_empty-clause-code t c =
+    let v = c.args.v.now in
+    let none = none_in c.is_empty.result c.items.result.now.len v.subs c.is_empty.ensures (c.items.result.now.ok.0 ∙ ap length c.items.ensures) c.if-is_empty.true in
+    on_ok_weaker c.append_name.result
+    (alone_form c.args.names.now (level_set c.args.out.now) c.args.out.now c.append_name.new.out v none) c.append_name.ensures.code
+
+pub read-returns-in_ok-subscripts-clause-code : goal.read-returns-in_ok-subscripts-clause-code
+read-returns-in_ok-subscripts-clause-code t c =
+    let v = c.args.v.now in
+    let some = some_in c.is_empty.result c.items.result.now.len v.subs c.is_empty.ensures (c.items.result.now.ok.0 ∙ ap length c.items.ensures) c.if-is_empty.false in
+    on_ok_weaker c.append_plain.result
+    (element_form c.args.names.now c.args.out.now c.subscripts.new.out c.append_plain.new.out (variable v) (is_element v some) c.in_ok-subscripts.ensures.level
+    c.in_ok-subscripts.ensures.code)
+    c.append_plain.ensures.code
+
+pub value_with_exits-read-requires : goal.value_with_exits-read-requires
+value_with_exits-read-requires t c =
+    let s = c.args.names.now in
+    let a = c.args.out.now in
+    let v = c.in-Variable.v in
+    let tokens = variable_as s (level_set a) c.args.e.now v c.in-Variable.is in
+    let smaller : 3 * exprs_tokens (exprs v.subs) + 2 < t = omega (arith, tokens, subscripts_fewer v, c.decreases) in
+    let room : size a.operators + 12 * variable_tokens (variable v) ≤ 6 * MOST_SEGMENT_WORDS = omega (arith, tokens, c.requires.room) in
+    (smaller, (c.requires.set, (c.requires.near, (variable_has s (level_set a) c.args.e.now v c.in-Variable.is c.requires.code, room))))
+
+pub value_with_exits-returns-in-Variable-clause-code : goal.value_with_exits-returns-in-Variable-clause-code
+value_with_exits-returns-in-Variable-clause-code t c =
+    on_ok_both c.read.result
+    (λ h same. variable_arm c.args.names.now (level_set c.args.out.now) c.args.e.now c.in-Variable.v c.in-Variable.is c.args.out.now c.read.new.out
+    c.args.exits.now.items c.read.new.exits.items same h)
+    c.read.ensures.code c.read.ensures.exits
 
 pub value_with_exits-returns-in-Number-clause-code : goal.value_with_exits-returns-in-Number-clause-code
 value_with_exits-returns-in-Number-clause-code t c =
     on_ok_weaker c.append_number.result
-    (λ h. emitted_as c.args.scopes.now (level_set c.args.out.now) c.args.out.now c.append_number.new.out c.args.exits.now.items c.args.exits.now.items c.args.e.now
+    (λ h. emitted_as c.args.names.now (level_set c.args.out.now) c.args.out.now c.append_number.new.out c.args.exits.now.items c.args.exits.now.items c.args.e.now
     (tree.number c.in-Number.value c.in-Number.field-1) (ap expr c.in-Number.is ∙ number_is c.in-Number.value c.in-Number.field-1)
-    (number_form c.args.scopes.now (level_set c.args.out.now) c.args.out.now c.append_number.new.out c.args.exits.now.items c.in-Number.value c.in-Number.field-1 h))
+    (number_form c.args.names.now (level_set c.args.out.now) c.args.out.now c.append_number.new.out c.args.exits.now.items c.in-Number.value c.in-Number.field-1 h))
     c.append_number.ensures.code
 
 pub value_with_exits-returns-in-Truth-clause-code : goal.value_with_exits-returns-in-Truth-clause-code
 value_with_exits-returns-in-Truth-clause-code t c =
     on_ok_weaker c.append_plain.result
-    (λ h. emitted_as c.args.scopes.now (level_set c.args.out.now) c.args.out.now c.append_plain.new.out c.args.exits.now.items c.args.exits.now.items c.args.e.now
+    (λ h. emitted_as c.args.names.now (level_set c.args.out.now) c.args.out.now c.append_plain.new.out c.args.exits.now.items c.args.exits.now.items c.args.e.now
     (tree.truth c.in-Truth.value c.in-Truth.field-1) (ap expr c.in-Truth.is ∙ truth_is c.in-Truth.value c.in-Truth.field-1)
-    (truth_form c.args.scopes.now (level_set c.args.out.now) c.args.out.now c.append_plain.new.out c.args.exits.now.items c.in-Truth.value c.in-Truth.field-1
-    (plain_as c.args.scopes.now (level_set c.args.out.now) c.args.out.now c.append_plain.new.out c.truth_literal.result (truth_literal c.in-Truth.value) c.truth_literal.ensures h)))
+    (truth_form c.args.names.now (level_set c.args.out.now) c.args.out.now c.append_plain.new.out c.args.exits.now.items c.in-Truth.value c.in-Truth.field-1
+    (plain_as c.args.names.now (level_set c.args.out.now) c.args.out.now c.append_plain.new.out c.truth_literal.result (truth_literal c.in-Truth.value) c.truth_literal.ensures h)))
     c.append_plain.ensures.code
-
-pub value_with_exits-returns-in-Variable-clause-code : goal.value_with_exits-returns-in-Variable-clause-code
-value_with_exits-returns-in-Variable-clause-code t c =
-    on_ok_weaker c.append_name.result
-    (name_arm c.args.scopes.now (level_set c.args.out.now) c.args.e.now c.in-Variable.v c.in-Variable.is c.args.out.now c.append_name.new.out c.args.exits.now.items)
-    c.append_name.ensures.code
 
 pub value_with_exits-returns-in-Paren-clause-code : goal.value_with_exits-returns-in-Paren-clause-code
 value_with_exits-returns-in-Paren-clause-code t c =
     let d = c.deref.result.now in
     on_ok_weaker c.value_with_exits.result
-    (λ h. emitted_as c.args.scopes.now (level_set c.args.out.now) c.args.out.now c.value_with_exits.new.out c.args.exits.now.items
+    (λ h. emitted_as c.args.names.now (level_set c.args.out.now) c.args.out.now c.value_with_exits.new.out c.args.exits.now.items
     c.value_with_exits.new.exits.items c.args.e.now (tree.paren (expr d) c.in-Paren.field-1)
     (paren_as c.args.e.now d c.in-Paren.e c.in-Paren.field-1 c.deref.ensures c.in-Paren.is)
-    (paren_form c.args.scopes.now (level_set c.args.out.now) c.args.out.now c.value_with_exits.new.out c.args.exits.now.items
+    (paren_form c.args.names.now (level_set c.args.out.now) c.args.out.now c.value_with_exits.new.out c.args.exits.now.items
     c.value_with_exits.new.exits.items (expr d) c.in-Paren.field-1 h))
     c.value_with_exits.ensures.code
 
@@ -116,10 +444,10 @@ pub value_with_exits-returns-in-Plus-clause-code : goal.value_with_exits-returns
 value_with_exits-returns-in-Plus-clause-code t c =
     let d = c.deref-in-Plus.result.now in
     on_ok_weaker c.value_with_exits-in-Plus.result
-    (λ h. emitted_as c.args.scopes.now (level_set c.args.out.now) c.args.out.now c.value_with_exits-in-Plus.new.out c.args.exits.now.items
+    (λ h. emitted_as c.args.names.now (level_set c.args.out.now) c.args.out.now c.value_with_exits-in-Plus.new.out c.args.exits.now.items
     c.value_with_exits-in-Plus.new.exits.items c.args.e.now (tree.plus (expr d) c.in-Plus.field-1)
     (plus_as c.args.e.now d c.in-Plus.e c.in-Plus.field-1 c.deref-in-Plus.ensures c.in-Plus.is)
-    (plus_form c.args.scopes.now (level_set c.args.out.now) c.args.out.now c.value_with_exits-in-Plus.new.out c.args.exits.now.items
+    (plus_form c.args.names.now (level_set c.args.out.now) c.args.out.now c.value_with_exits-in-Plus.new.out c.args.exits.now.items
     c.value_with_exits-in-Plus.new.exits.items (expr d) c.in-Plus.field-1 h))
     c.value_with_exits-in-Plus.ensures.code
 
@@ -130,10 +458,10 @@ value_with_exits-returns-in-Neg-clause-code t c =
     let b = c.applied.new.out in
     let p = tree.neg (expr d) c.in-Neg.field-1 in
     on_ok_both c.applied.result
-    (λ h same. emitted_as c.args.scopes.now (level_set c.args.out.now) c.args.out.now b xs c.applied.new.exits.items c.args.e.now p
+    (λ h same. emitted_as c.args.names.now (level_set c.args.out.now) c.args.out.now b xs c.applied.new.exits.items c.args.e.now p
     (neg_as c.args.e.now d c.in-Neg.e c.in-Neg.field-1 c.deref-in-Neg.ensures c.in-Neg.is)
-    (listed_as c.args.scopes.now (level_set c.args.out.now) c.args.out.now b xs xs xs c.applied.new.exits.items p refl (sym same)
-    (neg_form c.args.scopes.now (level_set c.args.out.now) c.args.out.now b xs (expr d) c.in-Neg.field-1 h)))
+    (listed_as c.args.names.now (level_set c.args.out.now) c.args.out.now b xs xs xs c.applied.new.exits.items p refl (sym same)
+    (neg_form c.args.names.now (level_set c.args.out.now) c.args.out.now b xs (expr d) c.in-Neg.field-1 h)))
     c.applied.ensures.code c.applied.ensures.exits
 
 pub value_with_exits-returns-in-Not-clause-code : goal.value_with_exits-returns-in-Not-clause-code
@@ -143,10 +471,10 @@ value_with_exits-returns-in-Not-clause-code t c =
     let b = c.applied-in-Not.new.out in
     let p = tree.not (expr d) c.in-Not.field-1 in
     on_ok_both c.applied-in-Not.result
-    (λ h same. emitted_as c.args.scopes.now (level_set c.args.out.now) c.args.out.now b xs c.applied-in-Not.new.exits.items c.args.e.now p
+    (λ h same. emitted_as c.args.names.now (level_set c.args.out.now) c.args.out.now b xs c.applied-in-Not.new.exits.items c.args.e.now p
     (not_as c.args.e.now d c.in-Not.e c.in-Not.field-1 c.deref-in-Not.ensures c.in-Not.is)
-    (listed_as c.args.scopes.now (level_set c.args.out.now) c.args.out.now b xs xs xs c.applied-in-Not.new.exits.items p refl (sym same)
-    (not_form c.args.scopes.now (level_set c.args.out.now) c.args.out.now b xs (expr d) c.in-Not.field-1 h)))
+    (listed_as c.args.names.now (level_set c.args.out.now) c.args.out.now b xs xs xs c.applied-in-Not.new.exits.items p refl (sym same)
+    (not_form c.args.names.now (level_set c.args.out.now) c.args.out.now b xs (expr d) c.in-Not.field-1 h)))
     c.applied-in-Not.ensures.code c.applied-in-Not.ensures.exits
 
 pub value_with_exits-returns-in-Two-clause-code : goal.value_with_exits-returns-in-Two-clause-code
@@ -157,10 +485,10 @@ value_with_exits-returns-in-Two-clause-code t c =
     let b = c.calculated.new.out in
     let p = tree.two c.in-Two.op (expr x) (expr y) in
     on_ok_both c.calculated.result
-    (λ h same. emitted_as c.args.scopes.now (level_set c.args.out.now) c.args.out.now b xs c.calculated.new.exits.items c.args.e.now p
+    (λ h same. emitted_as c.args.names.now (level_set c.args.out.now) c.args.out.now b xs c.calculated.new.exits.items c.args.e.now p
     (two_as c.args.e.now x y c.in-Two.op c.in-Two.a c.in-Two.b c.in-Two.is c.deref-in-Two.ensures c.deref-in-Two-2.ensures)
-    (listed_as c.args.scopes.now (level_set c.args.out.now) c.args.out.now b xs xs xs c.calculated.new.exits.items p refl (sym same)
-    (two_form c.args.scopes.now (level_set c.args.out.now) c.args.out.now b xs c.in-Two.op (expr x) (expr y) h)))
+    (listed_as c.args.names.now (level_set c.args.out.now) c.args.out.now b xs xs xs c.calculated.new.exits.items p refl (sym same)
+    (operands_form c.args.names.now (level_set c.args.out.now) c.args.out.now b xs c.in-Two.op (expr x) (expr y) h)))
     c.calculated.ensures.code c.calculated.ensures.exits
 
 pub value_with_exits-returns-in-If-clause-code : goal.value_with_exits-returns-in-If-clause-code
@@ -169,8 +497,23 @@ value_with_exits-returns-in-If-clause-code t c =
     let x = c.deref-in-If-2.result.now in
     let y = c.deref-in-If-3.result.now in
     on_ok_weaker c.chosen.result
-    (λ h. emitted_as c.args.scopes.now (level_set c.args.out.now) c.args.out.now c.chosen.new.out c.args.exits.now.items c.chosen.new.exits.items c.args.e.now
+    (λ h. emitted_as c.args.names.now (level_set c.args.out.now) c.args.out.now c.chosen.new.out c.args.exits.now.items c.chosen.new.exits.items c.args.e.now
     (tree.if (expr p) (expr x) (expr y) c.in-If.field-3)
     (if_as c.args.e.now p x y c.in-If.condition c.in-If.x c.in-If.y c.in-If.field-3 c.in-If.is c.deref-in-If.ensures c.deref-in-If-2.ensures c.deref-in-If-3.ensures)
     (h c.in-If.field-3))
     c.chosen.ensures.code
+
+pub value_with_exits-called-requires : goal.value_with_exits-called-requires
+value_with_exits-called-requires t c =
+    let d = c.in-Call.c in
+    let tokens = calling_tokens c.args.names.now (level_set c.args.out.now) c.args.e.now d c.in-Call.is in
+    let smaller : 3 * exprs_tokens (exprs d.actuals) + 2 < t = omega (arith, tokens, call_long d, c.decreases) in
+    let room : size c.args.out.now.operators + 12 * call_tokens (call d) ≤ 6 * MOST_SEGMENT_WORDS = omega (arith, tokens, c.requires.room) in
+    (smaller, (c.requires.set, (c.requires.near, (call_has c.args.names.now (level_set c.args.out.now) c.args.e.now d c.in-Call.is c.requires.code, room))))
+
+pub value_with_exits-returns-in-Call-clause-code : goal.value_with_exits-returns-in-Call-clause-code
+value_with_exits-returns-in-Call-clause-code t c =
+    on_ok_both c.called.result
+    (λ h same. call_arm c.args.names.now (level_set c.args.out.now) c.args.e.now c.in-Call.c c.in-Call.is c.args.out.now c.called.new.out c.args.exits.now.items
+    c.called.new.exits.items same h)
+    c.called.ensures.code c.called.ensures.exits

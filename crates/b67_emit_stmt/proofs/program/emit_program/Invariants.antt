@@ -14,6 +14,6 @@ invariant-procedures g l = record {
   many : length l.segments.items ≡ l.procedure-index + 1;
   few : length l.formats.items ≤ 6 * MOST_SEGMENT_WORDS * length l.segments.items;
   listed : AreListed l.formats.items;
-  stood : (sc : Scopes) → AreDue sc l.scopes (texts (body l.body)) → (all : List Format) → IsFront l.formats.items all →
+  stood : (sc : Scopes) → AreDue sc l.names (texts (body l.body)) → (all : List Format) → IsFront l.formats.items all →
       AllStand sc all l.segments.items (take (l.procedure-index + 1) (texts (body l.body)));
 }

@@ -3,7 +3,7 @@ use Rattle.std.proofs.lemmas.Result.{on_ok_weaker}
 use Rattle.algol_tree.specs.declared.tree.Body as bodies'
 use Rattle.algol_tree.specs.declared.tree.Decl as decls'
 use Rattle.algol_tree.specs.declared.tree.Stmt as stmts'
-use Rattle.b67_emit_stmt.specs.Fits.{text_of}
+use Rattle.b67_emit_stmt.specs.Texts.{text_of}
 use Rattle.b67_emit_stmt.proofs.Walks.{block_has, texts_both, texts_more, texts_same}
 use Rattle.b67_emit_stmt.proofs.texts.+texts.Goals as goal
 

@@ -1,7 +1,6 @@
 use Rattle.std.proofs.Common.{◌≡◌, ◌++◌, map, drop}
 use Rattle.algol_tree.specs.Image.{decls, stmts}
-use Rattle.b67_emit_stmt.specs.Fits.{text_of}
-use Rattle.b67_emit_stmt.specs.Texts.{texts_in_decls, texts_in_stmts, HaveLevelsDecls, HaveLevelsStmts}
+use Rattle.b67_emit_stmt.specs.Texts.{HaveLevelsDecls, HaveLevelsStmts, text_of, texts_in_decls, texts_in_stmts}
 use Rattle.b67_emit_stmt.proofs.texts.+texts.Given as goal
 
 -- the procedures within the statements that are done

@@ -6,15 +6,16 @@ use Rattle.algol_tree.specs.declared.tree.Body as bodies'
 use Rattle.algol_tree.specs.declared.tree.Decl as decls'
 use Rattle.algol_tree.specs.declared.tree.Stmt.{Stmt}
 use Rattle.algol_tree.specs.declared.tree.Stmt as stmts'
-use Rattle.algol_tree.specs.Image.{decls, expr, exprs, stmt, stmts}
+use Rattle.algol_tree.specs.Image.{call, decls, expr, exprs, stmt, stmts, variable}
 use Rattle.algol_tree.specs.Plain as tree
 use Rattle.b67_ops.specs.declared.BranchKind.TheVariants.{Brfl, Brtr, Brun}
 use Rattle.b67_segment.specs.Operators.{size}
 use Rattle.b67_segment.specs.Building.{level_set}
 use Rattle.b67_emit_stmt.specs.Places.{CasesAt}
 use Rattle.b67_templates.specs.Depths.{expr_syllables, stmt_syllables}
-use Rattle.b67_emit_stmt.specs.Fits.{ExprFits, StmtsFit}
+use Rattle.b67_emit_stmt.specs.Fits.{StmtsFit}
 use Rattle.b67_emit_stmt.specs.declared.draft.Draft.{Draft}
+use Rattle.b67_emit_stmt.specs.Bodies.{begin_syllables, inside_syllables}
 use Rattle.b67_emit_stmt.specs.Drafts.{Emits}
 use Rattle.b67_emit_stmt.specs.Emits.{HaveFit, stmts_syllables}
 use Rattle.b67_emit_stmt.proofs.Aims.{body_closed, exits_lie, hole_as}
@@ -22,13 +23,16 @@ use Rattle.b67_emit_stmt.proofs.Arms.{if_then_arm, then_arm, until_arm, while_ar
 use Rattle.b67_emit_stmt.proofs.Blocked as blocked
 use Rattle.b67_emit_stmt.proofs.Blocks as blocks
 use Rattle.b67_emit_stmt.proofs.Drafts.{at_level, emits_then, hole_there, level_after, level_same, piece}
+use Rattle.b67_emit_stmt.proofs.Fors as fors
 use Rattle.b67_emit_stmt.proofs.Listed.{StandTogether, done_level, done_set, next_fits, next_ready, together_more, together_none}
 use Rattle.b67_emit_stmt.proofs.Levels.{at_after, at_same}
 use Rattle.b67_emit_stmt.proofs.Matched as matched
-use Rattle.b67_emit_stmt.proofs.Parts.{code_at, variable_at, on_ok_two, set_same}
+use Rattle.b67_emit_stmt.proofs.Parts.{code_at, on_ok_two, set_same}
 use Rattle.b67_emit_stmt.proofs.Ready.{body_piece, branch_piece, fit_after, ready_after, stmt_piece, turn_piece, value_piece}
 use Rattle.b67_emit_stmt.proofs.Shapes as shaped
+use Rattle.b67_emit_stmt.proofs.Stores.{store_emitted, store_fits}
 use Rattle.b67_emit_stmt.proofs.Tables as tabled
+use Rattle.b67_emit_stmt.proofs.Thrus as thrus
 use Rattle.b67_emit_stmt.proofs.Turns as turns
 use Rattle.b67_emit_stmt.proofs.draft.StmtEmitter.+statements.Goals as goal
 
@@ -48,9 +52,7 @@ if_then-stmt-requires g t c =
     let left = branch_piece sc Brfl b d level (level_same a.out b.out c.in_ok-value.ensures.level) refl v.few c.in_ok-append_exit.ensures.code c.in_ok-append_exit.ensures.size in
     let both = emits_then v left in
     let ready = ready_after s a (stmt_syllables (tree.if_then e x)) (stmt_syllables x) c.requires.ready both (omega arith) in
-    let fit = fit_after s sc x both c.requires.fits.1.1 in
-    let at = at_after both c.requires.level in
-    search (rules, stmts'.the_lemmas, decls'.the_lemmas, bodies'.the_lemmas, ready, fit, at)
+    search (rules, stmts'.the_lemmas, decls'.the_lemmas, bodies'.the_lemmas, ready, fit_after s sc x both c.requires.fits.1.1, at_after both c.requires.level)
 
 pub if_then-returns : goal.if_then-returns
 if_then-returns g t c =
@@ -62,12 +64,11 @@ if_then-returns g t c =
     let b : Draft = record a { out = c.value.new.out } in
     let d : Draft = record a { out = c.append_exit.new.out; exits = c.append_exit.new.exits } in
     let q = level_same a.out b.out c.in_ok-value.ensures.level in
-    let r = level_same b.out d.out c.in_ok-append_exit.ensures.level ∙ q in
     on_ok_weaker c.stmt.result
     (λ h sc fit.
     let v = value_piece s a b level sc types.Truth e refl refl refl c.requires.ready.few c.in_ok-value.ensures.code c.in_ok-value.ensures.size fit.0 in
     if_then_arm sc level e x a b d c.stmt.new.to v (branch_piece sc Brfl b d level q refl v.few c.in_ok-append_exit.ensures.code c.in_ok-append_exit.ensures.size)
-    (stmt_piece s sc x d c.stmt.new.to level r h fit.1))
+    (stmt_piece s sc x d c.stmt.new.to level (level_same b.out d.out c.in_ok-append_exit.ensures.level ∙ q) h fit.1))
     c.stmt.ensures
 
 pub then_part-stmt-requires : goal.then_part-stmt-requires
@@ -78,14 +79,11 @@ then_part-stmt-requires g t c =
     let e = expr c.args.c.now in
     let b : Draft = record a { out = c.value.new.out } in
     let d : Draft = record a { out = c.append_branch.new.out } in
-    let q = level_same a.out b.out c.in_ok-value.ensures.level in
-    let r = level_same b.out d.out c.in_ok-otherwise.ensures.level ∙ q in
+    let r = level_same b.out d.out c.in_ok-otherwise.ensures.level ∙ (level_same a.out b.out c.in_ok-value.ensures.level) in
     let v = value_piece s a b (level_set a.out) c.requires.fits.0 types.Truth e refl refl refl c.requires.ready.few c.in_ok-value.ensures.code c.in_ok-value.ensures.size c.requires.fits.1 in
     let ready = matched.ready_behind s a d (expr_syllables e + stmt_syllables x + 6) (stmt_syllables x) c.requires.ready (c.in_ok-otherwise.ensures.level ∙ c.in_ok-value.ensures.level) refl
     (omega (arith, v.code.grown, c.in_ok-otherwise.ensures.size)) (omega (arith, c.in_ok-value.ensures.size, c.in_ok-otherwise.ensures.size)) in
-    let fit = matched.fit_at s c.requires.fits.0 x d (level_set a.out) r c.requires.fits.2 in
-    let at = at_same a d (c.in_ok-otherwise.ensures.level ∙ c.in_ok-value.ensures.level) c.requires.level in
-    search (rules, stmts'.the_lemmas, decls'.the_lemmas, bodies'.the_lemmas, ready, fit, at)
+    search (rules, stmts'.the_lemmas, decls'.the_lemmas, bodies'.the_lemmas, ready, matched.fit_at s c.requires.fits.0 x d (level_set a.out) r c.requires.fits.2, at_same a d (c.in_ok-otherwise.ensures.level ∙ c.in_ok-value.ensures.level) c.requires.level)
 
 pub then_part-append_exit-requires : goal.then_part-append_exit-requires
 then_part-append_exit-requires g t c =
@@ -103,14 +101,13 @@ pub then_part-aim-requires : goal.then_part-aim-requires
 then_part-aim-requires g t c =
     let a = c.args.to.now in
     let level = level_set a.out in
-    let x = stmt c.args.x.now in
     let b : Draft = record a { out = c.value.new.out } in
     let d : Draft = record a { out = c.append_branch.new.out } in
     let e = c.stmt.new.to in
     let f : Draft = record e { out = c.append_exit.new.out; exits = c.append_exit.new.exits } in
     let q = level_same a.out b.out c.in_ok-value.ensures.level in
     let r = level_same b.out d.out c.in_ok-otherwise.ensures.level ∙ q in
-    let part = stmt_piece c.args.self.now.known.now c.requires.fits.0 x d e level r c.in_ok-stmt.ensures c.requires.fits.2 in
+    let part = stmt_piece c.args.self.now.known.now c.requires.fits.0 (stmt c.args.x.now) d e level r c.in_ok-stmt.ensures c.requires.fits.2 in
     let out = branch_piece c.requires.fits.0 Brun e f level (level_after part ∙ r) refl part.few c.in_ok-append_exit.ensures.code c.in_ok-append_exit.ensures.size in
     hole_there (c.in_ok-otherwise.otherwise ∷ []) b {b = d}
     (hole_as Brfl b.out d.out level c.in_ok-otherwise.otherwise q c.in_ok-otherwise.ensures.place c.in_ok-otherwise.ensures.code) (emits_then part out)
@@ -168,9 +165,7 @@ while_loop-loop_body-requires g t c =
     let left = branch_piece sc Brfl b d level (level_same a.out b.out c.in_ok-value.ensures.level) refl v.few c.in_ok-append_exit.ensures.code c.in_ok-append_exit.ensures.size in
     let both = emits_then v left in
     let ready = ready_after s a (stmt_syllables (tree.while e x)) (stmt_syllables x) c.requires.ready both (omega arith) in
-    let fit = fit_after s sc x both c.requires.fits.1.1 in
-    let at = at_after both c.requires.level in
-    search (rules, stmts'.the_lemmas, decls'.the_lemmas, bodies'.the_lemmas, ready, fit, at)
+    search (rules, stmts'.the_lemmas, decls'.the_lemmas, bodies'.the_lemmas, ready, fit_after s sc x both c.requires.fits.1.1, at_after both c.requires.level)
 
 pub while_loop-append_turn-requires : goal.while_loop-append_turn-requires
 while_loop-append_turn-requires g t c =
@@ -212,8 +207,7 @@ while_loop-returns g t c =
 
 pub until_loop-value-requires-clause-code : goal.until_loop-value-requires-clause-code
 until_loop-value-requires-clause-code g t c =
-    let part = c.in_ok-loop_body.ensures c.requires.fits.0 c.requires.fits.1.0 in
-    code_at c.args.self.now.known.now (level_set c.loop_body.new.to.out) (level_set c.args.to.now.out) c.requires.fits.0 types.Truth (expr c.args.c.now) (level_after part) c.requires.fits.1.1
+    code_at c.args.self.now.known.now (level_set c.loop_body.new.to.out) (level_set c.args.to.now.out) c.requires.fits.0 types.Truth (expr c.args.c.now) (level_after (c.in_ok-loop_body.ensures c.requires.fits.0 c.requires.fits.1.0)) c.requires.fits.1.1
 
 pub until_loop-append_turn-requires-clause-back : goal.until_loop-append_turn-requires-clause-back
 until_loop-append_turn-requires-clause-back g t c =
@@ -227,7 +221,6 @@ pub until_loop-returns : goal.until_loop-returns
 until_loop-returns g t c =
     let a = c.args.to.now in
     let level = level_set a.out in
-    let x = stmt c.args.b.now in
     let p = expr c.args.c.now in
     let b = c.loop_body.new.to in
     let d : Draft = record b { out = c.value.new.out } in
@@ -240,98 +233,63 @@ until_loop-returns g t c =
     let v = value_piece c.args.self.now.known.now b d level sc types.Truth p q refl refl part.few c.in_ok-value.ensures.code c.in_ok-value.ensures.size fit.1 in
     let r = level_same b.out d.out c.in_ok-value.ensures.level ∙ q in
     let left = branch_piece sc Brtr d e level r refl v.few c.in_ok-append_exit.ensures.code c.in_ok-append_exit.ensures.size in
-    until_arm sc level p x a b d e f part v left
+    until_arm sc level p (stmt c.args.b.now) a b d e f part v left
     (turn_piece sc a e f c.place-start.result level c.place-start.ensures (level_same d.out e.out c.in_ok-append_exit.ensures.level ∙ r) refl refl left.few h wide))
     c.append_turn.ensures.code c.append_turn.ensures.size
 
 -- ---- FOR
 
+pub for_loop-difference-requires-clause-fits : goal.for_loop-difference-requires-clause-fits
+for_loop-difference-requires-clause-fits g t c =
+    let a = c.args.to.now.out in
+    let b = c.assign.new.out in
+    matched.compared_fits c.args.self.now.known.now c.requires.fits.0 (level_set a) c.args.v.now (expr c.args.l.now) (level_set b) (level_same a b c.in_ok-assign.ensures.level) c.requires.fits.1.0.0
+    c.requires.fits.1.3
+
+pub for_loop-step-requires-clause-fits : goal.for_loop-step-requires-clause-fits
+for_loop-step-requires-clause-fits g t c =
+    let a = c.args.to.now.out in
+    let d = c.difference.new.out in
+    matched.stepped_fits c.args.self.now.known.now c.requires.fits.0 (level_set a) (expr c.args.s.now) (level_set d) (level_same a d (c.in_ok-difference.ensures.level ∙ c.in_ok-assign.ensures.level))
+    c.requires.fits.1.2
+
 pub for_loop-step-requires-clause-ready : goal.for_loop-step-requires-clause-ready
 for_loop-step-requires-clause-ready g t c =
     let s = c.args.self.now.known.now in
-    let a = c.args.to.now in
-    let level = level_set a.out in
-    let v = c.args.v.now in
-    let first = expr c.args.a.now in
-    let p = expr c.args.s.now in
-    let l = expr c.args.l.now in
-    let b : Draft = record a { out = c.assign.new.out } in
-    let d : Draft = record a { out = c.difference.new.out } in
-    let q = level_same a.out b.out c.in_ok-assign.ensures.level in
-    let begin = matched.assigned s c.requires.fits.0 level v first a b refl refl refl c.requires.ready.few c.in_ok-assign.ensures.code c.in_ok-assign.ensures.size
-    (types.Number, c.requires.fits.1.0.1, c.requires.fits.1.1) in
-    let test = matched.compared s c.requires.fits.0 level v l b d q refl refl begin.few c.in_ok-difference.ensures.code c.in_ok-difference.ensures.size c.requires.fits.1.0.0 c.requires.fits.1.3 in
-    ready_after s a (stmt_syllables (tree.for v first p l (stmt c.args.b.now))) (13 + expr_syllables p) c.requires.ready (emits_then begin test) (omega arith)
+    let assign = c.in_ok-assign.ensures in
+    let test = c.in_ok-difference.ensures in
+    fors.step_ready s c.requires.fits.0 c.args.v.now (expr c.args.a.now) (expr c.args.s.now) (expr c.args.l.now) (stmt c.args.b.now) c.args.to.now c.assign.new.out c.difference.new.out c.requires.fits.1
+    c.requires.ready assign.code assign.level assign.size test.code test.level test.size
 
 pub for_loop-loop_body-requires : goal.for_loop-loop_body-requires
 for_loop-loop_body-requires g t c =
     let s = c.args.self.now.known.now in
-    let a = c.args.to.now in
-    let level = level_set a.out in
-    let sc = c.requires.fits.0 in
-    let v = c.args.v.now in
-    let first = expr c.args.a.now in
-    let p = expr c.args.s.now in
-    let l = expr c.args.l.now in
-    let x = stmt c.args.b.now in
-    let b : Draft = record a { out = c.assign.new.out } in
-    let d : Draft = record a { out = c.difference.new.out } in
-    let q = level_same a.out b.out c.in_ok-assign.ensures.level in
-    let begin = matched.assigned s sc level v first a b refl refl refl c.requires.ready.few c.in_ok-assign.ensures.code c.in_ok-assign.ensures.size
-    (types.Number, c.requires.fits.1.0.1, c.requires.fits.1.1) in
-    let test = matched.compared s sc level v l b d q refl refl begin.few c.in_ok-difference.ensures.code c.in_ok-difference.ensures.size c.requires.fits.1.0.0 c.requires.fits.1.3 in
-    let past = matched.stepped s sc level p d c.step.new.to (level_after test ∙ q) c.in_ok-step.ensures c.requires.fits.1.2 in
-    let all = emits_then (emits_then begin test) past in
-    let ready = ready_after s a (stmt_syllables (tree.for v first p l x)) (stmt_syllables x) c.requires.ready all (omega arith) in
-    let fit = fit_after s sc x all c.requires.fits.1.4 in
-    let at = at_after all c.requires.level in
-    search (rules, stmts'.the_lemmas, decls'.the_lemmas, bodies'.the_lemmas, ready, fit, at)
+    let assign = c.in_ok-assign.ensures in
+    let test = c.in_ok-difference.ensures in
+    let needs = fors.body_needs s c.requires.fits.0 c.args.v.now (expr c.args.a.now) (expr c.args.s.now) (expr c.args.l.now) (stmt c.args.b.now) c.args.to.now c.assign.new.out c.difference.new.out c.requires.fits.1
+    c.requires.ready assign.code assign.level assign.size test.code test.level test.size c.step.new.to c.in_ok-step.ensures c.args.self.now.level c.requires.level in
+    search (rules, stmts'.the_lemmas, decls'.the_lemmas, bodies'.the_lemmas, needs.0, needs.1, needs.2)
 
 pub for_loop-advance-requires : goal.for_loop-advance-requires
 for_loop-advance-requires g t c =
     let s = c.args.self.now.known.now in
-    let a = c.args.to.now in
-    let level = level_set a.out in
-    let sc = c.requires.fits.0 in
-    let d : Draft = record a { out = c.difference.new.out } in
-    let f = c.loop_body.new.to in
-    let q = level_same c.assign.new.out d.out c.in_ok-difference.ensures.level ∙ level_same a.out c.assign.new.out c.in_ok-assign.ensures.level in
-    let past = matched.stepped s sc level (expr c.args.s.now) d c.step.new.to q c.in_ok-step.ensures c.requires.fits.1.2 in
-    let part = body_piece s sc (stmt c.args.b.now) c.step.new.to f level (level_after past ∙ q) c.in_ok-loop_body.ensures c.requires.fits.1.4 in
-    let there : level_set f.out ≡ level = level_after (emits_then past part) ∙ q in
-    let E : ℕ → Type 0 = λ l. ExprFits sc s l types.Number (expr c.args.s.now) in
-    record {
-      set = matched.set_behind c.args.to.now.out (emits_then past part) (c.in_ok-difference.ensures.level ∙ c.in_ok-assign.ensures.level) c.requires.ready.set;
-      near = c.requires.ready.near;
-      fits = (sc, variable_at s (level_set f.out) level sc c.args.v.now there c.requires.fits.1.0, subst E (sym there) c.requires.fits.1.2);
-      room = omega (arith, part.short, past.short, c.in_ok-difference.ensures.size, c.in_ok-assign.ensures.size, c.requires.ready.room);
-    }
+    let assign = c.in_ok-assign.ensures in
+    let test = c.in_ok-difference.ensures in
+    let needs = fors.advance_needs s c.requires.fits.0 c.args.v.now (expr c.args.a.now) (expr c.args.s.now) (expr c.args.l.now) (stmt c.args.b.now) c.args.to.now c.assign.new.out c.difference.new.out c.requires.fits.1
+    c.requires.ready assign.code assign.level assign.size test.code test.level test.size c.step.new.to c.in_ok-step.ensures c.loop_body.new.to c.in_ok-loop_body.ensures in
+    let fits = fors.advance_fits s c.requires.fits.0 c.args.v.now (expr c.args.a.now) (expr c.args.s.now) (expr c.args.l.now) (stmt c.args.b.now) c.args.to.now c.assign.new.out c.difference.new.out c.requires.fits.1
+    c.requires.ready assign.code assign.level assign.size test.code test.level test.size c.step.new.to c.in_ok-step.ensures c.loop_body.new.to c.in_ok-loop_body.ensures in
+    record { set = needs.0; near = c.requires.ready.near; fits = fits; room = needs.1 }
 
 pub for_loop-append_turn-requires : goal.for_loop-append_turn-requires
 for_loop-append_turn-requires g t c =
     let s = c.args.self.now.known.now in
-    let a = c.args.to.now in
-    let level = level_set a.out in
-    let sc = c.requires.fits.0 in
-    let b : Draft = record a { out = c.assign.new.out } in
-    let d : Draft = record a { out = c.difference.new.out } in
-    let f = c.loop_body.new.to in
-    let n : Draft = record f { out = c.advance.new.out } in
-    let q = level_same a.out b.out c.in_ok-assign.ensures.level in
-    let r = level_same b.out d.out c.in_ok-difference.ensures.level ∙ q in
-    let begin = matched.assigned s sc level c.args.v.now (expr c.args.a.now) a b refl refl refl c.requires.ready.few c.in_ok-assign.ensures.code c.in_ok-assign.ensures.size
-    (types.Number, c.requires.fits.1.0.1, c.requires.fits.1.1) in
-    let test = matched.compared s sc level c.args.v.now (expr c.args.l.now) b d q refl refl begin.few c.in_ok-difference.ensures.code c.in_ok-difference.ensures.size c.requires.fits.1.0.0 c.requires.fits.1.3 in
-    let past = matched.stepped s sc level (expr c.args.s.now) d c.step.new.to r c.in_ok-step.ensures c.requires.fits.1.2 in
-    let part = body_piece s sc (stmt c.args.b.now) c.step.new.to f level (level_after past ∙ r) c.in_ok-loop_body.ensures c.requires.fits.1.4 in
-    let next = matched.advanced s sc level c.args.v.now (expr c.args.s.now) f n (level_after (emits_then past part) ∙ r) refl refl part.few c.in_ok-advance.ensures.code c.in_ok-advance.ensures.size
-    c.requires.fits.1.0 c.requires.fits.1.2 in
-    record {
-      set = matched.set_ahead c.advance.new.out (emits_then past part) c.in_ok-advance.ensures.level
-          (set_same a.out d.out (c.in_ok-difference.ensures.level ∙ c.in_ok-assign.ensures.level) c.requires.ready.set);
-      back = omega (arith, c.place-start.ensures, test.code.grown, past.code.grown, part.code.grown, next.code.grown);
-      room = omega (arith, part.short, past.short, c.in_ok-advance.ensures.size, c.in_ok-difference.ensures.size, c.in_ok-assign.ensures.size, c.requires.ready.room);
-    }
+    let assign = c.in_ok-assign.ensures in
+    let test = c.in_ok-difference.ensures in
+    let next = c.in_ok-advance.ensures in
+    let needs = fors.turn_needs s c.requires.fits.0 c.args.v.now (expr c.args.a.now) (expr c.args.s.now) (expr c.args.l.now) (stmt c.args.b.now) c.args.to.now c.assign.new.out c.difference.new.out c.requires.fits.1
+    c.requires.ready assign.code assign.level assign.size test.code test.level test.size c.step.new.to c.in_ok-step.ensures c.loop_body.new.to c.in_ok-loop_body.ensures c.advance.new.out next.code next.level next.size c.place-start.result c.place-start.ensures in
+    record { set = needs.0; back = needs.1; room = needs.2 }
 
 pub for_loop-returns : goal.for_loop-returns
 for_loop-returns g t c =
@@ -348,70 +306,55 @@ for_loop-returns g t c =
 
 pub thru_loop-loop_body-requires : goal.thru_loop-loop_body-requires
 thru_loop-loop_body-requires g t c =
-    let s = c.args.self.now.known.now in
-    let a = c.args.to.now in
-    let x = stmt c.args.b.now in
-    let p = expr c.args.e.now in
-    let b : Draft = record a { out = c.value.new.out } in
-    let f : Draft = record a { out = c.append_all-2.new.out } in
-    let v = value_piece s a b (level_set a.out) c.requires.fits.0 types.Number p refl refl refl c.requires.ready.few c.in_ok-value.ensures.code c.in_ok-value.ensures.size c.requires.fits.1.0 in
-    let same = c.in_ok-append_all-2.ensures.level ∙ c.in_ok-over.ensures.level ∙ c.in_ok-append_all.ensures.level ∙ c.in_ok-value.ensures.level in
-    let ready = matched.ready_behind s a f (stmt_syllables (tree.thru p x)) (stmt_syllables x) c.requires.ready same refl
-    (omega (arith, v.code.grown, c.in_ok-append_all.ensures.size, c.in_ok-over.ensures.size, c.in_ok-append_all-2.ensures.size))
-    (omega (arith, c.in_ok-value.ensures.size, c.in_ok-append_all.ensures.size, c.in_ok-over.ensures.size, c.in_ok-append_all-2.ensures.size)) in
-    let fit = matched.fit_at s c.requires.fits.0 x f (level_set a.out) (level_same a.out f.out same) c.requires.fits.1.1 in
-    let at = at_same a f same c.requires.level in
-    search (rules, stmts'.the_lemmas, decls'.the_lemmas, bodies'.the_lemmas, ready, fit, at)
+    let value = c.in_ok-value.ensures in
+    let test = c.in_ok-append_all.ensures in
+    let over = c.in_ok-over.ensures in
+    let less = c.in_ok-append_all-2.ensures in
+    let needs = thrus.body_needs c.args.self.now.known.now c.requires.fits.0 (expr c.args.e.now) (stmt c.args.b.now) c.args.to.now c.value.new.out c.append_all.new.out c.append_branch.new.out c.append_all-2.new.out
+    c.requires.fits.1 c.requires.ready value.code value.level value.size test.level test.size over.level over.size less.level less.size c.args.self.now.level c.requires.level in
+    search (rules, stmts'.the_lemmas, decls'.the_lemmas, bodies'.the_lemmas, needs.0, needs.1, needs.2)
 
 pub thru_loop-append_turn-requires : goal.thru_loop-append_turn-requires
 thru_loop-append_turn-requires g t c =
-    let a = c.args.to.now in
-    let f : Draft = record a { out = c.append_all-2.new.out } in
-    let same = c.in_ok-append_all-2.ensures.level ∙ c.in_ok-over.ensures.level ∙ c.in_ok-append_all.ensures.level ∙ c.in_ok-value.ensures.level in
-    let part = body_piece c.args.self.now.known.now c.requires.fits.0 (stmt c.args.b.now) f c.loop_body.new.to (level_set a.out) (level_same a.out f.out same) c.in_ok-loop_body.ensures c.requires.fits.1.1 in
-    record {
-      set = matched.set_behind c.args.to.now.out part same c.requires.ready.set;
-      back = omega (arith, c.place-start.ensures, c.in_ok-append_all.ensures.size, c.in_ok-over.ensures.size, c.in_ok-append_all-2.ensures.size, part.code.grown);
-      room = omega (arith, part.short, c.in_ok-value.ensures.size, c.in_ok-append_all.ensures.size, c.in_ok-over.ensures.size, c.in_ok-append_all-2.ensures.size, c.requires.ready.room);
-    }
+    let value = c.in_ok-value.ensures in
+    let test = c.in_ok-append_all.ensures in
+    let over = c.in_ok-over.ensures in
+    let less = c.in_ok-append_all-2.ensures in
+    let needs = thrus.turn_needs c.args.self.now.known.now c.requires.fits.0 (expr c.args.e.now) (stmt c.args.b.now) c.args.to.now c.value.new.out c.append_all.new.out c.append_branch.new.out c.append_all-2.new.out
+    c.requires.fits.1 c.requires.ready value.code value.level value.size test.level test.size over.level over.size less.level less.size c.loop_body.new.to c.in_ok-loop_body.ensures c.place-start.result c.place-start.ensures in
+    record { set = needs.0; back = needs.1; room = needs.2 }
 
 pub thru_loop-aim-requires : goal.thru_loop-aim-requires
 thru_loop-aim-requires g t c =
-    let s = c.args.self.now.known.now in
-    let p = expr c.args.e.now in
-    let x = stmt c.args.b.now in
     let value = c.in_ok-value.ensures in
     let test = c.in_ok-append_all.ensures in
     let over = c.in_ok-over.ensures in
     let less = c.in_ok-append_all-2.ensures in
     let turn = c.in_ok-append_turn.ensures in
-    turns.thru_lies s p x c.args.to.now c.loop_body.new.to c.value.new.out c.append_all.new.out c.append_branch.new.out c.append_all-2.new.out c.append_turn.new.out c.in_ok-over.over c.place-start.result c.requires.ready.few
+    turns.thru_lies c.args.self.now.known.now (expr c.args.e.now) (stmt c.args.b.now) c.args.to.now c.loop_body.new.to c.value.new.out c.append_all.new.out c.append_branch.new.out c.append_all-2.new.out c.append_turn.new.out c.in_ok-over.over c.place-start.result c.requires.ready.few
     value.code value.level value.size c.place-start.ensures test.code test.level test.size over.place over.code over.level over.size less.code less.level less.size c.in_ok-loop_body.ensures turn.code turn.level turn.size
     c.requires.fits.0 c.requires.fits.1.0 c.requires.fits.1.1
 
 pub thru_loop-append_plain-requires : goal.thru_loop-append_plain-requires
 thru_loop-append_plain-requires g t c =
-    let a = c.args.to.now in
-    let f : Draft = record a { out = c.append_all-2.new.out } in
-    let same = c.in_ok-append_all-2.ensures.level ∙ c.in_ok-over.ensures.level ∙ c.in_ok-append_all.ensures.level ∙ c.in_ok-value.ensures.level in
-    let part = body_piece c.args.self.now.known.now c.requires.fits.0 (stmt c.args.b.now) f c.loop_body.new.to (level_set a.out) (level_same a.out f.out same) c.in_ok-loop_body.ensures c.requires.fits.1.1 in
-    record {
-      set = matched.set_ahead c.aim.new.out part (c.aim.ensures.level ∙ c.in_ok-append_turn.ensures.level) (set_same a.out f.out same c.requires.ready.set);
-      room = omega (arith, part.short, c.aim.ensures.place, c.in_ok-append_turn.ensures.size, c.in_ok-value.ensures.size, c.in_ok-append_all.ensures.size, c.in_ok-over.ensures.size, c.in_ok-append_all-2.ensures.size, c.requires.ready.room);
-    }
+    let value = c.in_ok-value.ensures in
+    let test = c.in_ok-append_all.ensures in
+    let over = c.in_ok-over.ensures in
+    let less = c.in_ok-append_all-2.ensures in
+    let turn = c.in_ok-append_turn.ensures in
+    let needs = thrus.end_needs c.args.self.now.known.now c.requires.fits.0 (expr c.args.e.now) (stmt c.args.b.now) c.args.to.now c.value.new.out c.append_all.new.out c.append_branch.new.out c.append_all-2.new.out
+    c.requires.fits.1 c.requires.ready value.code value.level value.size test.level test.size over.level over.size less.level less.size c.loop_body.new.to c.in_ok-loop_body.ensures c.append_turn.new.out c.aim.new.out c.in_ok-over.over turn.level turn.size c.aim.ensures in
+    record { set = needs.0; room = needs.1 }
 
 pub thru_loop-returns : goal.thru_loop-returns
 thru_loop-returns g t c =
-    let s = c.args.self.now.known.now in
-    let p = expr c.args.e.now in
-    let x = stmt c.args.b.now in
     let value = c.in_ok-value.ensures in
     let test = c.in_ok-append_all.ensures in
     let over = c.in_ok-over.ensures in
     let less = c.in_ok-append_all-2.ensures in
     let turn = c.in_ok-append_turn.ensures in
     on_ok_two c.append_plain.result
-    (turns.thru_emitted s p x c.args.to.now c.loop_body.new.to c.value.new.out c.append_all.new.out c.append_branch.new.out c.append_all-2.new.out c.append_turn.new.out c.in_ok-over.over c.place-start.result c.requires.ready.few
+    (turns.thru_emitted c.args.self.now.known.now (expr c.args.e.now) (stmt c.args.b.now) c.args.to.now c.loop_body.new.to c.value.new.out c.append_all.new.out c.append_branch.new.out c.append_all-2.new.out c.append_turn.new.out c.in_ok-over.over c.place-start.result c.requires.ready.few
     value.code value.level value.size c.place-start.ensures test.code test.level test.size over.place over.code over.level over.size less.code less.level less.size c.in_ok-loop_body.ensures turn.code turn.level turn.size
     c.aim.new.out c.append_plain.new.out c.aim.ensures)
     c.append_plain.ensures.code c.append_plain.ensures.size
@@ -426,14 +369,12 @@ case-cases-requires g t c =
     let s = c.args.self.now.known.now in
     let a = c.args.to.now in
     let ss = stmts c.args.ss.now in
-    let e = expr c.args.e.now in
     let b : Draft = record a { out = c.select.new.out } in
-    let q = level_same a.out b.out c.in_ok-select.ensures.level in
     let grown = (c.in_ok-select.ensures.code c.requires.fits.0 [] c.requires.fits.1.0).grown in
-    let ready = matched.ready_behind s a b (stmt_syllables (tree.case e ss)) (stmts_syllables ss) c.requires.ready c.in_ok-select.ensures.level refl grown
+    let ready = matched.ready_behind s a b (stmt_syllables (tree.case (expr c.args.e.now) ss)) (stmts_syllables ss) c.requires.ready c.in_ok-select.ensures.level refl grown
     (omega (arith, c.in_ok-select.ensures.size)) in
     let F : ℕ → Type 0 = λ l. StmtsFit c.requires.fits.0 s l ss in
-    let fit : HaveFit s b ss = (c.requires.fits.0, subst F (sym q) c.requires.fits.1.1) in
+    let fit : HaveFit s b ss = (c.requires.fits.0, subst F (sym (level_same a.out b.out c.in_ok-select.ensures.level)) c.requires.fits.1.1) in
     let at = at_same a b c.in_ok-select.ensures.level c.requires.level in
     search (rules, stmts'.the_lemmas, decls'.the_lemmas, bodies'.the_lemmas, ready, fit, at)
 
@@ -478,42 +419,23 @@ pub cases-stmt-requires : goal.cases-stmt-requires
 cases-stmt-requires g t c =
     let s = c.args.self.now.known.now in
     let a = c.args.to.now in
-    let level = level_set a.out in
-    let sc = c.requires.fits.0 in
     let ss = c.args.ss.now in
-    let x = c.s-item.result in
     let u : Draft = record a { out = c.append_entries.new.out } in
-    let b = c.statements.to in
-    let d : Draft = record b { out = c.aim.new.out } in
-    let m = c.statements.invariant.code sc c.requires.fits.1 in
-    let r = tabled.next_ready s sc level ss c.statements.s-index x c.statements-test.true c.s-item.is a u b c.statements.entry c.statements.invariant.entry m d (stmts_syllables (stmts ss)) c.aim.ensures refl (omega arith)
-    c.requires.ready in
-    let ready = matched.ready_less s d (stmt_syllables (stmt x) + 3) (stmt_syllables (stmt x)) r (omega arith) in
-    let q = level_same b.out d.out c.aim.ensures.level ∙ level_same a.out b.out m.level_is in
-    let fit = matched.fit_at s sc (stmt x) d level q (next_fits s sc level ss c.statements.s-index x c.statements-test.true c.s-item.is c.requires.fits.1) in
-    let at = at_same a d (c.aim.ensures.level ∙ m.level_is) c.requires.level in
-    search (rules, stmts'.the_lemmas, decls'.the_lemmas, bodies'.the_lemmas, ready, fit, at)
+    let d : Draft = record c.statements.to { out = c.aim.new.out } in
+    let needs = tabled.stmt_needs s c.requires.fits.0 (level_set a.out) ss c.statements.s-index c.s-item.result c.statements-test.true c.s-item.is a u c.statements.to c.statements.entry c.statements.invariant.entry
+    (c.statements.invariant.code c.requires.fits.0 c.requires.fits.1) d (stmts_syllables (stmts ss)) c.aim.ensures refl (omega arith) c.requires.ready refl c.requires.fits.1 c.args.self.now.level c.requires.level in
+    search (rules, stmts'.the_lemmas, decls'.the_lemmas, bodies'.the_lemmas, needs.0, needs.1, needs.2)
 
 pub cases-append_exit-requires : goal.cases-append_exit-requires
 cases-append_exit-requires g t c =
     let s = c.args.self.now.known.now in
     let a = c.args.to.now in
-    let level = level_set a.out in
-    let sc = c.requires.fits.0 in
     let ss = c.args.ss.now in
-    let x = c.s-item.result in
     let u : Draft = record a { out = c.append_entries.new.out } in
-    let b = c.statements.to in
-    let d : Draft = record b { out = c.aim.new.out } in
-    let m = c.statements.invariant.code sc c.requires.fits.1 in
-    let r = tabled.next_ready s sc level ss c.statements.s-index x c.statements-test.true c.s-item.is a u b c.statements.entry c.statements.invariant.entry m d (stmts_syllables (stmts ss)) c.aim.ensures refl (omega arith)
-    c.requires.ready in
-    let q = level_same b.out d.out c.aim.ensures.level ∙ level_same a.out b.out m.level_is in
-    let part = stmt_piece s sc (stmt x) d c.stmt.new.to level q c.in_ok-stmt.ensures (next_fits s sc level ss c.statements.s-index x c.statements-test.true c.s-item.is c.requires.fits.1) in
-    record {
-      set = matched.set_behind c.args.to.now.out part (c.aim.ensures.level ∙ m.level_is) c.requires.ready.set;
-      room = omega (arith, part.short, r.room);
-    }
+    let d : Draft = record c.statements.to { out = c.aim.new.out } in
+    let needs = tabled.exit_needs s c.requires.fits.0 (level_set a.out) ss c.statements.s-index c.s-item.result c.statements-test.true c.s-item.is a u c.statements.to c.statements.entry c.statements.invariant.entry
+    (c.statements.invariant.code c.requires.fits.0 c.requires.fits.1) d (stmts_syllables (stmts ss)) c.aim.ensures refl (omega arith) c.requires.ready refl c.requires.fits.1 c.stmt.new.to c.in_ok-stmt.ensures in
+    record { set = needs.0; room = needs.1 }
 
 pub cases-overflow_add-entry : goal.cases-overflow_add-entry
 cases-overflow_add-entry g t c =
@@ -573,9 +495,7 @@ stmts-stmt-requires g t c =
     let ready = next_ready s sc level ss i x c.statements-test.true c.s-item.is a b d c.len-first.result is h c.aim_exits.ensures.aimed c.aim_exits.ensures.list refl (stmts_syllables (stmts ss))
     (omega arith) c.requires.ready in
     let q = done_level s sc level ss i x c.statements-test.true c.s-item.is a b d c.len-first.result is h c.aim_exits.ensures.aimed c.aim_exits.ensures.list refl in
-    let fit = matched.fit_at s sc (stmt x) d level q (next_fits s sc level ss i x c.statements-test.true c.s-item.is c.requires.fits.1) in
-    let at = at_same a d (done_set s sc level ss i x c.statements-test.true c.s-item.is a b d c.len-first.result is h c.aim_exits.ensures.aimed c.aim_exits.ensures.list refl) c.requires.level in
-    search (rules, stmts'.the_lemmas, decls'.the_lemmas, bodies'.the_lemmas, ready, fit, at)
+    search (rules, stmts'.the_lemmas, decls'.the_lemmas, bodies'.the_lemmas, ready, matched.fit_at s sc (stmt x) d level q (next_fits s sc level ss i x c.statements-test.true c.s-item.is c.requires.fits.1), at_same a d (done_set s sc level ss i x c.statements-test.true c.s-item.is a b d c.len-first.result is h c.aim_exits.ensures.aimed c.aim_exits.ensures.list refl) c.requires.level)
 
 pub stmts-statements-preserved : goal.stmts-statements-preserved
 stmts-statements-preserved g t c =
@@ -604,23 +524,31 @@ stmt-returns-in-Empty g t c =
     let a = c.args.to.now in
     matched.emits_as s a a (stmt c.args.s.now) tree.empty (shaped.empty_as c.args.s.now c.in-Empty.is) (matched.empty_emitted s a c.requires.ready.few)
 
+pub stmt-store-requires-clause-fits : goal.stmt-store-requires-clause-fits
+stmt-store-requires-clause-fits g t c =
+    let v = c.in-Assign.v in
+    matched.fit_as c.args.self.now.known.now c.args.to.now (stmt c.args.s.now) (tree.assign (variable v) (expr c.in-Assign.e)) (shaped.assign_as c.args.s.now v c.in-Assign.e c.in-Assign.is) c.requires.fits
+
+pub stmt-store-requires-clause-room : goal.stmt-store-requires-clause-room
+stmt-store-requires-clause-room g t c =
+    let v = c.in-Assign.v in
+    store_fits c.args.self.now.known.now c.args.to.now (stmt c.args.s.now) (variable v) (expr c.in-Assign.e) (shaped.assign_as c.args.s.now v c.in-Assign.e c.in-Assign.is) c.requires.ready
+
 pub stmt-returns-in-Assign : goal.stmt-returns-in-Assign
 stmt-returns-in-Assign g t c =
     let a = c.args.to.now in
     let v = c.in-Assign.v in
-    let e = expr c.in-Assign.e in
-    let b : Draft = record a { out = c.assign.new.out } in
-    on_ok_two c.assign.result
-    (λ h short. matched.assign_emitted c.args.self.now.known.now a b (stmt c.args.s.now) v.name (exprs v.subs) e (shaped.assign_as c.args.s.now v c.in-Assign.e c.in-Assign.is) refl refl c.requires.ready.few h short)
-    c.assign.ensures.code c.assign.ensures.size
+    let b : Draft = record a { out = c.store.new.out } in
+    on_ok_two c.store.result
+    (store_emitted c.args.self.now.known.now a b (stmt c.args.s.now) (variable v) (expr c.in-Assign.e) (shaped.assign_as c.args.s.now v c.in-Assign.e c.in-Assign.is) refl refl c.requires.ready.few)
+    c.store.ensures.code c.store.ensures.size
 
 pub stmt-returns-in_ok-then_part-in-Some : goal.stmt-returns-in_ok-then_part-in-Some
 stmt-returns-in_ok-then_part-in-Some g t c =
     let x = c.deref-in-Some.result.now in
     let y = c.deref-in-Some-2.result.now in
-    let e = expr c.in-If.c in
     on_ok_weaker c.stmt.result
-    (λ h. matched.else_emitted c.args.self.now.known.now c.args.to.now c.then_part.new.to c.stmt.new.to (stmt c.args.s.now) e (stmt x) (stmt y)
+    (λ h. matched.else_emitted c.args.self.now.known.now c.args.to.now c.then_part.new.to c.stmt.new.to (stmt c.args.s.now) (expr c.in-If.c) (stmt x) (stmt y)
     (shaped.if_else_as c.args.s.now x y c.in-If.c c.in-If.x c.in-If.other c.in-Some.y c.in-If.is c.in-Some.is c.deref-in-Some.ensures c.deref-in-Some-2.ensures)
     c.in_ok-then_part-in-Some.ensures h)
     c.stmt.ensures
@@ -631,16 +559,13 @@ stmt-stmt-requires g t c =
     let a = c.args.to.now in
     let x = c.deref-in-Some.result.now in
     let y = c.deref-in-Some-2.result.now in
-    let e = expr c.in-If.c in
     let shape = shaped.if_else_as c.args.s.now x y c.in-If.c c.in-If.x c.in-If.other c.in-Some.y c.in-If.is c.in-Some.is c.deref-in-Some.ensures c.deref-in-Some-2.ensures in
-    let p = tree.if_else e (stmt x) (stmt y) in
+    let p = tree.if_else (expr c.in-If.c) (stmt x) (stmt y) in
     let whole = matched.ready_as s a (stmt c.args.s.now) p shape c.requires.ready in
     let fits = matched.fit_as s a (stmt c.args.s.now) p shape c.requires.fits in
     let first = c.in_ok-then_part-in-Some.ensures fits.0 fits.1.0 fits.1.1 in
     let ready = ready_after s a (stmt_syllables p) (stmt_syllables (stmt y)) whole first (omega arith) in
-    let fit = fit_after s fits.0 (stmt y) first fits.1.2 in
-    let at = at_after first c.requires.level in
-    search (rules, stmts'.the_lemmas, decls'.the_lemmas, bodies'.the_lemmas, ready, fit, at)
+    search (rules, stmts'.the_lemmas, decls'.the_lemmas, bodies'.the_lemmas, ready, fit_after s fits.0 (stmt y) first fits.1.2, at_after first c.requires.level)
 
 pub stmt-returns-in-Write : goal.stmt-returns-in-Write
 stmt-returns-in-Write g t c =
@@ -655,27 +580,28 @@ stmt-returns-in-Write g t c =
 
 -- ---- blocks
 
-pub inside-cells-requires-clause-numbered : goal.inside-cells-requires-clause-numbered
-inside-cells-requires-clause-numbered g t c = (c.requires.fits.0, c.requires.fits.1.0)
+pub inside-begin-requires : goal.inside-begin-requires
+inside-begin-requires g t c =
+    let s = c.args.self.now.known.now in
+    let many = c.args.many in
+    let ds = decls c.args.ds.now in
+    let ready = matched.ready_less s c.args.to.now (inside_syllables many ds (stmts c.args.ss.now)) (begin_syllables many ds) c.requires.ready (omega arith) in
+    record { level = c.requires.level; ready = ready; few = c.requires.few; fits = (c.requires.fits.0, c.requires.fits.1.0, c.requires.fits.1.1) }
 
 pub inside-stmts-requires : goal.inside-stmts-requires
 inside-stmts-requires g t c =
     let s = c.args.self.now.known.now in
     let level = c.args.self.now.level in
-    let a = c.args.to.now in
     let ds = decls c.args.ds.now in
     let ss = stmts c.args.ss.now in
-    let ready = blocks.stmts_ready s level c.args.many ds ss a c.cells.new.to c.requires.level c.requires.fits c.in_ok-cells.ensures c.requires.ready in
-    let fit = blocks.stmts_fit s level c.args.many ds ss a c.cells.new.to c.requires.level c.requires.fits c.in_ok-cells.ensures in
-    let at = at_after (c.in_ok-cells.ensures c.requires.fits.0 c.requires.fits.1.0) c.requires.level in
-    search (rules, stmts'.the_lemmas, decls'.the_lemmas, bodies'.the_lemmas, ready, fit, at)
+    let ready = blocks.stmts_ready s level c.args.many ds ss c.args.to.now c.begin.new.to c.requires.level c.requires.fits c.in_ok-begin.ensures c.requires.ready in
+    search (rules, stmts'.the_lemmas, decls'.the_lemmas, bodies'.the_lemmas, ready, blocks.stmts_fit s level c.args.many ds ss c.args.to.now c.begin.new.to c.requires.level c.requires.fits c.in_ok-begin.ensures, at_after (c.in_ok-begin.ensures c.requires.fits.0 c.requires.fits.1.0 c.requires.fits.1.1) c.requires.level)
 
 pub inside-aim_exits-requires : goal.inside-aim_exits-requires
 inside-aim_exits-requires g t c =
     let a = c.args.to.now in
-    let is : c.len-first.result ≡ length a.exits.items = omega (arith, c.len-first.ensures, a.exits.ok.0) in
-    let lie = blocks.block_exits c.args.self.now.known.now c.args.self.now.level c.args.many (decls c.args.ds.now) (stmts c.args.ss.now) a c.cells.new.to c.requires.level c.requires.fits c.in_ok-cells.ensures c.stmts.new.to
-    c.len-first.result is c.in_ok-stmts.ensures in
+    let lie = blocks.block_exits c.args.self.now.known.now c.args.self.now.level c.args.many (decls c.args.ds.now) (stmts c.args.ss.now) a c.begin.new.to c.requires.level c.requires.fits c.in_ok-begin.ensures c.stmts.new.to
+    c.len-first.result (omega (arith, c.len-first.ensures, a.exits.ok.0)) c.in_ok-stmts.ensures in
     record { list = lie.0; branches = lie.1 }
 
 pub inside-returns : goal.inside-returns
@@ -688,32 +614,26 @@ inside-returns g t c =
     let d : Draft = record c.stmts.new.to { out = c.aim_exits.new.out; exits = c.aim_exits.new.exits } in
     let is : c.len-first.result ≡ length a.exits.items = omega (arith, c.len-first.ensures, a.exits.ok.0) in
     record {
-      code = blocks.inside_stands s level c.args.many ds ss a c.cells.new.to c.requires.level c.requires.fits c.in_ok-cells.ensures c.stmts.new.to c.len-first.result is c.in_ok-stmts.ensures d c.aim_exits.ensures.aimed
+      code = blocks.inside_stands s level c.args.many ds ss a c.begin.new.to c.requires.level c.requires.fits c.in_ok-begin.ensures c.stmts.new.to c.len-first.result is c.in_ok-stmts.ensures d c.aim_exits.ensures.aimed
           c.aim_exits.ensures.list refl;
-      exits = blocks.none_left s level c.args.many ds ss a c.cells.new.to c.requires.level c.requires.fits c.in_ok-cells.ensures c.stmts.new.to c.len-first.result is c.in_ok-stmts.ensures d c.aim_exits.ensures.aimed
+      exits = blocks.none_left s level c.args.many ds ss a c.begin.new.to c.requires.level c.requires.fits c.in_ok-begin.ensures c.stmts.new.to c.len-first.result is c.in_ok-stmts.ensures d c.aim_exits.ensures.aimed
           c.aim_exits.ensures.list refl;
     }
 
 pub block-append_plain-requires : goal.block-append_plain-requires
 block-append_plain-requires g t c =
-    let s = c.args.self.now.known.now in
-    let level = c.args.self.now.level in
-    let a = c.args.to.now in
-    let ds = decls c.args.ds.now in
-    let ss = stmts c.args.ss.now in
+    let inside = c.in_ok-inside.ensures.code in
     record {
-      set = blocks.exit_set s level ds ss a c.inside.new.to c.requires.level c.variables.result c.variables.ensures c.in_ok-inside.ensures.code c.requires.fits c.requires.ready.set;
-      room = blocks.exit_room s level ds ss a c.inside.new.to c.requires.level c.variables.result c.variables.ensures c.in_ok-inside.ensures.code c.requires.fits c.requires.ready;
+      set = blocks.exit_set c.args.self.now.known.now c.args.self.now.level (decls c.args.ds.now) (stmts c.args.ss.now) c.args.to.now c.inside.new.to c.requires.level c.variables.result c.variables.ensures inside c.requires.fits c.requires.ready.set;
+      room = blocks.exit_room c.args.self.now.known.now c.args.self.now.level (decls c.args.ds.now) (stmts c.args.ss.now) c.args.to.now c.inside.new.to c.requires.level c.variables.result c.variables.ensures inside c.requires.fits c.requires.ready;
     }
 
 pub block-returns : goal.block-returns
 block-returns g t c =
-    let s = c.args.self.now.known.now in
-    let a = c.args.to.now in
-    let d = c.inside.new.to in
-    let e : Draft = record d { out = c.append_plain.new.out } in
+    let e : Draft = record c.inside.new.to { out = c.append_plain.new.out } in
     on_ok_two c.append_plain.result
-    (blocks.block_stands s c.args.self.now.level (decls c.args.ds.now) (stmts c.args.ss.now) a d c.requires.level c.variables.result c.variables.ensures c.in_ok-inside.ensures.code e refl refl)
+    (blocks.block_stands c.args.self.now.known.now c.args.self.now.level (decls c.args.ds.now) (stmts c.args.ss.now) c.args.to.now c.inside.new.to c.requires.level c.variables.result c.variables.ensures c.in_ok-inside.ensures.code e refl
+    refl)
     c.append_plain.ensures.code c.append_plain.ensures.size
 
 pub block_inside-returns : goal.block_inside-returns
@@ -731,9 +651,7 @@ inner_block-block_inside-requires g t c =
     let b : Draft = record a { out = c.append_branch.new.out } in
     let over = c.in_ok-over.ensures in
     let ready = blocks.inside_ready s (decls c.args.ds.now) (stmts c.args.ss.now) a b over.level over.size refl c.requires.ready in
-    let fit = blocks.inside_fit s (decls c.args.ds.now) (stmts c.args.ss.now) a b over.level over.size c.requires.fits in
-    let at = at_same a b over.level c.requires.level in
-    search (rules, stmts'.the_lemmas, decls'.the_lemmas, bodies'.the_lemmas, ready, fit, at)
+    search (rules, stmts'.the_lemmas, decls'.the_lemmas, bodies'.the_lemmas, ready, blocks.inside_fit s (decls c.args.ds.now) (stmts c.args.ss.now) a b over.level over.size c.requires.fits, at_same a b over.level c.requires.level)
 
 pub inner_block-aim-requires : goal.inner_block-aim-requires
 inner_block-aim-requires g t c =
@@ -813,19 +731,20 @@ stmt-returns-then-is_empty g t c =
 
 pub stmt-call-requires-clause-fits : goal.stmt-call-requires-clause-fits
 stmt-call-requires-clause-fits g t c =
-    let s = c.args.self.now.known.now in
-    let a = c.args.to.now in
-    let n = c.in-Call.c.name in
-    let es = exprs c.in-Call.c.actuals in
-    let p = tree.call_of (tree.called n es) in
-    let fits = matched.fit_as s a (stmt c.args.s.now) p (shaped.call_as c.args.s.now c.in-Call.c c.in-Call.is) c.requires.fits in
-    (fits.0, matched.called s fits.0 (level_set a.out) n es fits.1)
+    let k = c.in-Call.c in
+    matched.fit_as c.args.self.now.known.now c.args.to.now (stmt c.args.s.now) (tree.call_of (tree.called k.name (exprs k.actuals))) (shaped.call_as c.args.s.now k c.in-Call.is) c.requires.fits
+
+pub stmt-call-requires-clause-room : goal.stmt-call-requires-clause-room
+stmt-call-requires-clause-room g t c =
+    let k = c.in-Call.c in
+    matched.call_fits c.args.self.now.known.now c.args.to.now (stmt c.args.s.now) (call k) k.name (exprs k.actuals) (shaped.call_as c.args.s.now k c.in-Call.is) (shaped.call_is k) c.requires.ready
 
 pub stmt-returns-in-Call : goal.stmt-returns-in-Call
 stmt-returns-in-Call g t c =
     let a = c.args.to.now in
-    let n = c.in-Call.c.name in
+    let k = c.in-Call.c in
     let b : Draft = record a { out = c.call.new.out } in
     on_ok_two c.call.result
-    (λ h short. matched.call_emitted c.args.self.now.known.now a b (stmt c.args.s.now) n (exprs c.in-Call.c.actuals) (shaped.call_as c.args.s.now c.in-Call.c c.in-Call.is) refl refl c.requires.ready.few h short)
+    (matched.call_emitted c.args.self.now.known.now a b (stmt c.args.s.now) (call k) k.name (exprs k.actuals) (shaped.call_as c.args.s.now k c.in-Call.is) (shaped.call_is k) refl refl
+    c.requires.ready.few)
     c.call.ensures.code c.call.ensures.size

@@ -7,8 +7,14 @@ use Rattle.b67_segment.specs.Building.{level_set}
 use Rattle.b67_emit_stmt.proofs.Drafts.{level_same}
 use Rattle.b67_emit_stmt.specs.Places.{ReadAt}
 use Rattle.b67_segment.specs.Operators.{size}
-use Rattle.b67_emit_stmt.proofs.Parts.{advance_part, leveled, variable_at, plain_at, value_at}
+use Rattle.b67_emit_stmt.proofs.Parts.{advance_part, code_at, leveled, variable_at, plain_at, value_at}
 use Rattle.b67_emit_stmt.proofs.draft.StmtEmitter.advance.Goals as goal
+
+pub value-requires-clause-code : goal.value-requires-clause-code
+value-requires-clause-code g c =
+    let a = c.args.out.now in
+    let b = c.read.new.out in
+    code_at c.args.self.now.known.now (level_set b) (level_set a) c.requires.fits.0 types.Number (expr c.args.s.now) (level_same a b (c.in_ok-read.ensures.level ∙ c.in_ok-reference.ensures.level)) c.requires.fits.2
 
 pub returns-clause-code : goal.returns-clause-code
 returns-clause-code g c =

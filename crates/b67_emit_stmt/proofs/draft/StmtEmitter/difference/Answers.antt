@@ -5,8 +5,14 @@ use Rattle.algol_tree.specs.Image.{expr}
 use Rattle.b67_ops.specs.declared.PlainKind.TheVariants as kinds
 use Rattle.b67_segment.specs.Building.{level_set}
 use Rattle.b67_emit_stmt.proofs.Drafts.{level_same}
-use Rattle.b67_emit_stmt.proofs.Parts.{difference_part, plain_at, value_at}
+use Rattle.b67_emit_stmt.proofs.Parts.{code_at, difference_part, plain_at, value_at}
 use Rattle.b67_emit_stmt.proofs.draft.StmtEmitter.difference.Goals as goal
+
+pub value-requires-clause-code : goal.value-requires-clause-code
+value-requires-clause-code g c =
+    let a = c.args.out.now in
+    let b = c.read.new.out in
+    code_at c.args.self.now.known.now (level_set b) (level_set a) c.requires.fits.0 types.Number (expr c.args.l.now) (level_same a b c.in_ok-read.ensures.level) c.requires.fits.2
 
 pub returns-clause-code : goal.returns-clause-code
 returns-clause-code g c =

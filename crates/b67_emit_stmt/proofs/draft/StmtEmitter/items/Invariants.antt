@@ -1,11 +1,10 @@
 use Rattle.std.proofs.Common.{◌≡◌, ◌+◌, ◌*◌, ◌≤◌, List, take}
 use Rattle.algol_tree.specs.Image.{exprs}
 use Rattle.algol_tree.specs.Counts.{exprs_tokens}
-use Rattle.b67_emit_stmt.specs.Places.{Place}
+use Rattle.b67_emit_stmt.specs.Places.{Place, LineAt}
 use Rattle.b67_segment.specs.declared.code.Format.{Format}
 use Rattle.b67_segment.specs.Operators.{size}
 use Rattle.b67_segment.specs.Building.{level_set}
-use Rattle.b67_emit_stmt.specs.Places.{LineAt}
 use Rattle.b67_emit_stmt.specs.Fits.{LineFits}
 use Rattle.b67_templates.specs.Emitting.{Emitted}
 use Rattle.b67_emit_stmt.proofs.draft.StmtEmitter.items.Given as goal

@@ -8,7 +8,7 @@ use Rattle.b67_emit_stmt.proofs.draft.StmtEmitter.read.Goals as goal
 
 pub append_reading-requires-clause-seen : goal.append_reading-requires-clause-seen
 append_reading-requires-clause-seen g c =
-    let s = c.args.self.now.known.now.scopes.now in
+    let s = c.args.self.now.known.now.names.now in
     let near = c.requires.near.own c.args.v.now.spot c.couple_of.result c.couple_of.ensures in
     name_seen c.requires.fits.0.scopes (couples s) (level_set c.args.out.now) c.requires.fits.1 c.args.v.now c.couple_of.result c.requires.fits.2.0 c.couple_of.ensures
     (omega arith)
@@ -18,5 +18,5 @@ returns-clause-code g c =
     on_ok_weaker c.append_reading.result
     (λ h sc k formats fit.
     read_part sc formats k c.args.v.now c.couple_of.result c.args.out.now c.append_reading.new.out
-    (variable_is sc.scopes (couples c.args.self.now.known.now.scopes.now) (level_set c.args.out.now) k c.args.v.now c.couple_of.result fit.0 c.couple_of.ensures) h)
+    (variable_is sc.scopes (couples c.args.self.now.known.now.names.now) (level_set c.args.out.now) k c.args.v.now c.couple_of.result fit.0 c.couple_of.ensures) h)
     c.append_reading.ensures.code

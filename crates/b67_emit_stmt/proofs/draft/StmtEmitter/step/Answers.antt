@@ -6,9 +6,8 @@ use Rattle.algol_tree.specs.declared.tree.Kind.TheVariants as types
 use Rattle.algol_tree.specs.Image.{expr}
 use Rattle.b67_segment.specs.Building.{level_set}
 use Rattle.b67_segment.specs.Operators.{size}
-use Rattle.b67_emit_stmt.specs.Places.{PastAt}
+use Rattle.b67_emit_stmt.specs.Places.{PastAt, context_in}
 use Rattle.b67_templates.specs.Depths.{expr_syllables}
-use Rattle.b67_emit_stmt.specs.Places.{context_in}
 use Rattle.b67_emit_stmt.specs.declared.draft.Draft.{Draft}
 use Rattle.b67_emit_stmt.proofs.Drafts.{at_level, level_same, piece}
 use Rattle.b67_emit_stmt.proofs.Parts.{value_at}

@@ -1,0 +1,46 @@
+-- A text where its code is emitted, with its level, its result's cell, its declarations and its statements as they are found.
+use Rattle.std.proofs.Common.{◌≡◌, ℕ, ◌+◌, ◌*◌, ◌≤◌, Option, List, sym, subst}
+use Rattle.algol_tree.specs.Plain.{PDecls, PStmts}
+use Rattle.b67_segment.specs.declared.TheConstants.{MOST_SEGMENT_WORDS}
+use Rattle.b67_segment.specs.declared.code.Format.{Format}
+use Rattle.b67_segment.specs.declared.code.Segment.{Segment}
+use Rattle.b67_emit_stmt.specs.declared.draft.Known.{Known}
+use Rattle.b67_emit_stmt.specs.Bodies.{IsNear, IsSmall, Stands, text_syllables, zeros_for}
+use Rattle.b67_emit_stmt.specs.Fits.{InsideFits}
+use Rattle.b67_emit_stmt.specs.Places.{Place}
+use Rattle.b67_emit_stmt.specs.Segments.{CanStand, HasSegment, TextFits, code_syllables, returned_in}
+use Rattle.b67_emit_stmt.specs.Texts.{Text}
+
+module _ (t : Text) (returned : Option ℕ) (level : ℕ) (ds : PDecls) (ss : PStmts) (returned_is : returned ≡ returned_in t) (level_is : level ≡ t.level) (ds_are : ds ≡ t.decls)
+    (ss_are : ss ≡ t.stmts) where
+  -- what holds of the text's own holds of them
+  found : (P : Option ℕ → ℕ → PDecls → PStmts → Type 0) → P (returned_in t) t.level t.decls t.stmts → P returned level ds ss
+  found P h =
+      subst (λ r. P r level ds ss) (sym returned_is)
+      (subst (λ l. P (returned_in t) l ds ss) (sym level_is) (subst (λ xs. P (returned_in t) t.level xs ss) (sym ds_are) (subst (λ ys. P (returned_in t) t.level t.decls ys) (sym ss_are) h)))
+
+  own : (P : Option ℕ → ℕ → PDecls → PStmts → Type 0) → P returned level ds ss → P (returned_in t) t.level t.decls t.stmts
+  own P h =
+      subst (λ r. P r t.level t.decls t.stmts) returned_is
+      (subst (λ l. P returned l t.decls t.stmts) level_is (subst (λ xs. P returned level xs t.stmts) ds_are (subst (λ ys. P returned level ds ys) ss_are h)))
+
+  module _ (s : Known) (can : CanStand s t) where
+    pub cell_found : IsNear returned
+    cell_found = found (λ r l xs ys. IsNear r) can.cell
+
+    pub small_found : IsSmall (zeros_for returned ds) ds
+    small_found = found (λ r l xs ys. IsSmall (zeros_for r xs) xs) can.small
+
+    pub fits_found : (sc : Place) × InsideFits sc s level ds ss
+    fits_found = found (λ r l xs ys. (sc : Place) × InsideFits sc s l xs ys) can.fits
+
+    pub room_found : text_syllables returned ds ss + 5 ≤ 6 * MOST_SEGMENT_WORDS
+    room_found = found (λ r l xs ys. text_syllables r xs ys + 5 ≤ 6 * MOST_SEGMENT_WORDS) can.room
+
+    pub segment_own : (sc : Place) (all : List Format) (segment : Segment) → (InsideFits sc s level ds ss → Stands sc all segment level returned ds ss) → TextFits sc s t →
+        HasSegment sc all segment t
+    segment_own sc all segment h fit =
+        own (λ r l xs ys. Stands sc all segment l r xs ys) (h (found (λ r l xs ys. InsideFits sc s l xs ys) fit))
+
+  pub short_own : (n : ℕ) → n ≤ text_syllables returned ds ss + 5 → n ≤ code_syllables t + 5
+  short_own n le = own (λ r l xs ys. n ≤ text_syllables r xs ys + 5) le

@@ -1,0 +1,28 @@
+use Rattle.std.proofs.Common.{◌≡◌, ◌∙◌, ℕ, ap, subst, sym, arith}
+use Rattle.std.specs.Prelude.{unwrap_or, Option}
+use Rattle.algol_tree.specs.Image.{decls}
+use Rattle.b67_segment.specs.Building.{level_set}
+use Rattle.b67_emit_stmt.specs.Fits.{DeclsFit}
+use Rattle.b67_emit_stmt.proofs.Begins.{arrays_behind}
+use Rattle.b67_emit_stmt.proofs.Drafts.{level_after, set_after}
+use Rattle.b67_emit_stmt.proofs.draft.StmtEmitter.begin.Goals as goal
+
+pub arrays-requires : goal.arrays-requires
+arrays-requires g c =
+    let s = c.args.self.now.known.now in
+    let a = c.args.to.now in
+    let cells = c.in_ok-cells.ensures c.requires.fits.0 c.requires.fits.1 in
+    let set : level_set a.out ≡ c.args.self.now.level = ap (λ (o : Option ℕ). unwrap_or o 0) c.requires.level.set in
+    let F : ℕ → Type 0 = λ l. DeclsFit c.requires.fits.0 s l (decls c.args.ds.now) in
+    record {
+      set = set_after cells c.requires.ready.set;
+      near = c.requires.ready.near;
+      few = omega (arith, c.requires.few);
+      fits = (c.requires.fits.0, subst F (sym (level_after cells ∙ set)) c.requires.fits.2);
+      room = omega (arith, cells.short, c.requires.ready.room);
+    }
+
+pub returns : goal.returns
+returns g c =
+    arrays_behind c.args.self.now.known.now c.args.self.now.level c.args.many (decls c.args.ds.now) c.args.to.now c.cells.new.to c.requires.level c.in_ok-cells.ensures c.arrays.result
+    c.arrays.new.out c.arrays.ensures.code c.arrays.ensures.size

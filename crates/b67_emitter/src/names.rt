@@ -1,0 +1,25 @@
+//! What the names of a program mean to its code.
+
+ghost use Rattle.std.specs.Prelude.{◌≡◌};
+
+use algol_scope::Scopes;
+use algol_tree::Spot;
+use b67_list::List;
+use std::collections::BTreeMap;
+
+/// What the names of a program mean to its code: where the cells lie, and the lower bounds of each array by the place of its declaration.
+#[derive(Drop)]
+pub struct Names<'a> {
+    pub scopes: &'a Scopes,
+    pub lows: BTreeMap<Spot, List<i64>>,
+}
+
+impl<'a> Names<'a> {
+    /// The names of a program that has these scopes, and arrays with these lower bounds.
+    pub fn new(scopes: &'a Scopes, lows: BTreeMap<Spot, List<i64>>) -> Names<'a>
+        ensures scopes { result.scopes.now ≡ scopes.now }
+        ensures lows { result.lows ≡ lows }
+    {
+        Names { scopes, lows }
+    }
+}
