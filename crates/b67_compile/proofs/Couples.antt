@@ -1,17 +1,21 @@
--- What the scopes of a tree tell of couples is what its declarations say.
+-- What the names of a tree tell of couples and of lower bounds is what its declarations say.
 use Rattle.std.proofs.Common.{◌≡◌, ◌+◌, ◌<◌, Option, Some, None, refl, sym, ap, ◌∙◌, subst}
 use Rattle.algol_tree.specs.declared.TheConstants.{MOST_BLOCK_CELLS}
 use Rattle.algol_tree.specs.declared.token.Spot.{Spot}
+use Rattle.algol_tree.specs.Blocks.{blocks_of_program}
 use Rattle.algol_tree.specs.Cells as cells
 use Rattle.algol_tree.specs.Couples.{Located, declaration_at, result_at}
 use Rattle.algol_tree.specs.Plain.{PProgram}
+use Rattle.algol_tree.specs.Scopes.{scopes_of}
+use Rattle.algol_paths.specs.Arrays.{lows_at}
 use Rattle.algol_scope.specs.declared.scopes.Couple as found
 use Rattle.algol_scope.specs.declared.scopes.Declared.{Declared}
-use Rattle.algol_scope.specs.declared.scopes.Scopes.{Scopes}
 use Rattle.algol_scope.specs.Resolved.{couple, located, declaration_of, result_of, AreOf}
 use Rattle.b67_ops.specs.declared.Couple.{Couple}
-use Rattle.b67_emitter.specs.Values.{couple_found, couple_declared, couples, result_declared, results, AreNear}
-use Rattle.b67_fitting.specs.Fitted.{AreCouples, AreResults, spelled}
+use Rattle.b67_emitter.specs.declared.names.Names.{Names}
+use Rattle.b67_emitter.specs.Values.{couple_found, couple_declared, couples, lows, lows_found, result_declared, results, AreNear}
+use Rattle.b67_fitting.specs.Fitted.{AreCouples, AreLows, AreResults, spelled}
+use Rattle.b67_compile.specs.Lows.{under}
 
 same_couple : (o : Option found.Couple) (c : cells.Couple) → couple o ≡ Some c → couple_found o ≡ Some (record { level = c.level; index = c.index })
 same_couple None c h = absurd (let clash : None ≡ Some c = h in cc)
@@ -38,36 +42,47 @@ index_of (Some y) c h =
     let same : record { level = y.level; index = y.index } ≡ c = cc in
     (record { level = y.level; index = y.index }, refl, ap (λ (z : Couple). z.index) same)
 
-module _ (p : PProgram) (s : Scopes) (are : AreOf p s) where
-  pub couples_known : AreCouples p (couples s)
-  couples_known spot d c h g = same_declared (declaration_of s spot) d c (are.declarations spot ∙ h) g
+module _ (p : PProgram) (names : Names) (are : AreOf p names.scopes.now) where
+  pub couples_known : AreCouples p (couples names)
+  couples_known spot d c h g = same_declared (declaration_of names.scopes.now spot) d c (are.declarations spot ∙ h) g
 
-  pub results_known : AreResults p (results s)
-  results_known spot d h = by (declaration_of s spot) (are.declarations spot ∙ h)
+  pub results_known : AreResults p (results names)
+  results_known spot d h = by (declaration_of names.scopes.now spot) (are.declarations spot ∙ h)
     where
-      by : (o : Option Declared) → located o ≡ Some d → result_declared s o ≡ spelled (result_at p d.spot)
+      by : (o : Option Declared) → located o ≡ Some d → result_declared names.scopes.now o ≡ spelled (result_at p d.spot)
       by None e = absurd (let clash : None ≡ Some d = e in cc)
       by (Some x) e =
           let same : record { spot = x.spot; level = x.level; couple = couple x.couple } ≡ d = cc in
-          found_spelled (result_of s x.spot) ∙ ap spelled (are.results x.spot ∙ ap (λ (z : Located). result_at p z.spot) same)
+          found_spelled (result_of names.scopes.now x.spot) ∙ ap spelled (are.results x.spot ∙ ap (λ (z : Located). result_at p z.spot) same)
+
+  -- where the table has the lower bounds of all arrays
+  pub lows_known : ((spot : Spot) → under names.lows spot ≡ lows_at (blocks_of_program p) spot) → AreLows p (lows names)
+  unfolding scopes_of
+  lows_known there spot d bounds h g = by (declaration_of names.scopes.now spot) (are.declarations spot ∙ h)
+    where
+      by : (o : Option Declared) → located o ≡ Some d → lows_found names o ≡ Some bounds
+      by None e = absurd (let clash : None ≡ Some d = e in cc)
+      by (Some x) e =
+          let same : record { spot = x.spot; level = x.level; couple = couple x.couple } ≡ d = cc in
+          there x.spot ∙ ap (λ (z : Located). lows_at (blocks_of_program p) z.spot) same ∙ g
 
   -- each couple lies near, where that of each declaration and of each result does
   pub couples_near : ((spot : Spot) (d : Located) (c : cells.Couple) → declaration_at p spot ≡ Some d → d.couple ≡ Some c → c.index < 2 + MOST_BLOCK_CELLS) →
-      ((spot : Spot) (c : cells.Couple) → result_at p spot ≡ Some c → c.index < 2 + MOST_BLOCK_CELLS) → AreNear s
+      ((spot : Spot) (c : cells.Couple) → result_at p spot ≡ Some c → c.index < 2 + MOST_BLOCK_CELLS) → AreNear names
   couples_near near near_result = record {
-    own = λ spot c h. own spot c (declaration_of s spot) refl h;
-    result = λ spot c h. result c (declaration_of s spot) h;
+    own = λ spot c h. own spot c (declaration_of names.scopes.now spot) refl h;
+    result = λ spot c h. result c (declaration_of names.scopes.now spot) h;
   }
     where
-      own : (spot : Spot) (c : Couple) (o : Option Declared) → declaration_of s spot ≡ o → couple_declared o ≡ Some c → c.index < 2 + MOST_BLOCK_CELLS
+      own : (spot : Spot) (c : Couple) (o : Option Declared) → declaration_of names.scopes.now spot ≡ o → couple_declared o ≡ Some c → c.index < 2 + MOST_BLOCK_CELLS
       own spot c None e g = absurd (let clash : None ≡ Some c = g in cc)
       own spot c (Some x) e g =
           let i = index_of x.couple c g in
           let there = sym (are.declarations spot) ∙ ap located e in
           subst (λ n. n < 2 + MOST_BLOCK_CELLS) i.2 (near spot (record { spot = x.spot; level = x.level; couple = couple x.couple }) i.0 there i.1)
 
-      result : (c : Couple) (o : Option Declared) → result_declared s o ≡ Some c → c.index < 2 + MOST_BLOCK_CELLS
+      result : (c : Couple) (o : Option Declared) → result_declared names.scopes.now o ≡ Some c → c.index < 2 + MOST_BLOCK_CELLS
       result c None g = absurd (let clash : None ≡ Some c = g in cc)
       result c (Some x) g =
-          let i = index_of (result_of s x.spot) c g in
+          let i = index_of (result_of names.scopes.now x.spot) c g in
           subst (λ n. n < 2 + MOST_BLOCK_CELLS) i.2 (near_result x.spot i.0 (sym (are.results x.spot) ∙ i.1))

@@ -1,15 +1,19 @@
 -- The tests of a program's declarations and statements decide whether it is built.
-use Rattle.std.proofs.Common.{◌≡◌, ℕ, ◌&&◌, not, true, false, List, [], ◌∷◌, length, refl, arith}
+use Rattle.std.proofs.Common.{◌≡◌, ℕ, ◌≤◌, ◌&&◌, not, Bool, true, false, List, [], ◌∷◌, length, refl, arith}
 use Rattle.std.specs.Prelude.{◌==◌}
 use Rattle.std.proofs.lemmas.Bool.{ne_eqb}
 use Rattle.std.specs.Bool.{Decides}
-use Rattle.std.proofs.lemmas.Bool.Decides.{Decides-and}
+use Rattle.std.specs.List.{list_all}
+use Rattle.std.proofs.lemmas.Bool.Decides.{Decides-and, Decides-by_and}
 use Rattle.algol_tree.specs.declared.token.Spot.{Spot}
+use Rattle.algol_tree.specs.declared.tree.Heading.{Heading}
+use Rattle.algol_tree.specs.declared.tree.Named.{Named}
+use Rattle.algol_tree.specs.Classes.{is_simple}
 use Rattle.algol_tree.specs.Plain as tree
 use Rattle.algol_tree.specs.Plain.{PStmt, PStmts, PDecl, PDecls}
-use Rattle.algol_tree.specs.Sorts.{same_name}
-use Rattle.b67_fitting.specs.Built.{DeclBuilt, DeclsBuilt, StmtBuilt, StmtsBuilt, IsBuilt}
-use Rattle.b67_compile.specs.Built.{is_nil, has_no_parameters, has_name, is_decl_built, decls_are_built, is_stmt_built, stmts_are_built}
+use Rattle.algol_tree.specs.Sorts.{same_name, class_in, is_named_in}
+use Rattle.b67_fitting.specs.Built.{HeadingBuilt, DeclBuilt, DeclsBuilt, StmtBuilt, StmtsBuilt, IsBuilt}
+use Rattle.b67_compile.specs.Built.{is_nil, is_parameter_built, is_heading_built, has_name, has_some, is_decl_built, decls_are_built, is_stmt_built, stmts_are_built}
 
 pub nil_length : {X : Type 0} (xs : List X) → (length xs == 0) ≡ is_nil xs
 nil_length [] = refl
@@ -21,13 +25,23 @@ yes = (λ e. tt, λ p. refl)
 no : Decides false ⊥
 no = (λ e. absurd (let clash : false ≡ true = e in cc), λ p. absurd p)
 
-bare_decided : {X : Type 0} (xs : List X) → Decides (is_nil xs) (xs ≡ [])
-bare_decided [] = (λ e. refl, λ p. refl)
-bare_decided (x ∷ xs) = (λ e. absurd (let clash : false ≡ true = e in cc), λ p. absurd (let clash : x ∷ xs ≡ [] = p in cc))
+itself_decided : (b : Bool) → Decides b (b ≡ true)
+itself_decided b = (λ e. e, λ e. e)
+
+heading_decided : (h : Heading) → Decides (is_heading_built h) (HeadingBuilt h)
+heading_decided h =
+    let simple : Named → Bool = λ n. is_simple (class_in h.specs n.name) in
+    let valued : Named → Bool = λ n. is_named_in h.values n.name in
+    Decides-by_and (is_parameter_built h) (λ (n : Named). (simple n ≡ true) × (valued n ≡ true)) (list_all (is_parameter_built h))
+    (λ n. Decides-and (simple n) (valued n) (itself_decided (simple n)) (itself_decided (valued n))) refl (λ _ _. refl) h.params
 
 named_decided : (name : List ℕ) → Decides (not (is_nil name)) (same_name name [] ≡ false)
 named_decided [] = (λ e. absurd (let clash : false ≡ true = e in cc), λ p. absurd (let clash : true ≡ false = p in cc))
 named_decided (c ∷ name) = (λ e. refl, λ p. refl)
+
+some_decided : (ns : List Named) → Decides (has_some ns) (1 ≤ length ns)
+some_decided [] = (λ e. absurd (let clash : false ≡ true = e in cc), λ h. absurd (omega (arith, h)))
+some_decided (n ∷ ns) = (λ e. omega arith, λ h. refl)
 
 mutual
   decl_decided : (d : PDecl) → Decides (is_decl_built d) (DeclBuilt d)
@@ -36,10 +50,10 @@ mutual
   decl_decided (tree.events ns) = no
   decl_decided (tree.tasks ns) = no
   decl_decided (tree.labels ns) = no
-  decl_decided (tree.arrays kind ns pairs) = no
-  decl_decided (tree.forward h) = bare_decided h.params
+  decl_decided (tree.arrays kind ns pairs) = some_decided ns
+  decl_decided (tree.forward h) = heading_decided h
   decl_decided (tree.procedure h s) =
-      let d = Decides-and (has_no_parameters h) (is_stmt_built s && has_name h) (bare_decided h.params)
+      let d = Decides-and (is_heading_built h) (is_stmt_built s && has_name h) (heading_decided h)
       (Decides-and (is_stmt_built s) (has_name h) (stmt_decided s) (named_decided h.name.name)) in
       (λ e. let r = d.0 e in (r.0, r.1.0, r.1.1), λ r. d.1 (r.0, (r.1, r.2)))
 

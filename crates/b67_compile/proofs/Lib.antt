@@ -1,4 +1,5 @@
 pub mod Decided
+pub mod LowerBounds
 pub mod Couples
 pub mod Matching
 pub mod Places

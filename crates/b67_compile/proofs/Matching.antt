@@ -3,23 +3,25 @@
 use Rattle.std.proofs.Common.{arith, ◌≡◌, ℕ, ◌+◌, not, Bool, true, false, List, [], ◌∷◌, ◌++◌, length, filter, Option, refl, sym, ap, ◌∙◌, subst, append-nil, if◌then◌else◌}
 use Rattle.std.specs.List.{flat_map}
 use Rattle.std.proofs.lemmas.Grind.{flat_map-append}
+use Rattle.std.proofs.lemmas.List.{length-map}
 use Rattle.std.proofs.lemmas.List.Elements.{filter-append}
 use Rattle.algol_tree.specs.declared.token.Spot.{Spot}
+use Rattle.algol_tree.specs.declared.tree.Heading.{Heading}
 use Rattle.algol_tree.specs.declared.tree.Named.{Named}
 use Rattle.algol_tree.specs.Accepted.{sites_of}
-use Rattle.algol_tree.specs.Blocks.{Block, Begin, of_statement, of_procedure, procedure_block, blocks_of, blocks_in_stmts, blocks_in_decls, blocks_of_program, decls_of, stmts_of}
+use Rattle.algol_tree.specs.Blocks.{Block, Begin, of_statement, of_procedure, procedure_block, blocks_of, blocks_in_stmts, blocks_in_decls, blocks_of_program}
 use Rattle.algol_tree.specs.Cells.{level_of}
 use Rattle.algol_tree.specs.Classes.{Formal}
 use Rattle.algol_tree.specs.Counts.{heading_tokens, stmt_tokens}
 use Rattle.algol_tree.specs.Names.{Segment, segments_of_part}
 use Rattle.algol_tree.specs.Plain as tree
-use Rattle.algol_tree.specs.Plain.{PExpr, PExprs, PStmt, PStmts, PDecls}
-use Rattle.algol_tree.specs.Sites.{Site, name_part, wants_value, actual_part, first_formal, other_formals, inside_expr, inside_list, inside_actuals, sites, here_stmt, has_decls, inside_stmt, sites_in_stmts, sites_in_decls}
-use Rattle.algol_tree.specs.Sorts.{Declared}
+use Rattle.algol_tree.specs.Plain.{PExpr, PExprs, PPair, PStmt, PStmts, PDecls}
+use Rattle.algol_tree.specs.Sites.{Site, name_part, wants_value, actual_part, first_formal, other_formals, inside_expr, inside_list, inside_actuals, sites, here_stmt, has_decls, inside_stmt, sites_in_pairs, sites_in_stmts, sites_in_decls}
+use Rattle.algol_tree.specs.Sorts.{Declared, parameters_of}
 use Rattle.algol_tree.specs.Surroundings.{Surroundings, outermost, formals_at, knowing, knowing_all, inside, inside_procedure}
 use Rattle.algol_paths.specs.Segments.{is_procedure}
 use Rattle.b67_ops.specs.declared.TheConstants.{OUTER_LEVEL}
-use Rattle.b67_emit_stmt.specs.Texts.{Text, texts_of, texts_in_stmts, texts_in_decls, texts_in_body}
+use Rattle.b67_emit_stmt.specs.Texts.{Text, procedure_text, texts_of, texts_in_stmts, texts_in_decls, texts_in_body}
 use Rattle.b67_fitting.specs.Built.{DeclsBuilt, StmtBuilt, StmtsBuilt, IsBuilt}
 
 -- the segments that begin at these places of the text
@@ -29,7 +31,16 @@ segs xs = flat_map (λ (x : Site). segments_of_part x.part) xs
 -- the text of a block, with so many tokens
 abbrev pub text_of : Block → ℕ → Text
 text_of b tokens =
-    record { level = level_of b; spot = b.spot; name = b.name; result = b.result; decls = b.decls; stmts = b.stmts; tokens = tokens }
+    record {
+      level = level_of b;
+      spot = b.spot;
+      name = b.name;
+      parameters = length b.parameters;
+      result = b.result;
+      decls = b.decls;
+      stmts = b.stmts;
+      tokens = tokens;
+    }
 
 pub record IsTextOf (b : Block) (s : Segment) (t : Text) : Type 0 where
   pub place : s.spot ≡ b.spot
@@ -121,7 +132,20 @@ mutual
       ap (λ (ss : List Segment). ss ++ segs (inside_expr e a ++ inside_actuals es (other_formals fs) a)) (actual_none e (first_formal fs))
       ∙ both_none (inside_expr e a) (inside_actuals es (other_formals fs) a) (expr_none e a) (actuals_none es (other_formals fs) a)
 
+pairs_none : (ps : List PPair) (a : Surroundings) → segs (sites_in_pairs ps a) ≡ []
+pairs_none [] a = refl
+pairs_none (p ∷ ps) a = both_none (sites p.high a) (sites_in_pairs ps a) (expr_none p.high a) (pairs_none ps a)
+
 -- ---- statements and declarations
+
+-- the text of a procedure is that of its block
+same_text : (h : Heading) (s : PStmt) (outer : List Spot) (level : ℕ) → level ≡ length outer + 1 →
+    procedure_text (level + 1) h s ≡ text_of (procedure_block h s outer) (heading_tokens h + stmt_tokens s)
+same_text h s outer level e =
+    let high : level + 1 ≡ length outer + 2 = omega (arith, e) in
+    let many : length (parameters_of h) ≡ length h.params = length-map h.params _ in
+    let its : ℕ → ℕ → Text = λ at n. record (procedure_text at h s) { parameters = n } in
+    ap (λ (at : ℕ). its at (length h.params)) high ∙ ap (its (length outer + 2)) (sym many)
 
 module _ (blocks : List Block) where
   -- a statement, and what stands in it
@@ -192,23 +216,27 @@ module _ (blocks : List Block) where
     decls_match (tree.decls (tree.events ns) ds) a first outer l e built = absurd built.0
     decls_match (tree.decls (tree.tasks ns) ds) a first outer l e built = absurd built.0
     decls_match (tree.decls (tree.labels ns) ds) a first outer l e built = absurd built.0
-    decls_match (tree.decls (tree.arrays kind ns pairs) ds) a first outer l e built = absurd built.0
+    -- the bounds see what is known at the block's begin
+    decls_match (tree.decls (tree.arrays kind ns pairs) ds) a first outer l e built =
+        let k : Surroundings = knowing blocks (tree.arrays kind ns pairs) ds a in
+        let begin : Surroundings = record k { known = first } in
+        front (blocks_in_decls ds outer) (sites_in_pairs pairs begin) (sites_in_decls blocks ds k first) (texts_in_decls ds l) (pairs_none pairs begin)
+        (decls_match ds k first outer l e built.1)
     -- the segment begins at the declaration
     decls_match (tree.decls (tree.procedure h s) ds) a first outer l e built =
         let k : Surroundings = knowing blocks (tree.procedure h s) ds a in
         let inner : List Site = inside_stmt blocks s of_procedure false (inside_procedure blocks h k) in
         let later : List Block = blocks_of s of_procedure (h.name.spot ∷ outer) ++ blocks_in_decls ds outer in
         let named : is_procedure (procedure_block h s outer) ≡ true = ap not built.0.2 in
-        let high : l + 1 ≡ length outer + 2 = omega (arith, e) in
         let tokens : ℕ = heading_tokens h + stmt_tokens s in
         let rest : Match later (inner ++ sites_in_decls blocks ds k first) (texts_of s of_procedure (l + 1) ++ texts_in_decls ds l) =
         match_both (blocks_of s of_procedure (h.name.spot ∷ outer)) (blocks_in_decls ds outer) inner (sites_in_decls blocks ds k first)
         (texts_of s of_procedure (l + 1)) (texts_in_decls ds l)
         (stmt_match s of_procedure false (inside_procedure blocks h k) (h.name.spot ∷ outer) (l + 1) (omega (arith, e)) built.0.1) (decls_match ds k first outer l e built.1) in
-        let first_text : Text = record { level = l + 1; spot = h.name.spot; name = h.name.name; result = h.kind; decls = decls_of s; stmts = stmts_of s; tokens = tokens } in
+        let first_text : Text = procedure_text (l + 1) h s in
         let this : IsTextOf (procedure_block h s outer) (record { spot = h.name.spot; tokens = tokens }) first_text = record {
           place = refl;
-          is = ap (λ (z : ℕ). record { level = z; spot = h.name.spot; name = h.name.name; result = h.kind; decls = decls_of s; stmts = stmts_of s; tokens = tokens }) high;
+          is = same_text h s outer l e;
         } in
         subst (λ (b : Bool). Triples (if b then procedure_block h s outer ∷ filter is_procedure later else filter is_procedure later)
         (record { spot = h.name.spot; tokens = tokens } ∷ segs (inner ++ sites_in_decls blocks ds k first)) (first_text ∷ (texts_of s of_procedure (l + 1) ++ texts_in_decls ds l))) (sym named)

@@ -1,6 +1,8 @@
--- An accepted program that is built, with its scopes, has all that its code wants.
-use Rattle.std.proofs.Common.{arith, ◌≡◌, ℕ, ◌+◌, ◌<◌, ◌≤◌, suc, Bool, true, false, List, [], ◌∷◌, ◌++◌, length, filter, take, Some, refl, sym, ap, ◌∙◌, subst, length-append, slice_get, if◌then◌else◌}
+-- An accepted program that is built, with its names, has all that its code wants.
+use Rattle.std.proofs.Common.{arith, ◌≡◌, ℕ, ℤ, ◌+◌, ◌<◌, ◌≤◌, suc, Bool, true, false, List, [], ◌∷◌, ◌++◌, length, filter, take, Some, refl, sym, ap, ◌∙◌, subst, length-append, slice_get, if◌then◌else◌}
+use Rattle.std.specs.BTreeMap.{BTreeMap}
 use Rattle.std.specs.List.{flat_map, AllByRecursion}
+use Rattle.std.proofs.lemmas.List.{length-map}
 use Rattle.std.proofs.lemmas.Option.{slice_get_within}
 use Rattle.algol_tree.specs.declared.TheConstants.{MOST_BLOCK_CELLS, MOST_PROCEDURES}
 use Rattle.algol_tree.specs.declared.token.Spot.{Spot}
@@ -14,20 +16,24 @@ use Rattle.algol_tree.specs.Image as plain
 use Rattle.algol_tree.specs.Names.{cells_beyond}
 use Rattle.algol_tree.specs.Plain as tree
 use Rattle.algol_tree.specs.Plain.{PDecls, PStmts, PBody, PProgram}
-use Rattle.algol_tree.specs.Scopes.{scopes_of}
+use Rattle.algol_tree.specs.Scopes.{Scopes, scopes_of}
 use Rattle.algol_tree.specs.Sites.{Site}
+use Rattle.algol_tree.specs.Sorts.{Parameter}
+use Rattle.algol_paths.specs.Arrays.{arrays_of, lows_at}
 use Rattle.algol_paths.specs.Segments.{is_procedure, segment_of}
-use Rattle.algol_scope.specs.declared.scopes.Scopes.{Scopes}
+use Rattle.algol_scope.specs.declared.scopes.Scopes as table
 use Rattle.algol_scope.specs.Resolved.{AreOf}
 use Rattle.algol_scope.proofs.Bodies.{body_is}
 use Rattle.b67_ops.specs.declared.TheConstants.{MOST_LEVEL, OUTER_LEVEL}
-use Rattle.b67_templates.specs.Cells.{procedures, result_of, simple_cells, variables, zero_cells}
-use Rattle.b67_templates.specs.Fitting.{StmtsFit}
-use Rattle.b67_emitter.specs.Values.{couples, results, AreNear}
+use Rattle.b67_templates.specs.Cells.{Simple, parameter_cells, procedures, result_of, simple_cells, variables, zero_cells}
+use Rattle.b67_templates.specs.Fitting.{DeclsFit, StmtsFit}
+use Rattle.b67_emitter.specs.declared.names.Names.{Names}
+use Rattle.b67_emitter.specs.Values.{couples, lows, results, AreNear}
 use Rattle.b67_emit_stmt.specs.Programs.{AreDue, IsDue}
 use Rattle.b67_emit_stmt.specs.Texts.{Text, texts, texts_in_body}
 use Rattle.b67_fitting.specs.Built.{IsBuilt}
-use Rattle.b67_fitting.specs.Nested.{IsText, LiesNested}
+use Rattle.b67_fitting.specs.Fitted.{BlockFits}
+use Rattle.b67_fitting.specs.Nested.{AreByValue, IsText, LiesNested}
 use Rattle.b67_fitting.specs.Texts.{HasPlainTexts}
 use Rattle.b67_fitting.specs.Wholes.{HasWholeNumbers}
 use Rattle.b67_fitting.proofs.Fits.{accepted_fit}
@@ -35,14 +41,16 @@ use Rattle.b67_fitting.proofs.Lists.{each_of, nil_back, nil_front, nil_map}
 use Rattle.b67_fitting.proofs.Nesting.{built_programs_lie_nested}
 use Rattle.b67_fitting.proofs.Numbering.{block_is, each_at}
 use Rattle.b67_fitting.proofs.SurroundedSites.{IsSurrounded, each_number, each_surrounded}
+use Rattle.b67_compile.specs.Lows.{under}
 use Rattle.b67_compile.proofs.Cells.{AreOfFew, HasFew, HaveFew, IsOfOne, all_of_one}
-use Rattle.b67_compile.proofs.Couples.{couples_known, results_known, couples_near}
+use Rattle.b67_compile.proofs.Couples.{couples_known, lows_known, results_known, couples_near}
 use Rattle.b67_compile.proofs.Matching.{all_match, text_of}
 use Rattle.b67_compile.proofs.Near.{blocks_few, located_near, result_near}
 use Rattle.b67_compile.proofs.Places.{IsOf, block_there, text_block, texts_many}
 
-pub record Given (p : PProgram) (s : Scopes) : Type 0 where
-  pub resolved : AreOf p s
+pub record Given (p : PProgram) (names : Names) : Type 0 where
+  pub resolved : AreOf p names.scopes.now
+  pub lows : (spot : Spot) → under names.lows spot ≡ lows_at (blocks_of_program p) spot
   pub accepted : Accepted p
   pub order : IsInOrder p
   pub whole : HasWholeNumbers p
@@ -50,12 +58,21 @@ pub record Given (p : PProgram) (s : Scopes) : Type 0 where
   pub built : IsBuilt p
 
 -- the same of the parts of the program's body
-pub given : (b : Body) (s : Scopes) → AreOf (tree.program (plain.body b)) s → Accepted (tree.program (plain.body b)) → IsInOrder (tree.program (plain.body b)) →
-    HasWholeNumbers (tree.program (plain.body b)) → HasPlainTexts (tree.program (plain.body b)) → IsBuilt (tree.program (plain.body b)) →
-    Given (tree.program (tree.body b.spot (plain.decls b.decls) (plain.stmts b.stmts))) s
-given b s resolved accepted order whole texts built =
-    subst (λ (z : PBody). Given (tree.program z) s) (body_is b)
-    (record { resolved = resolved; accepted = accepted; order = order; whole = whole; texts = texts; built = built })
+pub given : (b : Body) (s : table.Scopes) (bounds : BTreeMap Spot (List ℤ)) (names : Names) → names.scopes.now ≡ s → names.lows ≡ bounds →
+    AreOf (tree.program (plain.body b)) s → ((spot : Spot) → under bounds spot ≡ lows_at (blocks_of_program (tree.program (plain.body b))) spot) →
+    Accepted (tree.program (plain.body b)) → IsInOrder (tree.program (plain.body b)) → HasWholeNumbers (tree.program (plain.body b)) → HasPlainTexts (tree.program (plain.body b)) →
+    IsBuilt (tree.program (plain.body b)) → Given (tree.program (tree.body b.spot (plain.decls b.decls) (plain.stmts b.stmts))) names
+given b s bounds names scopes_are bounds_are resolved lows accepted order whole texts built =
+    subst (λ (z : PBody). Given (tree.program z) names) (body_is b)
+    (record {
+      resolved = subst (AreOf (tree.program (plain.body b))) (sym scopes_are) resolved;
+      lows = λ spot. ap (λ (m : BTreeMap Spot (List ℤ)). under m spot) bounds_are ∙ lows spot;
+      accepted = accepted;
+      order = order;
+      whole = whole;
+      texts = texts;
+      built = built;
+    })
 
 -- no block has more cells than a block may have
 cells_kept : (p : PProgram) → Accepted p → cells_beyond (blocks_of_program p) (sites_of p) ≡ []
@@ -79,17 +96,28 @@ all_taken : {X : Type 0} (xs : List X) → take (length xs) xs ≡ xs
 all_taken [] = refl
 all_taken (x ∷ xs) = ap (λ (ys : List _). x ∷ ys) (all_taken xs)
 
-no_longer : {X : Type 0} (xs ys zs : List X) → length (ys ++ zs) ≤ length (xs ++ ys ++ zs)
-no_longer xs ys zs = omega (arith, length-append (xs ++ ys) zs, length-append xs ys, length-append ys zs)
+length_three : {X : Type 0} (xs ys zs : List X) → length (xs ++ ys ++ zs) ≡ length xs + length (ys ++ zs)
+length_three xs ys zs = omega (arith, length-append (xs ++ ys) zs, length-append xs ys, length-append ys zs)
 
-zeros_few : (b : Block) → length (zero_cells b) ≤ length (simple_cells b)
-zeros_few b = no_longer _ (result_of b.result b.name) (variables b.decls)
+-- the cells of 0 stand behind those of the parameters
+zeros_behind : (sc : Scopes) (b : Block) → length (simple_cells sc b) ≡ length (parameter_cells sc b) + length (zero_cells b)
+zeros_behind sc b = length_three (parameter_cells sc b) (result_of b.result b.name) (variables b.decls)
 
-module _ (spot : Spot) (ds : PDecls) (ss : PStmts) (s : Scopes) where
+-- each parameter has a cell
+parameters_many : (sc : Scopes) (b : Block) → AreByValue sc b → length (parameter_cells sc b) ≡ length b.parameters
+parameters_many sc b is =
+    omega (
+      arith,
+      ap (λ (names : List (List ℕ)). length names) is.names,
+      length-map b.parameters (λ (p : Parameter). p.name),
+      length-map (parameter_cells sc b) (λ (c : Simple). c.name),
+    )
+
+module _ (spot : Spot) (ds : PDecls) (ss : PStmts) (names : Names) where
   abbrev p : PProgram
   p = tree.program (tree.body spot ds ss)
 
-  module _ (has : Given p s) where
+  module _ (has : Given p names) where
     pub lies : LiesNested p
     lies = built_programs_lie_nested p has.accepted has.order has.built
 
@@ -102,32 +130,36 @@ module _ (spot : Spot) (ds : PDecls) (ss : PStmts) (s : Scopes) where
     -- ---- each text
 
     abbrev Due : ℕ → Text → Type 0
-    Due number t = IsDue (scopes_of p) s number t
+    Due number t = IsDue (scopes_of p) names number t
 
     due_of : (number : ℕ) (b : Block) (tokens : ℕ) → IsOf p number b tokens → Due number (text_of b tokens)
     unfolding scopes_of
     due_of number b tokens is =
         let bs = blocks_of_program p in
+        let sc = scopes_of p in
         let known = slice_get_within bs is.block b is.there in
-        let text : IsText (scopes_of p) is.block = lies.nested.each is.block known in
+        let text : IsText sc is.block = lies.nested.each is.block known in
         let here : block_numbered bs is.block ≡ b = block_is bs is.block b is.there in
         let own : block_numbered bs (number_at bs b.spot) ≡ b = ap (block_numbered bs) is.number_is ∙ here in
-        let bare : b.parameters ≡ [] = ap (λ (z : Block). z.parameters) (sym here) ∙ text.plain in
-        let cells : length (simple_cells b) + length (procedures b.decls) ≤ MOST_BLOCK_CELLS =
-        subst (λ (z : Block). length (simple_cells z) + length (procedures z.decls) ≤ MOST_BLOCK_CELLS) here text.few in
+        let many : length (parameter_cells sc b) ≡ length b.parameters = parameters_many sc b (subst (AreByValue sc) here text.parameters) in
+        let cells : length (simple_cells sc b) + length (procedures b.decls) + length (arrays_of b.decls) ≤ MOST_BLOCK_CELLS =
+        subst (λ (z : Block). length (simple_cells sc z) + length (procedures z.decls) + length (arrays_of z.decls) ≤ MOST_BLOCK_CELLS) here text.few in
+        let fits : BlockFits p (couples names) (results names) (lows names) is.block =
+        accepted_fit p (couples names) (results names) (lows names) has.accepted has.order has.built has.whole has.texts (couples_known p names has.resolved) (results_known p names has.resolved)
+        (lows_known p names has.resolved has.lows) is.block known in
         record {
           segment = ap (segment_of bs) is.number_is ∙ is.segment;
           named = ap (λ (z : Block). z.name) own;
           result = ap (λ (z : Block). z.result) own;
-          bare = ap (λ (z : Block). z.parameters) own ∙ bare;
+          parameters = ap (λ (z : Block). length (parameter_cells sc z)) own ∙ many;
           level = subst (λ (z : Block). level_of z ≤ MOST_LEVEL) here text.low;
-          few = omega (arith, cells, zeros_few b);
-          fits = subst (λ (z : Block). StmtsFit (scopes_of p) (couples s) (results s) (level_of z) z.stmts) here
-              (accepted_fit p (couples s) (results s) has.accepted has.order has.built has.whole has.texts (couples_known p s has.resolved) (results_known p s has.resolved) is.block known);
+          few = omega (arith, cells, many, zeros_behind sc b);
+          decls = subst (λ (z : Block). DeclsFit sc (couples names) (results names) (lows names) (level_of z) z.decls) here fits.decls;
+          fits = subst (λ (z : Block). StmtsFit sc (couples names) (results names) (lows names) (level_of z) z.stmts) here fits.stmts;
           room = omega (arith, lies.short number, is.short);
         }
 
-    pub due : AreDue (scopes_of p) s (texts (tree.body spot ds ss))
+    pub due : AreDue (scopes_of p) names (texts (tree.body spot ds ss))
     due number t e =
         let r = text_block spot ds ss has.order has.built number t e in
         subst (Due number) (sym r.is) (due_of number r.block r.tokens r.of)
@@ -153,8 +185,8 @@ module _ (spot : Spot) (ds : PDecls) (ss : PStmts) (s : Scopes) where
         each_of (IsOfOne bs) (λ (c : Cell). HasFew bs all c.block) (flat_map (cells_at bs) all) (λ c h. block_few (blocks_few bs all (cells_kept p has.accepted)) c.block h)
         (all_of_one bs (filter is_procedure bs) all (texts_in_body (tree.body spot ds ss) OUTER_LEVEL) (all_match spot ds ss has.built) (each_kept_by Known is_procedure bs known) around)
 
-    pub near : AreNear s
+    pub near : AreNear names
     unfolding declaration_at result_at
     near =
         let bs = blocks_of_program p in
-        couples_near p s has.resolved (located_near bs (sites_of p) all_few) (result_near bs (sites_of p) all_few)
+        couples_near p names has.resolved (located_near bs (sites_of p) all_few) (result_near bs (sites_of p) all_few)

@@ -1,5 +1,5 @@
 -- The code of the texts is that of their program.
-use Rattle.std.proofs.Common.{arith, ◌≡◌, ◌⊎◌, ℕ, zero, suc, ◌+◌, ◌<◌, ◌≤◌, true, List, [], ◌∷◌, ◌++◌, length, Option, Some, None, refl, sym, ap, ◌∙◌, subst, slice_get}
+use Rattle.std.proofs.Common.{arith, ◌≡◌, ◌⊎◌, ℕ, zero, suc, ◌<◌, ◌≤◌, true, List, [], ◌∷◌, ◌++◌, length, Option, Some, None, refl, sym, ap, ◌∙◌, subst, slice_get}
 use Rattle.algol_tree.specs.declared.token.Spot.{Spot}
 use Rattle.algol_tree.specs.declared.tree.Kind.{Kind}
 use Rattle.algol_tree.specs.Blocks.{Block, block_numbered}
@@ -11,7 +11,6 @@ use Rattle.algol_meaning.specs.Rest.{Item, result}
 use Rattle.algol_meaning.specs.Statements as statements
 use Rattle.algol_meaning.specs.Statements.{items, decls_items}
 use Rattle.algol_paths.specs.Segments.{is_procedure, segment_of}
-use Rattle.algol_scope.specs.declared.scopes.Scopes as table
 use Rattle.b67_segment.specs.Operators.{Placed}
 use Rattle.b67_segment.specs.Syllables.{Spells}
 use Rattle.b67_segment.specs.declared.TheConstants.{MOST_SEGMENT_WORDS}
@@ -22,8 +21,9 @@ use Rattle.b67_listing.specs.Listings.{HasOperators, IsListable}
 use Rattle.b67_templates.specs.Contexts.{Context}
 use Rattle.b67_templates.specs.Fragments.{stop}
 use Rattle.b67_templates.specs.Cells.{zero_cells, control_segments}
-use Rattle.b67_templates.specs.Code.{CellsAt, StmtsAt, KAt}
+use Rattle.b67_templates.specs.Code.{CellsAt, DeclsAt, HasNoCounts, StmtsAt, KAt}
 use Rattle.b67_templates.specs.Programs.{BodyAt, ProgramAt, context_of}
+use Rattle.b67_emitter.specs.declared.names.Names.{Names}
 use Rattle.b67_emit_stmt.specs.Drafts.{AreListed}
 use Rattle.b67_emit_stmt.specs.Programs as made
 use Rattle.b67_emit_stmt.specs.Programs.{AreShort, Coded, EndAt}
@@ -32,7 +32,7 @@ use Rattle.b67_faithful.specs.Faithful.{IsShort}
 use Rattle.b67_compile.proofs.Listed.{all_listed, is_segment}
 use Rattle.b67_compile.proofs.Matching.{text_of}
 use Rattle.b67_compile.proofs.Places.{block_text, text_block, texts_many}
-use Rattle.b67_compile.proofs.Premises.{Given, due, lies}
+use Rattle.b67_compile.proofs.Premises.{Given, due}
 
 -- a typed procedure ends with its result
 abbrev ending : Option Kind → List ℕ → List Item
@@ -46,6 +46,15 @@ same_ending b = by b.result
     by None = refl
     by (Some kind) = refl
 
+-- nothing of a THRU comes before a block's statements
+ending_counts : (o : Option Kind) (name : List ℕ) → HasNoCounts (ending o name)
+ending_counts None name = tt
+ending_counts (Some kind) name = tt
+
+no_counts : (ss : PStmts) (k : List Item) → HasNoCounts k → HasNoCounts (items ss k)
+no_counts tree.no_stmts k h = h
+no_counts (tree.stmts s ss) k h = no_counts ss k h
+
 -- statements are followed by what comes after them
 module _ (sc : Scopes) (context : Context) (ps : List Placed) (level : ℕ) where
   items_at : (ss : PStmts) (k : List Item) (f t : ℕ) → StmtsAt sc context ps level ss f t t → KAt sc context ps level k t → KAt sc context ps level (items ss k) f
@@ -58,16 +67,34 @@ module _ (sc : Scopes) (context : Context) (ps : List Placed) (level : ℕ) wher
   ending_at None name at e there = (at, there.0, e, stop, there.1)
   ending_at (Some kind) name at e there = (at, stop, there)
 
-  -- the code of a block's text: its declarations make nothing
-  body_at : (b : Block) → block_numbered sc.blocks context.block ≡ b → decls_items b.decls ≡ [] → (m e : ℕ) → CellsAt sc context ps level (length (zero_cells b)) (control_segments sc b.decls) 0 m →
-      StmtsAt sc context ps level b.stmts m e e → EndAt sc context ps level b.result b.name e → BodyAt sc context ps level b 0
-  body_at b is made m e cells stmts end = record {
-    start = m;
-    cells = cells;
-    items = subst (λ (k : List Item). KAt sc context ps level (k ++ items b.stmts (statements.ending b)) m) (sym made)
-        (subst (λ (k : List Item). KAt sc context ps level (items b.stmts k) m) (sym (same_ending b))
-        (items_at b.stmts (ending b.result b.name) m e stmts (ending_at b.result b.name e (ap (λ (z : Block). z.result) is) end)));
-  }
+  -- the arrays of declarations come before
+  decls_at : (ds : PDecls) (k : List Item) (f t : ℕ) → DeclsAt sc context ps level ds f t → HasNoCounts k × KAt sc context ps level k t →
+      HasNoCounts (decls_items ds ++ k) × KAt sc context ps level (decls_items ds ++ k) f
+  decls_at tree.no_decls k f t s after = (after.0, subst (λ pc. KAt sc context ps level k pc) (sym s) after.1)
+  decls_at (tree.decls (tree.arrays kind ns pairs) ds) k f t here after =
+      let rest = decls_at ds k here.0 t here.2 after in
+      (rest.0, (f, here.0, stop, here.1, rest.0, rest.1))
+  decls_at (tree.decls (tree.events ns) ds) k f t here after = absurd here
+  decls_at (tree.decls (tree.tasks ns) ds) k f t here after = absurd here
+  decls_at (tree.decls (tree.simple kind ns) ds) k f t here after = decls_at ds k f t here after
+  decls_at (tree.decls (tree.files ns) ds) k f t here after = decls_at ds k f t here after
+  decls_at (tree.decls (tree.labels ns) ds) k f t here after = decls_at ds k f t here after
+  decls_at (tree.decls (tree.forward h) ds) k f t here after = decls_at ds k f t here after
+  decls_at (tree.decls (tree.procedure h s) ds) k f t here after = decls_at ds k f t here after
+
+  -- the code of a block's text
+  body_at : (b : Block) → block_numbered sc.blocks context.block ≡ b → (m d e : ℕ) → CellsAt sc context ps level (length (zero_cells b)) (control_segments sc b.decls) 0 m →
+      DeclsAt sc context ps level b.decls m d → StmtsAt sc context ps level b.stmts d e e → EndAt sc context ps level b.result b.name e → BodyAt sc context ps level b 0
+  body_at b is m d e cells decls stmts end =
+      let last = ending b.result b.name in
+      let after : KAt sc context ps level (items b.stmts last) d =
+      items_at b.stmts last d e stmts (ending_at b.result b.name e (ap (λ (z : Block). z.result) is) end) in
+      record {
+        start = m;
+        cells = cells;
+        items = subst (λ (k : List Item). KAt sc context ps level (decls_items b.decls ++ items b.stmts k) m) (sym (same_ending b))
+            (decls_at b.decls (items b.stmts last) m d decls (no_counts b.stmts last (ending_counts b.result b.name), after)).1;
+      }
 
 -- an operator stands at the end of a text
 some_operator : (sc : Scopes) (context : Context) (ps : List Placed) (level : ℕ) (o : Option Kind) (name : List ℕ) (at : ℕ) (segment : Segment) → Spells ps segment →
@@ -75,7 +102,7 @@ some_operator : (sc : Scopes) (context : Context) (ps : List Placed) (level : �
 some_operator sc context ps level None name at segment spells few end = is_segment segment ps at level _ end.0 spells end.1 few
 some_operator sc context ps level (Some kind) name at segment spells few end = is_segment segment ps at level _ end.valued spells end.read few
 
-module _ (spot : Spot) (ds : PDecls) (ss : PStmts) (s : table.Scopes) (has : Given (tree.program (tree.body spot ds ss)) s) where
+module _ (spot : Spot) (ds : PDecls) (ss : PStmts) (names : Names) (has : Given (tree.program (tree.body spot ds ss)) names) where
   abbrev p : PProgram
   p = tree.program (tree.body spot ds ss)
 
@@ -109,9 +136,9 @@ module _ (spot : Spot) (ds : PDecls) (ss : PStmts) (s : table.Scopes) (has : Giv
         each k segment h =
             let t = in_both segments ts k segment coded.many h in
             let stands = coded.code k t.0 t.1 in
-            let room = (due spot ds ss s has k t.0 t.1).room in
-            some_operator (scopes_of p) (made.context_of (scopes_of p) formats t.0) (coded.placed k) t.0.level t.0.result t.0.name stands.1 segment (coded.spells k segment h)
-            (omega (arith, short k segment t.0 h t.1, room)) stands.4
+            let room = (due spot ds ss names has k t.0 t.1).room in
+            some_operator (scopes_of p) (made.context_of (scopes_of p) formats t.0) (coded.placed k) t.0.level t.0.result t.0.name stands.2 segment (coded.spells k segment h)
+            (omega (arith, short k segment t.0 h t.1, room)) stands.6
 
     pub program_at : Coded (scopes_of p) formats segments ts → ProgramAt code p
     unfolding scopes_of
@@ -133,7 +160,8 @@ module _ (spot : Spot) (ds : PDecls) (ss : PStmts) (s : table.Scopes) (has : Giv
             let same : made.context_of sc formats (text_of b r.tokens) ≡ at = ap (λ (n : ℕ). record { formats = formats; segment = segment_of sc.blocks n; block = n }) r.number_is in
             let ps = coded.placed (segment_of sc.blocks j) in
             let l = level_of b in
-            body_at sc at ps l b refl ((lies spot ds ss s has).nested.each j known).made there.0 there.1
-            (subst (λ (c : Context). CellsAt sc c ps l (length (zero_cells b)) (control_segments sc b.decls) 0 there.0) same there.2)
-            (subst (λ (c : Context). StmtsAt sc c ps l b.stmts there.0 there.1 there.1) same there.3)
-            (subst (λ (c : Context). EndAt sc c ps l b.result b.name there.1) same there.4)
+            body_at sc at ps l b refl there.0 there.1 there.2
+            (subst (λ (c : Context). CellsAt sc c ps l (length (zero_cells b)) (control_segments sc b.decls) 0 there.0) same there.3)
+            (subst (λ (c : Context). DeclsAt sc c ps l b.decls there.0 there.1) same there.4)
+            (subst (λ (c : Context). StmtsAt sc c ps l b.stmts there.1 there.2 there.2) same there.5)
+            (subst (λ (c : Context). EndAt sc c ps l b.result b.name there.2) same there.6)

@@ -1,20 +1,32 @@
 -- How it is tested that a program is built.
 use Rattle.std.specs.Prelude.{◌&&◌, not, Bool, true, false, List, [], ◌∷◌}
+use Rattle.std.specs.List.{list_all}
 use Rattle.algol_tree.specs.declared.tree.Heading.{Heading}
+use Rattle.algol_tree.specs.declared.tree.Named.{Named}
+use Rattle.algol_tree.specs.Classes.{is_simple}
 use Rattle.algol_tree.specs.Plain as tree
 use Rattle.algol_tree.specs.Plain.{PStmt, PStmts, PDecl, PDecls}
+use Rattle.algol_tree.specs.Sorts.{class_in, is_named_in}
 
 abbrev pub is_nil : {X : Type 0} → List X → Bool
 is_nil [] = true
 is_nil (x ∷ xs) = false
 
-abbrev pub has_no_parameters : Heading → Bool
-has_no_parameters h = is_nil h.params
+-- a parameter is specified as a simple one, and is by value
+abbrev pub is_parameter_built : Heading → Named → Bool
+is_parameter_built h n = is_simple (class_in h.specs n.name) && is_named_in h.values n.name
+
+abbrev pub is_heading_built : Heading → Bool
+is_heading_built h = list_all (is_parameter_built h) h.params
 
 abbrev pub has_name : Heading → Bool
 has_name h = not (is_nil h.name.name)
 
--- each declaration is of simple variables, of files or of a procedure without parameters, also those within
+abbrev pub has_some : List Named → Bool
+has_some ns = not (is_nil ns)
+
+-- each declaration is of simple variables, of files, of arrays with a name or of a procedure whose parameters are simple and by value, also
+-- those within
 abbrev mutual
   pub is_decl_built : PDecl → Bool
   is_decl_built (tree.simple kind ns) = true
@@ -22,9 +34,9 @@ abbrev mutual
   is_decl_built (tree.events ns) = false
   is_decl_built (tree.tasks ns) = false
   is_decl_built (tree.labels ns) = false
-  is_decl_built (tree.arrays kind ns pairs) = false
-  is_decl_built (tree.forward h) = has_no_parameters h
-  is_decl_built (tree.procedure h s) = has_no_parameters h && (is_stmt_built s && has_name h)
+  is_decl_built (tree.arrays kind ns pairs) = has_some ns
+  is_decl_built (tree.forward h) = is_heading_built h
+  is_decl_built (tree.procedure h s) = is_heading_built h && (is_stmt_built s && has_name h)
 
   pub decls_are_built : PDecls → Bool
   decls_are_built tree.no_decls = true

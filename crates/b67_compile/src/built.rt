@@ -1,16 +1,57 @@
 //! Which programs are built.
 
 ghost use Rattle.std.specs.Prelude.{◌≡◌, ◌↔◌, IsTrue};
+ghost use Rattle.algol_tree.specs.Classes.{is_simple};
 ghost use Rattle.algol_tree.specs.Image.{decl, decls, program, stmt, stmts};
-ghost use Rattle.b67_compile.specs.Built.{has_no_parameters, has_name, is_decl_built, decls_are_built, is_stmt_built, stmts_are_built};
+ghost use Rattle.algol_tree.specs.Sorts.{class_by, class_in, is_named_in};
+ghost use Rattle.b67_compile.specs.Built.{is_parameter_built, is_heading_built, has_name, has_some, is_decl_built, decls_are_built, is_stmt_built, stmts_are_built};
 ghost use Rattle.b67_fitting.specs.Built.{IsBuilt};
 
-use algol_tree::{Decl, Heading, Program, Stmt};
+use algol_meaning::same_name;
+use algol_rules::names_of;
+use algol_tree::{Decl, Heading, Line, Named, Program, Spec, Stmt};
 
-fn has_no_parameters(h: &Heading) -> bool
-    ensures { result ≡ has_no_parameters h.now }
+/// Tests that the name is one of these.
+fn is_named_in(names: &[Named], name: &Line) -> bool
+    ensures { result ≡ is_named_in names.now name.now }
 {
-    h.params.items().as_slice().is_empty()
+    'names: for n in names {
+        if same_name(&n.name, name) {
+            return true;
+        }
+    }
+    false
+}
+
+fn is_simple_spec(spec: &Spec) -> bool
+    ensures { result ≡ is_simple (class_by spec.now) }
+{
+    matches!(spec, Spec::Simple(_, _))
+}
+
+/// Tests that the first specification of the name says that it is simple.
+fn is_simple_in(specs: &[Spec], name: &Line) -> bool
+    ensures { result ≡ is_simple (class_in specs.now name.now) }
+{
+    'specs: for spec in specs {
+        if is_named_in(names_of(spec), name) {
+            return is_simple_spec(spec);
+        }
+    }
+    false
+}
+
+fn is_parameter_built(h: &Heading, n: &Named) -> bool
+    ensures { result ≡ is_parameter_built h.now n.now }
+{
+    is_simple_in(h.specs.items(), &n.name) && is_named_in(h.values.items(), &n.name)
+}
+
+/// Tests that each parameter is specified as a simple one, and is by value.
+fn is_heading_built(h: &Heading) -> bool
+    ensures { result ≡ is_heading_built h.now }
+{
+    h.params.items().iter().all(|n| is_parameter_built(h, n))
 }
 
 fn has_name(h: &Heading) -> bool
@@ -19,7 +60,15 @@ fn has_name(h: &Heading) -> bool
     !h.name.name.bytes().is_empty()
 }
 
-/// Tests that a declaration is of simple variables, of files or of a procedure without parameters, and so is each within it.
+/// Tests that there is a name.
+fn has_some(names: &[Named]) -> bool
+    ensures { result ≡ has_some names.now }
+{
+    !names.is_empty()
+}
+
+/// Tests that a declaration is of simple variables, of files, of arrays with a name or of a procedure whose parameters are simple and by
+/// value, and so is each within it.
 #[cycle(statements)]
 fn is_decl_built(d: &Decl) -> bool
     ensures { result ≡ is_decl_built (decl d.now) }
@@ -30,9 +79,9 @@ fn is_decl_built(d: &Decl) -> bool
         Decl::Events(_) => false,
         Decl::Tasks(_) => false,
         Decl::Labels(_) => false,
-        Decl::Arrays(_, _, _) => false,
-        Decl::Forward(h) => has_no_parameters(h),
-        Decl::Procedure(h, s) => has_no_parameters(h) && is_stmt_built(s) && has_name(h),
+        Decl::Arrays(_, ns, _) => has_some(ns.items()),
+        Decl::Forward(h) => is_heading_built(h),
+        Decl::Procedure(h, s) => is_heading_built(h) && is_stmt_built(s) && has_name(h),
     }
 }
 
@@ -85,8 +134,8 @@ fn stmts_are_built(ss: &[Stmt]) -> bool
     true
 }
 
-/// Tests that a program is built: all that it declares are simple variables, files and procedures without parameters, in whatever
-/// block, and it starts no process.
+/// Tests that a program is built: all that it declares are simple variables, files, arrays and procedures whose parameters are simple and
+/// by value, in whatever block, each declaration of arrays and each procedure with a name, and it starts no process.
 pub fn is_built(tree: &Program) -> bool
     ensures { IsTrue result ↔ IsBuilt (program tree.now) }
 {

@@ -12,16 +12,18 @@ ghost use Rattle.b67_fitting.specs.Texts.{HasPlainTexts};
 ghost use Rattle.b67_fitting.specs.Wholes.{HasWholeNumbers};
 ghost use Rattle.b67_faithful.specs.Faithful.{IsShort};
 
+use crate::lows::lows_of_program;
 use algol_scope::Scopes;
 use algol_tree::Program;
 use b67_emit_stmt::emit_program;
-use b67_emitter::ExprEmitter;
+use b67_emitter::{ExprEmitter, Names};
 use b67_list::List;
 use b67_segment::Code;
 use std::alloc::{AllocError, Global};
 
-/// The code of a program that declares simple variables, files and procedures without parameters alone, in whatever block: a segment
-/// for the program's text and one for each procedure in the order of the text, and a format for each line that is written, in order.
+/// The code of a program that declares only simple variables, files, arrays and procedures whose parameters are simple and by value,
+/// in whatever block: a segment for the program's text and one for each procedure in the order of the text, and a format for each line
+/// that is written, in order.
 pub fn compile<E: ExprEmitter>(
     alloc: Global,
     exprs: &E,
@@ -38,7 +40,9 @@ pub fn compile<E: ExprEmitter>(
     ensures short { IfOk result (IsShort (plain.program program.now)) }
     ensures listable { IfOk result IsListable }
 {
-    let (segments, formats) = emit_program(alloc, exprs, scopes, &program.body)?;
+    let lows = lows_of_program(alloc, program)?;
+    let names = Names::new(scopes, lows);
+    let (segments, formats) = emit_program(alloc, exprs, &names, &program.body)?;
     Ok(Code {
         segments: List::of(segments),
         formats: List::of(formats),

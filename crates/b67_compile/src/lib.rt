@@ -3,6 +3,7 @@
 
 mod built;
 mod compiler;
+mod lows;
 
 pub use built::is_built;
 pub use compiler::compile;

@@ -17,71 +17,80 @@ pub emit_program-requires-clause-near : goal.emit_program-requires-clause-near
 emit_program-requires-clause-near g c =
     let b = c.args.program.now.body in
     let s = c.args.scopes.now in
+    let n = c.new-names.result in
     let r = c.requires in
-    near b.spot (plain.decls b.decls) (plain.stmts b.stmts) s (given b s r.resolved r.accepted r.order r.whole r.texts r.built)
+    near b.spot (plain.decls b.decls) (plain.stmts b.stmts) n
+    (given b s c.in_ok-lows.lows n c.new-names.ensures.scopes c.new-names.ensures.lows r.resolved c.in_ok-lows.ensures r.accepted r.order r.whole r.texts r.built)
 
 pub emit_program-requires-clause-few : goal.emit_program-requires-clause-few
 emit_program-requires-clause-few g c =
     let b = c.args.program.now.body in
     let s = c.args.scopes.now in
+    let n = c.new-names.result in
     let r = c.requires in
     subst (λ (z : PBody). length (texts z) ≤ 1 + MOST_PROCEDURES) (sym (body_is b))
-    (few b.spot (plain.decls b.decls) (plain.stmts b.stmts) s (given b s r.resolved r.accepted r.order r.whole r.texts r.built))
+    (few b.spot (plain.decls b.decls) (plain.stmts b.stmts) n
+    (given b s c.in_ok-lows.lows n c.new-names.ensures.scopes c.new-names.ensures.lows r.resolved c.in_ok-lows.ensures r.accepted r.order r.whole r.texts r.built))
 
 pub emit_program-requires-clause-due : goal.emit_program-requires-clause-due
 emit_program-requires-clause-due g c =
     let b = c.args.program.now.body in
     let s = c.args.scopes.now in
+    let n = c.new-names.result in
     let r = c.requires in
     let ds = plain.decls b.decls in
     let ss = plain.stmts b.stmts in
     let sc = scopes_of (tree.program (tree.body b.spot ds ss)) in
-    (sc, subst (λ (z : PBody). AreDue sc s (texts z)) (sym (body_is b)) (due b.spot ds ss s (given b s r.resolved r.accepted r.order r.whole r.texts r.built)))
+    let has = given b s c.in_ok-lows.lows n c.new-names.ensures.scopes c.new-names.ensures.lows r.resolved c.in_ok-lows.ensures r.accepted r.order r.whole r.texts r.built in
+    (sc, subst (λ (z : PBody). AreDue sc n (texts z)) (sym (body_is b)) (due b.spot ds ss n has))
 
 pub returns-clause-code : goal.returns-clause-code
 returns-clause-code g c =
     let b = c.args.program.now.body in
     let s = c.args.scopes.now in
+    let n = c.new-names.result in
     let r = c.requires in
     let ds = plain.decls b.decls in
     let ss = plain.stmts b.stmts in
-    let has = given b s r.resolved r.accepted r.order r.whole r.texts r.built in
+    let has = given b s c.in_ok-lows.lows n c.new-names.ensures.scopes c.new-names.ensures.lows r.resolved c.in_ok-lows.ensures r.accepted r.order r.whole r.texts r.built in
     let sc = scopes_of (tree.program (tree.body b.spot ds ss)) in
     let segments = c.in_ok-segments.segments.items in
     let formats = c.in_ok-segments.formats.items in
-    let texts_due = subst (λ (z : PBody). AreDue sc s (texts z)) (sym (body_is b)) (due b.spot ds ss s has) in
+    let texts_due = subst (λ (z : PBody). AreDue sc n (texts z)) (sym (body_is b)) (due b.spot ds ss n has) in
     let coded = subst (λ (z : PBody). Coded sc formats segments (texts z)) (body_is b) (c.in_ok-segments.ensures.code sc texts_due) in
-    rw (c.of.ensures, c.of-2.ensures, body_is b) (program_at b.spot ds ss s has segments formats coded)
+    rw (c.of.ensures, c.of-2.ensures, body_is b) (program_at b.spot ds ss n has segments formats coded)
 
 pub returns-clause-short : goal.returns-clause-short
 returns-clause-short g c =
     let b = c.args.program.now.body in
     let s = c.args.scopes.now in
+    let n = c.new-names.result in
     let r = c.requires in
     let ds = plain.decls b.decls in
     let ss = plain.stmts b.stmts in
-    let has = given b s r.resolved r.accepted r.order r.whole r.texts r.built in
+    let has = given b s c.in_ok-lows.lows n c.new-names.ensures.scopes c.new-names.ensures.lows r.resolved c.in_ok-lows.ensures r.accepted r.order r.whole r.texts r.built in
     let sc = scopes_of (tree.program (tree.body b.spot ds ss)) in
     let segments = c.in_ok-segments.segments.items in
     let formats = c.in_ok-segments.formats.items in
-    let texts_due = subst (λ (z : PBody). AreDue sc s (texts z)) (sym (body_is b)) (due b.spot ds ss s has) in
+    let texts_due = subst (λ (z : PBody). AreDue sc n (texts z)) (sym (body_is b)) (due b.spot ds ss n has) in
     let coded = subst (λ (z : PBody). Coded sc formats segments (texts z)) (body_is b) (c.in_ok-segments.ensures.code sc texts_due) in
     let short = subst (λ (z : PBody). AreShort segments (texts z)) (body_is b) c.in_ok-segments.ensures.short in
     let code : Code = record { segments = segments; formats = formats } in
-    rw c.of.ensures (subst (λ (z : PBody). IsShort (tree.program z) code) (sym (body_is b)) (short_code b.spot ds ss s has segments formats coded.many short))
+    rw c.of.ensures (subst (λ (z : PBody). IsShort (tree.program z) code) (sym (body_is b)) (short_code b.spot ds ss n has segments formats coded.many short))
 
 pub returns-clause-listable : goal.returns-clause-listable
 returns-clause-listable g c =
     let b = c.args.program.now.body in
     let s = c.args.scopes.now in
+    let n = c.new-names.result in
     let r = c.requires in
     let ds = plain.decls b.decls in
     let ss = plain.stmts b.stmts in
-    let has = given b s r.resolved r.accepted r.order r.whole r.texts r.built in
+    let has = given b s c.in_ok-lows.lows n c.new-names.ensures.scopes c.new-names.ensures.lows r.resolved c.in_ok-lows.ensures r.accepted r.order r.whole r.texts r.built in
     let sc = scopes_of (tree.program (tree.body b.spot ds ss)) in
     let segments = c.in_ok-segments.segments.items in
     let formats = c.in_ok-segments.formats.items in
-    let texts_due = subst (λ (z : PBody). AreDue sc s (texts z)) (sym (body_is b)) (due b.spot ds ss s has) in
+    let texts_due = subst (λ (z : PBody). AreDue sc n (texts z)) (sym (body_is b)) (due b.spot ds ss n has) in
     let coded = subst (λ (z : PBody). Coded sc formats segments (texts z)) (body_is b) (c.in_ok-segments.ensures.code sc texts_due) in
     let short = subst (λ (z : PBody). AreShort segments (texts z)) (body_is b) c.in_ok-segments.ensures.short in
-    rw (c.of.ensures, c.of-2.ensures) (listable_code b.spot ds ss s has segments formats coded short c.in_ok-segments.ensures.formats)
+    rw (c.of.ensures, c.of-2.ensures) (listable_code b.spot ds ss n has segments formats coded short c.in_ok-segments.ensures.formats)
