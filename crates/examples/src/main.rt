@@ -11,7 +11,7 @@ use std::{fs, io};
 const ROOM: usize = 65_536;
 
 /// The examples' names.
-const NAMES: [&str; 13] = [
+const NAMES: [&str; 18] = [
     "first",
     "copies",
     "widest",
@@ -25,6 +25,11 @@ const NAMES: [&str; 13] = [
     "powers",
     "totient",
     "formula",
+    "factorial",
+    "ackermann",
+    "towers",
+    "sort",
+    "matrix",
 ];
 
 /// The words of the command under which the reports are.

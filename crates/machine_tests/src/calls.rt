@@ -1,5 +1,6 @@
 //! Calls of procedures: reports and replays, calls without end, and sources at the limits of procedures and of their segments.
 
+use crate::parameters::FACTORIAL;
 use crate::replays::Followed;
 use crate::told::{Outside, Told, answered, answered_outside, refused};
 use algol_tree::Code;
@@ -102,11 +103,16 @@ pub(crate) const FOLLOWED_CALLS: [Followed; 11] = [
 ];
 
 /// Sources, and how the reports of `run 1 100000` end.
-const ENDINGS: [(&[u8], &[u8]); 4] = [
+const ENDINGS: [(&[u8], &[u8]); 5] = [
     (
         CALLED,
         b"OUTPUT 1\n 21
 END FINISHED\nOPERATORS 1\n1 30\nACTS 1\n1 11\nSCHEDULE 1 1\n1*11\n",
+    ),
+    (
+        FACTORIAL,
+        b"OUTPUT 1\n   120
+END FINISHED\nOPERATORS 1\n1 95\nACTS 1\n1 35\nSCHEDULE 1 1\n1*35\n",
     ),
     // A procedure in a procedure hides a name.
     (

@@ -56,8 +56,44 @@ fn wide_inner_block(alloc: Global, integers: u32) -> Result<Vec<u8>, AllocError>
     Ok(bytes)
 }
 
+/// Appends so many names, or numbers where there are no letters, from 0 on, each on a line of its own.
+fn push_names(bytes: &mut Vec<u8>, letters: &[u8], many: u32) -> Result<(), AllocError> {
+    for number in 0..many {
+        if number > 0 {
+            bytes.extend_from_slice(b",\n")?;
+        }
+        push_number(bytes, letters, number)?;
+    }
+    Ok(())
+}
+
+/// A source of an inner block of so many arrays, of which one is used.
+fn many_arrays(alloc: Global, arrays: u32) -> Result<Vec<u8>, AllocError> {
+    let mut bytes = Vec::from_slice(alloc, b"BEGIN FILE LINE; BEGIN ARRAY ")?;
+    push_names(&mut bytes, b"A", arrays)?;
+    bytes.extend_from_slice(b"[1:2];\nA399[2]:=7; WRITE(LINE,<I4>,A399[2]) END END.\n")?;
+    Ok(bytes)
+}
+
+/// A source of a typed procedure of 250 parameters, which are its actuals' numbers, and of so many arrays.
+fn many_cells(alloc: Global, arrays: u32) -> Result<Vec<u8>, AllocError> {
+    let mut bytes = Vec::from_slice(alloc, b"BEGIN FILE LINE;\nINTEGER PROCEDURE P(")?;
+    push_names(&mut bytes, b"X", 250)?;
+    bytes.extend_from_slice(b"); VALUE ")?;
+    push_names(&mut bytes, b"X", 250)?;
+    bytes.extend_from_slice(b"; INTEGER ")?;
+    push_names(&mut bytes, b"X", 250)?;
+    bytes.extend_from_slice(b";\nBEGIN ARRAY ")?;
+    push_names(&mut bytes, b"A", arrays)?;
+    bytes.extend_from_slice(b"[0:X2];\nA0[X2]:=X1; A148[1]:=X249; P:=A0[2]+A148[1] END;\n")?;
+    bytes.extend_from_slice(b"WRITE(LINE,<I5>,P(")?;
+    push_names(&mut bytes, b"", 250)?;
+    bytes.extend_from_slice(b")) END.\n")?;
+    Ok(bytes)
+}
+
 #[test]
-fn integers_of_inner_blocks(rt: HostRuntime) -> Result<(), Fail> {
+fn cells_of_blocks(rt: HostRuntime) -> Result<(), Fail> {
     let alloc = rt.alloc();
     let most = wide_inner_block(alloc, 400)?;
     let most = answered(alloc, "run 1 1000", most.as_slice())?;
@@ -68,6 +104,24 @@ fn integers_of_inner_blocks(rt: HostRuntime) -> Result<(), Fail> {
         let more = answered(alloc, words, more.as_slice())?;
         assert!(rt; more.status == refused(401, 1, Code::TooManyCells));
     }
+
+    let most = many_arrays(alloc, 400)?;
+    let most = answered(alloc, "run 1 1000", most.as_slice())?;
+    let end = b"OUTPUT 1\n   7\nEND FINISHED\nOPERATORS 1\n1 37\nACTS 1\n1 8\nSCHEDULE 1 1\n1*8\n";
+    assert!(rt; most.text.as_slice().ends_with(end));
+    let more = many_arrays(alloc, 401)?;
+    let more = answered(alloc, "run 1 1000", more.as_slice())?;
+    assert!(rt; more.status == refused(401, 1, Code::TooManyCells));
+
+    // With its parameters, its result and its arrays the procedure has four hundred cells, and then one more.
+    let most = many_cells(alloc, 149)?;
+    let most = answered(alloc, "run 1 1000", most.as_slice())?;
+    let end =
+        b"OUTPUT 1\n  250\nEND FINISHED\nOPERATORS 1\n1 290\nACTS 1\n1 17\nSCHEDULE 1 1\n1*17\n";
+    assert!(rt; most.text.as_slice().ends_with(end));
+    let more = many_cells(alloc, 150)?;
+    let more = answered(alloc, "run 1 1000", more.as_slice())?;
+    assert!(rt; more.status == refused(899, 1, Code::TooManyCells));
     Ok(())
 }
 
@@ -110,6 +164,21 @@ fn counted_blocks(alloc: Global, level: u32, terms: u32) -> Result<Vec<u8>, Allo
     Ok(bytes)
 }
 
+/// A source of blocks that stand in one another, from that of level 2 to that of the level; each but the first has an array of its own,
+/// whose upper bound changes within it.
+fn nested_arrays(alloc: Global, level: u32) -> Result<Vec<u8>, AllocError> {
+    let mut bytes = Vec::from_slice(alloc, b"BEGIN FILE LINE; INTEGER N; N:=1")?;
+    for _ in 3..=level {
+        bytes.extend_from_slice(b";\nBEGIN ARRAY A[0:N]; N:=N+1; A[1]:=N")?;
+    }
+    bytes.extend_from_slice(b";\nWRITE(LINE,<I4>,N)")?;
+    for _ in 3..level {
+        bytes.extend_from_slice(b"\nEND; N:=N+A[1]")?;
+    }
+    bytes.extend_from_slice(b"\nEND; WRITE(LINE,<I4>,N) END.\n")?;
+    Ok(bytes)
+}
+
 #[test]
 fn levels_of_blocks(rt: HostRuntime) -> Result<(), Fail> {
     let alloc = rt.alloc();
@@ -138,6 +207,12 @@ fn levels_of_blocks(rt: HostRuntime) -> Result<(), Fail> {
     let more = counted_blocks(alloc, 32, 0)?;
     let more = answered(alloc, "run 1 1000", more.as_slice())?;
     assert!(rt; more.status == refused(31, 1, Code::TooManyLevels));
+    // An array in each.
+    let arrays = nested_arrays(alloc, 31)?;
+    let arrays = answered(alloc, "run 1 1000", arrays.as_slice())?;
+    let end =
+        b"OUTPUT 2\n  30\n 464\nEND FINISHED\nOPERATORS 1\n1 850\nACTS 1\n1 351\nSCHEDULE 1 1\n1*351\n";
+    assert!(rt; arrays.text.as_slice().ends_with(end));
     Ok(())
 }
 

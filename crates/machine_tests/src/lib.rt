@@ -2,6 +2,8 @@
 #![tactic(auto)]
 
 #[cfg(test)]
+mod arrays;
+#[cfg(test)]
 mod blocks;
 #[cfg(test)]
 mod calls;
@@ -31,6 +33,8 @@ mod num;
 mod operators;
 #[cfg(test)]
 mod ops;
+#[cfg(test)]
+mod parameters;
 #[cfg(test)]
 mod private;
 #[cfg(test)]

@@ -1,6 +1,8 @@
 //! Schedules that are followed, and schedule texts that are none.
 
+use crate::arrays::FOLLOWED_ARRAYS;
 use crate::calls::FOLLOWED_CALLS;
+use crate::parameters::FOLLOWED_PARAMETERS;
 use crate::told::answered;
 use std::alloc::{AllocError, Global};
 use std::process::Abort;
@@ -209,6 +211,9 @@ fn schedules_that_are_followed(rt: HostRuntime) -> Result<(), Fail> {
     for followed in FOLLOWED {
         follow(&rt, alloc, followed)?;
     }
+    for followed in FOLLOWED_ARRAYS {
+        follow(&rt, alloc, followed)?;
+    }
     Ok(())
 }
 
@@ -216,6 +221,9 @@ fn schedules_that_are_followed(rt: HostRuntime) -> Result<(), Fail> {
 fn schedules_that_are_followed_through_calls(rt: HostRuntime) -> Result<(), Fail> {
     let alloc = rt.alloc();
     for followed in FOLLOWED_CALLS {
+        follow(&rt, alloc, followed)?;
+    }
+    for followed in FOLLOWED_PARAMETERS {
         follow(&rt, alloc, followed)?;
     }
     Ok(())

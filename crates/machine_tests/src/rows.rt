@@ -1,5 +1,5 @@
 //! The rows: sources that are run, and what comes of them. Those of blocks within blocks stand in
-//! `blocks`, those of procedures in `procedures`.
+//! `blocks`, those of procedures in `procedures` and `parameters`, and those of arrays in `arrays`.
 
 use b67_num::FaultKind;
 use b67_report::EndWords;

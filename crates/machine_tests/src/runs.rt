@@ -1,6 +1,8 @@
 //! Runs of the rows, and whole reports.
 
+use crate::arrays::ARRAY_ROWS;
 use crate::blocks::BLOCK_ROWS;
+use crate::parameters::PARAMETER_ROWS;
 use crate::procedures::PROCEDURE_ROWS;
 use crate::rows::{ROWS, Row};
 use crate::told::answered;
@@ -55,9 +57,12 @@ fn sources_without_inner_blocks(rt: HostRuntime) -> Result<(), Fail> {
 }
 
 #[test]
-fn sources_with_inner_blocks(rt: HostRuntime) -> Result<(), Fail> {
+fn sources_with_inner_blocks_and_arrays(rt: HostRuntime) -> Result<(), Fail> {
     let alloc = rt.alloc();
     for row in &BLOCK_ROWS {
+        run(&rt, alloc, row)?;
+    }
+    for row in &ARRAY_ROWS {
         run(&rt, alloc, row)?;
     }
     Ok(())
@@ -67,6 +72,9 @@ fn sources_with_inner_blocks(rt: HostRuntime) -> Result<(), Fail> {
 fn sources_with_procedures(rt: HostRuntime) -> Result<(), Fail> {
     let alloc = rt.alloc();
     for row in &PROCEDURE_ROWS {
+        run(&rt, alloc, row)?;
+    }
+    for row in &PARAMETER_ROWS {
         run(&rt, alloc, row)?;
     }
     Ok(())
