@@ -3,8 +3,11 @@ use Rattle.std.specs.Prelude.{ℕ, ℤ, if◌then◌else◌, Bool, true, false, 
 use Rattle.algol_tree.specs.declared.token.Spot.{Spot}
 use Rattle.algol_tree.specs.declared.tree.Kind.{Kind}
 use Rattle.algol_tree.specs.declared.tree.Named.{Named}
+use Rattle.algol_tree.specs.declared.tree.Spec.{Spec}
+use Rattle.algol_tree.specs.declared.tree.Spec.TheVariants as spec
 use Rattle.algol_tree.specs.Plain as tree
 use Rattle.algol_tree.specs.Plain.{PPair, PDecls}
+use Rattle.algol_tree.specs.Sorts.{specified_by}
 use Rattle.algol_tree.specs.Blocks.{Block, same_spot}
 use Rattle.algol_meaning.specs.Rest.{Item, make_arrays, Rest, arrays, bounding}
 
@@ -17,6 +20,16 @@ pub record DeclaredArray : Type 0 where
 abbrev pub arrays_in : Kind → List Named → List PPair → List DeclaredArray
 arrays_in kind ns pairs = map (λ (n : Named). record { name = n.name; kind = kind; pairs = pairs }) ns
 
+-- How a name stands for an array: the kind of its elements, and for each dimension the lower bound from which its subscripts count.
+pub record Shape : Type 0 where
+  pub kind : Kind
+  pub lows : List ℤ
+
+-- the lower bounds of an array, and whether it is a parameter
+pub record Lows : Type 0 where
+  pub list : List ℤ
+  pub formal : Bool
+
 -- those of declarations, in their order
 abbrev pub arrays_of : PDecls → List DeclaredArray
 arrays_of tree.no_decls = []
@@ -27,24 +40,49 @@ arrays_of (tree.decls d ds) = arrays_of ds
 abbrev pub lows_of : List PPair → List ℤ
 lows_of pairs = map (λ (p : PPair). p.low) pairs
 
+-- of a declared one
+abbrev pub shape_of : DeclaredArray → Shape
+shape_of declared = record { kind = declared.kind; lows = lows_of declared.pairs }
+
+-- a parameter that is specified as an array
+abbrev pub shape_by : Spec → Option Shape
+shape_by (spec.Arrays kind ns lows) = Some (record { kind = kind; lows = lows })
+shape_by _ = None
+
+-- the first specification of a name decides
+abbrev pub shape_in : List Spec → List ℕ → Option Shape
+shape_in [] name = None
+shape_in (s ∷ specs) name = if specified_by s name then shape_by s else shape_in specs name
+
 -- ---- by the places of their names
 
 abbrev pub stands_among : List Named → Spot → Bool
 stands_among [] spot = false
 stands_among (n ∷ ns) spot = if same_spot n.spot spot then true else stands_among ns spot
 
--- the lower bounds of the array whose name is declared there
-abbrev pub lows_declared : PDecls → Spot → Option (List ℤ)
-lows_declared tree.no_decls spot = None
-lows_declared (tree.decls (tree.arrays kind ns pairs) ds) spot = if stands_among ns spot then Some (lows_of pairs) else lows_declared ds spot
-lows_declared (tree.decls d ds) spot = lows_declared ds spot
+abbrev pub lows_in : Option Shape → Option Lows
+lows_in None = None
+lows_in (Some shape) = Some (record { list = shape.lows; formal = true })
 
-abbrev pub or_lows : Option (List ℤ) → Option (List ℤ) → Option (List ℤ)
+abbrev pub or_lows : Option Lows → Option Lows → Option Lows
 or_lows None otherwise = otherwise
 or_lows (Some lows) otherwise = Some lows
 
+-- of a parameter whose name stands there
+abbrev pub lows_among : List Spec → List Named → Spot → Option Lows
+lows_among specs [] spot = None
+lows_among specs (n ∷ ns) spot = if same_spot n.spot spot then lows_in (shape_in specs n.name) else lows_among specs ns spot
+
+-- the lower bounds of the array whose name is declared there, or of the parameter
+abbrev pub lows_declared : PDecls → Spot → Option Lows
+lows_declared tree.no_decls spot = None
+lows_declared (tree.decls (tree.procedure h s) ds) spot = or_lows (lows_among h.specs h.params spot) (lows_declared ds spot)
+lows_declared (tree.decls (tree.arrays kind ns pairs) ds) spot =
+    if stands_among ns spot then Some (record { list = lows_of pairs; formal = false }) else lows_declared ds spot
+lows_declared (tree.decls d ds) spot = lows_declared ds spot
+
 -- .. in whatever block
-abbrev pub lows_at : List Block → Spot → Option (List ℤ)
+abbrev pub lows_at : List Block → Spot → Option Lows
 lows_at [] spot = None
 lows_at (b ∷ bs) spot = or_lows (lows_declared b.decls spot) (lows_at bs spot)
 

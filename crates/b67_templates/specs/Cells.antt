@@ -1,5 +1,5 @@
 -- Where the cells of a block lie in its frame, and which of them a name means.
-use Rattle.std.specs.Prelude.{◌≡◌, ℕ, ◌+◌, if◌then◌else◌, true, List, [], ◌∷◌, ◌++◌, map, length, Option, Some, None, slice_get}
+use Rattle.std.specs.Prelude.{◌≡◌, ℕ, ◌+◌, ◌≤◌, if◌then◌else◌, true, List, [], ◌∷◌, ◌++◌, map, length, Option, Some, None, slice_get}
 use Rattle.algol_tree.specs.declared.token.Spot.{Spot}
 use Rattle.algol_tree.specs.declared.tree.Heading.{Heading}
 use Rattle.algol_tree.specs.declared.tree.Kind.{Kind}
@@ -8,20 +8,24 @@ use Rattle.algol_tree.specs.Plain as tree
 use Rattle.algol_tree.specs.Plain.{PDecls}
 use Rattle.algol_tree.specs.Classes as class
 use Rattle.algol_tree.specs.Classes.{Class}
-use Rattle.algol_tree.specs.Sorts.{same_name, is_variable, array, procedure, class_in}
+use Rattle.algol_tree.specs.Sorts as sort
+use Rattle.algol_tree.specs.Sorts.{same_name, is_variable, procedure, class_in}
 use Rattle.algol_tree.specs.Blocks.{Block, block_numbered, number_at, same_spot}
 use Rattle.algol_tree.specs.Scopes.{Scopes, use_of}
 use Rattle.algol_paths.specs.Segments.{segment_of}
-use Rattle.algol_paths.specs.Arrays.{DeclaredArray, arrays_of}
+use Rattle.algol_paths.specs.Arrays.{DeclaredArray, Shape, shape_of, shape_in, arrays_of}
 use Rattle.b67_ops.specs.declared.Couple.{Couple}
+use Rattle.b67_ops.specs.declared.TheConstants.{OUTER_LEVEL}
 
--- a cell that needs no action: its name, and the kind of its values where it has one by its declaration
+-- a cell that needs no action: its name, and the kind of its values where it has one by its declaration; of a parameter that is an array
+-- its shape
 pub record Simple : Type 0 where
   pub name : List ℕ
   pub kind : Option Kind
+  pub shape : Option Shape
 
 abbrev pub of_kind : Kind → List Named → List Simple
-of_kind kind ns = map (λ (n : Named). record { name = n.name; kind = Some kind }) ns
+of_kind kind ns = map (λ (n : Named). record { name = n.name; kind = Some kind; shape = None }) ns
 
 abbrev pub variables : PDecls → List Simple
 variables tree.no_decls = []
@@ -30,7 +34,7 @@ variables (tree.decls d ds) = variables ds
 
 abbrev pub result_of : Option Kind → List ℕ → List Simple
 result_of None name = []
-result_of (Some kind) name = record { name = name; kind = Some kind } ∷ []
+result_of (Some kind) name = record { name = name; kind = Some kind; shape = None } ∷ []
 
 -- ---- parameters
 
@@ -41,7 +45,7 @@ kind_of _ = None
 
 -- the cells of a heading's parameters
 abbrev pub parameters_in : Heading → List Simple
-parameters_in h = map (λ (n : Named). record { name = n.name; kind = kind_of (class_in h.specs n.name) }) h.params
+parameters_in h = map (λ (n : Named). record { name = n.name; kind = kind_of (class_in h.specs n.name); shape = shape_in h.specs n.name }) h.params
 
 -- .. of the heading whose name stands there
 abbrev pub parameters_declared : PDecls → Spot → List Simple
@@ -58,9 +62,24 @@ parameters_around blocks (outer ∷ outers) spot = parameters_declared ((block_n
 abbrev pub parameter_cells : Scopes → Block → List Simple
 parameter_cells sc b = parameters_around sc.blocks b.outer b.spot
 
--- the kinds of the parameters of the procedure whose block has this number
-abbrev pub parameter_kinds : Scopes → ℕ → List (Option Kind)
-parameter_kinds sc callee = map (λ (c : Simple). c.kind) (parameter_cells sc (block_numbered sc.blocks callee))
+-- what is wanted of an actual: a value of a kind, or an array of a shape
+pub data Wanted : Type 0 where
+  value : Kind → Wanted
+  array : Shape → Wanted
+  other : Wanted
+
+abbrev pub wanted_by : Option Kind → Option Shape → Wanted
+wanted_by (Some kind) shape = value kind
+wanted_by None (Some shape) = array shape
+wanted_by None None = other
+
+-- .. for the parameters of the procedure whose block has this number
+abbrev pub parameter_wants : Scopes → ℕ → List Wanted
+parameter_wants sc callee = map (λ (c : Simple). wanted_by c.kind c.shape) (parameter_cells sc (block_numbered sc.blocks callee))
+
+-- an array for a parameter of that shape has its kind of elements, and as many dimensions
+abbrev pub Agrees : Shape → Shape → Type 0
+Agrees shape a = (a.kind ≡ shape.kind) × (length a.lows ≡ length shape.lows)
 
 -- ---- the cells of a block
 
@@ -125,14 +144,30 @@ pub record IsVariable (sc : Scopes) (level : ℕ) (n : Named) (kind : Kind) (cou
 
 -- At this level the name is that of an array that a block declares, and this is the couple of its descriptor. The cell lies behind the
 -- control words of the block, which has no simple cell of that name.
-pub record IsArray (sc : Scopes) (level : ℕ) (n : Named) (declared : DeclaredArray) (couple : Couple) : Type 0 where
-  pub sort_is : (use_of sc n).sort ≡ array
+pub record IsDeclaredArray (sc : Scopes) (level : ℕ) (n : Named) (declared : DeclaredArray) (couple : Couple) : Type 0 where
+  pub sort_is : (use_of sc n).sort ≡ sort.array
   pub number : ℕ
   pub there :
       array_from 0 (arrays_of ((block_numbered sc.blocks ((use_of sc n).block)).decls)) n.name ≡ Some (record { number = number; array = declared })
   pub apart : found_from 0 (simple_cells sc (block_numbered sc.blocks ((use_of sc n).block))) n.name ≡ None
+  pub outer : OUTER_LEVEL ≤ couple.level
   pub level_is : couple.level + (use_of sc n).up ≡ level
   pub index_is :
       couple.index
       ≡ 2 + length (simple_cells sc (block_numbered sc.blocks ((use_of sc n).block)))
       + length (procedures ((block_numbered sc.blocks ((use_of sc n).block)).decls)) + number
+
+-- .. of a parameter that stands for an array, and this is the couple of its cell, which has a reference to the array's.
+pub record IsFormalArray (sc : Scopes) (level : ℕ) (n : Named) (shape : Shape) (couple : Couple) : Type 0 where
+  pub sort_is : (use_of sc n).sort ≡ sort.formal_array shape.lows
+  pub found : Found
+  pub there : found_from 0 (simple_cells sc (block_numbered sc.blocks ((use_of sc n).block))) n.name ≡ Some found
+  pub kind_is : found.cell.kind ≡ None
+  pub shape_is : found.cell.shape ≡ Some shape
+  pub level_is : couple.level + (use_of sc n).up ≡ level
+  pub index_is : couple.index ≡ 2 + found.number
+
+-- the name stands for an array of this shape, in the one way or the other
+pub data IsArray (sc : Scopes) (level : ℕ) (n : Named) (shape : Shape) (couple : Couple) : Type 0 where
+  declared : (d : DeclaredArray) → shape ≡ shape_of d → IsDeclaredArray sc level n d couple → IsArray sc level n shape couple
+  formal : IsFormalArray sc level n shape couple → IsArray sc level n shape couple

@@ -1,6 +1,6 @@
 -- Where the code of each construct stands: from one place to the place after it. What is left early goes on at a third place, to which
 -- branches lead from the place after the code; so a branch never leads to a branch.
-use Rattle.std.specs.Prelude.{◌≡◌, ℕ, zero, suc, ◌+◌, ◌≤◌, ℤ, pos, neg_ℤ, int_lt, ◌==◌, if◌then◌else◌, true, List, [], ◌∷◌, length, replicate, Option, Some, None, slice_get}
+use Rattle.std.specs.Prelude.{◌≡◌, ℕ, zero, suc, ◌+◌, ◌≤◌, ℤ, pos, neg_ℤ, int_lt, ◌==◌, if◌then◌else◌, true, false, List, [], ◌∷◌, length, replicate, Option, Some, None, slice_get}
 use Rattle.algol_tree.specs.declared.tree.Op.TheVariants as operators
 use Rattle.algol_tree.specs.declared.tree.Kind.{Kind}
 use Rattle.algol_tree.specs.declared.tree.Kind.TheVariants as types
@@ -27,8 +27,9 @@ use Rattle.b67_segment.specs.declared.code.Phrase.{Phrase}
 use Rattle.b67_segment.specs.declared.code.Phrase.TheVariants as parts
 use Rattle.b67_templates.specs.Contexts.{Context}
 use Rattle.b67_templates.specs.Fragments.{Has, AllAt, ControlsAt, NumberAt, MovedAt, ReadyAt, BranchAt, TurnAt, Goes, IntrinsicAt, EntryAt, operator_for, is_implication, truth_literal}
-use Rattle.algol_paths.specs.Arrays.{DeclaredArray, lows_of}
-use Rattle.b67_templates.specs.Cells.{parameter_cells, parameter_kinds, variables, control_segments, IsVariable, IsProcedure, IsArray}
+use Rattle.algol_paths.specs.Arrays.{DeclaredArray, Shape, shape_of}
+use Rattle.b67_templates.specs.Cells as wants
+use Rattle.b67_templates.specs.Cells.{parameter_cells, Wanted, Agrees, parameter_wants, variables, control_segments, IsVariable, IsProcedure, IsDeclaredArray, IsFormalArray, IsArray}
 
 -- ---- context
 
@@ -116,10 +117,18 @@ module _ (sc : Scopes) (context : Context) (ps : List Placed) (level : ℕ) wher
   abbrev pub without : ℕ → ℕ → Type 0
   without f t = f ≡ t
 
+  -- The actual of an array parameter: of a declared array the reference to its cell, wherever it is read; of an array parameter the
+  -- reference that its cell has.
+  pub data ArrayActualAt (shape : Shape) (n : Named) (f t : ℕ) : Type 0 where
+    refers : (d : DeclaredArray) (c : Couple) (m : ℕ) → IsDeclaredArray sc level n d c → Agrees shape (shape_of d) → Has ps level f (ops.Namc c) m → Has ps level m (ops.Plain kinds.Stff) t →
+        ArrayActualAt shape n f t
+    passes : (a : Shape) (c : Couple) (m : ℕ) → IsFormalArray sc level n a c → Agrees shape a → Has ps level f (ops.Namc c) m → Has ps level m (ops.Plain kinds.Lodt) t →
+        ArrayActualAt shape n f t
+
   -- a name alone in an expression: a variable is read, a typed procedure is called
   pub data NameAt (k : Kind) (n : Named) (f t : ℕ) : Type 0 where
     reads : ReadAt n k f t → NameAt k n f t
-    calls : (callee : ℕ) → CallAt n callee without f t → parameter_kinds sc callee ≡ [] → (block_numbered sc.blocks callee).result ≡ Some k → NameAt k n f t
+    calls : (callee : ℕ) → CallAt n callee without f t → parameter_wants sc callee ≡ [] → (block_numbered sc.blocks callee).result ≡ Some k → NameAt k n f t
 
   -- the result of a call that a statement makes is dropped
   abbrev pub DroppedAt : Option Kind → ℕ → ℕ → Type 0
@@ -144,10 +153,10 @@ module _ (sc : Scopes) (context : Context) (ps : List Placed) (level : ℕ) wher
         (m : ℕ) × (m' : ℕ) × (n : ℕ) × (n' : ℕ) × ExprAt types.Truth c f m m × BranchAt ps level Brfl m n' m' × ExprAt k x m' n u × BranchAt ps level Brun n u n'
         × ExprAt k y n' t u
     ExprAt k (tree.variable (tree.subscripted n (tree.more e es))) f t u =
-        (a : DeclaredArray) × (c : Couple) × (m : ℕ) × IsArray sc level n a c × (a.kind ≡ k) × SubscriptsAt c (lows_of a.pairs) (tree.more e es) f m
+        (a : Shape) × (c : Couple) × (m : ℕ) × IsArray sc level n a c × (a.kind ≡ k) × SubscriptsAt c a.lows (tree.more e es) f m
         × Has ps level m (ops.Plain kinds.Nxlv) t
     ExprAt k (tree.call (tree.called n es)) f t u =
-        (callee : ℕ) × CallAt n callee (ActualsAt (sorts_of ((block_numbered sc.blocks callee).parameters)) (parameter_kinds sc callee) es) f t × ((block_numbered sc.blocks callee).result ≡ Some k)
+        (callee : ℕ) × CallAt n callee (ActualsAt (sorts_of ((block_numbered sc.blocks callee).parameters)) (parameter_wants sc callee) es) f t × ((block_numbered sc.blocks callee).result ≡ Some k)
     ExprAt k _ f t u = ⊥
 
     -- The last subscript, moved by its lower bound, lies under the reference of the array, or under the descriptor of its row, once the
@@ -161,11 +170,13 @@ module _ (sc : Scopes) (context : Context) (ps : List Placed) (level : ℕ) wher
         × ((x : ℕ) × (y : ℕ) × ExprAt types.Number e' r x x × MovedAt ps level low' x y × Has ps level y (ops.Plain kinds.Exch) t)
     SubscriptsAt c _ _ f t = ⊥
 
-    -- actuals for parameters of these sorts and kinds, each of them by value
-    pub ActualsAt : List Sort → List (Option Kind) → PExprs → ℕ → ℕ → Type 0
+    -- actuals for parameters of these sorts, of which this is wanted: values, and names of arrays
+    pub ActualsAt : List Sort → List Wanted → PExprs → ℕ → ℕ → Type 0
     ActualsAt [] [] tree.none f t = f ≡ t
-    ActualsAt (sort ∷ sorts) (Some kind ∷ kinds) (tree.more e es) f t =
-        (m : ℕ) × (is_variable sort ≡ true) × ExprAt kind e f m m × ActualsAt sorts kinds es m t
+    ActualsAt (sort ∷ sorts) (wants.value kind ∷ wanted) (tree.more e es) f t =
+        (m : ℕ) × (is_variable sort ≡ true) × ExprAt kind e f m m × ActualsAt sorts wanted es m t
+    ActualsAt (sort ∷ sorts) (wants.array shape ∷ wanted) (tree.more (tree.variable (tree.subscripted n tree.none)) es) f t =
+        (m : ℕ) × (is_variable sort ≡ false) × ArrayActualAt shape n f m × ActualsAt sorts wanted es m t
     ActualsAt _ _ _ f t = ⊥
 
   -- the second subscript, where the descriptor of the row lies below it
@@ -174,7 +185,7 @@ module _ (sc : Scopes) (context : Context) (ps : List Placed) (level : ℕ) wher
 
   abbrev pub CallStmtAt : Named → PExprs → ℕ → ℕ → Type 0
   CallStmtAt n es f t =
-      (callee : ℕ) × (m : ℕ) × CallAt n callee (ActualsAt (sorts_of ((block_numbered sc.blocks callee).parameters)) (parameter_kinds sc callee) es) f m × DroppedAt (block_numbered sc.blocks callee).result m t
+      (callee : ℕ) × (m : ℕ) × CallAt n callee (ActualsAt (sorts_of ((block_numbered sc.blocks callee).parameters)) (parameter_wants sc callee) es) f m × DroppedAt (block_numbered sc.blocks callee).result m t
 
   -- ---- statements: what comes next stands at the place after the code, or where that leads
 
@@ -186,7 +197,7 @@ module _ (sc : Scopes) (context : Context) (ps : List Placed) (level : ℕ) wher
   -- the descriptor of the element, the value, the store
   abbrev pub ElementAssignAt : Named → PExprs → PExpr → ℕ → ℕ → Type 0
   ElementAssignAt n es e f t =
-      (a : DeclaredArray) × (c : Couple) × (m : ℕ) × (q : ℕ) × (r : ℕ) × IsArray sc level n a c × SubscriptsAt c (lows_of a.pairs) es f m
+      (a : Shape) × (c : Couple) × (m : ℕ) × (q : ℕ) × (r : ℕ) × IsArray sc level n a c × SubscriptsAt c a.lows es f m
       × Has ps level m (ops.Plain kinds.Indx) q × ExprAt a.kind e q r r × Has ps level r (ops.Plain kinds.Stod) t
 
   -- lower bounds as they stand, and the values of upper bounds

@@ -1,6 +1,6 @@
 -- Which trees have code: each part has the kind that its place wants, each name is a variable or a procedure whose couple is known, and
 -- of a format no word is wider than a line, and each text can stand between quotes.
-use Rattle.std.specs.Prelude.{◌≡◌, ◌⊎◌, ℕ, ◌+◌, ◌≤◌, ℤ, not, true, IsTrue, Option, Some, None, is_some, List, [], ◌∷◌, length}
+use Rattle.std.specs.Prelude.{◌≡◌, ◌⊎◌, ℕ, ◌+◌, ◌≤◌, ℤ, not, true, false, IsTrue, Option, Some, None, is_some, List, [], ◌∷◌, length}
 use Rattle.std.specs.List.{All}
 use Rattle.algol_tree.specs.declared.token.Spot.{Spot}
 use Rattle.algol_tree.specs.declared.tree.Kind.{Kind}
@@ -14,16 +14,17 @@ use Rattle.algol_tree.specs.Spelling.{value_of}
 use Rattle.algol_tree.specs.Plain as tree
 use Rattle.algol_tree.specs.Plain.{PExpr, PExprs, PPair, PStmt, PStmts, PDecls}
 use Rattle.algol_tree.specs.Types.{given_by, taken_by}
-use Rattle.algol_tree.specs.Sorts.{Sort, is_variable}
+use Rattle.algol_tree.specs.Sorts.{Sort, is_variable, is_formal}
 use Rattle.algol_tree.specs.Blocks.{block_numbered}
-use Rattle.algol_tree.specs.Scopes.{Scopes}
+use Rattle.algol_tree.specs.Scopes.{Scopes, use_of}
 use Rattle.algol_meaning.specs.Settle.{sorts_of}
 use Rattle.b67_ops.specs.declared.Couple.{Couple}
 use Rattle.b67_ops.specs.declared.TheConstants.{MOST_LEVEL}
 use Rattle.b67_segment.specs.declared.code.Phrase.{Phrase}
 use Rattle.b67_templates.specs.Fragments.{IsWhole}
-use Rattle.algol_paths.specs.Arrays.{DeclaredArray, arrays_of, lows_of}
-use Rattle.b67_templates.specs.Cells.{parameter_kinds, variables, procedures, IsVariable, IsProcedure, IsArray}
+use Rattle.algol_paths.specs.Arrays.{Shape, Lows, arrays_of}
+use Rattle.b67_templates.specs.Cells as wants
+use Rattle.b67_templates.specs.Cells.{Wanted, parameter_wants, Agrees, variables, procedures, IsVariable, IsProcedure, IsArray}
 use Rattle.b67_templates.specs.Code.{AreParts, AreDimensions, numbers_in, exprs_count}
 
 -- each byte of the text is printable and no quote
@@ -57,9 +58,9 @@ module _ (sc : Scopes) (known : Spot → Option Couple) (level : ℕ) where
   abbrev pub NameFits : Kind → Named → Type 0
   NameFits k n = (c : Couple) × (known n.spot ≡ Some c) × IsVariable sc level n k c
 
--- `results` are the couples of the results of the typed procedures that names mean, and `lows` the lower bounds of the arrays, by the names'
--- places in the text
-module _ (sc : Scopes) (known results : Spot → Option Couple) (lows : Spot → Option (List ℤ)) (level : ℕ) where
+-- `results` are the couples of the results of the typed procedures that names mean, and `lows` the lower bounds of the arrays and whether
+-- they are parameters, by the names' places in the text
+module _ (sc : Scopes) (known results : Spot → Option Couple) (lows : Spot → Option Lows) (level : ℕ) where
   -- a variable that is read
   abbrev pub ReadFits : Kind → Named → Type 0
   ReadFits k n = NameFits sc known level k n × (results n.spot ≡ None)
@@ -78,22 +79,22 @@ module _ (sc : Scopes) (known results : Spot → Option Couple) (lows : Spot →
   -- .. of a typed one
   abbrev pub CallFits : Kind → Named → Type 0
   CallFits k n =
-      (callee : ℕ) × ProcedureFits n callee × (parameter_kinds sc callee ≡ []) × ((block_numbered sc.blocks callee).result ≡ Some k)
+      (callee : ℕ) × ProcedureFits n callee × (parameter_wants sc callee ≡ []) × ((block_numbered sc.blocks callee).result ≡ Some k)
 
-  -- the name of an array, and the couple of its descriptor; its lower bounds are known
-  pub record ArrayFits (n : Named) (declared : DeclaredArray) : Type 0 where
+  -- the name of an array, and the couple of its cell; its lower bounds are known, and whether it is a parameter
+  pub record ArrayFits (n : Named) (shape : Shape) : Type 0 where
     pub couple : Couple
     pub known_is : known n.spot ≡ Some couple
-    pub array : IsArray sc level n declared couple
-    pub lows_are : lows n.spot ≡ Some (lows_of declared.pairs)
+    pub array : IsArray sc level n shape couple
+    pub lows_are : lows n.spot ≡ Some (record { list = shape.lows; formal = is_formal ((use_of sc n).sort) })
 
   abbrev mutual
     pub ExprFits : Kind → PExpr → Type 0
     ExprFits k (tree.number z spot) = (k ≡ types.Number) × IsWhole z
     ExprFits k (tree.truth b spot) = k ≡ types.Truth
-    ExprFits k (tree.variable (tree.subscripted n tree.none)) = ReadFits k n ⊎ CallFits k n
+    ExprFits k (tree.variable (tree.subscripted n tree.none)) = (ReadFits k n ⊎ CallFits k n) × (lows n.spot ≡ None)
     ExprFits k (tree.variable (tree.subscripted n (tree.more e es))) =
-        (a : DeclaredArray) × ArrayFits n a × (a.kind ≡ k) × SubscriptsFit (lows_of a.pairs) (tree.more e es)
+        (a : Shape) × ArrayFits n a × (a.kind ≡ k) × SubscriptsFit a.lows (tree.more e es)
     ExprFits k (tree.paren e spot) = ExprFits k e
     ExprFits k (tree.plus e spot) = (k ≡ types.Number) × ExprFits types.Number e
     ExprFits k (tree.neg e spot) = (k ≡ types.Number) × ExprFits types.Number e
@@ -101,7 +102,7 @@ module _ (sc : Scopes) (known results : Spot → Option Couple) (lows : Spot →
     ExprFits k (tree.two op a b) = (k ≡ given_by op) × ExprFits (taken_by op) a × ExprFits (taken_by op) b
     ExprFits k (tree.if c x y spot) = ExprFits types.Truth c × ExprFits k x × ExprFits k y
     ExprFits k (tree.call (tree.called n es)) =
-        (callee : ℕ) × ProcedureFits n callee × ActualsFit (sorts_of ((block_numbered sc.blocks callee).parameters)) (parameter_kinds sc callee) es × ((block_numbered sc.blocks callee).result ≡ Some k)
+        (callee : ℕ) × ProcedureFits n callee × ActualsFit (sorts_of ((block_numbered sc.blocks callee).parameters)) (parameter_wants sc callee) es × ((block_numbered sc.blocks callee).result ≡ Some k)
     ExprFits k _ = ⊥
 
     -- a subscript for each of these lower bounds
@@ -111,21 +112,23 @@ module _ (sc : Scopes) (known results : Spot → Option Couple) (lows : Spot →
         IsWhole low × ExprFits types.Number e × IsWhole low' × ExprFits types.Number e'
     SubscriptsFit _ _ = ⊥
 
-    -- actuals for parameters of these sorts and kinds, each of them by value
-    pub ActualsFit : List Sort → List (Option Kind) → PExprs → Type 0
+    -- actuals for parameters of these sorts, of which this is wanted: values, and names of arrays
+    pub ActualsFit : List Sort → List Wanted → PExprs → Type 0
     ActualsFit [] [] tree.none = Unit {0}
-    ActualsFit (sort ∷ sorts) (Some kind ∷ kinds) (tree.more e es) = (is_variable sort ≡ true) × ExprFits kind e × ActualsFit sorts kinds es
+    ActualsFit (sort ∷ sorts) (wants.value kind ∷ wanted) (tree.more e es) = (is_variable sort ≡ true) × ExprFits kind e × ActualsFit sorts wanted es
+    ActualsFit (sort ∷ sorts) (wants.array shape ∷ wanted) (tree.more (tree.variable (tree.subscripted n tree.none)) es) =
+        (is_variable sort ≡ false) × ((a : Shape) × ArrayFits n a × Agrees shape a) × ActualsFit sorts wanted es
     ActualsFit _ _ _ = ⊥
 
   -- the call that a statement makes
   abbrev pub CallStmtFits : Named → PExprs → Type 0
-  CallStmtFits n es = (callee : ℕ) × ProcedureFits n callee × ActualsFit (sorts_of ((block_numbered sc.blocks callee).parameters)) (parameter_kinds sc callee) es
+  CallStmtFits n es = (callee : ℕ) × ProcedureFits n callee × ActualsFit (sorts_of ((block_numbered sc.blocks callee).parameters)) (parameter_wants sc callee) es
 
   abbrev pub AssignFits : Named → PExpr → Type 0
   AssignFits n e = (k : Kind) × LeftFits k n × ExprFits k e
 
   abbrev pub ElementAssignFits : Named → PExprs → PExpr → Type 0
-  ElementAssignFits n es e = (a : DeclaredArray) × ArrayFits n a × SubscriptsFit (lows_of a.pairs) es × ExprFits a.kind e
+  ElementAssignFits n es e = (a : Shape) × ArrayFits n a × SubscriptsFit a.lows es × ExprFits a.kind e
 
   abbrev pub BoundsFit : List PPair → Type 0
   BoundsFit [] = Unit {0}
@@ -151,7 +154,7 @@ module _ (sc : Scopes) (known results : Spot → Option Couple) (lows : Spot →
 abbrev pub BlockFits : ℕ → PDecls → Type 0
 BlockFits level ds = (level + 1 ≤ MOST_LEVEL) × (length (variables ds) + length (procedures ds) + length (arrays_of ds) ≤ MOST_BLOCK_CELLS)
 
-module _ (sc : Scopes) (known results : Spot → Option Couple) (lows : Spot → Option (List ℤ)) where
+module _ (sc : Scopes) (known results : Spot → Option Couple) (lows : Spot → Option Lows) where
   abbrev mutual
     pub StmtFits : ℕ → PStmt → Type 0
     StmtFits level tree.empty = Unit {0}
