@@ -126,7 +126,7 @@ module _ (sc : Scopes) (known : List Known) (level home base : ℕ) where
       let t = topped slots us [] ws h are in
       t.is ∙ ap (λ rest. reverse us ++ rest) (no_rest t.rest t.are) ∙ append-nil (reverse us)
 
-module _ (sc : Scopes) (known : List Known) (context : Context) (code : Code) (ps : List Placed) (level most bound : ℕ) (core : Core) (st : Standing sc known code ps level most bound core) where
+module _ (sc : Scopes) (known : List Known) (context : Context) (code : Code) (ps : List Placed) (level most bound : ℕ) (core : Core) (st : Standing code ps level most bound core) where
   abbrev Gets : ℕ → List Slot → ℕ → List Slot → Type 0
   Gets = Goes sc known code ps level most bound core st
 
@@ -180,7 +180,7 @@ module _ (sc : Scopes) (known : List Known) (context : Context) (code : Code) (p
   some_made many segments m n zeros controls has few room =
       let most : ℕ = many + length segments in
       let slots : List Slot = on_top (cell_slots level many segments) [] in
-      let st : Standing sc known code ps level most bound core = standing sc known code ps level most bound from [] core at room in
+      let st : Standing code ps level most bound core = standing sc known code ps level most bound from [] core at room in
       let r : Reaches sc known code ps level most bound core from [] core.words n slots =
       cells_at sc known context code ps level most bound core st many segments from m n (omega arith) zeros controls core.words at.words_are (omega arith) in
       let made_are : AreMade sc known level (frame core.registers) (length core.below) (cell_slots level many segments) (cell_words level many segments) =

@@ -9,6 +9,8 @@ pub mod Signs
 pub mod Looping
 pub mod Lows
 pub mod Subscripts
+pub mod Knowing
+pub mod Stuffing
 pub mod Stepped
 pub mod Performing
 pub mod Faulting

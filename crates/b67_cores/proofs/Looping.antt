@@ -28,7 +28,7 @@ use Rattle.b67_cores.proofs.Signs.{less_one, counted_down, sign_is, signed, past
 abbrev num : ℤ → Slot
 num z = operand (number z)
 
-module _ (sc : Scopes) (known : List Known) (context : Context) (code : Code) (ps : List Placed) (level most bound : ℕ) (core : Core) (st : Standing sc known code ps level most bound core) where
+module _ (sc : Scopes) (known : List Known) (context : Context) (code : Code) (ps : List Placed) (level most bound : ℕ) (core : Core) (st : Standing code ps level most bound core) where
   abbrev Gets : ℕ → List Slot → ℕ → List Slot → Type 0
   Gets = Goes sc known code ps level most bound core st
 

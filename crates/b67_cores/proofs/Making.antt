@@ -28,7 +28,7 @@ use Rattle.b67_cores.specs.Stretches.{CoreAt, CellsAreMade}
 use Rattle.b67_cores.proofs.Moving.{Standing, moved}
 use Rattle.b67_cores.proofs.Placing.{placed_as}
 
-module _ (sc : Scopes) (known : List Known) (code : Code) (ps : List Placed) (level most bound : ℕ) (core : Core) (st : Standing sc known code ps level most bound core)
+module _ (sc : Scopes) (known : List Known) (code : Code) (ps : List Placed) (level most bound : ℕ) (core : Core) (st : Standing code ps level most bound core)
     (from to : ℕ) (x : List Slot) (ws : List Word) (has : Has ps level from (ops.Plain kinds.Push) to) (room : length core.below + length ws ≤ 2 + frame core.registers + most_cells) where
   abbrev made_registers : Registers
   made_registers = record core.registers {
@@ -91,7 +91,7 @@ module _ (sc : Scopes) (known : List Known) (code : Code) (ps : List Placed) (le
 pub cells_are_made : CellsAreMade
 cells_are_made sc known code ps level bound from to core has at bare few fits =
     let most : ℕ = length core.words in
-    let st : Standing sc known code ps level most bound core =
+    let st : Standing code ps level most bound core =
     record { segment = at.segment; there = at.there; spells = at.spells; level_is = at.level_is; bottom = at.is.bottom; room = fits } in
     let small : length core.below + length core.words ≤ 2 + frame core.registers + most_cells = omega (arith, few, at.is.bottom) in
     let last : Core = made sc known code ps level most bound core st from to [] core.words has small in

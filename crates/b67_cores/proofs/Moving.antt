@@ -39,7 +39,7 @@ place_grows {at = at} {level = level} {op = op} s = omega (arith, s.next_is, (le
 -- ---- the core of a frame
 
 -- a frame of a code: what its core has below the floor, and where its operators stand
-pub record Standing (sc : Scopes) (known : List Known) (code : Code) (ps : List Placed) (level most bound : ℕ) (core : Core) : Type 0 where
+pub record Standing (code : Code) (ps : List Placed) (level most bound : ℕ) (core : Core) : Type 0 where
   pub segment : Segment
   pub there : slice_get code.segments core.registers.segment ≡ Some segment
   pub spells : Spells ps segment
@@ -89,7 +89,7 @@ module _ (sc : Scopes) (known : List Known) (code : Code) (ps : List Placed) (le
   abbrev pub Performs : ℕ → List Slot → ℕ → List Slot → Type 0
   Performs from x to y = (words : List Word) → Are x words → length x ≤ most → Reaches from x words to y
 
-  module _ (st : Standing sc known code ps level most bound core) where
+  module _ (st : Standing code ps level most bound core) where
     pub nothing : (place : ℕ) (x : List Slot) → Performs place x place x
     nothing place x words are room =
         let small : size (moved core place x words) ≤ bound =

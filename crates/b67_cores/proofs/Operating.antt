@@ -59,7 +59,7 @@ mark_row_is : (place : ℕ) → row (ops.Plain kinds.Mkst) place ≡ own mark_ro
 unfolding row
 mark_row_is place = refl
 
-module _ (sc : Scopes) (known : List Known) (code : Code) (ps : List Placed) (level most bound : ℕ) (core : Core) (st : Standing sc known code ps level most bound core) where
+module _ (sc : Scopes) (known : List Known) (code : Code) (ps : List Placed) (level most bound : ℕ) (core : Core) (st : Standing code ps level most bound core) where
   abbrev pub Goes : ℕ → List Slot → ℕ → List Slot → Type 0
   Goes = Performs sc known code ps level most bound core
 

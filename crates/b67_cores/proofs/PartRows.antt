@@ -1,17 +1,21 @@
 -- What operators do to a private part whose topmost words are known.
 use Rattle.std.proofs.Common.{◌≡◌, ap, ◌∙◌, ℕ, ◌+◌, ◌-◌, ◌<◌, ℤ, List, ◌∷◌, Some, cond, arith}
+use Rattle.std.specs.Prelude.{if◌then◌else◌}
 use Rattle.std.proofs.lemmas.Bool.{lt-ltb, eq-eqb}
 use Rattle.b67_num.specs.declared.FaultKind.{FaultKind}
 use Rattle.b67_num.specs.Whole.{negation_of}
 use Rattle.b67_word.specs.Word.{Word, word, operand, as_whole}
+use Rattle.b67_word.specs.declared.Place.{Place}
+use Rattle.b67_control.specs.declared.Irw.{Irw}
 use Rattle.b67_control.specs.declared.Registers.{Registers}
+use Rattle.b67_control.specs.Control.{as_irw}
 use Rattle.b67_ops.specs.declared.BranchKind.{BranchKind}
 use Rattle.b67_table.specs.declared.InterruptKind.TheVariants.{StackUnderflow, InvalidOperand}
 use Rattle.b67_table.specs.declared.Private.{Private}
 use Rattle.b67_table.specs.Effect.{Effect, gives, faults, interrupts, ◌>>=◌}
-use Rattle.b67_table.specs.Private.{floor, pop, push, whole_or, whole_of, bits_of}
-use Rattle.b67_table.specs.PrivateRows.{wholes, negated, logic, complement, complemented, dropped, exchanged, doubled, open_mark, mark, is_taken, by_bit, pointed}
-use Rattle.std.specs.Prelude.{if◌then◌else◌}
+use Rattle.b67_table.specs.Private.{display_at, floor, pop, push, whole_or, whole_of, bits_of}
+use Rattle.b67_table.specs.PrivateRows.{wholes, negated, logic, complement, complemented, dropped, exchanged, doubled, stuffed_at, stuffed, stuff, open_mark, mark, is_taken, by_bit, pointed}
+use Rattle.b67_table.specs.References.{cell_word}
 
 -- the part with these registers, but for S, and these words
 abbrev pub part : Registers → ℕ → List Word → Private
@@ -80,6 +84,13 @@ module _ (r : Registers) where
   exchanged_is s v w below h =
       then_is (pop (part r s (w ∷ v ∷ below))) (w, part r (s - 1) (v ∷ below)) _ (pop_is s w (v ∷ below) (omega arith))
       ∙ then_is (pop (part r (s - 1) (v ∷ below))) (v, part r (s - 1 - 1) below) _ (pop_is (s - 1) v below (omega arith))
+
+  pub stuffed_is : (s : ℕ) (w : Word) (i : Irw) (home : Place) (below : List Word) → as_irw w ≡ Some i → display_at r i.level ≡ Some home → floor r < s
+      → stuff (part r s (w ∷ below)) ≡ gives (part r (s - 1 + 1) (cell_word (record { frame = home; index = i.index }) ∷ below))
+  stuffed_is s w i home below iw shown h =
+      let rest : Private = part r (s - 1) below in
+      then_is (pop (part r s (w ∷ below))) (w, rest) _ (pop_is s w below h)
+      ∙ then_is (stuffed rest w (as_irw w)) (cell_word (record { frame = home; index = i.index })) _ (ap (stuffed rest w) iw ∙ ap (stuffed_at i.index) shown)
 
   -- ---- marks and branches
 

@@ -57,7 +57,7 @@ control_row : (c : Pcw) (place : ℕ) → row (ops.Mpcw (pcw_word c).bits) place
 unfolding row pcw_word
 control_row c place = refl
 
-module _ (sc : Scopes) (known : List Known) (context : Context) (code : Code) (ps : List Placed) (level most bound : ℕ) (core : Core) (st : Standing sc known code ps level most bound core) where
+module _ (sc : Scopes) (known : List Known) (context : Context) (code : Code) (ps : List Placed) (level most bound : ℕ) (core : Core) (st : Standing code ps level most bound core) where
   abbrev Gets : ℕ → List Slot → ℕ → List Slot → Type 0
   Gets = Goes sc known code ps level most bound core st
 

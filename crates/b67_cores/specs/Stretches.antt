@@ -1,7 +1,8 @@
 -- Stretches of private operators: what they do in an image, and what they do in a frame whose words are slots.
-use Rattle.std.specs.Prelude.{◌≡◌, ◌≢◌, ◌↔◌, ℕ, ◌+◌, ◌<◌, ◌≤◌, true, false, pos, List, [], ◌∷◌, ◌++◌, length, map, reverse, replicate, Some, Err, slice_get}
+use Rattle.std.specs.Prelude.{◌≡◌, ◌≢◌, ◌↔◌, ℕ, ◌+◌, ◌<◌, ◌≤◌, true, false, pos, List, [], ◌∷◌, ◌++◌, length, map, reverse, replicate, Some, IsSome, Err, slice_get}
 use Rattle.b67_list.specs.Numbered.{numbered}
 use Rattle.algol_tree.specs.declared.tree.Op.{Op}
+use Rattle.algol_tree.specs.declared.tree.Named.{Named}
 use Rattle.algol_tree.specs.Scopes.{Scopes}
 use Rattle.algol_tree.specs.Types.{taken_by}
 use Rattle.b67_num.specs.declared.FaultKind.{FaultKind}
@@ -9,11 +10,15 @@ use Rattle.b67_num.specs.declared.NumFault.{NumFault}
 use Rattle.b67_num.specs.Whole.{fault_of}
 use Rattle.algol_meaning.specs.Value.{Value}
 use Rattle.algol_meaning.specs.Operators.{result_of}
+use Rattle.algol_paths.specs.Arrays.{DeclaredArray}
+use Rattle.b67_word.specs.declared.Place.{Place}
 use Rattle.b67_control.specs.declared.Registers.{Registers}
+use Rattle.b67_control.specs.Display.{place_at}
 use Rattle.b67_control.specs.Control.{pcw_word}
 use Rattle.b67_word.specs.Word.{Word}
 use Rattle.b67_word.specs.Word as words
-use Rattle.b67_ops.specs.declared.TheConstants.{MOST_LEVEL}
+use Rattle.b67_ops.specs.declared.Couple.{Couple}
+use Rattle.b67_ops.specs.declared.TheConstants.{MOST_LEVEL, OUTER_LEVEL}
 use Rattle.b67_ops.specs.declared.Operator.TheVariants as ops
 use Rattle.b67_ops.specs.declared.PlainKind.TheVariants as kinds
 use Rattle.b67_segment.specs.Operators.{Placed}
@@ -25,6 +30,7 @@ use Rattle.b67_store.specs.Store.{stack_at, stack_limit}
 use Rattle.b67_table.specs.Limits.{most_cells}
 use Rattle.b67_table.specs.Private.{frame}
 use Rattle.b67_table.specs.Image.{Image, is_live}
+use Rattle.b67_table.specs.References.{cell_word}
 use Rattle.b67_table.specs.Outcome as outcomes
 use Rattle.b67_table.specs.Table.{table, plain}
 use Rattle.b67_table.specs.Ending.{failed}
@@ -32,8 +38,9 @@ use Rattle.b67_table.specs.Privacy.{Keeps}
 use Rattle.b67_table.specs.Runs.{Plains}
 use Rattle.b67_table.specs.Valid.{IsValid}
 use Rattle.b67_templates.specs.Fragments.{Has, HasKind, code_at, operator_for}
+use Rattle.b67_templates.specs.Cells.{IsDeclaredArray}
 use Rattle.b67_templates.specs.Code.{CellsAt}
-use Rattle.b67_standing.specs.Stepping.{Slot, operand, ready, Step, Leads}
+use Rattle.b67_standing.specs.Stepping.{cell_named, Slot, operand, ready, Step, Leads}
 use Rattle.b67_cores.specs.Cores.{Core, size, IsCore, over, HasCore, with_core, CoreFaults, CoreStep, CoreSteps}
 use Rattle.b67_cores.specs.Slots.{Known, newest, SlotsAre}
 
@@ -133,12 +140,34 @@ pub record IsMoved (a b : Core) : Type 0 where
   pub below : b.below ≡ a.below
   pub registers : b.registers ≡ record a.registers { s = b.registers.s; f = b.registers.f; place = b.registers.place }
 
--- private operators lead from the core to one at that place with those slots, at most as many as there are syllables between
+-- the display names a frame at each level from the outer block's to this one
+abbrev pub Sees : ℕ → Core → Type 0
+Sees level core = (l : ℕ) → OUTER_LEVEL ≤ l → l ≤ level → IsSome (place_at core.registers.display l)
+
+-- the reference to the cell of a declared array that STFF makes
+pub record IsStuffed (sc : Scopes) (level : ℕ) (core : Core) (x : Known) : Type 0 where
+  pub name : Named
+  pub declared : DeclaredArray
+  pub couple : Couple
+  pub frame : Place
+  pub held_is : x.held ≡ cell_named name
+  pub array : IsDeclaredArray sc level name declared couple
+  pub shown : place_at core.registers.display couple.level ≡ Some frame
+  pub word_is : x.word ≡ cell_word (record { frame = frame; index = couple.index })
+
+abbrev pub AreStuffed : Scopes → ℕ → Core → List Known → Type 0
+AreStuffed sc level core [] = Unit {0}
+AreStuffed sc level core (x ∷ known) = IsStuffed sc level core x × AreStuffed sc level core known
+
+-- Private operators lead from the core to one at that place with those slots, at most as many as there are syllables between. More words
+-- may be known then: references that STFF made.
 pub record Arrives (sc : Scopes) (known : List Known) (code : Code) (ps : List Placed) (level most bound place : ℕ) (slots : List Slot) (a : Core) : Type 0 where
   pub count : ℕ
   pub core : Core
   pub steps : CoreSteps code bound count a core
-  pub at : CoreAt sc known code ps level place slots core
+  pub added : List Known
+  pub added_are : AreStuffed sc level a added
+  pub at : CoreAt sc (added ++ known) code ps level place slots core
   pub moved : IsMoved a core
   pub room : length slots ≤ most
   pub few : count + a.registers.place ≤ place
@@ -147,10 +176,10 @@ pub record Arrives (sc : Scopes) (known : List Known) (code : Code) (ps : List P
 -- lie above the floor, its stack has the most words of the bound.
 pub record FragmentsArePerformed : Type 0 where
   pub step : (sc : Scopes) (known : List Known) (context : Context) (code : Code) (ps : List Placed) (level most bound from to : ℕ) (x y : List Slot) (core : Core)
-      → Step sc context ps level most from x to y → CoreAt sc known code ps level from x core → length x ≤ most → length core.below + most ≤ bound
+      → Step sc context ps level most from x to y → CoreAt sc known code ps level from x core → Sees level core → length x ≤ most → length core.below + most ≤ bound
       → Arrives sc known code ps level most bound to y core
   pub leads : (sc : Scopes) (known : List Known) (context : Context) (code : Code) (ps : List Placed) (level most bound from to : ℕ) (x y : List Slot) (core : Core)
-      → Leads sc context ps level most from x to y → CoreAt sc known code ps level from x core → length x ≤ most → length core.below + most ≤ bound
+      → Leads sc context ps level most from x to y → CoreAt sc known code ps level from x core → Sees level core → length x ≤ most → length core.below + most ≤ bound
       → Arrives sc known code ps level most bound to y core
   -- an operator of the language without a result is a fault
   pub fault : (sc : Scopes) (known : List Known) (code : Code) (ps : List Placed) (level from to : ℕ) (op : Op) (v w : Value) (fault : NumFault) (below : List Slot) (core : Core)

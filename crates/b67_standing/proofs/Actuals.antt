@@ -1,26 +1,29 @@
--- The actuals of a call: each value comes to lie above those before it, which lie on the reference of the procedure's control word.
-use Rattle.std.proofs.Common.{◌≡◌, refl, sym, ap, ◌∙◌, subst, ℕ, ◌+◌, arith, List, [], ◌∷◌, ◌++◌, length, length-append, append_assoc, Option, Some}
-use Rattle.std.specs.Prelude.{map}
+-- The actuals of a call: each comes to lie above those before it, which lie on the reference of the procedure's control word.
+use Rattle.std.proofs.Common.{◌≡◌, refl, sym, ◌∙◌, subst, ℕ, ◌+◌, ◌≤◌, arith, List, [], ◌∷◌, ◌++◌, length, length-append, append_assoc}
 use Rattle.algol_tree.specs.declared.tree.Kind.{Kind}
 use Rattle.algol_tree.specs.declared.tree.Named.{Named}
 use Rattle.algol_tree.specs.Plain.{PExprs}
-use Rattle.algol_tree.specs.Sorts.{Sort}
+use Rattle.algol_tree.specs.Sorts.{Sort, is_formal, procedure_in}
 use Rattle.algol_tree.specs.Scopes.{Scopes}
+use Rattle.algol_meaning.specs.Value as cells
 use Rattle.algol_meaning.specs.Value.{Value}
 use Rattle.algol_meaning.specs.Rest as rests
-use Rattle.algol_meaning.specs.Rest.{Given, valued, Actuals, Half, val, busy, HalfGiven, given, wants}
-use Rattle.algol_meaning.specs.Settle.{valued_of, settle_actuals}
+use Rattle.algol_meaning.specs.Rest.{Given, valued, passed, refers, Actuals, Half, val, busy, HalfGiven, given}
+use Rattle.algol_meaning.specs.Settle.{valued_of, alone_of, sort_at, settle_actuals}
+use Rattle.algol_paths.specs.Arrays.{Shape, shape_of}
 use Rattle.b67_ops.specs.declared.Couple.{Couple}
 use Rattle.b67_ops.specs.declared.Operator.TheVariants as ops
 use Rattle.b67_ops.specs.declared.PlainKind.TheVariants as kinds
 use Rattle.b67_segment.specs.Operators.{Placed}
 use Rattle.b67_templates.specs.Contexts.{Context}
-use Rattle.b67_templates.specs.Fragments.{HasKind, Has}
-use Rattle.b67_templates.specs.Cells.{parameter_kinds, IsProcedure}
-use Rattle.b67_templates.specs.Code.{ActualsAt}
+use Rattle.b67_templates.specs.Fragments.{Has}
+use Rattle.b67_templates.specs.Cells as wants
+use Rattle.b67_templates.specs.Cells.{Wanted, parameter_wants, IsProcedure, declared, formal}
+use Rattle.b67_templates.specs.Code as code
+use Rattle.b67_templates.specs.Code.{ArrayActualAt, ActualsAt}
 use Rattle.b67_templates.specs.Depths.{line_depth}
-use Rattle.b67_standing.specs.Stepping.{Slot, operand, reference, mark, HasRoom, Leads, there}
-use Rattle.b67_standing.specs.Standing.{operands, AreOfKinds, CallsAt, Fills, Shows}
+use Rattle.b67_standing.specs.Stepping.{Slot, operand, reference, mark, HasRoom, push_array, stuff, Leads, there, first}
+use Rattle.b67_standing.specs.Standing.{operands, given_slot, given_slots, AreGiven, CallsAt, Fills, Shows}
 use Rattle.b67_standing.proofs.Leading.{on, valued_at}
 
 -- one value more lies on top
@@ -32,22 +35,46 @@ pub operands-length : (vs : List Value) (below : List Slot) → length (operands
 operands-length [] below = omega arith
 operands-length (v ∷ vs) below = omega (arith, operands-length vs (operand v ∷ below))
 
-valued-more : (vs : List Value) (v : Value) → map valued vs ++ valued v ∷ [] ≡ map valued (vs ++ v ∷ [])
-valued-more [] v = refl
-valued-more (x ∷ vs) v = ap (λ gs. valued x ∷ gs) (valued-more vs v)
+-- ---- actuals that are done
 
-of_kinds-more : (before : List (Option Kind)) (vs : List Value) (kind : Kind) (v : Value) → AreOfKinds before vs → HasKind kind v →
-    AreOfKinds (before ++ Some kind ∷ []) (vs ++ v ∷ [])
-of_kinds-more [] [] kind v h k = (k, tt)
-of_kinds-more (Some x ∷ before) (w ∷ vs) kind v h k = (h.0, of_kinds-more before vs kind v h.1 k)
-of_kinds-more _ _ kind v h k = absurd h
+-- each is a word at most
+pub given_slots-length : (wanted : List Wanted) (gs : List Given) (below : List Slot) → length (given_slots wanted gs below) ≤ length gs + length below
+given_slots-length [] gs below = omega arith
+given_slots-length (w ∷ wanted) [] below = omega arith
+given_slots-length (w ∷ wanted) (g ∷ gs) below = omega (arith, given_slots-length wanted gs (given_slot w g ∷ below))
+
+-- one actual more lies on top
+given_slots-more : (wanted : List Wanted) (gs : List Given) (w : Wanted) (g : Given) (below : List Slot) → length wanted ≡ length gs →
+    given_slots (wanted ++ w ∷ []) (gs ++ g ∷ []) below ≡ given_slot w g ∷ given_slots wanted gs below
+given_slots-more [] [] w g below e = refl
+given_slots-more (x ∷ wanted) (h ∷ gs) w g below e = given_slots-more wanted gs w g (given_slot x h ∷ below) (omega (arith, e))
+given_slots-more [] (h ∷ gs) w g below e = absurd (omega (arith, e))
+given_slots-more (x ∷ wanted) [] w g below e = absurd (omega (arith, e))
+
+module _ (sc : Scopes) (level : ℕ) where
+  given-length : (wanted : List Wanted) (gs : List Given) → AreGiven sc level wanted gs → length wanted ≡ length gs
+  given-length [] [] h = refl
+  given-length (wants.value kind ∷ wanted) (valued v ∷ gs) h = omega (arith, given-length wanted gs h.1)
+  given-length (wants.array shape ∷ wanted) (refers n ∷ gs) h = omega (arith, given-length wanted gs h.1)
+  given-length (wants.array shape ∷ wanted) (passed (cells.reference r) ∷ gs) h = omega (arith, given-length wanted gs h)
+  given-length _ _ h = absurd h
+
+  given-more : (wanted : List Wanted) (gs : List Given) (w : Wanted) (g : Given) → AreGiven sc level wanted gs → AreGiven sc level (w ∷ []) (g ∷ []) →
+      AreGiven sc level (wanted ++ w ∷ []) (gs ++ g ∷ [])
+  given-more [] [] w g h one = one
+  given-more (wants.value kind ∷ wanted) (valued v ∷ gs) w g h one = (h.0, given-more wanted gs w g h.1 one)
+  given-more (wants.array shape ∷ wanted) (refers n ∷ gs) w g h one = (h.0, given-more wanted gs w g h.1 one)
+  given-more (wants.array shape ∷ wanted) (passed (cells.reference r) ∷ gs) w g h one = given-more wanted gs w g h one
+  given-more _ _ w g h one = absurd h
 
 module _ (sc : Scopes) (context : Context) (ps : List Placed) (level most : ℕ) where
+  -- ---- calls
+
   -- Here the machine stands for a call whose actuals are evaluated up to their head, or whose entry is next. Behind the entry the
   -- code goes on at the place `next`.
   abbrev pub Filled : Named → ℕ → HalfGiven → ℕ → List Slot → List Slot → ℕ → Type 0
   Filled n callee (given gs) pc slots below next = CallsAt sc context ps level most n gs callee pc next slots below
-  Filled n callee (wants x) pc slots below next =
+  Filled n callee (rests.wants x) pc slots below next =
       (filled : ℕ) × Fills sc context ps level most n callee x pc slots below filled × Has ps level filled (ops.Plain kinds.Entr) next
 
   -- by private operators the machine comes there
@@ -62,50 +89,99 @@ module _ (sc : Scopes) (context : Context) (ps : List Placed) (level most : ℕ)
   after_filled n callee x below next l c =
       record { at = c.at; with_slots = c.with_slots; leads = on sc context ps level most l c.leads; fills = c.fills }
 
-  -- the reference of the procedure's control word, on which the values lie
+  -- the reference of the procedure's control word, on which the actuals lie
   abbrev pub called_on : Couple → List Slot → List Slot
   called_on couple below = reference couple ∷ mark ∷ below
 
-  -- what becomes of the actuals once these values lie there
-  abbrev pub ActualsOn : Named → ℕ → Couple → PExprs → List Sort → List (Option Kind) → ℕ → List Slot → ℕ → Type 0
+  -- what becomes of the actuals once these lie there
+  abbrev pub ActualsOn : Named → ℕ → Couple → PExprs → List Sort → List Wanted → ℕ → List Slot → ℕ → Type 0
   ActualsOn n callee couple es sorts after m below next =
-      (us : List Value) (gs : List Given) (before : List (Option Kind)) → gs ≡ map valued us → parameter_kinds sc callee ≡ before ++ after → AreOfKinds before us →
-      HasRoom most below (2 + length us + line_depth es) → ComesFilled n callee (settle_actuals sc es sorts gs) m (operands us (called_on couple below)) below next
+      (gs : List Given) (before : List Wanted) → parameter_wants sc callee ≡ before ++ after → AreGiven sc level before gs → HasRoom most below (2 + length gs + line_depth es) →
+      ComesFilled n callee (settle_actuals sc es sorts gs) m (given_slots before gs (called_on couple below)) below next
 
-  -- what is asked of an actual by value, and of those before and after it
-  pub record ActualAt (n : Named) (callee : ℕ) (couple : Couple) (values : List Value) (gs : List Given) (before : List (Option Kind)) (kind : Kind)
-      (after : List (Option Kind)) (sorts : List Sort) (es : PExprs) (m filled next : ℕ) (below : List Slot) : Type 0 where
+  -- what is asked of an actual, and of those before and after it
+  pub record ActualAt (n : Named) (callee : ℕ) (couple : Couple) (gs : List Given) (before : List Wanted) (wanted : Wanted) (after : List Wanted) (sorts : List Sort) (es : PExprs)
+      (m filled next : ℕ) (below : List Slot) : Type 0 where
     pub procedure : IsProcedure sc level n callee couple
-    pub given_is : gs ≡ map valued values
-    pub kinds_are : parameter_kinds sc callee ≡ before ++ Some kind ∷ after
-    pub fit : AreOfKinds before values
+    pub wants_are : parameter_wants sc callee ≡ before ++ wanted ∷ after
+    pub fit : AreGiven sc level before gs
     pub actuals : ActualsAt sc context ps level sorts after es m filled
     pub enter : Has ps level filled (ops.Plain kinds.Entr) next
-    pub room : HasRoom most below (2 + length values + 1 + line_depth es)
+    pub room : HasRoom most below (2 + length gs + 1 + line_depth es)
 
-  pub actual_stands : (n : Named) (callee : ℕ) (couple : Couple) (values : List Value) (gs : List Given) (before : List (Option Kind)) (kind : Kind)
-      (after : List (Option Kind)) (sorts : List Sort) (es : PExprs) (m filled next : ℕ) (below : List Slot) (z : Half) (pc : ℕ) (slots : List Slot) →
-      ActualAt n callee couple values gs before kind after sorts es m filled next below →
-      Shows sc context ps level most kind z pc slots (operands values (called_on couple below)) m → ActualsOn n callee couple es sorts after m below next →
-      ComesFilled n callee (valued_of gs z sorts es (settle_actuals sc es sorts)) pc slots below next
-  actual_stands n callee couple values gs before kind after sorts es m filled next below (val v) pc slots a sh c =
+  -- the actual is done, and those after it come
+  pub actual_done : (n : Named) (callee : ℕ) (couple : Couple) (gs : List Given) (before : List Wanted) (wanted : Wanted) (after : List Wanted) (sorts : List Sort) (es : PExprs)
+      (m filled next : ℕ) (below : List Slot) (g : Given) → ActualAt n callee couple gs before wanted after sorts es m filled next below →
+      AreGiven sc level (wanted ∷ []) (g ∷ []) → ActualsOn n callee couple es sorts after m below next →
+      ComesFilled n callee (settle_actuals sc es sorts (gs ++ g ∷ [])) m (given_slot wanted g ∷ given_slots before gs (called_on couple below)) below next
+  actual_done n callee couple gs before wanted after sorts es m filled next below g a fits c =
       let floor = called_on couple below in
-      let us = values ++ v ∷ [] in
-      let hs = gs ++ valued v ∷ [] in
-      let longer : length us ≡ length values + 1 = length-append values (v ∷ []) in
-      let more = c us hs (before ++ Some kind ∷ []) (ap (λ xs. xs ++ valued v ∷ []) a.given_is ∙ valued-more values v)
-      (a.kinds_are ∙ sym (append_assoc before (Some kind ∷ []) after)) (of_kinds-more before values kind v a.fit sh.2) (omega (arith, a.room, longer)) in
-      after_filled n callee (settle_actuals sc es sorts hs) below next (valued_at sc context ps level most pc slots v (operands values floor) m sh.0 sh.1)
-      (subst (λ o. ComesFilled n callee (settle_actuals sc es sorts hs) m o below next) (operands-more values v floor) more)
-  actual_stands n callee couple values gs before kind after sorts es m filled next below (busy h) pc slots a sh c = record {
+      let hs = gs ++ g ∷ [] in
+      let longer : length hs ≡ length gs + 1 = length-append gs (g ∷ []) in
+      subst (λ o. ComesFilled n callee (settle_actuals sc es sorts hs) m o below next)
+      (given_slots-more before gs wanted g floor (given-length sc level before gs a.fit))
+      (c hs (before ++ wanted ∷ []) (a.wants_are ∙ sym (append_assoc before (wanted ∷ []) after)) (given-more sc level before gs wanted g a.fit fits) (omega (arith, a.room, longer)))
+
+  -- an actual by value
+  pub actual_stands : (n : Named) (callee : ℕ) (couple : Couple) (gs : List Given) (before : List Wanted) (kind : Kind) (after : List Wanted) (sorts : List Sort) (es : PExprs)
+      (m filled next : ℕ) (below : List Slot) (z : Half) (pc : ℕ) (slots : List Slot) →
+      ActualAt n callee couple gs before (wants.value kind) after sorts es m filled next below →
+      Shows sc context ps level most kind z pc slots (given_slots before gs (called_on couple below)) m → ActualsOn n callee couple es sorts after m below next →
+      ComesFilled n callee (valued_of gs z sorts es (settle_actuals sc es sorts)) pc slots below next
+  actual_stands n callee couple gs before kind after sorts es m filled next below (val v) pc slots a sh c =
+      after_filled n callee (settle_actuals sc es sorts (gs ++ valued v ∷ [])) below next
+      (valued_at sc context ps level most pc slots v (given_slots before gs (called_on couple below)) m sh.0 sh.1)
+      (actual_done n callee couple gs before (wants.value kind) after sorts es m filled next below (valued v) a (sh.2, tt) c)
+  actual_stands n callee couple gs before kind after sorts es m filled next below (busy h) pc slots a sh c = record {
     at = pc;
     with_slots = slots;
     leads = there;
-    fills = (filled, (couple, values, before, kind, after, m, a.procedure, a.given_is, a.kinds_are, a.fit, sh, a.actuals, a.room), a.enter);
+    fills = (filled, (couple, before, kind, after, m, a.procedure, a.wants_are, a.fit, sh, a.actuals, a.room), a.enter);
   }
+
+  -- an actual that is the name of an array
+  pub array_stands : (n : Named) (callee : ℕ) (couple : Couple) (gs : List Given) (before : List Wanted) (shape : Shape) (after : List Wanted) (sorts : List Sort) (es : PExprs)
+      (f m filled next : ℕ) (below : List Slot) (x : Named) → ActualAt n callee couple gs before (wants.array shape) after sorts es m filled next below →
+      ArrayActualAt sc context ps level shape x f m → ActualsOn n callee couple es sorts after m below next →
+      ComesFilled n callee (alone_of (procedure_in (sort_at sc x)) (is_formal (sort_at sc x)) gs x sorts es (settle_actuals sc es sorts)) f
+      (given_slots before gs (called_on couple below)) below next
+  array_stands n callee couple gs before shape after sorts es f m filled next below x a (code.refers d c q i agrees name stuffs) go =
+      let floor = given_slots before gs (called_on couple below) in
+      let settled : Sort → HalfGiven = λ s. alone_of (procedure_in s) (is_formal s) gs x sorts es (settle_actuals sc es sorts) in
+      let pushes = push_array x (shape_of d) c (declared d refl i) name (omega (arith, a.room, given_slots-length before gs (called_on couple below))) in
+      subst (λ s. ComesFilled n callee (settled s) f floor below next) (sym i.sort_is)
+      (after_filled n callee (settle_actuals sc es sorts (gs ++ refers x ∷ [])) below next (first pushes (first (stuff x d c i name stuffs) there))
+      (actual_done n callee couple gs before (wants.array shape) after sorts es m filled next below (refers x) a ((d, c, i, agrees), tt) go))
+  array_stands n callee couple gs before shape after sorts es f m filled next below x a (code.passes actual c q i agrees name loads) go =
+      let floor = given_slots before gs (called_on couple below) in
+      let settled : Sort → HalfGiven = λ s. alone_of (procedure_in s) (is_formal s) gs x sorts es (settle_actuals sc es sorts) in
+      let pushes = push_array x actual c (formal i) name (omega (arith, a.room, given_slots-length before gs (called_on couple below))) in
+      subst (λ s. ComesFilled n callee (settled s) f floor below next) (sym i.sort_is)
+      (record {
+        at = q;
+        with_slots = reference c ∷ floor;
+        leads = first pushes there;
+        fills = (
+          filled,
+          (
+            couple,
+            before,
+            shape,
+            after,
+            m,
+            a.procedure,
+            a.wants_are,
+            a.fit,
+            record { actual = actual; couple = c; is_formal = i; agrees = agrees; lies = refl; stands = loads },
+            a.actuals,
+            a.room,
+          ),
+          a.enter,
+        );
+      })
 
   -- there is room for the start of the call
   pub fills_room : (n : Named) (callee : ℕ) (x : Actuals) (pc : ℕ) (slots below : List Slot) (filled : ℕ) → Fills sc context ps level most n callee x pc slots below filled →
       HasRoom most below 2
-  fills_room n callee (rests.in_value gs h sorts es) pc slots below filled s = omega (arith, s.12)
-  fills_room n callee (rests.pass gs x sorts es) pc slots below filled s = absurd s
+  fills_room n callee (rests.in_value gs h sorts es) pc slots below filled s = omega (arith, s.10)
+  fills_room n callee (rests.pass gs x sorts es) pc slots below filled s = omega (arith, s.10)

@@ -11,7 +11,6 @@ use Rattle.algol_meaning.specs.Rest.{Hole, Aim, Item, Rest, Answer}
 use Rattle.algol_meaning.specs.Settle.{aimed_of, settle}
 use Rattle.algol_meaning.specs.Statements.{assigned_of, aimed_at}
 use Rattle.algol_meaning.specs.Asks.{indexes, resume}
-use Rattle.algol_paths.specs.Arrays.{lows_of}
 use Rattle.b67_segment.specs.Operators.{Placed}
 use Rattle.b67_templates.specs.Contexts.{Context}
 use Rattle.b67_templates.specs.Fragments.{stop}
@@ -60,7 +59,7 @@ module _ (sc : Scopes) (context : Context) (ps : List Placed) (level most : ℕ)
       let one : more ≡ next.0 ∷ [] = next.1 ∙ ap (λ js. js ++ next.0 ∷ []) r.first in
       let over = descriptor (row n (next.0 ∷ [])) ∷ pend k in
       let d = settle_at sc context ps level most types.Number i y.2 two.0 two.0 two.2 stop over (omega (arith, y.8)) in
-      let seeks : Seeking sc context ps level most (settle sc i) d.at d.with_slots n r.couple (lows_of (r.array).pairs) (next.0 ∷ []) tree.none (pend k) y.3 =
+      let seeks : Seeking sc context ps level most (settle sc i) d.at d.with_slots n r.couple (r.array).lows (next.0 ∷ []) tree.none (pend k) y.3 =
       subst (λ lows. Seeking sc context ps level most (settle sc i) d.at d.with_slots n r.couple lows (next.0 ∷ []) tree.none (pend k) y.3) (sym r.lows_are)
       (two.0, two.1, d.shows, two.3, two.4, omega (arith, y.8)) in
       let aim : AimAt sc context ps level most n r.array r.couple s.0 e k y.3 = record {
@@ -98,7 +97,7 @@ module _ (sc : Scopes) (context : Context) (ps : List Placed) (level most : ℕ)
       Standing (rests.place_subscript n ks h es) e k pc slots → GoesOn sc context ps level most (rests.aiming (rests.place_subscript n ks h es) e k) pc slots
   subscript_on n ks h es e k pc slots s =
       let y = s.4 in
-      let w = sought_in sc context ps level most h pc slots n y.1 (lows_of (y.0).pairs) ks es (pend k) y.2 y.5 in
+      let w = sought_in sc context ps level most h pc slots n y.1 (y.0).lows ks es (pend k) y.2 y.5 in
       let aim : AimAt sc context ps level most n y.0 y.1 s.0 e k y.2 = record {
         is_array = y.3;
         kind_is = y.4;

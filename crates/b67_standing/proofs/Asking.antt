@@ -10,12 +10,11 @@ use Rattle.algol_tree.specs.Scopes.{Scopes}
 use Rattle.algol_meaning.specs.Value.{Value}
 use Rattle.algol_meaning.specs.Rest as rests
 use Rattle.algol_meaning.specs.Rest.{Hole, Actuals, Aim, Place, Given, Answer}
-use Rattle.algol_meaning.specs.Asks.{nothing, indexes, makes_arrays, reads_result, enters, leaves, stores, selects, turns, writes, enters_block, ask_hole, ask_actuals, ask_aim}
-use Rattle.algol_paths.specs.Arrays.{lows_of}
+use Rattle.algol_meaning.specs.Asks.{nothing, indexes, passes, makes_arrays, reads_result, enters, leaves, stores, selects, turns, writes, enters_block, ask_hole, ask_actuals, ask_aim}
 use Rattle.b67_segment.specs.Operators.{Placed}
 use Rattle.b67_templates.specs.Contexts.{Context}
 use Rattle.b67_standing.specs.Stepping.{Slot, operand, reference, mark, ready}
-use Rattle.b67_standing.specs.Standing.{operands, Holds, Fills, Aims}
+use Rattle.b67_standing.specs.Standing.{given_slots, Holds, Fills, Aims}
 use Rattle.b67_standing.proofs.Seeking.{sought_in}
 
 -- ---- statements
@@ -50,6 +49,9 @@ arrays_ask kind ns pairs vs e = cc
 indexes_asks : (n : Named) (ks : List ℕ) (v : Value) → indexes n ks v ≡ nothing → ⊥
 indexes_asks n ks v e = cc
 
+passes_asks : (n : Named) → passes n ≡ nothing → ⊥
+passes_asks n e = cc
+
 -- ---- expressions
 
 module _ (sc : Scopes) (context : Context) (ps : List Placed) (level most : ℕ) where
@@ -66,19 +68,19 @@ module _ (sc : Scopes) (context : Context) (ps : List Placed) (level most : ℕ)
     holds_asks k (rests.element n ks v) pc slots below to s e = cc
     holds_asks k (rests.index n ks v i is) pc slots below to s e = indexes_asks n ks v e
     holds_asks k (rests.subscript n ks h es) pc slots below to s e =
-        let w = sought_in sc context ps level most h pc slots n s.1 (lows_of (s.0).pairs) ks es below s.2 s.6 in holds_asks types.Number h pc slots w.over w.at w.holds e
+        let w = sought_in sc context ps level most h pc slots n s.1 (s.0).lows ks es below s.2 s.6 in holds_asks types.Number h pc slots w.over w.at w.holds e
     holds_asks k (rests.argument n x) pc slots below to s e = fills_asks n s.0 x pc slots below s.1 s.4 e
     holds_asks k _ pc slots below to s e = absurd s
 
     pub fills_asks : (n : Named) (callee : ℕ) (x : Actuals) (pc : ℕ) (slots below : List Slot) (filled : ℕ) →
         Fills sc context ps level most n callee x pc slots below filled → ask_actuals x ≡ nothing → ⊥
     fills_asks n callee (rests.in_value gs h sorts es) pc slots below filled s e =
-        holds_asks s.3 h pc slots (operands s.1 (reference s.0 ∷ mark ∷ below)) s.5 s.10 e
-    fills_asks n callee (rests.pass gs x sorts es) pc slots below filled s e = absurd s
+        holds_asks s.2 h pc slots (given_slots s.1 gs (reference s.0 ∷ mark ∷ below)) s.4 s.8 e
+    fills_asks n callee (rests.pass gs x sorts es) pc slots below filled s e = passes_asks x e
 
   pub aims_asks : (k : Kind) (x : Aim) (pc : ℕ) (slots below : List Slot) (to : ℕ) → Aims sc context ps level most k x pc slots below to → ask_aim x ≡ nothing → ⊥
   aims_asks k (rests.place_index n ks v es) pc slots below to s e = indexes_asks n ks v e
   aims_asks k (rests.place_subscript n ks h es) pc slots below to s e =
-      let w = sought_in sc context ps level most h pc slots n s.1 (lows_of (s.0).pairs) ks es below s.2 s.5 in holds_asks types.Number h pc slots w.over w.at w.holds e
+      let w = sought_in sc context ps level most h pc slots n s.1 (s.0).lows ks es below s.2 s.5 in holds_asks types.Number h pc slots w.over w.at w.holds e
   aims_asks k (rests.resolve n) pc slots below to s e = absurd s
   aims_asks k rests.inside_place pc slots below to s e = absurd s

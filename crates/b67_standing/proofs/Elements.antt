@@ -11,7 +11,7 @@ use Rattle.algol_meaning.specs.Rest as rests
 use Rattle.algol_meaning.specs.Rest.{Half, val, busy, Item, Rest, element_of}
 use Rattle.algol_meaning.specs.Settle.{aimed_of, settle, settle_place}
 use Rattle.algol_meaning.specs.Statements.{assigned_of, aimed_at}
-use Rattle.algol_paths.specs.Arrays.{DeclaredArray, lows_of}
+use Rattle.algol_paths.specs.Arrays.{Shape}
 use Rattle.b67_ops.specs.declared.Couple.{Couple}
 use Rattle.b67_ops.specs.declared.Operator.TheVariants as ops
 use Rattle.b67_ops.specs.declared.PlainKind.TheVariants as kinds
@@ -61,7 +61,7 @@ module _ (sc : Scopes) (context : Context) (ps : List Placed) (level most : ℕ)
   -- ---- the left side
 
   -- what is asked of an assignment to an element of this array, whose subscripts end at the place t
-  pub record AimAt (n : Named) (a : DeclaredArray) (c : Couple) (kind : Kind) (e : PExpr) (k : List Item) (t : ℕ) : Type 0 where
+  pub record AimAt (n : Named) (a : Shape) (c : Couple) (kind : Kind) (e : PExpr) (k : List Item) (t : ℕ) : Type 0 where
     pub is_array : IsArray sc level n a c
     pub kind_is : a.kind ≡ kind
     pub m : ℕ
@@ -73,19 +73,19 @@ module _ (sc : Scopes) (context : Context) (ps : List Placed) (level most : ℕ)
     pub follows : Following k next
     pub room : HasRoom most (pend k) (1 + depth e)
 
-  aim_stands : (n : Named) (a : DeclaredArray) (c : Couple) (kind : Kind) (e : PExpr) (k : List Item) (t : ℕ) (f : AimAt n a c kind e k t) (x : rests.Aim) (pc : ℕ)
+  aim_stands : (n : Named) (a : Shape) (c : Couple) (kind : Kind) (e : PExpr) (k : List Item) (t : ℕ) (f : AimAt n a c kind e k t) (x : rests.Aim) (pc : ℕ)
       (slots : List Slot) → Aims sc context ps level most kind x pc slots (pend k) f.m → Coming (rests.aiming x e k) pc slots
   aim_stands n a c kind e k t f x pc slots s =
       stays_here sc context ps level most pc slots (rests.aiming x e k) (aims_asks sc context ps level most kind x pc slots (pend k) f.m s)
       (kind, f.m, f.q, f.next, s, f.right, f.store, f.follows, f.room)
 
-  pub aimed_stands : (n : Named) (a : DeclaredArray) (c : Couple) (kind : Kind) (e : PExpr) (k : List Item) (t : ℕ) → AimAt n a c kind e k t → (x : Half) (pc : ℕ)
-      (slots : List Slot) (ks : List ℕ) (es : PExprs) → Seeking sc context ps level most x pc slots n c (lows_of a.pairs) ks es (pend k) t →
+  pub aimed_stands : (n : Named) (a : Shape) (c : Couple) (kind : Kind) (e : PExpr) (k : List Item) (t : ℕ) → AimAt n a c kind e k t → (x : Half) (pc : ℕ)
+      (slots : List Slot) (ks : List ℕ) (es : PExprs) → Seeking sc context ps level most x pc slots n c a.lows ks es (pend k) t →
       Coming (aimed_at (aimed_of n ks x es) e (settle sc e) k) pc slots
   aimed_stands n a c kind e k t f (busy h) pc slots ks es s =
       aim_stands n a c kind e k t f (rests.place_subscript n ks h es) pc slots (a, c, t, f.is_array, f.kind_is, s, f.index)
   aimed_stands n a c kind e k t f (val v) pc slots ks tree.none s =
-      let l = last_moved sc context ps level most v pc slots n a c (lows_of a.pairs) ks (pend k) t f.is_array s in
+      let l = last_moved sc context ps level most v pc slots n a c a.lows ks (pend k) t f.is_array s in
       after_rest sc context ps level most l.leads
       (aim_stands n a c kind e k t f (rests.place_index n ks v tree.none) t l.with_slots (record {
         array = a;
@@ -99,7 +99,7 @@ module _ (sc : Scopes) (context : Context) (ps : List Placed) (level most : ℕ)
         stands = f.index;
       }))
   aimed_stands n a c kind e k t f (val v) pc slots ks (tree.more i tree.none) s =
-      let l = first_moved sc context ps level most v pc slots n a c (lows_of a.pairs) ks i (pend k) t f.is_array s in
+      let l = first_moved sc context ps level most v pc slots n a c a.lows ks i (pend k) t f.is_array s in
       after_rest sc context ps level most l.leads
       (aim_stands n a c kind e k t f (rests.place_index n ks v (tree.more i tree.none)) l.at (reference c ∷ operand (number (moved l.low (whole_of v))) ∷ pend k) (
         l.low,
@@ -124,7 +124,7 @@ module _ (sc : Scopes) (context : Context) (ps : List Placed) (level most : ℕ)
         l.room,
       ))
   aimed_stands n a c kind e k t f (val v) pc slots ks (tree.more i (tree.more i' is)) s =
-      absurd (no_third sc context ps level most (λ over m. Shows sc context ps level most types.Number (val v) pc slots over m) n c (lows_of a.pairs) ks i i' is (pend k) t s)
+      absurd (no_third sc context ps level most (λ over m. Shows sc context ps level most types.Number (val v) pc slots over m) n c a.lows ks i i' is (pend k) t s)
 
   -- the whole statement
   pub element_assign_at : (n : Named) (i : PExpr) (is : PExprs) (e : PExpr) (f t : ℕ) (k : List Item) → ElementAssignAt sc context ps level n (tree.more i is) e f t → Following k t →
@@ -144,6 +144,6 @@ module _ (sc : Scopes) (context : Context) (ps : List Placed) (level most : ℕ)
         follows = follows;
         room = omega (arith, room);
       } in
-      let begun = begun_at sc context ps level most n h.1 (lows_of a.pairs) i is f h.2 (pend k) (omega (arith, room))
+      let begun = begun_at sc context ps level most n h.1 a.lows i is f h.2 (pend k) (omega (arith, room))
       (λ m s. settle_at sc context ps level most types.Number i f m m s stop (pend k) (omega (arith, room))) h.6 in
       after_rest sc context ps level most begun.leads (aimed_stands n a h.1 a.kind e k h.2 aim (settle sc i) begun.at begun.with_slots [] is begun.seeks)

@@ -14,7 +14,7 @@ use Rattle.b67_templates.specs.Contexts.{Context}
 use Rattle.b67_templates.specs.Fragments.{Has, AllAt, Goes, stop, over}
 use Rattle.b67_templates.specs.Code.{HasNoCounts, StmtAt, KAt}
 use Rattle.b67_templates.specs.Depths.{depth, stmt_depth, counts_in}
-use Rattle.b67_standing.specs.Stepping.{Slot, operand, HasRoom, Step, push_number, push_truth, push_name, push_array, move, exchange, calculate, negate, invert, false_stays, false_goes, true_stays, true_goes, go, call, announce, summon, drop, counts, spent, within, past, within_literal, past_literal, Leads, there, first}
+use Rattle.b67_standing.specs.Stepping.{Slot, operand, HasRoom, Step, push_number, push_truth, push_name, push_array, stuff, move, exchange, calculate, negate, invert, false_stays, false_goes, true_stays, true_goes, go, call, announce, summon, drop, counts, spent, within, past, within_literal, past_literal, Leads, there, first}
 use Rattle.b67_standing.specs.Standing.{pend, Follows}
 
 -- an expression needs a word at least
@@ -111,6 +111,7 @@ module _ (sc : Scopes) (context : Context) (ps : List Placed) (level most : ℕ)
   within_most (push_truth b h room) l = omega (arith, room)
   within_most (push_name n k h room) l = omega (arith, room)
   within_most (push_array n a c i h room) l = omega (arith, room)
+  within_most (stuff n d c i named h) l = omega (arith, l)
   within_most (move low i h w room on) l = omega (arith, l)
   within_most (exchange v h s) l = omega (arith, l)
   within_most (calculate op v w x h i j e) l = omega (arith, l)

@@ -17,7 +17,7 @@ use Rattle.b67_ops.specs.declared.intrinsic.Intrinsic.TheVariants.{Write, Select
 use Rattle.b67_segment.specs.Operators.{Placed}
 use Rattle.b67_templates.specs.Contexts.{Context}
 use Rattle.b67_templates.specs.Fragments.{Goes, stop, over, code_at}
-use Rattle.b67_templates.specs.Cells.{parameter_kinds}
+use Rattle.b67_templates.specs.Cells.{parameter_wants}
 use Rattle.b67_templates.specs.Code.{FormatIs, CallStmtAt, StmtAt, StmtsAt, WriteAt}
 use Rattle.b67_templates.specs.Depths.{depth, stmt_depth, stmts_depth}
 use Rattle.b67_standing.specs.Stepping.{Slot, intrinsic, control, mark, HasRoom, push_number, call, announce, summon, there, first}
@@ -91,8 +91,8 @@ module _ (sc : Scopes) (context : Context) (ps : List Placed) (level most : ℕ)
       let b = entry.2 in
       let settled : ℕ → HalfGiven = λ z. settle_actuals sc es (sorts_of ((block_numbered sc.blocks z).parameters)) [] in
       let filled : ComesFilled sc context ps level most n h.0 (settled h.0) entry.0 (called_on sc context ps level most b.couple (pend k)) (pend k) h.1 =
-      actuals_at sc context ps level most es (sorts_of ((block_numbered sc.blocks h.0).parameters)) (parameter_kinds sc h.0) n h.0 b.couple entry.0 entry.1 h.1 (pend k) b.procedure
-      entry.3 entry.4 [] [] [] refl refl tt (omega (arith, room)) in
+      actuals_at sc context ps level most es (sorts_of ((block_numbered sc.blocks h.0).parameters)) (parameter_wants sc h.0) n h.0 b.couple entry.0 entry.1 h.1 (pend k) b.procedure
+      entry.3 entry.4 [] [] refl tt (omega (arith, room)) in
       subst (λ z. Coming (statement_called_of n (settled z) k) f (pend k)) (sym (ap block_of (b.procedure).sort_is))
       (after_rest sc context ps level most (first (summon n h.0 b (omega (arith, room))) there)
       (after_rest sc context ps level most filled.leads

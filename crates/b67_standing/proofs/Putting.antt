@@ -5,25 +5,27 @@ use Rattle.algol_tree.specs.declared.tree.Kind.{Kind}
 use Rattle.algol_tree.specs.declared.tree.Kind.TheVariants as types
 use Rattle.algol_tree.specs.declared.tree.Named.{Named}
 use Rattle.algol_tree.specs.Plain as tree
-use Rattle.algol_tree.specs.Plain.{PExpr}
+use Rattle.algol_tree.specs.Plain.{PExpr, PExprs}
+use Rattle.algol_tree.specs.Sorts.{Sort}
 use Rattle.algol_tree.specs.Types.{given_by, taken_by}
 use Rattle.algol_tree.specs.Scopes.{Scopes}
 use Rattle.b67_num.specs.declared.NumFault.{NumFault}
+use Rattle.algol_meaning.specs.Value as cells
 use Rattle.algol_meaning.specs.Value.{Value}
 use Rattle.algol_meaning.specs.Rest as rests
-use Rattle.algol_meaning.specs.Rest.{Hole, Actuals, Half, val, busy, HalfGiven, wants, Answer}
+use Rattle.algol_meaning.specs.Rest.{Given, Hole, Actuals, Half, val, busy, HalfGiven, Answer}
 use Rattle.algol_meaning.specs.Settle.{subscripted_of, right_of, left_of, negated_of, inverted_of, condition_of, called_of, valued_of, half_of, settle, settle_actuals, put, put_actuals}
-use Rattle.algol_meaning.specs.Asks.{Ask, nothing, reads, reads_element, indexes, fails, ask_hole, ask_actuals}
-use Rattle.algol_paths.specs.Arrays.{lows_of}
+use Rattle.algol_meaning.specs.Asks.{Ask, nothing, reads, reads_element, indexes, passes, fails, ask_hole, ask_actuals}
 use Rattle.b67_ops.specs.declared.Operator.TheVariants as ops
 use Rattle.b67_ops.specs.declared.PlainKind.TheVariants as kinds
 use Rattle.b67_segment.specs.Operators.{Placed}
 use Rattle.b67_templates.specs.Contexts.{Context}
 use Rattle.b67_templates.specs.Fragments.{HasKind, Has, Goes, stop, over}
+use Rattle.b67_templates.specs.Cells as wants
 use Rattle.b67_templates.specs.Code.{ReadAt}
 use Rattle.b67_standing.specs.Stepping.{row, Slot, operand, descriptor, ready, HasRoom}
-use Rattle.b67_standing.specs.Standing.{operands, Gives, pushed, IsNext, ElementReadAt, of_row, Holds, Fills, ActionAt, Acted, Entered}
-use Rattle.b67_standing.proofs.Actuals.{ComesFilled, after_filled, called_on, actual_stands, fills_room}
+use Rattle.b67_standing.specs.Standing.{given_slots, Gives, pushed, IsNext, ElementReadAt, of_row, Holds, Fills, ActionAt, Acted, Entered}
+use Rattle.b67_standing.proofs.Actuals.{ComesFilled, after_filled, called_on, actual_done, actual_stands, fills_room}
 use Rattle.b67_standing.proofs.Seeking.{Seeking, sought_in}
 use Rattle.b67_standing.proofs.Halves.{Comes, here, after, of_kind, right_at, left_at, negated_at, inverted_at, condition_at}
 use Rattle.b67_standing.proofs.Subscripts.{subscript_at}
@@ -67,7 +69,7 @@ pub record Inside (sc : Scopes) (h : Hole) : Type 0 where
   pub same : (a : Answer) → put sc (inside_of h) a ≡ put sc h a
 
 pub record InsideActuals (sc : Scopes) (x : Actuals) : Type 0 where
-  pub inner : put_actuals sc x rests.entered ≡ wants (inside_actuals x)
+  pub inner : put_actuals sc x rests.entered ≡ rests.wants (inside_actuals x)
   pub same : (a : Answer) → put_actuals sc (inside_actuals x) a ≡ put_actuals sc x a
 
 -- The head does what is asked for, and whatever it answers, the machine then comes to where it stands for the expression. Where a
@@ -127,7 +129,7 @@ module _ (sc : Scopes) (context : Context) (ps : List Placed) (level most : ℕ)
       let one : more ≡ next.0 ∷ [] = next.1 ∙ ap (λ js. js ++ next.0 ∷ []) r.first in
       let over = descriptor (row n (next.0 ∷ [])) ∷ below in
       let d = settle_at sc context ps level most types.Number e s.2 two.0 two.0 two.2 stop over (omega (arith, s.9)) in
-      let seeks : Seeking sc context ps level most (settle sc e) d.at d.with_slots n r.couple (lows_of (r.array).pairs) (next.0 ∷ []) tree.none below s.3 =
+      let seeks : Seeking sc context ps level most (settle sc e) d.at d.with_slots n r.couple (r.array).lows (next.0 ∷ []) tree.none below s.3 =
       subst (λ lows. Seeking sc context ps level most (settle sc e) d.at d.with_slots n r.couple lows (next.0 ∷ []) tree.none below s.3) (sym r.lows_are)
       (two.0, two.1, d.shows, two.3, two.4, omega (arith, s.9)) in
       subst (λ js. Coming k s.2 (descriptor (row n js) ∷ below) (subscripted_of n js (settle sc e) tree.none) below to) (sym one)
@@ -166,6 +168,29 @@ module _ (sc : Scopes) (context : Context) (ps : List Placed) (level most : ℕ)
   given_back k next below to g (rests.place p) at left e l fits = absurd fits
   given_back k next below to g rests.entered at left e l fits = absurd fits
 
+  -- the reference in a parameter's cell lies there, and the actuals after it come
+  passed_answered : (n : Named) (callee : ℕ) (gs : List Given) (x : Named) (sorts : List Sort) (es : PExprs) (pc : ℕ) (slots below : List Slot) (filled next : ℕ)
+      (s : Fills sc context ps level most n callee (rests.pass gs x sorts es) pc slots below filled) → Has ps level filled (ops.Plain kinds.Entr) next → (a : Answer) (at : ℕ)
+      (left : List Slot) →
+      Acted sc context ps level most (passes x) pc slots (s.2, s.4, given_slots s.1 gs (called_on sc context ps level most s.0 below), s.8) a at left →
+      ComesFilled sc context ps level most n callee (put_actuals sc (rests.pass gs x sorts es) a) at left below next
+  passed_answered n callee gs x sorts es pc slots below filled next s enter (rests.cell (cells.reference r)) at left l =
+      let floor = given_slots s.1 gs (called_on sc context ps level most s.0 below) in
+      let more = settle_actuals sc es sorts (gs ++ rests.passed (cells.reference r) ∷ []) in
+      subst (λ z. ComesFilled sc context ps level most n callee more z left below next) (sym l.0)
+      (subst (λ o. ComesFilled sc context ps level most n callee more s.4 o below next) (sym l.1)
+      (actual_done sc context ps level most n callee s.0 gs s.1 (wants.array s.2) s.3 sorts es s.4 filled next below (rests.passed (cells.reference r))
+      (record { procedure = s.5; wants_are = s.6; fit = s.7; actuals = s.9; enter = enter; room = s.10 }) tt
+      (actuals_at sc context ps level most es sorts s.3 n callee s.0 s.4 filled next below s.5 s.9 enter)))
+  passed_answered n callee gs x sorts es pc slots below filled next s enter (rests.cell (cells.simple v)) at left l = absurd l
+  passed_answered n callee gs x sorts es pc slots below filled next s enter (rests.cell (cells.event v)) at left l = absurd l
+  passed_answered n callee gs x sorts es pc slots below filled next s enter (rests.cell (cells.array v)) at left l = absurd l
+  passed_answered n callee gs x sorts es pc slots below filled next s enter (rests.cell (cells.named v)) at left l = absurd l
+  passed_answered n callee gs x sorts es pc slots below filled next s enter (rests.value v) at left l = absurd l
+  passed_answered n callee gs x sorts es pc slots below filled next s enter rests.done at left l = absurd l
+  passed_answered n callee gs x sorts es pc slots below filled next s enter (rests.place p) at left l = absurd l
+  passed_answered n callee gs x sorts es pc slots below filled next s enter rests.entered at left l = absurd l
+
   mutual
     pub puts_on : (k : Kind) (h : Hole) (pc : ℕ) (slots below : List Slot) (to : ℕ) → Holds sc context ps level most k h pc slots below to → Putting k h pc slots below to
     puts_on k (rests.read n) pc slots below to s =
@@ -195,7 +220,7 @@ module _ (sc : Scopes) (context : Context) (ps : List Placed) (level most : ℕ)
       inside = λ at left wanted l. absurd l;
     }
     puts_on k (rests.subscript n ks h es) pc slots below to s =
-        let w = sought_in sc context ps level most h pc slots n s.1 (lows_of (s.0).pairs) ks es below s.2 s.6 in
+        let w = sought_in sc context ps level most h pc slots n s.1 (s.0).lows ks es below s.2 s.6 in
         let p = puts_on types.Number h pc slots w.over w.at w.holds in
         let go : (z : Half) (at : ℕ) (left : List Slot) → Coming types.Number at left z w.over w.at → Coming k at left (subscripted_of n ks z es) below to = λ z at left c.
         after sc context ps level most k c.leads
@@ -297,14 +322,14 @@ module _ (sc : Scopes) (context : Context) (ps : List Placed) (level most : ℕ)
         Fills sc context ps level most n callee x pc slots below filled → Has ps level filled (ops.Plain kinds.Entr) next →
         FillsOn sc context ps level most (ask_actuals x) n callee x pc slots below next
     fills_on n callee (rests.in_value gs h sorts es) pc slots below filled next s enter =
-        let floor = operands s.1 (called_on sc context ps level most s.0 below) in
-        let p = puts_on s.3 h pc slots floor s.5 s.10 in
+        let floor = given_slots s.1 gs (called_on sc context ps level most s.0 below) in
+        let p = puts_on s.2 h pc slots floor s.4 s.8 in
         let around : Half → HalfGiven = λ z. valued_of gs z sorts es (settle_actuals sc es sorts) in
-        let go : (z : Half) (at : ℕ) (left : List Slot) → Coming s.3 at left z floor s.5 → ComesFilled sc context ps level most n callee (around z) at left below next = λ z at left c.
+        let go : (z : Half) (at : ℕ) (left : List Slot) → Coming s.2 at left z floor s.4 → ComesFilled sc context ps level most n callee (around z) at left below next = λ z at left c.
         after_filled sc context ps level most n callee (around z) below next c.leads
-        (actual_stands sc context ps level most n callee s.0 s.1 gs s.2 s.3 s.4 sorts es s.5 filled next below z c.at c.with_slots
-        (record { procedure = s.6; given_is = s.7; kinds_are = s.8; fit = s.9; actuals = s.11; enter = enter; room = s.12 }) c.shows
-        (actuals_at sc context ps level most es sorts s.4 n callee s.0 s.5 filled next below s.6 s.11 enter)) in
+        (actual_stands sc context ps level most n callee s.0 gs s.1 s.2 s.3 sorts es s.4 filled next below z c.at c.with_slots
+        (record { procedure = s.5; wants_are = s.6; fit = s.7; actuals = s.9; enter = enter; room = s.10 }) c.shows
+        (actuals_at sc context ps level most es sorts s.3 n callee s.0 s.4 filled next below s.5 s.9 enter)) in
         record {
           action = p.action;
           answered = λ a at left l. go (put sc h a) at left (p.answered a at left l);
@@ -312,4 +337,9 @@ module _ (sc : Scopes) (context : Context) (ps : List Placed) (level most : ℕ)
           inside = λ at left wanted l.
               let i = p.inside at left wanted l in record { inner = ap around i.inner; same = λ a. ap around (i.same a) };
         }
-    fills_on n callee (rests.pass gs x sorts es) pc slots below filled next s enter = absurd s
+    fills_on n callee (rests.pass gs x sorts es) pc slots below filled next s enter = record {
+      action = (s.2, s.4, given_slots s.1 gs (called_on sc context ps level most s.0 below), s.8);
+      answered = passed_answered n callee gs x sorts es pc slots below filled next s enter;
+      returns = λ at left wanted l. absurd l;
+      inside = λ at left wanted l. absurd l;
+    }

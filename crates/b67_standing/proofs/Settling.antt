@@ -1,5 +1,5 @@
 -- From the start of its code an expression comes, by private operators alone, to where the machine stands for it after the silent steps.
-use Rattle.std.proofs.Common.{◌≡◌, refl, sym, ap, ◌∙◌, subst, ℕ, ◌≤◌, arith, Bool, true, List, [], ◌∷◌, Option, Some, None}
+use Rattle.std.proofs.Common.{◌≡◌, refl, sym, ap, ◌∙◌, subst, ℕ, ◌≤◌, arith, Bool, true, List, [], ◌∷◌, Some}
 use Rattle.std.proofs.lemmas.List.{append-nil}
 use Rattle.algol_tree.specs.declared.tree.Kind.{Kind}
 use Rattle.algol_tree.specs.declared.tree.Kind.TheVariants as types
@@ -12,22 +12,22 @@ use Rattle.algol_tree.specs.Types.{given_by, taken_by}
 use Rattle.algol_tree.specs.Scopes.{Scopes}
 use Rattle.algol_meaning.specs.Value.{number, truth}
 use Rattle.algol_meaning.specs.Rest as rests
-use Rattle.algol_meaning.specs.Rest.{Half, val, busy, HalfGiven, given, wants}
+use Rattle.algol_meaning.specs.Rest.{Half, val, busy, HalfGiven, given}
 use Rattle.algol_meaning.specs.Settle.{left_of, negated_of, inverted_of, named_of, called_of, sorts_of, block_of, sort_at, actual_of, settle, settle_actuals}
-use Rattle.algol_paths.specs.Arrays.{lows_of}
 use Rattle.b67_ops.specs.declared.Couple.{Couple}
 use Rattle.b67_ops.specs.declared.Operator.TheVariants as ops
 use Rattle.b67_ops.specs.declared.PlainKind.TheVariants as kinds
 use Rattle.b67_segment.specs.Operators.{Placed}
 use Rattle.b67_templates.specs.Contexts.{Context}
 use Rattle.b67_templates.specs.Fragments.{Has, Goes, stop, over}
-use Rattle.b67_templates.specs.Cells.{parameter_kinds, IsProcedure}
+use Rattle.b67_templates.specs.Cells as wants
+use Rattle.b67_templates.specs.Cells.{Wanted, parameter_wants, IsProcedure}
 use Rattle.b67_templates.specs.Code.{NameAt, reads, calls, ExprAt, ActualsAt}
 use Rattle.b67_templates.specs.Depths.{depth}
 use Rattle.b67_standing.specs.Stepping.{Slot, operand, reference, mark, HasRoom, push_number, push_truth, summon, there, first}
-use Rattle.b67_standing.specs.Standing.{operands, AreOfKinds}
+use Rattle.b67_standing.specs.Standing.{given_slots, AreGiven}
 use Rattle.b67_standing.proofs.Leading.{depth-positive}
-use Rattle.b67_standing.proofs.Actuals.{operands-length, Filled, ComesFilled, after_filled, called_on, ActualsOn, actual_stands}
+use Rattle.b67_standing.proofs.Actuals.{given_slots-length, Filled, ComesFilled, after_filled, called_on, ActualsOn, actual_stands, array_stands}
 use Rattle.b67_standing.proofs.Values.{variable_reads, procedure_enters}
 use Rattle.b67_standing.proofs.Halves.{Comes, here, after, of_kind, negated_at, inverted_at, left_at, condition_at}
 use Rattle.b67_standing.proofs.Subscripts.{begun_at, subscript_at}
@@ -52,10 +52,8 @@ module _ (sc : Scopes) (context : Context) (ps : List Placed) (level most : ℕ)
         record {
           couple = b.couple;
           procedure = b.procedure;
-          values = [];
-          given = refl;
-          fit = subst (λ o. AreOfKinds o []) (sym none) tt;
-          lies = refl;
+          fit = subst (λ o. AreGiven sc level o []) (sym none) tt;
+          lies = ap (λ o. given_slots o [] (reference b.couple ∷ mark ∷ below)) (sym none);
           stands = subst (λ z. Has ps level z (ops.Plain kinds.Entr) t) (sym c.3) c.4;
         },
         e,
@@ -68,7 +66,7 @@ module _ (sc : Scopes) (context : Context) (ps : List Placed) (level most : ℕ)
       Filled sc context ps level most n callee x pc slots below next → (block_numbered sc.blocks callee).result ≡ Some k → HasRoom most below 2 → Goes ps level next to →
       Coming k pc slots (called_of n x) below to
   called_stands k n callee (given gs) pc slots below next to s e room g = here sc context ps level most k pc slots (busy (rests.enter n gs)) below to (callee, next, s, e, room, g)
-  called_stands k n callee (wants x) pc slots below next to s e room g =
+  called_stands k n callee (rests.wants x) pc slots below next to s e room g =
       here sc context ps level most k pc slots (busy (rests.argument n x)) below to (callee, s.0, next, e, s.1, s.2, g)
 
   mutual
@@ -82,7 +80,7 @@ module _ (sc : Scopes) (context : Context) (ps : List Placed) (level most : ℕ)
         (record { at = t; with_slots = operand (truth b) ∷ below; leads = first (push_truth b h.1 room) there; shows = (g, refl, tt) })
     settle_at k (tree.variable (tree.subscripted n tree.none)) f t u h g below room = name_at k n f t u h g below room
     settle_at k (tree.variable (tree.subscripted n (tree.more e es))) f t u h g below room =
-        let begun = begun_at sc context ps level most n h.1 (lows_of (h.0).pairs) e es f h.2 below (omega (arith, room))
+        let begun = begun_at sc context ps level most n h.1 (h.0).lows e es f h.2 below (omega (arith, room))
         (λ m i. settle_at types.Number e f m m i stop below (omega (arith, room))) h.5 in
         after sc context ps level most k begun.leads
         (subscript_at sc context ps level most k n h.0 h.1 (settle sc e) begun.at begun.with_slots [] es below h.2 t u h.3 h.4 begun.seeks h.6 g)
@@ -106,48 +104,59 @@ module _ (sc : Scopes) (context : Context) (ps : List Placed) (level most : ℕ)
     settle_at k (tree.call (tree.called n es)) f t u h g below room =
         let c = h.1 in
         let b = c.2 in
-        let kinds = parameter_kinds sc h.0 in
         let settled : ℕ → HalfGiven = λ z. settle_actuals sc es (sorts_of ((block_numbered sc.blocks z).parameters)) [] in
         let filled : ComesFilled sc context ps level most n h.0 (settled h.0) c.0 (called_on sc context ps level most b.couple below) below t =
-        actuals_at es (sorts_of ((block_numbered sc.blocks h.0).parameters)) kinds n h.0 b.couple c.0 c.1 t below b.procedure c.3 c.4 [] [] [] refl refl tt (omega (arith, room)) in
+        actuals_at es (sorts_of ((block_numbered sc.blocks h.0).parameters)) (parameter_wants sc h.0) n h.0 b.couple c.0 c.1 t below b.procedure c.3 c.4 [] [] refl tt (omega (arith, room)) in
         subst (λ z. Coming k f below (called_of n (settled z)) below u) (sym (ap block_of (b.procedure).sort_is))
         (after sc context ps level most k (first (summon n h.0 b (omega (arith, room))) there)
         (after sc context ps level most k filled.leads (called_stands k n h.0 (settled h.0) filled.at filled.with_slots below t u filled.fills h.2 (omega (arith, room)) g)))
     settle_at k _ f t u h g below room = absurd h
 
-    -- the values of the actuals come to lie there one after another
-    pub actuals_at : (es : PExprs) (sorts : List Sort) (after : List (Option Kind)) (n : Named) (callee : ℕ) (couple : Couple) (f filled next : ℕ) (below : List Slot) →
+    -- the actuals come to lie there one after another
+    pub actuals_at : (es : PExprs) (sorts : List Sort) (after : List Wanted) (n : Named) (callee : ℕ) (couple : Couple) (f filled next : ℕ) (below : List Slot) →
         IsProcedure sc level n callee couple → ActualsAt sc context ps level sorts after es f filled → Has ps level filled (ops.Plain kinds.Entr) next →
         ActualsOn sc context ps level most n callee couple es sorts after f below next
-    actuals_at tree.none [] [] n callee couple f filled next below procedure l enter us gs before given_is kinds_are fit room = record {
-      at = f;
-      with_slots = operands us (called_on sc context ps level most couple below);
-      leads = there;
-      fills = record {
-        couple = couple;
-        procedure = procedure;
-        values = us;
-        given = given_is;
-        fit = subst (λ o. AreOfKinds o us) (sym (kinds_are ∙ append-nil before)) fit;
-        lies = refl;
-        stands = subst (λ z. Has ps level z (ops.Plain kinds.Entr) next) (sym l) enter;
-      };
-    }
-    actuals_at (tree.more e es) (sort ∷ sorts) (Some kind ∷ after_kinds) n callee couple f filled next below procedure l enter us gs before given_is kinds_are fit room =
+    actuals_at tree.none [] [] n callee couple f filled next below procedure l enter gs before wants_are fit room =
         let floor = called_on sc context ps level most couple below in
+        let all : parameter_wants sc callee ≡ before = wants_are ∙ append-nil before in
+        record {
+          at = f;
+          with_slots = given_slots before gs floor;
+          leads = there;
+          fills = record {
+            couple = couple;
+            procedure = procedure;
+            fit = subst (λ o. AreGiven sc level o gs) (sym all) fit;
+            lies = ap (λ o. given_slots o gs floor) (sym all);
+            stands = subst (λ z. Has ps level z (ops.Plain kinds.Entr) next) (sym l) enter;
+          };
+        }
+    actuals_at (tree.more e es) (sort ∷ sorts) (wants.value kind ∷ later) n callee couple f filled next below procedure l enter gs before wants_are fit room =
+        let floor = given_slots before gs (called_on sc context ps level most couple below) in
         let deep : 1 ≤ depth e = depth-positive e in
-        let c = settle_at kind e f l.0 l.0 l.2 stop (operands us floor) (omega (arith, room, operands-length us floor)) in
+        let c = settle_at kind e f l.0 l.0 l.2 stop floor (omega (arith, room, given_slots-length before gs (called_on sc context ps level most couple below))) in
         let settled : Bool → HalfGiven = λ b. actual_of sc b e (settle sc e) gs sorts es (settle_actuals sc es sorts) in
-        subst (λ b. ComesFilled sc context ps level most n callee (settled b) f (operands us floor) below next) (sym l.1)
+        subst (λ b. ComesFilled sc context ps level most n callee (settled b) f floor below next) (sym l.1)
         (after_filled sc context ps level most n callee (settled true) below next c.leads
-        (actual_stands sc context ps level most n callee couple us gs before kind after_kinds sorts es l.0 filled next below (settle sc e) c.at c.with_slots
-        (record { procedure = procedure; given_is = given_is; kinds_are = kinds_are; fit = fit; actuals = l.3; enter = enter; room = omega (arith, room, deep) })
-        c.shows (actuals_at es sorts after_kinds n callee couple l.0 filled next below procedure l.3 enter)))
-    actuals_at tree.none [] (x ∷ after_kinds) n callee couple f filled next below procedure l enter us gs before given_is kinds_are fit room = absurd l
-    actuals_at tree.none (sort ∷ sorts) [] n callee couple f filled next below procedure l enter us gs before given_is kinds_are fit room = absurd l
-    actuals_at tree.none (sort ∷ sorts) (Some kind ∷ after_kinds) n callee couple f filled next below procedure l enter us gs before given_is kinds_are fit room = absurd l
-    actuals_at tree.none (sort ∷ sorts) (None ∷ after_kinds) n callee couple f filled next below procedure l enter us gs before given_is kinds_are fit room = absurd l
-    actuals_at (tree.more e es) [] [] n callee couple f filled next below procedure l enter us gs before given_is kinds_are fit room = absurd l
-    actuals_at (tree.more e es) [] (x ∷ after_kinds) n callee couple f filled next below procedure l enter us gs before given_is kinds_are fit room = absurd l
-    actuals_at (tree.more e es) (sort ∷ sorts) [] n callee couple f filled next below procedure l enter us gs before given_is kinds_are fit room = absurd l
-    actuals_at (tree.more e es) (sort ∷ sorts) (None ∷ after_kinds) n callee couple f filled next below procedure l enter us gs before given_is kinds_are fit room = absurd l
+        (actual_stands sc context ps level most n callee couple gs before kind later sorts es l.0 filled next below (settle sc e) c.at c.with_slots
+        (record { procedure = procedure; wants_are = wants_are; fit = fit; actuals = l.3; enter = enter; room = omega (arith, room, deep) })
+        c.shows (actuals_at es sorts later n callee couple l.0 filled next below procedure l.3 enter)))
+    actuals_at (tree.more (tree.variable (tree.subscripted x tree.none)) es) (sort ∷ sorts) (wants.array shape ∷ later) n callee couple f filled next below procedure l enter gs before
+        wants_are fit room =
+        let floor = given_slots before gs (called_on sc context ps level most couple below) in
+        let e = tree.variable (tree.subscripted x tree.none) in
+        let settled : Bool → HalfGiven = λ b. actual_of sc b e (settle sc e) gs sorts es (settle_actuals sc es sorts) in
+        subst (λ b. ComesFilled sc context ps level most n callee (settled b) f floor below next) (sym l.1)
+        (array_stands sc context ps level most n callee couple gs before shape later sorts es f l.0 filled next below x
+        (record { procedure = procedure; wants_are = wants_are; fit = fit; actuals = l.3; enter = enter; room = omega (arith, room) })
+        l.2 (actuals_at es sorts later n callee couple l.0 filled next below procedure l.3 enter))
+    actuals_at tree.none [] (x ∷ later) n callee couple f filled next below procedure l enter gs before wants_are fit room = absurd l
+    actuals_at tree.none (sort ∷ sorts) [] n callee couple f filled next below procedure l enter gs before wants_are fit room = absurd l
+    actuals_at tree.none (sort ∷ sorts) (wants.value kind ∷ later) n callee couple f filled next below procedure l enter gs before wants_are fit room = absurd l
+    actuals_at tree.none (sort ∷ sorts) (wants.array shape ∷ later) n callee couple f filled next below procedure l enter gs before wants_are fit room = absurd l
+    actuals_at tree.none (sort ∷ sorts) (wants.other ∷ later) n callee couple f filled next below procedure l enter gs before wants_are fit room = absurd l
+    actuals_at (tree.more e es) [] [] n callee couple f filled next below procedure l enter gs before wants_are fit room = absurd l
+    actuals_at (tree.more e es) [] (x ∷ later) n callee couple f filled next below procedure l enter gs before wants_are fit room = absurd l
+    actuals_at (tree.more e es) (sort ∷ sorts) [] n callee couple f filled next below procedure l enter gs before wants_are fit room = absurd l
+    actuals_at (tree.more e es) (sort ∷ sorts) (wants.other ∷ later) n callee couple f filled next below procedure l enter gs before wants_are fit room = absurd l
+    actuals_at (tree.more _ es) (sort ∷ sorts) (wants.array shape ∷ later) n callee couple f filled next below procedure l enter gs before wants_are fit room = absurd l

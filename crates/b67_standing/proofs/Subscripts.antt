@@ -10,7 +10,7 @@ use Rattle.algol_meaning.specs.Value.{Value, number, truth, whole_of}
 use Rattle.algol_meaning.specs.Rest as rests
 use Rattle.algol_meaning.specs.Rest.{Half, val, busy}
 use Rattle.algol_meaning.specs.Settle.{subscripted_of, settle}
-use Rattle.algol_paths.specs.Arrays.{DeclaredArray, lows_of}
+use Rattle.algol_paths.specs.Arrays.{Shape}
 use Rattle.b67_ops.specs.declared.Couple.{Couple}
 use Rattle.b67_ops.specs.declared.Operator.TheVariants as ops
 use Rattle.b67_ops.specs.declared.PlainKind.TheVariants as kinds
@@ -95,7 +95,7 @@ module _ (sc : Scopes) (context : Context) (ps : List Placed) (level most : ℕ)
     pub lies : IsLast n c lows ks (whole_of v) with_slots below
     pub room : HasRoom most below 2
 
-  pub last_moved : (v : Value) (pc : ℕ) (slots : List Slot) (n : Named) (a : DeclaredArray) (c : Couple) (lows : List ℤ) (ks : List ℕ) (below : List Slot) (to : ℕ) →
+  pub last_moved : (v : Value) (pc : ℕ) (slots : List Slot) (n : Named) (a : Shape) (c : Couple) (lows : List ℤ) (ks : List ℕ) (below : List Slot) (to : ℕ) →
       IsArray sc level n a c → InSubscript (val v) pc slots n c lows ks tree.none below to → LastMoved v pc slots n c lows ks below to
   last_moved v pc slots n a c (low ∷ []) [] below to i s = record {
     is = number_is v (s.2).2;
@@ -133,7 +133,7 @@ module _ (sc : Scopes) (context : Context) (ps : List Placed) (level most : ℕ)
     pub second_at : SecondAt sc context ps level second e next to
     pub room : HasRoom most below (5 + depth e)
 
-  pub first_moved : (v : Value) (pc : ℕ) (slots : List Slot) (n : Named) (a : DeclaredArray) (c : Couple) (lows : List ℤ) (ks : List ℕ) (e : PExpr) (below : List Slot) (to : ℕ) →
+  pub first_moved : (v : Value) (pc : ℕ) (slots : List Slot) (n : Named) (a : Shape) (c : Couple) (lows : List ℤ) (ks : List ℕ) (e : PExpr) (below : List Slot) (to : ℕ) →
       IsArray sc level n a c → InSubscript (val v) pc slots n c lows ks (tree.more e tree.none) below to → FirstMoved v pc slots c lows ks e below to
   first_moved v pc slots n a c (low ∷ low' ∷ []) [] e below to i s = record {
     is = number_is v (s.4).2;
@@ -175,13 +175,13 @@ module _ (sc : Scopes) (context : Context) (ps : List Placed) (level most : ℕ)
   begun_at n c _ e _ f to below room go s = absurd s
 
   -- an element in an expression, from where a subscript stands
-  pub subscript_at : (k : Kind) (n : Named) (a : DeclaredArray) (c : Couple) (x : Half) (pc : ℕ) (slots : List Slot) (ks : List ℕ) (es : PExprs) (below : List Slot) (t next to : ℕ) →
-      IsArray sc level n a c → a.kind ≡ k → InSubscript x pc slots n c (lows_of a.pairs) ks es below t → Has ps level t (ops.Plain kinds.Nxlv) next → Goes ps level next to →
+  pub subscript_at : (k : Kind) (n : Named) (a : Shape) (c : Couple) (x : Half) (pc : ℕ) (slots : List Slot) (ks : List ℕ) (es : PExprs) (below : List Slot) (t next to : ℕ) →
+      IsArray sc level n a c → a.kind ≡ k → InSubscript x pc slots n c a.lows ks es below t → Has ps level t (ops.Plain kinds.Nxlv) next → Goes ps level next to →
       Coming k pc slots (subscripted_of n ks x es) below to
   subscript_at k n a c (busy h) pc slots ks es below t next to i same s read g =
       here sc context ps level most k pc slots (busy (rests.subscript n ks h es)) below to (a, c, t, next, i, same, s, read, g)
   subscript_at k n a c (val v) pc slots ks tree.none below t next to i same s read g =
-      let l = last_moved v pc slots n a c (lows_of a.pairs) ks below t i s in
+      let l = last_moved v pc slots n a c a.lows ks below t i s in
       record {
         at = t;
         with_slots = l.with_slots;
@@ -195,7 +195,7 @@ module _ (sc : Scopes) (context : Context) (ps : List Placed) (level most : ℕ)
         );
       }
   subscript_at k n a c (val v) pc slots ks (tree.more e tree.none) below t next to i same s read g =
-      let l = first_moved v pc slots n a c (lows_of a.pairs) ks e below t i s in
+      let l = first_moved v pc slots n a c a.lows ks e below t i s in
       record {
         at = l.at;
         with_slots = reference c ∷ operand (number (moved l.low (whole_of v))) ∷ below;
@@ -226,4 +226,4 @@ module _ (sc : Scopes) (context : Context) (ps : List Placed) (level most : ℕ)
         );
       }
   subscript_at k n a c (val v) pc slots ks (tree.more e (tree.more e' es)) below t next to i same s read g =
-      absurd (no_third sc context ps level most (λ over m. Showing (val v) pc slots over m) n c (lows_of a.pairs) ks e e' es below t s)
+      absurd (no_third sc context ps level most (λ over m. Showing (val v) pc slots over m) n c a.lows ks e e' es below t s)

@@ -1,5 +1,5 @@
 -- Where the machine stands for what a part has still to do: the place of the code, and what lies above the floor there.
-use Rattle.std.specs.Prelude.{◌≡◌, ℕ, ◌+◌, ◌*◌, ◌<◌, ◌≤◌, ℤ, pos, List, [], ◌∷◌, ◌++◌, map, length, Option, Some, None, Err}
+use Rattle.std.specs.Prelude.{◌≡◌, ℕ, ◌+◌, ◌*◌, ◌<◌, ◌≤◌, ℤ, pos, List, [], ◌∷◌, ◌++◌, length, Option, Some, None, Err}
 use Rattle.algol_tree.specs.declared.tree.Op.{Op}
 use Rattle.algol_tree.specs.declared.tree.Kind.{Kind}
 use Rattle.algol_tree.specs.declared.tree.Kind.TheVariants as types
@@ -12,12 +12,13 @@ use Rattle.algol_tree.specs.declared.token.Spot.{Spot}
 use Rattle.algol_tree.specs.Blocks.{block_numbered, number_at}
 use Rattle.algol_tree.specs.Scopes.{Scopes}
 use Rattle.b67_num.specs.declared.NumFault.{NumFault}
+use Rattle.algol_meaning.specs.Value as cells
 use Rattle.algol_meaning.specs.Value.{Value, number, Reference}
 use Rattle.algol_meaning.specs.Operators.{result_of}
-use Rattle.algol_meaning.specs.Rest.{own, element_of, Hole, read, element, index, subscript, broken, left, right, negated, inverted, condition, Half, val, busy, Aim, place_index, place_subscript, Loop, Item, count, Rest, over, store, select, turning, line, arrays, bounding, aiming, storing, choosing, looping, checking, counting, differing, stepping, selecting, writing, calling, Given, valued, argument, Actuals, in_value, enter, entering_block, entering, reading, giving, Answer, done, value, place, entered}
+use Rattle.algol_meaning.specs.Rest.{own, element_of, Hole, read, element, index, subscript, broken, left, right, negated, inverted, condition, Half, val, busy, Aim, place_index, place_subscript, Loop, Item, count, Rest, over, store, select, turning, line, arrays, bounding, aiming, storing, choosing, looping, checking, counting, differing, stepping, selecting, writing, calling, Given, valued, passed, refers, argument, Actuals, pass, in_value, enter, entering_block, entering, reading, giving, Answer, done, value, cell, place, entered}
 use Rattle.algol_meaning.specs.Statements.{difference_in, stepped}
-use Rattle.algol_meaning.specs.Asks.{Ask, nothing, reads, reads_element, indexes, makes_arrays, reads_result, fails, enters, leaves, stores, selects, turns, writes, enters_block, ask, resume}
-use Rattle.algol_paths.specs.Arrays.{DeclaredArray, lows_of}
+use Rattle.algol_meaning.specs.Asks.{Ask, nothing, reads, reads_element, indexes, passes, makes_arrays, reads_result, fails, enters, leaves, stores, selects, turns, writes, enters_block, ask, resume}
+use Rattle.algol_paths.specs.Arrays.{DeclaredArray, Shape, shape_of}
 use Rattle.b67_control.specs.Control.{Fits_pcw}
 use Rattle.b67_ops.specs.declared.Couple.{Couple}
 use Rattle.b67_ops.specs.declared.Operator.TheVariants as ops
@@ -27,10 +28,11 @@ use Rattle.b67_ops.specs.declared.intrinsic.Intrinsic.TheVariants.{Write, Select
 use Rattle.b67_segment.specs.Operators.{Placed}
 use Rattle.b67_templates.specs.Contexts.{Context}
 use Rattle.b67_templates.specs.Fragments.{IsWhole, HasKind, Has, moved, MovedAt, ReadyAt, BranchAt, TurnAt, Goes, code_at, operator_for, is_implication}
-use Rattle.b67_templates.specs.Cells.{parameter_kinds, procedures, IsVariable, IsProcedure, IsArray}
+use Rattle.b67_templates.specs.Cells as wants
+use Rattle.b67_templates.specs.Cells.{Wanted, parameter_wants, Agrees, procedures, IsVariable, IsProcedure, IsDeclaredArray, IsFormalArray, IsArray}
 use Rattle.b67_templates.specs.Code.{FormatIs, DroppedAt, ResultAt, AreDimensions, HasNoCounts, in_block, ReadAt, ExprAt, SecondAt, ActualsAt, BoundsAt, LineAt, TableAt, PastAt, StepAt, StmtAt, CasesAt, InnerAt, ThruAt, KAt, exprs_count, stmts_count}
 use Rattle.b67_templates.specs.Depths.{depth, line_depth, bounds_depth, decls_depth, loop_depth, stmt_depth, stmts_depth, AreShallow}
-use Rattle.b67_standing.specs.Stepping.{row, element as element_held, Slot, operand, reference, intrinsic, control, descriptor, mark, ready, HasRoom, Leads}
+use Rattle.b67_standing.specs.Stepping.{row, element as element_held, cell_named, cell_of, Slot, operand, reference, intrinsic, control, descriptor, mark, ready, HasRoom, Leads}
 
 -- the counts that lie there while these items wait
 abbrev pub pend : List Item → List Slot
@@ -53,11 +55,17 @@ abbrev pub AreNumbers : List Value → Type 0
 AreNumbers [] = Unit {0}
 AreNumbers (v ∷ vs) = HasKind types.Number v × AreNumbers vs
 
--- each has the kind of its parameter
-abbrev pub AreOfKinds : List (Option Kind) → List Value → Type 0
-AreOfKinds [] [] = Unit {0}
-AreOfKinds (Some kind ∷ kinds) (v ∷ vs) = HasKind kind v × AreOfKinds kinds vs
-AreOfKinds _ _ = ⊥
+-- the word of an actual that is done, where this is wanted of it
+abbrev pub given_slot : Wanted → Given → Slot
+given_slot wanted (valued v) = operand v
+given_slot wanted (refers n) = descriptor (cell_named n)
+given_slot (wants.array shape) (passed (cells.reference r)) = descriptor (cell_of shape r)
+given_slot _ _ = mark
+
+-- those of these actuals, the last on top
+abbrev pub given_slots : List Wanted → List Given → List Slot → List Slot
+given_slots (w ∷ wanted) (g ∷ gs) below = given_slots wanted gs (given_slot w g ∷ below)
+given_slots _ _ below = below
 
 -- a part that leaves gives a value of the kind that is wanted of it, or nothing
 abbrev pub Gives : Option Kind → Answer → Type 0
@@ -98,6 +106,15 @@ IsLast n c _ _ i slots below = ⊥
 -- a subscript behind the others
 abbrev pub IsNext : List ℕ → List ℕ → Type 0
 IsNext ks more = (k : ℕ) × (more ≡ ks ++ k ∷ [])
+
+-- At this level each actual is what is wanted: a value of that kind, or an array; that of a declared one agrees with the shape that is wanted.
+abbrev pub AreGiven : Scopes → ℕ → List Wanted → List Given → Type 0
+AreGiven sc level [] [] = Unit {0}
+AreGiven sc level (wants.value kind ∷ wanted) (valued v ∷ gs) = HasKind kind v × AreGiven sc level wanted gs
+AreGiven sc level (wants.array shape ∷ wanted) (refers n ∷ gs) =
+    ((d : DeclaredArray) × (c : Couple) × IsDeclaredArray sc level n d c × Agrees shape (shape_of d)) × AreGiven sc level wanted gs
+AreGiven sc level (wants.array shape ∷ wanted) (passed (cells.reference r) ∷ gs) = AreGiven sc level wanted gs
+AreGiven sc level _ _ = ⊥
 
 module _ (sc : Scopes) (context : Context) (ps : List Placed) (level most : ℕ) where
   -- what is still to be done stands from there on, no item of it needs more words than there may be, and its counts are whole
@@ -152,48 +169,55 @@ module _ (sc : Scopes) (context : Context) (ps : List Placed) (level most : ℕ)
     pub lies : slots ≡ control (code_at context.segment begin (level + 1)) ∷ mark ∷ below
     pub stands : Has ps level pc (ops.Plain kinds.Entr) next
 
-  -- the values of the actuals lie on the reference of a procedure's control word, and that on a mark
+  -- the actuals lie on the reference of a procedure's control word, and that on a mark
   pub record CallsAt (n : Named) (gs : List Given) (callee pc next : ℕ) (slots below : List Slot) : Type 0 where
     pub couple : Couple
     pub procedure : IsProcedure sc level n callee couple
-    pub values : List Value
-    pub given : gs ≡ map valued values
-    pub fit : AreOfKinds (parameter_kinds sc callee) values
-    pub lies : slots ≡ operands values (reference couple ∷ mark ∷ below)
+    pub fit : AreGiven sc level (parameter_wants sc callee) gs
+    pub lies : slots ≡ given_slots (parameter_wants sc callee) gs (reference couple ∷ mark ∷ below)
     pub stands : Has ps level pc (ops.Plain kinds.Entr) next
+
+  -- what LODT finds: the reference to the parameter's cell
+  pub record PassesAt (n : Named) (shape : Shape) (pc next : ℕ) (slots below : List Slot) : Type 0 where
+    pub actual : Shape
+    pub couple : Couple
+    pub is_formal : IsFormalArray sc level n actual couple
+    pub agrees : Agrees shape actual
+    pub lies : slots ≡ reference couple ∷ below
+    pub stands : Has ps level pc (ops.Plain kinds.Lodt) next
 
   -- ---- subscripts
 
   -- what NXLV finds
   pub record ElementReadAt (n : Named) (ks : List ℕ) (v : Value) (pc next : ℕ) (slots below : List Slot) : Type 0 where
-    pub array : DeclaredArray
+    pub array : Shape
     pub couple : Couple
     pub subscript : ℤ
     pub is_array : IsArray sc level n array couple
     pub is : v ≡ number subscript
     pub whole : IsWhole subscript
-    pub lies : IsLast n couple (lows_of array.pairs) ks subscript slots below
+    pub lies : IsLast n couple array.lows ks subscript slots below
     pub stands : Has ps level pc (ops.Plain kinds.Nxlv) next
 
   -- .. INDX
   pub record ElementIndexAt (n : Named) (ks : List ℕ) (v : Value) (kind : Kind) (pc next : ℕ) (slots below : List Slot) : Type 0 where
-    pub array : DeclaredArray
+    pub array : Shape
     pub couple : Couple
     pub subscript : ℤ
     pub is_array : IsArray sc level n array couple
     pub kind_is : array.kind ≡ kind
     pub is : v ≡ number subscript
     pub whole : IsWhole subscript
-    pub lies : IsLast n couple (lows_of array.pairs) ks subscript slots below
+    pub lies : IsLast n couple array.lows ks subscript slots below
     pub stands : Has ps level pc (ops.Plain kinds.Indx) next
 
   -- .. NXLN, which is for the first of two subscripts
   pub record RowIndexAt (n : Named) (ks : List ℕ) (v : Value) (low second : ℤ) (pc next : ℕ) (slots below : List Slot) : Type 0 where
-    pub array : DeclaredArray
+    pub array : Shape
     pub couple : Couple
     pub subscript : ℤ
     pub is_array : IsArray sc level n array couple
-    pub lows_are : lows_of array.pairs ≡ low ∷ second ∷ []
+    pub lows_are : array.lows ≡ low ∷ second ∷ []
     pub first : ks ≡ []
     pub is : v ≡ number subscript
     pub whole : IsWhole subscript
@@ -251,21 +275,26 @@ module _ (sc : Scopes) (context : Context) (ps : List Placed) (level most : ℕ)
         (low : ℤ) × (second : ℤ) × (q : ℕ) × (t : ℕ) × (next : ℕ) × (r : RowIndexAt n ks v low second pc q slots below) × (r.array.kind ≡ k)
         × SecondAt sc context ps level second e q t × Has ps level t (ops.Plain kinds.Nxlv) next × HasRoom most below (5 + depth e) × Goes ps level next to
     Holds k (subscript n ks h es) pc slots below to =
-        (a : DeclaredArray) × (c : Couple) × (t : ℕ) × (next : ℕ) × IsArray sc level n a c × (a.kind ≡ k)
-        × Seeks (λ over m. Holds types.Number h pc slots over m) n c (lows_of a.pairs) ks es below t × Has ps level t (ops.Plain kinds.Nxlv) next × Goes ps level next to
+        (a : Shape) × (c : Couple) × (t : ℕ) × (next : ℕ) × IsArray sc level n a c × (a.kind ≡ k)
+        × Seeks (λ over m. Holds types.Number h pc slots over m) n c a.lows ks es below t × Has ps level t (ops.Plain kinds.Nxlv) next × Goes ps level next to
     Holds k (argument n x) pc slots below to =
         (callee : ℕ) × (filled : ℕ) × (next : ℕ) × ((block_numbered sc.blocks callee).result ≡ Some k) × Fills n callee x pc slots below filled
         × Has ps level filled (ops.Plain kinds.Entr) next × Goes ps level next to
     Holds k _ pc slots below to = ⊥
 
-    -- .. for the actuals of a call: the values of those before the head lie on the reference of the procedure's control word
+    -- .. for the actuals of a call: those before the head lie on the reference of the procedure's control word
     pub Fills : Named → ℕ → Actuals → ℕ → List Slot → List Slot → ℕ → Type 0
     Fills n callee (in_value gs h sorts es) pc slots below filled =
-        (couple : Couple) × (values : List Value) × (before : List (Option Kind)) × (kind : Kind) × (after : List (Option Kind)) × (m : ℕ)
-        × IsProcedure sc level n callee couple × (gs ≡ map valued values) × (parameter_kinds sc callee ≡ before ++ Some kind ∷ after) × AreOfKinds before values
-        × Holds kind h pc slots (operands values (reference couple ∷ mark ∷ below)) m × ActualsAt sc context ps level sorts after es m filled
-        × HasRoom most below (2 + length values + 1 + line_depth es)
-    Fills n callee _ pc slots below filled = ⊥
+        (couple : Couple) × (before : List Wanted) × (kind : Kind) × (after : List Wanted) × (m : ℕ)
+        × IsProcedure sc level n callee couple × (parameter_wants sc callee ≡ before ++ wants.value kind ∷ after) × AreGiven sc level before gs
+        × Holds kind h pc slots (given_slots before gs (reference couple ∷ mark ∷ below)) m × ActualsAt sc context ps level sorts after es m filled
+        × HasRoom most below (2 + length gs + 1 + line_depth es)
+    -- the head is the passing of a parameter that stands for an array
+    Fills n callee (pass gs p sorts es) pc slots below filled =
+        (couple : Couple) × (before : List Wanted) × (shape : Shape) × (after : List Wanted) × (m : ℕ)
+        × IsProcedure sc level n callee couple × (parameter_wants sc callee ≡ before ++ wants.array shape ∷ after) × AreGiven sc level before gs
+        × PassesAt p shape pc m slots (given_slots before gs (reference couple ∷ mark ∷ below)) × ActualsAt sc context ps level sorts after es m filled
+        × HasRoom most below (2 + length gs + 1 + line_depth es)
 
   -- the same of an expression after the silent steps: its value lies there already, or it has a head
   abbrev pub Shows : Kind → Half → ℕ → List Slot → List Slot → ℕ → Type 0
@@ -279,8 +308,8 @@ module _ (sc : Scopes) (context : Context) (ps : List Placed) (level most : ℕ)
       (low : ℤ) × (second : ℤ) × (q : ℕ) × (t : ℕ) × (r : RowIndexAt n ks v low second pc q slots below) × (r.array.kind ≡ k) × SecondAt sc context ps level second e q t
       × Has ps level t (ops.Plain kinds.Indx) to × HasRoom most below (5 + depth e)
   Aims k (place_subscript n ks h es) pc slots below to =
-      (a : DeclaredArray) × (c : Couple) × (t : ℕ) × IsArray sc level n a c × (a.kind ≡ k)
-      × Seeks (λ over m. Holds types.Number h pc slots over m) n c (lows_of a.pairs) ks es below t × Has ps level t (ops.Plain kinds.Indx) to
+      (a : Shape) × (c : Couple) × (t : ℕ) × IsArray sc level n a c × (a.kind ≡ k)
+      × Seeks (λ over m. Holds types.Number h pc slots over m) n c a.lows ks es below t × Has ps level t (ops.Plain kinds.Indx) to
   Aims k _ pc slots below to = ⊥
 
   -- ---- statements
@@ -408,6 +437,7 @@ module _ (sc : Scopes) (context : Context) (ps : List Placed) (level most : ℕ)
   ActionAt (indexes n ks v) pc slots = IndexesAt n ks v pc slots
   ActionAt (stores (element_of r ks) v) pc slots = (next : ℕ) × (below : List Slot) × ElementStoreAt r ks v pc next slots below
   ActionAt (makes_arrays kind ns pairs vs) pc slots = (next : ℕ) × MakesAt ns pairs vs pc next slots
+  ActionAt (passes n) pc slots = (shape : Shape) × (next : ℕ) × (below : List Slot) × PassesAt n shape pc next slots below
   ActionAt (fails fault) pc slots =
       (op : Op) × (v : Value) × (w : Value) × (next : ℕ) × (below : List Slot) × BreaksAt op v w fault pc next slots below
   ActionAt (leaves done) pc slots =
@@ -441,6 +471,7 @@ module _ (sc : Scopes) (context : Context) (ps : List Placed) (level most : ℕ)
       (at ≡ next) × (after ≡ descriptor (element_held r more kind) ∷ below) × IsNext ks more
   Acted (stores (element_of r ks) v) pc slots a done at after = (at ≡ a.0) × (after ≡ a.1)
   Acted (makes_arrays kind ns pairs vs) pc slots a done at after = (at ≡ a.0) × (after ≡ [])
+  Acted (passes n) pc slots a (cell (cells.reference r)) at after = (at ≡ a.1) × (after ≡ descriptor (cell_of a.0 r) ∷ a.2)
   Acted turns pc slots a done at after = (at ≡ a.0) × (after ≡ slots)
   Acted (writes phrases vs) pc slots a done at after = (at ≡ a.0) × (after ≡ a.1)
   Acted _ pc slots a _ at after = ⊥
