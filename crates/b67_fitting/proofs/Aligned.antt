@@ -14,38 +14,53 @@ use Rattle.algol_tree.specs.Plain as tree
 use Rattle.algol_tree.specs.Plain.{PDecls}
 use Rattle.algol_tree.specs.Sorts as sort
 use Rattle.algol_tree.specs.Sorts.{same_name, Declared, look_up, declare}
-use Rattle.b67_templates.specs.Cells.{Simple, of_kind, result_of, procedures, found_from}
+use Rattle.algol_paths.specs.Arrays.{Shape}
+use Rattle.b67_templates.specs.Cells.{Simple, Wanted, value, array, other, wanted_by, of_kind, result_of, procedures, found_from}
 use Rattle.b67_fitting.proofs.Apart.{IsIn, each_in, IsApart, Apart, same_self, same_place}
 use Rattle.b67_fitting.proofs.Declaring.{IsOther}
 use Rattle.b67_fitting.proofs.Frames.{control_cells, result_cell}
 
+-- ---- what a cell is told to have
+
+-- a kind
+pub of_value : (o : Option Kind) (s : Option Shape) (kind : Kind) → wanted_by o s ≡ value kind → o ≡ Some kind
+of_value (Some k) s kind h = (let same : k ≡ kind = cc in ap Some same)
+of_value None (Some shape) kind h = absurd (let clash : array shape ≡ value kind = h in cc)
+of_value None None kind h = absurd (let clash : other ≡ value kind = h in cc)
+
+-- or the shape of an array
+pub of_array : (o : Option Kind) (s : Option Shape) (shape : Shape) → wanted_by o s ≡ array shape → (o ≡ None) × (s ≡ Some shape)
+of_array (Some k) s shape h = absurd (let clash : value k ≡ array shape = h in cc)
+of_array None (Some own) shape h = (let same : own ≡ shape = cc in (refl, ap Some same))
+of_array None None shape h = absurd (let clash : other ≡ array shape = h in cc)
+
 -- ---- numbers
 
--- By its name and by its place the cell has the same number, from these first ones on.
-pub record IsAt (i j : ℕ) (xs : List Simple) (cs : List Cell) (name : List ℕ) (spot : Spot) (kind : Kind) : Type 0 where
+-- By its name and by its place the cell has the same number, from these first ones on. This is what an actual for it has to be.
+pub record IsAt (i j : ℕ) (xs : List Simple) (cs : List Cell) (name : List ℕ) (spot : Spot) (wanted : Wanted) : Type 0 where
   pub number : ℕ
   pub cell : Simple
   pub found : found_from i xs name ≡ Some (record { number = number; cell = cell })
-  pub kind_is : cell.kind ≡ Some kind
+  pub wanted_is : wanted_by cell.kind cell.shape ≡ wanted
   pub index : index_from j cs spot ≡ Some (2 + number)
 
-abbrev pub Aligned : List Simple → List Cell → List ℕ → Spot → Kind → Type 0
-Aligned xs cs name spot kind = (i j : ℕ) → j ≡ 2 + i → IsAt i j xs cs name spot kind
+abbrev pub Aligned : List Simple → List Cell → List ℕ → Spot → Wanted → Type 0
+Aligned xs cs name spot wanted = (i j : ℕ) → j ≡ 2 + i → IsAt i j xs cs name spot wanted
 
-pub aligned_behind : (block : ℕ) (own : Kind) (ns : List Named) (xs : List Simple) (cs : List Cell) (name : List ℕ) (spot : Spot) (kind : Kind) → AllByRecursion (IsOther name) ns →
-    AllByRecursion (λ s. IsApart s spot) (spots_of_names ns) → Aligned xs cs name spot kind → Aligned (of_kind own ns ++ xs) (cells_for block cells.variable ns ++ cs) name spot kind
-aligned_behind block own [] xs cs name spot kind g h l = l
-aligned_behind block own (n ∷ ns) xs cs name spot kind g h l =
+pub aligned_behind : (block : ℕ) (own : Kind) (ns : List Named) (xs : List Simple) (cs : List Cell) (name : List ℕ) (spot : Spot) (wanted : Wanted) → AllByRecursion (IsOther name) ns →
+    AllByRecursion (λ s. IsApart s spot) (spots_of_names ns) → Aligned xs cs name spot wanted → Aligned (of_kind own ns ++ xs) (cells_for block cells.variable ns ++ cs) name spot wanted
+aligned_behind block own [] xs cs name spot wanted g h l = l
+aligned_behind block own (n ∷ ns) xs cs name spot wanted g h l =
     λ i j e.
     let next : j + 1 ≡ 2 + (i + 1) = omega (arith, e) in
     let more = of_kind own ns ++ xs in
     let later = cells_for block cells.variable ns ++ cs in
-    let r = aligned_behind block own ns xs cs name spot kind g.1 h.1 l (i + 1) (j + 1) next in
+    let r = aligned_behind block own ns xs cs name spot wanted g.1 h.1 l (i + 1) (j + 1) next in
     record {
       number = r.number;
       cell = r.cell;
-      found = ap (λ (b : Bool). if b then Some (record { number = i; cell = record { name = n.name; kind = Some own } }) else found_from (i + 1) more name) g.0 ∙ r.found;
-      kind_is = r.kind_is;
+      found = ap (λ (b : Bool). if b then Some (record { number = i; cell = record { name = n.name; kind = Some own; shape = None } }) else found_from (i + 1) more name) g.0 ∙ r.found;
+      wanted_is = r.wanted_is;
       index = ap (λ (b : Bool). if b then Some j else index_from (j + 1) later spot) h.0 ∙ r.index;
     }
 
@@ -55,22 +70,22 @@ AreOthers name spot [] [] = Unit {0}
 AreOthers name spot (x ∷ xs) (c ∷ cs) = (same_name x.name name ≡ false) × IsApart c.spot spot × AreOthers name spot xs cs
 AreOthers name spot _ _ = ⊥
 
-pub aligned_over : (xs ys : List Simple) (cs ds : List Cell) (name : List ℕ) (spot : Spot) (kind : Kind) → AreOthers name spot xs cs → Aligned ys ds name spot kind →
-    Aligned (xs ++ ys) (cs ++ ds) name spot kind
-aligned_over [] ys [] ds name spot kind h l = l
-aligned_over (x ∷ xs) ys (c ∷ cs) ds name spot kind h l =
+pub aligned_over : (xs ys : List Simple) (cs ds : List Cell) (name : List ℕ) (spot : Spot) (wanted : Wanted) → AreOthers name spot xs cs → Aligned ys ds name spot wanted →
+    Aligned (xs ++ ys) (cs ++ ds) name spot wanted
+aligned_over [] ys [] ds name spot wanted h l = l
+aligned_over (x ∷ xs) ys (c ∷ cs) ds name spot wanted h l =
     λ i j e.
     let next : j + 1 ≡ 2 + (i + 1) = omega (arith, e) in
-    let r = aligned_over xs ys cs ds name spot kind h.2 l (i + 1) (j + 1) next in
+    let r = aligned_over xs ys cs ds name spot wanted h.2 l (i + 1) (j + 1) next in
     record {
       number = r.number;
       cell = r.cell;
       found = ap (λ (b : Bool). if b then Some (record { number = i; cell = x }) else found_from (i + 1) (xs ++ ys) name) h.0 ∙ r.found;
-      kind_is = r.kind_is;
+      wanted_is = r.wanted_is;
       index = ap (λ (b : Bool). if b then Some j else index_from (j + 1) (cs ++ ds) spot) h.1 ∙ r.index;
     }
-aligned_over [] ys (c ∷ cs) ds name spot kind h l = absurd h
-aligned_over (x ∷ xs) ys [] ds name spot kind h l = absurd h
+aligned_over [] ys (c ∷ cs) ds name spot wanted h l = absurd h
+aligned_over (x ∷ xs) ys [] ds name spot wanted h l = absurd h
 
 -- more cells behind
 pub index_on : (cs ds : List Cell) (j : ℕ) (spot : Spot) (i : ℕ) → index_from j cs spot ≡ Some i → index_from j (cs ++ ds) spot ≡ Some i
@@ -82,23 +97,23 @@ index_on (c ∷ cs) ds j spot i h = by (same_spot c.spot spot) (index_on cs ds (
     by true later g = g
     by false later g = later g
 
-pub aligned_on : (xs : List Simple) (cs ds : List Cell) (name : List ℕ) (spot : Spot) (kind : Kind) → Aligned xs cs name spot kind → Aligned xs (cs ++ ds) name spot kind
-aligned_on xs cs ds name spot kind l =
+pub aligned_on : (xs : List Simple) (cs ds : List Cell) (name : List ℕ) (spot : Spot) (wanted : Wanted) → Aligned xs cs name spot wanted → Aligned xs (cs ++ ds) name spot wanted
+aligned_on xs cs ds name spot wanted l =
     λ i j e.
     let r = l i j e in
-    record { number = r.number; cell = r.cell; found = r.found; kind_is = r.kind_is; index = index_on cs ds j spot (2 + r.number) r.index }
+    record { number = r.number; cell = r.cell; found = r.found; wanted_is = r.wanted_is; index = index_on cs ds j spot (2 + r.number) r.index }
 
 -- the result in front, which has another name
-pub aligned_result : (o : Option Kind) (own : List ℕ) (block : ℕ) (at : Spot) (xs : List Simple) (cs : List Cell) (name : List ℕ) (spot : Spot) (kind : Kind) →
-    is_one_of (if is_some o then own ∷ [] else []) name ≡ false → IsApart at spot → Aligned xs cs name spot kind →
-    Aligned (result_of o own ++ xs) (result_cell o block at ++ cs) name spot kind
-aligned_result None own block at xs cs name spot kind h a l = l
-aligned_result (Some k) own block at xs cs name spot kind h a l =
-    aligned_over (record { name = own; kind = Some k } ∷ []) xs (record { block = block; spot = at; content = cells.result } ∷ []) cs name spot kind (other (same_name own name) h, a, tt) l
+pub aligned_result : (o : Option Kind) (own : List ℕ) (block : ℕ) (at : Spot) (xs : List Simple) (cs : List Cell) (name : List ℕ) (spot : Spot) (wanted : Wanted) →
+    is_one_of (if is_some o then own ∷ [] else []) name ≡ false → IsApart at spot → Aligned xs cs name spot wanted →
+    Aligned (result_of o own ++ xs) (result_cell o block at ++ cs) name spot wanted
+aligned_result None own block at xs cs name spot wanted h a l = l
+aligned_result (Some k) own block at xs cs name spot wanted h a l =
+    aligned_over (record { name = own; kind = Some k; shape = None } ∷ []) xs (record { block = block; spot = at; content = cells.result } ∷ []) cs name spot wanted (another (same_name own name) h, a, tt) l
   where
-    other : (b : Bool) → (if b then true else false) ≡ false → b ≡ false
-    other true g = absurd (let clash : true ≡ false = g in cc)
-    other false g = refl
+    another : (b : Bool) → (if b then true else false) ≡ false → b ≡ false
+    another true g = absurd (let clash : true ≡ false = g in cc)
+    another false g = refl
 
 -- ---- procedures
 
@@ -165,7 +180,7 @@ module _ (block depth : ℕ) where
   pub record IsHit (kind : Kind) (ns : List Named) (xs : List Simple) (cs : List Cell) (name : List ℕ) (d : Declared) : Type 0 where
     pub var : IsVar block depth d kind
     pub inside : IsIn d.spot (spots_of_names ns)
-    pub aligned : Aligned (of_kind kind ns ++ xs) (cells_for block cells.variable ns ++ cs) name d.spot kind
+    pub aligned : Aligned (of_kind kind ns ++ xs) (cells_for block cells.variable ns ++ cs) name d.spot (value kind)
 
   abbrev entry : Kind → Named → Declared
   entry kind n = record { name = n.name; spot = n.spot; block = block; depth = depth; sort = sort.variable; class = class.simple kind }
@@ -179,9 +194,9 @@ module _ (block depth : ℕ) where
             λ i j e.
             record {
               number = i;
-              cell = record { name = n.name; kind = Some kind };
-              found = ap (λ (b : Bool). if b then Some (record { number = i; cell = record { name = n.name; kind = Some kind } }) else found_from (i + 1) (of_kind kind ns ++ xs) name) h;
-              kind_is = refl;
+              cell = record { name = n.name; kind = Some kind; shape = None };
+              found = ap (λ (b : Bool). if b then Some (record { number = i; cell = record { name = n.name; kind = Some kind; shape = None } }) else found_from (i + 1) (of_kind kind ns ++ xs) name) h;
+              wanted_is = refl;
               index = ap (λ (b : Bool). if b then Some j else index_from (j + 1) (cells_for block cells.variable ns ++ cs) n.spot) (same_self n.spot) ∙ ap Some e;
             };
       }
@@ -192,7 +207,7 @@ module _ (block depth : ℕ) where
       record {
         var = r.var;
         inside = inr r.inside;
-        aligned = aligned_behind block kind (n ∷ []) (of_kind kind ns ++ xs) (cells_for block cells.variable ns ++ cs) name d.spot kind (g, tt) (h, tt) r.aligned;
+        aligned = aligned_behind block kind (n ∷ []) (of_kind kind ns ++ xs) (cells_for block cells.variable ns ++ cs) name d.spot (value kind) (g, tt) (h, tt) r.aligned;
       }
 
   hit_by : (b : Bool) (kind : Kind) (n : Named) (ns : List Named) (xs : List Simple) (cs : List Cell) (name : List ℕ) (d : Declared) → Apart (spots_of_names (n ∷ ns)) →

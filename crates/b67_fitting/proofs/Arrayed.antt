@@ -1,31 +1,37 @@
 -- An array has the same number by its name among the arrays of its block as by its place among the cells that actions make.
-use Rattle.std.proofs.Common.{arith, ◌≡◌, inl, inr, ℕ, ◌+◌, Bool, true, false, List, [], ◌∷◌, ◌++◌, length, Some, None, refl, sym, ap, ◌∙◌, subst, append_assoc, if◌then◌else◌}
+use Rattle.std.proofs.Common.{arith, ◌≡◌, inl, inr, ℕ, ◌+◌, Bool, true, false, List, [], ◌∷◌, ◌++◌, length, Option, Some, None, refl, sym, ap, ◌∙◌, subst, append_assoc, if◌then◌else◌}
 use Rattle.std.specs.List.{AllByRecursion}
 use Rattle.algol_tree.specs.declared.token.Spot.{Spot}
+use Rattle.algol_tree.specs.declared.tree.Heading.{Heading}
 use Rattle.algol_tree.specs.declared.tree.Kind.{Kind}
 use Rattle.algol_tree.specs.declared.tree.Named.{Named}
-use Rattle.algol_tree.specs.Ascending.{spots_of_names, spots_of_pairs, spots_of_decl, spots_of_decls}
+use Rattle.algol_tree.specs.declared.tree.Spec.{Spec}
+use Rattle.algol_tree.specs.Ascending.{spots_of_names, spots_of_pairs, spots_of_stmt, spots_of_decl, spots_of_decls}
 use Rattle.algol_tree.specs.Blocks.{same_spot}
 use Rattle.algol_tree.specs.Cells as cells
 use Rattle.algol_tree.specs.Cells.{Cell, cells_for, index_from}
 use Rattle.algol_tree.specs.Classes as class
-use Rattle.algol_tree.specs.Names.{is_one_of}
+use Rattle.algol_tree.specs.Names.{is_one_of, specified}
 use Rattle.algol_tree.specs.Plain as tree
-use Rattle.algol_tree.specs.Plain.{PPair, PDecl, PDecls}
+use Rattle.algol_tree.specs.Plain.{PPair, PStmt, PDecl, PDecls}
 use Rattle.algol_tree.specs.Sorts as sort
 use Rattle.algol_tree.specs.Sorts.{same_name, Declared, look_up, declare}
-use Rattle.algol_paths.specs.Arrays.{DeclaredArray, arrays_in, arrays_of, lows_of, stands_among, lows_declared}
+use Rattle.algol_paths.specs.Arrays.{DeclaredArray, Lows, shape_in, arrays_in, arrays_of, lows_of, stands_among, lows_in, or_lows, lows_among, lows_declared}
 use Rattle.b67_templates.specs.Cells.{array_from}
-use Rattle.b67_fitting.proofs.Apart.{IsIn, each_in, in_back, in_front, IsApart, Apart, same_self, apart_front, apart_from, apart_across}
+use Rattle.b67_fitting.proofs.Apart.{IsIn, each_in, in_back, in_front, IsApart, Apart, same_self, apart_sym, apart_front, apart_from, apart_across}
 use Rattle.b67_fitting.proofs.Declaring.{same_is, one_more}
 use Rattle.b67_fitting.proofs.Frames.{made_cells}
-use Rattle.b67_fitting.proofs.Lists.{each_front, each_back}
+use Rattle.b67_fitting.proofs.Lists.{each_front, each_back, each_of}
 
 -- the places of the arrays
 abbrev pub array_spots : PDecls → List Spot
 array_spots tree.no_decls = []
 array_spots (tree.decls (tree.arrays kind ns pairs) ds) = spots_of_names ns ++ array_spots ds
 array_spots (tree.decls d ds) = array_spots ds
+
+-- the lower bounds of those with such bounds
+abbrev pub own_lows : List PPair → Option Lows
+own_lows pairs = Some (record { list = lows_of pairs; formal = false })
 
 -- ---- numbers
 
@@ -181,16 +187,55 @@ pub stands_elsewhere : (ns : List Named) (s : Spot) → AllByRecursion (λ z. Is
 stands_elsewhere [] s h = refl
 stands_elsewhere (n ∷ ns) s h = ap (λ (b : Bool). if b then true else stands_among ns s) h.0 ∙ stands_elsewhere ns s h.1
 
+-- no parameter of these stands there
+lows_elsewhere : (specs : List Spec) (ns : List Named) (s : Spot) → AllByRecursion (λ z. IsApart z s) (spots_of_names ns) → lows_among specs ns s ≡ None
+lows_elsewhere specs [] s h = refl
+lows_elsewhere specs (n ∷ ns) s h = ap (λ (b : Bool). if b then lows_in (shape_in specs n.name) else lows_among specs ns s) h.0 ∙ lows_elsewhere specs ns s h.1
+
+parameters_elsewhere : (h : Heading) (body : PStmt) (s : Spot) → AllByRecursion (λ z. IsApart z s) (spots_of_decl (tree.procedure h body)) → AllByRecursion (λ z. IsApart z s) (spots_of_names h.params)
+parameters_elsewhere h body s far =
+    let params = spots_of_names h.params in
+    let values = spots_of_names h.values in
+    let specs = spots_of_names (specified h) in
+    each_front (λ z. IsApart z s) params values
+    (each_front (λ z. IsApart z s) (params ++ values) specs (each_front (λ z. IsApart z s) (params ++ values ++ specs) (spots_of_stmt body) far.1))
+
+-- none are declared elsewhere
+pub none_lows : (ds : PDecls) (s : Spot) → AllByRecursion (λ z. IsApart z s) (spots_of_decls ds) → lows_declared ds s ≡ None
+none_lows tree.no_decls s h = refl
+none_lows (tree.decls (tree.arrays kind ns pairs) ds) s h =
+    let own = spots_of_names ns ++ spots_of_pairs pairs in
+    ap (λ (b : Bool). if b then own_lows pairs else lows_declared ds s)
+    (stands_elsewhere ns s (each_front (λ z. IsApart z s) (spots_of_names ns) (spots_of_pairs pairs) (each_front (λ z. IsApart z s) own (spots_of_decls ds) h)))
+    ∙ none_lows ds s (each_back (λ z. IsApart z s) own (spots_of_decls ds) h)
+none_lows (tree.decls (tree.procedure g body) ds) s h =
+    let own = spots_of_decl (tree.procedure g body) in
+    ap (λ (o : Option Lows). or_lows o (lows_declared ds s)) (lows_elsewhere g.specs g.params s (parameters_elsewhere g body s (each_front (λ z. IsApart z s) own (spots_of_decls ds) h)))
+    ∙ none_lows ds s (each_back (λ z. IsApart z s) own (spots_of_decls ds) h)
+none_lows (tree.decls d ds) s h = none_lows ds s (each_back (λ z. IsApart z s) (spots_of_decl d) (spots_of_decls ds) h)
+
+-- a place of the first declaration is apart from those of the others
+pub from_first : (xs ys : List Spot) (s : Spot) → Apart (xs ++ ys) → IsIn s xs → AllByRecursion (λ z. IsApart z s) ys
+from_first [] ys s p i = absurd i
+from_first (x ∷ xs) ys s p (inl e) =
+    each_of (IsApart x) (λ z. IsApart z s) ys (λ z a. apart_sym s z (ap (λ (t : Spot). same_spot t z) e ∙ a)) (each_back (IsApart x) xs ys p.0)
+from_first (x ∷ xs) ys s p (inr i) = from_first xs ys s p.1 i
+
 -- what these declare, of which those are the last, is found among those
 abbrev pub AreLastLows : PDecls → PDecls → Type 0
 AreLastLows all ds = (s : Spot) → IsIn s (spots_of_decls ds) → lows_declared all s ≡ lows_declared ds s
 
-last_lows : (all : PDecls) (d : PDecl) (ds : PDecls) → Apart (spots_of_decl d ++ spots_of_decls ds) → AreLastLows all (tree.decls d ds) → AreLastLows all ds
+pub last_lows : (all : PDecls) (d : PDecl) (ds : PDecls) → Apart (spots_of_decl d ++ spots_of_decls ds) → AreLastLows all (tree.decls d ds) → AreLastLows all ds
 last_lows all (tree.arrays kind ns pairs) ds p l =
     λ s i.
     let far = each_front (λ z. IsApart z s) (spots_of_names ns) (spots_of_pairs pairs) (apart_from (spots_of_names ns ++ spots_of_pairs pairs) (spots_of_decls ds) s p i) in
     l s (in_back s (spots_of_names ns ++ spots_of_pairs pairs) (spots_of_decls ds) i)
-    ∙ ap (λ (b : Bool). if b then Some (lows_of pairs) else lows_declared ds s) (stands_elsewhere ns s far)
+    ∙ ap (λ (b : Bool). if b then own_lows pairs else lows_declared ds s) (stands_elsewhere ns s far)
+last_lows all (tree.procedure h body) ds p l =
+    λ s i.
+    let own = spots_of_decl (tree.procedure h body) in
+    l s (in_back s own (spots_of_decls ds) i)
+    ∙ ap (λ (o : Option Lows). or_lows o (lows_declared ds s)) (lows_elsewhere h.specs h.params s (parameters_elsewhere h body s (apart_from own (spots_of_decls ds) s p i)))
 last_lows all d ds p l = λ s i. l s (in_back s (spots_of_decl d) (spots_of_decls ds) i)
 
 -- ---- in front of the last declarations of a block
@@ -252,7 +297,7 @@ pub record IsArrayThere (block depth : ℕ) (kind : Kind) (pairs : List PPair) (
   pub pairs_are : array.pairs ≡ pairs
   pub among : IsIn d.spot (array_spots all)
   pub arrayed : IsArrayed (arrays_of all) (made_cells block all) name d.spot array
-  pub lows : lows_declared all d.spot ≡ Some (lows_of pairs)
+  pub lows : lows_declared all d.spot ≡ own_lows pairs
 
 pub array_there : (block depth : ℕ) (names : List (List ℕ)) (all : PDecls) (kind : Kind) (ns : List Named) (pairs : List PPair) (ds : PDecls) (name : List ℕ) (d : Declared) →
     Apart ((spots_of_names ns ++ spots_of_pairs pairs) ++ spots_of_decls ds) → is_one_of names name ≡ false → AreArraysPassed block names all (tree.decls (tree.arrays kind ns pairs) ds) →
@@ -275,5 +320,5 @@ array_there block depth names all kind ns pairs ds name d p n s h =
       arrayed =
           subst (λ (xs : List DeclaredArray). IsArrayed xs (made_cells block all) name d.spot r.array) (sym s.arrays_are)
           (subst (λ (cs : List Cell). IsArrayed (s.passed ++ (arrays_in kind ns pairs ++ arrays_of ds)) cs name d.spot r.array) (sym s.cells_are) all_arrayed);
-      lows = s.lows d.spot here ∙ ap (λ (b : Bool). if b then Some (lows_of pairs) else lows_declared ds d.spot) (stands_there ns d.spot r.inside);
+      lows = s.lows d.spot here ∙ ap (λ (b : Bool). if b then own_lows pairs else lows_declared ds d.spot) (stands_there ns d.spot r.inside);
     }

@@ -47,7 +47,7 @@ module _ (P : Token → Type 0) where
   behind_lows (headings.one low from rest x) w = behind_literal x w
   behind_lows (headings.two u low other from after rest x i y) w = behind_literal y (behind_literal x w).1
 
-  behind_spec : {from : List Token} {s : Spec} {rest : List Token} → IsSpec from s rest → All from → All rest
+  pub behind_spec : {from : List Token} {s : Spec} {rest : List Token} → IsSpec from s rest → All from → All rest
   behind_spec (headings.simple t u kind ns from rest i x j) w = (behind_names x w.1).1
   behind_spec (headings.events t u ns from rest i x j) w = (behind_names x w.1).1
   behind_spec (headings.arrays t u v w kind ns lows from names mid rest x i y j z k l) h = (behind_lows z (behind_names y (behind_typed x h).1).1).1.1
@@ -56,7 +56,7 @@ module _ (P : Token → Type 0) where
   behind_specs (headings.last s from rest x) w = behind_spec x w
   behind_specs (headings.on s ss from mid rest x y) w = behind_specs y (behind_spec x w)
 
-  behind_values : {from : List Token} {ns : List Named} {rest : List Token} → IsValues from ns rest → All from → All rest
+  pub behind_values : {from : List Token} {ns : List Named} {rest : List Token} → IsValues from ns rest → All from → All rest
   behind_values (headings.nothing rest) w = w
   behind_values (headings.values t u ns from rest i x j) w = (behind_names x w.1).1
 

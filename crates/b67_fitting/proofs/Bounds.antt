@@ -11,21 +11,24 @@ use Rattle.algol_tree.specs.Plain as tree
 use Rattle.algol_tree.specs.Plain.{PPair, PStmt, PDecls}
 use Rattle.algol_tree.specs.Scopes.{Scopes, Use, used, use_by, use_of}
 use Rattle.algol_tree.specs.Sites.{Site, sites, sites_in_pairs, here_stmt, inside_stmt, sites_in_stmts, sites_in_decls, has_decls}
-use Rattle.algol_tree.specs.Sorts.{Declared, is_variable, declared_parameters, is_named_in, sort_in, class_in}
+use Rattle.algol_tree.specs.Sorts.{Sort, Declared, is_variable, is_formal, declared_parameters, is_named_in, sort_in, class_in}
 use Rattle.algol_tree.specs.Surroundings.{Surroundings, declared_as, knowing, knowing_all, inside_procedure}
 use Rattle.algol_paths.specs.Blocks.{IsSeenAround}
 use Rattle.algol_paths.specs.Texts.{InPairs}
 use Rattle.b67_fitting.specs.Built.{HeadingBuilt, DeclsBuilt, StmtBuilt}
 use Rattle.b67_fitting.proofs.Lists.{each_front, each_back, each_both, each_of, nil_front}
 use Rattle.b67_fitting.proofs.Numbering.{IsThere}
-use Rattle.b67_fitting.proofs.Parameters.{AreByValue, by_value}
+use Rattle.b67_fitting.proofs.Specified.{IsSpecified, as_value, as_array, AreSpecified, specified}
 use Rattle.b67_fitting.proofs.Surrounded.{IsKnown, IsAround, found_known, use_is, IsGood, AreGood, the_use, KnownAs, all_seen, expr_known}
 
 -- ---- what is known at the begin of a block
 
--- a block around declares it, or it is a parameter, which is a variable
+abbrev pub IsParameter : Sort → Type 0
+IsParameter s = (is_variable s ≡ true) ⊎ (is_formal s ≡ true)
+
+-- a block around declares it, or it is a parameter, which is a variable or stands for an array
 abbrev pub IsEarly : ℕ → Declared → Type 0
-IsEarly depth d = (d.depth < depth) ⊎ (is_variable d.sort ≡ true)
+IsEarly depth d = (d.depth < depth) ⊎ IsParameter d.sort
 
 abbrev pub AreEarly : ℕ → List Declared → Type 0
 AreEarly depth ds = AllByRecursion (IsEarly depth) ds
@@ -35,23 +38,27 @@ module _ (sc : Scopes) (j : ℕ) (outer : List Spot) (a : Surroundings) (r : IsA
   pub early_inside : AreEarly (a.depth + 1) a.known
   early_inside = each_of (IsKnown sc.blocks j a.depth) (IsEarly (a.depth + 1)) a.known (λ d k. inl (omega (arith, k.shallow))) r.known
 
-  early_parameters : (k : ℕ) (h : Heading) (ns : List Named) → AreByValue h ns →
+  is_parameter : (h : Heading) (n : Named) → IsSpecified h n → IsParameter (sort_in h.specs (is_named_in h.values n.name) n.name)
+  is_parameter h n (as_value kind c v s) = inl (ap is_variable s)
+  is_parameter h n (as_array shape c a s) = inr (ap is_formal s)
+
+  early_parameters : (k : ℕ) (h : Heading) (ns : List Named) → AreSpecified h ns →
       AreEarly (a.depth + 1)
       (map (λ (n : Named). record { name = n.name; spot = n.spot; block = k; depth = a.depth + 1; sort = sort_in h.specs (is_named_in h.values n.name) n.name; class = class_in h.specs n.name }) ns)
   early_parameters k h [] v = tt
-  early_parameters k h (n ∷ ns) v = (inr (ap is_variable v.0.sort_is), early_parameters k h ns v.1)
+  early_parameters k h (n ∷ ns) v = (inr (is_parameter h n v.0), early_parameters k h ns v.1)
 
   -- inside a procedure
   pub early_procedure : (h : Heading) → HeadingBuilt h → AreEarly (a.depth + 1) ((inside_procedure sc.blocks h a).known)
   early_procedure h b =
       let k = number_at sc.blocks h.name.spot in
-      each_both (IsEarly (a.depth + 1)) (declared_parameters k (a.depth + 1) h) a.known (early_parameters k h h.params (by_value h b)) early_inside
+      each_both (IsEarly (a.depth + 1)) (declared_parameters k (a.depth + 1) h) a.known (early_parameters k h h.params (specified h b)) early_inside
 
 -- ---- names in bounds
 
 module _ (sc : Scopes) (j : ℕ) (outer : List Spot) (a : Surroundings) (r : IsAround sc.blocks j outer a) (early : AreEarly a.depth a.known) where
   abbrev IsOuter : Use → Type 0
-  IsOuter u = (1 ≤ u.up) ⊎ (is_variable u.sort ≡ true)
+  IsOuter u = (1 ≤ u.up) ⊎ IsParameter u.sort
 
   outer_by : (n : Named) (o : Option Declared) → declared_as a n ≡ o → if_so (not (is_some o)) n.spot ≡ [] → AllByRecursion (IsThere sc.uses) (use_by a n o) → IsOuter (use_of sc n)
   outer_by n None e k t = absurd (let clash : n.spot ∷ [] ≡ [] = k in cc)

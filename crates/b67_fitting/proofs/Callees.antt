@@ -26,7 +26,7 @@ abbrev pub AreNamed : List Site → Type 0
 AreNamed xs = AllByRecursion IsNamed xs
 
 module _ (blocks : List Block) where
-  -- The block of the procedure with this heading stands in the block j. Its parameters are simple ones, by value.
+  -- The block of the procedure with this heading stands in the block j. Its parameters are by value or arrays.
   pub record IsCallee (j : ℕ) (h : Heading) : Type 0 where
     pub some : number_at blocks h.name.spot < length blocks
     pub around_is : around blocks (number_at blocks h.name.spot) ≡ j ∷ around blocks j

@@ -17,12 +17,13 @@ use Rattle.algol_tree.specs.Plain.{PStmt, PDecls}
 use Rattle.algol_tree.specs.Scopes.{Scopes}
 use Rattle.algol_tree.specs.Sites as site
 use Rattle.algol_tree.specs.Sites.{Site, sites_in_pairs, here_stmt, inside_stmt, sites_in_stmts, sites_in_decls, has_decls}
-use Rattle.algol_tree.specs.Sorts.{Parameter, Declared}
+use Rattle.algol_tree.specs.Sorts.{Declared}
 use Rattle.algol_tree.specs.Surroundings.{Surroundings, knowing, knowing_all, inside_procedure}
 use Rattle.algol_paths.specs.Arrays.{DeclaredArray, arrays_in, arrays_of}
 use Rattle.b67_templates.specs.Cells.{Simple, parameter_cells, simple_cells, of_kind, result_of, variables, procedures}
 use Rattle.b67_fitting.specs.Built.{DeclsBuilt, StmtBuilt}
-use Rattle.b67_fitting.specs.Nested.{AreByValue}
+use Rattle.b67_fitting.specs.Nested.{AreParameters}
+use Rattle.b67_fitting.proofs.ParametersTold.{told_many}
 
 pub cells_both : (blocks : List Block) (xs ys : List Site) (k : ℕ) →
     length (cells_of blocks (xs ++ ys) k) ≡ length (cells_of blocks xs k) + length (cells_of blocks ys k)
@@ -70,7 +71,7 @@ module _ (blocks : List Block) where
       omega (
         arith,
         length-append (of_kind kind ns) (variables ds),
-        length-map {B = Simple} ns (λ (n : Named). record { name = n.name; kind = Some kind }),
+        length-map {B = Simple} ns (λ (n : Named). record { name = n.name; kind = Some kind; shape = None }),
         ap length (filter-append own its more),
         length-append (filter own its) (filter own more),
         own_cells k cells.variable ns,
@@ -159,11 +160,5 @@ simple_many sc b =
     )
 
 -- a cell for each parameter
-pub parameters_many : (sc : Scopes) (b : Block) → AreByValue sc b → length (parameter_cells sc b) ≡ length b.parameters
-parameters_many sc b v =
-    omega (
-      arith,
-      ap length v.names,
-      length-map b.parameters (λ (p : Parameter). p.name),
-      length-map (parameter_cells sc b) (λ (c : Simple). c.name),
-    )
+pub parameters_many : (sc : Scopes) (b : Block) → AreParameters sc b → length (parameter_cells sc b) ≡ length b.parameters
+parameters_many sc b v = told_many b.parameters (parameter_cells sc b) v.told

@@ -1,5 +1,5 @@
 -- Each name that is used as a variable or a procedure has its couple, and its cell has the number that the couple says.
-use Rattle.std.proofs.Common.{arith, ◌≡◌, ◌⊎◌, inl, inr, ℕ, ◌+◌, ◌-◌, ◌<◌, ◌≤◌, ◌==◌, ◌||◌, ℤ, Bool, true, false, List, [], ◌∷◌, ◌++◌, map, length, slice_get, Option, Some, None, refl, sym, ap, ◌∙◌, subst, is_some}
+use Rattle.std.proofs.Common.{arith, ◌≡◌, ◌⊎◌, inl, inr, ℕ, ◌+◌, ◌-◌, ◌<◌, ◌≤◌, ◌==◌, ◌||◌, Bool, true, false, List, [], ◌∷◌, ◌++◌, map, length, slice_get, Option, Some, None, refl, sym, ap, ◌∙◌, subst, is_some}
 use Rattle.std.proofs.lemmas.Bool.{eqb-true}
 use Rattle.std.specs.List.{flat_map, list_any, AllByRecursion}
 use Rattle.algol_tree.specs.declared.token.Spot.{Spot}
@@ -16,11 +16,12 @@ use Rattle.algol_tree.specs.Sites.{Site}
 use Rattle.algol_tree.specs.Sorts as sort
 use Rattle.algol_tree.specs.Sorts.{same_name, Declared, is_variable}
 use Rattle.algol_tree.specs.Surroundings.{Surroundings}
+use Rattle.algol_paths.specs.Arrays.{Lows}
 use Rattle.b67_ops.specs.declared.Couple.{Couple}
-use Rattle.b67_templates.specs.Cells.{Simple, parameter_cells, simple_cells, variables, result_of, procedures, found_from, IsVariable, IsProcedure}
+use Rattle.b67_templates.specs.Cells.{Simple, value, parameter_cells, simple_cells, variables, result_of, procedures, found_from, IsVariable, IsProcedure}
 use Rattle.b67_templates.specs.Fitting.{couple_on_left, ReadFits, LeftFits}
 use Rattle.b67_fitting.specs.Fitted.{spelled}
-use Rattle.b67_fitting.proofs.Aligned.{IsAt}
+use Rattle.b67_fitting.proofs.Aligned.{of_value, IsAt}
 use Rattle.b67_fitting.proofs.Apart.{IsIn, in_front, in_back, in_flat, IsApart, Apart}
 use Rattle.b67_fitting.proofs.Blocked.{block_spots, numbered, number_none}
 use Rattle.b67_fitting.proofs.Frames.{named_of, front_cells, variable_cells, control_cells, made_cells, decl_cells, result_cell, cells_of_block, laid_out}
@@ -32,7 +33,7 @@ use Rattle.b67_fitting.proofs.ResultsApart.{result_other}
 use Rattle.b67_fitting.proofs.Homed.{IsHome, IsValue}
 use Rattle.b67_fitting.proofs.Known.{given_cells, given_places, IsVariableOf, IsParameterOf, IsHeld, IsOwned, AreAround, Stands}
 use Rattle.b67_fitting.proofs.Looked.{use_found, known_found}
-use Rattle.b67_fitting.proofs.Made.{made_places}
+use Rattle.b67_fitting.proofs.Made.{places_in}
 use Rattle.b67_fitting.proofs.Stated.{is_around}
 
 pub use_is : (sc : Scopes) (n : Named) (u : Use) → declared_in sc.uses n.spot ≡ Some u → use_of sc n ≡ u
@@ -46,7 +47,7 @@ abbrev pub result_use : Surroundings → Named → Declared → ℕ → Use
 result_use a n d callee = record { spot = n.spot; block = callee; up = a.depth - d.depth - 1; sort = sort.variable }
 
 -- the cell of a parameter
-given_cell : (block : ℕ) (ns : List Named) (s : Spot) → IsIn s (map (λ (n : Named). n.spot) ns) → IsIn (record { block = block; spot = s; content = cells.parameter }) (cells_for block cells.parameter ns)
+pub given_cell : (block : ℕ) (ns : List Named) (s : Spot) → IsIn s (map (λ (n : Named). n.spot) ns) → IsIn (record { block = block; spot = s; content = cells.parameter }) (cells_for block cells.parameter ns)
 given_cell block [] s i = absurd i
 given_cell block (n ∷ ns) s (inl e) = inl (ap (λ (z : Spot). record { block = block; spot = z; content = cells.parameter }) e)
 given_cell block (n ∷ ns) s (inr i) = inr (given_cell block ns s i)
@@ -59,7 +60,7 @@ pub record IsProgram (blocks : List Block) (all : List Site) : Type 0 where
   pub known_apart : Apart (map (λ (k : Known). k.spot) (flat_map (known_at blocks) all))
   pub own : (b : Block) → IsIn b blocks → cells_of blocks all (number_at blocks b.spot) ≡ cells_of_block (number_at blocks b.spot) (named_of blocks b) b
   pub none : cells_of blocks all (length blocks) ≡ []
-  pub made_apart : Apart (made_places blocks all)
+  pub places_apart : Apart (places_in blocks all)
   pub far : (c : Cell) → IsIn c (flat_map (cells_at blocks) all) → IsValue c → AllByRecursion (IsApart c.spot) (block_spots blocks)
   pub homes : (b : Block) → IsIn b blocks → IsHome blocks b
 
@@ -102,7 +103,7 @@ module _ (blocks : List Block) (all : List Site) (is : IsProgram blocks all) whe
       let own : IsIn c (cells_of blocks all (number_of b)) = subst (λ (z : List Cell). IsIn c z) (sym (is.own b t)) i in
       is.far c (in_filter (λ (c : Cell). c.block == number_of b) c (flat_map (cells_at blocks) all) own) v
 
-  place_far : (b : Block) → IsIn b blocks → (name : List ℕ) (d : Declared) (k : Kind) → IsVariableOf blocks b name d k ⊎ IsParameterOf blocks b name d k →
+  place_far : (b : Block) → IsIn b blocks → (name : List ℕ) (d : Declared) (k : Kind) → IsVariableOf blocks b name d k ⊎ IsParameterOf blocks b name d (value k) →
       AllByRecursion (IsApart d.spot) (block_spots blocks)
   place_far b t name d k (inl v) =
       let c : Cell = record { block = number_of b; spot = d.spot; content = cells.variable } in
@@ -118,7 +119,7 @@ module _ (blocks : List Block) (all : List Site) (is : IsProgram blocks all) whe
 
   module _ (a : Surroundings) (level : ℕ) (at : a.depth + 2 ≡ level) (n : Named) (d : Declared) where
     variable_at : (k : Kind) → use_of scopes n ≡ the_use a n d → (h : IsHeld blocks a.depth n.name d k) →
-        (r : IsAt 0 2 (simples_of h.in_block) (frame_of h.in_block) n.name d.spot k) →
+        (r : IsAt 0 2 (simples_of h.in_block) (frame_of h.in_block) n.name d.spot (value k)) →
         IsVariable scopes level n k (record { level = level_of h.in_block; index = 2 + r.number })
     variable_at k u h r =
         let b = h.in_block in
@@ -131,25 +132,25 @@ module _ (blocks : List Block) (all : List Site) (is : IsProgram blocks all) whe
               ∙ ap (λ (z : ℕ). found_from 0 (simple_cells scopes (block_numbered blocks z)) n.name) h.block_is
               ∙ ap (λ (z : Block). found_from 0 (simple_cells scopes z) n.name) (numbered blocks b is.blocks_apart h.there)
               ∙ ap (λ (z : List Simple). found_from 0 z n.name) (simple_is blocks b (is.homes b h.there) scopes.uses) ∙ r.found;
-          kind_is = r.kind_is;
+          kind_is = of_value r.cell.kind r.cell.shape k r.wanted_is;
           level_is = ap (λ (z : Use). length b.outer + 2 + z.up) u ∙ up;
           index_is = refl;
         }
 
     -- the same number by the name and by the place, among all cells of the block
     at_both : (k : Kind) → (h : IsHeld blocks a.depth n.name d k) →
-        IsAt 0 2 (simples_of h.in_block) (frame_of h.in_block) n.name d.spot k
+        IsAt 0 2 (simples_of h.in_block) (frame_of h.in_block) n.name d.spot (value k)
     at_both k h = by h.place
       where
         b : Block
         b = h.in_block
 
-        by : IsVariableOf blocks b n.name d k ⊎ IsParameterOf blocks b n.name d k → IsAt 0 2 (simples_of b) (frame_of b) n.name d.spot k
+        by : IsVariableOf blocks b n.name d k ⊎ IsParameterOf blocks b n.name d (value k) → IsAt 0 2 (simples_of b) (frame_of b) n.name d.spot (value k)
         by (inl v) =
             let other : is_one_of (result_names_of b) n.name ≡ false =
             subst (λ (z : Block). is_one_of (result_names_of z) n.name ≡ false) (ap (block_numbered blocks) h.block_is ∙ numbered blocks b is.blocks_apart h.there) v.other in
-            framed blocks b (is.homes b h.there) n.name d.spot k v.among other v.past v.aligned 0 2 refl
-        by (inr v) = framed_parameter blocks b (is.homes b h.there) n.name d.spot k v.aligned 0 2 refl
+            framed blocks b (is.homes b h.there) n.name d.spot (value k) v.among other v.past v.aligned 0 2 refl
+        by (inr v) = framed_parameter blocks b (is.homes b h.there) n.name d.spot (value k) v.aligned 0 2 refl
 
     -- ---- procedures
 
@@ -190,7 +191,7 @@ module _ (blocks : List Block) (all : List Site) (is : IsProgram blocks all) whe
         let up : length (b.spot ∷ b.outer) + 2 + (a.depth - d.depth - 1) ≡ level = omega (arith, at, h.depth_is, deep) in
         record {
           variable = ap (λ (z : Use). is_variable z.sort) u;
-          found = record { number = length (given_cells blocks c); cell = record { name = g.name.name; kind = Some k } };
+          found = record { number = length (given_cells blocks c); cell = record { name = g.name.name; kind = Some k; shape = None } };
           there =
               ap (λ (z : Use). found_from 0 (simple_cells scopes (block_numbered blocks z.block)) n.name) u
               ∙ ap (λ (z : Block). found_from 0 (simple_cells scopes z) n.name) (numbered blocks c is.blocks_apart h.body_there)
@@ -249,7 +250,7 @@ module _ (blocks : List Block) (all : List Site) (is : IsProgram blocks all) whe
 
   -- ---- names fit
 
-  module _ (known results : Spot → Option Couple) (lows : Spot → Option (List ℤ))
+  module _ (known results : Spot → Option Couple) (lows : Spot → Option Lows)
       (couples : (spot : Spot) (d : Located) (c : cells.Couple) → declaration_in blocks all spot ≡ Some d → d.couple ≡ Some c → known spot ≡ Some (record { level = c.level; index = c.index }))
       (results_are : (spot : Spot) (d : Located) → declaration_in blocks all spot ≡ Some d → results spot ≡ spelled (couple_in blocks all (number_at blocks d.spot) d.spot)) (a : Surroundings)
       (level : ℕ) (at : a.depth + 2 ≡ level) (n : Named) (d : Declared) (is_known : known_there (flat_map (known_at blocks) all) n.spot ≡ Some d) where

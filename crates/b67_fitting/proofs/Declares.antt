@@ -1,5 +1,5 @@
 -- The parts of typed statements and declarations are listed.
-use Rattle.std.proofs.Common.{◌≡◌, inl, inr, ℕ, ◌-◌, Bool, true, List, [], ◌∷◌, ◌++◌, map, is_some, if◌then◌else◌, None, Some, Option, refl, sym, ap, ◌∙◌, subst, append-nil}
+use Rattle.std.proofs.Common.{◌≡◌, ◌⊎◌, inl, inr, ℕ, ◌-◌, ℤ, Bool, true, List, [], ◌∷◌, ◌++◌, map, is_some, if◌then◌else◌, None, Some, Option, refl, sym, ap, ◌∙◌, subst, append-nil}
 use Rattle.std.proofs.lemmas.List.{map-append}
 use Rattle.std.specs.List.{flat_map, AllByRecursion}
 use Rattle.algol_tree.specs.declared.token.Spot.{Spot}
@@ -7,10 +7,10 @@ use Rattle.algol_tree.specs.declared.tree.Heading.{Heading}
 use Rattle.algol_tree.specs.declared.tree.Kind.{Kind}
 use Rattle.algol_tree.specs.declared.tree.Kind.TheVariants as types
 use Rattle.algol_tree.specs.declared.tree.Named.{Named}
-use Rattle.algol_tree.specs.Ascending.{spots_of_names, spots_of_expr, spots_of_exprs, spots_of_heading, spots_of_pairs, spots_of_decl, spots_of_decls}
+use Rattle.algol_tree.specs.Ascending.{spots_of_names, spots_of_expr, spots_of_exprs, spots_of_heading, spots_of_pairs, spots_of_stmt, spots_of_decl, spots_of_decls}
 use Rattle.algol_tree.specs.Blocks.{Block, procedure_block, block_numbered, number_at, blocks_in_decl, blocks_in_decls}
 use Rattle.algol_tree.specs.Cells as cells
-use Rattle.algol_tree.specs.Cells.{Cell, Content, cells_for, holding}
+use Rattle.algol_tree.specs.Cells.{Cell, Content, cells_for}
 use Rattle.algol_tree.specs.Classes as class
 use Rattle.algol_tree.specs.Classes.{Class, Formal}
 use Rattle.algol_tree.specs.Counted.{exprs_count}
@@ -20,24 +20,28 @@ use Rattle.algol_tree.specs.Plain as tree
 use Rattle.algol_tree.specs.Plain.{PExpr, PExprs, PPair, PStmt, PStmts, PDecl, PDecls}
 use Rattle.algol_tree.specs.Scopes.{Use, use_by, left_use, left_uses, used, names_in_stmt, stmt_uses}
 use Rattle.algol_tree.specs.Sites as parts
-use Rattle.algol_tree.specs.Sites.{Part, Site, here, sites, is_of_value, inside_expr, inside_actuals, has_decls, here_stmt, inside_list, inside_stmt, inside_decl, sites_in_pairs, sites_in_stmts, sites_in_decls}
+use Rattle.algol_tree.specs.Sites.{Part, Site, here, sites, is_of_value, actual_part, inside_expr, inside_actuals, has_decls, here_stmt, inside_list, inside_stmt, inside_decl, sites_in_pairs, sites_in_stmts, sites_in_decls}
 use Rattle.algol_tree.specs.Sorts as sort
 use Rattle.algol_tree.specs.Sorts.{Sort, Declared, formals_of}
 use Rattle.algol_tree.specs.Surroundings.{Surroundings, class_of, class_of_declared, formals_of_class, formals_at, declared_as, knowing, knowing_all, inside_procedure}
 use Rattle.algol_tree.specs.Types.{taken_by}
+use Rattle.algol_paths.specs.Arrays.{Lows, or_lows, lows_among, lows_declared}
+use Rattle.b67_fitting.proofs.Actuals.{IsArrayActual, name_alone}
 use Rattle.b67_fitting.proofs.Among.{Among, nothing, skip, keep, none_among, join}
 use Rattle.b67_fitting.proofs.Apart.{IsIn, in_each, in_map, in_front, in_back, Apart, apart_back}
+use Rattle.b67_fitting.proofs.Arrayed.{none_lows, from_first, AreLastLows, last_lows}
 use Rattle.b67_fitting.proofs.TypedBounds.{TypedPairs}
 use Rattle.b67_fitting.proofs.Frames.{each_own_for, control_cell, named_of, result_cell}
 use Rattle.b67_fitting.proofs.Given.{AreLastNamed, last_named, found_named, named_is}
 use Rattle.b67_fitting.proofs.Lists.{nil_back}
 use Rattle.b67_fitting.proofs.Parameters.{AreLast, last_step, found_last, around_is}
 use Rattle.b67_fitting.proofs.Known.{Stands}
-use Rattle.b67_fitting.proofs.Listed.{AllThere, reads_in, lefts_in, IsFair, IsDeclaring, IsProcedure, Listed, over, passed, site, both}
-use Rattle.b67_fitting.proofs.Meant.{rowed_of}
+use Rattle.b67_fitting.proofs.Listed.{AllThere, own_places, reads_in, lefts_in, IsFair, IsDeclaring, IsProcedure, Listed, over, passed, site, both}
+use Rattle.b67_fitting.proofs.Meant.{IsArrayAs, of_block, of_parameter, arrayed_of}
+use Rattle.b67_fitting.proofs.Passing.{leading}
 use Rattle.b67_fitting.proofs.Started.{IsCalleeOf, HasCallees, IsStarted, step}
 use Rattle.b67_fitting.proofs.Stated.{TypedDecls}
-use Rattle.b67_fitting.proofs.Typed.{HasElements, TypedExpr, TypedActuals, TypedLine, actual_part_is}
+use Rattle.b67_fitting.proofs.Typed.{HasElements, TypedExpr, TypedActual, TypedActuals, TypedLine, actual_part_is}
 
 -- the block of a BEGIN with these declarations and statements
 abbrev pub begun : Spot → List Spot → PDecls → PStmts → Block
@@ -56,6 +60,32 @@ module _ (blocks : List Block) (k : ℕ) (b : Block) (a : Surroundings) (stands 
   -- an actual by value has no cell of its own
   fair_actual : (e : PExpr) (f : Formal) (m : Kind) → f.class ≡ class.simple m → f.by_value ≡ true → IsFair blocks (record { part = parts.actual e (Some f); around = a })
   fair_actual e f m c v = record { uses = refl; knows = refl; cells = rw (c, v) refl; reads = refl; lefts = refl; in_block = b; stands = stands }
+
+  -- nor has an array
+  fair_array : (e : PExpr) (f : Formal) (m : Kind) (rank : ℕ) → f.class ≡ class.array m rank → IsFair blocks (record { part = parts.actual e (Some f); around = a })
+  fair_array e f m rank c = record { uses = refl; knows = refl; cells = rw c refl; reads = refl; lefts = refl; in_block = b; stands = stands }
+
+  fair_name : (n : Named) → IsFair blocks (record { part = parts.name n; around = a })
+  fair_name n = record { uses = refl; knows = refl; cells = refl; reads = refl; lefts = refl; in_block = b; stands = stands }
+
+  listed_array : (f : Formal) (e : PExpr) → IsArrayActual a f e → {spots : List Spot} {xs : List Site} → Listed blocks k spots [] [] xs →
+      Listed blocks k (spots_of_expr e ++ spots) [] [] (record { part = parts.actual e (Some f); around = a } ∷ record { part = actual_part e (Some f); around = a } ∷ (inside_expr e a ++ xs))
+  listed_array f (tree.variable (tree.subscripted n tree.none)) t {spots} {xs} l =
+      site k (record { part = parts.actual (tree.variable (tree.subscripted n tree.none)) (Some f); around = a }) (fair_array (tree.variable (tree.subscripted n tree.none)) f t.0 t.1 t.2)
+      (subst (λ (p : Part). Listed blocks k (n.spot ∷ spots) [] [] (record { part = p; around = a } ∷ xs)) (sym (name_alone n f t.0 t.1 t.2))
+      (site k (record { part = parts.name n; around = a }) (fair_name n) l))
+  listed_array f e t l = absurd t
+
+  -- an actual in front of the others, by value or an array
+  listed_actual : (f : Formal) (e : PExpr) → TypedActual a f e → ((m : Kind) → TypedExpr a m e → Listed blocks k (spots_of_expr e) [] [] (sites e a)) →
+      {spots : List Spot} {xs : List Site} → Listed blocks k spots [] [] xs →
+      Listed blocks k (spots_of_expr e ++ spots) [] [] (record { part = parts.actual e (Some f); around = a } ∷ record { part = actual_part e (Some f); around = a } ∷ (inside_expr e a ++ xs))
+  listed_actual f e (inr t) valued l = listed_array f e t l
+  listed_actual f e (inl t) valued {spots} {xs} l =
+      let those : Listed blocks k (spots_of_expr e ++ spots) [] [] (here e a ∷ (inside_expr e a ++ xs)) = both k (valued t.0 t.3) l in
+      site k (record { part = parts.actual e (Some f); around = a }) (fair_actual e f t.0 t.1 t.2)
+      (subst (λ (p : Part). Listed blocks k (spots_of_expr e ++ spots) [] [] (record { part = p; around = a } ∷ (inside_expr e a ++ xs)))
+      (sym (actual_part_is e (Some f) (ap is_of_value t.1))) those)
 
   mutual
     pub listed_expr : (m : Kind) (e : PExpr) → TypedExpr a m e → Listed blocks k (spots_of_expr e) [] [] (sites e a)
@@ -79,13 +109,7 @@ module _ (blocks : List Block) (k : ℕ) (b : Block) (a : Surroundings) (stands 
 
     pub listed_actuals : (fs : List Formal) (es : PExprs) → TypedActuals a fs es → Listed blocks k (spots_of_exprs es) [] [] (inside_actuals es fs a)
     listed_actuals [] tree.none t = over k
-    listed_actuals (f ∷ fs) (tree.more e es) t =
-        let m = t.0 in
-        let rest = inside_actuals es fs a in
-        let those : Listed blocks k (spots_of_expr e ++ spots_of_exprs es) [] [] (here e a ∷ (inside_expr e a ++ rest)) = both k (listed_expr m e t.3) (listed_actuals fs es t.4) in
-        site k (record { part = parts.actual e (Some f); around = a }) (fair_actual e f m t.1 t.2)
-        (subst (λ (p : Part). Listed blocks k (spots_of_expr e ++ spots_of_exprs es) [] [] (record { part = p; around = a } ∷ (inside_expr e a ++ rest)))
-        (sym (actual_part_is e (Some f) (ap is_of_value t.1))) those)
+    listed_actuals (f ∷ fs) (tree.more e es) t = listed_actual f e t.0 (λ m h. listed_expr m e h) (listed_actuals fs es t.1)
     listed_actuals [] (tree.more e es) t = absurd t
     listed_actuals (f ∷ fs) tree.none t = absurd t
 
@@ -103,19 +127,30 @@ module _ (blocks : List Block) (k : ℕ) (b : Block) (a : Surroundings) (stands 
       IsFair blocks (here_stmt s listed a)
   fair_stmt s listed u r l = record { uses = u; knows = refl; cells = refl; reads = r; lefts = l; in_block = b; stands = stands }
 
+  abbrev IsArraySort : Sort → Type 0
+  IsArraySort s = (s ≡ sort.array) ⊎ ((found : List ℤ) × (s ≡ sort.formal_array found))
+
+  left_kept : (u : Use) (s : Sort) → IsArraySort s → left_use u s ≡ u
+  left_kept u s (inl e) = ap (left_use u) e
+  left_kept u s (inr e) = ap (left_use u) e.1
+
   -- the name of an array is used on the left as elsewhere
-  left_same : (n : Named) (o : Option Declared) → ((d : Declared) → o ≡ Some d → d.sort ≡ sort.array) → left_uses (use_by a n o) ≡ use_by a n o ++ []
+  left_same : (n : Named) (o : Option Declared) → ((d : Declared) → o ≡ Some d → IsArraySort d.sort) → left_uses (use_by a n o) ≡ use_by a n o ++ []
   left_same n None f = refl
   left_same n (Some d) f =
       let u : Use = record { spot = n.spot; block = d.block; up = a.depth - d.depth; sort = d.sort } in
-      ap (λ (s : Sort). left_use u s ∷ []) (f d refl)
+      ap (λ (z : Use). z ∷ []) (left_kept u d.sort (f d refl))
+
+  array_sort : (name : List ℕ) (d : Declared) (m : Kind) (rank : ℕ) → IsArrayAs blocks a.depth name d m rank → IsArraySort d.sort
+  array_sort name d m rank (of_block h) = inl h.sort_is
+  array_sort name d m rank (of_parameter shape h e f) = inr (shape.lows, h.sort_is)
 
   pub fair_element : (n : Named) (e : PExpr) (es : PExprs) (v : PExpr) (m : Kind) (listed : Bool) → HasElements a m n (tree.more e es) →
       IsFair blocks (here_stmt (tree.assign (tree.subscripted n (tree.more e es)) v) listed a)
   fair_element n e es v m listed h =
       fair_stmt (tree.assign (tree.subscripted n (tree.more e es)) v) listed
       (left_same n (declared_as a n)
-      (λ d is. (rowed_of blocks a.depth n.name d m (exprs_count (tree.more e es)) (sym (ap class_of_declared is) ∙ h) (stands.around.each n.name d is)).sort_is)) refl refl
+      (λ d is. array_sort n.name d m (exprs_count (tree.more e es)) (arrayed_of blocks a.depth n.name d m (exprs_count (tree.more e es)) (sym (ap class_of_declared is) ∙ h) (stands.around.each n.name d is)))) refl refl
 
 -- ---- declarations
 
@@ -142,17 +177,13 @@ cells_among block x ns = each ns (λ s i. i)
     each [] f = tt
     each (m ∷ ms) f = (f m.spot (inl refl), each ms (λ s i. f s (inr i)))
 
--- the places of the cells that are made
-abbrev made_places : List Cell → List Spot
-made_places cs = map (λ (c : Cell). c.spot) (holding cells.made cs)
+variable_places : (block : ℕ) (ns : List Named) → Among (own_places (cells_for block cells.variable ns)) (spots_of_names ns)
+variable_places block [] = nothing
+variable_places block (n ∷ ns) = keep n.spot (variable_places block ns)
 
-none_made : (block : ℕ) (ns : List Named) → Among (made_places (cells_for block cells.variable ns)) (spots_of_names ns)
-none_made block [] = nothing
-none_made block (n ∷ ns) = skip n.spot (none_made block ns)
-
-all_made : (block : ℕ) (ns : List Named) → Among (made_places (cells_for block cells.made ns)) (spots_of_names ns)
-all_made block [] = nothing
-all_made block (n ∷ ns) = keep n.spot (all_made block ns)
+array_places : (block : ℕ) (ns : List Named) → Among (own_places (cells_for block cells.made ns)) (spots_of_names ns)
+array_places block [] = nothing
+array_places block (n ∷ ns) = keep n.spot (array_places block ns)
 
 result_is : (o : Option Kind) (n : Named) (block : ℕ) → (if is_some o then cells_for block cells.result (n ∷ []) else []) ≡ result_cell o block n.spot
 result_is None n block = refl
@@ -168,7 +199,7 @@ module _ (blocks : List Block) where
         cells = refl;
         owns = each_own_for a.block cells.variable ns;
         among = cells_among a.block cells.variable ns;
-        made = none_made a.block ns;
+        places = variable_places a.block ns;
         reads = refl;
         lefts = refl;
       }
@@ -182,14 +213,14 @@ module _ (blocks : List Block) where
         cells = refl;
         owns = each_own_for a.block cells.made ns;
         among = cells_among a.block cells.made ns;
-        made = all_made a.block ns;
+        places = array_places a.block ns;
         reads = refl;
         lefts = refl;
       }
 
   pub declares_files : (a : Surroundings) (ns : List Named) (ds : PDecls) → IsDeclaring blocks a.block (record { part = parts.declaration (tree.files ns) ds; around = a }) (spots_of_names ns) []
   declares_files a ns ds =
-      record { uses = refl; knows = names_among (knowing blocks (tree.files ns) ds a) ns; cells = refl; owns = tt; among = tt; made = none_among (spots_of_names ns); reads = refl; lefts = refl }
+      record { uses = refl; knows = names_among (knowing blocks (tree.files ns) ds a) ns; cells = refl; owns = tt; among = tt; places = none_among (spots_of_names ns); reads = refl; lefts = refl }
 
   pub declares_forward : (a : Surroundings) (h : Heading) (ds : PDecls) → IsDeclaring blocks a.block (record { part = parts.declaration (tree.forward h) ds; around = a }) (spots_of_heading h) []
   declares_forward a h ds =
@@ -201,7 +232,7 @@ module _ (blocks : List Block) where
         cells = refl;
         owns = tt;
         among = tt;
-        made = none_among (spots_of_heading h);
+        places = none_among (spots_of_heading h);
         reads = refl;
         lefts = refl;
       }
@@ -226,15 +257,38 @@ module _ (blocks : List Block) where
             (in_each (λ (n : Named). IsIn n.spot (spots_of_names h.params ++ spots_of_names h.values ++ spots_of_names (specified h))) h.params
             (λ n i. in_front n.spot (spots_of_names h.params ++ spots_of_names h.values) (spots_of_names (specified h))
             (in_front n.spot (spots_of_names h.params) (spots_of_names h.values) (in_map (λ (m : Named). m.spot) n h.params i))));
+        given =
+            subst (λ (ns : List Named). Among (spots_of_names ns) (spots_of_names h.params ++ spots_of_names h.values ++ spots_of_names (specified h))) (sym e)
+            (leading (spots_of_names h.params) (spots_of_names h.values) (spots_of_names (specified h)));
         reads = refl;
         lefts = refl;
       }
 
+  -- where a parameter stands
+  parameter_among : (h : Heading) (s : PStmt) (p : Spot) → IsIn p (spots_of_names h.params) → IsIn p (spots_of_decl (tree.procedure h s))
+  parameter_among h s p i =
+      let params = spots_of_names h.params in
+      let values = spots_of_names h.values in
+      let specs = spots_of_names (specified h) in
+      inr (in_front p (params ++ values ++ specs) (spots_of_stmt s) (in_front p (params ++ values) specs (in_front p params values i)))
+
+  or_none : (o : Option Lows) → or_lows o None ≡ o
+  or_none None = refl
+  or_none (Some found) = refl
+
+  -- its lower bounds are found there
+  found_lows : (all : PDecls) (h : Heading) (s : PStmt) (ds : PDecls) → Apart (spots_of_decl (tree.procedure h s) ++ spots_of_decls ds) → AreLastLows all (tree.decls (tree.procedure h s) ds) →
+      (p : Spot) → IsIn p (spots_of_names h.params) → lows_declared all p ≡ lows_among h.specs h.params p
+  found_lows all h s ds a l p i =
+      let own = spots_of_decl (tree.procedure h s) in
+      let here = parameter_among h s p i in
+      l p (in_front p own (spots_of_decls ds) here) ∙ ap (or_lows (lows_among h.specs h.params p)) (none_lows ds p (from_first own (spots_of_decls ds) p a here)) ∙ or_none (lows_among h.specs h.params p)
+
   -- the blocks of the procedures
   pub callees : (ds : PDecls) (a : Surroundings) (first : List Declared) (b : Block) → TypedDecls blocks a first ds → AllThere blocks (blocks_in_decls ds (b.spot ∷ b.outer)) → block_numbered blocks (number_at blocks b.spot) ≡ b →
-      Apart (spots_of_decls ds) → AreLast b.decls ds → AreLastNamed b.decls ds → HasCallees blocks b ds
-  callees tree.no_decls a first b t f e p l m h i = absurd i
-  callees (tree.decls (tree.procedure g s) ds) a first b t f e p l m h (inl same) =
+      Apart (spots_of_decls ds) → AreLast b.decls ds → AreLastNamed b.decls ds → AreLastLows b.decls ds → HasCallees blocks b ds
+  callees tree.no_decls a first b t f e p l m q h i = absurd i
+  callees (tree.decls (tree.procedure g s) ds) a first b t f e p l m q h (inl same) =
       subst (IsCalleeOf blocks b) (sym same)
       (record {
         built = t.1.0;
@@ -243,21 +297,22 @@ module _ (blocks : List Block) where
         body_there = f (procedure_block g s (b.spot ∷ b.outer)) (inl refl);
         cells_are = around_is blocks b g.name.spot e ∙ found_last b.decls g ds s l;
         named_are = named_is blocks b g.name.spot e ∙ found_named b.decls g ds s m;
+        lows_are = found_lows b.decls g s ds p q;
       })
-  callees (tree.decls (tree.procedure g s) ds) a first b t f e p l m h (inr i) =
+  callees (tree.decls (tree.procedure g s) ds) a first b t f e p l m q h (inr i) =
       callees ds (knowing blocks (tree.procedure g s) ds a) first b t.2
       (λ c j. f c (in_back c (blocks_in_decl (tree.procedure g s) (b.spot ∷ b.outer)) (blocks_in_decls ds (b.spot ∷ b.outer)) j)) e
-      (apart_back (spots_of_decl (tree.procedure g s)) (spots_of_decls ds) p) (last_step b.decls (tree.procedure g s) ds p l) (last_named b.decls (tree.procedure g s) ds p m) h i
-  callees (tree.decls (tree.simple kind ns) ds) a first b t f e p l m h i =
-      callees ds (knowing blocks (tree.simple kind ns) ds a) first b t.2 f e (apart_back (spots_of_names ns) (spots_of_decls ds) p) (last_step b.decls (tree.simple kind ns) ds p l) (last_named b.decls (tree.simple kind ns) ds p m) h i
-  callees (tree.decls (tree.arrays kind ns pairs) ds) a first b t f e p l m h i =
+      (apart_back (spots_of_decl (tree.procedure g s)) (spots_of_decls ds) p) (last_step b.decls (tree.procedure g s) ds p l) (last_named b.decls (tree.procedure g s) ds p m) (last_lows b.decls (tree.procedure g s) ds p q) h i
+  callees (tree.decls (tree.simple kind ns) ds) a first b t f e p l m q h i =
+      callees ds (knowing blocks (tree.simple kind ns) ds a) first b t.2 f e (apart_back (spots_of_names ns) (spots_of_decls ds) p) (last_step b.decls (tree.simple kind ns) ds p l) (last_named b.decls (tree.simple kind ns) ds p m) (last_lows b.decls (tree.simple kind ns) ds p q) h i
+  callees (tree.decls (tree.arrays kind ns pairs) ds) a first b t f e p l m q h i =
       callees ds (knowing blocks (tree.arrays kind ns pairs) ds a) first b t.2 f e (apart_back (spots_of_names ns ++ spots_of_pairs pairs) (spots_of_decls ds) p) (last_step b.decls (tree.arrays kind ns pairs) ds p l)
-      (last_named b.decls (tree.arrays kind ns pairs) ds p m) h i
-  callees (tree.decls (tree.files ns) ds) a first b t f e p l m h i =
-      callees ds (knowing blocks (tree.files ns) ds a) first b t.2 f e (apart_back (spots_of_names ns) (spots_of_decls ds) p) (last_step b.decls (tree.files ns) ds p l) (last_named b.decls (tree.files ns) ds p m) h i
-  callees (tree.decls (tree.forward g) ds) a first b t f e p l m h i =
-      callees ds (knowing blocks (tree.forward g) ds a) first b t.2 f e (apart_back (spots_of_heading g) (spots_of_decls ds) p) (last_step b.decls (tree.forward g) ds p l) (last_named b.decls (tree.forward g) ds p m) h i
-  callees (tree.decls d ds) a first b t f e p l m h i = absurd t.1
+      (last_named b.decls (tree.arrays kind ns pairs) ds p m) (last_lows b.decls (tree.arrays kind ns pairs) ds p q) h i
+  callees (tree.decls (tree.files ns) ds) a first b t f e p l m q h i =
+      callees ds (knowing blocks (tree.files ns) ds a) first b t.2 f e (apart_back (spots_of_names ns) (spots_of_decls ds) p) (last_step b.decls (tree.files ns) ds p l) (last_named b.decls (tree.files ns) ds p m) (last_lows b.decls (tree.files ns) ds p q) h i
+  callees (tree.decls (tree.forward g) ds) a first b t f e p l m q h i =
+      callees ds (knowing blocks (tree.forward g) ds a) first b t.2 f e (apart_back (spots_of_heading g) (spots_of_decls ds) p) (last_step b.decls (tree.forward g) ds p l) (last_named b.decls (tree.forward g) ds p m) (last_lows b.decls (tree.forward g) ds p q) h i
+  callees (tree.decls d ds) a first b t f e p l m q h i = absurd t.1
 
   pub behind_decls : (b : Block) (a : Surroundings) (first : List Declared) (ds : PDecls) → IsStarted blocks b a ds → TypedDecls blocks a first ds → Apart (spots_of_decls ds) →
       Stands blocks b (knowing_all blocks ds a)

@@ -1,5 +1,5 @@
 -- An accepted program that is built fits.
-use Rattle.std.proofs.Common.{arith, ◌≡◌, inl, inr, ℕ, ◌+◌, ◌<◌, ◌≤◌, ◌==◌, ℤ, Bool, false, List, [], ◌∷◌, ◌++◌, length, Option, Some, zero, suc, refl, sym, ap, ◌∙◌, subst, append-nil, if◌then◌else◌}
+use Rattle.std.proofs.Common.{arith, ◌≡◌, inl, inr, ℕ, ◌+◌, ◌<◌, ◌≤◌, ◌==◌, Bool, false, List, [], ◌∷◌, ◌++◌, length, Option, Some, zero, suc, refl, sym, ap, ◌∙◌, subst, append-nil, if◌then◌else◌}
 use Rattle.std.proofs.lemmas.Bool.Decides.{nat_tests}
 use Rattle.std.specs.List.{AllByRecursion}
 use Rattle.algol_tree.specs.declared.token.Spot.{Spot}
@@ -15,7 +15,7 @@ use Rattle.algol_tree.specs.Plain.{PDecls, PStmts, PProgram}
 use Rattle.algol_tree.specs.Scopes.{scopes_of, scopes_by}
 use Rattle.algol_tree.specs.Sites.{Site, sites_by, sites_in_decls, sites_in_stmts, has_decls}
 use Rattle.algol_tree.specs.Surroundings.{Surroundings, outermost, knowing_all}
-use Rattle.algol_paths.specs.Arrays.{lows_at}
+use Rattle.algol_paths.specs.Arrays.{Lows, lows_at}
 use Rattle.b67_ops.specs.declared.Couple.{Couple}
 use Rattle.b67_ops.specs.declared.TheConstants.{MOST_LEVEL}
 use Rattle.b67_fitting.specs.Fitted.{spelled, AcceptedProgramsFit}
@@ -36,10 +36,10 @@ use Rattle.b67_fitting.proofs.Limits.{few_cells, not_deep}
 use Rattle.b67_fitting.proofs.Listed.{AllThere, Listed, both, block}
 use Rattle.b67_fitting.proofs.Listing.{listed_stmts, listed_decls}
 use Rattle.b67_fitting.proofs.Looked.{all_uses, all_known, all_blocks}
-use Rattle.b67_fitting.proofs.Made.{all_made}
+use Rattle.b67_fitting.proofs.Made.{all_places}
 use Rattle.b67_fitting.proofs.Placed.{Keep, BlockFits, all_fit}
 use Rattle.b67_fitting.proofs.Reached.{all_placed}
-use Rattle.b67_fitting.proofs.Started.{IsStarted, start}
+use Rattle.b67_fitting.proofs.Started.{HasCallees, IsStarted, start}
 use Rattle.b67_fitting.proofs.Stated.{TypedStmts, TypedDecls, all_stated, all_declared}
 
 less_is_other : (m n : ℕ) → m < n → (m == n) ≡ false
@@ -104,8 +104,11 @@ module _ (spot : Spot) (ds : PDecls) (ss : PStmts) (blocks : List Block) where
     decls_apart = apart_front (spots_of_decls ds) (spots_of_stmts ss) apart.1
 
     module _ (decls_typed : TypedDecls blocks outermost [] ds) where
+      called : HasCallees blocks first ds
+      called = callees blocks ds outermost [] first decls_typed in_decls (whole.numbered first (there first (inl refl))) decls_apart (λ s i. refl) (λ s i. refl) (λ s i. refl)
+
       started : IsStarted blocks first outermost ds
-      started = start blocks first outermost stands (callees blocks ds outermost [] first decls_typed in_decls (whole.numbered first (there first (inl refl))) decls_apart (λ s i. refl) (λ s i. refl)) tt
+      started = start blocks first outermost stands called tt
 
       behind : Stands blocks first around
       behind = behind_decls blocks first outermost [] ds started decls_typed decls_apart
@@ -121,6 +124,7 @@ module _ (spot : Spot) (ds : PDecls) (ss : PStmts) (blocks : List Block) where
               begin = outermost;
               begins = stands;
               declares = decls_typed;
+              callees = called;
               around = around;
               stands = behind;
               typed = typed;
@@ -147,7 +151,7 @@ module _ (spot : Spot) (ds : PDecls) (ss : PStmts) (blocks : List Block) where
               known_apart = apart_among (all_known blocks listed) apart;
               own = λ b i. cells.here b (back b i);
               none = cells.mine;
-              made_apart = apart_among (all_made blocks listed) apart;
+              places_apart = apart_among (all_places blocks listed) apart;
               far =
                   λ c i e. subst (λ (z : List Block). AllByRecursion (IsApart c.spot) (block_spots z)) same (all_far blocks listed apart c i e).apart;
               homes = λ b i. each_in (IsHome blocks) b in_text (all_homes blocks listed) (back b i);
@@ -158,10 +162,10 @@ module _ (spot : Spot) (ds : PDecls) (ss : PStmts) (blocks : List Block) where
             let low : level_of b ≤ MOST_LEVEL = omega (arith, not_deep program blocks all faults b i) in
             (low, few_cells program blocks all faults b i (is_program.own b i))
 
-        fit_by : (known results : Spot → Option Couple) (lows : Spot → Option (List ℤ)) →
+        fit_by : (known results : Spot → Option Couple) (lows : Spot → Option Lows) →
             ((at : Spot) (d : Located) (c : cells.Couple) → declaration_in blocks all at ≡ Some d → d.couple ≡ Some c → known at ≡ Some (record { level = c.level; index = c.index })) →
             ((at : Spot) (d : Located) → declaration_in blocks all at ≡ Some d → results at ≡ spelled (couple_in blocks all (number_at blocks d.spot) d.spot)) →
-            ((at : Spot) (d : Located) (found : List ℤ) → declaration_in blocks all at ≡ Some d → lows_at blocks d.spot ≡ Some found → lows at ≡ Some found) →
+            ((at : Spot) (d : Located) → declaration_in blocks all at ≡ Some d → lows at ≡ lows_at blocks d.spot) →
             (faults : scope_faults_in program blocks all ≡ []) → (j : ℕ) → j < length blocks → BlockFits blocks (scopes_by program blocks) known results lows (keeps faults) (block_numbered blocks j)
         fit_by known results lows couples results_are lows_are faults j h =
             let sc = scopes_by program blocks in

@@ -15,7 +15,7 @@ use Rattle.algol_tree.specs.Plain as tree
 use Rattle.algol_tree.specs.Plain.{PStmt, PDecls}
 use Rattle.algol_tree.specs.Scopes.{Use}
 use Rattle.algol_tree.specs.Sorts.{same_name}
-use Rattle.b67_templates.specs.Cells.{Simple, Found, found_from, of_kind, variables, result_of, simple_cells, procedures}
+use Rattle.b67_templates.specs.Cells.{Simple, Wanted, Found, found_from, of_kind, variables, result_of, simple_cells, procedures}
 use Rattle.b67_fitting.proofs.Aligned.{AreOthers, Aligned, aligned_over, index_on, aligned_on, aligned_result, index_past, IsControl, control}
 use Rattle.b67_fitting.proofs.Apart.{IsIn, each_in, in_front, in_back, in_either, IsApart, Apart, same_self, apart_sym, apart_back, apart_from}
 use Rattle.b67_fitting.proofs.Frames.{named_of, named_long, variable_cells, control_cells, made_cells, decl_cells, result_cell}
@@ -155,15 +155,15 @@ found_past (x ∷ xs) ys i name h =
     ap (λ (b : Bool). if b then Some (record { number = i; cell = x }) else found_from (i + 1) (xs ++ ys) name) h.0 ∙ found_past xs ys (i + 1) name h.1
     ∙ ap (λ (n : ℕ). found_from n ys name) (let next : i + 1 + length xs ≡ i + length (x ∷ xs) = omega arith in next)
 
-aligned_front : (xs ys : List Simple) (cs ds : List Cell) (name : List ℕ) (spot : Spot) (kind : Kind) → Aligned xs cs name spot kind → Aligned (xs ++ ys) (cs ++ ds) name spot kind
-aligned_front xs ys cs ds name spot kind l =
+aligned_front : (xs ys : List Simple) (cs ds : List Cell) (name : List ℕ) (spot : Spot) (wanted : Wanted) → Aligned xs cs name spot wanted → Aligned (xs ++ ys) (cs ++ ds) name spot wanted
+aligned_front xs ys cs ds name spot wanted l =
     λ i j e.
     let r = l i j e in
     record {
       number = r.number;
       cell = r.cell;
       found = found_on xs ys i name (record { number = r.number; cell = r.cell }) r.found;
-      kind_is = r.kind_is;
+      wanted_is = r.wanted_is;
       index = index_on cs ds j spot (2 + r.number) r.index;
     }
 
@@ -194,16 +194,16 @@ module _ (blocks : List Block) (b : Block) (home : IsHome blocks b) where
   own_apart spot i = each_in (IsApart b.spot) spot (spots_of_names (named_of blocks b) ++ spots_of_decls b.decls) home.apart.0 (in_back spot (spots_of_names (named_of blocks b)) (spots_of_decls b.decls) i)
 
   -- a variable has one number among all, and so has a parameter
-  pub framed : (name : List ℕ) (spot : Spot) (kind : Kind) → IsIn spot (variable_spots b.decls) → is_one_of (result_names_of b) name ≡ false →
-      AreOthers name spot (given_cells blocks b) (given_places blocks b) → Aligned (variables b.decls) (variable_cells block b.decls) name spot kind → Aligned simples frame name spot kind
-  framed name spot kind i o past l =
-      aligned_over (given_cells blocks b) (result_of b.result b.name ++ variables b.decls) (given_places blocks b) behind name spot kind past
-      (aligned_result b.result b.name block b.spot (variables b.decls) (variable_cells block b.decls ++ others) name spot kind o
+  pub framed : (name : List ℕ) (spot : Spot) (wanted : Wanted) → IsIn spot (variable_spots b.decls) → is_one_of (result_names_of b) name ≡ false →
+      AreOthers name spot (given_cells blocks b) (given_places blocks b) → Aligned (variables b.decls) (variable_cells block b.decls) name spot wanted → Aligned simples frame name spot wanted
+  framed name spot wanted i o past l =
+      aligned_over (given_cells blocks b) (result_of b.result b.name ++ variables b.decls) (given_places blocks b) behind name spot wanted past
+      (aligned_result b.result b.name block b.spot (variables b.decls) (variable_cells block b.decls ++ others) name spot wanted o
       (own_apart spot (variable_among b.decls spot i))
-      (aligned_on (variables b.decls) (variable_cells block b.decls) others name spot kind l))
+      (aligned_on (variables b.decls) (variable_cells block b.decls) others name spot wanted l))
 
-  pub framed_parameter : (name : List ℕ) (spot : Spot) (kind : Kind) → Aligned (given_cells blocks b) (given_places blocks b) name spot kind → Aligned simples frame name spot kind
-  framed_parameter name spot kind l = aligned_front (given_cells blocks b) (result_of b.result b.name ++ variables b.decls) (given_places blocks b) behind name spot kind l
+  pub framed_parameter : (name : List ℕ) (spot : Spot) (wanted : Wanted) → Aligned (given_cells blocks b) (given_places blocks b) name spot wanted → Aligned simples frame name spot wanted
+  framed_parameter name spot wanted l = aligned_front (given_cells blocks b) (result_of b.result b.name ++ variables b.decls) (given_places blocks b) behind name spot wanted l
 
   pub result_apart : (o : Option Kind) (spot : Spot) → IsApart b.spot spot → AllByRecursion (λ (c : Cell). IsApart c.spot spot) (result_cell o block b.spot)
   result_apart None spot h = tt
@@ -285,10 +285,10 @@ module _ (blocks : List Block) (b : Block) (home : IsHome blocks b) where
       ∙ ap (λ (n : ℕ). Some (2 + n)) given_long
 
   pub result_found : (kind : Kind) (name : List ℕ) → b.result ≡ Some kind → same_name b.name name ≡ true → AllByRecursion (λ (x : Simple). same_name x.name name ≡ false) (given_cells blocks b) →
-      found_from 0 simples name ≡ Some (record { number = length (given_cells blocks b); cell = record { name = b.name; kind = Some kind } })
+      found_from 0 simples name ≡ Some (record { number = length (given_cells blocks b); cell = record { name = b.name; kind = Some kind; shape = None } })
   result_found kind name e s o =
       let place = length (given_cells blocks b) in
       found_past (given_cells blocks b) (result_of b.result b.name ++ variables b.decls) 0 name o
       ∙ ap (λ (n : ℕ). found_from n (result_of b.result b.name ++ variables b.decls) name) (let same : 0 + place ≡ place = omega arith in same)
       ∙ ap (λ (r : Option Kind). found_from place (result_of r b.name ++ variables b.decls) name) e
-      ∙ ap (λ (t : Bool). if t then Some (record { number = place; cell = record { name = b.name; kind = Some kind } }) else found_from (place + 1) (variables b.decls) name) s
+      ∙ ap (λ (t : Bool). if t then Some (record { number = place; cell = record { name = b.name; kind = Some kind; shape = None } }) else found_from (place + 1) (variables b.decls) name) s

@@ -6,7 +6,7 @@ use Rattle.algol_tree.specs.declared.token.Spot.{Spot}
 use Rattle.algol_tree.specs.declared.tree.Kind.{Kind}
 use Rattle.algol_tree.specs.declared.tree.Named.{Named}
 use Rattle.algol_tree.specs.Ascending.{spots_of_names, spots_of_pairs, spots_of_decl, spots_of_decls}
-use Rattle.algol_tree.specs.Blocks.{Block, same_spot}
+use Rattle.algol_tree.specs.Blocks.{Block}
 use Rattle.algol_tree.specs.Cells as cells
 use Rattle.algol_tree.specs.Cells.{Cell, cells_for, index_from}
 use Rattle.algol_tree.specs.Names.{is_one_of, result_names_of}
@@ -16,13 +16,13 @@ use Rattle.algol_tree.specs.Sorts.{same_name}
 use Rattle.algol_paths.specs.Arrays.{DeclaredArray, arrays_of}
 use Rattle.b67_templates.specs.Cells.{Simple, found_from, result_of, procedures, variables}
 use Rattle.b67_fitting.proofs.Aligned.{index_past}
-use Rattle.b67_fitting.proofs.Apart.{IsIn, in_front, in_back, in_either, IsApart, Apart, apart_sym, apart_back, apart_from}
-use Rattle.b67_fitting.proofs.Arrayed.{array_spots, IsArrayed}
+use Rattle.b67_fitting.proofs.Apart.{IsIn, in_front, in_back, in_either, IsApart, Apart, apart_back, apart_from}
+use Rattle.b67_fitting.proofs.Arrayed.{array_spots, IsArrayed, from_first}
 use Rattle.b67_fitting.proofs.Frames.{named_of, variable_cells, control_cells, made_cells, decl_cells, result_cell}
 use Rattle.b67_fitting.proofs.Framing.{cells_apart, variables_far, controls_far, parameters_apart, block, frame, simples, decls_apart, own_apart, result_apart, all_long}
 use Rattle.b67_fitting.proofs.Homed.{IsHome}
 use Rattle.b67_fitting.proofs.Known.{given_cells, given_places}
-use Rattle.b67_fitting.proofs.Lists.{each_back, each_both, each_of}
+use Rattle.b67_fitting.proofs.Lists.{each_both}
 
 -- ---- places
 
@@ -34,13 +34,6 @@ array_among (tree.decls (tree.arrays kind ns pairs) ds) s i = by (in_either s (s
     by (inl j) later = in_front s (spots_of_names ns ++ spots_of_pairs pairs) (spots_of_decls ds) (in_front s (spots_of_names ns) (spots_of_pairs pairs) j)
     by (inr j) later = in_back s (spots_of_names ns ++ spots_of_pairs pairs) (spots_of_decls ds) (later j)
 array_among (tree.decls d ds) s i = in_back s (spots_of_decl d) (spots_of_decls ds) (array_among ds s i)
-
--- a place of the first declaration is apart from those of the others
-from_first : (xs ys : List Spot) (s : Spot) → Apart (xs ++ ys) → IsIn s xs → AllByRecursion (λ z. IsApart z s) ys
-from_first [] ys s p i = absurd i
-from_first (x ∷ xs) ys s p (inl e) =
-    each_of (IsApart x) (λ z. IsApart z s) ys (λ z a. apart_sym s z (ap (λ (t : Spot). same_spot t z) e ∙ a)) (each_back (IsApart x) xs ys p.0)
-from_first (x ∷ xs) ys s p (inr i) = from_first xs ys s p.1 i
 
 -- the variables and the procedures are apart from an array
 simple_apart : (k : ℕ) (ds : PDecls) (s : Spot) → Apart (spots_of_decls ds) → IsIn s (array_spots ds) → AllByRecursion (λ (c : Cell). IsApart c.spot s) (variable_cells k ds)

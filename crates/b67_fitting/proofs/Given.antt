@@ -1,5 +1,5 @@
 -- The parameters of a procedure as its body knows them: each has the same number by its name as by its place.
-use Rattle.std.proofs.Common.{◌≡◌, inl, inr, ℕ, ◌+◌, Bool, true, false, List, [], ◌∷◌, ◌++◌, map, Some, None, refl, ap, ◌∙◌, subst, if◌then◌else◌}
+use Rattle.std.proofs.Common.{◌≡◌, inl, inr, ℕ, ◌+◌, Bool, true, false, List, [], ◌∷◌, ◌++◌, map, length, Option, Some, None, refl, sym, ap, ◌∙◌, subst, if◌then◌else◌}
 use Rattle.algol_tree.specs.declared.token.Spot.{Spot}
 use Rattle.algol_tree.specs.declared.tree.Heading.{Heading}
 use Rattle.algol_tree.specs.declared.tree.Kind.{Kind}
@@ -8,34 +8,69 @@ use Rattle.algol_tree.specs.Ascending.{spots_of_names, spots_of_decl, spots_of_d
 use Rattle.algol_tree.specs.Blocks.{Block, block_numbered, number_at}
 use Rattle.algol_tree.specs.Cells as cells
 use Rattle.algol_tree.specs.Cells.{Cell, cells_for, index_from}
+use Rattle.algol_tree.specs.Classes as class
+use Rattle.algol_tree.specs.Classes.{Class}
 use Rattle.algol_tree.specs.Plain as tree
 use Rattle.algol_tree.specs.Plain.{PStmt, PDecl, PDecls}
+use Rattle.algol_tree.specs.Sorts as sort
 use Rattle.algol_tree.specs.Sorts.{same_name, Declared, look_up, is_named_in, sort_in, class_in}
-use Rattle.b67_templates.specs.Cells.{Simple, kind_of, found_from, parameters_around}
-use Rattle.b67_fitting.proofs.Aligned.{IsVar, Aligned, aligned_over}
+use Rattle.algol_paths.specs.Arrays.{Shape, Lows, shape_in, lows_in, lows_among}
+use Rattle.b67_templates.specs.Cells.{Simple, Wanted, value, array, wanted_by, kind_of, found_from, parameters_around}
+use Rattle.b67_fitting.specs.Wholes.{HaveDimensions}
+use Rattle.b67_fitting.proofs.Aligned.{Aligned, aligned_over}
 use Rattle.b67_fitting.proofs.Apart.{IsIn, each_in, in_back, IsApart, Apart, same_self, apart_from}
 use Rattle.b67_fitting.proofs.Frames.{named_declared, named_around, named_of}
-use Rattle.b67_fitting.proofs.Parameters.{AreByValue}
+use Rattle.b67_fitting.proofs.Specified.{IsSpecified, as_value, as_array, AreSpecified, SpecsWhole, no_shape, dimensions_in}
 
 -- ---- what is known of them
 
 abbrev pub cell_of : Heading → Named → Simple
-cell_of h n = record { name = n.name; kind = kind_of (class_in h.specs n.name) }
+cell_of h n = record { name = n.name; kind = kind_of (class_in h.specs n.name); shape = shape_in h.specs n.name }
+
+-- the lower bounds of such a parameter
+abbrev pub lows_wanted : Wanted → Option Lows
+lows_wanted (array shape) = Some (record { list = shape.lows; formal = true })
+lows_wanted _ = None
 
 module _ (block depth : ℕ) (h : Heading) where
   abbrev entry : Named → Declared
   entry n =
       record { name = n.name; spot = n.spot; block = block; depth = depth; sort = sort_in h.specs (is_named_in h.values n.name) n.name; class = class_in h.specs n.name }
 
-  pub record IsGiven (ns : List Named) (name : List ℕ) (d : Declared) : Type 0 where
-    pub kind : Kind
-    pub var : IsVar block depth d kind
-    pub inside : IsIn d.spot (spots_of_names ns)
-    pub aligned : Aligned (map (cell_of h) ns) (cells_for block cells.parameter ns) name d.spot kind
+  -- a parameter by value has a kind, an array the lower bounds of its specification
+  pub data IsParameter (d : Declared) : Wanted → Type 0 where
+    by_value : (kind : Kind) → d.class ≡ class.simple kind → d.sort ≡ sort.variable → IsParameter d (value kind)
+    an_array : (shape : Shape) → d.class ≡ class.array shape.kind (length shape.lows) → d.sort ≡ sort.formal_array shape.lows → HaveDimensions shape.lows → IsParameter d (array shape)
 
-  pub given : (ns : List Named) → AreByValue h ns → Apart (spots_of_names ns) → (name : List ℕ) (d : Declared) → look_up (map entry ns) name ≡ Some d → IsGiven ns name d
-  given [] v p name d g = absurd (let clash : None ≡ Some d = g in cc)
-  given (n ∷ ns) v p name d g = by (same_name n.name name) refl (given ns v.1 p.1 name d) g
+  pub record IsGiven (ns : List Named) (name : List ℕ) (d : Declared) : Type 0 where
+    pub wanted : Wanted
+    pub parameter : IsParameter d wanted
+    pub block_is : d.block ≡ block
+    pub depth_is : d.depth ≡ depth
+    pub inside : IsIn d.spot (spots_of_names ns)
+    pub lows : lows_among h.specs ns d.spot ≡ lows_wanted wanted
+    pub aligned : Aligned (map (cell_of h) ns) (cells_for block cells.parameter ns) name d.spot wanted
+
+  abbrev wanted_of : Named → Wanted
+  wanted_of n = wanted_by (kind_of (class_in h.specs n.name)) (shape_in h.specs n.name)
+
+  one_parameter : (n : Named) → IsSpecified h n → SpecsWhole h → IsParameter (entry n) (wanted_of n)
+  one_parameter n (as_value kind c v s) w =
+      subst (λ (z : Class). IsParameter (entry n) (wanted_by (kind_of z) (shape_in h.specs n.name))) (sym c) (by_value kind c s)
+  one_parameter n (as_array shape c e s) w =
+      subst (λ (z : Class). IsParameter (entry n) (wanted_by (kind_of z) (shape_in h.specs n.name))) (sym c)
+      (subst (λ (o : Option Shape). IsParameter (entry n) (wanted_by None o)) (sym e) (an_array shape c s (dimensions_in h.specs n.name shape w e)))
+
+  one_lows : (n : Named) → IsSpecified h n → lows_in (shape_in h.specs n.name) ≡ lows_wanted (wanted_of n)
+  one_lows n (as_value kind c v s) =
+      ap lows_in (no_shape h.specs n.name kind c) ∙ sym (ap (λ (z : Class). lows_wanted (wanted_by (kind_of z) (shape_in h.specs n.name))) c)
+  one_lows n (as_array shape c e s) =
+      ap lows_in e
+      ∙ sym (ap (λ (z : Class). lows_wanted (wanted_by (kind_of z) (shape_in h.specs n.name))) c ∙ ap (λ (o : Option Shape). lows_wanted (wanted_by None o)) e)
+
+  pub given : (ns : List Named) → AreSpecified h ns → SpecsWhole h → Apart (spots_of_names ns) → (name : List ℕ) (d : Declared) → look_up (map entry ns) name ≡ Some d → IsGiven ns name d
+  given [] v w p name d g = absurd (let clash : None ≡ Some d = g in cc)
+  given (n ∷ ns) v w p name d g = by (same_name n.name name) refl (given ns v.1 w p.1 name d) g
     where
       cell : Cell
       cell = record { block = block; spot = n.spot; content = cells.parameter }
@@ -46,28 +81,34 @@ module _ (block depth : ℕ) (h : Heading) where
           let same : entry n ≡ d = cc in
           subst (λ (z : Declared). IsGiven (n ∷ ns) name z) same
           (record {
-            kind = v.0.kind;
-            var = record { class_is = v.0.class_is; sort_is = v.0.sort_is; block_is = refl; depth_is = refl };
+            wanted = wanted_of n;
+            parameter = one_parameter n v.0 w;
+            block_is = refl;
+            depth_is = refl;
             inside = inl refl;
+            lows = ap (λ (b : Bool). if b then lows_in (shape_in h.specs n.name) else lows_among h.specs ns n.spot) (same_self n.spot) ∙ one_lows n v.0;
             aligned =
                 λ i j q.
                 record {
                   number = i;
                   cell = cell_of h n;
                   found = ap (λ (b : Bool). if b then Some (record { number = i; cell = cell_of h n }) else found_from (i + 1) (map (cell_of h) ns) name) e;
-                  kind_is = ap kind_of v.0.class_is;
+                  wanted_is = refl;
                   index = ap (λ (b : Bool). if b then Some j else index_from (j + 1) (cells_for block cells.parameter ns) n.spot) (same_self n.spot) ∙ ap Some q;
                 };
           })
       by false e later f =
           let r = later f in
+          let far : IsApart n.spot d.spot = each_in (IsApart n.spot) d.spot (spots_of_names ns) p.0 r.inside in
           record {
-            kind = r.kind;
-            var = r.var;
+            wanted = r.wanted;
+            parameter = r.parameter;
+            block_is = r.block_is;
+            depth_is = r.depth_is;
             inside = inr r.inside;
+            lows = ap (λ (b : Bool). if b then lows_in (shape_in h.specs n.name) else lows_among h.specs ns d.spot) far ∙ r.lows;
             aligned =
-                aligned_over (cell_of h n ∷ []) (map (cell_of h) ns) (cell ∷ []) (cells_for block cells.parameter ns) name d.spot r.kind
-                (e, each_in (IsApart n.spot) d.spot (spots_of_names ns) p.0 r.inside, tt) r.aligned;
+                aligned_over (cell_of h n ∷ []) (map (cell_of h) ns) (cell ∷ []) (cells_for block cells.parameter ns) name d.spot r.wanted (e, far, tt) r.aligned;
           }
 
 -- ---- where their names are found

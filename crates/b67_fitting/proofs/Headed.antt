@@ -1,9 +1,8 @@
--- The blocks of a program that is built have their parameters by value, with a cell for each: the heading of a procedure is found in the
--- declarations of the block around, and no heading stands at a BEGIN.
-use Rattle.std.proofs.Common.{◌≡◌, List, [], ◌∷◌, ◌++◌, map, refl, sym, ap, ◌∙◌, subst}
-use Rattle.std.specs.Prelude.{IsSome, None, true}
-use Rattle.std.specs.List.{All, AllByRecursion}
-use Rattle.std.proofs.lemmas.List.Elements.{All-nil}
+-- The blocks of a program that is built have parameters by value and arrays alone, with a cell for each: the heading of a procedure is
+-- found in the declarations of the block around, and no heading stands at a BEGIN.
+use Rattle.std.proofs.Common.{◌≡◌, List, [], ◌∷◌, ◌++◌, refl, sym, ap, ◌∙◌, subst}
+use Rattle.std.specs.Prelude.{None}
+use Rattle.std.specs.List.{AllByRecursion}
 use Rattle.algol_tree.specs.declared.token.Spot.{Spot}
 use Rattle.algol_tree.specs.declared.tree.Heading.{Heading}
 use Rattle.algol_tree.specs.Ascending.{spots_of_names, spots_of_expr, spots_of_pairs, spots_of_heading, spots_of_stmt, spots_of_stmts, spots_of_decl, spots_of_decls}
@@ -11,14 +10,15 @@ use Rattle.algol_tree.specs.Blocks.{Block, Begin, of_statement, of_procedure, de
 use Rattle.algol_tree.specs.Plain as tree
 use Rattle.algol_tree.specs.Plain.{PStmt, PStmts, PDecls}
 use Rattle.algol_tree.specs.Scopes.{Scopes}
-use Rattle.algol_tree.specs.Sorts.{Parameter, is_variable, parameters_of}
+use Rattle.algol_tree.specs.Sorts.{Parameter, parameters_of}
 use Rattle.b67_templates.specs.Cells.{Simple, found_from, parameters_in, parameters_declared, parameter_cells}
 use Rattle.b67_fitting.specs.Built.{HeadingBuilt, DeclsBuilt, StmtBuilt, StmtsBuilt}
-use Rattle.b67_fitting.specs.Nested.{AreByValue}
+use Rattle.b67_fitting.specs.Nested.{AreTold, AreParameters}
 use Rattle.b67_fitting.proofs.Apart.{Apart, in_each, apart_front, apart_back}
 use Rattle.b67_fitting.proofs.Lists.{each_front, each_back, each_both}
 use Rattle.b67_fitting.proofs.ResultsApart.{IsClear, none_found}
-use Rattle.b67_fitting.proofs.Parameters.{parameter_names, parameter_values, parameter_kinds, IsOutside, outside, AreLast, last_step, found_last, around_is}
+use Rattle.b67_fitting.proofs.ParametersTold.{parameter_names, parameters_told}
+use Rattle.b67_fitting.proofs.Parameters.{IsOutside, outside, AreLast, last_step, found_last, around_is}
 
 -- ---- the body of a procedure that is no BEGIN
 
@@ -33,21 +33,17 @@ no_decls t i = refl
 module _ (sc : Scopes) where
   -- ---- one block
 
-  pub of_begin : (b : Block) → b.parameters ≡ [] → parameter_cells sc b ≡ [] → AreByValue sc b
+  pub of_begin : (b : Block) → b.parameters ≡ [] → parameter_cells sc b ≡ [] → AreParameters sc b
   of_begin b p e =
       record {
-        names = ap (map (λ (p : Parameter). p.name)) p ∙ sym (ap (map (λ (c : Simple). c.name)) e);
-        values = subst (λ (ps : List Parameter). All (λ (p : Parameter). is_variable p.sort ≡ true) ps) (sym p) (All-nil (λ (p : Parameter). is_variable p.sort ≡ true));
-        kinds = subst (λ (cs : List Simple). All (λ (c : Simple). IsSome c.kind) cs) (sym e) (All-nil (λ (c : Simple). IsSome c.kind));
+        told = subst (λ (ps : List Parameter). AreTold ps (parameter_cells sc b)) (sym p) (subst (AreTold []) (sym e) tt);
         apart = λ kind typed. ap (λ (cs : List Simple). found_from 0 cs b.name) e;
       }
 
-  of_heading : (h : Heading) (t : PStmt) (outer : List Spot) → HeadingBuilt h → parameter_cells sc (procedure_block h t outer) ≡ parameters_in h → IsClear (procedure_block h t outer) → AreByValue sc (procedure_block h t outer)
+  of_heading : (h : Heading) (t : PStmt) (outer : List Spot) → HeadingBuilt h → parameter_cells sc (procedure_block h t outer) ≡ parameters_in h → IsClear (procedure_block h t outer) → AreParameters sc (procedure_block h t outer)
   of_heading h t outer b e clear =
       record {
-        names = parameter_names h ∙ sym (ap (map (λ (c : Simple). c.name)) e);
-        values = parameter_values h b;
-        kinds = subst (λ (cs : List Simple). All (λ (c : Simple). IsSome c.kind) cs) (sym e) (parameter_kinds h b);
+        told = subst (AreTold (parameters_of h)) (sym e) (parameters_told h b);
         apart = λ kind typed. ap (λ (cs : List Simple). found_from 0 cs h.name.name) e ∙ none_found 0 h.name.name (parameters_of h) (parameters_in h) (parameter_names h) (clear kind typed);
       }
 
@@ -61,14 +57,14 @@ module _ (sc : Scopes) where
   Its bs = AllByRecursion IsIt bs
 
   abbrev Headed : List Block → Type 0
-  Headed bs = AllByRecursion (AreByValue sc) bs
+  Headed bs = AllByRecursion (AreParameters sc) bs
 
   -- no heading of the block stands there
   abbrev Out : Block → List Spot → Type 0
   Out c spots = AllByRecursion (IsOutside c.decls) spots
 
   both : (bs cs : List Block) → Headed bs → Headed cs → Headed (bs ++ cs)
-  both bs cs g h = each_both (AreByValue sc) bs cs g h
+  both bs cs g h = each_both (AreParameters sc) bs cs g h
 
   out_back : (c : Block) (p q : List Spot) → Out c (p ++ q) → Out c q
   out_back c p q o = each_back (IsOutside c.decls) p q o

@@ -19,10 +19,12 @@ use Rattle.b67_fitting.proofs.Frames.{control_cell, result_cell, named_of}
 use Rattle.b67_fitting.proofs.Listed.{Listed, over, passed, site, left, declared, both, block, procedure}
 use Rattle.b67_fitting.proofs.Lists.{each_back, each_both, each_of}
 use Rattle.b67_fitting.proofs.Looked.{all_blocks}
+use Rattle.b67_fitting.proofs.Started.{HasCallees}
 
--- a block whose parameters and declarations are apart from one another and from its own place
+-- a block whose parameters and declarations are apart from one another and from its own place, and whose procedures have their blocks
 pub record IsHome (blocks : List Block) (b : Block) : Type 0 where
   pub apart : Apart (b.spot ∷ (spots_of_names (named_of blocks b) ++ spots_of_decls b.decls))
+  pub callees : HasCallees blocks b b.decls
 
 pub all_homes : (blocks : List Block) {k : ℕ} {spots : List Spot} {own : List Cell} {bs : List Block} {xs : List Site} → Listed blocks k spots own bs xs → AllByRecursion (IsHome blocks) bs
 all_homes blocks (over k) = tt
@@ -31,8 +33,8 @@ all_homes blocks (site k x f l) = all_homes blocks l
 all_homes blocks (left k a n e listed b g l) = all_homes blocks l
 all_homes blocks (declared k x names new f l) = all_homes blocks l
 all_homes blocks (both k {bs = bs} {cs = cs} i j) = each_both (IsHome blocks) bs cs (all_homes blocks i) (all_homes blocks j)
-all_homes blocks (block k b e i l) = (record { apart = i.apart }, all_homes blocks l)
-all_homes blocks (procedure k x b more f i l) = (record { apart = i.apart }, all_homes blocks l)
+all_homes blocks (block k b e i l) = (record { apart = i.apart; callees = i.callees }, all_homes blocks l)
+all_homes blocks (procedure k x b more f i l) = (record { apart = i.apart; callees = i.callees }, all_homes blocks l)
 
 -- the place is among these, and apart from the blocks
 pub record IsFar (spots : List Spot) (bs : List Block) (spot : Spot) : Type 0 where

@@ -1,5 +1,5 @@
--- What is known at a place of a program that is built: files, variables whose cells lie in blocks around the place, and arrays and
--- procedures that such blocks declare.
+-- What is known at a place of a program that is built: files, variables and parameters whose cells lie in blocks around the place, and
+-- arrays and procedures that such blocks declare.
 use Rattle.std.proofs.Common.{arith, ◌≡◌, ◌⊎◌, inl, inr, ℕ, ◌+◌, ◌≤◌, true, false, List, [], ◌∷◌, ◌++◌, Some, None, length, sym, refl, ◌∙◌, subst}
 use Rattle.std.specs.List.{AllByRecursion}
 use Rattle.algol_tree.specs.declared.token.Spot.{Spot}
@@ -17,19 +17,20 @@ use Rattle.algol_tree.specs.Plain.{PStmt, PDecls}
 use Rattle.algol_tree.specs.Sorts as sort
 use Rattle.algol_tree.specs.Sorts.{same_name, Declared, look_up, declared_parameters}
 use Rattle.algol_tree.specs.Surroundings.{Surroundings, outermost, inside_procedure}
-use Rattle.algol_paths.specs.Arrays.{DeclaredArray, arrays_of, lows_of, lows_declared}
-use Rattle.b67_templates.specs.Cells.{Simple, variables, parameters_in, parameters_around}
+use Rattle.algol_paths.specs.Arrays.{DeclaredArray, Shape, arrays_of, lows_among, lows_declared}
+use Rattle.b67_templates.specs.Cells.{Simple, Wanted, value, array as array_of, variables, parameters_in, parameters_around}
 use Rattle.b67_templates.specs.Code.{AreDimensions}
 use Rattle.b67_fitting.specs.Built.{HeadingBuilt}
+use Rattle.b67_fitting.specs.Wholes.{HaveDimensions}
 use Rattle.b67_fitting.proofs.Aligned.{Aligned, AreOthers}
 use Rattle.b67_fitting.proofs.Apart.{IsIn, Apart}
-use Rattle.b67_fitting.proofs.Arrayed.{array_spots, IsArrayed}
+use Rattle.b67_fitting.proofs.Arrayed.{array_spots, own_lows, IsArrayed}
 use Rattle.b67_fitting.proofs.TypedBounds.{LowsWhole}
 use Rattle.b67_fitting.proofs.Clean.{IsPlain, simple, array, file, procedure, KnowsPlain}
 use Rattle.b67_fitting.proofs.Declaring.{found_either}
 use Rattle.b67_fitting.proofs.Frames.{named_around, named_of, variable_cells, made_cells}
-use Rattle.b67_fitting.proofs.Given.{given}
-use Rattle.b67_fitting.proofs.Parameters.{by_value}
+use Rattle.b67_fitting.proofs.Given.{lows_wanted, IsParameter, by_value, an_array, IsGiven, given}
+use Rattle.b67_fitting.proofs.Specified.{specified, SpecsWhole}
 
 -- the places of the simple variables, and the headings of the procedures
 abbrev pub variable_spots : PDecls → List Spot
@@ -56,12 +57,18 @@ module _ (blocks : List Block) where
     pub among : IsIn d.spot (variable_spots in_block.decls)
     pub other : is_one_of (result_names_of (block_numbered blocks d.block)) name ≡ false
     pub past : AreOthers name d.spot (given_cells in_block) (given_places in_block)
-    pub aligned : Aligned (variables in_block.decls) (variable_cells (number_at blocks in_block.spot) in_block.decls) name d.spot kind
+    pub aligned : Aligned (variables in_block.decls) (variable_cells (number_at blocks in_block.spot) in_block.decls) name d.spot (value kind)
 
-  -- .. among those of parameters
-  pub record IsParameterOf (in_block : Block) (name : List ℕ) (d : Declared) (kind : Kind) : Type 0 where
+  -- .. among those of parameters. Where the procedure is declared its lower bounds are known.
+  pub record IsParameterOf (in_block : Block) (name : List ℕ) (d : Declared) (wanted : Wanted) : Type 0 where
     pub among : IsIn d.spot (spots_of_names (named_of blocks in_block))
-    pub aligned : Aligned (given_cells in_block) (given_places in_block) name d.spot kind
+    pub aligned : Aligned (given_cells in_block) (given_places in_block) name d.spot wanted
+    pub owner : Block
+    pub owner_there : IsIn owner blocks
+    pub heading : Heading
+    pub heading_there : IsIn heading (headings owner.decls)
+    pub inside : IsIn d.spot (spots_of_names heading.params)
+    pub lows : lows_declared owner.decls d.spot ≡ lows_wanted wanted
 
   -- The declaration is that of a variable or of a parameter in a block of the program, no deeper than this.
   pub record IsHeld (depth : ℕ) (name : List ℕ) (d : Declared) (kind : Kind) : Type 0 where
@@ -72,7 +79,7 @@ module _ (blocks : List Block) where
     pub block_is : d.block ≡ number_at blocks in_block.spot
     pub depth_is : d.depth ≡ length in_block.outer
     pub within : d.depth ≤ depth
-    pub place : IsVariableOf in_block name d kind ⊎ IsParameterOf in_block name d kind
+    pub place : IsVariableOf in_block name d kind ⊎ IsParameterOf in_block name d (value kind)
 
   -- The declaration is that of an array with such elements and so many bounds, in a block of the program. The block has no simple cell of
   -- that name.
@@ -91,10 +98,22 @@ module _ (blocks : List Block) where
     pub whole : LowsWhole array.pairs
     pub among : IsIn d.spot (array_spots in_block.decls)
     pub arrayed : IsArrayed (arrays_of in_block.decls) (made_cells (number_at blocks in_block.spot) in_block.decls) name d.spot array
-    pub lows : lows_declared in_block.decls d.spot ≡ Some (lows_of array.pairs)
+    pub lows : lows_declared in_block.decls d.spot ≡ own_lows array.pairs
     pub other : is_one_of (result_names_of (block_numbered blocks d.block)) name ≡ false
     pub past : AllByRecursion (λ (x : Simple). same_name x.name name ≡ false) (given_cells in_block)
     pub simple : AllByRecursion (λ (x : Simple). same_name x.name name ≡ false) (variables in_block.decls)
+
+  -- The declaration is that of a parameter of this shape, which stands for an array, in a block of the program.
+  pub record IsFormal (depth : ℕ) (name : List ℕ) (d : Declared) (shape : Shape) : Type 0 where
+    pub in_block : Block
+    pub there : IsIn in_block blocks
+    pub class_is : d.class ≡ class.array shape.kind (length shape.lows)
+    pub sort_is : d.sort ≡ sort.formal_array shape.lows
+    pub block_is : d.block ≡ number_at blocks in_block.spot
+    pub depth_is : d.depth ≡ length in_block.outer
+    pub within : d.depth ≤ depth
+    pub dimensions : HaveDimensions shape.lows
+    pub place : IsParameterOf in_block name d (array_of shape)
 
   -- The declaration is that of a procedure with this heading and body, in a block of the program.
   pub record IsOwned (depth : ℕ) (name : List ℕ) (d : Declared) (h : Heading) : Type 0 where
@@ -119,6 +138,7 @@ module _ (blocks : List Block) where
     known_file : d.class ≡ class.file → d.sort ≡ sort.file → IsKnown depth name d
     known_variable : (kind : Kind) → IsHeld depth name d kind → IsKnown depth name d
     known_array : (kind : Kind) (rank : ℕ) → IsRowed depth name d kind rank → IsKnown depth name d
+    known_formal : (shape : Shape) → IsFormal depth name d shape → IsKnown depth name d
     known_procedure : (h : Heading) → IsOwned depth name d h → IsKnown depth name d
 
   pub record Around (a : Surroundings) : Type 0 where
@@ -183,6 +203,18 @@ module _ (blocks : List Block) where
         past = h.past;
         simple = h.simple;
       })
+  deeper depth more name d l (known_formal shape h) =
+      known_formal shape (record {
+        in_block = h.in_block;
+        there = h.there;
+        class_is = h.class_is;
+        sort_is = h.sort_is;
+        block_is = h.block_is;
+        depth_is = h.depth_is;
+        within = omega (arith, l, h.within);
+        dimensions = h.dimensions;
+        place = h.place;
+      })
   deeper depth more name d l (known_procedure heading h) =
       known_procedure heading (record {
         in_block = h.in_block;
@@ -218,10 +250,14 @@ module _ (blocks : List Block) where
         around = around_inner a (number_at blocks c.spot) s.around;
       }
 
-  pub stands_procedure : (b : Block) (h : Heading) (body : PStmt) (a : Surroundings) → Stands b a → HeadingBuilt h → Apart (spots_of_names h.params) →
+  -- the lower bounds of the procedure's parameters are found among the declarations of the block
+  abbrev pub HasLows : Block → Heading → Type 0
+  HasLows b h = (s : Spot) → IsIn s (spots_of_names h.params) → lows_declared b.decls s ≡ lows_among h.specs h.params s
+
+  pub stands_procedure : (b : Block) (h : Heading) (body : PStmt) (a : Surroundings) → Stands b a → HeadingBuilt h → SpecsWhole h → IsIn h (headings b.decls) → HasLows b h → Apart (spots_of_names h.params) →
       parameters_around blocks (b.spot ∷ b.outer) h.name.spot ≡ parameters_in h → named_around blocks (b.spot ∷ b.outer) h.name.spot ≡ h.params →
       IsIn (procedure_block h body (b.spot ∷ b.outer)) blocks → Stands (procedure_block h body (b.spot ∷ b.outer)) (inside_procedure blocks h a)
-  stands_procedure b h body a s u p e f i =
+  stands_procedure b h body a s u w m l p e f i =
       record {
         there = inner.there;
         block_is = refl;
@@ -239,30 +275,56 @@ module _ (blocks : List Block) where
       inner : Stands c (record { block = k; depth = a.depth + 1; known = a.known })
       inner = stands_inner b c a s i refl
 
-      found : (name : List ℕ) (d : Declared) → look_up (declared_parameters k (a.depth + 1) h) name ≡ Some d → IsKnown (a.depth + 1) name d
-      found name d g =
-          let r = given k (a.depth + 1) h h.params (by_value h u) p name d g in
-          known_variable r.kind (record {
+      parameter : (name : List ℕ) (d : Declared) (r : IsGiven k (a.depth + 1) h h.params name d) → IsParameterOf c name d r.wanted
+      parameter name d r =
+          record {
+            among = subst (λ (ns : List Named). IsIn d.spot (spots_of_names ns)) (sym f) r.inside;
+            aligned =
+                subst (λ (xs : List Simple). Aligned xs (given_places c) name d.spot r.wanted) (sym e)
+                (subst (λ (ns : List Named). Aligned (parameters_in h) (cells_for k cells.parameter ns) name d.spot r.wanted) (sym f) r.aligned);
+            owner = b;
+            owner_there = s.there;
+            heading = h;
+            heading_there = m;
+            inside = r.inside;
+            lows = l d.spot r.inside ∙ r.lows;
+          }
+
+      known : (name : List ℕ) (d : Declared) (wanted : Wanted) → IsParameter k (a.depth + 1) h d wanted → d.block ≡ k → d.depth ≡ a.depth + 1 → IsParameterOf c name d wanted → IsKnown (a.depth + 1) name d
+      known name d wanted (by_value kind class_is sort_is) block_is depth_is place =
+          known_variable kind (record {
             in_block = c;
             there = i;
-            class_is = r.var.class_is;
-            sort_is = r.var.sort_is;
-            block_is = r.var.block_is;
-            depth_is = r.var.depth_is ∙ inner.depth_is;
-            within = omega (arith, r.var.depth_is);
-            place =
-                inr (record {
-                  among = subst (λ (ns : List Named). IsIn d.spot (spots_of_names ns)) (sym f) r.inside;
-                  aligned =
-                      subst (λ (xs : List Simple). Aligned xs (given_places c) name d.spot r.kind) (sym e)
-                      (subst (λ (ns : List Named). Aligned (parameters_in h) (cells_for k cells.parameter ns) name d.spot r.kind) (sym f) r.aligned);
-                });
+            class_is = class_is;
+            sort_is = sort_is;
+            block_is = block_is;
+            depth_is = depth_is ∙ inner.depth_is;
+            within = omega (arith, depth_is);
+            place = inr place;
           })
+      known name d wanted (an_array shape class_is sort_is dimensions) block_is depth_is place =
+          known_formal shape (record {
+            in_block = c;
+            there = i;
+            class_is = class_is;
+            sort_is = sort_is;
+            block_is = block_is;
+            depth_is = depth_is ∙ inner.depth_is;
+            within = omega (arith, depth_is);
+            dimensions = dimensions;
+            place = place;
+          })
+
+      found : (name : List ℕ) (d : Declared) → look_up (declared_parameters k (a.depth + 1) h) name ≡ Some d → IsKnown (a.depth + 1) name d
+      found name d g =
+          let r = given k (a.depth + 1) h h.params (specified h u) w p name d g in
+          known name d r.wanted r.parameter r.block_is r.depth_is (parameter name d r)
 
   plain_class : (depth : ℕ) (name : List ℕ) (d : Declared) → IsKnown depth name d → IsPlain d.class
   plain_class depth name d (known_file c s) = subst IsPlain (sym c) file
   plain_class depth name d (known_variable k h) = subst IsPlain (sym h.class_is) (simple k)
   plain_class depth name d (known_array k rank h) = subst IsPlain (sym h.class_is) (array k rank)
+  plain_class depth name d (known_formal shape h) = subst IsPlain (sym h.class_is) (array shape.kind (length shape.lows))
   plain_class depth name d (known_procedure g h) = subst IsPlain (sym h.class_is) (procedure g h.built)
 
   pub knows_plain : (a : Surroundings) → Around a → KnowsPlain a

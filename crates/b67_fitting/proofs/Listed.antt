@@ -1,12 +1,12 @@
 -- The parts of a tree in the order of the text, with the places of their names, and the cells and blocks that stand there.
-use Rattle.std.proofs.Common.{◌≡◌, ℕ, Bool, List, [], ◌∷◌, ◌++◌, map, None}
+use Rattle.std.proofs.Common.{◌≡◌, ℕ, Bool, true, false, List, [], ◌∷◌, ◌++◌, map, filter, None}
 use Rattle.std.specs.List.{flat_map, AllByRecursion}
 use Rattle.algol_tree.specs.declared.token.Spot.{Spot}
 use Rattle.algol_tree.specs.declared.tree.Named.{Named}
 use Rattle.algol_tree.specs.Ascending.{spots_of_names, spots_of_decls}
 use Rattle.algol_tree.specs.Blocks.{Block, number_at, blocks_in_stmts}
 use Rattle.algol_tree.specs.Cells as contents
-use Rattle.algol_tree.specs.Cells.{Cell, cells_at, holding}
+use Rattle.algol_tree.specs.Cells.{Cell, Content, cells_at}
 use Rattle.algol_tree.specs.Couples.{Known, known_names, known_at}
 use Rattle.algol_tree.specs.Plain as tree
 use Rattle.algol_tree.specs.Plain.{PExpr}
@@ -18,6 +18,7 @@ use Rattle.b67_fitting.proofs.Among.{Among}
 use Rattle.b67_fitting.proofs.Apart.{IsIn, Apart}
 use Rattle.b67_fitting.proofs.Frames.{IsOwn, control_cell, named_of, front_cells, decl_cells}
 use Rattle.b67_fitting.proofs.Known.{Stands}
+use Rattle.b67_fitting.proofs.Started.{HasCallees}
 use Rattle.b67_fitting.proofs.Stated.{TypedStmts, TypedDecls}
 
 -- all of these are blocks of the program
@@ -32,6 +33,17 @@ reads_in p = names_in p
 abbrev pub lefts_in : Part → List Named
 lefts_in (parts.statement (tree.assign (tree.subscripted n tree.none) e) listed) = n ∷ []
 lefts_in _ = []
+
+-- a cell that has the place of its name alone: that of a parameter, of a variable or of an array
+abbrev pub has_own_place : Content → Bool
+has_own_place contents.parameter = true
+has_own_place contents.variable = true
+has_own_place contents.made = true
+has_own_place _ = false
+
+-- where such cells stand
+abbrev pub own_places : List Cell → List Spot
+own_places cs = map (λ (c : Cell). c.spot) (filter (λ (c : Cell). has_own_place c.content) cs)
 
 module _ (blocks : List Block) where
   -- A part whose names are used and known where these names are, and that has no cell and no left side.
@@ -51,7 +63,7 @@ module _ (blocks : List Block) where
     pub cells : cells_at blocks x ≡ own
     pub owns : AllByRecursion (IsOwn block) own
     pub among : AllByRecursion (λ (c : Cell). IsIn c.spot spots) own
-    pub made : Among (map (λ (c : Cell). c.spot) (holding contents.made own)) spots
+    pub places : Among (own_places own) spots
     pub reads : reads_in x.part ≡ []
     pub lefts : lefts_in x.part ≡ []
 
@@ -61,6 +73,7 @@ module _ (blocks : List Block) where
     pub knows : Among (map (λ (k : Known). k.spot) (known_at blocks x)) (b.spot ∷ more)
     pub cells : cells_at blocks x ≡ (control_cell block b.spot ∷ []) ++ front_cells (number_at blocks b.spot) (named_of blocks b) b
     pub among : AllByRecursion (λ (n : Named). IsIn n.spot more) (named_of blocks b)
+    pub given : Among (spots_of_names (named_of blocks b)) more
     pub reads : reads_in x.part ≡ []
     pub lefts : lefts_in x.part ≡ []
 
@@ -72,6 +85,7 @@ module _ (blocks : List Block) where
     pub begin : Surroundings
     pub begins : Stands blocks b begin
     pub declares : TypedDecls blocks begin begin.known b.decls
+    pub callees : HasCallees blocks b b.decls
     pub around : Surroundings
     pub stands : Stands blocks b around
     pub typed : TypedStmts blocks around b.stmts

@@ -27,7 +27,7 @@ use Rattle.b67_fitting.proofs.Known.{given_cells, given_places, Stands, stands_i
 use Rattle.b67_fitting.proofs.Listed.{AllThere, IsProcedure, IsBlock, Listed, over, passed, site, left, declared, both, block, procedure}
 use Rattle.b67_templates.specs.Cells.{Simple, parameters_in}
 use Rattle.b67_fitting.proofs.Lists.{each_front}
-use Rattle.b67_fitting.proofs.Started.{Passed, none_passed, IsStarted, start, step}
+use Rattle.b67_fitting.proofs.Started.{HasCallees, Passed, none_passed, IsStarted, start, step}
 use Rattle.b67_fitting.proofs.Stated.{TypedStmt, TypedStmts, TypedDecls}
 
 there_front : (blocks bs cs : List Block) → AllThere blocks (bs ++ cs) → AllThere blocks bs
@@ -78,6 +78,7 @@ module _ (blocks : List Block) (whole : AreWhole blocks) where
             begin = a;
             begins = g;
             declares = subst (λ (ds : PDecls). TypedDecls blocks a a.known ds) (sym r.decls_are) tt;
+            callees = subst (HasCallees blocks (procedure_block h s outer)) (sym r.decls_are) (λ g i. absurd i);
             around = a;
             stands = g;
             typed = subst (λ (ss : PStmts). TypedStmts blocks a ss) (sym r.stmts_are) (r.typed a t, tt);
@@ -95,14 +96,15 @@ module _ (blocks : List Block) (whole : AreWhole blocks) where
   -- a procedure whose body is a BEGIN
   procedure_begin : (k : ℕ) (x : Site) (outer : List Spot) (h : Heading) (spot : Spot) (ds : PDecls) (ss : PStmts) (a : Surroundings) → named_of blocks (procedure_block h (tree.block (tree.body spot ds ss)) outer) ≡ h.params →
       IsProcedure blocks k x (procedure_block h (tree.block (tree.body spot ds ss)) outer) (behind_name h) → Stands blocks (procedure_block h (tree.block (tree.body spot ds ss)) outer) a →
-      TypedDecls blocks a a.known ds → Stands blocks (procedure_block h (tree.block (tree.body spot ds ss)) outer) (knowing_all blocks ds a) → TypedStmts blocks (knowing_all blocks ds a) ss →
+      TypedDecls blocks a a.known ds → HasCallees blocks (procedure_block h (tree.block (tree.body spot ds ss)) outer) ds →
+      Stands blocks (procedure_block h (tree.block (tree.body spot ds ss)) outer) (knowing_all blocks ds a) → TypedStmts blocks (knowing_all blocks ds a) ss →
       Apart (spots_of_heading h ++ (spot ∷ (spots_of_decls ds ++ spots_of_stmts ss))) → AllThere blocks (blocks_in_stmts ss (h.name.spot ∷ outer)) →
       Listed blocks a.block (spots_of_decls ds) (decl_cells a.block ds) (blocks_in_decls ds (h.name.spot ∷ outer)) (sites_in_decls blocks ds a a.known) →
       Listed blocks (number_at blocks h.name.spot) (spots_of_stmts ss) [] (blocks_in_stmts ss (h.name.spot ∷ outer)) (sites_in_stmts blocks ss (has_decls ds) (knowing_all blocks ds a)) →
       Listed blocks k (spots_of_heading h ++ (spot ∷ (spots_of_decls ds ++ spots_of_stmts ss))) (control_cell k h.name.spot ∷ [])
       (procedure_block h (tree.block (tree.body spot ds ss)) outer ∷ (blocks_in_decls ds (h.name.spot ∷ outer) ++ blocks_in_stmts ss (h.name.spot ∷ outer)))
       (x ∷ here_stmt (tree.block (tree.body spot ds ss)) false a ∷ (sites_in_decls blocks ds a a.known ++ sites_in_stmts blocks ss (has_decls ds) (knowing_all blocks ds a)))
-  procedure_begin k x outer h spot ds ss a e q g d behind t p f these those =
+  procedure_begin k x outer h spot ds ss a e q g d inner behind t p f these those =
       let s = tree.block (tree.body spot ds ss) in
       let c = procedure_block h s outer in
       let number = number_at blocks h.name.spot in
@@ -115,6 +117,7 @@ module _ (blocks : List Block) (whole : AreWhole blocks) where
         begin = a;
         begins = g;
         declares = d;
+        callees = inner;
         around = knowing_all blocks ds a;
         stands = behind;
         typed = t;
@@ -156,7 +159,8 @@ module _ (blocks : List Block) (whole : AreWhole blocks) where
         let in_decls : AllThere blocks decl_blocks = λ e i. f e (inr (in_front e decl_blocks stmt_blocks i)) in
         let in_stmts : AllThere blocks stmt_blocks = λ e i. f e (inr (in_back e decl_blocks stmt_blocks i)) in
         let begins = stands_inner blocks b c a g there refl in
-        let started = start blocks c begin begins (callees blocks (tree.decls d ds) begin a.known c t.0 in_decls (whole.numbered c there) (apart_front names (spots_of_stmts ss) p.1) (λ s i. refl) (λ s i. refl))
+        let called = callees blocks (tree.decls d ds) begin a.known c t.0 in_decls (whole.numbered c there) (apart_front names (spots_of_stmts ss) p.1) (λ s i. refl) (λ s i. refl) (λ s i. refl) in
+        let started = start blocks c begin begins called
         (none_passed (names_of begin.block begin.known) names (given_cells blocks c) (number_at blocks spot) (named_of blocks c) (whole.no_cells c there refl) (whole.no_names c there refl)) in
         let behind = behind_decls blocks c begin a.known (tree.decls d ds) started t.0 (apart_front names (spots_of_stmts ss) p.1) in
         let inner =
@@ -173,6 +177,7 @@ module _ (blocks : List Block) (whole : AreWhole blocks) where
           begin = begin;
           begins = begins;
           declares = t.0;
+          callees = called;
           around = within;
           stands = behind;
           typed = t.1;
@@ -270,18 +275,19 @@ module _ (blocks : List Block) (whole : AreWhole blocks) where
         let mine : Apart (spots_of_decl d) = apart_front (spots_of_decl d) (spots_of_decls ds) p in
         let inside : Apart (spot ∷ (spots_of_decls es ++ spots_of_stmts ss)) = apart_back (spots_of_heading h) (spots_of_stmt body) mine in
         let q = s.callees h (s.owned h (inl refl)) in
-        let stands = stands_procedure blocks b h body behind next.stands t.1.0 (names_apart h body mine).1 q.cells_are q.named_are (in_those c (inl refl)) in
+        let stands = stands_procedure blocks b h body behind next.stands t.1.0 t.1.2 (s.owned h (inl refl)) q.lows_are (names_apart h body mine).1 q.cells_are q.named_are (in_those c (inl refl)) in
         let k = number_at blocks h.name.spot in
         let passed : Passed (names_of k inner.known) (spots_of_decls es) (given_cells blocks c) (given_places blocks c) =
         subst (λ (xs : List Simple). Passed (names_of k inner.known) (spots_of_decls es) xs (given_places blocks c)) (sym q.cells_are)
         (subst (λ (ns : List Named). Passed (names_of k inner.known) (spots_of_decls es) (parameters_in h) (cells_for k cells.parameter ns)) (sym q.named_are)
         (given_passed k (behind.depth + 1) h behind.known (spots_of_decls es) (apart_across (spots_of_names h.params) (spots_of_decls es) (heading_apart h spot es ss mine).1))) in
-        let started =
-        start blocks c inner stands (callees blocks es inner inner.known c t.1.1.0 in_decls (whole.numbered c (in_those c (inl refl))) (apart_front (spots_of_decls es) (spots_of_stmts ss) inside.1) (λ s i. refl) (λ s i. refl)) passed in
+        let called =
+        callees blocks es inner inner.known c t.1.1.0 in_decls (whole.numbered c (in_those c (inl refl))) (apart_front (spots_of_decls es) (spots_of_stmts ss) inside.1) (λ s i. refl) (λ s i. refl) (λ s i. refl) in
+        let started = start blocks c inner stands called passed in
         let after = behind_decls blocks c inner inner.known es started t.1.1.0 (apart_front (spots_of_decls es) (spots_of_stmts ss) inside.1) in
         both a.block
         (procedure_begin a.block (record { part = parts.declaration d ds; around = a }) (b.spot ∷ b.outer) h spot es ss inner q.named_are
-        (declares_procedure blocks a h body ds (b.spot ∷ b.outer) q.named_are) stands t.1.1.0 after t.1.1.1 mine in_stmts
+        (declares_procedure blocks a h body ds (b.spot ∷ b.outer) q.named_are) stands t.1.1.0 called after t.1.1.1 mine in_stmts
         (listed_decls c inner inner.known stands es started t.1.1.0 (apart_front (spots_of_decls es) (spots_of_stmts ss) inside.1) in_decls)
         (listed_stmts (number_at blocks h.name.spot) c (knowing_all blocks es inner) after ss (has_decls es) t.1.1.1 (apart_back (spots_of_decls es) (spots_of_stmts ss) inside.1) in_stmts))
         (listed_decls b behind first g ds next t.2 (apart_back (spots_of_decl d) (spots_of_decls ds) p) (there_back blocks those others f))
@@ -296,7 +302,7 @@ module _ (blocks : List Block) (whole : AreWhole blocks) where
         let c = procedure_block h body (b.spot ∷ b.outer) in
         let q = s.callees h (s.owned h (inl refl)) in
         let own = names_apart h body (apart_front (spots_of_decl d) (spots_of_decls ds) p) in
-        let stands = stands_procedure blocks b h body behind next.stands t.1.0 own.1 q.cells_are q.named_are (in_those c (inl refl)) in
+        let stands = stands_procedure blocks b h body behind next.stands t.1.0 t.1.2 (s.owned h (inl refl)) q.lows_are own.1 q.cells_are q.named_are (in_those c (inl refl)) in
         let r = bare blocks body tt in
         let in_body : AllThere blocks (blocks_of body of_statement (h.name.spot ∷ b.spot ∷ b.outer)) =
         λ e i. in_those e (inr (subst (λ (bs : List Block). IsIn e bs) (sym (r.blocks_are (h.name.spot ∷ b.spot ∷ b.outer))) i)) in

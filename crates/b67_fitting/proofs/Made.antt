@@ -1,5 +1,5 @@
--- The places of the arrays of a program are among those of its text, so no two arrays are declared at one place.
-use Rattle.std.proofs.Common.{◌≡◌, inl, inr, ℕ, ◌==◌, Bool, true, false, cond, List, [], ◌∷◌, ◌++◌, map, filter, Option, Some, None, refl, sym, ap, ◌∙◌, subst}
+-- The places of the parameters, the variables and the arrays of a program are among those of its text, so no two stand at one place.
+use Rattle.std.proofs.Common.{◌≡◌, inl, inr, ℕ, Bool, true, false, cond, List, [], ◌∷◌, ◌++◌, map, filter, Option, Some, None, refl, sym, ap, ◌∙◌, subst}
 use Rattle.std.proofs.lemmas.List.{map-append}
 use Rattle.std.proofs.lemmas.List.Concat.{flat_map-append}
 use Rattle.std.proofs.lemmas.List.Elements.{filter-append}
@@ -10,56 +10,55 @@ use Rattle.algol_tree.specs.declared.tree.Named.{Named}
 use Rattle.algol_tree.specs.Ascending.{spots_of_names}
 use Rattle.algol_tree.specs.Blocks.{Block, same_spot, number_at}
 use Rattle.algol_tree.specs.Cells as cells
-use Rattle.algol_tree.specs.Cells.{Cell, cells_for, cells_at, content_number, holding}
+use Rattle.algol_tree.specs.Cells.{Cell, cells_for, cells_at}
 use Rattle.algol_tree.specs.Scopes.{names_in}
 use Rattle.algol_tree.specs.Sites.{Site}
 use Rattle.b67_fitting.proofs.Among.{Among, nothing, skip, none_among, join}
 use Rattle.b67_fitting.proofs.Apart.{IsIn, each_in, in_map, IsApart, Apart, same_self}
 use Rattle.b67_fitting.proofs.Frames.{control_cell, result_cell, named_of, front_cells}
-use Rattle.b67_fitting.proofs.Listed.{Listed, over, passed, site, left, declared, both, block, procedure}
+use Rattle.b67_fitting.proofs.Listed.{has_own_place, own_places, Listed, over, passed, site, left, declared, both, block, procedure}
 
-abbrev pub places_of : List Cell → List Spot
-places_of cs = map (λ (c : Cell). c.spot) (holding cells.made cs)
+-- of the cells of a heading those of the parameters have places of their own
+result_places : (o : Option Kind) (k : ℕ) (spot : Spot) (cs : List Cell) → own_places (result_cell o k spot ++ cs) ≡ own_places cs
+result_places None k spot cs = refl
+result_places (Some kind) k spot cs = refl
 
--- no cell of a heading is made
-result_made : (o : Option Kind) (k : ℕ) (spot : Spot) (cs : List Cell) → holding cells.made (result_cell o k spot ++ cs) ≡ holding cells.made cs
-result_made None k spot cs = refl
-result_made (Some kind) k spot cs = refl
+parameter_places : (k : ℕ) (ns : List Named) → own_places (cells_for k cells.parameter ns) ≡ spots_of_names ns
+parameter_places k [] = refl
+parameter_places k (n ∷ ns) = ap (λ z. n.spot ∷ z) (parameter_places k ns)
 
-parameters_made : (k : ℕ) (ns : List Named) → holding cells.made (cells_for k cells.parameter ns) ≡ []
-parameters_made k [] = refl
-parameters_made k (n ∷ ns) = parameters_made k ns
-
-heading_made : (outer own : ℕ) (ns : List Named) (b : Block) → holding cells.made ((control_cell outer b.spot ∷ []) ++ front_cells own ns b) ≡ []
-heading_made outer own ns b = result_made b.result own b.spot (cells_for own cells.parameter ns) ∙ parameters_made own ns
+heading_places : (outer k : ℕ) (ns : List Named) (b : Block) → own_places ((control_cell outer b.spot ∷ []) ++ front_cells k ns b) ≡ spots_of_names ns
+heading_places outer k ns b = result_places b.result k b.spot (cells_for k cells.parameter ns) ∙ parameter_places k ns
 
 module _ (blocks : List Block) where
-  abbrev pub made_places : List Site → List Spot
-  made_places xs = places_of (flat_map (cells_at blocks) xs)
+  abbrev pub places_in : List Site → List Spot
+  places_in xs = own_places (flat_map (cells_at blocks) xs)
 
-  joined : (cs ds : List Cell) → places_of (cs ++ ds) ≡ places_of cs ++ places_of ds
+  joined : (cs ds : List Cell) → own_places (cs ++ ds) ≡ own_places cs ++ own_places ds
   joined cs ds =
-      ap (map (λ (c : Cell). c.spot)) (filter-append (λ (c : Cell). content_number c.content == content_number cells.made) cs ds)
-      ∙ map-append (λ (c : Cell). c.spot) (holding cells.made cs) (holding cells.made ds)
+      ap (map (λ (c : Cell). c.spot)) (filter-append (λ (c : Cell). has_own_place c.content) cs ds)
+      ∙ map-append (λ (c : Cell). c.spot) (filter (λ (c : Cell). has_own_place c.content) cs) (filter (λ (c : Cell). has_own_place c.content) ds)
 
-  behind : (x : Site) (xs : List Site) {p q : List Spot} → Among (places_of (cells_at blocks x)) p → Among (made_places xs) q → Among (made_places (x ∷ xs)) (p ++ q)
+  behind : (x : Site) (xs : List Site) {p q : List Spot} → Among (own_places (cells_at blocks x)) p → Among (places_in xs) q → Among (places_in (x ∷ xs)) (p ++ q)
   behind x xs {p} {q} g h = subst (λ (z : List Spot). Among z (p ++ q)) (sym (joined (cells_at blocks x) (flat_map (cells_at blocks) xs))) (join g h)
 
-  none : (x : Site) (spots : List Spot) → holding cells.made (cells_at blocks x) ≡ [] → Among (places_of (cells_at blocks x)) spots
-  none x spots e = subst (λ (cs : List Cell). Among (map (λ (c : Cell). c.spot) cs) spots) (sym e) (none_among spots)
+  none : (x : Site) (spots : List Spot) → cells_at blocks x ≡ [] → Among (own_places (cells_at blocks x)) spots
+  none x spots e = subst (λ (cs : List Cell). Among (own_places cs) spots) (sym e) (none_among spots)
 
-  pub all_made : {k : ℕ} {spots : List Spot} {own : List Cell} {bs : List Block} {xs : List Site} → Listed blocks k spots own bs xs → Among (made_places xs) spots
-  all_made (over k) = nothing
-  all_made (passed k spot l) = skip spot (all_made l)
-  all_made (site k x {xs = xs} f l) = behind x xs (none x (spots_of_names (names_in x.part)) (ap (holding cells.made) f.cells)) (all_made l)
-  all_made (left k a n e listed b g l) = skip n.spot (all_made l)
-  all_made (declared k x names new {xs = xs} f l) = behind x xs (subst (λ (cs : List Cell). Among (places_of cs) names) (sym f.cells) f.made) (all_made l)
-  all_made (both k {p = p} {q = q} {xs = xs} {ys = ys} i j) =
-      subst (λ (z : List Spot). Among z (p ++ q)) (sym (ap places_of (flat_map-append (cells_at blocks) xs ys) ∙ joined (flat_map (cells_at blocks) xs) (flat_map (cells_at blocks) ys)))
-      (join (all_made i) (all_made j))
-  all_made (block k b e i l) = skip b.spot (all_made l)
-  all_made (procedure k x b more {xs = xs} f i l) =
-      behind x xs (none x (b.spot ∷ more) (ap (holding cells.made) f.cells ∙ heading_made k (number_at blocks b.spot) (named_of blocks b) b)) (all_made l)
+  pub all_places : {k : ℕ} {spots : List Spot} {own : List Cell} {bs : List Block} {xs : List Site} → Listed blocks k spots own bs xs → Among (places_in xs) spots
+  all_places (over k) = nothing
+  all_places (passed k spot l) = skip spot (all_places l)
+  all_places (site k x {xs = xs} f l) = behind x xs (none x (spots_of_names (names_in x.part)) f.cells) (all_places l)
+  all_places (left k a n e listed b g l) = skip n.spot (all_places l)
+  all_places (declared k x names new {xs = xs} f l) = behind x xs (subst (λ (cs : List Cell). Among (own_places cs) names) (sym f.cells) f.places) (all_places l)
+  all_places (both k {p = p} {q = q} {xs = xs} {ys = ys} i j) =
+      subst (λ (z : List Spot). Among z (p ++ q)) (sym (ap own_places (flat_map-append (cells_at blocks) xs ys) ∙ joined (flat_map (cells_at blocks) xs) (flat_map (cells_at blocks) ys)))
+      (join (all_places i) (all_places j))
+  all_places (block k b e i l) = skip b.spot (all_places l)
+  all_places (procedure k x b more {xs = xs} f i l) =
+      behind x xs
+      (subst (λ (z : List Spot). Among z (b.spot ∷ more)) (sym (ap own_places f.cells ∙ heading_places k (number_at blocks b.spot) (named_of blocks b) b)) (skip b.spot f.given))
+      (all_places l)
 
 -- what stands in one place is one, where the places are apart
 pub one_there : {X : Type 0} (at : X → Spot) (xs : List X) (x y : X) → Apart (map at xs) → IsIn x xs → IsIn y xs → at x ≡ at y → x ≡ y

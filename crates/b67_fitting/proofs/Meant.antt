@@ -1,5 +1,5 @@
 -- What a name means where it is of a class: a variable, an array or a procedure whose declaration is known.
-use Rattle.std.proofs.Common.{◌≡◌, ℕ, List, Option, Some, None, refl, sym, ◌∙◌, subst}
+use Rattle.std.proofs.Common.{◌≡◌, ℕ, List, length, Option, Some, None, refl, sym, ◌∙◌, subst}
 use Rattle.algol_tree.specs.declared.tree.Heading.{Heading}
 use Rattle.algol_tree.specs.declared.tree.Kind.{Kind}
 use Rattle.algol_tree.specs.declared.tree.Named.{Named}
@@ -8,7 +8,8 @@ use Rattle.algol_tree.specs.Classes as class
 use Rattle.algol_tree.specs.Classes.{Class}
 use Rattle.algol_tree.specs.Sorts.{Declared}
 use Rattle.algol_tree.specs.Surroundings.{Surroundings, class_of, class_of_declared, declared_as}
-use Rattle.b67_fitting.proofs.Known.{IsHeld, IsRowed, IsOwned, IsKnown, known_file, known_variable, known_array, known_procedure}
+use Rattle.algol_paths.specs.Arrays.{Shape}
+use Rattle.b67_fitting.proofs.Known.{IsHeld, IsRowed, IsFormal, IsOwned, IsKnown, known_file, known_variable, known_array, known_formal, known_procedure}
 use Rattle.b67_fitting.proofs.Typed.{IsOf}
 
 pub record IsDeclared (a : Surroundings) (c : Class) (n : Named) : Type 0 where
@@ -33,6 +34,7 @@ module _ (blocks : List Block) where
   pub held_of : (depth : ℕ) (name : List ℕ) (d : Declared) (k : Kind) → d.class ≡ class.simple k → IsKnown blocks depth name d → IsHeld blocks depth name d k
   held_of depth name d k c (known_file f s) = absurd (let clash : class.simple k ≡ class.file = sym c ∙ f in cc)
   held_of depth name d k c (known_array m rank h) = absurd (let clash : class.simple k ≡ class.array m rank = sym c ∙ h.class_is in cc)
+  held_of depth name d k c (known_formal shape h) = absurd (let clash : class.simple k ≡ class.array shape.kind (length shape.lows) = sym c ∙ h.class_is in cc)
   held_of depth name d k c (known_procedure g h) = absurd (let clash : class.simple k ≡ class.procedure g = sym c ∙ h.class_is in cc)
   held_of depth name d k c (known_variable kind h) =
       let same : kind ≡ k = (let e : class.simple kind ≡ class.simple k = sym h.class_is ∙ c in cc) in
@@ -42,16 +44,27 @@ module _ (blocks : List Block) where
   owned_of depth name d g c (known_file f s) = absurd (let clash : class.procedure g ≡ class.file = sym c ∙ f in cc)
   owned_of depth name d g c (known_variable kind h) = absurd (let clash : class.procedure g ≡ class.simple kind = sym c ∙ h.class_is in cc)
   owned_of depth name d g c (known_array m rank h) = absurd (let clash : class.procedure g ≡ class.array m rank = sym c ∙ h.class_is in cc)
+  owned_of depth name d g c (known_formal shape h) = absurd (let clash : class.procedure g ≡ class.array shape.kind (length shape.lows) = sym c ∙ h.class_is in cc)
   owned_of depth name d g c (known_procedure f h) =
       let same : f ≡ g = (let e : class.procedure f ≡ class.procedure g = sym h.class_is ∙ c in cc) in
       subst (λ (z : Heading). IsOwned blocks depth name d z) same h
 
-  pub rowed_of : (depth : ℕ) (name : List ℕ) (d : Declared) (k : Kind) (rank : ℕ) → d.class ≡ class.array k rank → IsKnown blocks depth name d → IsRowed blocks depth name d k rank
-  rowed_of depth name d k rank c (known_file f s) = absurd (let clash : class.array k rank ≡ class.file = sym c ∙ f in cc)
-  rowed_of depth name d k rank c (known_variable kind h) = absurd (let clash : class.array k rank ≡ class.simple kind = sym c ∙ h.class_is in cc)
-  rowed_of depth name d k rank c (known_procedure g h) = absurd (let clash : class.array k rank ≡ class.procedure g = sym c ∙ h.class_is in cc)
-  rowed_of depth name d k rank c (known_array kind many h) =
+  -- an array that a block declares, or a parameter that stands for one
+  pub data IsArrayAs (depth : ℕ) (name : List ℕ) (d : Declared) (k : Kind) (rank : ℕ) : Type 0 where
+    of_block : IsRowed blocks depth name d k rank → IsArrayAs depth name d k rank
+    of_parameter : (shape : Shape) → IsFormal blocks depth name d shape → shape.kind ≡ k → length shape.lows ≡ rank → IsArrayAs depth name d k rank
+
+  pub arrayed_of : (depth : ℕ) (name : List ℕ) (d : Declared) (k : Kind) (rank : ℕ) → d.class ≡ class.array k rank → IsKnown blocks depth name d → IsArrayAs depth name d k rank
+  arrayed_of depth name d k rank c (known_file f s) = absurd (let clash : class.array k rank ≡ class.file = sym c ∙ f in cc)
+  arrayed_of depth name d k rank c (known_variable kind h) = absurd (let clash : class.array k rank ≡ class.simple kind = sym c ∙ h.class_is in cc)
+  arrayed_of depth name d k rank c (known_procedure g h) = absurd (let clash : class.array k rank ≡ class.procedure g = sym c ∙ h.class_is in cc)
+  arrayed_of depth name d k rank c (known_array kind many h) =
       let same : class.array kind many ≡ class.array k rank = sym h.class_is ∙ c in
       let kinds : kind ≡ k = cc in
       let ranks : many ≡ rank = cc in
-      subst (λ (z : Kind). IsRowed blocks depth name d z rank) kinds (subst (λ (r : ℕ). IsRowed blocks depth name d kind r) ranks h)
+      of_block (subst (λ (z : Kind). IsRowed blocks depth name d z rank) kinds (subst (λ (r : ℕ). IsRowed blocks depth name d kind r) ranks h))
+  arrayed_of depth name d k rank c (known_formal shape h) =
+      let same : class.array shape.kind (length shape.lows) ≡ class.array k rank = sym h.class_is ∙ c in
+      let kinds : shape.kind ≡ k = cc in
+      let ranks : length shape.lows ≡ rank = cc in
+      of_parameter shape h kinds ranks

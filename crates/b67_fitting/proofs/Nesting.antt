@@ -20,7 +20,7 @@ use Rattle.algol_tree.specs.Surroundings.{Surroundings, outermost, knowing_all}
 use Rattle.algol_paths.specs.Segments.{is_procedure, procedures_before, tokens_or_none, segment_tokens}
 use Rattle.b67_templates.specs.Cells.{parameters_around}
 use Rattle.b67_fitting.specs.Built.{DeclsBuilt, StmtsBuilt}
-use Rattle.b67_fitting.specs.Nested.{AreByValue, IsText, AreNested, BuiltProgramsLieNested}
+use Rattle.b67_fitting.specs.Nested.{AreParameters, IsText, AreNested, BuiltProgramsLieNested}
 use Rattle.b67_fitting.proofs.Lists.{each_front, each_back, each_both, nil_front, nil_back, nil_map, nil_each, not_so}
 use Rattle.b67_fitting.proofs.Numbering.{times_both, places, places_both, once, Apart, once_apart, use_place, IsThere, all_there, block_place, IsNumbered, all_numbered, block_is, each_at, number_is, number_first}
 use Rattle.b67_fitting.proofs.Apart.{Apart as IsApartList, each_in, ascending_apart, apart_front, apart_back}
@@ -108,7 +108,7 @@ module _ (sc : Scopes) (all : List Site) where
   abbrev HasFew : Block → Type 0
   HasFew b = place_beyond MOST_BLOCK_CELLS (map (λ (c : Cell). c.spot) (cells_of sc.blocks all (number_at sc.blocks b.spot))) ≡ []
 
-  one_fine : (b : Block) → IsNumbered sc.blocks b → AreByValue sc b → IsLow b → HasFew b → IsFine sc all b
+  one_fine : (b : Block) → IsNumbered sc.blocks b → AreParameters sc b → IsLow b → HasFew b → IsFine sc all b
   one_fine b n v l h =
       let its = cells_of sc.blocks all (number_at sc.blocks b.spot) in
       record {
@@ -118,7 +118,7 @@ module _ (sc : Scopes) (all : List Site) where
         few = omega (arith, none_beyond MOST_BLOCK_CELLS (map (λ (c : Cell). c.spot) its) h, length-map its (λ (c : Cell). c.spot));
       }
 
-  all_fine : (bs : List Block) → AllByRecursion (IsNumbered sc.blocks) bs → AllByRecursion (AreByValue sc) bs → AllByRecursion IsLow bs → AllByRecursion HasFew bs → AreFine sc all bs
+  all_fine : (bs : List Block) → AllByRecursion (IsNumbered sc.blocks) bs → AllByRecursion (AreParameters sc) bs → AllByRecursion IsLow bs → AllByRecursion HasFew bs → AreFine sc all bs
   all_fine [] n v l h = tt
   all_fine (b ∷ bs) n v l h = (one_fine b n.0 v.0 l.0 h.0, all_fine bs n.1 v.1 l.1 h.1)
 
@@ -193,8 +193,8 @@ module _ (spot : Spot) (ds : PDecls) (ss : PStmts) (order : IsInOrder (tree.prog
   its_own [] n c = tt
   its_own (b ∷ bs) n c = ((block_is blocks (number_at blocks b.spot) b n.0, c.0), its_own bs n.1 c.1)
 
-  -- all blocks have their parameters by value
-  pub headed : AreOnce blocks all → AllByRecursion (AreByValue sc) blocks
+  -- all blocks have the cells of their parameters
+  pub headed : AreOnce blocks all → AllByRecursion (AreParameters sc) blocks
   headed once =
       let first : Block = the_block spot [] ds ss in
       let declared = blocks_in_decls ds outer in
@@ -202,7 +202,7 @@ module _ (spot : Spot) (ds : PDecls) (ss : PStmts) (order : IsInOrder (tree.prog
       let its = its_own blocks (all_numbered blocks blocks_apart) (clear once) in
       let apart : IsApartList (spots_of_decls ds ++ spots_of_stmts ss) = (ascending_apart (spots_of program) order).1 in (
         of_begin sc first refl refl,
-        each_both (AreByValue sc) declared stated
+        each_both (AreParameters sc) declared stated
             (headed_decls sc first its.0 ds built_decls (apart_front (spots_of_decls ds) (spots_of_stmts ss) apart) (λ s i. refl) (each_front (IsIt sc) declared stated its.1))
             (headed_stmts sc first its.0 ss built (apart_back (spots_of_decls ds) (spots_of_stmts ss) apart) (outside ds (spots_of_stmts ss) apart) (each_back (IsIt sc) declared stated its.1)),
       )
@@ -211,8 +211,8 @@ module _ (spot : Spot) (ds : PDecls) (ss : PStmts) (order : IsInOrder (tree.prog
   whole once =
       record {
         numbered = λ b i. block_is blocks (number_at blocks b.spot) b (each_in (IsNumbered blocks) b blocks (all_numbered blocks blocks_apart) i);
-        no_cells = λ b i e. none_long (parameters_around blocks b.outer b.spot) (omega (arith, parameters_many sc b (each_in (AreByValue sc) b blocks (headed once) i), ap length e));
-        no_names = λ b i e. none_long (named_of blocks b) (omega (arith, named_long blocks b, parameters_many sc b (each_in (AreByValue sc) b blocks (headed once) i), ap length e));
+        no_cells = λ b i e. none_long (parameters_around blocks b.outer b.spot) (omega (arith, parameters_many sc b (each_in (AreParameters sc) b blocks (headed once) i), ap length e));
+        no_names = λ b i e. none_long (named_of blocks b) (omega (arith, named_long blocks b, parameters_many sc b (each_in (AreParameters sc) b blocks (headed once) i), ap length e));
       }
 
   -- the number of the outermost block

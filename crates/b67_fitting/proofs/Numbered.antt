@@ -1,6 +1,5 @@
 -- The numbers of what is read from tokens are whole, where the tokens are right.
-use Rattle.std.proofs.Common.{ℕ, ℤ, pos, negsuc, neg_ℤ, ◌-ℤ◌, zero, suc, List, sym, subst}
-use Rattle.std.proofs.Math.IntN.{+ℤ_idl}
+use Rattle.std.proofs.Common.{ℕ, List, subst}
 use Rattle.algol_tree.specs.declared.level.Level.{Level}
 use Rattle.algol_tree.specs.declared.token.Spot.{Spot}
 use Rattle.algol_tree.specs.declared.token.Token.{Token}
@@ -8,8 +7,6 @@ use Rattle.algol_tree.specs.declared.tree.Kind.{Kind}
 use Rattle.algol_tree.specs.declared.tree.Named.{Named}
 use Rattle.algol_tree.specs.Expressions as grammar
 use Rattle.algol_tree.specs.Expressions.{IsPart, IsMore, IsExprs}
-use Rattle.algol_tree.specs.Headings as headings
-use Rattle.algol_tree.specs.Headings.{IsLiteral}
 use Rattle.algol_tree.specs.Operators.{Part}
 use Rattle.algol_tree.specs.Plain.{PExpr, call, called, PExprs, PPair, PStmt, PStmts, PDecls, no_decls, decls, PBody, PProgram}
 use Rattle.algol_tree.specs.Programs as programs
@@ -20,11 +17,8 @@ use Rattle.b67_templates.specs.Fragments.{IsWhole}
 use Rattle.b67_fitting.specs.Numbers.{SourcesHaveWholeNumbers}
 use Rattle.b67_fitting.specs.Wholes.{NumbersWhole, AllWhole, BoundsWhole, StmtWhole, StmtsWhole, DeclsWhole, BodyWhole, HasWholeNumbers}
 use Rattle.b67_fitting.proofs.Behind.{behind_event, behind_names, behind_files, behind_typed, behind_heading, behind_task, behind_to, behind_phrases}
+use Rattle.b67_fitting.proofs.HeadingsWhole.{Read, literal_whole, heading_whole}
 use Rattle.b67_fitting.proofs.Lexed.{KindRight, TokenRight, AreRight, text_right}
-
--- what was read, and what stands behind it
-abbrev pub Read : Type 0 → List Token → Type 0
-Read what rest = what × AreRight rest
 
 -- ---- expressions
 
@@ -116,19 +110,6 @@ subscripts_whole (statements.subscripts t u es from rest i x j) w =
 pub items_whole : {free : ℕ} {from : List Token} {es : PExprs} {rest : List Token} → IsItems free from es rest → AreRight from → Read (AllWhole es) rest
 items_whole (statements.nothing rest) w = (tt, w)
 items_whole (statements.items t es from rest i x) w = wholes_whole x w.1
-
--- a sign leaves the magnitude
-negated_whole : (z : ℤ) → IsWhole z → IsWhole (neg_ℤ z)
-negated_whole (pos zero) h = h
-negated_whole (pos (suc n)) h = h
-negated_whole (negsuc n) h = h
-
-opposite_whole : (z : ℤ) → IsWhole z → IsWhole (pos 0 -ℤ z)
-opposite_whole z h = subst IsWhole (sym (+ℤ_idl (neg_ℤ z))) (negated_whole z h)
-
-literal_whole : {from : List Token} {low : ℤ} {rest : List Token} → IsLiteral from low rest → AreRight from → Read (IsWhole low) rest
-literal_whole (headings.positive t value rest i) w = (subst KindRight i w.0, w.1)
-literal_whole (headings.negative t u value rest i j) w = (opposite_whole value (subst KindRight j w.1.0), w.1.1)
 
 pair_whole : {free : ℕ} {from : List Token} {p : PPair} {rest : List Token} → IsPair free from p rest → AreRight from → Read (IsWhole p.low × NumbersWhole p.high) rest
 pair_whole (statements.pair t low high from after rest x i y) w =
@@ -231,7 +212,7 @@ mutual
   decl_whole (statements.announced t h d from rest x i) w = ((tt, tt), (behind_heading TokenRight x w).1)
   decl_whole (statements.with_body h s d from mid rest x o y) w =
       let one = stmt_whole y (behind_heading TokenRight x w) in
-      ((one.0, tt), one.1)
+      (((heading_whole x w, one.0), tt), one.1)
 
   decls_whole : {free d : ℕ} {from : List Token} {ds : PDecls} {rest : List Token} → IsDecls free d from ds rest → AreRight from → Read (DeclsWhole ds) rest
   decls_whole (statements.no_more d rest) w = (tt, w)

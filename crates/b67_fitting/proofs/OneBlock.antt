@@ -18,7 +18,7 @@ use Rattle.algol_paths.specs.Laws.{ItemsKeepToText}
 use Rattle.algol_paths.specs.Texts.{InStmts}
 use Rattle.b67_templates.specs.Cells.{simple_cells, result_of, variables, procedures}
 use Rattle.b67_fitting.specs.Built.{DeclsBuilt}
-use Rattle.b67_fitting.specs.Nested.{IsDeclared, AreByValue, IsText}
+use Rattle.b67_fitting.specs.Nested.{IsDeclared, AreParameters, IsText}
 use Rattle.b67_fitting.proofs.BlockItems.{in_items}
 use Rattle.b67_fitting.proofs.Bounds.{InBounds}
 use Rattle.b67_fitting.proofs.Lists.{each_front, each_back, each_of}
@@ -43,10 +43,10 @@ declared_by sc j (tree.decls d ds) c i declared h = declared_by sc j ds c i decl
 
 -- `all`: all parts of the tree
 module _ (sc : Scopes) (all : List Site) where
-  -- The block has its number by its place and its parameters by value, is not too deep and has not too many cells.
+  -- The block has its number by its place and the cells of its parameters, is not too deep and has not too many cells.
   pub record IsFine (b : Block) : Type 0 where
     pub numbered : IsNumbered sc.blocks b
-    pub headed : AreByValue sc b
+    pub headed : AreParameters sc b
     pub low : level_of b ≤ MOST_LEVEL
     pub few : length (cells_of sc.blocks all (number_at sc.blocks b.spot)) ≤ MOST_BLOCK_CELLS
 
@@ -112,7 +112,7 @@ module _ (sc : Scopes) (all : List Site) where
         let few : length (simple_cells sc b) + length (procedures b.decls) + length (arrays_of b.decls) ≤ MOST_BLOCK_CELLS = omega (arith, simple_many sc b, parameters_many sc b f.headed, n, f.few) in
         record {
           items = subst (λ (z : Block). ItemsKeepToText sc k (items_of z)) (sym it_is) (in_items (IsSeen sc k) (IsInner sc k) (IsSeenAround sc k) b d s t);
-          parameters = subst (AreByValue sc) (sym it_is) f.headed;
+          parameters = subst (AreParameters sc) (sym it_is) f.headed;
           few = subst (λ (z : Block). length (simple_cells sc z) + length (procedures z.decls) + length (arrays_of z.decls) ≤ MOST_BLOCK_CELLS) (sym it_is) few;
           low = subst (λ (z : Block). level_of z ≤ MOST_LEVEL) (sym it_is) f.low;
           procedure = λ i declared h. declared_by sc k b.decls c i declared (subst (λ (z : Block). slice_get (procedures z.decls) i ≡ Some declared) it_is h);

@@ -1,5 +1,5 @@
 -- Typed trees fit, where each name that they use has its couple, and each inner block keeps to the limits.
-use Rattle.std.proofs.Common.{arith, ◌≡◌, ◌⊎◌, inl, inr, ℕ, ◌+◌, ◌≤◌, ℤ, Bool, false, true, List, [], ◌∷◌, ◌++◌, map, length, Option, Some, refl, sym, ap, ◌∙◌, subst}
+use Rattle.std.proofs.Common.{arith, ◌≡◌, ◌⊎◌, inl, inr, ℕ, ◌+◌, ◌≤◌, ℤ, Bool, false, true, List, [], ◌∷◌, ◌++◌, map, length, Option, Some, None, refl, sym, ap, ◌∙◌, subst}
 use Rattle.std.specs.List.{AllByRecursion}
 use Rattle.algol_tree.specs.declared.TheConstants as limits
 use Rattle.algol_tree.specs.declared.token.Spot.{Spot}
@@ -15,27 +15,30 @@ use Rattle.algol_tree.specs.Counted.{exprs_count}
 use Rattle.algol_tree.specs.Plain as tree
 use Rattle.algol_tree.specs.Plain.{PExpr, PExprs, PPair, PStmt, PStmts, PDecls}
 use Rattle.algol_tree.specs.Scopes.{Scopes}
-use Rattle.algol_tree.specs.Sites.{Part, expression, Site, sites, is_of_value, inside_expr, inside_actuals, here_stmt, inside_list, inside_stmt, inside_decl, sites_in_pairs, sites_in_stmts, sites_in_decls}
+use Rattle.algol_tree.specs.Sites.{Part, name, Site, here, sites, is_of_value, actual_part, inside_expr, inside_actuals, here_stmt, inside_list, inside_stmt, inside_decl, sites_in_pairs, sites_in_stmts, sites_in_decls}
+use Rattle.algol_tree.specs.Sorts as sort
 use Rattle.algol_tree.specs.Sorts.{Sort, Declared, Parameter, is_variable, is_named_in, sort_in, class_in, parameters_of, formals_of}
 use Rattle.algol_tree.specs.Surroundings.{Surroundings, class_of, formals_of_class, formals_at, knowing, knowing_all}
 use Rattle.algol_tree.specs.Types.{taken_by}
 use Rattle.algol_meaning.specs.Settle.{sorts_of}
 use Rattle.b67_ops.specs.declared.Couple.{Couple}
 use Rattle.b67_ops.specs.declared.TheConstants.{MOST_LEVEL}
-use Rattle.algol_paths.specs.Arrays.{DeclaredArray, arrays_of, lows_of}
-use Rattle.b67_templates.specs.Cells.{Simple, kind_of, parameters_in, parameter_cells, parameter_kinds, variables, procedures}
-use Rattle.b67_templates.specs.Code.{AreDimensions}
+use Rattle.algol_paths.specs.Arrays.{Shape, Lows, shape_in, arrays_of}
+use Rattle.b67_templates.specs.Cells.{Simple, Wanted, wanted_by, kind_of, parameters_in, parameter_cells, parameter_wants, variables, procedures}
 use Rattle.b67_templates.specs.Fitting.{ReadFits, LeftFits, ProcedureFits, CallFits, ArrayFits, ExprFits, SubscriptsFit, ActualsFit, LineFits, ElementAssignFits, BoundsFit, DeclsFit, StmtFits, StmtsFit}
 use Rattle.b67_fitting.specs.Built.{HeadingBuilt}
+use Rattle.b67_fitting.specs.Wholes.{HaveDimensions}
+use Rattle.b67_fitting.proofs.Actuals.{IsArrayActual, name_alone}
 use Rattle.b67_fitting.proofs.Apart.{IsIn, in_front, in_back}
-use Rattle.b67_fitting.proofs.TypedBounds.{TypedPairs, LowsWhole}
+use Rattle.b67_fitting.proofs.TypedBounds.{TypedPairs}
 use Rattle.b67_fitting.proofs.Declares.{begun}
 use Rattle.b67_fitting.proofs.Listed as listing
 use Rattle.b67_fitting.proofs.Listed.{AllThere, reads_in, lefts_in, IsBlock, Listed, over, passed, site, declared, both, block, procedure}
 use Rattle.b67_fitting.proofs.Lists.{each_front, each_back, each_both, map_none}
 use Rattle.b67_fitting.proofs.Stated.{IsResult, IsLeft, TypedStmt, TypedStmts, TypedDecls}
-use Rattle.b67_fitting.proofs.Typed.{IsOf, IsFunction, TypedExpr, TypedActuals, TypedLine, as_formal, actual_part_is}
-use Rattle.b67_fitting.proofs.Parameters.{AreByValue, by_value}
+use Rattle.b67_fitting.proofs.Typed.{IsOf, IsFunction, TypedExpr, TypedActual, TypedActuals, TypedLine, as_formal, actual_part_is}
+use Rattle.b67_fitting.proofs.Given.{cell_of}
+use Rattle.b67_fitting.proofs.Specified.{IsSpecified, as_value, as_array, AreSpecified, specified}
 
 -- the depth is that of the block
 same_depth : (blocks : List Block) (ds : PDecls) (a : Surroundings) → (knowing_all blocks ds a).depth ≡ a.depth
@@ -47,34 +50,35 @@ abbrev pub Keep : List Block → Type 0
 Keep blocks = (b : Block) → IsIn b blocks → (level_of b ≤ MOST_LEVEL) × (length (variables b.decls) + length (procedures b.decls) + length (arrays_of b.decls) ≤ limits.MOST_BLOCK_CELLS)
 
 -- A procedure that is called has its couple, and its block is that of its heading.
-pub record CalleeFits (sc : Scopes) (known results : Spot → Option Couple) (lows : Spot → Option (List ℤ)) (level : ℕ) (n : Named) (h : Heading) : Type 0 where
+pub record CalleeFits (sc : Scopes) (known results : Spot → Option Couple) (lows : Spot → Option Lows) (level : ℕ) (n : Named) (h : Heading) : Type 0 where
   pub callee : ℕ
   pub fits : ProcedureFits sc known results lows level n callee
   pub result_is : (block_numbered sc.blocks callee).result ≡ h.kind
   pub parameters_are : (block_numbered sc.blocks callee).parameters ≡ parameters_of h
   pub cells_are : parameter_cells sc (block_numbered sc.blocks callee) ≡ parameters_in h
 
--- An array has its couple, and the lower bounds that are known are its own.
-pub record RowFits (sc : Scopes) (known results : Spot → Option Couple) (lows : Spot → Option (List ℤ)) (level : ℕ) (n : Named) (kind : Kind) (rank : ℕ) : Type 0 where
-  pub array : DeclaredArray
-  pub fits : ArrayFits sc known results lows level n array
-  pub kind_is : array.kind ≡ kind
-  pub rank_is : length array.pairs ≡ rank
-  pub dimensions : AreDimensions array.pairs
-  pub whole : LowsWhole array.pairs
+-- An array, or a parameter that stands for one, has its couple, and the lower bounds that are known are its own.
+pub record RowFits (sc : Scopes) (known results : Spot → Option Couple) (lows : Spot → Option Lows) (level : ℕ) (n : Named) (kind : Kind) (rank : ℕ) : Type 0 where
+  pub shape : Shape
+  pub fits : ArrayFits sc known results lows level n shape
+  pub kind_is : shape.kind ≡ kind
+  pub rank_is : length shape.lows ≡ rank
+  pub dimensions : HaveDimensions shape.lows
 
 abbrev pub sorts_in : Heading → List Named → List Sort
 sorts_in h ns = sorts_of (map (λ (n : Named). record { name = n.name; sort = sort_in h.specs (is_named_in h.values n.name) n.name }) ns)
 
-abbrev pub kinds_in : Heading → List Named → List (Option Kind)
-kinds_in h ns = map (λ (c : Simple). c.kind) (map (λ (n : Named). record { name = n.name; kind = kind_of (class_in h.specs n.name) }) ns)
+abbrev pub wants_in : Heading → List Named → List Wanted
+wants_in h ns = map (λ (c : Simple). wanted_by c.kind c.shape) (map (cell_of h) ns)
 
-module _ (blocks : List Block) (sc : Scopes) (known results : Spot → Option Couple) (lows : Spot → Option (List ℤ)) where
-  -- a name that is read or called has its couple
+module _ (blocks : List Block) (sc : Scopes) (known results : Spot → Option Couple) (lows : Spot → Option Lows) where
+  -- A name that is read or called has its couple. Lower bounds are known of arrays alone.
   pub record IsPlaced (a : Surroundings) (n : Named) : Type 0 where
     pub simple : (k : Kind) (level : ℕ) → a.depth + 2 ≡ level → IsOf a k n → ReadFits sc known results lows level k n × LeftFits sc known results lows level k n
     pub array : (k : Kind) (rank level : ℕ) → a.depth + 2 ≡ level → class_of a n ≡ class.array k rank → RowFits sc known results lows level n k rank
     pub called : (h : Heading) (level : ℕ) → a.depth + 2 ≡ level → class_of a n ≡ class.procedure h → CalleeFits sc known results lows level n h
+    pub simple_alone : (k : Kind) → IsOf a k n → lows n.spot ≡ None
+    pub called_alone : (h : Heading) → class_of a n ≡ class.procedure h → lows n.spot ≡ None
 
   -- and so has a name on the left
   pub record IsLeftPlaced (a : Surroundings) (n : Named) : Type 0 where
@@ -85,38 +89,69 @@ module _ (blocks : List Block) (sc : Scopes) (known results : Spot → Option Co
   SitePlaced x = AllByRecursion (IsPlaced x.around) (reads_in x.part) × AllByRecursion (IsLeftPlaced x.around) (lefts_in x.part)
 
   module _ (a : Surroundings) (level : ℕ) (at : a.depth + 2 ≡ level) where
-    fits_name : (k : Kind) (n : Named) → IsPlaced a n → IsOf a k n ⊎ IsFunction a k n → ReadFits sc known results lows level k n ⊎ CallFits sc known results lows level k n
-    fits_name k n g (inl o) = inl (g.simple k level at o).0
+    fits_name : (k : Kind) (n : Named) → IsPlaced a n → IsOf a k n ⊎ IsFunction a k n →
+        (ReadFits sc known results lows level k n ⊎ CallFits sc known results lows level k n) × (lows n.spot ≡ None)
+    fits_name k n g (inl o) = (inl (g.simple k level at o).0, g.simple_alone k o)
     fits_name k n g (inr f) =
         let c = g.called f.0 level at f.1 in
-        inr (c.callee, c.fits, ap (map (λ (z : Simple). z.kind)) (c.cells_are ∙ map_none _ f.0.params f.3), c.result_is ∙ f.2)
+        (inr (c.callee, c.fits, ap (map (λ (z : Simple). wanted_by z.kind z.shape)) (c.cells_are ∙ map_none _ f.0.params f.3), c.result_is ∙ f.2), g.called_alone f.0 f.1)
 
     fits_left : (k : Kind) (n : Named) → IsLeftPlaced a n → IsLeft blocks a k n → LeftFits sc known results lows level k n
     fits_left k n g (inl o) = g.simple k level at o
     fits_left k n g (inr r) = g.result k level at r
 
-    fits_actuals_of : (n : Named) (es : PExprs) (h : Heading) → (c : CalleeFits sc known results lows level n h) → ActualsFit sc known results lows level (sorts_in h h.params) (kinds_in h h.params) es →
-        ActualsFit sc known results lows level (sorts_of ((block_numbered sc.blocks c.callee).parameters)) (parameter_kinds sc c.callee) es
+    fits_actuals_of : (n : Named) (es : PExprs) (h : Heading) → (c : CalleeFits sc known results lows level n h) → ActualsFit sc known results lows level (sorts_in h h.params) (wants_in h h.params) es →
+        ActualsFit sc known results lows level (sorts_of ((block_numbered sc.blocks c.callee).parameters)) (parameter_wants sc c.callee) es
     fits_actuals_of n es h c f =
-        subst (λ (ps : List Parameter). ActualsFit sc known results lows level (sorts_of ps) (parameter_kinds sc c.callee) es) (sym c.parameters_are)
-        (subst (λ (cs : List Simple). ActualsFit sc known results lows level (sorts_in h h.params) (map (λ (z : Simple). z.kind) cs) es) (sym c.cells_are) f)
+        subst (λ (ps : List Parameter). ActualsFit sc known results lows level (sorts_of ps) (parameter_wants sc c.callee) es) (sym c.parameters_are)
+        (subst (λ (cs : List Simple). ActualsFit sc known results lows level (sorts_in h h.params) (map (λ (z : Simple). wanted_by z.kind z.shape) cs) es) (sym c.cells_are) f)
 
     inside_call : (n : Named) (es : PExprs) (h : Heading) → class_of a n ≡ class.procedure h → AllByRecursion SitePlaced (inside_actuals es (formals_at a n) a) →
         AllByRecursion SitePlaced (inside_actuals es (formals_of h) a)
     inside_call n es h e g = subst (λ (c : Class). AllByRecursion SitePlaced (inside_actuals es (formals_of_class c) a)) e g
 
     -- a subscript for each lower bound
-    fits_subscripts : (ps : List PPair) → AreDimensions ps → LowsWhole ps → (es : PExprs) → length ps ≡ exprs_count es → LineFits sc known results lows level es →
-        SubscriptsFit sc known results lows level (lows_of ps) es
-    fits_subscripts [] d w es c f = absurd d
-    fits_subscripts (p ∷ []) d w tree.none c f = absurd (omega (arith, c))
-    fits_subscripts (p ∷ []) d w (tree.more e tree.none) c f = (w.0, f.0)
-    fits_subscripts (p ∷ []) d w (tree.more e (tree.more e' es)) c f = absurd (omega (arith, c))
-    fits_subscripts (p ∷ q ∷ []) d w tree.none c f = absurd (omega (arith, c))
-    fits_subscripts (p ∷ q ∷ []) d w (tree.more e tree.none) c f = absurd (omega (arith, c))
-    fits_subscripts (p ∷ q ∷ []) d w (tree.more e (tree.more e' tree.none)) c f = (w.0, f.0, w.1.0, f.1.0)
-    fits_subscripts (p ∷ q ∷ []) d w (tree.more e (tree.more e' (tree.more e'' es))) c f = absurd (omega (arith, c))
-    fits_subscripts (p ∷ q ∷ r ∷ ps) d w es c f = absurd d
+    fits_subscripts : (ls : List ℤ) → HaveDimensions ls → (es : PExprs) → length ls ≡ exprs_count es → LineFits sc known results lows level es → SubscriptsFit sc known results lows level ls es
+    fits_subscripts [] d es c f = absurd d
+    fits_subscripts (l ∷ []) d tree.none c f = absurd (omega (arith, c))
+    fits_subscripts (l ∷ []) d (tree.more e tree.none) c f = (d, f.0)
+    fits_subscripts (l ∷ []) d (tree.more e (tree.more e' es)) c f = absurd (omega (arith, c))
+    fits_subscripts (l ∷ m ∷ []) d tree.none c f = absurd (omega (arith, c))
+    fits_subscripts (l ∷ m ∷ []) d (tree.more e tree.none) c f = absurd (omega (arith, c))
+    fits_subscripts (l ∷ m ∷ []) d (tree.more e (tree.more e' tree.none)) c f = (d.0, f.0, d.1, f.1.0)
+    fits_subscripts (l ∷ m ∷ []) d (tree.more e (tree.more e' (tree.more e'' es))) c f = absurd (omega (arith, c))
+    fits_subscripts (l ∷ m ∷ k ∷ ls) d es c f = absurd d
+
+    -- the actual of an array parameter is the name of such an array
+    fits_array : (h : Heading) (n : Named) (ns : List Named) (shape : Shape) → class_in h.specs n.name ≡ class.array shape.kind (length shape.lows) → shape_in h.specs n.name ≡ Some shape →
+        sort_in h.specs (is_named_in h.values n.name) n.name ≡ sort.formal_array shape.lows → (e : PExpr) (es : PExprs) → IsArrayActual a (as_formal h n) e →
+        SitePlaced (record { part = actual_part e (Some (as_formal h n)); around = a }) → ActualsFit sc known results lows level (sorts_in h ns) (wants_in h ns) es →
+        ActualsFit sc known results lows level (sorts_in h (n ∷ ns)) (wants_in h (n ∷ ns)) (tree.more e es)
+    fits_array h n ns shape c s o (tree.variable (tree.subscripted m tree.none)) es t g f =
+        let own : SitePlaced (record { part = name m; around = a }) = subst (λ (p : Part). SitePlaced (record { part = p; around = a })) (name_alone m (as_formal h n) t.0 t.1 t.2) g in
+        let r = own.0.0.array t.0 t.1 level at t.3 in
+        let same : class.array t.0 t.1 ≡ class.array shape.kind (length shape.lows) = sym t.2 ∙ c in
+        let kind : t.0 ≡ shape.kind = cc in
+        let rank : t.1 ≡ length shape.lows = cc in
+        subst (λ (z : Class). ActualsFit sc known results lows level (sorts_in h (n ∷ ns)) (wanted_by (kind_of z) (shape_in h.specs n.name) ∷ wants_in h ns) (tree.more (tree.variable (tree.subscripted m tree.none)) es)) (sym c)
+        (subst (λ (z : Option Shape). ActualsFit sc known results lows level (sorts_in h (n ∷ ns)) (wanted_by None z ∷ wants_in h ns) (tree.more (tree.variable (tree.subscripted m tree.none)) es)) (sym s)
+        (ap is_variable o, (r.shape, r.fits, (r.kind_is ∙ kind, r.rank_is ∙ rank)), f))
+    fits_array h n ns shape c s o e es t g f = absurd t
+
+    -- an actual in front of the others
+    fits_actual : (h : Heading) (n : Named) (ns : List Named) → IsSpecified h n → (e : PExpr) (es : PExprs) → TypedActual a (as_formal h n) e →
+        SitePlaced (record { part = actual_part e (Some (as_formal h n)); around = a }) →
+        ((k : Kind) → TypedExpr a k e → SitePlaced (here e a) → ExprFits sc known results lows level k e) → ActualsFit sc known results lows level (sorts_in h ns) (wants_in h ns) es →
+        ActualsFit sc known results lows level (sorts_in h (n ∷ ns)) (wants_in h (n ∷ ns)) (tree.more e es)
+    fits_actual h n ns (as_value k c v s) e es (inl t) g valued f =
+        let own : SitePlaced (here e a) = subst (λ (p : Part). SitePlaced (record { part = p; around = a })) (actual_part_is e (Some (as_formal h n)) (ap is_of_value t.1)) g in
+        subst (λ (z : Class). ActualsFit sc known results lows level (sorts_in h (n ∷ ns)) (wanted_by (kind_of z) (shape_in h.specs n.name) ∷ wants_in h ns) (tree.more e es)) (sym t.1)
+        (ap is_variable s, valued t.0 t.3 own, f)
+    fits_actual h n ns (as_value k c v s) (tree.variable (tree.subscripted m tree.none)) es (inr t) g valued f =
+        absurd (let clash : class.simple k ≡ class.array t.0 t.1 = sym c ∙ t.2 in cc)
+    fits_actual h n ns (as_value k c v s) e es (inr t) g valued f = absurd t
+    fits_actual h n ns (as_array shape c s o) e es (inl t) g valued f = absurd (let clash : class.simple t.0 ≡ class.array shape.kind (length shape.lows) = sym t.1 ∙ c in cc)
+    fits_actual h n ns (as_array shape c s o) e es (inr t) g valued f = fits_array h n ns shape c s o e es t g f
 
     mutual
       fits_expr : (k : Kind) (e : PExpr) → TypedExpr a k e → AllByRecursion SitePlaced (sites e a) → ExprFits sc known results lows level k e
@@ -125,10 +160,10 @@ module _ (blocks : List Block) (sc : Scopes) (known results : Spot → Option Co
       fits_expr k (tree.variable (tree.subscripted n tree.none)) t g = fits_name k n g.0.0.0 t
       fits_expr k (tree.variable (tree.subscripted n (tree.more e es))) t g =
           let r = g.0.0.0.array k (exprs_count (tree.more e es)) level at t.0 in
-          (r.array, r.fits, r.kind_is, fits_subscripts r.array.pairs r.dimensions r.whole (tree.more e es) r.rank_is (fits_line (tree.more e es) t.1 g.1))
+          (r.shape, r.fits, r.kind_is, fits_subscripts r.shape.lows r.dimensions (tree.more e es) r.rank_is (fits_line (tree.more e es) t.1 g.1))
       fits_expr k (tree.call (tree.called n es)) t g =
           let c = g.0.0.0.called t.0 level at t.1 in
-          (c.callee, c.fits, fits_actuals_of n es t.0 c (fits_actuals t.0 t.0.params (by_value t.0 t.2) es t.4 (inside_call n es t.0 t.1 g.1)), c.result_is ∙ t.3)
+          (c.callee, c.fits, fits_actuals_of n es t.0 c (fits_actuals t.0 t.0.params (specified t.0 t.2) es t.4 (inside_call n es t.0 t.1 g.1)), c.result_is ∙ t.3)
       fits_expr k (tree.happened e spot) t g = absurd t
       fits_expr k (tree.paren e spot) t g = fits_expr k e t g.1
       fits_expr k (tree.plus e spot) t g = (t.0, fits_expr types.Number e t.1 g.1)
@@ -140,17 +175,15 @@ module _ (blocks : List Block) (sc : Scopes) (known results : Spot → Option Co
           let front = each_front SitePlaced (sites c a ++ sites x a) (sites y a) g.1 in
           (fits_expr types.Truth c t.0 (each_front SitePlaced (sites c a) (sites x a) front), fits_expr k x t.1 (each_back SitePlaced (sites c a) (sites x a) front), fits_expr k y t.2 (each_back SitePlaced (sites c a ++ sites x a) (sites y a) g.1))
 
-      fits_actuals : (h : Heading) (ns : List Named) → AreByValue h ns → (es : PExprs) → TypedActuals a (map (as_formal h) ns) es →
-          AllByRecursion SitePlaced (inside_actuals es (map (as_formal h) ns) a) → ActualsFit sc known results lows level (sorts_in h ns) (kinds_in h ns) es
+      fits_actuals : (h : Heading) (ns : List Named) → AreSpecified h ns → (es : PExprs) → TypedActuals a (map (as_formal h) ns) es →
+          AllByRecursion SitePlaced (inside_actuals es (map (as_formal h) ns) a) → ActualsFit sc known results lows level (sorts_in h ns) (wants_in h ns) es
       fits_actuals h [] v tree.none t g = tt
       fits_actuals h [] v (tree.more e es) t g = absurd t
       fits_actuals h (n ∷ ns) v tree.none t g = absurd t
       fits_actuals h (n ∷ ns) v (tree.more e es) t g =
           let rest = inside_actuals es (map (as_formal h) ns) a in
-          let own : SitePlaced (record { part = expression e; around = a }) =
-          subst (λ (p : Part). SitePlaced (record { part = p; around = a })) (actual_part_is e (Some (as_formal h n)) (ap is_of_value t.1)) g.1.0 in
-          subst (λ (c : Class). ActualsFit sc known results lows level (sorts_in h (n ∷ ns)) (kind_of c ∷ kinds_in h ns) (tree.more e es)) (sym t.1)
-          (ap is_variable v.0.sort_is, fits_expr t.0 e t.3 (own, each_front SitePlaced (inside_expr e a) rest g.1.1), fits_actuals h ns v.1 es t.4 (each_back SitePlaced (inside_expr e a) rest g.1.1))
+          fits_actual h n ns v.0 e es t.0 g.1.0 (λ k typed own. fits_expr k e typed (own, each_front SitePlaced (inside_expr e a) rest g.1.1))
+          (fits_actuals h ns v.1 es t.1 (each_back SitePlaced (inside_expr e a) rest g.1.1))
 
       fits_line : (es : PExprs) → TypedLine a es → AllByRecursion SitePlaced (inside_list es a) → LineFits sc known results lows level es
       fits_line tree.none t g = tt
@@ -158,14 +191,14 @@ module _ (blocks : List Block) (sc : Scopes) (known results : Spot → Option Co
           (fits_expr types.Number e t.0 (each_front SitePlaced (sites e a) (inside_list es a) g), fits_line es t.1 (each_back SitePlaced (sites e a) (inside_list es a) g))
 
     fits_call : (n : Named) (es : PExprs) (h : Heading) → class_of a n ≡ class.procedure h → HeadingBuilt h → TypedActuals a (formals_of h) es → (c : CalleeFits sc known results lows level n h) →
-        AllByRecursion SitePlaced (inside_actuals es (formals_at a n) a) → ActualsFit sc known results lows level (sorts_of ((block_numbered sc.blocks c.callee).parameters)) (parameter_kinds sc c.callee) es
-    fits_call n es h e b t c g = fits_actuals_of n es h c (fits_actuals h h.params (by_value h b) es t (inside_call n es h e g))
+        AllByRecursion SitePlaced (inside_actuals es (formals_at a n) a) → ActualsFit sc known results lows level (sorts_of ((block_numbered sc.blocks c.callee).parameters)) (parameter_wants sc c.callee) es
+    fits_call n es h e b t c g = fits_actuals_of n es h c (fits_actuals h h.params (specified h b) es t (inside_call n es h e g))
 
     -- the value of an element has the kind of the array
     fits_element : (k : Kind) (n : Named) (es : PExprs) (v : PExpr) → RowFits sc known results lows level n k (exprs_count es) → LineFits sc known results lows level es →
         ExprFits sc known results lows level k v → ElementAssignFits sc known results lows level n es v
     fits_element k n es v r f w =
-        (r.array, r.fits, fits_subscripts r.array.pairs r.dimensions r.whole es r.rank_is f, subst (λ (m : Kind). ExprFits sc known results lows level m v) (sym r.kind_is) w)
+        (r.shape, r.fits, fits_subscripts r.shape.lows r.dimensions es r.rank_is f, subst (λ (m : Kind). ExprFits sc known results lows level m v) (sym r.kind_is) w)
 
     fits_pairs : (ps : List PPair) → TypedPairs a ps → AllByRecursion SitePlaced (sites_in_pairs ps a) → BoundsFit sc known results lows level ps
     fits_pairs [] t g = tt

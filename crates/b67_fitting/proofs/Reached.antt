@@ -1,35 +1,38 @@
 -- Each part of a program has the couples of its names.
-use Rattle.std.proofs.Common.{arith, ◌≡◌, inl, inr, ℕ, ◌<◌, ℤ, Bool, List, [], ◌∷◌, ◌++◌, Option, Some, refl, sym, ap, subst}
+use Rattle.std.proofs.Common.{arith, ◌≡◌, inl, inr, ℕ, ◌+◌, ◌<◌, Bool, List, [], ◌∷◌, ◌++◌, Option, Some, refl, sym, ap, ◌∙◌, subst}
 use Rattle.std.specs.List.{flat_map, AllByRecursion}
 use Rattle.algol_tree.specs.declared.token.Spot.{Spot}
+use Rattle.algol_tree.specs.declared.tree.Kind.{Kind}
 use Rattle.algol_tree.specs.declared.tree.Named.{Named}
 use Rattle.algol_tree.specs.Blocks.{Block, number_at, procedure_block}
 use Rattle.algol_tree.specs.Cells as cells
 use Rattle.algol_tree.specs.Cells.{Cell, couple_in}
-use Rattle.algol_tree.specs.Couples.{Known, Located, known_by, known_at, known_there, declaration_in}
+use Rattle.algol_tree.specs.Couples.{Known, Located, known_by, known_at, known_there, located, declaration_in}
 use Rattle.algol_tree.specs.Plain as tree
 use Rattle.algol_tree.specs.Plain.{PExpr}
 use Rattle.algol_tree.specs.Scopes.{Scopes, Use, used, use_by, left_use, left_uses, names_in, uses_at, declared_in, use_of}
 use Rattle.algol_tree.specs.Sites.{Site, here_stmt}
 use Rattle.algol_tree.specs.Sorts.{Declared}
 use Rattle.algol_tree.specs.Surroundings.{Surroundings, declared_as}
-use Rattle.algol_paths.specs.Arrays.{lows_at}
+use Rattle.algol_paths.specs.Arrays.{Lows, lows_at}
 use Rattle.b67_ops.specs.declared.Couple.{Couple}
 use Rattle.b67_fitting.specs.Fitted.{spelled}
 use Rattle.b67_fitting.proofs.Apart.{IsIn, in_each, in_front, in_back, in_flat}
 use Rattle.b67_fitting.proofs.Coupled.{the_use, result_use, use_is, IsProgram, scopes, used_at, known_at_place, inside_deep, variable_fits, procedure_fits, result_fits}
 use Rattle.b67_fitting.proofs.CoupledArrays.{row_fits}
+use Rattle.b67_fitting.proofs.CoupledFormals.{formal_fits}
 use Rattle.b67_fitting.proofs.Known.{Stands}
 use Rattle.b67_fitting.proofs.Listed as listing
 use Rattle.b67_fitting.proofs.Listed.{reads_in, lefts_in, IsFair, Listed, over, passed, site, declared, both, block, procedure}
 use Rattle.b67_fitting.proofs.Lists.{each_both}
-use Rattle.b67_fitting.proofs.Meant.{declared_simple, declared_array, declared_procedure, held_of, rowed_of, owned_of}
-use Rattle.b67_fitting.proofs.Placed.{IsPlaced, IsLeftPlaced, SitePlaced}
+use Rattle.b67_fitting.proofs.LowsFound.{held_none, owned_none}
+use Rattle.b67_fitting.proofs.Meant.{declared_simple, declared_array, declared_procedure, held_of, IsArrayAs, of_block, of_parameter, arrayed_of, owned_of}
+use Rattle.b67_fitting.proofs.Placed.{RowFits, IsPlaced, IsLeftPlaced, SitePlaced}
 
-module _ (blocks : List Block) (all : List Site) (is : IsProgram blocks all) (known results : Spot → Option Couple) (lows : Spot → Option (List ℤ))
+module _ (blocks : List Block) (all : List Site) (is : IsProgram blocks all) (known results : Spot → Option Couple) (lows : Spot → Option Lows)
     (couples : (spot : Spot) (d : Located) (c : cells.Couple) → declaration_in blocks all spot ≡ Some d → d.couple ≡ Some c → known spot ≡ Some (record { level = c.level; index = c.index }))
     (results_are : (spot : Spot) (d : Located) → declaration_in blocks all spot ≡ Some d → results spot ≡ spelled (couple_in blocks all (number_at blocks d.spot) d.spot))
-    (lows_are : (spot : Spot) (d : Located) (found : List ℤ) → declaration_in blocks all spot ≡ Some d → lows_at blocks d.spot ≡ Some found → lows spot ≡ Some found) where
+    (lows_are : (spot : Spot) (d : Located) → declaration_in blocks all spot ≡ Some d → lows spot ≡ lows_at blocks d.spot) where
   abbrev sc : Scopes
   sc = scopes blocks all is
 
@@ -51,6 +54,14 @@ module _ (blocks : List Block) (all : List Site) (is : IsProgram blocks all) (kn
       subst (λ (z : List Known). IsIn k z) (sym f.knows) (in_flat (λ (m : Named). known_by m.spot (declared_as x.around m)) n k (names_in x.part) j mine) in
       known_at_place blocks all is x i k here
 
+  -- an array that a block declares, or a parameter that stands for one
+  array_fits : (a : Surroundings) (level : ℕ) → a.depth + 2 ≡ level → (n : Named) (d : Declared) → known_there (flat_map (known_at blocks) all) n.spot ≡ Some d → (k : Kind) (rank : ℕ) →
+      use_of sc n ≡ the_use a n d → IsArrayAs blocks a.depth n.name d k rank → RowFits sc known results lows level n k rank
+  array_fits a level at n d is_known k rank u (of_block h) = row_fits blocks all is known results lows couples results_are lows_are a level at n d is_known k rank u h
+  array_fits a level at n d is_known k rank u (of_parameter shape h e f) =
+      subst (λ (z : Kind). RowFits sc known results lows level n z rank) e
+      (subst (λ (r : ℕ). RowFits sc known results lows level n shape.kind r) f (formal_fits blocks all is known results lows couples results_are lows_are a level at n d is_known shape u h))
+
   placed : (x : Site) → IsIn x all → IsFair blocks x → SitePlaced blocks sc known results lows x
   placed x i f = (
     subst (AllByRecursion (IsPlaced blocks sc known results lows x.around)) (sym f.reads) (in_each (IsPlaced blocks sc known results lows x.around) (names_in x.part) (λ n j. one n j)),
@@ -68,13 +79,23 @@ module _ (blocks : List Block) (all : List Site) (is : IsProgram blocks all) (kn
             array =
                 λ k rank level at h.
                 let o = declared_array x.around k rank n h in
-                row_fits blocks all is known results lows couples results_are lows_are x.around level at n o.as_one (known_as x i f n o.as_one j o.is) k rank (used_as x i f n o.as_one j o.is)
-                (rowed_of blocks x.around.depth n.name o.as_one k rank o.class_is (f.stands.around.each n.name o.as_one o.is));
+                array_fits x.around level at n o.as_one (known_as x i f n o.as_one j o.is) k rank (used_as x i f n o.as_one j o.is)
+                (arrayed_of blocks x.around.depth n.name o.as_one k rank o.class_is (f.stands.around.each n.name o.as_one o.is));
             called =
                 λ g level at h.
                 let o = declared_procedure x.around g n h in
                 procedure_fits blocks all is known results lows couples results_are x.around level at n o.as_one (known_as x i f n o.as_one j o.is) g (used_as x i f n o.as_one j o.is)
                 (owned_of blocks x.around.depth n.name o.as_one g o.class_is (f.stands.around.each n.name o.as_one o.is));
+            simple_alone =
+                λ k h.
+                let o = declared_simple x.around k n h in
+                lows_are n.spot _ (ap (located blocks all) (known_as x i f n o.as_one j o.is))
+                ∙ held_none blocks all is x.around.depth n.name o.as_one k (held_of blocks x.around.depth n.name o.as_one k o.class_is (f.stands.around.each n.name o.as_one o.is));
+            called_alone =
+                λ g h.
+                let o = declared_procedure x.around g n h in
+                lows_are n.spot _ (ap (located blocks all) (known_as x i f n o.as_one j o.is))
+                ∙ owned_none blocks all is x.around.depth n.name o.as_one g (owned_of blocks x.around.depth n.name o.as_one g o.class_is (f.stands.around.each n.name o.as_one o.is));
           }
 
   -- ---- a name on the left

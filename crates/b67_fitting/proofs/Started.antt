@@ -19,18 +19,18 @@ use Rattle.algol_tree.specs.Sites as parts
 use Rattle.algol_tree.specs.Sorts as sort
 use Rattle.algol_tree.specs.Sorts.{same_name, Sort, Declared, look_up, declare}
 use Rattle.algol_tree.specs.Surroundings.{Surroundings, body_of, heading_or, announced, knowing}
-use Rattle.algol_paths.specs.Arrays.{arrays_of, lows_of}
-use Rattle.b67_templates.specs.Cells.{Simple, of_kind, variables, parameters_in, parameters_around}
+use Rattle.algol_paths.specs.Arrays.{arrays_of}
+use Rattle.b67_templates.specs.Cells.{Simple, value, of_kind, variables, parameters_in, parameters_around}
 use Rattle.b67_templates.specs.Code.{AreDimensions}
 use Rattle.b67_fitting.specs.Built.{HeadingBuilt}
 use Rattle.b67_fitting.proofs.Aligned.{AreOthers, Aligned, aligned_over, hit}
 use Rattle.b67_fitting.proofs.Apart.{IsIn, each_in, in_front, in_back, IsApart, Apart, apart_front, apart_across}
-use Rattle.b67_fitting.proofs.Arrayed.{IsArrayed, array_names, AreArraysPassed, arrays_begin, arrays_step, array_there}
+use Rattle.b67_fitting.proofs.Arrayed.{own_lows, IsArrayed, array_names, AreArraysPassed, arrays_begin, arrays_step, array_there}
 use Rattle.b67_fitting.proofs.TypedBounds.{TypedPairs, LowsWhole, lows_whole}
 use Rattle.b67_fitting.proofs.Clean.{IsClean}
 use Rattle.b67_fitting.proofs.Declaring.{same_name_self, same_is, one_of_front, one_of_back, names_of, names_both, one_more, one_front, entry, declared_is, found_one, fresh}
 use Rattle.b67_fitting.proofs.Frames.{named_around, variable_cells, made_cells}
-use Rattle.b67_fitting.proofs.Known.{given_cells, given_places, variable_spots, headings, IsKnown, known_file, known_variable, known_array, known_procedure, around_with, Stands}
+use Rattle.b67_fitting.proofs.Known.{given_cells, given_places, variable_spots, headings, IsKnown, known_file, known_variable, known_array, known_procedure, around_with, Stands, HasLows}
 use Rattle.b67_fitting.proofs.Later.{declared_name, later}
 use Rattle.b67_fitting.proofs.Lists.{each_back, each_both, nil_front}
 use Rattle.b67_fitting.proofs.Stated.{TypedDecls}
@@ -121,7 +121,7 @@ announced_there h ds None spot e g = absurd (let clash : spot ∷ [] ≡ [] = g 
 announced_there h ds (Some f) spot e g = found_body h.name.name ds f e
 
 module _ (blocks : List Block) where
-  -- The procedure's block is one of the program's, in this block, and its heading is found there.
+  -- The procedure's block is one of the program's, in this block, and its heading and the lower bounds of its parameters are found there.
   pub record IsCalleeOf (b : Block) (h : Heading) : Type 0 where
     pub built : HeadingBuilt h
     pub once : twice_in_heading h ≡ []
@@ -129,6 +129,7 @@ module _ (blocks : List Block) where
     pub body_there : IsIn (procedure_block h body (b.spot ∷ b.outer)) blocks
     pub cells_are : parameters_around blocks (b.spot ∷ b.outer) h.name.spot ≡ parameters_in h
     pub named_are : named_around blocks (b.spot ∷ b.outer) h.name.spot ≡ h.params
+    pub lows_are : HasLows blocks b h
 
   -- so is that of each procedure that the block declares
   abbrev pub HasCallees : Block → PDecls → Type 0
@@ -196,7 +197,7 @@ module _ (blocks : List Block) where
           passed_others (names_of a.block a.known) (spots_of_names ns ++ spots_of_decls ds) name d.spot s.passed_variables s.passed_cells (one_of_back results (names_of a.block a.known) name none)
           (in_front d.spot (spots_of_names ns) (spots_of_decls ds) r.inside) s.passed in
           let aligned =
-          aligned_over s.passed_variables (of_kind kind ns ++ variables ds) s.passed_cells (cells_for a.block cells.variable ns ++ variable_cells a.block ds) name d.spot kind others r.aligned in
+          aligned_over s.passed_variables (of_kind kind ns ++ variables ds) s.passed_cells (cells_for a.block cells.variable ns ++ variable_cells a.block ds) name d.spot (value kind) others r.aligned in
           known_variable kind (record {
             in_block = b;
             there = s.stands.there;
@@ -212,9 +213,9 @@ module _ (blocks : List Block) where
                   (one_of_back results (names_of a.block a.known) name none) (in_front d.spot (spots_of_names ns) (spots_of_decls ds) r.inside) s.given;
               other = subst (λ (k : ℕ). is_one_of (result_names_of (block_numbered blocks k)) name ≡ false) (sym r.var.block_is) (one_of_front results (names_of a.block a.known) name none);
               aligned =
-                  subst (λ (k : ℕ). Aligned (variables b.decls) (variable_cells k b.decls) name d.spot kind) s.stands.block_is
-                  (subst (λ (xs : List Simple). Aligned xs (variable_cells a.block b.decls) name d.spot kind) (sym s.variables_are)
-                  (subst (λ (cs : List Cell). Aligned (s.passed_variables ++ (of_kind kind ns ++ variables ds)) cs name d.spot kind) (sym s.cells_are) aligned));
+                  subst (λ (k : ℕ). Aligned (variables b.decls) (variable_cells k b.decls) name d.spot (value kind)) s.stands.block_is
+                  (subst (λ (xs : List Simple). Aligned xs (variable_cells a.block b.decls) name d.spot (value kind)) (sym s.variables_are)
+                  (subst (λ (cs : List Cell). Aligned (s.passed_variables ++ (of_kind kind ns ++ variables ds)) cs name d.spot (value kind)) (sym s.cells_are) aligned));
             });
           })
 
@@ -305,7 +306,7 @@ module _ (blocks : List Block) where
         whole = subst LowsWhole (sym r.pairs_are) (lows_whole (record a { known = first }) pairs t.1);
         among = r.among;
         arrayed = subst (λ (k : ℕ). IsArrayed (arrays_of b.decls) (made_cells k b.decls) name d.spot r.array) s.stands.block_is r.arrayed;
-        lows = r.lows ∙ ap (λ (ps : List PPair). Some (lows_of ps)) (sym r.pairs_are);
+        lows = r.lows ∙ ap own_lows (sym r.pairs_are);
         other = subst (λ (k : ℕ). is_one_of (result_names_of (block_numbered blocks k)) name ≡ false) (sym r.block_is) (one_of_front results names name none);
         past = passed_named names (own ++ spots_of_decls ds) name (given_cells blocks b) (given_places blocks b) other s.given;
         simple =

@@ -1,5 +1,5 @@
 -- Statements and declarations at which no rule is broken, where all that is declared are simple variables, arrays, files and procedures
--- whose parameters are simple ones, by value.
+-- whose parameters are simple ones, by value, or arrays.
 use Rattle.std.proofs.Common.{◌≡◌, ◌⊎◌, inl, inr, ℕ, ◌+◌, ◌≤◌, ◌==◌, ◌&&◌, not, Bool, true, false, List, [], ◌∷◌, ◌++◌, map, length, is_some, Option, Some, None, refl, sym, ap, subst, if◌then◌else◌}
 use Rattle.std.specs.List.{list_any}
 use Rattle.algol_tree.specs.declared.token.Spot.{Spot}
@@ -34,7 +34,7 @@ use Rattle.b67_fitting.proofs.Clean.{IsClean, AreClean, IsPlain, simple, array, 
 use Rattle.b67_fitting.proofs.Declaring.{found_either, declared_is}
 use Rattle.b67_fitting.proofs.Formats.{fitting_line, fitting_phrases}
 use Rattle.b67_fitting.proofs.Typed.{IsOf, IsCalled, HasElements, TypedExpr, TypedLine, HasKind, of_kind, elements, typed, typed_actuals, typed_line}
-use Rattle.b67_fitting.proofs.Parameters.{AreByValue, by_value}
+use Rattle.b67_fitting.proofs.Specified.{IsSpecified, as_value, as_array, AreSpecified, specified, SpecsWhole}
 
 module _ (blocks : List Block) where
   -- the place is inside the procedure
@@ -79,7 +79,7 @@ module _ (blocks : List Block) where
     TypedDecl a first (tree.files ns) = Unit {0}
     TypedDecl a first (tree.arrays kind ns pairs) = AreDimensions pairs × TypedPairs (record a { known = first }) pairs × (1 ≤ length ns)
     TypedDecl a first (tree.forward h) = HeadingBuilt h
-    TypedDecl a first (tree.procedure h s) = HeadingBuilt h × TypedStmt of_procedure (inside_procedure blocks h a) s
+    TypedDecl a first (tree.procedure h s) = HeadingBuilt h × TypedStmt of_procedure (inside_procedure blocks h a) s × SpecsWhole h
     TypedDecl a first _ = ⊥
 
     -- the place is in front of them
@@ -177,7 +177,11 @@ built_body name h (tree.decls (tree.procedure g s) ds) p b = by (same_name g.nam
 built_body name h (tree.decls d ds) p b = built_body name h ds p b.1
 
 -- so are parameters
-plain_parameters : (h : Heading) (block depth : ℕ) (ns : List Named) → AreByValue h ns → (name : List ℕ) (d : Declared) →
+specified_plain : (h : Heading) (n : Named) → IsSpecified h n → IsPlain (class_in h.specs n.name)
+specified_plain h n (as_value k c v s) = subst IsPlain (sym c) (simple k)
+specified_plain h n (as_array shape c e s) = subst IsPlain (sym c) (array shape.kind (length shape.lows))
+
+plain_parameters : (h : Heading) (block depth : ℕ) (ns : List Named) → AreSpecified h ns → (name : List ℕ) (d : Declared) →
     look_up (map (λ (n : Named). record { name = n.name; spot = n.spot; block = block; depth = depth; sort = sort_in h.specs (is_named_in h.values n.name) n.name; class = class_in h.specs n.name }) ns) name ≡ Some d → IsPlain d.class
 plain_parameters h block depth [] v name d g = absurd (let clash : None ≡ Some d = g in cc)
 plain_parameters h block depth (n ∷ ns) v name d g = by (same_name n.name name) (plain_parameters h block depth ns v.1 name d) g
@@ -191,7 +195,7 @@ plain_parameters h block depth (n ∷ ns) v name d g = by (same_name n.name name
     by : (t : Bool) → (look_up others name ≡ Some d → IsPlain d.class) → (if t then Some first else look_up others name) ≡ Some d → IsPlain d.class
     by true later f =
         let same : first ≡ d = cc in
-        subst (λ (z : Declared). IsPlain z.class) same (subst IsPlain (sym v.0.class_is) (simple v.0.kind))
+        subst (λ (z : Declared). IsPlain z.class) same (specified_plain h n v.0)
     by false later f = later f
 
 module _ (blocks : List Block) where
@@ -225,7 +229,7 @@ module _ (blocks : List Block) where
   plain_procedure h a b plain = record { each = λ name d g. by name d (found_either (declared_parameters (number_at blocks h.name.spot) (a.depth + 1) h) a.known name d g) }
     where
       by : (name : List ℕ) (d : Declared) → (look_up (declared_parameters (number_at blocks h.name.spot) (a.depth + 1) h) name ≡ Some d) ⊎ (look_up a.known name ≡ Some d) → IsPlain d.class
-      by name d (inl g) = plain_parameters h (number_at blocks h.name.spot) (a.depth + 1) h.params (by_value h b) name d g
+      by name d (inl g) = plain_parameters h (number_at blocks h.name.spot) (a.depth + 1) h.params (specified h b) name d g
       by name d (inr g) = plain.each name d g
 
   mutual
@@ -241,7 +245,7 @@ module _ (blocks : List Block) where
         let f = call_of (class_of a n) n.spot (plain_first a plain n [] c.known) c.typed in
         let many = as_many (class_of a n) f.0 (exprs_count es) n.spot f.1 c.counted in
         let inside = subst (λ (d : Class). AreClean blocks (inside_actuals es (formals_of_class d) a)) f.1 i in
-        (f.0, f.1, f.2, typed_actuals blocks a plain f.0 f.0.params (by_value f.0 f.2) es w many inside)
+        (f.0, f.1, f.2, typed_actuals blocks a plain f.0 f.0.params (specified f.0 f.2) es w many inside)
     stated begin a plain (tree.go_to n) listed b w t c i = absurd (no_label blocks a plain n c.known c.typed)
     stated begin a plain (tree.block (tree.body spot ds ss)) listed b w t c i =
         let start = inside blocks begin (tree.body spot ds ss) a in
@@ -320,5 +324,5 @@ module _ (blocks : List Block) where
     declared a first plain at_begin (tree.files ns) b w t i = tt
     declared a first plain at_begin (tree.arrays kind ns pairs) b w t i = (w.0, typed_pairs blocks (record a { known = first }) at_begin pairs w.1 i, b)
     declared a first plain at_begin (tree.forward h) b w t i = b
-    declared a first plain at_begin (tree.procedure h s) b w t i = (b.0, stated of_procedure (inside_procedure blocks h a) (plain_procedure h a b.0 plain) s false b.1 w t i.0 i.1)
+    declared a first plain at_begin (tree.procedure h s) b w t i = (b.0, stated of_procedure (inside_procedure blocks h a) (plain_procedure h a b.0 plain) s false b.1 w.1 t i.0 i.1, w.0)
     declared a first plain at_begin _ b w t i = absurd b

@@ -1,7 +1,7 @@
 -- What is around each place of a program that is built, and what its names mean there: the names that are known there are those of the
 -- block of the place and of the blocks around it, each so many up as its depth says. On the left of an assignment the name of a procedure
 -- is its result, of the procedure's own block, which is one further in.
-use Rattle.std.proofs.Common.{arith, ◌≡◌, ℕ, ◌+◌, ◌-◌, ◌<◌, ◌≤◌, ◌&&◌, not, Bool, true, false, List, [], ◌∷◌, ◌++◌, map, length, is_some, Option, Some, None, refl, sym, ap, ◌∙◌, subst, if◌then◌else◌, suc, slice_get}
+use Rattle.std.proofs.Common.{arith, ◌≡◌, ℕ, ℤ, ◌+◌, ◌-◌, ◌<◌, ◌≤◌, ◌&&◌, not, Bool, true, false, List, [], ◌∷◌, ◌++◌, map, length, is_some, Option, Some, None, refl, sym, ap, ◌∙◌, subst, if◌then◌else◌, suc, slice_get}
 use Rattle.std.specs.List.{flat_map, AllByRecursion}
 use Rattle.algol_tree.specs.declared.token.Spot.{Spot}
 use Rattle.algol_tree.specs.declared.tree.Heading.{Heading}
@@ -24,7 +24,7 @@ use Rattle.algol_paths.specs.Texts.{InExpr, InExprs}
 use Rattle.b67_fitting.specs.Built.{DeclBuilt, DeclsBuilt}
 use Rattle.b67_fitting.proofs.Lists.{each_front, each_back, each_both, each_of, nil_front, nil_back, not_so, second_so}
 use Rattle.b67_fitting.proofs.Numbering.{IsThere}
-use Rattle.b67_fitting.proofs.Parameters.{AreByValue, by_value}
+use Rattle.b67_fitting.proofs.Specified.{IsSpecified, as_value, as_array, AreSpecified, specified}
 use Rattle.b67_fitting.proofs.Callees.{IsCallee, AreCallees, IsChain, is_among, chain_at}
 
 -- ---- what is known
@@ -36,6 +36,7 @@ module _ (blocks : List Block) where
     a_variable : (kind : Kind) → Means block sort.variable (class.simple kind)
     a_file : Means block sort.file class.file
     an_array : (kind : Kind) (count : ℕ) → Means block sort.array (class.array kind count)
+    a_formal : (lows : List ℤ) (kind : Kind) (count : ℕ) → Means block (sort.formal_array lows) (class.array kind count)
     a_procedure : (h : Heading) → IsCallee blocks block h → Means block (sort.procedure (number_at blocks h.name.spot)) (class.procedure h)
 
   -- The declaration stands in the block j or in one around it, so many up.
@@ -56,8 +57,15 @@ module _ (blocks : List Block) where
     pub deep : length (around blocks j) ≡ a.depth
     pub known : AllByRecursion (IsKnown j a.depth) a.known
 
-  -- the parameters of a procedure are variables of its block
-  parameters_here : (k depth : ℕ) (h : Heading) (ns : List Named) → AreByValue h ns → k < length blocks → length (around blocks k) ≡ depth →
+  -- the parameters of a procedure are variables of its block, or stand for arrays
+  means_parameter : (k : ℕ) (h : Heading) (n : Named) → IsSpecified h n → Means k (sort_in h.specs (is_named_in h.values n.name) n.name) (class_in h.specs n.name)
+  means_parameter k h n (as_value kind c v s) =
+      subst (λ (z : Sort). Means k z (class_in h.specs n.name)) (sym s) (subst (λ (z : Class). Means k sort.variable z) (sym c) (a_variable kind))
+  means_parameter k h n (as_array shape c a s) =
+      subst (λ (z : Sort). Means k z (class_in h.specs n.name)) (sym s)
+      (subst (λ (z : Class). Means k (sort.formal_array shape.lows) z) (sym c) (a_formal shape.lows shape.kind (length shape.lows)))
+
+  parameters_here : (k depth : ℕ) (h : Heading) (ns : List Named) → AreSpecified h ns → k < length blocks → length (around blocks k) ≡ depth →
       AllByRecursion (IsKnown k depth) (map (λ (n : Named). record { name = n.name; spot = n.spot; block = k; depth = depth; sort = sort_in h.specs (is_named_in h.values n.name) n.name; class = class_in h.specs n.name }) ns)
   parameters_here k depth h [] v some deep = tt
   parameters_here k depth h (n ∷ ns) v some deep =
@@ -67,9 +75,7 @@ module _ (blocks : List Block) where
           deep = deep;
           shallow = omega arith;
           found = ap (slice_get (k ∷ around blocks k)) none_up;
-          means =
-              subst (λ (s : Sort). Means k s (class_in h.specs n.name)) (sym v.0.sort_is)
-              (subst (λ (c : Class). Means k sort.variable c) (sym v.0.class_is) (a_variable v.0.kind));
+          means = means_parameter k h n v.0;
         },
         parameters_here k depth h ns v.1 some deep,
       )
@@ -170,7 +176,7 @@ module _ (blocks : List Block) where
           chain = inner.chain;
           deep = inner.deep;
           known =
-              each_both (IsKnown k (a.depth + 1)) (declared_parameters k (a.depth + 1) h) a.known (parameters_here k (a.depth + 1) h h.params (by_value h c.built) inner.some inner.deep)
+              each_both (IsKnown k (a.depth + 1)) (declared_parameters k (a.depth + 1) h) a.known (parameters_here k (a.depth + 1) h h.params (specified h c.built) inner.some inner.deep)
               inner.known;
         }
 
@@ -255,6 +261,7 @@ module _ (sc : Scopes) (j : ℕ) (outer : List Spot) (a : Surroundings) (r : IsA
   left_as n d s c k (a_variable kind) e i t = seen_use n (the_use n d) t k.found
   left_as n d s c k a_file e i t = seen_use n (the_use n d) t k.found
   left_as n d s c k (an_array kind count) e i t = seen_use n (the_use n d) t k.found
+  left_as n d s c k (a_formal lows kind count) e i t = seen_use n (the_use n d) t k.found
   left_as n d s c k (a_procedure h callee) e i t =
       let own = number_at sc.blocks h.name.spot in
       let inside : is_among sc.blocks own (j ∷ around sc.blocks j) ≡ true = subst (λ (m : ℕ). is_among sc.blocks own (m ∷ around sc.blocks m) ≡ true) r.block_is (i h e) in

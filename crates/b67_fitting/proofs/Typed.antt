@@ -20,7 +20,8 @@ use Rattle.b67_templates.specs.Fragments.{IsWhole}
 use Rattle.b67_fitting.specs.Built.{HeadingBuilt}
 use Rattle.b67_fitting.specs.Wholes.{NumbersWhole, AllWhole}
 use Rattle.b67_fitting.proofs.Lists.{each_front, each_back, nil_front, nil_back}
-use Rattle.b67_fitting.proofs.Parameters.{AreByValue, by_value}
+use Rattle.b67_fitting.proofs.Actuals.{IsArrayActual, array_actual}
+use Rattle.b67_fitting.proofs.Specified.{IsSpecified, as_value, as_array, AreSpecified, specified}
 use Rattle.b67_fitting.proofs.Clean.{IsClean, AreClean, KnowsPlain, plain_first, misnamed, none_happens, array_of, has_others, subscripts_as_many, as_many, none_taken, function_of, IsRead, read_kind, read_as, wrong, wrong_for, wrong_list, kind_wanted, wrong_if}
 
 -- a parameter as its call sees it
@@ -73,15 +74,20 @@ module _ (a : Surroundings) where
         (h : Heading) × (class_of a n ≡ class.procedure h) × HeadingBuilt h × (h.kind ≡ Some k) × TypedActuals (formals_of h) es
     TypedExpr k _ = ⊥
 
-    -- actuals by value of these parameters
+    -- actuals of these parameters: values, and names of arrays
     pub TypedActuals : List Formal → PExprs → Type 0
     TypedActuals [] tree.none = Unit {0}
-    TypedActuals (f ∷ fs) (tree.more e es) = (k : Kind) × (f.class ≡ class.simple k) × (f.by_value ≡ true) × TypedExpr k e × TypedActuals fs es
+    TypedActuals (f ∷ fs) (tree.more e es) =
+        (((k : Kind) × (f.class ≡ class.simple k) × (f.by_value ≡ true) × TypedExpr k e) ⊎ IsArrayActual a f e) × TypedActuals fs es
     TypedActuals _ _ = ⊥
 
     pub TypedLine : PExprs → Type 0
     TypedLine tree.none = Unit {0}
     TypedLine (tree.more e es) = TypedExpr types.Number e × TypedLine es
+
+  -- an actual of this parameter
+  abbrev pub TypedActual : Formal → PExpr → Type 0
+  TypedActual f e = ((k : Kind) × (f.class ≡ class.simple k) × (f.by_value ≡ true) × TypedExpr k e) ⊎ IsArrayActual a f e
 
   -- a call that a statement makes
   abbrev pub IsCalled : Named → PExprs → Type 0
@@ -112,6 +118,15 @@ module _ (blocks : List Block) (a : Surroundings) (plain : KnowsPlain a) where
       let r = array_of (class_of a n) n.spot (plain_first a plain n [] known) named in
       (r.0, subscripts_as_many (class_of a n) r.0 r.1 (exprs_count es) n.spot r.2 counted)
 
+  actual_typed : (h : Heading) (n : Named) → IsSpecified h n → (e : PExpr) → (IsClean blocks (here e a) → HasKind a e) →
+      IsClean blocks (record { part = actual_part e (Some (as_formal h n)); around = a }) → wrong_actual (Some (as_formal h n)) e a ≡ [] → TypedActual a (as_formal h n) e
+  actual_typed h n (as_value k c v s) e typed own w =
+      let f = as_formal h n in
+      let valued : wants_value (Some f) ≡ true = ap is_of_value c in
+      let he = typed (subst (λ (p : Part). IsClean blocks (record { part = p; around = a })) (actual_part_is e (Some f) valued) own) in
+      inl (k, c, v, of_kind a k e he (subst (λ (d : Class). wrong_actual (Some (record { class = d; by_value = f.by_value })) e a ≡ []) c w))
+  actual_typed h n (as_array shape c e' s) e typed own w = inr (array_actual blocks a plain (as_formal h n) shape.kind (length shape.lows) c e w own)
+
   mutual
     pub typed : (e : PExpr) → NumbersWhole e → AreClean blocks (sites e a) → HasKind a e
     typed (tree.number z spot) w c = record { kind = types.Number; is = refl; typed = (refl, w) }
@@ -134,7 +149,7 @@ module _ (blocks : List Block) (a : Surroundings) (plain : KnowsPlain a) where
         record {
           kind = f.kind;
           is = ap result_type f.class_is ∙ f.kind_is;
-          typed = (h, f.class_is, f.built, f.kind_is, typed_actuals h h.params (by_value h f.built) (tree.more e es) w many inside);
+          typed = (h, f.class_is, f.built, f.kind_is, typed_actuals h h.params (specified h f.built) (tree.more e es) w many inside);
         }
     typed (tree.happened e spot) w c = absurd (none_happens e.task (class_of a e.name) e.name.spot (plain_first a plain e.name [] c.0.known) c.0.typed)
     typed (tree.paren e spot) w c =
@@ -164,20 +179,16 @@ module _ (blocks : List Block) (a : Surroundings) (plain : KnowsPlain a) where
               (of_kind a types.Truth s hs (nil_front (wrong types.Truth s a) (wrong_for (type_of x a) y a) c.0.typed), hx.typed, of_kind a hx.kind y hy (wrong_if hx.kind (type_of x a) y a hx.is (nil_back (wrong types.Truth s a) (wrong_for (type_of x a) y a) c.0.typed)));
         }
 
-    pub typed_actuals : (h : Heading) (ns : List Named) → AreByValue h ns → (es : PExprs) → AllWhole es → length ns ≡ exprs_count es → AreClean blocks (inside_actuals es (map (as_formal h) ns) a) →
+    pub typed_actuals : (h : Heading) (ns : List Named) → AreSpecified h ns → (es : PExprs) → AllWhole es → length ns ≡ exprs_count es → AreClean blocks (inside_actuals es (map (as_formal h) ns) a) →
         TypedActuals a (map (as_formal h) ns) es
     typed_actuals h [] v tree.none w l c = tt
     typed_actuals h [] v (tree.more e es) w l c = absurd (omega (arith, l))
     typed_actuals h (n ∷ ns) v tree.none w l c = absurd (omega (arith, l))
     typed_actuals h (n ∷ ns) v (tree.more e es) w l c =
-        let k = v.0.kind in
-        let f = as_formal h n in
-        let valued : wants_value (Some f) ≡ true = ap is_of_value v.0.class_is in
-        let own : IsClean blocks (here e a) = subst (λ (p : Part). IsClean blocks (record { part = p; around = a })) (actual_part_is e (Some f) valued) c.1.0 in
-        let rest = inside_actuals es (map (as_formal h) ns) a in
-        let he = typed e w.0 (own, each_front (IsClean blocks) (inside_expr e a) rest c.1.1) in
-        let right : wrong k e a ≡ [] = subst (λ (d : Class). wrong_actual (Some (record { class = d; by_value = f.by_value })) e a ≡ []) v.0.class_is c.0.typed in
-        (k, v.0.class_is, v.0.value_is, of_kind a k e he right, typed_actuals h ns v.1 es w.1 (omega (arith, l)) (each_back (IsClean blocks) (inside_expr e a) rest c.1.1))
+        let rest = inside_actuals es (map (as_formal h) ns) a in (
+          actual_typed h n v.0 e (λ own. typed e w.0 (own, each_front (IsClean blocks) (inside_expr e a) rest c.1.1)) c.1.0 c.0.typed,
+          typed_actuals h ns v.1 es w.1 (omega (arith, l)) (each_back (IsClean blocks) (inside_expr e a) rest c.1.1),
+        )
 
     pub typed_line : (es : PExprs) → AllWhole es → AreClean blocks (inside_list es a) → wrong_list types.Number es a ≡ [] → TypedLine a es
     typed_line tree.none w c h = tt

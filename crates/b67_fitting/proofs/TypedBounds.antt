@@ -7,7 +7,9 @@ use Rattle.algol_tree.specs.Plain.{PPair}
 use Rattle.algol_tree.specs.Sites.{sites, sites_in_pairs}
 use Rattle.algol_tree.specs.Surroundings.{Surroundings}
 use Rattle.b67_templates.specs.Fragments.{IsWhole}
-use Rattle.b67_fitting.specs.Wholes.{NumbersWhole}
+use Rattle.algol_paths.specs.Arrays.{lows_of}
+use Rattle.b67_templates.specs.Code.{AreDimensions}
+use Rattle.b67_fitting.specs.Wholes.{HaveDimensions, NumbersWhole}
 use Rattle.b67_fitting.proofs.Clean.{IsClean, AreClean, KnowsPlain}
 use Rattle.b67_fitting.proofs.Lists.{each_front, each_back}
 use Rattle.b67_fitting.proofs.Typed.{TypedExpr, of_kind, typed}
@@ -30,3 +32,10 @@ typed_pairs blocks a plain (p ∷ ps) w c =
 pub lows_whole : (a : Surroundings) (ps : List PPair) → TypedPairs a ps → LowsWhole ps
 lows_whole a [] t = tt
 lows_whole a (p ∷ ps) t = (t.0, lows_whole a ps t.2)
+
+-- those of a declared array
+pub dimensions_of : (ps : List PPair) → AreDimensions ps → LowsWhole ps → HaveDimensions (lows_of ps)
+dimensions_of [] d w = absurd d
+dimensions_of (p ∷ []) d w = w.0
+dimensions_of (p ∷ q ∷ []) d w = (w.0, w.1.0)
+dimensions_of (p ∷ q ∷ r ∷ ps) d w = absurd d

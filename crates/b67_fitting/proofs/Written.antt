@@ -14,8 +14,9 @@ use Rattle.algol_tree.specs.Statements as statements
 use Rattle.algol_tree.specs.Statements.{decls_and, phrase_of, IsPhrases, IsSegments, IsStmt, IsStmts, IsDecl, IsDecls, IsBody}
 use Rattle.b67_fitting.specs.Texts.{PhrasePlain, PhrasesPlain, StmtPlain, StmtsPlain, DeclsPlain, BodyPlain, HasPlainTexts, SourcesHavePlainTexts}
 use Rattle.b67_fitting.proofs.Behind.{behind_event, behind_names, behind_files, behind_typed, behind_heading, behind_task, behind_to}
+use Rattle.b67_fitting.proofs.HeadingsWhole.{Read}
 use Rattle.b67_fitting.proofs.Lexed.{KindRight, TokenRight, AreRight, text_right}
-use Rattle.b67_fitting.proofs.Numbered.{Read, expr_whole, actuals_whole, subscripts_whole, items_whole, segments_whole}
+use Rattle.b67_fitting.proofs.Numbered.{expr_whole, actuals_whole, subscripts_whole, items_whole, segments_whole}
 
 -- ---- phrases
 

@@ -1,5 +1,5 @@
 -- An accepted program that is built has code: its trees fit.
-use Rattle.std.specs.Prelude.{◌≡◌, ℕ, ◌<◌, ℤ, List, length, Option, Some, None}
+use Rattle.std.specs.Prelude.{◌≡◌, ℕ, ◌<◌, length, Option, Some, None}
 use Rattle.algol_tree.specs.declared.token.Spot.{Spot}
 use Rattle.algol_tree.specs.Plain.{PProgram}
 use Rattle.algol_tree.specs.Accepted.{Accepted}
@@ -9,7 +9,7 @@ use Rattle.algol_tree.specs.Cells as cells
 use Rattle.algol_tree.specs.Cells.{level_of}
 use Rattle.algol_tree.specs.Couples.{Located, declaration_at, result_at}
 use Rattle.algol_tree.specs.Scopes.{scopes_of}
-use Rattle.algol_paths.specs.Arrays.{lows_at}
+use Rattle.algol_paths.specs.Arrays.{Lows, lows_at}
 use Rattle.b67_ops.specs.declared.Couple.{Couple}
 use Rattle.b67_templates.specs.Fitting.{DeclsFit, StmtsFit}
 use Rattle.b67_fitting.specs.Built.{IsBuilt}
@@ -30,13 +30,12 @@ spelled (Some c) = Some (record { level = c.level; index = c.index })
 abbrev pub AreResults : PProgram → (Spot → Option Couple) → Type 0
 AreResults p results = (spot : Spot) (d : Located) → declaration_at p spot ≡ Some d → results spot ≡ spelled (result_at p d.spot)
 
--- .. and the lower bounds are those of the array whose name is declared where the name's declaration stands
-abbrev pub AreLows : PProgram → (Spot → Option (List ℤ)) → Type 0
-AreLows p lows =
-    (spot : Spot) (d : Located) (found : List ℤ) → declaration_at p spot ≡ Some d → lows_at (scopes_of p).blocks d.spot ≡ Some found → lows spot ≡ Some found
+-- .. and the lower bounds are those of the array whose name is declared where the name's declaration stands; what is no array has none
+abbrev pub AreLows : PProgram → (Spot → Option Lows) → Type 0
+AreLows p lows = (spot : Spot) (d : Located) → declaration_at p spot ≡ Some d → lows spot ≡ lows_at (scopes_of p).blocks d.spot
 
 -- the declarations and the statements of a block
-pub record BlockFits (p : PProgram) (known results : Spot → Option Couple) (lows : Spot → Option (List ℤ)) (j : ℕ) : Type 0 where
+pub record BlockFits (p : PProgram) (known results : Spot → Option Couple) (lows : Spot → Option Lows) (j : ℕ) : Type 0 where
   pub decls :
       DeclsFit (scopes_of p) known results lows (level_of (block_numbered ((scopes_of p).blocks) j)) ((block_numbered ((scopes_of p).blocks) j).decls)
   pub stmts :
@@ -45,5 +44,5 @@ pub record BlockFits (p : PProgram) (known results : Spot → Option Couple) (lo
 -- each block fits its level
 abbrev pub AcceptedProgramsFit : Type 0
 AcceptedProgramsFit =
-    (p : PProgram) (known results : Spot → Option Couple) (lows : Spot → Option (List ℤ)) → Accepted p → IsInOrder p → IsBuilt p → HasWholeNumbers p → HasPlainTexts p →
+    (p : PProgram) (known results : Spot → Option Couple) (lows : Spot → Option Lows) → Accepted p → IsInOrder p → IsBuilt p → HasWholeNumbers p → HasPlainTexts p →
     AreCouples p known → AreResults p results → AreLows p lows → (j : ℕ) → j < length (scopes_of p).blocks → BlockFits p known results lows j

@@ -1,18 +1,17 @@
 -- How the blocks of an accepted program that is built lie in one another.
-use Rattle.std.specs.Prelude.{◌≡◌, ℕ, ◌+◌, ◌<◌, ◌≤◌, true, [], ◌∷◌, length, map, None, Some, slice_get, IsSome}
-use Rattle.std.specs.List.{All}
+use Rattle.std.specs.Prelude.{◌≡◌, ℕ, ◌+◌, ◌<◌, ◌≤◌, true, List, [], ◌∷◌, length, None, Some, slice_get}
 use Rattle.algol_tree.specs.declared.TheConstants.{MOST_BLOCK_CELLS, MOST_LEVEL, MOST_PROCEDURES, MOST_SEGMENT_TOKENS}
 use Rattle.algol_tree.specs.declared.tree.Kind.{Kind}
 use Rattle.algol_tree.specs.declared.tree.Named.{Named}
 use Rattle.algol_tree.specs.Accepted.{Accepted}
 use Rattle.algol_tree.specs.Ascending.{IsInOrder}
-use Rattle.algol_tree.specs.Sorts.{Parameter, is_variable}
+use Rattle.algol_tree.specs.Sorts.{Parameter, is_variable, formal_array}
 use Rattle.algol_tree.specs.Blocks.{Block, block_numbered, number_at, around}
 use Rattle.algol_tree.specs.Cells.{level_of}
 use Rattle.algol_tree.specs.Plain.{PProgram}
 use Rattle.algol_tree.specs.Scopes.{Scopes, scopes_of}
 use Rattle.algol_meaning.specs.Statements.{items_of}
-use Rattle.algol_paths.specs.Arrays.{arrays_of}
+use Rattle.algol_paths.specs.Arrays.{Shape, arrays_of}
 use Rattle.algol_paths.specs.Laws.{ItemsKeepToText}
 use Rattle.algol_paths.specs.Segments.{is_procedure, procedures_before, segment_tokens}
 use Rattle.b67_templates.specs.Cells.{Simple, parameter_cells, simple_cells, found_from, procedures}
@@ -24,20 +23,28 @@ pub record IsDeclared (sc : Scopes) (j : ℕ) (declared : Named) : Type 0 where
   pub around_is : around sc.blocks (number_at sc.blocks declared.spot) ≡ j ∷ around sc.blocks j
   pub procedure : is_procedure (block_numbered sc.blocks (number_at sc.blocks declared.spot)) ≡ true
 
--- The parameters of a block are by value, and each has a cell of its kind. Where the block gives a result, no parameter has the block's name
+-- The cell of a parameter by value has its kind, that of an array its shape.
+pub data IsTold (p : Parameter) (cell : Simple) : Type 0 where
+  by_value : (kind : Kind) → cell.kind ≡ Some kind → is_variable p.sort ≡ true → IsTold p cell
+  an_array : (shape : Shape) → cell.kind ≡ None → cell.shape ≡ Some shape → p.sort ≡ formal_array shape.lows → IsTold p cell
+
+abbrev pub AreTold : List Parameter → List Simple → Type 0
+AreTold [] [] = Unit {0}
+AreTold (p ∷ ps) (c ∷ cells) = (p.name ≡ c.name) × IsTold p c × AreTold ps cells
+AreTold _ _ = ⊥
+
+-- Each parameter of a block is by value or an array, and has a cell. Where the block gives a result, no parameter has the block's name
 -- (rule DeclaredTwice), so the first cell with that name is the result's.
-pub record AreByValue (sc : Scopes) (b : Block) : Type 0 where
-  pub names : map (λ (p : Parameter). p.name) b.parameters ≡ map (λ (c : Simple). c.name) (parameter_cells sc b)
-  pub values : All (λ (p : Parameter). is_variable p.sort ≡ true) b.parameters
-  pub kinds : All (λ (c : Simple). IsSome c.kind) (parameter_cells sc b)
+pub record AreParameters (sc : Scopes) (b : Block) : Type 0 where
+  pub told : AreTold b.parameters (parameter_cells sc b)
   pub apart : (kind : Kind) → b.result ≡ Some kind → found_from 0 (parameter_cells sc b) b.name ≡ None
 
 -- Each block's text keeps to it: its names are seen from there, those in bounds from the block around it, but for parameters, and the
--- blocks in it stand in it. Its parameters are by value, it has no more cells than a block may have (rule TooManyCells), and a level that
--- the machine has (rule TooManyLevels).
+-- blocks in it stand in it. Its parameters are by value or arrays, it has no more cells than a block may have (rule TooManyCells), and a
+-- level that the machine has (rule TooManyLevels).
 pub record IsText (sc : Scopes) (j : ℕ) : Type 0 where
   pub items : ItemsKeepToText sc j (items_of (block_numbered sc.blocks j))
-  pub parameters : AreByValue sc (block_numbered sc.blocks j)
+  pub parameters : AreParameters sc (block_numbered sc.blocks j)
   pub few :
       length (simple_cells sc (block_numbered sc.blocks j)) + length (procedures (block_numbered sc.blocks j).decls)
       + length (arrays_of (block_numbered sc.blocks j).decls)

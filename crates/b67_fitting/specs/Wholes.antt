@@ -1,8 +1,10 @@
 -- The numbers of a program are whole: the magnitude of each number in its expressions is at most the greatest that the machine has. And
 -- each call in an expression has actuals, and each array one dimension or two, as in a tree that was read from a text, where a name alone
 -- reads as a variable.
-use Rattle.std.specs.Prelude.{List}
+use Rattle.std.specs.Prelude.{ℤ, List, [], ◌∷◌}
 use Rattle.std.specs.List.{AllByRecursion}
+use Rattle.algol_tree.specs.declared.tree.Spec.{Spec}
+use Rattle.algol_tree.specs.declared.tree.Spec.TheVariants as spec
 use Rattle.algol_tree.specs.Plain as tree
 use Rattle.algol_tree.specs.Plain.{PExpr, PExprs, PPair, PStmt, PStmts, PDecl, PDecls, PBody, PProgram}
 use Rattle.b67_templates.specs.Fragments.{IsWhole}
@@ -30,6 +32,16 @@ abbrev mutual
 abbrev pub BoundsWhole : List PPair → Type 0
 BoundsWhole pairs = AreDimensions pairs × AllByRecursion (λ (p : PPair). IsWhole p.low × NumbersWhole p.high) pairs
 
+-- .. in the specification of an array
+abbrev pub HaveDimensions : List ℤ → Type 0
+HaveDimensions (low ∷ []) = IsWhole low
+HaveDimensions (low ∷ low' ∷ []) = IsWhole low × IsWhole low'
+HaveDimensions _ = ⊥
+
+abbrev pub SpecWhole : Spec → Type 0
+SpecWhole (spec.Arrays kind ns lows) = HaveDimensions lows
+SpecWhole _ = Unit {0}
+
 abbrev mutual
   pub StmtWhole : PStmt → Type 0
   StmtWhole (tree.label n s) = StmtWhole s
@@ -53,7 +65,7 @@ abbrev mutual
 
   pub DeclWhole : PDecl → Type 0
   DeclWhole (tree.arrays kind ns pairs) = BoundsWhole pairs
-  DeclWhole (tree.procedure h s) = StmtWhole s
+  DeclWhole (tree.procedure h s) = AllByRecursion SpecWhole h.specs × StmtWhole s
   DeclWhole _ = Unit {0}
 
   pub DeclsWhole : PDecls → Type 0

@@ -10,8 +10,8 @@ ghost use Rattle.b67_fitting.specs.Texts.{SourcesHavePlainTexts};
 
 /// Law: the texts of an accepted program that is built fit, so they have code. Each expression has the kind that its place wants, each name
 /// is a simple variable, a parameter, an array or a procedure whose couple a right table has, each element has a subscript for each of its
-/// array's bounds, each call has an actual of its kind for each parameter, each line has as many items as its format prints numbers, and of
-/// the format no word is wider than a line, and each text can stand between quotes.
+/// array's bounds, each call has for each parameter an actual of its kind or the name of such an array, each line has as many items as its
+/// format prints numbers, and of the format no word is wider than a line, and each text can stand between quotes.
 pub fn accepted_programs_fit()
     ensures { AcceptedProgramsFit }
 {}
@@ -28,9 +28,9 @@ pub fn texts_of_sources_are_plain()
 
 /// Law: the blocks of an accepted program that is built lie in one another. Each name in a block's text means a declaration of that block
 /// or of one around it, so many up as the scopes say, and each name in a bound of its arrays one of a block around it or a parameter. A
-/// block's parameters are by value, and none of a typed procedure has the procedure's name (rule DeclaredTwice). A block has at most
-/// `MOST_BLOCK_CELLS` cells, its parameters' and its arrays' among them, and the program's text at most `MOST_SEGMENT_TOKENS` tokens (rules
-/// TooManyCells and SegmentTooLong).
+/// block's parameters are by value or arrays, and none of a typed procedure has the procedure's name (rule DeclaredTwice). A block has at
+/// most `MOST_BLOCK_CELLS` cells, its parameters' and its arrays' among them, and the program's text at most `MOST_SEGMENT_TOKENS` tokens
+/// (rules TooManyCells and SegmentTooLong).
 pub fn built_programs_lie_nested()
     ensures { BuiltProgramsLieNested }
 {}
