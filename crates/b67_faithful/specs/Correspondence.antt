@@ -79,10 +79,11 @@ indexed_in (Some w) = as_indexed w
 abbrev pub stored_by : Image → Registers → Action
 stored_by img r = stored_action (indexed_in (word_at img.stacks (record { stack = r.stack; at = r.s - 2 })))
 
--- The rows that are built: a read, an index, a store, a turn, an entry, a leaving, an end, the intrinsics.
+-- The rows that are built: a read, an index, a passing, a store, a turn, an entry, a leaving, an end, the intrinsics.
 abbrev pub action_of : Image → Registers → Operator → Option Action
 action_of img r (ops.Valc couple) = Some act.Read
 action_of img r (ops.Branch Brun target) = Some act.Turn
+action_of img r (ops.Plain kinds.Lodt) = Some act.Pass
 action_of img r (ops.Plain kinds.Nxlv) = Some act.ElementRead
 action_of img r (ops.Plain kinds.Nxln) = Some act.Index
 action_of img r (ops.Plain kinds.Indx) = Some act.Index

@@ -10,8 +10,8 @@ use Rattle.b67_ops.specs.declared.TheConstants.{OUTER_LEVEL}
 use Rattle.b67_segment.specs.Operators.{Placed}
 use Rattle.b67_segment.specs.declared.code.Code.{Code}
 use Rattle.b67_cores.specs.Cores.{Core}
-use Rattle.b67_pictures.specs.Arrays.{Layout}
-use Rattle.b67_pictures.specs.Frames.{IsOwn, Stands, Around}
+use Rattle.b67_pictures.specs.Arrays.{Layout, IsOwn}
+use Rattle.b67_pictures.specs.Frames.{Stands, Around}
 use Rattle.b67_pictures.proofs.Lying.{parents_in, StayBelow}
 use Rattle.b67_pictures.proofs.Numbers.{get_within}
 use Rattle.b67_pictures.proofs.Parents.{length_around, ancestor_up}

@@ -1,48 +1,48 @@
--- Where a process finds an array: its descriptor lies in the frame of one of its parts, and all arrays of that part's instance are made.
+-- Where a process finds an array: its descriptor lies in the frame of one of its parts. A name that a block declares means one that is made;
+-- that of a parameter leads to one.
 use Rattle.std.proofs.Common.{◌≡◌, ◌⊎◌, inl, inr, refl, sym, ap, ◌∙◌, subst, ℕ, zero, suc, ◌+◌, ◌-◌, ◌<◌, ◌≤◌, ◌^◌, List, [], ◌∷◌, length, Option, Some, true, false, arith}
-use Rattle.std.specs.Prelude.{slice_get, map}
 use Rattle.std.proofs.lemmas.List.{length-map}
-use Rattle.b67_list.specs.Numbered.{numbered}
 use Rattle.algol_tree.specs.declared.tree.Named.{Named}
-use Rattle.algol_tree.specs.Blocks.{Block, block_numbered, number_at, around}
+use Rattle.algol_tree.specs.Blocks.{block_numbered, around}
 use Rattle.algol_tree.specs.Cells.{level_of}
 use Rattle.algol_tree.specs.Plain.{PProgram}
 use Rattle.algol_tree.specs.Scopes.{Scopes, scopes_of, use_of}
-use Rattle.algol_tree.specs.Sorts.{is_variable}
-use Rattle.algol_meaning.specs.Value.{Bounds, ArrayCell}
+use Rattle.algol_tree.specs.Sorts.{Sort, is_variable, is_formal}
+use Rattle.algol_meaning.specs.Value.{Reference, Bounds, ArrayCell, Cell}
 use Rattle.algol_meaning.specs.Asks.{ask}
-use Rattle.algol_meaning.specs.World.{Instance, Part, Process, World, instance_at, or_no_instance, ancestor}
-use Rattle.algol_paths.specs.Arrays.{DeclaredArray, arrays_of, lows_of, to_make}
+use Rattle.algol_meaning.specs.World.{Instance, Part, Process, World, instance_at, or_no_instance, ancestor, by_cell, followed}
+use Rattle.algol_paths.specs.Arrays.{DeclaredArray, Shape, shape_of, arrays_of, to_make}
 use Rattle.algol_paths.specs.Blocks.{IsSeen, IsSeenAround, IsInner}
-use Rattle.algol_paths.specs.Segments.{segment_of}
 use Rattle.b67_word.specs.Word.{Word}
+use Rattle.b67_control.specs.Control.{as_sirw}
 use Rattle.b67_ops.specs.declared.Couple.{Couple}
 use Rattle.b67_ops.specs.declared.TheConstants.{OUTER_LEVEL}
 use Rattle.b67_segment.specs.Operators.{Placed}
 use Rattle.b67_segment.specs.declared.code.Code.{Code}
-use Rattle.b67_store.specs.Store.{words_of, word_at}
+use Rattle.b67_store.specs.Store.{word_at}
 use Rattle.b67_table.specs.Chains.{place}
 use Rattle.b67_table.specs.Image.{Image}
 use Rattle.b67_table.specs.Private.{display_at}
-use Rattle.b67_templates.specs.Cells.{simple_cells, procedures, control_segments, found_from, array_from, IsArray}
+use Rattle.b67_templates.specs.Cells.{simple_cells, procedures, found_from, array_from, IsDeclaredArray, IsFormalArray, IsArray, declared, formal}
 use Rattle.b67_cores.specs.Cores.{Core}
 use Rattle.b67_fitting.specs.Nested.{AreNested}
-use Rattle.b67_pictures.specs.Arrays.{Allotted, Layout, DescriptorIs, AreSized, HasArray, IsArrayOf}
+use Rattle.b67_faithful.proofs.Contradictions.{some_same}
+use Rattle.b67_pictures.specs.Arrays.{Allotted, Layout, DescriptorIs, AreSized, IsOwn, HasArray, IsArrayOf, named_from}
 use Rattle.b67_pictures.specs.Frames.{IsComplete}
+use Rattle.b67_pictures.proofs.ArrayPlaces.{array_index, ArrayPlace, array_place}
 use Rattle.b67_pictures.proofs.AskedElements.{array_asked, ArraySeen, array_seen}
 use Rattle.b67_pictures.proofs.Completing.{complete_of}
-use Rattle.b67_pictures.proofs.Homes.{get-behind}
+use Rattle.b67_pictures.proofs.FormalHomes.{FormalHome, formal_home}
 use Rattle.b67_pictures.proofs.Lying.{Lies, lies_in, IsParent, parents_in}
 use Rattle.b67_pictures.proofs.MadeArrays.{low_number}
 use Rattle.b67_pictures.proofs.Numbers.{get_below}
-use Rattle.b67_pictures.proofs.OwnCells.{OwnCells, framed_cells, OwnArray, none_later, all_made, own_array, descriptor_lies}
+use Rattle.b67_pictures.proofs.OwnCells.{OwnCells, framed_cells, OwnArray, none_later, all_made, own_array}
 use Rattle.b67_pictures.proofs.Parents.{length_around}
-use Rattle.b67_pictures.proofs.Rows.{words_are}
 use Rattle.b67_pictures.proofs.Scene.{Scene}
-use Rattle.b67_pictures.proofs.StackWords.{get-front}
 use Rattle.b67_pictures.proofs.Staying.{level_in}
+use Rattle.b67_pictures.proofs.Subscripts.{CountsBy, by_own, by_others}
 
-module _ (tree : PProgram) (code : Code) (texts : ℕ → List Placed) (w : World) (lay : Layout) (img : Image)
+module _ (tree : PProgram) (code : Code) (texts : ℕ → List Placed) (nested : AreNested (scopes_of tree)) (w : World) (lay : Layout) (img : Image)
     (p : ℕ) (q : Process) (part : Part) (outer : List Part) (bound : ℕ) (core : Core) (s : Scene tree code texts w lay img p q part outer bound core) where
   abbrev sc : Scopes
   sc = scopes_of tree
@@ -50,46 +50,48 @@ module _ (tree : PProgram) (code : Code) (texts : ℕ → List Placed) (w : Worl
   abbrev level : ℕ
   level = level_in tree w part
 
-  abbrev at_home : Named → ℕ
-  at_home n = ancestor w ((use_of sc n).up) part.instance
+  abbrev block : ℕ
+  block = (instance_at w part.instance).block
 
-  -- The array that a name means there: its instance, whose frame lies in the stack, its cell, its rows, and the word of its descriptor.
-  pub record ArrayHome (n : Named) (declared : DeclaredArray) (couple : Couple) : Type 0 where
-    pub near : (use_of sc n).up + OUTER_LEVEL ≤ level
-    pub parent : IsParent tree code texts w lay p (part ∷ outer) part.instance ((use_of sc n).up) ((use_of sc n).block)
-    pub lies : Lies tree code texts w lay p (part ∷ outer) (at_home n) core.below
-    pub number : ℕ
+  abbrev named : Named → Reference
+  named n = named_from sc w lay part.instance n
+
+  -- the cell that a couple names has this word, or a reference to the cell that has it
+  pub data Reaches (couple : Couple) (word : Word) : Type 0 where
+    directly : (at : ℕ) → display_at core.registers couple.level ≡ Some (place p at) → word_at img.stacks (place p (at + couple.index)) ≡ Some word → Reaches couple word
+    by_reference : (at : ℕ) (first : Word) (high index : ℕ) → display_at core.registers couple.level ≡ Some (place p at) →
+        word_at img.stacks (place p (at + couple.index)) ≡ Some first → as_sirw first ≡ Some (record { stack = p; displacement = high; index = index }) →
+        word_at img.stacks (place p (high + index)) ≡ Some word → Reaches couple word
+
+  -- The array to whose cell this reference leads: its instance, whose frame lies in the stack, its cell, its rows, and the word of its
+  -- descriptor. A name of this sort means it there, which counts by that shape; so does that couple.
+  pub record ArrayHome (sort : Sort) (home : Reference) (shape : Shape) (couple : Couple) : Type 0 where
+    pub own : IsOwn (part ∷ outer) home.instance
+    pub array : DeclaredArray
+    pub kind_is : array.kind ≡ shape.kind
     pub cell : ArrayCell
     pub allotted : Allotted
     pub word : Word
-    pub known : (use_of sc n).block < length sc.blocks
-    pub lows : map (λ (b : Bounds). b.low) cell.bounds ≡ lows_of declared.pairs
+    pub of : IsArrayOf sc w lay home.instance home.name array cell allotted
+    pub has : HasArray sc w lay home.instance of.number array cell allotted
+    pub counts : CountsBy sort cell.bounds shape.lows
     pub sized : AreSized cell.bounds
     pub descriptor : DescriptorIs cell.bounds allotted word
-    pub of : IsArrayOf sc w lay (at_home n) n.name declared cell allotted
-    pub has : HasArray sc w lay (at_home n) number declared cell allotted
-    pub below_lies : slice_get core.below (length lies.frame.lower + couple.index) ≡ Some word
-    pub shown : display_at core.registers couple.level ≡ Some (place p (length lies.frame.lower))
+    pub reaches : Reaches couple word
+    pub fits : (couple.level < 32) × (couple.index < 2 ^ 14)
 
-  -- it lies in the stack
-  pub home_lies : (n : Named) (declared : DeclaredArray) (couple : Couple) (h : ArrayHome n declared couple) → word_at img.stacks (place p (length h.lies.frame.lower + couple.index)) ≡ Some h.word
-  home_lies n declared couple h =
-      ap (λ (k : ℕ). slice_get (words_of img.stacks k) (length h.lies.frame.lower + couple.index)) (sym s.has.own)
-      ∙ ap (λ (ws : List Word). slice_get ws (length h.lies.frame.lower + couple.index)) (words_are img p core s.has)
-      ∙ get-front core.below _ (length h.lies.frame.lower + couple.index) h.word h.below_lies
+  -- what a name leads to
+  abbrev pub MeantArray : Named → Shape → Couple → Type 0
+  MeantArray n shape couple = ArrayHome ((use_of sc n).sort) (followed w (named_from sc w lay part.instance n)) shape couple
 
-  module _ (n : Named) (declared : DeclaredArray) (couple : Couple) (asks : array_asked (ask part.rest) ≡ Some n) (v : IsArray sc level n declared couple) where
+  abbrev IsSeenThere : Named → Type 0
+  IsSeenThere n = ArraySeen (IsSeen sc block) n (IsInner sc block) (IsSeenAround sc block) (λ (around_it : IsSeenAround sc block n). around_it.0) part.rest
+
+  -- ---- a declared array
+
+  module _ (n : Named) (d : DeclaredArray) (couple : Couple) (is_seen : IsSeenThere n) (v : IsDeclaredArray sc level n d couple) where
     abbrev up : ℕ
     up = (use_of sc n).up
-
-    abbrev block : ℕ
-    block = (instance_at w part.instance).block
-
-    abbrev Seen : Type 0
-    Seen = ArraySeen (IsSeen sc block) n (IsInner sc block) (IsSeenAround sc block) (λ (around_it : IsSeenAround sc block n). around_it.0) part.rest
-
-    is_seen : Seen
-    is_seen = array_seen (IsSeen sc block) n (IsInner sc block) (IsSeenAround sc block) (λ (around_it : IsSeenAround sc block n). around_it.0) part.rest asks s.stands.frame.text
 
     low : up + OUTER_LEVEL ≤ level
     low = omega (arith, length_around sc.blocks block, get_below (block ∷ around sc.blocks block) up ((use_of sc n).block) is_seen.seen)
@@ -103,24 +105,23 @@ module _ (tree : PProgram) (code : Code) (texts : ℕ → List Placed) (w : Worl
     made_there zero (inr far) further = absurd (omega (arith, far))
     made_there (suc k) made further = further (omega arith)
 
-    -- the name of an array in a bound is one of a block around
-    in_bound : (1 ≤ up) ⊎ (is_variable ((use_of sc n).sort) ≡ true) → 1 ≤ up
+    -- the name of a declared array in a bound is one of a block around
+    in_bound : (1 ≤ up) ⊎ (is_variable ((use_of sc n).sort) ≡ true) ⊎ (is_formal ((use_of sc n).sort) ≡ true) → 1 ≤ up
     in_bound (inl far) = far
-    in_bound (inr is) = absurd (let clash : false ≡ true = sym (ap is_variable v.sort_is) ∙ is in cc)
+    in_bound (inr (inl is)) = absurd (let clash : false ≡ true = sym (ap is_variable v.sort_is) ∙ is in cc)
+    in_bound (inr (inr is)) = absurd (let clash : false ≡ true = sym (ap is_formal v.sort_is) ∙ is in cc)
 
     far_or_made : (to_make part.rest ≡ []) ⊎ IsSeenAround sc block n → (to_make part.rest ≡ []) ⊎ (1 ≤ up)
     far_or_made (inl none) = inl none
     far_or_made (inr around_it) = inr (in_bound around_it.1)
 
-    module _ (parent : IsParent tree code texts w lay p (part ∷ outer) part.instance up ((use_of sc n).block)) (l : Lies tree code texts w lay p (part ∷ outer) (at_home n) core.below) where
+    module _ (parent : IsParent tree code texts w lay p (part ∷ outer) part.instance up ((use_of sc n).block))
+        (l : Lies tree code texts w lay p (part ∷ outer) (ancestor w up part.instance) core.below) where
       abbrev here : Instance
       here = l.frame.framed.instance
 
-      instance_here : instance_at w (at_home n) ≡ here
-      instance_here = ap (instance_at w) (sym l.instance_is) ∙ ap or_no_instance l.frame.framed.is
-
       block_here : here.block ≡ (use_of sc n).block
-      block_here = sym (ap (λ (x : Instance). x.block) instance_here) ∙ parent.block
+      block_here = sym (ap (λ (x : Instance). x.block) (ap (instance_at w) (sym l.instance_is) ∙ ap or_no_instance l.frame.framed.is)) ∙ parent.block
 
       complete : IsComplete sc w lay l.part.instance
       complete = subst (λ (i : ℕ). IsComplete sc w lay i) (sym l.instance_is) (made_there up (far_or_made is_seen.made) parent.complete)
@@ -128,79 +129,119 @@ module _ (tree : PProgram) (code : Code) (texts : ℕ → List Placed) (w : Worl
       abbrev own : OwnCells sc w lay l.part.instance here
       own = framed_cells sc w lay l.frame.framed
 
-      abbrev decls_here : Block
-      decls_here = block_numbered sc.blocks here.block
-
-      there : array_from 0 (arrays_of decls_here.decls) n.name ≡ Some (record { number = v.number; array = declared })
+      there : array_from 0 (arrays_of (block_numbered sc.blocks here.block).decls) n.name ≡ Some (record { number = v.number; array = d })
       there = ap (λ (j : ℕ). array_from 0 (arrays_of (block_numbered sc.blocks j).decls) n.name) block_here ∙ v.there
 
-      found : OwnArray sc w lay l.part.instance here own n.name v.number declared
+      found : OwnArray sc w lay l.part.instance here own n.name v.number d
       found =
-          own_array sc w lay l.part.instance here own n.name v.number declared there
-          (all_made sc w lay l.part.instance here own n.name v.number declared there (none_later sc w lay l.part.instance here own complete))
+          own_array sc w lay l.part.instance here own n.name v.number d there
+          (all_made sc w lay l.part.instance here own n.name v.number d there (none_later sc w lay l.part.instance here own complete))
           (ap (λ (j : ℕ). found_from 0 (simple_cells sc (block_numbered sc.blocks j)) n.name) block_here ∙ v.apart)
 
-      abbrev far : ℕ
-      far = length (simple_cells sc decls_here) + length (control_segments sc decls_here.decls) + v.number
+      of_there : IsArrayOf sc w lay (ancestor w up part.instance) n.name d found.cell found.allotted
+      of_there = subst (λ (i : ℕ). IsArrayOf sc w lay i n.name d found.cell found.allotted) l.instance_is found.of
 
-      index_is : couple.index ≡ suc (suc far)
+      h : ArrayPlace tree code texts w lay img p q part outer bound core s (ancestor w up part.instance) n.name d found.cell found.allotted of_there
+      h = array_place tree code texts w lay img p q part outer bound core s (ancestor w up part.instance) parent.own n.name d found.cell found.allotted of_there
+
+      number_is : v.number ≡ of_there.number
+      number_is =
+          let same : record { number = v.number; array = d } ≡ record { number = of_there.number; array = d } =
+          some_same (sym v.there ∙ ap (λ (j : ℕ). array_from 0 (arrays_of (block_numbered sc.blocks j).decls) n.name) (sym parent.block) ∙ of_there.found) in
+          ap (λ f. f.number) same
+
+      index_is : couple.index ≡ array_index tree code texts w lay img p q part outer bound core s (ancestor w up part.instance) of_there.number
       index_is =
           omega (
             arith,
             v.index_is,
-            ap (λ (j : ℕ). length (simple_cells sc (block_numbered sc.blocks j))) block_here,
-            ap (λ (j : ℕ). length (procedures (block_numbered sc.blocks j).decls)) block_here,
-            length-map (procedures decls_here.decls) (λ (m : Named). segment_of sc.blocks (number_at sc.blocks m.spot)),
+            number_is,
+            ap (λ (j : ℕ). length (simple_cells sc (block_numbered sc.blocks j))) parent.block,
+            ap (λ (j : ℕ). length (procedures (block_numbered sc.blocks j).decls)) parent.block,
           )
-
-      cells_lie : slice_get l.frame.cells far ≡ Some found.word
-      cells_lie =
-          ap (λ (ws : List Word). slice_get ws far) l.frame.framed.cells_is
-          ∙ descriptor_lies sc w lay l.part.instance here own n.name v.number declared found (level_of decls_here) (control_segments sc decls_here.decls)
 
       level_up : couple.level ≡ level - up
       level_up = omega (arith, v.level_is)
 
-      home_there : ArrayHome n declared couple
+      -- a reference can hold its couple
+      couple_fits : (couple.level < 32) × (couple.index < 2 ^ 14)
+      couple_fits =
+          let first : Instance = s.stands.frame.framed.instance in
+          let same : level ≡ level_of (block_numbered sc.blocks first.block) = ap (λ (o : Option Instance). level_of (block_numbered sc.blocks (or_no_instance o).block)) s.stands.frame.framed.is in (
+            omega (arith, v.level_is, same, (nested.each first.block s.stands.frame.framed.known).low),
+            omega (
+              arith,
+              v.index_is,
+              (nested.each ((use_of sc n).block) (subst (λ (j : ℕ). j < length sc.blocks) block_here l.frame.framed.known)).few,
+              low_number 0 (arrays_of ((block_numbered sc.blocks ((use_of sc n).block)).decls)) n.name v.number d v.there,
+            ),
+          )
+
+      home_there : ArrayHome ((use_of sc n).sort) (named n) (shape_of d) couple
       home_there =
           record {
-            near = low;
-            parent = parent;
-            lies = l;
-            number = v.number;
+            own = parent.own;
+            array = d;
+            kind_is = refl;
             cell = found.cell;
             allotted = found.allotted;
-            word = found.word;
-            known = subst (λ (j : ℕ). j < length sc.blocks) block_here l.frame.framed.known;
-            lows = found.lows;
-            sized = found.sized;
-            descriptor = found.descriptor;
-            of = subst (λ (i : ℕ). IsArrayOf sc w lay i n.name declared found.cell found.allotted) l.instance_is found.of;
-            has = subst (λ (i : ℕ). HasArray sc w lay i v.number declared found.cell found.allotted) l.instance_is found.has;
-            below_lies =
-                ap (λ (ws : List Word). slice_get ws (length l.frame.lower + couple.index)) l.words_are
-                ∙ get-front l.front l.rest (length l.frame.lower + couple.index) found.word
-                (ap (λ (ws : List Word). slice_get ws (length l.frame.lower + couple.index)) l.frame.words_are
-                ∙ get-behind l.frame.lower (l.frame.mark ∷ l.frame.control ∷ l.frame.cells) (suc (suc far)) (length l.frame.lower + couple.index) (omega (arith, index_is))
-                ∙ cells_lie);
-            shown =
-                ap (λ (k : ℕ). display_at core.registers k) level_up
-                ∙ s.stands.chained up low
-                ∙ ap (λ (k : ℕ). numbered lay.places k) (sym l.instance_is)
-                ∙ l.frame.framed.laid;
+            word = h.word;
+            of = of_there;
+            has = h.has;
+            counts = by_own v.sort_is h.lows;
+            sized = h.sized;
+            descriptor = h.descriptor;
+            reaches =
+                directly h.at
+                (ap (λ (k : ℕ). display_at core.registers k) level_up ∙ s.stands.chained up low ∙ h.laid)
+                (ap (λ (k : ℕ). word_at img.stacks (place p (h.at + k))) index_is ∙ h.lies);
+            fits = couple_fits;
           }
 
-    pub array_home : ArrayHome n declared couple
-    array_home =
+    declared_home : ArrayHome ((use_of sc n).sort) (named n) (shape_of d) couple
+    declared_home =
         let parent : IsParent tree code texts w lay p (part ∷ outer) part.instance up ((use_of sc n).block) =
         parents_in tree code texts w lay p part outer core s.stands s.around part.instance (inl refl) up ((use_of sc n).block) is_seen.seen in
-        home_there parent (lies_in tree code texts w lay p part outer core s.stands s.around (at_home n) parent.own)
+        home_there parent (lies_in tree code texts w lay p part outer core s.stands s.around (ancestor w up part.instance) parent.own)
 
-    -- a reference can hold its couple
-    pub array_fits : AreNested sc → ArrayHome n declared couple → (couple.level < 32) × (couple.index < 2 ^ 14)
-    array_fits nested h =
-        let own : Instance = s.stands.frame.framed.instance in
-        let same : level ≡ level_of (block_numbered sc.blocks own.block) = ap (λ (o : Option Instance). level_of (block_numbered sc.blocks (or_no_instance o).block)) s.stands.frame.framed.is in (
-          omega (arith, v.level_is, same, (nested.each own.block s.stands.frame.framed.known).low),
-          omega (arith, v.index_is, (nested.each ((use_of sc n).block) h.known).few, low_number 0 (arrays_of ((block_numbered sc.blocks ((use_of sc n).block)).decls)) n.name v.number declared v.there),
-        )
+  -- ---- an array that a parameter stands for
+
+  module _ (n : Named) (shape : Shape) (couple : Couple) (is_seen : IsSeenThere n) (v : IsFormalArray sc level n shape couple) where
+    f : FormalHome tree code texts nested w lay img p q part outer bound core s n shape couple
+    f = formal_home tree code texts nested w lay img p q part outer bound core s n shape couple is_seen.seen v
+
+    formal_array_home : ArrayHome ((use_of sc n).sort) f.r shape couple
+    formal_array_home =
+        record {
+          own = f.leads.own;
+          array = f.leads.declared;
+          kind_is = f.leads.agrees.0;
+          cell = f.leads.cell;
+          allotted = f.leads.allotted;
+          word = f.target.word;
+          of = f.leads.array;
+          has = f.target.has;
+          counts =
+              by_others v.sort_is
+              (sym (length-map f.leads.cell.bounds (λ (b : Bounds). b.low)) ∙ ap (λ (lows : List _). length lows) f.target.lows ∙ f.leads.agrees.1);
+          sized = f.target.sized;
+          descriptor = f.target.descriptor;
+          reaches =
+              by_reference f.at f.word f.target.at (array_index tree code texts w lay img p q part outer bound core s f.r.instance f.leads.array.number) f.shown f.lies f.reads f.target.lies;
+          fits = f.fits;
+        }
+
+  -- ---- the one or the other
+
+  module _ (n : Named) (shape : Shape) (couple : Couple) (asks : array_asked (ask part.rest) ≡ Some n) where
+    is_seen : IsSeenThere n
+    is_seen = array_seen (IsSeen sc block) n (IsInner sc block) (IsSeenAround sc block) (λ (around_it : IsSeenAround sc block n). around_it.0) part.rest asks s.stands.frame.text
+
+    pub array_home : IsArray sc level n shape couple → MeantArray n shape couple
+    array_home (declared d is v) =
+        let h : ArrayHome ((use_of sc n).sort) (named n) (shape_of d) couple = declared_home n d couple is_seen v in
+        subst (λ (t : Shape). MeantArray n t couple) (sym is)
+        (subst (λ (r : Reference). ArrayHome ((use_of sc n).sort) r (shape_of d) couple) (sym (ap (λ (c : Cell). by_cell c (named n)) h.of.is)) h)
+    array_home (formal v) =
+        subst (λ (r : Reference). ArrayHome ((use_of sc n).sort) r shape couple)
+        (sym (ap (λ (c : Cell). by_cell c (named n)) ((f n shape couple is_seen v).cell_is))) (formal_array_home n shape couple is_seen v)

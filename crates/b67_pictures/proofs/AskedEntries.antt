@@ -1,21 +1,54 @@
--- The procedure that a head enters is seen from the text of its part, and a block that it enters stands in that.
-use Rattle.std.proofs.Common.{◌≡◌, ◌⊎◌, inl, inr, refl, List, [], subst}
+-- The procedure that a head enters is seen from the text of its part, and so are the arrays that it gives to it; a block that it enters
+-- stands in that.
+use Rattle.std.proofs.Common.{◌≡◌, ◌⊎◌, inl, inr, refl, List, [], ◌∷◌, subst}
 use Rattle.algol_tree.specs.declared.tree.Named.{Named}
 use Rattle.algol_tree.specs.Plain.{PBody, body}
-use Rattle.algol_meaning.specs.Rest.{Given, Hole, read, element, index, happens, broken, enter, inside, subscript, argument, left, right, negated, inverted, condition, Actuals, pass, in_value, Aim, resolve, place_index, inside_place, place_subscript, Rest, over, reading, giving, giving_place, store, select, turning, going, entering_block, entering, starting, acting, line, arrays, event, within, dropping, evaluating, locating, aiming, storing, choosing, looping, checking, counting, differing, stepping, selecting, calling, preparing, writing, bounding}
+use Rattle.algol_meaning.specs.Rest.{Given, valued, passed, refers, names, Hole, read, element, index, happens, broken, enter, inside, subscript, argument, left, right, negated, inverted, condition, Actuals, pass, in_value, Aim, resolve, place_index, inside_place, place_subscript, Rest, over, reading, giving, giving_place, store, select, turning, going, entering_block, entering, starting, acting, line, arrays, event, within, dropping, evaluating, locating, aiming, storing, choosing, looping, checking, counting, differing, stepping, selecting, calling, preparing, writing, bounding}
 use Rattle.algol_meaning.specs.Asks.{enters, enters_block, ask, ask_hole, ask_actuals, ask_aim}
 use Rattle.algol_paths.specs.Arrays.{to_make}
-use Rattle.algol_paths.specs.Texts.{InHole, InActuals, InAim, InRest}
+use Rattle.algol_paths.specs.Texts.{InGivens, InHole, InActuals, InAim, InRest}
+
+-- Of each name of an array that is given P holds.
+abbrev pub InReferred : (Named → Type 0) → List Given → Type 0
+InReferred P [] = Unit {0}
+InReferred P (refers n ∷ gs) = P n × InReferred P gs
+InReferred P (valued v ∷ gs) = InReferred P gs
+InReferred P (passed c ∷ gs) = InReferred P gs
+InReferred P (names e ∷ gs) = InReferred P gs
+
+referred : (P : Named → Type 0) (gs : List Given) → InGivens P gs → InReferred P gs
+referred P [] is = tt
+referred P (refers n ∷ gs) is = (is.0, referred P gs is.1)
+referred P (valued v ∷ gs) is = referred P gs is
+referred P (passed c ∷ gs) is = referred P gs is
+referred P (names e ∷ gs) is = referred P gs is.1
+
+wider : (P R : Named → Type 0) → ((n : Named) → R n → P n) → (gs : List Given) → InReferred R gs → InReferred P gs
+wider P R narrower [] is = tt
+wider P R narrower (refers n ∷ gs) is = (narrower n is.0, wider P R narrower gs is.1)
+wider P R narrower (valued v ∷ gs) is = wider P R narrower gs is
+wider P R narrower (passed c ∷ gs) is = wider P R narrower gs is
+wider P R narrower (names e ∷ gs) is = wider P R narrower gs is
 
 module _ (P : Named → Type 0) (n : Named) (gs : List Given) where
+  -- .. and of the name of the procedure
+  abbrev pub InEntry : Type 0
+  InEntry = P n × InReferred P gs
+
+  same_entry : (m : Named) (hs : List Given) → enters m hs ≡ enters n gs → P m → InGivens P hs → InEntry
+  same_entry m hs e is given =
+      let same : m ≡ n = cc in
+      let same_given : hs ≡ gs = cc in
+      (subst P same is, subst (λ (xs : List Given). InReferred P xs) same_given (referred P hs given))
+
   mutual
-    hole_enters : (h : Hole) → ask_hole h ≡ enters n gs → InHole P h → P n
+    hole_enters : (h : Hole) → ask_hole h ≡ enters n gs → InHole P h → InEntry
     hole_enters (read m) e is = cc
     hole_enters (element m ks i) e is = cc
     hole_enters (index m ks i x es) e is = cc
     hole_enters (happens m) e is = cc
     hole_enters (broken op v w fault) e is = cc
-    hole_enters (enter m hs) e is = let same : m ≡ n = cc in subst P same is.0
+    hole_enters (enter m hs) e is = same_entry m hs e is.0 is.1
     hole_enters inside e is = cc
     hole_enters (subscript m ks h es) e is = hole_enters h e is.1
     hole_enters (argument m x) e is = actuals_enter x e is.1
@@ -25,18 +58,18 @@ module _ (P : Named → Type 0) (n : Named) (gs : List Given) where
     hole_enters (inverted h) e is = hole_enters h e is
     hole_enters (condition h x y) e is = hole_enters h e is.0
 
-    actuals_enter : (x : Actuals) → ask_actuals x ≡ enters n gs → InActuals P x → P n
+    actuals_enter : (x : Actuals) → ask_actuals x ≡ enters n gs → InActuals P x → InEntry
     actuals_enter (pass hs m sorts es) e is = cc
     actuals_enter (in_value hs h sorts es) e is = hole_enters h e is.1
 
-  aim_enters : (a : Aim) → ask_aim a ≡ enters n gs → InAim P a → P n
+  aim_enters : (a : Aim) → ask_aim a ≡ enters n gs → InAim P a → InEntry
   aim_enters (resolve m) e is = cc
   aim_enters (place_index m ks i es) e is = cc
   aim_enters inside_place e is = cc
   aim_enters (place_subscript m ks h es) e is = hole_enters h e is.1
 
 -- of a procedure
-pub enters_seen : (P : Named → Type 0) (n : Named) (gs : List Given) (Q : PBody → Type 0) (R : Named → Type 0) → (R n → P n) → (r : Rest) → ask r ≡ enters n gs → InRest P Q R r → P n
+pub enters_seen : (P : Named → Type 0) (n : Named) (gs : List Given) (Q : PBody → Type 0) (R : Named → Type 0) → ((m : Named) → R m → P m) → (r : Rest) → ask r ≡ enters n gs → InRest P Q R r → InEntry P n gs
 enters_seen P n gs Q R narrower over e is = cc
 enters_seen P n gs Q R narrower (reading name) e is = cc
 enters_seen P n gs Q R narrower (giving v) e is = cc
@@ -46,7 +79,7 @@ enters_seen P n gs Q R narrower (select i ss k) e is = cc
 enters_seen P n gs Q R narrower (turning k) e is = cc
 enters_seen P n gs Q R narrower (going m) e is = cc
 enters_seen P n gs Q R narrower (entering_block b k) e is = cc
-enters_seen P n gs Q R narrower (entering m hs k) e is = let same : m ≡ n = cc in subst P same is.0
+enters_seen P n gs Q R narrower (entering m hs k) e is = same_entry P n gs m hs e is.0 is.1
 enters_seen P n gs Q R narrower (starting m hs task k) e is = cc
 enters_seen P n gs Q R narrower (acting act m k) e is = cc
 enters_seen P n gs Q R narrower (line phrases vs k) e is = cc
@@ -64,14 +97,14 @@ enters_seen P n gs Q R narrower (differing h loop k) e is = hole_enters P n gs h
 enters_seen P n gs Q R narrower (stepping d h loop k) e is = hole_enters P n gs h e is.0
 enters_seen P n gs Q R narrower (selecting h ss k) e is = hole_enters P n gs h e is.0
 enters_seen P n gs Q R narrower (writing phrases vs h es k) e is = hole_enters P n gs h e is.0
-enters_seen P n gs Q R narrower (bounding kind ns pairs vs h ps k) e is = narrower (hole_enters R n gs h e is.0)
+enters_seen P n gs Q R narrower (bounding kind ns pairs vs h ps k) e is = let there : InEntry R n gs = hole_enters R n gs h e is.0 in (narrower n there.0, wider P R narrower gs there.1)
 enters_seen P n gs Q R narrower (locating a) e is = aim_enters P n gs a e is
 enters_seen P n gs Q R narrower (aiming a x k) e is = aim_enters P n gs a e is.0
 enters_seen P n gs Q R narrower (calling m x k) e is = actuals_enter P n gs x e is.1
 enters_seen P n gs Q R narrower (preparing m x task k) e is = actuals_enter P n gs x e is.1
 
 -- arrays are still to be made where it is entered in a bound
-pub entered_in_bound : (P : Named → Type 0) (n : Named) (gs : List Given) (Q : PBody → Type 0) (R : Named → Type 0) (r : Rest) → ask r ≡ enters n gs → InRest P Q R r → (to_make r ≡ []) ⊎ R n
+pub entered_in_bound : (P : Named → Type 0) (n : Named) (gs : List Given) (Q : PBody → Type 0) (R : Named → Type 0) (r : Rest) → ask r ≡ enters n gs → InRest P Q R r → (to_make r ≡ []) ⊎ InEntry R n gs
 entered_in_bound P n gs Q R (arrays kind ns pairs vs k) e is = cc
 entered_in_bound P n gs Q R (bounding kind ns pairs vs h ps k) e is = inr (hole_enters R n gs h e is.0)
 entered_in_bound P n gs Q R r e is = inl refl

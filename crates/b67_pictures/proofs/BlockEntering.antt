@@ -10,6 +10,7 @@ use Rattle.algol_tree.specs.Blocks.{Block, block_numbered, number_at, around}
 use Rattle.algol_tree.specs.Cells.{level_of}
 use Rattle.algol_tree.specs.Scopes.{Scopes, scopes_of}
 use Rattle.algol_meaning.specs.Rest.{Item, Answer, entered}
+use Rattle.algol_meaning.specs.Value.{Cell}
 use Rattle.algol_meaning.specs.World.{Process, Part, block, able, World, instance_at}
 use Rattle.algol_meaning.specs.Statements.{settle_items, decls_items, items}
 use Rattle.algol_meaning.specs.Asks.{Ask, nothing, enters_block, ask, resume}
@@ -32,7 +33,7 @@ use Rattle.b67_table.specs.Chains.{place}
 use Rattle.b67_table.specs.Image.{Image}
 use Rattle.b67_table.specs.Private.{frame, display_at}
 use Rattle.b67_table.specs.Rows.{level_below}
-use Rattle.b67_templates.specs.Cells.{result_of, variables, zero_cells, procedures, control_segments}
+use Rattle.b67_templates.specs.Cells.{parameter_cells, result_of, variables, zero_cells, procedures, control_segments}
 use Rattle.b67_templates.specs.Code.{CellsAt, DeclsAt, StmtsAt, in_block}
 use Rattle.b67_templates.specs.Contexts.{Context}
 use Rattle.b67_templates.specs.Depths.{decls_depth, stmts_depth}
@@ -54,9 +55,10 @@ use Rattle.b67_pictures.proofs.AskedEntries.{blocks_seen, block_unmade}
 use Rattle.b67_pictures.proofs.Completing.{complete_of}
 use Rattle.b67_pictures.proofs.EnterBlockRow.{block_leads, block_calls}
 use Rattle.b67_pictures.proofs.Entries.{Calls}
-use Rattle.b67_pictures.proofs.FreshCells.{none_given, none_are}
+use Rattle.b67_pictures.proofs.FreshCells.{none_given, none_are, none_lead}
 use Rattle.b67_pictures.proofs.EntryRow.{Leads}
-use Rattle.b67_pictures.proofs.FrameEntering.{Body, GoesOnBehind, entering}
+use Rattle.b67_pictures.proofs.GivenWords.{none_wanted, ActualsAre}
+use Rattle.b67_pictures.proofs.FrameEntering.{AreCells, Body, GoesOnBehind, entering}
 use Rattle.b67_pictures.proofs.Growing.{plain_items}
 use Rattle.b67_pictures.proofs.Linked.{Linked, begins_core, own_linked, linked_low, level_around}
 use Rattle.b67_pictures.proofs.Scene.{Scene, shown_frame}
@@ -149,11 +151,12 @@ module _ (tree : PProgram) (code : Code) (texts : ℕ → List Placed) (nested :
       complete_of sc w lay p part.instance outer (length s.stands.frame.lower) s.stands.frame.mark s.stands.frame.control s.stands.frame.cells s.stands.frame.framed
       (s.stands.frame.making ∙ block_unmade (body spot ds ss) part.rest asks)
 
-  abbrev calls : Calls tree code texts nested short w lay img p q part outer bound core s [] (control c) a.0 a.1 part.instance j at.begin
+  abbrev calls : Calls tree code texts nested short w lay img p q part outer bound core s [] [] (control c) a.0 a.1 part.instance j at.begin
   calls =
       record {
         lies = at.lies;
-        values_few = omega arith;
+        fit = none_wanted;
+        given_few = omega arith;
         marks = refl;
         stands = at.stands;
         own_parent = inl refl;
@@ -205,8 +208,18 @@ module _ (tree : PProgram) (code : Code) (texts : ℕ → List Placed) (nested :
         returns = λ r given. returns a.0 a.1 None (refl, refl, refl) r (subst (λ (o : Option Kind). Gives o r) is_inner.result given);
       }
 
+  -- nothing is given to it
+  no_cells : parameter_cells sc b ≡ []
+  no_cells = none_given sc b (nested.nested.each j is_inner.known).parameters is_inner.parameters
+
+  abbrev AreCellsThere : List Cell → List Word → Type 0
+  AreCellsThere given ws = AreCells tree code texts nested short fragments begins_so keeps order w lay img p q part outer bound core s able_is able_p j given ws
+
+  none_there : (ws : List Word) → ActualsAre sc s.stands.held (level_in tree w part) (frame core.registers) (length core.below) [] [] ws → AreCellsThere [] ws
+  none_there [] are = record { cells = none_are sc b no_cells is_inner.parameters; lead = none_lead sc w lay (part ∷ outer) b no_cells is_inner.parameters }
+  none_there (x ∷ ws) are = absurd are
+
   pub entering_block : Does tree code texts w img p
   entering_block =
-      entering tree code texts nested short fragments begins_so keeps order w lay img p q part outer bound core s able_is able_p [] (control c) a.0 a.1 part.instance j at.begin calls block refl block_body behind []
-      (none_are sc b (none_given sc b (nested.nested.each j is_inner.known).parameters is_inner.parameters) is_inner.parameters)
+      entering tree code texts nested short fragments begins_so keeps order w lay img p q part outer bound core s able_is able_p [] [] (control c) a.0 a.1 part.instance j at.begin calls block refl block_body behind [] none_there
       (choice_is sc w p q part outer s.at s.todo ∙ ap (λ (k : Ask). choice_of sc w p q part outer k) asks)

@@ -12,11 +12,12 @@ use Rattle.b67_fitting.specs.Nested.{AreNested}
 use Rattle.b67_fitting.proofs.Nesting.{built_programs_lie_nested}
 use Rattle.b67_pictures.specs.Programs.{BuiltProgramsAreFaithful}
 use Rattle.b67_pictures.proofs.ClosedArrays.{frames_close}
-use Rattle.b67_pictures.proofs.ElementActions.{element_read_done, index_done, element_store_done}
 use Rattle.b67_pictures.proofs.ArraysMaking.{making_done}
 use Rattle.b67_pictures.proofs.TouchingApart.{ArraysAreNear, processes_apart}
+use Rattle.b67_pictures.proofs.ElementActions.{element_read_done, index_done, element_store_done, passing_done}
 use Rattle.b67_pictures.proofs.TouchingElements.{reading_near, indexing_near, storing_near}
 use Rattle.b67_pictures.proofs.TouchingMaking.{making_near}
+use Rattle.b67_pictures.proofs.TouchingPassing.{passing_near}
 use Rattle.b67_pictures.proofs.Joining.{ArraysAreDone, built_programs_follow}
 
 -- what is done with arrays: the picture is kept
@@ -26,6 +27,7 @@ arrays_done tree code texts nested =
       reading = element_read_done tree code texts fragments_are_performed rests_keep_to_their_text arrays_are_made_in_order nested;
       indexing = index_done tree code texts fragments_are_performed rests_keep_to_their_text arrays_are_made_in_order nested;
       storing = element_store_done tree code texts fragments_are_performed rests_keep_to_their_text arrays_are_made_in_order;
+      passing = passing_done tree code texts fragments_are_performed rests_keep_to_their_text arrays_are_made_in_order nested;
       making = making_done tree code texts nested fragments_are_performed cells_are_made rests_keep_to_their_text arrays_are_made_in_order;
     }
 
@@ -36,6 +38,7 @@ arrays_near tree code texts nested =
       reading = reading_near tree code texts nested;
       indexing = indexing_near tree code texts nested;
       storing = storing_near tree code texts nested;
+      passing = passing_near tree code texts nested;
       making = making_near tree code texts;
     }
 

@@ -1,7 +1,5 @@
 -- Words of a stack that are read as descriptors, or as whole numbers.
-use Rattle.std.proofs.Common.{◌≡◌, inl, inr, refl, sym, ap, ◌∙◌, subst, ℕ, ◌+◌, List, [], ◌∷◌, Some, None, Bool, true, false, ℤ}
-use Rattle.algol_tree.specs.Scopes.{Scopes}
-use Rattle.algol_meaning.specs.World.{World}
+use Rattle.std.proofs.Common.{◌≡◌, refl, sym, ap, ◌∙◌, ℕ, ◌+◌, Some, None, Bool, true, false, ℤ}
 use Rattle.b67_word.specs.Word.{Word, as_whole}
 use Rattle.b67_word.proofs.WordLaws.{as_whole-operand}
 use Rattle.b67_control.specs.declared.Descriptor.{Descriptor}
@@ -14,9 +12,7 @@ use Rattle.b67_table.specs.Arrays.{is_array}
 use Rattle.b67_table.specs.Chains.{place}
 use Rattle.b67_table.specs.Image.{Image}
 use Rattle.b67_table.specs.Private.{display_at}
-use Rattle.b67_standing.specs.Stepping.{Held}
-use Rattle.b67_cores.specs.Slots.{Known, IsKnown, IsNumber}
-use Rattle.b67_pictures.specs.Arrays.{Layout, HeldIs, AreKnown}
+use Rattle.b67_cores.specs.Slots.{IsNumber}
 
 pub whole_read : (z : ℤ) (w : Word) → IsNumber z w → as_whole w ≡ Some z
 whole_read z w i = ap as_whole i.is ∙ as_whole-operand z i.whole
@@ -43,14 +39,9 @@ pub is_whole_array : (copied mother : Bool) (size n : ℕ) → is_array mother (
 is_whole_array copied true size n = refl
 is_whole_array copied false size n = refl
 
--- A word of process p that is a descriptor itself, or refers to a cell of the own stack in which one lies.
+-- A word of process p that is a descriptor itself, or refers to a cell of the own stack in which one lies, or a reference to the cell of one.
 pub data IsFound (p : ℕ) (img : Image) (r : Registers) (x : Word) : Type 0 where
   itself : as_irw x ≡ None → as_sirw x ≡ None → IsFound p img r x
   in_cell : (i : Irw) (at : ℕ) (w : Word) → as_irw x ≡ Some i → display_at r i.level ≡ Some (place p at) → word_at img.stacks (place p (at + i.index)) ≡ Some w → as_sirw w ≡ None → IsFound p img r x
-
-module _ (sc : Scopes) (w : World) (lay : Layout) (i level : ℕ) where
-  -- what is known of a descriptor on the stack is so
-  pub known_is : (known : List Known) → AreKnown sc w lay i level known → (held : Held) (word : Word) → IsKnown known held word → HeldIs sc w lay i level held word
-  known_is [] are held word is = absurd is
-  known_is (x ∷ known) are held word (inl same) = subst (λ (u : Word). HeldIs sc w lay i level held u) same.1 (subst (λ (h : Held). HeldIs sc w lay i level h x.word) same.0 are.0)
-  known_is (x ∷ known) are held word (inr later) = known_is known are.1 held word later
+  through_cell : (i : Irw) (at : ℕ) (v : Word) (high index : ℕ) (w : Word) → as_irw x ≡ Some i → display_at r i.level ≡ Some (place p at) → word_at img.stacks (place p (at + i.index)) ≡ Some v →
+      as_sirw v ≡ Some (record { stack = p; displacement = high; index = index }) → word_at img.stacks (place p (high + index)) ≡ Some w → as_sirw w ≡ None → IsFound p img r x

@@ -97,6 +97,7 @@ module _ (tree : PProgram) (code : Code) (texts : ℕ → List Placed) where
     pub reading : (n : Named) (ks : List ℕ) (v : Value) → IsDone (reads_element n ks v)
     pub indexing : (n : Named) (ks : List ℕ) (v : Value) → IsDone (indexes n ks v)
     pub storing : (r : Reference) (ks : List ℕ) (v : Value) → IsDone (stores (element_of r ks) v)
+    pub passing : (n : Named) → IsDone (passes n)
     pub making : (kind : Kind) (ns : List Named) (pairs : List PPair) (vs : List Value) → IsDone (makes_arrays kind ns pairs vs)
     pub leaving : IsDone (leaves done)
     pub returning : (v : Value) → IsDone (leaves (value v))
@@ -133,7 +134,7 @@ module _ (tree : PProgram) (code : Code) (texts : ℕ → List Placed) where
     by_ask (indexes n ks v) e a answered waits returns = others.indexing n ks v w lay img p q part outer bound core s able_is able_p e a answered waits returns
     by_ask (asks_happened n) e a answered waits returns = absurd a
     by_ask (enters n gs) e a answered waits returns = others.calling n gs w lay img p q part outer bound core s able_is able_p e a answered waits returns
-    by_ask (passes n) e a answered waits returns = absurd a
+    by_ask (passes n) e a answered waits returns = others.passing n w lay img p q part outer bound core s able_is able_p e a answered waits returns
     by_ask (resolves n) e a answered waits returns = absurd a
     by_ask (reads_result name) e a answered waits returns =
         reading_result tree code texts nested fragments keeps order w lay img p q part outer bound core s able_is able_p name e a answered

@@ -1,11 +1,10 @@
 -- Where a process finds an element whose descriptor lies on its stack: in an array of an instance whose frame lies there, too.
-use Rattle.std.proofs.Common.{◌≡◌, inl, refl, sym, ap, ◌∙◌, subst, ℕ, ◌≤◌, List, [], ◌∷◌, Some, true, false, arith}
+use Rattle.std.proofs.Common.{◌≡◌, sym, ap, ◌∙◌, subst, ℕ, ◌≤◌, List, [], ◌∷◌, Some, true, false, arith}
 use Rattle.algol_tree.specs.declared.tree.Kind.{Kind}
-use Rattle.algol_tree.specs.Blocks.{around}
 use Rattle.algol_tree.specs.Plain.{PProgram}
 use Rattle.algol_tree.specs.Scopes.{Scopes, scopes_of}
 use Rattle.algol_meaning.specs.Value.{Reference, Bounds, ArrayCell}
-use Rattle.algol_meaning.specs.World.{Process, Part, World, instance_at, ancestor}
+use Rattle.algol_meaning.specs.World.{Process, Part, World}
 use Rattle.b67_word.specs.Word.{Word}
 use Rattle.b67_control.specs.declared.Descriptor.{Descriptor}
 use Rattle.b67_segment.specs.Operators.{Placed}
@@ -13,16 +12,12 @@ use Rattle.b67_segment.specs.declared.code.Code.{Code}
 use Rattle.b67_table.specs.Arrays.{as_indexed}
 use Rattle.b67_table.specs.Image.{Image}
 use Rattle.b67_cores.specs.Cores.{Core}
-use Rattle.b67_pictures.specs.Arrays.{Allotted, Layout, AreSized, HasArray, IsArrayOf, IsIn, IsElement}
-use Rattle.b67_pictures.specs.Frames.{IsOwn}
+use Rattle.b67_pictures.specs.Arrays.{Allotted, Layout, AreSized, IsOwn, HasArray, IsArrayOf, IsIn, IsElement}
 use Rattle.b67_pictures.proofs.ElementRows.{element_copy_read}
 use Rattle.b67_pictures.proofs.FewElements.{OneSized, one_sized, TwoSized, two_sized}
-use Rattle.b67_pictures.proofs.Lying.{Lies, lies_in, IsParent, parents_in}
-use Rattle.b67_pictures.proofs.Numbers.{get_within}
+use Rattle.b67_pictures.proofs.Lying.{Lies, lies_in}
 use Rattle.b67_pictures.proofs.OwnCells.{OwnArray, known_array, framed_cells}
-use Rattle.b67_pictures.proofs.Parents.{length_around}
 use Rattle.b67_pictures.proofs.Scene.{Scene}
-use Rattle.b67_pictures.proofs.Staying.{level_in}
 
 -- the place of an element in its row is a number that a descriptor can hold
 place_few : (sc : Scopes) (w : World) (lay : Layout) (bs : List Bounds) (ks : List ℕ) (index at : ℕ) → AreSized bs → IsIn sc w lay bs ks index at → at ≤ 1048576
@@ -42,25 +37,25 @@ at_element at n = record { presence = true; copy = true; indexed = true; mother 
 
 module _ (tree : PProgram) (code : Code) (texts : ℕ → List Placed) (w : World) (lay : Layout) (img : Image)
     (p : ℕ) (q : Process) (part : Part) (outer : List Part) (bound : ℕ) (core : Core) (s : Scene tree code texts w lay img p q part outer bound core)
-    (r : Reference) (ks : List ℕ) (kind : Kind) (word : Word) (e : IsElement (scopes_of tree) w lay part.instance (level_in tree w part) r ks kind word) where
+    (r : Reference) (ks : List ℕ) (kind : Kind) (word : Word) (e : IsElement (scopes_of tree) w lay (part ∷ outer) r ks kind word) where
   abbrev sc : Scopes
   sc = scopes_of tree
 
   -- The instance of its array is one of the parts', and has that array. The word is read as the descriptor of the element.
   pub record ElementHome : Type 0 where
-    pub lies : Lies tree code texts w lay p (part ∷ outer) (ancestor w e.up part.instance) core.below
+    pub lies : Lies tree code texts w lay p (part ∷ outer) r.instance core.below
     pub own : IsOwn (part ∷ outer) lies.part.instance
     pub home_is : r.instance ≡ lies.part.instance
     pub of : IsArrayOf sc w lay lies.part.instance r.name e.declared e.cell e.allotted
     pub has : HasArray sc w lay lies.part.instance of.number e.declared e.cell e.allotted
     pub reads : as_indexed word ≡ Some (at_element e.at e.number)
 
-  module _ (own_home : IsOwn (part ∷ outer) (ancestor w e.up part.instance)) (l : Lies tree code texts w lay p (part ∷ outer) (ancestor w e.up part.instance) core.below) where
+  module _ (own_home : IsOwn (part ∷ outer) r.instance) (l : Lies tree code texts w lay p (part ∷ outer) r.instance core.below) where
     abbrev i : ℕ
     i = l.part.instance
 
     here_is : r.instance ≡ i
-    here_is = e.home ∙ sym l.instance_is
+    here_is = sym l.instance_is
 
     of_here : IsArrayOf sc w lay i r.name e.declared e.cell e.allotted
     of_here = subst (λ (j : ℕ). IsArrayOf sc w lay j r.name e.declared e.cell e.allotted) here_is e.array
@@ -89,7 +84,4 @@ module _ (tree : PProgram) (code : Code) (texts : ℕ → List Placed) (w : Worl
         }
 
   pub element_home : ElementHome
-  element_home =
-      let found = get_within ((instance_at w part.instance).block ∷ around sc.blocks ((instance_at w part.instance).block)) e.up (omega (arith, e.near, length_around sc.blocks ((instance_at w part.instance).block))) in
-      let parent : IsParent tree code texts w lay p (part ∷ outer) part.instance e.up found.0 = parents_in tree code texts w lay p part outer core s.stands s.around part.instance (inl refl) e.up found.0 found.1 in
-      home_there parent.own (lies_in tree code texts w lay p part outer core s.stands s.around (ancestor w e.up part.instance) parent.own)
+  element_home = home_there e.own (lies_in tree code texts w lay p part outer core s.stands s.around r.instance e.own)

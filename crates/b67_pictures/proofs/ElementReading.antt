@@ -1,14 +1,15 @@
 -- The reading of an element.
-use Rattle.std.proofs.Common.{◌≡◌, refl, sym, ap, ◌∙◌, subst, ℕ, ◌<◌, ◌^◌, List, [], ◌∷◌, ◌++◌, Option, Some, None, true, false, Ok}
+use Rattle.std.proofs.Common.{◌≡◌, refl, sym, ap, ◌∙◌, subst, ℕ, List, [], ◌∷◌, ◌++◌, Option, Some, None, true, false, Ok}
 use Rattle.b67_list.specs.Numbered.{numbered}
 use Rattle.b67_num.specs.declared.FaultKind.TheVariants.{InvalidIndex}
+use Rattle.algol_tree.specs.declared.tree.Kind.{Kind}
 use Rattle.algol_tree.specs.declared.tree.Named.{Named}
 use Rattle.algol_tree.specs.Plain.{PProgram}
 use Rattle.algol_tree.specs.Scopes.{Scopes, scopes_of, use_of}
-use Rattle.algol_meaning.specs.Value.{Value, whole_of, Cell}
+use Rattle.algol_meaning.specs.Value.{Value, whole_of, Reference, Cell}
 use Rattle.algol_meaning.specs.Arrays.{subscript_place, element_at}
 use Rattle.algol_meaning.specs.Rest.{Answer, value}
-use Rattle.algol_meaning.specs.World.{Process, Part, able, World, ancestor, cell_at, followed, array_in, by_cell}
+use Rattle.algol_meaning.specs.World.{Process, Part, able, World, cell_at, followed, array_in}
 use Rattle.algol_meaning.specs.Actions.{ElementRead, Fault}
 use Rattle.algol_meaning.specs.Asks.{Ask, reads_element, ask, resume}
 use Rattle.algol_meaning.specs.Choice.{Choice, choice, choice_of, element_read, element_read_at, here}
@@ -26,6 +27,7 @@ use Rattle.b67_table.specs.Image.{Image}
 use Rattle.b67_table.specs.Effect as effects
 use Rattle.b67_table.specs.Outcome as outcomes
 use Rattle.b67_table.specs.Table.{table, operator_at}
+use Rattle.b67_templates.specs.Fragments.{HasKind}
 use Rattle.b67_standing.specs.Stepping.{Slot, operand}
 use Rattle.b67_standing.specs.Standing.{ActionAt, Acted, ComesTo, ElementReadAt}
 use Rattle.b67_cores.specs.Cores.{Core, with_core}
@@ -34,7 +36,7 @@ use Rattle.b67_fitting.specs.Nested.{AreNested}
 use Rattle.b67_pictures.specs.Arrays.{Layout, HoldElements}
 use Rattle.b67_pictures.specs.Acting.{Does, failed_by}
 use Rattle.b67_pictures.specs.Pictures.{Pictures}
-use Rattle.b67_pictures.proofs.ArrayHomes.{ArrayHome, array_home, array_fits}
+use Rattle.b67_pictures.proofs.ArrayHomes.{MeantArray, array_home}
 use Rattle.b67_pictures.proofs.AskedElements.{array_asked}
 use Rattle.b67_pictures.proofs.ElementRows.{ElementFound, element_found}
 use Rattle.b67_pictures.proofs.Homes.{operator_there}
@@ -79,23 +81,25 @@ module _ (tree : PProgram) (code : Code) (texts : ℕ → List Placed) (nested :
   there = operator_there sc s.stands.held code text level s.stands.pc s.stands.slots core (ops.Plain kinds.Nxlv) next s.stands.there found.stands
 
   abbrev IsHome : Type 0
-  IsHome = ArrayHome tree code texts w lay img p q part outer bound core s n found.array found.couple
+  IsHome = MeantArray tree code texts nested w lay img p q part outer bound core s n found.array found.couple
 
-  abbrev IsIndex : (h : IsHome) → (found.couple.level < 32) × (found.couple.index < 2 ^ 14) → Type 0
-  IsIndex h fits = LastIndex tree code texts w lay img p q part outer bound core s n found.array found.couple h found.is_array fits ks found.subscript below
+  abbrev home : Reference
+  home = followed w (here sc w p q part outer n)
 
-  module _ (h : IsHome) (fits : (found.couple.level < 32) × (found.couple.index < 2 ^ 14)) (l : IsIndex h fits) where
+  abbrev IsIndex : IsHome → Type 0
+  IsIndex h = LastIndex tree code texts nested w lay img p q part outer bound core s n found.array found.couple h ks found.subscript below
+
+  module _ (h : IsHome) (l : IsIndex h) where
     -- what the meaning chooses
     chosen : choice sc w p ≡ element_read_at sc w p q part outer h.cell ks (subscript_place ((use_of sc n).sort) h.cell ks found.subscript)
     chosen =
         choice_is sc w p q part outer s.at s.todo
         ∙ ap (λ (k : Ask). choice_of sc w p q part outer k) asks
-        ∙ ap (λ (u : Value). element_read sc w p q part outer n ks (whole_of u) (array_in (cell_at w (followed w (here sc w p q part outer n))))) found.is
-        ∙ ap (λ (c : Cell). element_read sc w p q part outer n ks found.subscript (array_in (cell_at w (by_cell c (here sc w p q part outer n))))) h.of.is
+        ∙ ap (λ (u : Value). element_read sc w p q part outer n ks (whole_of u) (array_in (cell_at w home))) found.is
         ∙ ap (λ (c : Cell). element_read sc w p q part outer n ks found.subscript (array_in c)) h.of.is
 
-    holds : HoldElements img.rows found.array.kind h.cell h.allotted
-    holds = s.by.arrays.held (ancestor w ((use_of sc n).up) part.instance) h.number found.array h.cell h.allotted h.has
+    holds : HoldElements img.rows h.array.kind h.cell h.allotted
+    holds = s.by.arrays.held home.instance h.of.number h.array h.cell h.allotted h.has
 
     abbrev elements : Row
     elements = record { words = (holds.opened l.index l.number l.row_there).1.0; counted = true }
@@ -127,9 +131,9 @@ module _ (tree : PProgram) (code : Code) (texts : ℕ → List Placed) (nested :
     within k e =
         does_in_frame tree code texts fragments keeps order w lay img p q part outer bound core s able_is able_p (unmade part.rest (ap makes asks)) (value read) tt w.output new refl (record { is = refl })
         s.stands.held s.stands.held_are next (operand read ∷ below)
-        (in_place tree code texts w lay img p q part outer bound core s false l.moved_subscript d below l.finds s.stands.held (operand read) f.word next (f.value_is, l.finds.left_are) refl)
-        (has_room tree code texts w lay img p q part outer bound core s false l.moved_subscript d below l.finds (operand read))
-        (answered (value read) next (operand read ∷ below) (refl, refl, f.kind_is)) ElementRead
+        (in_place tree code texts nested w lay img p q part outer bound core s false l.moved_subscript d below l.finds s.stands.held (operand read) f.word next (f.value_is, l.finds.left_are) refl)
+        (has_room tree code texts nested w lay img p q part outer bound core s false l.moved_subscript d below l.finds (operand read))
+        (answered (value read) next (operand read ∷ below) (refl, refl, subst (λ (k : Kind). HasKind k read) h.kind_is f.kind_is)) ElementRead
         (action_not_plain code img p core s.has (ops.Plain kinds.Nxlv) next there (load_class core.registers.place))
         (load_raw code img p core s.has next there
         ∙ load_gives img p core s.has l.finds.first l.finds.second l.finds.words l.finds.top l.moved_subscript d l.finds.is_whole l.finds.array_is elements is_open next k f.word e f.lies (value_tag read f.word f.value_is)
@@ -140,9 +144,9 @@ module _ (tree : PProgram) (code : Code) (texts : ℕ → List Placed) (nested :
         read : Value
         read = element_at h.cell (ks ++ k ∷ [])
 
-        f : ElementFound sc w lay img.rows found.array.kind h.cell h.allotted holds (ks ++ k ∷ []) k l.number
+        f : ElementFound sc w lay img.rows h.array.kind h.cell h.allotted holds (ks ++ k ∷ []) k l.number
         f =
-            element_found sc w lay img.rows found.array.kind h.cell h.allotted holds (ks ++ k ∷ []) l.index k l.number (l.within k (index_below l.moved_subscript l.size k e)) l.row_there
+            element_found sc w lay img.rows h.array.kind h.cell h.allotted holds (ks ++ k ∷ []) l.index k l.number (l.within k (index_below l.moved_subscript l.size k e)) l.row_there
 
         new : Core
         new = with_one core f.word l.finds.words next
@@ -156,6 +160,5 @@ module _ (tree : PProgram) (code : Code) (texts : ℕ → List Placed) (nested :
 
   pub element_reading : Does tree code texts w img p
   element_reading =
-      let h : IsHome = array_home tree code texts w lay img p q part outer bound core s n found.array found.couple (ap array_asked asks) found.is_array in
-      let fits : (found.couple.level < 32) × (found.couple.index < 2 ^ 14) = array_fits tree code texts w lay img p q part outer bound core s n found.array found.couple (ap array_asked asks) found.is_array nested h in
-      read_does h fits (last_index tree code texts w lay img p q part outer bound core s n found.array found.couple h found.is_array fits ks found.subscript below found.lies)
+      let h : IsHome = array_home tree code texts nested w lay img p q part outer bound core s n found.array found.couple (ap array_asked asks) found.is_array in
+      read_does h (last_index tree code texts nested w lay img p q part outer bound core s n found.array found.couple h ks found.subscript below found.lies)

@@ -9,7 +9,7 @@ use Rattle.algol_tree.specs.Scopes.{Scopes, scopes_of}
 use Rattle.algol_meaning.specs.Value.{Value, Reference, ArrayCell, Cell, array}
 use Rattle.algol_meaning.specs.Arrays.{with_element, flat}
 use Rattle.algol_meaning.specs.Rest.{Answer, done, element_of}
-use Rattle.algol_meaning.specs.World.{NamedCell, Instance, Process, Part, able, World, instance_at, or_no_instance, with_instance, with_process, ancestor, set_cell, cell_in, cells_with, array_in}
+use Rattle.algol_meaning.specs.World.{NamedCell, Instance, Process, Part, able, World, instance_at, or_no_instance, with_instance, with_process, set_cell, cell_in, cells_with, array_in}
 use Rattle.algol_meaning.specs.Actions.{ElementStore}
 use Rattle.algol_meaning.specs.Asks.{Ask, stores, ask, resume}
 use Rattle.algol_meaning.specs.Choice.{Choice, choice, choice_of, goes}
@@ -49,9 +49,8 @@ use Rattle.b67_pictures.proofs.ElementHomes.{at_element, ElementHome, element_ho
 use Rattle.b67_pictures.proofs.ElementRows.{ElementFound, element_found}
 use Rattle.b67_pictures.proofs.Homes.{operator_there}
 use Rattle.b67_pictures.proofs.IndexRows.{without_two, under_word, stored_gives, stored_raw, stored_class}
-use Rattle.b67_pictures.proofs.Described.{known_is}
 use Rattle.b67_pictures.proofs.Kept.{AreAlike, alike_but}
-use Rattle.b67_pictures.proofs.Knowing.{KeepsArrays, keeps_same, known_lasts}
+use Rattle.b67_pictures.proofs.Knowing.{KeepsArrays, known_is, known_of}
 use Rattle.b67_pictures.proofs.Landing.{living_of}
 use Rattle.b67_pictures.proofs.Lying.{StayBelow}
 use Rattle.b67_pictures.proofs.MadeArrays.{IsPast, past_values}
@@ -101,7 +100,7 @@ module _ (tree : PProgram) (code : Code) (texts : ℕ → List Placed) (fragment
   there : operator_at code core.registers ≡ Ok (ops.Plain kinds.Stod, next)
   there = operator_there sc st.held code text level st.pc st.slots core (ops.Plain kinds.Stod) next st.there a.2.stands
 
-  module _ (x y : Word) (words : List Word) (top : core.words ≡ x ∷ y ∷ words) (x_is : ValueIs v x) (e : IsElement sc w lay part.instance level r ks a.2.kind y)
+  module _ (x y : Word) (words : List Word) (top : core.words ≡ x ∷ y ∷ words) (x_is : ValueIs v x) (e : IsElement sc w lay (part ∷ outer) r ks a.2.kind y)
       (left_are : SlotsAre sc st.held level (frame core.registers) (length core.below) below words) (h : ElementHome tree code texts w lay img p q part outer bound core s r ks a.2.kind y e) where
     -- the instance of the array, whose frame lies in the stack
     abbrev i : ℕ
@@ -190,10 +189,11 @@ module _ (tree : PProgram) (code : Code) (texts : ℕ → List Placed) (fragment
     ss = simple_cells sc (block_numbered sc.blocks instance.block)
 
     changes : (first : List NamedCell) (values : List Word) (arrays : List NamedCell) (declared : List DeclaredArray) (descriptors : List Word) → CellsAre ss first values → AreMade declared arrays (lay.rows i) descriptors →
-        instance.cells ≡ first ++ arrays → ChangedCells ss (lay.rows i) cells' values declared descriptors
+        instance.cells ≡ first ++ arrays → ChangedCells ss (lay.rows i) cells' first values values declared descriptors
     changes first values arrays declared descriptors are made has_cells =
         record {
           simple = first;
+          references = λ n c word r there lies is. (there, lies);
           arrays = cells_with arrays r.name (array later);
           simple_are = are;
           made = made_stays r.name e.cell later (record { bounds = refl; many = length-set e.cell.elements (flat 0 e.cell.bounds ks) v }) declared arrays (lay.rows i) descriptors
@@ -253,11 +253,10 @@ module _ (tree : PProgram) (code : Code) (texts : ℕ → List Placed) (fragment
         ∙ ap (λ (j : ℕ). numbered lay.places j) (same_ancestors w w' (λ j. same_of w i instance instance_there cells' (λ (z : Instance). z.parent) refl j) up part.instance)
 
     -- what is known of descriptors holds as it did
-    known_now : AreKnown sc w' lay part.instance level st.held
+    known_now : AreKnown sc w' lay (part' ∷ outer) part.instance st.held
     known_now =
-        known_lasts sc stored w' lay lay part.instance level (λ up low. same_ancestors w' stored (λ j. refl) up part.instance)
-        (λ up low. keeps_same sc stored w' lay lay (ancestor stored up part.instance) refl refl) st.held
-        (known_stored tree code texts w lay p i instance instance_there cells' high h.lies.frame.framed.laid 0 (high + 2 + 0) refl None many (λ set. absurd set) keeps changes part.instance level st.held st.held_are)
+        known_of sc stored w' lay (part ∷ outer) (part' ∷ outer) refl (λ j own. own) part.instance st.held
+        (known_stored tree code texts w lay p i instance instance_there cells' high h.lies.frame.framed.laid 0 (high + 2 + 0) refl None many (λ set. absurd set) keeps changes (part ∷ outer) part.instance st.held st.held_are)
 
     -- ---- the core after it
 
@@ -335,7 +334,7 @@ module _ (tree : PProgram) (code : Code) (texts : ℕ → List Placed) (fragment
           pc = next;
           slots = below;
           known = st.held;
-          known_are = subst (λ (m : ℕ). AreKnown sc w' lay part.instance (level_of (block_numbered sc.blocks m)) st.held) block_is known_now;
+          known_are = known_now;
           at = subst (λ (m : ℕ). CoreAt sc st.held code (texts (segment_of sc.blocks m)) (level_of (block_numbered sc.blocks m)) next below new) block_is core_at;
           held = subst (λ (m : ℕ). length below ≤ most_around tree m) block_is held;
           comes = subst (λ (m : ℕ). ComesTo sc (context_of code sc m) (texts (segment_of sc.blocks m)) (level_of (block_numbered sc.blocks m)) (most_around tree m) (resume sc part.rest done) next below) block_is
@@ -375,7 +374,7 @@ module _ (tree : PProgram) (code : Code) (texts : ℕ → List Placed) (fragment
       top_slot sc st.held level (frame core.registers) (length core.below) st.slots (operand v) (descriptor (element r ks a.2.kind) ∷ below) core.words st.there.words_are a.2.lies in
       let second : Top sc st.held level (frame core.registers) (length core.below) (descriptor (element r ks a.2.kind)) below first.words_below =
       top_slot sc st.held level (frame core.registers) (length core.below) (descriptor (element r ks a.2.kind) ∷ below) (descriptor (element r ks a.2.kind)) below first.words_below first.are refl in
-      let e : IsElement sc w lay part.instance level r ks a.2.kind second.word =
-      known_is sc w lay part.instance level st.held st.held_are (element r ks a.2.kind) second.word second.slot_is in
+      let e : IsElement sc w lay (part ∷ outer) r ks a.2.kind second.word =
+      known_is sc w lay (part ∷ outer) part.instance st.held st.held_are (element r ks a.2.kind) second.word second.slot_is in
       does first.word second.word second.words_below (first.is ∙ ap (λ (ws : List Word). first.word ∷ ws) second.is) first.slot_is e second.are
       (element_home tree code texts w lay img p q part outer bound core s r ks a.2.kind second.word e)

@@ -7,7 +7,7 @@ use Rattle.algol_tree.specs.Plain.{PProgram}
 use Rattle.algol_tree.specs.Blocks.{Block, block_numbered, number_at, around}
 use Rattle.algol_tree.specs.Cells.{level_of}
 use Rattle.algol_tree.specs.Scopes.{Scopes, scopes_of}
-use Rattle.algol_meaning.specs.Value.{Value}
+use Rattle.algol_meaning.specs.Rest.{Given}
 use Rattle.algol_meaning.specs.World.{Instance, Process, Part, World, instance_at, or_no_instance}
 use Rattle.algol_meaning.specs.Actions.{Enter}
 use Rattle.algol_paths.specs.Segments.{segment_of}
@@ -36,9 +36,9 @@ use Rattle.b67_table.specs.Outcome as outcomes
 use Rattle.b67_table.specs.Private.{frame, at_or}
 use Rattle.b67_table.specs.Table.{raw, table, plain, operator_at}
 use Rattle.b67_templates.specs.Fragments.{Has, code_at}
-use Rattle.b67_templates.specs.Cells.{simple_cells, procedures, control_segments}
+use Rattle.b67_templates.specs.Cells.{Wanted, simple_cells, procedures, control_segments}
 use Rattle.b67_standing.specs.Stepping.{Slot, mark}
-use Rattle.b67_standing.specs.Standing.{operands}
+use Rattle.b67_standing.specs.Standing.{given_slots}
 use Rattle.b67_cores.specs.Cores.{Core, IsCore, with_core}
 use Rattle.b67_cores.specs.Slots.{newest, SlotIs, SlotsAre}
 use Rattle.b67_cores.specs.Stretches.{CoreAt, control_words}
@@ -46,13 +46,13 @@ use Rattle.b67_cores.proofs.Moving.{slots_length}
 use Rattle.b67_faithful.specs.Correspondence.{operator_action, called_action}
 use Rattle.b67_faithful.specs.Faithful.{IsShort}
 use Rattle.b67_fitting.specs.Nested.{AreNested, LiesNested}
-use Rattle.b67_pictures.specs.Arrays.{Layout}
-use Rattle.b67_pictures.specs.Frames.{IsOwn, IsComplete, Framed}
-use Rattle.b67_pictures.proofs.Actuals.{Given_words, given_words, arguments_many}
+use Rattle.b67_pictures.specs.Arrays.{Layout, IsOwn}
+use Rattle.b67_pictures.specs.Frames.{IsComplete, Framed}
 use Rattle.b67_pictures.proofs.Completing.{made_many}
 use Rattle.b67_pictures.proofs.Displays.{shown, shown_top, linked_seen}
 use Rattle.b67_pictures.proofs.EntryRow.{Leads, Enters, lower_of, with_frame, enter_raw, enter_class, enter_action, new_is}
 use Rattle.b67_pictures.proofs.FreshCells.{words_long}
+use Rattle.b67_pictures.proofs.GivenWords.{AreFit, Taken, taken_words}
 use Rattle.b67_pictures.proofs.Growing.{numbered_low, next_within}
 use Rattle.b67_pictures.proofs.Homes.{operator_there}
 use Rattle.b67_pictures.proofs.Linked.{Linked, Begins_with, begins_core, all_linked, level_around}
@@ -105,10 +105,12 @@ module _ (tree : PProgram) (code : Code) (texts : ℕ → List Placed) (nested :
   pub begins : Begins_with img.stacks p core.below
   begins = begins_core img p core s.has
 
-  -- ENTR stands there, and finds these values on a word on a mark. That leads to code of the block of this number, whose instance is to have that parent.
-  pub record Calls (values : List Value) (slot : Slot) (next : ℕ) (waiting : List Slot) (h j begin : ℕ) : Type 0 where
-    pub lies : s.stands.slots ≡ operands values (slot ∷ mark ∷ waiting)
-    pub values_few : length values ≤ MOST_BLOCK_CELLS
+  -- ENTR stands there, and finds the words of these actuals on a word on a mark. That leads to code of the block of this number, whose
+  -- instance is to have that parent.
+  pub record Calls (wanted : List Wanted) (gs : List Given) (slot : Slot) (next : ℕ) (waiting : List Slot) (h j begin : ℕ) : Type 0 where
+    pub lies : s.stands.slots ≡ given_slots wanted gs (slot ∷ mark ∷ waiting)
+    pub fit : AreFit sc level wanted gs
+    pub given_few : length gs ≤ MOST_BLOCK_CELLS
     pub marks : newest own base (slot ∷ mark ∷ waiting) ≡ base + length waiting
     pub stands : Has (text_in tree texts w part) level s.stands.pc (ops.Plain kinds.Entr) next
     pub own_parent : IsOwn (part ∷ outer) h
@@ -124,7 +126,7 @@ module _ (tree : PProgram) (code : Code) (texts : ℕ → List Placed) (nested :
         Leads code img core next x m (code_at (segment_of sc.blocks j) begin (level_of (block_numbered sc.blocks j))) (place p linked.at)
     pub calls : (x : Word) → SlotIs sc s.stands.held level own base (mark ∷ waiting) slot x → called_action (as_irw x) ≡ Some Enter
 
-  module _ (values : List Value) (slot : Slot) (next : ℕ) (waiting : List Slot) (h j begin : ℕ) (e : Calls values slot next waiting h j begin) where
+  module _ (wanted : List Wanted) (gs : List Given) (slot : Slot) (next : ℕ) (waiting : List Slot) (h j begin : ℕ) (e : Calls wanted gs slot next waiting h j begin) where
     abbrev pub inner_level : ℕ
     inner_level = level_of (block_numbered sc.blocks j)
 
@@ -133,15 +135,12 @@ module _ (tree : PProgram) (code : Code) (texts : ℕ → List Placed) (nested :
 
     -- ---- the words
 
-    pub given : Given_words sc s.stands.held level own base values (slot ∷ mark ∷ waiting) core.words
+    pub given : Taken sc s.stands.held level own base wanted gs (slot ∷ mark ∷ waiting) core.words
     given =
-        given_words sc s.stands.held level own base values (slot ∷ mark ∷ waiting) core.words (subst (λ (l : List Slot). SlotsAre sc s.stands.held level own base l core.words) e.lies s.stands.there.words_are)
+        taken_words sc s.stands.held level own base e.fit (slot ∷ mark ∷ waiting) core.words (subst (λ (l : List Slot). SlotsAre sc s.stands.held level own base l core.words) e.lies s.stands.there.words_are)
 
     abbrev pub arguments : List Word
     arguments = given.arguments
-
-    pub taken : length arguments ≡ length values
-    taken = arguments_many sc s.stands.held level own base values (slot ∷ mark ∷ waiting) core.words given
 
     pub first : Top sc s.stands.held level own base slot (mark ∷ waiting) given.others
     first = top_slot sc s.stands.held level own base (slot ∷ mark ∷ waiting) slot (mark ∷ waiting) given.others given.are refl
@@ -265,7 +264,7 @@ module _ (tree : PProgram) (code : Code) (texts : ℕ → List Placed) (nested :
     entry =
         record {
           words = all_words;
-          few = omega (arith, taken, e.values_few);
+          few = omega (arith, given.many, e.given_few);
           mark_at = mark_at;
           reads_mark = ap as_mscw second.slot_is ∙ mark_read df (omega (arith, as_many, room));
           unentered = refl;

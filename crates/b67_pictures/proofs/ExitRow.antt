@@ -52,7 +52,11 @@ cell_describes_nothing (Some k) (event e) w is = absurd is
 cell_describes_nothing (Some k) (array a) w is = absurd is
 cell_describes_nothing (Some k) (named n) w is = absurd is
 cell_describes_nothing (Some k) (reference r) w is = absurd is
-cell_describes_nothing None c w is = absurd is
+cell_describes_nothing None (simple v) w is = absurd is
+cell_describes_nothing None (event e) w is = absurd is
+cell_describes_nothing None (array a) w is = absurd is
+cell_describes_nothing None (named n) w is = absurd is
+cell_describes_nothing None (reference r) w is = is
 
 pub cells_describe_nothing : (ss : List Simple) (cells : List NamedCell) (words : List Word) → CellsAre ss cells words → DescribeNothing words
 cells_describe_nothing [] [] [] are = tt

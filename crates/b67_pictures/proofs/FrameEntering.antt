@@ -8,12 +8,12 @@ use Rattle.algol_tree.specs.Plain.{PProgram}
 use Rattle.algol_tree.specs.Blocks.{Block, block_numbered, number_at, around}
 use Rattle.algol_tree.specs.Cells.{level_of}
 use Rattle.algol_tree.specs.Scopes.{Scopes, scopes_of}
-use Rattle.algol_meaning.specs.Rest.{Answer, entered}
+use Rattle.algol_meaning.specs.Rest.{Answer, Given, entered}
 use Rattle.algol_meaning.specs.World.{Instance, Process, Purpose, Part, able, World, instance_at, or_no_instance, ancestor, with_process}
 use Rattle.algol_meaning.specs.Critical.{is_evaluation}
 use Rattle.algol_meaning.specs.Instances as instances
 use Rattle.algol_meaning.specs.Instances.{fresh_cells}
-use Rattle.algol_meaning.specs.Value.{Value, Cell}
+use Rattle.algol_meaning.specs.Value.{Cell}
 use Rattle.algol_meaning.specs.Statements.{settle_items, items_of}
 use Rattle.algol_meaning.specs.Actions.{Enter}
 use Rattle.algol_meaning.specs.Asks.{nothing, ask, resume}
@@ -35,12 +35,12 @@ use Rattle.b67_table.specs.Image.{Image}
 use Rattle.b67_table.specs.Linkage.{entered_mark, control_word}
 use Rattle.b67_table.specs.Outcome as outcomes
 use Rattle.b67_table.specs.Table.{table}
-use Rattle.b67_templates.specs.Cells.{parameter_cells, zero_cells, simple_cells, procedures, control_segments}
+use Rattle.b67_templates.specs.Cells.{Wanted, parameter_cells, zero_cells, simple_cells, procedures, control_segments}
 use Rattle.b67_templates.specs.Code.{CellsAt}
 use Rattle.b67_templates.specs.Fragments.{code_at}
 use Rattle.b67_templates.specs.Programs.{context_of}
-use Rattle.b67_standing.specs.Stepping as marks
 use Rattle.b67_standing.specs.Stepping.{Slot}
+use Rattle.b67_table.specs.Private.{frame}
 use Rattle.b67_standing.specs.Standing.{Gives, pushed, ComesTo}
 use Rattle.b67_cores.specs.Cores.{Core, size, IsCore, HasCore, with_core}
 use Rattle.b67_cores.specs.Slots.{newest, SlotsAre}
@@ -53,16 +53,18 @@ use Rattle.b67_pictures.specs.Arrays.{Allotted, Layout, AreMade, AreKnown}
 use Rattle.b67_pictures.specs.Acting.{Does, gave}
 use Rattle.b67_pictures.specs.Frames.{most_around, CellsAre, IsChained, IsComplete, home_of, inside, Framed, Frame, Waits, Around}
 use Rattle.b67_pictures.specs.Pictures.{Living, Pictures, PicturesBy}
-use Rattle.b67_pictures.proofs.Actuals.{AreValues, operands_many}
 use Rattle.b67_pictures.proofs.Ancestors.{same_place}
 use Rattle.b67_pictures.proofs.ArraysKept.{rows_but, rows_there, rows_other, no_elements, no_rows, arrays_joined}
 use Rattle.b67_pictures.proofs.Cored.{has_now, others_have, system_stays}
 use Rattle.b67_pictures.proofs.EntryRow.{lower_of}
 use Rattle.b67_pictures.proofs.Entries as entries
 use Rattle.b67_pictures.proofs.Entries.{Calls}
-use Rattle.b67_pictures.proofs.FreshCells.{fresh_are, simple_many, words_long}
+use Rattle.b67_pictures.proofs.Formals.{LeadAll, lead_there}
+use Rattle.b67_pictures.proofs.FreshCells.{fresh_are, fresh_lead, simple_many, words_long}
+use Rattle.b67_pictures.proofs.GivenWords.{ActualsAre}
 use Rattle.b67_pictures.proofs.Growing.{numbered_last, numbered_before, numbered_low}
 use Rattle.b67_pictures.proofs.Kept.{AreAlike}
+use Rattle.b67_pictures.proofs.Knowing.{leads_lasts, known_of}
 use Rattle.b67_pictures.proofs.Landing.{living_of}
 use Rattle.b67_pictures.proofs.Linked.{all_each, level_around, shown_chained}
 use Rattle.b67_pictures.proofs.Lying.{StayBelow}
@@ -71,7 +73,7 @@ use Rattle.b67_pictures.proofs.Scene.{Scene}
 use Rattle.b67_pictures.proofs.Segmented.{length_mapped}
 use Rattle.b67_pictures.proofs.StackWords.{length-stack}
 use Rattle.b67_pictures.proofs.Stage.{gives_within, goes_on, weight_of}
-use Rattle.b67_pictures.proofs.Staying.{text_in, level_in, context_in, most_in, wanted_in, FrameStill, frame_still, same_instance, known_stays, parts_weigh}
+use Rattle.b67_pictures.proofs.Staying.{text_in, level_in, context_in, most_in, wanted_in, FrameStill, frame_still, same_instance, parts_remain, known_stays, parts_weigh}
 use Rattle.b67_pictures.proofs.Texted.{block_keeps, block_makes}
 use Rattle.b67_pictures.proofs.Zeros.{zero_word, cells_length}
 
@@ -97,8 +99,13 @@ module _ (tree : PProgram) (code : Code) (texts : ℕ → List Placed) (nested :
   abbrev sc : Scopes
   sc = scopes_of tree
 
-  abbrev CallsThere : List Value → Slot → ℕ → List Slot → ℕ → ℕ → ℕ → Type 0
-  CallsThere values slot next waiting h j begin = Calls tree code texts nested short w lay img p q part outer bound core s values slot next waiting h j begin
+  abbrev CallsThere : List Wanted → List Given → Slot → ℕ → List Slot → ℕ → ℕ → ℕ → Type 0
+  CallsThere wanted gs slot next waiting h j begin = Calls tree code texts nested short w lay img p q part outer bound core s wanted gs slot next waiting h j begin
+
+  -- These cells of the block's parameters have the words of the actuals, and those of arrays lead to arrays.
+  pub record AreCells (j : ℕ) (given : List Cell) (ws : List Word) : Type 0 where
+    pub cells : CellsAre (parameter_cells sc (block_numbered sc.blocks j)) (instances.parameter_cells (block_numbered sc.blocks j).parameters given) ws
+    pub lead : LeadAll sc w lay (part ∷ outer) (parameter_cells sc (block_numbered sc.blocks j)) (instances.parameter_cells (block_numbered sc.blocks j).parameters given) ws
 
   -- The code of the block: its cells, and what it has to do, for which its segment has the room.
   pub record Body (j begin : ℕ) : Type 0 where
@@ -115,9 +122,9 @@ module _ (tree : PProgram) (code : Code) (texts : ℕ → List Placed) (nested :
     pub returns : (a : Answer) → Gives ((block_numbered sc.blocks j).result) a →
         ComesTo sc (context_in tree code w part) (text_in tree texts w part) (level_in tree w part) (most_in tree w part) (resume sc (resume sc part.rest entered) a) next (pushed a waiting)
 
-  module _ (values : List Value) (slot : Slot) (next : ℕ) (waiting : List Slot) (h j begin : ℕ) (e : CallsThere values slot next waiting h j begin) (purpose : Purpose) (owns : is_evaluation purpose ≡ false) (body : Body j begin)
+  module _ (wanted : List Wanted) (gs : List Given) (slot : Slot) (next : ℕ) (waiting : List Slot) (h j begin : ℕ) (e : CallsThere wanted gs slot next waiting h j begin) (purpose : Purpose) (owns : is_evaluation purpose ≡ false) (body : Body j begin)
       (behind : GoesOnBehind next waiting j) (given : List Cell)
-      (fit : (ws : List Word) → AreValues values ws → CellsAre (parameter_cells sc (block_numbered sc.blocks j)) (instances.parameter_cells (block_numbered sc.blocks j).parameters given) ws) where
+      (fit : (ws : List Word) → ActualsAre sc s.stands.held (level_in tree w part) (frame core.registers) (length core.below) wanted gs ws → AreCells j given ws) where
     abbrev i : ℕ
     i = part.instance
 
@@ -146,7 +153,7 @@ module _ (tree : PProgram) (code : Code) (texts : ℕ → List Placed) (nested :
 
     -- what was given, and behind it zeros
     abbrev arguments : List Word
-    arguments = entries.arguments tree code texts nested short w lay img p q part outer bound core s values slot next waiting h j begin e
+    arguments = entries.arguments tree code texts nested short w lay img p q part outer bound core s wanted gs slot next waiting h j begin e
 
     abbrev taken : List Word
     taken = reverse arguments
@@ -157,11 +164,11 @@ module _ (tree : PProgram) (code : Code) (texts : ℕ → List Placed) (nested :
     abbrev cells : List Word
     cells = (taken ++ zeros) ++ control_words inner_level segments
 
-    given_there : CellsAre (parameter_cells sc b) (instances.parameter_cells b.parameters given) taken
-    given_there = fit taken (entries.given tree code texts nested short w lay img p q part outer bound core s values slot next waiting h j begin e).values
+    given_there : AreCells j given taken
+    given_there = fit taken (entries.given tree code texts nested short w lay img p q part outer bound core s wanted gs slot next waiting h j begin e).actuals
 
     taken_many : length taken ≡ length (parameter_cells sc b)
-    taken_many = words_long (parameter_cells sc b) (instances.parameter_cells b.parameters given) taken given_there
+    taken_many = words_long (parameter_cells sc b) (instances.parameter_cells b.parameters given) taken given_there.cells
 
     as_given : length taken ≡ length arguments
     as_given = length-reverse arguments
@@ -176,7 +183,10 @@ module _ (tree : PProgram) (code : Code) (texts : ℕ → List Placed) (nested :
     few_cells = omega (arith, all_many, segments_many, is_text.few)
 
     cells_are : CellsAre (simple_cells sc b) (fresh_cells b given) (taken ++ zeros)
-    cells_are = fresh_are sc b given taken given_there
+    cells_are = fresh_are sc b given taken given_there.cells
+
+    cells_lead : LeadAll sc w lay (part ∷ outer) (simple_cells sc b) (fresh_cells b given) (taken ++ zeros)
+    cells_lead = fresh_lead sc w lay (part ∷ outer) b given taken given_there.lead
 
     cells_many : length cells ≡ length taken + (many + length segments)
     cells_many =
@@ -209,7 +219,7 @@ module _ (tree : PProgram) (code : Code) (texts : ℕ → List Placed) (nested :
     w' = entered_world sc w p q part outer h j given purpose
 
     abbrev at : ℕ
-    at = entries.at tree code texts nested short w lay img p q part outer bound core s values slot next waiting h j begin e
+    at = entries.at tree code texts nested short w lay img p q part outer bound core s wanted gs slot next waiting h j begin e
 
     abbrev lay' : Layout
     lay' = record { places = lay.places ++ place p at ∷ []; rows = rows_but lay.rows n [] }
@@ -252,7 +262,7 @@ module _ (tree : PProgram) (code : Code) (texts : ℕ → List Placed) (nested :
     still : FrameStill tree code texts w w' lay lay' p limit stay part outer core.below s.stands.frame.cells
     still =
         frame_still tree code texts w w' lay lay' p limit stay part outer core.below s.stands.frame s.around
-        (omega (arith, entries.own_low tree code texts nested short w lay img p q part outer bound core s values slot next waiting h j begin e))
+        (omega (arith, entries.own_low tree code texts nested short w lay img p q part outer bound core s wanted gs slot next waiting h j begin e))
 
     here : instance_at w i ≡ instance_at w' i
     here = sym (same_instance tree code texts w w' lay lay' p limit stay part outer core s.stands s.around all_low i (inl refl))
@@ -266,10 +276,10 @@ module _ (tree : PProgram) (code : Code) (texts : ℕ → List Placed) (nested :
     -- ---- the core in the frame
 
     abbrev more : List Word
-    more = entries.more tree code texts nested short w lay img p q part outer bound core s values slot next waiting h j begin e
+    more = entries.more tree code texts nested short w lay img p q part outer bound core s wanted gs slot next waiting h j begin e
 
     abbrev df : ℕ
-    df = entries.df tree code texts nested short w lay img p q part outer bound core s values slot next waiting h j begin e
+    df = entries.df tree code texts nested short w lay img p q part outer bound core s wanted gs slot next waiting h j begin e
 
     abbrev home : Place
     home = place p e.linked.at
@@ -287,13 +297,13 @@ module _ (tree : PProgram) (code : Code) (texts : ℕ → List Placed) (nested :
     control = control_word core.registers next inner_level
 
     abbrev new : Core
-    new = entries.new tree code texts nested short w lay img p q part outer bound core s values slot next waiting h j begin e
+    new = entries.new tree code texts nested short w lay img p q part outer bound core s wanted gs slot next waiting h j begin e
 
     level_is : inner_level ≡ length frames + 2
-    level_is = omega (arith, entries.level_is tree code texts nested short w lay img p q part outer bound core s values slot next waiting h j begin e)
+    level_is = omega (arith, entries.level_is tree code texts nested short w lay img p q part outer bound core s wanted gs slot next waiting h j begin e)
 
     new_core : IsCore new
-    new_core = entries.new_core tree code texts nested short w lay img p q part outer bound core s values slot next waiting h j begin e
+    new_core = entries.new_core tree code texts nested short w lay img p q part outer bound core s wanted gs slot next waiting h j begin e
 
     new_long : length new.below ≡ at + 2 + length taken
     new_long = length-append lower (mark ∷ control ∷ taken) ∙ omega arith
@@ -307,7 +317,7 @@ module _ (tree : PProgram) (code : Code) (texts : ℕ → List Placed) (nested :
     g : Begins sc [] code ps inner_level bound' many segments body.start new
     g =
         begins sc [] (context_of code sc j) code ps inner_level bound' many segments begin body.start new body.cells_at
-        (entries.core_at tree code texts nested short w lay img p q part outer bound core s values slot next waiting h j begin e) (omega (arith, few_cells, as_given)) (omega (arith, new_long))
+        (entries.core_at tree code texts nested short w lay img p q part outer bound core s wanted gs slot next waiting h j begin e) (omega (arith, few_cells, as_given)) (omega (arith, new_long))
 
     -- ---- its frame
 
@@ -337,6 +347,17 @@ module _ (tree : PProgram) (code : Code) (texts : ℕ → List Placed) (nested :
           simple = fresh_cells b given;
           values = taken ++ zeros;
           simple_are = cells_are;
+          formals = λ k t shape there none told.
+              let g = lead_there sc w lay (part ∷ outer) (simple_cells sc b) (fresh_cells b given) (taken ++ zeros) cells_lead k t shape there none told in (
+                g.0,
+                g.1,
+                g.2,
+                g.3,
+                g.4,
+                g.5,
+                leads_lasts sc w w' lay lay' (part ∷ outer) (part' ∷ outer) (parts_remain tree code texts w w' lay lay' p limit stay part outer core s.stands s.around all_low (part' ∷ outer) (λ m own. own))
+                    shape g.2 g.1 g.6,
+              );
           arrays = [];
           declared = [];
           later = arrays_of b.decls;
@@ -349,9 +370,9 @@ module _ (tree : PProgram) (code : Code) (texts : ℕ → List Placed) (nested :
           home = home;
           linked = home_there;
           df = df;
-          mark_is = entries.mark_reads tree code texts nested short w lay img p q part outer bound core s values slot next waiting h j begin e;
-          back = entries.back tree code texts nested short w lay img p q part outer bound core s values slot next waiting h j begin e;
-          control_is = entries.control_reads tree code texts nested short w lay img p q part outer bound core s values slot next waiting h j begin e;
+          mark_is = entries.mark_reads tree code texts nested short w lay img p q part outer bound core s wanted gs slot next waiting h j begin e;
+          back = entries.back tree code texts nested short w lay img p q part outer bound core s wanted gs slot next waiting h j begin e;
+          control_is = entries.control_reads tree code texts nested short w lay img p q part outer bound core s wanted gs slot next waiting h j begin e;
           level_is = refl;
         }
 
@@ -400,11 +421,13 @@ module _ (tree : PProgram) (code : Code) (texts : ℕ → List Placed) (nested :
     words_now =
         subst (λ (x : Instance). SlotsAre sc s.stands.held (level_of (block_numbered sc.blocks x.block)) (length still.frame.lower) (length core.below) waiting more) here
         (subst (λ (k : ℕ). SlotsAre sc s.stands.held level k (length core.below) waiting more)
-        (entries.own_is tree code texts nested short w lay img p q part outer bound core s values slot next waiting h j begin e ∙ same_lower)
-        (entries.second tree code texts nested short w lay img p q part outer bound core s values slot next waiting h j begin e).are)
+        (entries.own_is tree code texts nested short w lay img p q part outer bound core s wanted gs slot next waiting h j begin e ∙ same_lower)
+        (entries.second tree code texts nested short w lay img p q part outer bound core s wanted gs slot next waiting h j begin e).are)
 
-    known_now : AreKnown sc w' lay' i level s.stands.held
-    known_now = known_stays tree code texts w w' lay lay' p limit stay part outer core s.stands s.around all_low s.stands.held s.stands.held_are
+    known_now : AreKnown sc w' lay' (part' ∷ outer) i s.stands.held
+    known_now =
+        known_of sc w' w' lay' (part ∷ outer) (part' ∷ outer) refl (λ m own. own) i s.stands.held
+        (known_stays tree code texts w w' lay lay' p limit stay part outer core s.stands s.around all_low s.stands.held s.stands.held_are)
 
     weight_before : weight tree w p ≡ parts_weight tree w' (part' ∷ outer)
     weight_before =
@@ -412,7 +435,8 @@ module _ (tree : PProgram) (code : Code) (texts : ℕ → List Placed) (nested :
         ∙ sym (parts_weigh tree code texts w w' lay lay' p limit stay part outer core s.stands s.around all_low)
 
     few_waiting : length waiting + 2 ≤ most_in tree w part
-    few_waiting = omega (arith, ap length e.lies, operands_many values (slot ∷ marks.mark ∷ waiting), s.stands.few)
+    few_waiting =
+        omega (arith, ap length e.lies, (entries.given tree code texts nested short w lay img p q part outer bound core s wanted gs slot next waiting h j begin e).slots_many, s.stands.few)
 
     abbrev waits_now : Waits tree code texts w' lay' p part' outer lower mark control b.result
     waits_now =
@@ -427,14 +451,14 @@ module _ (tree : PProgram) (code : Code) (texts : ℕ → List Placed) (nested :
           returns = returns_now;
           few = subst (λ (x : Instance). length waiting + 1 ≤ most_around tree x.block) here (omega (arith, few_waiting));
           held = s.stands.held;
-          held_are = subst (λ (x : Instance). AreKnown sc w' lay' i (level_of (block_numbered sc.blocks x.block)) s.stands.held) here known_now;
+          held_are = known_now;
           words_are = words_now;
           home = home;
           df = df;
-          mark_is = entries.mark_reads tree code texts nested short w lay img p q part outer bound core s values slot next waiting h j begin e;
-          far = ap (λ (k : ℕ). df + newest k (length core.below) waiting) (sym same_lower) ∙ entries.far tree code texts nested short w lay img p q part outer bound core s values slot next waiting h j begin e;
-          back = entries.back tree code texts nested short w lay img p q part outer bound core s values slot next waiting h j begin e;
-          control_is = entries.control_reads tree code texts nested short w lay img p q part outer bound core s values slot next waiting h j begin e;
+          mark_is = entries.mark_reads tree code texts nested short w lay img p q part outer bound core s wanted gs slot next waiting h j begin e;
+          far = ap (λ (k : ℕ). df + newest k (length core.below) waiting) (sym same_lower) ∙ entries.far tree code texts nested short w lay img p q part outer bound core s wanted gs slot next waiting h j begin e;
+          back = entries.back tree code texts nested short w lay img p q part outer bound core s wanted gs slot next waiting h j begin e;
+          control_is = entries.control_reads tree code texts nested short w lay img p q part outer bound core s wanted gs slot next waiting h j begin e;
           segment_is = s.stands.segment_is ∙ ap (λ (x : Instance). segment_of sc.blocks x.block) here;
           place_is = omega arith;
           level_is = s.stands.there.level_is ∙ ap (λ (x : Instance). level_of (block_numbered sc.blocks x.block)) here;
@@ -454,7 +478,7 @@ module _ (tree : PProgram) (code : Code) (texts : ℕ → List Placed) (nested :
         ∙ all_many
 
     more_few : length more + 2 ≤ most_in tree w part
-    more_few = omega (arith, entries.as_many tree code texts nested short w lay img p q part outer bound core s values slot next waiting h j begin e, few_waiting)
+    more_few = omega (arith, entries.as_many tree code texts nested short w lay img p q part outer bound core s wanted gs slot next waiting h j begin e, few_waiting)
 
     inner_weight : part_weight tree w' inner ≡ 8 + (length taken + many) + 4 * tokens_around tree j
     inner_weight =
@@ -490,7 +514,7 @@ module _ (tree : PProgram) (code : Code) (texts : ℕ → List Placed) (nested :
     has_here = has_now img p core new s.has refl new_core
 
     new_small : size new ≤ stack_limit
-    new_small = omega (arith, new_long, entries.room tree code texts nested short w lay img p q part outer bound core s values slot next waiting h j begin e, more_long, as_given)
+    new_small = omega (arith, new_long, entries.room tree code texts nested short w lay img p q part outer bound core s wanted gs slot next waiting h j begin e, more_long, as_given)
 
     cells_counted : length arguments + (many + length segments) ≡ length cells
     cells_counted = omega (arith, cells_many, as_given)
@@ -533,12 +557,12 @@ module _ (tree : PProgram) (code : Code) (texts : ℕ → List Placed) (nested :
 
     table_is : table code img p ≡ outcomes.gives (with_core img p new)
     table_is =
-        gives_within code img (with_core img p new) p new.registers (entries.entry_raw tree code texts nested short w lay img p q part outer bound core s values slot next waiting h j begin e) has_here.registers
+        gives_within code img (with_core img p new) p new.registers (entries.entry_raw tree code texts nested short w lay img p q part outer bound core s wanted gs slot next waiting h j begin e) has_here.registers
         (omega (arith, s.has.is.top, s.small))
 
     -- where the choice is the entry, the operator does it
     pub entering : choice sc w p ≡ record { action = Enter; world = w'; released = []; started = None } → Does tree code texts w img p
     entering chosen =
-        gave (with_core img p new) (entries.entry_not_plain tree code texts nested short w lay img p q part outer bound core s values slot next waiting h j begin e) table_is
-        (entries.entry_action tree code texts nested short w lay img p q part outer bound core s values slot next waiting h j begin e table_is ∙ ap (λ (x : Choice). Some x.action) (sym chosen))
+        gave (with_core img p new) (entries.entry_not_plain tree code texts nested short w lay img p q part outer bound core s wanted gs slot next waiting h j begin e) table_is
+        (entries.entry_action tree code texts nested short w lay img p q part outer bound core s wanted gs slot next waiting h j begin e table_is ∙ ap (λ (x : Choice). Some x.action) (sym chosen))
         (subst (λ (x : Choice). Pictures tree code texts x.world (with_core img p new)) (sym chosen) (lay', pictured))

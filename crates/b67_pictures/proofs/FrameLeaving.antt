@@ -56,6 +56,7 @@ use Rattle.b67_pictures.proofs.Cored.{has_now, others_have, system_stays}
 use Rattle.b67_pictures.proofs.Displays.{IsEntered, entered_to, shown, shown_top, rebuilt_seen}
 use Rattle.b67_pictures.proofs.Independent.{none_critical, none_dependent}
 use Rattle.b67_pictures.proofs.Kept.{AreAlike, alike_but}
+use Rattle.b67_pictures.proofs.Knowing.{known_of}
 use Rattle.b67_pictures.proofs.Landing.{steps_none, living_of}
 use Rattle.b67_pictures.proofs.LeaveRow.{Leaves, given_words, without_frame, after, outer_is}
 use Rattle.b67_pictures.proofs.Linked.{Linked, Begins_with, begins_front, begins_core, mark_there, control_there, around_linked, frame_linked, shown_chained}
@@ -284,8 +285,8 @@ module _ (tree : PProgram) (code : Code) (texts : ℕ → List Placed) (stand : 
     block_now : (instance_at w next.instance).block ≡ (instance_at w' next.instance).block
     block_now = sym (same_now next.instance).block
 
-    -- what is known of descriptors holds as it did
-    known_now : AreKnown sc w' lay next.instance (level_in tree w next) u.held
+    -- what is known of descriptors and references holds as it did
+    known_now : AreKnown sc w' lay (next ∷ parts) next.instance u.held
     known_now = known_after tree code texts w w' lay lay p f stay next parts u.below u.frame s.around.1 (omega (arith, low, height)) u.held u.held_are
 
     -- ---- the part around goes on
@@ -385,7 +386,7 @@ module _ (tree : PProgram) (code : Code) (texts : ℕ → List Placed) (stand : 
             pc = u.pc;
             slots = slots;
             known = u.held;
-            known_are = subst (λ (j : ℕ). AreKnown sc w' lay next.instance (level_of (block_numbered sc.blocks j)) u.held) block_now known_now;
+            known_are = known_of sc w' w' lay (next ∷ parts) (part' ∷ parts) refl (λ j own. own) next.instance u.held known_now;
             at = subst (λ (j : ℕ). CoreAt sc u.held code (texts (segment_of sc.blocks j)) (level_of (block_numbered sc.blocks j)) u.pc slots new) block_now core_at;
             held = subst (λ (j : ℕ). length slots ≤ most_around tree j) block_now few;
             comes = subst (λ (j : ℕ). ComesTo sc (context_of code sc j) (texts (segment_of sc.blocks j)) (level_of (block_numbered sc.blocks j)) (most_around tree j) (resume sc next.rest r) u.pc slots) block_now

@@ -1,20 +1,23 @@
 -- The words of the cells of a block that is entered.
-use Rattle.std.proofs.Common.{◌≡◌, refl, sym, ap, ◌∙◌, subst, suc, ◌+◌, List, [], ◌∷◌, ◌++◌, length, append_assoc, length-append}
-use Rattle.std.specs.Prelude.{map, replicate}
+use Rattle.std.proofs.Common.{◌≡◌, refl, sym, ap, ◌∙◌, subst, ℕ, zero, suc, ◌+◌, List, [], ◌∷◌, ◌++◌, length, Some, None, append_assoc, length-append}
+use Rattle.std.specs.Prelude.{slice_get, replicate}
 use Rattle.algol_tree.specs.Blocks.{Block}
 use Rattle.algol_tree.specs.Scopes.{Scopes}
 use Rattle.algol_tree.specs.Sorts.{Parameter}
 use Rattle.algol_meaning.specs.Value.{Cell}
-use Rattle.algol_meaning.specs.World.{NamedCell}
+use Rattle.algol_meaning.specs.World.{NamedCell, Part, World}
 use Rattle.algol_meaning.specs.Instances as instances
 use Rattle.algol_meaning.specs.Instances.{fresh_cells}
+use Rattle.algol_paths.specs.Arrays.{Shape}
 use Rattle.b67_word.specs.Word.{Word}
 use Rattle.b67_templates.specs.Cells as cells
 use Rattle.b67_templates.specs.Cells.{Simple, zero_cells, simple_cells}
-use Rattle.b67_fitting.specs.Nested.{AreByValue}
+use Rattle.b67_fitting.specs.Nested.{IsTold, by_value, an_array, AreTold, AreParameters}
+use Rattle.b67_faithful.proofs.Contradictions.{some_same, none_some}
+use Rattle.b67_pictures.specs.Arrays.{Layout}
 use Rattle.b67_pictures.specs.Frames.{CellsAre}
-use Rattle.b67_pictures.proofs.Actuals.{AreValues}
-use Rattle.b67_pictures.proofs.Zeros.{zero_word, block_zeros}
+use Rattle.b67_pictures.proofs.Formals.{LeadAll, lead_both, kinds_lead}
+use Rattle.b67_pictures.proofs.Zeros.{zero_word, block_zeros, HaveKinds, block_kinds}
 
 -- cells behind others
 cells_both : (ss : List Simple) (cells : List NamedCell) (ws : List Word) (ss' : List Simple) (cells' : List NamedCell) (ws' : List Word) → CellsAre ss cells ws → CellsAre ss' cells' ws' →
@@ -40,20 +43,60 @@ fresh_are sc b given ws are =
     (sym (append_assoc (instances.parameter_cells b.parameters given) (instances.result_cells b.result b.name) (instances.variable_cells b.decls)))
     (cells_both (cells.parameter_cells sc b) (instances.parameter_cells b.parameters given) ws (zero_cells b) _ (replicate (length (zero_cells b)) zero_word) are (block_zeros b)))
 
+-- those of the parameters that are arrays lead to arrays
+pub fresh_lead : (sc : Scopes) (w : World) (lay : Layout) (parts : List Part) (b : Block) (given : List Cell) (ws : List Word) →
+    LeadAll sc w lay parts (cells.parameter_cells sc b) (instances.parameter_cells b.parameters given) ws →
+    LeadAll sc w lay parts (simple_cells sc b) (fresh_cells b given) (ws ++ replicate (length (zero_cells b)) zero_word)
+fresh_lead sc w lay parts b given ws lead =
+    let all : List Word = ws ++ replicate (length (zero_cells b)) zero_word in
+    subst (λ (ss : List Simple). LeadAll sc w lay parts ss (fresh_cells b given) all) (sym (cells_joined sc b))
+    (subst (λ (cs : List NamedCell). LeadAll sc w lay parts (cells.parameter_cells sc b ++ zero_cells b) cs all)
+    (sym (append_assoc (instances.parameter_cells b.parameters given) (instances.result_cells b.result b.name) (instances.variable_cells b.decls)))
+    (lead_both sc w lay parts (cells.parameter_cells sc b) (instances.parameter_cells b.parameters given) ws (zero_cells b) _ (replicate (length (zero_cells b)) zero_word) lead
+    (kinds_lead sc w lay parts (zero_cells b) _ (replicate (length (zero_cells b)) zero_word) (block_kinds b) (block_zeros b))))
+
 -- a block that is no procedure has no cells of parameters
-pub none_given : (sc : Scopes) (b : Block) → AreByValue sc b → b.parameters ≡ [] → cells.parameter_cells sc b ≡ []
-none_given sc b by_value none = no_names (cells.parameter_cells sc b) (sym by_value.names ∙ ap (λ (ps : List Parameter). map (λ (p : Parameter). p.name) ps) none)
+pub none_given : (sc : Scopes) (b : Block) → AreParameters sc b → b.parameters ≡ [] → cells.parameter_cells sc b ≡ []
+none_given sc b parameters none = none_told (cells.parameter_cells sc b) (subst (λ (ps : List Parameter). AreTold ps (cells.parameter_cells sc b)) none parameters.told)
   where
-    no_names : (ss : List Simple) → map (λ (c : Simple). c.name) ss ≡ [] → ss ≡ []
-    no_names [] e = refl
-    no_names (s ∷ ss) e = absurd (let clash : s.name ∷ map (λ (c : Simple). c.name) ss ≡ [] = e in cc)
+    none_told : (ss : List Simple) → AreTold [] ss → ss ≡ []
+    none_told [] told = refl
+    none_told (s ∷ ss) told = absurd told
 
 -- nothing is given to it
-pub none_are : (sc : Scopes) (b : Block) → cells.parameter_cells sc b ≡ [] → b.parameters ≡ [] → (ws : List Word) → AreValues [] ws → CellsAre (cells.parameter_cells sc b) (instances.parameter_cells b.parameters []) ws
-none_are sc b no_cells none [] are =
+pub none_are : (sc : Scopes) (b : Block) → cells.parameter_cells sc b ≡ [] → b.parameters ≡ [] → CellsAre (cells.parameter_cells sc b) (instances.parameter_cells b.parameters []) []
+none_are sc b no_cells none =
     subst (λ (ss : List Simple). CellsAre ss (instances.parameter_cells b.parameters []) []) (sym no_cells)
     (subst (λ (ps : List Parameter). CellsAre [] (instances.parameter_cells ps []) []) (sym none) tt)
-none_are sc b no_cells none (w ∷ ws) are = absurd are
+
+pub none_lead : (sc : Scopes) (w : World) (lay : Layout) (parts : List Part) (b : Block) → cells.parameter_cells sc b ≡ [] → b.parameters ≡ [] →
+    LeadAll sc w lay parts (cells.parameter_cells sc b) (instances.parameter_cells b.parameters []) []
+none_lead sc w lay parts b no_cells none =
+    subst (λ (ss : List Simple). LeadAll sc w lay parts ss (instances.parameter_cells b.parameters []) []) (sym no_cells)
+    (subst (λ (ps : List Parameter). LeadAll sc w lay parts [] (instances.parameter_cells ps []) []) (sym none) tt)
+
+-- a cell without a kind is that of a parameter that is an array
+pub told_shape : (sc : Scopes) (b : Block) → AreParameters sc b → (k : ℕ) (s : Simple) → slice_get (simple_cells sc b) k ≡ Some s → s.kind ≡ None → (shape : Shape) × (s.shape ≡ Some shape)
+told_shape sc b parameters k s there none =
+    among b.parameters (cells.parameter_cells sc b) parameters.told k (ap (λ (ss : List Simple). slice_get ss k) (sym (cells_joined sc b)) ∙ there)
+  where
+    one_told : (p : Parameter) (c : Simple) → IsTold p c → c.kind ≡ None → (shape : Shape) × (c.shape ≡ Some shape)
+    one_told p c (by_value kind is variable) none = none_some (sym none ∙ is)
+    one_told p c (an_array shape without is sort) none = (shape, is)
+
+    behind : (ss : List Simple) → HaveKinds ss → (k : ℕ) → slice_get ss k ≡ Some s → (shape : Shape) × (s.shape ≡ Some shape)
+    behind [] have k there = none_some there
+    behind (t ∷ ss) have zero there = none_some (sym none ∙ ap (λ (u : Simple). u.kind) (sym (some_same there)) ∙ have.0.1)
+    behind (t ∷ ss) have (suc k) there = behind ss have.1 k there
+
+    among : (ps : List Parameter) (ss : List Simple) → AreTold ps ss → (k : ℕ) → slice_get (ss ++ zero_cells b) k ≡ Some s → (shape : Shape) × (s.shape ≡ Some shape)
+    among [] [] told k there = behind (zero_cells b) (block_kinds b) k there
+    among [] (t ∷ ss) told k there = absurd told
+    among (p ∷ ps) [] told k there = absurd told
+    among (p ∷ ps) (t ∷ ss) told zero there =
+        let same : t ≡ s = some_same there in
+        subst (λ (u : Simple). (shape : Shape) × (u.shape ≡ Some shape)) same (one_told p t told.1 (ap (λ (u : Simple). u.kind) same ∙ none))
+    among (p ∷ ps) (t ∷ ss) told (suc k) there = among ps ss told.2 k there
 
 -- their number
 pub simple_many : (sc : Scopes) (b : Block) → length (simple_cells sc b) ≡ length (cells.parameter_cells sc b) + length (zero_cells b)

@@ -38,12 +38,13 @@ use Rattle.b67_pictures.specs.Pictures.{Pictures, PicturesBy}
 use Rattle.b67_pictures.proofs.ArraysKept.{arrays_unchanged}
 use Rattle.b67_pictures.proofs.Cored.{has_now, others_have, system_stays}
 use Rattle.b67_pictures.proofs.Kept.{alike_by}
+use Rattle.b67_pictures.proofs.Knowing.{known_of}
 use Rattle.b67_pictures.proofs.Landing.{steps_none, living_of}
 use Rattle.b67_pictures.proofs.Lying.{StayBelow}
 use Rattle.b67_pictures.proofs.Numbers.{numbered_set, most_or_more}
 use Rattle.b67_pictures.proofs.Scene.{Scene}
 use Rattle.b67_pictures.proofs.Stage.{gives_within, limit_beyond, goes_on, weight_of}
-use Rattle.b67_pictures.proofs.Staying.{text_in, level_in, context_in, most_in, FrameStill, frame_still, frame_low, chained_stays, known_stays, parts_weigh}
+use Rattle.b67_pictures.proofs.Staying.{text_in, level_in, context_in, most_in, FrameStill, frame_still, frame_low, chained_stays, parts_weigh}
 
 -- the registers but for S, F and the place
 pub record SameFrame (a b : Registers) : Type 0 where
@@ -53,7 +54,7 @@ module _ (tree : PProgram) (code : Code) (texts : ℕ → List Placed) (fragment
     (p : ℕ) (q : Process) (part : Part) (outer : List Part) (bound : ℕ) (core : Core) (s : Scene tree code texts w lay img p q part outer bound core) (able_is : q.state ≡ able) (able_p : numbered img.states p ≡ Some Able)
     (unmade : left_to_make part.rest ≡ to_make part.rest)
     (a : Answer) (nameless : InAnswer (IsSeen (scopes_of tree) ((instance_at w part.instance).block)) a) (out : List (List ℕ)) (new : Core) (below : new.below ≡ core.below) (frame_is : SameFrame core.registers new.registers)
-    (known : List Known) (known_are : AreKnown (scopes_of tree) w lay part.instance (level_in tree w part) known)
+    (known : List Known) (known_are : AreKnown (scopes_of tree) w lay (part ∷ outer) part.instance known)
     (pc : ℕ) (slots : List Slot) (there : CoreAt (scopes_of tree) known code (text_in tree texts w part) (level_in tree w part) pc slots new) (few : length slots ≤ most_in tree w part)
     (comes : ComesTo (scopes_of tree) (context_in tree code w part) (text_in tree texts w part) (level_in tree w part) (most_in tree w part) (resume (scopes_of tree) part.rest a) pc slots) where
   abbrev pub part' : Part
@@ -142,7 +143,7 @@ module _ (tree : PProgram) (code : Code) (texts : ℕ → List Placed) (fragment
         pc = pc;
         slots = slots;
         known = known;
-        known_are = known_stays tree code texts w w' lay lay p (length core.below) stay part outer core s.stands s.around all_low known known_are;
+        known_are = known_of (scopes_of tree) w w' lay (part ∷ outer) (part' ∷ outer) refl (λ j own. own) part.instance known known_are;
         at = there;
         held = few;
         comes = comes;

@@ -26,7 +26,7 @@ use Rattle.b67_table.specs.Moves.{replaced}
 use Rattle.b67_table.specs.Program.{Test, answer, interrupt, fault, ask, Program, does, effect_of, asked, changed, see, row, ◌>>=◌, write_row}
 use Rattle.b67_table.specs.Questions.{told}
 use Rattle.b67_table.specs.Private.{display_at, floor}
-use Rattle.b67_table.specs.References.{Two, cell_in, irw_or_sirw, one_sirw, reached_in, from_top, popped_two, operand_in, invalid}
+use Rattle.b67_table.specs.References.{Two, cell_in, sirw_cell, irw_or_sirw, no_second, one_sirw, reached_in, from_top, popped_two, operand_in, invalid}
 use Rattle.b67_table.specs.Rows as rows
 use Rattle.b67_table.specs.Rows.{store, store_by, stored}
 use Rattle.b67_table.specs.Table.{raw, operator_at, class_at}
@@ -89,6 +89,31 @@ module _ (img : Image) (r : Registers) (mother : Bool) (x : Word) (d : Descripto
 
       on_reached : Reached → Look Descriptor
       on_reached v = array_in mother (as_descriptor v.word)
+
+  -- .. or in which a reference lies to the cell of one
+  pub array_through : (level at : ℕ) (frame : Place) (v : Word) (other : Sirw) (w : Word) → as_irw x ≡ Some (record { level = level; index = at }) → display_at r level ≡ Some frame →
+      word_at img.stacks (record { stack = frame.stack; at = frame.at + at }) ≡ Some v → as_sirw v ≡ Some other →
+      word_at img.stacks (record { stack = other.stack; at = other.displacement + other.index }) ≡ Some w → as_sirw w ≡ None → as_descriptor w ≡ Some d → seen img.stacks (array_of r mother x) ≡ Ok d
+  array_through level at frame v other w reads shown lies refers there no_sirw e =
+      ap (λ (o : Option Irw). seen img.stacks (array_by r mother x (irw_or_sirw r o (as_sirw x)))) reads
+      ∙ ap (λ (o : Option Place). seen img.stacks (array_by r mother x (cell_in o at))) shown
+      ∙ ap (λ (o : Option Word). seen img.stacks ((reached_in cell o >-> on_word) >-> on_reached)) lies
+      ∙ ap (λ (o : Option Sirw). seen img.stacks (one_sirw o (record { word = v; cell = cell }) >-> on_reached)) refers
+      ∙ ap (λ (o : Option Word). seen img.stacks ((reached_in (sirw_cell other) o >-> on_second) >-> on_reached)) there
+      ∙ ap (λ (o : Option Sirw). seen img.stacks (no_second o (record { word = w; cell = sirw_cell other }) >-> on_reached)) no_sirw
+      ∙ array_seen w e
+    where
+      cell : Cell
+      cell = record { frame = frame; index = at }
+
+      on_word : Reached → Look Reached
+      on_word u = one_sirw (as_sirw u.word) u
+
+      on_second : Reached → Look Reached
+      on_second u = no_second (as_sirw u.word) u
+
+      on_reached : Reached → Look Descriptor
+      on_reached u = array_in mother (as_descriptor u.word)
 
 -- ---- the two words on top
 

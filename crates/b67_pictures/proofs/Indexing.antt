@@ -1,5 +1,5 @@
 -- An index, to a row or to an element.
-use Rattle.std.proofs.Common.{◌≡◌, inl, inr, refl, sym, ap, ◌∙◌, subst, ℕ, ◌<◌, ◌^◌, List, [], ◌∷◌, ◌++◌, length, Option, Some, None, Bool, true, false, Ok, ℤ}
+use Rattle.std.proofs.Common.{◌≡◌, inl, inr, refl, sym, ap, ◌∙◌, subst, ℕ, ◌<◌, List, [], ◌∷◌, ◌++◌, length, Option, Some, None, Bool, true, false, Ok, ℤ}
 use Rattle.std.specs.Prelude.{map}
 use Rattle.b67_list.specs.Numbered.{numbered}
 use Rattle.b67_num.specs.declared.FaultKind.TheVariants.{InvalidIndex}
@@ -7,15 +7,15 @@ use Rattle.algol_tree.specs.declared.tree.Kind.{Kind}
 use Rattle.algol_tree.specs.declared.tree.Named.{Named}
 use Rattle.algol_tree.specs.Plain.{PProgram}
 use Rattle.algol_tree.specs.Scopes.{Scopes, scopes_of, use_of}
-use Rattle.algol_meaning.specs.Value.{Value, number, whole_of, Cell}
+use Rattle.algol_meaning.specs.Value.{Value, number, whole_of, Reference, Cell}
 use Rattle.algol_meaning.specs.Arrays.{size_of, subscript_place}
 use Rattle.algol_meaning.specs.Rest.{Answer, place, element_of}
-use Rattle.algol_meaning.specs.World.{Process, Part, able, World, ancestor, followed, array_in, by_cell}
+use Rattle.algol_meaning.specs.World.{Process, Part, able, World, followed, array_in}
 use Rattle.algol_meaning.specs.Actions.{Index, Fault}
 use Rattle.algol_meaning.specs.Asks.{Ask, indexes, ask, resume}
 use Rattle.algol_meaning.specs.Choice.{Choice, choice, choice_of, indexed, indexed_at, here}
 use Rattle.algol_paths.specs.Laws.{RestsKeepToTheirText, ArraysAreMadeInOrder}
-use Rattle.algol_paths.specs.Arrays.{DeclaredArray}
+use Rattle.algol_paths.specs.Arrays.{Shape}
 use Rattle.b67_word.specs.Word.{Word}
 use Rattle.b67_control.specs.declared.Descriptor.{Descriptor}
 use Rattle.b67_ops.specs.declared.Couple.{Couple}
@@ -45,7 +45,7 @@ use Rattle.b67_fitting.specs.Nested.{AreNested}
 use Rattle.b67_pictures.specs.Arrays.{Layout, row_length, HoldElements, row_copy, element_copy, IsRow, IsElement, HeldIs}
 use Rattle.b67_pictures.specs.Acting.{Does, failed_by}
 use Rattle.b67_pictures.specs.Pictures.{Pictures}
-use Rattle.b67_pictures.proofs.ArrayHomes.{ArrayHome, array_home, array_fits}
+use Rattle.b67_pictures.proofs.ArrayHomes.{MeantArray, array_home}
 use Rattle.b67_pictures.proofs.AskedElements.{array_asked}
 use Rattle.b67_pictures.proofs.ElementRows.{array_read, RowFound, row_found}
 use Rattle.b67_pictures.proofs.Homes.{operator_there}
@@ -61,7 +61,7 @@ use Rattle.b67_pictures.proofs.Subscripts.{index_below}
 use Rattle.b67_pictures.proofs.Unmade.{makes, unmade}
 
 -- one more is known
-more_known : (known : List Known) (one : Known) (sc : Scopes) (level home base : ℕ) (slots : List Slot) (words : List Word) → SlotsAre sc known level home base slots words → SlotsAre sc (one ∷ known) level home base slots words
+pub more_known : (known : List Known) (one : Known) (sc : Scopes) (level home base : ℕ) (slots : List Slot) (words : List Word) → SlotsAre sc known level home base slots words → SlotsAre sc (one ∷ known) level home base slots words
 more_known known one sc level home base [] [] are = tt
 more_known known one sc level home base [] (w ∷ words) are = absurd are
 more_known known one sc level home base (slot ∷ slots) [] are = absurd are
@@ -87,21 +87,21 @@ module _ (tree : PProgram) (code : Code) (texts : ℕ → List Placed) (nested :
   abbrev text : List Placed
   text = text_in tree texts w part
 
-  abbrev at_home : ℕ
-  at_home = ancestor w ((use_of sc n).up) part.instance
+  -- the array's cell
+  abbrev home : Reference
+  home = followed w (here sc w p q part outer n)
 
   -- ---- whichever operator it is
 
-  module _ (declared : DeclaredArray) (couple : Couple) (h : ArrayHome tree code texts w lay img p q part outer bound core s n declared couple) (z : ℤ) (is : v ≡ number z) (op : Operator) (next : ℕ)
+  module _ (shape : Shape) (couple : Couple) (h : MeantArray tree code texts nested w lay img p q part outer bound core s n shape couple) (z : ℤ) (is : v ≡ number z) (op : Operator) (next : ℕ)
       (there : operator_at code core.registers ≡ Ok (op, next)) where
     -- what the meaning chooses
-    chosen : choice sc w p ≡ indexed_at sc w p q part outer (here sc w p q part outer n) ks (subscript_place ((use_of sc n).sort) h.cell ks z)
+    chosen : choice sc w p ≡ indexed_at sc w p q part outer home ks (subscript_place ((use_of sc n).sort) h.cell ks z)
     chosen =
         choice_is sc w p q part outer s.at s.todo
         ∙ ap (λ (k : Ask). choice_of sc w p q part outer k) asks
-        ∙ ap (λ (u : Value). indexed sc w p q part outer n ks (whole_of u) (followed w (here sc w p q part outer n))) is
-        ∙ ap (λ (c : Cell). indexed sc w p q part outer n ks z (by_cell c (here sc w p q part outer n))) h.of.is
-        ∙ ap (λ (c : Cell). indexed_at sc w p q part outer (here sc w p q part outer n) ks (subscript_place ((use_of sc n).sort) (array_in c) ks z)) h.of.is
+        ∙ ap (λ (u : Value). indexed sc w p q part outer n ks (whole_of u) home) is
+        ∙ ap (λ (c : Cell). indexed_at sc w p q part outer home ks (subscript_place ((use_of sc n).sort) (array_in c) ks z)) h.of.is
 
     -- a subscript outside the bounds
     index_fails : subscript_place ((use_of sc n).sort) h.cell ks z ≡ None → raw code img p ≡ effects.faults InvalidIndex → Does tree code texts w img p
@@ -114,12 +114,12 @@ module _ (tree : PProgram) (code : Code) (texts : ℕ → List Placed) (nested :
         table_is = faults_so code img p InvalidIndex raw_is
 
         fails_so : choice sc w p ≡ record { action = Fault; world = record w { fault = Some (record { kind = InvalidIndex; process = p }) }; released = []; started = None }
-        fails_so = chosen ∙ ap (λ (o : Option ℕ). indexed_at sc w p q part outer (here sc w p q part outer n) ks o) e
+        fails_so = chosen ∙ ap (λ (o : Option ℕ). indexed_at sc w p q part outer home ks o) e
 
     -- one within them: the word of a descriptor comes in place of the two
-    module _ (mother : Bool) (moved_subscript : ℤ) (d : Descriptor) (below : List Slot) (f : Finds tree code texts w lay img p q part outer bound core s mother moved_subscript d below)
-        (k : ℕ) (e : subscript_place ((use_of sc n).sort) h.cell ks z ≡ Some k) (held : Held) (word : Word) (held_is : HeldIs sc w lay part.instance level held word)
-        (comes : ComesTo sc (context_in tree code w part) text level (most_in tree w part) (resume sc part.rest (place (element_of (here sc w p q part outer n) (ks ++ k ∷ [])))) next (descriptor held ∷ below))
+    module _ (mother : Bool) (moved_subscript : ℤ) (d : Descriptor) (below : List Slot) (f : Finds tree code texts nested w lay img p q part outer bound core s mother moved_subscript d below)
+        (k : ℕ) (e : subscript_place ((use_of sc n).sort) h.cell ks z ≡ Some k) (held : Held) (word : Word) (held_is : HeldIs sc w lay (part ∷ outer) part.instance held word)
+        (comes : ComesTo sc (context_in tree code w part) text level (most_in tree w part) (resume sc part.rest (place (element_of home (ks ++ k ∷ [])))) next (descriptor held ∷ below))
         (class_is : class_at op core.registers.place ≡ classes.Action) (raw_is : raw code img p ≡ effects.gives (with_core img p (with_one core word f.words next)))
         (acts : (after : Image) → action_by (outcomes.gives after) img core.registers op ≡ Some Index) where
       abbrev new : Core
@@ -131,13 +131,13 @@ module _ (tree : PProgram) (code : Code) (texts : ℕ → List Placed) (nested :
       index_does : Does tree code texts w img p
       index_does =
           does_in_frame tree code texts fragments keeps order w lay img p q part outer bound core s able_is able_p (unmade part.rest (ap makes asks))
-          (place (element_of (here sc w p q part outer n) (ks ++ k ∷ []))) tt w.output new refl (record { is = refl }) (one ∷ s.stands.held) (held_is, s.stands.held_are) next (descriptor held ∷ below)
-          (in_place tree code texts w lay img p q part outer bound core s mother moved_subscript d below f (one ∷ s.stands.held) (descriptor held) word next
+          (place (element_of home (ks ++ k ∷ []))) tt w.output new refl (record { is = refl }) (one ∷ s.stands.held) (held_is, s.stands.held_are) next (descriptor held ∷ below)
+          (in_place tree code texts nested w lay img p q part outer bound core s mother moved_subscript d below f (one ∷ s.stands.held) (descriptor held) word next
           (inl (refl, refl), more_known s.stands.held one sc level (frame core.registers) (length core.below) below f.words f.left_are) refl)
-          (has_room tree code texts w lay img p q part outer bound core s mother moved_subscript d below f (descriptor held)) comes Index
+          (has_room tree code texts nested w lay img p q part outer bound core s mother moved_subscript d below f (descriptor held)) comes Index
           (action_not_plain code img p core s.has op next there class_is)
           (raw_is ∙ ap (λ (o : List (List ℕ)). effects.gives (record (with_core img p new) { output = o })) s.by.output)
-          (chosen ∙ ap (λ (o : Option ℕ). indexed_at sc w p q part outer (here sc w p q part outer n) ks o) e)
+          (chosen ∙ ap (λ (o : Option ℕ). indexed_at sc w p q part outer home ks o) e)
           (λ t. action_is code img p core s.has op next there (outcomes.gives (record (with_core img p new) { output = w.output })) t ∙ acts (record (with_core img p new) { output = w.output }))
 
   -- ---- by what stands there
@@ -154,15 +154,15 @@ module _ (tree : PProgram) (code : Code) (texts : ℕ → List Placed) (nested :
     row_there = operator_there sc s.stands.held code text level s.stands.pc s.stands.slots core (ops.Plain kinds.Nxln) next s.stands.there found.stands
 
     abbrev IsRowHome : Type 0
-    IsRowHome = ArrayHome tree code texts w lay img p q part outer bound core s n found.array found.couple
+    IsRowHome = MeantArray tree code texts nested w lay img p q part outer bound core s n found.array found.couple
 
-    module _ (h : IsRowHome) (fits : (found.couple.level < 32) × (found.couple.index < 2 ^ 14))
-        (l : FirstIndex tree code texts w lay img p q part outer bound core s n found.array found.couple h found.is_array fits found.subscript below) where
+    module _ (h : IsRowHome)
+        (l : FirstIndex tree code texts nested w lay img p q part outer bound core s n found.array found.couple h found.subscript below) where
       place_first : subscript_place ((use_of sc n).sort) h.cell ks found.subscript ≡ index_in l.moved_subscript (size_of l.first)
       place_first = ap (λ (js : List ℕ). subscript_place ((use_of sc n).sort) h.cell js found.subscript) found.first ∙ sym l.place_is
 
-      row_holds : HoldElements img.rows found.array.kind h.cell h.allotted
-      row_holds = s.by.arrays.held at_home h.number found.array h.cell h.allotted h.has
+      row_holds : HoldElements img.rows h.array.kind h.cell h.allotted
+      row_holds = s.by.arrays.held home.instance h.of.number h.array h.cell h.allotted h.has
 
       abbrev mother_row : Row
       mother_row = record { words = map (λ (m : ℕ). array_word false (row_length h.cell.bounds) m) h.allotted.parts; counted = false }
@@ -180,12 +180,14 @@ module _ (tree : PProgram) (code : Code) (texts : ℕ → List Placed) (nested :
           ∙ mother_faults img p core s.has l.finds.first l.finds.second l.finds.words l.finds.top l.moved_subscript mother_array l.finds.is_whole l.finds.array_is mother_row mother_open next e)
       of_row_at (Some k) e =
           let under : k < size_of l.first = index_below l.moved_subscript (size_of l.first) k e in
-          let f : RowFound sc w lay img.rows found.array.kind h.cell h.allotted row_holds l.second l.mother k =
-          row_found sc w lay img.rows found.array.kind h.cell h.allotted row_holds l.first l.second l.mother k l.bounds l.mother_is l.many under in
-          let held_is : IsRow sc w lay part.instance level n (ks ++ k ∷ []) (row_copy sc w lay (size_of l.second) f.number) =
+          let f : RowFound sc w lay img.rows h.array.kind h.cell h.allotted row_holds l.second l.mother k =
+          row_found sc w lay img.rows h.array.kind h.cell h.allotted row_holds l.first l.second l.mother k l.bounds l.mother_is l.many under in
+          let held_is : IsRow sc w lay (part ∷ outer) part.instance n (ks ++ k ∷ []) (row_copy sc w lay (size_of l.second) f.number) =
           record {
-            near = h.near;
-            declared = found.array;
+            home = home;
+            home_is = refl;
+            own = h.own;
+            declared = h.array;
             cell = h.cell;
             allotted = h.allotted;
             array = h.of;
@@ -202,7 +204,7 @@ module _ (tree : PProgram) (code : Code) (texts : ℕ → List Placed) (nested :
           } in
           index_does found.array found.couple h found.subscript found.is (ops.Plain kinds.Nxln) next row_there true l.moved_subscript mother_array below l.finds k (place_first ∙ e) (row n (ks ++ k ∷ []))
           (row_copy sc w lay (size_of l.second) f.number) held_is
-          (answered (place (element_of (here sc w p q part outer n) (ks ++ k ∷ []))) next (descriptor (row n (ks ++ k ∷ [])) ∷ below) (refl, refl, (k, refl)))
+          (answered (place (element_of home (ks ++ k ∷ []))) next (descriptor (row n (ks ++ k ∷ [])) ∷ below) (refl, refl, (k, refl)))
           (mother_class core.registers.place)
           (mother_raw code img p core s.has next row_there
           ∙ mother_gives img p core s.has l.finds.first l.finds.second l.finds.words l.finds.top l.moved_subscript mother_array l.finds.is_whole l.finds.array_is mother_row mother_open next k
@@ -214,9 +216,8 @@ module _ (tree : PProgram) (code : Code) (texts : ℕ → List Placed) (nested :
 
     row_indexing : Does tree code texts w img p
     row_indexing =
-        let h : IsRowHome = array_home tree code texts w lay img p q part outer bound core s n found.array found.couple (ap array_asked asks) found.is_array in
-        let fits : (found.couple.level < 32) × (found.couple.index < 2 ^ 14) = array_fits tree code texts w lay img p q part outer bound core s n found.array found.couple (ap array_asked asks) found.is_array nested h in
-        row_by_index h fits (first_of_two tree code texts w lay img p q part outer bound core s n found.array found.couple h found.is_array fits found.subscript low second below found.lows_are found.lies)
+        let h : IsRowHome = array_home tree code texts nested w lay img p q part outer bound core s n found.array found.couple (ap array_asked asks) found.is_array in
+        row_by_index h (first_of_two tree code texts nested w lay img p q part outer bound core s n found.array found.couple h found.subscript low second below found.lows_are found.lies)
 
   -- INDX, which leads to an element
   module _ (kind : Kind) (next : ℕ) (below : List Slot) (found : ElementIndexAt sc (context_in tree code w part) text level (most_in tree w part) n ks v kind s.stands.pc next s.stands.slots below)
@@ -225,10 +226,10 @@ module _ (tree : PProgram) (code : Code) (texts : ℕ → List Placed) (nested :
     element_there = operator_there sc s.stands.held code text level s.stands.pc s.stands.slots core (ops.Plain kinds.Indx) next s.stands.there found.stands
 
     abbrev IsElementHome : Type 0
-    IsElementHome = ArrayHome tree code texts w lay img p q part outer bound core s n found.array found.couple
+    IsElementHome = MeantArray tree code texts nested w lay img p q part outer bound core s n found.array found.couple
 
-    module _ (h : IsElementHome) (fits : (found.couple.level < 32) × (found.couple.index < 2 ^ 14))
-        (l : LastIndex tree code texts w lay img p q part outer bound core s n found.array found.couple h found.is_array fits ks found.subscript below) where
+    module _ (h : IsElementHome)
+        (l : LastIndex tree code texts nested w lay img p q part outer bound core s n found.array found.couple h ks found.subscript below) where
       abbrev last_array : Descriptor
       last_array = whole_array l.copied false l.size l.number
 
@@ -238,13 +239,11 @@ module _ (tree : PProgram) (code : Code) (texts : ℕ → List Placed) (nested :
           (index_raw code img p core s.has next element_there
           ∙ index_faults img p core s.has l.finds.first l.finds.second l.finds.words l.finds.top l.moved_subscript last_array l.finds.is_whole l.finds.array_is next e)
       of_element_at (Some k) e =
-          let held_is : IsElement sc w lay part.instance level (here sc w p q part outer n) (ks ++ k ∷ []) kind (element_copy sc w lay k l.number) =
+          let held_is : IsElement sc w lay (part ∷ outer) home (ks ++ k ∷ []) kind (element_copy sc w lay k l.number) =
           record {
-            up = (use_of sc n).up;
-            near = h.near;
-            home = refl;
-            declared = found.array;
-            kind_is = found.kind_is;
+            own = h.own;
+            declared = h.array;
+            kind_is = h.kind_is ∙ found.kind_is;
             cell = h.cell;
             allotted = h.allotted;
             array = h.of;
@@ -257,8 +256,8 @@ module _ (tree : PProgram) (code : Code) (texts : ℕ → List Placed) (nested :
             word_is = refl;
           } in
           index_does found.array found.couple h found.subscript found.is (ops.Plain kinds.Indx) next element_there false l.moved_subscript last_array below l.finds k (sym l.place_is ∙ e)
-          (element (here sc w p q part outer n) (ks ++ k ∷ []) kind) (element_copy sc w lay k l.number) held_is
-          (answered (place (element_of (here sc w p q part outer n) (ks ++ k ∷ []))) next (descriptor (element (here sc w p q part outer n) (ks ++ k ∷ []) kind) ∷ below) (refl, refl, (k, refl)))
+          (element home (ks ++ k ∷ []) kind) (element_copy sc w lay k l.number) held_is
+          (answered (place (element_of home (ks ++ k ∷ []))) next (descriptor (element home (ks ++ k ∷ []) kind) ∷ below) (refl, refl, (k, refl)))
           (index_class core.registers.place)
           (index_raw code img p core s.has next element_there
           ∙ index_gives img p core s.has l.finds.first l.finds.second l.finds.words l.finds.top l.moved_subscript last_array l.finds.is_whole l.finds.array_is next k e)
@@ -269,9 +268,8 @@ module _ (tree : PProgram) (code : Code) (texts : ℕ → List Placed) (nested :
 
     element_indexing : Does tree code texts w img p
     element_indexing =
-        let h : IsElementHome = array_home tree code texts w lay img p q part outer bound core s n found.array found.couple (ap array_asked asks) found.is_array in
-        let fits : (found.couple.level < 32) × (found.couple.index < 2 ^ 14) = array_fits tree code texts w lay img p q part outer bound core s n found.array found.couple (ap array_asked asks) found.is_array nested h in
-        element_by_index h fits (last_index tree code texts w lay img p q part outer bound core s n found.array found.couple h found.is_array fits ks found.subscript below found.lies)
+        let h : IsElementHome = array_home tree code texts nested w lay img p q part outer bound core s n found.array found.couple (ap array_asked asks) found.is_array in
+        element_by_index h (last_index tree code texts nested w lay img p q part outer bound core s n found.array found.couple h ks found.subscript below found.lies)
 
   pub indexing : (a : ActionAt sc (context_in tree code w part) text level (most_in tree w part) (indexes n ks v) s.stands.pc s.stands.slots) → Goes_on a → Does tree code texts w img p
   indexing (of_row low second next below found) answered = row_indexing low second next below found answered

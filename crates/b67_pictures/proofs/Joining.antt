@@ -8,7 +8,7 @@ use Rattle.algol_tree.specs.Plain.{PProgram, PPair, PBody}
 use Rattle.algol_tree.specs.Scopes.{scopes_of}
 use Rattle.algol_meaning.specs.Value.{Value, Reference}
 use Rattle.algol_meaning.specs.Rest.{element_of, Given, done, value}
-use Rattle.algol_meaning.specs.Asks.{reads_element, indexes, leaves, enters, stores, enters_block, makes_arrays}
+use Rattle.algol_meaning.specs.Asks.{reads_element, indexes, leaves, enters, passes, stores, enters_block, makes_arrays}
 use Rattle.algol_paths.specs.Laws.{RestsKeepToTheirText, ArraysAreMadeInOrder}
 use Rattle.b67_segment.specs.Operators.{Placed}
 use Rattle.b67_segment.specs.declared.code.Code.{Code}
@@ -45,11 +45,12 @@ use Rattle.b67_pictures.proofs.Simulating.{StandApart}
 use Rattle.b67_pictures.proofs.Starting.{first_pictured}
 use Rattle.b67_pictures.proofs.Counting.{operators_are_few}
 
--- what is done with arrays: an element is read, indexed, or stored, and arrays are made
+-- what is done with arrays: an element is read, indexed, or stored, a parameter is passed on, and arrays are made
 pub record ArraysAreDone (tree : PProgram) (code : Code) (texts : ℕ → List Placed) : Type 0 where
   pub reading : (n : Named) (ks : List ℕ) (v : Value) → IsDone tree code texts (reads_element n ks v)
   pub indexing : (n : Named) (ks : List ℕ) (v : Value) → IsDone tree code texts (indexes n ks v)
   pub storing : (r : Reference) (ks : List ℕ) (v : Value) → IsDone tree code texts (stores (element_of r ks) v)
+  pub passing : (n : Named) → IsDone tree code texts (passes n)
   pub making : (kind : Kind) (ns : List Named) (pairs : List PPair) (vs : List Value) → IsDone tree code texts (makes_arrays kind ns pairs vs)
 
 module _ (keeps : RestsKeepToTheirText) (order : ArraysAreMadeInOrder) (closing : FramesClose) (tree : PProgram) (code : Code) (built : IsBuilt tree) (lies : LiesNested tree) (short : IsShort tree code)
@@ -90,6 +91,7 @@ module _ (keeps : RestsKeepToTheirText) (order : ArraysAreMadeInOrder) (closing 
         reading = arrays.reading;
         indexing = arrays.indexing;
         storing = arrays.storing;
+        passing = arrays.passing;
         making = arrays.making;
         leaving = leaves_done;
         returning = gives_back;

@@ -1,18 +1,34 @@
--- What is known of descriptors on a stack holds of a later world as well, in which each instance that it is of keeps its arrays.
-use Rattle.std.proofs.Common.{◌≡◌, refl, sym, ap, ◌∙◌, subst, ℕ, ◌+◌, ◌≤◌, List, [], ◌∷◌, Some, Bool, true, false}
+-- What is known of descriptors and references on a stack holds of a later world as well, in which each instance that it is of keeps its arrays.
+use Rattle.std.proofs.Common.{◌≡◌, ◌⊎◌, inl, inr, refl, sym, ap, ◌∙◌, subst, ℕ, zero, suc, ◌+◌, List, [], ◌∷◌, length, Some, Bool, true, false}
 use Rattle.std.specs.Prelude.{if◌then◌else◌, slice_get}
+use Rattle.b67_list.specs.Numbered.{numbered}
+use Rattle.algol_tree.specs.declared.tree.Kind.{Kind}
+use Rattle.algol_tree.specs.declared.tree.Named.{Named}
 use Rattle.algol_tree.specs.Blocks.{block_numbered}
 use Rattle.algol_tree.specs.Scopes.{Scopes, use_of}
 use Rattle.algol_tree.specs.Sorts.{same_name}
-use Rattle.algol_meaning.specs.Value.{Value, Bounds, ArrayCell, simple, array}
-use Rattle.algol_meaning.specs.World.{NamedCell, Instance, World, instance_at, ancestor, cell_in, cells_with}
-use Rattle.algol_paths.specs.Arrays.{DeclaredArray, arrays_of}
+use Rattle.algol_meaning.specs.Value.{Value, Reference, Bounds, ArrayCell, Cell, simple, event, array, named, reference}
+use Rattle.algol_meaning.specs.World.{NamedCell, Instance, Part, World, instance_at, or_no_instance, ancestor, cell_in, cells_with, by_cell, followed}
+use Rattle.algol_paths.specs.Arrays.{DeclaredArray, Shape, arrays_of}
+use Rattle.b67_word.specs.declared.Place.{Place}
 use Rattle.b67_word.specs.Word.{Word}
-use Rattle.b67_ops.specs.declared.TheConstants.{OUTER_LEVEL}
-use Rattle.b67_templates.specs.Cells.{array_from}
-use Rattle.b67_standing.specs.Stepping.{Held, row, element}
-use Rattle.b67_cores.specs.Slots.{Known}
-use Rattle.b67_pictures.specs.Arrays.{Allotted, Layout, IsArrayOf, IsIn, HeldIs, AreKnown}
+use Rattle.b67_table.specs.References.{cell_word}
+use Rattle.b67_templates.specs.Cells.{simple_cells, procedures, array_from}
+use Rattle.b67_standing.specs.Stepping.{Held, row, element, cell_named, cell_of}
+use Rattle.b67_cores.specs.Slots.{Known, IsKnown}
+use Rattle.b67_pictures.specs.Arrays.{Allotted, Layout, IsOwn, IsArrayOf, IsIn, LeadsTo, named_from, IsNamed, IsRow, IsElement, HeldIs, AreKnown}
+
+-- what is known of a word is so
+pub known_is : (sc : Scopes) (w : World) (lay : Layout) (parts : List Part) (i : ℕ) (known : List Known) → AreKnown sc w lay parts i known → (held : Held) (word : Word) → IsKnown known held word →
+    HeldIs sc w lay parts i held word
+known_is sc w lay parts i [] are held word is = absurd is
+known_is sc w lay parts i (x ∷ known) are held word (inl same) =
+    subst (λ (u : Word). HeldIs sc w lay parts i held u) same.1 (subst (λ (h : Held). HeldIs sc w lay parts i h x.word) same.0 are.0)
+known_is sc w lay parts i (x ∷ known) are held word (inr later) = known_is sc w lay parts i known are.1 held word later
+
+-- an instance of these parts, or none
+abbrev pub IsOwnOrNone : List Part → ℕ → Type 0
+IsOwnOrNone parts j = (j ≡ 0) ⊎ IsOwn parts j
 
 module _ (sc : Scopes) (w w' : World) (lay lay' : Layout) where
   -- an array that an instance has by its name stays, with its bounds
@@ -21,13 +37,15 @@ module _ (sc : Scopes) (w w' : World) (lay lay' : Layout) where
     pub is : cell_in ((instance_at w' j).cells) name ≡ array later
     pub bounds : later.bounds ≡ cell.bounds
 
-  -- an instance keeps its block, its arrays and their rows
+  -- an instance keeps its block, its parent, its arrays and their rows, and its names lead where they led
   pub record KeepsArrays (j : ℕ) : Type 0 where
     pub block : (instance_at w' j).block ≡ (instance_at w j).block
+    pub parent : (instance_at w' j).parent ≡ (instance_at w j).parent
     pub arrays : (name : List ℕ) (cell : ArrayCell) → cell_in ((instance_at w j).cells) name ≡ array cell → KeepsArray j name cell
+    pub leads : (name : List ℕ) (r : Reference) → by_cell (cell_in ((instance_at w' j).cells) name) r ≡ by_cell (cell_in ((instance_at w j).cells) name) r
     pub rows : (number : ℕ) (a : Allotted) → slice_get (lay.rows j) number ≡ Some a → slice_get (lay'.rows j) number ≡ Some a
 
-  array_lasts : (j : ℕ) (name : List ℕ) (declared : DeclaredArray) (cell : ArrayCell) (a : Allotted) (keeps : KeepsArrays j) (h : IsArrayOf sc w lay j name declared cell a) →
+  abbrev pub array_lasts : (j : ℕ) (name : List ℕ) (declared : DeclaredArray) (cell : ArrayCell) (a : Allotted) (keeps : KeepsArrays j) (h : IsArrayOf sc w lay j name declared cell a) →
       IsArrayOf sc w' lay' j name declared ((keeps.arrays name cell h.is).later) a
   array_lasts j name declared cell a keeps h =
       record {
@@ -37,52 +55,152 @@ module _ (sc : Scopes) (w w' : World) (lay lay' : Layout) where
         allotted = keeps.rows h.number a h.allotted;
       }
 
-  module _ (i level : ℕ) (same : (up : ℕ) → up + OUTER_LEVEL ≤ level → ancestor w' up i ≡ ancestor w up i) (keeps : (up : ℕ) → up + OUTER_LEVEL ≤ level → KeepsArrays (ancestor w up i)) where
-    held_lasts : (held : Held) (word : Word) → HeldIs sc w lay i level held word → HeldIs sc w' lay' i level held word
-    held_lasts (row n ks) word h =
-        let k : KeepsArrays (ancestor w ((use_of sc n).up) i) = keeps ((use_of sc n).up) h.near in
+  -- The instances of these parts keep their arrays and the places of their frames, and are those of others later.
+  pub record Remain (parts parts' : List Part) : Type 0 where
+    pub owned : (j : ℕ) → IsOwn parts j → IsOwn parts' j
+    pub keeps : (j : ℕ) → IsOwn parts j → KeepsArrays j
+    pub places : (j : ℕ) (f : Place) → IsOwn parts j → numbered lay.places j ≡ Some f → numbered lay'.places j ≡ Some f
+
+  -- the static parents of an instance stay, and what their names lead to
+  pub record Climbs (i : ℕ) : Type 0 where
+    pub same : (up : ℕ) → ancestor w' up i ≡ ancestor w up i
+    pub leads : (up : ℕ) (name : List ℕ) → followed w' (record { instance = ancestor w up i; name = name }) ≡ followed w (record { instance = ancestor w up i; name = name })
+
+  module _ (parts parts' : List Part) (remain : Remain parts parts') where
+    -- a reference leads where it led
+    pub leads_lasts : (shape : Shape) (r : Reference) (word : Word) → LeadsTo sc w lay parts shape r word → LeadsTo sc w' lay' parts' shape r word
+    leads_lasts shape r word h =
+        let k : KeepsArrays r.instance = remain.keeps r.instance h.own in
         record {
-          near = h.near;
+          own = remain.owned r.instance h.own;
           declared = h.declared;
-          cell = (k.arrays n.name h.cell h.array.is).later;
-          allotted = h.allotted;
-          array = subst (λ (j : ℕ). IsArrayOf sc w' lay' j n.name h.declared ((k.arrays n.name h.cell h.array.is).later) h.allotted) (sym (same ((use_of sc n).up) h.near))
-              (array_lasts (ancestor w ((use_of sc n).up) i) n.name h.declared h.cell h.allotted k h.array);
-          first = h.first;
-          second = h.second;
-          bounds = (k.arrays n.name h.cell h.array.is).bounds ∙ h.bounds;
-          index = h.index;
-          subscripts = h.subscripts;
-          within = h.within;
-          number = h.number;
-          part = h.part;
-          few = h.few;
-          word_is = h.word_is;
-        }
-    held_lasts (element r ks kind) word h =
-        let k : KeepsArrays r.instance = subst (λ (j : ℕ). KeepsArrays j) (sym h.home) (keeps h.up h.near) in
-        record {
-          up = h.up;
-          near = h.near;
-          home = h.home ∙ sym (same h.up h.near);
-          declared = h.declared;
-          kind_is = h.kind_is;
+          agrees = h.agrees;
           cell = (k.arrays r.name h.cell h.array.is).later;
           allotted = h.allotted;
           array = array_lasts r.instance r.name h.declared h.cell h.allotted k h.array;
-          index = h.index;
-          at = h.at;
-          within = subst (λ (bs : List Bounds). IsIn sc w lay bs ks h.index h.at) (sym (k.arrays r.name h.cell h.array.is).bounds) h.within;
-          number = h.number;
-          part = h.part;
-          few = h.few;
-          word_is = h.word_is;
+          frame = h.frame;
+          laid = remain.places r.instance h.frame h.own h.laid;
+          word_is = h.word_is
+              ∙ ap (λ (b : ℕ). cell_word (record {
+                frame = h.frame;
+                index = 2 + length (simple_cells sc (block_numbered sc.blocks b)) + length (procedures ((block_numbered sc.blocks b).decls)) + h.array.number;
+              })) (sym k.block);
         }
 
-    -- so all of it holds later
-    pub known_lasts : (known : List Known) → AreKnown sc w lay i level known → AreKnown sc w' lay' i level known
-    known_lasts [] are = tt
-    known_lasts (x ∷ known) are = (held_lasts x.held x.word are.0, known_lasts known are.1)
+    module _ (i : ℕ) (climbs : Climbs i) where
+      home_lasts : (n : Named) → followed w' (named_from sc w' lay' i n) ≡ followed w (named_from sc w lay i n)
+      home_lasts n =
+          ap (λ (j : ℕ). followed w' (record { instance = j; name = n.name })) (climbs.same ((use_of sc n).up))
+          ∙ climbs.leads ((use_of sc n).up) n.name
+
+      row_lasts : (n : Named) (ks : List ℕ) (word : Word) → IsRow sc w lay parts i n ks word → IsRow sc w' lay' parts' i n ks word
+      row_lasts n ks word h =
+          let k : KeepsArrays h.home.instance = remain.keeps h.home.instance h.own in
+          record {
+            home = h.home;
+            home_is = h.home_is ∙ sym (home_lasts n);
+            own = remain.owned h.home.instance h.own;
+            declared = h.declared;
+            cell = (k.arrays h.home.name h.cell h.array.is).later;
+            allotted = h.allotted;
+            array = array_lasts h.home.instance h.home.name h.declared h.cell h.allotted k h.array;
+            first = h.first;
+            second = h.second;
+            bounds = (k.arrays h.home.name h.cell h.array.is).bounds ∙ h.bounds;
+            index = h.index;
+            subscripts = h.subscripts;
+            within = h.within;
+            number = h.number;
+            part = h.part;
+            few = h.few;
+            word_is = h.word_is;
+          }
+
+      element_lasts : (r : Reference) (ks : List ℕ) (kind : Kind) (word : Word) → IsElement sc w lay parts r ks kind word → IsElement sc w' lay' parts' r ks kind word
+      element_lasts r ks kind word h =
+          let k : KeepsArrays r.instance = remain.keeps r.instance h.own in
+          record {
+            own = remain.owned r.instance h.own;
+            declared = h.declared;
+            kind_is = h.kind_is;
+            cell = (k.arrays r.name h.cell h.array.is).later;
+            allotted = h.allotted;
+            array = array_lasts r.instance r.name h.declared h.cell h.allotted k h.array;
+            index = h.index;
+            at = h.at;
+            within = subst (λ (bs : List Bounds). IsIn sc w lay bs ks h.index h.at) (sym (k.arrays r.name h.cell h.array.is).bounds) h.within;
+            number = h.number;
+            part = h.part;
+            few = h.few;
+            word_is = h.word_is;
+          }
+
+      named_lasts : (n : Named) (word : Word) → IsNamed sc w lay parts i n word → IsNamed sc w' lay' parts' i n word
+      named_lasts n word h =
+          let up : ℕ = (use_of sc n).up in
+          record {
+            own = subst (λ (j : ℕ). IsOwn parts' j) (sym (climbs.same up)) (remain.owned (ancestor w up i) h.own);
+            level = h.level;
+            declared = h.declared;
+            couple = h.couple;
+            array = h.array;
+            frame = h.frame;
+            laid = ap (λ (j : ℕ). numbered lay'.places j) (climbs.same up) ∙ remain.places (ancestor w up i) h.frame h.own h.laid;
+            word_is = h.word_is;
+          }
+
+      held_lasts : (held : Held) (word : Word) → HeldIs sc w lay parts i held word → HeldIs sc w' lay' parts' i held word
+      held_lasts (row n ks) word h = row_lasts n ks word h
+      held_lasts (element r ks kind) word h = element_lasts r ks kind word h
+      held_lasts (cell_named n) word h = named_lasts n word h
+      held_lasts (cell_of shape r) word h = leads_lasts shape r word h
+
+      -- so all of it holds later
+      pub known_lasts : (known : List Known) → AreKnown sc w lay parts i known → AreKnown sc w' lay' parts' i known
+      known_lasts [] are = tt
+      known_lasts (x ∷ known) are = (held_lasts x.held x.word are.0, known_lasts known are.1)
+
+  -- ---- static parents
+
+  module _ (parts : List Part) (keeps : (j : ℕ) → IsOwn parts j → KeepsArrays j) (next : (j : ℕ) → IsOwn parts j → IsOwnOrNone parts ((instance_at w j).parent)) where
+    parent_same : (j : ℕ) → IsOwnOrNone parts j → (instance_at w' j).parent ≡ (instance_at w j).parent
+    parent_same j (inl none) = ap (λ (k : ℕ). (instance_at w' k).parent) none ∙ sym (ap (λ (k : ℕ). (instance_at w k).parent) none)
+    parent_same j (inr own) = (keeps j own).parent
+
+    next_of : (j : ℕ) → IsOwnOrNone parts j → IsOwnOrNone parts ((instance_at w j).parent)
+    next_of j (inl none) = inl (ap (λ (k : ℕ). (instance_at w k).parent) none)
+    next_of j (inr own) = next j own
+
+    names_lead : (j : ℕ) → IsOwnOrNone parts j → (name : List ℕ) → followed w' (record { instance = j; name = name }) ≡ followed w (record { instance = j; name = name })
+    names_lead j (inl none) name =
+        ap (λ (k : ℕ). followed w' (record { instance = k; name = name })) none
+        ∙ sym (ap (λ (k : ℕ). followed w (record { instance = k; name = name })) none)
+    names_lead j (inr own) name = (keeps j own).leads name (record { instance = j; name = name })
+
+    same_up : (up j : ℕ) → IsOwnOrNone parts j → ancestor w' up j ≡ ancestor w up j
+    same_up zero j own = refl
+    same_up (suc up) j own = ap (λ (k : ℕ). ancestor w' up k) (parent_same j own) ∙ same_up up ((instance_at w j).parent) (next_of j own)
+
+    leads_up : (up j : ℕ) → IsOwnOrNone parts j → (name : List ℕ) →
+        followed w' (record { instance = ancestor w up j; name = name }) ≡ followed w (record { instance = ancestor w up j; name = name })
+    leads_up zero j own name = names_lead j own name
+    leads_up (suc up) j own name = leads_up up ((instance_at w j).parent) (next_of j own) name
+
+    pub climbs_own : (i : ℕ) → IsOwn parts i → Climbs i
+    climbs_own i own = record { same = λ up. same_up up i (inr own); leads = λ up name. leads_up up i (inr own) name }
+
+  -- where all instances keep their arrays
+  module _ (keeps : (j : ℕ) → KeepsArrays j) where
+    same_parents : (up j : ℕ) → ancestor w' up j ≡ ancestor w up j
+    same_parents zero j = refl
+    same_parents (suc up) j = ap (λ (k : ℕ). ancestor w' up k) (keeps j).parent ∙ same_parents up ((instance_at w j).parent)
+
+    pub climbs_all : (i : ℕ) → Climbs i
+    climbs_all i =
+        record {
+          same = λ up. same_parents up i;
+          leads = λ up name. (keeps (ancestor w up i)).leads name (record { instance = ancestor w up i; name = name });
+        }
 
 -- ---- instances that keep their arrays
 
@@ -91,13 +209,22 @@ pub keeps_same : (sc : Scopes) (w w' : World) (lay lay' : Layout) (j : ℕ) → 
 keeps_same sc w w' lay lay' j same rows =
     record {
       block = ap (λ (x : Instance). x.block) same;
+      parent = ap (λ (x : Instance). x.parent) same;
       arrays = λ name cell is. record { later = cell; is = ap (λ (x : Instance). cell_in x.cells name) same ∙ is; bounds = refl };
+      leads = λ name r. ap (λ (x : Instance). by_cell (cell_in x.cells name) r) same;
       rows = λ number a there. ap (λ (as' : List Allotted). slice_get as' number) rows ∙ there;
     }
 
--- the cells with another value in the first one of a name, by whether the first cell has it
-abbrev with_value : Bool → NamedCell → List NamedCell → List ℕ → Value → List NamedCell
-with_value b c cells name v = if b then record c { cell = simple v } ∷ cells else c ∷ cells_with cells name (simple v)
+-- what is known is known of other parts with the same instances, and in a world with the same instances
+pub known_of : (sc : Scopes) (w w' : World) (lay : Layout) (parts parts' : List Part) → w'.instances ≡ w.instances → ((j : ℕ) → IsOwn parts j → IsOwn parts' j) → (i : ℕ) (known : List Known) →
+    AreKnown sc w lay parts i known → AreKnown sc w' lay parts' i known
+known_of sc w w' lay parts parts' same owned i =
+    let keeps : (j : ℕ) → KeepsArrays sc w w' lay lay j = λ j. keeps_same sc w w' lay lay j (ap (λ (xs : List Instance). or_no_instance (numbered xs j)) same) refl in
+    known_lasts sc w w' lay lay parts parts' (record { owned = owned; keeps = λ j own. keeps j; places = λ j f own laid. laid }) i (climbs_all sc w w' lay lay keeps i)
+
+-- the cells with another one in the first of a name, by whether the first cell has it
+abbrev with_cell : Bool → NamedCell → List NamedCell → List ℕ → Cell → List NamedCell
+with_cell b c cells name new = if b then record c { cell = new } ∷ cells else c ∷ cells_with cells name new
 
 -- an array's cell stays where a simple cell changes
 array_stays : (cells : List NamedCell) (changed name : List ℕ) (u v : Value) (a : ArrayCell) → cell_in cells changed ≡ simple u → cell_in cells name ≡ array a → cell_in (cells_with cells changed (simple v)) name ≡ array a
@@ -108,23 +235,66 @@ array_stays (c ∷ cells) changed name u v a before is =
     by_names : (cell_in cells changed ≡ simple u → cell_in cells name ≡ array a → cell_in (cells_with cells changed (simple v)) name ≡ array a) →
         (b d : Bool) → same_name c.name changed ≡ b → same_name c.name name ≡ d →
         (if same_name c.name changed then c.cell else cell_in cells changed) ≡ simple u → (if same_name c.name name then c.cell else cell_in cells name) ≡ array a →
-        cell_in (with_value (same_name c.name changed) c cells changed v) name ≡ array a
+        cell_in (with_cell (same_name c.name changed) c cells changed (simple v)) name ≡ array a
     by_names rest true true e f before is =
         absurd (let clash : simple u ≡ array a =
         sym (ap (λ (b : Bool). if b then c.cell else cell_in cells changed) (sym e) ∙ before) ∙ ap (λ (b : Bool). if b then c.cell else cell_in cells name) (sym f) ∙ is in cc)
     by_names rest true false e f before is =
-        ap (λ (b : Bool). cell_in (with_value b c cells changed v) name) e
+        ap (λ (b : Bool). cell_in (with_cell b c cells changed (simple v)) name) e
         ∙ ap (λ (b : Bool). if b then simple v else cell_in cells name) f
         ∙ ap (λ (b : Bool). if b then c.cell else cell_in cells name) (sym f) ∙ is
     by_names rest false true e f before is =
-        ap (λ (b : Bool). cell_in (with_value b c cells changed v) name) e
+        ap (λ (b : Bool). cell_in (with_cell b c cells changed (simple v)) name) e
         ∙ ap (λ (b : Bool). if b then c.cell else cell_in (cells_with cells changed (simple v)) name) f
         ∙ ap (λ (b : Bool). if b then c.cell else cell_in cells name) (sym f)
         ∙ is
     by_names rest false false e f before is =
-        ap (λ (b : Bool). cell_in (with_value b c cells changed v) name) e
+        ap (λ (b : Bool). cell_in (with_cell b c cells changed (simple v)) name) e
         ∙ ap (λ (b : Bool). if b then c.cell else cell_in (cells_with cells changed (simple v)) name) f
         ∙ rest (ap (λ (b : Bool). if b then c.cell else cell_in cells changed) (sym e) ∙ before) (ap (λ (b : Bool). if b then c.cell else cell_in cells name) (sym f) ∙ is)
+
+-- a cell that is no reference
+abbrev pub IsNoReference : Cell → Type 0
+IsNoReference (reference r) = ⊥
+IsNoReference c = Unit {0}
+
+-- it leads to itself
+leads_home : (c : Cell) (r : Reference) → IsNoReference c → by_cell c r ≡ r
+leads_home (simple v) r is = refl
+leads_home (event e) r is = refl
+leads_home (array a) r is = refl
+leads_home (named n) r is = refl
+leads_home (reference s) r is = absurd is
+
+-- names lead where they led, where a cell that is no reference becomes another one that is none
+pub names_stay : (cells : List NamedCell) (changed name : List ℕ) (new : Cell) (r : Reference) → IsNoReference (cell_in cells changed) → IsNoReference new →
+    by_cell (cell_in (cells_with cells changed new) name) r ≡ by_cell (cell_in cells name) r
+names_stay [] changed name new r before after = refl
+names_stay (c ∷ cells) changed name new r before after =
+    by_names (names_stay cells changed name new r) (same_name c.name changed) (same_name c.name name) refl refl before
+  where
+    by_names : (IsNoReference (cell_in cells changed) → IsNoReference new → by_cell (cell_in (cells_with cells changed new) name) r ≡ by_cell (cell_in cells name) r) →
+        (b d : Bool) → same_name c.name changed ≡ b → same_name c.name name ≡ d → IsNoReference (if same_name c.name changed then c.cell else cell_in cells changed) →
+        by_cell (cell_in (with_cell (same_name c.name changed) c cells changed new) name) r ≡ by_cell (if same_name c.name name then c.cell else cell_in cells name) r
+    by_names rest true true e f before =
+        ap (λ (b : Bool). by_cell (cell_in (with_cell b c cells changed new) name) r) e
+        ∙ ap (λ (b : Bool). by_cell (if b then new else cell_in cells name) r) f
+        ∙ leads_home new r after
+        ∙ sym (leads_home c.cell r (subst (λ (b : Bool). IsNoReference (if b then c.cell else cell_in cells changed)) e before))
+        ∙ ap (λ (b : Bool). by_cell (if b then c.cell else cell_in cells name) r) (sym f)
+    by_names rest true false e f before =
+        ap (λ (b : Bool). by_cell (cell_in (with_cell b c cells changed new) name) r) e
+        ∙ ap (λ (b : Bool). by_cell (if b then new else cell_in cells name) r) f
+        ∙ ap (λ (b : Bool). by_cell (if b then c.cell else cell_in cells name) r) (sym f)
+    by_names rest false true e f before =
+        ap (λ (b : Bool). by_cell (cell_in (with_cell b c cells changed new) name) r) e
+        ∙ ap (λ (b : Bool). by_cell (if b then c.cell else cell_in (cells_with cells changed new) name) r) f
+        ∙ ap (λ (b : Bool). by_cell (if b then c.cell else cell_in cells name) r) (sym f)
+    by_names rest false false e f before =
+        ap (λ (b : Bool). by_cell (cell_in (with_cell b c cells changed new) name) r) e
+        ∙ ap (λ (b : Bool). by_cell (if b then c.cell else cell_in (cells_with cells changed new) name) r) f
+        ∙ rest (subst (λ (b : Bool). IsNoReference (if b then c.cell else cell_in cells changed)) e before) after
+        ∙ ap (λ (b : Bool). by_cell (if b then c.cell else cell_in cells name) r) (sym f)
 
 -- one in which a simple cell changes
 pub keeps_stored : (sc : Scopes) (w w' : World) (lay : Layout) (j : ℕ) (name : List ℕ) (u v : Value) → cell_in ((instance_at w j).cells) name ≡ simple u →
@@ -132,10 +302,14 @@ pub keeps_stored : (sc : Scopes) (w w' : World) (lay : Layout) (j : ℕ) (name :
 keeps_stored sc w w' lay j name u v before same =
     record {
       block = ap (λ (x : Instance). x.block) same;
+      parent = ap (λ (x : Instance). x.parent) same;
       arrays = λ other cell is. record {
         later = cell;
         is = ap (λ (x : Instance). cell_in x.cells other) same ∙ array_stays ((instance_at w j).cells) name other u v cell before is;
         bounds = refl;
       };
+      leads = λ other r.
+          ap (λ (x : Instance). by_cell (cell_in x.cells other) r) same
+          ∙ names_stay ((instance_at w j).cells) name other (simple v) r (subst (λ (c : Cell). IsNoReference c) (sym before) tt) tt;
       rows = λ number a there. there;
     }

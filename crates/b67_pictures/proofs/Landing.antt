@@ -1,5 +1,5 @@
 -- A process that has a core at a place from which private operators lead to where the machine stands for what its parts have still to do.
-use Rattle.std.proofs.Common.{◌≡◌, sym, ap, ◌∙◌, subst, ℕ, ◌+◌, ◌≤◌, List, ◌∷◌, length, Some, None, arith}
+use Rattle.std.proofs.Common.{◌≡◌, sym, ap, ◌∙◌, subst, ℕ, ◌+◌, ◌≤◌, List, ◌∷◌, ◌++◌, length, Some, None, arith}
 use Rattle.algol_tree.specs.Plain.{PProgram}
 use Rattle.algol_tree.specs.Scopes.{Scopes, scopes_of}
 use Rattle.algol_meaning.specs.World.{Process, Part, World, instance_at}
@@ -23,6 +23,7 @@ use Rattle.b67_pictures.specs.Arrays.{Layout, AreKnown}
 use Rattle.b67_pictures.specs.Frames.{IsChained, Frame, Around, Frames}
 use Rattle.b67_pictures.specs.Pictures.{innermost_most, Living}
 use Rattle.b67_pictures.proofs.Staying.{text_in, level_in, context_in, most_in, wanted_in}
+use Rattle.b67_pictures.proofs.Stuffed.{known_both, sees, stuffed_known}
 
 -- a core at a place is there, after no step, where its stack has the room of the bound
 pub steps_none : (sc : Scopes) (known : List Known) (code : Code) (ps : List Placed) (level most bound pc : ℕ) (slots : List Slot) (core : Core) → CoreAt sc known code ps level pc slots core → length slots ≤ most → length core.below + most ≤ bound →
@@ -52,7 +53,7 @@ module _ (tree : PProgram) (code : Code) (texts : ℕ → List Placed) (w : Worl
     pub pc : ℕ
     pub slots : List Slot
     pub known : List Known
-    pub known_are : AreKnown (scopes_of tree) w lay part.instance (level_in tree w part) known
+    pub known_are : AreKnown (scopes_of tree) w lay (part ∷ outer) part.instance known
     pub at : CoreAt (scopes_of tree) known code (text_in tree texts w part) (level_in tree w part) pc slots core
     pub held : length slots ≤ most_in tree w part
     pub comes : ComesTo (scopes_of tree) (context_in tree code w part) (text_in tree texts w part) (level_in tree w part) (most_in tree w part) part.rest pc slots
@@ -62,7 +63,8 @@ module _ (tree : PProgram) (code : Code) (texts : ℕ → List Placed) (w : Worl
   pub living_of : FragmentsArePerformed → (p : ℕ) (q : Process) (part : Part) (outer : List Part) (bound : ℕ) (first core : Core) → Landed p q part outer bound first core → Living tree code texts w lay img p q
   living_of fragments p q part outer bound first core l =
       let a : Arrives (scopes_of tree) l.known code (text_in tree texts w part) (level_in tree w part) (most_in tree w part) bound l.comes.at l.comes.with_slots core =
-      fragments.leads (scopes_of tree) l.known (context_in tree code w part) code (text_in tree texts w part) (level_in tree w part) (most_in tree w part) bound l.pc l.comes.at l.slots l.comes.with_slots core l.comes.leads l.at l.held l.room in
+      fragments.leads (scopes_of tree) l.known (context_in tree code w part) code (text_in tree texts w part) (level_in tree w part) (most_in tree w part) bound l.pc l.comes.at l.slots l.comes.with_slots core l.comes.leads l.at
+      (sees tree code texts w lay p part outer core.below l.frame l.around core l.chained) l.held l.room in
       let stands : Frames tree code texts w lay p (part ∷ outer) a.core = (
         record {
           frame = record {
@@ -82,8 +84,9 @@ module _ (tree : PProgram) (code : Code) (texts : ℕ → List Placed) (w : Worl
           asks = l.comes.asks;
           pc = l.comes.at;
           slots = l.comes.with_slots;
-          held = l.known;
-          held_are = l.known_are;
+          held = a.added ++ l.known;
+          held_are = known_both (scopes_of tree) w lay (part ∷ outer) part.instance a.added l.known
+              (stuffed_known tree code texts w lay p part outer core.below l.frame l.around core l.chained a.added a.added_are) l.known_are;
           stands = l.comes.stands;
           there = a.at;
           few = a.room;

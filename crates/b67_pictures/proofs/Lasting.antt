@@ -106,7 +106,7 @@ module _ (sc : Scopes) (w : World) (p : ℕ) (q : Process) (part : Part) (outer 
         (subscript_place ((use_of sc n).sort) (array_in (cell_at w (followed w (here sc w p q part outer n)))) ks (whole_of v))
     by_ask (asks_happened n) a = absurd a
     by_ask (enters n gs) a = length_set_numbered w.processes p _
-    by_ask (passes n) a = absurd a
+    by_ask (passes n) a = length_set_numbered w.processes p _
     by_ask (resolves n) a = absurd a
     by_ask (reads_result name) a = length_set_numbered w.processes p _
     by_ask (goes_to n) a = absurd a

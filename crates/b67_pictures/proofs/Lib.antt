@@ -8,7 +8,10 @@ pub mod Asked
 pub mod AskedEntries
 pub mod Slotted
 pub mod Actuals
+pub mod GivenWords
+pub mod Formals
 pub mod Marks
+pub mod Stuffed
 pub mod Homes
 pub mod Variables
 pub mod Kept
@@ -50,6 +53,7 @@ pub mod Completing
 pub mod EntryRow
 pub mod EnterBlockRow
 pub mod EnterProcedureRow
+pub mod NamedArrays
 pub mod Entries
 pub mod FrameEntering
 pub mod BlockEntering
@@ -108,7 +112,11 @@ pub mod ClosedArrays
 pub mod StoredCells
 pub mod StoredRows
 pub mod StoredElement
+pub mod Joining
+pub mod Concluding
 pub mod AskedElements
+pub mod ArrayPlaces
+pub mod FormalHomes
 pub mod ArrayHomes
 pub mod Described
 pub mod IndexRows
@@ -117,8 +125,9 @@ pub mod ElementHomes
 pub mod ElementReading
 pub mod Indexing
 pub mod ElementStoring
+pub mod PassRow
+pub mod Passing
 pub mod ElementActions
 pub mod TouchingIndices
 pub mod TouchingElements
-pub mod Joining
-pub mod Concluding
+pub mod TouchingPassing

@@ -20,8 +20,8 @@ use Rattle.b67_table.specs.Image.{Image}
 use Rattle.b67_table.specs.Look.{read_as}
 use Rattle.b67_cores.specs.Cores.{Core, HasCore}
 use Rattle.b67_faithful.proofs.Contradictions.{some_same, none_some}
-use Rattle.b67_pictures.specs.Arrays.{Layout}
-use Rattle.b67_pictures.specs.Frames.{IsOwn, IsChained, home_of, IsPlaced, outermost, inside, Frame, Stands, Around}
+use Rattle.b67_pictures.specs.Arrays.{Layout, IsOwn}
+use Rattle.b67_pictures.specs.Frames.{IsChained, home_of, IsPlaced, outermost, inside, Frame, Stands, Around}
 use Rattle.b67_pictures.proofs.Displays.{IsEntered, Links, root, onward, shown, shown_top, shown_below}
 use Rattle.b67_pictures.proofs.Lying.{Lies, lies_in, lies_low}
 use Rattle.b67_pictures.proofs.Rows.{words_are}

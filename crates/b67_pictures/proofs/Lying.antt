@@ -27,11 +27,11 @@ use Rattle.b67_cores.specs.Cores.{Core}
 use Rattle.b67_cores.specs.Slots.{Known, SlotsAre}
 use Rattle.b67_faithful.specs.Weight.{part_weight, parts_weight, tokens_around}
 use Rattle.b67_faithful.proofs.Contradictions.{some_same, none_some}
-use Rattle.b67_pictures.specs.Arrays.{Allotted, Layout, AreMade, AreKnown}
-use Rattle.b67_pictures.specs.Frames.{most_around, IsOwn, IsComplete, IsPlaced, outermost, inside, home_of, Framed, result_of_part, Frame, Stands, Waits, Around}
-use Rattle.b67_pictures.proofs.Knowing.{keeps_same, known_lasts}
+use Rattle.b67_pictures.specs.Arrays.{Allotted, Layout, IsOwn, AreMade, AreKnown}
+use Rattle.b67_pictures.specs.Frames.{most_around, IsComplete, IsPlaced, outermost, inside, home_of, Framed, result_of_part, Frame, Stands, Waits, Around}
+use Rattle.b67_pictures.proofs.Knowing.{Remain, IsOwnOrNone, keeps_same, leads_lasts, climbs_own, known_lasts}
 use Rattle.b67_pictures.proofs.Numbers.{get_within}
-use Rattle.b67_pictures.proofs.Parents.{ancestor_up, length_around}
+use Rattle.b67_pictures.proofs.Parents.{length_around}
 
 -- the words below a frame end before those of the frame
 pub below_frame : (words lower : List Word) (mark control : Word) (cells : List Word) → words ≡ lower ++ mark ∷ control ∷ cells → length lower + 2 + length cells ≡ length words
@@ -163,6 +163,26 @@ module _ (tree : PProgram) (code : Code) (texts : ℕ → List Placed) (w : Worl
       (i : ℕ) → IsOwn (part ∷ outer) i → (up b : ℕ) → slice_get ((instance_at w i).block ∷ around (scopes_of tree).blocks ((instance_at w i).block)) up ≡ Some b → IsParent (part ∷ outer) i up b
   parents_of part outer words f a = parents_by (part ∷ outer) words (lies_frame part outer words f a)
 
+  -- so far up as the level of the innermost part there are parents
+  pub own_parent : (part : Part) (outer : List Part) (words : List Word) (f : Frame tree code texts w lay p part outer words) → Around tree code texts w lay p outer f.lower f.mark f.control (result_of_part tree code texts w lay p part) →
+      (up : ℕ) → up + OUTER_LEVEL ≤ level_of (block_numbered (scopes_of tree).blocks ((instance_at w part.instance).block)) → IsOwn (part ∷ outer) (ancestor w up part.instance)
+  own_parent part outer words f a up h =
+      let j : ℕ = (instance_at w part.instance).block in
+      let there = get_within (j ∷ around (scopes_of tree).blocks j) up (omega (arith, h, length_around (scopes_of tree).blocks j)) in
+      (parents_of part outer words f a part.instance (inl refl) up there.0 there.1).own
+
+  -- the parent of an instance of these parts is one of theirs, or none
+  pub next_own : (part : Part) (outer : List Part) (words : List Word) (f : Frame tree code texts w lay p part outer words) → Around tree code texts w lay p outer f.lower f.mark f.control (result_of_part tree code texts w lay p part) →
+      (i : ℕ) → IsOwn (part ∷ outer) i → IsOwnOrNone (part ∷ outer) ((instance_at w i).parent)
+  next_own part outer words f a i own =
+      let l : Lies (part ∷ outer) i words = lies_frame part outer words f a i own in
+      let here : l.frame.framed.instance ≡ instance_at w i = sym (ap or_no_instance l.frame.framed.is) ∙ ap (λ (k : ℕ). instance_at w k) l.instance_is in
+      subst (λ (x : Instance). IsOwnOrNone (part ∷ outer) x.parent) here (by_placed l.outer l.inside l.frame.framed.instance l.frame.framed.placed)
+    where
+      by_placed : (around_it : List Part) → ((j : ℕ) → IsOwn around_it j → IsOwn (part ∷ outer) j) → (x : Instance) → IsPlaced (scopes_of tree) w lay around_it x → IsOwnOrNone (part ∷ outer) x.parent
+      by_placed around_it within x (outermost none_up alone) = inl none_up
+      by_placed around_it within x (inside own_up next made) = inr (within x.parent own_up)
+
   pub parents_in : (part : Part) (outer : List Part) (core : Core) (s : Stands tree code texts w lay p part outer core) → Around tree code texts w lay p outer s.frame.lower s.frame.mark s.frame.control (result_of_part tree code texts w lay p part) →
       (i : ℕ) → IsOwn (part ∷ outer) i → (up b : ℕ) → slice_get ((instance_at w i).block ∷ around (scopes_of tree).blocks ((instance_at w i).block)) up ≡ Some b → IsParent (part ∷ outer) i up b
   parents_in part outer core s a = parents_by (part ∷ outer) core.below (lies_in part outer core s a)
@@ -198,6 +218,29 @@ module _ (tree : PProgram) (code : Code) (texts : ℕ → List Placed) (w w' : W
   home_after zero h e = e
   home_after (suc i) h e = stay.places (suc i) h e
 
+  -- an instance of the parts is as it was, and so are its rows
+  pub record Lasts (j : ℕ) : Type 0 where
+    pub instance : instance_at w' j ≡ instance_at w j
+    pub rows : lay'.rows j ≡ lay.rows j
+
+  lasts_outer : (outer : List Part) (lower : List Word) (mark control : Word) (wanted : Option Kind) → Around tree code texts w lay p outer lower mark control wanted → length lower ≤ limit → (j : ℕ) → IsOwn outer j → Lasts j
+  lasts_outer outer lower mark control wanted a low j own =
+      let l : Lies tree code texts w lay p outer j lower = lies_around tree code texts w lay p outer lower mark control wanted a j own in
+      let lowest : length l.frame.lower < limit = omega (arith, lies_low tree code texts w lay p outer j lower l, low) in
+      subst (λ (n : ℕ). Lasts n) l.instance_is (record {
+        instance = sym (same_instance l.part l.outer l.front l.frame lowest);
+        rows = rows_after l.part l.outer l.front l.frame lowest;
+      })
+
+  -- the parts around, whose frames lie lower
+  pub outer_remain : (outer : List Part) (lower : List Word) (mark control : Word) (wanted : Option Kind) → Around tree code texts w lay p outer lower mark control wanted → length lower ≤ limit → Remain sc w w' lay lay' outer outer
+  outer_remain outer lower mark control wanted a low =
+      record {
+        owned = λ j own. own;
+        keeps = λ j own. let l : Lasts j = lasts_outer outer lower mark control wanted a low j own in keeps_same sc w w' lay lay' j l.instance l.rows;
+        places = λ j f own laid. stay.places j f laid;
+      }
+
   -- the parent of an instance is one of the parts around, whose frames lie lower
   pub placed_after : (outer : List Part) (lower : List Word) (mark control : Word) (wanted : Option Kind) → Around tree code texts w lay p outer lower mark control wanted → length lower < limit → (x : Instance) → IsPlaced sc w lay outer x →
       IsPlaced sc w' lay' outer x
@@ -223,6 +266,9 @@ module _ (tree : PProgram) (code : Code) (texts : ℕ → List Placed) (w w' : W
         simple = f.framed.simple;
         values = f.framed.values;
         simple_are = f.framed.simple_are;
+        formals = λ k s shape there none told.
+            let g = f.framed.formals k s shape there none told in
+            (g.0, g.1, g.2, g.3, g.4, g.5, leads_lasts sc w w' lay lay' outer outer (outer_remain outer f.lower f.mark f.control (wanted_old part) a (omega (arith, low))) shape g.2 g.1 g.6);
         arrays = f.framed.arrays;
         declared = f.framed.declared;
         later = f.framed.later;
@@ -256,53 +302,26 @@ module _ (tree : PProgram) (code : Code) (texts : ℕ → List Placed) (w w' : W
         making = f.making;
       }
 
-  -- ---- descriptors
+  -- ---- descriptors and references
 
   module _ (part : Part) (outer : List Part) (words : List Word) (f : OldFrame part outer words) (a : Around tree code texts w lay p outer f.lower f.mark f.control (wanted_old part)) (low : length f.lower < limit) where
-    abbrev i : ℕ
-    i = part.instance
-
-    abbrev level : ℕ
-    level = level_of (block_numbered sc.blocks ((instance_at w i).block))
-
-    -- an instance of the parts is as it was, and so are its rows
-    pub record Lasts (j : ℕ) : Type 0 where
-      pub instance : instance_at w' j ≡ instance_at w j
-      pub rows : lay'.rows j ≡ lay.rows j
-
     lasts : (j : ℕ) → IsOwn (part ∷ outer) j → Lasts j
     lasts j (inl e) = subst (λ (n : ℕ). Lasts n) e (record { instance = sym (same_instance part outer words f low); rows = rows_after part outer words f low })
-    lasts j (inr own) =
-        let l : Lies tree code texts w lay p outer j f.lower = lies_around tree code texts w lay p outer f.lower f.mark f.control (wanted_old part) a j own in
-        let lower : length l.frame.lower < limit = omega (arith, lies_low tree code texts w lay p outer j f.lower l, low) in
-        subst (λ (n : ℕ). Lasts n) l.instance_is (record {
-          instance = sym (same_instance l.part l.outer l.front l.frame lower);
-          rows = rows_after l.part l.outer l.front l.frame lower;
-        })
+    lasts j (inr own) = lasts_outer outer f.lower f.mark f.control (wanted_old part) a (omega (arith, low)) j own
 
-    -- so far up there are parents
-    own_parent : (up : ℕ) → up + OUTER_LEVEL ≤ level → IsOwn (part ∷ outer) (ancestor w up i)
-    own_parent up h =
-        let j : ℕ = (instance_at w i).block in
-        let there = get_within (j ∷ around sc.blocks j) up (omega (arith, h, length_around sc.blocks j)) in
-        (parents_of tree code texts w lay p part outer words f a i (inl refl) up there.0 there.1).own
+    remain : Remain sc w w' lay lay' (part ∷ outer) (part ∷ outer)
+    remain =
+        record {
+          owned = λ j own. own;
+          keeps = λ j own. let l : Lasts j = lasts j own in keeps_same sc w w' lay lay' j l.instance l.rows;
+          places = λ j f own laid. stay.places j f laid;
+        }
 
-    -- and they are the same
-    parent_stays : (up : ℕ) → up + OUTER_LEVEL ≤ level → ancestor w' up i ≡ ancestor w up i
-    parent_stays zero h = refl
-    parent_stays (suc up) h =
-        let lower : up + OUTER_LEVEL ≤ level = omega (arith, h) in
-        ancestor_up w' up i
-        ∙ ap (λ (j : ℕ). (instance_at w' j).parent) (parent_stays up lower)
-        ∙ ap (λ (x : Instance). x.parent) (lasts (ancestor w up i) (own_parent up lower)).instance
-        ∙ sym (ancestor_up w up i)
-
-    -- what is known of descriptors holds as it did
-    pub known_after : (known : List Known) → AreKnown sc w lay i level known → AreKnown sc w' lay' i level known
+    -- what is known of descriptors and references holds as it did
+    pub known_after : (known : List Known) → AreKnown sc w lay (part ∷ outer) part.instance known → AreKnown sc w' lay' (part ∷ outer) part.instance known
     known_after =
-        known_lasts sc w w' lay lay' i level parent_stays (λ up h.
-        let l : Lasts (ancestor w up i) = lasts (ancestor w up i) (own_parent up h) in
-        keeps_same sc w w' lay lay' (ancestor w up i) l.instance l.rows)
+        known_lasts sc w w' lay lay' (part ∷ outer) (part ∷ outer) remain part.instance
+        (climbs_own sc w w' lay lay' (part ∷ outer) remain.keeps (next_own tree code texts w lay p part outer words f a) part.instance (inl refl))
 
   frame_low : (part : Part) (outer : List Part) (lower : List Word) (mark control : Word) (wanted : Option Kind) → length lower ≤ limit → (s : Waits tree code texts w lay p part outer lower mark control wanted) → length (s.frame.lower) < limit
   frame_low part outer lower mark control wanted low s =
@@ -339,8 +358,7 @@ module _ (tree : PProgram) (code : Code) (texts : ℕ → List Placed) (w w' : W
               ComesTo sc (context_of code sc x.block) (texts (segment_of sc.blocks x.block)) (level_of (block_numbered sc.blocks x.block)) (most_around tree x.block) (resume sc part.rest r) s.pc (pushed r s.slots)) same s.returns;
           few = subst (λ (x : Instance). length s.slots + 1 ≤ most_around tree x.block) same s.few;
           held = s.held;
-          held_are = subst (λ (x : Instance). AreKnown sc w' lay' part.instance (level_of (block_numbered sc.blocks x.block)) s.held) same
-              (known_after part outer s.below s.frame a.1 lowest s.held s.held_are);
+          held_are = known_after part outer s.below s.frame a.1 lowest s.held s.held_are;
           words_are = subst (λ (x : Instance). SlotsAre sc s.held (level_of (block_numbered sc.blocks x.block)) (length s.frame.lower) (length s.below) s.slots s.words) same s.words_are;
           home = s.home;
           df = s.df;

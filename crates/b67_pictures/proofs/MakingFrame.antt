@@ -40,7 +40,8 @@ use Rattle.b67_pictures.proofs.ArraysMade.{Makes, allotted_new, descriptors_new,
 use Rattle.b67_pictures.proofs.Completing.{made_many}
 use Rattle.b67_pictures.proofs.FreshCells.{words_long}
 use Rattle.b67_pictures.proofs.Kept.{AreAlike}
-use Rattle.b67_pictures.proofs.Lying.{Lies, lies_low, lies_around, StayBelow, same_instance, home_after, weight_stays, around_stays}
+use Rattle.b67_pictures.proofs.Knowing.{leads_lasts}
+use Rattle.b67_pictures.proofs.Lying.{Lies, lies_low, lies_around, StayBelow, same_instance, home_after, weight_stays, around_stays, outer_remain}
 use Rattle.b67_pictures.proofs.MakingAsked.{makes_first}
 use Rattle.b67_pictures.proofs.Numbers.{numbered_set}
 use Rattle.b67_pictures.proofs.Scene.{Scene}
@@ -268,6 +269,16 @@ module _ (tree : PProgram) (code : Code) (texts : ℕ → List Placed) (nested :
           simple = framed.simple;
           values = framed.values;
           simple_are = framed.simple_are;
+          formals = λ k t shape there none told.
+              let g = framed.formals k t shape there none told in (
+                g.0,
+                g.1,
+                g.2,
+                g.3,
+                g.4,
+                g.5,
+                leads_lasts sc w w' lay lay' outer outer (outer_remain tree code texts w w' lay lay' p (length f.lower) stays outer f.lower f.mark f.control (wanted_in tree w part) s.around (omega arith)) shape g.2 g.1 g.6,
+              );
           arrays = framed.arrays ++ new_arrays kind bs ns;
           declared = framed.declared ++ arrays_in kind ns pairs;
           later = left_to_make part.rest;

@@ -1,16 +1,16 @@
 -- A procedure is entered.
-use Rattle.std.proofs.Common.{◌≡◌, ◌⊎◌, inl, inr, refl, sym, ap, ◌∙◌, subst, ℕ, zero, suc, ◌+◌, ◌-◌, ◌*◌, ◌≤◌, ◌<◌, List, [], ◌∷◌, ◌++◌, length, Option, Some, None, true, false, arith}
-use Rattle.std.specs.Prelude.{slice_get, map}
+use Rattle.std.proofs.Common.{◌≡◌, ◌⊎◌, inl, inr, refl, sym, ap, ◌∙◌, subst, ℕ, suc, ◌+◌, ◌-◌, ◌*◌, ◌≤◌, ◌<◌, List, [], ◌∷◌, ◌++◌, length, Option, Some, None, true, false, arith}
+use Rattle.std.specs.Prelude.{slice_get}
 use Rattle.b67_list.specs.Numbered.{numbered}
 use Rattle.algol_tree.specs.declared.tree.Kind.{Kind}
 use Rattle.algol_tree.specs.declared.tree.Named.{Named}
 use Rattle.algol_tree.specs.Plain.{PProgram}
-use Rattle.algol_tree.specs.Sorts.{Sort, is_variable}
+use Rattle.algol_tree.specs.Sorts.{Sort, is_variable, is_formal}
 use Rattle.algol_tree.specs.Blocks.{Block, block_numbered, number_at, around}
 use Rattle.algol_tree.specs.Cells.{level_of}
 use Rattle.algol_tree.specs.Scopes.{Scopes, scopes_of, use_of}
-use Rattle.algol_meaning.specs.Rest.{Answer, Given, valued, entered}
-use Rattle.algol_meaning.specs.Value.{Value, Cell, simple}
+use Rattle.algol_meaning.specs.Rest.{Answer, Given, entered}
+use Rattle.algol_meaning.specs.Value.{Cell}
 use Rattle.algol_meaning.specs.World.{Instance, Process, Part, procedure, able, World, instance_at, or_no_instance, ancestor}
 use Rattle.algol_meaning.specs.Asks.{Ask, nothing, enters, ask, resume}
 use Rattle.algol_meaning.specs.Choice.{choice_of, entered_procedure, given_cells}
@@ -33,7 +33,7 @@ use Rattle.b67_table.specs.declared.ProcessState.TheVariants.{Able}
 use Rattle.b67_table.specs.Chains.{place}
 use Rattle.b67_table.specs.Image.{Image}
 use Rattle.b67_table.specs.Private.{frame, display_at}
-use Rattle.b67_templates.specs.Cells.{Simple, parameter_cells, parameter_kinds, simple_cells, procedures, control_segments, IsProcedure}
+use Rattle.b67_templates.specs.Cells.{Simple, wanted_by, parameter_cells, parameter_wants, simple_cells, procedures, control_segments, IsProcedure}
 use Rattle.b67_templates.specs.Depths.{decls_depth, stmts_depth}
 use Rattle.b67_templates.specs.Fragments.{code_at}
 use Rattle.b67_templates.specs.Programs.{context_of, BodyAt, ProgramAt}
@@ -45,20 +45,21 @@ use Rattle.b67_cores.specs.Slots.{SlotIs}
 use Rattle.b67_cores.specs.Stretches.{BlocksBegin, FragmentsArePerformed, control_words}
 use Rattle.b67_faithful.specs.Faithful.{IsShort}
 use Rattle.b67_faithful.specs.Weight.{tokens_around}
-use Rattle.b67_fitting.specs.Nested.{LiesNested, IsDeclared, AreByValue}
+use Rattle.b67_fitting.specs.Nested.{LiesNested, IsDeclared, AreParameters}
 use Rattle.b67_pictures.specs.Arrays.{Layout}
 use Rattle.b67_pictures.specs.Acting.{Does}
 use Rattle.b67_pictures.specs.Frames.{most_around, IsComplete}
-use Rattle.b67_pictures.proofs.Actuals.{given_are, kinds_many}
-use Rattle.b67_pictures.proofs.AskedEntries.{enters_seen, entered_in_bound}
-use Rattle.b67_pictures.proofs.Completing.{complete_of}
+use Rattle.b67_pictures.proofs.AskedEntries.{InReferred, InEntry, enters_seen, entered_in_bound}
 use Rattle.b67_pictures.proofs.EnterProcedureRow.{procedure_leads, procedure_calls}
 use Rattle.b67_pictures.proofs.Entries.{Calls}
-use Rattle.b67_pictures.proofs.FrameEntering.{Body, GoesOnBehind, entering}
+use Rattle.b67_pictures.proofs.Formals.{AreGivenCells, given_are}
+use Rattle.b67_pictures.proofs.FrameEntering.{AreCells, Body, GoesOnBehind, entering}
 use Rattle.b67_pictures.proofs.FreshCells.{simple_many, words_long}
+use Rattle.b67_pictures.proofs.GivenWords.{AreFit, are_fit, fit_many, ActualsAre}
 use Rattle.b67_pictures.proofs.Homes.{get-behind}
 use Rattle.b67_pictures.proofs.Linked.{Linked, begins_core, own_linked, linked_lies, linked_low, level_around}
 use Rattle.b67_pictures.proofs.Lying.{Lies, lies_in, IsParent, parents_in}
+use Rattle.b67_pictures.proofs.NamedArrays.{IsSeenMade, both_seen, up_complete, named_leads}
 use Rattle.b67_pictures.proofs.Numbers.{get_within, get_below}
 use Rattle.b67_pictures.proofs.Scene.{Scene}
 use Rattle.b67_pictures.proofs.Segmented.{before_whole, segment_low, procedure_segment, get_mapped, length_mapped}
@@ -125,8 +126,22 @@ module _ (tree : PProgram) (code : Code) (program : ProgramAt code tree) (nested
   abbrev h : ℕ
   h = ancestor w up part.instance
 
+  -- the procedure is seen, and so are the arrays that are given to it
+  all_seen : InEntry (IsSeen sc block) n gs
+  all_seen = enters_seen (IsSeen sc block) n gs (IsInner sc block) (IsSeenAround sc block) (λ m (seen : IsSeenAround sc block m). seen.0) part.rest asks s.stands.frame.text
+
   seen_there : IsSeen sc block n
-  seen_there = enters_seen (IsSeen sc block) n gs (IsInner sc block) (IsSeenAround sc block) (λ (seen : IsSeenAround sc block n). seen.0) part.rest asks s.stands.frame.text
+  seen_there = all_seen.0
+
+  in_bound : (to_make part.rest ≡ []) ⊎ InEntry (IsSeenAround sc block) n gs
+  in_bound = entered_in_bound (IsSeen sc block) n gs (IsInner sc block) (IsSeenAround sc block) part.rest asks s.stands.frame.text
+
+  arrays_seen : InReferred (IsSeenMade tree w part) gs
+  arrays_seen = both_seen tree w part gs all_seen.1 (given_in_bound in_bound)
+    where
+      given_in_bound : (to_make part.rest ≡ []) ⊎ InEntry (IsSeenAround sc block) n gs → (to_make part.rest ≡ []) ⊎ InReferred (IsSeenAround sc block) gs
+      given_in_bound (inl none) = inl none
+      given_in_bound (inr around_it) = inr around_it.1
 
   high : up + OUTER_LEVEL ≤ level
   high = omega (arith, length_around sc.blocks block, get_below (block ∷ around sc.blocks block) up u seen_there)
@@ -151,21 +166,16 @@ module _ (tree : PProgram) (code : Code) (program : ProgramAt code tree) (nested
 
   -- It has made all its arrays: no bound of an array calls a procedure of its own block.
   complete : IsComplete sc w lay h
-  complete = by_up up parent.complete (by_text (entered_in_bound (IsSeen sc block) n gs (IsInner sc block) (IsSeenAround sc block) part.rest asks s.stands.frame.text))
+  complete = up_complete tree code texts w lay p part outer core.below s.stands.frame s.around up (by_text in_bound) parent.complete
     where
-      by_text : (to_make part.rest ≡ []) ⊎ IsSeenAround sc block n → (to_make part.rest ≡ []) ⊎ (1 ≤ up)
+      by_text : (to_make part.rest ≡ []) ⊎ InEntry (IsSeenAround sc block) n gs → (to_make part.rest ≡ []) ⊎ (1 ≤ up)
       by_text (inl none) = inl none
-      by_text (inr seen) = far seen.1
+      by_text (inr around_it) = far around_it.0.1
         where
-          far : (1 ≤ up) ⊎ (is_variable ((use_of sc n).sort) ≡ true) → (to_make part.rest ≡ []) ⊎ (1 ≤ up)
+          far : (1 ≤ up) ⊎ (is_variable ((use_of sc n).sort) ≡ true) ⊎ (is_formal ((use_of sc n).sort) ≡ true) → (to_make part.rest ≡ []) ⊎ (1 ≤ up)
           far (inl more) = inr more
-          far (inr variable) = absurd (let clash : false ≡ true = sym (ap is_variable named.sort_is) ∙ variable in cc)
-
-      by_up : (k : ℕ) → (1 ≤ k → IsComplete sc w lay (ancestor w k part.instance)) → (to_make part.rest ≡ []) ⊎ (1 ≤ k) → IsComplete sc w lay (ancestor w k part.instance)
-      by_up zero more (inl none) =
-          complete_of sc w lay p part.instance outer (length s.stands.frame.lower) s.stands.frame.mark s.stands.frame.control s.stands.frame.cells s.stands.frame.framed (s.stands.frame.making ∙ none)
-      by_up zero more (inr far) = absurd (omega (arith, far))
-      by_up (suc k) more known_so = more (omega arith)
+          far (inr (inl variable)) = absurd (let clash : false ≡ true = sym (ap is_variable named.sort_is) ∙ variable in cc)
+          far (inr (inr formal)) = absurd (let clash : false ≡ true = sym (ap is_formal named.sort_is) ∙ formal in cc)
 
   -- ---- the procedure
 
@@ -284,21 +294,21 @@ module _ (tree : PProgram) (code : Code) (program : ProgramAt code tree) (nested
 
   -- ---- what is given
 
-  by_value : AreByValue sc b
-  by_value = (nested.nested.each callee known).parameters
+  parameters : AreParameters sc b
+  parameters = (nested.nested.each callee known).parameters
 
-  values_many : length at.values ≡ length (parameter_cells sc b)
-  values_many = kinds_many (parameter_kinds sc callee) at.values at.fit ∙ length_mapped (λ (c : Simple). c.kind) (parameter_cells sc b)
+  fit : AreFit sc level (parameter_wants sc callee) gs
+  fit = are_fit sc level (parameter_wants sc callee) gs at.fit
 
-  cells_given : (vs : List Value) → given_cells sc w p q part outer (map valued vs) ≡ map simple vs
-  cells_given [] = refl
-  cells_given (v ∷ vs) = ap (λ (cs : List Cell). simple v ∷ cs) (cells_given vs)
+  given_many : length gs ≡ length (parameter_cells sc b)
+  given_many = fit_many sc level fit ∙ length_mapped (λ (c : Simple). wanted_by c.kind c.shape) (parameter_cells sc b)
 
-  abbrev calls : Calls tree code texts nested short w lay img p q part outer bound core s at.values (reference couple) a.1 a.2 h callee 0
+  abbrev calls : Calls tree code texts nested short w lay img p q part outer bound core s (parameter_wants sc callee) gs (reference couple) a.1 a.2 h callee 0
   calls =
       record {
         lies = at.lies;
-        values_few = omega (arith, values_many, simple_many sc b, (nested.nested.each callee known).few);
+        fit = fit;
+        given_few = omega (arith, given_many, simple_many sc b, (nested.nested.each callee known).few);
         marks = refl;
         stands = at.stands;
         own_parent = parent.own;
@@ -335,12 +345,22 @@ module _ (tree : PProgram) (code : Code) (program : ProgramAt code tree) (nested
   abbrev behind : GoesOnBehind tree code texts nested short fragments begins_so keeps order w lay img p q part outer bound core s able_is able_p a.1 a.2 callee
   behind = record { unmade = unmade part.rest (ap makes asks); waits = waits a.1 a.2 b.result (refl, refl, refl); returns = returns a.1 a.2 b.result (refl, refl, refl) }
 
+  abbrev AreCellsThere : List Cell → List Word → Type 0
+  AreCellsThere given ws = AreCells tree code texts nested short fragments begins_so keeps order w lay img p q part outer bound core s able_is able_p callee given ws
+
+  -- the cells of its parameters
+  cells_there : (ws : List Word) → ActualsAre sc s.stands.held level (frame core.registers) (length core.below) (parameter_wants sc callee) gs ws → AreCellsThere (given_cells sc w p q part outer gs) ws
+  cells_there ws are =
+      let g : AreGivenCells sc w lay p q part outer level (frame core.registers) (length core.below) s.stands.held s.stands.held_are (IsSeenMade tree w part)
+      (named_leads tree code texts w lay p part outer core.below s.stands.frame s.around level) (parameter_cells sc b) b.parameters gs ws =
+      given_are sc w lay p q part outer level (frame core.registers) (length core.below) s.stands.held s.stands.held_are (IsSeenMade tree w part)
+      (named_leads tree code texts w lay p part outer core.below s.stands.frame s.around level) fit (parameter_cells sc b) b.parameters parameters.told refl arrays_seen ws are in
+      record { cells = g.cells; lead = g.lead }
+
   pub entering_procedure : Does tree code texts w img p
   entering_procedure =
-      entering tree code texts nested short fragments begins_so keeps order w lay img p q part outer bound core s able_is able_p at.values (reference couple) a.1 a.2 h callee 0 calls procedure refl procedure_body behind (map simple at.values)
-      (λ ws are. given_are (parameter_cells sc b) b.parameters at.values ws by_value.names at.fit are)
+      entering tree code texts nested short fragments begins_so keeps order w lay img p q part outer bound core s able_is able_p (parameter_wants sc callee) gs (reference couple) a.1 a.2 h callee 0 calls procedure refl procedure_body
+      behind (given_cells sc w p q part outer gs) cells_there
       (choice_is sc w p q part outer s.at s.todo
       ∙ ap (λ (k : Ask). choice_of sc w p q part outer k) asks
-      ∙ ap (λ (x : Sort). entered_procedure sc w p q part outer (block_of x) h (given_cells sc w p q part outer gs)) named.sort_is
-      ∙ ap (λ (xs : List Given). entered_procedure sc w p q part outer callee h (given_cells sc w p q part outer xs)) at.given
-      ∙ ap (λ (xs : List Cell). entered_procedure sc w p q part outer callee h xs) (cells_given at.values))
+      ∙ ap (λ (x : Sort). entered_procedure sc w p q part outer (block_of x) h (given_cells sc w p q part outer gs)) named.sort_is)

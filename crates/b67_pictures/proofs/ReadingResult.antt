@@ -69,14 +69,14 @@ found_behind from (s ∷ ss) others name f none e = by_name (same_name s.name na
 
 -- the result comes first behind the cells of the parameters
 result_found : (sc : Scopes) (b : Block) (kind : Kind) → found_from 0 (parameter_cells sc b) b.name ≡ None → b.result ≡ Some kind →
-    found_from 0 (simple_cells sc b) b.name ≡ Some (record { number = length (parameter_cells sc b); cell = record { name = b.name; kind = Some kind } })
+    found_from 0 (simple_cells sc b) b.name ≡ Some (record { number = length (parameter_cells sc b); cell = record { name = b.name; kind = Some kind; shape = None } })
 result_found sc b kind apart typed =
     let far = length (parameter_cells sc b) in
     ap (λ (ss : List Simple). found_from 0 ss b.name) (cells_joined sc b)
-    ∙ found_behind 0 (parameter_cells sc b) (result_of b.result b.name ++ variables b.decls) b.name (record { number = far; cell = record { name = b.name; kind = Some kind } }) apart
+    ∙ found_behind 0 (parameter_cells sc b) (result_of b.result b.name ++ variables b.decls) b.name (record { number = far; cell = record { name = b.name; kind = Some kind; shape = None } }) apart
     (ap (λ (n : ℕ). found_from n (result_of b.result b.name ++ variables b.decls) b.name) (let same : 0 + far ≡ far = omega arith in same)
     ∙ ap (λ (o : Option Kind). found_from far (result_of o b.name ++ variables b.decls) b.name) typed
-    ∙ ap (λ (t : Bool). if t then Some (record { number = far; cell = record { name = b.name; kind = Some kind } }) else found_from (far + 1) (variables b.decls) b.name) (same_itself b.name))
+    ∙ ap (λ (t : Bool). if t then Some (record { number = far; cell = record { name = b.name; kind = Some kind; shape = None } }) else found_from (far + 1) (variables b.decls) b.name) (same_itself b.name))
 
 module _ (tree : PProgram) (code : Code) (texts : ℕ → List Placed) (nested : AreNested (scopes_of tree)) (fragments : FragmentsArePerformed) (keeps : RestsKeepToTheirText) (order : ArraysAreMadeInOrder) (w : World) (lay : Layout) (img : Image)
     (p : ℕ) (q : Process) (part : Part) (outer : List Part) (bound : ℕ) (core : Core) (s : Scene tree code texts w lay img p q part outer bound core) (able_is : q.state ≡ able) (able_p : numbered img.states p ≡ Some Able)
@@ -121,7 +121,7 @@ module _ (tree : PProgram) (code : Code) (texts : ℕ → List Placed) (nested :
   index_is = at.index_is ∙ ap (λ (x : Instance). 2 + length (parameter_cells sc (block_numbered sc.blocks x.block))) own_is
 
   abbrev found : Found
-  found = record { number = length (parameter_cells sc b); cell = record { name = b.name; kind = Some at.kind } }
+  found = record { number = length (parameter_cells sc b); cell = record { name = b.name; kind = Some at.kind; shape = None } }
 
   abbrev first_cells : List NamedCell
   first_cells = s.stands.frame.framed.simple

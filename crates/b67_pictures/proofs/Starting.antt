@@ -44,7 +44,7 @@ use Rattle.b67_cores.specs.Stretches.{CoreAt, FragmentsArePerformed, control_wor
 use Rattle.b67_faithful.specs.Weight.{tokens_around, weight}
 use Rattle.b67_faithful.proofs.Contradictions.{some_same, none_some}
 use Rattle.b67_fitting.specs.Built.{IsBuilt}
-use Rattle.b67_fitting.specs.Nested.{AreNested}
+use Rattle.b67_fitting.specs.Nested.{AreTold, AreNested}
 use Rattle.b67_pictures.specs.Arrays.{Allotted, Layout, rows_of_cells, HasArray, ArraysAre}
 use Rattle.b67_pictures.specs.Frames.{most_around, CellsAre, IsChained, Framed, outermost}
 use Rattle.b67_pictures.specs.Pictures.{Pictured, living, Pictures}
@@ -52,7 +52,8 @@ use Rattle.b67_pictures.proofs.ArraysKept.{no_elements, no_rows}
 use Rattle.b67_pictures.proofs.Landing.{Landed, living_of}
 use Rattle.b67_pictures.proofs.Texted.{block_keeps, block_makes}
 use Rattle.b67_pictures.proofs.Segmenting.{needs, block_small}
-use Rattle.b67_pictures.proofs.FreshCells.{fresh_are, none_are, simple_many}
+use Rattle.b67_pictures.proofs.Formals.{LeadAll, lead_there}
+use Rattle.b67_pictures.proofs.FreshCells.{fresh_are, fresh_lead, none_are, none_lead, simple_many}
 use Rattle.b67_pictures.proofs.Zeros.{zero_word, cells_length}
 
 abbrev pub first_core : Core
@@ -123,11 +124,11 @@ module _ (tree : PProgram) (code : Code) (built : IsBuilt tree) (nested : AreNes
   no_cells = ap (λ (o : List Spot). parameters_around sc.blocks o block.spot) nested.outer
 
   plain : block.parameters ≡ []
-  plain = none_named block.parameters ((nested.each 0 nested.some).parameters.names ∙ ap (λ (ss : List Simple). map (λ (c : Simple). c.name) ss) no_cells)
+  plain = none_told block.parameters (subst (λ (ss : List Simple). AreTold block.parameters ss) no_cells (nested.each 0 nested.some).parameters.told)
     where
-      none_named : (ps : List Parameter) → map (λ (p : Parameter). p.name) ps ≡ [] → ps ≡ []
-      none_named [] e = refl
-      none_named (p ∷ ps) e = absurd (let clash : p.name ∷ map (λ (p : Parameter). p.name) ps ≡ [] = e in cc)
+      none_told : (ps : List Parameter) → AreTold ps [] → ps ≡ []
+      none_told [] told = refl
+      none_told (p ∷ ps) told = absurd told
 
   all_many : length (simple_cells sc block) ≡ many
   all_many = omega (arith, simple_many sc block, ap length no_cells)
@@ -184,7 +185,11 @@ module _ (tree : PProgram) (code : Code) (built : IsBuilt tree) (nested : AreNes
   chained (suc up) low = absurd (omega (arith, named_so (suc up) low))
 
   zeros : CellsAre (simple_cells sc block) (fresh_cells block []) (replicate many zero_word)
-  zeros = fresh_are sc block [] [] (none_are sc block no_cells plain [] tt)
+  zeros = fresh_are sc block [] [] (none_are sc block no_cells plain)
+
+  -- no parameter is an array
+  zeros_lead : LeadAll sc w first_lay [] (simple_cells sc block) (fresh_cells block []) (replicate many zero_word)
+  zeros_lead = fresh_lead sc w first_lay [] block [] [] (none_lead sc w first_lay [] block no_cells plain)
 
   abbrev framed : Framed sc w first_lay 1 1 [] 0 base_mark (base_control OUTER_LEVEL) cells
   unfolding start
@@ -199,6 +204,7 @@ module _ (tree : PProgram) (code : Code) (built : IsBuilt tree) (nested : AreNes
         simple = fresh_cells block [];
         values = replicate many zero_word;
         simple_are = zeros;
+        formals = lead_there sc w first_lay [] (simple_cells sc block) (fresh_cells block []) (replicate many zero_word) zeros_lead;
         arrays = [];
         declared = [];
         later = arrays_of block.decls;

@@ -22,9 +22,10 @@ use Rattle.b67_cores.specs.Cores.{Core}
 use Rattle.b67_cores.specs.Slots.{Known}
 use Rattle.b67_cores.specs.Stretches.{CoreAt}
 use Rattle.b67_faithful.specs.Weight.{parts_weight, tokens_around}
-use Rattle.b67_pictures.specs.Arrays.{Layout, AreKnown}
-use Rattle.b67_pictures.specs.Frames.{most_around, IsOwn, IsChained, Frame, Stands, Around, Frames}
+use Rattle.b67_pictures.specs.Arrays.{Layout, IsOwn, AreKnown}
+use Rattle.b67_pictures.specs.Frames.{most_around, IsChained, Frame, Stands, Around, Frames}
 use Rattle.b67_pictures.specs.Pictures.{innermost_most}
+use Rattle.b67_pictures.proofs.Knowing.{Remain, keeps_same}
 use Rattle.b67_pictures.proofs.Lying.{Lies, lies_in, parents_in, StayBelow, known_after, around_stays, Stayed, frame_stays}
 use Rattle.b67_pictures.proofs.Lying.{same_instance as same_before}
 use Rattle.b67_pictures.proofs.Numbers.{get_within}
@@ -165,8 +166,17 @@ module _ (tree : PProgram) (code : Code) (texts : ℕ → List Placed) (w w' : W
     still : FrameStill part outer core.below s.frame.cells
     still = frame_still part outer core.below s.frame a frame_below
 
-    -- what is known of descriptors holds as it did
-    pub known_stays : (known : List Known) → AreKnown sc w lay i (level_in tree w part) known → AreKnown sc w' lay' i (level_in tree w part) known
+    -- they keep their arrays and their frames
+    pub parts_remain : (parts' : List Part) → ((j : ℕ) → IsOwn (part ∷ outer) j → IsOwn parts' j) → Remain sc w w' lay lay' (part ∷ outer) parts'
+    parts_remain parts' owned =
+        record {
+          owned = owned;
+          keeps = λ j own. keeps_same sc w w' lay lay' j (same_instance j own) (remains j own).rows;
+          places = λ j f own laid. stay.places j f laid;
+        }
+
+    -- what is known of descriptors and references holds as it did
+    pub known_stays : (known : List Known) → AreKnown sc w lay (part ∷ outer) i known → AreKnown sc w' lay' (part ∷ outer) i known
     known_stays = known_after tree code texts w w' lay lay' p limit stay part outer core.below s.frame a frame_below
 
     here : instance_at w i ≡ instance_at w' i
@@ -185,7 +195,7 @@ module _ (tree : PProgram) (code : Code) (texts : ℕ → List Placed) (w w' : W
         stands = subst (λ (x : Instance). StandsFor sc (context_of code sc x.block) (texts (segment_of sc.blocks x.block)) (level_of (block_numbered sc.blocks x.block)) (most_around tree x.block) part.rest s.pc s.slots) here
             s.stands;
         held = s.held;
-        held_are = subst (λ (x : Instance). AreKnown sc w' lay' i (level_of (block_numbered sc.blocks x.block)) s.held) here (known_stays s.held s.held_are);
+        held_are = known_stays s.held s.held_are;
         there = subst (λ (x : Instance). CoreAt sc s.held code (texts (segment_of sc.blocks x.block)) (level_of (block_numbered sc.blocks x.block)) s.pc s.slots core) here s.there;
         few = subst (λ (x : Instance). length s.slots ≤ most_around tree x.block) here s.few;
       },

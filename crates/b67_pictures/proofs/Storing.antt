@@ -55,7 +55,7 @@ use Rattle.b67_pictures.proofs.Cored.{registers_now, has_now, others_have, syste
 use Rattle.b67_pictures.proofs.Kept.{AreAlike, alike_but}
 use Rattle.b67_pictures.proofs.FreshCells.{words_long}
 use Rattle.b67_pictures.proofs.Homes.{operator_there, Home, home}
-use Rattle.b67_pictures.proofs.Knowing.{KeepsArrays, keeps_same, keeps_stored, known_lasts}
+use Rattle.b67_pictures.proofs.Knowing.{KeepsArrays, keeps_stored, known_of}
 use Rattle.b67_pictures.proofs.Landing.{living_of}
 use Rattle.b67_pictures.proofs.Lying.{StayBelow}
 use Rattle.b67_pictures.proofs.Numbers.{get_below, numbered_set, length_set_numbered}
@@ -68,7 +68,7 @@ use Rattle.b67_pictures.proofs.Staying.{text_in, level_in, context_in, most_in, 
 use Rattle.b67_pictures.proofs.StoreRow.{with_cell, store_raw, store_class}
 use Rattle.b67_pictures.proofs.StoringFrames.{changed, stored_world, changed_at, same_of, same_ancestors, as_heavy, ChangedCells, Stored, known_stored, frame_stored}
 use Rattle.b67_pictures.proofs.Unmade.{makes, unmade}
-use Rattle.b67_pictures.proofs.Variables.{cell_changed, changed_front}
+use Rattle.b67_pictures.proofs.Variables.{cell_changed, changed_front, references_stored}
 use Rattle.b67_pictures.proofs.Words.{value_tag, reference_read, reference_unindexed}
 
 pub length_cells : (cells : List NamedCell) (name : List ℕ) (c : Cell) → length (cells_with cells name c) ≡ length cells
@@ -192,11 +192,12 @@ module _ (tree : PProgram) (code : Code) (texts : ℕ → List Placed) (fragment
     same_cells = ap (λ (m : ℕ). simple_cells sc (block_numbered sc.blocks m)) f.block_is
 
     changes : (first : List NamedCell) (values : List Word) (arrays : List NamedCell) (declared : List DeclaredArray) (descriptors : List Word) → CellsAre ss first values → AreMade declared arrays (lay.rows i) descriptors →
-        instance.cells ≡ first ++ arrays → ChangedCells ss (lay.rows i) cells' (slice_set values f.number x) declared descriptors
+        instance.cells ≡ first ++ arrays → ChangedCells ss (lay.rows i) cells' first values (slice_set values f.number x) declared descriptors
     changes first values arrays declared descriptors are made has =
         record {
           simple = cells_with first n.name (simple v);
           arrays = arrays;
+          references = references_stored ss_there first values 0 n.name a.2.variable.found a.2.kind v x f.number are_there a.2.variable.there a.2.variable.kind_is number_is;
           simple_are = subst (λ (l : List Simple). CellsAre l (cells_with first n.name (simple v)) (slice_set values f.number x)) (sym same_cells)
               (cell_changed ss_there first values 0 n.name a.2.variable.found a.2.kind v x f.number are_there a.2.variable.there a.2.variable.kind_is number_is a.2.fits x_is);
           made = made;
@@ -263,12 +264,11 @@ module _ (tree : PProgram) (code : Code) (texts : ℕ → List Placed) (fragment
         st.chained up low
         ∙ ap (λ (j : ℕ). numbered lay.places j) (same_ancestors w w' (λ j. same_of w i instance instance_there cells' (λ (z : Instance). z.parent) refl j) up part.instance)
 
-    -- what is known of descriptors holds as it did
-    known_now : AreKnown sc w' lay part.instance level st.held
+    -- what is known of descriptors and references holds as it did
+    known_now : AreKnown sc w' lay (part' ∷ outer) part.instance st.held
     known_now =
-        known_lasts sc stored w' lay lay part.instance level (λ up low. same_ancestors w' stored (λ j. refl) up part.instance)
-        (λ up low. keeps_same sc stored w' lay lay (ancestor stored up part.instance) refl refl) st.held
-        (known_stored tree code texts w lay p i instance instance_there cells' high laid f.number k place_is (Some x) many (λ set. short) keeps changes part.instance level st.held st.held_are)
+        known_of sc stored w' lay (part ∷ outer) (part' ∷ outer) refl (λ j own. own) part.instance st.held
+        (known_stored tree code texts w lay p i instance instance_there cells' high laid f.number k place_is (Some x) many (λ set. short) keeps changes (part ∷ outer) part.instance st.held st.held_are)
 
     -- ---- the core after it
 
@@ -353,7 +353,7 @@ module _ (tree : PProgram) (code : Code) (texts : ℕ → List Placed) (fragment
           pc = a.0;
           slots = a.1;
           known = st.held;
-          known_are = subst (λ (m : ℕ). AreKnown sc w' lay part.instance (level_of (block_numbered sc.blocks m)) st.held) block_is known_now;
+          known_are = known_now;
           at = subst (λ (m : ℕ). CoreAt sc st.held code (texts (segment_of sc.blocks m)) (level_of (block_numbered sc.blocks m)) a.0 a.1 new) block_is core_at;
           held = subst (λ (m : ℕ). length a.1 ≤ most_around tree m) block_is held;
           comes = subst (λ (m : ℕ). ComesTo sc (context_of code sc m) (texts (segment_of sc.blocks m)) (level_of (block_numbered sc.blocks m)) (most_around tree m) (resume sc part.rest done) a.0 a.1) block_is (answered done a.0 a.1 (refl, refl));

@@ -1,7 +1,7 @@
 -- The frames of a process's parts after a store into a cell of one of them: of a variable, whose word in the stack is another one, or of an
 -- array, whose word stays.
 use Rattle.std.proofs.Common.{◌≡◌, ◌≢◌, ◌⊎◌, inl, inr, refl, sym, ap, ◌∙◌, subst, ℕ, zero, suc, ◌+◌, ◌<◌, ◌≤◌, List, [], ◌∷◌, ◌++◌, length, Option, Some, None, arith, length-append}
-use Rattle.std.specs.Prelude.{slice_set, reverse}
+use Rattle.std.specs.Prelude.{slice_get, slice_set, reverse}
 use Rattle.b67_list.specs.Numbered.{numbered}
 use Rattle.algol_tree.specs.declared.tree.Kind.{Kind}
 use Rattle.algol_tree.specs.Blocks.{block_numbered, around}
@@ -26,13 +26,14 @@ use Rattle.b67_cores.specs.Slots.{Known, newest, SlotsAre}
 use Rattle.b67_cores.specs.Stretches.{control_words}
 use Rattle.b67_faithful.specs.Weight.{parts_weight}
 use Rattle.b67_faithful.proofs.Contradictions.{some_same}
-use Rattle.b67_pictures.specs.Arrays.{Allotted, Layout, AreMade, AreKnown}
-use Rattle.b67_pictures.specs.Frames.{CellsAre, most_around, IsOwn, IsComplete, IsPlaced, outermost, inside, home_of, Framed, Frame, Waits, Around}
+use Rattle.b67_pictures.specs.Arrays.{Allotted, Layout, AreMade, AreKnown, IsOwn}
+use Rattle.b67_pictures.specs.Frames.{CellsAre, most_around, IsComplete, IsPlaced, outermost, inside, home_of, Framed, Frame, Waits, Around}
 use Rattle.b67_pictures.proofs.FreshCells.{words_long}
-use Rattle.b67_pictures.proofs.Knowing.{KeepsArrays, keeps_same, known_lasts}
+use Rattle.b67_pictures.proofs.Knowing.{KeepsArrays, Remain, keeps_same, leads_lasts, known_lasts, climbs_all}
 use Rattle.b67_pictures.proofs.Numbers.{same_or_not, numbered_set, numbered_other}
 use Rattle.b67_pictures.proofs.StackWords.{length-set}
 use Rattle.b67_pictures.proofs.Staying.{most_in, wanted_in, IsAsHeavy, same_weight}
+use Rattle.b67_pictures.proofs.Variables.{ReferencesStay}
 use Rattle.b67_pictures.proofs.Lying.{below_frame, Lies, lies_low, lies_around, StayBelow, home_after, around_stays}
 
 -- ---- lists
@@ -116,10 +117,12 @@ module _ (w : World) (i : ℕ) (x : Instance) (at : numbered w.instances i ≡ S
 
 -- ---- the frames after it
 
--- the cells of an instance after it: the words of the simple cells are these, and the arrays have their descriptors and rows
-pub record ChangedCells (ss : List Simple) (rows : List Allotted) (cells : List NamedCell) (values : List Word) (declared : List DeclaredArray) (descriptors : List Word) : Type 0 where
+-- The cells of an instance after it: the words of the simple cells are these, references stay, and the arrays have their descriptors and
+-- rows. Before they were those cells, with those words.
+pub record ChangedCells (ss : List Simple) (rows : List Allotted) (cells before : List NamedCell) (words values : List Word) (declared : List DeclaredArray) (descriptors : List Word) : Type 0 where
   pub simple : List NamedCell
   pub arrays : List NamedCell
+  pub references : ReferencesStay before words simple values
   pub simple_are : CellsAre ss simple values
   pub made : AreMade declared arrays rows descriptors
   pub has : cells ≡ simple ++ arrays
@@ -130,7 +133,7 @@ module _ (tree : PProgram) (code : Code) (texts : ℕ → List Placed) (w : Worl
     (short : IsStored word → far < length (simple_cells (scopes_of tree) (block_numbered (scopes_of tree).blocks x.block))) (keeps : KeepsArrays (scopes_of tree) w (stored_world w i x at with_cells) lay lay i)
     (changes : (simple : List NamedCell) (values : List Word) (arrays : List NamedCell) (declared : List DeclaredArray) (descriptors : List Word) →
     CellsAre (simple_cells (scopes_of tree) (block_numbered (scopes_of tree).blocks x.block)) simple values → AreMade declared arrays (lay.rows i) descriptors → x.cells ≡ simple ++ arrays →
-    ChangedCells (simple_cells (scopes_of tree) (block_numbered (scopes_of tree).blocks x.block)) (lay.rows i) with_cells (put word values far) declared descriptors) where
+    ChangedCells (simple_cells (scopes_of tree) (block_numbered (scopes_of tree).blocks x.block)) (lay.rows i) with_cells simple values (put word values far) declared descriptors) where
   abbrev sc : Scopes
   sc = scopes_of tree
 
@@ -214,10 +217,7 @@ module _ (tree : PProgram) (code : Code) (texts : ℕ → List Placed) (w : Worl
   text_so : (part : Part) (outer : List Part) (words : List Word) (f : Before part outer words) → KeepsToText sc ((instance_at w' part.instance).block) part.rest
   text_so part outer words f = subst (λ (b : ℕ). KeepsToText sc b part.rest) (same_of w i x at with_cells (λ (y : Instance). y.block) refl part.instance) f.text
 
-  -- ---- descriptors
-
-  ancestors_same : (up j : ℕ) → ancestor w' up j ≡ ancestor w up j
-  ancestors_same up j = sym (same_ancestors w w' (λ k. same_of w i x at with_cells (λ (y : Instance). y.parent) refl k) up j)
+  -- ---- descriptors and references
 
   each_keeps : (j : ℕ) → KeepsArrays sc w w' lay lay j
   each_keeps j = by_number (same_or_not j i)
@@ -226,9 +226,12 @@ module _ (tree : PProgram) (code : Code) (texts : ℕ → List Placed) (w : Worl
       by_number (inl e) = subst (λ (n : ℕ). KeepsArrays sc w w' lay lay n) (sym e) keeps
       by_number (inr n) = keeps_same sc w w' lay lay j (ap or_no_instance (others_at w i x at with_cells j n)) refl
 
-  -- what is known of descriptors holds as it did
-  pub known_stored : (j level : ℕ) (known : List Known) → AreKnown sc w lay j level known → AreKnown sc (stored_world w i x at with_cells) lay j level known
-  known_stored j level = known_lasts sc w w' lay lay j level (λ up near. ancestors_same up j) (λ up near. each_keeps (ancestor w up j))
+  all_remain : (parts : List Part) → Remain sc w w' lay lay parts parts
+  all_remain parts = record { owned = λ j own. own; keeps = λ j own. each_keeps j; places = λ j f own laid. laid }
+
+  -- what is known of them holds as it did
+  pub known_stored : (parts : List Part) (j : ℕ) (known : List Known) → AreKnown sc w lay parts j known → AreKnown sc (stored_world w i x at with_cells) lay parts j known
+  known_stored parts j = known_lasts sc w w' lay lay parts parts (all_remain parts) j (climbs_all sc w w' lay lay each_keeps j)
 
   -- the frame of the instance
   module _ (part : Part) (outer : List Part) (words : List Word) (f : Before part outer words) (e : part.instance ≡ i) where
@@ -236,7 +239,7 @@ module _ (tree : PProgram) (code : Code) (texts : ℕ → List Placed) (w : Worl
     is_x = frame_is part outer words f e
 
     abbrev Changed_cells : Type 0
-    Changed_cells = ChangedCells ss (lay.rows i) with_cells (put word f.framed.values far) f.framed.declared f.framed.descriptors
+    Changed_cells = ChangedCells ss (lay.rows i) with_cells f.framed.simple f.framed.values (put word f.framed.values far) f.framed.declared f.framed.descriptors
 
     own_cells : Changed_cells
     own_cells =
@@ -257,6 +260,10 @@ module _ (tree : PProgram) (code : Code) (texts : ℕ → List Placed) (w : Worl
           simple = c.simple;
           values = put word f.framed.values far;
           simple_are = c.simple_are;
+          formals = λ n t shape there none told.
+              let g = f.framed.formals n t shape (ap (λ (y : Instance). slice_get (simple_cells sc (block_numbered sc.blocks y.block)) n) is_x ∙ there) none told in
+              let stay = c.references n g.0 g.1 g.2 g.3 g.4 g.5 in
+              (g.0, g.1, g.2, stay.0, stay.1, g.5, leads_lasts sc w w' lay lay outer outer (all_remain outer) shape g.2 g.1 g.6);
           arrays = c.arrays;
           declared = f.framed.declared;
           later = f.framed.later;
@@ -291,6 +298,9 @@ module _ (tree : PProgram) (code : Code) (texts : ℕ → List Placed) (w : Worl
         simple = f.framed.simple;
         values = f.framed.values;
         simple_are = f.framed.simple_are;
+        formals = λ n t shape there none told.
+            let g = f.framed.formals n t shape there none told in
+            (g.0, g.1, g.2, g.3, g.4, g.5, leads_lasts sc w w' lay lay outer outer (all_remain outer) shape g.2 g.1 g.6);
         arrays = f.framed.arrays;
         declared = f.framed.declared;
         later = f.framed.later;
@@ -378,8 +388,7 @@ module _ (tree : PProgram) (code : Code) (texts : ℕ → List Placed) (w : Worl
               ComesTo sc (context_of code sc b) (texts (segment_of sc.blocks b)) (level_of (block_numbered sc.blocks b)) (most_around tree b) (resume sc part.rest r) s.pc (pushed r s.slots)) block_is s.returns;
           few = subst (λ (b : ℕ). length s.slots + 1 ≤ most_around tree b) block_is s.few;
           held = s.held;
-          held_are = subst (λ (b : ℕ). AreKnown sc w' lay part.instance (level_of (block_numbered sc.blocks b)) s.held) block_is
-              (known_stored part.instance (level_of (block_numbered sc.blocks ((instance_at w part.instance).block))) s.held s.held_are);
+          held_are = known_stored (part ∷ outer) part.instance s.held s.held_are;
           words_are = subst (λ (b : ℕ). SlotsAre sc s.held (level_of (block_numbered sc.blocks b)) (length g.frame.lower) (length (put word s.below k)) s.slots s.words) block_is
               (subst (λ (n : ℕ). SlotsAre sc s.held (level_of (block_numbered sc.blocks ((instance_at w part.instance).block))) (length g.frame.lower) n s.slots s.words) as_high
               (subst (λ (n : ℕ). SlotsAre sc s.held (level_of (block_numbered sc.blocks ((instance_at w part.instance).block))) n (length s.below) s.slots s.words) (sym g.lower) s.words_are));

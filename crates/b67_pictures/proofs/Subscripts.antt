@@ -1,11 +1,11 @@
 -- A subscript that is moved by the lower bound is the index of the place that the meaning gives it.
-use Rattle.std.proofs.Common.{◌≡◌, refl, sym, ap, ◌∙◌, subst, ℕ, ◌+◌, ◌<◌, ◌≤◌, List, [], ◌∷◌, Some, None, Bool, true, false, ℤ, arith}
+use Rattle.std.proofs.Common.{◌≡◌, refl, sym, ap, ◌∙◌, subst, ℕ, ◌+◌, ◌<◌, ◌≤◌, List, [], ◌∷◌, length, Option, Some, None, Bool, true, false, ℤ, arith}
 use Rattle.std.specs.Prelude.{map, slice_get, pos, negsuc, neg_ℤ, ◌+ℤ◌, ◌-ℤ◌, ◌<ℤ◌, ◌≤ℤ◌, int_lt, int_le, nat_abs, nat_lt, ◌&&◌, if◌then◌else◌}
 use Rattle.std.proofs.lemmas.Int.{ints}
 use Rattle.std.proofs.lemmas.Bool.Decides.{nat_tests}
-use Rattle.algol_tree.specs.Sorts.{Sort, array}
+use Rattle.algol_tree.specs.Sorts.{Sort, array, formal_array}
 use Rattle.algol_meaning.specs.Value.{Bounds, ArrayCell}
-use Rattle.algol_meaning.specs.Arrays.{size_of, placed, placed_in, subscript_place}
+use Rattle.algol_meaning.specs.Arrays.{size_of, placed, placed_in, moved_to, moved as moved_by_sort, subscript_place}
 use Rattle.b67_table.specs.Arrays.{index_in}
 use Rattle.b67_templates.specs.Fragments.{Low, zero, above, near, far, moved, moved_by}
 use Rattle.b67_faithful.proofs.Contradictions.{some_same, none_some}
@@ -205,37 +205,105 @@ placed_below b z k is = by_test (int_le b.low b.high) refl
             higher_none b z high
         outside false f = lower_none b z (is_more b.low z f)
 
--- ---- the bounds of an array, by the lower bounds of its declaration
+-- ---- other lower bounds
 
-pub one_bound : (bs : List Bounds) (low : ℤ) → map (λ (b : Bounds). b.low) bs ≡ low ∷ [] → (b : Bounds) × (bs ≡ b ∷ []) × (b.low ≡ low)
-one_bound [] low is = absurd (let clash : [] ≡ low ∷ [] = is in cc)
-one_bound (b ∷ []) low is = (b, refl, (let same : b.low ∷ [] ≡ low ∷ [] = is in cc))
-one_bound (b ∷ c ∷ bs) low is = absurd (let clash : b.low ∷ c.low ∷ map (λ (b : Bounds). b.low) bs ≡ low ∷ [] = is in cc)
+-- The same bounds by another lower one: a subscript of them is one of the first that is moved by the difference.
+abbrev shifted : Bounds → ℤ → Bounds
+shifted b low = record { low = low; high = low +ℤ (b.high -ℤ b.low) }
 
-pub two_bounds : (bs : List Bounds) (low second : ℤ) → map (λ (b : Bounds). b.low) bs ≡ low ∷ second ∷ [] → (b : Bounds) × (c : Bounds) × (bs ≡ b ∷ c ∷ []) × (b.low ≡ low) × (c.low ≡ second)
-two_bounds [] low second is = absurd (let clash : [] ≡ low ∷ second ∷ [] = is in cc)
-two_bounds (b ∷ []) low second is = absurd (let clash : b.low ∷ [] ≡ low ∷ second ∷ [] = is in cc)
-two_bounds (b ∷ c ∷ []) low second is =
-    (b, c, refl, (let same : b.low ∷ c.low ∷ [] ≡ low ∷ second ∷ [] = is in cc), (let same : b.low ∷ c.low ∷ [] ≡ low ∷ second ∷ [] = is in cc))
-two_bounds (b ∷ c ∷ d ∷ bs) low second is = absurd (let clash : b.low ∷ c.low ∷ d.low ∷ map (λ (b : Bounds). b.low) bs ≡ low ∷ second ∷ [] = is in cc)
+same_size : (b : Bounds) (low : ℤ) → 1 ≤ size_of b → size_of (shifted b low) ≡ size_of b
+same_size b low some =
+    let s : Span b = span b some in
+    let far : b.high -ℤ b.low ≡ pos s.far = let high : b.high ≡ b.low +ℤ pos s.far = s.high in omega (arith, ints) in
+    let order : low ≤ℤ (low +ℤ (b.high -ℤ b.low)) = omega (arith, ints) in
+    let beyond : (low +ℤ (b.high -ℤ b.low)) -ℤ low ≡ pos s.far = omega (arith, ints) in
+    ap (λ (t : Bool). if t then nat_abs ((low +ℤ (b.high -ℤ b.low)) -ℤ low) + 1 else 0) (at_most low (low +ℤ (b.high -ℤ b.low)) order)
+    ∙ ap (λ (d : ℤ). nat_abs d + 1) beyond
+    ∙ sym s.size
+
+shifted_placed : (b : Bounds) (low z : ℤ) → 1 ≤ size_of b → size_of b ≤ 1048576 → index_in (moved low z) (size_of b) ≡ placed b (z +ℤ (b.low -ℤ low))
+shifted_placed b low z some few =
+    let same : size_of (shifted b low) ≡ size_of b = same_size b low some in
+    let some' : 1 ≤ size_of (shifted b low) = omega (arith, same, some) in
+    let few' : size_of (shifted b low) ≤ 1048576 = omega (arith, same, few) in
+    let there : (z +ℤ (b.low -ℤ low)) -ℤ b.low ≡ z -ℤ low = omega (arith, ints) in
+    ap (λ (n : ℕ). index_in (moved low z) n) (sym same)
+    ∙ index_placed (shifted b low) low z refl some' few'
+    ∙ sym (difference_placed (shifted b low) (span (shifted b low) some') z)
+    ∙ ap (λ (n : ℕ). index_in (z -ℤ low) n) same
+    ∙ ap (λ (d : ℤ). index_in d (size_of b)) (sym there)
+    ∙ difference_placed b (span b some) (z +ℤ (b.low -ℤ low))
+
+-- ---- the lower bounds by which a name counts
+
+-- those of an array that is declared are its own; those of a parameter are as many
+pub data CountsBy (s : Sort) (bounds : List Bounds) (lows : List ℤ) : Type 0 where
+  by_own : s ≡ array → map (λ (b : Bounds). b.low) bounds ≡ lows → CountsBy s bounds lows
+  by_others : s ≡ formal_array lows → length bounds ≡ length lows → CountsBy s bounds lows
+
+-- so there are as many bounds
+pub one_bound : (s : Sort) (bs : List Bounds) (low : ℤ) → CountsBy s bs (low ∷ []) → (b : Bounds) × (bs ≡ b ∷ [])
+one_bound s [] low (by_own is e) = absurd (let clash : [] ≡ low ∷ [] = e in cc)
+one_bound s [] low (by_others is e) = absurd (omega (arith, e))
+one_bound s (b ∷ []) low c = (b, refl)
+one_bound s (b ∷ c ∷ bs) low (by_own is e) = absurd (let clash : b.low ∷ c.low ∷ map (λ (b : Bounds). b.low) bs ≡ low ∷ [] = e in cc)
+one_bound s (b ∷ c ∷ bs) low (by_others is e) = absurd (omega (arith, e))
+
+pub two_bounds : (s : Sort) (bs : List Bounds) (low second : ℤ) → CountsBy s bs (low ∷ second ∷ []) → (b : Bounds) × (c : Bounds) × (bs ≡ b ∷ c ∷ [])
+two_bounds s [] low second (by_own is e) = absurd (let clash : [] ≡ low ∷ second ∷ [] = e in cc)
+two_bounds s [] low second (by_others is e) = absurd (omega (arith, e))
+two_bounds s (b ∷ []) low second (by_own is e) = absurd (let clash : b.low ∷ [] ≡ low ∷ second ∷ [] = e in cc)
+two_bounds s (b ∷ []) low second (by_others is e) = absurd (omega (arith, e))
+two_bounds s (b ∷ c ∷ []) low second counts = (b, c, refl)
+two_bounds s (b ∷ c ∷ d ∷ bs) low second (by_own is e) =
+    absurd (let clash : b.low ∷ c.low ∷ d.low ∷ map (λ (b : Bounds). b.low) bs ≡ low ∷ second ∷ [] = e in cc)
+two_bounds s (b ∷ c ∷ d ∷ bs) low second (by_others is e) = absurd (omega (arith, e))
 
 -- ---- the index of a subscript
 
-module _ (s : Sort) (is_array : s ≡ array) (cell : ArrayCell) (sized : AreSized cell.bounds) where
-  pub only_index : (b : Bounds) (z : ℤ) → cell.bounds ≡ b ∷ [] → index_in (moved b.low z) (size_of b) ≡ subscript_place s cell [] z
-  only_index b z is =
-      let one : OneSized b = one_sized b (subst AreSized is sized) in
-      index_placed b b.low z refl one.some one.few
-      ∙ sym (ap (λ (t : Sort). subscript_place t cell [] z) is_array ∙ ap (λ (bs : List Bounds). placed_in (slice_get bs 0) z) is)
+-- in one dimension, whose bounds are these, where the subscript counts from there
+in_own : (s : Sort) → s ≡ array → (b : Bounds) (low : ℤ) (dimension : ℕ) (z : ℤ) → b.low ≡ low → 1 ≤ size_of b → size_of b ≤ 1048576 →
+    index_in (moved low z) (size_of b) ≡ placed b (moved_by_sort s (Some b) dimension z)
+in_own s is b low dimension z same some few = index_placed b low z same some few ∙ sym (ap (λ (t : Sort). placed b (moved_by_sort t (Some b) dimension z)) is)
 
-  pub first_index : (b c : Bounds) (z : ℤ) → cell.bounds ≡ b ∷ c ∷ [] → index_in (moved b.low z) (size_of b) ≡ subscript_place s cell [] z
-  first_index b c z is =
-      let two : TwoSized b c = two_sized b c (subst AreSized is sized) in
-      index_placed b b.low z refl two.first.some two.first.few
-      ∙ sym (ap (λ (t : Sort). subscript_place t cell [] z) is_array ∙ ap (λ (bs : List Bounds). placed_in (slice_get bs 0) z) is)
+in_others : (s : Sort) (lows : List ℤ) → s ≡ formal_array lows → (b : Bounds) (low : ℤ) (dimension : ℕ) (z : ℤ) → slice_get lows dimension ≡ Some low → 1 ≤ size_of b → size_of b ≤ 1048576 →
+    index_in (moved low z) (size_of b) ≡ placed b (moved_by_sort s (Some b) dimension z)
+in_others s lows is b low dimension z there some few =
+    shifted_placed b low z some few
+    ∙ sym (ap (λ (t : Sort). placed b (moved_by_sort t (Some b) dimension z)) is ∙ ap (λ (o : Option ℤ). placed b (moved_to (Some b) o z)) there)
 
-  pub second_index : (b c : Bounds) (k : ℕ) (z : ℤ) → cell.bounds ≡ b ∷ c ∷ [] → index_in (moved c.low z) (size_of c) ≡ subscript_place s cell (k ∷ []) z
-  second_index b c k z is =
-      let two : TwoSized b c = two_sized b c (subst AreSized is sized) in
-      index_placed c c.low z refl two.second.some two.second.few
-      ∙ sym (ap (λ (t : Sort). subscript_place t cell (k ∷ []) z) is_array ∙ ap (λ (bs : List Bounds). placed_in (slice_get bs 1) z) is)
+module _ (s : Sort) (cell : ArrayCell) (sized : AreSized cell.bounds) where
+  -- the place of a subscript behind so many
+  abbrev At : List Bounds → List ℕ → ℤ → Option ℕ
+  At bs ks z = placed_in (slice_get bs (length ks)) (moved_by_sort s (slice_get bs (length ks)) (length ks) z)
+
+  pub only_index : (b : Bounds) (low z : ℤ) → CountsBy s cell.bounds (low ∷ []) → cell.bounds ≡ b ∷ [] → index_in (moved low z) (size_of b) ≡ subscript_place s cell [] z
+  only_index b low z counts is = by_lows (subst (λ (bs : List Bounds). CountsBy s bs (low ∷ [])) is counts) ∙ sym (ap (λ (bs : List Bounds). At bs [] z) is)
+    where
+      one : OneSized b
+      one = one_sized b (subst AreSized is sized)
+
+      by_lows : CountsBy s (b ∷ []) (low ∷ []) → index_in (moved low z) (size_of b) ≡ At (b ∷ []) [] z
+      by_lows (by_own array_is e) = in_own s array_is b low 0 z (let same : b.low ∷ [] ≡ low ∷ [] = e in cc) one.some one.few
+      by_lows (by_others formal_is e) = in_others s (low ∷ []) formal_is b low 0 z refl one.some one.few
+
+  module _ (b c : Bounds) (low second : ℤ) (counts : CountsBy s cell.bounds (low ∷ second ∷ [])) (is : cell.bounds ≡ b ∷ c ∷ []) where
+    two : TwoSized b c
+    two = two_sized b c (subst AreSized is sized)
+
+    both : CountsBy s (b ∷ c ∷ []) (low ∷ second ∷ [])
+    both = subst (λ (bs : List Bounds). CountsBy s bs (low ∷ second ∷ [])) is counts
+
+    pub first_index : (z : ℤ) → index_in (moved low z) (size_of b) ≡ subscript_place s cell [] z
+    first_index z = by_lows both ∙ sym (ap (λ (bs : List Bounds). At bs [] z) is)
+      where
+        by_lows : CountsBy s (b ∷ c ∷ []) (low ∷ second ∷ []) → index_in (moved low z) (size_of b) ≡ At (b ∷ c ∷ []) [] z
+        by_lows (by_own array_is e) = in_own s array_is b low 0 z (let same : b.low ∷ c.low ∷ [] ≡ low ∷ second ∷ [] = e in cc) two.first.some two.first.few
+        by_lows (by_others formal_is e) = in_others s (low ∷ second ∷ []) formal_is b low 0 z refl two.first.some two.first.few
+
+    pub second_index : (k : ℕ) (z : ℤ) → index_in (moved second z) (size_of c) ≡ subscript_place s cell (k ∷ []) z
+    second_index k z = by_lows both ∙ sym (ap (λ (bs : List Bounds). At bs (k ∷ []) z) is)
+      where
+        by_lows : CountsBy s (b ∷ c ∷ []) (low ∷ second ∷ []) → index_in (moved second z) (size_of c) ≡ At (b ∷ c ∷ []) (k ∷ []) z
+        by_lows (by_own array_is e) = in_own s array_is c second 1 z (let same : b.low ∷ c.low ∷ [] ≡ low ∷ second ∷ [] = e in cc) two.second.some two.second.few
+        by_lows (by_others formal_is e) = in_others s (low ∷ second ∷ []) formal_is c second 1 z refl two.second.some two.second.few

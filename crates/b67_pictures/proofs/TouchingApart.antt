@@ -37,11 +37,12 @@ use Rattle.b67_table.specs.Rows.{level_below}
 use Rattle.b67_table.specs.Sound.{Lives, OperatorTouches}
 use Rattle.b67_table.specs.Table.{operator_at}
 use Rattle.b67_table.specs.Touches.{IsPrivate}
+use Rattle.b67_templates.specs.Cells.{Wanted, parameter_wants}
 use Rattle.b67_templates.specs.Code.{stmts_count}
 use Rattle.b67_templates.specs.Contexts.{Context}
 use Rattle.b67_templates.specs.Fragments.{Has, operator_for, code_at}
 use Rattle.b67_standing.specs.Laws.{RestsGoOn}
-use Rattle.b67_standing.specs.Standing.{ActionAt, GoesOn, operands}
+use Rattle.b67_standing.specs.Standing.{ActionAt, GoesOn, given_slots}
 use Rattle.b67_standing.specs.Stepping.{Slot, control, mark, operand, reference}
 use Rattle.b67_cores.specs.Cores.{Core, HasCore, CoreStep, CoreSteps, here, onward}
 use Rattle.b67_cores.specs.Slots.{newest, SlotIs, SlotsAre}
@@ -50,7 +51,7 @@ use Rattle.b67_faithful.proofs.Contradictions.{some_same, none_some, true_false}
 use Rattle.b67_fitting.specs.Nested.{AreNested}
 use Rattle.b67_pictures.specs.Arrays.{Layout}
 use Rattle.b67_pictures.specs.Pictures.{Living, Pictured, living, dead, PicturesBy}
-use Rattle.b67_pictures.proofs.Actuals.{Given_words, given_words}
+use Rattle.b67_pictures.proofs.GivenWords.{AreFit, none_wanted, are_fit, Taken, taken_words}
 use Rattle.b67_pictures.proofs.Asked.{reads_seen, stores_seen}
 use Rattle.b67_pictures.proofs.AskedEntries.{enters_seen}
 use Rattle.b67_pictures.proofs.Homes.{operator_there}
@@ -82,6 +83,7 @@ pub record ArraysAreNear (tree : PProgram) (code : Code) (texts : ℕ → List P
   pub reading : (n : Named) (ks : List ℕ) (v : Value) → IsNear tree code texts (reads_element n ks v)
   pub indexing : (n : Named) (ks : List ℕ) (v : Value) → IsNear tree code texts (indexes n ks v)
   pub storing : (r : Reference) (ks : List ℕ) (v : Value) → IsNear tree code texts (stores (element_of r ks) v)
+  pub passing : (n : Named) → IsNear tree code texts (passes n)
   pub making : (kind : Kind) (ns : List Named) (pairs : List PPair) (vs : List Value) → IsNear tree code texts (makes_arrays kind ns pairs vs)
 
 -- ---- a process at its action
@@ -114,10 +116,10 @@ module _ (tree : PProgram) (code : Code) (texts : ℕ → List Placed) (nested :
     InCell couple Is = Names tree code texts nested w lay img p q part outer bound core s couple Is
 
     leads : AllLeadNear p img
-    leads = image_leads tree code texts w lay p part outer core s.stands s.around img s.has s.by.system s.small
+    leads = image_leads tree code texts nested w lay p part outer core s.stands s.around img s.has s.by.system s.small
 
     known : level < 32
-    known = level_known tree code texts w lay p part outer core s.stands s.around
+    known = level_known tree code texts nested w lay p part outer core s.stands s.around
 
     stands : (op : Operator) (next : ℕ) → Has text level s.stands.pc op next → operator_at code r ≡ Ok (op, next)
     stands op next has_it = operator_there sc s.stands.held code text level s.stands.pc s.stands.slots core op next s.stands.there has_it
@@ -180,13 +182,14 @@ module _ (tree : PProgram) (code : Code) (texts : ℕ → List Placed) (nested :
         (call_touches img p code core s.has a.0 s.by.system s.sees sc s.stands.held level (frame r) s.stands.slots s.stands.there.mark_is s.stands.there.words_are names.Select
         (v ∷ number (pos (stmts_count ss)) ∷ number (pos a.0) ∷ []) a.1 a.2.lies (select_touches p img code r s.has.own a.0))
 
-    -- the word above the mark, under values
-    above_mark : (values : List Value) (slot : Slot) (below : List Slot) → s.stands.slots ≡ operands values (slot ∷ mark ∷ below) → newest (frame r) (length core.below) (slot ∷ mark ∷ below) ≡ length core.below + length below →
+    -- the word above the mark, under the words of actuals
+    above_mark : (wanted : List Wanted) (gs : List Given) → AreFit sc level wanted gs → (slot : Slot) (below : List Slot) → s.stands.slots ≡ given_slots wanted gs (slot ∷ mark ∷ below) →
+        newest (frame r) (length core.below) (slot ∷ mark ∷ below) ≡ length core.below + length below →
         (y : Word) × SlotIs sc s.stands.held level (frame r) (length core.below) (mark ∷ below) slot y × (word_at img.stacks (place r.stack (r.f + 1)) ≡ Some y)
-    above_mark values slot below lies marks =
+    above_mark wanted gs fit slot below lies marks =
         let base : ℕ = length core.below in
-        let g : Given_words sc s.stands.held level (frame r) base values (slot ∷ mark ∷ below) core.words =
-        given_words sc s.stands.held level (frame r) base values (slot ∷ mark ∷ below) core.words (subst (λ (l : List Slot). SlotsAre sc s.stands.held level (frame r) base l core.words) lies s.stands.there.words_are) in
+        let g : Taken sc s.stands.held level (frame r) base wanted gs (slot ∷ mark ∷ below) core.words =
+        taken_words sc s.stands.held level (frame r) base fit (slot ∷ mark ∷ below) core.words (subst (λ (l : List Slot). SlotsAre sc s.stands.held level (frame r) base l core.words) lies s.stands.there.words_are) in
         let first : Top sc s.stands.held level (frame r) base slot (mark ∷ below) g.others = top_slot sc s.stands.held level (frame r) base (slot ∷ mark ∷ below) slot (mark ∷ below) g.others g.are refl in
         let many : length first.words_below ≡ length (mark ∷ below) = slots_length sc s.stands.held level (frame r) base (mark ∷ below) first.words_below first.are in
         let f : r.f ≡ base + length below = s.stands.there.mark_is ∙ ap (newest (frame r) base) lies ∙ g.mark_is ∙ marks in
@@ -207,7 +210,7 @@ module _ (tree : PProgram) (code : Code) (texts : ℕ → List Placed) (nested :
     block_near : (spot : Spot) (ds : PDecls) (ss : PStmts) → At (enters_block (tree_forms.body spot ds ss)) → Near p x.stack
     block_near spot ds ss a =
         let c : Pcw = code_at context.segment a.2.begin (level + 1) in
-        let above = above_mark [] (control c) a.1 a.2.lies refl in
+        let above = above_mark [] [] none_wanted (control c) a.1 a.2.lies refl in
         enter_near code img p x r s.has.own t a.0 (stands (ops.Plain kinds.Entr) a.0 a.2.stands)
         (block_touches p img code r s.has.own a.0 above.0 above.2 leads c refl
         (ap as_irw above.1 ∙ irw_laws.other (pcw_word c) (λ k. let is = sym (pcw_kind c) ∙ k in cc))
@@ -216,10 +219,10 @@ module _ (tree : PProgram) (code : Code) (texts : ℕ → List Placed) (nested :
 
     called_near : (n : Named) (gs : List Given) → ask part.rest ≡ enters n gs → At (enters n gs) → Near p x.stack
     called_near n gs e a =
-        let seen : IsSeen sc block n = enters_seen (IsSeen sc block) n gs (IsInner sc block) (IsSeenAround sc block) (λ (seen : IsSeenAround sc block n). seen.0) part.rest e s.stands.frame.text in
+        let seen : IsSeen sc block n = (enters_seen (IsSeen sc block) n gs (IsInner sc block) (IsSeenAround sc block) (λ m (seen : IsSeenAround sc block m). seen.0) part.rest e s.stands.frame.text).0 in
         let couple : Couple = a.3.couple in
         let fits : (couple.level < 32) × (couple.index < 2 ^ 14) = procedure_fits sc nested level n a.0 couple a.3.procedure known in
-        let above = above_mark a.3.values (reference couple) a.2 a.3.lies refl in
+        let above = above_mark (parameter_wants sc a.0) gs (are_fit sc level (parameter_wants sc a.0) gs a.3.fit) (reference couple) a.2 a.3.lies refl in
         let c : InCell couple IsEntry = procedure_there tree code texts nested w lay img p q part outer bound core s n a.0 couple seen a.3.procedure in
         enter_near code img p x r s.has.own t a.1 (stands (ops.Plain kinds.Entr) a.1 a.3.stands)
         (procedure_touches p img code r s.has.own a.1 above.0 above.2 leads c.is.control c.is.no_intrinsic (record { level = couple.level; index = couple.index })
@@ -248,7 +251,7 @@ module _ (tree : PProgram) (code : Code) (texts : ℕ → List Placed) (nested :
     by_ask (reads_element n ks v) e a = arrays.reading n ks v w lay img p q part outer bound core s x t e a
     by_ask (indexes n ks v) e a = arrays.indexing n ks v w lay img p q part outer bound core s x t e a
     by_ask (asks_happened n) e a = absurd a
-    by_ask (passes n) e a = absurd a
+    by_ask (passes n) e a = arrays.passing n w lay img p q part outer bound core s x t e a
     by_ask (resolves n) e a = absurd a
     by_ask (goes_to n) e a = absurd a
     by_ask (starts n gs task) e a = absurd a

@@ -74,7 +74,7 @@ record First (far : ℕ) (words : List Word) : Type 0 where
 
 -- the result and what lies behind it
 abbrev from_result : Block → Kind → List Simple
-from_result b kind = record { name = b.name; kind = Some kind } ∷ variables b.decls
+from_result b kind = record { name = b.name; kind = Some kind; shape = None } ∷ variables b.decls
 
 -- the cell behind those of the parameters is that of the result
 first_value : (sc : Scopes) (b : Block) (kind : Kind) → b.result ≡ Some kind → (cells : List NamedCell) (words : List Word) → CellsAre (simple_cells sc b) cells words → First (length (parameter_cells sc b)) words

@@ -1,5 +1,5 @@
 -- The operators that read an element, index an array or store an element touch no stack but that of their process, and the system's.
-use Rattle.std.proofs.Common.{◌≡◌, refl, ap, ◌∙◌, ℕ, ◌<◌, ◌^◌, List, ◌∷◌, length, Bool, Ok, ℤ}
+use Rattle.std.proofs.Common.{◌≡◌, refl, ap, ◌∙◌, ℕ, List, ◌∷◌, length, Bool, Ok, ℤ}
 use Rattle.algol_tree.specs.declared.tree.Named.{Named}
 use Rattle.algol_tree.specs.Plain.{PProgram}
 use Rattle.algol_tree.specs.Scopes.{Scopes, scopes_of}
@@ -7,7 +7,7 @@ use Rattle.algol_meaning.specs.Value.{Value, Reference}
 use Rattle.algol_meaning.specs.Rest.{element_of}
 use Rattle.algol_meaning.specs.World.{Part, Process, World}
 use Rattle.algol_meaning.specs.Asks.{Ask, reads_element, indexes, stores, ask}
-use Rattle.algol_paths.specs.Arrays.{DeclaredArray}
+use Rattle.algol_paths.specs.Arrays.{Shape}
 use Rattle.b67_word.specs.declared.Place.{Place}
 use Rattle.b67_word.specs.Word.{Word}
 use Rattle.b67_control.specs.declared.Descriptor.{Descriptor}
@@ -26,12 +26,12 @@ use Rattle.b67_standing.specs.Standing.{ActionAt, of_row, of_element, ElementRea
 use Rattle.b67_cores.specs.Cores.{Core}
 use Rattle.b67_fitting.specs.Nested.{AreNested}
 use Rattle.b67_pictures.specs.Arrays.{Layout, IsElement}
-use Rattle.b67_pictures.proofs.ArrayHomes.{ArrayHome, array_home, array_fits}
+use Rattle.b67_pictures.proofs.ArrayHomes.{MeantArray, array_home}
 use Rattle.b67_pictures.proofs.AskedElements.{array_asked}
 use Rattle.b67_pictures.proofs.ElementHomes.{at_element, ElementHome, element_home}
 use Rattle.b67_pictures.proofs.Homes.{operator_there}
 use Rattle.b67_pictures.proofs.IndexRows.{top_word, under_word}
-use Rattle.b67_pictures.proofs.Described.{known_is}
+use Rattle.b67_pictures.proofs.Knowing.{known_is}
 use Rattle.b67_pictures.proofs.Indices.{Finds, LastIndex, last_index, FirstIndex, first_of_two}
 use Rattle.b67_pictures.proofs.Scene.{Scene}
 use Rattle.b67_pictures.proofs.Slotted.{Top, top_slot}
@@ -60,36 +60,33 @@ module _ (tree : PProgram) (code : Code) (texts : ℕ → List Placed) (nested :
     stands op next has_it = operator_there sc s.stands.held code text level s.stands.pc s.stands.slots core op next s.stands.there has_it
 
     -- the array that a name means there
-    abbrev IsHome : Named → DeclaredArray → Couple → Type 0
-    IsHome n declared couple = ArrayHome tree code texts w lay img p q part outer bound core s n declared couple
+    abbrev IsHome : Named → Shape → Couple → Type 0
+    IsHome n shape couple = MeantArray tree code texts nested w lay img p q part outer bound core s n shape couple
 
     abbrev AreFound : Bool → ℤ → Descriptor → List Slot → Type 0
-    AreFound mother z d below = Finds tree code texts w lay img p q part outer bound core s mother z d below
+    AreFound mother z d below = Finds tree code texts nested w lay img p q part outer bound core s mother z d below
 
     module _ (n : Named) (ks : List ℕ) (v : Value) where
       read_near : ask part.rest ≡ reads_element n ks v → At (reads_element n ks v) → Near p x.stack
       read_near asks a =
           let found : ElementReadAt sc (context_in tree code w part) text level (most_in tree w part) n ks v s.stands.pc a.0 s.stands.slots a.1 = a.2 in
-          let h : IsHome n a.2.array a.2.couple = array_home tree code texts w lay img p q part outer bound core s n a.2.array a.2.couple (ap array_asked asks) a.2.is_array in
-          let fits : (a.2.couple.level < 32) × (a.2.couple.index < 2 ^ 14) = array_fits tree code texts w lay img p q part outer bound core s n a.2.array a.2.couple (ap array_asked asks) a.2.is_array nested h in
-          let l : LastIndex tree code texts w lay img p q part outer bound core s n a.2.array a.2.couple h a.2.is_array fits ks a.2.subscript a.1 =
-          last_index tree code texts w lay img p q part outer bound core s n a.2.array a.2.couple h a.2.is_array fits ks a.2.subscript a.1 a.2.lies in
+          let h : IsHome n a.2.array a.2.couple = array_home tree code texts nested w lay img p q part outer bound core s n a.2.array a.2.couple (ap array_asked asks) a.2.is_array in
+          let l : LastIndex tree code texts nested w lay img p q part outer bound core s n a.2.array a.2.couple h ks a.2.subscript a.1 =
+          last_index tree code texts nested w lay img p q part outer bound core s n a.2.array a.2.couple h ks a.2.subscript a.1 a.2.lies in
           load_near code img p x core.registers t a.0 (stands (ops.Plain kinds.Nxlv) a.0 a.2.stands)
           (load_touches p img core.registers s.has.own l.finds.first (top_word img p core s.has l.finds.first l.finds.second l.finds.words l.finds.top) l.finds.found a.0)
 
       indexed_near : ask part.rest ≡ indexes n ks v → At (indexes n ks v) → Near p x.stack
       indexed_near asks (of_row low second next below found) =
-          let h : IsHome n found.array found.couple = array_home tree code texts w lay img p q part outer bound core s n found.array found.couple (ap array_asked asks) found.is_array in
-          let fits : (found.couple.level < 32) × (found.couple.index < 2 ^ 14) = array_fits tree code texts w lay img p q part outer bound core s n found.array found.couple (ap array_asked asks) found.is_array nested h in
-          let l : FirstIndex tree code texts w lay img p q part outer bound core s n found.array found.couple h found.is_array fits found.subscript below =
-          first_of_two tree code texts w lay img p q part outer bound core s n found.array found.couple h found.is_array fits found.subscript low second below found.lows_are found.lies in
+          let h : IsHome n found.array found.couple = array_home tree code texts nested w lay img p q part outer bound core s n found.array found.couple (ap array_asked asks) found.is_array in
+          let l : FirstIndex tree code texts nested w lay img p q part outer bound core s n found.array found.couple h found.subscript below =
+          first_of_two tree code texts nested w lay img p q part outer bound core s n found.array found.couple h found.subscript low second below found.lows_are found.lies in
           mother_near code img p x core.registers t next (stands (ops.Plain kinds.Nxln) next found.stands)
           (mother_touches p img core.registers s.has.own l.finds.first (top_word img p core s.has l.finds.first l.finds.second l.finds.words l.finds.top) l.finds.found next)
       indexed_near asks (of_element kind next below found) =
-          let h : IsHome n found.array found.couple = array_home tree code texts w lay img p q part outer bound core s n found.array found.couple (ap array_asked asks) found.is_array in
-          let fits : (found.couple.level < 32) × (found.couple.index < 2 ^ 14) = array_fits tree code texts w lay img p q part outer bound core s n found.array found.couple (ap array_asked asks) found.is_array nested h in
-          let l : LastIndex tree code texts w lay img p q part outer bound core s n found.array found.couple h found.is_array fits ks found.subscript below =
-          last_index tree code texts w lay img p q part outer bound core s n found.array found.couple h found.is_array fits ks found.subscript below found.lies in
+          let h : IsHome n found.array found.couple = array_home tree code texts nested w lay img p q part outer bound core s n found.array found.couple (ap array_asked asks) found.is_array in
+          let l : LastIndex tree code texts nested w lay img p q part outer bound core s n found.array found.couple h ks found.subscript below =
+          last_index tree code texts nested w lay img p q part outer bound core s n found.array found.couple h ks found.subscript below found.lies in
           index_near code img p x core.registers t next (stands (ops.Plain kinds.Indx) next found.stands)
           (index_touches p img core.registers s.has.own l.finds.first (top_word img p core s.has l.finds.first l.finds.second l.finds.words l.finds.top) l.finds.found next)
 
@@ -100,8 +97,8 @@ module _ (tree : PProgram) (code : Code) (texts : ℕ → List Placed) (nested :
         top_slot sc s.stands.held level (frame core.registers) (length core.below) s.stands.slots (operand v) (descriptor (element r ks a.2.kind) ∷ a.1) core.words s.stands.there.words_are a.2.lies in
         let second : Top sc s.stands.held level (frame core.registers) (length core.below) (descriptor (element r ks a.2.kind)) a.1 first.words_below =
         top_slot sc s.stands.held level (frame core.registers) (length core.below) (descriptor (element r ks a.2.kind) ∷ a.1) (descriptor (element r ks a.2.kind)) a.1 first.words_below first.are refl in
-        let e : IsElement sc w lay part.instance level r ks a.2.kind second.word =
-        known_is sc w lay part.instance level s.stands.held s.stands.held_are (element r ks a.2.kind) second.word second.slot_is in
+        let e : IsElement sc w lay (part ∷ outer) r ks a.2.kind second.word =
+        known_is sc w lay (part ∷ outer) part.instance s.stands.held s.stands.held_are (element r ks a.2.kind) second.word second.slot_is in
         let h : ElementHome tree code texts w lay img p q part outer bound core s r ks a.2.kind second.word e = element_home tree code texts w lay img p q part outer bound core s r ks a.2.kind second.word e in
         store_near code img p x core.registers s.has.own t a.0 (stands (ops.Plain kinds.Stod) a.0 a.2.stands)
         (element_store_touches p img core.registers s.has.own second.word

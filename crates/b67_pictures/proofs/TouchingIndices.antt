@@ -1,5 +1,5 @@
 -- What NXLV, NXLN and INDX, and STOD on the descriptor of an element, read and write: the two words on top, and the cell to which a reference
--- leads. The words of rows are no words of stacks.
+-- leads, or the reference in it. The words of rows are no words of stacks.
 use Rattle.std.proofs.Common.{◌≡◌, inl, inr, refl, sym, subst, ℕ, ◌+◌, ◌-◌, Option, Some, None, Bool, true, false, Result, Ok, ℤ, ◌∙◌}
 use Rattle.std.specs.Prelude.{if◌then◌else◌, nat_le, take, drop}
 use Rattle.b67_word.specs.declared.Place.{Place}
@@ -24,7 +24,7 @@ use Rattle.b67_table.specs.Moves.{replaced}
 use Rattle.b67_table.specs.Private.{floor}
 use Rattle.b67_table.specs.Program.{Test, Change, Program, answer, ask, see, row, ◌>>=◌, cut, push, registers, done, write_row}
 use Rattle.b67_table.specs.Questions as questions
-use Rattle.b67_table.specs.References.{Two, cell_in, irw_or_sirw, one_sirw, reached_in, from_top, popped_two, operand_in, invalid}
+use Rattle.b67_table.specs.References.{Two, cell_in, irw_or_sirw, no_second, one_sirw, reached_in, from_top, popped_two, operand_in, invalid}
 use Rattle.b67_table.specs.Rows as rows
 use Rattle.b67_table.specs.Rows.{store, store_by, stored}
 use Rattle.b67_table.specs.Table.{operator_at}
@@ -32,7 +32,7 @@ use Rattle.b67_table.specs.Touches.{Touches, ChangeTouches, RowTouches}
 use Rattle.b67_table.specs.Writes as writes
 use Rattle.b67_table.specs.Writes.{written}
 use Rattle.b67_faithful.proofs.Contradictions.{some_same}
-use Rattle.b67_pictures.proofs.Described.{IsFound, itself, in_cell}
+use Rattle.b67_pictures.proofs.Described.{IsFound, itself, in_cell, through_cell}
 use Rattle.b67_pictures.proofs.Touching.{Near, Stays, ChangeStays, change_done, change_cut, change_push, change_registers, stays_as, stays_word, stays_words, stays_answer, stays_interrupt, stays_fault, stays_valid, stays_operand}
 use Rattle.b67_pictures.proofs.TouchingLooks.{Any, Sees, sees_then, sees_if, sees_there, stays_see}
 use Rattle.b67_pictures.proofs.TouchingOperators.{TouchesFrom}
@@ -64,7 +64,7 @@ module _ (p : ℕ) (img : Image) where
   -- ---- looks
 
   -- of an equal the same is seen
-  sees_as : {A B : Type 0} (P : B → Type 0) {a b : A} (f : A → Look B) → a ≡ b → Sees p img (f b) P → Sees p img (f a) P
+  pub sees_as : {A B : Type 0} (P : B → Type 0) {a b : A} (f : A → Look B) → a ≡ b → Sees p img (f b) P → Sees p img (f a) P
   sees_as P f e s = subst (λ c. Sees p img (f c) P) (sym e) s
 
   -- a test that goes on with what a look finds, and what follows that
@@ -107,6 +107,9 @@ module _ (p : ℕ) (img : Image) where
       abbrev on_word : Reached → Look Reached
       on_word v = one_sirw (as_sirw v.word) v
 
+      abbrev on_second : Reached → Look Reached
+      on_second v = no_second (as_sirw v.word) v
+
       array_seen : IsFound p img r x → Sees p img (array_of r mother x) Any
       array_seen (itself no_irw no_sirw) =
           sees_as Any (λ (o : Option Irw). array_by r mother x (irw_or_sirw r o (as_sirw x))) no_irw
@@ -117,6 +120,17 @@ module _ (p : ℕ) (img : Image) where
             inl refl,
             sees_as Any (λ (o : Option Word). (reached_in (record { frame = place p height; index = i.index }) o >-> on_word) >-> on_reached) there
                 (sees_as Any (λ (o : Option Sirw). one_sirw o (record { word = w; cell = record { frame = place p height; index = i.index } }) >-> on_reached) no_sirw (descriptor_seen (as_descriptor w))),
+          ))
+      array_seen (through_cell i height v high far w reads shown there refers further no_sirw) =
+          sees_as Any (λ (o : Option Irw). array_by r mother x (irw_or_sirw r o (as_sirw x))) reads
+          (sees_as Any (λ (o : Option Place). array_by r mother x (cell_in o i.index)) shown (
+            inl refl,
+            sees_as Any (λ (o : Option Word). (reached_in (record { frame = place p height; index = i.index }) o >-> on_word) >-> on_reached) there
+                (sees_as Any (λ (o : Option Sirw). one_sirw o (record { word = v; cell = record { frame = place p height; index = i.index } }) >-> on_reached) refers (
+                  inl refl,
+                  sees_as Any (λ (o : Option Word). (reached_in (record { frame = place p high; index = far }) o >-> on_second) >-> on_reached) further
+                      (sees_as Any (λ (o : Option Sirw). no_second o (record { word = w; cell = record { frame = place p high; index = far } }) >-> on_reached) no_sirw (descriptor_seen (as_descriptor w))),
+                )),
           ))
 
       abbrev IsOnTop : Two → Type 0
@@ -217,7 +231,7 @@ same_found : {A B : Type 0} {x y : A} {o : Result A B} → o ≡ Ok x → o ≡ 
 same_found e f = cc
 
 module _ (code : Code) (img : Image) (p : ℕ) (x : Place) (r : Registers) (t : TouchesFrom code img p x r) where
-  touched_by : (op : Operator) (next : ℕ) → operator_at code r ≡ Ok (op, next) → RowTouches (rows.row op r.place) code img p r next x
+  pub touched_by : (op : Operator) (next : ℕ) → operator_at code r ≡ Ok (op, next) → RowTouches (rows.row op r.place) code img p r next x
   touched_by op next e = subst (λ (f : Operator × ℕ). RowTouches (rows.row f.0 r.place) code img p r f.1 x) (same_found t.stands e) t.touches
 
   pub load_near : (next : ℕ) → operator_at code r ≡ Ok (ops.Plain kinds.Nxlv, next) → Stays p img (index_and_load r next) → Near p x.stack

@@ -13,7 +13,7 @@ use Rattle.algol_tree.specs.Scopes.{Scopes, scopes_of, use_of}
 use Rattle.algol_tree.specs.Sorts.{same_name}
 use Rattle.algol_meaning.specs.Value.{Value, Bounds, Cell, simple, event, array, named, reference as refers}
 use Rattle.algol_meaning.specs.World.{NamedCell, Instance, Part, World, or_no_instance}
-use Rattle.algol_paths.specs.Arrays.{DeclaredArray, arrays_of}
+use Rattle.algol_paths.specs.Arrays.{DeclaredArray, Shape, arrays_of}
 use Rattle.b67_word.specs.declared.Place.{Place}
 use Rattle.b67_word.specs.Word.{Word, field}
 use Rattle.b67_control.specs.Kind as kind
@@ -23,7 +23,8 @@ use Rattle.b67_control.specs.declared.Irw.{Irw}
 use Rattle.b67_control.specs.declared.Mscw.{Mscw}
 use Rattle.b67_control.specs.declared.Pcw.{Pcw}
 use Rattle.b67_control.specs.declared.Rcw.{Rcw}
-use Rattle.b67_control.specs.Control.{as_mscw, as_rcw, descriptor_word, irw_word, pcw_word}
+use Rattle.b67_control.specs.declared.Sirw.{Sirw}
+use Rattle.b67_control.specs.Control.{as_mscw, as_rcw, descriptor_word, irw_word, sirw_word, pcw_word}
 use Rattle.b67_control.proofs.ControlLaws.{as_rcw-rcw_word, Fits-as_rcw, mscw_laws, rcw_laws, as_mscw-mscw_word}
 use Rattle.b67_ops.specs.declared.Couple.{Couple}
 use Rattle.b67_ops.specs.declared.intrinsic.Intrinsic.{Intrinsic}
@@ -37,9 +38,11 @@ use Rattle.b67_table.specs.Chains.{place}
 use Rattle.b67_table.specs.Image.{Image}
 use Rattle.b67_table.specs.PrivateRows.{open_mark}
 use Rattle.b67_table.specs.PrivateRows as rows
+use Rattle.b67_table.specs.References.{cell_word}
+use Rattle.b67_table.specs.declared.Cell as frame_cells
 use Rattle.b67_templates.specs.Fragments.{code_at}
-use Rattle.b67_templates.specs.Cells.{Simple, Found, simple_cells, found_from, FoundArray, array_from, procedures, control_segments, IsVariable, IsProcedure, IsArray}
-use Rattle.b67_standing.specs.Stepping.{Held, row, element, Slot, operand, reference, intrinsic, control, descriptor, mark}
+use Rattle.b67_templates.specs.Cells.{Simple, Found, simple_cells, found_from, FoundArray, array_from, procedures, control_segments, IsVariable, IsProcedure, IsFormalArray, IsArray, declared, formal}
+use Rattle.b67_standing.specs.Stepping.{Held, row, element, cell_named, cell_of, Slot, operand, reference, intrinsic, control, descriptor, mark}
 use Rattle.b67_cores.specs.Cores.{Core, size, stack_of, HasCore}
 use Rattle.b67_cores.specs.Slots.{ValueIs, Known, IsKnown, SlotsAre}
 use Rattle.b67_cores.specs.Stretches.{control_words}
@@ -48,6 +51,7 @@ use Rattle.b67_faithful.proofs.Contradictions.{some_same}
 use Rattle.b67_fitting.specs.Nested.{AreNested}
 use Rattle.b67_pictures.specs.Arrays.{Allotted, Layout, DescriptorIs, AreMade, HeldIs, AreKnown}
 use Rattle.b67_pictures.specs.Frames.{CellIs, CellsAre, IsPlaced, outermost, inside, home_of, result_of_part, Frame, Stands, Waits, Around, level_at}
+use Rattle.b67_pictures.proofs.FreshCells.{told_shape}
 use Rattle.b67_pictures.proofs.Lying.{Lies, lies_around}
 use Rattle.b67_pictures.proofs.Numbers.{get_below}
 use Rattle.b67_pictures.proofs.Rows.{words_are}
@@ -111,6 +115,10 @@ reference_tag : (i : Irw) → (irw_word i).tag ≡ 1
 unfolding irw_word
 reference_tag i = refl
 
+alike_tag : (s : Sirw) → (sirw_word s).tag ≡ 1
+unfolding sirw_word
+alike_tag s = refl
+
 module _ (p : ℕ) where
   -- a word that is no mark
   leads_else : (w : Word) → kind_of w ≢ kind.mscw → LeadsNear p w
@@ -133,6 +141,10 @@ module _ (p : ℕ) where
 
   reference_leads : (c : Couple) → LeadsNear p (rows.reference c)
   reference_leads c = leads_else (rows.reference c) (no_mark (rows.reference c) (reference_tag (record { level = c.level; index = c.index })))
+
+  -- the reference that is read alike everywhere
+  pub cell_word_leads : (c : frame_cells.Cell) → LeadsNear p (cell_word c)
+  cell_word_leads c = leads_else (cell_word c) (no_mark (cell_word c) (alike_tag (record { stack = c.frame.stack; displacement = c.frame.at; index = c.index })))
 
   mark_leads : (w : Word) (m : Mscw) → as_mscw w ≡ Some m → Near p m.stack → LeadsNear p w
   mark_leads w m e near = record { link = λ n f. subst (λ (x : Mscw). Near p x.stack) (some_same (sym e ∙ f)) near }
@@ -176,21 +188,24 @@ module _ (p : ℕ) where
 
   -- ---- cells
 
-  cell_leads : (o : Option Kind) (c : Cell) (w : Word) → CellIs o c w → LeadsNear p w
-  cell_leads None c w is = absurd is
-  cell_leads (Some k) (simple v) w is = value_leads v w is.1
-  cell_leads (Some k) (event e) w is = absurd is
-  cell_leads (Some k) (array a) w is = absurd is
-  cell_leads (Some k) (named n) w is = absurd is
-  cell_leads (Some k) (refers r) w is = absurd is
+  -- a value; of a reference it is known otherwise
+  cell_leads : (o : Option Kind) (c : Cell) (w : Word) → CellIs o c w → (o ≡ None → LeadsNear p w) → LeadsNear p w
+  cell_leads None c w is referred = referred refl
+  cell_leads (Some k) (simple v) w is referred = value_leads v w is.1
+  cell_leads (Some k) (event e) w is referred = absurd is
+  cell_leads (Some k) (array a) w is referred = absurd is
+  cell_leads (Some k) (named n) w is referred = absurd is
+  cell_leads (Some k) (refers r) w is referred = absurd is
 
-  cells_lead : (ss : List Simple) (cells : List NamedCell) (words : List Word) → CellsAre ss cells words → AllLead words
-  cells_lead [] [] [] are = tt
-  cells_lead [] [] (w ∷ words) are = absurd are
-  cells_lead [] (c ∷ cells) words are = absurd are
-  cells_lead (s ∷ ss) [] words are = absurd are
-  cells_lead (s ∷ ss) (c ∷ cells) [] are = absurd are
-  cells_lead (s ∷ ss) (c ∷ cells) (w ∷ words) are = (cell_leads s.kind c.cell w are.1, cells_lead ss cells words are.2)
+  cells_lead : (ss : List Simple) (cells : List NamedCell) (words : List Word) → CellsAre ss cells words →
+      ((k : ℕ) (s : Simple) (w : Word) → slice_get ss k ≡ Some s → s.kind ≡ None → slice_get words k ≡ Some w → LeadsNear p w) → AllLead words
+  cells_lead [] [] [] are referred = tt
+  cells_lead [] [] (w ∷ words) are referred = absurd are
+  cells_lead [] (c ∷ cells) words are referred = absurd are
+  cells_lead (s ∷ ss) [] words are referred = absurd are
+  cells_lead (s ∷ ss) (c ∷ cells) [] are referred = absurd are
+  cells_lead (s ∷ ss) (c ∷ cells) (w ∷ words) are referred =
+      (cell_leads s.kind c.cell w are.1 (λ none. referred 0 s w refl none refl), cells_lead ss cells words are.2 (λ k t x there none lies. referred (suc k) t x there none lies))
 
   controls_lead : (level : ℕ) (segments : List ℕ) → AllLead (control_words level segments)
   controls_lead level [] = tt
@@ -212,16 +227,18 @@ module _ (p : ℕ) where
   arrays_lead (d ∷ ds) (c ∷ cells) [] (w ∷ words) are = absurd are
   arrays_lead (d ∷ ds) (c ∷ cells) (a ∷ as') (w ∷ words) are = (array_leads are.0.cell.bounds a w are.0.descriptor, arrays_lead ds cells as' words are.1)
 
--- what is known of descriptors is of no marks
+-- what is known of descriptors and references is of no marks
 abbrev pub KnownLead : ℕ → List Known → Type 0
 KnownLead p known = (h : Held) (x : Word) → IsKnown known h x → LeadsNear p x
 
-module _ (sc : Scopes) (w : World) (lay : Layout) (p i level : ℕ) where
-  held_leads : (h : Held) (x : Word) → HeldIs sc w lay i level h x → LeadsNear p x
+module _ (sc : Scopes) (w : World) (lay : Layout) (p : ℕ) (parts : List Part) (i : ℕ) where
+  held_leads : (h : Held) (x : Word) → HeldIs sc w lay parts i h x → LeadsNear p x
   held_leads (row n ks) x is = subst (LeadsNear p) (sym is.word_is) (descriptor_leads p _)
   held_leads (element r ks kind) x is = subst (LeadsNear p) (sym is.word_is) (descriptor_leads p _)
+  held_leads (cell_named n) x is = subst (LeadsNear p) (sym is.word_is) (cell_word_leads p _)
+  held_leads (cell_of shape r) x is = subst (LeadsNear p) (sym is.word_is) (cell_word_leads p _)
 
-  pub known_lead : (known : List Known) → AreKnown sc w lay i level known → KnownLead p known
+  pub known_lead : (known : List Known) → AreKnown sc w lay parts i known → KnownLead p known
   known_lead [] are h x is = absurd is
   known_lead (k ∷ known) are h x is = by_place is (known_lead known are.1 h x)
     where
@@ -276,6 +293,13 @@ module _ (sc : Scopes) (nested : AreNested sc) where
       let few : length (simple_cells sc b) + length (procedures b.decls) + length (arrays_of b.decls) ≤ 400 = few_cells ((use_of sc n).block) in
       (omega (arith, v.level_is, known), omega (arith, v.index_is, low, few))
 
+  pub formal_fits : (level : ℕ) (n : Named) (shape : Shape) (c : Couple) → IsFormalArray sc level n shape c → level < 32 → (c.level < 32) × (c.index < 2 ^ 14)
+  formal_fits level n shape c v known =
+      let b : Block = block_numbered sc.blocks ((use_of sc n).block) in
+      let low : v.found.number < 0 + length (simple_cells sc b) = found_low 0 (simple_cells sc b) n.name v.found v.there in
+      let few : length (simple_cells sc b) + length (procedures b.decls) + length (arrays_of b.decls) ≤ 400 = few_cells ((use_of sc n).block) in
+      (omega (arith, v.level_is, known), omega (arith, v.index_is, low, few))
+
   pub procedure_fits : (level : ℕ) (n : Named) (callee : ℕ) (c : Couple) → IsProcedure sc level n callee c → level < 32 → (c.level < 32) × (c.index < 2 ^ 14)
   procedure_fits level n callee c is known =
       let b : Block = block_numbered sc.blocks ((use_of sc n).block) in
@@ -283,12 +307,13 @@ module _ (sc : Scopes) (nested : AreNested sc) where
       let few : length (simple_cells sc b) + length (procedures b.decls) + length (arrays_of b.decls) ≤ 400 = few_cells ((use_of sc n).block) in
       (omega (arith, is.level_is, known), omega (arith, is.index_is, low, few))
 
-  pub array_fits : (level : ℕ) (n : Named) (declared : DeclaredArray) (c : Couple) → IsArray sc level n declared c → level < 32 → (c.level < 32) × (c.index < 2 ^ 14)
-  array_fits level n declared c is known =
+  pub array_fits : (level : ℕ) (n : Named) (shape : Shape) (c : Couple) → IsArray sc level n shape c → level < 32 → (c.level < 32) × (c.index < 2 ^ 14)
+  array_fits level n shape c (declared d same is) known =
       let b : Block = block_numbered sc.blocks ((use_of sc n).block) in
-      let low : is.number < 0 + length (arrays_of b.decls) = array_low 0 (arrays_of b.decls) n.name (record { number = is.number; array = declared }) is.there in
+      let low : is.number < 0 + length (arrays_of b.decls) = array_low 0 (arrays_of b.decls) n.name (record { number = is.number; array = d }) is.there in
       let few : length (simple_cells sc b) + length (procedures b.decls) + length (arrays_of b.decls) ≤ 400 = few_cells ((use_of sc n).block) in
       (omega (arith, is.level_is, known), omega (arith, is.index_is, low, few))
+  array_fits level n shape c (formal is) known = formal_fits level n shape c is known
 
 -- ---- slots
 
@@ -306,7 +331,7 @@ module _ (sc : Scopes) (known : List Known) (p level home base : ℕ) (described
 
 -- ---- the frames of a process
 
-module _ (tree : PProgram) (code : Code) (texts : ℕ → List Placed) (w : World) (lay : Layout) (p : ℕ) where
+module _ (tree : PProgram) (code : Code) (texts : ℕ → List Placed) (nested : AreNested (scopes_of tree)) (w : World) (lay : Layout) (p : ℕ) where
   abbrev sc : Scopes
   sc = scopes_of tree
 
@@ -333,6 +358,14 @@ module _ (tree : PProgram) (code : Code) (texts : ℕ → List Placed) (w : Worl
       by_parent zero f l = root_near home f
       by_parent (suc i) f l = laid_near outer lower m c wanted a (suc i) home f l
 
+  -- the cells of parameters that are arrays
+  formals_lead : (part : Part) (outer : List Part) (words : List Word) (f : Frame tree code texts w lay p part outer words) (k : ℕ) (s : Simple) (x : Word) →
+      slice_get (simple_cells sc (block_numbered sc.blocks f.framed.instance.block)) k ≡ Some s → s.kind ≡ None → slice_get f.framed.values k ≡ Some x → LeadsNear p x
+  formals_lead part outer words f k s x there none lies =
+      let told = told_shape sc (block_numbered sc.blocks f.framed.instance.block) (nested.each f.framed.instance.block f.framed.known).parameters k s there none in
+      let g = f.framed.formals k s told.0 there none told.1 in
+      subst (LeadsNear p) (some_same (sym g.4 ∙ lies)) (subst (LeadsNear p) (sym g.6.word_is) (cell_word_leads p _))
+
   frame_leads : (part : Part) (outer : List Part) (words : List Word) (f : Frame tree code texts w lay p part outer words) → Outer outer f.lower f.mark f.control (wanted_of part) → AllLead p f.lower → AllLead p words
   frame_leads part outer words f a low =
       let near : Near p f.framed.home.stack = home_near outer f.lower f.mark f.control (wanted_of part) a f.framed.instance f.framed.placed f.framed.home f.framed.linked in
@@ -342,7 +375,8 @@ module _ (tree : PProgram) (code : Code) (texts : ℕ → List Placed) (w : Worl
         (
           back_leads p f.control f.framed.back f.framed.control_is,
           subst (AllLead p) (sym f.framed.cells_is)
-              (lead_both p f.framed.values _ (cells_lead p (simple_cells sc (block_numbered sc.blocks f.framed.instance.block)) f.framed.simple f.framed.values f.framed.simple_are)
+              (lead_both p f.framed.values _ (cells_lead p (simple_cells sc (block_numbered sc.blocks f.framed.instance.block)) f.framed.simple f.framed.values f.framed.simple_are
+              (formals_lead part outer words f))
               (lead_both p (control_words (level_of (block_numbered sc.blocks f.framed.instance.block)) (control_segments sc (block_numbered sc.blocks f.framed.instance.block).decls)) f.framed.descriptors
               (controls_lead p (level_of (block_numbered sc.blocks f.framed.instance.block)) (control_segments sc (block_numbered sc.blocks f.framed.instance.block).decls))
               (arrays_lead p f.framed.declared f.framed.arrays (lay.rows part.instance) f.framed.descriptors f.framed.made))),
@@ -360,7 +394,7 @@ module _ (tree : PProgram) (code : Code) (texts : ℕ → List Placed) (w : Worl
       (lead_both p s.below (reverse s.words)
       (frame_leads part outer s.below s.frame a.1 (around_leads outer s.frame.lower s.frame.mark s.frame.control (wanted_of part) a.1 (omega (arith, room, long, lowest))))
       (lead_turned p s.words (slots_lead sc s.held p (level_at tree code texts w lay p part) (length s.frame.lower) (length s.below)
-      (known_lead sc w lay p part.instance (level_at tree code texts w lay p part) s.held s.held_are) s.slots s.words s.words_are (omega (arith, room, long, many)))))
+      (known_lead sc w lay p (part ∷ outer) part.instance s.held s.held_are) s.slots s.words s.words_are (omega (arith, room, long, many)))))
 
   module _ (part : Part) (outer : List Part) (core : Core) (s : Stands tree code texts w lay p part outer core) (a : Outer outer s.frame.lower s.frame.mark s.frame.control (wanted_of part)) where
     pub level_known : level_at tree code texts w lay p part < 32
@@ -377,7 +411,7 @@ module _ (tree : PProgram) (code : Code) (texts : ℕ → List Placed) (w : Worl
         lead_both p core.below (reverse core.words)
         (frame_leads part outer core.below s.frame a (around_leads outer s.frame.lower s.frame.mark s.frame.control (wanted_of part) a (omega (arith, room, lowest))))
         (lead_turned p core.words (slots_lead sc s.held p (level_at tree code texts w lay p part) _ (length core.below)
-        (known_lead sc w lay p part.instance (level_at tree code texts w lay p part) s.held s.held_are) s.slots core.words s.there.words_are (omega (arith, room, many))))
+        (known_lead sc w lay p (part ∷ outer) part.instance s.held s.held_are) s.slots core.words s.there.words_are (omega (arith, room, many))))
 
     -- so do all words of the two stacks, in an image in which the process stands so
     pub image_leads : (img : Image) → HasCore img p core → stack_at img.stacks 0 ≡ Some system_stack → size core ≤ stack_limit → AllLeadNear p img

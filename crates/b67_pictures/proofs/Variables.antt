@@ -3,12 +3,13 @@ use Rattle.std.proofs.Common.{◌≡◌, refl, sym, ap, ◌∙◌, subst, ℕ, z
 use Rattle.std.specs.Prelude.{slice_get, slice_set, if◌then◌else◌}
 use Rattle.algol_tree.specs.declared.tree.Kind.{Kind}
 use Rattle.algol_tree.specs.Sorts.{same_name}
-use Rattle.algol_meaning.specs.Value.{Value, Cell, simple, event, array, named, reference}
+use Rattle.algol_meaning.specs.Value.{Value, Reference, Cell, simple, event, array, named, reference}
 use Rattle.algol_meaning.specs.World.{NamedCell, cell_in, cells_with}
 use Rattle.b67_word.specs.Word.{Word}
 use Rattle.b67_templates.specs.Fragments.{HasKind}
 use Rattle.b67_templates.specs.Cells.{Simple, Found, found_from}
 use Rattle.b67_cores.specs.Slots.{ValueIs}
+use Rattle.b67_faithful.proofs.Contradictions.{some_same}
 use Rattle.b67_pictures.specs.Frames.{CellIs, CellsAre}
 
 -- the word of the first cell of a name
@@ -130,3 +131,57 @@ cell_changed (s ∷ ss) (c ∷ cells) (x ∷ words) from name f k v w far are e 
         ap (λ b. if b then record c { cell = simple v } ∷ cells else c ∷ cells_with cells name (simple v)) same in
         subst (λ (cs : List NamedCell). CellsAre (s ∷ ss) cs (x ∷ slice_set words far w)) (sym cells_are)
         (are.0, are.1, rest far h (omega (arith, number)))
+
+-- ---- references
+
+-- Each of the one cells that is a reference is one of the others, with its word.
+abbrev pub ReferencesStay : List NamedCell → List Word → List NamedCell → List Word → Type 0
+ReferencesStay cells words cells' words' =
+    (k : ℕ) (c : NamedCell) (word : Word) (r : Reference) → slice_get cells k ≡ Some c → slice_get words k ≡ Some word → c.cell ≡ reference r →
+    (slice_get cells' k ≡ Some c) × (slice_get words' k ≡ Some word)
+
+-- a cell of a kind is none
+no_reference : (o : Option Kind) (k : Kind) (c : Cell) (w : Word) (r : Reference) → CellIs o c w → o ≡ Some k → c ≡ reference r → ⊥
+no_reference o k c w r is kind same = absurd (subst (λ (d : Cell). CellIs (Some k) d w) same (subst (λ (p : Option Kind). CellIs p c w) kind is))
+
+-- so references stay where a variable changes
+pub references_stored : (ss : List Simple) (cells : List NamedCell) (words : List Word) (from : ℕ) (name : List ℕ) (f : Found) (k : Kind) (v : Value) (w : Word) (far : ℕ) → CellsAre ss cells words →
+    found_from from ss name ≡ Some f → f.cell.kind ≡ Some k → f.number ≡ from + far → ReferencesStay cells words (cells_with cells name (simple v)) (slice_set words far w)
+references_stored [] cells words from name f k v w far are e kind number = cc
+references_stored (s ∷ ss) [] words from name f k v w far are e kind number = absurd are
+references_stored (s ∷ ss) (c ∷ cells) [] from name f k v w far are e kind number = absurd are
+references_stored (s ∷ ss) (c ∷ cells) (x ∷ words) from name f k v w far are e kind number =
+    by_name (variable_cell ss cells words (from + 1) name f are.2)
+    (λ n h m. references_stored ss cells words (from + 1) name f k v w n are.2 h kind m) (same_name s.name name) e (ap (λ (n : List ℕ). same_name n name) are.0) far number
+  where
+    by_name : (found_from (from + 1) ss name ≡ Some f → Cell_of f (from + 1) name cells words) →
+        ((n : ℕ) → found_from (from + 1) ss name ≡ Some f → f.number ≡ from + 1 + n → ReferencesStay cells words (cells_with cells name (simple v)) (slice_set words n w)) →
+        (b : Bool) → (if b then Some (record { number = from; cell = s }) else found_from (from + 1) ss name) ≡ Some f → same_name c.name name ≡ b → (far : ℕ) → f.number ≡ from + far →
+        ReferencesStay (c ∷ cells) (x ∷ words) (cells_with (c ∷ cells) name (simple v)) (slice_set (x ∷ words) far w)
+    by_name there rest true h same far number =
+        let is_f : record { number = from; cell = s } ≡ f = cc in
+        let none_far : far ≡ 0 = omega (arith, number, ap (λ (y : Found). y.number) is_f) in
+        let cells_are : cells_with (c ∷ cells) name (simple v) ≡ record c { cell = simple v } ∷ cells =
+        ap (λ b. if b then record c { cell = simple v } ∷ cells else c ∷ cells_with cells name (simple v)) same in
+        let kind_is : s.kind ≡ Some k = ap (λ (y : Found). y.cell.kind) is_f ∙ kind in
+        subst (λ (n : ℕ). ReferencesStay (c ∷ cells) (x ∷ words) (cells_with (c ∷ cells) name (simple v)) (slice_set (x ∷ words) n w)) (sym none_far)
+        (subst (λ (cs : List NamedCell). ReferencesStay (c ∷ cells) (x ∷ words) cs (w ∷ words)) (sym cells_are) (stay_behind kind_is))
+      where
+        stay_behind : s.kind ≡ Some k → ReferencesStay (c ∷ cells) (x ∷ words) (record c { cell = simple v } ∷ cells) (w ∷ words)
+        stay_behind kind_is zero d word r there lies is =
+            let same : c ≡ d = some_same there in
+            absurd (no_reference s.kind k c.cell x r are.1 kind_is (ap (λ (y : NamedCell). y.cell) same ∙ is))
+        stay_behind kind_is (suc m) d word r there lies is = (there, lies)
+    by_name there rest false h same zero number =
+        let later = there h in
+        absurd (omega (arith, number, later.number))
+    by_name there rest false h same (suc far) number =
+        let cells_are : cells_with (c ∷ cells) name (simple v) ≡ c ∷ cells_with cells name (simple v) =
+        ap (λ b. if b then record c { cell = simple v } ∷ cells else c ∷ cells_with cells name (simple v)) same in
+        subst (λ (cs : List NamedCell). ReferencesStay (c ∷ cells) (x ∷ words) cs (x ∷ slice_set words far w)) (sym cells_are)
+        (stay_on (rest far h (omega (arith, number))))
+      where
+        stay_on : ReferencesStay cells words (cells_with cells name (simple v)) (slice_set words far w) →
+            ReferencesStay (c ∷ cells) (x ∷ words) (c ∷ cells_with cells name (simple v)) (x ∷ slice_set words far w)
+        stay_on behind zero d word r there lies is = (there, lies)
+        stay_on behind (suc m) d word r there lies is = behind m d word r there lies is

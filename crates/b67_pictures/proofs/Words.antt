@@ -1,16 +1,19 @@
 -- What the words of values, references and marks are read as.
-use Rattle.std.proofs.Common.{◌≡◌, refl, sym, ap, ◌∙◌, ℕ, ◌<◌, ◌^◌, Some, None, false, lit<}
+use Rattle.std.proofs.Common.{◌≡◌, ◌≢◌, refl, sym, ap, ◌∙◌, ℕ, ◌<◌, ◌^◌, Some, None, Bool, true, false, lit<}
+use Rattle.std.specs.Prelude.{◌==◌, if◌then◌else◌}
 use Rattle.algol_meaning.specs.Value.{Value, number, truth}
-use Rattle.b67_word.specs.Word.{Word}
+use Rattle.b67_word.specs.Word.{Word, field}
 use Rattle.b67_word.proofs.WordLaws.{operand-tag}
 use Rattle.b67_control.specs.Kind as kind
 use Rattle.b67_control.specs.Kind.{kind_of}
-use Rattle.b67_control.specs.Control.{as_irw, as_sirw, as_descriptor, as_mscw, as_pcw, pcw_word}
+use Rattle.b67_control.specs.Control.{as_irw, as_sirw, as_descriptor, as_mscw, as_pcw, pcw_word, sirw_word}
 use Rattle.b67_control.specs.declared.Pcw.{Pcw}
 use Rattle.b67_control.proofs.ControlLaws.{as_irw-irw_word, as_sirw-other, as_pcw-other, as_mscw-mscw_word, kind_of-irw_word, descriptor_laws}
 use Rattle.b67_ops.specs.declared.Couple.{Couple}
 use Rattle.b67_table.specs.Arrays.{as_indexed, indexed_in}
 use Rattle.b67_table.specs.PrivateRows.{reference, open_mark}
+use Rattle.b67_table.specs.References.{cell_word}
+use Rattle.b67_table.specs.declared.Cell.{Cell}
 use Rattle.b67_cores.specs.Slots.{ValueIs}
 
 -- a word of tag 0
@@ -47,6 +50,20 @@ reference_read c a b = as_irw-irw_word (record { level = c.level; index = c.inde
 pub reference_unindexed : (c : Couple) → c.level < 32 → c.index < 2 ^ 14 → as_indexed (reference c) ≡ None
 reference_unindexed c a b =
     ap indexed_in (descriptor_laws.other (reference c) (λ k. let is = sym (kind_of-irw_word (record { level = c.level; index = c.index }) (a, (b, tt))) ∙ k in cc))
+
+-- a word of tag 1 describes nothing
+reference_describes_nothing : (w : Word) → w.tag ≡ 1 → as_descriptor w ≡ None
+unfolding kind_of
+reference_describes_nothing w e = descriptor_laws.other w (by_field (field 47 1 w.bits == 0) (rw e refl))
+  where
+    by_field : (b : Bool) → kind_of w ≡ (if b then kind.irw else kind.sirw) → kind_of w ≢ kind.descriptor
+    by_field true is k = cc
+    by_field false is k = cc
+
+-- so does the reference that is read alike everywhere
+pub cell_describes_nothing : (c : Cell) → as_descriptor (cell_word c) ≡ None
+unfolding sirw_word
+cell_describes_nothing c = reference_describes_nothing (cell_word c) refl
 
 -- ---- marks
 

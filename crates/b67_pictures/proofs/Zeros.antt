@@ -58,3 +58,33 @@ cells_length [] (c ∷ cells) ws are = absurd are
 cells_length (s ∷ ss) [] ws are = absurd are
 cells_length (s ∷ ss) (c ∷ cells) [] are = absurd are
 cells_length (s ∷ ss) (c ∷ cells) (w ∷ ws) are = ap suc (cells_length ss cells ws are.2)
+
+-- ---- kinds
+
+-- each of these cells has a kind
+abbrev pub HaveKinds : List Simple → Type 0
+HaveKinds [] = Unit {0}
+HaveKinds (s ∷ ss) = ((kind : Kind) × (s.kind ≡ Some kind)) × HaveKinds ss
+
+named_kinds : (kind : Kind) (ns : List Named) (ss : List Simple) → HaveKinds ss → HaveKinds (of_kind kind ns ++ ss)
+named_kinds kind [] ss have = have
+named_kinds kind (n ∷ ns) ss have = ((kind, refl), named_kinds kind ns ss have)
+
+declared_kinds : (ds : PDecls) → HaveKinds (variables ds)
+declared_kinds tree.no_decls = tt
+declared_kinds (tree.decls (tree.simple kind ns) ds) = named_kinds kind ns (variables ds) (declared_kinds ds)
+declared_kinds (tree.decls (tree.files ns) ds) = declared_kinds ds
+declared_kinds (tree.decls (tree.events ns) ds) = declared_kinds ds
+declared_kinds (tree.decls (tree.tasks ns) ds) = declared_kinds ds
+declared_kinds (tree.decls (tree.labels ns) ds) = declared_kinds ds
+declared_kinds (tree.decls (tree.arrays kind ns pairs) ds) = declared_kinds ds
+declared_kinds (tree.decls (tree.forward h) ds) = declared_kinds ds
+declared_kinds (tree.decls (tree.procedure h s) ds) = declared_kinds ds
+
+result_kinds : (o : Option Kind) (name : List ℕ) (ss : List Simple) → HaveKinds ss → HaveKinds (result_of o name ++ ss)
+result_kinds None name ss have = have
+result_kinds (Some kind) name ss have = ((kind, refl), have)
+
+-- the result of a block and its variables have
+pub block_kinds : (b : Block) → HaveKinds (zero_cells b)
+block_kinds b = result_kinds b.result b.name (variables b.decls) (declared_kinds b.decls)

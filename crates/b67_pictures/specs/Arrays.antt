@@ -1,5 +1,5 @@
 -- How the rows of an image hold the arrays of a world.
-use Rattle.std.specs.Prelude.{◌≡◌, ℕ, ◌+◌, ◌*◌, ◌<◌, ◌≤◌, true, false, List, [], ◌∷◌, length, map, Option, Some, None, slice_get}
+use Rattle.std.specs.Prelude.{◌≡◌, ◌⊎◌, ℕ, ◌+◌, ◌*◌, ◌<◌, ◌≤◌, true, false, List, [], ◌∷◌, length, map, Option, Some, None, slice_get}
 use Rattle.b67_list.specs.Numbered.{numbered}
 use Rattle.algol_tree.specs.declared.tree.Kind.{Kind}
 use Rattle.algol_tree.specs.declared.tree.Named.{Named}
@@ -8,17 +8,18 @@ use Rattle.algol_tree.specs.Scopes.{Scopes, use_of}
 use Rattle.algol_meaning.specs.declared.TheConstants.{MOST_ELEMENTS}
 use Rattle.algol_meaning.specs.Value.{Value, Reference, Bounds, ArrayCell, Cell, array}
 use Rattle.algol_meaning.specs.Arrays.{size_of, elements_of, size_of_cells, size_unless, live_elements}
-use Rattle.algol_meaning.specs.World.{NamedCell, Instance, World, instance_at, ancestor, cell_in}
-use Rattle.algol_paths.specs.Arrays.{DeclaredArray, arrays_of, lows_of}
+use Rattle.algol_meaning.specs.World.{NamedCell, Instance, Part, World, instance_at, ancestor, cell_in, followed}
+use Rattle.algol_paths.specs.Arrays.{DeclaredArray, Shape, shape_of, arrays_of, lows_of}
 use Rattle.b67_word.specs.declared.Place.{Place}
 use Rattle.b67_word.specs.Word.{Word}
 use Rattle.b67_control.specs.Control.{descriptor_word}
-use Rattle.b67_ops.specs.declared.TheConstants.{OUTER_LEVEL}
+use Rattle.b67_ops.specs.declared.Couple.{Couple}
 use Rattle.b67_store.specs.Store.{Rows, row_at, row_limit, counted_words}
 use Rattle.b67_table.specs.Arrays.{array_word}
+use Rattle.b67_table.specs.References.{cell_word}
 use Rattle.b67_templates.specs.Fragments.{HasKind}
-use Rattle.b67_templates.specs.Cells.{simple_cells, array_from}
-use Rattle.b67_standing.specs.Stepping.{Held, row, element}
+use Rattle.b67_templates.specs.Cells.{Agrees, simple_cells, procedures, array_from, IsDeclaredArray}
+use Rattle.b67_standing.specs.Stepping.{Held, row, element, cell_named, cell_of}
 use Rattle.b67_cores.specs.Slots.{Known, ValueIs}
 
 -- ---- layouts
@@ -115,6 +116,11 @@ abbrev pub live_rows : List Instance → ℕ
 live_rows [] = 0
 live_rows (x ∷ xs) = size_unless x.left (rows_of_cells x.cells) + live_rows xs
 
+-- a part has the instance for its own
+abbrev pub IsOwn : List Part → ℕ → Type 0
+IsOwn [] i = ⊥
+IsOwn (part ∷ parts) i = (part.instance ≡ i) ⊎ IsOwn parts i
+
 module _ (sc : Scopes) (w : World) (lay : Layout) where
   -- the instance stands, and has this array by this number among its declared ones
   pub record HasArray (i number : ℕ) (declared : DeclaredArray) (cell : ArrayCell) (a : Allotted) : Type 0 where
@@ -145,7 +151,7 @@ module _ (sc : Scopes) (w : World) (lay : Layout) where
     pub opened : open_rows rows ≡ live_rows w.instances
     pub few : (i : ℕ) (x : Instance) → numbered w.instances i ≡ Some x → x.left ≡ false → rows_of_cells x.cells ≤ 2 * size_of_cells x.cells
 
-  -- ---- descriptors on the stack
+  -- ---- descriptors and references on the stack
 
   -- an instance's array by its name
   pub record IsArrayOf (i : ℕ) (name : List ℕ) (declared : DeclaredArray) (cell : ArrayCell) (a : Allotted) : Type 0 where
@@ -167,13 +173,39 @@ module _ (sc : Scopes) (w : World) (lay : Layout) where
   abbrev pub element_copy : ℕ → ℕ → Word
   element_copy at n = descriptor_word (record { presence = true; copy = true; indexed = true; mother = false; length = at; address = n })
 
-  -- For a part of instance i, whose level is this: the array stands in the instance or in a static parent of it.
-  pub record IsRow (i level : ℕ) (n : Named) (ks : List ℕ) (word : Word) : Type 0 where
-    pub near : (use_of sc n).up + OUTER_LEVEL ≤ level
+  -- The reference leads to the cell of an array that agrees with this shape, in an instance that one of these parts has for its own; this is
+  -- its word, wherever it is read.
+  pub record LeadsTo (parts : List Part) (shape : Shape) (r : Reference) (word : Word) : Type 0 where
+    pub own : IsOwn parts r.instance
+    pub declared : DeclaredArray
+    pub agrees : Agrees shape (shape_of declared)
+    pub cell : ArrayCell
+    pub allotted : Allotted
+    pub array : IsArrayOf r.instance r.name declared cell allotted
+    pub frame : Place
+    pub laid : numbered lay.places r.instance ≡ Some frame
+    pub word_is :
+        word
+        ≡ cell_word (record {
+          frame = frame;
+          index =
+              2 + length (simple_cells sc (block_numbered sc.blocks ((instance_at w r.instance).block)))
+              + length (procedures ((block_numbered sc.blocks ((instance_at w r.instance).block)).decls)) + array.number;
+        })
+
+  -- what a name leads to from a part of instance i
+  abbrev pub named_from : ℕ → Named → Reference
+  named_from i n = record { instance = ancestor w ((use_of sc n).up) i; name = n.name }
+
+  -- For the innermost of these parts, whose instance is i: the array stands in an instance that one of them has for its own.
+  pub record IsRow (parts : List Part) (i : ℕ) (n : Named) (ks : List ℕ) (word : Word) : Type 0 where
+    pub home : Reference
+    pub home_is : home ≡ followed w (named_from i n)
+    pub own : IsOwn parts home.instance
     pub declared : DeclaredArray
     pub cell : ArrayCell
     pub allotted : Allotted
-    pub array : IsArrayOf (ancestor w ((use_of sc n).up) i) n.name declared cell allotted
+    pub array : IsArrayOf home.instance home.name declared cell allotted
     pub first : Bounds
     pub second : Bounds
     pub bounds : cell.bounds ≡ first ∷ second ∷ []
@@ -185,10 +217,8 @@ module _ (sc : Scopes) (w : World) (lay : Layout) where
     pub few : number < row_limit
     pub word_is : word ≡ row_copy (size_of second) number
 
-  pub record IsElement (i level : ℕ) (r : Reference) (ks : List ℕ) (kind : Kind) (word : Word) : Type 0 where
-    pub up : ℕ
-    pub near : up + OUTER_LEVEL ≤ level
-    pub home : r.instance ≡ ancestor w up i
+  pub record IsElement (parts : List Part) (r : Reference) (ks : List ℕ) (kind : Kind) (word : Word) : Type 0 where
+    pub own : IsOwn parts r.instance
     pub declared : DeclaredArray
     pub kind_is : declared.kind ≡ kind
     pub cell : ArrayCell
@@ -202,11 +232,25 @@ module _ (sc : Scopes) (w : World) (lay : Layout) where
     pub few : number < row_limit
     pub word_is : word ≡ element_copy at number
 
-  abbrev pub HeldIs : ℕ → ℕ → Held → Word → Type 0
-  HeldIs i level (row n ks) word = IsRow i level n ks word
-  HeldIs i level (element r ks kind) word = IsElement i level r ks kind word
+  -- The reference to the cell that a name of a declared array means from a part of instance i, in an instance that one of these parts has for
+  -- its own; this is its word, wherever it is read.
+  pub record IsNamed (parts : List Part) (i : ℕ) (n : Named) (word : Word) : Type 0 where
+    pub own : IsOwn parts (ancestor w ((use_of sc n).up) i)
+    pub level : ℕ
+    pub declared : DeclaredArray
+    pub couple : Couple
+    pub array : IsDeclaredArray sc level n declared couple
+    pub frame : Place
+    pub laid : numbered lay.places (ancestor w ((use_of sc n).up) i) ≡ Some frame
+    pub word_is : word ≡ cell_word (record { frame = frame; index = couple.index })
 
-  -- what is known of descriptors on the stack is so
-  abbrev pub AreKnown : ℕ → ℕ → List Known → Type 0
-  AreKnown i level [] = Unit {0}
-  AreKnown i level (x ∷ known) = HeldIs i level x.held x.word × AreKnown i level known
+  abbrev pub HeldIs : List Part → ℕ → Held → Word → Type 0
+  HeldIs parts i (row n ks) word = IsRow parts i n ks word
+  HeldIs parts i (element r ks kind) word = IsElement parts r ks kind word
+  HeldIs parts i (cell_named n) word = IsNamed parts i n word
+  HeldIs parts i (cell_of shape r) word = LeadsTo parts shape r word
+
+  -- what is known of words on the stack is so
+  abbrev pub AreKnown : List Part → ℕ → List Known → Type 0
+  AreKnown parts i [] = Unit {0}
+  AreKnown parts i (x ∷ known) = HeldIs parts i x.held x.word × AreKnown parts i known

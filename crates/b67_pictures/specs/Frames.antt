@@ -1,23 +1,23 @@
 -- The frames of a process: how the words of its stack stand for the parts that it has still to do.
-use Rattle.std.specs.Prelude.{◌≡◌, ◌⊎◌, ℕ, zero, suc, ◌+◌, ◌-◌, ◌*◌, ◌<◌, ◌≤◌, true, false, List, [], ◌∷◌, ◌++◌, length, reverse, Option, Some, None}
+use Rattle.std.specs.Prelude.{◌≡◌, ℕ, zero, suc, ◌+◌, ◌-◌, ◌*◌, ◌<◌, ◌≤◌, true, false, List, [], ◌∷◌, ◌++◌, length, reverse, Option, Some, None, slice_get}
 use Rattle.b67_list.specs.Numbered.{numbered}
 use Rattle.algol_tree.specs.declared.tree.Kind.{Kind}
 use Rattle.algol_tree.specs.Blocks.{Block, block_numbered, around}
 use Rattle.algol_tree.specs.Cells.{level_of}
 use Rattle.algol_tree.specs.Plain.{PProgram}
 use Rattle.algol_tree.specs.Scopes.{Scopes, scopes_of}
-use Rattle.algol_meaning.specs.Value.{Cell, simple}
+use Rattle.algol_meaning.specs.Value.{Reference, Cell, simple, reference}
 use Rattle.algol_meaning.specs.World.{NamedCell, Instance, Part, World, instance_at, ancestor}
 use Rattle.algol_meaning.specs.Rest.{Answer}
 use Rattle.algol_meaning.specs.Asks.{nothing, ask, resume}
 use Rattle.algol_meaning.specs.Critical.{is_evaluation}
-use Rattle.algol_paths.specs.Arrays.{DeclaredArray, arrays_of, to_make}
+use Rattle.algol_paths.specs.Arrays.{DeclaredArray, Shape, arrays_of, to_make}
 use Rattle.algol_paths.specs.Laws.{KeepsToText}
 use Rattle.algol_paths.specs.Segments.{segment_of}
 use Rattle.b67_word.specs.declared.Place.{Place}
 use Rattle.b67_word.specs.Word.{Word}
 use Rattle.b67_control.specs.declared.Rcw.{Rcw}
-use Rattle.b67_control.specs.Control.{as_mscw, as_rcw}
+use Rattle.b67_control.specs.Control.{as_mscw, as_rcw, as_descriptor}
 use Rattle.b67_control.specs.Display.{place_at}
 use Rattle.b67_ops.specs.declared.TheConstants.{OUTER_LEVEL}
 use Rattle.b67_segment.specs.Operators.{Placed}
@@ -35,13 +35,15 @@ use Rattle.b67_cores.specs.Cores.{Core}
 use Rattle.b67_cores.specs.Slots.{ValueIs, Known, newest, SlotsAre}
 use Rattle.b67_cores.specs.Stretches.{CoreAt, control_words}
 use Rattle.b67_faithful.specs.Weight.{tokens_around, parts_weight}
-use Rattle.b67_pictures.specs.Arrays.{Layout, AreMade, AreKnown}
+use Rattle.b67_pictures.specs.Arrays.{Layout, IsOwn, AreMade, LeadsTo, AreKnown}
 
 -- ---- cells
 
--- the word of a cell: of a variable its value, which has the kind of its declaration
+-- the word of a cell: of a variable its value, which has the kind of its declaration; of a parameter that is an array a reference, which
+-- describes no row
 abbrev pub CellIs : Option Kind → Cell → Word → Type 0
 CellIs (Some k) (simple v) w = HasKind k v × ValueIs v w
+CellIs None (reference r) w = as_descriptor w ≡ None
 CellIs _ _ w = ⊥
 
 -- the words of an instance's cells, in the order of its block
@@ -53,11 +55,6 @@ CellsAre _ _ _ = ⊥
 -- how many words may lie above the cells of a block's frame: four for each token of the segment, but for the control words among the cells
 abbrev pub most_around : PProgram → ℕ → ℕ
 most_around tree j = 4 * tokens_around tree j - length (procedures (block_numbered (scopes_of tree).blocks j).decls)
-
--- a part has the instance for its own
-abbrev pub IsOwn : List Part → ℕ → Type 0
-IsOwn [] i = ⊥
-IsOwn (part ∷ parts) i = (part.instance ≡ i) ⊎ IsOwn parts i
 
 module _ (sc : Scopes) (w : World) (lay : Layout) where
   -- the block of an instance
@@ -95,6 +92,10 @@ module _ (sc : Scopes) (w : World) (lay : Layout) where
     pub simple : List NamedCell
     pub values : List Word
     pub simple_are : CellsAre (simple_cells sc (block_numbered sc.blocks instance.block)) simple values
+    -- each parameter that is an array leads to one
+    pub formals : (k : ℕ) (s : Simple) (shape : Shape) → slice_get (simple_cells sc (block_numbered sc.blocks instance.block)) k ≡ Some s → s.kind ≡ None → s.shape ≡ Some shape →
+        (c : NamedCell) × (word : Word) × (r : Reference) × (slice_get simple k ≡ Some c) × (slice_get values k ≡ Some word) × (c.cell ≡ reference r)
+        × LeadsTo sc w lay outer shape r word
     -- behind them lie the control words of the block's procedures, and then the descriptors of the arrays that are made
     pub arrays : List NamedCell
     pub declared : List DeclaredArray
@@ -165,7 +166,7 @@ module _ (tree : PProgram) (code : Code) (texts : ℕ → List Placed) (w : Worl
     pub pc : ℕ
     pub slots : List Slot
     pub held : List Known
-    pub held_are : AreKnown (scopes_of tree) w lay part.instance (level_at part) held
+    pub held_are : AreKnown (scopes_of tree) w lay (part ∷ outer) part.instance held
     pub stands : StandsFor (scopes_of tree) (context_at part) (text_of part) (level_at part) (most_of part) part.rest pc slots
     pub there : CoreAt (scopes_of tree) held code (text_of part) (level_at part) pc slots core
     pub few : length slots ≤ most_of part
@@ -184,7 +185,7 @@ module _ (tree : PProgram) (code : Code) (texts : ℕ → List Placed) (w : Worl
         ComesTo (scopes_of tree) (context_at part) (text_of part) (level_at part) (most_of part) (resume (scopes_of tree) part.rest a) pc (pushed a slots)
     pub few : length slots + 1 ≤ most_of part
     pub held : List Known
-    pub held_are : AreKnown (scopes_of tree) w lay part.instance (level_at part) held
+    pub held_are : AreKnown (scopes_of tree) w lay (part ∷ outer) part.instance held
     pub words_are : SlotsAre (scopes_of tree) held (level_at part) (length frame.lower) (length below) slots words
     pub home : Place
     pub df : ℕ
