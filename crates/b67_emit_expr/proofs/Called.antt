@@ -1,10 +1,9 @@
 -- A call whose actuals are appended one after another.
-use Rattle.std.proofs.Common.{◌≡◌, ℕ, ◌+◌, ◌<◌, List, [], ◌∷◌, length, drop, get_or, Option, Some, sym, ap, ◌∙◌, subst}
+use Rattle.std.proofs.Common.{◌≡◌, ℕ, ◌+◌, ◌<◌, List, [], ◌∷◌, length, drop, get_or, Some, sym, ap, ◌∙◌, subst}
 use Rattle.std.proofs.lemmas.List.{drop_more}
 use Rattle.std.specs.Prelude.{IsSome}
 use Rattle.algol_tree.specs.declared.tree.Call.{Call}
 use Rattle.algol_tree.specs.declared.tree.Expr.{Expr}
-use Rattle.algol_tree.specs.declared.tree.Kind.{Kind}
 use Rattle.algol_tree.specs.declared.tree.Named.{Named}
 use Rattle.algol_tree.specs.Blocks.{block_numbered}
 use Rattle.algol_tree.specs.Counts.{expr_tokens, exprs_tokens}
@@ -21,13 +20,14 @@ use Rattle.b67_ops.specs.Spelling.{IsSeen}
 use Rattle.b67_segment.specs.Operators.{size}
 use Rattle.b67_segment.specs.Building.{Built, level_set}
 use Rattle.b67_templates.specs.Contexts.{Context}
-use Rattle.b67_templates.specs.Cells.{parameter_kinds, IsProcedure}
+use Rattle.b67_templates.specs.Cells.{Wanted, parameter_wants, IsProcedure}
 use Rattle.b67_templates.specs.Code.{BegunAt, CallAt, ActualsAt}
 use Rattle.b67_templates.specs.Fragments.{Has}
 use Rattle.b67_templates.specs.Emitting.{Emitted}
 use Rattle.b67_templates.specs.Fitting.{ProcedureFits, ActualsFit}
 use Rattle.b67_emitter.specs.declared.names.Names.{Names}
-use Rattle.b67_emitter.specs.Values.{couples, results, lows, AreNear, HasCode, ValueEmitted, HasCall, CallEmitted}
+use Rattle.b67_emitter.specs.Values.{couples, results, lows, AreNear, HasCall, CallEmitted}
+use Rattle.b67_emit_expr.specs.Passing.{HasActual, ActualEmitted}
 use Rattle.b67_emit_expr.proofs.Shapes.{call_is}
 use Rattle.b67_emit_expr.proofs.Couples.{known_procedure, seen_procedure}
 use Rattle.b67_emit_expr.proofs.Calls.{call_part}
@@ -56,9 +56,9 @@ module _ (s : Names) (level : ℕ) (c : Call) (h : HasCall s level (call c)) whe
   pub seen_call : (couple : Couple) → AreNear s → couples s c.name.spot ≡ Some couple → IsSeen level couple
   seen_call couple near is = seen_procedure s level h.scopes c.name h.callee couple near is own_procedure
 
-  pub actuals_fit : ActualsFit h.scopes (couples s) (results s) (lows s) level (sorts_of ((block_numbered h.scopes.blocks h.callee).parameters)) (parameter_kinds h.scopes h.callee) (exprs c.actuals)
+  pub actuals_fit : ActualsFit h.scopes (couples s) (results s) (lows s) level (sorts_of ((block_numbered h.scopes.blocks h.callee).parameters)) (parameter_wants h.scopes h.callee) (exprs c.actuals)
   actuals_fit =
-      let F : PExprs → Type 0 = λ es. ActualsFit h.scopes (couples s) (results s) (lows s) level (sorts_of ((block_numbered h.scopes.blocks h.callee).parameters)) (parameter_kinds h.scopes h.callee) es in
+      let F : PExprs → Type 0 = λ es. ActualsFit h.scopes (couples s) (results s) (lows s) level (sorts_of ((block_numbered h.scopes.blocks h.callee).parameters)) (parameter_wants h.scopes h.callee) es in
       subst F (own_actuals c h.name h.actuals h.call_is) h.fits
 
 -- ---- the actuals
@@ -66,8 +66,8 @@ module _ (s : Names) (level : ℕ) (c : Call) (h : HasCall s level (call c)) whe
 -- From the first builder to the second these actuals were appended but for those left, whatever parameters they fit.
 abbrev pub LeftOf : Names → ℕ → Built → Built → List Expr → List Expr → Type 0
 LeftOf s level a b xs left =
-    (scopes : Scopes) (context : Context) (sorts : List Sort) (kinds : List (Option Kind)) → ActualsFit scopes (couples s) (results s) (lows s) level sorts kinds (exprs xs) →
-    Left s scopes context level a b sorts kinds (exprs xs) (exprs left)
+    (scopes : Scopes) (context : Context) (sorts : List Sort) (wanted : List Wanted) → ActualsFit scopes (couples s) (results s) (lows s) level sorts wanted (exprs xs) →
+    Left s scopes context level a b sorts wanted (exprs xs) (exprs left)
 
 -- the actuals from a place on
 pub next_is : (xs : List Expr) (i : ℕ) (x : Expr) → i < length xs → x ≡ get_or xs i x → drop i xs ≡ x ∷ drop (i + 1) xs
@@ -79,21 +79,21 @@ next_tokens xs i x h e = ap (λ (l : List Expr). exprs_tokens (exprs l)) (next_i
 
 module _ (s : Names) (level : ℕ) (a b : Built) (xs : List Expr) where
   pub begin_left : LeftOf s level a a xs xs
-  begin_left scopes context sorts kinds fit = all_left s scopes context level a sorts kinds (exprs xs) fit
+  begin_left scopes context sorts wanted fit = all_left s scopes context level a sorts wanted (exprs xs) fit
 
-  pub next_code : (c : Call) (x : Expr) (left more : List Expr) → xs ≡ c.actuals → left ≡ x ∷ more → HasCall s level (call c) → LeftOf s level a b xs left → HasCode s level (expr x)
-  next_code c x left more whole is h l =
+  pub next_wanted : (c : Call) (x : Expr) (left more : List Expr) → xs ≡ c.actuals → left ≡ x ∷ more → HasCall s level (call c) → LeftOf s level a b xs left → HasActual s level (expr x)
+  next_wanted c x left more whole is h l =
       let sorts = sorts_of ((block_numbered h.scopes.blocks h.callee).parameters) in
-      let kinds = parameter_kinds h.scopes h.callee in
-      let F : List Expr → Type 0 = λ ys. ActualsFit h.scopes (couples s) (results s) (lows s) level sorts kinds (exprs ys) in
-      let L : List Expr → Type 0 = λ ys. Left s h.scopes nowhere level a b sorts kinds (exprs xs) (exprs ys) in
-      next_has s h.scopes nowhere level a sorts kinds (exprs xs) b (expr x) (exprs more)
-      (subst L is (l h.scopes nowhere sorts kinds (subst F (sym whole) (actuals_fit s level c h))))
+      let wanted = parameter_wants h.scopes h.callee in
+      let F : List Expr → Type 0 = λ ys. ActualsFit h.scopes (couples s) (results s) (lows s) level sorts wanted (exprs ys) in
+      let L : List Expr → Type 0 = λ ys. Left s h.scopes nowhere level a b sorts wanted (exprs xs) (exprs ys) in
+      next_has s h.scopes nowhere level a sorts wanted (exprs xs) b (expr x) (exprs more)
+      (subst L is (l h.scopes nowhere sorts wanted (subst F (sym whole) (actuals_fit s level c h))))
 
-  pub next_one : (d : Built) (x : Expr) (left more : List Expr) → left ≡ x ∷ more → ValueEmitted s level b d (expr x) → LeftOf s level a b xs left → LeftOf s level a d xs more
-  next_one d x left more is value l scopes context sorts kinds fit =
-      let L : List Expr → Type 0 = λ ys. Left s scopes context level a b sorts kinds (exprs xs) (exprs ys) in
-      next_left s scopes context level a sorts kinds (exprs xs) b d (expr x) (exprs more) value (subst L is (l scopes context sorts kinds fit))
+  pub next_one : (d : Built) (x : Expr) (left more : List Expr) → left ≡ x ∷ more → ActualEmitted s level b d (expr x) → LeftOf s level a b xs left → LeftOf s level a d xs more
+  next_one d x left more is actual l scopes context sorts wanted fit =
+      let L : List Expr → Type 0 = λ ys. Left s scopes context level a b sorts wanted (exprs xs) (exprs ys) in
+      next_left s scopes context level a sorts wanted (exprs xs) b d (expr x) (exprs more) actual (subst L is (l scopes context sorts wanted fit))
 
 -- ---- the whole
 
@@ -110,27 +110,27 @@ module _ (s : Names) (a b d e : Built) (c : Call) (xs left : List Expr) (whole :
       subst L done (subst X whole filled)
 
   own_call : (scopes : Scopes) (context : Context) (callee : ℕ) → ProcedureFits scopes (couples s) (results s) (lows s) (level_set a) c.name callee →
-      (sorts : List Sort) (kinds : List (Option Kind)) → ActualsFit scopes (couples s) (results s) (lows s) (level_set a) sorts kinds (exprs c.actuals) →
-      Emitted a e (λ qs. CallAt scopes context qs (level_set a) c.name callee (ActualsAt scopes context qs (level_set a) sorts kinds (exprs c.actuals)) (size a.operators) (size e.operators))
-  own_call scopes context callee p sorts kinds fit =
+      (sorts : List Sort) (wanted : List Wanted) → ActualsFit scopes (couples s) (results s) (lows s) (level_set a) sorts wanted (exprs c.actuals) →
+      Emitted a e (λ qs. CallAt scopes context qs (level_set a) c.name callee (ActualsAt scopes context qs (level_set a) sorts wanted (exprs c.actuals)) (size a.operators) (size e.operators))
+  own_call scopes context callee p sorts wanted fit =
       let same : p.couple ≡ couple = cc (p.known_is, known) in
       let P : Couple → Type 0 = λ x. IsProcedure scopes (level_set a) c.name callee x in
-      call_part scopes context c.name callee a b d e (λ qs. ActualsAt scopes context qs (level_set a) sorts kinds (exprs c.actuals)) level
+      call_part scopes context c.name callee a b d e (λ qs. ActualsAt scopes context qs (level_set a) sorts wanted (exprs c.actuals)) level
       (begun scopes context c.name callee (subst P same p.procedure))
-      (none_left s scopes context (level_set a) b sorts kinds (exprs c.actuals) d (own_filled scopes context sorts kinds fit)) enter
+      (none_left s scopes context (level_set a) b sorts wanted (exprs c.actuals) d (own_filled scopes context sorts wanted fit)) enter
 
   pub called_form : CallEmitted s (level_set a) a e (call c)
   called_form = record {
     code = λ scopes context n es callee is p fit.
         let sorts = sorts_of ((block_numbered scopes.blocks callee).parameters) in
-        let kinds = parameter_kinds scopes callee in
+        let wanted = parameter_wants scopes callee in
         let P : Named → Type 0 = λ m. ProcedureFits scopes (couples s) (results s) (lows s) (level_set a) m callee in
-        let F : PExprs → Type 0 = λ xs. ActualsFit scopes (couples s) (results s) (lows s) (level_set a) sorts kinds xs in
+        let F : PExprs → Type 0 = λ xs. ActualsFit scopes (couples s) (results s) (lows s) (level_set a) sorts wanted xs in
         let N : Named → Type 0 = λ m. Emitted a e (λ qs. CallAt scopes context qs (level_set a) m callee
-        (ActualsAt scopes context qs (level_set a) sorts kinds es) (size a.operators) (size e.operators)) in
+        (ActualsAt scopes context qs (level_set a) sorts wanted es) (size a.operators) (size e.operators)) in
         let E : PExprs → Type 0 = λ xs. Emitted a e (λ qs. CallAt scopes context qs (level_set a) c.name callee
-        (ActualsAt scopes context qs (level_set a) sorts kinds xs) (size a.operators) (size e.operators)) in
+        (ActualsAt scopes context qs (level_set a) sorts wanted xs) (size a.operators) (size e.operators)) in
         let named = own_name c n es is in
         let given = own_actuals c n es is in
-        subst N (sym named) (subst E (sym given) (own_call scopes context callee (subst P named p) sorts kinds (subst F given fit)));
+        subst N (sym named) (subst E (sym given) (own_call scopes context callee (subst P named p) sorts wanted (subst F given fit)));
   }

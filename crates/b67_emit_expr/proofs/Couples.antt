@@ -10,11 +10,12 @@ use Rattle.algol_tree.specs.Plain as tree
 use Rattle.algol_tree.specs.Plain.{PExpr}
 use Rattle.algol_tree.specs.Types.{taken_by}
 use Rattle.algol_tree.specs.Scopes.{Scopes, use_of}
-use Rattle.algol_paths.specs.Arrays.{DeclaredArray}
+use Rattle.algol_paths.specs.Arrays.{Shape}
 use Rattle.b67_ops.specs.declared.Couple.{Couple}
 use Rattle.b67_ops.specs.Spelling.{index_bits, IsSeen}
 use Rattle.b67_ops.proofs.Couples.{level_bits-within}
 use Rattle.b67_segment.specs.Building.{Built}
+use Rattle.b67_templates.specs.Cells.{IsArray, declared, formal}
 use Rattle.b67_templates.specs.Fitting.{couple_on_left, LeftFits, ProcedureFits, ArrayFits}
 use Rattle.b67_emitter.specs.declared.names.Names.{Names}
 use Rattle.b67_emitter.specs.Values.{couples, results, lefts, lows, AreNear, HasCode}
@@ -62,15 +63,20 @@ module _ (s : Names) (level : ℕ) where
       let I : Couple → Type 0 = λ d. IsSeen level d in
       subst I same (seen_up p.couple (use_of scopes n).up (near.own n.spot p.couple p.known_is) p.procedure.level_is)
 
-  pub known_array : (scopes : Scopes) (n : Named) (declared : DeclaredArray) → ArrayFits scopes (couples s) (results s) (lows s) level n declared → IsSome (couples s n.spot)
-  known_array scopes n declared f = some (couples s n.spot) f.couple f.known_is
+  -- the couple of an array is of a level that many up, whichever way its name stands for it
+  level_up : (scopes : Scopes) (n : Named) (shape : Shape) (c : Couple) → IsArray scopes level n shape c → c.level + (use_of scopes n).up ≡ level
+  level_up scopes n shape c (declared d is r) = r.level_is
+  level_up scopes n shape c (formal r) = r.level_is
 
-  pub seen_array : (scopes : Scopes) (n : Named) (declared : DeclaredArray) (c : Couple) → AreNear s → couples s n.spot ≡ Some c →
-      ArrayFits scopes (couples s) (results s) (lows s) level n declared → IsSeen level c
-  seen_array scopes n declared c near is f =
+  pub known_array : (scopes : Scopes) (n : Named) (shape : Shape) → ArrayFits scopes (couples s) (results s) (lows s) level n shape → IsSome (couples s n.spot)
+  known_array scopes n shape f = some (couples s n.spot) f.couple f.known_is
+
+  pub seen_array : (scopes : Scopes) (n : Named) (shape : Shape) (c : Couple) → AreNear s → couples s n.spot ≡ Some c →
+      ArrayFits scopes (couples s) (results s) (lows s) level n shape → IsSeen level c
+  seen_array scopes n shape c near is f =
       let same : f.couple ≡ c = cc (f.known_is, is) in
       let I : Couple → Type 0 = λ d. IsSeen level d in
-      subst I same (seen_up f.couple (use_of scopes n).up (near.own n.spot f.couple f.known_is) f.array.level_is)
+      subst I same (seen_up f.couple (use_of scopes n).up (near.own n.spot f.couple f.known_is) (level_up scopes n shape f.couple f.array))
 
   pub known_name : (n : Named) → NameHasCode s level n → IsSome (couples s n.spot)
   known_name n h = by h.fits

@@ -2,11 +2,12 @@ pub mod Shapes
 pub mod Couples
 pub mod Calls
 pub mod Names
+pub mod Elements
+pub mod Passed
 pub mod Actuals
 pub mod Forms
 pub mod Listed
 pub mod Called
 pub mod Arms
 pub mod Subscripts
-pub mod Elements
 pub mod References

@@ -9,7 +9,7 @@ use Rattle.algol_tree.specs.Image.{exprs, variable}
 use Rattle.algol_tree.specs.Plain as tree
 use Rattle.algol_tree.specs.Plain.{PExprs, PVariable}
 use Rattle.algol_tree.specs.Scopes.{Scopes}
-use Rattle.algol_paths.specs.Arrays.{DeclaredArray, lows_of}
+use Rattle.algol_paths.specs.Arrays.{Shape}
 use Rattle.b67_ops.specs.declared.Couple.{Couple}
 use Rattle.b67_ops.specs.declared.Operator.TheVariants as ops
 use Rattle.b67_ops.specs.declared.PlainKind.TheVariants as kinds
@@ -36,16 +36,16 @@ use Rattle.b67_emit_expr.proofs.Elements.{IsElement, is_alone}
 
 module _ (s : Names) (level : ℕ) (v : Variable) (none : v.subs ≡ []) where
   -- it is no element
-  no_element : (scopes : Scopes) (n : Named) (declared : DeclaredArray) (es : PExprs) → variable v ≡ tree.subscripted n es → ElementFits s scopes level n declared es → ⊥
-  no_element scopes n declared es is fits =
-      let F : PExprs → Type 0 = λ xs. SubscriptsFit scopes (couples s) (results s) (lows s) level (lows_of declared.pairs) xs in
+  no_element : (scopes : Scopes) (n : Named) (shape : Shape) (es : PExprs) → variable v ≡ tree.subscripted n es → ElementFits s scopes level n shape es → ⊥
+  no_element scopes n shape es is fits =
+      let F : PExprs → Type 0 = λ xs. SubscriptsFit scopes (couples s) (results s) (lows s) level shape.lows xs in
       let given : es ≡ tree.none = own_subscripts v n es is ∙ ap (λ (xs : List Expr). exprs xs) none in
-      none_fits s scopes level (lows_of declared.pairs) (subst F given fits.1)
+      none_fits s scopes level shape.lows (subst F given fits.1)
 
   own_left : HasReference s level (variable v) → (scopes : Scopes) × (kind : Kind) × LeftFits scopes (couples s) (results s) (lows s) level kind v.name
   own_left (alone scopes kind n is fits) =
       let N : Named → Type 0 = λ m. LeftFits scopes (couples s) (results s) (lows s) level kind m in (scopes, kind, subst N (own_name v n tree.none is) fits)
-  own_left (element scopes n declared es is fits) = absurd (no_element scopes n declared es is fits)
+  own_left (element scopes n shape es is fits) = absurd (no_element scopes n shape es is fits)
 
   pub known_left : HasReference s level (variable v) → IsSome (lefts s v.name.spot)
   known_left h = let own = own_left h in some (lefts s v.name.spot) own.2.0 own.2.1
@@ -61,7 +61,7 @@ module _ (s : Names) (level : ℕ) (v : Variable) (none : v.subs ≡ []) where
         let same : fits.0 ≡ c = cc (fits.1, there) in
         let H : Couple → Type 0 = λ d. Emitted a b (λ qs. Has qs level (size a.operators) (ops.Namc d) (size b.operators)) in
         weaker (λ qs. ReferenceAt scopes context qs level n kind (size a.operators) (size b.operators)) (subst H (sym same) h) (λ qs x. (fits.0, fits.2, x));
-    element = λ scopes context n declared es is fits. absurd (no_element scopes n declared es is fits);
+    element = λ scopes context n shape es is fits. absurd (no_element scopes n shape es is fits);
   }
 
   pub reference_syllables : place_syllables (variable v) ≡ 2
@@ -80,10 +80,10 @@ module _ (s : Names) (w : PVariable) (is_element : IsElement w) where
 
   pub has_subscripts : (level : ℕ) → HasReference s level w → HasSubscripts s level w
   has_subscripts level (alone scopes kind n is fits) = absurd (not_alone n is)
-  has_subscripts level (element scopes n declared es is fits) = record {
+  has_subscripts level (element scopes n shape es is fits) = record {
     scopes = scopes;
     name = n;
-    declared = declared;
+    shape = shape;
     subscripts = es;
     variable_is = is;
     fits = fits;
@@ -93,11 +93,11 @@ module _ (s : Names) (w : PVariable) (is_element : IsElement w) where
       Emitted b c (λ qs. Has qs (level_set b) (size b.operators) (ops.Plain kinds.Indx) (size c.operators)) → ReferenceEmitted s (level_set a) a c w
   indexed_form a b c l h k = record {
     alone = λ scopes context kind n is fits. absurd (not_alone n is);
-    element = λ scopes context n declared es is fits.
+    element = λ scopes context n shape es is fits.
         let K : ℕ → Type 0 = λ i. Emitted b c (λ qs. Has qs i (size b.operators) (ops.Plain kinds.Indx) (size c.operators)) in
-        weaker (λ qs. (couple : Couple) × (m : ℕ) × IsArray scopes (level_set a) n declared couple
-        × SubscriptsAt scopes context qs (level_set a) couple (lows_of declared.pairs) es (size a.operators) m
+        weaker (λ qs. (couple : Couple) × (m : ℕ) × IsArray scopes (level_set a) n shape couple
+        × SubscriptsAt scopes context qs (level_set a) couple shape.lows es (size a.operators) m
         × Has qs (level_set a) m (ops.Plain kinds.Indx) (size c.operators))
-        (then (h.code scopes context n declared es is fits) (subst K (same_level a b l) k))
+        (then (h.code scopes context n shape es is fits) (subst K (same_level a b l) k))
         (λ qs x. (x.0.0, size b.operators, x.0.1, x.0.2, x.1));
   }

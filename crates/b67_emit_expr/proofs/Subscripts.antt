@@ -1,5 +1,5 @@
 -- The subscripts of a variable: one or two, and as many lower bounds.
-use Rattle.std.proofs.Common.{◌≡◌, ℕ, ◌+◌, ◌<◌, ◌≤◌, List, [], ◌∷◌, length, get_or, ℤ, pos, to_z, of_z, w64, Some, refl, sym, ap, ◌∙◌, subst, arith}
+use Rattle.std.proofs.Common.{◌≡◌, ℕ, ◌+◌, ◌<◌, ◌≤◌, List, [], ◌∷◌, length, get_or, ℤ, pos, to_z, of_z, w64, Option, Some, None, refl, sym, ap, ◌∙◌, subst, arith}
 use Rattle.std.specs.Prelude.{◌^◌, unsigned_abs, IsSome}
 use Rattle.std.proofs.lemmas.Int.{to_z-of_z, fits_signed_from_abs}
 use Rattle.algol_tree.specs.declared.tree.Expr.{Expr}
@@ -10,8 +10,10 @@ use Rattle.algol_tree.specs.Counts.{expr_tokens, exprs_tokens, variable_tokens}
 use Rattle.algol_tree.specs.Image.{expr, exprs, variable}
 use Rattle.algol_tree.specs.Plain as tree
 use Rattle.algol_tree.specs.Plain.{PExprs, PVariable}
-use Rattle.algol_tree.specs.Scopes.{Scopes}
-use Rattle.algol_paths.specs.Arrays.{DeclaredArray, lows_of}
+use Rattle.algol_tree.specs.Scopes.{Scopes, use_of}
+use Rattle.algol_tree.specs.Sorts.{is_formal}
+use Rattle.algol_paths.specs.Arrays as arrays
+use Rattle.algol_paths.specs.Arrays.{Shape}
 use Rattle.b67_ops.specs.declared.Couple.{Couple}
 use Rattle.b67_ops.specs.declared.Operator.TheVariants as ops
 use Rattle.b67_ops.specs.declared.PlainKind.TheVariants as kinds
@@ -24,8 +26,9 @@ use Rattle.b67_templates.specs.Code.{SubscriptsAt}
 use Rattle.b67_templates.specs.Fragments.{Has, IsWhole}
 use Rattle.b67_templates.specs.Emitting.{Emitted}
 use Rattle.b67_templates.specs.Fitting.{ArrayFits, ExprFits, SubscriptsFit}
+use Rattle.b67_emitter.specs.declared.names.Lows.{Lows}
 use Rattle.b67_emitter.specs.declared.names.Names.{Names}
-use Rattle.b67_emitter.specs.Values.{couples, results, lows, AreNear, HasCode, ElementFits}
+use Rattle.b67_emitter.specs.Values.{couples, results, lows, told, AreNear, HasCode, ElementFits}
 use Rattle.b67_emitter.proofs.Appends.{same_level}
 use Rattle.b67_emitter.proofs.Composing.{then, weaker}
 use Rattle.b67_emit_expr.specs.Subscripting.{SubscriptEmitted, HasSubscripts, SubscriptsEmitted}
@@ -167,37 +170,45 @@ module _ (s : Names) (scopes : Scopes) (context : Context) (level : ℕ) (couple
 
 -- ---- of one variable
 
+-- the lower bounds that are known of a name
+abbrev pub list_told : Option arrays.Lows → Option (List ℤ)
+list_told None = None
+list_told (Some l) = Some l.list
+
+pub told_list : (s : Names) (n : Named) (l : Lows) (ls : List ℤ) → ls ≡ l.list → lows s n.spot ≡ Some (told l) → list_told (lows s n.spot) ≡ Some ls
+told_list s n l ls is known = ap list_told known ∙ ap (λ (ms : List ℤ). Some ms) (sym is)
+
 module _ (s : Names) (level : ℕ) (v : Variable) where
   -- .. whatever array its name is
-  module _ (scopes : Scopes) (n : Named) (declared : DeclaredArray) (es : PExprs) (is : variable v ≡ tree.subscripted n es) (fits : ElementFits s scopes level n declared es) where
-    pub its_array : ArrayFits scopes (couples s) (results s) (lows s) level v.name declared
-    its_array = let A : Named → Type 0 = λ m. ArrayFits scopes (couples s) (results s) (lows s) level m declared in subst A (own_name v n es is) fits.0
+  module _ (scopes : Scopes) (n : Named) (shape : Shape) (es : PExprs) (is : variable v ≡ tree.subscripted n es) (fits : ElementFits s scopes level n shape es) where
+    pub its_array : ArrayFits scopes (couples s) (results s) (lows s) level v.name shape
+    its_array = let A : Named → Type 0 = λ m. ArrayFits scopes (couples s) (results s) (lows s) level m shape in subst A (own_name v n es is) fits.0
 
-    pub its_subscripts : (ls : List ℤ) → lows s v.name.spot ≡ Some ls → Fit s scopes level ls v.subs
+    pub its_subscripts : (ls : List ℤ) → list_told (lows s v.name.spot) ≡ Some ls → Fit s scopes level ls v.subs
     its_subscripts ls bounds =
-        let same : lows_of declared.pairs ≡ ls = cc (its_array.lows_are, bounds) in
+        let same : shape.lows ≡ ls = cc (ap list_told its_array.lows_are, bounds) in
         let F : List ℤ → PExprs → Type 0 = λ ms xs. SubscriptsFit scopes (couples s) (results s) (lows s) level ms xs in
-        subst (λ ms. F ms (exprs v.subs)) same (subst (F (lows_of declared.pairs)) (own_subscripts v n es is) fits.1)
+        subst (λ ms. F ms (exprs v.subs)) same (subst (F shape.lows) (own_subscripts v n es is) fits.1)
 
   module _ (h : HasSubscripts s level (variable v)) where
-    own : ArrayFits h.scopes (couples s) (results s) (lows s) level v.name h.declared
-    own = its_array h.scopes h.name h.declared h.subscripts h.variable_is h.fits
+    own : ArrayFits h.scopes (couples s) (results s) (lows s) level v.name h.shape
+    own = its_array h.scopes h.name h.shape h.subscripts h.variable_is h.fits
 
     pub known_lows : IsSome (lows s v.name.spot)
-    known_lows = some (lows s v.name.spot) (lows_of h.declared.pairs) own.lows_are
+    known_lows = some (lows s v.name.spot) (record { list = h.shape.lows; formal = is_formal ((use_of h.scopes v.name).sort) }) own.lows_are
 
     pub known_element : IsSome (couples s v.name.spot)
-    known_element = known_array s level h.scopes v.name h.declared own
+    known_element = known_array s level h.scopes v.name h.shape own
 
     pub seen_element : (m : ℕ) (c : Couple) → m ≡ level → AreNear s → couples s v.name.spot ≡ Some c → IsSeen m c
-    seen_element m c same near is = let I : ℕ → Type 0 = λ l. IsSeen l c in subst I (sym same) (seen_array s level h.scopes v.name h.declared c near is own)
+    seen_element m c same near is = let I : ℕ → Type 0 = λ l. IsSeen l c in subst I (sym same) (seen_array s level h.scopes v.name h.shape c near is own)
 
     -- its subscripts and the lower bounds, as they were found
-    module _ (ls : List ℤ) (xs : List Expr) (bounds : lows s v.name.spot ≡ Some ls) (whole : xs ≡ v.subs) where
+    module _ (ls : List ℤ) (xs : List Expr) (bounds : list_told (lows s v.name.spot) ≡ Some ls) (whole : xs ≡ v.subs) where
       own_fit : Fit s h.scopes level ls xs
       own_fit =
           let F : List Expr → Type 0 = λ ys. Fit s h.scopes level ls ys in
-          subst F (sym whole) (its_subscripts h.scopes h.name h.declared h.subscripts h.variable_is h.fits ls bounds)
+          subst F (sym whole) (its_subscripts h.scopes h.name h.shape h.subscripts h.variable_is h.fits ls bounds)
 
       pub some_subscripts : 0 < length xs
       some_subscripts = let many = as_many s h.scopes level ls xs own_fit in many.1
@@ -227,34 +238,34 @@ module _ (s : Names) (level : ℕ) (v : Variable) where
       second_whole x many is = (second_fits s h.scopes level ls xs (to_z w64 (of_z w64 (get_or ls 1 (pos 0)))) x own_fit many (second_back x many is) is).0
 
   -- the couple of the array and its lower bounds, as they were found
-  module _ (ls : List ℤ) (xs : List Expr) (couple : Couple) (bounds : lows s v.name.spot ≡ Some ls) (known : couples s v.name.spot ≡ Some couple) (whole : xs ≡ v.subs)
+  module _ (ls : List ℤ) (xs : List Expr) (couple : Couple) (bounds : list_told (lows s v.name.spot) ≡ Some ls) (known : couples s v.name.spot ≡ Some couple) (whole : xs ≡ v.subs)
       (a b : Built) (code : (scopes : Scopes) (context : Context) → Fit s scopes level ls xs →
       Emitted a b (λ qs. SubscriptsAt scopes context qs level couple ls (exprs xs) (size a.operators) (size b.operators))) where
-    own_code : (scopes : Scopes) (context : Context) (declared : DeclaredArray) → ArrayFits scopes (couples s) (results s) (lows s) level v.name declared →
-        Fit s scopes level ls v.subs → Emitted a b (λ qs. (c : Couple) × IsArray scopes level v.name declared c
-        × SubscriptsAt scopes context qs level c (lows_of declared.pairs) (exprs v.subs) (size a.operators) (size b.operators))
-    own_code scopes context declared f fit =
-        let same : ls ≡ lows_of declared.pairs = cc (f.lows_are, bounds) in
+    own_code : (scopes : Scopes) (context : Context) (shape : Shape) → ArrayFits scopes (couples s) (results s) (lows s) level v.name shape →
+        Fit s scopes level ls v.subs → Emitted a b (λ qs. (c : Couple) × IsArray scopes level v.name shape c
+        × SubscriptsAt scopes context qs level c shape.lows (exprs v.subs) (size a.operators) (size b.operators))
+    own_code scopes context shape f fit =
+        let same : ls ≡ shape.lows = cc (ap list_told f.lows_are, bounds) in
         let there : f.couple ≡ couple = cc (f.known_is, known) in
         let F : List Expr → Type 0 = λ ys. Fit s scopes level ls ys in
         let C : List ℤ → List Expr → Type 0 = λ ms ys. Emitted a b (λ qs. SubscriptsAt scopes context qs level couple ms (exprs ys) (size a.operators) (size b.operators)) in
-        let I : Couple → Type 0 = λ c. IsArray scopes level v.name declared c in
-        weaker (λ qs. (c : Couple) × IsArray scopes level v.name declared c
-        × SubscriptsAt scopes context qs level c (lows_of declared.pairs) (exprs v.subs) (size a.operators) (size b.operators))
+        let I : Couple → Type 0 = λ c. IsArray scopes level v.name shape c in
+        weaker (λ qs. (c : Couple) × IsArray scopes level v.name shape c
+        × SubscriptsAt scopes context qs level c shape.lows (exprs v.subs) (size a.operators) (size b.operators))
         (subst (λ ms. C ms v.subs) same (subst (C ls) whole (code scopes context (subst F (sym whole) fit))))
         (λ qs w. (couple, subst I there f.array, w))
 
     subscripts_form : SubscriptsEmitted s level a b (variable v)
     subscripts_form = record {
-      code = λ scopes context n declared es is fits.
-          let E : Named → PExprs → Type 0 = λ m ys. Emitted a b (λ qs. (c : Couple) × IsArray scopes level m declared c
-          × SubscriptsAt scopes context qs level c (lows_of declared.pairs) ys (size a.operators) (size b.operators)) in
+      code = λ scopes context n shape es is fits.
+          let E : Named → PExprs → Type 0 = λ m ys. Emitted a b (λ qs. (c : Couple) × IsArray scopes level m shape c
+          × SubscriptsAt scopes context qs level c shape.lows ys (size a.operators) (size b.operators)) in
           subst (λ m. E m es) (sym (own_name v n es is)) (subst (E v.name) (sym (own_subscripts v n es is))
-          (own_code scopes context declared (its_array scopes n declared es is fits) (its_subscripts scopes n declared es is fits ls bounds)));
+          (own_code scopes context shape (its_array scopes n shape es is fits) (its_subscripts scopes n shape es is fits ls bounds)));
     }
 
 -- The subscripts are appended at the level of the builder before them.
-module _ (s : Names) (v : Variable) (ls : List ℤ) (xs : List Expr) (couple : Couple) (bounds : lows s v.name.spot ≡ Some ls)
+module _ (s : Names) (v : Variable) (ls : List ℤ) (xs : List Expr) (couple : Couple) (bounds : list_told (lows s v.name.spot) ≡ Some ls)
     (known : couples s v.name.spot ≡ Some couple) (whole : xs ≡ v.subs) (a b c : Built) (low : ℤ) (x : Expr) (least : low ≡ get_or ls 0 (pos 0)) (first : x ≡ get_or xs 0 x)
     (h : SubscriptEmitted s (level_set a) a b low (expr x)) (r : Emitted b c (λ qs. Has qs (level_set b) (size b.operators) (ops.Namc couple) (size c.operators)))
     (on_b : b.level ≡ a.level) where

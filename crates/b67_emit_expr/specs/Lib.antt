@@ -1,3 +1,4 @@
 pub mod Applying
 pub mod Naming
+pub mod Passing
 pub mod Subscripting

@@ -5,8 +5,7 @@ use Rattle.algol_tree.specs.declared.tree.Named.{Named}
 use Rattle.algol_tree.specs.Plain as tree
 use Rattle.algol_tree.specs.Plain.{PExpr, PExprs, PVariable}
 use Rattle.algol_tree.specs.Scopes.{Scopes}
-use Rattle.algol_paths.specs.Arrays as arrays
-use Rattle.algol_paths.specs.Arrays.{DeclaredArray}
+use Rattle.algol_paths.specs.Arrays.{Shape}
 use Rattle.b67_ops.specs.declared.Couple.{Couple}
 use Rattle.b67_segment.specs.Operators.{size}
 use Rattle.b67_segment.specs.Building.{Built}
@@ -30,15 +29,15 @@ pub record SubscriptEmitted (s : Names) (level : ℕ) (before after : Built) (lo
 pub record HasSubscripts (s : Names) (level : ℕ) (v : PVariable) : Type 0 where
   pub scopes : Scopes
   pub name : Named
-  pub declared : DeclaredArray
+  pub shape : Shape
   pub subscripts : PExprs
   pub variable_is : v ≡ tree.subscripted name subscripts
-  pub fits : ElementFits s scopes level name declared subscripts
+  pub fits : ElementFits s scopes level name shape subscripts
 
 -- From the first builder to the second the code of the subscripts was appended, up to what leads to the element.
 pub record SubscriptsEmitted (s : Names) (level : ℕ) (before after : Built) (v : PVariable) : Type 0 where
   pub code :
-      (scopes : Scopes) (context : Context) (name : Named) (declared : DeclaredArray) (es : PExprs) → v ≡ tree.subscripted name es →
-      ElementFits s scopes level name declared es →
-      Emitted before after (λ qs. (c : Couple) × IsArray scopes level name declared c
-      × SubscriptsAt scopes context qs level c (arrays.lows_of declared.pairs) es (size before.operators) (size after.operators))
+      (scopes : Scopes) (context : Context) (name : Named) (shape : Shape) (es : PExprs) → v ≡ tree.subscripted name es →
+      ElementFits s scopes level name shape es →
+      Emitted before after (λ qs. (c : Couple) × IsArray scopes level name shape c
+      × SubscriptsAt scopes context qs level c shape.lows es (size before.operators) (size after.operators))

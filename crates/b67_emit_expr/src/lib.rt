@@ -7,6 +7,7 @@
 mod emitter;
 mod naming;
 mod operators;
+mod passing;
 mod values;
 
 pub use emitter::Exprs;

@@ -11,14 +11,16 @@ ghost use Rattle.b67_templates.specs.Depths.{expr_syllables};
 ghost use Rattle.b67_emitter.specs.Values.{AreNear, HasCode, ValueEmitted, ValueWithExits, HasCall, CallEmitted};
 ghost use Rattle.b67_templates.specs.Fragments.{IsWhole};
 ghost use Rattle.b67_emit_expr.specs.Applying.{AppliedEmitted};
+ghost use Rattle.b67_emit_expr.specs.Passing.{HasActual, ActualEmitted};
 ghost use Rattle.b67_emit_expr.specs.Subscripting.{SubscriptEmitted, HasSubscripts, SubscriptsEmitted};
 
 use crate::naming::append_name;
 use crate::operators::{append_ready, operator_for, truth_literal};
+use crate::passing::array_alone;
 use algol_tree::{Call, Expr, Op, Variable};
 use b67_emitter::{
-    Names, aim, aim_exits, append_begun, append_branch, append_exit, append_moved, append_number,
-    append_plain, append_reference, couple_of, lows_of,
+    Names, aim, aim_exits, append_array, append_begun, append_branch, append_exit, append_moved,
+    append_number, append_plain, append_reference, couple_of, lows_of,
 };
 use b67_ops::{BranchKind, PlainKind};
 use b67_segment::Builder;
@@ -95,6 +97,24 @@ fn calculated(
     append_plain(out, operator_for(op))
 }
 
+/// An actual: the value of an expression, or the reference to an array's cell.
+#[cycle(values)]
+fn given(e: &Expr, names: &Names, out: &mut Builder, exits: &mut Vec<u16>) -> Result<(), AllocError>
+    requires set { IsSome out.old.level }
+    requires near { AreNear names.now }
+    requires code { HasActual names.now (level_set out.old) (expr e.now) }
+    requires room { size out.old.operators + expr_syllables (expr e.now) ≤ 6 * MOST_SEGMENT_WORDS }
+    ensures code { OnOk result (ActualEmitted names.now (level_set out.old) out.old out.new (expr e.now)) }
+    ensures level { OnOk result (out.new.level ≡ out.old.level) }
+    ensures size { OnOk result (size out.new.operators ≤ size out.old.operators + expr_syllables (expr e.now)) }
+    ensures exits { OnOk result (exits.new.items ≡ exits.old.items) }
+{
+    match array_alone(e, names) {
+        Some(name) => append_array(out, couple_of(names, name), lows_of(names, name).formal),
+        None => operand(e, names, out, exits),
+    }
+}
+
 /// A call: its beginning, the actuals in their order, the entry.
 #[cycle(values)]
 pub fn called(
@@ -115,7 +135,7 @@ pub fn called(
     append_begun(out, couple_of(names, &c.name))?;
     let actuals = c.actuals.items().as_slice();
     'actuals: for actual in actuals {
-        operand(actual, names, out, exits)?;
+        given(actual, names, out, exits)?;
     }
     append_plain(out, PlainKind::Entr)
 }
@@ -161,7 +181,7 @@ pub fn subscripts(
     ensures size { OnOk result (size out.new.operators + 1 ≤ size out.old.operators + expr_syllables (tree.variable (variable v.now))) }
     ensures exits { OnOk result (exits.new.items ≡ exits.old.items) }
 {
-    let lows = lows_of(names, &v.name);
+    let lows = lows_of(names, &v.name).list.items().as_slice();
     let subs = v.subs.items().as_slice();
     subscript(&subs[0], lows[0], names, out, exits)?;
     append_reference(out, couple_of(names, &v.name))?;

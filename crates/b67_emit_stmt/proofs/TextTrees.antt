@@ -1,12 +1,13 @@
 -- What holds of each text of a program, by the trees that they are.
 use Rattle.std.proofs.Common.{◌≡◌, ℕ, zero, suc, ◌+◌, ◌*◌, ◌≤◌, List, [], ◌∷◌, ◌++◌, length, refl, subst, arith}
-use Rattle.std.specs.Prelude.{ℤ, Option, Some, slice_get}
+use Rattle.std.specs.Prelude.{Option, Some, slice_get}
 use Rattle.algol_tree.specs.declared.token.Spot.{Spot}
 use Rattle.algol_tree.specs.declared.tree.Heading.{Heading}
 use Rattle.algol_tree.specs.Blocks.{Begin, of_statement, of_procedure, decls_of, stmts_of}
 use Rattle.algol_tree.specs.Counts.{stmt_tokens, stmts_tokens}
 use Rattle.algol_tree.specs.Plain as tree
 use Rattle.algol_tree.specs.Plain.{PStmt, PStmts, PDecl, PDecls, PBody}
+use Rattle.algol_paths.specs.Arrays.{Lows}
 use Rattle.b67_ops.specs.declared.Couple.{Couple}
 use Rattle.b67_ops.specs.declared.TheConstants.{MOST_LEVEL}
 use Rattle.algol_tree.specs.Scopes.{Scopes}
@@ -130,7 +131,7 @@ within_procedure P level (tree.write n spot phrases es) h = (tt, tt)
 
 -- ---- levels
 
-module _ (sc : Scopes) (known results : Spot → Option Couple) (lows : Spot → Option (List ℤ)) where
+module _ (sc : Scopes) (known results : Spot → Option Couple) (lows : Spot → Option Lows) where
   abbrev pub Fine : Text → Type 0
   Fine t = (t.level ≤ MOST_LEVEL) × StmtsFit sc known results lows t.level t.stmts
 

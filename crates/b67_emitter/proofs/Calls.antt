@@ -1,15 +1,17 @@
--- A call begins with a mark and the reference of a control word.
-use Rattle.std.proofs.Common.{◌≡◌, ℕ, subst}
+-- A call begins with a mark and the reference of a control word; an actual that is an array is a reference.
+use Rattle.std.proofs.Common.{◌≡◌, ℕ, true, false, ap, ◌∙◌, subst}
 use Rattle.algol_tree.specs.declared.tree.Named.{Named}
 use Rattle.algol_tree.specs.Scopes as names
+use Rattle.algol_tree.specs.Sorts.{is_formal}
+use Rattle.algol_paths.specs.Arrays.{Shape}
 use Rattle.b67_ops.specs.declared.Couple.{Couple}
 use Rattle.b67_ops.specs.declared.Operator.TheVariants as ops
 use Rattle.b67_ops.specs.declared.PlainKind.TheVariants as kinds
 use Rattle.b67_segment.specs.Operators.{size}
 use Rattle.b67_segment.specs.Building.{Built, level_set}
 use Rattle.b67_templates.specs.Contexts.{Context}
-use Rattle.b67_templates.specs.Cells.{IsProcedure}
-use Rattle.b67_templates.specs.Code.{BegunAt}
+use Rattle.b67_templates.specs.Cells.{Agrees, IsArray, declared, formal, IsProcedure}
+use Rattle.b67_templates.specs.Code.{ArrayActualAt, refers, passes, BegunAt}
 use Rattle.b67_templates.specs.Fragments.{Has}
 use Rattle.b67_templates.specs.Emitting.{Emitted}
 use Rattle.b67_emitter.proofs.Appends.{same_level}
@@ -25,3 +27,27 @@ begun_part couple a b c e h i sc context n callee is =
     let N : ℕ → Type 0 = λ l. Emitted b c (λ qs. Has qs l (size b.operators) (ops.Namc couple) (size c.operators)) in
     weaker (λ qs. BegunAt sc context qs (level_set a) n callee (size a.operators) (size c.operators)) (then h (subst N q i))
     (λ qs p. record { couple = couple; procedure = is; marked = size b.operators; mark = p.0; reference = p.1 })
+
+-- ---- arrays
+
+module _ (couple : Couple) (a b c : Built) (same : b.level ≡ a.level)
+    (named : Emitted a b (λ qs. Has qs (level_set a) (size a.operators) (ops.Namc couple) (size b.operators)))
+    (sc : names.Scopes) (context : Context) (shape x : Shape) (n : Named) where
+  abbrev IsActual : Type 0
+  IsActual = Emitted a c (λ qs. ArrayActualAt sc context qs (level_set a) shape n (size a.operators) (size c.operators))
+
+  pub stuffed_part : Emitted b c (λ qs. Has qs (level_set b) (size b.operators) (ops.Plain kinds.Stff) (size c.operators)) → IsArray sc (level_set a) n x couple →
+      false ≡ is_formal ((names.use_of sc n).sort) → Agrees shape x → IsActual
+  stuffed_part h (declared d is r) f agrees =
+      let H : ℕ → Type 0 = λ l. Emitted b c (λ qs. Has qs l (size b.operators) (ops.Plain kinds.Stff) (size c.operators)) in
+      weaker (λ qs. ArrayActualAt sc context qs (level_set a) shape n (size a.operators) (size c.operators)) (then named (subst H (same_level a b same) h))
+      (λ qs p. refers d couple (size b.operators) r (subst (λ y. Agrees shape y) is agrees) p.0 p.1)
+  stuffed_part h (formal r) f agrees = absurd (let clash : false ≡ true = f ∙ ap is_formal r.sort_is in cc)
+
+  pub loaded_part : Emitted b c (λ qs. Has qs (level_set b) (size b.operators) (ops.Plain kinds.Lodt) (size c.operators)) → IsArray sc (level_set a) n x couple →
+      true ≡ is_formal ((names.use_of sc n).sort) → Agrees shape x → IsActual
+  loaded_part h (declared d is r) f agrees = absurd (let clash : true ≡ false = f ∙ ap is_formal r.sort_is in cc)
+  loaded_part h (formal r) f agrees =
+      let H : ℕ → Type 0 = λ l. Emitted b c (λ qs. Has qs l (size b.operators) (ops.Plain kinds.Lodt) (size c.operators)) in
+      weaker (λ qs. ArrayActualAt sc context qs (level_set a) shape n (size a.operators) (size c.operators)) (then named (subst H (same_level a b same) h))
+      (λ qs p. passes x couple (size b.operators) r agrees p.0 p.1)

@@ -4,5 +4,5 @@ pub mod Patching
 pub mod Appends
 pub mod Entries
 pub mod Calls
-pub mod Lows
+pub mod Bounds
 pub mod Moves

@@ -1,5 +1,5 @@
 -- What names mean, and what a call promises that appends the code of an expression, or of what an assignment stores through.
-use Rattle.std.specs.Prelude.{◌≡◌, ℕ, ◌+◌, ◌<◌, ℤ, Option, Some, None, List}
+use Rattle.std.specs.Prelude.{◌≡◌, ℕ, ◌+◌, ◌<◌, Option, Some, None, List}
 use Rattle.std.specs.BTreeMap.{get}
 use Rattle.algol_tree.specs.declared.TheConstants.{MOST_BLOCK_CELLS}
 use Rattle.algol_tree.specs.declared.token.Spot.{Spot}
@@ -16,7 +16,7 @@ use Rattle.algol_scope.specs.Resolved.{declaration_of, result_of}
 use Rattle.algol_scope.specs.declared.scopes.Scopes as table
 use Rattle.algol_meaning.specs.Settle.{sorts_of}
 use Rattle.algol_paths.specs.Arrays as arrays
-use Rattle.algol_paths.specs.Arrays.{DeclaredArray}
+use Rattle.algol_paths.specs.Arrays.{Shape}
 use Rattle.b67_ops.specs.declared.Couple.{Couple}
 use Rattle.b67_ops.specs.declared.Operator.TheVariants as ops
 use Rattle.b67_ops.specs.declared.PlainKind.TheVariants as kinds
@@ -24,11 +24,12 @@ use Rattle.b67_segment.specs.Operators.{size}
 use Rattle.b67_segment.specs.Building.{Built}
 use Rattle.b67_templates.specs.Contexts.{Context}
 use Rattle.b67_templates.specs.Fragments.{Has}
-use Rattle.b67_templates.specs.Cells.{parameter_kinds, IsArray}
+use Rattle.b67_templates.specs.Cells.{parameter_wants, IsArray}
 use Rattle.b67_templates.specs.Code.{ExprAt, SubscriptsAt, ReferenceAt, CallAt, ActualsAt}
 use Rattle.b67_templates.specs.Depths.{expr_syllables}
 use Rattle.b67_templates.specs.Emitting.{Emitted, EmittedWithExits}
 use Rattle.b67_templates.specs.Fitting.{couple_on_left, LeftFits, ExprFits, ProcedureFits, ActualsFit, ArrayFits, SubscriptsFit}
+use Rattle.b67_emitter.specs.declared.names.Lows.{Lows}
 use Rattle.b67_emitter.specs.declared.names.Names.{Names}
 
 -- ---- couples
@@ -57,12 +58,19 @@ results s spot = result_declared s.scopes.now (declaration_of s.scopes.now spot)
 abbrev pub lefts : Names → Spot → Option Couple
 lefts s spot = couple_on_left (results s spot) (couples s spot)
 
-abbrev pub lows_found : Names → Option Declared → Option (List ℤ)
-lows_found s None = None
-lows_found s (Some d) = get ghosts.cmp s.lows d.spot
+abbrev pub told : Lows → arrays.Lows
+told l = record { list = l.list; formal = l.formal }
 
--- the lower bounds of the array that the name there means, none where it means none
-abbrev pub lows : Names → Spot → Option (List ℤ)
+abbrev pub lows_told : Option Lows → Option arrays.Lows
+lows_told None = None
+lows_told (Some l) = Some (told l)
+
+abbrev pub lows_found : Names → Option Declared → Option arrays.Lows
+lows_found s None = None
+lows_found s (Some d) = lows_told (get ghosts.cmp s.lows d.spot)
+
+-- the lower bounds of the array that the name there means, and whether it is a parameter; none where it means none
+abbrev pub lows : Names → Spot → Option arrays.Lows
 lows s spot = lows_found s (declaration_of s.scopes.now spot)
 
 -- each cell lies among the first of its frame, as many as a block may have, behind the frame's two words
@@ -102,25 +110,24 @@ pub record HasCall (s : Names) (level : ℕ) (c : PCall) : Type 0 where
   pub call_is : c ≡ tree.called name actuals
   pub procedure : ProcedureFits scopes (couples s) (results s) (lows s) level name callee
   pub fits :
-      ActualsFit scopes (couples s) (results s) (lows s) level (sorts_of ((block_numbered scopes.blocks callee).parameters)) (parameter_kinds scopes callee) actuals
+      ActualsFit scopes (couples s) (results s) (lows s) level (sorts_of ((block_numbered scopes.blocks callee).parameters)) (parameter_wants scopes callee) actuals
 
 -- From the first builder to the second the call's code was appended, the actuals and the entry with it.
 pub record CallEmitted (s : Names) (level : ℕ) (before after : Built) (c : PCall) : Type 0 where
   pub code :
       (scopes : Scopes) (context : Context) (n : Named) (es : PExprs) (callee : ℕ) → c ≡ tree.called n es →
       ProcedureFits scopes (couples s) (results s) (lows s) level n callee →
-      ActualsFit scopes (couples s) (results s) (lows s) level (sorts_of ((block_numbered scopes.blocks callee).parameters)) (parameter_kinds scopes callee) es →
+      ActualsFit scopes (couples s) (results s) (lows s) level (sorts_of ((block_numbered scopes.blocks callee).parameters)) (parameter_wants scopes callee) es →
       Emitted before after (λ qs. CallAt scopes context qs level n callee
-      (ActualsAt scopes context qs level (sorts_of ((block_numbered scopes.blocks callee).parameters)) (parameter_kinds scopes callee) es)
+      (ActualsAt scopes context qs level (sorts_of ((block_numbered scopes.blocks callee).parameters)) (parameter_wants scopes callee) es)
       (size before.operators) (size after.operators))
 
 -- ---- what an assignment stores through
 
 -- an element of an array: each subscript fits
-abbrev pub ElementFits : Names → Scopes → ℕ → Named → DeclaredArray → PExprs → Type 0
-ElementFits s scopes level n declared es =
-    ArrayFits scopes (couples s) (results s) (lows s) level n declared
-    × SubscriptsFit scopes (couples s) (results s) (lows s) level (arrays.lows_of declared.pairs) es
+abbrev pub ElementFits : Names → Scopes → ℕ → Named → Shape → PExprs → Type 0
+ElementFits s scopes level n shape es =
+    ArrayFits scopes (couples s) (results s) (lows s) level n shape × SubscriptsFit scopes (couples s) (results s) (lows s) level shape.lows es
 
 -- a name alone that has a cell on the left of an assignment, or an element
 pub data HasReference (s : Names) (level : ℕ) (v : PVariable) : Type 0 where
@@ -128,8 +135,8 @@ pub data HasReference (s : Names) (level : ℕ) (v : PVariable) : Type 0 where
       (scopes : Scopes) (kind : Kind) (name : Named) → v ≡ tree.subscripted name tree.none →
       LeftFits scopes (couples s) (results s) (lows s) level kind name → HasReference s level v
   element :
-      (scopes : Scopes) (name : Named) (declared : DeclaredArray) (es : PExprs) → v ≡ tree.subscripted name es →
-      ElementFits s scopes level name declared es → HasReference s level v
+      (scopes : Scopes) (name : Named) (shape : Shape) (es : PExprs) → v ≡ tree.subscripted name es →
+      ElementFits s scopes level name shape es → HasReference s level v
 
 -- From the first builder to the second the variable's reference was appended, or the descriptor of the element.
 pub record ReferenceEmitted (s : Names) (level : ℕ) (before after : Built) (v : PVariable) : Type 0 where
@@ -138,10 +145,10 @@ pub record ReferenceEmitted (s : Names) (level : ℕ) (before after : Built) (v 
       LeftFits scopes (couples s) (results s) (lows s) level kind name →
       Emitted before after (λ qs. ReferenceAt scopes context qs level name kind (size before.operators) (size after.operators))
   pub element :
-      (scopes : Scopes) (context : Context) (name : Named) (declared : DeclaredArray) (es : PExprs) → v ≡ tree.subscripted name es →
-      ElementFits s scopes level name declared es →
-      Emitted before after (λ qs. (c : Couple) × (m : ℕ) × IsArray scopes level name declared c
-      × SubscriptsAt scopes context qs level c (arrays.lows_of declared.pairs) es (size before.operators) m
+      (scopes : Scopes) (context : Context) (name : Named) (shape : Shape) (es : PExprs) → v ≡ tree.subscripted name es →
+      ElementFits s scopes level name shape es →
+      Emitted before after (λ qs. (c : Couple) × (m : ℕ) × IsArray scopes level name shape c
+      × SubscriptsAt scopes context qs level c shape.lows es (size before.operators) m
       × Has qs level m (ops.Plain kinds.Indx) (size after.operators))
 
 -- how many syllables that is at most

@@ -1,16 +1,18 @@
-//! The beginning of a call, and what a statement does with its result.
+//! The beginning of a call, an array among its actuals, and what a statement does with its result.
 
 ghost use Rattle.std.specs.Prelude.{◌≡◌, ℕ, ◌+◌, ◌*◌, ◌≤◌, Option, is_some, IsSome, OnOk};
 ghost use Rattle.algol_tree.specs.declared.tree.Kind.{Kind};
 ghost use Rattle.algol_tree.specs.declared.tree.Named.{Named};
 ghost use Rattle.algol_tree.specs.Scopes as names;
+ghost use Rattle.algol_tree.specs.Sorts.{is_formal};
+ghost use Rattle.algol_paths.specs.Arrays.{Shape};
 ghost use Rattle.b67_ops.specs.Spelling.{IsSeen};
 ghost use Rattle.b67_segment.specs.declared.TheConstants.{MOST_SEGMENT_WORDS};
 ghost use Rattle.b67_segment.specs.Operators.{size};
 ghost use Rattle.b67_segment.specs.Building.{level_set};
 ghost use Rattle.b67_templates.specs.Contexts.{Context};
-ghost use Rattle.b67_templates.specs.Cells.{IsProcedure};
-ghost use Rattle.b67_templates.specs.Code.{BegunAt, DroppedAt};
+ghost use Rattle.b67_templates.specs.Cells.{Agrees, IsArray, IsProcedure};
+ghost use Rattle.b67_templates.specs.Code.{ArrayActualAt, BegunAt, DroppedAt};
 ghost use Rattle.b67_templates.specs.Emitting.{Emitted};
 
 use crate::appending::{append_plain, append_reference};
@@ -30,6 +32,26 @@ pub fn append_begun(out: &mut Builder, couple: Couple) -> Result<(), AllocError>
 {
     append_plain(out, PlainKind::Mkst)?;
     append_reference(out, couple)
+}
+
+/// Appends the actual of an array parameter. The reference to the cell of a declared array becomes one that is read alike everywhere; the
+/// cell of a parameter has one.
+pub fn append_array(out: &mut Builder, couple: Couple, formal: bool) -> Result<(), AllocError>
+    requires set { IsSome out.old.level }
+    requires seen { IsSeen (level_set out.old) couple }
+    requires room { size out.old.operators + 3 ≤ 6 * MOST_SEGMENT_WORDS }
+    ensures code { OnOk result ((sc : names.Scopes) (context : Context) (shape a : Shape) (n : Named) → IsArray sc (level_set out.old) n a couple →
+        formal ≡ is_formal ((names.use_of sc n).sort) → Agrees shape a →
+        Emitted out.old out.new (λ qs. ArrayActualAt sc context qs (level_set out.old) shape n (size out.old.operators) (size out.new.operators))) }
+    ensures level { OnOk result (out.new.level ≡ out.old.level) }
+    ensures size { OnOk result (size out.new.operators ≡ size out.old.operators + 3) }
+{
+    append_reference(out, couple)?;
+    if formal {
+        append_plain(out, PlainKind::Lodt)
+    } else {
+        append_plain(out, PlainKind::Stff)
+    }
 }
 
 /// Drops the result of a call that a statement makes, where the procedure is typed.

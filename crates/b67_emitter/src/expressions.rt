@@ -1,15 +1,15 @@
 //! What appends the code of expressions.
 
-ghost use Rattle.std.specs.Prelude.{◌≡◌, ◌+◌, ◌*◌, ◌≤◌, Some, IsSome, OnOk};
+ghost use Rattle.std.specs.Prelude.{◌≡◌, ◌+◌, ◌*◌, ◌≤◌, Some, IsSome, OnOk, option_copied};
 ghost use Rattle.algol_tree.specs.Plain as tree;
 ghost use Rattle.algol_tree.specs.Image.{expr, call, variable};
 ghost use Rattle.b67_segment.specs.declared.TheConstants.{MOST_SEGMENT_WORDS};
 ghost use Rattle.b67_segment.specs.Operators.{size};
 ghost use Rattle.b67_segment.specs.Building.{level_set};
 ghost use Rattle.b67_templates.specs.Depths.{expr_syllables};
-ghost use Rattle.b67_emitter.specs.Values.{couples, results, lefts, lows, AreNear, HasCode, ValueEmitted, HasCall, CallEmitted, HasReference, ReferenceEmitted, place_syllables};
+ghost use Rattle.b67_emitter.specs.Values.{couples, results, lefts, lows, told, lows_told, AreNear, HasCode, ValueEmitted, HasCall, CallEmitted, HasReference, ReferenceEmitted, place_syllables};
 
-use crate::names::Names;
+use crate::names::{Lows, Names};
 use algol_scope::Declared;
 use algol_tree::{Call, Expr, Named, Variable};
 use b67_ops::Couple;
@@ -62,16 +62,23 @@ pub fn left_of(names: &Names, name: &Named) -> Couple
     }
 }
 
-/// The lower bounds of the array that a name means.
-pub fn lows_of<'f>(names: &'f Names, name: &Named) -> &'f [i64]
-    requires { IsSome (lows names.now name.now.spot) }
-    ensures { lows names.now name.now.spot ≡ Some result.now }
+/// The lower bounds of the array that a name means, and whether it is a parameter; none where it means none.
+pub fn array_of<'f>(names: &'f Names, name: &Named) -> Option<&'f Lows>
+    ensures { lows_told (option_copied result) ≡ lows names.now name.now.spot }
 {
     match names.scopes.declaration(name.spot) {
-        Some(declared) => match names.lows.get(&declared.spot) {
-            Some(lows) => lows.items().as_slice(),
-            None => unreachable!(),
-        },
+        Some(declared) => names.lows.get(&declared.spot),
+        None => None,
+    }
+}
+
+/// The same, where the name means an array.
+pub fn lows_of<'f>(names: &'f Names, name: &Named) -> &'f Lows
+    requires { IsSome (lows names.now name.now.spot) }
+    ensures { lows names.now name.now.spot ≡ Some (told result.now) }
+{
+    match array_of(names, name) {
+        Some(lows) => lows,
         None => unreachable!(),
     }
 }

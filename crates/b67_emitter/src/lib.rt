@@ -17,9 +17,9 @@ pub use appending::{
     append_all, append_branch, append_exit, append_number, append_operator, append_plain,
     append_reading, append_reference, append_turn,
 };
-pub use calling::{append_begun, append_dropped};
+pub use calling::{append_array, append_begun, append_dropped};
 pub use entering::{append_control, append_controls, append_entry};
-pub use expressions::{ExprEmitter, couple_of, left_of, lows_of, result_of};
+pub use expressions::{ExprEmitter, array_of, couple_of, left_of, lows_of, result_of};
 pub use moving::append_moved;
-pub use names::Names;
+pub use names::{Lows, Names};
 pub use numbers::literal;

@@ -7,16 +7,23 @@ use algol_tree::Spot;
 use b67_list::List;
 use std::collections::BTreeMap;
 
+/// The lower bounds of an array, and whether it is a parameter.
+#[derive(Drop)]
+pub struct Lows {
+    pub list: List<i64>,
+    pub formal: bool,
+}
+
 /// What the names of a program mean to its code: where the cells lie, and the lower bounds of each array by the place of its declaration.
 #[derive(Drop)]
 pub struct Names<'a> {
     pub scopes: &'a Scopes,
-    pub lows: BTreeMap<Spot, List<i64>>,
+    pub lows: BTreeMap<Spot, Lows>,
 }
 
 impl<'a> Names<'a> {
     /// The names of a program that has these scopes, and arrays with these lower bounds.
-    pub fn new(scopes: &'a Scopes, lows: BTreeMap<Spot, List<i64>>) -> Names<'a>
+    pub fn new(scopes: &'a Scopes, lows: BTreeMap<Spot, Lows>) -> Names<'a>
         ensures scopes { result.scopes.now ≡ scopes.now }
         ensures lows { result.lows ≡ lows }
     {

@@ -1,4 +1,4 @@
-use Rattle.std.proofs.Common.{◌≡◌, ℕ, ◌+◌, ◌*◌, ◌≤◌, ◌<◌, List, drop, length, get_or, ℤ, pos, to_z, of_z, w64, refl, sym, ap, ◌∙◌, subst, arith}
+use Rattle.std.proofs.Common.{◌≡◌, ℕ, ◌+◌, ◌*◌, ◌≤◌, ◌<◌, List, drop, length, get_or, ℤ, pos, to_z, of_z, w64, option_copied, refl, sym, ap, ◌∙◌, subst, arith}
 use Rattle.std.proofs.lemmas.List.{drop_all}
 use Rattle.std.proofs.lemmas.Result.{on_ok_weaker}
 use Rattle.algol_tree.specs.declared.tree.Expr.{Expr}
@@ -13,11 +13,12 @@ use Rattle.b67_templates.specs.Emitting.{Emitted}
 use Rattle.b67_emitter.proofs.Appends.{same_level}
 use Rattle.b67_emit_expr.proofs.Shapes.{call_long, number_is, truth_is, paren_as, plus_as, neg_as, not_as, two_as, if_as}
 use Rattle.b67_emit_expr.proofs.Couples.{code_on, second_code, set_after}
-use Rattle.b67_emit_expr.proofs.Forms.{value_on, listed_as, plain_as, number_form, truth_form, moved_form, paren_form, plus_form, neg_form, not_form, applied_form, exits_aimed, operands_form, calculated_form, chosen_form}
+use Rattle.b67_emit_expr.proofs.Forms.{listed_as, plain_as, number_form, truth_form, moved_form, paren_form, plus_form, neg_form, not_form, applied_form, exits_aimed, operands_form, calculated_form, chosen_form}
 use Rattle.b67_emit_expr.proofs.Listed.{nowhere, list_grown, exits_lie, exits_back, hole_lies}
-use Rattle.b67_emit_expr.proofs.Called.{known_call, seen_call, begin_left, next_is, next_tokens, next_code, next_one, called_form}
+use Rattle.b67_emit_expr.proofs.Called.{known_call, seen_call, begin_left, next_is, next_tokens, next_wanted, next_one, called_form}
+use Rattle.b67_emit_expr.proofs.Passed.{wanted_on, actual_on, known_bounds, known_actual, seen_actual, actual_tokens, array_form, actual_code, value_form}
 use Rattle.b67_emit_expr.proofs.Arms.{on_ok_both, emitted_as, variable_as, variable_has, variable_arm, calling_tokens, call_has, call_arm}
-use Rattle.b67_emit_expr.proofs.Subscripts.{first_tokens, both_tokens, subscripts_fewer, read_back, known_lows, known_element, seen_element, some_subscripts, as_many_lows, own_tokens, first_has, first_back, first_whole, second_has, second_back, second_whole, one_form, two_form}
+use Rattle.b67_emit_expr.proofs.Subscripts.{first_tokens, both_tokens, subscripts_fewer, read_back, told_list, known_lows, known_element, seen_element, some_subscripts, as_many_lows, own_tokens, first_has, first_back, first_whole, second_has, second_back, second_whole, one_form, two_form}
 use Rattle.b67_emit_expr.proofs.Elements.{is_element, some_in, none_in, element_has, element_form, alone_has, alone_form}
 use Rattle.b67_emit_expr.proofs.values.+values.Goals as goal
 
@@ -76,6 +77,52 @@ calculated-operand-requires-2 t c =
     (second_code s (level_set a) c.args.op (expr c.args.a.now) (expr c.args.b.now) c.requires.code) in
     (smaller, (set_after a b level c.requires.set, (c.requires.near, (code, room))))
 
+pub given-couple_of-requires : goal.given-couple_of-requires
+given-couple_of-requires t c =
+    let is = sym c.array_alone.ensures ∙ ap option_copied c.in-Some.is in
+    known_actual c.args.names.now (level_set c.args.out.now) (expr c.args.e.now) c.in-Some.name.now is c.requires.code
+
+pub given-lows_of-requires : goal.given-lows_of-requires
+given-lows_of-requires t c =
+    let is = sym c.array_alone.ensures ∙ ap option_copied c.in-Some.is in
+    known_bounds c.args.names.now (level_set c.args.out.now) (expr c.args.e.now) c.in-Some.name.now is
+
+pub given-append_array-requires-clause-seen : goal.given-append_array-requires-clause-seen
+given-append_array-requires-clause-seen t c =
+    let is = sym c.array_alone.ensures ∙ ap option_copied c.in-Some.is in
+    seen_actual c.args.names.now (level_set c.args.out.now) (expr c.args.e.now) c.in-Some.name.now is c.couple_of.result c.requires.near c.couple_of.ensures c.requires.code
+
+pub given-append_array-requires-clause-room : goal.given-append_array-requires-clause-room
+given-append_array-requires-clause-room t c =
+    let is = sym c.array_alone.ensures ∙ ap option_copied c.in-Some.is in
+    omega (arith, actual_tokens c.args.names.now (level_set c.args.out.now) (expr c.args.e.now) c.in-Some.name.now is, c.requires.room)
+
+pub given-operand-requires : goal.given-operand-requires
+given-operand-requires t c =
+    let none = sym c.array_alone.ensures ∙ ap option_copied c.in-None.is in
+    let smaller : 3 * expr_tokens (expr c.args.e.now) + 1 < t = omega (arith, c.decreases) in
+    (smaller, (c.requires.set, (c.requires.near, (actual_code c.args.names.now (level_set c.args.out.now) (expr c.args.e.now) none c.requires.code, c.requires.room))))
+
+pub given-returns-in-Some-clause-code : goal.given-returns-in-Some-clause-code
+given-returns-in-Some-clause-code t c =
+    let is = sym c.array_alone.ensures ∙ ap option_copied c.in-Some.is in
+    on_ok_weaker c.append_array.result
+    (array_form c.args.names.now (level_set c.args.out.now) (expr c.args.e.now) c.in-Some.name.now is c.args.out.now c.append_array.new.out c.couple_of.result
+    c.lows_of.result.now c.couple_of.ensures c.lows_of.ensures)
+    c.append_array.ensures.code
+
+pub given-returns-in-Some-clause-size : goal.given-returns-in-Some-clause-size
+given-returns-in-Some-clause-size t c =
+    let is = sym c.array_alone.ensures ∙ ap option_copied c.in-Some.is in
+    on_ok_weaker c.append_array.result
+    (λ wide. omega (arith, actual_tokens c.args.names.now (level_set c.args.out.now) (expr c.args.e.now) c.in-Some.name.now is, wide)) c.append_array.ensures.size
+
+pub given-returns-in-None-clause-code : goal.given-returns-in-None-clause-code
+given-returns-in-None-clause-code t c =
+    let none = sym c.array_alone.ensures ∙ ap option_copied c.in-None.is in
+    on_ok_weaker c.operand.result
+    (value_form c.args.names.now (level_set c.args.out.now) (expr c.args.e.now) none c.args.out.now c.operand.new.out) c.operand.ensures.code
+
 pub called-couple_of-requires : goal.called-couple_of-requires
 called-couple_of-requires t c = known_call c.args.names.now (level_set c.args.out.now) c.args.c.now c.requires.code
 
@@ -95,8 +142,8 @@ called-actuals-init t c = record {
   code = begin_left c.args.names.now (level_set c.args.out.now) c.append_begun.new.out c.append_begun.new.out c.as_slice-actuals.result.now;
 }
 
-pub called-operand-requires : goal.called-operand-requires
-called-operand-requires t c =
+pub called-given-requires : goal.called-given-requires
+called-given-requires t c =
     let s = c.args.names.now in
     let a = c.args.out.now in
     let b = c.actuals.out in
@@ -107,10 +154,10 @@ called-operand-requires t c =
     let next = next_is xs i x c.actuals-test.true c.actual-item.is in
     let tokens = next_tokens xs i x c.actuals-test.true c.actual-item.is in
     let same = ap (λ (l : List Expr). exprs_tokens (exprs l)) whole in
-    let smaller : 3 * expr_tokens (expr x) + 1 < t = omega (arith, tokens, c.actuals.invariant.few, same, c.decreases) in
+    let smaller : 3 * expr_tokens (expr x) + 2 < t = omega (arith, tokens, c.actuals.invariant.few, same, c.decreases) in
     let room : size b.operators + 12 * expr_tokens (expr x) ≤ 6 * MOST_SEGMENT_WORDS = omega (arith, tokens, same, c.actuals.invariant.short, call_long c.args.c.now, c.requires.room) in
-    let code = code_on s (level_set a) (level_set b) (expr x) (same_level a b c.actuals.invariant.level)
-    (next_code s (level_set a) c.append_begun.new.out b xs c.args.c.now x (drop i xs) (drop (i + 1) xs) whole next c.requires.code c.actuals.invariant.code) in
+    let code = wanted_on s (level_set a) (level_set b) (expr x) (same_level a b c.actuals.invariant.level)
+    (next_wanted s (level_set a) c.append_begun.new.out b xs c.args.c.now x (drop i xs) (drop (i + 1) xs) whole next c.requires.code c.actuals.invariant.code) in
     (smaller, (set_after a b c.actuals.invariant.level c.requires.set, (c.requires.near, (code, room))))
 
 pub called-append_plain-requires-clause-room : goal.called-append_plain-requires-clause-room
@@ -123,19 +170,19 @@ called-actuals-preserved t c =
     let s = c.args.names.now in
     let a = c.args.out.now in
     let b = c.actuals.out in
-    let d = c.operand.new.out in
+    let d = c.given.new.out in
     let xs = c.as_slice-actuals.result.now in
     let i = c.actuals.actual-index in
     let x = c.actual-item.result in
     let next = next_is xs i x c.actuals-test.true c.actual-item.is in
     let tokens = next_tokens xs i x c.actuals-test.true c.actual-item.is in
     record {
-      level = c.in_ok-operand.ensures.level ∙ c.actuals.invariant.level;
-      exits = ◌∙◌ {A = List ℕ} c.in_ok-operand.ensures.exits c.actuals.invariant.exits;
+      level = c.in_ok-given.ensures.level ∙ c.actuals.invariant.level;
+      exits = ◌∙◌ {A = List ℕ} c.in_ok-given.ensures.exits c.actuals.invariant.exits;
       few = omega (arith, tokens, c.actuals.invariant.few);
-      short = omega (arith, tokens, c.in_ok-operand.ensures.size, c.actuals.invariant.short);
+      short = omega (arith, tokens, c.in_ok-given.ensures.size, c.actuals.invariant.short);
       code = next_one s (level_set a) c.append_begun.new.out b xs d x (drop i xs) (drop (i + 1) xs) next
-          (value_on s (level_set b) (level_set a) b d (expr x) (same_level a b c.actuals.invariant.level) c.in_ok-operand.ensures.code) c.actuals.invariant.code;
+          (actual_on s (level_set b) (level_set a) b d (expr x) (same_level a b c.actuals.invariant.level) c.in_ok-given.ensures.code) c.actuals.invariant.code;
     }
 
 pub called-returns-clause-code : goal.called-returns-clause-code
@@ -176,8 +223,8 @@ subscript-returns-clause-code t c =
     c.in_ok-operand.ensures.level)
     c.append_moved.ensures.code
 
-pub subscripts-lows_of-lows-requires : goal.subscripts-lows_of-lows-requires
-subscripts-lows_of-lows-requires t c = known_lows c.args.names.now (level_set c.args.out.now) c.args.v.now c.requires.code
+pub subscripts-lows_of-requires : goal.subscripts-lows_of-requires
+subscripts-lows_of-requires t c = known_lows c.args.names.now (level_set c.args.out.now) c.args.v.now c.requires.code
 
 pub subscripts-couple_of-requires : goal.subscripts-couple_of-requires
 subscripts-couple_of-requires t c = known_element c.args.names.now (level_set c.args.out.now) c.args.v.now c.requires.code
@@ -187,20 +234,22 @@ subscripts-bounds-subs-0 t c =
     let s = c.args.names.now in
     let a = c.args.out.now in
     let v = c.args.v.now in
-    let ls = c.lows_of-lows.result.now in
+    let ls = c.as_slice-lows.result.now in
+    let bounds = told_list s v.name c.lows_of.result.now ls (c.as_slice-lows.ensures.value ∙ c.items.ensures) c.lows_of.ensures in
     let xs = c.as_slice-subs.result.now in
-    let whole : xs ≡ v.subs = c.as_slice-subs.ensures.value ∙ c.items.ensures in
-    some_subscripts s (level_set a) v c.requires.code ls xs c.lows_of-lows.ensures whole
+    let whole : xs ≡ v.subs = c.as_slice-subs.ensures.value ∙ c.items-2.ensures in
+    some_subscripts s (level_set a) v c.requires.code ls xs bounds whole
 
 pub subscripts-bounds-lows-0 : goal.subscripts-bounds-lows-0
 subscripts-bounds-lows-0 t c =
     let s = c.args.names.now in
     let a = c.args.out.now in
     let v = c.args.v.now in
-    let ls = c.lows_of-lows.result.now in
+    let ls = c.as_slice-lows.result.now in
+    let bounds = told_list s v.name c.lows_of.result.now ls (c.as_slice-lows.ensures.value ∙ c.items.ensures) c.lows_of.ensures in
     let xs = c.as_slice-subs.result.now in
-    let whole : xs ≡ v.subs = c.as_slice-subs.ensures.value ∙ c.items.ensures in
-    let lt : 0 < length ls = omega (arith, as_many_lows s (level_set a) v c.requires.code ls xs c.lows_of-lows.ensures whole, some_subscripts s (level_set a) v c.requires.code ls xs c.lows_of-lows.ensures whole) in
+    let whole : xs ≡ v.subs = c.as_slice-subs.ensures.value ∙ c.items-2.ensures in
+    let lt : 0 < length ls = omega (arith, as_many_lows s (level_set a) v c.requires.code ls xs bounds whole, some_subscripts s (level_set a) v c.requires.code ls xs bounds whole) in
     lt
 
 pub subscripts-bounds-lows-1 : goal.subscripts-bounds-lows-1
@@ -208,10 +257,11 @@ subscripts-bounds-lows-1 t c =
     let s = c.args.names.now in
     let a = c.args.out.now in
     let v = c.args.v.now in
-    let ls = c.lows_of-lows.result.now in
+    let ls = c.as_slice-lows.result.now in
+    let bounds = told_list s v.name c.lows_of.result.now ls (c.as_slice-lows.ensures.value ∙ c.items.ensures) c.lows_of.ensures in
     let xs = c.as_slice-subs.result.now in
-    let whole : xs ≡ v.subs = c.as_slice-subs.ensures.value ∙ c.items.ensures in
-    let lt : 1 < length ls = omega (arith, as_many_lows s (level_set a) v c.requires.code ls xs c.lows_of-lows.ensures whole, c.if-subs-gt1.true) in
+    let whole : xs ≡ v.subs = c.as_slice-subs.ensures.value ∙ c.items-2.ensures in
+    let lt : 1 < length ls = omega (arith, as_many_lows s (level_set a) v c.requires.code ls xs bounds whole, c.if-subs-gt1.true) in
     lt
 
 pub subscripts-subscript-requires : goal.subscripts-subscript-requires
@@ -219,17 +269,18 @@ subscripts-subscript-requires t c =
     let s = c.args.names.now in
     let a = c.args.out.now in
     let v = c.args.v.now in
-    let ls = c.lows_of-lows.result.now in
+    let ls = c.as_slice-lows.result.now in
+    let bounds = told_list s v.name c.lows_of.result.now ls (c.as_slice-lows.ensures.value ∙ c.items.ensures) c.lows_of.ensures in
     let xs = c.as_slice-subs.result.now in
-    let whole : xs ≡ v.subs = c.as_slice-subs.ensures.value ∙ c.items.ensures in
+    let whole : xs ≡ v.subs = c.as_slice-subs.ensures.value ∙ c.items-2.ensures in
     let x = c.index-subs-0.result in
-    let tokens = first_tokens xs c.index-subs-0.result (some_subscripts s (level_set a) v c.requires.code ls xs c.lows_of-lows.ensures whole) c.index-subs-0.is in
-    let all = own_tokens s (level_set a) v c.requires.code ls xs c.lows_of-lows.ensures whole in
+    let tokens = first_tokens xs c.index-subs-0.result (some_subscripts s (level_set a) v c.requires.code ls xs bounds whole) c.index-subs-0.is in
+    let all = own_tokens s (level_set a) v c.requires.code ls xs bounds whole in
     let same = ap (λ (l : List Expr). exprs_tokens (exprs l)) whole in
     let smaller : 3 * expr_tokens (expr x) + 2 < t = omega (arith, tokens, same, c.decreases) in
     let room : size a.operators + 12 * expr_tokens (expr x) + 21 ≤ 6 * MOST_SEGMENT_WORDS = omega (arith, tokens, all, c.requires.room) in
-    let has = first_has s (level_set a) v c.requires.code ls xs c.lows_of-lows.ensures whole x c.index-subs-0.is in
-    let fits = first_whole s (level_set a) v c.requires.code ls xs c.lows_of-lows.ensures whole x c.index-subs-0.is in
+    let has = first_has s (level_set a) v c.requires.code ls xs bounds whole x c.index-subs-0.is in
+    let fits = first_whole s (level_set a) v c.requires.code ls xs bounds whole x c.index-subs-0.is in
     (smaller, (c.requires.set, (c.requires.near, (has, (fits, room)))))
 
 pub subscripts-append_reference-requires-clause-seen : goal.subscripts-append_reference-requires-clause-seen
@@ -242,11 +293,12 @@ subscripts-append_reference-requires-clause-room t c =
     let s = c.args.names.now in
     let a = c.args.out.now in
     let v = c.args.v.now in
-    let ls = c.lows_of-lows.result.now in
+    let ls = c.as_slice-lows.result.now in
+    let bounds = told_list s v.name c.lows_of.result.now ls (c.as_slice-lows.ensures.value ∙ c.items.ensures) c.lows_of.ensures in
     let xs = c.as_slice-subs.result.now in
-    let whole : xs ≡ v.subs = c.as_slice-subs.ensures.value ∙ c.items.ensures in
-    let tokens = first_tokens xs c.index-subs-0.result (some_subscripts s (level_set a) v c.requires.code ls xs c.lows_of-lows.ensures whole) c.index-subs-0.is in
-    let all = own_tokens s (level_set a) v c.requires.code ls xs c.lows_of-lows.ensures whole in
+    let whole : xs ≡ v.subs = c.as_slice-subs.ensures.value ∙ c.items-2.ensures in
+    let tokens = first_tokens xs c.index-subs-0.result (some_subscripts s (level_set a) v c.requires.code ls xs bounds whole) c.index-subs-0.is in
+    let all = own_tokens s (level_set a) v c.requires.code ls xs bounds whole in
     omega (arith, tokens, all, c.in_ok-subscript.ensures.size, c.requires.room)
 
 pub subscripts-append_plain-requires-clause-room : goal.subscripts-append_plain-requires-clause-room
@@ -254,11 +306,12 @@ subscripts-append_plain-requires-clause-room t c =
     let s = c.args.names.now in
     let a = c.args.out.now in
     let v = c.args.v.now in
-    let ls = c.lows_of-lows.result.now in
+    let ls = c.as_slice-lows.result.now in
+    let bounds = told_list s v.name c.lows_of.result.now ls (c.as_slice-lows.ensures.value ∙ c.items.ensures) c.lows_of.ensures in
     let xs = c.as_slice-subs.result.now in
-    let whole : xs ≡ v.subs = c.as_slice-subs.ensures.value ∙ c.items.ensures in
-    let tokens = first_tokens xs c.index-subs-0.result (some_subscripts s (level_set a) v c.requires.code ls xs c.lows_of-lows.ensures whole) c.index-subs-0.is in
-    let all = own_tokens s (level_set a) v c.requires.code ls xs c.lows_of-lows.ensures whole in
+    let whole : xs ≡ v.subs = c.as_slice-subs.ensures.value ∙ c.items-2.ensures in
+    let tokens = first_tokens xs c.index-subs-0.result (some_subscripts s (level_set a) v c.requires.code ls xs bounds whole) c.index-subs-0.is in
+    let all = own_tokens s (level_set a) v c.requires.code ls xs bounds whole in
     omega (arith, tokens, all, c.in_ok-subscript.ensures.size, c.in_ok-append_reference.ensures.size, c.requires.room)
 
 pub subscripts-subscript-requires-then-subs-gt1 : goal.subscripts-subscript-requires-then-subs-gt1
@@ -266,21 +319,22 @@ subscripts-subscript-requires-then-subs-gt1 t c =
     let s = c.args.names.now in
     let a = c.args.out.now in
     let v = c.args.v.now in
-    let ls = c.lows_of-lows.result.now in
+    let ls = c.as_slice-lows.result.now in
+    let bounds = told_list s v.name c.lows_of.result.now ls (c.as_slice-lows.ensures.value ∙ c.items.ensures) c.lows_of.ensures in
     let xs = c.as_slice-subs.result.now in
-    let whole : xs ≡ v.subs = c.as_slice-subs.ensures.value ∙ c.items.ensures in
+    let whole : xs ≡ v.subs = c.as_slice-subs.ensures.value ∙ c.items-2.ensures in
     let d = c.append_plain.new.out in
     let y = c.index-subs-1.result in
     let level = c.in_ok-append_plain.ensures.level ∙ c.in_ok-append_reference.ensures.level ∙ c.in_ok-subscript.ensures.level in
     let tokens = both_tokens xs c.index-subs-0.result c.index-subs-1.result c.if-subs-gt1.true c.index-subs-0.is c.index-subs-1.is in
-    let all = own_tokens s (level_set a) v c.requires.code ls xs c.lows_of-lows.ensures whole in
+    let all = own_tokens s (level_set a) v c.requires.code ls xs bounds whole in
     let same = ap (λ (l : List Expr). exprs_tokens (exprs l)) whole in
     let smaller : 3 * expr_tokens (expr y) + 2 < t = omega (arith, tokens, same, c.decreases) in
     let room : size d.operators + 12 * expr_tokens (expr y) + 21 ≤ 6 * MOST_SEGMENT_WORDS =
     omega (arith, tokens, all, c.in_ok-subscript.ensures.size, c.in_ok-append_reference.ensures.size, c.in_ok-append_plain.ensures.size, c.requires.room) in
     let has = code_on s (level_set a) (level_set d) (expr y) (same_level a d level)
-    (second_has s (level_set a) v c.requires.code ls xs c.lows_of-lows.ensures whole y c.if-subs-gt1.true c.index-subs-1.is) in
-    let fits = second_whole s (level_set a) v c.requires.code ls xs c.lows_of-lows.ensures whole y c.if-subs-gt1.true c.index-subs-1.is in
+    (second_has s (level_set a) v c.requires.code ls xs bounds whole y c.if-subs-gt1.true c.index-subs-1.is) in
+    let fits = second_whole s (level_set a) v c.requires.code ls xs bounds whole y c.if-subs-gt1.true c.index-subs-1.is in
     (smaller, (set_after a d level c.requires.set, (c.requires.near, (has, (fits, room)))))
 
 pub subscripts-append_plain-requires-then-subs-gt1-clause-room : goal.subscripts-append_plain-requires-then-subs-gt1-clause-room
@@ -288,11 +342,12 @@ subscripts-append_plain-requires-then-subs-gt1-clause-room t c =
     let s = c.args.names.now in
     let a = c.args.out.now in
     let v = c.args.v.now in
-    let ls = c.lows_of-lows.result.now in
+    let ls = c.as_slice-lows.result.now in
+    let bounds = told_list s v.name c.lows_of.result.now ls (c.as_slice-lows.ensures.value ∙ c.items.ensures) c.lows_of.ensures in
     let xs = c.as_slice-subs.result.now in
-    let whole : xs ≡ v.subs = c.as_slice-subs.ensures.value ∙ c.items.ensures in
+    let whole : xs ≡ v.subs = c.as_slice-subs.ensures.value ∙ c.items-2.ensures in
     let tokens = both_tokens xs c.index-subs-0.result c.index-subs-1.result c.if-subs-gt1.true c.index-subs-0.is c.index-subs-1.is in
-    let all = own_tokens s (level_set a) v c.requires.code ls xs c.lows_of-lows.ensures whole in
+    let all = own_tokens s (level_set a) v c.requires.code ls xs bounds whole in
     omega
     (arith, tokens, all, c.in_ok-subscript.ensures.size, c.in_ok-append_reference.ensures.size, c.in_ok-append_plain.ensures.size, c.in_ok-subscript-2.ensures.size, c.requires.room)
 
@@ -301,16 +356,17 @@ subscripts-returns-in_ok-append_plain-2-clause-code t c =
     let s = c.args.names.now in
     let a = c.args.out.now in
     let v = c.args.v.now in
-    let ls = c.lows_of-lows.result.now in
+    let ls = c.as_slice-lows.result.now in
+    let bounds = told_list s v.name c.lows_of.result.now ls (c.as_slice-lows.ensures.value ∙ c.items.ensures) c.lows_of.ensures in
     let xs = c.as_slice-subs.result.now in
-    let whole : xs ≡ v.subs = c.as_slice-subs.ensures.value ∙ c.items.ensures in
+    let whole : xs ≡ v.subs = c.as_slice-subs.ensures.value ∙ c.items-2.ensures in
     let x = c.index-subs-0.result in
     let y = c.index-subs-1.result in
-    two_form s v ls xs c.couple_of.result c.lows_of-lows.ensures c.couple_of.ensures whole a c.subscript.new.out c.append_reference.new.out
-    (to_z w64 (of_z w64 (get_or ls 0 (pos 0)))) x (first_back s (level_set a) v c.requires.code ls xs c.lows_of-lows.ensures whole x c.index-subs-0.is) c.index-subs-0.is
+    two_form s v ls xs c.couple_of.result bounds c.couple_of.ensures whole a c.subscript.new.out c.append_reference.new.out
+    (to_z w64 (of_z w64 (get_or ls 0 (pos 0)))) x (first_back s (level_set a) v c.requires.code ls xs bounds whole x c.index-subs-0.is) c.index-subs-0.is
     c.in_ok-subscript.ensures.code c.in_ok-append_reference.ensures.code c.in_ok-subscript.ensures.level c.append_plain.new.out
     c.subscript-then-subs-gt1.new.out c.append_plain-then-subs-gt1.new.out (to_z w64 (of_z w64 (get_or ls 1 (pos 0)))) y
-    (second_back s (level_set a) v c.requires.code ls xs c.lows_of-lows.ensures whole y c.if-subs-gt1.true c.index-subs-1.is) c.index-subs-1.is
+    (second_back s (level_set a) v c.requires.code ls xs bounds whole y c.if-subs-gt1.true c.index-subs-1.is) c.index-subs-1.is
     c.in_ok-append_plain.ensures.code c.in_ok-subscript-2.ensures.code c.in_ok-append_plain-2.ensures.code c.in_ok-append_reference.ensures.level
     c.in_ok-append_plain.ensures.level c.in_ok-subscript-2.ensures.level c.if-subs-gt1.true
 
@@ -319,11 +375,12 @@ subscripts-returns-in_ok-append_plain-2-clause-size t c =
     let s = c.args.names.now in
     let a = c.args.out.now in
     let v = c.args.v.now in
-    let ls = c.lows_of-lows.result.now in
+    let ls = c.as_slice-lows.result.now in
+    let bounds = told_list s v.name c.lows_of.result.now ls (c.as_slice-lows.ensures.value ∙ c.items.ensures) c.lows_of.ensures in
     let xs = c.as_slice-subs.result.now in
-    let whole : xs ≡ v.subs = c.as_slice-subs.ensures.value ∙ c.items.ensures in
+    let whole : xs ≡ v.subs = c.as_slice-subs.ensures.value ∙ c.items-2.ensures in
     let tokens = both_tokens xs c.index-subs-0.result c.index-subs-1.result c.if-subs-gt1.true c.index-subs-0.is c.index-subs-1.is in
-    let all = own_tokens s (level_set a) v c.requires.code ls xs c.lows_of-lows.ensures whole in
+    let all = own_tokens s (level_set a) v c.requires.code ls xs bounds whole in
     omega (
       arith,
       tokens,
@@ -340,13 +397,14 @@ subscripts-returns-else-subs-gt1-clause-code t c =
     let s = c.args.names.now in
     let a = c.args.out.now in
     let v = c.args.v.now in
-    let ls = c.lows_of-lows.result.now in
+    let ls = c.as_slice-lows.result.now in
+    let bounds = told_list s v.name c.lows_of.result.now ls (c.as_slice-lows.ensures.value ∙ c.items.ensures) c.lows_of.ensures in
     let xs = c.as_slice-subs.result.now in
-    let whole : xs ≡ v.subs = c.as_slice-subs.ensures.value ∙ c.items.ensures in
+    let whole : xs ≡ v.subs = c.as_slice-subs.ensures.value ∙ c.items-2.ensures in
     let x = c.index-subs-0.result in
     let few : length xs ≤ 1 = omega (arith, c.if-subs-gt1.false) in
-    one_form s v ls xs c.couple_of.result c.lows_of-lows.ensures c.couple_of.ensures whole a c.subscript.new.out c.append_reference.new.out
-    (to_z w64 (of_z w64 (get_or ls 0 (pos 0)))) x (first_back s (level_set a) v c.requires.code ls xs c.lows_of-lows.ensures whole x c.index-subs-0.is) c.index-subs-0.is
+    one_form s v ls xs c.couple_of.result bounds c.couple_of.ensures whole a c.subscript.new.out c.append_reference.new.out
+    (to_z w64 (of_z w64 (get_or ls 0 (pos 0)))) x (first_back s (level_set a) v c.requires.code ls xs bounds whole x c.index-subs-0.is) c.index-subs-0.is
     c.in_ok-subscript.ensures.code c.in_ok-append_reference.ensures.code c.in_ok-subscript.ensures.level few
 
 pub subscripts-returns-else-subs-gt1-clause-size : goal.subscripts-returns-else-subs-gt1-clause-size
@@ -354,11 +412,12 @@ subscripts-returns-else-subs-gt1-clause-size t c =
     let s = c.args.names.now in
     let a = c.args.out.now in
     let v = c.args.v.now in
-    let ls = c.lows_of-lows.result.now in
+    let ls = c.as_slice-lows.result.now in
+    let bounds = told_list s v.name c.lows_of.result.now ls (c.as_slice-lows.ensures.value ∙ c.items.ensures) c.lows_of.ensures in
     let xs = c.as_slice-subs.result.now in
-    let whole : xs ≡ v.subs = c.as_slice-subs.ensures.value ∙ c.items.ensures in
-    let tokens = first_tokens xs c.index-subs-0.result (some_subscripts s (level_set a) v c.requires.code ls xs c.lows_of-lows.ensures whole) c.index-subs-0.is in
-    let all = own_tokens s (level_set a) v c.requires.code ls xs c.lows_of-lows.ensures whole in
+    let whole : xs ≡ v.subs = c.as_slice-subs.ensures.value ∙ c.items-2.ensures in
+    let tokens = first_tokens xs c.index-subs-0.result (some_subscripts s (level_set a) v c.requires.code ls xs bounds whole) c.index-subs-0.is in
+    let all = own_tokens s (level_set a) v c.requires.code ls xs bounds whole in
     omega (arith, tokens, all, c.in_ok-subscript.ensures.size, c.in_ok-append_reference.ensures.size)
 
 pub read-subscripts-requires : goal.read-subscripts-requires

@@ -21,6 +21,9 @@ decreases-calculated l = 3 * (expr_tokens (expr l.a.now) + expr_tokens (expr l.b
 abbrev pub decreases-chosen : goal.decreases-chosen
 decreases-chosen l = 3 * (expr_tokens (expr l.condition.now) + expr_tokens (expr l.x.now) + expr_tokens (expr l.y.now)) + 2
 
+abbrev pub decreases-given : goal.decreases-given
+decreases-given l = 3 * expr_tokens (expr l.e.now) + 2
+
 abbrev pub decreases-called : goal.decreases-called
 decreases-called l = 3 * exprs_tokens (exprs l.c.now.actuals) + 2
 

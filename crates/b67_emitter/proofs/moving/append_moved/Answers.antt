@@ -3,7 +3,7 @@ use Rattle.std.specs.Prelude.{int_lt, int_le, neg_ℤ}
 use Rattle.std.proofs.lemmas.Int.{ints, to_z-of_z}
 use Rattle.std.proofs.lemmas.Result.{on_ok_weaker}
 use Rattle.b67_templates.specs.Fragments.{near}
-use Rattle.b67_emitter.proofs.Lows.{is_near}
+use Rattle.b67_emitter.proofs.Bounds.{is_near}
 use Rattle.b67_emitter.proofs.Moves.{moved_part}
 use Rattle.b67_emitter.proofs.moving.append_moved.Goals as goal
 
