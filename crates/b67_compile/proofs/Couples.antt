@@ -55,16 +55,16 @@ module _ (p : PProgram) (names : Names) (are : AreOf p names.scopes.now) where
           let same : record { spot = x.spot; level = x.level; couple = couple x.couple } ≡ d = cc in
           found_spelled (result_of names.scopes.now x.spot) ∙ ap spelled (are.results x.spot ∙ ap (λ (z : Located). result_at p z.spot) same)
 
-  -- where the table has the lower bounds of all arrays
+  -- where the table has the lower bounds of all arrays, and nothing else
   pub lows_known : ((spot : Spot) → under names.lows spot ≡ lows_at (blocks_of_program p) spot) → AreLows p (lows names)
   unfolding scopes_of
-  lows_known there spot d bounds h g = by (declaration_of names.scopes.now spot) (are.declarations spot ∙ h)
+  lows_known there spot d h = by (declaration_of names.scopes.now spot) (are.declarations spot ∙ h)
     where
-      by : (o : Option Declared) → located o ≡ Some d → lows_found names o ≡ Some bounds
+      by : (o : Option Declared) → located o ≡ Some d → lows_found names o ≡ lows_at (blocks_of_program p) d.spot
       by None e = absurd (let clash : None ≡ Some d = e in cc)
       by (Some x) e =
           let same : record { spot = x.spot; level = x.level; couple = couple x.couple } ≡ d = cc in
-          there x.spot ∙ ap (λ (z : Located). lows_at (blocks_of_program p) z.spot) same ∙ g
+          there x.spot ∙ ap (λ (z : Located). lows_at (blocks_of_program p) z.spot) same
 
   -- each couple lies near, where that of each declaration and of each result does
   pub couples_near : ((spot : Spot) (d : Located) (c : cells.Couple) → declaration_at p spot ≡ Some d → d.couple ≡ Some c → c.index < 2 + MOST_BLOCK_CELLS) →

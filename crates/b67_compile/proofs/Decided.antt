@@ -1,19 +1,22 @@
 -- The tests of a program's declarations and statements decide whether it is built.
-use Rattle.std.proofs.Common.{◌≡◌, ℕ, ◌≤◌, ◌&&◌, not, Bool, true, false, List, [], ◌∷◌, length, refl, arith}
+use Rattle.std.proofs.Common.{◌≡◌, ◌⊎◌, ℕ, ◌≤◌, ◌&&◌, ◌||◌, not, Bool, true, false, List, [], ◌∷◌, Option, Some, None, length, refl, subst, arith, if◌then◌else◌}
 use Rattle.std.specs.Prelude.{◌==◌}
 use Rattle.std.proofs.lemmas.Bool.{ne_eqb}
 use Rattle.std.specs.Bool.{Decides}
 use Rattle.std.specs.List.{list_all}
-use Rattle.std.proofs.lemmas.Bool.Decides.{Decides-and, Decides-by_and}
+use Rattle.std.proofs.lemmas.Bool.Decides.{Decides-at, Decides-and, Decides-or, Decides-by_and}
 use Rattle.algol_tree.specs.declared.token.Spot.{Spot}
 use Rattle.algol_tree.specs.declared.tree.Heading.{Heading}
 use Rattle.algol_tree.specs.declared.tree.Named.{Named}
-use Rattle.algol_tree.specs.Classes.{is_simple}
+use Rattle.algol_tree.specs.declared.tree.Spec.{Spec}
+use Rattle.algol_tree.specs.declared.tree.Spec.TheVariants as spec
+use Rattle.algol_tree.specs.Classes.{Class, unknown, is_simple, is_array}
 use Rattle.algol_tree.specs.Plain as tree
 use Rattle.algol_tree.specs.Plain.{PStmt, PStmts, PDecl, PDecls}
-use Rattle.algol_tree.specs.Sorts.{same_name, class_in, is_named_in}
+use Rattle.algol_tree.specs.Sorts.{same_name, class_by, class_in, is_named_in, specified_by}
 use Rattle.b67_fitting.specs.Built.{HeadingBuilt, DeclBuilt, DeclsBuilt, StmtBuilt, StmtsBuilt, IsBuilt}
-use Rattle.b67_compile.specs.Built.{is_nil, is_parameter_built, is_heading_built, has_name, has_some, is_decl_built, decls_are_built, is_stmt_built, stmts_are_built}
+use Rattle.b67_compile.specs.Specified.{first_spec}
+use Rattle.b67_compile.specs.Built.{is_nil, is_built_by, is_parameter_built, is_heading_built, has_name, has_some, is_decl_built, decls_are_built, is_stmt_built, stmts_are_built}
 
 pub nil_length : {X : Type 0} (xs : List X) → (length xs == 0) ≡ is_nil xs
 nil_length [] = refl
@@ -28,12 +31,49 @@ no = (λ e. absurd (let clash : false ≡ true = e in cc), λ p. absurd p)
 itself_decided : (b : Bool) → Decides b (b ≡ true)
 itself_decided b = (λ e. e, λ e. e)
 
+-- what a name is declared as by its first specification
+abbrev class_of : Option Spec → Class
+class_of None = unknown
+class_of (Some s) = class_by s
+
+class_first : (specs : List Spec) (name : List ℕ) → class_of (first_spec specs name) ≡ class_in specs name
+class_first [] name = refl
+class_first (s ∷ specs) name = by (specified_by s name) (class_first specs name)
+  where
+    by : (b : Bool) → class_of (first_spec specs name) ≡ class_in specs name →
+        class_of (if b then Some s else first_spec specs name) ≡ (if b then class_by s else class_in specs name)
+    by true later = refl
+    by false later = later
+
+abbrev ParameterBuilt : Class → Bool → Type 0
+ParameterBuilt class by_value = ((is_simple class ≡ true) × (by_value ≡ true)) ⊎ (is_array class ≡ true)
+
+spec_decided : (o : Option Spec) (by_value : Bool) → Decides (is_built_by o by_value) (ParameterBuilt (class_of o) by_value)
+spec_decided o by_value =
+    Decides-at (is_built_by o by_value) (is_simple (class_of o) && by_value || is_array (class_of o)) (same o)
+    (Decides-or (is_simple (class_of o) && by_value) (is_array (class_of o))
+    (Decides-and (is_simple (class_of o)) by_value (itself_decided (is_simple (class_of o))) (itself_decided by_value))
+    (itself_decided (is_array (class_of o))))
+  where
+    or_not : (b : Bool) → b ≡ (b || false)
+    or_not true = refl
+    or_not false = refl
+
+    same : (o : Option Spec) → is_built_by o by_value ≡ (is_simple (class_of o) && by_value || is_array (class_of o))
+    same None = refl
+    same (Some (spec.Simple kind ns)) = or_not by_value
+    same (Some (spec.Events ns)) = refl
+    same (Some (spec.Arrays kind ns lows)) = refl
+
+parameter_decided : (h : Heading) (n : Named) → Decides (is_parameter_built h n) (ParameterBuilt (class_in h.specs n.name) (is_named_in h.values n.name))
+parameter_decided h n =
+    subst (λ (class : Class). Decides (is_parameter_built h n) (ParameterBuilt class (is_named_in h.values n.name))) (class_first h.specs n.name)
+    (spec_decided (first_spec h.specs n.name) (is_named_in h.values n.name))
+
 heading_decided : (h : Heading) → Decides (is_heading_built h) (HeadingBuilt h)
 heading_decided h =
-    let simple : Named → Bool = λ n. is_simple (class_in h.specs n.name) in
-    let valued : Named → Bool = λ n. is_named_in h.values n.name in
-    Decides-by_and (is_parameter_built h) (λ (n : Named). (simple n ≡ true) × (valued n ≡ true)) (list_all (is_parameter_built h))
-    (λ n. Decides-and (simple n) (valued n) (itself_decided (simple n)) (itself_decided (valued n))) refl (λ _ _. refl) h.params
+    Decides-by_and (is_parameter_built h) (λ (n : Named). ParameterBuilt (class_in h.specs n.name) (is_named_in h.values n.name)) (list_all (is_parameter_built h))
+    (parameter_decided h) refl (λ _ _. refl) h.params
 
 named_decided : (name : List ℕ) → Decides (not (is_nil name)) (same_name name [] ≡ false)
 named_decided [] = (λ e. absurd (let clash : false ≡ true = e in cc), λ p. absurd (let clash : true ≡ false = p in cc))

@@ -1,8 +1,7 @@
 -- An accepted program that is built, with its names, has all that its code wants.
-use Rattle.std.proofs.Common.{arith, ◌≡◌, ℕ, ℤ, ◌+◌, ◌<◌, ◌≤◌, suc, Bool, true, false, List, [], ◌∷◌, ◌++◌, length, filter, take, Some, refl, sym, ap, ◌∙◌, subst, length-append, slice_get, if◌then◌else◌}
+use Rattle.std.proofs.Common.{arith, ◌≡◌, ℕ, ◌+◌, ◌<◌, ◌≤◌, suc, Bool, true, false, List, [], ◌∷◌, ◌++◌, length, filter, take, Some, refl, sym, ap, ◌∙◌, subst, length-append, slice_get, if◌then◌else◌}
 use Rattle.std.specs.BTreeMap.{BTreeMap}
 use Rattle.std.specs.List.{flat_map, AllByRecursion}
-use Rattle.std.proofs.lemmas.List.{length-map}
 use Rattle.std.proofs.lemmas.Option.{slice_get_within}
 use Rattle.algol_tree.specs.declared.TheConstants.{MOST_BLOCK_CELLS, MOST_PROCEDURES}
 use Rattle.algol_tree.specs.declared.token.Spot.{Spot}
@@ -27,13 +26,14 @@ use Rattle.algol_scope.proofs.Bodies.{body_is}
 use Rattle.b67_ops.specs.declared.TheConstants.{MOST_LEVEL, OUTER_LEVEL}
 use Rattle.b67_templates.specs.Cells.{Simple, parameter_cells, procedures, result_of, simple_cells, variables, zero_cells}
 use Rattle.b67_templates.specs.Fitting.{DeclsFit, StmtsFit}
+use Rattle.b67_emitter.specs.declared.names.Lows.{Lows}
 use Rattle.b67_emitter.specs.declared.names.Names.{Names}
 use Rattle.b67_emitter.specs.Values.{couples, lows, results, AreNear}
 use Rattle.b67_emit_stmt.specs.Programs.{AreDue, IsDue}
 use Rattle.b67_emit_stmt.specs.Texts.{Text, texts, texts_in_body}
 use Rattle.b67_fitting.specs.Built.{IsBuilt}
 use Rattle.b67_fitting.specs.Fitted.{BlockFits}
-use Rattle.b67_fitting.specs.Nested.{AreByValue, IsText, LiesNested}
+use Rattle.b67_fitting.specs.Nested.{AreParameters, AreTold, IsText, LiesNested}
 use Rattle.b67_fitting.specs.Texts.{HasPlainTexts}
 use Rattle.b67_fitting.specs.Wholes.{HasWholeNumbers}
 use Rattle.b67_fitting.proofs.Fits.{accepted_fit}
@@ -58,7 +58,7 @@ pub record Given (p : PProgram) (names : Names) : Type 0 where
   pub built : IsBuilt p
 
 -- the same of the parts of the program's body
-pub given : (b : Body) (s : table.Scopes) (bounds : BTreeMap Spot (List ℤ)) (names : Names) → names.scopes.now ≡ s → names.lows ≡ bounds →
+pub given : (b : Body) (s : table.Scopes) (bounds : BTreeMap Spot Lows) (names : Names) → names.scopes.now ≡ s → names.lows ≡ bounds →
     AreOf (tree.program (plain.body b)) s → ((spot : Spot) → under bounds spot ≡ lows_at (blocks_of_program (tree.program (plain.body b))) spot) →
     Accepted (tree.program (plain.body b)) → IsInOrder (tree.program (plain.body b)) → HasWholeNumbers (tree.program (plain.body b)) → HasPlainTexts (tree.program (plain.body b)) →
     IsBuilt (tree.program (plain.body b)) → Given (tree.program (tree.body b.spot (plain.decls b.decls) (plain.stmts b.stmts))) names
@@ -66,7 +66,7 @@ given b s bounds names scopes_are bounds_are resolved lows accepted order whole 
     subst (λ (z : PBody). Given (tree.program z) names) (body_is b)
     (record {
       resolved = subst (AreOf (tree.program (plain.body b))) (sym scopes_are) resolved;
-      lows = λ spot. ap (λ (m : BTreeMap Spot (List ℤ)). under m spot) bounds_are ∙ lows spot;
+      lows = λ spot. ap (λ (m : BTreeMap Spot Lows). under m spot) bounds_are ∙ lows spot;
       accepted = accepted;
       order = order;
       whole = whole;
@@ -104,14 +104,14 @@ zeros_behind : (sc : Scopes) (b : Block) → length (simple_cells sc b) ≡ leng
 zeros_behind sc b = length_three (parameter_cells sc b) (result_of b.result b.name) (variables b.decls)
 
 -- each parameter has a cell
-parameters_many : (sc : Scopes) (b : Block) → AreByValue sc b → length (parameter_cells sc b) ≡ length b.parameters
-parameters_many sc b is =
-    omega (
-      arith,
-      ap (λ (names : List (List ℕ)). length names) is.names,
-      length-map b.parameters (λ (p : Parameter). p.name),
-      length-map (parameter_cells sc b) (λ (c : Simple). c.name),
-    )
+parameters_many : (sc : Scopes) (b : Block) → AreParameters sc b → length (parameter_cells sc b) ≡ length b.parameters
+parameters_many sc b is = as_many b.parameters (parameter_cells sc b) is.told
+  where
+    as_many : (ps : List Parameter) (cells : List Simple) → AreTold ps cells → length cells ≡ length ps
+    as_many [] [] h = refl
+    as_many [] (c ∷ cells) h = absurd h
+    as_many (p ∷ ps) [] h = absurd h
+    as_many (p ∷ ps) (c ∷ cells) h = omega (arith, as_many ps cells h.2)
 
 module _ (spot : Spot) (ds : PDecls) (ss : PStmts) (names : Names) where
   abbrev p : PProgram
@@ -141,7 +141,7 @@ module _ (spot : Spot) (ds : PDecls) (ss : PStmts) (names : Names) where
         let text : IsText sc is.block = lies.nested.each is.block known in
         let here : block_numbered bs is.block ≡ b = block_is bs is.block b is.there in
         let own : block_numbered bs (number_at bs b.spot) ≡ b = ap (block_numbered bs) is.number_is ∙ here in
-        let many : length (parameter_cells sc b) ≡ length b.parameters = parameters_many sc b (subst (AreByValue sc) here text.parameters) in
+        let many : length (parameter_cells sc b) ≡ length b.parameters = parameters_many sc b (subst (AreParameters sc) here text.parameters) in
         let cells : length (simple_cells sc b) + length (procedures b.decls) + length (arrays_of b.decls) ≤ MOST_BLOCK_CELLS =
         subst (λ (z : Block). length (simple_cells sc z) + length (procedures z.decls) + length (arrays_of z.decls) ≤ MOST_BLOCK_CELLS) here text.few in
         let fits : BlockFits p (couples names) (results names) (lows names) is.block =

@@ -1,20 +1,27 @@
 -- How it is tested that a program is built.
-use Rattle.std.specs.Prelude.{◌&&◌, not, Bool, true, false, List, [], ◌∷◌}
+use Rattle.std.specs.Prelude.{◌&&◌, not, Bool, true, false, List, [], ◌∷◌, Option, Some}
 use Rattle.std.specs.List.{list_all}
 use Rattle.algol_tree.specs.declared.tree.Heading.{Heading}
 use Rattle.algol_tree.specs.declared.tree.Named.{Named}
-use Rattle.algol_tree.specs.Classes.{is_simple}
+use Rattle.algol_tree.specs.declared.tree.Spec.{Spec}
+use Rattle.algol_tree.specs.declared.tree.Spec.TheVariants as spec
 use Rattle.algol_tree.specs.Plain as tree
 use Rattle.algol_tree.specs.Plain.{PStmt, PStmts, PDecl, PDecls}
-use Rattle.algol_tree.specs.Sorts.{class_in, is_named_in}
+use Rattle.algol_tree.specs.Sorts.{is_named_in}
+use Rattle.b67_compile.specs.Specified.{first_spec}
 
 abbrev pub is_nil : {X : Type 0} → List X → Bool
 is_nil [] = true
 is_nil (x ∷ xs) = false
 
--- a parameter is specified as a simple one, and is by value
+-- a parameter is specified as a simple one, and is by value, or as an array
+abbrev pub is_built_by : Option Spec → Bool → Bool
+is_built_by (Some (spec.Simple kind ns)) by_value = by_value
+is_built_by (Some (spec.Arrays kind ns lows)) by_value = true
+is_built_by _ by_value = false
+
 abbrev pub is_parameter_built : Heading → Named → Bool
-is_parameter_built h n = is_simple (class_in h.specs n.name) && is_named_in h.values n.name
+is_parameter_built h n = is_built_by (first_spec h.specs n.name) (is_named_in h.values n.name)
 
 abbrev pub is_heading_built : Heading → Bool
 is_heading_built h = list_all (is_parameter_built h) h.params
@@ -25,8 +32,8 @@ has_name h = not (is_nil h.name.name)
 abbrev pub has_some : List Named → Bool
 has_some ns = not (is_nil ns)
 
--- each declaration is of simple variables, of files, of arrays with a name or of a procedure whose parameters are simple and by value, also
--- those within
+-- each declaration is of simple variables, of files, of arrays with a name or of a procedure whose parameters are simple and by value, or
+-- arrays, also those within
 abbrev mutual
   pub is_decl_built : PDecl → Bool
   is_decl_built (tree.simple kind ns) = true

@@ -1,53 +1,26 @@
 //! Which programs are built.
 
 ghost use Rattle.std.specs.Prelude.{◌≡◌, ◌↔◌, IsTrue};
-ghost use Rattle.algol_tree.specs.Classes.{is_simple};
 ghost use Rattle.algol_tree.specs.Image.{decl, decls, program, stmt, stmts};
-ghost use Rattle.algol_tree.specs.Sorts.{class_by, class_in, is_named_in};
 ghost use Rattle.b67_compile.specs.Built.{is_parameter_built, is_heading_built, has_name, has_some, is_decl_built, decls_are_built, is_stmt_built, stmts_are_built};
 ghost use Rattle.b67_fitting.specs.Built.{IsBuilt};
 
-use algol_meaning::same_name;
-use algol_rules::names_of;
-use algol_tree::{Decl, Heading, Line, Named, Program, Spec, Stmt};
+use crate::specified::{first_spec, is_named_in};
+use algol_tree::{Decl, Heading, Named, Program, Spec, Stmt};
 
-/// Tests that the name is one of these.
-fn is_named_in(names: &[Named], name: &Line) -> bool
-    ensures { result ≡ is_named_in names.now name.now }
-{
-    'names: for n in names {
-        if same_name(&n.name, name) {
-            return true;
-        }
-    }
-    false
-}
-
-fn is_simple_spec(spec: &Spec) -> bool
-    ensures { result ≡ is_simple (class_by spec.now) }
-{
-    matches!(spec, Spec::Simple(_, _))
-}
-
-/// Tests that the first specification of the name says that it is simple.
-fn is_simple_in(specs: &[Spec], name: &Line) -> bool
-    ensures { result ≡ is_simple (class_in specs.now name.now) }
-{
-    'specs: for spec in specs {
-        if is_named_in(names_of(spec), name) {
-            return is_simple_spec(spec);
-        }
-    }
-    false
-}
-
+/// Tests that a parameter is specified as a simple one, and is by value, or as an array.
 fn is_parameter_built(h: &Heading, n: &Named) -> bool
     ensures { result ≡ is_parameter_built h.now n.now }
 {
-    is_simple_in(h.specs.items(), &n.name) && is_named_in(h.values.items(), &n.name)
+    match first_spec(h.specs.items(), &n.name) {
+        Some(Spec::Simple(_, _)) => is_named_in(h.values.items(), &n.name),
+        Some(Spec::Arrays(_, _, _)) => true,
+        Some(Spec::Events(_)) => false,
+        None => false,
+    }
 }
 
-/// Tests that each parameter is specified as a simple one, and is by value.
+/// Tests the same of each parameter.
 fn is_heading_built(h: &Heading) -> bool
     ensures { result ≡ is_heading_built h.now }
 {
@@ -68,7 +41,7 @@ fn has_some(names: &[Named]) -> bool
 }
 
 /// Tests that a declaration is of simple variables, of files, of arrays with a name or of a procedure whose parameters are simple and by
-/// value, and so is each within it.
+/// value, or arrays, and so is each within it.
 #[cycle(statements)]
 fn is_decl_built(d: &Decl) -> bool
     ensures { result ≡ is_decl_built (decl d.now) }
@@ -135,7 +108,7 @@ fn stmts_are_built(ss: &[Stmt]) -> bool
 }
 
 /// Tests that a program is built: all that it declares are simple variables, files, arrays and procedures whose parameters are simple and
-/// by value, in whatever block, each declaration of arrays and each procedure with a name, and it starts no process.
+/// by value, or arrays, in whatever block, each declaration of arrays and each procedure with a name, and it starts no process.
 pub fn is_built(tree: &Program) -> bool
     ensures { IsTrue result ↔ IsBuilt (program tree.now) }
 {

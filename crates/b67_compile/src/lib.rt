@@ -4,6 +4,7 @@
 mod built;
 mod compiler;
 mod lows;
+mod specified;
 
 pub use built::is_built;
 pub use compiler::compile;

@@ -128,8 +128,8 @@ abbrev pub at_start : Spot
 at_start = record { line = 1; column = 1 }
 
 -- What a source with this tree is answered by under a command that wants its code: a refusal at 1:1 exactly where it is not built, that
--- is where it declares anything but simple variables, files, arrays and procedures whose parameters are simple and by value, or starts a
--- process, else what answers a built one.
+-- is where it declares anything but simple variables, files, arrays and procedures whose parameters are simple and by value, or arrays, or
+-- starts a process, else what answers a built one.
 pub data BuiltOr (tree : PProgram) (AnswersIt : List ℕ → Status → Type 0) : List ℕ → Status → Type 0 where
   unbuilt : (IsBuilt tree → ⊥) → BuiltOr tree AnswersIt (refused_text at_start refusals.Unbuilt) (status.Refused at_start refusals.Unbuilt)
   built : (text : List ℕ) (s : Status) → IsBuilt tree → AnswersIt text s → BuiltOr tree AnswersIt text s

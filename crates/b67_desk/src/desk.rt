@@ -158,14 +158,14 @@ fn answer_call<S: Source>(
 /// `TooLong` comes exactly where there are too many bytes, or too many of the source part. `Refused` comes exactly where the
 /// source is not accepted, with the first place that breaks a rule and the rule's code, and on all commands but `check` also
 /// exactly where it is one that is not built, at 1:1 with `Unbuilt`: all are built that declare only simple variables, files,
-/// arrays and procedures whose parameters are simple and by value, in whatever block, and start no process. `BadSchedule` comes
-/// on `replay` exactly where there is no such record, at the length of the input, or where the schedule text is none, at the
-/// length of its longest front that begins one. Else `check` and `list` end with `Finished`, and `run` and `replay` are reported:
-/// `Finished`, `Fault` or `AllWaiting` where the run has that end, and on `replay` no entry is left; `BudgetSpent` where the
-/// operators came to the budget first, and `StackLimit` where a stack would have too many words; and on `replay` `Illegal` where
-/// the next entry can not be performed, and `ScheduleEnded` where none is left and the run goes on. `WriteFault` comes only where
-/// the sink's count of faults rose, and what was written is a front of the answer. `NoMemory` may come instead of any of them,
-/// and then nothing is written.
+/// arrays and procedures whose parameters are simple and by value, or arrays, in whatever block, and start no process.
+/// `BadSchedule` comes on `replay` exactly where there is no such record, at the length of the input, or where the schedule text
+/// is none, at the length of its longest front that begins one. Else `check` and `list` end with `Finished`, and `run` and
+/// `replay` are reported: `Finished`, `Fault` or `AllWaiting` where the run has that end, and on `replay` no entry is left;
+/// `BudgetSpent` where the operators came to the budget first, and `StackLimit` where a stack would have too many words; and on
+/// `replay` `Illegal` where the next entry can not be performed, and `ScheduleEnded` where none is left and the run goes on.
+/// `WriteFault` comes only where the sink's count of faults rose, and what was written is a front of the answer. `NoMemory` may
+/// come instead of any of them, and then nothing is written.
 ///
 /// Command, statuses and report are this project's profile.
 pub fn desk_alone<S: Source, K: Sink>(

@@ -1,11 +1,11 @@
 use Rattle.std.proofs.Common.{◌≡◌, drop}
 use Rattle.algol_tree.specs.declared.token.Spot.{Spot}
 use Rattle.algol_tree.specs.Image.{decls}
-use Rattle.algol_paths.specs.Arrays.{lows_declared, or_lows}
-use Rattle.b67_compile.specs.Lows.{under}
+use Rattle.algol_paths.specs.Arrays.{or_lows}
+use Rattle.b67_compile.specs.Lows.{lows_begun, under}
 use Rattle.b67_compile.proofs.lows.add_declared.Given as goal
 
 abbrev pub invariant-declarations : goal.invariant-declarations
 invariant-declarations l =
-    (spot : Spot) → or_lows (under l.table spot) (lows_declared (decls (drop l.d-index l.ds)) spot) ≡
-    or_lows (under l.initial.table spot) (lows_declared (decls l.ds) spot)
+    (spot : Spot) → or_lows (under l.table spot) (lows_begun (decls (drop l.d-index l.ds)) spot) ≡
+    or_lows (under l.initial.table spot) (lows_begun (decls l.ds) spot)

@@ -1,11 +1,11 @@
 use Rattle.std.proofs.Common.{◌≡◌, drop}
 use Rattle.algol_tree.specs.declared.token.Spot.{Spot}
 use Rattle.algol_tree.specs.Image.{pairs}
-use Rattle.algol_paths.specs.Arrays.{lows_of, or_lows}
-use Rattle.b67_compile.specs.Lows.{lows_among, under}
+use Rattle.algol_paths.specs.Arrays.{or_lows}
+use Rattle.b67_compile.specs.Lows.{lows_named, own_lows, under}
 use Rattle.b67_compile.proofs.lows.add_names.Given as goal
 
 abbrev pub invariant-names : goal.invariant-names
 invariant-names l =
-    (spot : Spot) → or_lows (under l.table spot) (lows_among (drop l.n-index l.names) (lows_of (pairs l.pairs)) spot) ≡
-    or_lows (under l.initial.table spot) (lows_among l.names (lows_of (pairs l.pairs)) spot)
+    (spot : Spot) → or_lows (under l.table spot) (lows_named (drop l.n-index l.names) (own_lows (pairs l.pairs)) spot) ≡
+    or_lows (under l.initial.table spot) (lows_named l.names (own_lows (pairs l.pairs)) spot)
