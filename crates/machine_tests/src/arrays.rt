@@ -1,16 +1,11 @@
 //! The rows of arrays, and schedules that are followed through what is done with their elements.
 
 use crate::replays::Followed;
-use crate::rows::{DIVIDE_BY_ZERO, Row};
+use crate::rows::{DIVIDE_BY_ZERO, INVALID_INDEX, Row};
 use b67_num::FaultKind;
 use b67_report::EndWords;
 
 /// Faults of process 1.
-const INVALID_INDEX: EndWords = EndWords::Fault {
-    kind: FaultKind::InvalidIndex,
-    process: 1,
-};
-
 const ARRAY_SIZE: EndWords = EndWords::Fault {
     kind: FaultKind::ArraySize,
     process: 1,

@@ -81,7 +81,8 @@ PROCEDURE P(I,J); VALUE I; INTEGER I,J; ; P(1,2) END.",
     ),
     (
         "run 1 100",
-        b"BEGIN ARRAY A[0:1]; PROCEDURE P(B); ARRAY B[0]; ; P(A) END.",
+        b"BEGIN ARRAY A[0:1]; PROCEDURE P(B,N);
+ARRAY B[0]; INTEGER N; ; P(A,1) END.",
         b"REFUSED U0 1:1\n",
         1,
     ),

@@ -20,6 +20,8 @@ mod events;
 #[cfg(test)]
 mod failing;
 #[cfg(test)]
+mod formals;
+#[cfg(test)]
 mod io;
 #[cfg(test)]
 mod lengths;

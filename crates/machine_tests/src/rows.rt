@@ -26,6 +26,11 @@ pub(crate) const DIVIDE_BY_ZERO: EndWords = EndWords::Fault {
     process: 1,
 };
 
+pub(crate) const INVALID_INDEX: EndWords = EndWords::Fault {
+    kind: FaultKind::InvalidIndex,
+    process: 1,
+};
+
 const CASE_INDEX: EndWords = EndWords::Fault {
     kind: FaultKind::CaseIndex,
     process: 1,

@@ -2,6 +2,7 @@
 
 use crate::arrays::ARRAY_ROWS;
 use crate::blocks::BLOCK_ROWS;
+use crate::formals::ARRAY_PARAMETER_ROWS;
 use crate::parameters::PARAMETER_ROWS;
 use crate::procedures::PROCEDURE_ROWS;
 use crate::rows::{ROWS, Row};
@@ -75,6 +76,9 @@ fn sources_with_procedures(rt: HostRuntime) -> Result<(), Fail> {
         run(&rt, alloc, row)?;
     }
     for row in &PARAMETER_ROWS {
+        run(&rt, alloc, row)?;
+    }
+    for row in &ARRAY_PARAMETER_ROWS {
         run(&rt, alloc, row)?;
     }
     Ok(())
