@@ -42,7 +42,7 @@ module _ (a : Surroundings) where
   part_silent (tree.number z spot) f xs h = headed (tree.number z spot) xs h
   part_silent (tree.truth z spot) f xs h = headed (tree.truth z spot) xs h
   part_silent (tree.call c) f xs h = headed (tree.call c) xs h
-  part_silent (tree.happened e spot) f xs h = headed (tree.happened e spot) xs h
+  part_silent (tree.tested test e spot) f xs h = headed (tree.tested test e spot) xs h
   part_silent (tree.paren e spot) f xs h = headed (tree.paren e spot) xs h
   part_silent (tree.plus e spot) f xs h = headed (tree.plus e spot) xs h
   part_silent (tree.neg e spot) f xs h = headed (tree.neg e spot) xs h
@@ -59,7 +59,7 @@ module _ (a : Surroundings) where
     inside_silent (tree.truth z spot) = silent_none
     inside_silent (tree.variable (tree.subscripted n es)) = list_silent es
     inside_silent (tree.call (tree.called n es)) = actuals_silent es (formals_at a n)
-    inside_silent (tree.happened e spot) = silent_none
+    inside_silent (tree.tested test e spot) = silent_none
     inside_silent (tree.paren e spot) = headed e (inside_expr e a) (inside_silent e)
     inside_silent (tree.plus e spot) = headed e (inside_expr e a) (inside_silent e)
     inside_silent (tree.neg e spot) = headed e (inside_expr e a) (inside_silent e)

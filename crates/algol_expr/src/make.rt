@@ -99,7 +99,7 @@ pub fn named(alloc: Global, name: &Line, spot: Spot) -> Result<Named, Stop>
 
 /// Whether that event has happened.
 pub(crate) fn happened(event: EventName, spot: Spot) -> Expr
-    ensures { plain result ≡ plain_trees.happened event spot }
+    ensures { plain result ≡ plain_trees.tested plain_trees.happened event spot }
 {
     Expr::Happened(event, spot)
 }

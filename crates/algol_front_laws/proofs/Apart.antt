@@ -55,7 +55,7 @@ module _ (a : Surroundings) where
   actual-spots (tree.number z spot) f = refl
   actual-spots (tree.truth z spot) f = refl
   actual-spots (tree.call c) f = refl
-  actual-spots (tree.happened e spot) f = refl
+  actual-spots (tree.tested test e spot) f = refl
   actual-spots (tree.paren e spot) f = refl
   actual-spots (tree.plus e spot) f = refl
   actual-spots (tree.neg e spot) f = refl
@@ -75,7 +75,7 @@ module _ (a : Surroundings) where
     in-expr (tree.truth z spot) = none-fits (spot ∷ [])
     in-expr (tree.variable (tree.subscripted n es)) = take-fits n.spot (At (inside_list es a)) (spots_of_exprs es) (in-list es)
     in-expr (tree.call (tree.called n es)) = take-fits n.spot (At (inside_actuals es (formals_at a n) a)) (spots_of_exprs es) (in-actuals es (formals_at a n))
-    in-expr (tree.happened e spot) = skip-fits spot (e.name.spot ∷ []) (e.name.spot ∷ []) (all-fit (e.name.spot ∷ []))
+    in-expr (tree.tested test e spot) = skip-fits spot (e.name.spot ∷ []) (e.name.spot ∷ []) (all-fit (e.name.spot ∷ []))
     in-expr (tree.paren e spot) = skip-fits spot (At (sites e a)) (spots_of_expr e) (in-expr e)
     in-expr (tree.plus e spot) = skip-fits spot (At (sites e a)) (spots_of_expr e) (in-expr e)
     in-expr (tree.neg e spot) = skip-fits spot (At (sites e a)) (spots_of_expr e) (in-expr e)

@@ -60,7 +60,7 @@ module _ (a : Surroundings) where
   part-none (tree.number z spot) f = refl
   part-none (tree.truth z spot) f = refl
   part-none (tree.call c) f = refl
-  part-none (tree.happened e spot) f = refl
+  part-none (tree.tested test e spot) f = refl
   part-none (tree.paren e spot) f = refl
   part-none (tree.plus e spot) f = refl
   part-none (tree.neg e spot) f = refl
@@ -93,7 +93,7 @@ module _ (a : Surroundings) where
     in-expr (tree.truth z spot) = all-fit (spot ∷ [])
     in-expr (tree.variable (tree.subscripted n es)) = take-fits n.spot (At (inside_list es a)) (spots_of_exprs es) (in-list es)
     in-expr (tree.call (tree.called n es)) = take-fits n.spot (At (inside_actuals es (formals_at a n) a)) (spots_of_exprs es) (in-actuals es (formals_at a n))
-    in-expr (tree.happened e spot) = take-fits spot [] (e.name.spot ∷ []) (none-fits (e.name.spot ∷ []))
+    in-expr (tree.tested test e spot) = take-fits spot [] (e.name.spot ∷ []) (none-fits (e.name.spot ∷ []))
     in-expr (tree.paren e spot) = take-fits spot (At (sites e a)) (spots_of_expr e) (at-sites e (in-expr e))
     in-expr (tree.plus e spot) = take-fits spot (At (sites e a)) (spots_of_expr e) (at-sites e (in-expr e))
     in-expr (tree.neg e spot) = take-fits spot (At (sites e a)) (spots_of_expr e) (at-sites e (in-expr e))

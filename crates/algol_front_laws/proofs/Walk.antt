@@ -55,7 +55,7 @@ module _ (blocks : List Block) (Holds : Surroundings → Type 0) (Passes : Site 
       of-actual (tree.number z spot) f = tt
       of-actual (tree.truth z spot) f = tt
       of-actual (tree.call c) f = tt
-      of-actual (tree.happened e spot) f = tt
+      of-actual (tree.tested test e spot) f = tt
       of-actual (tree.paren e spot) f = tt
       of-actual (tree.plus e spot) f = tt
       of-actual (tree.neg e spot) f = tt
@@ -75,7 +75,7 @@ module _ (blocks : List Block) (Holds : Surroundings → Type 0) (Passes : Site 
         in-expr (tree.truth z spot) = tt
         in-expr (tree.variable (tree.subscripted n es)) = in-list es
         in-expr (tree.call (tree.called n es)) = in-actuals es (formals_at a n)
-        in-expr (tree.happened e spot) = tt
+        in-expr (tree.tested test e spot) = tt
         in-expr (tree.paren e spot) = (here-expr e, in-expr e)
         in-expr (tree.plus e spot) = (here-expr e, in-expr e)
         in-expr (tree.neg e spot) = (here-expr e, in-expr e)

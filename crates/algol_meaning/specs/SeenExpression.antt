@@ -130,7 +130,7 @@ abbrev mutual
   expr_size (tree.truth b spot) = 1
   expr_size (tree.variable v) = variable_size v
   expr_size (tree.call c) = call_size c
-  expr_size (tree.happened e spot) = 1
+  expr_size (tree.tested test e spot) = 1
   expr_size (tree.paren e spot) = 1 + expr_size e
   expr_size (tree.plus e spot) = 1 + expr_size e
   expr_size (tree.neg e spot) = 2 + expr_size e

@@ -138,7 +138,7 @@ module _ (sc : Scopes) where
     settle (tree.variable (tree.subscripted n tree.none)) = named_of (procedure_in (sort_at n)) n
     settle (tree.variable (tree.subscripted n (tree.more e es))) = subscripted_of n [] (settle e) es
     settle (tree.call (tree.called n es)) = called_of n (settle_actuals es (sorts_of (callee n).parameters) [])
-    settle (tree.happened e spot) = busy (happens e.name)
+    settle (tree.tested tree.happened e spot) = busy (happens e.name)
     settle (tree.paren e spot) = settle e
     settle (tree.plus e spot) = settle e
     settle (tree.neg e spot) = negated_of (settle e)

@@ -126,10 +126,10 @@ of_call e c h = ap expr h ∙ as_call c ∙ ap (λ w. tree.call w) (call_is c)
     as_call : (c : Call) → expr (shapes.Call c) ≡ tree.call (call c)
     as_call c = search (rules, exprs_of.the_lemmas)
 
-pub of_happened : (e : Expr) (event : EventName) (spot : Spot) → e ≡ shapes.Happened event spot → expr e ≡ tree.happened event spot
+pub of_happened : (e : Expr) (event : EventName) (spot : Spot) → e ≡ shapes.Happened event spot → expr e ≡ tree.tested tree.happened event spot
 of_happened e event spot h = ap expr h ∙ as_happened event spot
   where
-    as_happened : (event : EventName) (spot : Spot) → expr (shapes.Happened event spot) ≡ tree.happened event spot
+    as_happened : (event : EventName) (spot : Spot) → expr (shapes.Happened event spot) ≡ tree.tested tree.happened event spot
     as_happened event spot = search (rules, exprs_of.the_lemmas)
 
 pub of_two : (e : Expr) (op : Op) (a b : Box Expr Global) (x y : Expr) → e ≡ shapes.Two op a b → x ≡ a.value → y ≡ b.value → expr e ≡ tree.two op (expr x) (expr y)

@@ -65,7 +65,7 @@ module _ (blocks : List Block) where
     of-actual (tree.number z spot) f = tt
     of-actual (tree.truth z spot) f = tt
     of-actual (tree.call c) f = tt
-    of-actual (tree.happened e spot) f = tt
+    of-actual (tree.tested test e spot) f = tt
     of-actual (tree.paren e spot) f = tt
     of-actual (tree.plus e spot) f = tt
     of-actual (tree.neg e spot) f = tt
@@ -82,7 +82,7 @@ module _ (blocks : List Block) where
       in-expr (tree.truth z spot) = tt
       in-expr (tree.variable (tree.subscripted n es)) = in-list es
       in-expr (tree.call (tree.called n es)) = in-actuals es (formals_at a n)
-      in-expr (tree.happened e spot) = tt
+      in-expr (tree.tested test e spot) = tt
       in-expr (tree.paren e spot) = (at-expr e, in-expr e)
       in-expr (tree.plus e spot) = (at-expr e, in-expr e)
       in-expr (tree.neg e spot) = (at-expr e, in-expr e)

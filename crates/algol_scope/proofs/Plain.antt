@@ -46,10 +46,10 @@ expr_variable e v h = ap expr h ∙ of_variable v ∙ ap (λ w. tree.variable w)
 pub expr_call : (e : Expr) (c : Call) → e ≡ expression.Call c → expr e ≡ tree.call (tree.called c.name (exprs c.actuals))
 expr_call e c h = ap expr h ∙ of_call c ∙ ap (λ w. tree.call w) (call_is c)
 
-pub expr_happened : (e : Expr) (event : EventName) (spot : Spot) → e ≡ expression.Happened event spot → expr e ≡ tree.happened event spot
+pub expr_happened : (e : Expr) (event : EventName) (spot : Spot) → e ≡ expression.Happened event spot → expr e ≡ tree.tested tree.happened event spot
 expr_happened e event spot h = ap expr h ∙ of_happened event spot
   where
-    of_happened : (event : EventName) (spot : Spot) → expr (expression.Happened event spot) ≡ tree.happened event spot
+    of_happened : (event : EventName) (spot : Spot) → expr (expression.Happened event spot) ≡ tree.tested tree.happened event spot
     of_happened event spot = search (rules, exprs_of.the_lemmas)
 
 pub expr_two : (e : Expr) (op : Op) (a b : Box Expr Global) (x y : Expr) → e ≡ expression.Two op a b → x ≡ a.value → y ≡ b.value →

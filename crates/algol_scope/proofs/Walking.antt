@@ -306,12 +306,12 @@ if_ok (Ok x) f h = f x h
 if_ok (Err e) f h = tt
 
 pub walks-happened : (k : Around) (seen : Seen) (old new : Findings) (e : EventName) (spot : Spot) →
-    Walks k seen old new (λ a. at_name e.name a ∷ []) → Walks k seen old new (sites (tree.happened e spot))
+    Walks k seen old new (λ a. at_name e.name a ∷ []) → Walks k seen old new (sites (tree.tested tree.happened e spot))
 walks-happened k seen old new e spot w =
     record {
       finds =
           λ blocks a s.
-          again blocks old new (at_name e.name a ∷ []) (sites (tree.happened e spot) a) refl refl refl (w.finds blocks a s);
+          again blocks old new (at_name e.name a ∷ []) (sites (tree.tested tree.happened e spot) a) refl refl refl (w.finds blocks a s);
     }
 
 pub walks-two : (k : Around) (seen : Seen) (old mid new : Findings) (op : Op) (x y : PExpr) → Walks k seen old mid (sites x) →

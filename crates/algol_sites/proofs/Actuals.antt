@@ -62,7 +62,7 @@ part_alike (tree.truth z spot) f = refl
 part_alike (tree.variable (tree.subscripted n tree.none)) f = refl
 part_alike (tree.variable (tree.subscripted n (tree.more e es))) f = refl
 part_alike (tree.call c) f = refl
-part_alike (tree.happened e spot) f = refl
+part_alike (tree.tested test e spot) f = refl
 part_alike (tree.paren e spot) f = refl
 part_alike (tree.plus e spot) f = refl
 part_alike (tree.neg e spot) f = refl
@@ -123,7 +123,7 @@ part_noted (tree.variable (tree.subscripted n tree.none)) (Some formal.Event) h 
 part_noted (tree.variable (tree.subscripted n tree.none)) (Some formal.Unspecified) h a = refl
 part_noted (tree.variable (tree.subscripted n (tree.more e es))) o h a = refl
 part_noted (tree.call c) o h a = refl
-part_noted (tree.happened e spot) o h a = refl
+part_noted (tree.tested test e spot) o h a = refl
 part_noted (tree.paren e spot) o h a = refl
 part_noted (tree.plus e spot) o h a = refl
 part_noted (tree.neg e spot) o h a = refl

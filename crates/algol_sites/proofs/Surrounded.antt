@@ -30,7 +30,7 @@ module _ (blocks : List Block) (a b : Surroundings) (same : (n : Named) → clas
   type_alike (tree.variable (tree.subscripted n tree.none)) = ap read_type (same n)
   type_alike (tree.variable (tree.subscripted n (tree.more e es))) = ap element_type (same n)
   type_alike (tree.call (tree.called n es)) = ap result_type (same n)
-  type_alike (tree.happened e spot) = refl
+  type_alike (tree.tested test e spot) = refl
   type_alike (tree.paren e spot) = type_alike e
   type_alike (tree.plus e spot) = refl
   type_alike (tree.neg e spot) = refl
@@ -87,7 +87,7 @@ module _ (blocks : List Block) (a b : Surroundings) (same : (n : Named) → clas
       (numbers_alike (tree.more e es))
   here_alike (tree.call (tree.called n es)) f =
       ap (λ c. both f (wrong (is_function c) c n) (if_so (takes_others c (count_of es)) n.spot)) (same n)
-  here_alike (tree.happened e spot) f =
+  here_alike (tree.tested test e spot) f =
       ap (λ c. noted_all f (broken codes.WrongType (if e.task then wrong (is_task c) c e.name else wrong (is_event c) c e.name))) (same e.name)
   here_alike (tree.paren e spot) f = refl
   here_alike (tree.plus e spot) f = ap (λ t. noted_all f (broken codes.WrongType (differing kinds.Number e t))) (type_alike e)
@@ -120,7 +120,7 @@ module _ (blocks : List Block) (a b : Surroundings) (same : (n : Named) → clas
   actual_alike_for (class.array k count) value (tree.number z spot) f = refl
   actual_alike_for (class.array k count) value (tree.truth z spot) f = refl
   actual_alike_for (class.array k count) value (tree.call c) f = refl
-  actual_alike_for (class.array k count) value (tree.happened e spot) f = refl
+  actual_alike_for (class.array k count) value (tree.tested test e spot) f = refl
   actual_alike_for (class.array k count) value (tree.paren e spot) f = refl
   actual_alike_for (class.array k count) value (tree.plus e spot) f = refl
   actual_alike_for (class.array k count) value (tree.neg e spot) f = refl
@@ -130,7 +130,7 @@ module _ (blocks : List Block) (a b : Surroundings) (same : (n : Named) → clas
   actual_alike_for class.event value (tree.number z spot) f = refl
   actual_alike_for class.event value (tree.truth z spot) f = refl
   actual_alike_for class.event value (tree.call c) f = refl
-  actual_alike_for class.event value (tree.happened e spot) f = refl
+  actual_alike_for class.event value (tree.tested test e spot) f = refl
   actual_alike_for class.event value (tree.paren e spot) f = refl
   actual_alike_for class.event value (tree.plus e spot) f = refl
   actual_alike_for class.event value (tree.neg e spot) f = refl
@@ -189,7 +189,7 @@ module _ (blocks : List Block) (a b : Surroundings) (same : (n : Named) → clas
   part_alike (tree.variable (tree.subscripted n tree.none)) o f = name_alike n (wants_value o) f
   part_alike (tree.variable (tree.subscripted n (tree.more e es))) o f = here_alike (tree.variable (tree.subscripted n (tree.more e es))) f
   part_alike (tree.call c) o f = here_alike (tree.call c) f
-  part_alike (tree.happened e spot) o f = here_alike (tree.happened e spot) f
+  part_alike (tree.tested test e spot) o f = here_alike (tree.tested test e spot) f
   part_alike (tree.paren e spot) o f = refl
   part_alike (tree.plus e spot) o f = here_alike (tree.plus e spot) f
   part_alike (tree.neg e spot) o f = here_alike (tree.neg e spot) f
@@ -212,7 +212,7 @@ module _ (blocks : List Block) (a b : Surroundings) (same : (n : Named) → clas
     inside_alike (tree.variable (tree.subscripted n es)) f = list_alike es f
     inside_alike (tree.call (tree.called n es)) f =
         actuals_alike es (formals_at a n) f ∙ ap (λ c. noted_in f (inside_actuals es (formals_of_class c) b)) (same n)
-    inside_alike (tree.happened e spot) f = refl
+    inside_alike (tree.tested test e spot) f = refl
     inside_alike (tree.paren e spot) f = sites_from e (inside_alike e) f
     inside_alike (tree.plus e spot) f = sites_from e (inside_alike e) f
     inside_alike (tree.neg e spot) f = sites_from e (inside_alike e) f

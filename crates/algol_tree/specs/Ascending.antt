@@ -20,7 +20,7 @@ abbrev mutual
   spots_of_expr (tree.truth b spot) = spot ∷ []
   spots_of_expr (tree.variable (tree.subscripted n es)) = n.spot ∷ spots_of_exprs es
   spots_of_expr (tree.call (tree.called n es)) = n.spot ∷ spots_of_exprs es
-  spots_of_expr (tree.happened e spot) = spot ∷ e.name.spot ∷ []
+  spots_of_expr (tree.tested test e spot) = spot ∷ e.name.spot ∷ []
   spots_of_expr (tree.paren e spot) = spot ∷ spots_of_expr e
   spots_of_expr (tree.plus e spot) = spot ∷ spots_of_expr e
   spots_of_expr (tree.neg e spot) = spot ∷ spots_of_expr e

@@ -76,7 +76,13 @@ abbrev mutual
   blocks_of (tree.for v a s l b) begin outer = blocks_of b of_statement outer
   blocks_of (tree.thru n b) begin outer = blocks_of b of_statement outer
   blocks_of (tree.case e ss) begin outer = blocks_in_stmts ss outer
-  blocks_of _ begin outer = []
+  blocks_of tree.empty begin outer = []
+  blocks_of (tree.assign v e) begin outer = []
+  blocks_of (tree.call_of c) begin outer = []
+  blocks_of (tree.go_to n) begin outer = []
+  blocks_of (tree.process c task) begin outer = []
+  blocks_of (tree.event act e) begin outer = []
+  blocks_of (tree.write n spot phrases es) begin outer = []
 
   pub blocks_in_stmts : PStmts → List Spot → List Block
   blocks_in_stmts tree.no_stmts outer = []
@@ -84,7 +90,13 @@ abbrev mutual
 
   pub blocks_in_decl : PDecl → List Spot → List Block
   blocks_in_decl (tree.procedure h s) outer = procedure_block h s outer ∷ blocks_of s of_procedure (h.name.spot ∷ outer)
-  blocks_in_decl _ outer = []
+  blocks_in_decl (tree.simple kind ns) outer = []
+  blocks_in_decl (tree.files ns) outer = []
+  blocks_in_decl (tree.events ns) outer = []
+  blocks_in_decl (tree.tasks ns) outer = []
+  blocks_in_decl (tree.labels ns) outer = []
+  blocks_in_decl (tree.arrays kind ns pairs) outer = []
+  blocks_in_decl (tree.forward h) outer = []
 
   pub blocks_in_decls : PDecls → List Spot → List Block
   blocks_in_decls tree.no_decls outer = []

@@ -32,7 +32,7 @@ first_spot (tree.number z spot) = spot
 first_spot (tree.truth b spot) = spot
 first_spot (tree.variable (tree.subscripted n es)) = n.spot
 first_spot (tree.call (tree.called n es)) = n.spot
-first_spot (tree.happened e spot) = spot
+first_spot (tree.tested test e spot) = spot
 first_spot (tree.paren e spot) = spot
 first_spot (tree.plus e spot) = spot
 first_spot (tree.neg e spot) = spot
@@ -93,7 +93,9 @@ module _ (blocks : List Block) where
   cells_of_decl (tree.arrays kind ns pairs) block = cells_for block made ns
   cells_of_decl (tree.procedure h s) block =
       cells_for block procedure (h.name ∷ []) ++ result_cells h ++ cells_for (number_at blocks h.name.spot) parameter h.params
-  cells_of_decl _ block = []
+  cells_of_decl (tree.files ns) block = []
+  cells_of_decl (tree.labels ns) block = []
+  cells_of_decl (tree.forward h) block = []
 
   abbrev pub cells_of_part : Part → Surroundings → List Cell
   cells_of_part (site.declaration d later) a = cells_of_decl d a.block

@@ -64,13 +64,15 @@ abbrev pub wrong_in_expr : PExpr → Surroundings → List Spot
 wrong_in_expr (tree.variable (tree.subscripted n tree.none)) a = wrong_name is_read n a
 wrong_in_expr (tree.variable (tree.subscripted n (tree.more e es))) a = wrong_name is_array n a ++ wrong_list types.Number (tree.more e es) a
 wrong_in_expr (tree.call (tree.called n es)) a = wrong_name is_function n a
-wrong_in_expr (tree.happened e spot) a = wrong_event e a
+wrong_in_expr (tree.tested test e spot) a = wrong_event e a
 wrong_in_expr (tree.plus e spot) a = wrong types.Number e a
 wrong_in_expr (tree.neg e spot) a = wrong types.Number e a
 wrong_in_expr (tree.not e spot) a = wrong types.Truth e a
 wrong_in_expr (tree.two op x y) a = wrong (taken_by op) x a ++ wrong (taken_by op) y a
 wrong_in_expr (tree.if c x y spot) a = wrong types.Truth c a ++ wrong_for (type_of x a) y a
-wrong_in_expr _ a = []
+wrong_in_expr (tree.number z spot) a = []
+wrong_in_expr (tree.truth b spot) a = []
+wrong_in_expr (tree.paren e spot) a = []
 
 -- ---- actuals: a value for a simple parameter; for an array or an event parameter the name of one, an array with elements of that
 -- kind and as many subscripts
@@ -111,7 +113,12 @@ wrong_body h (Some g) = if_so (not (same_heading h g)) g.name.spot
 abbrev pub wrong_in_decl : PDecl → PDecls → Surroundings → List Spot
 wrong_in_decl (tree.forward h) later a = wrong_in_heading h ++ wrong_body h (body_of h.name.name later)
 wrong_in_decl (tree.procedure h s) later a = wrong_in_heading h
-wrong_in_decl _ later a = []
+wrong_in_decl (tree.simple kind ns) later a = []
+wrong_in_decl (tree.files ns) later a = []
+wrong_in_decl (tree.events ns) later a = []
+wrong_in_decl (tree.tasks ns) later a = []
+wrong_in_decl (tree.labels ns) later a = []
+wrong_in_decl (tree.arrays kind ns pairs) later a = []
 
 abbrev wrong_control : Class → Named → List Spot
 wrong_control (class.simple types.Truth) v = v.spot ∷ []
@@ -155,7 +162,8 @@ module _ (blocks : List Block) where
   wrong_in_stmt (tree.process (tree.called n es) task) a = wrong_name is_untyped n a ++ wrong_task task a
   wrong_in_stmt (tree.event act e) a = wrong_event e a
   wrong_in_stmt (tree.write n spot phrases es) a = wrong_name is_file n a ++ wrong_list types.Number es a
-  wrong_in_stmt _ a = []
+  wrong_in_stmt tree.empty a = []
+  wrong_in_stmt (tree.block b) a = []
 
   abbrev pub wrong_in_part : Part → Surroundings → List Spot
   wrong_in_part (site.name n) a = []
@@ -170,8 +178,22 @@ module _ (blocks : List Block) where
 
   abbrev pub not_assignable_in : PStmt → Surroundings → List Spot
   not_assignable_in (tree.assign (tree.subscripted n tree.none) e) a = if_so (not (is_assignable (class_of a n) a)) n.spot
+  not_assignable_in (tree.assign (tree.subscripted n (tree.more e es)) v) a = []
   not_assignable_in (tree.for v x s l b) a = wrong_name is_simple v a
-  not_assignable_in _ a = []
+  not_assignable_in tree.empty a = []
+  not_assignable_in (tree.label n s) a = []
+  not_assignable_in (tree.call_of c) a = []
+  not_assignable_in (tree.go_to n) a = []
+  not_assignable_in (tree.block b) a = []
+  not_assignable_in (tree.if_then c x) a = []
+  not_assignable_in (tree.if_else c x y) a = []
+  not_assignable_in (tree.while c b) a = []
+  not_assignable_in (tree.until b c) a = []
+  not_assignable_in (tree.thru e b) a = []
+  not_assignable_in (tree.case e ss) a = []
+  not_assignable_in (tree.process c task) a = []
+  not_assignable_in (tree.event act e) a = []
+  not_assignable_in (tree.write n spot phrases es) a = []
 
   abbrev pub not_assignable_part : Part → Surroundings → List Spot
   not_assignable_part (site.statement s listed) a = not_assignable_in s a

@@ -42,13 +42,34 @@ miscounted_call n es a = if_so (takes_others (class_of a n) (exprs_count es)) n.
 abbrev pub miscounted_in_expr : PExpr → Surroundings → List Spot
 miscounted_in_expr (tree.variable (tree.subscripted n es)) a = miscounted_variable n es a
 miscounted_in_expr (tree.call (tree.called n es)) a = miscounted_call n es a
-miscounted_in_expr _ a = []
+miscounted_in_expr (tree.number z spot) a = []
+miscounted_in_expr (tree.truth b spot) a = []
+miscounted_in_expr (tree.tested test e spot) a = []
+miscounted_in_expr (tree.paren e spot) a = []
+miscounted_in_expr (tree.plus e spot) a = []
+miscounted_in_expr (tree.neg e spot) a = []
+miscounted_in_expr (tree.not e spot) a = []
+miscounted_in_expr (tree.two op x y) a = []
+miscounted_in_expr (tree.if c x y spot) a = []
 
 abbrev pub miscounted_in_stmt : PStmt → Surroundings → List Spot
 miscounted_in_stmt (tree.assign (tree.subscripted n (tree.more e es)) v) a = miscounted_variable n (tree.more e es) a
+miscounted_in_stmt (tree.assign (tree.subscripted n tree.none) v) a = []
 miscounted_in_stmt (tree.call_of (tree.called n es)) a = miscounted_call n es a
 miscounted_in_stmt (tree.process (tree.called n es) task) a = miscounted_call n es a
-miscounted_in_stmt _ a = []
+miscounted_in_stmt tree.empty a = []
+miscounted_in_stmt (tree.label n s) a = []
+miscounted_in_stmt (tree.go_to n) a = []
+miscounted_in_stmt (tree.block b) a = []
+miscounted_in_stmt (tree.if_then c x) a = []
+miscounted_in_stmt (tree.if_else c x y) a = []
+miscounted_in_stmt (tree.while c b) a = []
+miscounted_in_stmt (tree.until b c) a = []
+miscounted_in_stmt (tree.for v x s l b) a = []
+miscounted_in_stmt (tree.thru e b) a = []
+miscounted_in_stmt (tree.case e ss) a = []
+miscounted_in_stmt (tree.event act e) a = []
+miscounted_in_stmt (tree.write n spot phrases es) a = []
 
 abbrev pub miscounted_part : Part → Surroundings → List Spot
 miscounted_part (site.expression e) a = miscounted_in_expr e a

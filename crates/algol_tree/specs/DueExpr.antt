@@ -73,7 +73,7 @@ applied n (many es ∷ vs) = one (trees.call (called n es)) ∷ vs
 applied n vs = vs
 
 abbrev pub asked : Spot → Make
-asked spot (event_named e ∷ vs) = one (trees.happened e spot) ∷ vs
+asked spot (event_named e ∷ vs) = one (trees.tested trees.happened e spot) ∷ vs
 asked spot vs = vs
 
 -- number | TRUE | FALSE

@@ -2,12 +2,9 @@ pub mod Spelling
 pub mod Records
 pub mod Lexes
 pub mod Ended
-pub mod FirstLexes
 pub mod Plain
 pub mod Image
-pub mod FirstReads
 pub mod Counts
-pub mod FirstAccepted
 pub mod Classes
 pub mod Sorts
 pub mod Blocks

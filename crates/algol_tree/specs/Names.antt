@@ -47,7 +47,12 @@ unknown_in_heading h = places_if (is_no_parameter h) h.values ++ places_if (is_n
 abbrev pub unknown_in_decl : PDecl → PDecls → List Spot
 unknown_in_decl (tree.forward h) later = if_so (not (is_some (body_of h.name.name later))) h.name.spot ++ unknown_in_heading h
 unknown_in_decl (tree.procedure h s) later = unknown_in_heading h
-unknown_in_decl _ later = []
+unknown_in_decl (tree.simple kind ns) later = []
+unknown_in_decl (tree.files ns) later = []
+unknown_in_decl (tree.events ns) later = []
+unknown_in_decl (tree.tasks ns) later = []
+unknown_in_decl (tree.labels ns) later = []
+unknown_in_decl (tree.arrays kind ns pairs) later = []
 
 abbrev pub unknown_in_part : Part → Surroundings → List Spot
 unknown_in_part (site.declaration d later) a = unknown_in_decl d later

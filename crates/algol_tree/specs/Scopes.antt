@@ -42,8 +42,15 @@ left_uses (u ∷ us) = left_use u u.sort ∷ us
 abbrev pub names_in_expr : PExpr → List Named
 names_in_expr (tree.variable (tree.subscripted n es)) = n ∷ []
 names_in_expr (tree.call (tree.called n es)) = n ∷ []
-names_in_expr (tree.happened e spot) = e.name ∷ []
-names_in_expr _ = []
+names_in_expr (tree.tested test e spot) = e.name ∷ []
+names_in_expr (tree.number z spot) = []
+names_in_expr (tree.truth b spot) = []
+names_in_expr (tree.paren e spot) = []
+names_in_expr (tree.plus e spot) = []
+names_in_expr (tree.neg e spot) = []
+names_in_expr (tree.not e spot) = []
+names_in_expr (tree.two op x y) = []
+names_in_expr (tree.if c x y spot) = []
 
 abbrev pub if_named : Option Named → List Named
 if_named None = []
@@ -58,7 +65,14 @@ names_in_stmt (tree.for v x s l b) = v ∷ []
 names_in_stmt (tree.process (tree.called n es) task) = n ∷ if_named task
 names_in_stmt (tree.event act e) = e.name ∷ []
 names_in_stmt (tree.write n spot phrases es) = n ∷ []
-names_in_stmt _ = []
+names_in_stmt tree.empty = []
+names_in_stmt (tree.block b) = []
+names_in_stmt (tree.if_then c x) = []
+names_in_stmt (tree.if_else c x y) = []
+names_in_stmt (tree.while c b) = []
+names_in_stmt (tree.until b c) = []
+names_in_stmt (tree.thru e b) = []
+names_in_stmt (tree.case e ss) = []
 
 abbrev pub names_in : Part → List Named
 names_in (site.name n) = n ∷ []

@@ -69,7 +69,9 @@ abbrev mutual
   inside_expr (tree.not e spot) a = here e a ∷ inside_expr e a
   inside_expr (tree.two op x y) a = (here x a ∷ inside_expr x a) ++ (here y a ∷ inside_expr y a)
   inside_expr (tree.if c x y spot) a = (here c a ∷ inside_expr c a) ++ (here x a ∷ inside_expr x a) ++ (here y a ∷ inside_expr y a)
-  inside_expr _ a = []
+  inside_expr (tree.number z spot) a = []
+  inside_expr (tree.truth b spot) a = []
+  inside_expr (tree.tested test e spot) a = []
 
   pub inside_list : PExprs → Surroundings → List Site
   inside_list tree.none a = []
@@ -117,7 +119,9 @@ module _ (blocks : List Block) where
     inside_stmt (tree.case e ss) begin listed a = sites e a ++ sites_in_stmts ss false a
     inside_stmt (tree.process (tree.called n es) task) begin listed a = inside_actuals es (formals_at a n) a
     inside_stmt (tree.write n spot phrases es) begin listed a = inside_list es a
-    inside_stmt _ begin listed a = []
+    inside_stmt tree.empty begin listed a = []
+    inside_stmt (tree.go_to n) begin listed a = []
+    inside_stmt (tree.event act e) begin listed a = []
 
     pub sites_in_stmts : PStmts → Bool → Surroundings → List Site
     sites_in_stmts tree.no_stmts listed a = []
@@ -128,7 +132,12 @@ module _ (blocks : List Block) where
     inside_decl (tree.arrays kind ns pairs) a first = sites_in_pairs pairs (record a { known = first })
     inside_decl (tree.procedure h s) a first =
         here_stmt s false (inside_procedure blocks h a) ∷ inside_stmt s of_procedure false (inside_procedure blocks h a)
-    inside_decl _ a first = []
+    inside_decl (tree.simple kind ns) a first = []
+    inside_decl (tree.files ns) a first = []
+    inside_decl (tree.events ns) a first = []
+    inside_decl (tree.tasks ns) a first = []
+    inside_decl (tree.labels ns) a first = []
+    inside_decl (tree.forward h) a first = []
 
     pub sites_in_decls : PDecls → Surroundings → List Declared → List Site
     sites_in_decls tree.no_decls a first = []

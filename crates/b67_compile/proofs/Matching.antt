@@ -99,7 +99,7 @@ actual_none (tree.truth b spot) f = refl
 actual_none (tree.variable (tree.subscripted n tree.none)) f = name_none n (wants_value f)
 actual_none (tree.variable (tree.subscripted n (tree.more e es))) f = refl
 actual_none (tree.call c) f = refl
-actual_none (tree.happened e spot) f = refl
+actual_none (tree.tested test e spot) f = refl
 actual_none (tree.paren e spot) f = refl
 actual_none (tree.plus e spot) f = refl
 actual_none (tree.neg e spot) f = refl
@@ -113,7 +113,7 @@ mutual
   expr_none (tree.truth b spot) a = refl
   expr_none (tree.variable (tree.subscripted n es)) a = list_none es a
   expr_none (tree.call (tree.called n es)) a = actuals_none es (formals_at a n) a
-  expr_none (tree.happened e spot) a = refl
+  expr_none (tree.tested test e spot) a = refl
   expr_none (tree.paren e spot) a = expr_none e a
   expr_none (tree.plus e spot) a = expr_none e a
   expr_none (tree.neg e spot) a = expr_none e a

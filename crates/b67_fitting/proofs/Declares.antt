@@ -97,7 +97,7 @@ module _ (blocks : List Block) (k : ℕ) (b : Block) (a : Surroundings) (stands 
         site k (here (tree.variable (tree.subscripted n (tree.more e es))) a) (fair_expr (tree.variable (tree.subscripted n (tree.more e es)))) (listed_line (tree.more e es) t.1)
     listed_expr m (tree.call (tree.called n es)) t =
         site k (here (tree.call (tree.called n es)) a) (fair_expr (tree.call (tree.called n es))) (listed_call n es t.0 t.1 (listed_actuals (formals_of t.0) es t.4))
-    listed_expr m (tree.happened e spot) t = absurd t
+    listed_expr m (tree.tested test e spot) t = absurd t
     listed_expr m (tree.paren e spot) t = site k (here (tree.paren e spot) a) (fair_expr (tree.paren e spot)) (passed k spot (listed_expr m e t))
     listed_expr m (tree.plus e spot) t = site k (here (tree.plus e spot) a) (fair_expr (tree.plus e spot)) (passed k spot (listed_expr types.Number e t.1))
     listed_expr m (tree.neg e spot) t = site k (here (tree.neg e spot) a) (fair_expr (tree.neg e spot)) (passed k spot (listed_expr types.Number e t.1))

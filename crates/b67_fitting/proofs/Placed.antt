@@ -164,7 +164,7 @@ module _ (blocks : List Block) (sc : Scopes) (known results : Spot → Option Co
       fits_expr k (tree.call (tree.called n es)) t g =
           let c = g.0.0.0.called t.0 level at t.1 in
           (c.callee, c.fits, fits_actuals_of n es t.0 c (fits_actuals t.0 t.0.params (specified t.0 t.2) es t.4 (inside_call n es t.0 t.1 g.1)), c.result_is ∙ t.3)
-      fits_expr k (tree.happened e spot) t g = absurd t
+      fits_expr k (tree.tested test e spot) t g = absurd t
       fits_expr k (tree.paren e spot) t g = fits_expr k e t g.1
       fits_expr k (tree.plus e spot) t g = (t.0, fits_expr types.Number e t.1 g.1)
       fits_expr k (tree.neg e spot) t g = (t.0, fits_expr types.Number e t.1 g.1)

@@ -224,7 +224,7 @@ actual_good sc (tree.variable (tree.subscripted n (tree.more e es))) f a g = g
 actual_good sc (tree.number z spot) f a g = g
 actual_good sc (tree.truth z spot) f a g = g
 actual_good sc (tree.call c) f a g = g
-actual_good sc (tree.happened e spot) f a g = g
+actual_good sc (tree.tested test e spot) f a g = g
 actual_good sc (tree.paren e spot) f a g = g
 actual_good sc (tree.plus e spot) f a g = g
 actual_good sc (tree.neg e spot) f a g = g
@@ -318,7 +318,7 @@ module _ (sc : Scopes) (j : ℕ) (outer : List Spot) (a : Surroundings) (r : IsA
       expr_known (tree.truth z spot) g = tt
       expr_known (tree.variable (tree.subscripted n es)) g = (known n g.0.known g.0.there, list_known es g.1)
       expr_known (tree.call (tree.called n es)) g = (known n g.0.known g.0.there, actuals_known es (formals_at a n) g.1)
-      expr_known (tree.happened e spot) g = known e.name g.0.known g.0.there
+      expr_known (tree.tested test e spot) g = known e.name g.0.known g.0.there
       expr_known (tree.paren e spot) g = expr_known e g.1
       expr_known (tree.plus e spot) g = expr_known e g.1
       expr_known (tree.neg e spot) g = expr_known e g.1

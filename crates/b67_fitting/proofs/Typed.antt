@@ -38,7 +38,7 @@ actual_part_is (tree.variable (tree.subscripted n (tree.more e es))) f h = refl
 actual_part_is (tree.number z spot) f h = refl
 actual_part_is (tree.truth z spot) f h = refl
 actual_part_is (tree.call c) f h = refl
-actual_part_is (tree.happened e spot) f h = refl
+actual_part_is (tree.tested test e spot) f h = refl
 actual_part_is (tree.paren e spot) f h = refl
 actual_part_is (tree.plus e spot) f h = refl
 actual_part_is (tree.neg e spot) f h = refl
@@ -151,7 +151,7 @@ module _ (blocks : List Block) (a : Surroundings) (plain : KnowsPlain a) where
           is = ap result_type f.class_is ∙ f.kind_is;
           typed = (h, f.class_is, f.built, f.kind_is, typed_actuals h h.params (specified h f.built) (tree.more e es) w many inside);
         }
-    typed (tree.happened e spot) w c = absurd (none_happens e.task (class_of a e.name) e.name.spot (plain_first a plain e.name [] c.0.known) c.0.typed)
+    typed (tree.tested test e spot) w c = absurd (none_happens e.task (class_of a e.name) e.name.spot (plain_first a plain e.name [] c.0.known) c.0.typed)
     typed (tree.paren e spot) w c =
         let h = typed e w c.1 in
         record { kind = h.kind; is = h.is; typed = h.typed }

@@ -40,7 +40,7 @@ actual_uses (tree.variable (tree.subscripted n (tree.more e es))) f a = refl
 actual_uses (tree.number z spot) f a = refl
 actual_uses (tree.truth z spot) f a = refl
 actual_uses (tree.call c) f a = refl
-actual_uses (tree.happened e spot) f a = refl
+actual_uses (tree.tested test e spot) f a = refl
 actual_uses (tree.paren e spot) f a = refl
 actual_uses (tree.plus e spot) f a = refl
 actual_uses (tree.neg e spot) f a = refl
@@ -87,7 +87,7 @@ module _ (s : Spot) where
       in_expr (tree.truth z spot) = omega arith
       in_expr (tree.variable (tree.subscripted n es)) = omega (arith, of_names a (n ∷ []), in_list es)
       in_expr (tree.call (tree.called n es)) = omega (arith, of_names a (n ∷ []), in_actuals es (formals_at a n))
-      in_expr (tree.happened e spot) = omega (arith, of_names a (e.name ∷ []))
+      in_expr (tree.tested test e spot) = omega (arith, of_names a (e.name ∷ []))
       in_expr (tree.paren e spot) = omega (arith, in_expr e)
       in_expr (tree.plus e spot) = omega (arith, in_expr e)
       in_expr (tree.neg e spot) = omega (arith, in_expr e)

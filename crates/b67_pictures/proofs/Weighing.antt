@@ -14,7 +14,7 @@ mutual
   depth_small (tree.variable (tree.subscripted n (tree.more e es))) = omega (arith, depth_small e, line_small es)
   depth_small (tree.call (tree.called n tree.none)) = omega arith
   depth_small (tree.call (tree.called n (tree.more e es))) = omega (arith, depth_small e, line_small es)
-  depth_small (tree.happened e spot) = omega arith
+  depth_small (tree.tested test e spot) = omega arith
   depth_small (tree.paren e spot) = omega (arith, depth_small e)
   depth_small (tree.plus e spot) = omega (arith, depth_small e)
   depth_small (tree.neg e spot) = omega (arith, depth_small e)
