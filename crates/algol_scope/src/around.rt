@@ -22,7 +22,7 @@ use std::alloc::{AllocError, Global};
 use std::mem;
 
 /// The lexical level of the outer block.
-const OUTER_LEVEL: u8 = 2;
+const OUTER_LEVEL: u8 = b67_limits::OUTER_LEVEL;
 
 /// A procedure as its calls see it: how it takes its actuals.
 #[derive(Drop)]

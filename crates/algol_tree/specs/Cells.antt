@@ -2,6 +2,7 @@
 -- around it for any other. A cell's couple is the level of its block and an index, from 2 on.
 use Rattle.std.specs.Prelude.{ℕ, ◌+◌, ◌==◌, ◌&&◌, if◌then◌else◌, not, Bool, false, List, [], ◌∷◌, ◌++◌, map, filter, length, is_some, Option, Some, None}
 use Rattle.std.specs.List.{flat_map}
+use Rattle.b67_limits.specs.declared.TheConstants.{OUTER_LEVEL}
 use Rattle.algol_tree.specs.declared.token.Spot.{Spot}
 use Rattle.algol_tree.specs.declared.tree.Named.{Named}
 use Rattle.algol_tree.specs.declared.tree.Heading.{Heading}
@@ -14,9 +15,6 @@ use Rattle.algol_tree.specs.Sites as site
 use Rattle.algol_tree.specs.Sites.{Part, Site}
 
 -- ---- levels
-
-abbrev pub OUTER_LEVEL : ℕ
-OUTER_LEVEL = 2
 
 -- the level of a block with so many blocks around it
 abbrev pub level_at : ℕ → ℕ

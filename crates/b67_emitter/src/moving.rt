@@ -18,7 +18,7 @@ use b67_segment::Builder;
 use std::alloc::AllocError;
 
 /// The most elements that a row has.
-const MOST_ELEMENTS: i64 = 1_048_576;
+const MOST_ELEMENTS: i64 = b67_limits::MOST_ELEMENTS as i64;
 
 /// By a bound above 0: what is below 0 stays.
 fn append_above(out: &mut Builder, low: i64) -> Result<(), AllocError>

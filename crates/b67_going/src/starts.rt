@@ -21,10 +21,10 @@ use b67_store::Core;
 use b67_word::Place;
 
 /// The most processes that a run has.
-pub const MOST_PROCESSES: u32 = 256;
+pub const MOST_PROCESSES: u32 = b67_limits::MOST_PROCESSES;
 
 /// The most cells of a frame, and so the most parameters of a process.
-pub const MOST_CELLS: u32 = 511;
+pub const MOST_CELLS: u32 = b67_limits::MOST_FRAME_CELLS as u32;
 
 /// What START is given.
 #[derive(Clone, Copy, PartialEq, Eq, Debug)]

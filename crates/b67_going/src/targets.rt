@@ -15,7 +15,7 @@ use b67_segment::MOST_SEGMENT_WORDS;
 use b67_word::Place;
 
 // The greatest number of a segment that a control word can hold.
-const LAST_SEGMENT: u32 = 1_023;
+const LAST_SEGMENT: u32 = b67_limits::MOST_PROCEDURES as u32;
 
 // The place after the last syllable that a segment can have: 6 in each of its words.
 const END_OF_CODE: u32 = 6 * MOST_SEGMENT_WORDS as u32;

@@ -27,7 +27,7 @@ use b67_store::{Core, MOST_COUNTED_WORDS, MOST_STACK_WORDS};
 use std::alloc::Global;
 
 /// The most arrays that are made at once, by this project's profile.
-pub const MOST_ARRAYS: u32 = 400;
+pub const MOST_ARRAYS: u32 = b67_limits::MOST_BLOCK_CELLS as u32;
 
 // ---- what is asked for
 

@@ -25,11 +25,11 @@ pub use intrinsic::{FIRST_INTRINSIC, Intrinsic, LAST_INTRINSIC};
 use std::alloc::AllocError;
 pub use table::{OperatorKind, operators_are_told_apart};
 
-/// The level of the outer block: the program's own, under which level 0 is the system's.
-pub const OUTER_LEVEL: u8 = 2;
+/// The level of the outer block.
+pub const OUTER_LEVEL: u8 = b67_limits::OUTER_LEVEL;
 
-/// The deepest level that a block can have: a couple has five bits for it.
-pub const MOST_LEVEL: u8 = 31;
+/// The deepest level that a block can have.
+pub const MOST_LEVEL: u8 = b67_limits::MOST_LEVEL;
 
 /// Where a cell is found: in the block of this level that can be seen, at this index.
 #[derive(Clone, Copy, PartialEq, Eq, Debug)]

@@ -19,7 +19,7 @@ use b67_table::{InterruptKind, Private};
 use b67_word::{Word, make_word, operand, truth};
 
 // The most cells of a frame, which a control word can hold.
-const MOST_CELLS: u16 = 511;
+const MOST_CELLS: u16 = b67_limits::MOST_FRAME_CELLS;
 
 const INVALID: Stop = Stop::Interrupt(InterruptKind::InvalidOperand);
 

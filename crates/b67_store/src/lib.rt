@@ -25,7 +25,7 @@ use std::alloc::AllocError;
 pub const MOST_STACK_WORDS: usize = 65_536;
 
 /// The most words of all rows that count as live elements of arrays, by this project's profile.
-pub const MOST_COUNTED_WORDS: u32 = 1_048_576;
+pub const MOST_COUNTED_WORDS: u32 = b67_limits::MOST_ELEMENTS;
 
 /// The most rows; their numbers are below this one, by this project's profile.
 pub const MOST_ROWS: usize = 4_194_304;

@@ -1,5 +1,6 @@
 -- How large the parts of a run may be, where no crate below says it.
-use Rattle.std.specs.Prelude.{ℕ, ◌*◌, ◌^◌}
+use Rattle.std.specs.Prelude.{ℕ, ◌+◌, ◌*◌}
+use Rattle.b67_limits.specs.declared.TheConstants.{MOST_FRAME_CELLS, MOST_PROCESSES, MOST_BLOCK_CELLS, MOST_PROCEDURES}
 use Rattle.b67_segment.specs.declared.TheConstants.{MOST_SEGMENT_WORDS}
 
 -- the most words of a segment
@@ -10,18 +11,18 @@ segment_limit = MOST_SEGMENT_WORDS
 abbrev pub end_of_code : ℕ
 end_of_code = 6 * segment_limit
 
--- how many segments a control word can name
+-- how many segments a control word can name: the program's and one for each procedure
 abbrev pub segment_numbers : ℕ
-segment_numbers = 2 ^ 10
+segment_numbers = MOST_PROCEDURES + 1
 
--- the most cells of a frame, which a control word can hold
+-- the most cells of a frame
 abbrev pub most_cells : ℕ
-most_cells = 511
+most_cells = MOST_FRAME_CELLS
 
 -- the most processes of a run
 abbrev pub most_processes : ℕ
-most_processes = 256
+most_processes = MOST_PROCESSES
 
 -- the most arrays that are made at once
 abbrev pub most_arrays : ℕ
-most_arrays = 400
+most_arrays = MOST_BLOCK_CELLS

@@ -1,5 +1,6 @@
 -- The small pieces of which templates are made, in a segment of these operators, at one level.
 use Rattle.std.specs.Prelude.{◌≡◌, ℕ, ◌+◌, ◌/◌, ◌%◌, ◌<◌, ◌≤◌, unsigned_abs, ℤ, pos, neg_ℤ, ◌-ℤ◌, int_le, int_lt, if◌then◌else◌, Bool, true, false, List, [], ◌∷◌}
+use Rattle.b67_limits.specs.declared.TheConstants.{MOST_ELEMENTS}
 use Rattle.algol_tree.specs.declared.tree.Op.{Op}
 use Rattle.algol_tree.specs.declared.tree.Op.TheVariants as operators
 use Rattle.algol_tree.specs.declared.tree.Kind.{Kind}
@@ -69,7 +70,7 @@ is_implication _ = false
 
 -- ---- subscripts
 
--- Where a lower bound lies: at 0, above it, less than 1,048,576 below it, or further below, where each subscript of a row is below 0.
+-- Where a lower bound lies: at 0, above it, less than `MOST_ELEMENTS` below it, or further below, where each subscript of a row is below 0.
 pub data Low : Type 0 where
   zero : Low
   above : Low
@@ -78,10 +79,10 @@ pub data Low : Type 0 where
 
 abbrev pub low_of : ℤ → Low
 low_of low =
-    if int_lt (pos 0) low then above else if int_le (pos 0) low then zero else if int_lt (neg_ℤ (pos 1048576)) low then near else far
+    if int_lt (pos 0) low then above else if int_le (pos 0) low then zero else if int_lt (neg_ℤ (pos MOST_ELEMENTS)) low then near else far
 
 -- A subscript is moved by the lower bound where the result is surely a whole number; otherwise it leaves a number that is in no row, since
--- no row has more than 1,048,576 elements.
+-- no row has more than `MOST_ELEMENTS` elements.
 abbrev pub moved_by : Low → ℤ → ℤ → ℤ
 moved_by zero low i = i
 moved_by above low i = if int_le (pos 0) i then i -ℤ low else i
