@@ -16,3 +16,9 @@ mod Ready
 mod Declarations
 mod Uses
 mod Sources
+mod Spelled
+mod Fronts
+mod Lexed
+mod EndToken
+mod Parsed
+mod OneAnswer

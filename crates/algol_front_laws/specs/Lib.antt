@@ -2,3 +2,4 @@ pub mod Phases
 pub mod Declarations
 pub mod Uses
 pub mod Couples
+pub mod OneAnswer

@@ -5,6 +5,7 @@ ghost use Rattle.algol_front_laws.specs.Phases.{RefusalsTellTheirPart, AnswersTe
 ghost use Rattle.algol_front_laws.specs.Declarations.{EachNameHasOne, NoneTwice};
 ghost use Rattle.algol_front_laws.specs.Uses.{EachUseIsLookedUp};
 ghost use Rattle.algol_front_laws.specs.Couples.{EachCellHasOne};
+ghost use Rattle.algol_front_laws.specs.OneAnswer.{EachTextHasOneAnswer};
 
 /// Law: the reason of a refusal tells which part of the front end refuses, and the parts before it pass. Refused for a reason
 /// of the text, the bytes are no tokens; of the grammar, they are tokens that read as no program; of names and limits, as a
@@ -29,4 +30,10 @@ pub fn each_name_has_one_declaration()
 /// the place of its first token, and that of a result under the name of its procedure.
 pub fn each_cell_has_one_couple()
     ensures { EachCellHasOne }
+{}
+
+/// Law: each text of at most [`MOST_SOURCE_BYTES`](algol_tree::MOST_SOURCE_BYTES) bytes has one answer: it is an accepted source, with one
+/// tree, or it is refused at one place for one reason. So the definitions leave no text without an answer.
+pub fn each_text_has_one_answer()
+    ensures { EachTextHasOneAnswer }
 {}
