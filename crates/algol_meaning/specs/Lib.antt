@@ -16,11 +16,3 @@ pub mod Run
 pub mod Seen
 pub mod Turns
 pub mod SeenTree
-pub mod SeenValue
-pub mod SeenStack
-pub mod Placed
-pub mod SeenScope
-pub mod SeenExpression
-pub mod SeenStatement
-pub mod SeenRest
-pub mod Shown

@@ -13,8 +13,8 @@ use Rattle.algol_tree.specs.Image.{stmts, decl, decls, body}
 use Rattle.algol_tree.specs.Sorts.{Declared}
 use Rattle.algol_tree.specs.Surroundings.{Surroundings, inside, knowing, knowing_all, made_known}
 use Rattle.algol_tree.specs.Sites.{has_decls}
-use Rattle.algol_meaning.specs.SeenScope.{used}
-use Rattle.algol_meaning.specs.declared.scope.Use.{Use}
+use Rattle.algol_rest.specs.SeenScope.{used}
+use Rattle.algol_rest.specs.declared.scope.Use.{Use}
 use Rattle.algol_names.specs.declared.known.Names.{Names}
 use Rattle.algol_names.specs.declared.known.Seen.{Seen}
 use Rattle.algol_names.specs.declared.known.Seen.TheVariants as seens

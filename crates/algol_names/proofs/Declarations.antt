@@ -13,8 +13,8 @@ use Rattle.algol_tree.specs.Plain as tree
 use Rattle.algol_tree.specs.Plain.{PStmt, PDecl}
 use Rattle.algol_tree.specs.Blocks.{Block}
 use Rattle.algol_tree.specs.Image.{stmt, decl, pairs}
-use Rattle.algol_meaning.specs.SeenScope.{used}
-use Rattle.algol_meaning.specs.declared.scope.Use.{Use}
+use Rattle.algol_rest.specs.SeenScope.{used}
+use Rattle.algol_rest.specs.declared.scope.Use.{Use}
 use Rattle.algol_names.specs.declared.known.Seen.TheVariants as seens
 use Rattle.algol_names.specs.declared.known.Around.{Around}
 use Rattle.algol_names.specs.Seeing.{Adds, AddsDecl, at_first, pairs_uses, procedure_uses, decl_uses}

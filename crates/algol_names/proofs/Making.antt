@@ -13,9 +13,9 @@ use Rattle.algol_tree.specs.Plain as tree
 use Rattle.algol_tree.specs.Plain.{PDecl, PDecls}
 use Rattle.algol_tree.specs.Classes as class
 use Rattle.algol_tree.specs.Surroundings.{Surroundings, made_known, declare_procedure, announced, heading_or, body_of}
-use Rattle.algol_meaning.specs.declared.scope.Sort.TheVariants as sorts
-use Rattle.algol_meaning.specs.SeenScope.{sort}
-use Rattle.algol_meaning.specs.declared.scope.Sort.{Sort}
+use Rattle.algol_rest.specs.declared.scope.Sort.TheVariants as sorts
+use Rattle.algol_rest.specs.SeenScope.{sort}
+use Rattle.algol_rest.specs.declared.scope.Sort.{Sort}
 use Rattle.algol_names.specs.declared.known.Entry.{Entry}
 use Rattle.algol_names.specs.declared.known.Names.{Names}
 use Rattle.algol_names.specs.declared.known.Seen.TheVariants as seens

@@ -19,8 +19,8 @@ use Rattle.algol_tree.specs.Blocks.{Block, Begin, of_statement}
 use Rattle.algol_tree.specs.Image.{expr, exprs, stmt, stmts, variable, call, body}
 use Rattle.algol_tree.specs.Scopes as scoping
 use Rattle.algol_tree.specs.Surroundings.{Surroundings}
-use Rattle.algol_meaning.specs.SeenScope.{used}
-use Rattle.algol_meaning.specs.declared.scope.Use.{Use}
+use Rattle.algol_rest.specs.SeenScope.{used}
+use Rattle.algol_rest.specs.declared.scope.Use.{Use}
 use Rattle.algol_names.specs.declared.known.Seen.TheVariants as seens
 use Rattle.algol_names.specs.declared.known.Around.{Around}
 use Rattle.algol_names.specs.Seeing.{Sees, Adds, Kept, expr_uses, stmt_uses, stmts_uses, begin_uses, for_uses}

@@ -14,7 +14,7 @@ use Rattle.algol_tree.specs.Blocks.{Block, Begin}
 use Rattle.algol_tree.specs.Image.{exprs, variable, call}
 use Rattle.algol_tree.specs.Scopes as scoping
 use Rattle.algol_tree.specs.Surroundings.{Surroundings}
-use Rattle.algol_meaning.specs.declared.scope.Use.{Use}
+use Rattle.algol_rest.specs.declared.scope.Use.{Use}
 use Rattle.algol_names.specs.declared.known.Seen.TheVariants as seens
 use Rattle.algol_names.specs.declared.known.Around.{Around}
 use Rattle.algol_names.specs.Seeing.{Adds, expr_uses, list_uses, stmt_uses, task_uses, for_uses}

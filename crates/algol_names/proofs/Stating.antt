@@ -15,7 +15,7 @@ use Rattle.algol_tree.specs.Scopes.{uses_at}
 use Rattle.algol_tree.specs.Sorts.{Declared, look_up}
 use Rattle.algol_tree.specs.Surroundings.{Surroundings, formals_at, knowing, knowing_all}
 use Rattle.algol_tree.specs.Sites.{Site, sites, inside_list, here_stmt, inside_stmt, sites_in_stmts, inside_decl, sites_in_decls, has_decls}
-use Rattle.algol_meaning.specs.declared.scope.Use.{Use}
+use Rattle.algol_rest.specs.declared.scope.Use.{Use}
 use Rattle.algol_names.specs.declared.known.Names.{Names}
 use Rattle.algol_names.specs.declared.known.Seen.{Seen}
 use Rattle.algol_names.specs.declared.known.Seen.TheVariants as seens

@@ -6,8 +6,8 @@ use Rattle.algol_tree.specs.Scopes as scoping
 use Rattle.algol_tree.specs.Sorts as plain
 use Rattle.algol_tree.specs.Sorts.{Declared}
 use Rattle.algol_tree.specs.Surroundings.{Surroundings}
-use Rattle.algol_meaning.specs.SeenScope.{used, sort}
-use Rattle.algol_meaning.specs.declared.scope.Use.{Use}
+use Rattle.algol_rest.specs.SeenScope.{used, sort}
+use Rattle.algol_rest.specs.declared.scope.Use.{Use}
 use Rattle.algol_names.specs.declared.known.Entry.{Entry}
 use Rattle.algol_names.specs.declared.known.Around.{Around}
 use Rattle.algol_names.specs.declared.known.Seen.{Seen}

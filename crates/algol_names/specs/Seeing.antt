@@ -10,9 +10,9 @@ use Rattle.algol_tree.specs.Scopes as scoping
 use Rattle.algol_tree.specs.Scopes.{uses_at}
 use Rattle.algol_tree.specs.Surroundings.{Surroundings, inside, inside_procedure, knowing_all}
 use Rattle.algol_tree.specs.Sites.{sites, inside_list, sites_in_pairs, here_stmt, inside_stmt, sites_in_stmts, inside_decl, sites_in_decls, sites_in_body}
-use Rattle.algol_meaning.specs.SeenScope.{sort, used}
-use Rattle.algol_meaning.specs.declared.scope.Sort.{Sort}
-use Rattle.algol_meaning.specs.declared.scope.Use.{Use}
+use Rattle.algol_rest.specs.SeenScope.{sort, used}
+use Rattle.algol_rest.specs.declared.scope.Sort.{Sort}
+use Rattle.algol_rest.specs.declared.scope.Use.{Use}
 use Rattle.algol_names.specs.declared.known.Entry.{Entry}
 use Rattle.algol_names.specs.declared.known.Seen.{Seen}
 use Rattle.algol_names.specs.declared.known.Seen.TheVariants as seens

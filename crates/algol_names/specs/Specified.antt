@@ -3,8 +3,8 @@ use Rattle.std.specs.Prelude.{ℕ, ◌&&◌, if◌then◌else◌, Bool, List, Op
 use Rattle.std.specs.Borrow.{Bor}
 use Rattle.std.specs.BTreeMap.{BTreeMap}
 use Rattle.algol_tree.specs.Sorts as plain
-use Rattle.algol_meaning.specs.SeenScope.{sort}
-use Rattle.algol_meaning.specs.declared.scope.Sort.{Sort}
+use Rattle.algol_rest.specs.SeenScope.{sort}
+use Rattle.algol_rest.specs.declared.scope.Sort.{Sort}
 use Rattle.algol_names.specs.Tables.{under}
 
 -- what nothing is said of is a variable

@@ -3,11 +3,11 @@
 ghost use Rattle.std.specs.Prelude.{◌≡◌, ◌∷◌, ◌++◌, map, IfOk, OnOk};
 ghost use Rattle.algol_tree.specs.Blocks as plain;
 ghost use Rattle.algol_meaning.specs.SeenTree.{stmt, stmts, body, decl, decls, program};
-ghost use Rattle.algol_meaning.specs.SeenScope.{block, in_block};
+ghost use Rattle.algol_rest.specs.SeenScope.{block, in_block};
 ghost use Rattle.algol_names.specs.Blocks as seen;
 
 use crate::parameters::parameters_of;
-use algol_meaning::{Block, BlockStatements, Owner};
+use algol_rest::{Block, BlockStatements, Owner};
 use algol_tree::{Body, Decl, Heading, List, Program, Spot, Stmt};
 use std::alloc::{AllocError, Global};
 

@@ -7,14 +7,14 @@ ghost use Rattle.algol_tree.specs.Image.{decl, decls};
 ghost use Rattle.algol_tree.specs.Plain as tree;
 ghost use Rattle.algol_tree.specs.Plain.{PDecls};
 ghost use Rattle.algol_tree.specs.Surroundings.{made_known};
-ghost use Rattle.algol_meaning.specs.SeenScope as shown;
+ghost use Rattle.algol_rest.specs.SeenScope as shown;
 ghost use Rattle.algol_names.specs.Blocks.{blocks_in};
 ghost use Rattle.algol_names.specs.Declaring.{Makes, Knows, names_made, parameters_made, number_ahead, numbers_ahead};
 ghost use Rattle.algol_names.specs.Seeing.{Stays};
 
 use crate::known::Around;
 use crate::parameters::Specified;
-use algol_meaning::{Blocks, Sort};
+use algol_rest::{Blocks, Sort};
 use algol_tree::{Decl, Heading, Named};
 use std::alloc::{AllocError, Global};
 use std::collections::BTreeMap;

@@ -8,7 +8,7 @@ ghost use Rattle.algol_names.specs.declared.known.Seen.TheVariants as seens;
 ghost use Rattle.algol_names.specs.Known.{IsBare, Puts, entry_in, looked_up, seen_names};
 ghost use Rattle.algol_names.specs.Seeing.{Sees, Declares, Stays};
 
-use algol_meaning::Sort;
+use algol_rest::Sort;
 use std::alloc::{AllocError, Global};
 use std::collections::BTreeMap;
 use std::mem;

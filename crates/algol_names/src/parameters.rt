@@ -4,11 +4,11 @@ ghost use Rattle.std.specs.Prelude.{◌≡◌, ℕ, List, Some, if◌then◌else
 ghost use Rattle.std.specs.Str.{bytes_eq};
 ghost use Rattle.algol_tree.specs.Sorts as plain;
 ghost use Rattle.algol_tree.specs.Sorts.{is_named_in, sort_in};
-ghost use Rattle.algol_meaning.specs.SeenScope.{parameter, sort};
+ghost use Rattle.algol_rest.specs.SeenScope.{parameter, sort};
 ghost use Rattle.algol_names.specs.Tables.{under};
 ghost use Rattle.algol_names.specs.Specified.{sort_under, valued};
 
-use algol_meaning::{Parameter, Sort};
+use algol_rest::{Parameter, Sort};
 use algol_rules::names_of;
 use algol_tree::{Heading, List, Named, Spec};
 use std::alloc::{AllocError, Global};

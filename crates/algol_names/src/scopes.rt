@@ -3,11 +3,11 @@
 ghost use Rattle.std.specs.Prelude.{◌≡◌, IfOk};
 ghost use Rattle.algol_tree.specs.Image.{program};
 ghost use Rattle.algol_tree.specs.Scopes as scoping;
-ghost use Rattle.algol_meaning.specs.SeenScope.{scoped};
+ghost use Rattle.algol_rest.specs.SeenScope.{scoped};
 
 use crate::blocks::blocks_of;
 use crate::statements::uses_of;
-use algol_meaning::{Blocks, Scopes, Uses};
+use algol_rest::{Blocks, Scopes, Uses};
 use algol_tree::Program;
 use std::alloc::{AllocError, Global};
 

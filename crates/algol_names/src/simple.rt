@@ -12,7 +12,7 @@ ghost use Rattle.algol_names.specs.Seeing.{Adds, stmt_uses, task_uses, for_uses}
 
 use crate::known::{Around, Seen};
 use crate::uses::{add, add_in_expr, add_in_exprs, add_left};
-use algol_meaning::Use;
+use algol_rest::Use;
 use algol_tree::{Call, EventName, Expr, Named, Variable};
 use std::alloc::AllocError;
 

@@ -3,7 +3,7 @@
 ghost use Rattle.std.specs.Prelude.{◌≡◌, Bool, map, OnOk, IfOk};
 ghost use Rattle.algol_tree.specs.Image.{stmt, stmts, decl, decls, body};
 ghost use Rattle.algol_tree.specs.Surroundings.{outermost};
-ghost use Rattle.algol_meaning.specs.SeenScope.{used};
+ghost use Rattle.algol_rest.specs.SeenScope.{used};
 ghost use Rattle.algol_names.specs.declared.known.Seen.TheVariants as seens;
 ghost use Rattle.algol_names.specs.Blocks as seen;
 ghost use Rattle.algol_names.specs.Seeing.{Adds, AddsDecl, AddsDecls, Kept, Stays, stmt_uses, stmts_uses, begin_uses, body_uses, procedure_uses};
@@ -16,7 +16,7 @@ use crate::simple::{
     add_in_write,
 };
 use crate::uses::{add, add_in_expr, add_in_pairs};
-use algol_meaning::{Blocks, Use};
+use algol_rest::{Blocks, Use};
 use algol_tree::{Body, Decl, Heading, Stmt};
 use std::alloc::{AllocError, Global};
 

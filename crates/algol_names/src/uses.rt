@@ -4,12 +4,12 @@ ghost use Rattle.std.specs.Prelude.{◌≡◌, ◌++◌, map, OnOk, IfOk};
 ghost use Rattle.algol_tree.specs.Image.{expr, exprs, pairs};
 ghost use Rattle.algol_tree.specs.Scopes as scoping;
 ghost use Rattle.algol_tree.specs.Surroundings.{Surroundings};
-ghost use Rattle.algol_meaning.specs.SeenScope.{used};
+ghost use Rattle.algol_rest.specs.SeenScope.{used};
 ghost use Rattle.algol_names.specs.declared.known.Seen.TheVariants as seens;
 ghost use Rattle.algol_names.specs.Seeing.{Sees, Adds, used_by, expr_uses, list_uses, pairs_uses};
 
 use crate::known::{Around, Seen};
-use algol_meaning::{Sort, Use};
+use algol_rest::{Sort, Use};
 use algol_tree::{Expr, Named, Pair};
 use std::alloc::AllocError;
 

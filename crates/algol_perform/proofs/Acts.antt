@@ -11,8 +11,8 @@ use Rattle.algol_meaning.specs.Rest as rest
 use Rattle.algol_meaning.specs.Actions as actions
 use Rattle.algol_meaning.specs.Actions.{Action}
 use Rattle.algol_meaning.specs.Events.{Released, event_at, set_event, caused, reset, liberated, liberated_by, with_waiter, with_procurer, taken}
-use Rattle.algol_meaning.specs.SeenExpression.{reference}
-use Rattle.algol_meaning.specs.declared.cell.Reference.{Reference}
+use Rattle.algol_rest.specs.SeenExpression.{reference}
+use Rattle.algol_rest.specs.declared.cell.Reference.{Reference}
 use Rattle.algol_world.specs.Going as going
 use Rattle.algol_world.specs.Leaving.{is_nil}
 use Rattle.algol_world.proofs.Releasing.{able_stays, caused_stays}

@@ -10,12 +10,12 @@ use Rattle.algol_meaning.specs.World.{World, Part, process_at, set_cell, array_i
 use Rattle.algol_meaning.specs.Rest as rest
 use Rattle.algol_meaning.specs.Actions as actions
 use Rattle.algol_meaning.specs.Arrays.{with_element}
-use Rattle.algol_meaning.specs.SeenValue.{value}
-use Rattle.algol_meaning.specs.SeenExpression.{reference}
-use Rattle.algol_meaning.specs.SeenStatement.{answered}
-use Rattle.algol_meaning.specs.declared.cell.Reference.{Reference}
-use Rattle.algol_meaning.specs.declared.value.Value.{Value}
-use Rattle.algol_meaning.specs.declared.part.Answer.{Answer}
+use Rattle.algol_rest.specs.SeenValue.{value}
+use Rattle.algol_rest.specs.SeenExpression.{reference}
+use Rattle.algol_rest.specs.SeenStatement.{answered}
+use Rattle.algol_rest.specs.declared.cell.Reference.{Reference}
+use Rattle.algol_rest.specs.declared.value.Value.{Value}
+use Rattle.algol_rest.specs.declared.part.Answer.{Answer}
 use Rattle.algol_world.specs.SeenAction.{action}
 use Rattle.algol_world.specs.SeenWorld as views
 use Rattle.algol_world.specs.Going.{chosen, going, stopping, opening, resumed}

@@ -7,8 +7,8 @@ use Rattle.algol_meaning.specs.World as world
 use Rattle.algol_meaning.specs.World.{World, Part, process_at, with_process}
 use Rattle.algol_meaning.specs.Rest as rest
 use Rattle.algol_meaning.specs.Actions as actions
-use Rattle.algol_meaning.specs.SeenExpression as seen
-use Rattle.algol_meaning.specs.declared.cell.Cell.{Cell}
+use Rattle.algol_rest.specs.SeenExpression as seen
+use Rattle.algol_rest.specs.declared.cell.Cell.{Cell}
 use Rattle.algol_world.specs.Going.{chosen, opening, resumed}
 use Rattle.algol_world.specs.Leaving.{is_nil}
 use Rattle.algol_step.specs.declared.effect.Effect.TheVariants as effects

@@ -7,10 +7,10 @@ use Rattle.algol_tree.specs.Scopes.{Scopes}
 use Rattle.algol_meaning.specs.World as world
 use Rattle.algol_tree.specs.Sorts as sorts
 use Rattle.algol_meaning.specs.Instances.{variable_cells, parameter_cells}
-use Rattle.algol_meaning.specs.SeenExpression as seen
-use Rattle.algol_meaning.specs.SeenScope.{parameter}
-use Rattle.algol_meaning.specs.declared.cell.Cell.{Cell}
-use Rattle.algol_meaning.specs.declared.scope.Parameter.{Parameter}
+use Rattle.algol_rest.specs.SeenExpression as seen
+use Rattle.algol_rest.specs.SeenScope.{parameter}
+use Rattle.algol_rest.specs.declared.cell.Cell.{Cell}
+use Rattle.algol_rest.specs.declared.scope.Parameter.{Parameter}
 use Rattle.algol_world.specs.SeenInstance.{named_cell, named_cells, instance}
 use Rattle.algol_world.specs.SeenWorld.{process}
 use Rattle.algol_world.specs.declared.instance.NamedCell.{NamedCell}

@@ -5,7 +5,7 @@ use Rattle.algol_tree.specs.Scopes.{Scopes}
 use Rattle.algol_meaning.specs.World.{World, Part, Process}
 use Rattle.algol_meaning.specs.Critical.{is_evaluation, is_this, own_instances}
 use Rattle.algol_meaning.specs.Instances.{Cut, cut_at, is_part_of}
-use Rattle.algol_meaning.specs.Shown.{shown}
+use Rattle.algol_rest.specs.Shown.{shown}
 use Rattle.algol_world.specs.SeenWorld as views
 use Rattle.algol_world.specs.declared.world.Part as code
 use Rattle.algol_world.specs.Leaving.{is_nothing}

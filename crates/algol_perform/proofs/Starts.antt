@@ -9,9 +9,9 @@ use Rattle.algol_meaning.specs.World.{World, Part, Process, process_at, or_no_pr
 use Rattle.algol_meaning.specs.Rest as rest
 use Rattle.algol_meaning.specs.Actions as actions
 use Rattle.algol_meaning.specs.Critical.{newest_first, first_on_path, referred_by, referred_by_task}
-use Rattle.algol_meaning.specs.SeenExpression as seen
-use Rattle.algol_meaning.specs.declared.cell.Cell.{Cell}
-use Rattle.algol_meaning.specs.declared.cell.Reference.{Reference}
+use Rattle.algol_rest.specs.SeenExpression as seen
+use Rattle.algol_rest.specs.declared.cell.Cell.{Cell}
+use Rattle.algol_rest.specs.declared.cell.Reference.{Reference}
 use Rattle.algol_world.specs.SeenWorld as views
 use Rattle.algol_world.specs.Going.{going, resumed}
 use Rattle.algol_world.specs.Leaving.{is_nil}

@@ -2,11 +2,11 @@
 
 ghost use Rattle.std.specs.Prelude.{◌≡◌, IfOk};
 ghost use Rattle.algol_meaning.specs.Run as run;
-ghost use Rattle.algol_meaning.specs.SeenScope.{scoped};
+ghost use Rattle.algol_rest.specs.SeenScope.{scoped};
 ghost use Rattle.algol_world.specs.SeenWorld.{world_of};
 
 use crate::making::{add_instance, add_process, part_in};
-use algol_meaning::Scopes;
+use algol_rest::Scopes;
 use algol_tree::List;
 use algol_world::{Instances, Purpose, World};
 use std::alloc::{AllocError, Global};

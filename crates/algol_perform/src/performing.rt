@@ -2,7 +2,7 @@
 
 ghost use Rattle.std.specs.Prelude.{◌≡◌, false, IfOk};
 ghost use Rattle.algol_meaning.specs.World as plain;
-ghost use Rattle.algol_meaning.specs.SeenScope.{scoped};
+ghost use Rattle.algol_rest.specs.SeenScope.{scoped};
 ghost use Rattle.algol_world.specs.SeenWorld.{world_of, process_of};
 ghost use Rattle.algol_world.specs.SeenActed.{acted_choice};
 ghost use Rattle.algol_world.specs.Leaving.{is_nil};
@@ -10,7 +10,7 @@ ghost use Rattle.algol_step.specs.declared.effect.Effect.TheVariants as effects;
 ghost use Rattle.algol_perform.specs.Performing.{performed};
 
 use crate::parts::innermost;
-use algol_meaning::{Answer, Reference, Value, append};
+use algol_rest::{Answer, Reference, Value, append};
 use algol_tree::{EventAct, Line, List};
 use algol_world::{Acted, Action, NamedCell, Part, World};
 use b67_num::FaultKind;

@@ -3,8 +3,8 @@
 ghost use Rattle.std.specs.Prelude.{◌≡◌, [], ◌∷◌, ◌++◌, false, map, IfOk};
 ghost use Rattle.algol_meaning.specs.World as plain;
 ghost use Rattle.algol_meaning.specs.Critical as critical;
-ghost use Rattle.algol_meaning.specs.SeenExpression as seen;
-ghost use Rattle.algol_meaning.specs.SeenScope.{scoped};
+ghost use Rattle.algol_rest.specs.SeenExpression as seen;
+ghost use Rattle.algol_rest.specs.SeenScope.{scoped};
 ghost use Rattle.algol_world.specs.SeenInstance as shown;
 ghost use Rattle.algol_world.specs.SeenWorld as views;
 ghost use Rattle.algol_world.specs.SeenWorld.{world_of, process_of};
@@ -15,7 +15,7 @@ ghost use Rattle.algol_perform.specs.Path as path;
 ghost use Rattle.algol_perform.specs.Performing.{performed};
 
 use crate::making::{add_instance, add_process, part_in};
-use algol_meaning::{Answer, Cell, Reference};
+use algol_rest::{Answer, Cell, Reference};
 use algol_tree::List;
 use algol_world::{Acted, Action, Purpose, World, instance_at};
 use std::alloc::{AllocError, Global};

@@ -5,8 +5,8 @@ use Rattle.algol_tree.specs.Scopes.{Scopes}
 use Rattle.algol_meaning.specs.World.{World, is_able, process_at}
 use Rattle.algol_meaning.specs.Choice.{choice}
 use Rattle.algol_meaning.specs.Run.{End, end_of, goes_on, may_go, after_entry, run_from}
-use Rattle.algol_meaning.specs.SeenScope.{scoped}
-use Rattle.algol_meaning.specs.declared.scope.Scopes as code
+use Rattle.algol_rest.specs.SeenScope.{scoped}
+use Rattle.algol_rest.specs.declared.scope.Scopes as code
 use Rattle.algol_perform.proofs.Newer.{take_more}
 use Rattle.algol_run.specs.Stepping.{Step, ended, not_able, went, step_by, step_of}
 

@@ -1,9 +1,9 @@
 -- Laws of the cells and elements of new arrays.
 use Rattle.std.proofs.Common.{◌≡◌, refl, ℕ, zero, suc, List, [], ◌∷◌, ◌++◌, map, ap, replicate}
-use Rattle.algol_meaning.specs.SeenValue.{value}
-use Rattle.algol_meaning.specs.SeenExpression as seen
-use Rattle.algol_meaning.specs.declared.value.Value.{Value}
-use Rattle.algol_meaning.specs.declared.cell.Bounds.{Bounds}
+use Rattle.algol_rest.specs.SeenValue.{value}
+use Rattle.algol_rest.specs.SeenExpression as seen
+use Rattle.algol_rest.specs.declared.value.Value.{Value}
+use Rattle.algol_rest.specs.declared.cell.Bounds.{Bounds}
 use Rattle.algol_world.specs.SeenInstance.{named_cell, named_cells}
 use Rattle.algol_world.specs.declared.instance.NamedCell.{NamedCell}
 

@@ -10,11 +10,11 @@ use Rattle.algol_meaning.specs.Asks as asks
 use Rattle.algol_meaning.specs.Actions as actions
 use Rattle.algol_meaning.specs.Choice as choices
 use Rattle.algol_meaning.specs.Choice.{Choice}
-use Rattle.algol_meaning.specs.SeenScope.{scoped}
-use Rattle.algol_meaning.specs.SeenValue.{value}
-use Rattle.algol_meaning.specs.SeenExpression as seen
-use Rattle.algol_meaning.specs.SeenExpression.{reference}
-use Rattle.algol_meaning.specs.SeenStatement.{answered}
+use Rattle.algol_rest.specs.SeenScope.{scoped}
+use Rattle.algol_rest.specs.SeenValue.{value}
+use Rattle.algol_rest.specs.SeenExpression as seen
+use Rattle.algol_rest.specs.SeenExpression.{reference}
+use Rattle.algol_rest.specs.SeenStatement.{answered}
 use Rattle.algol_world.specs.SeenAction.{action}
 use Rattle.algol_world.specs.SeenInstance.{named_cells}
 use Rattle.algol_world.specs.SeenWorld as views

@@ -1,11 +1,11 @@
 //! Copies of cells, as parameters are passed on.
 
 ghost use Rattle.std.specs.Prelude.{◌≡◌, IfOk};
-ghost use Rattle.algol_meaning.specs.SeenExpression as seen;
+ghost use Rattle.algol_rest.specs.SeenExpression as seen;
 ghost use Rattle.algol_world.specs.SeenInstance.{cell_or_none};
 
 use crate::lists::copied;
-use algol_meaning::{ArrayCell, Cell, EventCell, Value};
+use algol_rest::{ArrayCell, Cell, EventCell, Value};
 use algol_tree::Whole;
 use std::alloc::{AllocError, Global};
 

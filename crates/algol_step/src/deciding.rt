@@ -3,15 +3,15 @@
 ghost use Rattle.std.specs.Prelude.{◌≡◌, IfOk};
 ghost use Rattle.algol_meaning.specs.World as plain;
 ghost use Rattle.algol_meaning.specs.Asks as asks;
-ghost use Rattle.algol_meaning.specs.SeenScope.{scoped};
-ghost use Rattle.algol_meaning.specs.SeenValue.{value};
-ghost use Rattle.algol_meaning.specs.SeenExpression.{reference};
+ghost use Rattle.algol_rest.specs.SeenScope.{scoped};
+ghost use Rattle.algol_rest.specs.SeenValue.{value};
+ghost use Rattle.algol_rest.specs.SeenExpression.{reference};
 ghost use Rattle.algol_world.specs.SeenInstance.{cell_or_none};
 ghost use Rattle.algol_world.specs.SeenWorld.{world_of};
 ghost use Rattle.algol_step.specs.Effects.{asked_choice, effect_choice, here_in};
 
 use crate::effect::Effect;
-use algol_meaning::{Answer, Cell, Reference, Rest, Value};
+use algol_rest::{Answer, Cell, Reference, Rest, Value};
 use algol_tree::{Line, Named, Whole};
 use algol_world::{Action, Part, Purpose, World, ancestor, cell_at};
 use std::alloc::{AllocError, Global};

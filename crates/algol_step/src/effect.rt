@@ -1,6 +1,6 @@
 //! What an action does, once all that it reads is known.
 
-use algol_meaning::{Answer, Cell, Reference, Value};
+use algol_rest::{Answer, Cell, Reference, Value};
 use algol_tree::{EventAct, Line, List, Named};
 use algol_world::{Action, NamedCell, Part};
 use b67_num::FaultKind;

@@ -5,8 +5,8 @@ ghost use Rattle.algol_meaning.specs.World as plain;
 ghost use Rattle.algol_meaning.specs.Asks as asks;
 ghost use Rattle.algol_meaning.specs.Choice as choices;
 ghost use Rattle.algol_meaning.specs.SeenTree.{expr};
-ghost use Rattle.algol_meaning.specs.SeenValue.{value};
-ghost use Rattle.algol_meaning.specs.SeenExpression.{reference};
+ghost use Rattle.algol_rest.specs.SeenValue.{value};
+ghost use Rattle.algol_rest.specs.SeenExpression.{reference};
 ghost use Rattle.algol_world.specs.SeenWorld.{world_of};
 ghost use Rattle.algol_step.specs.Effects.{asked_choice, effect_choice};
 
@@ -14,7 +14,7 @@ use crate::copying::copy_cell;
 use crate::deciding::here;
 use crate::effect::Effect;
 use crate::lists::{copied, has_items};
-use algol_meaning::{Answer, Cell, Place, Reference, Rest, Value, append, whole_of};
+use algol_rest::{Answer, Cell, Place, Reference, Rest, Value, append, whole_of};
 use algol_tree::{Expr, List, Named};
 use algol_world::{
     Action, Part, Purpose, World, cell_at, element_at, has_happened, subscript_place,

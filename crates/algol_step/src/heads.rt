@@ -2,8 +2,8 @@
 
 ghost use Rattle.std.specs.Prelude.{◌≡◌, IfOk};
 ghost use Rattle.algol_meaning.specs.Asks as asks;
-ghost use Rattle.algol_meaning.specs.SeenScope.{scoped};
-ghost use Rattle.algol_meaning.specs.SeenRest.{rest, asked};
+ghost use Rattle.algol_rest.specs.SeenScope.{scoped};
+ghost use Rattle.algol_rest.specs.SeenRest.{rest, asked};
 ghost use Rattle.algol_step.specs.Effects.{asked_choice, effect_choice};
 
 use crate::calling::{decide_enter, decide_start};
@@ -20,7 +20,7 @@ use crate::stating::{
     decide_leaving, decide_store, decide_turn,
 };
 use crate::writing::decide_line;
-use algol_meaning::Ask;
+use algol_rest::Ask;
 use algol_world::{Part, World};
 use std::alloc::{AllocError, Global};
 

@@ -5,14 +5,15 @@ ghost use Rattle.algol_meaning.specs.Value as plain;
 ghost use Rattle.algol_meaning.specs.Arrays as arrays;
 ghost use Rattle.algol_meaning.specs.Asks as asks;
 ghost use Rattle.algol_meaning.specs.SeenTree as trees;
-ghost use Rattle.algol_meaning.specs.SeenValue.{value};
-ghost use Rattle.algol_meaning.specs.SeenExpression as seen;
+ghost use Rattle.algol_rest.specs.SeenValue.{value};
+ghost use Rattle.algol_rest.specs.SeenExpression as seen;
 ghost use Rattle.algol_world.specs.SeenInstance.{named_cells};
 ghost use Rattle.algol_step.specs.Effects.{asked_choice, effect_choice};
 
 use crate::effect::Effect;
 use crate::lists::copied;
-use algol_meaning::{ArrayCell, Bounds, Cell, MOST_ELEMENTS, Value, whole_of};
+use algol_meaning::MOST_ELEMENTS;
+use algol_rest::{ArrayCell, Bounds, Cell, Value, whole_of};
 use algol_tree::{Kind, List, Named, Pair, Whole};
 use algol_world::{NamedCell, Part, World, elements_of, some_empty};
 use b67_num::FaultKind;

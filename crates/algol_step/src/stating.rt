@@ -3,15 +3,15 @@
 ghost use Rattle.std.specs.Prelude.{◌≡◌, IfOk};
 ghost use Rattle.algol_meaning.specs.Asks as asks;
 ghost use Rattle.algol_meaning.specs.Rest as rest;
-ghost use Rattle.algol_meaning.specs.SeenValue.{value};
-ghost use Rattle.algol_meaning.specs.SeenExpression as seen;
+ghost use Rattle.algol_rest.specs.SeenValue.{value};
+ghost use Rattle.algol_rest.specs.SeenExpression as seen;
 ghost use Rattle.algol_step.specs.Effects.{asked_choice, effect_choice};
 
 use crate::deciding::here;
 use crate::effect::Effect;
 use crate::evaluating::followed;
 use crate::lists::copied;
-use algol_meaning::{Answer, Place, Value};
+use algol_rest::{Answer, Place, Value};
 use algol_tree::{EventAct, Named};
 use algol_world::{Action, Part, World};
 use b67_num::{FaultKind, NumFault};

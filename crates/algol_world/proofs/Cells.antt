@@ -4,8 +4,8 @@ use Rattle.algol_tree.specs.Sorts.{same_name}
 use Rattle.algol_meaning.specs.Value as plain
 use Rattle.algol_meaning.specs.World as world
 use Rattle.algol_meaning.specs.World.{cells_with}
-use Rattle.algol_meaning.specs.SeenExpression as seen
-use Rattle.algol_meaning.specs.declared.cell.Cell.{Cell}
+use Rattle.algol_rest.specs.SeenExpression as seen
+use Rattle.algol_rest.specs.declared.cell.Cell.{Cell}
 use Rattle.b67_list.specs.Numbered.{numbered, set_numbered}
 use Rattle.algol_world.specs.SeenInstance.{named_cell, named_cells, instance, place_of_number, place_in, further}
 use Rattle.algol_world.specs.Counting.{displaced}

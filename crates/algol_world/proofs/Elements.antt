@@ -4,8 +4,8 @@ use Rattle.std.proofs.lemmas.List.{map-set}
 use Rattle.std.proofs.lemmas.Option.{slice_get-map, slice_get-get_or, slice_get_past}
 use Rattle.algol_meaning.specs.Value as plain
 use Rattle.algol_meaning.specs.Arrays.{or_number}
-use Rattle.algol_meaning.specs.SeenValue.{value}
-use Rattle.algol_meaning.specs.declared.value.Value.{Value}
+use Rattle.algol_rest.specs.SeenValue.{value}
+use Rattle.algol_rest.specs.declared.value.Value.{Value}
 use Rattle.algol_world.specs.SeenArray.{capped}
 
 module _ (xs : List Value) (n k : ℕ) (is : k ≡ capped n) where

@@ -5,8 +5,8 @@ use Rattle.algol_tree.specs.Sorts.{same_name}
 use Rattle.algol_meaning.specs.Value as plain
 use Rattle.algol_meaning.specs.World as world
 use Rattle.algol_meaning.specs.World.{no_instance}
-use Rattle.algol_meaning.specs.SeenExpression as seen
-use Rattle.algol_meaning.specs.declared.cell.Cell.{Cell}
+use Rattle.algol_rest.specs.SeenExpression as seen
+use Rattle.algol_rest.specs.declared.cell.Cell.{Cell}
 use Rattle.algol_world.specs.declared.instance.NamedCell.{NamedCell}
 use Rattle.algol_world.specs.declared.instance.Instance.{Instance}
 

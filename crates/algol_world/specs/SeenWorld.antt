@@ -4,10 +4,10 @@ use Rattle.std.specs.Borrow.{Bor}
 use Rattle.algol_tree.specs.Scopes as scoping
 use Rattle.algol_meaning.specs.Value as plain
 use Rattle.algol_meaning.specs.World as world
-use Rattle.algol_meaning.specs.SeenScope.{scoped}
-use Rattle.algol_meaning.specs.SeenRest.{rest}
-use Rattle.algol_meaning.specs.SeenExpression.{reference}
-use Rattle.algol_meaning.specs.declared.cell.Reference.{Reference}
+use Rattle.algol_rest.specs.SeenScope.{scoped}
+use Rattle.algol_rest.specs.SeenRest.{rest}
+use Rattle.algol_rest.specs.SeenExpression.{reference}
+use Rattle.algol_rest.specs.declared.cell.Reference.{Reference}
 use Rattle.algol_world.specs.SeenInstance.{instance}
 use Rattle.algol_world.specs.declared.world.Purpose.{Purpose}
 use Rattle.algol_world.specs.declared.world.Purpose.TheVariants as purposes

@@ -4,16 +4,16 @@
 ghost use Rattle.std.specs.Prelude.{◌≡◌, map, Some};
 ghost use Rattle.algol_meaning.specs.Value as plain;
 ghost use Rattle.algol_meaning.specs.World as world;
-ghost use Rattle.algol_meaning.specs.SeenScope as scoping;
-ghost use Rattle.algol_meaning.specs.SeenValue.{value};
+ghost use Rattle.algol_rest.specs.SeenScope as scoping;
+ghost use Rattle.algol_rest.specs.SeenValue.{value};
 ghost use Rattle.algol_meaning.specs.Arrays as arrays;
-ghost use Rattle.algol_meaning.specs.SeenExpression as seen;
+ghost use Rattle.algol_rest.specs.SeenExpression as seen;
 ghost use Rattle.algol_world.specs.SeenInstance.{cell_or_none};
 ghost use Rattle.algol_world.specs.SeenArray.{capped, base_of};
 
 use crate::lists::{item, no_items};
 use crate::size::size_of;
-use algol_meaning::{ArrayCell, Bounds, Cell, Sort, Value};
+use algol_rest::{ArrayCell, Bounds, Cell, Sort, Value};
 use algol_tree::Whole;
 use std::alloc::Global;
 

@@ -3,14 +3,14 @@
 ghost use Rattle.std.specs.Prelude.{◌≡◌, IfOk};
 ghost use Rattle.algol_meaning.specs.World as world;
 ghost use Rattle.algol_meaning.specs.Events as events;
-ghost use Rattle.algol_meaning.specs.SeenExpression as seen;
-ghost use Rattle.algol_meaning.specs.SeenExpression.{reference};
+ghost use Rattle.algol_rest.specs.SeenExpression as seen;
+ghost use Rattle.algol_rest.specs.SeenExpression.{reference};
 ghost use Rattle.algol_world.specs.SeenInstance.{zero_cell};
 ghost use Rattle.algol_world.specs.SeenWorld.{world_of};
 
 use crate::lists::{no_items, one_item, take_first};
 use crate::world::World;
-use algol_meaning::{Cell, EventCell, Reference, append};
+use algol_rest::{Cell, EventCell, Reference, append};
 use algol_tree::List;
 use std::alloc::{AllocError, Global};
 

@@ -3,8 +3,8 @@
 ghost use Rattle.std.specs.Prelude.{◌≡◌, IfOk};
 ghost use Rattle.algol_meaning.specs.World as world;
 ghost use Rattle.algol_meaning.specs.Events as events;
-ghost use Rattle.algol_meaning.specs.SeenScope.{scoped};
-ghost use Rattle.algol_meaning.specs.SeenExpression.{reference};
+ghost use Rattle.algol_rest.specs.SeenScope.{scoped};
+ghost use Rattle.algol_rest.specs.SeenExpression.{reference};
 ghost use Rattle.algol_world.specs.SeenInstance.{cell_or_none};
 ghost use Rattle.algol_world.specs.SeenWorld.{world_of};
 ghost use Rattle.algol_world.specs.SeenActed.{acted_choice};
@@ -14,7 +14,7 @@ use crate::acted::Acted;
 use crate::action::Action;
 use crate::instances::cell_at;
 use crate::world::{State, World};
-use algol_meaning::{Answer, Cell, Reference};
+use algol_rest::{Answer, Cell, Reference};
 use algol_tree::EventAct;
 use std::alloc::{AllocError, Global};
 

@@ -5,12 +5,13 @@ ghost use Rattle.b67_list.specs.Numbered as numbering;
 ghost use Rattle.algol_meaning.specs.World as world;
 ghost use Rattle.algol_meaning.specs.World.{cells_with};
 ghost use Rattle.algol_meaning.specs.Instances as leaving;
-ghost use Rattle.algol_meaning.specs.SeenExpression as seen;
-ghost use Rattle.algol_meaning.specs.SeenExpression.{reference};
+ghost use Rattle.algol_rest.specs.SeenExpression as seen;
+ghost use Rattle.algol_rest.specs.SeenExpression.{reference};
 ghost use Rattle.algol_world.specs.SeenInstance.{named_cells, instance, instance_or_none, holding, place_of_number, place_in, zero_cell, cell_or_none};
 ghost use Rattle.algol_world.specs.Counting.{displaced, displaced_at};
 
-use algol_meaning::{Cell, Reference, Value, same_name};
+use algol_meaning::same_name;
+use algol_rest::{Cell, Reference, Value};
 use algol_tree::{Line, List, Whole};
 use std::alloc::AllocError;
 use std::mem;

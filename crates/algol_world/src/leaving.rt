@@ -4,15 +4,15 @@ ghost use Rattle.std.specs.Prelude.{◌≡◌, ◌&&◌, ◌∷◌, [], IfOk};
 ghost use Rattle.algol_meaning.specs.World as world;
 ghost use Rattle.algol_meaning.specs.Instances as leaving;
 ghost use Rattle.algol_meaning.specs.Critical as critical;
-ghost use Rattle.algol_meaning.specs.SeenScope.{scoped};
-ghost use Rattle.algol_meaning.specs.SeenStatement.{answered};
+ghost use Rattle.algol_rest.specs.SeenScope.{scoped};
+ghost use Rattle.algol_rest.specs.SeenStatement.{answered};
 ghost use Rattle.algol_world.specs.SeenWorld.{purpose, process, state, world_of, process_of, process_or_none};
 ghost use Rattle.algol_world.specs.Leaving.{left_todo, leaving_with, failing, ending};
 
 use crate::instance::place;
 use crate::lists::item;
 use crate::world::{Part, Process, Purpose, State, World, WorldFault};
-use algol_meaning::{Answer, Scopes};
+use algol_rest::{Answer, Scopes};
 use b67_num::FaultKind;
 use std::alloc::{AllocError, Global};
 

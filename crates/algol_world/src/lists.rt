@@ -1,8 +1,8 @@
 //! Lists, as they are read and copied.
 
 ghost use Rattle.std.specs.Prelude.{◌≡◌, [], ◌∷◌, slice_get, IfOk};
-ghost use Rattle.algol_meaning.specs.SeenStack.{Popped};
-ghost use Rattle.algol_meaning.specs.Shown.{shown};
+ghost use Rattle.algol_rest.specs.SeenStack.{Popped};
+ghost use Rattle.algol_rest.specs.Shown.{shown};
 
 use algol_tree::List;
 use std::alloc::{AllocError, Global};

@@ -3,14 +3,14 @@
 ghost use Rattle.std.specs.Prelude.{◌≡◌, ◌∷◌, IfOk};
 ghost use Rattle.algol_meaning.specs.Rest as rest;
 ghost use Rattle.algol_meaning.specs.World as world;
-ghost use Rattle.algol_meaning.specs.SeenScope.{scoped};
-ghost use Rattle.algol_meaning.specs.SeenStatement.{answered};
+ghost use Rattle.algol_rest.specs.SeenScope.{scoped};
+ghost use Rattle.algol_rest.specs.SeenStatement.{answered};
 ghost use Rattle.algol_world.specs.SeenWorld.{part, process, state, world_of};
 ghost use Rattle.algol_world.specs.Going.{resumed, going, stopping, opening};
 
 use crate::instance::place;
 use crate::world::{Part, Process, State, World};
-use algol_meaning::{Answer, Scopes};
+use algol_rest::{Answer, Scopes};
 use std::alloc::{AllocError, Global};
 
 impl<'p> Process<'p> {

@@ -2,7 +2,7 @@
 
 ghost use Rattle.std.specs.Prelude.{◌≡◌, map};
 ghost use Rattle.algol_meaning.specs.Arrays as arrays;
-ghost use Rattle.algol_meaning.specs.SeenExpression as seen;
+ghost use Rattle.algol_rest.specs.SeenExpression as seen;
 ghost use Rattle.algol_world.specs.SeenArray.{capped};
 ghost use Rattle.algol_world.specs.SeenInstance.{named_cells, instance};
 ghost use Rattle.algol_world.specs.Counting as counting;
@@ -11,7 +11,7 @@ ghost use Rattle.algol_world.specs.SeenWorld.{world_of};
 
 use crate::instance::{Instance, NamedCell};
 use crate::world::World;
-use algol_meaning::{Bounds, Cell};
+use algol_rest::{Bounds, Cell};
 use algol_tree::List;
 
 /// How many subscripts lie within bounds.

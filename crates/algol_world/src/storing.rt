@@ -5,16 +5,16 @@ ghost use Rattle.algol_meaning.specs.World as world;
 ghost use Rattle.algol_meaning.specs.Rest as rest;
 ghost use Rattle.algol_meaning.specs.Arrays as arrays;
 ghost use Rattle.algol_meaning.specs.Value as plain;
-ghost use Rattle.algol_meaning.specs.SeenScope.{scoped};
-ghost use Rattle.algol_meaning.specs.SeenValue.{value};
-ghost use Rattle.algol_meaning.specs.SeenExpression.{reference};
+ghost use Rattle.algol_rest.specs.SeenScope.{scoped};
+ghost use Rattle.algol_rest.specs.SeenValue.{value};
+ghost use Rattle.algol_rest.specs.SeenExpression.{reference};
 ghost use Rattle.algol_world.specs.SeenInstance.{named_cells};
 ghost use Rattle.algol_world.specs.SeenWorld.{world_of};
 ghost use Rattle.algol_world.specs.Going.{going};
 
 use crate::instance::NamedCell;
 use crate::world::World;
-use algol_meaning::{Answer, Cell, Reference, Value};
+use algol_rest::{Answer, Cell, Reference, Value};
 use std::alloc::{AllocError, Global};
 
 impl<'p> World<'p> {

@@ -1,7 +1,7 @@
 //! The world of a run.
 
 use crate::instances::Instances;
-use algol_meaning::{Reference, Rest, Scopes, Stack};
+use algol_rest::{Reference, Rest, Scopes, Stack};
 use algol_tree::{Line, List};
 use b67_num::FaultKind;
 

@@ -1,6 +1,6 @@
 use Rattle.std.proofs.Common.{drop}
 use Rattle.algol_tree.specs.Classes.{Class}
-use Rattle.algol_meaning.specs.SeenScope as shown
+use Rattle.algol_rest.specs.SeenScope as shown
 use Rattle.algol_names.specs.Declaring.{Makes, names_made}
 use Rattle.algol_names.specs.Seeing.{Stays}
 use Rattle.algol_names.proofs.declaring.declare_all.Given as goal

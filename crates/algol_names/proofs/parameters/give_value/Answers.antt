@@ -1,7 +1,7 @@
 use Rattle.std.proofs.Common.{Some, arith}
 use Rattle.std.proofs.lemmas.Map.Text.{btree_map_updates_str}
 use Rattle.std.proofs.lemmas.Slice.Eq.{bytes_eq-Decides}
-use Rattle.algol_meaning.specs.declared.scope.Sort.TheVariants as sorts
+use Rattle.algol_rest.specs.declared.scope.Sort.TheVariants as sorts
 use Rattle.algol_names.specs.Tables.{under}
 use Rattle.algol_names.proofs.Specified.{value-given}
 use Rattle.algol_names.proofs.parameters.give_value.Goals as goal

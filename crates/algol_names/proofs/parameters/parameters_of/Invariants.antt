@@ -1,5 +1,5 @@
 use Rattle.std.proofs.Common.{◌≡◌, ◌++◌, map, drop}
-use Rattle.algol_meaning.specs.SeenScope.{parameter}
+use Rattle.algol_rest.specs.SeenScope.{parameter}
 use Rattle.algol_names.proofs.Specified.{parameter_in}
 use Rattle.algol_names.proofs.parameters.parameters_of.Given as goal
 

@@ -1,5 +1,5 @@
 use Rattle.std.proofs.Common.{◌∙◌, ap, map}
-use Rattle.algol_meaning.specs.SeenScope.{block, used}
+use Rattle.algol_rest.specs.SeenScope.{block, used}
 use Rattle.algol_names.proofs.Together.{together}
 use Rattle.algol_names.proofs.scopes.scopes_of.Goals as goal
 

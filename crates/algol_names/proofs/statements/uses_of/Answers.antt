@@ -1,7 +1,7 @@
 use Rattle.std.proofs.Common.{◌∙◌, ◌++◌, ap, map}
 use Rattle.algol_tree.specs.Image.{body}
 use Rattle.algol_tree.specs.Surroundings.{outermost}
-use Rattle.algol_meaning.specs.SeenScope.{used}
+use Rattle.algol_rest.specs.SeenScope.{used}
 use Rattle.algol_names.specs.Blocks.{blocks_in}
 use Rattle.algol_names.specs.declared.known.Seen.TheVariants as seens
 use Rattle.algol_names.specs.Seeing.{body_uses}

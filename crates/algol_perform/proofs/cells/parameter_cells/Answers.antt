@@ -1,9 +1,9 @@
 use Rattle.std.proofs.Common.{arith, ◌≡◌, ◌++◌, length, map, drop, List, ◌∷◌, ap, sym, ◌∙◌, refl, Some, None, slice_get}
 use Rattle.std.specs.Vec.Iter.{into_iter_items}
 use Rattle.algol_meaning.specs.Instances.{parameter_cells}
-use Rattle.algol_meaning.specs.SeenExpression.{cell}
-use Rattle.algol_meaning.specs.SeenScope.{parameter}
-use Rattle.algol_meaning.specs.declared.cell.Cell.{Cell}
+use Rattle.algol_rest.specs.SeenExpression.{cell}
+use Rattle.algol_rest.specs.SeenScope.{parameter}
+use Rattle.algol_rest.specs.declared.cell.Cell.{Cell}
 use Rattle.algol_world.specs.SeenInstance.{named_cells}
 use Rattle.algol_world.specs.declared.instance.NamedCell.{NamedCell}
 use Rattle.algol_perform.proofs.Fresh.{given_all, no_more, given_more}

@@ -2,9 +2,9 @@ use Rattle.std.proofs.Common.{◌≡◌, length, ap, sym, ◌∙◌}
 use Rattle.algol_meaning.specs.World.{World}
 use Rattle.algol_meaning.specs.Actions as actions
 use Rattle.algol_meaning.specs.Instances.{leave}
-use Rattle.algol_meaning.specs.SeenRest as seen
-use Rattle.algol_meaning.specs.SeenScope.{scoped}
-use Rattle.algol_meaning.specs.declared.scope.Scopes.{Scopes}
+use Rattle.algol_rest.specs.SeenRest as seen
+use Rattle.algol_rest.specs.SeenScope.{scoped}
+use Rattle.algol_rest.specs.declared.scope.Scopes.{Scopes}
 use Rattle.algol_world.specs.Going.{chosen}
 use Rattle.algol_world.specs.SeenActed.{acted_choice}
 use Rattle.algol_world.specs.SeenWorld.{world_of}

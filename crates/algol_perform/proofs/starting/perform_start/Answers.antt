@@ -3,10 +3,10 @@ use Rattle.algol_meaning.specs.World as world
 use Rattle.algol_meaning.specs.World.{World, Part}
 use Rattle.algol_meaning.specs.Rest as rest
 use Rattle.algol_meaning.specs.Critical.{newest_first, first_on_path, referred_by, referred_by_task}
-use Rattle.algol_meaning.specs.SeenExpression.{cell}
-use Rattle.algol_meaning.specs.SeenScope.{scoped}
-use Rattle.algol_meaning.specs.declared.cell.Cell.{Cell}
-use Rattle.algol_meaning.specs.declared.scope.Scopes.{Scopes}
+use Rattle.algol_rest.specs.SeenExpression.{cell}
+use Rattle.algol_rest.specs.SeenScope.{scoped}
+use Rattle.algol_rest.specs.declared.cell.Cell.{Cell}
+use Rattle.algol_rest.specs.declared.scope.Scopes.{Scopes}
 use Rattle.algol_world.specs.SeenWorld as views
 use Rattle.algol_world.specs.SeenWorld.{world_of}
 use Rattle.algol_world.specs.Going.{going}

@@ -1,5 +1,5 @@
 use Rattle.std.proofs.Common.{sym, ◌∙◌}
-use Rattle.algol_meaning.specs.SeenScope.{scoped}
+use Rattle.algol_rest.specs.SeenScope.{scoped}
 use Rattle.algol_world.specs.SeenWorld.{world_of}
 use Rattle.algol_run.proofs.Steps.{stays_so}
 use Rattle.algol_run.proofs.stepping.step.Goals as goal

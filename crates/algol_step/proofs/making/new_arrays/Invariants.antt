@@ -1,6 +1,6 @@
 use Rattle.std.proofs.Common.{◌≡◌, ◌++◌, drop, map}
 use Rattle.algol_meaning.specs.Arrays as arrays
-use Rattle.algol_meaning.specs.SeenExpression as seen
+use Rattle.algol_rest.specs.SeenExpression as seen
 use Rattle.algol_world.specs.SeenInstance.{named_cells}
 use Rattle.algol_step.proofs.making.new_arrays.Given as goal
 

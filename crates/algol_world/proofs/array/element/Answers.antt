@@ -1,7 +1,7 @@
 use Rattle.std.proofs.Common.{arith, ◌≡◌, ◌≤◌, ◌<◌, ◌^◌, map, length, ap, ◌∙◌}
 use Rattle.algol_meaning.specs.Value.{number}
 use Rattle.algol_meaning.specs.Arrays.{flat}
-use Rattle.algol_meaning.specs.SeenExpression.{bounds}
+use Rattle.algol_rest.specs.SeenExpression.{bounds}
 use Rattle.algol_world.specs.SeenArray.{capped}
 use Rattle.algol_world.proofs.Elements.{element_within, element_past}
 use Rattle.algol_world.proofs.array.element.Goals as goal

@@ -2,8 +2,8 @@ use Rattle.std.proofs.Common.{rules, ap, ◌∙◌, w64}
 use Rattle.std.specs.Int.RustNames.{FitsSigned}
 use Rattle.std.proofs.lemmas.Int.{to_z-of_z}
 use Rattle.algol_meaning.specs.Arrays.{placed}
-use Rattle.algol_meaning.specs.SeenScope.{sort}
-use Rattle.algol_meaning.specs.SeenExpression.{bounds}
+use Rattle.algol_rest.specs.SeenScope.{sort}
+use Rattle.algol_rest.specs.SeenExpression.{bounds}
 use Rattle.algol_world.proofs.Placing.{moved_not, moved_so}
 use Rattle.algol_world.proofs.array.moved_place.Goals as goal
 

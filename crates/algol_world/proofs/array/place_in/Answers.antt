@@ -1,5 +1,5 @@
 use Rattle.std.proofs.lemmas.Int.{to_z-of_z}
-use Rattle.algol_meaning.specs.SeenExpression.{bounds}
+use Rattle.algol_rest.specs.SeenExpression.{bounds}
 use Rattle.algol_world.proofs.Numbering.{map_get_some}
 use Rattle.algol_world.proofs.array.place_in.Goals as goal
 

@@ -1,6 +1,6 @@
 use Rattle.std.proofs.Common.{arith, ◌≡◌, ◌<◌, ◌^◌, map, length, ap}
 use Rattle.algol_meaning.specs.Arrays.{flat}
-use Rattle.algol_meaning.specs.SeenExpression.{bounds, array}
+use Rattle.algol_rest.specs.SeenExpression.{bounds, array}
 use Rattle.algol_world.specs.SeenArray.{capped}
 use Rattle.algol_world.proofs.Elements.{set_within}
 use Rattle.algol_world.proofs.array.set_element.Goals as goal

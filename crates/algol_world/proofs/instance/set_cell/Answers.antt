@@ -1,7 +1,7 @@
 use Rattle.std.proofs.Common.{◌≡◌, get_or, Some, ap, sym, ◌∙◌}
 use Rattle.algol_meaning.specs.World as world
 use Rattle.algol_meaning.specs.World.{cells_with}
-use Rattle.algol_meaning.specs.SeenExpression as seen
+use Rattle.algol_rest.specs.SeenExpression as seen
 use Rattle.algol_world.specs.SeenInstance.{instance}
 use Rattle.algol_world.specs.Counting.{displaced}
 use Rattle.algol_world.proofs.Cells.{changed}

@@ -1,6 +1,6 @@
 use Rattle.std.proofs.Common.{arith, ◌≡◌, ◌≤◌, ◌<◌, length, get_or, ap, ◌∙◌}
 use Rattle.algol_meaning.specs.World.{cells_with}
-use Rattle.algol_meaning.specs.SeenExpression as seen
+use Rattle.algol_rest.specs.SeenExpression as seen
 use Rattle.algol_world.specs.SeenInstance.{instance, named_cells}
 use Rattle.algol_world.proofs.Cells.{with_cell, with_no_cell, displaced_in, displaced_none, place_within}
 use Rattle.algol_world.proofs.instance.Instance.set.Goals as goal

@@ -1,6 +1,6 @@
 use Rattle.std.proofs.Common.{map, sym, ◌∙◌}
-use Rattle.algol_meaning.specs.SeenExpression as seen
-use Rattle.algol_meaning.specs.SeenExpression.{reference}
+use Rattle.algol_rest.specs.SeenExpression as seen
+use Rattle.algol_rest.specs.SeenExpression.{reference}
 use Rattle.algol_world.specs.SeenInstance.{instance}
 use Rattle.algol_world.proofs.Counting.{left_counts, set_adjusts}
 use Rattle.algol_world.proofs.instances.Instances.set_cell.Goals as goal

@@ -1,7 +1,7 @@
 use Rattle.std.proofs.Common.{map, ap, sym, ◌∙◌}
-use Rattle.algol_meaning.specs.SeenValue.{value}
-use Rattle.algol_meaning.specs.SeenExpression as seen
-use Rattle.algol_meaning.specs.SeenExpression.{reference}
+use Rattle.algol_rest.specs.SeenValue.{value}
+use Rattle.algol_rest.specs.SeenExpression as seen
+use Rattle.algol_rest.specs.SeenExpression.{reference}
 use Rattle.algol_world.specs.SeenInstance.{instance}
 use Rattle.algol_world.specs.Counting.{is_array}
 use Rattle.algol_world.proofs.Counting.{taken_cell, put_again, element_counts}

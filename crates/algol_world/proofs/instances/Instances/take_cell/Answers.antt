@@ -1,5 +1,5 @@
 use Rattle.std.proofs.Common.{map, ap, ◌∙◌}
-use Rattle.algol_meaning.specs.SeenExpression.{reference}
+use Rattle.algol_rest.specs.SeenExpression.{reference}
 use Rattle.algol_world.specs.SeenInstance.{instance, holding}
 use Rattle.algol_world.specs.Counting.{displaced_at}
 use Rattle.algol_world.proofs.Counting.{taken_zero}

@@ -1,8 +1,8 @@
 use Rattle.std.proofs.Common.{[], ◌∷◌, ◌++◌, ap, ◌∙◌}
 use Rattle.algol_meaning.specs.Value.{EventCell, event}
 use Rattle.algol_meaning.specs.Events.{event_at}
-use Rattle.algol_meaning.specs.SeenExpression as seen
-use Rattle.algol_meaning.specs.SeenExpression.{reference}
+use Rattle.algol_rest.specs.SeenExpression as seen
+use Rattle.algol_rest.specs.SeenExpression.{reference}
 use Rattle.algol_world.specs.SeenWorld.{world_of}
 use Rattle.algol_world.proofs.Setting.{set_taken}
 use Rattle.algol_world.proofs.world.World.add_waiter.Goals as goal

@@ -2,8 +2,8 @@ use Rattle.std.proofs.Common.{true, [], ap, ◌∙◌}
 use Rattle.algol_meaning.specs.Value.{EventCell, event}
 use Rattle.algol_meaning.specs.World as world
 use Rattle.algol_meaning.specs.Events.{event_at, set_event}
-use Rattle.algol_meaning.specs.SeenExpression as seen
-use Rattle.algol_meaning.specs.SeenExpression.{reference}
+use Rattle.algol_rest.specs.SeenExpression as seen
+use Rattle.algol_rest.specs.SeenExpression.{reference}
 use Rattle.algol_world.specs.SeenWorld.{world_of}
 use Rattle.algol_world.proofs.Setting.{set_taken}
 use Rattle.algol_world.proofs.world.World.cause.Goals as goal

@@ -1,7 +1,7 @@
 use Rattle.std.proofs.Common.{◌≤◌, length, ap}
 use Rattle.algol_meaning.specs.World as world
-use Rattle.algol_meaning.specs.SeenScope.{scoped}
-use Rattle.algol_meaning.specs.SeenStatement.{answered}
+use Rattle.algol_rest.specs.SeenScope.{scoped}
+use Rattle.algol_rest.specs.SeenStatement.{answered}
 use Rattle.algol_world.specs.Leaving.{left_todo}
 use Rattle.algol_world.specs.SeenWorld.{process, world_of}
 use Rattle.algol_world.proofs.Numbering.{unchanged}

@@ -1,6 +1,6 @@
 use Rattle.std.proofs.Common.{sym, ◌∙◌}
-use Rattle.algol_meaning.specs.SeenScope.{scoped}
-use Rattle.algol_meaning.specs.SeenStatement.{answered}
+use Rattle.algol_rest.specs.SeenScope.{scoped}
+use Rattle.algol_rest.specs.SeenStatement.{answered}
 use Rattle.algol_world.specs.SeenWorld.{world_of}
 use Rattle.algol_world.proofs.Exits.{leaves_last}
 use Rattle.algol_world.proofs.world.World.leaves.Goals as goal

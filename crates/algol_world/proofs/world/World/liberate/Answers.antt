@@ -3,8 +3,8 @@ use Rattle.algol_meaning.specs.Value.{EventCell, event}
 use Rattle.std.specs.Prelude.{Result, Ok, Err, IfOk}
 use Rattle.algol_meaning.specs.World.{World, set_able}
 use Rattle.algol_meaning.specs.Events.{event_at, liberated}
-use Rattle.algol_meaning.specs.SeenExpression as seen
-use Rattle.algol_meaning.specs.SeenExpression.{reference}
+use Rattle.algol_rest.specs.SeenExpression as seen
+use Rattle.algol_rest.specs.SeenExpression.{reference}
 use Rattle.algol_world.specs.SeenWorld.{world_of}
 use Rattle.algol_world.proofs.Setting.{set_taken}
 use Rattle.algol_world.proofs.world.World.liberate.Goals as goal

@@ -1,7 +1,7 @@
 use Rattle.std.proofs.Common.{false, ap}
 use Rattle.algol_meaning.specs.Value.{EventCell, event}
 use Rattle.algol_meaning.specs.Events.{event_at}
-use Rattle.algol_meaning.specs.SeenExpression.{reference}
+use Rattle.algol_rest.specs.SeenExpression.{reference}
 use Rattle.algol_world.specs.SeenWorld.{world_of}
 use Rattle.algol_world.proofs.Setting.{set_taken}
 use Rattle.algol_world.proofs.world.World.reset.Goals as goal

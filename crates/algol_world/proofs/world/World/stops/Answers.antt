@@ -1,6 +1,6 @@
 use Rattle.std.proofs.Common.{◌≤◌, length, ap}
 use Rattle.algol_meaning.specs.World as world
-use Rattle.algol_meaning.specs.SeenScope.{scoped}
+use Rattle.algol_rest.specs.SeenScope.{scoped}
 use Rattle.algol_meaning.specs.Rest.{done}
 use Rattle.algol_world.specs.SeenWorld.{state}
 use Rattle.algol_world.specs.Going.{resumed}

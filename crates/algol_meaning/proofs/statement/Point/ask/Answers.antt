@@ -1,8 +1,0 @@
-use Rattle.std.proofs.Common.{sym, ◌∙◌}
-use Rattle.algol_meaning.specs.SeenStatement.{following}
-use Rattle.algol_meaning.proofs.Asking.{ask-in}
-use Rattle.algol_meaning.proofs.statement.Point.ask.Goals as goal
-
-pub returns-in-In : goal.returns-in-In
-returns-in-In c =
-    let i = c.in-In in λ sc fs k. rw i.is (c.ask-in-In.ensures sc ∙ sym (ask-in sc i.head i.field-1 fs (following k)))

@@ -1,5 +1,0 @@
-use Rattle.algol_meaning.specs.SeenScope.{scoped}
-use Rattle.algol_meaning.proofs.statement.Work.again.Goals as goal
-
-pub returns-in-Count : goal.returns-in-Count
-returns-in-Count c = rw c.in-Count.is (c.count_on.ensures (scoped c.args.scopes.now))

@@ -1,5 +1,0 @@
-use Rattle.algol_meaning.specs.SeenScope.{scoped}
-use Rattle.algol_meaning.proofs.statement.Work.select.Goals as goal
-
-pub returns : goal.returns
-returns c = rw (c.in_ok-push_nth.ensures (scoped c.args.scopes.now)) c.go_on.ensures

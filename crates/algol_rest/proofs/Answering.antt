@@ -1,0 +1,141 @@
+-- Laws of what a part has still to do once its head has an answer.
+use Rattle.std.proofs.Common.{◌≡◌, refl, ℕ, zero, suc, List, [], ◌∷◌, ap, ◌∙◌, sym, Option, Some, None, slice_get, slice_index_or, is_some, nat_lt, length, IfSome}
+use Rattle.std.specs.Borrow.{Bor}
+use Rattle.std.proofs.lemmas.Option.{slice_get_read, slice_get_past}
+use Rattle.std.proofs.lemmas.Bool.{ltb-true, ltb-false}
+use Rattle.algol_tree.specs.Plain as tree
+use Rattle.algol_tree.specs.Plain.{PStmt}
+use Rattle.algol_tree.specs.Scopes.{Scopes}
+use Rattle.algol_tree.specs.declared.tree.Named.{Named}
+use Rattle.algol_tree.specs.declared.tree.Stmt.{Stmt}
+use Rattle.algol_meaning.specs.Value as plain
+use Rattle.algol_meaning.specs.Rest.{Hole, Half, Actuals, Aim, Item, Answer, busy, wants, aims}
+use Rattle.algol_meaning.specs.Settle.{put, put_actuals, put_place}
+use Rattle.algol_meaning.specs.Statements.{settle_items}
+use Rattle.algol_meaning.specs.Asks.{resume, nth_stmt}
+use Rattle.algol_meaning.specs.SeenTree.{stmt, stmts}
+use Rattle.algol_rest.specs.SeenValue.{value}
+use Rattle.algol_rest.specs.SeenExpression.{hole, wrap, refilled}
+use Rattle.algol_rest.specs.SeenRest.{stmt_or_empty}
+use Rattle.algol_rest.specs.SeenStatement.{role_at, sought_at, deed_at, last_at, tested, stepped_by, held}
+use Rattle.algol_rest.proofs.Frames.{put-wrap}
+use Rattle.algol_rest.specs.declared.part.Head.{Head}
+use Rattle.algol_rest.specs.declared.part.Frame.{Frame}
+use Rattle.algol_rest.specs.declared.statement.Role.{Role}
+use Rattle.algol_rest.specs.declared.statement.Role.TheVariants as role
+use Rattle.algol_rest.specs.declared.statement.Sought.{Sought}
+use Rattle.algol_rest.specs.declared.statement.Sought.TheVariants as sought
+use Rattle.algol_rest.specs.declared.statement.Deed.{Deed}
+use Rattle.algol_rest.specs.declared.statement.Deed.TheVariants as deed
+use Rattle.algol_rest.specs.declared.statement.Last.{Last}
+use Rattle.algol_rest.specs.declared.statement.Last.TheVariants as last
+use Rattle.algol_rest.specs.declared.statement.Within.{Within}
+use Rattle.algol_rest.specs.declared.statement.Within.TheVariants as within
+
+-- the statement of a CASE with that number
+pub nth_there : (ss : List Stmt) (i : ℕ) (s : Stmt) → slice_get ss i ≡ Some s → stmt s ≡ nth_stmt (stmts ss) i
+nth_there [] zero s e = cc
+nth_there [] (suc i) s e = cc
+nth_there (x ∷ ss) zero s e = let q : s ≡ x = cc in ap stmt q
+nth_there (x ∷ ss) (suc i) s e = nth_there ss i s e
+
+pub nth_past : (ss : List Stmt) (i : ℕ) → slice_get ss i ≡ None → tree.empty ≡ nth_stmt (stmts ss) i
+nth_past [] zero e = refl
+nth_past [] (suc i) e = refl
+nth_past (x ∷ ss) zero e = cc
+nth_past (x ∷ ss) (suc i) e = nth_past ss i e
+
+pub nth_got :
+    (ss : List Stmt) (i : ℕ) (r : Option (Bor Stmt)) → is_some r ≡ nat_lt i (length ss)
+    → IfSome r (λ x. x.now ≡ slice_index_or ss i x.now) → stmt_or_empty r ≡ nth_stmt (stmts ss) i
+nth_got ss i None b p = nth_past ss i (slice_get_past ss i (ltb-false i (length ss) (sym b)))
+nth_got ss i (Some x) b p = nth_there ss i x.now (slice_get_read ss (length ss) i x.now refl (ltb-true i (length ss) (sym b)) p)
+
+module _ (sc : Scopes) where
+  pub resume-role :
+      (r : Role) (n : Named) (x : Actuals) (k : List Item) (a : Answer)
+      → resume sc (role_at r n (wants x) k) a ≡ role_at r n (put_actuals sc x a) k
+  resume-role role.Calls n x k a = refl
+  resume-role (role.Starts task) n x k a = refl
+
+  pub resume-sought :
+      (s : Sought) (x : Aim) (k : List Item) (a : Answer)
+      → resume sc (sought_at sc s (aims x) k) a ≡ sought_at sc s (put_place sc x a) k
+  resume-sought (sought.Aiming r) x k a = refl
+  resume-sought sought.Locating x k a = refl
+
+  pub resume-deed : (d : Deed) (k : List Item) (a : Answer) → resume sc (deed_at d k) a ≡ settle_items sc k
+  resume-deed (deed.Store p v) k a = refl
+  resume-deed deed.Turn k a = refl
+  resume-deed (deed.Start n gs task) k a = refl
+  resume-deed (deed.Event act n) k a = refl
+  resume-deed (deed.Line phrases vs) k a = refl
+  resume-deed (deed.Arrays kind ns ps vs) k a = refl
+  resume-deed (deed.MakeEvent n) k a = refl
+  resume-deed deed.Within k a = refl
+  resume-deed deed.Dropping k a = refl
+
+  pub resume-last : (l : Last) (a : Answer) → resume sc (last_at l) a ≡ last_at l
+  resume-last last.Over a = refl
+  resume-last (last.Giving v) a = refl
+  resume-last (last.GivingPlace p) a = refl
+  resume-last (last.Going n) a = refl
+
+  pub resume-tested :
+      (s : PStmt) (h : Hole) (k : List Item) (a : Answer)
+      → resume sc (tested sc s (busy h) k) a ≡ tested sc s (put sc h a) k
+  resume-tested tree.empty h k a = refl
+  resume-tested (tree.label n s) h k a = refl
+  resume-tested (tree.assign v e) h k a = refl
+  resume-tested (tree.call_of c) h k a = refl
+  resume-tested (tree.go_to n) h k a = refl
+  resume-tested (tree.block b) h k a = refl
+  resume-tested (tree.if_then c x) h k a = refl
+  resume-tested (tree.if_else c x y) h k a = refl
+  resume-tested (tree.while c b) h k a = refl
+  resume-tested (tree.until b c) h k a = refl
+  resume-tested (tree.for v e s l b) h k a = refl
+  resume-tested (tree.thru e b) h k a = refl
+  resume-tested (tree.case e ss) h k a = refl
+  resume-tested (tree.process c task) h k a = refl
+  resume-tested (tree.event act e) h k a = refl
+  resume-tested (tree.write n spot phrases es) h k a = refl
+
+  pub resume-stepped :
+      (d : plain.Value) (s : PStmt) (h : Hole) (k : List Item) (a : Answer)
+      → resume sc (stepped_by sc d s (busy h) k) a ≡ stepped_by sc d s (put sc h a) k
+  resume-stepped d tree.empty h k a = refl
+  resume-stepped d (tree.label n s) h k a = refl
+  resume-stepped d (tree.assign v e) h k a = refl
+  resume-stepped d (tree.call_of c) h k a = refl
+  resume-stepped d (tree.go_to n) h k a = refl
+  resume-stepped d (tree.block b) h k a = refl
+  resume-stepped d (tree.if_then c x) h k a = refl
+  resume-stepped d (tree.if_else c x y) h k a = refl
+  resume-stepped d (tree.while c b) h k a = refl
+  resume-stepped d (tree.until b c) h k a = refl
+  resume-stepped d (tree.for v e s l b) h k a = refl
+  resume-stepped d (tree.thru e b) h k a = refl
+  resume-stepped d (tree.case e ss) h k a = refl
+  resume-stepped d (tree.process c task) h k a = refl
+  resume-stepped d (tree.event act e) h k a = refl
+  resume-stepped d (tree.write n spot phrases es) h k a = refl
+
+  pub resume-held :
+      (w : Within) (h : Hole) (k : List Item) (a : Answer) → resume sc (held sc w (busy h) k) a ≡ held sc w (put sc h a) k
+  resume-held within.Evaluating h k a = refl
+  resume-held (within.Storing p) h k a = refl
+  resume-held (within.Testing s) h k a = resume-tested _ h k a
+  resume-held (within.Stepping d s) h k a = resume-stepped (value d) _ h k a
+  resume-held (within.Supplying r n gs es) h k a = resume-role r _ _ k a
+  resume-held (within.Subscripting s n ks es) h k a = resume-sought s _ k a
+  resume-held (within.Writing phrases vs es) h k a = refl
+  resume-held (within.Bounding kind ns ps vs more) h k a = refl
+
+  pub resume-in :
+      (h : Head) (w : Within) (fs : List Frame) (k : List Item) (a : Answer)
+      → resume sc (held sc w (busy (wrap sc fs (hole sc h))) k) a ≡ held sc w (refilled sc fs (put sc (hole sc h) a)) k
+  resume-in h w fs k a =
+      resume-held w (wrap sc fs (hole sc h)) k a ∙ ap (λ (x : Half). held sc w x k) (put-wrap sc fs (hole sc h) a)
+
+pub ruleset resume_laws = (resume-role, resume-sought, resume-deed, resume-last, resume-in)

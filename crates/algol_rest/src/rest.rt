@@ -1,0 +1,191 @@
+//! What a part of a process has still to do: how it begins, what its head asks for, and how it goes on.
+
+ghost use Rattle.std.specs.Prelude.{◌≡◌, [], IfOk};
+ghost use Rattle.algol_tree.specs.Scopes as scoping;
+ghost use Rattle.algol_meaning.specs.Settle as settling;
+ghost use Rattle.algol_meaning.specs.Statements as statements;
+ghost use Rattle.algol_meaning.specs.Statements.{settle_items, items_of, items_from, ending};
+ghost use Rattle.algol_meaning.specs.Asks as asks;
+ghost use Rattle.algol_meaning.specs.SeenTree.{expr, stmt, stmts};
+ghost use Rattle.algol_rest.specs.SeenScope.{scoped, block};
+ghost use Rattle.algol_rest.specs.SeenStatement.{answered, ahead, Finds};
+ghost use Rattle.algol_rest.specs.SeenRest.{rest, asked};
+
+use crate::ask::Ask;
+use crate::part::{Answer, Control};
+use crate::scope::{Block, BlockStatements, Scopes};
+use crate::stack::Stack;
+use crate::statement::{Next, Point, Sought, Target, Within, Work};
+use algol_meaning::same_name;
+use algol_tree::{Expr, Line, Stmt};
+use std::alloc::{AllocError, Global};
+
+/// What a part of a process has still to do: where its head is, what is around the head, and what follows.
+#[derive(Drop)]
+pub struct Rest<'p> {
+    point: Point<'p>,
+    work: Work<'p>,
+}
+
+impl<'p> Rest<'p> {
+    /// The part that enters a block, or the body of a procedure: its declarations come first, and where it is a typed
+    /// procedure's, its result comes last.
+    pub fn of_block(
+        alloc: Global,
+        scopes: &Scopes<'p>,
+        entered: &Block<'p>,
+    ) -> Result<Rest<'p>, AllocError>
+        ensures { IfOk result (λ r. rest (scoped scopes.now) r ≡ settle_items (scoped scopes.now) (items_of (block entered.now))) }
+    {
+        let mut work = Work::ending(alloc, entered)?;
+        match entered.stmts {
+            BlockStatements::All(ss) => work.todo.push(Next::Rest(ss))?,
+            BlockStatements::One(s) => work.todo.push(Next::Run(s))?,
+        }
+        work.todo.push(Next::Decls(entered.decls))?;
+        let point = work.go_on(alloc, scopes)?;
+        Ok(Rest { point, work })
+    }
+
+    /// The part that goes to a label in a block's own list of statements: that list from the label on.
+    pub fn from_label(
+        alloc: Global,
+        scopes: &Scopes<'p>,
+        within: &Block<'p>,
+        label: &Line,
+    ) -> Result<Rest<'p>, AllocError>
+        ensures { IfOk result (λ r. rest (scoped scopes.now) r ≡ settle_items (scoped scopes.now) (items_from (block within.now) label.now)) }
+    {
+        let mut work = Work::ending(alloc, within)?;
+        match within.stmts {
+            BlockStatements::All(ss) => work.todo.push(Next::Rest(from_label(ss, label)))?,
+            BlockStatements::One(s) => {
+                if is_labelled(s, label) {
+                    work.todo.push(Next::Run(s))?;
+                }
+            }
+        }
+        let point = work.go_on(alloc, scopes)?;
+        Ok(Rest { point, work })
+    }
+
+    /// The part that evaluates a name for its value.
+    pub fn of_value(
+        alloc: Global,
+        scopes: &Scopes<'p>,
+        actual: &'p Expr,
+    ) -> Result<Rest<'p>, AllocError>
+        ensures { IfOk result (λ r. rest (scoped scopes.now) r ≡ asks.evaluated_of (settling.settle (scoped scopes.now) (expr actual.now))) }
+    {
+        let mut work = Work::new(alloc);
+        let point = work.go_on_from(alloc, scopes, Control::Eval(actual), Within::Evaluating)?;
+        Ok(Rest { point, work })
+    }
+
+    /// The part that evaluates a name for its place.
+    pub fn of_place(
+        alloc: Global,
+        scopes: &Scopes<'p>,
+        actual: &'p Expr,
+    ) -> Result<Rest<'p>, AllocError>
+        ensures { IfOk result (λ r. rest (scoped scopes.now) r ≡ asks.located_of (settling.settle_actual_place (scoped scopes.now) (expr actual.now))) }
+    {
+        let mut work = Work::new(alloc);
+        let point = work.locate(alloc, scopes, actual)?;
+        Ok(Rest { point, work })
+    }
+
+    /// What the head asks for.
+    pub fn ask<'a>(&'a self) -> Ask<'a, 'p>
+        ensures { (sc : scoping.Scopes) → asked result ≡ asks.ask (rest sc self.now) }
+    {
+        self.point.ask()
+    }
+
+    /// What the part has still to do once its head has this answer, after the silent steps.
+    pub fn resume(
+        self,
+        alloc: Global,
+        scopes: &Scopes<'p>,
+        answer: Answer<'p>,
+    ) -> Result<Rest<'p>, AllocError>
+        ensures { IfOk result (λ r. rest (scoped scopes.now) r ≡ asks.resume (scoped scopes.now) (rest (scoped scopes.now) self.entry) (answered answer.entry)) }
+    {
+        let Rest { point, mut work } = self;
+        let point = work.resume(alloc, scopes, point, answer)?;
+        Ok(Rest { point, work })
+    }
+}
+
+impl<'p> Work<'p> {
+    /// No work.
+    fn new(alloc: Global) -> Work<'p>
+        ensures frames { result.frames ≡ [] }
+        ensures todo { result.todo ≡ [] }
+    {
+        Work {
+            frames: Stack::new(alloc),
+            todo: Stack::new(alloc),
+        }
+    }
+
+    /// What comes at the end of a block: the result, where it is a typed procedure's.
+    fn ending(alloc: Global, ended: &Block<'p>) -> Result<Work<'p>, AllocError>
+        ensures { IfOk result (λ w. ahead w ≡ ending (block ended.now)) }
+    {
+        let mut work = Work::new(alloc);
+        if let Some(owner) = ended.owner {
+            if owner.result.is_some() {
+                work.todo.push(Next::Result(owner.name))?;
+            }
+        }
+        Ok(work)
+    }
+
+    /// The place of an actual.
+    fn locate(
+        &mut self,
+        alloc: Global,
+        scopes: &Scopes<'p>,
+        actual: &'p Expr,
+    ) -> Result<Point<'p>, AllocError>
+        requires { self.old.frames ≡ [] }
+        ensures { IfOk result (λ p. Finds (scoped scopes.now) (asks.located_of (settling.settle_actual_place (scoped scopes.now) (expr actual.now))) p self.new) }
+    {
+        match actual {
+            Expr::Variable(v) => {
+                self.aim(alloc, scopes, Sought::Locating, &v.name, v.subs.items())
+            }
+            _ => Ok(Point::Seek(Sought::Locating, Target::Inside)),
+        }
+    }
+}
+
+/// Tests that a label stands before a statement.
+#[tactic(auto, using(crate::proofs::Labels::label_laws))]
+fn is_labelled(s: &Stmt, label: &Line) -> bool
+    ensures { result ≡ statements.is_labelled (stmt s.now) label.now }
+{
+    let mut at = s;
+    'looking: while let Stmt::Label(n, inner) = at {
+        if same_name(&n.name, label) {
+            return true;
+        }
+        at = inner;
+    }
+    false
+}
+
+/// The statements of a list from the one on before which a label stands.
+fn from_label<'p>(ss: &'p [Stmt], label: &Line) -> &'p [Stmt]
+    ensures { stmts result.now ≡ statements.stmts_from (stmts ss.now) label.now }
+{
+    let mut at = ss;
+    'looking: while let Some((s, rest)) = at.split_first() {
+        if is_labelled(s, label) {
+            return at;
+        }
+        at = rest;
+    }
+    at
+}
