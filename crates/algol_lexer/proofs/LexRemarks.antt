@@ -2,17 +2,15 @@
 use Rattle.std.proofs.Common.{◌≡◌, ◌≢◌, ℕ, ◌+◌, ◌<◌, Bool, true, false, not, List, [], ◌∷◌, ◌⊎◌, inl, inr, length, map, take, get_or, refl, sym, ◌∙◌, ap, subst, arith}
 use Rattle.std.specs.Char.{to_ascii_uppercase, to_ascii_lowercase}
 use Rattle.std.specs.Prelude.{None}
-use Rattle.std.specs.Str.{bytes_eq}
 use Rattle.std.proofs.lemmas.Bool.Decides.{nat_tests}
-use Rattle.std.proofs.lemmas.Slice.Eq.{bytes_eq-Decides}
 use Rattle.std.proofs.lemmas.Str.Ascii.{lowercase-uppercase}
 use Rattle.algol_tree.specs.declared.token.Reserved.{Reserved}
 use Rattle.algol_tree.specs.declared.token.Reserved.TheVariants as reserved
 use Rattle.algol_tree.specs.declared.token.Symbol.TheVariants as symbols
 use Rattle.algol_tree.specs.declared.token.TokenKind.TheVariants as kinds
-use Rattle.algol_tree.specs.Spelling.{is_letter, is_blank, written, IsReserved, name}
+use Rattle.algol_tree.specs.Spelling.{is_letter, is_blank, written, name}
 use Rattle.algol_tree.specs.Lexes.{Program, Comment, EndRemark, Piece, capitals, token_of, word_front, remark_front, Stands, blank, percent, closing, commented, semicolon, period, passed}
-use Rattle.algol_lexer.proofs.LexSpelling.{word_among, word_among-written, words}
+use Rattle.algol_lexer.proofs.LexWords.{reserved_or_not}
 use Rattle.algol_lexer.proofs.LexStands.{Run, spells_word, remarked_at}
 
 -- capitals of small letters, and small letters of capitals
@@ -32,14 +30,6 @@ capitals_from bytes word same e = sym (capitals-small bytes) ∙ ap capitals e �
 
 pub small_from : (bytes word : List ℕ) → capitals bytes ≡ word → map to_ascii_lowercase bytes ≡ map to_ascii_lowercase word
 small_from bytes word e = sym (small-capitals bytes) ∙ ap (map to_ascii_lowercase) e
-
--- bytes are a reserved word or are not
-among : (bytes : List ℕ) (w : Reserved) (b : Bool) → word_among words bytes ≡ w → bytes_eq (written w) bytes ≡ b → IsReserved bytes ⊎ (IsReserved bytes → ⊥)
-among bytes w true e h = inl (w, sym ((bytes_eq-Decides (written w) bytes).0 h))
-among bytes w false e h = inr (λ r. let same = (bytes_eq-Decides (written w) bytes).1 (ap written (sym e ∙ ap (word_among words) r.1 ∙ word_among-written r.0) ∙ sym r.1) in cc)
-
-reserved_or_not : (bytes : List ℕ) → IsReserved bytes ⊎ (IsReserved bytes → ⊥)
-reserved_or_not bytes = among bytes (word_among words bytes) (bytes_eq (written (word_among words bytes)) bytes) refl refl
 
 -- a word that ends a remark
 pub ending_at : (text : List ℕ) (n : ℕ) (w : Reserved) → Run text n → capitals (take n text) ≡ written w → remark_front (kinds.Word w) n ≡ word_front w n → Stands EndRemark text (word_front w n)

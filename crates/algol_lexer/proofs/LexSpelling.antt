@@ -10,6 +10,7 @@ use Rattle.algol_tree.specs.declared.token.Symbol.{Symbol}
 use Rattle.algol_tree.specs.declared.token.Symbol.TheVariants as symbols
 use Rattle.algol_tree.specs.declared.token.TokenKind.{TokenKind}
 use Rattle.algol_tree.specs.declared.token.TokenKind.TheVariants as kinds
+use Rattle.algol_lexer.proofs.LexWords.{written_injective}
 use Rattle.algol_tree.specs.Spelling.{is_letter, is_digit, is_letter_or_digit, is_name, is_number, value_of, written, drawn, Spells, word, name, number, symbol}
 
 -- a reserved word is letters
@@ -28,22 +29,6 @@ length-drawn-le s = elim s as (λ v. length (drawn v) ≤ 2) [ symbols.Plus ↦ 
 
 pub length-drawn-pos : (s : Symbol) → 0 < length (drawn s)
 length-drawn-pos s = elim s as (λ v. 0 < length (drawn v)) [ symbols.Plus ↦ omega arith | _ ↦ omega arith ]
-
--- the word of a list that is written so, or else the last
-pub word_among : List Reserved → List ℕ → Reserved
-word_among [] bytes = reserved.Write
-word_among (w ∷ ws) bytes = cond (bytes_eq (written w) bytes) w (word_among ws bytes)
-
-abbrev pub words : List Reserved
-words = reserved.And ∷ reserved.Array ∷ reserved.Available ∷ reserved.Begin ∷ reserved.Boolean ∷ reserved.Case ∷ reserved.Cause ∷ reserved.CauseAndReset ∷ reserved.Comment ∷ reserved.Div ∷ reserved.Do ∷ reserved.Else ∷ reserved.End ∷ reserved.Eql ∷ reserved.Eqv ∷ reserved.Event ∷ reserved.False ∷ reserved.File ∷ reserved.Fix ∷ reserved.For ∷ reserved.Forward ∷ reserved.Geq ∷ reserved.Go ∷ reserved.Gtr ∷ reserved.Happened ∷ reserved.If ∷ reserved.Imp ∷ reserved.Integer ∷ reserved.Label ∷ reserved.Leq ∷ reserved.Liberate ∷ reserved.Lss ∷ reserved.Mod ∷ reserved.Neq ∷ reserved.Not ∷ reserved.Of ∷ reserved.Or ∷ reserved.Procedure ∷ reserved.Process ∷ reserved.Procure ∷ reserved.Real ∷ reserved.Reset ∷ reserved.Step ∷ reserved.Task ∷ reserved.Then ∷ reserved.Thru ∷ reserved.To ∷ reserved.True ∷ reserved.Until ∷ reserved.Value ∷ reserved.Wait ∷ reserved.While ∷ reserved.Write ∷ []
-
-pub word_among-written : (w : Reserved) → word_among words (written w) ≡ w
-unfolding word_among
-word_among-written w = elim w as (λ v. word_among words (written v) ≡ v) [ reserved.And ↦ refl | _ ↦ refl ]
-
--- no two words are written alike
-pub written_injective : (v w : Reserved) → written v ≡ written w → v ≡ w
-written_injective v w e = sym (word_among-written v) ∙ ap (word_among words) e ∙ word_among-written w
 
 -- the symbol of a list that is drawn so, or else the last
 symbol_among : List Symbol → List ℕ → Symbol

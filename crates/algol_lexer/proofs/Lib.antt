@@ -1,3 +1,4 @@
+mod LexWords
 mod LexSpelling
 mod LexFronts
 mod LexFound

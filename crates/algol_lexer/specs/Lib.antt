@@ -1,4 +1,5 @@
 pub mod Runs
+pub mod Words
 pub mod Symbols
 pub mod Shown
 pub mod Records

@@ -1,140 +1,86 @@
-//! The reserved words, by their length.
+//! The table of the reserved words.
 
-ghost use Rattle.std.specs.Prelude.{◌≡◌, ◌<◌, length, IfSome, IfNone, MatchOption};
+ghost use Rattle.std.specs.Prelude.{◌≡◌, MatchOption};
 ghost use Rattle.algol_tree.specs.Spelling.{written, IsReserved};
-ghost use Rattle.algol_tree.specs.declared.token.Reserved.{Reserved};
+ghost use Rattle.algol_lexer.specs.Words.{word_in};
 
 use algol_tree::Reserved;
 
-/// A reserved word of two letters.
-fn two_letters(bytes: &[u8]) -> Option<Reserved>
-    ensures found { IfSome result (λ word. bytes.now ≡ written word) }
-    ensures other { IfNone result ((word : Reserved) →
-        length (written word) ≡ 2 → bytes.now ≡ written word → ⊥) }
-{
-    match bytes {
-        b"DO" => Some(Reserved::Do),
-        b"GO" => Some(Reserved::Go),
-        b"IF" => Some(Reserved::If),
-        b"OF" => Some(Reserved::Of),
-        b"OR" => Some(Reserved::Or),
-        b"TO" => Some(Reserved::To),
-        _ => None,
-    }
-}
+/// A reserved word, and how it is written.
+type Row = (Reserved, &'static str);
 
-/// A reserved word of three letters.
-fn three_letters(bytes: &[u8]) -> Option<Reserved>
-    ensures found { IfSome result (λ word. bytes.now ≡ written word) }
-    ensures other { IfNone result ((word : Reserved) →
-        length (written word) ≡ 3 → bytes.now ≡ written word → ⊥) }
-{
-    match bytes {
-        b"AND" => Some(Reserved::And),
-        b"DIV" => Some(Reserved::Div),
-        b"END" => Some(Reserved::End),
-        b"EQL" => Some(Reserved::Eql),
-        b"EQV" => Some(Reserved::Eqv),
-        b"FIX" => Some(Reserved::Fix),
-        b"FOR" => Some(Reserved::For),
-        b"GEQ" => Some(Reserved::Geq),
-        b"GTR" => Some(Reserved::Gtr),
-        b"IMP" => Some(Reserved::Imp),
-        b"LEQ" => Some(Reserved::Leq),
-        b"LSS" => Some(Reserved::Lss),
-        b"MOD" => Some(Reserved::Mod),
-        b"NEQ" => Some(Reserved::Neq),
-        b"NOT" => Some(Reserved::Not),
-        _ => None,
-    }
-}
+/// The row of each reserved word, in the order in which the words are declared.
+const TABLE: [Row; 53] = [
+    (Reserved::And, "AND"),
+    (Reserved::Array, "ARRAY"),
+    (Reserved::Available, "AVAILABLE"),
+    (Reserved::Begin, "BEGIN"),
+    (Reserved::Boolean, "BOOLEAN"),
+    (Reserved::Case, "CASE"),
+    (Reserved::Cause, "CAUSE"),
+    (Reserved::CauseAndReset, "CAUSEANDRESET"),
+    (Reserved::Comment, "COMMENT"),
+    (Reserved::Div, "DIV"),
+    (Reserved::Do, "DO"),
+    (Reserved::Else, "ELSE"),
+    (Reserved::End, "END"),
+    (Reserved::Eql, "EQL"),
+    (Reserved::Eqv, "EQV"),
+    (Reserved::Event, "EVENT"),
+    (Reserved::False, "FALSE"),
+    (Reserved::File, "FILE"),
+    (Reserved::Fix, "FIX"),
+    (Reserved::For, "FOR"),
+    (Reserved::Forward, "FORWARD"),
+    (Reserved::Geq, "GEQ"),
+    (Reserved::Go, "GO"),
+    (Reserved::Gtr, "GTR"),
+    (Reserved::Happened, "HAPPENED"),
+    (Reserved::If, "IF"),
+    (Reserved::Imp, "IMP"),
+    (Reserved::Integer, "INTEGER"),
+    (Reserved::Label, "LABEL"),
+    (Reserved::Leq, "LEQ"),
+    (Reserved::Liberate, "LIBERATE"),
+    (Reserved::Lss, "LSS"),
+    (Reserved::Mod, "MOD"),
+    (Reserved::Neq, "NEQ"),
+    (Reserved::Not, "NOT"),
+    (Reserved::Of, "OF"),
+    (Reserved::Or, "OR"),
+    (Reserved::Procedure, "PROCEDURE"),
+    (Reserved::Process, "PROCESS"),
+    (Reserved::Procure, "PROCURE"),
+    (Reserved::Real, "REAL"),
+    (Reserved::Reset, "RESET"),
+    (Reserved::Step, "STEP"),
+    (Reserved::Task, "TASK"),
+    (Reserved::Then, "THEN"),
+    (Reserved::Thru, "THRU"),
+    (Reserved::To, "TO"),
+    (Reserved::True, "TRUE"),
+    (Reserved::Until, "UNTIL"),
+    (Reserved::Value, "VALUE"),
+    (Reserved::Wait, "WAIT"),
+    (Reserved::While, "WHILE"),
+    (Reserved::Write, "WRITE"),
+];
 
-/// A reserved word of four letters.
-fn four_letters(bytes: &[u8]) -> Option<Reserved>
-    ensures found { IfSome result (λ word. bytes.now ≡ written word) }
-    ensures other { IfNone result ((word : Reserved) →
-        length (written word) ≡ 4 → bytes.now ≡ written word → ⊥) }
+/// The word of the first row that is written so.
+fn first_written(rows: &[Row], bytes: &[u8]) -> Option<Reserved>
+    ensures { result ≡ word_in rows.now bytes.now }
 {
-    match bytes {
-        b"CASE" => Some(Reserved::Case),
-        b"ELSE" => Some(Reserved::Else),
-        b"FILE" => Some(Reserved::File),
-        b"REAL" => Some(Reserved::Real),
-        b"STEP" => Some(Reserved::Step),
-        b"TASK" => Some(Reserved::Task),
-        b"THEN" => Some(Reserved::Then),
-        b"THRU" => Some(Reserved::Thru),
-        b"TRUE" => Some(Reserved::True),
-        b"WAIT" => Some(Reserved::Wait),
-        _ => None,
+    'rows: for row in rows {
+        if row.1.as_bytes() == bytes {
+            return Some(row.0);
+        }
     }
-}
-
-/// A reserved word of five letters.
-fn five_letters(bytes: &[u8]) -> Option<Reserved>
-    ensures found { IfSome result (λ word. bytes.now ≡ written word) }
-    ensures other { IfNone result ((word : Reserved) →
-        length (written word) ≡ 5 → bytes.now ≡ written word → ⊥) }
-{
-    match bytes {
-        b"ARRAY" => Some(Reserved::Array),
-        b"BEGIN" => Some(Reserved::Begin),
-        b"CAUSE" => Some(Reserved::Cause),
-        b"EVENT" => Some(Reserved::Event),
-        b"FALSE" => Some(Reserved::False),
-        b"LABEL" => Some(Reserved::Label),
-        b"RESET" => Some(Reserved::Reset),
-        b"UNTIL" => Some(Reserved::Until),
-        b"VALUE" => Some(Reserved::Value),
-        b"WHILE" => Some(Reserved::While),
-        b"WRITE" => Some(Reserved::Write),
-        _ => None,
-    }
-}
-
-/// A reserved word of seven letters.
-fn seven_letters(bytes: &[u8]) -> Option<Reserved>
-    ensures found { IfSome result (λ word. bytes.now ≡ written word) }
-    ensures other { IfNone result ((word : Reserved) →
-        length (written word) ≡ 7 → bytes.now ≡ written word → ⊥) }
-{
-    match bytes {
-        b"BOOLEAN" => Some(Reserved::Boolean),
-        b"COMMENT" => Some(Reserved::Comment),
-        b"FORWARD" => Some(Reserved::Forward),
-        b"INTEGER" => Some(Reserved::Integer),
-        b"PROCESS" => Some(Reserved::Process),
-        b"PROCURE" => Some(Reserved::Procure),
-        _ => None,
-    }
-}
-
-/// A reserved word of eight letters and more.
-fn longer(bytes: &[u8]) -> Option<Reserved>
-    ensures found { IfSome result (λ word. bytes.now ≡ written word) }
-    ensures other { IfNone result ((word : Reserved) →
-        7 < length (written word) → bytes.now ≡ written word → ⊥) }
-{
-    match bytes {
-        b"AVAILABLE" => Some(Reserved::Available),
-        b"CAUSEANDRESET" => Some(Reserved::CauseAndReset),
-        b"HAPPENED" => Some(Reserved::Happened),
-        b"LIBERATE" => Some(Reserved::Liberate),
-        b"PROCEDURE" => Some(Reserved::Procedure),
-        _ => None,
-    }
+    None
 }
 
 /// The reserved word that is written so, in capitals.
 pub(crate) fn reserved(bytes: &[u8]) -> Option<Reserved>
     ensures { MatchOption result (IsReserved bytes.now → ⊥) (λ word. bytes.now ≡ written word) }
 {
-    match bytes.len() {
-        2 => two_letters(bytes),
-        3 => three_letters(bytes),
-        4 => four_letters(bytes),
-        5 => five_letters(bytes),
-        7 => seven_letters(bytes),
-        _ => longer(bytes),
-    }
+    first_written(&TABLE, bytes)
 }
