@@ -4,8 +4,9 @@ ghost use Rattle.std.specs.Prelude.{◌≡◌, ◌+◌, ◌-◌, ◌^◌, min, l
 ghost use Rattle.algol_tree.specs.Counts as counts;
 ghost use Rattle.algol_tree.specs.Names.{names_of_spec};
 ghost use Rattle.algol_rules.specs.Opened.{opened};
-ghost use Rattle.algol_tree.specs.Image.{expr, variable, call, exprs, pairs, stmt, stmts, decl, body, program};
+ghost use Rattle.algol_tree.specs.Image.{expr, variable, call, exprs, pairs, stmt, stmts, decl, decls, body, program};
 
+use crate::parts::{boxed_stmt, decls_in, stmts_in};
 use algol_tree::{
     Body, Call, Decl, EventName, Expr, Heading, Kind, Named, Pair, Program, Spec, Stmt, Variable,
 };
@@ -195,7 +196,7 @@ fn stmt_tokens(s: &Stmt) -> usize
 {
     match s {
         Stmt::Empty => 0,
-        Stmt::Label(_, s) => stmt_tokens(s).saturating_add(2),
+        Stmt::Label(_, s) => stmt_tokens(boxed_stmt(s)).saturating_add(2),
         Stmt::Assign(v, e) => variable_tokens(v)
             .saturating_add(expr_tokens(e))
             .saturating_add(1),
@@ -203,37 +204,33 @@ fn stmt_tokens(s: &Stmt) -> usize
         Stmt::GoTo(_) => 2,
         Stmt::Block(b) => body_tokens(b),
         Stmt::If(c, a, None) => expr_tokens(c)
-            .saturating_add(stmt_tokens(a))
+            .saturating_add(stmt_tokens(boxed_stmt(a)))
             .saturating_add(2),
         Stmt::If(c, a, Some(b)) => {
             expr_tokens(c)
-                .saturating_add(stmt_tokens(a))
-                .saturating_add(stmt_tokens(b))
+                .saturating_add(stmt_tokens(boxed_stmt(a)))
+                .saturating_add(stmt_tokens(boxed_stmt(b)))
                 .saturating_add(3)
         }
         Stmt::While(c, s) => expr_tokens(c)
-            .saturating_add(stmt_tokens(s))
+            .saturating_add(stmt_tokens(boxed_stmt(s)))
             .saturating_add(2),
-        Stmt::Until(s, c) => stmt_tokens(s)
+        Stmt::Until(s, c) => stmt_tokens(boxed_stmt(s))
             .saturating_add(expr_tokens(c))
             .saturating_add(2),
         Stmt::For(_, a, s, l, b) => {
             expr_tokens(a)
                 .saturating_add(expr_tokens(s))
                 .saturating_add(expr_tokens(l))
-                .saturating_add(stmt_tokens(b))
+                .saturating_add(stmt_tokens(boxed_stmt(b)))
                 .saturating_add(6)
         }
         Stmt::Thru(e, s) => expr_tokens(e)
-            .saturating_add(stmt_tokens(s))
+            .saturating_add(stmt_tokens(boxed_stmt(s)))
             .saturating_add(2),
-        Stmt::Case(e, ss) => {
-            let mut count = expr_tokens(e).saturating_add(3);
-            'cases: for s in ss.items() {
-                count = count.saturating_add(stmt_tokens(s)).saturating_add(1);
-            }
-            count
-        }
+        Stmt::Case(e, ss) => expr_tokens(e)
+            .saturating_add(stmts_tokens(stmts_in(ss)))
+            .saturating_add(3),
         Stmt::Process(c, task) => {
             match task {
                 None => call_tokens(c).saturating_add(1),
@@ -252,17 +249,35 @@ fn stmt_tokens(s: &Stmt) -> usize
     }
 }
 
+/// Statements, each with the semicolon behind it.
+#[cycle(statements)]
+fn stmts_tokens(ss: &[Stmt]) -> usize
+    ensures { result ≡ min (counts.stmts_tokens (stmts ss.now)) (2 ^ 64 - 1) }
+{
+    let mut count: usize = 0;
+    'statements: for s in ss {
+        count = count.saturating_add(stmt_tokens(s)).saturating_add(1);
+    }
+    count
+}
+
 #[cycle(statements)]
 #[tactic(auto, using(crate::proofs::Counting::counting))]
 fn body_tokens(b: &Body) -> usize
     ensures { result ≡ min (counts.body_tokens (body b.now)) (2 ^ 64 - 1) }
 {
-    let mut count: usize = 1;
-    'declarations: for d in b.decls.items() {
+    decls_tokens(decls_in(&b.decls))
+        .saturating_add(stmts_tokens(stmts_in(&b.stmts)))
+        .saturating_add(1)
+}
+
+/// Declarations, each with the semicolon behind it.
+fn decls_tokens(ds: &[Decl]) -> usize
+    ensures { result ≡ min (counts.decls_tokens (decls ds.now)) (2 ^ 64 - 1) }
+{
+    let mut count: usize = 0;
+    'declarations: for d in ds {
         count = count.saturating_add(decl_tokens(d)).saturating_add(1);
-    }
-    'statements: for s in b.stmts.items() {
-        count = count.saturating_add(stmt_tokens(s)).saturating_add(1);
     }
     count
 }
