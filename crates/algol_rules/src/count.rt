@@ -6,10 +6,17 @@ ghost use Rattle.algol_tree.specs.Names.{names_of_spec};
 ghost use Rattle.algol_rules.specs.Opened.{opened};
 ghost use Rattle.algol_tree.specs.Image.{expr, variable, call, exprs, pairs, stmt, stmts, decl, decls, body, program};
 
-use crate::parts::{boxed_stmt, decls_in, stmts_in};
+use crate::parts::{boxed_stmt, decls_in, exprs_in, stmts_in};
 use algol_tree::{
     Body, Call, Decl, EventName, Expr, Heading, Kind, Named, Pair, Program, Spec, Stmt, Variable,
 };
+
+/// The sum of three counts.
+fn sum(a: usize, b: usize, c: usize) -> usize
+    ensures { result ≡ min (a + b + c) (2 ^ 64 - 1) }
+{
+    a.saturating_add(b).saturating_add(c)
+}
 
 fn event_tokens(e: &EventName) -> usize
     ensures { result ≡ counts.event_tokens e.now }
@@ -197,55 +204,34 @@ fn stmt_tokens(s: &Stmt) -> usize
     match s {
         Stmt::Empty => 0,
         Stmt::Label(_, s) => stmt_tokens(boxed_stmt(s)).saturating_add(2),
-        Stmt::Assign(v, e) => variable_tokens(v)
-            .saturating_add(expr_tokens(e))
-            .saturating_add(1),
+        Stmt::Assign(v, e) => sum(variable_tokens(v), expr_tokens(e), 1),
         Stmt::Call(c) => call_tokens(c),
         Stmt::GoTo(_) => 2,
         Stmt::Block(b) => body_tokens(b),
-        Stmt::If(c, a, None) => expr_tokens(c)
-            .saturating_add(stmt_tokens(boxed_stmt(a)))
-            .saturating_add(2),
-        Stmt::If(c, a, Some(b)) => {
-            expr_tokens(c)
-                .saturating_add(stmt_tokens(boxed_stmt(a)))
-                .saturating_add(stmt_tokens(boxed_stmt(b)))
-                .saturating_add(3)
-        }
-        Stmt::While(c, s) => expr_tokens(c)
-            .saturating_add(stmt_tokens(boxed_stmt(s)))
-            .saturating_add(2),
-        Stmt::Until(s, c) => stmt_tokens(boxed_stmt(s))
-            .saturating_add(expr_tokens(c))
-            .saturating_add(2),
-        Stmt::For(_, a, s, l, b) => {
-            expr_tokens(a)
-                .saturating_add(expr_tokens(s))
-                .saturating_add(expr_tokens(l))
-                .saturating_add(stmt_tokens(boxed_stmt(b)))
-                .saturating_add(6)
-        }
-        Stmt::Thru(e, s) => expr_tokens(e)
-            .saturating_add(stmt_tokens(boxed_stmt(s)))
-            .saturating_add(2),
-        Stmt::Case(e, ss) => expr_tokens(e)
-            .saturating_add(stmts_tokens(stmts_in(ss)))
-            .saturating_add(3),
-        Stmt::Process(c, task) => {
-            match task {
-                None => call_tokens(c).saturating_add(1),
-                Some(_) => call_tokens(c).saturating_add(4),
-            }
-        }
+        Stmt::If(c, a, None) => sum(expr_tokens(c), stmt_tokens(boxed_stmt(a)), 2),
+        Stmt::If(c, a, Some(b)) => sum(
+            expr_tokens(c),
+            stmt_tokens(boxed_stmt(a)),
+            stmt_tokens(boxed_stmt(b)),
+        )
+        .saturating_add(3),
+        Stmt::While(c, s) => sum(expr_tokens(c), stmt_tokens(boxed_stmt(s)), 2),
+        Stmt::Until(s, c) => sum(stmt_tokens(boxed_stmt(s)), expr_tokens(c), 2),
+        Stmt::For(_, a, s, l, b) => sum(
+            sum(expr_tokens(a), expr_tokens(s), expr_tokens(l)),
+            stmt_tokens(boxed_stmt(b)),
+            6,
+        ),
+        Stmt::Thru(e, s) => sum(expr_tokens(e), stmt_tokens(boxed_stmt(s)), 2),
+        Stmt::Case(e, ss) => sum(expr_tokens(e), stmts_tokens(stmts_in(ss)), 3),
+        Stmt::Process(c, None) => call_tokens(c).saturating_add(1),
+        Stmt::Process(c, Some(_)) => call_tokens(c).saturating_add(4),
         Stmt::Event(_, e) => event_tokens(e).saturating_add(3),
-        Stmt::Write(_, _, phrases, items) => {
-            phrases
-                .items()
-                .len()
-                .saturating_mul(2)
-                .saturating_add(exprs_tokens(items.items()))
-                .saturating_add(6)
-        }
+        Stmt::Write(_, _, phrases, items) => sum(
+            phrases.items().len().saturating_mul(2),
+            exprs_tokens(exprs_in(items)),
+            6,
+        ),
     }
 }
 

@@ -1,5 +1,5 @@
 -- The places at which the walk finds labels bad are those that the rule has.
-use Rattle.std.proofs.Common.{◌≡◌, Bool, true, false, List, [], ◌∷◌, ◌++◌, map, refl, ap, sym, ◌∙◌}
+use Rattle.std.proofs.Common.{◌≡◌, ℕ, ◌+◌, ◌<◌, Bool, true, false, List, [], ◌∷◌, ◌++◌, length, drop, get_or, map, refl, ap, sym, ◌∙◌, append_assoc, drop-cons, suc, arith}
 use Rattle.std.proofs.lemmas.List.{map-append}
 use Rattle.std.specs.Prelude.{not, filter, cond, if◌then◌else◌}
 use Rattle.std.specs.List.{flat_map}
@@ -78,3 +78,24 @@ pub labels_told : (xs : List Site) (all : List Standing) (spots : List Spot) →
 labels_told xs all spots p q =
     in_told all spots ∙ ap (λ ts. broken codes.BadLabel (flat_map (bad_label ts) spots)) p
     ∙ ap (λ zs. broken codes.BadLabel (flat_map (bad_label (flat_map standings_at xs)) zs)) q
+
+-- ---- the standings of each label, gathered one after the other
+
+same_place : (a b : Spot) → same_spot a b ≡ true → a ≡ b
+same_place a b h = grind arith
+
+one_more : (b : Bool) (s : Standing) (all old new both rest : List Standing) → (b ≡ true → all ≡ old) → new ≡ (if b then [] else old) →
+    both ≡ (if b then all ++ s ∷ [] else new) → both ++ rest ≡ old ++ (if b then s ∷ rest else rest)
+one_more true s all old new both rest k n e = ap (λ z. z ++ rest) e ∙ append_assoc all (s ∷ []) rest ∙ ap (λ z. z ++ s ∷ rest) (k refl)
+one_more false s all old new both rest k n e = ap (λ z. z ++ rest) (e ∙ n)
+
+pub gathered : (places : Spot → List Standing) (ss : List Standing) (i : ℕ) (d : Standing) (q : Spot) (new both : List Standing) → i < length ss →
+    new ≡ (if same_spot (get_or ss i d).declared q then [] else places q) →
+    both ≡ (if same_spot (get_or ss i d).declared q then places (get_or ss i d).declared ++ get_or ss i d ∷ [] else new) →
+    both ++ those_of (drop (i + 1) ss) q ≡ places q ++ those_of (drop i ss) q
+gathered places ss i d q new both h n b =
+    let s = get_or ss i d in
+    let next : suc i ≡ i + 1 = omega arith in
+    let at : drop i ss ≡ s ∷ drop (i + 1) ss = drop-cons ss i d h ∙ ap (λ k. s ∷ drop k ss) next in
+    one_more (same_spot s.declared q) s (places s.declared) (places q) new both (those_of (drop (i + 1) ss) q) (λ t. ap places (same_place s.declared q t)) n b
+    ∙ ap (λ xs. places q ++ those_of xs q) (sym at)

@@ -26,8 +26,6 @@ use Rattle.algol_tree.specs.Types.{type_of, taken_by}
 use Rattle.algol_tree.specs.Names.{if_so}
 use Rattle.algol_tree.specs.Surroundings.{Surroundings, class_of, formals_at}
 use Rattle.algol_tree.specs.Sites as site
-use Rattle.algol_tree.specs.Sites.{Site}
-use Rattle.algol_tree.specs.Checks.{wrong_types}
 use Rattle.algol_tree.specs.Accepted.{noted_all}
 use Rattle.algol_sites.specs.declared.wanted.Wanted.TheVariants as wanted
 use Rattle.algol_sites.specs.Noting.{broken, noted_in, mistyped, mistyped_for, mistyped_list, differs}
@@ -56,15 +54,6 @@ counted [] = refl
 counted (e ∷ es) = ap (λ n. 1 + n) (counted es) ∙ omega arith
 
 -- ---- variables
-
-element_wrong : (n : Named) (e : PExpr) (es : PExprs) (a : Surroundings) →
-    wrong_types [] (record { part = site.expression (tree.variable (tree.subscripted n (tree.more e es))); around = a }) ≡
-    if_so (not (is_array (class_of a n)) && not (is_unspecified (class_of a n))) n.spot ++ wrong_numbers (tree.more e es) a
-element_wrong n e es a = refl
-
-pub here_name : (first : Option Fault) (n : Named) (a : Surroundings) →
-    noted_here first (tree.variable (tree.subscripted n tree.none)) a ≡ noted_name first n a
-here_name first n a = refl
 
 element_noted : (first : Option Fault) (n : Named) (es : PExprs) (a : Surroundings) →
     noted_all first (broken codes.WrongType (if_so (not (is_array (class_of a n)) && not (is_unspecified (class_of a n))) n.spot ++ wrong_numbers es a)) ≡

@@ -82,12 +82,6 @@ first_class [] name = refl
 first_class (s ∷ ss) name =
     classed (specified_by s name) s (formal_first ss name) ∙ ap (λ c. if specified_by s name then class_by s else c) (first_class ss name)
 
-pub spec_step : (ss : List Spec) (i : ℕ) (s : Spec) (old new : BTreeMap (Bor (List ℕ)) Formal) → i < length ss → s ≡ get_or ss i s →
-    ((name : List ℕ) → formal_in new name ≡ (if specified_by s name then formal_by s else formal_in old name)) →
-    ((name : List ℕ) → formal_in old name ≡ formal_first (drop (i + 1) ss) name) → (name : List ℕ) → formal_in new name ≡ formal_first (drop i ss) name
-spec_step ss i s old new h e f g name =
-    f name ∙ ap (λ x. if specified_by s name then formal_by s else x) (g name) ∙ sym (ap (λ xs. formal_first xs name) (split ss i s h e))
-
 -- ---- faults of names
 
 pub faulty_step : (test : Named → Bool) (ns : List Named) (i : ℕ) (n : Named) (b : Bool) (f g : Option Fault) → i < length ns → n ≡ get_or ns i n → b ≡ test n →

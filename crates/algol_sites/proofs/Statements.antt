@@ -341,11 +341,6 @@ counting_notes known v x s l f g h i j p q r t blocks a body listed w =
 
 -- ---- the left side, by its subscripts
 
-pub left_none : (v : Variable) (e : PExpr) (takes : Class → Bool) (s : Surroundings) (f g : Option Fault) → v.subs ≡ [] →
-    g ≡ noted_name_side f (takes (class_of s v.name)) v.name e s → g ≡ noted_left f takes (variable v) (length v.subs) e s
-left_none v e takes s f g p h =
-    h ∙ sym (ap (λ x. noted_left f takes x (length v.subs) e s) (variable_is v) ∙ ap (λ es. noted_left f takes (tree.subscripted v.name (exprs es)) (length es) e s) p)
-
 pub left_some : (v : Variable) (e : PExpr) (takes : Class → Bool) (s : Surroundings) (f g : Option Fault) (xs ys : List Expr) (y : Expr) (zs : List Expr) → xs ≡ y ∷ zs →
     xs ≡ v.subs → ys ≡ v.subs → g ≡ noted_element_side f v.name (exprs ys) (length ys) e s → g ≡ noted_left f takes (variable v) (length v.subs) e s
 left_some v e takes s f g xs ys y zs p q r h =

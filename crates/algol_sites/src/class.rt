@@ -6,7 +6,7 @@ ghost use Rattle.algol_sites.specs.Seen.{class_seen, formal_seen};
 use algol_tree::{Heading, Kind, Spot};
 
 /// What a parameter is specified as.
-#[derive(Clone, Copy, PartialEq, Eq)]
+#[derive(Clone, Copy)]
 pub enum Formal {
     Simple(Kind),
     /// The kind of its elements, and how many subscripts it has.

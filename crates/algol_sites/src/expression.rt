@@ -14,7 +14,7 @@ use crate::class::{Class, Formal};
 use crate::known::{Names, class_of, formals_at};
 use crate::types::{taken_by, type_of, want, want_if, want_numbers};
 use crate::wanted::{Wanted, want_event, want_name};
-use algol_rules::{Faults, first_spot};
+use algol_rules::{Faults, boxed_expr, exprs_in, first_spot};
 use algol_tree::{Call, Code, Expr, Kind, Named, Variable};
 
 /// Notes where an array has another number of subscripts.
@@ -123,7 +123,8 @@ pub fn subscripts(known: &[Names], v: &Variable, faults: &mut Faults)
     requires { HaveFormals known.now }
     ensures { faults.new.first ≡ noted_in faults.old.first (sites.inside_list (exprs v.now.subs) (seen known.now)) }
 {
-    'subscripts: for e in v.subs.items() {
+    let subs = exprs_in(&v.subs);
+    'subscripts: for e in subs {
         expression(known, e, faults);
     }
 }
@@ -142,7 +143,8 @@ pub fn actuals(known: &[Names], c: &Call, faults: &mut Faults)
     ensures { faults.new.first ≡ noted_in faults.old.first (sites.inside_actuals (exprs c.now.actuals) (around.formals_at (seen known.now) c.now.name) (seen known.now)) }
 {
     let formals = formals_at(known, &c.name);
-    'actuals: for (at, e) in c.actuals.items().iter().enumerate() {
+    let given = exprs_in(&c.actuals);
+    'actuals: for (at, e) in given.iter().enumerate() {
         let formal = formal_at(formals, at);
         want_actual(known, e, formal, faults);
         if !is_name_alone(e, formal) {
@@ -187,31 +189,39 @@ pub fn expression(known: &[Names], e: &Expr, faults: &mut Faults)
             actuals(known, c, faults);
         }
         Expr::Happened(event, _) => want_event(known, event, faults),
-        Expr::Paren(e, _) => expression(known, e, faults),
+        Expr::Paren(e, _) => expression(known, boxed_expr(e), faults),
         Expr::Plus(e, _) => {
-            want(known, Kind::Number, e, faults);
-            expression(known, e, faults);
+            let operand = boxed_expr(e);
+            want(known, Kind::Number, operand, faults);
+            expression(known, operand, faults);
         }
         Expr::Neg(e, _) => {
-            want(known, Kind::Number, e, faults);
-            expression(known, e, faults);
+            let operand = boxed_expr(e);
+            want(known, Kind::Number, operand, faults);
+            expression(known, operand, faults);
         }
         Expr::Not(e, _) => {
-            want(known, Kind::Truth, e, faults);
-            expression(known, e, faults);
+            let operand = boxed_expr(e);
+            want(known, Kind::Truth, operand, faults);
+            expression(known, operand, faults);
         }
         Expr::Two(op, x, y) => {
-            want(known, taken_by(*op), x, faults);
-            want(known, taken_by(*op), y, faults);
-            expression(known, x, faults);
-            expression(known, y, faults);
+            let left = boxed_expr(x);
+            let right = boxed_expr(y);
+            want(known, taken_by(*op), left, faults);
+            want(known, taken_by(*op), right, faults);
+            expression(known, left, faults);
+            expression(known, right, faults);
         }
         Expr::If(c, x, y, _) => {
-            want(known, Kind::Truth, c, faults);
-            want_if(known, type_of(known, x), y, faults);
-            expression(known, c, faults);
-            expression(known, x, faults);
-            expression(known, y, faults);
+            let condition = boxed_expr(c);
+            let yes = boxed_expr(x);
+            let otherwise = boxed_expr(y);
+            want(known, Kind::Truth, condition, faults);
+            want_if(known, type_of(known, yes), otherwise, faults);
+            expression(known, condition, faults);
+            expression(known, yes, faults);
+            expression(known, otherwise, faults);
         }
     }
 }
