@@ -47,13 +47,13 @@ HasOperators segment = (operators : List Placed) × IsSegment segment operators
 abbrev pub AreListable : List Segment → Type 0
 AreListable segments = All HasOperators segments
 
--- a text of a format can stand between quotes
+-- a text of a format can stand between quotes, and the width of another phrase has 32 bits
 abbrev pub IsPhrase : Phrase → Type 0
 IsPhrase (Text text) = All (λ (b : ℕ). (32 ≤ b) × (b ≤ 126) × (b ≢ 34)) text
-IsPhrase (Number width) = Unit {0}
-IsPhrase (Blanks width) = Unit {0}
+IsPhrase (Number width) = width < 2 ^ 32
+IsPhrase (Blanks width) = width < 2 ^ 32
 
--- the code can be listed: operators fill its segments, and its texts can stand between quotes
+-- the code can be listed, so that its listing can be read back: operators fill its segments, and the phrases of its formats can stand in a line
 pub record IsListable (code : Code) : Type 0 where
   pub segments : AreListable code.segments
   pub formats : All (λ (format : Format). All IsPhrase format.phrases) code.formats

@@ -14,9 +14,8 @@ use Rattle.b67_segment.specs.Syllables.{syllables}
 use Rattle.b67_segment.proofs.Fetches.{length-syllables}
 use Rattle.b67_listing.specs.Operators.{Placed, operator_line}
 use Rattle.b67_listing.specs.Formats.{format_line, format_lines}
-use Rattle.b67_listing.specs.Listings.{IsSegment, marks_of, AreListable, SegmentsText, none, more, segment_line, segment_lines, ListingText}
+use Rattle.b67_listing.specs.Listings.{IsSegment, marks_of, IsListable, SegmentsText, none, more, segment_line, segment_lines, ListingText}
 use Rattle.b67_listing_reader.specs.Reading.{CanStand, width, AreInOrder, operator_lines, IsFormat}
-use Rattle.b67_listing_reader.specs.Codes.{IsReadable}
 use Rattle.b67_listing_reader.proofs.Orders.{code_text, filled, order-grows, width-some}
 use Rattle.b67_listing_reader.proofs.Words.{one_words}
 use Rattle.b67_listing_reader.proofs.Lines.{one_operator}
@@ -200,28 +199,17 @@ same_by fs gs a (l ∷ ls) is =
 same_formats : (fs gs : List Format) → FormatsAhead 0 fs gs [] → fs ≡ gs
 same_formats fs gs a = same_by fs gs a a.later refl
 
--- the formats of a code that is read back
-pub shown : (code : Code) → IsReadable code → All IsFormat code.formats
-shown code is k d less j e few = (is.listable.formats k d less j e few, is.widths k d less j e few)
-
--- segments and formats that are those of one
-pub readable : (segments : List Segment) (formats : List Format) → AreListable segments → All IsFormat formats → IsReadable record { segments = segments; formats = formats }
-readable segments formats are each = record {
-  listable = record { segments = are; formats = λ k d less j e few. (each k d less j e few).0 };
-  widths = λ k d less j e few. (each k d less j e few).1;
-}
-
-one_by : (code other : Code) → IsReadable code → IsReadable other → (later : List Segment) (ls : List (List ℕ)) → other.segments ≡ code.segments ++ later →
+one_by : (code other : Code) → IsListable code → IsListable other → (later : List Segment) (ls : List (List ℕ)) → other.segments ≡ code.segments ++ later →
     SegmentsText (0 + length code.segments) later ls → format_lines code.formats ≡ ls ++ format_lines other.formats → code ≡ other
 one_by code other is also _ _ are (none n) rest =
     let segments : code.segments ≡ other.segments = sym (are ∙ append-nil code.segments) in
-    let formats = same_formats code.formats other.formats (formats_ahead 0 code.formats other.formats [] (shown code is) (shown other also) (append-nil (format_lines code.formats) ∙ rest)) in
+    let formats = same_formats code.formats other.formats (formats_ahead 0 code.formats other.formats [] is.formats also.formats (append-nil (format_lines code.formats) ∙ rest)) in
     ap (λ ss. let c : Code = record { segments = ss; formats = code.formats } in c) segments ∙ ap (λ fs. let c : Code = record { segments = other.segments; formats = fs } in c) formats
 one_by code other is also _ _ are (more n segment ops segments ls first after) rest =
     absurd (formats_first 0 code.formats n (length segment.words) ((operator_lines ops ++ ls) ++ format_lines other.formats) rest)
 
 -- a listing is that of one code
-pub one_code : (code other : Code) (lines : List (List ℕ)) → IsReadable code → IsReadable other → ListingText code lines → ListingText other lines → code ≡ other
+pub one_code : (code other : Code) (lines : List (List ℕ)) → IsListable code → IsListable other → ListingText code lines → ListingText other lines → code ≡ other
 one_code code other lines is also a b =
     let found = ahead 0 code.segments other.segments a.segments b.segments (format_lines code.formats) (format_lines other.formats)
     a.listed b.listed (formats_first 0 other.formats) (sym a.are ∙ b.are) in

@@ -10,8 +10,8 @@ use Rattle.b67_text.proofs.Fronts.{fields_alike}
 use Rattle.b67_segment.specs.declared.code.Phrase.{Phrase}
 use Rattle.b67_segment.specs.declared.code.Format.{Format}
 use Rattle.b67_listing.specs.Formats.{phrases_text, format_line}
-use Rattle.b67_listing.specs.Listings.{segment_line}
-use Rattle.b67_listing_reader.specs.Reading.{IsShown, IsWordCount, IsNoHead, IsNoFormat}
+use Rattle.b67_listing.specs.Listings.{IsPhrase, segment_line}
+use Rattle.b67_listing_reader.specs.Reading.{IsWordCount, IsNoHead, IsNoFormat}
 use Rattle.b67_listing_reader.proofs.OneFormat.{format_head, headed}
 
 -- the numbers of words
@@ -82,6 +82,6 @@ pub format_read : (n : ℕ) (line : List ℕ) (at : ℕ) (format : Format) → S
 format_read n line at format s e = s.part_is ∙ ap (λ t. format_head n ++ t) e ∙ sym (headed n format)
 
 pub format_ends : (n : ℕ) (line : List ℕ) (at : ℕ) → Stands (format_head n) line 0 at →
-    ((phrases : List Phrase) → All IsShown phrases → drop at line ≡ phrases_text phrases ++ codes ">" → ⊥) → IsNoFormat line n
+    ((phrases : List Phrase) → All IsPhrase phrases → drop at line ≡ phrases_text phrases ++ codes ">" → ⊥) → IsNoFormat line n
 format_ends n line at s never format is e =
     never format.phrases is (append_cancel_left (format_head n) (drop at line) (phrases_text format.phrases ++ codes ">") (sym s.part_is ∙ e ∙ headed n format))

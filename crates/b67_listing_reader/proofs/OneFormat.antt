@@ -11,7 +11,8 @@ use Rattle.b67_segment.specs.declared.code.Phrase.{Phrase}
 use Rattle.b67_segment.specs.declared.code.Phrase.TheVariants.{Text, Number, Blanks}
 use Rattle.b67_segment.specs.declared.code.Format.{Format}
 use Rattle.b67_listing.specs.Formats.{phrase_text, phrases_text, format_line}
-use Rattle.b67_listing_reader.specs.Reading.{IsShown, IsFormat, IsTextByte, EndsPhrase, IsEnded}
+use Rattle.b67_listing.specs.Listings.{IsPhrase}
+use Rattle.b67_listing_reader.specs.Reading.{IsFormat, IsTextByte, EndsPhrase, IsEnded}
 
 -- what ends a phrase is no digit
 no_digit : (byte : ℕ) → EndsPhrase byte → IsDigit byte → ⊥
@@ -67,19 +68,19 @@ pub record PhrasesAlike (p q : Phrase) (a b : List ℕ) : Type 0 where
 first_byte : (a b : ℕ) (xs ys : List ℕ) → a ∷ xs ≡ b ∷ ys → a ≡ b
 first_byte a b xs ys e = cc
 
-pub phrases_alike : (p q : Phrase) (a b : List ℕ) → IsShown p → IsShown q → IsEnded a → IsEnded b → phrase_text p ++ a ≡ phrase_text q ++ b → PhrasesAlike p q a b
+pub phrases_alike : (p q : Phrase) (a b : List ℕ) → IsPhrase p → IsPhrase q → IsEnded a → IsEnded b → phrase_text p ++ a ≡ phrase_text q ++ b → PhrasesAlike p q a b
 phrases_alike (Text s) (Text t) a b p q x y e =
     let tails : (s ++ 34 ∷ []) ++ a ≡ (t ++ 34 ∷ []) ++ b = ap (λ (xs : List ℕ). drop 1 xs) e in
     let joined : s ++ 34 ∷ a ≡ t ++ 34 ∷ b = sym (append_assoc s (34 ∷ []) a) ∙ tails ∙ append_assoc t (34 ∷ []) b in
-    let alike = texts_alike s t a b p.0 q.0 joined in
+    let alike = texts_alike s t a b p q joined in
     record { phrases = ap Text alike.texts; rests = alike.rests }
 phrases_alike (Number n) (Number m) a b p q x y e =
     let tails : decimal n ++ a ≡ decimal m ++ b = append_cancel_left (codes "I") (decimal n ++ a) (decimal m ++ b) e in
-    let alike = widths_alike n m a b p.1 q.1 x y tails in
+    let alike = widths_alike n m a b p q x y tails in
     record { phrases = ap Number alike.widths; rests = alike.rests }
 phrases_alike (Blanks n) (Blanks m) a b p q x y e =
     let tails : decimal n ++ a ≡ decimal m ++ b = append_cancel_left (codes "X") (decimal n ++ a) (decimal m ++ b) e in
-    let alike = widths_alike n m a b p.1 q.1 x y tails in
+    let alike = widths_alike n m a b p q x y tails in
     record { phrases = ap Blanks alike.widths; rests = alike.rests }
 phrases_alike (Text s) (Number m) a b p q x y e = let f : ◌≡◌ {A = ℕ} 34 73 = first_byte 34 73 _ _ e in absurd (omega arith)
 phrases_alike (Text s) (Blanks m) a b p q x y e = let f : ◌≡◌ {A = ℕ} 34 88 = first_byte 34 88 _ _ e in absurd (omega arith)
@@ -106,7 +107,7 @@ pub closed_ended : (ps : List Phrase) → IsEnded (closed ps)
 closed_ended [] = record { byte = 62; more = []; ends = inr refl; rest_is = refl }
 closed_ended (p ∷ ps) = record { byte = 44; more = (phrase_text p ++ further ps) ++ codes ">"; ends = inl refl; rest_is = refl }
 
-pub closed_same : (ps qs : List Phrase) → All IsShown ps → All IsShown qs → closed ps ≡ closed qs → ps ≡ qs
+pub closed_same : (ps qs : List Phrase) → All IsPhrase ps → All IsPhrase qs → closed ps ≡ closed qs → ps ≡ qs
 closed_same [] [] a b e = refl
 closed_same [] (q ∷ qs) a b e = let f : ◌≡◌ {A = ℕ} 62 44 = first_byte 62 44 _ _ e in absurd (omega arith)
 closed_same (p ∷ ps) [] a b e = let f : ◌≡◌ {A = ℕ} 44 62 = first_byte 44 62 _ _ e in absurd (omega arith)
@@ -115,20 +116,20 @@ closed_same (p ∷ ps) (q ∷ qs) a b e =
     append_cancel_left (codes ",") ((phrase_text p ++ further ps) ++ codes ">") ((phrase_text q ++ further qs) ++ codes ">") e in
     let joined : phrase_text p ++ closed ps ≡ phrase_text q ++ closed qs =
     sym (append_assoc (phrase_text p) (further ps) (codes ">")) ∙ tails ∙ append_assoc (phrase_text q) (further qs) (codes ">") in
-    let alike = phrases_alike p q (closed ps) (closed qs) (All-head IsShown p ps a) (All-head IsShown q qs b) (closed_ended ps) (closed_ended qs) joined in
-    ap (λ r. r ∷ ps) alike.phrases ∙ ap (λ rs. q ∷ rs) (closed_same ps qs (All-tail IsShown p ps a) (All-tail IsShown q qs b) alike.rests)
+    let alike = phrases_alike p q (closed ps) (closed qs) (All-head IsPhrase p ps a) (All-head IsPhrase q qs b) (closed_ended ps) (closed_ended qs) joined in
+    ap (λ r. r ∷ ps) alike.phrases ∙ ap (λ rs. q ∷ rs) (closed_same ps qs (All-tail IsPhrase p ps a) (All-tail IsPhrase q qs b) alike.rests)
 
 pub opened : (p : Phrase) (ps : List Phrase) → phrases_text (p ∷ ps) ++ codes ">" ≡ phrase_text p ++ closed ps
 opened p ps = append_assoc (phrase_text p) (further ps) (codes ">")
 
-pub phrases_same : (ps qs : List Phrase) → All IsShown ps → All IsShown qs → phrases_text ps ++ codes ">" ≡ phrases_text qs ++ codes ">" → ps ≡ qs
+pub phrases_same : (ps qs : List Phrase) → All IsPhrase ps → All IsPhrase qs → phrases_text ps ++ codes ">" ≡ phrases_text qs ++ codes ">" → ps ≡ qs
 phrases_same [] [] a b e = refl
 phrases_same [] (q ∷ qs) a b e = absurd (phrase_first q (closed qs) [] 62 (inr refl) (sym (opened q qs) ∙ sym e))
 phrases_same (p ∷ ps) [] a b e = absurd (phrase_first p (closed ps) [] 62 (inr refl) (sym (opened p ps) ∙ e))
 phrases_same (p ∷ ps) (q ∷ qs) a b e =
     let joined : phrase_text p ++ closed ps ≡ phrase_text q ++ closed qs = sym (opened p ps) ∙ e ∙ opened q qs in
-    let alike = phrases_alike p q (closed ps) (closed qs) (All-head IsShown p ps a) (All-head IsShown q qs b) (closed_ended ps) (closed_ended qs) joined in
-    ap (λ r. r ∷ ps) alike.phrases ∙ ap (λ rs. q ∷ rs) (closed_same ps qs (All-tail IsShown p ps a) (All-tail IsShown q qs b) alike.rests)
+    let alike = phrases_alike p q (closed ps) (closed qs) (All-head IsPhrase p ps a) (All-head IsPhrase q qs b) (closed_ended ps) (closed_ended qs) joined in
+    ap (λ r. r ∷ ps) alike.phrases ∙ ap (λ rs. q ∷ rs) (closed_same ps qs (All-tail IsPhrase p ps a) (All-tail IsPhrase q qs b) alike.rests)
 
 -- the head of a format's line
 abbrev pub format_head : ℕ → List ℕ

@@ -9,7 +9,8 @@ use Rattle.b67_text.specs.Texts.{Stands, HasByte}
 use Rattle.b67_text.proofs.Fronts.{at_byte}
 use Rattle.b67_segment.specs.declared.code.Phrase.{Phrase}
 use Rattle.b67_listing.specs.Formats.{phrase_text, phrases_text}
-use Rattle.b67_listing_reader.specs.Reading.{IsShown, IsEnded, ReadsPhrase}
+use Rattle.b67_listing.specs.Listings.{IsPhrase}
+use Rattle.b67_listing_reader.specs.Reading.{IsEnded, ReadsPhrase}
 use Rattle.b67_listing_reader.proofs.OneFormat.{further, closed, closed_ended, opened, phrase_first, phrases_alike}
 
 -- what is left of phrases behind others
@@ -21,20 +22,20 @@ left_text (q ∷ qs) ps = closed ps
 pub record Left (done ps : List Phrase) (tail : List ℕ) : Type 0 where
   pub later : List Phrase
   pub are : ps ≡ done ++ later
-  pub each : All IsShown later
+  pub each : All IsPhrase later
   pub tail_is : tail ≡ left_text done later
 
 -- these phrases are read
 pub record PhrasesSoFar (text : List ℕ) (at next : ℕ) (done : List Phrase) : Type 0 where
   pub within : next ≤ length text
-  pub each : All IsShown done
+  pub each : All IsPhrase done
   pub read : drop at text ≡ phrases_text done ++ drop next text
-  pub others : (ps : List Phrase) → All IsShown ps → drop at text ≡ phrases_text ps ++ codes ">" → Left done ps (drop next text)
+  pub others : (ps : List Phrase) → All IsPhrase ps → drop at text ≡ phrases_text ps ++ codes ">" → Left done ps (drop next text)
 
 pub phrases_start : (text : List ℕ) (at : ℕ) (done : List Phrase) → at ≤ length text → done ≡ [] → PhrasesSoFar text at at done
 phrases_start text at done inside is = subst (λ ds. PhrasesSoFar text at at ds) (sym is) record {
   within = inside;
-  each = All-nil IsShown;
+  each = All-nil IsPhrase;
   read = refl;
   others = λ ps each e. record { later = ps; are = refl; each = each; tail_is = e };
 }
@@ -57,7 +58,7 @@ stands_from part items tail at inside e =
     }
 
 -- a phrase that is ended stands where a text begins with it
-pub reads_from : (phrase : Phrase) (text tail : List ℕ) (at : ℕ) → at ≤ length text → IsShown phrase → IsEnded tail → drop at text ≡ phrase_text phrase ++ tail →
+pub reads_from : (phrase : Phrase) (text tail : List ℕ) (at : ℕ) → at ≤ length text → IsPhrase phrase → IsEnded tail → drop at text ≡ phrase_text phrase ++ tail →
     ReadsPhrase text at phrase (at + length (phrase_text phrase))
 reads_from phrase text tail at inside is ended e =
     let s = stands_from (phrase_text phrase) text tail at inside e in
@@ -69,7 +70,7 @@ left_some [] (p ∷ ps) e = omega (arith, ap length e, length-append (phrases_te
 left_some (d ∷ ds) ps e = let ended = closed_ended ps in let f : ended.byte ∷ ended.more ≡ [] = sym ended.rest_is ∙ e in cc
 
 -- where the text ends, and no bracket came
-pub phrases_past : (text : List ℕ) (at next : ℕ) (done : List Phrase) → PhrasesSoFar text at next done → length text ≤ next → (ps : List Phrase) → All IsShown ps →
+pub phrases_past : (text : List ℕ) (at next : ℕ) (done : List Phrase) → PhrasesSoFar text at next done → length text ≤ next → (ps : List Phrase) → All IsPhrase ps →
     drop at text ≡ phrases_text ps ++ codes ">" → ⊥
 phrases_past text at next done s past ps each e =
     let left = s.others ps each e in
@@ -88,7 +89,7 @@ bracket_last (d ∷ ds) (p ∷ ps) rest e = let f : ◌≡◌ {A = ℕ} 62 44 = 
 
 -- the bracket is not the last byte
 pub phrases_early : (text : List ℕ) (at next : ℕ) (done : List Phrase) → PhrasesSoFar text at next done → drop next text ≡ 62 ∷ drop (next + 1) text → next + 1 < length text →
-    (ps : List Phrase) → All IsShown ps → drop at text ≡ phrases_text ps ++ codes ">" → ⊥
+    (ps : List Phrase) → All IsPhrase ps → drop at text ≡ phrases_text ps ++ codes ">" → ⊥
 phrases_early text at next done s here early ps each e =
     let left = s.others ps each e in
     let last = bracket_last done left.later (drop (next + 1) text) (sym here ∙ left.tail_is) in
@@ -134,7 +135,7 @@ comma_or_bracket done d ds ps byte rest is e =
     subst (λ b. (b ≡ 44) ⊎ (b ≡ 62)) same ended.ends
 
 pub phrases_stuck : (text : List ℕ) (at next byte : ℕ) (done : List Phrase) (d : Phrase) (ds : List Phrase) → PhrasesSoFar text at next done → done ≡ d ∷ ds →
-    drop next text ≡ byte ∷ drop (next + 1) text → (byte ≡ 44 → ⊥) → (byte ≡ 62 → ⊥) → (ps : List Phrase) → All IsShown ps → drop at text ≡ phrases_text ps ++ codes ">" → ⊥
+    drop next text ≡ byte ∷ drop (next + 1) text → (byte ≡ 44 → ⊥) → (byte ≡ 62 → ⊥) → (ps : List Phrase) → All IsPhrase ps → drop at text ≡ phrases_text ps ++ codes ">" → ⊥
 phrases_stuck text at next byte done d ds s some here no_comma no_bracket ps each e =
     let left = s.others ps each e in
     ⊎_elim (λ (h : byte ≡ 44). no_comma h) (λ (h : byte ≡ 62). no_bracket h)
@@ -167,13 +168,13 @@ one_phrase text next begin byte _ (p ∷ ps) (behind_comma d ds comma) here neve
 -- no phrase stands where one begins
 pub phrases_none : (text : List ℕ) (at next begin byte : ℕ) (done : List Phrase) → PhrasesSoFar text at next done → BeginsPhrase text next begin done → begin ≤ length text →
     drop next text ≡ byte ∷ drop (next + 1) text → (byte ≡ 62 → ⊥) → ((phrase : Phrase) (end : ℕ) → ReadsPhrase text begin phrase end → ⊥) →
-    (ps : List Phrase) → All IsShown ps → drop at text ≡ phrases_text ps ++ codes ">" → ⊥
+    (ps : List Phrase) → All IsPhrase ps → drop at text ≡ phrases_text ps ++ codes ">" → ⊥
 phrases_none text at next begin byte done s begins inside here never none ps each e =
     let left = s.others ps each e in
     let one = one_phrase text next begin byte done left.later begins here never (left.tail_is) in
-    let each_left = subst (All IsShown) one.later_is left.each in
+    let each_left = subst (All IsPhrase) one.later_is left.each in
     none one.phrase (begin + length (phrase_text one.phrase))
-    (reads_from one.phrase text (closed one.more) begin inside (All-head IsShown one.phrase one.more each_left) (closed_ended one.more) one.text_is)
+    (reads_from one.phrase text (closed one.more) begin inside (All-head IsPhrase one.phrase one.more each_left) (closed_ended one.more) one.text_is)
 
 closed_push : (done : List Phrase) (phrase : Phrase) (ps : List Phrase) → left_text (done ++ phrase ∷ []) ps ≡ closed ps
 closed_push [] phrase ps = refl
@@ -195,18 +196,18 @@ pub phrases_more : (text : List ℕ) (at next begin byte end : ℕ) (done : List
     drop next text ≡ byte ∷ drop (next + 1) text → (byte ≡ 62 → ⊥) → ReadsPhrase text begin phrase end → PhrasesSoFar text at end (done ++ phrase ∷ [])
 phrases_more text at next begin byte end done phrase s begins here never r = record {
   within = r.stands.within;
-  each = All-push IsShown done phrase s.each r.is_phrase;
+  each = All-push IsPhrase done phrase s.each r.is_phrase;
   read = s.read ∙ read_push text next begin done phrase (drop end text) begins r.stands.part_is;
   others = λ ps each e.
       let left = s.others ps each e in
       let one = one_phrase text next begin byte done left.later begins here never left.tail_is in
-      let each_left = subst (All IsShown) one.later_is left.each in
-      let alike = phrases_alike phrase one.phrase (drop end text) (closed one.more) r.is_phrase (All-head IsShown one.phrase one.more each_left) r.ended (closed_ended one.more)
+      let each_left = subst (All IsPhrase) one.later_is left.each in
+      let alike = phrases_alike phrase one.phrase (drop end text) (closed one.more) r.is_phrase (All-head IsPhrase one.phrase one.more each_left) r.ended (closed_ended one.more)
       (sym r.stands.part_is ∙ one.text_is) in
       record {
         later = one.more;
         are = left.are ∙ ap (λ ls. done ++ ls) (one.later_is ∙ ap (λ q. q ∷ one.more) (sym alike.phrases)) ∙ sym (append_assoc done (phrase ∷ []) one.more);
-        each = All-tail IsShown one.phrase one.more each_left;
+        each = All-tail IsPhrase one.phrase one.more each_left;
         tail_is = alike.rests ∙ sym (closed_push done phrase one.more);
       };
 }

@@ -104,7 +104,7 @@ text_phrase text at quoted end here r =
     let first : drop at text ≡ 34 ∷ drop (at + 1) text = first_byte text at 34 here in
     let last : drop end text ≡ 34 ∷ drop (end + 1) text = first_byte text end 34 r.0.quote in
     record {
-      is_phrase = (r.0.bytes, tt);
+      is_phrase = r.0.bytes;
       stands = record {
         within = omega arith;
         next_is = omega (arith, r.0.stands.next_is, length-append quoted (34 ∷ []));
@@ -128,7 +128,7 @@ phrase_text_read text at (Text quoted) next here r =
       quoted,
       next - 1,
       (
-        record { bytes = r.is_phrase.0; stands = subst (λ k. Stands quoted text (at + 1) k) place s.stands; quote = byte_at text (next - 1) 34 (drop next text) tail },
+        record { bytes = r.is_phrase; stands = subst (λ k. Stands quoted text (at + 1) k) place s.stands; quote = byte_at text (next - 1) 34 (drop next text) tail },
         subst (λ k. IsEnded (drop k text)) (sym behind) r.ended,
       ),
     )

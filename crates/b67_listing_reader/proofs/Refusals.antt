@@ -20,7 +20,7 @@ use Rattle.b67_listing_reader.proofs.Orders.{code_text, fills, order-append, len
 use Rattle.b67_listing_reader.proofs.Words.{worded}
 use Rattle.b67_listing_reader.proofs.Lines.{code-bytes, IsBytes-from}
 use Rattle.b67_listing_reader.proofs.Segments.{SegmentsText-push}
-use Rattle.b67_listing_reader.proofs.Ahead.{shown, readable, head_of, tail_of, GoesOn, next_operator, body, one_count, HasNoHead, formats_first, ahead, formats_ahead}
+use Rattle.b67_listing_reader.proofs.Ahead.{head_of, tail_of, GoesOn, next_operator, body, one_count, HasNoHead, formats_first, ahead, formats_ahead}
 
 -- what stands behind so many lines makes them no beginning of a listing
 pub record Stops (lines : List (List ℕ)) (count : ℕ) : Type 0 where
@@ -64,7 +64,7 @@ pub is_listing : (segments : List Segment) (formats : List Format) (lines : List
     IsListing (lines ++ format_lines formats)
 is_listing segments formats lines listed are = record {
   code = record { segments = segments; formats = formats };
-  readable = readable segments formats (are_listable 0 segments lines listed) are;
+  listable = record { segments = are_listable 0 segments lines listed; formats = are };
   listed = record { segments = lines; listed = listed; are = refl };
 }
 
@@ -218,7 +218,7 @@ behind_refused lines count p = refused lines count record {
       let found = ahead 0 p.segments is.code.segments p.front is.listed.segments (format_lines p.formats ++ line ∷ other) (format_lines is.code.formats)
       p.listed is.listed.listed (formats_first 0 is.code.formats)
       (sym (append_assoc p.front (format_lines p.formats) (line ∷ other)) ∙ ap (λ t. t ++ line ∷ other) (sym p.taken) ∙ is.listed.are) in
-      no_head_by line other (format_lines is.code.formats) (length p.segments) found.later found.lines p.formats is.code.formats p.are (shown is.code is.readable) refl
+      no_head_by line other (format_lines is.code.formats) (length p.segments) found.later found.lines p.formats is.code.formats p.are is.listable.formats refl
       (λ none_yet. subst (λ l. IsNoHead l (length p.segments)) same (p.no_head none_yet)) (subst (λ l. IsNoFormat l (length p.formats)) same p.no_format) found.listed found.rest;
   short = λ e is. let both : [] ≡ p.line ∷ p.rest = sym e ∙ p.line_is in cc;
 }

@@ -12,7 +12,6 @@ use Rattle.b67_listing.specs.Formats.{format_lines}
 use Rattle.b67_listing.specs.Listings.{HasOperators, IsListable, ListingText, segment_line}
 use Rattle.b67_listing_reader.specs.Reading.{unplaced, operator_lines, AreOperators, IsFirstOther, IsRelisted, IsFormat}
 use Rattle.b67_listing_reader.proofs.Orders.{length-code}
-use Rattle.b67_listing_reader.proofs.Ahead.{readable}
 use Rattle.b67_listing_reader.proofs.Segments.{one_listed}
 use Rattle.b67_listing_reader.proofs.Built.{text_is, built_segment, spelled_ones, with_noops, order-some}
 
@@ -33,7 +32,7 @@ has_operators operators segment a spells =
 pub one_listable : (operators : List building.Placed) (segment : Segment) (code : Code) → AreOperators operators → Spells (building.filled operators) segment →
     code ≡ record { segments = segment ∷ []; formats = [] } → IsListable code
 one_listable operators segment code a spells is = subst IsListable (sym is)
-    (readable (segment ∷ []) [] (All-cons HasOperators segment [] (has_operators operators segment a spells) (All-nil HasOperators)) (All-nil IsFormat)).listable
+    (record { segments = All-cons HasOperators segment [] (has_operators operators segment a spells) (All-nil HasOperators); formats = All-nil IsFormat })
 
 -- and its listing has the lines of its operators behind the first
 pub is_relisted : (operators : List building.Placed) (segment : Segment) (code : Code) (listed lines : List (List ℕ)) (same : ℕ) → Spells (building.filled operators) segment →

@@ -9,11 +9,10 @@ use Rattle.b67_segment.specs.declared.code.Code.{Code}
 use Rattle.b67_listing_reader.specs.declared.refusal.ReadListing.{ReadListing}
 use Rattle.b67_listing_reader.specs.declared.refusal.ReadListing.TheVariants.{BadListing, NoMemory}
 use Rattle.b67_listing.specs.Formats.{format_lines}
-use Rattle.b67_listing.specs.Listings.{SegmentsText, segment_line, segment_lines, ListingText}
-use Rattle.b67_listing_reader.specs.Codes.{IsReadable, Refuses}
+use Rattle.b67_listing.specs.Listings.{IsListable, SegmentsText, segment_line, segment_lines, ListingText}
+use Rattle.b67_listing_reader.specs.Codes.{Refuses}
 use Rattle.b67_listing_reader.specs.Reading.{operator_lines, RefusesBody, RefusesFormats, ReadsBody, ReadsSegments, ReadsFormats, IsWordCount, IsNoHead}
 use Rattle.b67_listing_reader.proofs.Segments.{SegmentsText-push}
-use Rattle.b67_listing_reader.proofs.Ahead.{readable}
 use Rattle.b67_listing_reader.proofs.Refusals.{part_refused, behind_refused, are_listable}
 
 -- the items before a place, and what stands there
@@ -101,18 +100,18 @@ formats_refused (BadListing line) segments lines at r f =
 
 -- a code whose listing is read
 code_of : (segments : List Segment) (formats : List Format) (lines : List (List ℕ)) (at : ℕ) → ReadsSegments lines segments at → ReadsFormats lines at formats →
-    IsReadable record { segments = segments; formats = formats } × ListingText record { segments = segments; formats = formats } lines
+    IsListable record { segments = segments; formats = formats } × ListingText record { segments = segments; formats = formats } lines
 code_of segments formats lines at r f = (
-  readable segments formats (are_listable 0 segments (take at lines) r.listed) f.are,
+  record { segments = are_listable 0 segments (take at lines) r.listed; formats = f.are },
   record { segments = take at lines; listed = r.listed; are = sym (take-append-drop at lines) ∙ ap (λ t. take at lines ++ t) f.listed },
 )
 
 pub code_read : (segments read : List Segment) (formats others : List Format) (lines : List (List ℕ)) (at : ℕ) → read ≡ segments → others ≡ formats → ReadsSegments lines segments at →
-    ReadsFormats lines at formats → IsReadable record { segments = read; formats = others } × ListingText record { segments = read; formats = others } lines
+    ReadsFormats lines at formats → IsListable record { segments = read; formats = others } × ListingText record { segments = read; formats = others } lines
 code_read segments read formats others lines at same alike r f =
     code_of read others lines at (subst (λ ss. ReadsSegments lines ss at) (sym same) r) (subst (λ fs. ReadsFormats lines at fs) (sym alike) f)
 
 -- a listing is not refused
-pub not_refused : (e : ReadListing) (code : Code) (lines : List (List ℕ)) → Refuses e lines → IsReadable code → ListingText code lines → e ≡ NoMemory
+pub not_refused : (e : ReadListing) (code : Code) (lines : List (List ℕ)) → Refuses e lines → IsListable code → ListingText code lines → e ≡ NoMemory
 not_refused NoMemory code lines r is listed = refl
-not_refused (BadListing line) code lines r is listed = absurd (r.1.none (record { code = code; readable = is; listed = listed }))
+not_refused (BadListing line) code lines r is listed = absurd (r.1.none (record { code = code; listable = is; listed = listed }))

@@ -1,30 +1,15 @@
 -- Codes that are read back from their listings, and where lines stop to be a listing.
-use Rattle.std.specs.Prelude.{ℕ, ◌-◌, ◌<◌, ◌≤◌, ◌^◌, List}
-use Rattle.std.specs.List.{All}
+use Rattle.std.specs.Prelude.{ℕ, ◌-◌, ◌≤◌, List}
 use Rattle.b67_text.specs.Texts.{IsRefused}
-use Rattle.b67_segment.specs.declared.code.Phrase.{Phrase}
-use Rattle.b67_segment.specs.declared.code.Phrase.TheVariants.{Text, Number, Blanks}
-use Rattle.b67_segment.specs.declared.code.Format.{Format}
 use Rattle.b67_segment.specs.declared.code.Code.{Code}
 use Rattle.b67_listing.specs.Listings.{IsListable, ListingText}
 use Rattle.b67_listing_reader.specs.declared.refusal.ReadListing.{ReadListing}
 use Rattle.b67_listing_reader.specs.declared.refusal.ReadListing.TheVariants.{BadListing, NoMemory}
 
--- the width of a phrase has 32 bits
-abbrev pub HasWidth : Phrase → Type 0
-HasWidth (Text text) = Unit {0}
-HasWidth (Number width) = width < 2 ^ 32
-HasWidth (Blanks width) = width < 2 ^ 32
-
--- the code can be listed, and the widths in its formats have 32 bits, as those of every code that a program holds
-pub record IsReadable (code : Code) : Type 0 where
-  pub listable : IsListable code
-  pub widths : All (λ (format : Format). All HasWidth format.phrases) code.formats
-
 -- the lines are the listing of a code
 pub record IsListing (lines : List (List ℕ)) : Type 0 where
   pub code : Code
-  pub readable : IsReadable code
+  pub listable : IsListable code
   pub listed : ListingText code lines
 
 -- a refusal of lines as a listing: at the first line, counted from 1, through which no listing has them, or for want of memory

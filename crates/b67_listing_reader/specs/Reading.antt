@@ -16,7 +16,6 @@ use Rattle.b67_listing.specs.Listings.{IsPhrase, IsSegment, SegmentsText, segmen
 use Rattle.b67_listing_reader.specs.declared.refusal.ReadListing.{ReadListing}
 use Rattle.b67_listing_reader.specs.declared.refusal.ReadListing.TheVariants.{BadListing, NoMemory}
 use Rattle.b67_listing_reader.specs.declared.operators.Told.{Told}
-use Rattle.b67_listing_reader.specs.Codes.{HasWidth}
 
 -- an operator that can stand at this place: it fits its level, which is from the outer block's to the deepest
 pub record CanStand (at : ℕ) (placed : Placed) : Type 0 where
@@ -72,13 +71,9 @@ syllables_in (suc most) [] = []
 syllables_in (suc most) (high ∷ []) = []
 syllables_in (suc most) (high ∷ low ∷ rest) = with_syllable (hex_value high) (hex_value low) (syllables_in most rest)
 
--- a phrase that can stand in a listing
-abbrev pub IsShown : Phrase → Type 0
-IsShown phrase = IsPhrase phrase × HasWidth phrase
-
 -- the phrases of a format can stand in a listing
 abbrev pub IsFormat : Format → Type 0
-IsFormat format = All IsShown format.phrases
+IsFormat format = All IsPhrase format.phrases
 
 -- a byte of a text between quotes
 abbrev pub IsTextByte : ℕ → Type 0
@@ -187,7 +182,7 @@ RefusesBody NoMemory words lines at = Unit {0}
 
 -- a phrase and what ends it stand at a place
 pub record ReadsPhrase (text : List ℕ) (at : ℕ) (phrase : Phrase) (next : ℕ) : Type 0 where
-  pub is_phrase : IsShown phrase
+  pub is_phrase : IsPhrase phrase
   pub stands : Stands (phrase_text phrase) text at next
   pub ended : IsEnded (drop next text)
 

@@ -14,8 +14,8 @@ mod refusal;
 
 ghost use Rattle.std.specs.Prelude.{◌≡◌, ℕ, ◌-◌, ◌<◌, ◌≤◌, ◌^◌, List, length, IfOk, IfErr, MatchResult};
 ghost use Rattle.b67_segment.specs.declared.code.Code.{Code};
-ghost use Rattle.b67_listing.specs.Listings.{ListingText};
-ghost use Rattle.b67_listing_reader.specs.Codes.{IsReadable, Refuses};
+ghost use Rattle.b67_listing.specs.Listings.{IsListable, ListingText};
+ghost use Rattle.b67_listing_reader.specs.Codes.{Refuses};
 ghost use Rattle.b67_listing_reader.specs.Reading.{ReadsSegments, ReadsFormats, RefusesFormats};
 
 use crate::body::read_body;
@@ -30,8 +30,8 @@ use std::alloc::Global;
 /// which no listing has them.
 pub fn read_listing(alloc: Global, lines: &[Line]) -> Result<Code, ReadListing>
     requires { length lines.now < 2 ^ 32 - 1 }
-    ensures read { IfOk result (λ code. IsReadable code × ListingText code lines.now) }
-    ensures again { (code : Code) → IsReadable code → ListingText code lines.now →
+    ensures read { IfOk result (λ code. IsListable code × ListingText code lines.now) }
+    ensures again { (code : Code) → IsListable code → ListingText code lines.now →
         MatchResult result (λ found. found ≡ code) (λ e. e ≡ ReadListing.NoMemory) }
     ensures refused { IfErr result (λ e. Refuses e lines.now) }
 {
@@ -87,6 +87,6 @@ fn read_formats(alloc: Global, lines: &[Line], at: usize) -> Result<Vec<Format>,
 
 /// A listing is that of one code.
 pub fn listings_have_own_codes()
-    ensures { (code other : Code) (lines : List (List ℕ)) → IsReadable code → IsReadable other →
+    ensures { (code other : Code) (lines : List (List ℕ)) → IsListable code → IsListable other →
         ListingText code lines → ListingText other lines → code ≡ other }
 {}

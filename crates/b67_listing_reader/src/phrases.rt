@@ -8,7 +8,8 @@ ghost use Rattle.b67_segment.specs.declared.code.Phrase.{Phrase};
 ghost use Rattle.b67_segment.specs.declared.code.Phrase.TheVariants.{Text};
 ghost use Rattle.b67_segment.specs.declared.code.Format.{Format};
 ghost use Rattle.b67_listing.specs.Formats.{phrase_text, phrases_text, format_line};
-ghost use Rattle.b67_listing_reader.specs.Reading.{IsShown, IsFormat, IsNoFormat, IsTextByte, EndsPhrase, ReadsPhrase, ReadsWidth, HasNoWidth, HasWidthBefore, ReadsQuoted, ReadsText, IsEnded};
+ghost use Rattle.b67_listing.specs.Listings.{IsPhrase};
+ghost use Rattle.b67_listing_reader.specs.Reading.{IsFormat, IsNoFormat, IsTextByte, EndsPhrase, ReadsPhrase, ReadsWidth, HasNoWidth, HasWidthBefore, ReadsQuoted, ReadsText, IsEnded};
 
 use b67_list::{Line, List, push_number};
 use b67_segment::{Format, Phrase};
@@ -39,8 +40,8 @@ pub fn read_format(alloc: Global, number: usize, line: &[u8]) -> Result<Option<F
 fn read_phrases(alloc: Global, text: &[u8], at: usize) -> Result<Option<Vec<Phrase>>, AllocError>
     requires { at ≤ length text.now }
     ensures { IfOk result (λ found. MatchOption found
-        ((phrases : List Phrase) → All IsShown phrases → drop at text.now ≡ phrases_text phrases ++ codes ">" → ⊥)
-        (λ phrases. All IsShown phrases.items × (drop at text.now ≡ phrases_text phrases.items ++ codes ">"))) }
+        ((phrases : List Phrase) → All IsPhrase phrases → drop at text.now ≡ phrases_text phrases ++ codes ">" → ⊥)
+        (λ phrases. All IsPhrase phrases.items × (drop at text.now ≡ phrases_text phrases.items ++ codes ">"))) }
 {
     let mut phrases = Vec::new(alloc);
     let mut next = at;
