@@ -143,7 +143,7 @@ module _ (P : Named → Type 0) where
       settle_in (tree.variable (tree.subscripted n (tree.more e es))) i = subscripted_in n [] (settle sc e) es i.0 (settle_in e (i.1).0) (i.1).1
       settle_in (tree.call (tree.called n es)) i =
           called_in n (settle_actuals sc es (sorts_of (callee sc n).parameters) []) i.0 (settle_actuals_in es (sorts_of (callee sc n).parameters) [] i.1 tt)
-      settle_in (tree.tested test e spot) i = i
+      settle_in (tree.tested tree.happened e spot) i = i
       settle_in (tree.paren e spot) i = settle_in e i
       settle_in (tree.plus e spot) i = settle_in e i
       settle_in (tree.neg e spot) i = negated_in (settle sc e) (settle_in e i)

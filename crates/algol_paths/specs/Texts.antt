@@ -11,7 +11,7 @@ module _ (P : Named → Type 0) where
     pub InExpr : PExpr → Type 0
     InExpr (tree.variable (tree.subscripted n es)) = P n × InExprs es
     InExpr (tree.call (tree.called n es)) = P n × InExprs es
-    InExpr (tree.tested test e spot) = P e.name
+    InExpr (tree.tested which e spot) = P e.name
     InExpr (tree.paren e spot) = InExpr e
     InExpr (tree.plus e spot) = InExpr e
     InExpr (tree.neg e spot) = InExpr e
