@@ -1,7 +1,8 @@
 -- A code that is faithful to a source: for every list of choices it does what the source does.
-use Rattle.std.specs.Prelude.{◌≡◌, ◌⊎◌, ℕ, ◌+◌, ◌*◌, ◌≤◌, max, List, [], ◌∷◌, ◌++◌, length, sum, Some, slice_get}
+use Rattle.std.specs.Prelude.{◌≡◌, ◌⊎◌, ℕ, ◌+◌, ◌*◌, ◌≤◌, max, List, [], ◌∷◌, ◌++◌, length, sum, filter, Some, slice_get}
 use Rattle.algol_tree.specs.Plain.{PProgram}
-use Rattle.algol_paths.specs.Segments.{segment_tokens}
+use Rattle.algol_tree.specs.Scopes.{scopes_of}
+use Rattle.algol_paths.specs.Segments.{is_procedure, segment_tokens}
 use Rattle.b67_segment.specs.declared.code.Code.{Code}
 use Rattle.b67_segment.specs.declared.code.Segment.{Segment}
 use Rattle.algol_meaning.specs.Run.{Legal}
@@ -47,9 +48,14 @@ pub record Follows (tree : PProgram) (code : Code) : Type 0 where
   -- each legal schedule of the source has a run of the code, or comes to the stack limit
   pub whole : (schedule : List ℕ) → Legal tree schedule → ((image : Image) × TableRun code schedule [] image) ⊎ ComesToLimit code schedule
 
--- A code that does what the source does, is short and can be listed.
+-- the code has a segment for the program's text, and one for each procedure with a body
+abbrev pub HasSegments : PProgram → Code → Type 0
+HasSegments tree code = length code.segments ≡ 1 + length (filter is_procedure (scopes_of tree).blocks)
+
+-- A code that does what the source does, has its segments, is short and can be listed, so that its listing tells it.
 pub record Faithful (tree : PProgram) (code : Code) : Type 0 where
   pub follows : Follows tree code
+  pub segments : HasSegments tree code
   pub short : IsShort tree code
   pub listable : IsListable code
   -- for each entry and for each tail at most as many operators are performed as the longest segment has syllables

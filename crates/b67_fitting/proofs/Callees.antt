@@ -13,7 +13,6 @@ use Rattle.algol_tree.specs.Plain.{PStmt, PDecls}
 use Rattle.algol_tree.specs.Sites.{Site, sites_in_pairs, here_stmt, inside_stmt, sites_in_decls}
 use Rattle.algol_tree.specs.Sorts.{same_name, Declared}
 use Rattle.algol_tree.specs.Surroundings.{Surroundings, body_of, heading_or, announced, knowing, inside_procedure}
-use Rattle.algol_paths.specs.Segments.{is_procedure}
 use Rattle.b67_fitting.specs.Built.{HeadingBuilt, DeclBuilt, DeclsBuilt}
 use Rattle.b67_fitting.proofs.Lists.{each_back, nil_front}
 use Rattle.b67_fitting.proofs.Numbering.{IsNumbered, block_is}
@@ -26,11 +25,11 @@ abbrev pub AreNamed : List Site → Type 0
 AreNamed xs = AllByRecursion IsNamed xs
 
 module _ (blocks : List Block) where
-  -- The block of the procedure with this heading stands in the block j. Its parameters are by value or arrays.
+  -- The block of the procedure with this heading stands in the block j, and has its name. Its parameters are by value or arrays.
   pub record IsCallee (j : ℕ) (h : Heading) : Type 0 where
     pub some : number_at blocks h.name.spot < length blocks
     pub around_is : around blocks (number_at blocks h.name.spot) ≡ j ∷ around blocks j
-    pub procedure : is_procedure (block_numbered blocks (number_at blocks h.name.spot)) ≡ true
+    pub named : (block_numbered blocks (number_at blocks h.name.spot)).name ≡ h.name.name
     pub built : HeadingBuilt h
 
   -- so do those of all procedures that these declarations declare or announce
@@ -49,7 +48,7 @@ module _ (blocks : List Block) where
       record {
         some = slice_get_within blocks k its n;
         around_is = ap (λ (z : Block). map (number_at blocks) z.outer) it_is ∙ e;
-        procedure = ap is_procedure it_is ∙ ap not b.2;
+        named = ap (λ (z : Block). z.name) it_is;
         built = b.0;
       }
 

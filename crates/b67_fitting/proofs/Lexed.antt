@@ -1,4 +1,4 @@
--- The numbers among the tokens of a text are whole, and the strings plain.
+-- The numbers among the tokens of a text are whole, the strings plain, and the names are no empty ones.
 use Rattle.std.proofs.Common.{◌≡◌, ℕ, ◌<◌, nat_le, nat_lt, Bool, true, false, cond, List, [], ◌∷◌, length, get_or, Option, Some, None, position, pos, unsigned_abs, refl, sym, subst, not, if◌then◌else◌, arith}
 use Rattle.std.proofs.lemmas.Bool.{leb-true, ltb-false, not-true, not-false}
 use Rattle.std.proofs.lemmas.List.Sums.{AllPass-from_list_all, prefix_len_passes}
@@ -12,6 +12,7 @@ use Rattle.algol_tree.specs.declared.token.TokenKind.{TokenKind}
 use Rattle.algol_tree.specs.declared.token.TokenKind.TheVariants as kinds
 use Rattle.algol_tree.specs.Lexes.{Mode, Front, Piece, Wrong, word_front, front_of, remark_word, remark_front, string_or, is_printable, is_quote, Stands, blank, percent, spelled, closed, unclosed, none, closing, commented, remarked, semicolon, period, passed, token_at, end_of, Gives, stays, piece, AreRead, all, next, Lexes}
 use Rattle.algol_tree.specs.Records.{Record, records_of}
+use Rattle.algol_tree.specs.Sorts.{same_name}
 use Rattle.algol_tree.specs.Spelling as spelling
 use Rattle.algol_tree.specs.Spelling.{Spells, value_of}
 use Rattle.b67_templates.specs.Fitting.{IsPlainText}
@@ -21,6 +22,7 @@ use Rattle.b67_fitting.proofs.Lists.{each_both}
 abbrev pub KindRight : TokenKind → Type 0
 KindRight (kinds.Number value) = IsWhole value
 KindRight (kinds.Text bytes) = IsPlainText bytes
+KindRight (kinds.Name bytes) = same_name bytes [] ≡ false
 KindRight k = Unit {0}
 
 abbrev pub TokenRight : Token → Type 0
@@ -53,9 +55,13 @@ either_right : (b : Bool) (f g : Front) → (b ≡ true → FrontRight f) → Fr
 either_right true f g h k = h refl
 either_right false f g h k = k
 
+name_right : (bytes : List ℕ) → IsTrue (spelling.is_name bytes) → same_name bytes [] ≡ false
+name_right [] h = absurd (let clash : false ≡ true = h in cc)
+name_right (b ∷ bytes) h = refl
+
 kind_right : {bytes : List ℕ} {k : TokenKind} (size : ℕ) → Spells bytes k → FrontRight (front_of k size)
 kind_right size (spelling.word w) = word_right w size
-kind_right size (spelling.name bytes n r) = either_right (nat_le (length bytes) _) _ _ (λ e. tt) tt
+kind_right size (spelling.name bytes n r) = either_right (nat_le (length bytes) _) _ _ (λ e. name_right bytes n) tt
 kind_right size (spelling.number bytes n) =
     let value = pos (value_of bytes) in either_right (nat_le (unsigned_abs value) most) _ _ (λ e. leb-true (unsigned_abs value) most e) tt
 kind_right size (spelling.symbol s) = tt

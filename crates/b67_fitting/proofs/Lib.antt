@@ -58,3 +58,5 @@ pub mod BlockItems
 pub mod OneBlock
 pub mod SurroundedSites
 pub mod Written
+pub mod NamesRead
+pub mod NamedBlocks

@@ -20,6 +20,7 @@ use Rattle.algol_tree.specs.Surroundings.{Surroundings, outermost, knowing_all}
 use Rattle.algol_paths.specs.Segments.{is_procedure, procedures_before, tokens_or_none, segment_tokens}
 use Rattle.b67_templates.specs.Cells.{parameters_around}
 use Rattle.b67_fitting.specs.Built.{DeclsBuilt, StmtsBuilt}
+use Rattle.b67_fitting.specs.Names.{DeclsNamed, StmtsNamed}
 use Rattle.b67_fitting.specs.Nested.{AreParameters, IsText, AreNested, BuiltProgramsLieNested}
 use Rattle.b67_fitting.proofs.Lists.{each_front, each_back, each_both, nil_front, nil_back, nil_map, nil_each, not_so}
 use Rattle.b67_fitting.proofs.Numbering.{times_both, places, places_both, once, Apart, once_apart, use_place, IsThere, all_there, block_place, IsNumbered, all_numbered, block_is, each_at, number_is, number_first}
@@ -27,6 +28,7 @@ use Rattle.b67_fitting.proofs.Apart.{Apart as IsApartList, each_in, ascending_ap
 use Rattle.b67_fitting.proofs.Clean.{none_long}
 use Rattle.b67_fitting.proofs.Frames.{named_of, named_long}
 use Rattle.b67_fitting.proofs.Given.{AreWhole}
+use Rattle.b67_fitting.proofs.NamedBlocks.{HasNamed, HaveNamed, in_stmts as names_in_stmts, in_decls as names_in_decls}
 use Rattle.b67_fitting.proofs.Parameters.{outside}
 use Rattle.b67_fitting.proofs.ResultsApart.{IsClear, AreClear, AreOnce, in_stmts as clear_stmts, in_decls as clear_decls}
 use Rattle.b67_fitting.proofs.Headed.{IsIt, of_begin, in_stmts as headed_stmts, in_decls as headed_decls}
@@ -108,19 +110,20 @@ module _ (sc : Scopes) (all : List Site) where
   abbrev HasFew : Block → Type 0
   HasFew b = place_beyond MOST_BLOCK_CELLS (map (λ (c : Cell). c.spot) (cells_of sc.blocks all (number_at sc.blocks b.spot))) ≡ []
 
-  one_fine : (b : Block) → IsNumbered sc.blocks b → AreParameters sc b → IsLow b → HasFew b → IsFine sc all b
-  one_fine b n v l h =
+  one_fine : (b : Block) → IsNumbered sc.blocks b → AreParameters sc b → HasNamed b → IsLow b → HasFew b → IsFine sc all b
+  one_fine b n v m l h =
       let its = cells_of sc.blocks all (number_at sc.blocks b.spot) in
       record {
         numbered = n;
         headed = v;
+        named = m;
         low = not_over MOST_LEVEL (level_of b) (not_so (is_too_deep (level_of b)) b.spot l);
         few = omega (arith, none_beyond MOST_BLOCK_CELLS (map (λ (c : Cell). c.spot) its) h, length-map its (λ (c : Cell). c.spot));
       }
 
-  all_fine : (bs : List Block) → AllByRecursion (IsNumbered sc.blocks) bs → AllByRecursion (AreParameters sc) bs → AllByRecursion IsLow bs → AllByRecursion HasFew bs → AreFine sc all bs
-  all_fine [] n v l h = tt
-  all_fine (b ∷ bs) n v l h = (one_fine b n.0 v.0 l.0 h.0, all_fine bs n.1 v.1 l.1 h.1)
+  all_fine : (bs : List Block) → AllByRecursion (IsNumbered sc.blocks) bs → AllByRecursion (AreParameters sc) bs → HaveNamed bs → AllByRecursion IsLow bs → AllByRecursion HasFew bs → AreFine sc all bs
+  all_fine [] n v m l h = tt
+  all_fine (b ∷ bs) n v m l h = (one_fine b n.0 v.0 m.0 l.0 h.0, all_fine bs n.1 v.1 m.1 l.1 h.1)
 
 -- ---- the program
 
@@ -274,15 +277,20 @@ module _ (spot : Spot) (ds : PDecls) (ss : PStmts) (order : IsInOrder (tree.prog
   good_by unknown =
       all_good sc all (of_each (IsThere sc.uses) uses_at all (all_there sc.uses uses_apart)) (nil_each unknown_names all unknown)
 
-  lies_by : flat_map unknown_names all ≡ [] → flat_map (declared_twice blocks) all ≡ [] → deep_blocks blocks ≡ [] → cells_beyond blocks all ≡ [] → procedures_beyond blocks ≡ [] → flat_map (wrong_types blocks) all ≡ [] →
+  -- the procedures of each block have names
+  named_blocks : DeclsNamed ds → StmtsNamed ss → HaveNamed blocks
+  named_blocks named_decls named =
+      (named_decls, each_both HasNamed (blocks_in_decls ds outer) (blocks_in_stmts ss outer) (names_in_decls ds outer named_decls) (names_in_stmts ss outer named))
+
+  lies_by : HaveNamed blocks → flat_map unknown_names all ≡ [] → flat_map (declared_twice blocks) all ≡ [] → deep_blocks blocks ≡ [] → cells_beyond blocks all ≡ [] → procedures_beyond blocks ≡ [] → flat_map (wrong_types blocks) all ≡ [] →
       flat_map (not_assignable blocks) all ≡ [] → AreNested sc
-  lies_by unknown twice deep cells many wrong assigned =
+  lies_by named unknown twice deep cells many wrong assigned =
       let kept = all_kept blocks all (nil_each (wrong_types blocks) all wrong) (nil_each (not_assignable blocks) all assigned) in
-      nested_by (good_by unknown) kept (all_fine sc all blocks (all_numbered blocks blocks_apart) (headed (nil_each (declared_twice blocks) all twice)) (nil_each _ blocks deep) (nil_each _ blocks cells)) many
+      nested_by (good_by unknown) kept (all_fine sc all blocks (all_numbered blocks blocks_apart) (headed (nil_each (declared_twice blocks) all twice)) named (nil_each _ blocks deep) (nil_each _ blocks cells)) many
 
 pub built_programs_lie_nested : BuiltProgramsLieNested
 unfolding scopes_of blocks_of_program scope_faults check_faults
-built_programs_lie_nested (tree.program (tree.body spot ds ss)) accepted order built =
+built_programs_lie_nested (tree.program (tree.body spot ds ss)) accepted order built named =
     let up_to_procedures = nil_front _ _ accepted.scoped in
     let up_to_cells = nil_front _ _ up_to_procedures in
     let up_to_levels = nil_front _ _ up_to_cells in
@@ -298,6 +306,6 @@ built_programs_lie_nested (tree.program (tree.body spot ds ss)) accepted order b
     let assigned = nil_back _ _ up_to_assigned in
     record {
       nested =
-          lies_by spot ds ss order built.0 built.1 (nil_map _ _ unknown) (nil_map _ _ twice) (nil_front _ _ (nil_map _ _ levels)) (nil_map _ _ cells) (nil_map _ _ many) (nil_map _ _ wrong) (nil_map _ _ assigned);
+          lies_by spot ds ss order built.0 built.1 (named_blocks spot ds ss order built.0 built.1 named.0 named.1) (nil_map _ _ unknown) (nil_map _ _ twice) (nil_front _ _ (nil_map _ _ levels)) (nil_map _ _ cells) (nil_map _ _ many) (nil_map _ _ wrong) (nil_map _ _ assigned);
       short = short_segments (tree.program (tree.body spot ds ss)) (nil_map _ _ long);
     }

@@ -1,5 +1,5 @@
 -- The numbers of what is read from tokens are whole, where the tokens are right.
-use Rattle.std.proofs.Common.{ℕ, List, subst}
+use Rattle.std.proofs.Common.{arith, ℕ, ◌≤◌, List, length, subst}
 use Rattle.algol_tree.specs.declared.level.Level.{Level}
 use Rattle.algol_tree.specs.declared.token.Spot.{Spot}
 use Rattle.algol_tree.specs.declared.token.Token.{Token}
@@ -7,6 +7,8 @@ use Rattle.algol_tree.specs.declared.tree.Kind.{Kind}
 use Rattle.algol_tree.specs.declared.tree.Named.{Named}
 use Rattle.algol_tree.specs.Expressions as grammar
 use Rattle.algol_tree.specs.Expressions.{IsPart, IsMore, IsExprs}
+use Rattle.algol_tree.specs.Headings as headings
+use Rattle.algol_tree.specs.Headings.{IsNames}
 use Rattle.algol_tree.specs.Operators.{Part}
 use Rattle.algol_tree.specs.Plain.{PExpr, call, called, PExprs, PPair, PStmt, PStmts, PDecls, no_decls, decls, PBody, PProgram}
 use Rattle.algol_tree.specs.Programs as programs
@@ -126,14 +128,19 @@ pairs_whole (statements.two t p q from after rest x i y) w =
     let two = pair_whole y one.1.1 in
     ((tt, (one.0, (two.0, tt))), two.1)
 
+-- a list of names has one
+some_names : {from : List Token} {ns : List Named} {rest : List Token} → IsNames from ns rest → 1 ≤ length ns
+some_names (headings.last t n rest k) = omega arith
+some_names (headings.comma t u n ns from rest k i x) = omega arith
+
 pub segments_whole : {free : ℕ} {kind : Kind} {from : List Token} {ds : PDecls} {rest : List Token} → IsSegments free kind from ds rest → AreRight from → Read (DeclsWhole ds) rest
 segments_whole (statements.last kind u v ns ps from mid rest x i y j) w =
     let one = pairs_whole y (behind_names TokenRight x w).1 in
-    ((one.0, tt), one.1.1)
+    (((one.0, some_names x), tt), one.1.1)
 segments_whole (statements.comma kind u v x ns ps ds from mid after rest y i z j k s) w =
     let one = pairs_whole z (behind_names TokenRight y w).1 in
     let two = segments_whole s one.1.1.1 in
-    ((one.0, two.0), two.1)
+    (((one.0, some_names y), two.0), two.1)
 
 both_whole : (ds es : PDecls) → DeclsWhole ds → DeclsWhole es → DeclsWhole (decls_and ds es)
 both_whole no_decls es g h = h

@@ -1,5 +1,5 @@
 -- A block that keeps the rules: its text keeps to it where its bounds and its statements do.
-use Rattle.std.proofs.Common.{arith, ◌≡◌, ℕ, ◌+◌, ◌<◌, ◌≤◌, List, [], ◌∷◌, ◌++◌, length, map, Some, None, sym, ap, ◌∙◌, subst, zero, suc, slice_get}
+use Rattle.std.proofs.Common.{arith, ◌≡◌, ℕ, ◌+◌, ◌<◌, ◌≤◌, not, List, [], ◌∷◌, ◌++◌, length, map, Some, None, sym, ap, ◌∙◌, subst, zero, suc, slice_get}
 use Rattle.std.proofs.lemmas.Option.{slice_get_within}
 use Rattle.std.specs.List.{AllByRecursion}
 use Rattle.algol_tree.specs.declared.TheConstants.{MOST_BLOCK_CELLS, MOST_LEVEL}
@@ -11,6 +11,7 @@ use Rattle.algol_tree.specs.Plain as tree
 use Rattle.algol_tree.specs.Plain.{PStmts, PDecls}
 use Rattle.algol_tree.specs.Scopes.{Scopes}
 use Rattle.algol_tree.specs.Sites.{Site}
+use Rattle.algol_tree.specs.Sorts.{same_name}
 use Rattle.algol_meaning.specs.Statements.{items_of}
 use Rattle.algol_paths.specs.Arrays.{arrays_of}
 use Rattle.algol_paths.specs.Blocks.{IsSeen, IsSeenAround, IsInner}
@@ -18,6 +19,7 @@ use Rattle.algol_paths.specs.Laws.{ItemsKeepToText}
 use Rattle.algol_paths.specs.Texts.{InStmts}
 use Rattle.b67_templates.specs.Cells.{simple_cells, result_of, variables, procedures}
 use Rattle.b67_fitting.specs.Built.{DeclsBuilt}
+use Rattle.b67_fitting.specs.Names.{DeclsNamed}
 use Rattle.b67_fitting.specs.Nested.{IsDeclared, AreParameters, IsText}
 use Rattle.b67_fitting.proofs.BlockItems.{in_items}
 use Rattle.b67_fitting.proofs.Bounds.{InBounds}
@@ -32,21 +34,23 @@ abbrev pub the_block : Spot → List Spot → PDecls → PStmts → Block
 the_block spot outer ds ss = record { spot = spot; outer = outer; name = []; parameters = []; result = None; decls = ds; stmts = ss }
 
 -- the procedures that are declared have blocks in this one
-declared_by : (sc : Scopes) (j : ℕ) (ds : PDecls) → AreCallees sc.blocks j ds → (i : ℕ) (declared : Named) → slice_get (procedures ds) i ≡ Some declared → IsDeclared sc j declared
-declared_by sc j tree.no_decls c i declared h = absurd (let clash : None ≡ Some declared = h in cc)
-declared_by sc j (tree.decls (tree.procedure g t) ds) c zero declared h =
+declared_by : (sc : Scopes) (j : ℕ) (ds : PDecls) → AreCallees sc.blocks j ds → DeclsNamed ds → (i : ℕ) (declared : Named) → slice_get (procedures ds) i ≡ Some declared → IsDeclared sc j declared
+declared_by sc j tree.no_decls c m i declared h = absurd (let clash : None ≡ Some declared = h in cc)
+declared_by sc j (tree.decls (tree.procedure g t) ds) c m zero declared h =
     let same : g.name ≡ declared = cc in
-    subst (IsDeclared sc j) same (record { known = c.0.some; around_is = c.0.around_is; procedure = c.0.procedure })
-declared_by sc j (tree.decls (tree.procedure g t) ds) c (suc i) declared h = declared_by sc j ds c.1 i declared h
-declared_by sc j (tree.decls (tree.forward g) ds) c i declared h = declared_by sc j ds c.1 i declared h
-declared_by sc j (tree.decls d ds) c i declared h = declared_by sc j ds c i declared h
+    subst (IsDeclared sc j) same (record { known = c.0.some; around_is = c.0.around_is; procedure = ap (λ (name : List ℕ). not (same_name name [])) c.0.named ∙ ap not m.0.0 })
+declared_by sc j (tree.decls (tree.procedure g t) ds) c m (suc i) declared h = declared_by sc j ds c.1 m.1 i declared h
+declared_by sc j (tree.decls (tree.forward g) ds) c m i declared h = declared_by sc j ds c.1 m.1 i declared h
+declared_by sc j (tree.decls d ds) c m i declared h = declared_by sc j ds c m.1 i declared h
 
 -- `all`: all parts of the tree
 module _ (sc : Scopes) (all : List Site) where
-  -- The block has its number by its place and the cells of its parameters, is not too deep and has not too many cells.
+  -- The block has its number by its place and the cells of its parameters, is not too deep and has not too many cells, and its procedures
+  -- have names.
   pub record IsFine (b : Block) : Type 0 where
     pub numbered : IsNumbered sc.blocks b
     pub headed : AreParameters sc b
+    pub named : DeclsNamed b.decls
     pub low : level_of b ≤ MOST_LEVEL
     pub few : length (cells_of sc.blocks all (number_at sc.blocks b.spot)) ≤ MOST_BLOCK_CELLS
 
@@ -115,7 +119,7 @@ module _ (sc : Scopes) (all : List Site) where
           parameters = subst (AreParameters sc) (sym it_is) f.headed;
           few = subst (λ (z : Block). length (simple_cells sc z) + length (procedures z.decls) + length (arrays_of z.decls) ≤ MOST_BLOCK_CELLS) (sym it_is) few;
           low = subst (λ (z : Block). level_of z ≤ MOST_LEVEL) (sym it_is) f.low;
-          procedure = λ i declared h. declared_by sc k b.decls c i declared (subst (λ (z : Block). slice_get (procedures z.decls) i ≡ Some declared) it_is h);
+          procedure = λ i declared h. declared_by sc k b.decls c f.named i declared (subst (λ (z : Block). slice_get (procedures z.decls) i ≡ Some declared) it_is h);
         }
 
   -- the block of a BEGIN that is a statement

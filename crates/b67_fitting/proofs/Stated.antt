@@ -322,7 +322,7 @@ module _ (blocks : List Block) where
         AreClean blocks (inside_decl blocks d a first) → TypedDecl blocks a first d
     declared a first plain at_begin (tree.simple kind ns) b w t i = tt
     declared a first plain at_begin (tree.files ns) b w t i = tt
-    declared a first plain at_begin (tree.arrays kind ns pairs) b w t i = (w.0, typed_pairs blocks (record a { known = first }) at_begin pairs w.1 i, b)
+    declared a first plain at_begin (tree.arrays kind ns pairs) b w t i = (w.0.0, typed_pairs blocks (record a { known = first }) at_begin pairs w.0.1 i, w.1)
     declared a first plain at_begin (tree.forward h) b w t i = b
     declared a first plain at_begin (tree.procedure h s) b w t i = (b.0, stated of_procedure (inside_procedure blocks h a) (plain_procedure h a b.0 plain) s false b.1 w.1 t i.0 i.1, w.0)
     declared a first plain at_begin _ b w t i = absurd b

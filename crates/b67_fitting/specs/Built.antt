@@ -1,14 +1,13 @@
 -- Which programs are built: all that they declare are simple variables, files, arrays and procedures whose parameters are simple and by
--- value or arrays, in whatever block, and no process is started. Each procedure has a name, as in each tree that was read: by its name a
--- block is known as that of a procedure. And each declaration of arrays has a name.
-use Rattle.std.specs.Prelude.{◌≡◌, ◌⊎◌, ◌≤◌, true, false, [], length}
+-- value or arrays, in whatever block, and no process is started.
+use Rattle.std.specs.Prelude.{◌≡◌, ◌⊎◌, true}
 use Rattle.std.specs.List.{All}
 use Rattle.algol_tree.specs.declared.tree.Heading.{Heading}
 use Rattle.algol_tree.specs.declared.tree.Named.{Named}
 use Rattle.algol_tree.specs.Plain as tree
 use Rattle.algol_tree.specs.Plain.{PStmt, PStmts, PDecl, PDecls, PProgram}
 use Rattle.algol_tree.specs.Classes.{is_simple, is_array}
-use Rattle.algol_tree.specs.Sorts.{same_name, is_named_in, class_in}
+use Rattle.algol_tree.specs.Sorts.{is_named_in, class_in}
 
 -- each parameter is specified as a simple one, and is by value, or as an array
 abbrev pub HeadingBuilt : Heading → Type 0
@@ -22,9 +21,9 @@ abbrev mutual
   pub DeclBuilt : PDecl → Type 0
   DeclBuilt (tree.simple kind ns) = Unit {0}
   DeclBuilt (tree.files ns) = Unit {0}
-  DeclBuilt (tree.arrays kind ns pairs) = 1 ≤ length ns
+  DeclBuilt (tree.arrays kind ns pairs) = Unit {0}
   DeclBuilt (tree.forward h) = HeadingBuilt h
-  DeclBuilt (tree.procedure h s) = HeadingBuilt h × StmtBuilt s × (same_name h.name.name [] ≡ false)
+  DeclBuilt (tree.procedure h s) = HeadingBuilt h × StmtBuilt s
   DeclBuilt d = ⊥
 
   pub DeclsBuilt : PDecls → Type 0

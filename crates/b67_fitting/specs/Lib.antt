@@ -1,6 +1,7 @@
 pub mod Built
 pub mod Wholes
 pub mod Texts
+pub mod Names
 pub mod Fitted
 pub mod Numbers
 pub mod Nested

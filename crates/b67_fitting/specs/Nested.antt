@@ -16,6 +16,7 @@ use Rattle.algol_paths.specs.Laws.{ItemsKeepToText}
 use Rattle.algol_paths.specs.Segments.{is_procedure, procedures_before, segment_tokens}
 use Rattle.b67_templates.specs.Cells.{Simple, parameter_cells, simple_cells, found_from, procedures}
 use Rattle.b67_fitting.specs.Built.{IsBuilt}
+use Rattle.b67_fitting.specs.Names.{HasNames}
 
 -- the block of a procedure that the block with this number declares stands in it
 pub record IsDeclared (sc : Scopes) (j : ℕ) (declared : Named) : Type 0 where
@@ -68,4 +69,4 @@ pub record LiesNested (p : PProgram) : Type 0 where
   pub short : (k : ℕ) → segment_tokens p k ≤ MOST_SEGMENT_TOKENS
 
 abbrev pub BuiltProgramsLieNested : Type 0
-BuiltProgramsLieNested = (p : PProgram) → Accepted p → IsInOrder p → IsBuilt p → LiesNested p
+BuiltProgramsLieNested = (p : PProgram) → Accepted p → IsInOrder p → IsBuilt p → HasNames p → LiesNested p

@@ -1,7 +1,7 @@
 -- The numbers of a program are whole: the magnitude of each number in its expressions is at most the greatest that the machine has. And
--- each call in an expression has actuals, and each array one dimension or two, as in a tree that was read from a text, where a name alone
--- reads as a variable.
-use Rattle.std.specs.Prelude.{ℤ, List, [], ◌∷◌}
+-- each call in an expression has actuals, each array one dimension or two, and each declaration of arrays a name, as in a tree that was
+-- read from a text, where a name alone reads as a variable.
+use Rattle.std.specs.Prelude.{ℤ, ◌≤◌, List, [], ◌∷◌, length}
 use Rattle.std.specs.List.{AllByRecursion}
 use Rattle.algol_tree.specs.declared.tree.Spec.{Spec}
 use Rattle.algol_tree.specs.declared.tree.Spec.TheVariants as spec
@@ -64,7 +64,7 @@ abbrev mutual
   StmtsWhole (tree.stmts s ss) = StmtWhole s × StmtsWhole ss
 
   pub DeclWhole : PDecl → Type 0
-  DeclWhole (tree.arrays kind ns pairs) = BoundsWhole pairs
+  DeclWhole (tree.arrays kind ns pairs) = BoundsWhole pairs × (1 ≤ length ns)
   DeclWhole (tree.procedure h s) = AllByRecursion SpecWhole h.specs × StmtWhole s
   DeclWhole _ = Unit {0}
 

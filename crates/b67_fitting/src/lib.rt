@@ -7,6 +7,7 @@ ghost use Rattle.b67_fitting.specs.Fitted.{AcceptedProgramsFit};
 ghost use Rattle.b67_fitting.specs.Nested.{BuiltProgramsLieNested};
 ghost use Rattle.b67_fitting.specs.Numbers.{SourcesHaveWholeNumbers};
 ghost use Rattle.b67_fitting.specs.Texts.{SourcesHavePlainTexts};
+ghost use Rattle.b67_fitting.specs.Names.{SourcesHaveNames};
 
 /// Law: the texts of an accepted program that is built fit, so they have code. Each expression has the kind that its place wants, each name
 /// is a simple variable, a parameter, an array or a procedure whose couple a right table has, each element has a subscript for each of its
@@ -16,7 +17,8 @@ pub fn accepted_programs_fit()
     ensures { AcceptedProgramsFit }
 {}
 
-/// Law: each number in a source is whole, so that the machine has it, and each array has one dimension or two.
+/// Law: each number in a source is whole, so that the machine has it, each array has one dimension or two, and each declaration of
+/// arrays has a name.
 pub fn numbers_of_sources_are_whole()
     ensures { SourcesHaveWholeNumbers }
 {}
@@ -24,6 +26,11 @@ pub fn numbers_of_sources_are_whole()
 /// Law: each text that a source writes has only printable bytes and no quote.
 pub fn texts_of_sources_are_plain()
     ensures { SourcesHavePlainTexts }
+{}
+
+/// Law: each procedure of a source has a name.
+pub fn procedures_of_sources_have_names()
+    ensures { SourcesHaveNames }
 {}
 
 /// Law: the blocks of an accepted program that is built lie in one another. Each name in a block's text means a declaration of that block

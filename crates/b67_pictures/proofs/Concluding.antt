@@ -46,4 +46,4 @@ pub built_programs_are_faithful : BuiltProgramsAreFaithful
 built_programs_are_faithful =
     built_programs_follow rests_keep_to_their_text arrays_are_made_in_order frames_close built_programs_lie_nested
     (λ tree code texts nested rests. processes_apart tree code texts nested rests (arrays_near tree code texts nested))
-    (λ tree code at built lies short. arrays_done tree code at.texts lies.nested)
+    (λ tree code at lies short. arrays_done tree code at.texts lies.nested)

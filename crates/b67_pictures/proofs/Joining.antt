@@ -24,7 +24,7 @@ use Rattle.b67_cores.proofs.Placing.{fragments_are_performed}
 use Rattle.b67_listing.specs.Listings.{HasOperators, IsListable}
 use Rattle.b67_faithful.specs.Faithful.{IsShort, Faithful}
 use Rattle.b67_faithful.proofs.Contradictions.{none_some}
-use Rattle.b67_fitting.specs.Built.{IsBuilt}
+use Rattle.b67_fitting.specs.Names.{HasNames}
 use Rattle.b67_fitting.specs.Nested.{AreNested, LiesNested, BuiltProgramsLieNested}
 use Rattle.b67_pictures.specs.Programs.{BuiltProgramsAreFaithful}
 use Rattle.b67_pictures.proofs.Closing.{FramesClose}
@@ -53,7 +53,7 @@ pub record ArraysAreDone (tree : PProgram) (code : Code) (texts : ℕ → List P
   pub passing : (n : Named) → IsDone tree code texts (passes n)
   pub making : (kind : Kind) (ns : List Named) (pairs : List PPair) (vs : List Value) → IsDone tree code texts (makes_arrays kind ns pairs vs)
 
-module _ (keeps : RestsKeepToTheirText) (order : ArraysAreMadeInOrder) (closing : FramesClose) (tree : PProgram) (code : Code) (built : IsBuilt tree) (lies : LiesNested tree) (short : IsShort tree code)
+module _ (keeps : RestsKeepToTheirText) (order : ArraysAreMadeInOrder) (closing : FramesClose) (tree : PProgram) (code : Code) (names : HasNames tree) (lies : LiesNested tree) (short : IsShort tree code)
     (segments : All (λ (segment : Segment). length segment.words ≤ segment_limit) code.segments) (at : ProgramAt code tree) (apart : StandApart tree code at.texts)
     (arrays : ArraysAreDone tree code at.texts) where
   abbrev texts : ℕ → List Placed
@@ -77,7 +77,7 @@ module _ (keeps : RestsKeepToTheirText) (order : ArraysAreMadeInOrder) (closing 
 
   calls_done : (n : Named) (gs : List Given) → IsDone tree code texts (enters n gs)
   calls_done n gs w lay img p q part outer bound core s able_is able_p asks a answered waits returns =
-      entering_procedure tree code at lies short (block_small tree built) fragments_are_performed blocks_begin blocks_start keeps order w lay img p q part outer bound core s able_is able_p n gs asks a waits returns
+      entering_procedure tree code at lies short (block_small tree names) fragments_are_performed blocks_begin blocks_start keeps order w lay img p q part outer bound core s able_is able_p n gs asks a waits returns
 
   others : OthersAreDone tree code texts
   others =
@@ -107,7 +107,7 @@ module _ (keeps : RestsKeepToTheirText) (order : ArraysAreMadeInOrder) (closing 
       simulating.code_is_faithful tree code texts steps_are_performed steps_come_to_limit settled_act
       (λ w lay img p q by at_p l. same_number tree code texts rests_go_on w lay img p q at_p l) apart
       (λ w lay a by b p n plains. operators_are_few tree code texts (λ j known. (lies.nested.each j known).low) w lay a by b p n plains)
-      (first_pictured tree code built lies.nested at fragments_are_performed blocks_begin blocks_start keeps order) short
+      (first_pictured tree code names lies.nested at fragments_are_performed blocks_begin blocks_start keeps order) at.many short
 
 -- segments that can be listed have no more words than a segment may have
 within_limit : (segments : List Segment) → All HasOperators segments → All (λ (segment : Segment). length segment.words ≤ segment_limit) segments
@@ -119,7 +119,7 @@ ProcessesStandApart = (tree : PProgram) (code : Code) (texts : ℕ → List Plac
 
 -- The blocks of an accepted program that is built lie in one another, so a code in which it stands is faithful to it.
 pub built_programs_follow : RestsKeepToTheirText → ArraysAreMadeInOrder → FramesClose → BuiltProgramsLieNested → ProcessesStandApart →
-    ((tree : PProgram) (code : Code) (at : ProgramAt code tree) → IsBuilt tree → LiesNested tree → IsShort tree code → ArraysAreDone tree code at.texts) → BuiltProgramsAreFaithful
-built_programs_follow keeps in_order closing lie_nested apart arrays tree code accepted order built at short listable =
-    let lies : LiesNested tree = lie_nested tree accepted order built in
-    program_is_faithful keeps in_order closing tree code built lies short (within_limit code.segments listable.segments) at (apart tree code at.texts lies.nested rests_go_on) (arrays tree code at built lies short) listable
+    ((tree : PProgram) (code : Code) (at : ProgramAt code tree) → LiesNested tree → IsShort tree code → ArraysAreDone tree code at.texts) → BuiltProgramsAreFaithful
+built_programs_follow keeps in_order closing lie_nested apart arrays tree code accepted order built names at short listable =
+    let lies : LiesNested tree = lie_nested tree accepted order built names in
+    program_is_faithful keeps in_order closing tree code names lies short (within_limit code.segments listable.segments) at (apart tree code at.texts lies.nested rests_go_on) (arrays tree code at lies short) listable

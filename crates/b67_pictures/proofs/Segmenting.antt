@@ -23,7 +23,7 @@ use Rattle.algol_paths.specs.Segments.{is_procedure, procedures_before, segment_
 use Rattle.b67_templates.specs.Cells.{procedures}
 use Rattle.b67_templates.specs.Depths.{decls_depth, stmts_depth}
 use Rattle.b67_faithful.specs.Weight.{tokens_around}
-use Rattle.b67_fitting.specs.Built.{DeclsBuilt, StmtBuilt, StmtsBuilt, IsBuilt}
+use Rattle.b67_fitting.specs.Names.{DeclsNamed, StmtNamed, StmtsNamed, HasNames}
 use Rattle.b67_pictures.proofs.Weighing.{decls_small, stmt_small, stmts_small}
 
 -- the segments that begin at these places of the text
@@ -148,75 +148,75 @@ module _ (blocks : List Block) where
   under s a = here_stmt s false a ∷ inside_stmt blocks s of_statement false a
 
   mutual
-    stmt_match : (s : PStmt) (begin : Begin) (listed : Bool) (a : Surroundings) (outer : List Spot) → StmtBuilt s → Match (blocks_of s begin outer) (inside_stmt blocks s begin listed a)
-    stmt_match tree.empty begin listed a outer built = tt
-    stmt_match (tree.label n s) begin listed a outer built = stmt_match s of_statement listed a outer built
-    stmt_match (tree.assign (tree.subscripted n es) e) begin listed a outer built =
+    stmt_match : (s : PStmt) (begin : Begin) (listed : Bool) (a : Surroundings) (outer : List Spot) → StmtNamed s → Match (blocks_of s begin outer) (inside_stmt blocks s begin listed a)
+    stmt_match tree.empty begin listed a outer named = tt
+    stmt_match (tree.label n s) begin listed a outer named = stmt_match s of_statement listed a outer named
+    stmt_match (tree.assign (tree.subscripted n es) e) begin listed a outer named =
         none_match (inside_list es a ++ sites e a) (both_none (inside_list es a) (sites e a) (list_none es a) (expr_none e a))
-    stmt_match (tree.call_of (tree.called n es)) begin listed a outer built = none_match (inside_actuals es (formals_at a n) a) (actuals_none es (formals_at a n) a)
-    stmt_match (tree.go_to n) begin listed a outer built = tt
+    stmt_match (tree.call_of (tree.called n es)) begin listed a outer named = none_match (inside_actuals es (formals_at a n) a) (actuals_none es (formals_at a n) a)
+    stmt_match (tree.go_to n) begin listed a outer named = tt
     -- no BEGIN of a statement has a name
-    stmt_match (tree.block (tree.body spot tree.no_decls ss)) of_statement listed a outer built =
-        stmts_match ss false (inside blocks of_statement (tree.body spot tree.no_decls ss) a) outer built.1
-    stmt_match (tree.block (tree.body spot tree.no_decls ss)) of_procedure listed a outer built =
-        stmts_match ss false (inside blocks of_procedure (tree.body spot tree.no_decls ss) a) outer built.1
-    stmt_match (tree.block (tree.body spot (tree.decls d ds) ss)) of_statement listed a outer built =
+    stmt_match (tree.block (tree.body spot tree.no_decls ss)) of_statement listed a outer named =
+        stmts_match ss false (inside blocks of_statement (tree.body spot tree.no_decls ss) a) outer named.1
+    stmt_match (tree.block (tree.body spot tree.no_decls ss)) of_procedure listed a outer named =
+        stmts_match ss false (inside blocks of_procedure (tree.body spot tree.no_decls ss) a) outer named.1
+    stmt_match (tree.block (tree.body spot (tree.decls d ds) ss)) of_statement listed a outer named =
         let i : Surroundings = inside blocks of_statement (tree.body spot (tree.decls d ds) ss) a in
         match_both (blocks_in_decls (tree.decls d ds) (spot ∷ outer)) (blocks_in_stmts ss (spot ∷ outer)) (sites_in_decls blocks (tree.decls d ds) i i.known) (sites_in_stmts blocks ss true (knowing_all blocks (tree.decls d ds) i))
-        (decls_match (tree.decls d ds) i i.known (spot ∷ outer) built.0) (stmts_match ss true (knowing_all blocks (tree.decls d ds) i) (spot ∷ outer) built.1)
-    stmt_match (tree.block (tree.body spot (tree.decls d ds) ss)) of_procedure listed a outer built =
+        (decls_match (tree.decls d ds) i i.known (spot ∷ outer) named.0) (stmts_match ss true (knowing_all blocks (tree.decls d ds) i) (spot ∷ outer) named.1)
+    stmt_match (tree.block (tree.body spot (tree.decls d ds) ss)) of_procedure listed a outer named =
         let i : Surroundings = inside blocks of_procedure (tree.body spot (tree.decls d ds) ss) a in
         match_both (blocks_in_decls (tree.decls d ds) outer) (blocks_in_stmts ss outer) (sites_in_decls blocks (tree.decls d ds) i i.known) (sites_in_stmts blocks ss true (knowing_all blocks (tree.decls d ds) i))
-        (decls_match (tree.decls d ds) i i.known outer built.0) (stmts_match ss true (knowing_all blocks (tree.decls d ds) i) outer built.1)
-    stmt_match (tree.if_then c x) begin listed a outer built =
-        front (blocks_of x of_statement outer) (sites c a) (under x a) (expr_none c a) (stmt_match x of_statement false a outer built)
-    stmt_match (tree.if_else c x y) begin listed a outer built =
+        (decls_match (tree.decls d ds) i i.known outer named.0) (stmts_match ss true (knowing_all blocks (tree.decls d ds) i) outer named.1)
+    stmt_match (tree.if_then c x) begin listed a outer named =
+        front (blocks_of x of_statement outer) (sites c a) (under x a) (expr_none c a) (stmt_match x of_statement false a outer named)
+    stmt_match (tree.if_else c x y) begin listed a outer named =
         match_both (blocks_of x of_statement outer) (blocks_of y of_statement outer) (sites c a ++ under x a) (under y a)
-        (front (blocks_of x of_statement outer) (sites c a) (under x a) (expr_none c a) (stmt_match x of_statement false a outer built.0))
-        (stmt_match y of_statement false a outer built.1)
-    stmt_match (tree.while c b) begin listed a outer built =
-        front (blocks_of b of_statement outer) (sites c a) (under b a) (expr_none c a) (stmt_match b of_statement false a outer built)
-    stmt_match (tree.until b c) begin listed a outer built =
-        back (blocks_of b of_statement outer) (under b a) (sites c a) (stmt_match b of_statement false a outer built) (expr_none c a)
-    stmt_match (tree.for v x s l b) begin listed a outer built =
+        (front (blocks_of x of_statement outer) (sites c a) (under x a) (expr_none c a) (stmt_match x of_statement false a outer named.0))
+        (stmt_match y of_statement false a outer named.1)
+    stmt_match (tree.while c b) begin listed a outer named =
+        front (blocks_of b of_statement outer) (sites c a) (under b a) (expr_none c a) (stmt_match b of_statement false a outer named)
+    stmt_match (tree.until b c) begin listed a outer named =
+        back (blocks_of b of_statement outer) (under b a) (sites c a) (stmt_match b of_statement false a outer named) (expr_none c a)
+    stmt_match (tree.for v x s l b) begin listed a outer named =
         front (blocks_of b of_statement outer) (sites x a ++ sites s a ++ sites l a) (under b a)
-        (both_none (sites x a ++ sites s a) (sites l a) (both_none (sites x a) (sites s a) (expr_none x a) (expr_none s a)) (expr_none l a)) (stmt_match b of_statement false a outer built)
-    stmt_match (tree.thru e b) begin listed a outer built =
-        front (blocks_of b of_statement outer) (sites e a) (under b a) (expr_none e a) (stmt_match b of_statement false a outer built)
-    stmt_match (tree.case e ss) begin listed a outer built =
-        front (blocks_in_stmts ss outer) (sites e a) (sites_in_stmts blocks ss false a) (expr_none e a) (stmts_match ss false a outer built)
-    stmt_match (tree.process c task) begin listed a outer built = absurd built
-    stmt_match (tree.event act e) begin listed a outer built = tt
-    stmt_match (tree.write n spot phrases es) begin listed a outer built = none_match (inside_list es a) (list_none es a)
+        (both_none (sites x a ++ sites s a) (sites l a) (both_none (sites x a) (sites s a) (expr_none x a) (expr_none s a)) (expr_none l a)) (stmt_match b of_statement false a outer named)
+    stmt_match (tree.thru e b) begin listed a outer named =
+        front (blocks_of b of_statement outer) (sites e a) (under b a) (expr_none e a) (stmt_match b of_statement false a outer named)
+    stmt_match (tree.case e ss) begin listed a outer named =
+        front (blocks_in_stmts ss outer) (sites e a) (sites_in_stmts blocks ss false a) (expr_none e a) (stmts_match ss false a outer named)
+    stmt_match (tree.process (tree.called n es) task) begin listed a outer named = none_match (inside_actuals es (formals_at a n) a) (actuals_none es (formals_at a n) a)
+    stmt_match (tree.event act e) begin listed a outer named = tt
+    stmt_match (tree.write n spot phrases es) begin listed a outer named = none_match (inside_list es a) (list_none es a)
 
-    stmts_match : (ss : PStmts) (listed : Bool) (a : Surroundings) (outer : List Spot) → StmtsBuilt ss → Match (blocks_in_stmts ss outer) (sites_in_stmts blocks ss listed a)
-    stmts_match tree.no_stmts listed a outer built = tt
-    stmts_match (tree.stmts s ss) listed a outer built =
+    stmts_match : (ss : PStmts) (listed : Bool) (a : Surroundings) (outer : List Spot) → StmtsNamed ss → Match (blocks_in_stmts ss outer) (sites_in_stmts blocks ss listed a)
+    stmts_match tree.no_stmts listed a outer named = tt
+    stmts_match (tree.stmts s ss) listed a outer named =
         match_both (blocks_of s of_statement outer) (blocks_in_stmts ss outer) (inside_stmt blocks s of_statement listed a) (sites_in_stmts blocks ss listed a)
-        (stmt_match s of_statement listed a outer built.0) (stmts_match ss listed a outer built.1)
+        (stmt_match s of_statement listed a outer named.0) (stmts_match ss listed a outer named.1)
 
-    decls_match : (ds : PDecls) (a : Surroundings) (first : List Declared) (outer : List Spot) → DeclsBuilt ds → Match (blocks_in_decls ds outer) (sites_in_decls blocks ds a first)
-    decls_match tree.no_decls a first outer built = tt
-    decls_match (tree.decls (tree.simple kind ns) ds) a first outer built = decls_match ds (knowing blocks (tree.simple kind ns) ds a) first outer built.1
-    decls_match (tree.decls (tree.files ns) ds) a first outer built = decls_match ds (knowing blocks (tree.files ns) ds a) first outer built.1
-    decls_match (tree.decls (tree.forward h) ds) a first outer built = decls_match ds (knowing blocks (tree.forward h) ds a) first outer built.1
-    decls_match (tree.decls (tree.events ns) ds) a first outer built = absurd built.0
-    decls_match (tree.decls (tree.tasks ns) ds) a first outer built = absurd built.0
-    decls_match (tree.decls (tree.labels ns) ds) a first outer built = absurd built.0
-    decls_match (tree.decls (tree.arrays kind ns pairs) ds) a first outer built =
+    decls_match : (ds : PDecls) (a : Surroundings) (first : List Declared) (outer : List Spot) → DeclsNamed ds → Match (blocks_in_decls ds outer) (sites_in_decls blocks ds a first)
+    decls_match tree.no_decls a first outer named = tt
+    decls_match (tree.decls (tree.simple kind ns) ds) a first outer named = decls_match ds (knowing blocks (tree.simple kind ns) ds a) first outer named.1
+    decls_match (tree.decls (tree.files ns) ds) a first outer named = decls_match ds (knowing blocks (tree.files ns) ds a) first outer named.1
+    decls_match (tree.decls (tree.forward h) ds) a first outer named = decls_match ds (knowing blocks (tree.forward h) ds a) first outer named.1
+    decls_match (tree.decls (tree.events ns) ds) a first outer named = decls_match ds (knowing blocks (tree.events ns) ds a) first outer named.1
+    decls_match (tree.decls (tree.tasks ns) ds) a first outer named = decls_match ds (knowing blocks (tree.tasks ns) ds a) first outer named.1
+    decls_match (tree.decls (tree.labels ns) ds) a first outer named = decls_match ds (knowing blocks (tree.labels ns) ds a) first outer named.1
+    decls_match (tree.decls (tree.arrays kind ns pairs) ds) a first outer named =
         let k : Surroundings = knowing blocks (tree.arrays kind ns pairs) ds a in
-        front (blocks_in_decls ds outer) (sites_in_pairs pairs (record k { known = first })) (sites_in_decls blocks ds k first) (pairs_none pairs (record k { known = first })) (decls_match ds k first outer built.1)
+        front (blocks_in_decls ds outer) (sites_in_pairs pairs (record k { known = first })) (sites_in_decls blocks ds k first) (pairs_none pairs (record k { known = first })) (decls_match ds k first outer named.1)
     -- the segment begins at the declaration
-    decls_match (tree.decls (tree.procedure h s) ds) a first outer built =
+    decls_match (tree.decls (tree.procedure h s) ds) a first outer named =
         let k : Surroundings = knowing blocks (tree.procedure h s) ds a in
         let inner : List Site = inside_stmt blocks s of_procedure false (inside_procedure blocks h k) in
         let later : List Block = blocks_of s of_procedure (h.name.spot ∷ outer) ++ blocks_in_decls ds outer in
-        let named : is_procedure (procedure_block h s outer) ≡ true = ap not built.0.2 in
+        let own : is_procedure (procedure_block h s outer) ≡ true = ap not named.0.0 in
         let rest : Match later (inner ++ sites_in_decls blocks ds k first) =
         match_both (blocks_of s of_procedure (h.name.spot ∷ outer)) (blocks_in_decls ds outer) inner (sites_in_decls blocks ds k first)
-        (stmt_match s of_procedure false (inside_procedure blocks h k) (h.name.spot ∷ outer) built.0.1) (decls_match ds k first outer built.1) in
+        (stmt_match s of_procedure false (inside_procedure blocks h k) (h.name.spot ∷ outer) named.0.1) (decls_match ds k first outer named.1) in
         subst (λ (b : Bool). Pairs (if b then procedure_block h s outer ∷ filter is_procedure later else filter is_procedure later)
-        (record { spot = h.name.spot; tokens = heading_tokens h + stmt_tokens s } ∷ segs (inner ++ sites_in_decls blocks ds k first))) (sym named)
+        (record { spot = h.name.spot; tokens = heading_tokens h + stmt_tokens s } ∷ segs (inner ++ sites_in_decls blocks ds k first))) (sym own)
         (head_small h s outer, rest)
 
 -- ---- by their numbers
@@ -241,18 +241,18 @@ numbered_procedure (c ∷ bs) (suc j) b e own = by (is_procedure c) (numbered_pr
     by false h = h
 
 -- of the outer block, and of those of procedures
-pub block_small : (p : PProgram) → IsBuilt p → (j : ℕ) → j < length (scopes_of p).blocks → (j ≡ 0) ⊎ (is_procedure (block_numbered (scopes_of p).blocks j) ≡ true) →
+pub block_small : (p : PProgram) → HasNames p → (j : ℕ) → j < length (scopes_of p).blocks → (j ≡ 0) ⊎ (is_procedure (block_numbered (scopes_of p).blocks j) ≡ true) →
     needs (block_numbered (scopes_of p).blocks j) ≤ 4 * tokens_around p j
 unfolding scopes_of blocks_of_program
-block_small (tree.program (tree.body spot ds ss)) built j known (inl first) =
+block_small (tree.program (tree.body spot ds ss)) named j known (inl first) =
     subst (λ (k : ℕ). needs (block_numbered (scopes_of (tree.program (tree.body spot ds ss))).blocks k) ≤ 4 * tokens_around (tree.program (tree.body spot ds ss)) k) (sym first)
     (omega (arith, decls_small ds, stmts_small ss))
-block_small (tree.program (tree.body spot ds ss)) built j known (inr own) =
+block_small (tree.program (tree.body spot ds ss)) named j known (inr own) =
     let p : PProgram = tree.program (tree.body spot ds ss) in
     let bs : List Block = blocks_of_program p in
     let all : Match bs (sites_of p) =
     match_both (blocks_in_decls ds (spot ∷ [])) (blocks_in_stmts ss (spot ∷ [])) (sites_in_decls bs ds outermost []) (sites_in_stmts bs ss (has_decls ds) (knowing_all bs ds outermost))
-    (decls_match bs ds outermost [] (spot ∷ []) built.0) (stmts_match bs ss (has_decls ds) (knowing_all bs ds outermost) (spot ∷ []) built.1) in
+    (decls_match bs ds outermost [] (spot ∷ []) named.0) (stmts_match bs ss (has_decls ds) (knowing_all bs ds outermost) (spot ∷ []) named.1) in
     let there : slice_get bs j ≡ Some (block_numbered bs j) = block_there bs j known in
     let number : slice_get (filter is_procedure bs) (procedures_before bs j) ≡ Some (block_numbered bs j) = numbered_procedure bs j (block_numbered bs j) there own in
     let segment : segment_tokens p (if is_procedure (block_numbered bs j) then procedures_before bs j + 1 else segment_among bs (around bs j)) ≡ tokens_or_none (slice_get (segs (sites_of p)) (procedures_before bs j)) =

@@ -43,7 +43,7 @@ use Rattle.b67_cores.specs.Cores.{Core, IsCore, HasCore}
 use Rattle.b67_cores.specs.Stretches.{CoreAt, FragmentsArePerformed, control_words, Begins, BlocksBegin}
 use Rattle.b67_faithful.specs.Weight.{tokens_around, weight}
 use Rattle.b67_faithful.proofs.Contradictions.{some_same, none_some}
-use Rattle.b67_fitting.specs.Built.{IsBuilt}
+use Rattle.b67_fitting.specs.Names.{HasNames}
 use Rattle.b67_fitting.specs.Nested.{AreTold, AreNested}
 use Rattle.b67_pictures.specs.Arrays.{Allotted, Layout, rows_of_cells, HasArray, ArraysAre}
 use Rattle.b67_pictures.specs.Frames.{most_around, CellsAre, IsChained, Framed, outermost}
@@ -71,7 +71,7 @@ first_there : (segments : List Segment) → 0 < length segments → (s : Segment
 first_there [] h = absurd (omega (arith, h))
 first_there (s ∷ segments) h = (s, refl)
 
-module _ (tree : PProgram) (code : Code) (built : IsBuilt tree) (nested : AreNested (scopes_of tree)) (stands : ProgramAt code tree)
+module _ (tree : PProgram) (code : Code) (names : HasNames tree) (nested : AreNested (scopes_of tree)) (stands : ProgramAt code tree)
     (fragments : FragmentsArePerformed) (begin : BlocksBegin) (starts : BlocksStart) (keeps : RestsKeepToTheirText) (order : ArraysAreMadeInOrder) where
   abbrev sc : Scopes
   sc = scopes_of tree
@@ -155,7 +155,7 @@ module _ (tree : PProgram) (code : Code) (built : IsBuilt tree) (nested : AreNes
       (omega (arith, (nested.each 0 nested.some).few, all_many, many_controls)) (omega arith)
 
   small : needs block ≤ 4 * tokens_around tree 0
-  small = block_small tree built 0 nested.some (inl refl)
+  small = block_small tree names 0 nested.some (inl refl)
 
   comes : ComesTo sc (context_of code sc 0) text level most (settle_items sc (items_of block)) body.start []
   comes = starts sc (context_of code sc 0) text level most block body.start body.items (omega (arith, small)) (omega (arith, small))
