@@ -19,7 +19,7 @@ use Rattle.b67_machine.specs.declared.replay.Replayed.TheVariants.{Ended, Ran, I
 use Rattle.b67_machine.specs.Kept.{Kept}
 use Rattle.b67_machine.specs.Reads.{machine_end, end_by, shown, limit_end}
 use Rattle.b67_machine.specs.Replaying.{Answers, MayGo, AtLimit, IsIllegal}
-use Rattle.b67_explain.specs.Explaining.{EndIs, IsLeft, IsTail, NextIsIllegal}
+use Rattle.b67_explain.specs.Explaining.{EndIs, IsLeft, IsTail, NextIsIllegal, NextGoes}
 use Rattle.b67_explain.specs.Telling.{words_of_end, Tells}
 
 goes_without : (e : Option ImageEnd) (able_now : Bool) → goes_on e able_now ≡ true → (e ≡ None) × (able_now ≡ true)
@@ -58,10 +58,11 @@ module _ (tree : PProgram) (code : Code) (w : World) (img : Image) (shows : Show
       by (Some machine.all_waiting) is = let f : None ≡ Some meaning.all_waiting = sym e ∙ shows.ends ∙ ap end_as is in cc
 
   -- the image's end
-  end_there : (budget operators : ℕ) (e : ImageEnd) → image_end img ≡ Some e → EndIs tree code w img budget operators (words_of_end (shown e))
-  end_there budget operators machine.finished is = shows.ends ∙ ap end_as is
-  end_there budget operators (machine.faulted kind p) is = shows.ends ∙ ap end_as is
-  end_there budget operators machine.all_waiting is = shows.ends ∙ ap end_as is
+  end_there : (budget operators : ℕ) (e : ImageEnd) → operators ≤ budget → image_end img ≡ Some e →
+      EndIs tree code w img budget operators (words_of_end (shown e))
+  end_there budget operators machine.finished within is = (shows.ends ∙ ap end_as is, within)
+  end_there budget operators (machine.faulted kind p) within is = (shows.ends ∙ ap end_as is, within)
+  end_there budget operators machine.all_waiting within is = (shows.ends ∙ ap end_as is, within)
 
   left_there : (performed : ℕ) (e : ImageEnd) (left : List ℕ) → left ≡ [] → IsLeft w performed (words_of_end (shown e)) left
   left_there performed machine.finished left is = is
@@ -77,6 +78,11 @@ module _ (tree : PProgram) (code : Code) (w : World) (img : Image) (shows : Show
   illegal_there [] h = h
   illegal_there (p ∷ left) h = may_both code w img p shows ∙ h
 
+  -- the process of the next entry may go on in the world where it may act in the image
+  pub going_there : (left : List ℕ) → MayGo left img → NextGoes w left
+  going_there [] h = h
+  going_there (p ∷ left) h = may_both code w img p shows ∙ h
+
   -- what is said of the end, of what is left, and of the tail
   pub record Said (budget operators performed : ℕ) (left : List ℕ) (tail : ℕ) (end : EndWords) : Type 0 where
     pub ended : EndIs tree code w img budget operators end
@@ -84,13 +90,13 @@ module _ (tree : PProgram) (code : Code) (w : World) (img : Image) (shows : Show
     pub alone : IsTail end tail
 
   -- the machine is at the end of the image
-  at_end : (m : Kept) (budget operators performed : ℕ) (left : List ℕ) (tail : ℕ) (end : EndWords) (e : ImageEnd) → m.image ≡ img → image_end img ≡ Some e →
+  at_end : (m : Kept) (budget operators performed : ℕ) (left : List ℕ) (tail : ℕ) (end : EndWords) (e : ImageEnd) → operators ≤ budget → m.image ≡ img → image_end img ≡ Some e →
       tail ≡ 0 → left ≡ [] → Tells Ended (machine_end m) end → Said budget operators performed left tail end
-  at_end m budget operators performed left tail end e same is none no_more tells =
+  at_end m budget operators performed left tail end e within same is none no_more tells =
       let there : machine_end m ≡ Some (shown e) = ap (λ o. end_by o m) (ap image_end same ∙ is) in
       let said : end ≡ words_of_end (shown e) = subst (λ o. Tells Ended o end) there tells in
       subst (λ (x : EndWords). Said budget operators performed left tail x) (sym said)
-      (record { ended = end_there budget operators e is; leaves = left_there performed e left no_more; alone = tail_there e tail none })
+      (record { ended = end_there budget operators e within is; leaves = left_there performed e left no_more; alone = tail_there e tail none })
 
   -- the machine is at the stack limit
   at_limit : (m : Kept) (budget operators performed : ℕ) (left : List ℕ) (tail : ℕ) (end : EndWords) → m.image ≡ img → operators < budget → MayGo left img →
@@ -102,13 +108,13 @@ module _ (tree : PProgram) (code : Code) (w : World) (img : Image) (shows : Show
       ap (λ o. end_by o m) (ap image_end same ∙ none) ∙ ap (λ o. limit_end o m.image.regs) at.1 ∙ ap (λ (i : Image). limit_end (Some p) i.regs) same in
       let said = subst (λ o. Tells Ended o end) there tells in
       subst (λ (x : EndWords). Said budget operators performed (p ∷ left) tail x) (sym said)
-      (record { ended = (none_there none, less, record { next = at.0; has = refl; heavy = fits.heavy p at.0 }); leaves = refl; alone = tt })
+      (record { ended = (none_there none, less, record { goes = may_both code w img p shows ∙ goes; next = at.0; has = refl; heavy = fits.heavy p at.0 }); leaves = refl; alone = tt })
 
-  module _ (m : Kept) (budget operators performed : ℕ) (done left : List ℕ) (tail : ℕ) (end : EndWords) (same : m.image ≡ img) where
+  module _ (m : Kept) (budget operators performed : ℕ) (done left : List ℕ) (tail : ℕ) (end : EndWords) (same : m.image ≡ img) (within : operators ≤ budget) where
     by_end : (o : Option ImageEnd) → image_end img ≡ o → image_end img ≢ None → tail ≡ 0 → left ≡ [] → Tells Ended (machine_end m) end →
         Said budget operators performed left tail end
     by_end None is some none no_more tells = absurd (some is)
-    by_end (Some e) is some none no_more tells = at_end m budget operators performed left tail end e same is none no_more tells
+    by_end (Some e) is some none no_more tells = at_end m budget operators performed left tail end e within same is none no_more tells
 
     pub said_of : (answer : Replayed) → performed ≡ length done → Answers code budget operators done left tail img m answer → Tells answer (machine_end m) end →
         Said budget operators performed left tail end
@@ -121,8 +127,8 @@ module _ (tree : PProgram) (code : Code) (w : World) (img : Image) (shows : Show
         subst (λ (x : EndWords). Said budget operators performed left tail x) (sym tells)
         (record { ended = illegal a.3; leaves = (omega (arith, a.1, count), illegal_there left a.2); alone = a.0 })
       where
-        illegal : (image_end img ≢ None) ⊎ (operators < budget) → (end_of w ≢ None) ⊎ (operators < budget)
-        illegal (inl some) = inl (some_there some)
+        illegal : (image_end img ≢ None) ⊎ (operators < budget) → ((end_of w ≢ None) × (operators ≤ budget)) ⊎ (operators < budget)
+        illegal (inl some) = inl (some_there some, within)
         illegal (inr less) = inr less
     said_of BudgetSpent count a tells =
         subst (λ (x : EndWords). Said budget operators performed left tail x) (sym tells)

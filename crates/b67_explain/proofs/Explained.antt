@@ -8,7 +8,7 @@ use Rattle.b67_list.specs.Numbered.{numbered}
 use Rattle.algol_tree.specs.Plain.{PProgram}
 use Rattle.algol_tree.specs.Scopes.{scopes_of}
 use Rattle.algol_meaning.specs.World.{World, process_at}
-use Rattle.algol_meaning.specs.Run.{run, start}
+use Rattle.algol_meaning.specs.Run.{run, start, may_go}
 use Rattle.algol_laws.specs.Kept.{EachRunGrows}
 use Rattle.b67_schedule.specs.Schedules.{entries, IsSchedule, Kept as Schedule}
 use Rattle.b67_report.specs.declared.Report.{Report}
@@ -26,12 +26,12 @@ use Rattle.b67_machine.specs.Kept.{Kept, counted}
 use Rattle.b67_machine.specs.Reads.{machine_end, end_by, shown, limit_end}
 use Rattle.b67_machine.specs.Replaying.{Replays, Answers, MayGo, AtLimit, Stands, is_lacking, tails_of, tail_of}
 use Rattle.b67_words.specs.declared.TheConstants.{MOST_STRETCH}
-use Rattle.b67_explain.specs.Explaining.{EndIs, IsLeft, IsTail, Explains, ExplainsReplay}
+use Rattle.b67_explain.specs.Explaining.{EndIs, IsLeft, IsTail, NextGoes, Explains, IsOwnEnd, ExplainsRun, ExplainsReplay}
 use Rattle.b67_explain.specs.Telling.{CanBeTold, Tells, IsReportOf}
 use Rattle.b67_explain.proofs.Naming.{IsOneOf, able_is_one, entries_are_there}
 use Rattle.b67_explain.proofs.Summing.{from_on, from_on_equal, from_on_sum, entries_by_process, sum_by_number}
-use Rattle.b67_explain.proofs.Tailed.{IsTailOf, tail_counted, tail_sum, sum_tails, tails_are_few, more_room}
-use Rattle.b67_explain.proofs.Ending.{acting, Said, said_of}
+use Rattle.b67_explain.proofs.Tailed.{IsTailOf, tail_counted, each_may_go, tail_sum, sum_tails, tails_are_few, more_room}
+use Rattle.b67_explain.proofs.Ending.{acting, going_there, Said, said_of}
 
 all_split : (P : ℕ → Type 0) (xs ys : List ℕ) → AllByRecursion P (xs ++ ys) → AllByRecursion P xs × AllByRecursion P ys
 all_split P [] ys h = (tt, h)
@@ -121,10 +121,11 @@ module _ (grows : EachRunGrows) (tree : PProgram) (code : Code) (faithful : Fait
   tail_is (q ∷ left) (inl none_there) = inl none_there
   tail_is (q ∷ left) (inr goes) = inr (may_is_one q goes)
 
+  goes : (replays.tail ≡ 0) ⊎ MayGo replays.left replays.image
+  goes = tail_may_go code budget (sum replays.run.counts + replays.tail) done replays.left replays.tail replays.image m answer replays.answers
+
   tailed : IsTailOf replays.image.started replays.left replays.tail
-  tailed =
-      tail_is replays.left
-      (tail_may_go code budget (sum replays.run.counts + replays.tail) done replays.left replays.tail replays.image m answer replays.answers)
+  tailed = tail_is replays.left goes
 
   number_of : length report.operators ≡ replays.image.started
   number_of = is.operators.each ∙ ap (λ (i : Image). i.started) same
@@ -153,7 +154,7 @@ module _ (grows : EachRunGrows) (tree : PProgram) (code : Code) (faithful : Fait
   abbrev said : Said tree code agrees.world replays.image agrees.shows agrees.fits budget (sum replays.run.counts + replays.tail) (length done) replays.left replays.tail report.end
   said =
       said_of tree code agrees.world replays.image agrees.shows agrees.fits m budget (sum replays.run.counts + replays.tail) (length done) done replays.left replays.tail
-      report.end same answer refl replays.answers is.end
+      report.end same replays.within answer refl replays.answers is.end
 
   module _ (valid : IsSchedule schedule.runs) (listed : ListingText code lines) where
     schedule_is : report.schedule.runs ≡ schedule.runs
@@ -211,6 +212,30 @@ module _ (grows : EachRunGrows) (tree : PProgram) (code : Code) (faithful : Fait
     pub tail_alone : IsTail report.end replays.tail
     tail_alone = said.alone
 
+    -- where there is a tail, its process may go on in the world
+    pub tail_goes : (replays.tail ≡ 0) ⊎ NextGoes agrees.world replays.left
+    tail_goes = by goes
+      where
+        by : (replays.tail ≡ 0) ⊎ MayGo replays.left replays.image → (replays.tail ≡ 0) ⊎ NextGoes agrees.world replays.left
+        by (inl none_there) = inl none_there
+        by (inr may) = inr (going_there tree code agrees.world replays.image agrees.shows agrees.fits replays.left may)
+
+    each_goes : (p : ℕ) → (counted (tails_of replays.left replays.tail) p ≡ 0) ⊎ (may_go agrees.world p ≡ true)
+    each_goes = each_may_go agrees.world replays.image.started replays.left replays.tail tailed tail_goes
+
+    pub all_within : sum report.operators ≤ budget
+    all_within = omega (arith, all_operators, replays.within)
+
+pub run_explained : (grows : EachRunGrows) (tree : PProgram) (code : Code) → Faithful tree code → (given : List ℕ) (budget : ℕ) (m : Kept) (answer : Replayed) (schedule : Schedule) →
+    Replays code given budget (entries schedule.runs) m answer → (processors : ℕ) (lines : List (List ℕ)) (report : Report) → IsReportOf m answer lines processors schedule report →
+    IsSchedule schedule.runs → ListingText code lines → IsOwnEnd report.end → ExplainsRun tree processors budget report
+unfolding explained
+run_explained grows tree code faithful given budget m answer schedule replays processors lines report is valid listed own = record {
+  explains = explained grows tree code faithful given budget m answer schedule replays processors lines report is valid listed;
+  own = own;
+  goes = each_goes grows tree code faithful given budget m answer schedule replays processors lines report is valid listed;
+}
+
 pub replay_explained : (grows : EachRunGrows) (tree : PProgram) (code : Code) → Faithful tree code → (given : List ℕ) (budget : ℕ) (m : Kept) (answer : Replayed) (schedule : Schedule) →
     Replays code given budget (entries schedule.runs) m answer → (lines : List (List ℕ)) (report : Report) → IsReportOf m answer lines 1 schedule report → IsSchedule schedule.runs →
     ListingText code lines → ExplainsReplay tree given budget report
@@ -223,6 +248,8 @@ replay_explained grows tree code faithful given budget m answer schedule replays
   tail = replays.tail;
   tails = refl;
   alone = tail_alone grows tree code faithful given budget m answer schedule replays 1 lines report is valid listed;
+  goes = tail_goes grows tree code faithful given budget m answer schedule replays 1 lines report is valid listed;
+  within = all_within grows tree code faithful given budget m answer schedule replays 1 lines report is valid listed;
 }
 
 -- ---- a run that can be told

@@ -5,6 +5,9 @@ use Rattle.std.proofs.Math.Decide.{ℕ_discrete}
 use Rattle.std.proofs.lemmas.List.Sums.{sum_by-cons}
 use Rattle.b67_machine.specs.Kept.{or_none, counted}
 use Rattle.b67_machine.specs.Replaying.{tails_of, tail_of}
+use Rattle.algol_meaning.specs.World.{World}
+use Rattle.algol_meaning.specs.Run.{may_go}
+use Rattle.b67_explain.specs.Explaining.{NextGoes}
 use Rattle.b67_explain.proofs.Summing.{from_on, from_on_one, from_on_zero, from_on_equal, has_none, has_some}
 
 -- there is no tail, or the process of the next entry is one of so many
@@ -50,6 +53,20 @@ tail_counted n (suc p) (suc q ∷ left) tail one (inr there) =
   where
     same : (q : ℕ) → q ≡ suc q - 1
     same q = omega arith
+
+-- a process that has a tail may go on, where the next entry's may
+pub each_may_go : (w : World) (n : ℕ) (left : List ℕ) (tail : ℕ) → IsTailOf n left tail → (tail ≡ 0) ⊎ NextGoes w left → (p : ℕ) →
+    (counted (tails_of left tail) p ≡ 0) ⊎ (may_go w p ≡ true)
+each_may_go w n [] tail is goes zero = inl refl
+each_may_go w n [] tail is goes (suc p) = inl refl
+each_may_go w n (q ∷ left) tail is (inl none) p =
+    inl (subst (λ (t : ℕ). counted (tails_of (q ∷ left) t) p ≡ 0) (sym none) (zeros (q - 1) p))
+each_may_go w n (q ∷ left) tail is (inr goes) zero = inl refl
+each_may_go w n (q ∷ left) tail is (inr goes) (suc p) = by (ℕ_discrete (suc p) q)
+  where
+    by : Dec (suc p ≡ q) → (counted (tails_of (q ∷ left) tail) (suc p) ≡ 0) ⊎ (may_go w (suc p) ≡ true)
+    by (yes e) = inr (ap (may_go w) e ∙ goes)
+    by (no h) = inl (tail_counted n (suc p) (q ∷ left) tail (omega arith) is ∙ has_none tail (suc p) q h)
 
 -- the tails of so many processes come to the one tail
 pub tail_sum : (n : ℕ) (left : List ℕ) (tail : ℕ) → IsTailOf n left tail → from_on (tail_of left tail) 1 n ≡ tail

@@ -1,5 +1,5 @@
 -- What the report of a run says: of the source under the printed schedule, and of the printed code under the operator table.
-use Rattle.std.specs.Prelude.{◌≡◌, ◌≢◌, ◌⊎◌, ℕ, ◌+◌, ◌*◌, ◌<◌, ◌≤◌, false, List, [], ◌∷◌, ◌++◌, length, sum, Option, Some, None}
+use Rattle.std.specs.Prelude.{◌≡◌, ◌≢◌, ◌⊎◌, ℕ, ◌+◌, ◌*◌, ◌<◌, ◌≤◌, true, false, List, [], ◌∷◌, ◌++◌, length, sum, Option, Some, None}
 use Rattle.b67_list.specs.Numbered.{numbered}
 use Rattle.b67_words.specs.declared.TheConstants.{MOST_STRETCH}
 use Rattle.algol_tree.specs.Plain.{PProgram}
@@ -25,24 +25,26 @@ use Rattle.b67_faithful.specs.Faithful.{Faithful, longest}
 
 -- ---- the end
 
--- The next operator of the process would make its stack too long. It has so many words, and the source has more open in it than a
--- stack has room for.
+-- The process may go on in the world, and its next operator would make its stack too long. It has so many words, and the source has more
+-- open in it than a stack has room for.
 pub record AtLimit (tree : PProgram) (code : Code) (world : World) (image : Image) (process words : ℕ) : Type 0 where
+  pub goes : may_go world process ≡ true
   pub next : table code image process ≡ limit
   pub has : words ≡ length_in (numbered image.regs process)
   pub heavy : stack_limit < weight tree world process
 
--- The printed end is that of the world. Or the world has none, and the operators came to the budget, the stack limit, or the end of the
--- schedule, the latter two before the budget was spent. Or an entry is illegal: there was an end before it, or its process is not able.
+-- The printed end is that of the world, and the operators are at most as many as the budget. Or the world has none, and the operators came
+-- to the budget, the stack limit, or the end of the schedule, the latter two before the budget was spent. Or an entry is illegal: there was
+-- an end before it, at most at the budget, or its process is not able, and the budget was not spent.
 module _ (tree : PProgram) (code : Code) (world : World) (image : Image) (budget operators : ℕ) where
   abbrev pub EndIs : EndWords → Type 0
-  EndIs ends.Finished = end_of world ≡ Some finished
-  EndIs (ends.Fault kind process) = end_of world ≡ Some (fault kind process)
-  EndIs ends.AllWaiting = end_of world ≡ Some all_waiting
+  EndIs ends.Finished = (end_of world ≡ Some finished) × (operators ≤ budget)
+  EndIs (ends.Fault kind process) = (end_of world ≡ Some (fault kind process)) × (operators ≤ budget)
+  EndIs ends.AllWaiting = (end_of world ≡ Some all_waiting) × (operators ≤ budget)
   EndIs ends.BudgetSpent = (end_of world ≡ None) × (budget ≤ operators)
   EndIs (ends.StackLimit process words) = (end_of world ≡ None) × (operators < budget) × AtLimit tree code world image process words
   EndIs ends.ScheduleEnded = (end_of world ≡ None) × (operators < budget)
-  EndIs (ends.Illegal entry) = (end_of world ≢ None) ⊎ (operators < budget)
+  EndIs (ends.Illegal entry) = ((end_of world ≢ None) × (operators ≤ budget)) ⊎ (operators < budget)
 
 -- ---- a report
 
@@ -84,9 +86,12 @@ IsOwnEnd ends.ScheduleEnded = ⊥
 IsOwnEnd (ends.Illegal entry) = ⊥
 IsOwnEnd end = Unit {0}
 
+-- The report is one of a run of this source. Its end is its own, and only a process that may go on in the world has performed operators
+-- after its last entry.
 pub record ExplainsRun (tree : PProgram) (processors budget : ℕ) (report : Report) : Type 0 where
   pub explains : Explains tree processors budget report
   pub own : IsOwnEnd report.end
+  pub goes : (p : ℕ) → (counted explains.tails p ≡ 0) ⊎ (may_go explains.world p ≡ true)
 
 -- ---- with one
 
@@ -99,6 +104,11 @@ NextIs process (p ∷ left) = p ≡ process
 abbrev pub NextIsIllegal : World → List ℕ → Type 0
 NextIsIllegal world [] = ⊥
 NextIsIllegal world (p ∷ left) = may_go world p ≡ false
+
+-- the process of its next entry may go on
+abbrev pub NextGoes : World → List ℕ → Type 0
+NextGoes world [] = ⊥
+NextGoes world (p ∷ left) = may_go world p ≡ true
 
 -- what is left of the given schedule after so many entries where a run ends so
 abbrev pub IsLeft : World → ℕ → EndWords → List ℕ → Type 0
@@ -117,7 +127,8 @@ IsTail (ends.StackLimit process words) tail = Unit {0}
 IsTail end tail = tail ≡ 0
 
 -- The report is one of a run of this source on one processor that follows the given schedule. Its printed schedule is the part that
--- was performed, and after it the process of the next entry alone may have performed operators.
+-- was performed, and after it only the process of the next entry may have performed operators, where it may go on. All of them are at
+-- most as many as the budget.
 pub record ExplainsReplay (tree : PProgram) (given : List ℕ) (budget : ℕ) (report : Report) : Type 0 where
   pub explains : Explains tree 1 budget report
   pub left : List ℕ
@@ -126,3 +137,5 @@ pub record ExplainsReplay (tree : PProgram) (given : List ℕ) (budget : ℕ) (r
   pub tail : ℕ
   pub tails : explains.tails ≡ tails_of left tail
   pub alone : IsTail report.end tail
+  pub goes : (tail ≡ 0) ⊎ NextGoes explains.world left
+  pub within : sum report.operators ≤ budget
