@@ -93,7 +93,7 @@ module _ (p : ℕ) (code : Code) (img : Image) (r : Registers) (next : ℕ) (o :
       (acts_stop p (see (entered r)) (enter_called code r next) stop img img ((tells_look (entered r) img.stacks img.rows (Err stop) e).told img refl refl) refl))
 
   module _ (c : Called) (e : Ok c ≡ looked (seen img.stacks (entered r))) where
-    does_called : does p (enter code r next) img ≡ does p (enter_called code r next c) img
+    pub does_called : does p (enter code r next) img ≡ does p (enter_called code r next c) img
     does_called =
         enters_what_it_calls code r next p img
         ∙ ap (effect_of p img) (asked_on img (see (entered r)) (enter_called code r next) c ((tells_look (entered r) img.stacks img.rows (Ok c) e).told img refl refl))

@@ -1,7 +1,10 @@
+pub mod Able
 pub mod Among
 pub mod Calling
+pub mod Calm
 pub mod Coming
 pub mod Kept
+pub mod MakeAble
 pub mod OwnOutcome
 pub mod OwnWords
 pub mod Ready

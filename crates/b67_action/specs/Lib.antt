@@ -1,3 +1,4 @@
+pub mod Able
 pub mod Acting
 pub mod Among
 pub mod Done

@@ -6,11 +6,13 @@
 mod acting;
 mod done;
 mod entering;
+mod laws;
 mod next;
 mod own;
 mod rows;
 mod words;
 
 pub use done::Done;
+pub use laws::actions_make_able;
 pub use next::action;
 pub use own::{put_part, take_part};

@@ -1,0 +1,254 @@
+-- Whom an operator makes able, row by row.
+use Rattle.std.proofs.Common.{◌≡◌, ◌≢◌, refl, sym, ap, subst, ◌∙◌, ℕ, ◌+◌, ◌-◌, ◌≤◌, Bool, true, false, cond, List, [], ◌∷◌, take, drop, Option, Some, None, Result, Ok, Err, arith}
+use Rattle.std.specs.Prelude.{nat_eq}
+use Rattle.b67_list.specs.Numbered.{numbered, set_numbered}
+use Rattle.b67_word.specs.declared.Place.{Place}
+use Rattle.b67_word.specs.Word.{Word}
+use Rattle.b67_control.specs.declared.Registers.{Registers}
+use Rattle.b67_control.specs.declared.Mscw.{Mscw}
+use Rattle.b67_ops.specs.declared.Operator.{Operator}
+use Rattle.b67_ops.specs.declared.BadCode.{BadCode}
+use Rattle.b67_ops.specs.declared.intrinsic.Intrinsic.{Intrinsic}
+use Rattle.b67_ops.specs.declared.intrinsic.Intrinsic.TheVariants as names
+use Rattle.b67_segment.specs.declared.code.Code.{Code}
+use Rattle.b67_store.specs.Store.{row_at, closed_at}
+use Rattle.b67_events.specs.Events.{Event, happened_at, available_at, waiters_at, procurers_at, closed_from}
+use Rattle.b67_events.specs.Once.{times_in, times as times_at_all}
+use Rattle.b67_table.specs.declared.Class.TheVariants.{Private}
+use Rattle.b67_table.specs.declared.InterruptKind.TheVariants.{BadCode as bad_code}
+use Rattle.b67_table.specs.declared.Private.{Private as Part}
+use Rattle.b67_table.specs.declared.ProcessState.{ProcessState}
+use Rattle.b67_table.specs.declared.ProcessState.TheVariants.{Ended, WaitsFor, Procures}
+use Rattle.b67_table.specs.Effect.{Effect, gives, faults, interrupts}
+use Rattle.b67_table.specs.Image.{Image, with_rows, with_events, with_registers, with_private, with_effect, private_of, is_able}
+use Rattle.b67_table.specs.Look.{seen}
+use Rattle.b67_table.specs.Names.{intrinsic_numbered}
+use Rattle.b67_table.specs.Outcome as outcomes
+use Rattle.b67_table.specs.Private.{frame, floor}
+use Rattle.b67_table.specs.Writes.{written, able_again, waiting}
+use Rattle.b67_table.specs.Writes as writes
+use Rattle.b67_table.specs.Program.{Change, done, write, changed, answer, asked, effect_of, does, registers, close_events, end_process, wait, cause, reset, procure, liberate, start, Program}
+use Rattle.b67_table.specs.Linkage.{caused_by, leave_base, leave_other, entry}
+use Rattle.b67_table.specs.Arguments.{finished_at}
+use Rattle.b67_table.specs.Intrinsics.{row_of_intrinsic, intrinsic_row, intrinsic, on_event}
+use Rattle.b67_table.specs.Rows as table
+use Rattle.b67_table.specs.Rows.{row, private_part, action, exit, return_value, enter}
+use Rattle.b67_table.specs.Table.{table as table_gives, raw, by_row, by_operator, by_registers, operator_at, class_by, stack_length}
+use Rattle.b67_table.specs.Valid.{IsValid}
+use Rattle.b67_table.proofs.Stacks.{get_numbered_other}
+use Rattle.b67_table.proofs.Keeping.{Gives}
+use Rattle.b67_table.proofs.Limit.{new_of}
+use Rattle.b67_table.proofs.EventKept.{close_events_valid}
+use Rattle.b67_table.proofs.Waking.{able_live}
+use Rattle.b67_operators.specs.declared.calling.Called.{Called}
+use Rattle.b67_operators.specs.Entries.{called as entered, enter_called}
+use Rattle.b67_operators.specs.Leaves.{task_waiters, released as released_by}
+use Rattle.b67_intrinsics.specs.Called.{arguments, event_tests, event_tests_in, Leads}
+use Rattle.b67_intrinsics.specs.Names.{Releases}
+use Rattle.b67_reach.specs.Answers.{looked}
+use Rattle.b67_action.specs.declared.rows.Row.{Row}
+use Rattle.b67_action.specs.declared.rows.Row.TheVariants as ours
+use Rattle.b67_action.specs.Able.{times, one_if, able_in, AbleAfter, ActionsMakeAble}
+use Rattle.b67_action.specs.Acting.{CallReleases, CalleeReleases, RowReleases}
+use Rattle.b67_action.specs.Rows.{words_program, Is}
+use Rattle.b67_action.proofs.Able.{waiters_few, first_procurer_few, woken_others, woken_own, other_waits, able_by, able_same, able_more}
+use Rattle.b67_action.proofs.Calling.{does_called}
+use Rattle.b67_action.proofs.Calm.{Calm, calm_keeps, Each, each_asked, each_as, each_critical, arrays_have, words_calm, entry_calm, other_calm, return_calm, go_to_calm, select_calm, arrays_row_calm, write_calm, event_calm, tell_calm, each_event, each_start}
+
+module _ (code : Code) (img : Image) (p : ℕ) (v : IsValid code img) (able : is_able (numbered img.states p) ≡ true) where
+  -- after the change these are released
+  abbrev A : List ℕ → Change → Type 0
+  A released c = AbleAfter img (changed p c img) p released
+
+  each_calm : (t : Program) → Each Calm t → Each (A []) t
+  each_calm t k = each_as Calm (A []) (λ c calm. able_same img (changed p c img) p (calm_keeps p c img calm).0 (calm_keeps p c img calm).1) t k
+
+  given : (t : Program) (released : List ℕ) → released ≡ [] → Each (A []) t → Gives (A released) (asked img t)
+  given t released e k = subst (λ (l : List ℕ). Gives (A l) (asked img t)) (sym e) (each_asked (A []) img t k)
+
+  new_able : (new : Image) (released : List ℕ) (e : Effect Change) → Gives (A released) e → effect_of p img e ≡ gives new → AbleAfter img new p released
+  new_able new released (gives c) k e = let same : changed p c img ≡ new = cc in subst (λ (i : Image). AbleAfter img i p released) same k
+  new_able new released (faults kind) k e = cc
+  new_able new released (interrupts kind) k e = cc
+
+  -- ---- one write
+
+  -- the process waits, or it goes on
+  waits_able : (goes : Bool) (s : ProcessState) (after : Image) → after.states ≡ waiting goes s p img.states → after.started ≡ img.started → AbleAfter img after p []
+  waits_able goes s after e n =
+      able_by img after p [] (waiting goes s p img.states) e n
+      (λ q h. none_more (ap (λ (o : Option ProcessState). one_if (is_able o)) (other_waits goes img.states p q s h))) refl
+    where
+      none_more : {a b : ℕ} → a ≡ b → a ≡ b + 0
+      none_more e = omega (arith, e)
+
+  -- those who wait are able
+  woken_able : (ws : List ℕ) → ((q : ℕ) → times_in q ws ≤ times_at_all q img.events) → (after : Image) → after.states ≡ able_again ws img.states → after.started ≡ img.started
+      → AbleAfter img after p ws
+  woken_able ws few after e n =
+      able_by img after p ws (able_again ws img.states) e n (λ q h. woken_others img.states img.events v.events.once v.events.waiting ws few q)
+      (woken_own img.states img.events v.events.once v.events.waiting ws few p able)
+
+  module _ (r : Registers) (next : ℕ) where
+    -- ---- the end of the process
+
+    abbrev closed : List Event
+    closed = closed_from r.stack 0 img.events
+
+    -- whatever comes before the change keeps states, number and events
+    abbrev Then : List ℕ → Change → Type 0
+    Then released c = (i : Image) → (i.states ≡ img.states) × (i.started ≡ img.started) × (i.events ≡ img.events) → AbleAfter img (changed p c i) p released
+
+    task_few : (o : Option Place) (q : ℕ) → times_in q (task_waiters o closed) ≤ times_at_all q closed
+    task_few None q = omega arith
+    task_few (Some task) q = waiters_few q task closed
+
+    ended_able : (o : Option Place) (after : Image) → after.states ≡ set_numbered (able_again (task_waiters o closed) img.states) p Ended → after.started ≡ img.started
+        → AbleAfter img after p (task_waiters o closed)
+    ended_able o after e n =
+        let events = (close_events_valid code img v r.stack 0).events in
+        able_by img after p (task_waiters o closed) (set_numbered (able_again (task_waiters o closed) img.states) p Ended) e n
+        (λ q h. ap (λ (x : Option ProcessState). one_if (is_able x)) (get_numbered_other (able_again (task_waiters o closed) img.states) p q Ended h)
+        ∙ woken_others img.states closed events.once events.waiting (task_waiters o closed) (task_few o) q)
+        (woken_own img.states closed events.once events.waiting (task_waiters o closed) (task_few o) p able)
+
+    ends_able : (o : Option Place) → Then (task_waiters o closed) (close_events r.stack 0 (registers (record r { place = next }) (caused_by o (end_process r.stack done))))
+    ends_able None i k = ended_able None _ (ap (λ (xs : List ProcessState). set_numbered xs p Ended) k.0) k.1
+    ends_able (Some task) i k =
+        ended_able (Some task) _
+        (ap (λ (es : List Event). set_numbered (able_again (waiters_at task (closed_from r.stack 0 es)) i.states) p Ended) k.2
+        ∙ ap (λ (xs : List ProcessState). set_numbered (able_again (waiters_at task closed) xs) p Ended) k.0) k.1
+
+    base_able : (cells : List Word) → Each (A (task_waiters r.task closed)) (leave_base r cells next)
+    base_able cells =
+        each_critical (A (task_waiters r.task closed)) r.stack (0 ∷ []) _
+        (arrays_have (Then (task_waiters r.task closed)) (λ n more k i s. k (with_rows i (closed_at i.rows n)) s) (λ n more k i s. k (row_at i.rows n) i s) cells
+        (close_events r.stack 0 (registers (record r { place = next }) (caused_by r.task (end_process r.stack done)))) (ends_able r.task) img (refl, refl, refl))
+
+    exit_able : Each (A (released_by (Some r) img.events [])) (exit r next)
+    exit_able = λ cells. by (nat_eq (frame r) 0) cells
+      where
+        by : (b : Bool) (cells : List Word) → Each (A (cond b (task_waiters r.task closed) [])) (cond b (leave_base r cells next) (leave_other r cells (frame r) []))
+        by true cells = base_able cells
+        by false cells = each_calm (leave_other r cells (frame r) []) (other_calm r next cells (frame r) [])
+
+    -- ---- intrinsics
+
+    module _ (m : Mscw) where
+      abbrev finish : Change
+      finish = finished_at r m [] next
+
+      wait_able : (at : Place) → A [] (wait at finish)
+      wait_able at =
+          let e = calm_keeps p finish (written p (writes.wait at) img) tt in waits_able (happened_at at img.events) (WaitsFor at) _ e.0 e.1
+
+      procure_able : (at : Place) → A [] (procure at finish)
+      procure_able at =
+          let e = calm_keeps p finish (written p (writes.procure at) img) tt in waits_able (available_at at img.events) (Procures at) _ e.0 e.1
+
+      start_able : (s : Registers) (ws : List Word) → A [] (start s ws finish)
+      start_able s ws =
+          let e = calm_keeps p finish (written p (writes.start s ws) img) tt in able_more code img _ p v able e.0 e.1
+
+      cause_able : (at : Place) → A (waiters_at at img.events) (cause at finish)
+      cause_able at =
+          let e = calm_keeps p finish (written p (writes.cause at) img) tt in
+          woken_able (waiters_at at img.events) (λ q. waiters_few q at img.events) _ e.0 e.1
+
+      liberate_able : (at : Place) → A (take 1 (procurers_at at img.events)) (liberate at finish)
+      liberate_able at =
+          let e = calm_keeps p finish (written p (writes.liberate at) img) tt in
+          woken_able (take 1 (procurers_at at img.events)) (λ q. first_procurer_few q at img.events) _ e.0 e.1
+
+      event_is : (act : Place → Change → Change) (ws : List Word) → on_event act code r next m ws ≡ event_tests r m ws (λ (at : Place). answer (act at finish))
+      event_is act [] = refl
+      event_is act (w ∷ []) = refl
+      event_is act (w ∷ u ∷ ws) = refl
+
+      on_one : (act : Place → Change → Change) (at : Place) (released : List ℕ) → Leads img (event_tests_in (Some r) m img.stacks) (Ok at) → A released (act at finish)
+          → Gives (A released) (asked img (on_event act code r next m (arguments img.stacks r)))
+      on_one act at released leads k =
+          subst (Gives (A released)) (sym (ap (asked img) (event_is act (arguments img.stacks r)) ∙ leads (λ (x : Place). answer (act x finish)))) k
+
+      plainly : (name : Intrinsic) (released : List ℕ) → released ≡ [] → Each (A []) (row_of_intrinsic name code r next m (arguments img.stacks r))
+          → Gives (A released) (asked img (row_of_intrinsic name code r next m (arguments img.stacks r)))
+      plainly name released e k = given (row_of_intrinsic name code r next m (arguments img.stacks r)) released e k
+
+      calmly : (name : Intrinsic) (released : List ℕ) → released ≡ [] → Each Calm (row_of_intrinsic name code r next m (arguments img.stacks r))
+          → Gives (A released) (asked img (row_of_intrinsic name code r next m (arguments img.stacks r)))
+      calmly name released e k = plainly name released e (each_calm (row_of_intrinsic name code r next m (arguments img.stacks r)) k)
+
+      named_able : (name : Intrinsic) (released : List ℕ) → Releases name img (Some r) m [] released
+          → Gives (A released) (asked img (row_of_intrinsic name code r next m (arguments img.stacks r)))
+      named_able names.GoTo released e = calmly names.GoTo released e (go_to_calm r next m code (arguments img.stacks r))
+      named_able names.Select released e = calmly names.Select released e (select_calm r next m code (arguments img.stacks r))
+      named_able names.Arrays released e = calmly names.Arrays released e (arrays_row_calm r next m code (arguments img.stacks r))
+      named_able names.Event released e = calmly names.Event released e (event_calm r next m code (arguments img.stacks r))
+      named_able names.Start released e = plainly names.Start released e (each_start r next m (A []) start_able code (arguments img.stacks r))
+      named_able names.Write released e = calmly names.Write released e (write_calm r next m code (arguments img.stacks r))
+      named_able names.Wait released e = plainly names.Wait released e (each_event r next m (A []) wait wait_able code (arguments img.stacks r))
+      named_able names.Cause released e = on_one cause e.0 released e.1 (subst (λ (l : List ℕ). A l (cause e.0 finish)) (sym e.2) (cause_able e.0))
+      named_able names.Reset released e = calmly names.Reset released e (each_event r next m Calm reset (λ at. tt) code (arguments img.stacks r))
+      named_able names.Happened released e = calmly names.Happened released e (tell_calm r next m code (arguments img.stacks r))
+      named_able names.Procure released e = plainly names.Procure released e (each_event r next m (A []) procure procure_able code (arguments img.stacks r))
+      named_able names.Liberate released e = on_one liberate e.0 released e.1 (subst (λ (l : List ℕ). A l (liberate e.0 finish)) (sym e.2) (liberate_able e.0))
+
+      intrinsic_able : (o : Option Intrinsic) (released : List ℕ) → CallReleases o img (Some r) m [] released
+          → Gives (A released) (asked img (intrinsic_row o code r next m (arguments img.stacks r)))
+      intrinsic_able None released e = tt
+      intrinsic_able (Some name) released e = named_able name released e
+
+    callee_able : (c : Called) (released : List ℕ) (b : Bool) → CalleeReleases b c img (Some r) [] released
+        → Gives (A released) (asked img (cond b (intrinsic c.pcw.number code r next c.mark) (entry r next c.mark.df c.pcw c.home)))
+    callee_able c released true e = intrinsic_able c.mark (intrinsic_numbered c.pcw.number) released e
+    callee_able c released false e =
+        given (entry r next c.mark.df c.pcw c.home) released e (each_calm (entry r next c.mark.df c.pcw c.home) (entry_calm r next c.mark.df c.pcw c.home))
+
+    -- ---- rows
+
+    part_able : (new : Image) (e : Effect Part) → with_effect img p (floor r) e ≡ gives new → AbleAfter img new p []
+    part_able new (gives q) e =
+        let same : with_private img p (floor r) q ≡ new = cc in
+        subst (λ (i : Image). AbleAfter img i p []) same (able_same img (with_private img p (floor r) q) p refl refl)
+    part_able new (faults kind) e = cc
+    part_able new (interrupts kind) e = cc
+
+    own_able : (new : Image) (w : table.Row) → class_by w ≡ Private → by_row w code img p r next ≡ gives new → AbleAfter img new p []
+    own_able new (private_part change) c e = part_able new (change next (private_of img r)) e
+    own_able new (action program) c e = cc
+
+    -- an action's program makes the new image
+    does_row : (new : Image) (w : table.Row) (program : Code → Registers → ℕ → Program) → w ≡ action program → by_row w code img p r next ≡ gives new
+        → effect_of p img (asked img (program code r next)) ≡ gives new
+    does_row new w program e g = sym (ap (λ (x : table.Row). by_row x code img p r next) e) ∙ g
+
+    row_able : (new : Image) (released : List ℕ) (op : Operator) (w : Row) → Is (row op r.place) w → RowReleases w img (Some r) [] released
+        → by_row (row op r.place) code img p r next ≡ gives new → AbleAfter img new p released
+    row_able new released op ours.Own is e g = subst (AbleAfter img new p) (sym e) (own_able new (row op r.place) is g)
+    row_able new released op (ours.Words kind) is e g =
+        new_able new released (asked img (words_program kind r next)) (given (words_program kind r next) released e (each_calm (words_program kind r next) (words_calm r next kind)))
+        (does_row new (row op r.place) (λ (k : Code). words_program kind) is g)
+    row_able new released op ours.Exit is e g =
+        new_able new released (asked img (exit r next))
+        (subst (λ (l : List ℕ). Gives (A l) (asked img (exit r next))) (sym e) (each_asked (A (released_by (Some r) img.events [])) img (exit r next) exit_able))
+        (does_row new (row op r.place) (λ (k : Code). exit) is g)
+    row_able new released op ours.ReturnValue is e g =
+        new_able new released (asked img (return_value r next)) (given (return_value r next) released e (each_calm (return_value r next) (return_calm r next)))
+        (does_row new (row op r.place) (λ (k : Code). return_value) is g)
+    row_able new released op ours.Enter is x g =
+        new_able new released (asked img (enter_called code r next x.0)) (callee_able x.0 released x.0.pcw.intrinsic x.2)
+        (sym (does_called p code img r next (Some r) refl x.0 x.1) ∙ does_row new (row op r.place) enter is g)
+
+row_is : (code : Code) (img : Image) (p : ℕ) → IsValid code img → is_able (numbered img.states p) ≡ true → (r : Registers) → numbered img.regs p ≡ Some r → (op : Operator) (next : ℕ)
+    → operator_at code r ≡ Ok (op, next) → raw code img p ≡ by_row (row op r.place) code img p r next
+unfolding raw
+row_is code img p v able r has op next stands =
+    ap (λ (b : Bool). cond b (by_registers code img p (numbered img.regs p)) (interrupts bad_code)) (able_live code img v p able (numbered img.states p) able)
+    ∙ ap (by_registers code img p) has ∙ ap (by_operator code img p r) stands
+
+pub make_able : ActionsMakeAble
+unfolding table_gives
+make_able code img new p released v able t n =
+    let g = new_of (stack_length p) (raw code img p) new t in
+    row_able code img p v able n.regs n.next new released n.op n.row n.is (subst (λ (o : Option Registers). RowReleases n.row img o [] released) n.has n.releases)
+    (sym (row_is code img p v able n.regs n.has n.op n.next n.stands) ∙ g.0)
