@@ -46,10 +46,13 @@ use Rattle.b67_operators.specs.Leaves.{task_waiters, released as released_by}
 use Rattle.b67_intrinsics.specs.Called.{arguments, event_tests, event_tests_in, Leads}
 use Rattle.b67_intrinsics.specs.Names.{Releases}
 use Rattle.b67_reach.specs.Answers.{looked}
+use Rattle.b67_action.specs.declared.done.Done.{Done}
+use Rattle.b67_action.specs.declared.done.Done.TheVariants.{Went, Waits, Ended as has_ended, Fault, Interrupt, StackLimit, NoMemory}
 use Rattle.b67_action.specs.declared.rows.Row.{Row}
 use Rattle.b67_action.specs.declared.rows.Row.TheVariants as ours
 use Rattle.b67_action.specs.Able.{times, one_if, able_in, AbleAfter, ActionsMakeAble}
-use Rattle.b67_action.specs.Acting.{CallReleases, CalleeReleases, RowReleases}
+use Rattle.b67_action.specs.Acting.{CallReleases, CalleeReleases, RowReleases, NextReleases}
+use Rattle.b67_action.specs.Done.{Came, is_performed}
 use Rattle.b67_action.specs.Rows.{words_program, Is}
 use Rattle.b67_action.proofs.Able.{waiters_few, first_procurer_few, woken_others, woken_own, other_waits, able_by, able_same, able_more}
 use Rattle.b67_action.proofs.Calling.{does_called}
@@ -252,3 +255,17 @@ make_able code img new p released v able t n =
     let g = new_of (stack_length p) (raw code img p) new t in
     row_able code img p v able n.regs n.next new released n.op n.row n.is (subst (λ (o : Option Registers). RowReleases n.row img o [] released) n.has n.releases)
     (sym (row_is code img p v able n.regs n.has n.op n.next n.stands) ∙ g.0)
+
+came_new : (code : Code) (img new : Image) (p : ℕ) (d : Done) → Came code img p d new → is_performed d ≡ true → table_gives code img p ≡ outcomes.gives new
+came_new code img new p Went x e = x.0
+came_new code img new p Waits x e = x.0
+came_new code img new p has_ended x e = x.0
+came_new code img new p (Fault kind) x e = cc
+came_new code img new p (Interrupt kind) x e = cc
+came_new code img new p StackLimit x e = cc
+came_new code img new p NoMemory x e = cc
+
+-- where an operator was performed
+pub performed_able : (code : Code) (img new : Image) (p : ℕ) (released : List ℕ) (d : Done) → IsValid code img → is_able (numbered img.states p) ≡ true → Came code img p d new
+    → is_performed d ≡ true → NextReleases code img p released → AbleAfter img new p released
+performed_able code img new p released d v able x e n = make_able code img new p released v able (came_new code img new p d x e) n

@@ -9,6 +9,7 @@ use Rattle.b67_action.specs.Acting.{row_effect, RowReleases}
 use Rattle.b67_action.specs.Done.{Came, is_performed}
 use Rattle.b67_action.proofs.Coming.{table_row, table_bad, operator_is, not_performed, makes_next, came_on, came_not, state_after}
 use Rattle.b67_action.proofs.Kept.{stays_valid}
+use Rattle.b67_action.proofs.MakeAble.{performed_able}
 use Rattle.b67_action.proofs.Ready.{acting, level_known, part_known, state_at}
 use Rattle.b67_action.proofs.next.action.Goals as goal
 
@@ -129,4 +130,16 @@ returns-in-Ok-clause-woken g c = λ performed.
 
 pub returns-in-Err-clause-woken : goal.returns-in-Err-clause-woken
 returns-in-Err-clause-woken g c = λ performed.
+    absurd (not_performed c.in-Err.hindrance (ap is_performed (sym c.hindered_by.ensures) ∙ performed))
+
+pub returns-in-Ok-clause-able : goal.returns-in-Ok-clause-able
+returns-in-Ok-clause-able g c = λ performed.
+    performed_able c.args.parts.now.code
+    (image_of (g.C.Core.stacks c.args.core.now) (g.C.Core.rows c.args.core.now) c.args.kernel.now.events c.args.parts.now)
+    (image_of (g.C.Core.stacks c.perform-answer.new.core) (g.C.Core.rows c.perform-answer.new.core) c.perform-answer.new.kernel.events c.perform-answer.new.parts)
+    c.args.process c.perform-answer.new.parts.woken.processes.items c.went.result c.requires.valid c.requires.able (returns-in-Ok-clause-came g c) performed
+    (returns-in-Ok-clause-woken g c performed)
+
+pub returns-in-Err-clause-able : goal.returns-in-Err-clause-able
+returns-in-Err-clause-able g c = λ performed.
     absurd (not_performed c.in-Err.hindrance (ap is_performed (sym c.hindered_by.ensures) ∙ performed))
