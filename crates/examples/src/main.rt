@@ -1,65 +1,82 @@
-//! Answers the example sources by the top call, and compares each answer with the report that is expected.
+//! Answers the examples and the cases of sheets by the top call, and compares each answer with what is expected.
 //!
-//! The folder that it runs in has the examples: beside a source `NAME.alg` stands its report `NAME.report`.
+//! The folder that it runs in has them. The file `examples` has a line for each example NAME: beside its source `NAME.alg`
+//! stands its report `NAME.report`, that of `run 1 100000`. The file `sheets` has a line for each sheet of cases, of which
+//! `case_sheet` tells the form. The setting of a case may say `read N fails` or `write N fails`, where the calls are counted
+//! from 0, or `room N`, the number of bytes for which the sink has room. Each source is read at most 7 bytes at a time.
+//!
+//! These cases are the tests of `b67_desk` and, through it, of what it calls: the front end, the compiler, the listing, the
+//! machine from its first image to its end, the schedules and the reports.
 #![tactic(auto)]
 
-use b67_desk::desk_alone;
-use b67_io::{MemorySink, MemorySource};
+mod answer;
+mod outside;
+
+use crate::answer::{Told, answered};
+use crate::outside::Outside;
+use case_sheet::{Case, cases_of};
 use std::{fs, io};
 
-/// The greatest number of bytes of a report.
-const ROOM: usize = 65_536;
+/// The words under which the examples have their reports.
+const EXAMPLE: &str = "==== example: run 1 100000\n---- 0\n";
 
-/// The examples' names.
-const NAMES: [&str; 18] = [
-    "first",
-    "copies",
-    "widest",
-    "limits",
-    "loop",
-    "divisor",
-    "collatz",
-    "weekday",
-    "palindrome",
-    "truth",
-    "powers",
-    "totient",
-    "formula",
-    "factorial",
-    "ackermann",
-    "towers",
-    "sort",
-    "matrix",
-];
-
-/// The words of the command under which the reports are.
-fn words(rt: &HostRuntime) -> io::Result<Vec<String>> {
-    let mut words = Vec::new(rt.alloc());
-    for word in "run 1 100000".split_whitespace() {
-        words.push(String::from_str(rt.alloc(), word)?)?;
+/// Prints whether an answer is the expected one, and the answer where it is another.
+fn say(rt: &HostRuntime, name: &str, is_met: bool, told: &Told) -> io::Result<()> {
+    if is_met {
+        println!(rt; "{name} has its answer")?;
+        return Ok(());
     }
-    Ok(words)
+    let text = String::from_utf8_lossy(rt.alloc(), told.bytes.as_slice())?;
+    let status = told.status;
+    println!(rt; "{name} HAS ANOTHER ANSWER, with status {status}:\n{text}")?;
+    Ok(())
 }
 
-/// Tests that the answer to an example is its report.
-fn is_expected(rt: &HostRuntime, name: &str) -> io::Result<bool> {
-    let bytes = fs::read(rt, format!(in rt.alloc(); "{name}.alg")?)?;
+/// Answers an example.
+fn tell_example(rt: &HostRuntime, words: &[String], name: &str) -> io::Result<()> {
+    let source = fs::read(rt, format!(in rt.alloc(); "{name}.alg")?)?;
     let report = fs::read(rt, format!(in rt.alloc(); "{name}.report")?)?;
-    let words = words(rt)?;
-    let mut source = MemorySource::new(bytes, 4096, Vec::new(rt.alloc()));
-    let mut sink = MemorySink::new(rt.alloc(), ROOM, Vec::new(rt.alloc()))?;
-    let _ = desk_alone(rt.alloc(), words.as_slice(), &mut source, &mut sink);
-    Ok(sink.bytes() == report.as_slice())
+    let told = answered(rt.alloc(), words, source, Outside::whole(rt.alloc()))?;
+    let is_met = told.bytes.as_slice() == report.as_slice();
+    say(rt, name, is_met, &told)
+}
+
+/// Answers a case.
+fn tell_case(rt: &HostRuntime, sheet: &str, case: &Case) -> io::Result<()> {
+    let outside = Outside::of(rt.alloc(), case.setting.as_str())?;
+    let input = Vec::from_slice(rt.alloc(), case.input.as_slice())?;
+    let told = answered(rt.alloc(), case.words.as_slice(), input, outside)?;
+    let name = format!(in rt.alloc(); "{sheet}: {}", case.name)?;
+    let is_met = case.is_met(told.status, told.bytes.as_slice());
+    say(rt, name.as_str(), is_met, &told)
+}
+
+/// Answers the examples.
+fn tell_examples(rt: &HostRuntime) -> io::Result<()> {
+    let names = fs::read_to_string(rt, "examples")?;
+    let cases = cases_of(rt.alloc(), EXAMPLE)?;
+    for case in &cases {
+        for name in names.lines() {
+            tell_example(rt, case.words.as_slice(), name)?;
+        }
+    }
+    Ok(())
+}
+
+/// Answers the cases of the sheets.
+fn tell_sheets(rt: &HostRuntime) -> io::Result<()> {
+    let names = fs::read_to_string(rt, "sheets")?;
+    for name in names.lines() {
+        let sheet = fs::read_to_string(rt, format!(in rt.alloc(); "{name}.sheet")?)?;
+        let cases = cases_of(rt.alloc(), sheet.as_str())?;
+        for case in &cases {
+            tell_case(rt, name, case)?;
+        }
+    }
+    Ok(())
 }
 
 fn main(rt: HostRuntime) -> io::Result<()> {
-    for name in NAMES {
-        let answer = if is_expected(&rt, name)? {
-            "has its report"
-        } else {
-            "HAS ANOTHER REPORT"
-        };
-        println!(rt; "{name} {answer}")?;
-    }
-    Ok(())
+    tell_examples(&rt)?;
+    tell_sheets(&rt)
 }

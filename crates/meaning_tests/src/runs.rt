@@ -1,23 +1,18 @@
-//! Runs of the rows, step by step and by a whole schedule.
+//! Runs, step by step and by a whole schedule.
 
-use crate::rows::{ROWS, Row};
-use algol_front::front;
 use algol_names::scopes_of;
 use algol_perform::start;
-use algol_run::{Stepped, end_of, follow, step};
-use algol_tree::{MOST_SOURCE_BYTES, Program};
+use algol_run::{End, Stepped, end_of, follow, step};
+use algol_tree::Program;
 use algol_world::World;
+use b67_list::{discard, push_number};
+use b67_num::FaultKind;
 use std::alloc::{AllocError, Global};
-use std::process::Abort;
-use std::test::Fail;
 
-/// The program of a source, or none where the text is no accepted source.
-fn program_of(alloc: Global, text: &[u8]) -> Option<Program> {
-    if text.len() > MOST_SOURCE_BYTES {
-        return None;
-    }
-    let checked = front(alloc, text).ok()?;
-    Some(checked.program)
+/// The world in which the run of a program begins.
+fn first<'p>(alloc: Global, program: &'p Program) -> Result<World<'p>, AllocError> {
+    let scopes = scopes_of(alloc, program)?;
+    start(alloc, scopes)
 }
 
 /// The letter of an action, `-` where the process is not able, and `.` where the world has an end.
@@ -29,66 +24,86 @@ fn letter(stepped: &Stepped) -> u8 {
     }
 }
 
-/// The processes of the entries, one after the other.
-fn entries(alloc: Global, schedule: &[(usize, usize)]) -> Result<Vec<usize>, AllocError> {
-    let mut processes = Vec::new(alloc);
-    for (process, count) in schedule {
-        for _ in 0..*count {
-            processes.push(*process)?;
+/// The letter of a process's step.
+fn letter_of(world: &mut World<'_>, alloc: Global, process: usize) -> Result<u8, AllocError> {
+    let stepped = step(world, alloc, process)?;
+    let letter = letter(&stepped);
+    discard(stepped);
+    Ok(letter)
+}
+
+/// The words of a fault.
+fn fault_words(kind: FaultKind) -> &'static [u8] {
+    match kind {
+        FaultKind::RealResult => b"END FAULT REAL RESULT IN ",
+        FaultKind::DivideByZero => b"END FAULT DIVIDE BY ZERO IN ",
+        FaultKind::InvalidIndex => b"END FAULT INVALID INDEX IN ",
+        FaultKind::CriticalBlockExit => b"END FAULT CRITICAL BLOCK EXIT IN ",
+        FaultKind::BadGoTo => b"END FAULT BAD GO TO IN ",
+        FaultKind::ProcessLimit => b"END FAULT PROCESS LIMIT IN ",
+        FaultKind::CoreFull => b"END FAULT CORE FULL IN ",
+        FaultKind::ArraySize => b"END FAULT ARRAY SIZE IN ",
+        FaultKind::NotAVariable => b"END FAULT NOT A VARIABLE IN ",
+        FaultKind::CaseIndex => b"END FAULT CASE INDEX IN ",
+    }
+}
+
+/// Appends the line of an end.
+fn push_end(text: &mut Vec<u8>, end: Option<End>) -> Result<(), AllocError> {
+    match end {
+        Some(End::Finished) => text.extend_from_slice(b"END FINISHED\n"),
+        Some(End::AllWaiting) => text.extend_from_slice(b"END ALL WAITING\n"),
+        Some(End::Fault(kind, process)) => {
+            push_number(text, fault_words(kind), process)?;
+            text.extend_from_slice(b"\n")
         }
+        None => text.extend_from_slice(b"GOES ON\n"),
     }
-    Ok(processes)
 }
 
-/// The letters of the entries, each a step.
-fn letters(world: &mut World<'_>, alloc: Global, entries: &[usize]) -> Result<Vec<u8>, AllocError> {
-    let mut letters = Vec::new(alloc);
+/// Appends the letters of the entries, each a step, the lines that were written, and the end.
+fn push_steps(
+    text: &mut Vec<u8>,
+    world: &mut World<'_>,
+    alloc: Global,
+    entries: &[usize],
+) -> Result<(), AllocError> {
     for process in entries {
-        let stepped = step(world, alloc, *process)?;
-        letters.push(letter(&stepped))?;
+        let letter = letter_of(world, alloc, *process)?;
+        text.push(letter)?;
     }
-    Ok(letters)
-}
-
-/// How many entries go before the first that does not.
-fn legal(letters: &[u8]) -> usize {
-    letters
-        .iter()
-        .take_while(|letter| **letter != b'-' && **letter != b'.')
-        .count()
-}
-
-/// The lines that were written, each behind `|`.
-fn written(world: &World<'_>, alloc: Global) -> Result<Vec<u8>, AllocError> {
-    let mut text = Vec::new(alloc);
+    push_number(text, b"\nOUTPUT ", world.output.items().len())?;
+    text.extend_from_slice(b"\n")?;
     for line in world.output.items() {
-        text.push(b'|')?;
         text.extend_from_slice(line.bytes())?;
+        text.extend_from_slice(b"\n")?;
     }
-    Ok(text)
+    push_end(text, end_of(world))
 }
 
-/// Runs a row step by step, and again by its whole schedule, as far as that is legal.
-fn run(rt: &impl Abort, alloc: Global, row: &Row) -> Result<(), Fail> {
-    let program = program_of(alloc, row.source).ok_or("no source")?;
-    let entries = entries(alloc, row.schedule)?;
-    let mut world = start(alloc, scopes_of(alloc, &program)?)?;
-    let seen = letters(&mut world, alloc, entries.as_slice())?;
-    assert_eq!(rt; seen.as_slice(), row.letters);
-    let lines = written(&world, alloc)?;
-    assert_eq!(rt; lines.as_slice(), row.output);
-    assert!(rt; end_of(&world) == row.end);
-    let mut world = start(alloc, scopes_of(alloc, &program)?)?;
-    let went = follow(&mut world, alloc, entries.as_slice())?;
-    assert_eq!(rt; went, legal(row.letters));
-    Ok(())
+/// Appends what comes of the entries step by step.
+pub(crate) fn push_run(
+    text: &mut Vec<u8>,
+    alloc: Global,
+    program: &Program,
+    entries: &[usize],
+) -> Result<(), AllocError> {
+    let mut world = first(alloc, program)?;
+    let pushed = push_steps(text, &mut world, alloc, entries);
+    discard(world);
+    pushed
 }
 
-#[test]
-fn rows_and_their_ends(rt: HostRuntime) -> Result<(), Fail> {
-    let alloc = rt.alloc();
-    for row in &ROWS {
-        run(&rt, alloc, row)?;
-    }
-    Ok(())
+/// Appends how many of the entries are followed.
+pub(crate) fn push_followed(
+    text: &mut Vec<u8>,
+    alloc: Global,
+    program: &Program,
+    entries: &[usize],
+) -> Result<(), AllocError> {
+    let mut world = first(alloc, program)?;
+    let went = follow(&mut world, alloc, entries);
+    discard(world);
+    push_number(text, b"LEGAL ", went?)?;
+    text.extend_from_slice(b"\n")
 }

@@ -1,0 +1,138 @@
+//! One case.
+
+use crate::lines::push_line;
+use std::alloc::{AllocError, Global};
+
+/// A case of a sheet.
+#[derive(Drop)]
+pub struct Case {
+    /// Its name.
+    pub name: String,
+    /// The words of the call.
+    pub words: Vec<String>,
+    /// What else is to hold at the call, in words.
+    pub setting: String,
+    /// What is read.
+    pub input: Vec<u8>,
+    /// The exit status that is wanted.
+    status: Option<u8>,
+    /// The bytes of the whole answer, or of its end.
+    answer: Vec<u8>,
+    /// Whether only the end of the answer is known.
+    is_end: bool,
+    /// The lines that are to be repeated.
+    repeated: Repeated,
+}
+
+/// Lines that are to be repeated, and the first and the last number.
+#[derive(Drop)]
+struct Repeated {
+    is_open: bool,
+    first: u32,
+    last: u32,
+    lines: Vec<String>,
+}
+
+/// The words of a text, which blanks separate.
+fn words_in(alloc: Global, text: &str) -> Result<Vec<String>, AllocError> {
+    let mut words = Vec::new(alloc);
+    for word in text.split_whitespace() {
+        words.push(String::from_str(alloc, word)?)?;
+    }
+    Ok(words)
+}
+
+/// What stands before a sign and what stands behind it, nothing where it is not there.
+fn parted(text: &str, sign: char) -> (&str, &str) {
+    match text.split_once(sign) {
+        Some(parts) => parts,
+        None => (text, ""),
+    }
+}
+
+impl Repeated {
+    fn new(alloc: Global) -> Repeated {
+        Repeated {
+            is_open: false,
+            first: 0,
+            last: 0,
+            lines: Vec::new(alloc),
+        }
+    }
+
+    /// Begins a repetition by its bounds.
+    fn open(&mut self, bounds: &str) {
+        let (first, last) = parted(bounds, ' ');
+        self.is_open = true;
+        self.first = first.parse().unwrap_or(1);
+        self.last = last.parse().unwrap_or(0);
+        self.lines.clear();
+    }
+
+    /// Ends the repetition, whose lines are appended for each number.
+    fn close(&mut self, bytes: &mut Vec<u8>) -> Result<(), AllocError> {
+        self.is_open = false;
+        for number in self.first..=self.last {
+            for line in &self.lines {
+                push_line(bytes, line.as_str(), number)?;
+            }
+        }
+        Ok(())
+    }
+}
+
+impl Case {
+    /// A case by its head, with no input yet.
+    pub(crate) fn headed(alloc: Global, head: &str) -> Result<Case, AllocError> {
+        let (name, rest) = parted(head, ':');
+        let (words, setting) = parted(rest, ';');
+        Ok(Case {
+            name: String::from_str(alloc, name)?,
+            words: words_in(alloc, words)?,
+            setting: String::from_str(alloc, setting.trim())?,
+            input: Vec::new(alloc),
+            status: None,
+            answer: Vec::new(alloc),
+            is_end: false,
+            repeated: Repeated::new(alloc),
+        })
+    }
+
+    /// Takes the line behind the input.
+    pub(crate) fn take_status(&mut self, line: &str) {
+        let (status, end) = parted(line, ' ');
+        self.status = status.parse().ok();
+        self.is_end = end == "end";
+    }
+
+    /// Takes a line of the input or of the answer.
+    pub(crate) fn take_line(&mut self, alloc: Global, line: &str) -> Result<(), AllocError> {
+        if let Some(bounds) = line.strip_prefix("@@@@ ") {
+            self.repeated.open(bounds);
+            return Ok(());
+        }
+        if line == "@@@@" {
+            return self.repeated.close(&mut self.input);
+        }
+        if self.repeated.is_open {
+            self.repeated.lines.push(String::from_str(alloc, line)?)?;
+            return Ok(());
+        }
+        if self.status.is_some() {
+            push_line(&mut self.answer, line, 0)
+        } else {
+            push_line(&mut self.input, line, 0)
+        }
+    }
+
+    /// Tests that a status and the bytes of an answer are what is wanted.
+    pub fn is_met(&self, status: u8, answer: &[u8]) -> bool {
+        let wanted = self.answer.as_slice();
+        let is_told = if self.is_end {
+            answer.ends_with(wanted)
+        } else {
+            answer == wanted
+        };
+        is_told && self.status == Some(status)
+    }
+}
