@@ -1,0 +1,59 @@
+//! Runs short codes from the first image, and compares what comes of them with what is expected.
+//!
+//! The folder that it runs in has two sheets, of which `case_sheet` tells the form. The input of a case has a line for segment
+//! 0, whose operators stand at level 2, and one for segment 1, at level 3: their words, each of 12 hexadecimal digits; lines
+//! that begin with `*` say what the words are. The code has one format, `<I5>`.
+//!
+//! In `operators.sheet` the words of a case are turns: by `p*n` process p performs n operators by themselves. The answer has a
+//! line for each turn, with what each of its operators came to, or MIXED; then S, F, the place and the word on top, tag and
+//! bits, of the process that was last, or GONE; and how many elements arrays have, whether an event is open in the first cell
+//! of the outer block, and the lines that were written.
+//!
+//! In `entries.sheet` by `p*most*n` process p performs n entries of at most so many operators on the machine. The answer
+//! has a line for each turn, with the plain operators of each entry and what the operator behind them came to; then the end,
+//! the operators of process 1 and the lines that were written.
+//!
+//! These cases are the tests of `load` (b67_load), `action` (b67_action), and of `load`, `perform_entry`, `end`, `count`, `is_able`
+//! and `output` (b67_machine), and through them of the operators, the intrinsics, the linkage of frames, stores, events and
+//! descriptors.
+#![tactic(auto)]
+
+mod code;
+mod entries;
+mod operators;
+mod registers;
+mod shown;
+mod turns;
+
+use crate::entries::entries_text;
+use crate::operators::operators_text;
+use case_sheet::{Case, cases_of};
+use std::{fs, io};
+
+/// Prints whether a case is met, and the answer where it is not.
+fn say(rt: &HostRuntime, case: &Case, told: &[u8]) -> io::Result<()> {
+    let name = case.name.as_str();
+    if case.is_met(0, told) {
+        println!(rt; "{name} comes to what is expected")?;
+        return Ok(());
+    }
+    let text = String::from_utf8_lossy(rt.alloc(), told)?;
+    println!(rt; "{name} COMES TO SOMETHING ELSE:\n{text}")?;
+    Ok(())
+}
+
+fn main(rt: HostRuntime) -> io::Result<()> {
+    let sheet = fs::read_to_string(&rt, "operators.sheet")?;
+    let cases = cases_of(rt.alloc(), sheet.as_str())?;
+    for case in &cases {
+        let told = operators_text(rt.alloc(), case)?;
+        say(&rt, case, told.as_slice())?;
+    }
+    let sheet = fs::read_to_string(&rt, "entries.sheet")?;
+    let cases = cases_of(rt.alloc(), sheet.as_str())?;
+    for case in &cases {
+        let told = entries_text(rt.alloc(), case)?;
+        say(&rt, case, told.as_slice())?;
+    }
+    Ok(())
+}

@@ -1,0 +1,163 @@
+//! Codes from the first image, operator by operator.
+
+ghost use Rattle.std.specs.Prelude.{◌≡◌, [], IfOk};
+ghost use Rattle.b67_table.specs.Valid.{IsValid};
+ghost use Rattle.b67_reach.specs.Images.{image_of};
+ghost use Rattle.b67_action.specs.Done.{HasRoom};
+
+use crate::code::code_in;
+use crate::registers::first_registers;
+use crate::shown::{done_words, push_output};
+use crate::turns::numbers_of;
+use b67_action::{Done, action};
+use b67_events::Kernel;
+use b67_list::push_number;
+use b67_load::load;
+use b67_reach::{Parts, ProcessState};
+use b67_store::{Core, ListCore};
+use b67_table::{Private, Words, first_image_is_valid};
+use b67_word::Place;
+use case_sheet::Case;
+use std::alloc::{AllocError, Global};
+
+/// A process performs so many operators: what each of them came to, or none where one came to something else or the process
+/// is not able.
+fn perform<C: Core>(
+    core: &mut C,
+    kernel: &mut Kernel,
+    parts: &mut Parts,
+    part: &mut Private,
+    turn: (u32, u32),
+) -> Option<Done>
+    requires valid { IsValid parts.old.code (image_of (C.Core.stacks core.old) (C.Core.rows core.old) kernel.old.events parts.old) }
+    requires room { HasRoom kernel.old parts.old }
+    ensures valid { IsValid parts.new.code (image_of (C.Core.stacks core.new) (C.Core.rows core.new) kernel.new.events parts.new) }
+    ensures room { HasRoom kernel.new parts.new }
+{
+    let (process, count) = turn;
+    let mut all = None;
+    let mut performed = 0;
+    'operators: while performed < count {
+        if process < 1 || process as usize > parts.states.len() {
+            return None;
+        }
+        if parts.states[process as usize - 1] != ProcessState::Able {
+            return None;
+        }
+        let done = action(core, kernel, parts, process, None, part);
+        if performed > 0 && all != Some(done) {
+            return None;
+        }
+        all = Some(done);
+        performed += 1;
+    }
+    all
+}
+
+/// The first image of a code.
+fn begin<C: Core>(alloc: Global, core: &mut C, text: &[u8]) -> Result<(Kernel, Parts), AllocError>
+    requires stacks { C.Core.stacks core.old ≡ [] }
+    requires rows { C.Core.rows core.old ≡ [] }
+    ensures valid { IfOk result (λ made. IsValid made.1.code (image_of (C.Core.stacks core.new) (C.Core.rows core.new) made.0.events made.1)) }
+    ensures room { IfOk result (λ made. HasRoom made.0 made.1) }
+{
+    first_image_is_valid();
+    let code = code_in(alloc, text)?;
+    load(alloc, core, code)
+}
+
+/// What is there of a process: S, F, the place, and the tag and the bits on top of its stack.
+fn then<C: Core>(core: &C, parts: &Parts, process: u32) -> Option<(u32, u16, u16, (u8, u64))> {
+    let regs = parts.regs.get((process as usize).checked_sub(1)?)?;
+    let top = core.length(regs.stack)?.checked_sub(1)?;
+    let word = core.read(Place {
+        stack: regs.stack,
+        at: u16::try_from(top).ok()?,
+    })?;
+    Some((regs.s, regs.f, regs.place, (word.tag(), word.bits())))
+}
+
+/// Appends what is there of the process that was last, of arrays, events and output.
+fn push_left<C: Core>(
+    text: &mut Vec<u8>,
+    core: &C,
+    kernel: &Kernel,
+    parts: &Parts,
+    last: u32,
+) -> Result<(), AllocError> {
+    match then(core, parts, last) {
+        Some((s, f, place, (tag, bits))) => {
+            push_number(text, b"S ", s)?;
+            push_number(text, b" F ", f)?;
+            push_number(text, b" PLACE ", place)?;
+            push_number(text, b" TOP ", tag)?;
+            push_bits(text, bits)?;
+        }
+        None => text.extend_from_slice(b"GONE")?,
+    }
+    push_number(text, b"\nELEMENTS ", core.counted())?;
+    let is_open = kernel.is_open(Place { stack: 1, at: 2 });
+    text.extend_from_slice(if is_open {
+        b"\nEVENT\n"
+    } else {
+        b"\nNO EVENT\n"
+    })?;
+    push_output(text, parts.output.as_slice())
+}
+
+/// Appends a blank and the bits of a word, as 12 hexadecimal digits.
+fn push_bits(text: &mut Vec<u8>, bits: u64) -> Result<(), AllocError> {
+    text.extend_from_slice(b" ")?;
+    for digit in 0..12u32 {
+        let nibble = (bits >> (44 - 4 * digit)) & 15;
+        let sign = match nibble as u8 {
+            small @ 0..=9 => b'0' + small,
+            great => b'A' + (great & 15) - 10,
+        };
+        text.push(sign)?;
+    }
+    Ok(())
+}
+
+/// Appends the line of a turn.
+fn push_turn(text: &mut Vec<u8>, word: &str, turned: Option<Done>) -> Result<(), AllocError> {
+    text.extend_from_slice(word.as_bytes())?;
+    text.extend_from_slice(b" ")?;
+    match turned {
+        Some(done) => text.extend_from_slice(done_words(done))?,
+        None => text.extend_from_slice(b"MIXED")?,
+    }
+    text.extend_from_slice(b"\n")
+}
+
+/// Appends what comes of the turns on an empty store.
+fn push_turns<C: Core>(
+    text: &mut Vec<u8>,
+    alloc: Global,
+    core: &mut C,
+    case: &Case,
+) -> Result<(), AllocError>
+    requires stacks { C.Core.stacks core.old ≡ [] }
+    requires rows { C.Core.rows core.old ≡ [] }
+{
+    let (mut kernel, mut parts) = begin(alloc, core, case.input.as_slice())?;
+    let mut part = Private {
+        regs: first_registers(),
+        words: Words::new(alloc)?,
+    };
+    let mut last = 1;
+    'turns: for word in &case.words {
+        let (process, count, _) = numbers_of(word.as_str());
+        let turned = perform(core, &mut kernel, &mut parts, &mut part, (process, count));
+        push_turn(text, word.as_str(), turned)?;
+        last = process;
+    }
+    push_left(text, core, &kernel, &parts, last)
+}
+
+/// The answer to a case.
+pub(crate) fn operators_text(alloc: Global, case: &Case) -> Result<Vec<u8>, AllocError> {
+    let mut text = Vec::new(alloc);
+    push_turns(&mut text, alloc, &mut ListCore::new(alloc), case)?;
+    Ok(text)
+}
