@@ -9,11 +9,9 @@ ghost use Rattle.b67_table.specs.Ending.{some_able};
 ghost use Rattle.b67_table.specs.Limits.{most_processes};
 ghost use Rattle.b67_table.specs.Sound.{Sound};
 ghost use Rattle.b67_machine.specs.Beginning.{IsFresh};
-ghost use Rattle.b67_machine.specs.Replaying.{within_entry};
 ghost use Rattle.b67_alone.specs.Alone.{IsFirstAble, RunsAlone};
 
-use b67_action::Done;
-use b67_machine::{Machine, Replayed};
+use b67_machine::{Machine, Replayed, within_entry};
 use b67_schedule::Schedule;
 use b67_store::Core;
 
@@ -59,16 +57,4 @@ fn first_able<C: Core>(machine: &Machine<C>) -> u32
         process += 1;
     }
     process
-}
-
-// What ends a run within an entry, by what the operator after its plain ones came to. In sound code no interrupt comes.
-fn within_entry(done: Option<Done>) -> Option<Replayed>
-    ensures { result ≡ within_entry done }
-{
-    match done {
-        None => Some(Replayed::BudgetSpent),
-        Some(Done::StackLimit) => Some(Replayed::Ended),
-        Some(Done::NoMemory) => Some(Replayed::NoMemory),
-        Some(Done::Went | Done::Waits | Done::Ended | Done::Fault(_) | Done::Interrupt(_)) => None,
-    }
 }

@@ -20,7 +20,7 @@ use b67_store::Core;
 use b67_table::Private;
 pub use entry::Performed;
 pub use reads::End;
-pub use replay::Replayed;
+pub use replay::{Replayed, within_entry};
 use std::marker::Model;
 use tables::Levels;
 

@@ -136,8 +136,8 @@ impl<C: Core> Machine<C> {
     }
 }
 
-// What ends a replay within an entry, by what the operator after its plain ones came to. In sound code no interrupt comes.
-fn within_entry(done: Option<Done>) -> Option<Replayed>
+/// What ends a run within an entry, by what the operator after its plain ones came to. In sound code no interrupt comes.
+pub fn within_entry(done: Option<Done>) -> Option<Replayed>
     ensures { result ≡ within_entry done }
 {
     match done {

@@ -10,8 +10,8 @@ use thiserror::Error;
 /// The greatest budget of a run, in operators.
 pub const MOST_BUDGET: u64 = 4_194_304;
 
-/// The most operators of a private stretch: a run may pass its budget by less than these, since it ends only
-/// between stretches.
+/// A run whose budget is spent has performed fewer operators than its budget and these together. Every other end of a run comes with at
+/// most as many operators as the budget.
 pub const MOST_STRETCH: u64 = 64;
 
 /// The greatest number of processors of a run.
