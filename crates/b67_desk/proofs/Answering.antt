@@ -36,30 +36,30 @@ use Rattle.b67_desk.specs.declared.status.Status.TheVariants as status
 use Rattle.b67_desk.specs.declared.desk.Answer.{Answer}
 use Rattle.b67_desk.specs.declared.desk.Unanswered.{Unanswered}
 use Rattle.b67_desk.specs.declared.desk.Unanswered.TheVariants as why
-use Rattle.b67_desk.specs.Answers.{usage_text, refused_text, bad_schedule_text, listing_text, status_of, at_start, Runs, ran, Lists, listed, IsBadSchedule, AreGiven, Replays, bad_schedule, replayed, BuiltOr, unbuilt, built, AnswersTree, IsRefusedAt, RefusedOr, refused, accepted, IsDivided, AnswersBytes, long_part, divided, most_bytes, AnswersSource, too_long, too_long_text, read, Reading, Untouched, Answers, usage, answered, Writing, HasAnswer, write_fault}
-use Rattle.b67_desk.specs.Calls.{InRange, SourceAnswered, CallAnswered, IsUsage, IsRefusal, IsReport, IsBadAt, IsTooLong}
+use Rattle.b67_desk.specs.Answers.{usage_text, refused_text, bad_schedule_text, listing_text, status_of, at_start, Runs, ran, Lists, listed, IsBadSchedule, AreGiven, Replays, bad_schedule, replayed, SaysAccepted, IsBuiltFor, BuiltOr, unbuilt, built, AnswersBuilt, AnswersTree, IsRefusedAt, RefusedOr, refused, accepted, IsDivided, AnswersBytes, long_part, divided, most_bytes, AnswersSource, too_long, too_long_text, read, Reading, Untouched, Answers, usage, answered, Writing, HasAnswer, write_fault}
+use Rattle.b67_desk.specs.Calls.{InRange, SourceAnswered, CallAnswered, IsUsage, IsRefusal, IsReportAnswer, IsBadAt, IsTooLong}
 
 -- a report is the answer to a run, and to a replay
-ran_is : (processors budget : ℕ) (tree : PProgram) (report : Report) (a : Answer) → ExplainsRun tree processors budget report → IsReport report a →
+ran_is : (processors budget : ℕ) (tree : PProgram) (report : Report) (a : Answer) → ExplainsRun tree processors budget report → IsReportAnswer report a →
     Runs processors budget tree a.text.items a.status
 ran_is processors budget tree report a explains is =
     subst (λ (t : List ℕ). Runs processors budget tree t a.status) (sym is.text)
     (subst (λ (s : Status). Runs processors budget tree (ReportText report) s) (sym is.status) (ran report explains))
 
 replayed_is : (budget : ℕ) (schedule : Option (List ℕ)) (input : ℕ) (tree : PProgram) (given : List ℕ) (report : Report) (a : Answer) → AreGiven schedule given →
-    ExplainsReplay tree given budget report → IsReport report a → Replays budget schedule input tree a.text.items a.status
+    ExplainsReplay tree given budget report → IsReportAnswer report a → Replays budget schedule input tree a.text.items a.status
 replayed_is budget schedule input tree given report a are explains is =
     subst (λ (t : List ℕ). Replays budget schedule input tree t a.status) (sym is.text)
     (subst (λ (s : Status). Replays budget schedule input tree (ReportText report) s) (sym is.status) (replayed given report are explains))
 
 pub ran_answered : (processors budget : ℕ) (tree : PProgram) (report : Report) (result : Result Answer AllocError) → ExplainsRun tree processors budget report →
-    IfOk result (IsReport report) → IfOk result (λ a. Runs processors budget tree a.text.items a.status)
+    IfOk result (IsReportAnswer report) → IfOk result (λ a. Runs processors budget tree a.text.items a.status)
 ran_answered processors budget tree report (Ok a) explains is = ran_is processors budget tree report a explains is
 ran_answered processors budget tree report (Err e) explains is = is
 
 pub replayed_answered : (budget : ℕ) (schedule : Option (List ℕ)) (text : List ℕ) (input : ℕ) (tree : PProgram) (runs : List Run) (report : Report)
     (result : Result Answer AllocError) → schedule ≡ Some text → IsSchedule runs × (text ≡ ScheduleText runs) → ExplainsReplay tree (entries runs) budget report →
-    IfOk result (IsReport report) → IfOk result (λ a. Replays budget schedule input tree a.text.items a.status)
+    IfOk result (IsReportAnswer report) → IfOk result (λ a. Replays budget schedule input tree a.text.items a.status)
 replayed_answered budget schedule text input tree runs report (Ok a) is_text are explains is =
     subst (λ (o : Option (List ℕ)). Replays budget o input tree a.text.items a.status) (sym is_text)
     (replayed_is budget (Some text) input tree (entries runs) report a (record { runs = runs; schedule = are.0; text_is = are.1 }, refl) explains is)
@@ -87,49 +87,59 @@ pub listed_is : (tree : PProgram) (code : Code) (lines : List (List ℕ)) (text 
     Lists tree text status.Finished
 listed_is tree code lines text faithful are is = subst (λ (t : List ℕ). Lists tree t status.Finished) (sym is) (listed code lines faithful are)
 
--- a source that is not built, and one that is
-unbuilt_is : (tree : PProgram) (Its : List ℕ → Status → Type 0) (a : Answer) → (IsBuilt tree → ⊥) → IsRefusal at_start refusals.Unbuilt a →
-    BuiltOr tree Its a.text.items a.status
-unbuilt_is tree Its a none is =
-    subst (λ (t : List ℕ). BuiltOr tree Its t a.status) (sym is.text)
-    (subst (λ (s : Status). BuiltOr tree Its (refused_text at_start refusals.Unbuilt) s) (sym is.status) (unbuilt none))
+-- a source that is not built for a command, and one that is
+module _ (command : Words) (tree : PProgram) (Its : List ℕ → Status → Type 0) where
+  unbuilt_is : (a : Answer) → (IsBuiltFor command tree → ⊥) → IsRefusal at_start refusals.Unbuilt a → BuiltOr command tree Its a.text.items a.status
+  unbuilt_is a none is =
+      subst (λ (t : List ℕ). BuiltOr command tree Its t a.status) (sym is.text)
+      (subst (λ (s : Status). BuiltOr command tree Its (refused_text at_start refusals.Unbuilt) s) (sym is.status) (unbuilt none))
 
-pub unbuilt_answered : (tree : PProgram) (Its : List ℕ → Status → Type 0) (result : Result Answer AllocError) → (IsBuilt tree → ⊥) →
-    IfOk result (IsRefusal at_start refusals.Unbuilt) → IfOk result (λ a. BuiltOr tree Its a.text.items a.status)
-unbuilt_answered tree Its (Ok a) none is = unbuilt_is tree Its a none is
-unbuilt_answered tree Its (Err e) none is = is
+  pub unbuilt_answered : (result : Result Answer AllocError) → (IsBuiltFor command tree → ⊥) → IfOk result (IsRefusal at_start refusals.Unbuilt) →
+      IfOk result (λ a. BuiltOr command tree Its a.text.items a.status)
+  unbuilt_answered (Ok a) none is = unbuilt_is a none is
+  unbuilt_answered (Err e) none is = is
 
-pub built_answered : (tree : PProgram) (Its : List ℕ → Status → Type 0) (result : Result Answer AllocError) → IsBuilt tree →
-    IfOk result (λ a. Its a.text.items a.status) → IfOk result (λ a. BuiltOr tree Its a.text.items a.status)
-built_answered tree Its (Ok a) is_built is = built a.text.items a.status is_built is
-built_answered tree Its (Err e) is_built is = is
+  pub built_answered : (result : Result Answer AllocError) → IsBuiltFor command tree → IfOk result (λ a. Its a.text.items a.status) →
+      IfOk result (λ a. BuiltOr command tree Its a.text.items a.status)
+  built_answered (Ok a) is_built is = built a.text.items a.status is_built is
+  built_answered (Err e) is_built is = is
 
--- under each command but `check`
-pub unbuilt_tree : (command : Words) (schedule : Option (List ℕ)) (input : ℕ) (tree : PProgram) (result : Result Answer AllocError) → command ≢ commands.Check →
-    (IsBuilt tree → ⊥) → IfOk result (IsRefusal at_start refusals.Unbuilt) → IfOk result (λ a. AnswersTree command schedule input tree a.text.items a.status)
-unbuilt_tree (commands.Run processors budget) schedule input tree result other none is = unbuilt_answered tree (Runs processors budget tree) result none is
-unbuilt_tree commands.Check schedule input tree result other none is = absurd (other refl)
-unbuilt_tree commands.List schedule input tree result other none is = unbuilt_answered tree (Lists tree) result none is
-unbuilt_tree (commands.Replay budget) schedule input tree result other none is = unbuilt_answered tree (Replays budget schedule input tree) result none is
+-- for every command but `check` those that are built
+for_one : (command : Words) (tree : PProgram) → command ≢ commands.Check → IsBuiltFor command tree → IsBuilt tree
+for_one (commands.Run processors budget) tree other is = is
+for_one commands.Check tree other is = absurd (other refl)
+for_one commands.List tree other is = is
+for_one (commands.Replay budget) tree other is = is
 
-module _ (command : Words) (schedule : Option (List ℕ)) (input : ℕ) (tree : PProgram) where
-  Told : Result Answer AllocError → Words → Type 0
-  Told result w = IfOk result (λ a. AnswersTree w schedule input tree a.text.items a.status)
+module _ (command : Words) (schedule : Option (List ℕ)) (input : ℕ) (tree : PProgram) (result : Result Answer AllocError) where
+  Told : Words → Type 0
+  Told w = IfOk result (λ a. AnswersTree w schedule input tree a.text.items a.status)
 
-  pub run_tree : (processors budget : ℕ) (result : Result Answer AllocError) → command ≡ commands.Run processors budget → IsBuilt tree →
+  pub unbuilt_tree : command ≢ commands.Check → (IsBuilt tree → ⊥) → IfOk result (IsRefusal at_start refusals.Unbuilt) →
+      IfOk result (λ a. AnswersTree command schedule input tree a.text.items a.status)
+  unbuilt_tree other none is =
+      unbuilt_answered command tree (AnswersBuilt command schedule input tree) result (λ fits. none (for_one command tree other fits)) is
+
+  built_tree : (w : Words) → command ≡ w → IsBuiltFor w tree → IfOk result (λ a. AnswersBuilt w schedule input tree a.text.items a.status) →
+      IfOk result (λ a. AnswersTree command schedule input tree a.text.items a.status)
+  unfolding Told
+  built_tree w is is_built told = subst Told (sym is) (built_answered w tree (AnswersBuilt w schedule input tree) result is_built told)
+
+  pub check_tree : command ≡ commands.Check → IfOk result (λ a. SaysAccepted a.text.items a.status) →
+      IfOk result (λ a. AnswersTree command schedule input tree a.text.items a.status)
+  check_tree is told = built_tree commands.Check is tt told
+
+  pub run_tree : (processors budget : ℕ) → command ≡ commands.Run processors budget → IsBuilt tree →
       IfOk result (λ a. Runs processors budget tree a.text.items a.status) → IfOk result (λ a. AnswersTree command schedule input tree a.text.items a.status)
-  unfolding Told
-  run_tree processors budget result is is_built told = subst (Told result) (sym is) (built_answered tree (Runs processors budget tree) result is_built told)
+  run_tree processors budget is is_built told = built_tree (commands.Run processors budget) is is_built told
 
-  pub list_tree : (result : Result Answer AllocError) → command ≡ commands.List → IsBuilt tree →
-      IfOk result (λ a. Lists tree a.text.items a.status) → IfOk result (λ a. AnswersTree command schedule input tree a.text.items a.status)
-  unfolding Told
-  list_tree result is is_built told = subst (Told result) (sym is) (built_answered tree (Lists tree) result is_built told)
+  pub list_tree : command ≡ commands.List → IsBuilt tree → IfOk result (λ a. Lists tree a.text.items a.status) →
+      IfOk result (λ a. AnswersTree command schedule input tree a.text.items a.status)
+  list_tree is is_built told = built_tree commands.List is is_built told
 
-  pub replay_tree : (budget : ℕ) (result : Result Answer AllocError) → command ≡ commands.Replay budget → IsBuilt tree →
+  pub replay_tree : (budget : ℕ) → command ≡ commands.Replay budget → IsBuilt tree →
       IfOk result (λ a. Replays budget schedule input tree a.text.items a.status) → IfOk result (λ a. AnswersTree command schedule input tree a.text.items a.status)
-  unfolding Told
-  replay_tree budget result is is_built told = subst (Told result) (sym is) (built_answered tree (Replays budget schedule input tree) result is_built told)
+  replay_tree budget is is_built told = built_tree (commands.Replay budget) is is_built told
 
 -- a text that is refused, and one that is accepted
 module _ (bytes : List ℕ) (Its : PProgram → List ℕ → Status → Type 0) where

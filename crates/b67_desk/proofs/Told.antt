@@ -23,7 +23,7 @@ use Rattle.b67_alone.specs.Alone.{IsRunEnd, RunsAlone}
 use Rattle.b67_faithful.specs.Faithful.{Faithful}
 use Rattle.b67_explain.specs.Explaining.{IsOwnEnd, ExplainsRun, ExplainsReplay}
 use Rattle.b67_explain.specs.Telling.{words_of_end, Tells, IsReportOf}
-use Rattle.b67_explain.proofs.Explained.{explained, replay_explained}
+use Rattle.b67_explain.proofs.Explained.{run_explained, replay_explained}
 use Rattle.b67_desk.proofs.Laws.{runs_grow}
 
 pub segments_short : (code : Code) → IsListable code → All (λ (segment : Segment). length segment.words ≤ MOST_SEGMENT_WORDS) code.segments
@@ -46,10 +46,9 @@ own_end NoMemory end told run tells = absurd tells
 pub run_told : (tree : PProgram) (code : Code) → Faithful tree code → (processors budget : ℕ) (m : Kept) (answer : Replayed) (schedule : Schedule) →
     RunsAlone code budget (entries schedule.runs) m answer → (lines : List (List ℕ)) (report : Report) → IsReportOf m answer lines processors schedule report →
     IsSchedule schedule.runs → ListingText code lines → ExplainsRun tree processors budget report
-run_told tree code faithful processors budget m answer schedule alone lines report is valid listed = record {
-  explains = explained runs_grow tree code faithful (entries schedule.runs ++ alone.next) budget m answer schedule alone.replays processors lines report is valid listed;
-  own = own_end answer (machine_end m) report.end alone.ends is.end;
-}
+run_told tree code faithful processors budget m answer schedule alone lines report is valid listed =
+    run_explained runs_grow tree code faithful (entries schedule.runs ++ alone.next) budget m answer schedule alone.replays processors lines report is valid listed
+    (own_end answer (machine_end m) report.end alone.ends is.end)
 
 pub replay_told : (tree : PProgram) (code : Code) → Faithful tree code → (given : List ℕ) (budget : ℕ) (m : Kept) (answer : Replayed) (schedule : Schedule) →
     Replays code given budget (entries schedule.runs) m answer → (lines : List (List ℕ)) (report : Report) → IsReportOf m answer lines 1 schedule report →

@@ -1,5 +1,5 @@
 -- What the desk answers: the text that it writes and the status that it gives, for which words and which bytes.
-use Rattle.std.specs.Prelude.{◌≡◌, ℕ, ◌+◌, ◌*◌, ◌<◌, ◌≤◌, List, [], ◌∷◌, ◌++◌, length, sum, codes, Option, Some, None, IfSome, Ok, Err, take}
+use Rattle.std.specs.Prelude.{◌≡◌, ℕ, ◌+◌, ◌*◌, ◌<◌, ◌≤◌, List, [], ◌∷◌, ◌++◌, length, map, get_or, codes, Option, Some, None, IfSome, Ok, Err, take}
 use Rattle.std.specs.Fmt.{decimal}
 use Rattle.std.specs.Io.KnownBytes.{Appends, IsAtEnd}
 use Rattle.algol_tree.specs.declared.TheConstants.{MOST_SOURCE_BYTES}
@@ -30,6 +30,8 @@ use Rattle.b67_fitting.specs.Built.{IsBuilt}
 use Rattle.b67_parts.specs.declared.TheConstants.{MOST_INPUT_BYTES}
 use Rattle.b67_parts.specs.Parts.{Parts}
 use Rattle.b67_explain.specs.Explaining.{ExplainsRun, ExplainsReplay}
+use Rattle.b67_desk.specs.Refusals.{index}
+use Rattle.b67_desk.specs.declared.refusals.TheConstants.{TABLE}
 use Rattle.b67_desk.specs.declared.status.Status.{Status}
 use Rattle.b67_desk.specs.declared.status.Status.TheVariants as status
 
@@ -45,29 +47,9 @@ usage_words kinds.Extra = codes "EXTRA"
 abbrev pub usage_text : ℕ → UsageKind → List ℕ
 usage_text word kind = line_text (codes "USAGE " ++ decimal word ++ codes " " ++ usage_words kind)
 
--- the letter and the number of a refusal
+-- the letter and the number of a refusal, which stand in its row
 abbrev pub code_words : RefusalCode → List ℕ
-code_words refusals.BadCharacter = codes "L1"
-code_words refusals.LineTooLong = codes "L2"
-code_words refusals.OpenString = codes "L3"
-code_words refusals.NumberTooWide = codes "L4"
-code_words refusals.NameTooLong = codes "L5"
-code_words refusals.Unexpected = codes "S1"
-code_words refusals.TooDeep = codes "S2"
-code_words refusals.TextAfterEnd = codes "S3"
-code_words refusals.UnknownName = codes "N1"
-code_words refusals.DeclaredTwice = codes "N2"
-code_words refusals.TooManyLevels = codes "N3"
-code_words refusals.TooManyCells = codes "N4"
-code_words refusals.TooManyProcedures = codes "N5"
-code_words refusals.SegmentTooLong = codes "N6"
-code_words refusals.WrongType = codes "C7"
-code_words refusals.WrongCount = codes "C8"
-code_words refusals.NotAssignable = codes "C9"
-code_words refusals.WriteList = codes "C10"
-code_words refusals.LineTooWide = codes "C11"
-code_words refusals.BadLabel = codes "C12"
-code_words refusals.Unbuilt = codes "U0"
+code_words code = get_or (map (λ row. row.1.now) TABLE) (index code) []
 
 abbrev pub refused_text : Spot → RefusalCode → List ℕ
 refused_text place code = line_text (codes "REFUSED " ++ code_words code ++ codes " " ++ decimal place.line ++ codes ":" ++ decimal place.column)
@@ -127,19 +109,30 @@ pub data Replays (budget : ℕ) (schedule : Option (List ℕ)) (input : ℕ) (tr
 abbrev pub at_start : Spot
 at_start = record { line = 1; column = 1 }
 
--- What a source with this tree is answered by under a command that wants its code: a refusal at 1:1 exactly where it is not built, that
--- is where it declares anything but simple variables, files, arrays and procedures whose parameters are simple and by value, or arrays, or
--- starts a process, else what answers a built one.
-pub data BuiltOr (tree : PProgram) (AnswersIt : List ℕ → Status → Type 0) : List ℕ → Status → Type 0 where
-  unbuilt : (IsBuilt tree → ⊥) → BuiltOr tree AnswersIt (refused_text at_start refusals.Unbuilt) (status.Refused at_start refusals.Unbuilt)
-  built : (text : List ℕ) (s : Status) → IsBuilt tree → AnswersIt text s → BuiltOr tree AnswersIt text s
+-- The trees that are built for a command. For one that wants the code of a source those are built that declare only simple variables, files,
+-- arrays and procedures whose parameters are simple and by value, or arrays, and start no process.
+abbrev pub IsBuiltFor : Words → PProgram → Type 0
+IsBuiltFor (Run processors budget) tree = IsBuilt tree
+IsBuiltFor Check tree = Unit {0}
+IsBuiltFor ListCode tree = IsBuilt tree
+IsBuiltFor (Replay budget) tree = IsBuilt tree
 
--- what a source with this tree is answered by under that command, with the schedule text beside it and the bytes of both
+-- What a source with this tree is answered by under that command: a refusal at 1:1 exactly where the tree is not built for it, else what
+-- answers a built one.
+pub data BuiltOr (command : Words) (tree : PProgram) (AnswersIt : List ℕ → Status → Type 0) : List ℕ → Status → Type 0 where
+  unbuilt : (IsBuiltFor command tree → ⊥) → BuiltOr command tree AnswersIt (refused_text at_start refusals.Unbuilt) (status.Refused at_start refusals.Unbuilt)
+  built : (text : List ℕ) (s : Status) → IsBuiltFor command tree → AnswersIt text s → BuiltOr command tree AnswersIt text s
+
+-- what a source whose tree is built for that command is answered by, with the schedule text beside it and the bytes of both
+abbrev pub AnswersBuilt : Words → Option (List ℕ) → ℕ → PProgram → List ℕ → Status → Type 0
+AnswersBuilt (Run processors budget) schedule input tree = Runs processors budget tree
+AnswersBuilt Check schedule input tree = SaysAccepted
+AnswersBuilt ListCode schedule input tree = Lists tree
+AnswersBuilt (Replay budget) schedule input tree = Replays budget schedule input tree
+
+-- what a source with this tree is answered by under that command
 abbrev pub AnswersTree : Words → Option (List ℕ) → ℕ → PProgram → List ℕ → Status → Type 0
-AnswersTree (Run processors budget) schedule input tree = BuiltOr tree (Runs processors budget tree)
-AnswersTree Check schedule input tree = SaysAccepted
-AnswersTree ListCode schedule input tree = BuiltOr tree (Lists tree)
-AnswersTree (Replay budget) schedule input tree = BuiltOr tree (Replays budget schedule input tree)
+AnswersTree command schedule input tree = BuiltOr command tree (AnswersBuilt command schedule input tree)
 
 -- The bytes are a source with this tree, and with no other.
 pub record IsSourceOf (bytes : List ℕ) (tree : PProgram) : Type 0 where

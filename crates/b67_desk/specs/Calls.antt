@@ -59,6 +59,6 @@ pub record IsBadAt (byte : ℕ) (a : Answer) : Type 0 where
   pub status : a.status ≡ statuses.BadSchedule byte
 
 -- the answer that is a report
-pub record IsReport (report : Report) (a : Answer) : Type 0 where
+pub record IsReportAnswer (report : Report) (a : Answer) : Type 0 where
   pub text : a.text.items ≡ ReportText report
   pub status : a.status ≡ status_of report.end

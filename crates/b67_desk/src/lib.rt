@@ -3,6 +3,7 @@
 
 mod code;
 mod desk;
+mod refusals;
 mod running;
 mod status;
 mod texts;

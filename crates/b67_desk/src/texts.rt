@@ -1,8 +1,9 @@
 //! The lines of the answers that are no report.
 
 ghost use Rattle.std.specs.Prelude.{◌≡◌, ◌++◌, IfOk, OnOk};
-ghost use Rattle.b67_desk.specs.Answers.{usage_words, usage_text, code_words, refused_text, accepted_text, too_long_text, bad_schedule_text, listing_text};
+ghost use Rattle.b67_desk.specs.Answers.{usage_words, usage_text, refused_text, accepted_text, too_long_text, bad_schedule_text, listing_text};
 
+use crate::refusals::code_words;
 use algol_tree::{Code as RefusalCode, Spot};
 use b67_list::{Line, List, push_number};
 use b67_report::push_lines;
@@ -34,41 +35,12 @@ pub fn usage_line(alloc: Global, word: u32, kind: UsageKind) -> Result<Vec<u8>, 
     Ok(text)
 }
 
-/// The letter and the number of a refusal.
-fn code_words(code: RefusalCode) -> &'static [u8]
-    ensures { result.now ≡ code_words code }
-{
-    match code {
-        RefusalCode::BadCharacter => b"L1",
-        RefusalCode::LineTooLong => b"L2",
-        RefusalCode::OpenString => b"L3",
-        RefusalCode::NumberTooWide => b"L4",
-        RefusalCode::NameTooLong => b"L5",
-        RefusalCode::Unexpected => b"S1",
-        RefusalCode::TooDeep => b"S2",
-        RefusalCode::TextAfterEnd => b"S3",
-        RefusalCode::UnknownName => b"N1",
-        RefusalCode::DeclaredTwice => b"N2",
-        RefusalCode::TooManyLevels => b"N3",
-        RefusalCode::TooManyCells => b"N4",
-        RefusalCode::TooManyProcedures => b"N5",
-        RefusalCode::SegmentTooLong => b"N6",
-        RefusalCode::WrongType => b"C7",
-        RefusalCode::WrongCount => b"C8",
-        RefusalCode::NotAssignable => b"C9",
-        RefusalCode::WriteList => b"C10",
-        RefusalCode::LineTooWide => b"C11",
-        RefusalCode::BadLabel => b"C12",
-        RefusalCode::Unbuilt => b"U0",
-    }
-}
-
 /// The line of a source that is refused at a place.
 pub fn refused_line(alloc: Global, place: Spot, code: RefusalCode) -> Result<Vec<u8>, AllocError>
     ensures { IfOk result (λ text. text.items ≡ refused_text place code) }
 {
     let mut text = Vec::from_slice(alloc, b"REFUSED ")?;
-    text.extend_from_slice(code_words(code))?;
+    text.extend_from_slice(code_words(code).as_bytes())?;
     push_number(&mut text, b" ", place.line)?;
     push_number(&mut text, b":", place.column)?;
     text.extend_from_slice(b"\n")?;

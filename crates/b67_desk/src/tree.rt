@@ -6,7 +6,7 @@ ghost use Rattle.algol_tree.specs.First.{Source};
 ghost use Rattle.b67_words.specs.declared.TheConstants.{MOST_BUDGET};
 ghost use Rattle.b67_fitting.specs.Built.{IsBuilt};
 ghost use Rattle.b67_desk.specs.Answers.{AnswersTree, SaysAccepted, Runs, Lists, Replays, status_of};
-ghost use Rattle.b67_desk.specs.Calls.{InRange, IsRefusal, IsBadAt, IsReport};
+ghost use Rattle.b67_desk.specs.Calls.{InRange, IsRefusal, IsBadAt, IsReportAnswer};
 
 use crate::code::code_of;
 use crate::desk::Answer;
@@ -49,7 +49,7 @@ pub fn refuse_source(alloc: Global, place: Spot, code: RefusalCode) -> Result<An
 
 /// The answer that is a report.
 fn tell(alloc: Global, report: &Report) -> Result<Answer, AllocError>
-    ensures { IfOk result (IsReport report.now) }
+    ensures { IfOk result (IsReportAnswer report.now) }
 {
     Ok(Answer {
         text: report_text(alloc, report)?,

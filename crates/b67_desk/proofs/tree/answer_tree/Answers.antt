@@ -2,8 +2,12 @@ use Rattle.std.proofs.Common.{◌≡◌, true, false, sym, ◌∙◌}
 use Rattle.std.specs.Prelude.{option_copied}
 use Rattle.algol_tree.specs.Image.{program as plain}
 use Rattle.b67_fitting.specs.Built.{IsBuilt}
-use Rattle.b67_desk.proofs.Answering.{unbuilt_tree, run_tree, list_tree, replay_tree}
+use Rattle.b67_desk.proofs.Answering.{check_tree, unbuilt_tree, run_tree, list_tree, replay_tree}
 use Rattle.b67_desk.proofs.tree.answer_tree.Goals as goal
+
+pub returns-in-Check : goal.returns-in-Check
+returns-in-Check c =
+    check_tree c.args.command (option_copied c.args.schedule) c.args.input (plain c.args.checked.now.program) c.accept_source.result c.in-Check.is c.accept_source.ensures
 
 pub returns-then-not-is_built : goal.returns-then-not-is_built
 returns-then-not-is_built c =
@@ -13,7 +17,7 @@ returns-then-not-is_built c =
 
 pub returns-in-Run : goal.returns-in-Run
 returns-in-Run c =
-    run_tree c.args.command (option_copied c.args.schedule) c.args.input (plain c.args.checked.now.program) c.in-Run.processors c.in-Run.budget c.answer_run.result
+    run_tree c.args.command (option_copied c.args.schedule) c.args.input (plain c.args.checked.now.program) c.answer_run.result c.in-Run.processors c.in-Run.budget
     c.in-Run.is (c.is_built.ensures.0 c.if-not-is_built.false) c.answer_run.ensures
 
 pub returns-in-List : goal.returns-in-List
@@ -23,5 +27,5 @@ returns-in-List c =
 
 pub returns-in-Replay : goal.returns-in-Replay
 returns-in-Replay c =
-    replay_tree c.args.command (option_copied c.args.schedule) c.args.input (plain c.args.checked.now.program) c.in-Replay.budget c.answer_replay.result
+    replay_tree c.args.command (option_copied c.args.schedule) c.args.input (plain c.args.checked.now.program) c.answer_replay.result c.in-Replay.budget
     c.in-Replay.is (c.is_built.ensures.0 c.if-not-is_built.false) c.answer_replay.ensures
