@@ -1,7 +1,5 @@
 -- The tests of a program's declarations and statements decide whether it is built.
-use Rattle.std.proofs.Common.{◌≡◌, ◌⊎◌, ℕ, ◌≤◌, ◌&&◌, ◌||◌, not, Bool, true, false, List, [], ◌∷◌, Option, Some, None, length, refl, subst, arith, if◌then◌else◌}
-use Rattle.std.specs.Prelude.{◌==◌}
-use Rattle.std.proofs.lemmas.Bool.{ne_eqb}
+use Rattle.std.proofs.Common.{◌≡◌, ◌⊎◌, ℕ, ◌&&◌, ◌||◌, Bool, true, false, List, [], ◌∷◌, Option, Some, None, refl, subst, if◌then◌else◌}
 use Rattle.std.specs.Bool.{Decides}
 use Rattle.std.specs.List.{list_all}
 use Rattle.std.proofs.lemmas.Bool.Decides.{Decides-at, Decides-and, Decides-or, Decides-by_and}
@@ -13,14 +11,10 @@ use Rattle.algol_tree.specs.declared.tree.Spec.TheVariants as spec
 use Rattle.algol_tree.specs.Classes.{Class, unknown, is_simple, is_array}
 use Rattle.algol_tree.specs.Plain as tree
 use Rattle.algol_tree.specs.Plain.{PStmt, PStmts, PDecl, PDecls}
-use Rattle.algol_tree.specs.Sorts.{same_name, class_by, class_in, is_named_in, specified_by}
+use Rattle.algol_tree.specs.Sorts.{class_by, class_in, is_named_in, specified_by}
 use Rattle.b67_fitting.specs.Built.{HeadingBuilt, DeclBuilt, DeclsBuilt, StmtBuilt, StmtsBuilt, IsBuilt}
 use Rattle.b67_compile.specs.Specified.{first_spec}
-use Rattle.b67_compile.specs.Built.{is_nil, is_built_by, is_parameter_built, is_heading_built, has_name, has_some, is_decl_built, decls_are_built, is_stmt_built, stmts_are_built}
-
-pub nil_length : {X : Type 0} (xs : List X) → (length xs == 0) ≡ is_nil xs
-nil_length [] = refl
-nil_length (x ∷ xs) = ne_eqb (length (x ∷ xs)) 0 (λ e. omega arith)
+use Rattle.b67_compile.specs.Built.{is_built_by, is_parameter_built, is_heading_built, is_decl_built, decls_are_built, is_stmt_built, stmts_are_built}
 
 yes : Decides true (Unit {0})
 yes = (λ e. tt, λ p. refl)
@@ -75,14 +69,6 @@ heading_decided h =
     Decides-by_and (is_parameter_built h) (λ (n : Named). ParameterBuilt (class_in h.specs n.name) (is_named_in h.values n.name)) (list_all (is_parameter_built h))
     (parameter_decided h) refl (λ _ _. refl) h.params
 
-named_decided : (name : List ℕ) → Decides (not (is_nil name)) (same_name name [] ≡ false)
-named_decided [] = (λ e. absurd (let clash : false ≡ true = e in cc), λ p. absurd (let clash : true ≡ false = p in cc))
-named_decided (c ∷ name) = (λ e. refl, λ p. refl)
-
-some_decided : (ns : List Named) → Decides (has_some ns) (1 ≤ length ns)
-some_decided [] = (λ e. absurd (let clash : false ≡ true = e in cc), λ h. absurd (omega (arith, h)))
-some_decided (n ∷ ns) = (λ e. omega arith, λ h. refl)
-
 mutual
   decl_decided : (d : PDecl) → Decides (is_decl_built d) (DeclBuilt d)
   decl_decided (tree.simple kind ns) = yes
@@ -90,12 +76,9 @@ mutual
   decl_decided (tree.events ns) = no
   decl_decided (tree.tasks ns) = no
   decl_decided (tree.labels ns) = no
-  decl_decided (tree.arrays kind ns pairs) = some_decided ns
+  decl_decided (tree.arrays kind ns pairs) = yes
   decl_decided (tree.forward h) = heading_decided h
-  decl_decided (tree.procedure h s) =
-      let d = Decides-and (is_heading_built h) (is_stmt_built s && has_name h) (heading_decided h)
-      (Decides-and (is_stmt_built s) (has_name h) (stmt_decided s) (named_decided h.name.name)) in
-      (λ e. let r = d.0 e in (r.0, r.1.0, r.1.1), λ r. d.1 (r.0, (r.1, r.2)))
+  decl_decided (tree.procedure h s) = Decides-and (is_heading_built h) (is_stmt_built s) (heading_decided h) (stmt_decided s)
 
   decls_decided : (ds : PDecls) → Decides (decls_are_built ds) (DeclsBuilt ds)
   decls_decided tree.no_decls = yes

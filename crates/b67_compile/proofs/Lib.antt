@@ -8,3 +8,5 @@ pub mod Near
 pub mod Premises
 pub mod Listed
 pub mod Standing
+pub mod Sources
+pub mod Compiled

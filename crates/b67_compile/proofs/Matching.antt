@@ -22,7 +22,7 @@ use Rattle.algol_tree.specs.Surroundings.{Surroundings, outermost, formals_at, k
 use Rattle.algol_paths.specs.Segments.{is_procedure}
 use Rattle.b67_ops.specs.declared.TheConstants.{OUTER_LEVEL}
 use Rattle.b67_emit_stmt.specs.Texts.{Text, procedure_text, texts_of, texts_in_stmts, texts_in_decls, texts_in_body}
-use Rattle.b67_fitting.specs.Built.{DeclsBuilt, StmtBuilt, StmtsBuilt, IsBuilt}
+use Rattle.b67_fitting.specs.Names.{DeclsNamed, StmtNamed, StmtsNamed, HasNames}
 
 -- the segments that begin at these places of the text
 abbrev pub segs : List Site → List Segment
@@ -154,102 +154,102 @@ module _ (blocks : List Block) where
 
   -- the level is that of what stands in the blocks at these places
   mutual
-    stmt_match : (s : PStmt) (begin : Begin) (listed : Bool) (a : Surroundings) (outer : List Spot) (level : ℕ) → level ≡ length outer + 1 → StmtBuilt s →
+    stmt_match : (s : PStmt) (begin : Begin) (listed : Bool) (a : Surroundings) (outer : List Spot) (level : ℕ) → level ≡ length outer + 1 → StmtNamed s →
         Match (blocks_of s begin outer) (inside_stmt blocks s begin listed a) (texts_of s begin level)
-    stmt_match tree.empty begin listed a outer l e built = tt
-    stmt_match (tree.label n s) begin listed a outer l e built = stmt_match s of_statement listed a outer l e built
-    stmt_match (tree.assign (tree.subscripted n es) v) begin listed a outer l e built =
+    stmt_match tree.empty begin listed a outer l e named = tt
+    stmt_match (tree.label n s) begin listed a outer l e named = stmt_match s of_statement listed a outer l e named
+    stmt_match (tree.assign (tree.subscripted n es) v) begin listed a outer l e named =
         none_match (inside_list es a ++ sites v a) (both_none (inside_list es a) (sites v a) (list_none es a) (expr_none v a))
-    stmt_match (tree.call_of (tree.called n es)) begin listed a outer l e built = none_match (inside_actuals es (formals_at a n) a) (actuals_none es (formals_at a n) a)
-    stmt_match (tree.go_to n) begin listed a outer l e built = tt
+    stmt_match (tree.call_of (tree.called n es)) begin listed a outer l e named = none_match (inside_actuals es (formals_at a n) a) (actuals_none es (formals_at a n) a)
+    stmt_match (tree.go_to n) begin listed a outer l e named = tt
     -- no BEGIN of a statement has a name
-    stmt_match (tree.block (tree.body spot tree.no_decls ss)) of_statement listed a outer l e built =
-        stmts_match ss false (inside blocks of_statement (tree.body spot tree.no_decls ss) a) outer l e built.1
-    stmt_match (tree.block (tree.body spot tree.no_decls ss)) of_procedure listed a outer l e built =
-        stmts_match ss false (inside blocks of_procedure (tree.body spot tree.no_decls ss) a) outer l e built.1
-    stmt_match (tree.block (tree.body spot (tree.decls d ds) ss)) of_statement listed a outer l e built =
+    stmt_match (tree.block (tree.body spot tree.no_decls ss)) of_statement listed a outer l e named =
+        stmts_match ss false (inside blocks of_statement (tree.body spot tree.no_decls ss) a) outer l e named.1
+    stmt_match (tree.block (tree.body spot tree.no_decls ss)) of_procedure listed a outer l e named =
+        stmts_match ss false (inside blocks of_procedure (tree.body spot tree.no_decls ss) a) outer l e named.1
+    stmt_match (tree.block (tree.body spot (tree.decls d ds) ss)) of_statement listed a outer l e named =
         let i : Surroundings = inside blocks of_statement (tree.body spot (tree.decls d ds) ss) a in
         let e' : l + 1 ≡ length (spot ∷ outer) + 1 = omega (arith, e) in
         match_both (blocks_in_decls (tree.decls d ds) (spot ∷ outer)) (blocks_in_stmts ss (spot ∷ outer)) (sites_in_decls blocks (tree.decls d ds) i i.known) (sites_in_stmts blocks ss true (knowing_all blocks (tree.decls d ds) i))
         (texts_in_decls (tree.decls d ds) (l + 1)) (texts_in_stmts ss (l + 1))
-        (decls_match (tree.decls d ds) i i.known (spot ∷ outer) (l + 1) e' built.0) (stmts_match ss true (knowing_all blocks (tree.decls d ds) i) (spot ∷ outer) (l + 1) e' built.1)
-    stmt_match (tree.block (tree.body spot (tree.decls d ds) ss)) of_procedure listed a outer l e built =
+        (decls_match (tree.decls d ds) i i.known (spot ∷ outer) (l + 1) e' named.0) (stmts_match ss true (knowing_all blocks (tree.decls d ds) i) (spot ∷ outer) (l + 1) e' named.1)
+    stmt_match (tree.block (tree.body spot (tree.decls d ds) ss)) of_procedure listed a outer l e named =
         let i : Surroundings = inside blocks of_procedure (tree.body spot (tree.decls d ds) ss) a in
         match_both (blocks_in_decls (tree.decls d ds) outer) (blocks_in_stmts ss outer) (sites_in_decls blocks (tree.decls d ds) i i.known) (sites_in_stmts blocks ss true (knowing_all blocks (tree.decls d ds) i))
         (texts_in_decls (tree.decls d ds) l) (texts_in_stmts ss l)
-        (decls_match (tree.decls d ds) i i.known outer l e built.0) (stmts_match ss true (knowing_all blocks (tree.decls d ds) i) outer l e built.1)
-    stmt_match (tree.if_then c x) begin listed a outer l e built =
-        front (blocks_of x of_statement outer) (sites c a) (under x a) (texts_of x of_statement l) (expr_none c a) (stmt_match x of_statement false a outer l e built)
-    stmt_match (tree.if_else c x y) begin listed a outer l e built =
+        (decls_match (tree.decls d ds) i i.known outer l e named.0) (stmts_match ss true (knowing_all blocks (tree.decls d ds) i) outer l e named.1)
+    stmt_match (tree.if_then c x) begin listed a outer l e named =
+        front (blocks_of x of_statement outer) (sites c a) (under x a) (texts_of x of_statement l) (expr_none c a) (stmt_match x of_statement false a outer l e named)
+    stmt_match (tree.if_else c x y) begin listed a outer l e named =
         match_both (blocks_of x of_statement outer) (blocks_of y of_statement outer) (sites c a ++ under x a) (under y a) (texts_of x of_statement l) (texts_of y of_statement l)
-        (front (blocks_of x of_statement outer) (sites c a) (under x a) (texts_of x of_statement l) (expr_none c a) (stmt_match x of_statement false a outer l e built.0))
-        (stmt_match y of_statement false a outer l e built.1)
-    stmt_match (tree.while c b) begin listed a outer l e built =
-        front (blocks_of b of_statement outer) (sites c a) (under b a) (texts_of b of_statement l) (expr_none c a) (stmt_match b of_statement false a outer l e built)
-    stmt_match (tree.until b c) begin listed a outer l e built =
-        back (blocks_of b of_statement outer) (under b a) (sites c a) (texts_of b of_statement l) (stmt_match b of_statement false a outer l e built) (expr_none c a)
-    stmt_match (tree.for v x s m b) begin listed a outer l e built =
+        (front (blocks_of x of_statement outer) (sites c a) (under x a) (texts_of x of_statement l) (expr_none c a) (stmt_match x of_statement false a outer l e named.0))
+        (stmt_match y of_statement false a outer l e named.1)
+    stmt_match (tree.while c b) begin listed a outer l e named =
+        front (blocks_of b of_statement outer) (sites c a) (under b a) (texts_of b of_statement l) (expr_none c a) (stmt_match b of_statement false a outer l e named)
+    stmt_match (tree.until b c) begin listed a outer l e named =
+        back (blocks_of b of_statement outer) (under b a) (sites c a) (texts_of b of_statement l) (stmt_match b of_statement false a outer l e named) (expr_none c a)
+    stmt_match (tree.for v x s m b) begin listed a outer l e named =
         front (blocks_of b of_statement outer) (sites x a ++ sites s a ++ sites m a) (under b a) (texts_of b of_statement l)
         (both_none (sites x a ++ sites s a) (sites m a) (both_none (sites x a) (sites s a) (expr_none x a) (expr_none s a)) (expr_none m a))
-        (stmt_match b of_statement false a outer l e built)
-    stmt_match (tree.thru n b) begin listed a outer l e built =
-        front (blocks_of b of_statement outer) (sites n a) (under b a) (texts_of b of_statement l) (expr_none n a) (stmt_match b of_statement false a outer l e built)
-    stmt_match (tree.case n ss) begin listed a outer l e built =
-        front (blocks_in_stmts ss outer) (sites n a) (sites_in_stmts blocks ss false a) (texts_in_stmts ss l) (expr_none n a) (stmts_match ss false a outer l e built)
-    stmt_match (tree.process c task) begin listed a outer l e built = absurd built
-    stmt_match (tree.event act v) begin listed a outer l e built = tt
-    stmt_match (tree.write n spot phrases es) begin listed a outer l e built = none_match (inside_list es a) (list_none es a)
+        (stmt_match b of_statement false a outer l e named)
+    stmt_match (tree.thru n b) begin listed a outer l e named =
+        front (blocks_of b of_statement outer) (sites n a) (under b a) (texts_of b of_statement l) (expr_none n a) (stmt_match b of_statement false a outer l e named)
+    stmt_match (tree.case n ss) begin listed a outer l e named =
+        front (blocks_in_stmts ss outer) (sites n a) (sites_in_stmts blocks ss false a) (texts_in_stmts ss l) (expr_none n a) (stmts_match ss false a outer l e named)
+    stmt_match (tree.process (tree.called n es) task) begin listed a outer l e named = none_match (inside_actuals es (formals_at a n) a) (actuals_none es (formals_at a n) a)
+    stmt_match (tree.event act v) begin listed a outer l e named = tt
+    stmt_match (tree.write n spot phrases es) begin listed a outer l e named = none_match (inside_list es a) (list_none es a)
 
-    stmts_match : (ss : PStmts) (listed : Bool) (a : Surroundings) (outer : List Spot) (level : ℕ) → level ≡ length outer + 1 → StmtsBuilt ss →
+    stmts_match : (ss : PStmts) (listed : Bool) (a : Surroundings) (outer : List Spot) (level : ℕ) → level ≡ length outer + 1 → StmtsNamed ss →
         Match (blocks_in_stmts ss outer) (sites_in_stmts blocks ss listed a) (texts_in_stmts ss level)
-    stmts_match tree.no_stmts listed a outer l e built = tt
-    stmts_match (tree.stmts s ss) listed a outer l e built =
+    stmts_match tree.no_stmts listed a outer l e named = tt
+    stmts_match (tree.stmts s ss) listed a outer l e named =
         match_both (blocks_of s of_statement outer) (blocks_in_stmts ss outer) (inside_stmt blocks s of_statement listed a) (sites_in_stmts blocks ss listed a)
-        (texts_of s of_statement l) (texts_in_stmts ss l) (stmt_match s of_statement listed a outer l e built.0) (stmts_match ss listed a outer l e built.1)
+        (texts_of s of_statement l) (texts_in_stmts ss l) (stmt_match s of_statement listed a outer l e named.0) (stmts_match ss listed a outer l e named.1)
 
-    decls_match : (ds : PDecls) (a : Surroundings) (first : List Declared) (outer : List Spot) (level : ℕ) → level ≡ length outer + 1 → DeclsBuilt ds →
+    decls_match : (ds : PDecls) (a : Surroundings) (first : List Declared) (outer : List Spot) (level : ℕ) → level ≡ length outer + 1 → DeclsNamed ds →
         Match (blocks_in_decls ds outer) (sites_in_decls blocks ds a first) (texts_in_decls ds level)
-    decls_match tree.no_decls a first outer l e built = tt
-    decls_match (tree.decls (tree.simple kind ns) ds) a first outer l e built = decls_match ds (knowing blocks (tree.simple kind ns) ds a) first outer l e built.1
-    decls_match (tree.decls (tree.files ns) ds) a first outer l e built = decls_match ds (knowing blocks (tree.files ns) ds a) first outer l e built.1
-    decls_match (tree.decls (tree.forward h) ds) a first outer l e built = decls_match ds (knowing blocks (tree.forward h) ds a) first outer l e built.1
-    decls_match (tree.decls (tree.events ns) ds) a first outer l e built = absurd built.0
-    decls_match (tree.decls (tree.tasks ns) ds) a first outer l e built = absurd built.0
-    decls_match (tree.decls (tree.labels ns) ds) a first outer l e built = absurd built.0
+    decls_match tree.no_decls a first outer l e named = tt
+    decls_match (tree.decls (tree.simple kind ns) ds) a first outer l e named = decls_match ds (knowing blocks (tree.simple kind ns) ds a) first outer l e named.1
+    decls_match (tree.decls (tree.files ns) ds) a first outer l e named = decls_match ds (knowing blocks (tree.files ns) ds a) first outer l e named.1
+    decls_match (tree.decls (tree.forward h) ds) a first outer l e named = decls_match ds (knowing blocks (tree.forward h) ds a) first outer l e named.1
+    decls_match (tree.decls (tree.events ns) ds) a first outer l e named = decls_match ds (knowing blocks (tree.events ns) ds a) first outer l e named.1
+    decls_match (tree.decls (tree.tasks ns) ds) a first outer l e named = decls_match ds (knowing blocks (tree.tasks ns) ds a) first outer l e named.1
+    decls_match (tree.decls (tree.labels ns) ds) a first outer l e named = decls_match ds (knowing blocks (tree.labels ns) ds a) first outer l e named.1
     -- the bounds see what is known at the block's begin
-    decls_match (tree.decls (tree.arrays kind ns pairs) ds) a first outer l e built =
+    decls_match (tree.decls (tree.arrays kind ns pairs) ds) a first outer l e named =
         let k : Surroundings = knowing blocks (tree.arrays kind ns pairs) ds a in
         let begin : Surroundings = record k { known = first } in
         front (blocks_in_decls ds outer) (sites_in_pairs pairs begin) (sites_in_decls blocks ds k first) (texts_in_decls ds l) (pairs_none pairs begin)
-        (decls_match ds k first outer l e built.1)
+        (decls_match ds k first outer l e named.1)
     -- the segment begins at the declaration
-    decls_match (tree.decls (tree.procedure h s) ds) a first outer l e built =
+    decls_match (tree.decls (tree.procedure h s) ds) a first outer l e named =
         let k : Surroundings = knowing blocks (tree.procedure h s) ds a in
         let inner : List Site = inside_stmt blocks s of_procedure false (inside_procedure blocks h k) in
         let later : List Block = blocks_of s of_procedure (h.name.spot ∷ outer) ++ blocks_in_decls ds outer in
-        let named : is_procedure (procedure_block h s outer) ≡ true = ap not built.0.2 in
+        let own : is_procedure (procedure_block h s outer) ≡ true = ap not named.0.0 in
         let tokens : ℕ = heading_tokens h + stmt_tokens s in
         let rest : Match later (inner ++ sites_in_decls blocks ds k first) (texts_of s of_procedure (l + 1) ++ texts_in_decls ds l) =
         match_both (blocks_of s of_procedure (h.name.spot ∷ outer)) (blocks_in_decls ds outer) inner (sites_in_decls blocks ds k first)
         (texts_of s of_procedure (l + 1)) (texts_in_decls ds l)
-        (stmt_match s of_procedure false (inside_procedure blocks h k) (h.name.spot ∷ outer) (l + 1) (omega (arith, e)) built.0.1) (decls_match ds k first outer l e built.1) in
+        (stmt_match s of_procedure false (inside_procedure blocks h k) (h.name.spot ∷ outer) (l + 1) (omega (arith, e)) named.0.1) (decls_match ds k first outer l e named.1) in
         let first_text : Text = procedure_text (l + 1) h s in
         let this : IsTextOf (procedure_block h s outer) (record { spot = h.name.spot; tokens = tokens }) first_text = record {
           place = refl;
           is = same_text h s outer l e;
         } in
         subst (λ (b : Bool). Triples (if b then procedure_block h s outer ∷ filter is_procedure later else filter is_procedure later)
-        (record { spot = h.name.spot; tokens = tokens } ∷ segs (inner ++ sites_in_decls blocks ds k first)) (first_text ∷ (texts_of s of_procedure (l + 1) ++ texts_in_decls ds l))) (sym named)
+        (record { spot = h.name.spot; tokens = tokens } ∷ segs (inner ++ sites_in_decls blocks ds k first)) (first_text ∷ (texts_of s of_procedure (l + 1) ++ texts_in_decls ds l))) (sym own)
         (this, rest)
 
 -- of the whole program, whose outer block is that of no procedure
-pub all_match : (spot : Spot) (ds : PDecls) (ss : PStmts) → IsBuilt (tree.program (tree.body spot ds ss)) →
+pub all_match : (spot : Spot) (ds : PDecls) (ss : PStmts) → HasNames (tree.program (tree.body spot ds ss)) →
     Match (blocks_of_program (tree.program (tree.body spot ds ss))) (sites_of (tree.program (tree.body spot ds ss))) (texts_in_body (tree.body spot ds ss) OUTER_LEVEL)
 unfolding blocks_of_program
-all_match spot ds ss built =
+all_match spot ds ss named =
     let bs = blocks_of_program (tree.program (tree.body spot ds ss)) in
     let outer = spot ∷ [] in
     let around = knowing_all bs ds outermost in
     match_both (blocks_in_decls ds outer) (blocks_in_stmts ss outer) (sites_in_decls bs ds outermost []) (sites_in_stmts bs ss (has_decls ds) around)
     (texts_in_decls ds OUTER_LEVEL) (texts_in_stmts ss OUTER_LEVEL)
-    (decls_match bs ds outermost [] outer OUTER_LEVEL refl built.0) (stmts_match bs ss (has_decls ds) around outer OUTER_LEVEL refl built.1)
+    (decls_match bs ds outermost [] outer OUTER_LEVEL refl named.0) (stmts_match bs ss (has_decls ds) around outer OUTER_LEVEL refl named.1)

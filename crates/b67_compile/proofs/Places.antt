@@ -13,6 +13,7 @@ use Rattle.algol_paths.specs.Segments.{is_procedure, procedures_before, segment_
 use Rattle.b67_ops.specs.declared.TheConstants.{OUTER_LEVEL}
 use Rattle.b67_emit_stmt.specs.Texts.{Text, outer_text, texts, texts_in_body}
 use Rattle.b67_fitting.specs.Built.{IsBuilt}
+use Rattle.b67_fitting.specs.Names.{HasNames}
 use Rattle.b67_fitting.proofs.Numbering.{block_is}
 use Rattle.b67_fitting.proofs.SurroundedSites.{each_number}
 use Rattle.b67_compile.proofs.Matching.{IsTextOf, Triples, all_match, segs, text_of}
@@ -143,7 +144,8 @@ block_there [] k h = absurd (omega (arith, h))
 block_there (c ∷ bs) zero h = refl
 block_there (c ∷ bs) (suc k) h = block_there bs k (omega (arith, h))
 
-module _ (spot : Spot) (ds : PDecls) (ss : PStmts) (order : IsInOrder (tree.program (tree.body spot ds ss))) (built : IsBuilt (tree.program (tree.body spot ds ss))) where
+module _ (spot : Spot) (ds : PDecls) (ss : PStmts) (order : IsInOrder (tree.program (tree.body spot ds ss))) (built : IsBuilt (tree.program (tree.body spot ds ss)))
+    (named : HasNames (tree.program (tree.body spot ds ss))) where
   abbrev p : PProgram
   p = tree.program (tree.body spot ds ss)
 
@@ -163,7 +165,7 @@ module _ (spot : Spot) (ds : PDecls) (ss : PStmts) (order : IsInOrder (tree.prog
   procedure_is : (k : ℕ) (t : Text) → slice_get inner k ≡ Some t → HasOne p (suc k) t
   procedure_is k t e =
       let bs = blocks_of_program p in
-      let r = of_text (filter is_procedure bs) (segs (sites_of p)) inner k t (all_match spot ds ss built) e in
+      let r = of_text (filter is_procedure bs) (segs (sites_of p)) inner k t (all_match spot ds ss named) e in
       let n = procedure_numbered bs k r.block r.block_is in
       let own : is_procedure (block_numbered bs n.number) ≡ true = ap is_procedure (block_is bs n.number r.block n.there) ∙ n.own in
       let tokens : r.segment.tokens ≡ segment_tokens p (suc k) = ap tokens_or_none (sym r.segment_is) in
@@ -196,7 +198,7 @@ module _ (spot : Spot) (ds : PDecls) (ss : PStmts) (order : IsInOrder (tree.prog
       let b = block_numbered bs j in
       let k = procedures_before bs j in
       let there : slice_get bs j ≡ Some b = block_there bs j known in
-      let r = of_block (filter is_procedure bs) (segs (sites_of p)) inner k b (all_match spot ds ss built) (numbered_procedure bs j b there own) in
+      let r = of_block (filter is_procedure bs) (segs (sites_of p)) inner k b (all_match spot ds ss named) (numbered_procedure bs j b there own) in
       record {
         tokens = r.segment.tokens;
         number_is = each_number p order built j b there;
@@ -204,4 +206,4 @@ module _ (spot : Spot) (ds : PDecls) (ss : PStmts) (order : IsInOrder (tree.prog
       }
 
   pub texts_many : length (texts (tree.body spot ds ss)) ≡ 1 + length (filter is_procedure (blocks_of_program p))
-  texts_many = omega (arith, as_many (filter is_procedure (blocks_of_program p)) (segs (sites_of p)) inner (all_match spot ds ss built))
+  texts_many = omega (arith, as_many (filter is_procedure (blocks_of_program p)) (segs (sites_of p)) inner (all_match spot ds ss named))

@@ -33,6 +33,7 @@ use Rattle.b67_emit_stmt.specs.Programs.{AreDue, IsDue}
 use Rattle.b67_emit_stmt.specs.Texts.{Text, texts, texts_in_body}
 use Rattle.b67_fitting.specs.Built.{IsBuilt}
 use Rattle.b67_fitting.specs.Fitted.{BlockFits}
+use Rattle.b67_fitting.specs.Names.{HasNames}
 use Rattle.b67_fitting.specs.Nested.{AreParameters, AreTold, IsText, LiesNested}
 use Rattle.b67_fitting.specs.Texts.{HasPlainTexts}
 use Rattle.b67_fitting.specs.Wholes.{HasWholeNumbers}
@@ -55,14 +56,15 @@ pub record Given (p : PProgram) (names : Names) : Type 0 where
   pub order : IsInOrder p
   pub whole : HasWholeNumbers p
   pub texts : HasPlainTexts p
+  pub named : HasNames p
   pub built : IsBuilt p
 
 -- the same of the parts of the program's body
 pub given : (b : Body) (s : table.Scopes) (bounds : BTreeMap Spot Lows) (names : Names) → names.scopes.now ≡ s → names.lows ≡ bounds →
     AreOf (tree.program (plain.body b)) s → ((spot : Spot) → under bounds spot ≡ lows_at (blocks_of_program (tree.program (plain.body b))) spot) →
     Accepted (tree.program (plain.body b)) → IsInOrder (tree.program (plain.body b)) → HasWholeNumbers (tree.program (plain.body b)) → HasPlainTexts (tree.program (plain.body b)) →
-    IsBuilt (tree.program (plain.body b)) → Given (tree.program (tree.body b.spot (plain.decls b.decls) (plain.stmts b.stmts))) names
-given b s bounds names scopes_are bounds_are resolved lows accepted order whole texts built =
+    HasNames (tree.program (plain.body b)) → IsBuilt (tree.program (plain.body b)) → Given (tree.program (tree.body b.spot (plain.decls b.decls) (plain.stmts b.stmts))) names
+given b s bounds names scopes_are bounds_are resolved lows accepted order whole texts named built =
     subst (λ (z : PBody). Given (tree.program z) names) (body_is b)
     (record {
       resolved = subst (AreOf (tree.program (plain.body b))) (sym scopes_are) resolved;
@@ -71,6 +73,7 @@ given b s bounds names scopes_are bounds_are resolved lows accepted order whole 
       order = order;
       whole = whole;
       texts = texts;
+      named = named;
       built = built;
     })
 
@@ -119,13 +122,13 @@ module _ (spot : Spot) (ds : PDecls) (ss : PStmts) (names : Names) where
 
   module _ (has : Given p names) where
     pub lies : LiesNested p
-    lies = built_programs_lie_nested p has.accepted has.order has.built
+    lies = built_programs_lie_nested p has.accepted has.order has.built has.named
 
     pub few : length (texts (tree.body spot ds ss)) ≤ 1 + MOST_PROCEDURES
     unfolding scopes_of
     few =
         let bs = blocks_of_program p in
-        omega (arith, texts_many spot ds ss has.order has.built, lies.nested.procedures_few (length bs), ap (λ (z : List Block). length (filter is_procedure z)) (all_taken bs))
+        omega (arith, texts_many spot ds ss has.order has.built has.named, lies.nested.procedures_few (length bs), ap (λ (z : List Block). length (filter is_procedure z)) (all_taken bs))
 
     -- ---- each text
 
@@ -161,7 +164,7 @@ module _ (spot : Spot) (ds : PDecls) (ss : PStmts) (names : Names) where
 
     pub due : AreDue (scopes_of p) names (texts (tree.body spot ds ss))
     due number t e =
-        let r = text_block spot ds ss has.order has.built number t e in
+        let r = text_block spot ds ss has.order has.built has.named number t e in
         subst (Due number) (sym r.is) (due_of number r.block r.tokens r.of)
 
     -- ---- cells
@@ -183,7 +186,7 @@ module _ (spot : Spot) (ds : PDecls) (ss : PStmts) (names : Names) where
         each_by Known bs (λ i b h. subst (λ (n : ℕ). n < length bs) (sym (each_number p has.order has.built i b h)) (slice_get_within bs i b h)) in
         let around = each_of (λ (x : Site). IsSurrounded bs x.around) (λ (x : Site). x.around.block < length bs) all (λ x h. h.some) (each_surrounded p has.accepted has.order has.built) in
         each_of (IsOfOne bs) (λ (c : Cell). HasFew bs all c.block) (flat_map (cells_at bs) all) (λ c h. block_few (blocks_few bs all (cells_kept p has.accepted)) c.block h)
-        (all_of_one bs (filter is_procedure bs) all (texts_in_body (tree.body spot ds ss) OUTER_LEVEL) (all_match spot ds ss has.built) (each_kept_by Known is_procedure bs known) around)
+        (all_of_one bs (filter is_procedure bs) all (texts_in_body (tree.body spot ds ss) OUTER_LEVEL) (all_match spot ds ss has.named) (each_kept_by Known is_procedure bs known) around)
 
     pub near : AreNear names
     unfolding declaration_at result_at

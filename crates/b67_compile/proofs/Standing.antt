@@ -123,7 +123,7 @@ module _ (spot : Spot) (ds : PDecls) (ss : PStmts) (names : Names) (has : Given 
     pub short_code : length segments ≡ length ts → AreShort segments ts → IsShort p code
     short_code many short k segment h =
         let t = in_both segments ts k segment many h in
-        let r = text_block spot ds ss has.order has.built k t.0 t.1 in
+        let r = text_block spot ds ss has.order has.built has.named k t.0 t.1 in
         omega (arith, short k segment t.0 h t.1, ap (λ (z : Text). z.tokens) r.is, r.of.short)
 
     pub listable_code : Coded (scopes_of p) formats segments ts → AreShort segments ts → AreListed formats → IsListable code
@@ -143,7 +143,7 @@ module _ (spot : Spot) (ds : PDecls) (ss : PStmts) (names : Names) (has : Given 
     pub program_at : Coded (scopes_of p) formats segments ts → ProgramAt code p
     unfolding scopes_of
     program_at coded = record {
-      many = coded.many ∙ texts_many spot ds ss has.order has.built;
+      many = coded.many ∙ texts_many spot ds ss has.order has.built has.named;
       texts = coded.placed;
       spells = coded.spells;
       bodies = bodies;
@@ -154,7 +154,7 @@ module _ (spot : Spot) (ds : PDecls) (ss : PStmts) (names : Names) (has : Given 
         bodies j known own =
             let sc = scopes_of p in
             let b = block_numbered sc.blocks j in
-            let r = block_text spot ds ss has.order has.built j known own in
+            let r = block_text spot ds ss has.order has.built has.named j known own in
             let at : Context = record { formats = formats; segment = segment_of sc.blocks j; block = j } in
             let there = coded.code (segment_of sc.blocks j) (text_of b r.tokens) r.text in
             let same : made.context_of sc formats (text_of b r.tokens) ≡ at = ap (λ (n : ℕ). record { formats = formats; segment = segment_of sc.blocks n; block = n }) r.number_is in

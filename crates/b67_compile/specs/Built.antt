@@ -1,5 +1,5 @@
 -- How it is tested that a program is built.
-use Rattle.std.specs.Prelude.{◌&&◌, not, Bool, true, false, List, [], ◌∷◌, Option, Some}
+use Rattle.std.specs.Prelude.{◌&&◌, Bool, true, false, Option, Some}
 use Rattle.std.specs.List.{list_all}
 use Rattle.algol_tree.specs.declared.tree.Heading.{Heading}
 use Rattle.algol_tree.specs.declared.tree.Named.{Named}
@@ -9,10 +9,6 @@ use Rattle.algol_tree.specs.Plain as tree
 use Rattle.algol_tree.specs.Plain.{PStmt, PStmts, PDecl, PDecls}
 use Rattle.algol_tree.specs.Sorts.{is_named_in}
 use Rattle.b67_compile.specs.Specified.{first_spec}
-
-abbrev pub is_nil : {X : Type 0} → List X → Bool
-is_nil [] = true
-is_nil (x ∷ xs) = false
 
 -- a parameter is specified as a simple one, and is by value, or as an array
 abbrev pub is_built_by : Option Spec → Bool → Bool
@@ -26,14 +22,8 @@ is_parameter_built h n = is_built_by (first_spec h.specs n.name) (is_named_in h.
 abbrev pub is_heading_built : Heading → Bool
 is_heading_built h = list_all (is_parameter_built h) h.params
 
-abbrev pub has_name : Heading → Bool
-has_name h = not (is_nil h.name.name)
-
-abbrev pub has_some : List Named → Bool
-has_some ns = not (is_nil ns)
-
--- each declaration is of simple variables, of files, of arrays with a name or of a procedure whose parameters are simple and by value, or
--- arrays, also those within
+-- each declaration is of simple variables, of files, of arrays or of a procedure whose parameters are simple and by value, or arrays, also
+-- those within
 abbrev mutual
   pub is_decl_built : PDecl → Bool
   is_decl_built (tree.simple kind ns) = true
@@ -41,9 +31,9 @@ abbrev mutual
   is_decl_built (tree.events ns) = false
   is_decl_built (tree.tasks ns) = false
   is_decl_built (tree.labels ns) = false
-  is_decl_built (tree.arrays kind ns pairs) = has_some ns
+  is_decl_built (tree.arrays kind ns pairs) = true
   is_decl_built (tree.forward h) = is_heading_built h
-  is_decl_built (tree.procedure h s) = is_heading_built h && (is_stmt_built s && has_name h)
+  is_decl_built (tree.procedure h s) = is_heading_built h && is_stmt_built s
 
   pub decls_are_built : PDecls → Bool
   decls_are_built tree.no_decls = true

@@ -2,7 +2,7 @@
 
 ghost use Rattle.std.specs.Prelude.{◌≡◌, ◌↔◌, IsTrue};
 ghost use Rattle.algol_tree.specs.Image.{decl, decls, program, stmt, stmts};
-ghost use Rattle.b67_compile.specs.Built.{is_parameter_built, is_heading_built, has_name, has_some, is_decl_built, decls_are_built, is_stmt_built, stmts_are_built};
+ghost use Rattle.b67_compile.specs.Built.{is_parameter_built, is_heading_built, is_decl_built, decls_are_built, is_stmt_built, stmts_are_built};
 ghost use Rattle.b67_fitting.specs.Built.{IsBuilt};
 
 use crate::specified::{first_spec, is_named_in};
@@ -27,21 +27,8 @@ fn is_heading_built(h: &Heading) -> bool
     h.params.items().iter().all(|n| is_parameter_built(h, n))
 }
 
-fn has_name(h: &Heading) -> bool
-    ensures { result ≡ has_name h.now }
-{
-    !h.name.name.bytes().is_empty()
-}
-
-/// Tests that there is a name.
-fn has_some(names: &[Named]) -> bool
-    ensures { result ≡ has_some names.now }
-{
-    !names.is_empty()
-}
-
-/// Tests that a declaration is of simple variables, of files, of arrays with a name or of a procedure whose parameters are simple and by
-/// value, or arrays, and so is each within it.
+/// Tests that a declaration is of simple variables, of files, of arrays or of a procedure whose parameters are simple and by value, or
+/// arrays, and so is each within it.
 #[cycle(statements)]
 fn is_decl_built(d: &Decl) -> bool
     ensures { result ≡ is_decl_built (decl d.now) }
@@ -52,9 +39,9 @@ fn is_decl_built(d: &Decl) -> bool
         Decl::Events(_) => false,
         Decl::Tasks(_) => false,
         Decl::Labels(_) => false,
-        Decl::Arrays(_, ns, _) => has_some(ns.items()),
+        Decl::Arrays(_, _, _) => true,
         Decl::Forward(h) => is_heading_built(h),
-        Decl::Procedure(h, s) => is_heading_built(h) && is_stmt_built(s) && has_name(h),
+        Decl::Procedure(h, s) => is_heading_built(h) && is_stmt_built(s),
     }
 }
 
@@ -108,7 +95,7 @@ fn stmts_are_built(ss: &[Stmt]) -> bool
 }
 
 /// Tests that a program is built: all that it declares are simple variables, files, arrays and procedures whose parameters are simple and
-/// by value, or arrays, in whatever block, each declaration of arrays and each procedure with a name, and it starts no process.
+/// by value, or arrays, in whatever block, and it starts no process.
 pub fn is_built(tree: &Program) -> bool
     ensures { IsTrue result ↔ IsBuilt (program tree.now) }
 {

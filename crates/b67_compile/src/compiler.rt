@@ -1,4 +1,4 @@
-//! The code of a program.
+//! The code of a source.
 
 ghost use Rattle.std.specs.Prelude.{IfOk};
 ghost use Rattle.algol_tree.specs.Accepted.{Accepted};
@@ -8,13 +8,16 @@ ghost use Rattle.algol_scope.specs.Resolved.{AreOf};
 ghost use Rattle.b67_listing.specs.Listings.{IsListable};
 ghost use Rattle.b67_templates.specs.Programs.{ProgramAt};
 ghost use Rattle.b67_fitting.specs.Built.{IsBuilt};
+ghost use Rattle.b67_fitting.specs.Names.{HasNames};
 ghost use Rattle.b67_fitting.specs.Texts.{HasPlainTexts};
 ghost use Rattle.b67_fitting.specs.Wholes.{HasWholeNumbers};
-ghost use Rattle.b67_faithful.specs.Faithful.{IsShort};
+ghost use Rattle.b67_faithful.specs.Faithful.{Faithful, IsShort};
 
 use crate::lows::lows_of_program;
+use algol_front::Checked;
 use algol_scope::Scopes;
 use algol_tree::Program;
+use b67_emit_expr::Exprs;
 use b67_emit_stmt::emit_program;
 use b67_emitter::{ExprEmitter, Names};
 use b67_list::List;
@@ -24,7 +27,7 @@ use std::alloc::{AllocError, Global};
 /// The code of a program that declares only simple variables, files, arrays and procedures whose parameters are simple and by value, or
 /// arrays, in whatever block: a segment for the program's text and one for each procedure in the order of the text, and a format for each
 /// line that is written, in order.
-pub fn compile<E: ExprEmitter>(
+fn code_of<E: ExprEmitter>(
     alloc: Global,
     exprs: &E,
     program: &Program,
@@ -35,6 +38,7 @@ pub fn compile<E: ExprEmitter>(
     requires order { IsInOrder (plain.program program.now) }
     requires whole { HasWholeNumbers (plain.program program.now) }
     requires texts { HasPlainTexts (plain.program program.now) }
+    requires named { HasNames (plain.program program.now) }
     requires built { IsBuilt (plain.program program.now) }
     ensures code { IfOk result (λ code. ProgramAt code (plain.program program.now)) }
     ensures short { IfOk result (IsShort (plain.program program.now)) }
@@ -47,4 +51,12 @@ pub fn compile<E: ExprEmitter>(
         segments: List::of(segments),
         formats: List::of(formats),
     })
+}
+
+/// The code of an accepted source that is built. For every list of choices it does what the source does, and its listing tells it.
+pub fn compile(alloc: Global, checked: &Checked) -> Result<Code, AllocError>
+    requires { IsBuilt (plain.program checked.now.program) }
+    ensures { IfOk result (Faithful (plain.program checked.now.program)) }
+{
+    code_of(alloc, &Exprs { alloc }, &checked.program, &checked.scopes)
 }

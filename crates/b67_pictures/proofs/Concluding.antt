@@ -1,4 +1,4 @@
--- The law of the crate: a code in which a program that is built stands, and which is short and can be listed, is faithful to it.
+-- The law of the crate: a code in which a program stands whose blocks lie in one another, and which is short and can be listed, is faithful to it.
 use Rattle.std.proofs.Common.{ℕ, List}
 use Rattle.algol_tree.specs.Plain.{PProgram}
 use Rattle.algol_tree.specs.Scopes.{scopes_of}
@@ -9,8 +9,7 @@ use Rattle.b67_segment.specs.declared.code.Code.{Code}
 use Rattle.b67_cores.proofs.Making.{cells_are_made}
 use Rattle.b67_cores.proofs.Placing.{fragments_are_performed}
 use Rattle.b67_fitting.specs.Nested.{AreNested}
-use Rattle.b67_fitting.proofs.Nesting.{built_programs_lie_nested}
-use Rattle.b67_pictures.specs.Programs.{BuiltProgramsAreFaithful}
+use Rattle.b67_pictures.specs.Programs.{NestedProgramsAreFaithful}
 use Rattle.b67_pictures.proofs.ClosedArrays.{frames_close}
 use Rattle.b67_pictures.proofs.ArraysMaking.{making_done}
 use Rattle.b67_pictures.proofs.TouchingApart.{ArraysAreNear, processes_apart}
@@ -18,7 +17,7 @@ use Rattle.b67_pictures.proofs.ElementActions.{element_read_done, index_done, el
 use Rattle.b67_pictures.proofs.TouchingElements.{reading_near, indexing_near, storing_near}
 use Rattle.b67_pictures.proofs.TouchingMaking.{making_near}
 use Rattle.b67_pictures.proofs.TouchingPassing.{passing_near}
-use Rattle.b67_pictures.proofs.Joining.{ArraysAreDone, built_programs_follow}
+use Rattle.b67_pictures.proofs.Joining.{ArraysAreDone, nested_programs_follow}
 
 -- what is done with arrays: the picture is kept
 arrays_done : (tree : PProgram) (code : Code) (texts : ℕ → List Placed) → AreNested (scopes_of tree) → ArraysAreDone tree code texts
@@ -42,8 +41,8 @@ arrays_near tree code texts nested =
       making = making_near tree code texts;
     }
 
-pub built_programs_are_faithful : BuiltProgramsAreFaithful
-built_programs_are_faithful =
-    built_programs_follow rests_keep_to_their_text arrays_are_made_in_order frames_close built_programs_lie_nested
+pub nested_programs_are_faithful : NestedProgramsAreFaithful
+nested_programs_are_faithful =
+    nested_programs_follow rests_keep_to_their_text arrays_are_made_in_order frames_close
     (λ tree code texts nested rests. processes_apart tree code texts nested rests (arrays_near tree code texts nested))
     (λ tree code at lies short. arrays_done tree code at.texts lies.nested)

@@ -1,4 +1,4 @@
--- A code in which a program that is built stands, and which is short and can be listed, is faithful to it.
+-- A code in which a program stands whose blocks lie in one another, and which is short and can be listed, is faithful to it.
 use Rattle.std.proofs.Common.{sym, ◌∙◌, ℕ, ◌≤◌, List, [], ◌∷◌, length}
 use Rattle.std.specs.Prelude.{All}
 use Rattle.algol_tree.specs.declared.tree.Kind.{Kind}
@@ -25,8 +25,8 @@ use Rattle.b67_listing.specs.Listings.{HasOperators, IsListable}
 use Rattle.b67_faithful.specs.Faithful.{IsShort, Faithful}
 use Rattle.b67_faithful.proofs.Contradictions.{none_some}
 use Rattle.b67_fitting.specs.Names.{HasNames}
-use Rattle.b67_fitting.specs.Nested.{AreNested, LiesNested, BuiltProgramsLieNested}
-use Rattle.b67_pictures.specs.Programs.{BuiltProgramsAreFaithful}
+use Rattle.b67_fitting.specs.Nested.{AreNested, LiesNested}
+use Rattle.b67_pictures.specs.Programs.{NestedProgramsAreFaithful}
 use Rattle.b67_pictures.proofs.Closing.{FramesClose}
 use Rattle.b67_pictures.proofs.Dispatching.{IsDone, OthersAreDone, scene_does}
 use Rattle.b67_pictures.proofs.Writing.{writing}
@@ -117,9 +117,8 @@ within_limit segments all k first inside = (all k first inside).1.few
 abbrev pub ProcessesStandApart : Type 0
 ProcessesStandApart = (tree : PProgram) (code : Code) (texts : ℕ → List Placed) → AreNested (scopes_of tree) → RestsGoOn → StandApart tree code texts
 
--- The blocks of an accepted program that is built lie in one another, so a code in which it stands is faithful to it.
-pub built_programs_follow : RestsKeepToTheirText → ArraysAreMadeInOrder → FramesClose → BuiltProgramsLieNested → ProcessesStandApart →
-    ((tree : PProgram) (code : Code) (at : ProgramAt code tree) → LiesNested tree → IsShort tree code → ArraysAreDone tree code at.texts) → BuiltProgramsAreFaithful
-built_programs_follow keeps in_order closing lie_nested apart arrays tree code accepted order built names at short listable =
-    let lies : LiesNested tree = lie_nested tree accepted order built names in
+-- Where the blocks of a program lie in one another, a code in which it stands is faithful to it.
+pub nested_programs_follow : RestsKeepToTheirText → ArraysAreMadeInOrder → FramesClose → ProcessesStandApart →
+    ((tree : PProgram) (code : Code) (at : ProgramAt code tree) → LiesNested tree → IsShort tree code → ArraysAreDone tree code at.texts) → NestedProgramsAreFaithful
+nested_programs_follow keeps in_order closing apart arrays tree code lies names at short listable =
     program_is_faithful keeps in_order closing tree code names lies short (within_limit code.segments listable.segments) at (apart tree code at.texts lies.nested rests_go_on) (arrays tree code at lies short) listable

@@ -1,5 +1,5 @@
-use Rattle.b67_pictures.proofs.Concluding.{built_programs_are_faithful as built_programs_are_faithful_lem}
-use Rattle.b67_pictures.proofs.built_programs_are_faithful.Goals as goal
+use Rattle.b67_pictures.proofs.Concluding.{nested_programs_are_faithful as nested_programs_are_faithful_lem}
+use Rattle.b67_pictures.proofs.nested_programs_are_faithful.Goals as goal
 
 pub returns : goal.returns
-returns c = built_programs_are_faithful_lem
+returns c = nested_programs_are_faithful_lem

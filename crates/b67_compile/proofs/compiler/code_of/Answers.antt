@@ -11,7 +11,7 @@ use Rattle.b67_emit_stmt.specs.Texts.{texts}
 use Rattle.b67_faithful.specs.Faithful.{IsShort}
 use Rattle.b67_compile.proofs.Premises.{given, few, due, near}
 use Rattle.b67_compile.proofs.Standing.{listable_code, program_at, short_code}
-use Rattle.b67_compile.proofs.compiler.compile.Goals as goal
+use Rattle.b67_compile.proofs.compiler.code_of.Goals as goal
 
 pub emit_program-requires-clause-near : goal.emit_program-requires-clause-near
 emit_program-requires-clause-near g c =
@@ -20,7 +20,7 @@ emit_program-requires-clause-near g c =
     let n = c.new-names.result in
     let r = c.requires in
     near b.spot (plain.decls b.decls) (plain.stmts b.stmts) n
-    (given b s c.in_ok-lows.lows n c.new-names.ensures.scopes c.new-names.ensures.lows r.resolved c.in_ok-lows.ensures r.accepted r.order r.whole r.texts r.built)
+    (given b s c.in_ok-lows.lows n c.new-names.ensures.scopes c.new-names.ensures.lows r.resolved c.in_ok-lows.ensures r.accepted r.order r.whole r.texts r.named r.built)
 
 pub emit_program-requires-clause-few : goal.emit_program-requires-clause-few
 emit_program-requires-clause-few g c =
@@ -30,7 +30,7 @@ emit_program-requires-clause-few g c =
     let r = c.requires in
     subst (λ (z : PBody). length (texts z) ≤ 1 + MOST_PROCEDURES) (sym (body_is b))
     (few b.spot (plain.decls b.decls) (plain.stmts b.stmts) n
-    (given b s c.in_ok-lows.lows n c.new-names.ensures.scopes c.new-names.ensures.lows r.resolved c.in_ok-lows.ensures r.accepted r.order r.whole r.texts r.built))
+    (given b s c.in_ok-lows.lows n c.new-names.ensures.scopes c.new-names.ensures.lows r.resolved c.in_ok-lows.ensures r.accepted r.order r.whole r.texts r.named r.built))
 
 pub emit_program-requires-clause-due : goal.emit_program-requires-clause-due
 emit_program-requires-clause-due g c =
@@ -41,7 +41,7 @@ emit_program-requires-clause-due g c =
     let ds = plain.decls b.decls in
     let ss = plain.stmts b.stmts in
     let sc = scopes_of (tree.program (tree.body b.spot ds ss)) in
-    let has = given b s c.in_ok-lows.lows n c.new-names.ensures.scopes c.new-names.ensures.lows r.resolved c.in_ok-lows.ensures r.accepted r.order r.whole r.texts r.built in
+    let has = given b s c.in_ok-lows.lows n c.new-names.ensures.scopes c.new-names.ensures.lows r.resolved c.in_ok-lows.ensures r.accepted r.order r.whole r.texts r.named r.built in
     (sc, subst (λ (z : PBody). AreDue sc n (texts z)) (sym (body_is b)) (due b.spot ds ss n has))
 
 pub returns-clause-code : goal.returns-clause-code
@@ -52,7 +52,7 @@ returns-clause-code g c =
     let r = c.requires in
     let ds = plain.decls b.decls in
     let ss = plain.stmts b.stmts in
-    let has = given b s c.in_ok-lows.lows n c.new-names.ensures.scopes c.new-names.ensures.lows r.resolved c.in_ok-lows.ensures r.accepted r.order r.whole r.texts r.built in
+    let has = given b s c.in_ok-lows.lows n c.new-names.ensures.scopes c.new-names.ensures.lows r.resolved c.in_ok-lows.ensures r.accepted r.order r.whole r.texts r.named r.built in
     let sc = scopes_of (tree.program (tree.body b.spot ds ss)) in
     let segments = c.in_ok-segments.segments.items in
     let formats = c.in_ok-segments.formats.items in
@@ -68,7 +68,7 @@ returns-clause-short g c =
     let r = c.requires in
     let ds = plain.decls b.decls in
     let ss = plain.stmts b.stmts in
-    let has = given b s c.in_ok-lows.lows n c.new-names.ensures.scopes c.new-names.ensures.lows r.resolved c.in_ok-lows.ensures r.accepted r.order r.whole r.texts r.built in
+    let has = given b s c.in_ok-lows.lows n c.new-names.ensures.scopes c.new-names.ensures.lows r.resolved c.in_ok-lows.ensures r.accepted r.order r.whole r.texts r.named r.built in
     let sc = scopes_of (tree.program (tree.body b.spot ds ss)) in
     let segments = c.in_ok-segments.segments.items in
     let formats = c.in_ok-segments.formats.items in
@@ -86,7 +86,7 @@ returns-clause-listable g c =
     let r = c.requires in
     let ds = plain.decls b.decls in
     let ss = plain.stmts b.stmts in
-    let has = given b s c.in_ok-lows.lows n c.new-names.ensures.scopes c.new-names.ensures.lows r.resolved c.in_ok-lows.ensures r.accepted r.order r.whole r.texts r.built in
+    let has = given b s c.in_ok-lows.lows n c.new-names.ensures.scopes c.new-names.ensures.lows r.resolved c.in_ok-lows.ensures r.accepted r.order r.whole r.texts r.named r.built in
     let sc = scopes_of (tree.program (tree.body b.spot ds ss)) in
     let segments = c.in_ok-segments.segments.items in
     let formats = c.in_ok-segments.formats.items in
