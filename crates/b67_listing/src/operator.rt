@@ -3,6 +3,7 @@
 ghost use Rattle.std.specs.Prelude.{◌≡◌, ◌<◌, ◌≤◌, ◌^◌, ◌++◌, codes, IfOk, OnOk};
 ghost use Rattle.std.specs.Fmt.{decimal};
 ghost use Rattle.b67_ops.specs.Spelling.{spelling};
+ghost use Rattle.b67_listing.specs.Digits.{last_digits};
 ghost use Rattle.b67_listing.specs.Operators.{couple_text, word_text, operator_text, operator_line};
 
 use crate::text::{push_digits, push_syllables, push_words};
@@ -23,14 +24,21 @@ pub fn operator_line(
         line ≡ operator_line record { place = place; level = level; operator = operator.now }) }
 {
     let mut text = Vec::new(alloc);
-    push_digits(&mut text, 10, 5, place as u64)?;
-    push_words(&mut text, b" ")?;
-    push_digits(&mut text, 10, 2, u64::from(level))?;
-    push_words(&mut text, b" ")?;
+    push_place(&mut text, place, level)?;
     push_syllables(&mut text, syllables)?;
     push_words(&mut text, b" ")?;
     push_operator(&mut text, operator)?;
     Ok(Line::of(text))
+}
+
+/// Appends a place and a level, a blank after each.
+fn push_place(text: &mut Vec<u8>, place: usize, level: u8) -> Result<(), AllocError>
+    ensures { OnOk result (text.new.items ≡ text.old.items ++ (last_digits 10 5 place ++ codes " " ++ last_digits 10 2 level ++ codes " ")) }
+{
+    push_digits(text, 10, 5, place as u64)?;
+    push_words(text, b" ")?;
+    push_digits(text, 10, 2, u64::from(level))?;
+    push_words(text, b" ")
 }
 
 /// Appends the name of an operator, and its operand if it has one.
