@@ -7,7 +7,7 @@ ghost use Rattle.b67_action.specs.Done.{HasRoom};
 
 use crate::code::code_in;
 use crate::registers::first_registers;
-use crate::shown::{done_words, push_output};
+use crate::shown::{done_words, push_bits, push_output};
 use crate::turns::numbers_of;
 use b67_action::{Done, action};
 use b67_events::Kernel;
@@ -103,20 +103,6 @@ fn push_left<C: Core>(
         b"\nNO EVENT\n"
     })?;
     push_output(text, parts.output.as_slice())
-}
-
-/// Appends a blank and the bits of a word, as 12 hexadecimal digits.
-fn push_bits(text: &mut Vec<u8>, bits: u64) -> Result<(), AllocError> {
-    text.extend_from_slice(b" ")?;
-    for digit in 0..12u32 {
-        let nibble = (bits >> (44 - 4 * digit)) & 15;
-        let sign = match nibble as u8 {
-            small @ 0..=9 => b'0' + small,
-            great => b'A' + (great & 15) - 10,
-        };
-        text.push(sign)?;
-    }
-    Ok(())
 }
 
 /// Appends the line of a turn.

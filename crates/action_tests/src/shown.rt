@@ -76,3 +76,17 @@ pub(crate) fn push_output(text: &mut Vec<u8>, lines: &[Line]) -> Result<(), Allo
     }
     Ok(())
 }
+
+/// Appends a blank and the bits of a word, as 12 hexadecimal digits.
+pub(crate) fn push_bits(text: &mut Vec<u8>, bits: u64) -> Result<(), AllocError> {
+    text.extend_from_slice(b" ")?;
+    for digit in 0..12u32 {
+        let nibble = (bits >> (44 - 4 * digit)) & 15;
+        let sign = match nibble as u8 {
+            small @ 0..=9 => b'0' + small,
+            great => b'A' + (great & 15) - 10,
+        };
+        text.push(sign)?;
+    }
+    Ok(())
+}

@@ -20,11 +20,7 @@ use std::{fs, io};
 
 /// Answers a case.
 fn tell(rt: &HostRuntime, case: &Case) -> io::Result<()> {
-    let told = answered(
-        rt.alloc(),
-        case.words.as_slice(),
-        case.input.as_slice(),
-    )?;
+    let told = answered(rt.alloc(), case.words.as_slice(), case.input.as_slice())?;
     let name = case.name.as_str();
     if case.is_met(0, told.as_slice()) {
         println!(rt; "{name} comes to what is expected")?;
