@@ -5,6 +5,7 @@
 #![tactic(auto)]
 
 mod event;
+mod held;
 mod make;
 mod operator;
 mod reader;
@@ -13,6 +14,7 @@ mod take;
 mod whole;
 
 pub use event::read_event;
+pub use held::{Held, boxed, push};
 pub use make::named;
 pub use stop::Stop;
 pub use take::{

@@ -16,6 +16,7 @@ ghost use Rattle.algol_tree.specs.Found.{Finds, Extends, Completes, Fails, Lists
 ghost use Rattle.algol_tree.specs.Plain.{none};
 
 use crate::event::read_happened;
+use crate::held::{Held, push};
 use crate::make::{call, choice, grouped, literal, named, negated, signed, two, variable};
 use crate::operator::{has_sign, operator, relation};
 use crate::stop::Stop;
@@ -31,7 +32,7 @@ pub(crate) fn read_expression(
     alloc: Global,
     tokens: &[Token],
     depth: u32,
-) -> Result<(Expr, &[Token]), Stop>
+) -> Result<(Held<Expr>, &[Token]), Stop>
     requires ended { EndsOnce tokens.now }
     ensures found { IfOk result (λ r. Finds (part expr depth) tokens.now (one (plain r.0)) r.1.now) }
     ensures refused { IfErr result (λ e. Fails (part expr depth ∷ []) [] tokens.now e.left e.refusal) }
@@ -51,7 +52,7 @@ fn read_choice<'a>(
     first: &Token,
     rest: &'a [Token],
     depth: u32,
-) -> Result<(Expr, &'a [Token]), Stop>
+) -> Result<(Held<Expr>, &'a [Token]), Stop>
     requires ended { EndsOnce (first.now ∷ rest.now) }
     requires word { is_word reserved.If first.now.kind ≡ true }
     ensures found { IfOk result (λ r. Finds (part expr depth) (first.now ∷ rest.now) (one (plain r.0)) r.1.now) }
@@ -73,7 +74,7 @@ fn read_level(
     tokens: &[Token],
     level: Level,
     depth: u32,
-) -> Result<(Expr, &[Token]), Stop>
+) -> Result<(Held<Expr>, &[Token]), Stop>
     requires ended { EndsOnce tokens.now }
     ensures found { IfOk result (λ r. Finds (part (grammar.level level) depth) tokens.now (one (plain r.0)) r.1.now) }
     ensures refused { IfErr result (λ e. Fails (part (grammar.level level) depth ∷ []) [] tokens.now e.left e.refusal) }
@@ -96,7 +97,7 @@ fn read_operand(
     tokens: &[Token],
     level: Level,
     depth: u32,
-) -> Result<(Expr, &[Token]), Stop>
+) -> Result<(Held<Expr>, &[Token]), Stop>
     requires ended { EndsOnce tokens.now }
     ensures found { IfOk result (λ r. Finds (part (operand level) depth) tokens.now (one (plain r.0)) r.1.now) }
     ensures refused { IfErr result (λ e. Fails (part (operand level) depth ∷ []) [] tokens.now e.left e.refusal) }
@@ -115,11 +116,11 @@ fn read_operand(
 #[cycle(expressions)]
 fn read_more(
     alloc: Global,
-    left: Expr,
+    left: Held<Expr>,
     tokens: &[Token],
     level: Level,
     depth: u32,
-) -> Result<(Expr, &[Token]), Stop>
+) -> Result<(Held<Expr>, &[Token]), Stop>
     requires ended { EndsOnce tokens.now }
     ensures found { IfOk result (λ r. Extends (more_of level depth) tokens.now (one (plain left)) (one (plain r.0)) r.1.now) }
     ensures refused { IfErr result (λ e. Fails (more_of level depth ∷ []) (one (plain left) ∷ []) tokens.now e.left e.refusal) }
@@ -137,7 +138,7 @@ fn read_more(
 
 /// not = NOT not | rel
 #[cycle(expressions)]
-fn read_not(alloc: Global, tokens: &[Token], depth: u32) -> Result<(Expr, &[Token]), Stop>
+fn read_not(alloc: Global, tokens: &[Token], depth: u32) -> Result<(Held<Expr>, &[Token]), Stop>
     requires ended { EndsOnce tokens.now }
     ensures found { IfOk result (λ r. Finds (part not_part depth) tokens.now (one (plain r.0)) r.1.now) }
     ensures refused { IfErr result (λ e. Fails (part not_part depth ∷ []) [] tokens.now e.left e.refusal) }
@@ -154,7 +155,11 @@ fn read_not(alloc: Global, tokens: &[Token], depth: u32) -> Result<(Expr, &[Toke
 
 /// rel = sum [ relop sum ]
 #[cycle(expressions)]
-fn read_relation(alloc: Global, tokens: &[Token], depth: u32) -> Result<(Expr, &[Token]), Stop>
+fn read_relation(
+    alloc: Global,
+    tokens: &[Token],
+    depth: u32,
+) -> Result<(Held<Expr>, &[Token]), Stop>
     requires ended { EndsOnce tokens.now }
     ensures found { IfOk result (λ r. Finds (part rel depth) tokens.now (one (plain r.0)) r.1.now) }
     ensures refused { IfErr result (λ e. Fails (part rel depth ∷ []) [] tokens.now e.left e.refusal) }
@@ -172,7 +177,7 @@ fn read_relation(alloc: Global, tokens: &[Token], depth: u32) -> Result<(Expr, &
 
 /// primary = number | TRUE | FALSE | variable | name "(" expr { "," expr } ")" | HAPPENED "(" event ")" | "(" expr ")"
 #[cycle(expressions)]
-fn read_primary(alloc: Global, tokens: &[Token], depth: u32) -> Result<(Expr, &[Token]), Stop>
+fn read_primary(alloc: Global, tokens: &[Token], depth: u32) -> Result<(Held<Expr>, &[Token]), Stop>
     requires ended { EndsOnce tokens.now }
     ensures found { IfOk result (λ r. Finds (part primary depth) tokens.now (one (plain r.0)) r.1.now) }
     ensures refused { IfErr result (λ e. Fails (part primary depth ∷ []) [] tokens.now e.left e.refusal) }
@@ -202,7 +207,7 @@ fn read_group<'a>(
     first: &Token,
     rest: &'a [Token],
     depth: u32,
-) -> Result<(Expr, &'a [Token]), Stop>
+) -> Result<(Held<Expr>, &'a [Token]), Stop>
     requires ended { EndsOnce (first.now ∷ rest.now) }
     requires symbol { is_symbol symbols.OpenRound first.now.kind ≡ true }
     ensures found { IfOk result (λ r. Finds (part primary depth) (first.now ∷ rest.now) (one (plain r.0)) r.1.now) }
@@ -221,7 +226,7 @@ fn read_behind_name(
     name: Named,
     tokens: &[Token],
     depth: u32,
-) -> Result<(Expr, &[Token]), Stop>
+) -> Result<(Held<Expr>, &[Token]), Stop>
     requires ended { EndsOnce tokens.now }
     ensures found { IfOk result (λ r. Completes (behind_name name depth) tokens.now (one (plain r.0)) r.1.now) }
     ensures refused { IfErr result (λ e. Fails (behind_name name depth ∷ []) [] tokens.now e.left e.refusal) }
@@ -257,7 +262,7 @@ fn read_list(
     let mut rest = tokens;
     'items: loop {
         let (item, after) = read_expression(alloc, rest, depth)?;
-        items.push(item)?;
+        push(&mut items, item)?;
         let (first, behind) = first_of(after);
         if is_symbol(first, Symbol::Comma) {
             rest = behind;

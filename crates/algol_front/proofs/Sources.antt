@@ -13,8 +13,8 @@ use Rattle.algol_tree.specs.Accepted.{Accepted, scope_faults, check_faults, firs
 use Rattle.algol_tree.specs.First.{Source, First, in_text, in_grammar, in_tree}
 use Rattle.algol_lexer.proofs.LexReach as texts
 use Rattle.algol_lexer.proofs.LexReach.{one_lexing, not_both}
-use Rattle.algol_stmt.proofs.OneTree.{one_tree}
-use Rattle.algol_stmt.proofs.Refusals.{one_refusal, program_not_refused}
+use Rattle.algol_grammar.proofs.OneTree.{one_tree}
+use Rattle.algol_grammar.proofs.Refusals.{one_refusal, program_not_refused}
 use Rattle.algol_front.specs.Refusing.{RefusesFirst, NoSource}
 
 pub one_source : (bytes : List ℕ) (tree other : PProgram) → Source bytes tree → Source bytes other → tree ≡ other

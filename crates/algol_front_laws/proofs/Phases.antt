@@ -30,7 +30,7 @@ use Rattle.algol_tree.specs.Accepted.{broken, scope_faults, check_faults, sites_
 use Rattle.algol_tree.specs.First.{First, in_text, in_grammar, in_tree}
 use Rattle.algol_rules.proofs.Order.{first-none}
 use Rattle.algol_lexer.proofs.LexReach.{not_both}
-use Rattle.algol_stmt.proofs.Refusals.{program_not_refused}
+use Rattle.algol_grammar.proofs.Refusals.{program_not_refused}
 use Rattle.algol_front.specs.Refusing.{RefusesFirst}
 use Rattle.algol_front_laws.specs.Phases.{Phase, text, grammar, names, checks, phase_of, InNames, InChecks, RefusedIn, TellsPart}
 use Rattle.algol_front_laws.proofs.Lists.{all-append}

@@ -16,7 +16,7 @@ use Rattle.algol_tree.specs.Accepted.{sites_of}
 use Rattle.algol_tree.specs.Ascending.{IsInOrder}
 use Rattle.algol_tree.specs.First.{Source}
 use Rattle.algol_lexer.proofs.LexOrder.{tokens_ascend}
-use Rattle.algol_stmt.proofs.InOrder.{in_order}
+use Rattle.algol_grammar.proofs.InOrder.{in_order}
 use Rattle.algol_scope.proofs.Placed as placed
 use Rattle.algol_front_laws.specs.Couples.{HasCouple, cells_in}
 use Rattle.algol_front_laws.specs.Declarations.{EachHasOne, EachOnce}

@@ -15,7 +15,7 @@ use Rattle.algol_tree.specs.Due.{program, whole_program}
 use Rattle.algol_tree.specs.Reading.{to, refused, read}
 use Rattle.algol_tree.specs.Found.{Finds, Refuses}
 use Rattle.algol_expr.proofs.Turns.{read_nothing}
-use Rattle.algol_stmt.proofs.Exact.{exact}
+use Rattle.algol_grammar.proofs.Exact.{exact}
 
 module _ (tokens : List Token) (tree : PProgram) (rest : List Token) (f : Finds program tokens (whole_program tree) rest) {t : Token} {ts : List Token} (is : rest ≡ t ∷ ts) where
   found_to : read 0 tokens (program ∷ []) [] ≡ to (t ∷ ts) (whole_program tree ∷ [])

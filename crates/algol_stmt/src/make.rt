@@ -5,104 +5,97 @@ ghost use Rattle.algol_tree.specs.declared.refusal.Refusal.TheVariants.{NoMemory
 ghost use Rattle.algol_tree.specs.Plain as trees;
 ghost use Rattle.algol_tree.specs.Image as image;
 ghost use Rattle.algol_tree.specs.Image.{stmt as plain};
-ghost use Rattle.algol_stmt.specs.Openings.{led};
+ghost use Rattle.algol_part.specs.Openings.{led};
 
-use crate::opening::Lead;
-use algol_tree::{
-    Body, Decl, EventAct, EventName, Expr, Heading, Kind, List, Named, Pair, PhraseText, Program,
-    Refusal, Spot, Stmt,
-};
+use algol_expr::{Held, boxed};
+use algol_part::Lead;
+use algol_tree::{Body, Decl, Expr, Heading, Kind, List, Named, Program, Refusal, Spot, Stmt};
 use std::alloc::Global;
 
-pub(crate) fn empty() -> Stmt
-    ensures { plain result ≡ trees.empty }
-{
-    Stmt::Empty
-}
-
-pub(crate) fn going(label: Named) -> Stmt
-    ensures { plain result ≡ trees.go_to label }
-{
-    Stmt::GoTo(label)
-}
-
-pub(crate) fn acting(act: EventAct, event: EventName) -> Stmt
-    ensures { plain result ≡ trees.event act event }
-{
-    Stmt::Event(act, event)
-}
-
-pub(crate) fn writing(file: Named, spot: Spot, phrases: List<PhraseText>, items: List<Expr>) -> Stmt
-    ensures { plain result ≡ trees.write file spot phrases (image.exprs items) }
-{
-    Stmt::Write(file, spot, phrases, items)
-}
-
-fn labelled(alloc: Global, name: Named, statement: Stmt) -> Result<Stmt, Refusal>
+fn labelled(alloc: Global, name: Named, statement: Held<Stmt>) -> Result<Held<Stmt>, Refusal>
     ensures built { IfOk result (λ s. plain s ≡ trees.label name (plain statement)) }
     ensures memory { IfErr result (λ e. e ≡ NoMemory) }
 {
-    Ok(Stmt::Label(name, Box::new(alloc, statement)?))
+    let statement = boxed(alloc, statement)?;
+    Ok(Held::of(Stmt::Label(name, statement)))
 }
 
-pub(crate) fn one_armed(alloc: Global, condition: Expr, yes: Stmt) -> Result<Stmt, Refusal>
+pub(crate) fn one_armed(
+    alloc: Global,
+    condition: Held<Expr>,
+    yes: Held<Stmt>,
+) -> Result<Held<Stmt>, Refusal>
     ensures built { IfOk result (λ s. plain s ≡ trees.if_then (image.expr condition) (plain yes)) }
     ensures memory { IfErr result (λ e. e ≡ NoMemory) }
 {
-    Ok(Stmt::If(condition, Box::new(alloc, yes)?, None))
+    let yes = boxed(alloc, yes)?;
+    Ok(Held::of(Stmt::If(condition.free(), yes, None)))
 }
 
 pub(crate) fn two_armed(
     alloc: Global,
-    condition: Expr,
-    yes: Stmt,
-    otherwise: Stmt,
-) -> Result<Stmt, Refusal>
+    condition: Held<Expr>,
+    yes: Held<Stmt>,
+    otherwise: Held<Stmt>,
+) -> Result<Held<Stmt>, Refusal>
     ensures built { IfOk result (λ s. plain s ≡ trees.if_else (image.expr condition) (plain yes) (plain otherwise)) }
     ensures memory { IfErr result (λ e. e ≡ NoMemory) }
 {
-    let yes = Box::new(alloc, yes)?;
-    let otherwise = Box::new(alloc, otherwise)?;
-    Ok(Stmt::If(condition, yes, Some(otherwise)))
+    let yes = boxed(alloc, yes)?;
+    let otherwise = boxed(alloc, otherwise)?;
+    Ok(Held::of(Stmt::If(condition.free(), yes, Some(otherwise))))
 }
 
-fn looping(alloc: Global, condition: Expr, statement: Stmt) -> Result<Stmt, Refusal>
+fn looping(
+    alloc: Global,
+    condition: Held<Expr>,
+    statement: Held<Stmt>,
+) -> Result<Held<Stmt>, Refusal>
     ensures built { IfOk result (λ s. plain s ≡ trees.while (image.expr condition) (plain statement)) }
     ensures memory { IfErr result (λ e. e ≡ NoMemory) }
 {
-    Ok(Stmt::While(condition, Box::new(alloc, statement)?))
+    let statement = boxed(alloc, statement)?;
+    Ok(Held::of(Stmt::While(condition.free(), statement)))
 }
 
-pub(crate) fn repeating(alloc: Global, statement: Stmt, condition: Expr) -> Result<Stmt, Refusal>
+pub(crate) fn repeating(
+    alloc: Global,
+    statement: Held<Stmt>,
+    condition: Held<Expr>,
+) -> Result<Held<Stmt>, Refusal>
     ensures built { IfOk result (λ s. plain s ≡ trees.until (plain statement) (image.expr condition)) }
     ensures memory { IfErr result (λ e. e ≡ NoMemory) }
 {
-    Ok(Stmt::Until(Box::new(alloc, statement)?, condition))
+    let statement = boxed(alloc, statement)?;
+    Ok(Held::of(Stmt::Until(statement, condition.free())))
 }
 
-fn so_often(alloc: Global, count: Expr, statement: Stmt) -> Result<Stmt, Refusal>
+fn so_often(alloc: Global, count: Held<Expr>, statement: Held<Stmt>) -> Result<Held<Stmt>, Refusal>
     ensures built { IfOk result (λ s. plain s ≡ trees.thru (image.expr count) (plain statement)) }
     ensures memory { IfErr result (λ e. e ≡ NoMemory) }
 {
-    Ok(Stmt::Thru(count, Box::new(alloc, statement)?))
+    let statement = boxed(alloc, statement)?;
+    Ok(Held::of(Stmt::Thru(count.free(), statement)))
 }
 
-/// A FOR over that name, from the first value of the range by the second up to the third.
+/// A FOR over that name, from a first value by a step up to a limit.
 fn counting(
     alloc: Global,
     name: Named,
-    range: (Expr, Expr, Expr),
-    statement: Stmt,
-) -> Result<Stmt, Refusal>
-    ensures built { IfOk result (λ s. plain s ≡ trees.for name (image.expr range.0) (image.expr range.1) (image.expr range.2) (plain statement)) }
+    from: Held<Expr>,
+    step: Held<Expr>,
+    limit: Held<Expr>,
+    statement: Held<Stmt>,
+) -> Result<Held<Stmt>, Refusal>
+    ensures built { IfOk result (λ s. plain s ≡ trees.for name (image.expr from) (image.expr step) (image.expr limit) (plain statement)) }
     ensures memory { IfErr result (λ e. e ≡ NoMemory) }
 {
-    let statement = Box::new(alloc, statement)?;
-    Ok(Stmt::For(name, range.0, range.1, range.2, statement))
+    let statement = boxed(alloc, statement)?;
+    Ok(Held::of(Stmt::For(name, from.free(), step.free(), limit.free(), statement)))
 }
 
 /// The statement, led by what stands before it.
-pub(crate) fn led(alloc: Global, lead: Lead, statement: Stmt) -> Result<Stmt, Refusal>
+pub(crate) fn led(alloc: Global, lead: Lead, statement: Held<Stmt>) -> Result<Held<Stmt>, Refusal>
     ensures built { IfOk result (λ s. plain s ≡ led lead (plain statement)) }
     ensures memory { IfErr result (λ e. e ≡ NoMemory) }
 {
@@ -111,21 +104,21 @@ pub(crate) fn led(alloc: Global, lead: Lead, statement: Stmt) -> Result<Stmt, Re
         Lead::While(condition) => looping(alloc, condition, statement),
         Lead::Thru(count) => so_often(alloc, count, statement),
         Lead::For(name, from, step, limit) => {
-            counting(alloc, name, (from, step, limit), statement)
+            counting(alloc, name, from, step, limit, statement)
         }
     }
 }
 
-pub(crate) fn choosing(choice: Expr, stmts: List<Stmt>) -> Stmt
+pub(crate) fn choosing(choice: Held<Expr>, stmts: List<Stmt>) -> Held<Stmt>
     ensures { plain result ≡ trees.case (image.expr choice) (image.stmts stmts) }
 {
-    Stmt::Case(choice, stmts)
+    Held::of(Stmt::Case(choice.free(), stmts))
 }
 
-pub(crate) fn block(spot: Spot, decls: List<Decl>, stmts: List<Stmt>) -> Stmt
+pub(crate) fn block(spot: Spot, decls: List<Decl>, stmts: List<Stmt>) -> Held<Stmt>
     ensures { plain result ≡ trees.block (trees.body spot (image.decls decls) (image.stmts stmts)) }
 {
-    Stmt::Block(Body { spot, decls, stmts })
+    Held::of(Stmt::Block(Body { spot, decls, stmts }))
 }
 
 pub(crate) fn program(spot: Spot, decls: List<Decl>, stmts: List<Stmt>) -> Program
@@ -136,11 +129,16 @@ pub(crate) fn program(spot: Spot, decls: List<Decl>, stmts: List<Stmt>) -> Progr
     }
 }
 
-pub(crate) fn procedure(alloc: Global, heading: Heading, statement: Stmt) -> Result<Decl, Refusal>
+pub(crate) fn procedure(
+    alloc: Global,
+    heading: Heading,
+    statement: Held<Stmt>,
+) -> Result<Decl, Refusal>
     ensures built { IfOk result (λ d. image.decl d ≡ trees.procedure heading (plain statement)) }
     ensures memory { IfErr result (λ e. e ≡ NoMemory) }
 {
-    Ok(Decl::Procedure(heading, Box::new(alloc, statement)?))
+    let statement = boxed(alloc, statement)?;
+    Ok(Decl::Procedure(heading, statement))
 }
 
 pub(crate) fn forward(heading: Heading) -> Decl
@@ -153,22 +151,4 @@ pub(crate) fn simple(kind: Kind, names: List<Named>) -> Decl
     ensures { image.decl result ≡ trees.simple kind names }
 {
     Decl::Simple(kind, names)
-}
-
-pub(crate) fn printers(files: List<Named>) -> Decl
-    ensures { image.decl result ≡ trees.files files }
-{
-    Decl::Files(files)
-}
-
-pub(crate) fn arrays(kind: Kind, names: List<Named>, pairs: List<Pair>) -> Decl
-    ensures { image.decl result ≡ trees.arrays kind names (image.pairs pairs) }
-{
-    Decl::Arrays(kind, names, pairs)
-}
-
-pub(crate) fn pair(low: i64, high: Expr) -> Pair
-    ensures { image.pair result ≡ record { low = low; high = image.expr high } }
-{
-    Pair { low, high }
 }

@@ -13,8 +13,8 @@ ghost use Rattle.algol_tree.specs.Found.{Finds, Refuses};
 
 use crate::make::program;
 use crate::statement::{read_declarations, read_statements};
-use crate::take::unexpected;
 use algol_expr::{expect_symbol, first_of, is_word, opened};
+use algol_part::unexpected;
 use algol_tree::{Code, Program, Refusal, Reserved, Symbol, Token, TokenKind};
 use std::alloc::Global;
 

@@ -2,29 +2,29 @@
 
 ghost use Rattle.std.specs.Prelude.{◌≡◌, [], ◌∷◌, IfOk, IfErr};
 ghost use Rattle.algol_tree.specs.Ended.{EndsOnce};
+ghost use Rattle.algol_tree.specs.Plain as trees;
 ghost use Rattle.algol_tree.specs.Plain.{no_decls};
+ghost use Rattle.algol_tree.specs.declared.token.Symbol.TheVariants as symbols;
 ghost use Rattle.algol_tree.specs.Due as due;
 ghost use Rattle.algol_tree.specs.Due.{stmt, list, declared, one, statement, else_part};
 ghost use Rattle.algol_tree.specs.DueStmt.{decl_behind, procedure_in};
 ghost use Rattle.algol_tree.specs.Image as image;
 ghost use Rattle.algol_tree.specs.Image.{stmt as plain, stmts as stmts_of, decls as decls_of};
-ghost use Rattle.algol_tree.specs.Found.{Completes, Extends, Lists, Refuses};
-ghost use Rattle.algol_stmt.specs.Brings.{Brings, Adds, AddsNone};
-ghost use Rattle.algol_stmt.specs.Openings.{still_due, so_far, ComesTo};
-ghost use Rattle.algol_stmt.specs.Phrases.{statements_in};
+ghost use Rattle.algol_tree.specs.Found.{Completes, Extends, Lists, Passes, Refuses};
+ghost use Rattle.algol_part.specs.Brings.{Brings, Adds, AddsNone};
+ghost use Rattle.algol_part.specs.declared.opening.Opening.TheVariants as openings;
+ghost use Rattle.algol_part.specs.Openings.{still_due, so_far, ComesTo};
+ghost use Rattle.algol_part.specs.Phrases.{statements_in};
 
-use crate::declaration::{lists_names, read_arrays, read_listed};
-use crate::heading::read_heading;
 use crate::make::{
     block, choosing, forward, led, one_armed, procedure, repeating, simple, two_armed,
 };
-use crate::names::read_names;
-use crate::opening::{Beginning, Opening, read_beginning};
-use crate::simple::read_until;
-use crate::start::begins_body;
-use crate::take::{type_of, unexpected};
-use algol_expr::{expect_symbol, expect_word, first_of, is_symbol, is_word, opened};
-use algol_tree::{Decl, Expr, Kind, List, Refusal, Reserved, Stmt, Symbol, Token};
+use algol_expr::{Held, expect_symbol, expect_word, first_of, is_symbol, is_word, opened, push};
+use algol_part::{
+    Beginning, Lead, Opening, begins_body, lists_names, read_arrays, read_beginning, read_heading,
+    read_listed, read_names, read_until, type_of, unexpected,
+};
+use algol_tree::{Decl, Expr, Heading, Kind, List, Refusal, Reserved, Spot, Stmt, Symbol, Token};
 use std::alloc::Global;
 
 /// A statement, or nothing, which is the empty one
@@ -33,14 +33,14 @@ pub(crate) fn read_statement(
     alloc: Global,
     tokens: &[Token],
     depth: u32,
-) -> Result<(Stmt, &[Token]), Refusal>
+) -> Result<(Held<Stmt>, &[Token]), Refusal>
     requires ended { EndsOnce tokens.now }
     ensures found { IfOk result (λ r. Completes (due.statement depth) tokens.now (stmt (plain r.0)) r.1.now) }
     ensures refused { IfErr result (λ e. Refuses (due.statement depth ∷ []) [] tokens.now e) }
 {
     let (beginning, rest) = read_beginning(alloc, tokens, depth)?;
     match beginning {
-        Beginning::Whole(statement) => Ok((statement, rest)),
+        Beginning::Whole(statement) => Ok((Held::of(statement), rest)),
         Beginning::Open(opening, inner) => read_opened(alloc, opening, rest, inner),
     }
 }
@@ -52,42 +52,93 @@ fn read_opened(
     opening: Opening,
     tokens: &[Token],
     depth: u32,
-) -> Result<(Stmt, &[Token]), Refusal>
+) -> Result<(Held<Stmt>, &[Token]), Refusal>
     requires ended { EndsOnce tokens.now }
     ensures found { IfOk result (λ r. ComesTo (still_due opening depth) (so_far opening) tokens.now [] (stmt (plain r.0) ∷ []) r.1.now) }
     ensures refused { IfErr result (λ e. Refuses (still_due opening depth) (so_far opening) tokens.now e) }
 {
     match opening {
-        Opening::Led(lead) => {
-            let (statement, rest) = read_statement(alloc, tokens, depth)?;
-            Ok((led(alloc, lead, statement)?, rest))
-        }
-        Opening::Begin(spot) => {
-            let (decls, rest) = read_declarations(alloc, tokens, depth)?;
-            let (stmts, rest) = read_statements(alloc, rest, depth)?;
-            Ok((block(spot, decls, stmts), rest))
-        }
+        Opening::Led(lead) => read_led(alloc, lead, tokens, depth),
+        Opening::Begin(spot) => read_block(alloc, spot, tokens, depth),
         Opening::If(condition) => read_arms(alloc, condition, tokens, depth),
-        Opening::Do => {
-            let (body, rest) = read_statement(alloc, tokens, depth)?;
-            let (end, rest) = read_until(alloc, rest)?;
-            Ok((repeating(alloc, body, end)?, rest))
-        }
-        Opening::Case(choice) => {
-            let (cases, rest) = read_statements(alloc, tokens, depth)?;
-            Ok((choosing(choice, cases), rest))
-        }
+        Opening::Do => read_repeated(alloc, tokens, depth),
+        Opening::Case(choice) => read_cases(alloc, choice, tokens, depth),
     }
+}
+
+/// The statement that stands behind a lead
+#[cycle(statements)]
+fn read_led(
+    alloc: Global,
+    lead: Lead,
+    tokens: &[Token],
+    depth: u32,
+) -> Result<(Held<Stmt>, &[Token]), Refusal>
+    requires ended { EndsOnce tokens.now }
+    ensures found { IfOk result (λ r. ComesTo (still_due (openings.Led lead) depth) (so_far (openings.Led lead)) tokens.now [] (stmt (plain r.0) ∷ []) r.1.now) }
+    ensures refused { IfErr result (λ e. Refuses (still_due (openings.Led lead) depth) (so_far (openings.Led lead)) tokens.now e) }
+{
+    let (statement, rest) = read_statement(alloc, tokens, depth)?;
+    Ok((led(alloc, lead, statement)?, rest))
+}
+
+/// { declaration ";" } statement { ";" statement } END, behind the BEGIN at that place
+#[cycle(statements)]
+fn read_block(
+    alloc: Global,
+    spot: Spot,
+    tokens: &[Token],
+    depth: u32,
+) -> Result<(Held<Stmt>, &[Token]), Refusal>
+    requires ended { EndsOnce tokens.now }
+    ensures found { IfOk result (λ r. ComesTo (still_due (openings.Begin spot) depth) (so_far (openings.Begin spot)) tokens.now [] (stmt (plain r.0) ∷ []) r.1.now) }
+    ensures refused { IfErr result (λ e. Refuses (still_due (openings.Begin spot) depth) (so_far (openings.Begin spot)) tokens.now e) }
+{
+    let (decls, rest) = read_declarations(alloc, tokens, depth)?;
+    let (stmts, rest) = read_statements(alloc, rest, depth)?;
+    Ok((block(spot, decls, stmts), rest))
+}
+
+/// statement UNTIL expr, behind DO
+#[cycle(statements)]
+fn read_repeated(
+    alloc: Global,
+    tokens: &[Token],
+    depth: u32,
+) -> Result<(Held<Stmt>, &[Token]), Refusal>
+    requires ended { EndsOnce tokens.now }
+    ensures found { IfOk result (λ r. ComesTo (still_due openings.Do depth) (so_far openings.Do) tokens.now [] (stmt (plain r.0) ∷ []) r.1.now) }
+    ensures refused { IfErr result (λ e. Refuses (still_due openings.Do depth) (so_far openings.Do) tokens.now e) }
+{
+    let (body, rest) = read_statement(alloc, tokens, depth)?;
+    let (end, rest) = read_until(alloc, rest)?;
+    Ok((repeating(alloc, body, end)?, rest))
+}
+
+/// statement { ";" statement } END, behind CASE, this choice, OF and BEGIN
+#[cycle(statements)]
+fn read_cases(
+    alloc: Global,
+    choice: Held<Expr>,
+    tokens: &[Token],
+    depth: u32,
+) -> Result<(Held<Stmt>, &[Token]), Refusal>
+    requires ended { EndsOnce tokens.now }
+    ensures found { IfOk result (λ r. ComesTo (still_due (openings.Case choice) depth) (so_far (openings.Case choice)) tokens.now [] (stmt (plain r.0) ∷ []) r.1.now) }
+    ensures refused { IfErr result (λ e. Refuses (still_due (openings.Case choice) depth) (so_far (openings.Case choice)) tokens.now e) }
+{
+    let (cases, rest) = read_statements(alloc, tokens, depth)?;
+    Ok((choosing(choice, cases), rest))
 }
 
 /// statement [ ELSE statement ], behind IF, this condition and THEN
 #[cycle(statements)]
 fn read_arms(
     alloc: Global,
-    condition: Expr,
+    condition: Held<Expr>,
     tokens: &[Token],
     depth: u32,
-) -> Result<(Stmt, &[Token]), Refusal>
+) -> Result<(Held<Stmt>, &[Token]), Refusal>
     requires ended { EndsOnce tokens.now }
     ensures found { IfOk result (λ r. ComesTo (statement depth ∷ else_part depth ∷ []) (one (image.expr condition) ∷ []) tokens.now [] (stmt (plain r.0) ∷ []) r.1.now) }
     ensures refused { IfErr result (λ e. Refuses (statement depth ∷ else_part depth ∷ []) (one (image.expr condition) ∷ []) tokens.now e) }
@@ -117,7 +168,7 @@ pub(crate) fn read_statements(
     let mut rest = tokens;
     'statements: loop {
         let (statement, after) = read_statement(alloc, rest, depth)?;
-        stmts.push(statement)?;
+        push(&mut stmts, statement)?;
         let (first, behind) = first_of(after);
         if is_symbol(first, Symbol::Semicolon) {
             rest = behind;
@@ -202,14 +253,41 @@ fn read_procedure(
     let (heading, rest) = read_heading(alloc, kind, tokens)?;
     let (first, behind) = first_of(rest);
     if is_word(first, Reserved::Forward) {
-        let rest = expect_symbol(behind, Symbol::Semicolon)?;
-        Ok((forward(heading), rest))
+        let (forward, rest) = closed_forward(heading, behind)?;
+        Ok((forward, rest))
     } else if begins_body(first) {
         let inner = opened(first, behind, depth)?;
         let (statement, rest) = read_statement(alloc, rest, inner)?;
-        let rest = expect_symbol(rest, Symbol::Semicolon)?;
-        Ok((procedure(alloc, heading, statement)?, rest))
+        let (procedure, rest) = closed_procedure(alloc, heading, statement, rest)?;
+        Ok((procedure, rest))
     } else {
         Err(unexpected(first))
     }
+}
+
+/// The heading that the word FORWARD stands behind, where a semicolon follows
+fn closed_forward(heading: Heading, tokens: &[Token]) -> Result<(Decl, &[Token]), Refusal>
+    requires ended { EndsOnce tokens.now }
+    ensures passes { IfOk result (λ r. Passes (due.symbol symbols.Semicolon) tokens.now r.1.now) }
+    ensures built { IfOk result (λ r. image.decl r.0 ≡ trees.forward heading) }
+    ensures refused { IfErr result (λ e. Refuses (due.symbol symbols.Semicolon ∷ []) [] tokens.now e) }
+{
+    let rest = expect_symbol(tokens, Symbol::Semicolon)?;
+    Ok((forward(heading), rest))
+}
+
+/// The procedure of that heading and statement, where a semicolon follows
+fn closed_procedure(
+    alloc: Global,
+    heading: Heading,
+    statement: Held<Stmt>,
+    tokens: &[Token],
+) -> Result<(Decl, &[Token]), Refusal>
+    requires ended { EndsOnce tokens.now }
+    ensures passes { IfOk result (λ r. Passes (due.symbol symbols.Semicolon) tokens.now r.1.now) }
+    ensures built { IfOk result (λ r. image.decl r.0 ≡ trees.procedure heading (plain statement)) }
+    ensures refused { IfErr result (λ e. Refuses (due.symbol symbols.Semicolon ∷ []) [] tokens.now e) }
+{
+    let rest = expect_symbol(tokens, Symbol::Semicolon)?;
+    Ok((procedure(alloc, heading, statement)?, rest))
 }

@@ -4,7 +4,7 @@ use Rattle.algol_tree.specs.First.{Source}
 use Rattle.algol_tree.specs.Plain.{PProgram}
 use Rattle.std.proofs.Common.{ℕ, List}
 use Rattle.algol_lexer.proofs.LexOrder.{tokens_ascend}
-use Rattle.algol_stmt.proofs.InOrder.{in_order}
+use Rattle.algol_grammar.proofs.InOrder.{in_order}
 use Rattle.algol_laws.specs.Kept.{EachRunGrows}
 use Rattle.algol_laws.proofs.Growing.{each_grows}
 use Rattle.b67_fitting.specs.Numbers.{SourcesHaveWholeNumbers}

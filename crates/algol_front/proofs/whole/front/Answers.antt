@@ -5,7 +5,7 @@ use Rattle.algol_tree.specs.Programs.{Reads}
 use Rattle.algol_tree.specs.Ended.{EndsOnce}
 use Rattle.algol_tree.specs.Refused.{RefusedProgram}
 use Rattle.algol_lexer.proofs.LexOrder.{tokens_ascend}
-use Rattle.algol_stmt.proofs.InOrder.{in_order}
+use Rattle.algol_grammar.proofs.InOrder.{in_order}
 use Rattle.algol_front.proofs.Parts.{left_as, text_refuses, grammar_refuses, scope_refuses, check_refuses, is_source}
 use Rattle.algol_front.proofs.Sources.{one_source, no_source}
 use Rattle.algol_front.proofs.whole.front.Goals as goal

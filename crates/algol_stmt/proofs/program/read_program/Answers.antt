@@ -1,6 +1,6 @@
 use Rattle.std.proofs.Common.{◌≡◌, true, false, refl, sym, ◌∙◌}
-use Rattle.algol_stmt.proofs.Chains.{left_as}
-use Rattle.algol_stmt.proofs.OneTree.{one_tree}
+use Rattle.algol_part.proofs.Chains.{left_as}
+use Rattle.algol_grammar.proofs.OneTree.{one_tree}
 use Rattle.algol_stmt.proofs.Public.{program_reads, program_behind, program_refused}
 use Rattle.algol_stmt.proofs.program.read_program.Goals as goal
 

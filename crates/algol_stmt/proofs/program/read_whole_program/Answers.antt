@@ -1,8 +1,8 @@
 use Rattle.std.proofs.Common.{[], ◌∷◌, refl, sym, ap, ◌∙◌}
 use Rattle.algol_expr.proofs.Chain.{past, making, extending}
-use Rattle.algol_stmt.proofs.Chains.{bringing, failing, refusing_all, refusing_on, left_as, found, refuses_here, too_deep_here, behind_word, rest_of, rest_on}
+use Rattle.algol_part.proofs.Chains.{bringing, failing, refusing_all, refusing_on, left_as, found, refuses_here, too_deep_here, behind_word, rest_of, rest_on}
 use Rattle.algol_tree.specs.Plain.{no_decls}
-use Rattle.algol_stmt.proofs.Begun.{opens_with, after_program, program_begins, program_refuses}
+use Rattle.algol_part.proofs.Begun.{opens_with, after_program, program_begins, program_refuses}
 use Rattle.algol_tree.specs.declared.token.Reserved.TheVariants as reserved
 use Rattle.algol_tree.specs.Due as due
 use Rattle.algol_stmt.proofs.program.read_whole_program.Goals as goal

@@ -1,13 +1,13 @@
 use Rattle.std.proofs.Common.{[], ◌∷◌, ◌++◌, length, refl, sym, ap, ◌∙◌, arith, Some, None}
 use Rattle.algol_expr.proofs.Chain.{completing, extending, making, past}
-use Rattle.algol_stmt.proofs.Chains.{added, adding, begun, behind_it, behind_symbol, behind_word, bringing, brought, failing, left_as, listed, listing, makes_it, no_memory, refuses_here, refusing, refusing_all, refusing_on, rest_of, rest_on, rest_within, skips_it, takes_all, takes_it, then, valued}
-use Rattle.algol_stmt.proofs.Loops.{goes_on, one_decl, one_stmt, goes_to, goes_as, refused_as_other, extends_all}
-use Rattle.algol_stmt.proofs.Tails.{lists_by, refuses_on}
-use Rattle.algol_stmt.proofs.Begun.{body_refuses, body_starts, body_too_deep, else_off, else_on, forward_takes, more_stmts, none_declared, procedure_declared, stmts_off, stmts_on, type_declared, typed_arrays, typed_list, typed_procedure}
-use Rattle.algol_stmt.proofs.Openings.{ending, ends_opened, is_open, is_whole, led_is_made, opened_as, opened_found, opened_refused, refused_as, refuses_opened}
-use Rattle.algol_stmt.specs.Openings.{led, led_by, still_due}
-use Rattle.algol_stmt.specs.Phrases.{arrays_in, statements_in}
-use Rattle.algol_stmt.proofs.Specs.{not_end_type}
+use Rattle.algol_part.proofs.Chains.{added, adding, begun, behind_it, behind_symbol, behind_word, bringing, brought, failing, left_as, listed, listing, makes_it, no_memory, refuses_here, refusing, refusing_all, refusing_on, rest_of, rest_on, rest_within, skips_it, takes_all, takes_it, then, valued}
+use Rattle.algol_part.proofs.Loops.{goes_on, one_decl, one_stmt, goes_to, goes_as, refused_as_other, extends_all}
+use Rattle.algol_part.proofs.Tails.{lists_by, refuses_on}
+use Rattle.algol_part.proofs.Begun.{body_refuses, body_starts, body_too_deep, else_off, else_on, forward_takes, more_stmts, none_declared, procedure_declared, stmts_off, stmts_on, type_declared, typed_arrays, typed_list, typed_procedure}
+use Rattle.algol_part.proofs.Openings.{ending, ends_opened, is_open, is_whole, led_is_made, opened_as, opened_found, opened_refused, refused_as, refuses_opened}
+use Rattle.algol_part.specs.Openings.{led, led_by, still_due}
+use Rattle.algol_part.specs.Phrases.{arrays_in, statements_in}
+use Rattle.algol_part.proofs.Specs.{not_end_type}
 use Rattle.algol_tree.specs.DueStmt.{decl_behind, procedure_in}
 use Rattle.algol_tree.specs.Plain.{no_decls}
 use Rattle.algol_tree.specs.declared.token.Symbol.TheVariants as symbols
@@ -15,14 +15,14 @@ use Rattle.algol_tree.specs.declared.token.Reserved.TheVariants as reserved
 use Rattle.algol_tree.specs.Due as due
 use Rattle.algol_tree.specs.Image as image
 use Rattle.algol_tree.specs.Plain as trees
-use Rattle.algol_stmt.specs.declared.opening.Opening.TheVariants as openings
+use Rattle.algol_part.specs.declared.opening.Opening.TheVariants as openings
 use Rattle.algol_stmt.proofs.statement.+statements.Goals as goal
 
 pub read_statement-returns-in_err-beginning-clause-refused : goal.read_statement-returns-in_err-beginning-clause-refused
 read_statement-returns-in_err-beginning-clause-refused t c = left_as _ _ _ c.from_residual.ensures.1 c.in_err-beginning.ensures.refused
 
 pub read_statement-returns-in-Whole-clause-found : goal.read_statement-returns-in-Whole-clause-found
-read_statement-returns-in-Whole-clause-found t c = is_whole c.in-Whole.is c.in_ok-beginning.ensures.found
+read_statement-returns-in-Whole-clause-found t c = rw c.of.ensures (is_whole c.in-Whole.is c.in_ok-beginning.ensures.found)
 
 pub read_statement-returns-in-Open-clause-found : goal.read_statement-returns-in-Open-clause-found
 read_statement-returns-in-Open-clause-found t c = opened_found c.read_opened.result (λ x. due.stmt (image.stmt x.0)) (λ x. x.1.now) (is_open c.in-Open.is c.in_ok-beginning.ensures.found) c.read_opened.ensures.found
@@ -30,23 +30,47 @@ read_statement-returns-in-Open-clause-found t c = opened_found c.read_opened.res
 pub read_statement-returns-in-Open-clause-refused : goal.read_statement-returns-in-Open-clause-refused
 read_statement-returns-in-Open-clause-refused t c = opened_refused c.read_opened.result (is_open c.in-Open.is c.in_ok-beginning.ensures.found) c.read_opened.ensures.refused
 
-pub read_opened-returns-in_err-statement-in-Led-clause-refused : goal.read_opened-returns-in_err-statement-in-Led-clause-refused
-read_opened-returns-in_err-statement-in-Led-clause-refused t c = left_as _ _ _ c.from_residual.ensures.1 (refuses_opened c.in-Led.is c.args.depth (refusing (begun (still_due (openings.Led c.in-Led.lead) c.args.depth) (led_by c.in-Led.lead) _) c.in_err-statement-in-Led.ensures.refused))
+pub read_led-returns-in_err-statement-clause-refused : goal.read_led-returns-in_err-statement-clause-refused
+read_led-returns-in_err-statement-clause-refused t c = left_as _ _ _ c.from_residual.ensures.1 (refusing (begun (still_due (openings.Led c.args.lead) c.args.depth) (led_by c.args.lead) _) c.in_err-statement.ensures.refused)
 
-pub read_opened-returns-in_err-led-in-Led-clause-refused : goal.read_opened-returns-in_err-led-in-Led-clause-refused
-read_opened-returns-in_err-led-in-Led-clause-refused t c = left_as _ _ _ c.from_residual-in_err-led-in-Led.ensures.1 (no_memory c.in_err-led-in-Led.ensures.memory)
+pub read_led-returns-in_err-led-clause-refused : goal.read_led-returns-in_err-led-clause-refused
+read_led-returns-in_err-led-clause-refused t c = left_as _ _ _ c.from_residual-in_err-led.ensures.1 (no_memory c.in_err-led.ensures.memory)
 
-pub read_opened-returns-in_ok-led-in-Led-clause-found : goal.read_opened-returns-in_ok-led-in-Led-clause-found
-read_opened-returns-in_ok-led-in-Led-clause-found t c = ends_opened c.in-Led.is c.args.depth (ending (making {xs = due.stmt (led c.in-Led.lead _) ∷ []} (completing (begun (still_due (openings.Led c.in-Led.lead) c.args.depth) (led_by c.in-Led.lead) _) c.in_ok-statement-in-Led.ensures.found) (λ vs. led_is_made c.in-Led.lead _ vs)) (ap due.stmt c.in_ok-led-in-Led.ensures.built) c.in_ok-statement-in-Led.ensures.found.ended c.in_ok-statement-in-Led.ensures.found.no_longer)
+pub read_led-returns-clause-found : goal.read_led-returns-clause-found
+read_led-returns-clause-found t c = ending (making {xs = due.stmt (led c.args.lead _) ∷ []} (completing (begun (still_due (openings.Led c.args.lead) c.args.depth) (led_by c.args.lead) _) c.in_ok-statement.ensures.found) (λ vs. led_is_made c.args.lead _ vs)) (ap due.stmt c.in_ok-led.ensures.built) c.in_ok-statement.ensures.found.ended c.in_ok-statement.ensures.found.no_longer
 
-pub read_opened-returns-in_err-decls-in-Begin-clause-refused : goal.read_opened-returns-in_err-decls-in-Begin-clause-refused
-read_opened-returns-in_err-decls-in-Begin-clause-refused t c = left_as _ _ _ c.from_residual-in_err-decls-in-Begin.ensures.1 (refuses_opened c.in-Begin.is c.args.depth (refusing_on _ {ws = []} (making {xs = due.declared no_decls ∷ []} (begun (still_due (openings.Begin c.in-Begin.spot) c.args.depth) [] _) (λ vs. refl)) c.in_err-decls-in-Begin.ensures.refused))
+pub read_block-returns-in_err-decls-clause-refused : goal.read_block-returns-in_err-decls-clause-refused
+read_block-returns-in_err-decls-clause-refused t c = left_as _ _ _ c.from_residual.ensures.1 (refusing_on _ {ws = []} (making {xs = due.declared no_decls ∷ []} (begun (still_due (openings.Begin c.args.spot) c.args.depth) [] _) (λ vs. refl)) c.in_err-decls.ensures.refused)
 
-pub read_opened-returns-in_err-stmts-in-Begin-clause-refused : goal.read_opened-returns-in_err-stmts-in-Begin-clause-refused
-read_opened-returns-in_err-stmts-in-Begin-clause-refused t c = left_as _ _ _ c.from_residual-in_err-stmts-in-Begin.ensures.1 (refuses_opened c.in-Begin.is c.args.depth (refusing_all _ {ws = _ ∷ []} (extending {ws = []} (making {xs = due.declared no_decls ∷ []} (begun (still_due (openings.Begin c.in-Begin.spot) c.args.depth) [] _) (λ vs. refl)) c.in_ok-decls-in-Begin.ensures.found) c.in_err-stmts-in-Begin.ensures.refused))
+pub read_block-returns-in_err-stmts-clause-refused : goal.read_block-returns-in_err-stmts-clause-refused
+read_block-returns-in_err-stmts-clause-refused t c = left_as _ _ _ c.from_residual-in_err-stmts.ensures.1 (refusing_all _ {ws = _ ∷ []} (extending {ws = []} (making {xs = due.declared no_decls ∷ []} (begun (still_due (openings.Begin c.args.spot) c.args.depth) [] _) (λ vs. refl)) c.in_ok-decls.ensures.found) c.in_err-stmts.ensures.refused)
 
-pub read_opened-returns-in_ok-stmts-in-Begin-clause-found : goal.read_opened-returns-in_ok-stmts-in-Begin-clause-found
-read_opened-returns-in_ok-stmts-in-Begin-clause-found t c = let b = rest_within c.in_ok-decls-in-Begin.ensures.found.no_longer c.in_ok-stmts-in-Begin.ensures.found.behind in ends_opened c.in-Begin.is c.args.depth (ending (making (bringing {ws = _ ∷ []} (extending {ws = []} (making {xs = due.declared no_decls ∷ []} (begun (still_due (openings.Begin c.in-Begin.spot) c.args.depth) [] _) (λ vs. refl)) c.in_ok-decls-in-Begin.ensures.found) c.in_ok-stmts-in-Begin.ensures.found) (λ vs. refl)) (ap due.stmt c.block.ensures) b.ended (omega (arith, b.shorter)))
+pub read_block-returns-clause-found : goal.read_block-returns-clause-found
+read_block-returns-clause-found t c = let b = rest_within c.in_ok-decls.ensures.found.no_longer c.in_ok-stmts.ensures.found.behind in ending (making (bringing {ws = _ ∷ []} (extending {ws = []} (making {xs = due.declared no_decls ∷ []} (begun (still_due (openings.Begin c.args.spot) c.args.depth) [] _) (λ vs. refl)) c.in_ok-decls.ensures.found) c.in_ok-stmts.ensures.found) (λ vs. refl)) (ap due.stmt c.block.ensures) b.ended (omega (arith, b.shorter))
+
+pub read_opened-returns-in-Led-clause-found : goal.read_opened-returns-in-Led-clause-found
+read_opened-returns-in-Led-clause-found t c = opened_as c.read_led.result (λ x. due.stmt (image.stmt x.0)) (λ x. x.1.now) c.in-Led.is c.args.depth _ c.read_led.ensures.found
+
+pub read_opened-returns-in-Led-clause-refused : goal.read_opened-returns-in-Led-clause-refused
+read_opened-returns-in-Led-clause-refused t c = refused_as c.read_led.result c.in-Led.is c.args.depth _ c.read_led.ensures.refused
+
+pub read_opened-returns-in-Begin-clause-found : goal.read_opened-returns-in-Begin-clause-found
+read_opened-returns-in-Begin-clause-found t c = opened_as c.read_block.result (λ x. due.stmt (image.stmt x.0)) (λ x. x.1.now) c.in-Begin.is c.args.depth _ c.read_block.ensures.found
+
+pub read_opened-returns-in-Begin-clause-refused : goal.read_opened-returns-in-Begin-clause-refused
+read_opened-returns-in-Begin-clause-refused t c = refused_as c.read_block.result c.in-Begin.is c.args.depth _ c.read_block.ensures.refused
+
+pub read_opened-returns-in-Do-clause-found : goal.read_opened-returns-in-Do-clause-found
+read_opened-returns-in-Do-clause-found t c = opened_as c.read_repeated.result (λ x. due.stmt (image.stmt x.0)) (λ x. x.1.now) c.in-Do.is c.args.depth _ c.read_repeated.ensures.found
+
+pub read_opened-returns-in-Do-clause-refused : goal.read_opened-returns-in-Do-clause-refused
+read_opened-returns-in-Do-clause-refused t c = refused_as c.read_repeated.result c.in-Do.is c.args.depth _ c.read_repeated.ensures.refused
+
+pub read_opened-returns-in-Case-clause-found : goal.read_opened-returns-in-Case-clause-found
+read_opened-returns-in-Case-clause-found t c = opened_as c.read_cases.result (λ x. due.stmt (image.stmt x.0)) (λ x. x.1.now) c.in-Case.is c.args.depth _ c.read_cases.ensures.found
+
+pub read_opened-returns-in-Case-clause-refused : goal.read_opened-returns-in-Case-clause-refused
+read_opened-returns-in-Case-clause-refused t c = refused_as c.read_cases.result c.in-Case.is c.args.depth _ c.read_cases.ensures.refused
 
 pub read_opened-returns-in-If-clause-found : goal.read_opened-returns-in-If-clause-found
 read_opened-returns-in-If-clause-found t c = opened_as c.read_arms.result (λ x. due.stmt (image.stmt x.0)) (λ x. x.1.now) c.in-If.is c.args.depth _ c.read_arms.ensures.found
@@ -54,23 +78,23 @@ read_opened-returns-in-If-clause-found t c = opened_as c.read_arms.result (λ x.
 pub read_opened-returns-in-If-clause-refused : goal.read_opened-returns-in-If-clause-refused
 read_opened-returns-in-If-clause-refused t c = refused_as c.read_arms.result c.in-If.is c.args.depth _ c.read_arms.ensures.refused
 
-pub read_opened-returns-in_err-body-in-Do-clause-refused : goal.read_opened-returns-in_err-body-in-Do-clause-refused
-read_opened-returns-in_err-body-in-Do-clause-refused t c = left_as _ _ _ c.from_residual-in_err-body-in-Do.ensures.1 (refuses_opened c.in-Do.is c.args.depth (refusing (begun (still_due openings.Do c.args.depth) [] _) c.in_err-body-in-Do.ensures.refused))
+pub read_repeated-returns-in_err-body-clause-refused : goal.read_repeated-returns-in_err-body-clause-refused
+read_repeated-returns-in_err-body-clause-refused t c = left_as _ _ _ c.from_residual.ensures.1 (refusing (begun (still_due openings.Do c.args.depth) [] _) c.in_err-body.ensures.refused)
 
-pub read_opened-returns-in_err-end-in-Do-clause-refused : goal.read_opened-returns-in_err-end-in-Do-clause-refused
-read_opened-returns-in_err-end-in-Do-clause-refused t c = left_as _ _ _ c.from_residual-in_err-end-in-Do.ensures.1 (refuses_opened c.in-Do.is c.args.depth (refusing_all _ (completing (begun (still_due openings.Do c.args.depth) [] _) c.in_ok-body-in-Do.ensures.found) c.in_err-end-in-Do.ensures.refused))
+pub read_repeated-returns-in_err-end-clause-refused : goal.read_repeated-returns-in_err-end-clause-refused
+read_repeated-returns-in_err-end-clause-refused t c = left_as _ _ _ c.from_residual-in_err-end.ensures.1 (refusing_all _ (completing (begun (still_due openings.Do c.args.depth) [] _) c.in_ok-body.ensures.found) c.in_err-end.ensures.refused)
 
-pub read_opened-returns-in_err-repeating-in-Do-clause-refused : goal.read_opened-returns-in_err-repeating-in-Do-clause-refused
-read_opened-returns-in_err-repeating-in-Do-clause-refused t c = left_as _ _ _ c.from_residual-in_err-repeating-in-Do.ensures.1 (no_memory c.in_err-repeating-in-Do.ensures.memory)
+pub read_repeated-returns-in_err-repeating-clause-refused : goal.read_repeated-returns-in_err-repeating-clause-refused
+read_repeated-returns-in_err-repeating-clause-refused t c = left_as _ _ _ c.from_residual-in_err-repeating.ensures.1 (no_memory c.in_err-repeating.ensures.memory)
 
-pub read_opened-returns-in_ok-repeating-in-Do-clause-found : goal.read_opened-returns-in_ok-repeating-in-Do-clause-found
-read_opened-returns-in_ok-repeating-in-Do-clause-found t c = let b = rest_within c.in_ok-body-in-Do.ensures.found.no_longer c.in_ok-end-in-Do.ensures.found.behind in ends_opened c.in-Do.is c.args.depth (ending (making (bringing (completing (begun (still_due openings.Do c.args.depth) [] _) c.in_ok-body-in-Do.ensures.found) c.in_ok-end-in-Do.ensures.found) (λ vs. refl)) (ap due.stmt c.in_ok-repeating-in-Do.ensures.built) b.ended (omega (arith, b.shorter)))
+pub read_repeated-returns-clause-found : goal.read_repeated-returns-clause-found
+read_repeated-returns-clause-found t c = let b = rest_within c.in_ok-body.ensures.found.no_longer c.in_ok-end.ensures.found.behind in ending (making (bringing (completing (begun (still_due openings.Do c.args.depth) [] _) c.in_ok-body.ensures.found) c.in_ok-end.ensures.found) (λ vs. refl)) (ap due.stmt c.in_ok-repeating.ensures.built) b.ended (omega (arith, b.shorter))
 
-pub read_opened-returns-in_err-cases-in-Case-clause-refused : goal.read_opened-returns-in_err-cases-in-Case-clause-refused
-read_opened-returns-in_err-cases-in-Case-clause-refused t c = left_as _ _ _ c.from_residual-in_err-cases-in-Case.ensures.1 (refuses_opened c.in-Case.is c.args.depth (refusing_all _ (begun (still_due (openings.Case c.in-Case.choice) c.args.depth) (due.one (image.expr c.in-Case.choice) ∷ []) _) c.in_err-cases-in-Case.ensures.refused))
+pub read_cases-returns-in_err-cases-clause-refused : goal.read_cases-returns-in_err-cases-clause-refused
+read_cases-returns-in_err-cases-clause-refused t c = left_as _ _ _ c.from_residual.ensures.1 (refusing_all _ (begun (still_due (openings.Case c.args.choice) c.args.depth) (due.one (image.expr c.args.choice) ∷ []) _) c.in_err-cases.ensures.refused)
 
-pub read_opened-returns-in_ok-cases-in-Case-clause-found : goal.read_opened-returns-in_ok-cases-in-Case-clause-found
-read_opened-returns-in_ok-cases-in-Case-clause-found t c = let b = c.in_ok-cases-in-Case.ensures.found.behind in ends_opened c.in-Case.is c.args.depth (ending (making (bringing (begun (still_due (openings.Case c.in-Case.choice) c.args.depth) (due.one (image.expr c.in-Case.choice) ∷ []) _) c.in_ok-cases-in-Case.ensures.found) (λ vs. refl)) (ap due.stmt c.choosing.ensures) b.ended (omega (arith, b.shorter)))
+pub read_cases-returns-clause-found : goal.read_cases-returns-clause-found
+read_cases-returns-clause-found t c = let b = c.in_ok-cases.ensures.found.behind in ending (making (bringing (begun (still_due (openings.Case c.args.choice) c.args.depth) (due.one (image.expr c.args.choice) ∷ []) _) c.in_ok-cases.ensures.found) (λ vs. refl)) (ap due.stmt c.choosing.ensures) b.ended (omega (arith, b.shorter))
 
 pub read_arms-returns-in_err-yes-clause-refused : goal.read_arms-returns-in_err-yes-clause-refused
 read_arms-returns-in_err-yes-clause-refused t c = left_as _ _ _ c.from_residual.ensures.1 (refusing (begun (due.statement c.args.depth ∷ due.else_part c.args.depth ∷ []) (due.one (image.expr c.args.condition) ∷ []) _) c.in_err-yes.ensures.refused)
@@ -132,11 +156,11 @@ read_declarations-declarations-init t c = goes_on (valued {ws = []} (begun ((due
 pub read_procedure-returns-in_err-heading-clause-refused : goal.read_procedure-returns-in_err-heading-clause-refused
 read_procedure-returns-in_err-heading-clause-refused t c = left_as _ _ _ c.from_residual.ensures.1 (λ xs. refusing_all _ (begun (procedure_in c.args.kind c.args.depth) (due.declared xs ∷ []) _) c.in_err-heading.ensures.refused)
 
-pub read_procedure-returns-in_err-rest-clause-refused : goal.read_procedure-returns-in_err-rest-clause-refused
-read_procedure-returns-in_err-rest-clause-refused t c = left_as _ _ _ c.from_residual-in_err-rest.ensures.1 (λ xs. failing {ws = due.declared (decl_behind xs (trees.forward _)) ∷ []} (making {xs = due.declared (decl_behind xs (trees.forward _)) ∷ []} (then (bringing (begun (procedure_in c.args.kind c.args.depth) (due.declared xs ∷ []) _) c.in_ok-heading.ensures.found) (takes_all c.first_of.ensures (due.procedure_body c.args.depth) _ (forward_takes c.args.depth c.first_of.ensures (sym c.is_word.ensures ∙ c.if-is_word.true)))) (λ vs. refl)) c.in_err-rest.ensures.fails)
+pub read_procedure-returns-in_err-forward-clause-refused : goal.read_procedure-returns-in_err-forward-clause-refused
+read_procedure-returns-in_err-forward-clause-refused t c = left_as _ _ _ c.from_residual-in_err-forward.ensures.1 (λ xs. refusing {ws = due.declared (decl_behind xs (trees.forward _)) ∷ []} (making {xs = due.declared (decl_behind xs (trees.forward _)) ∷ []} (then (bringing (begun (procedure_in c.args.kind c.args.depth) (due.declared xs ∷ []) _) c.in_ok-heading.ensures.found) (takes_all c.first_of.ensures (due.procedure_body c.args.depth) _ (forward_takes c.args.depth c.first_of.ensures (sym c.is_word.ensures ∙ c.if-is_word.true)))) (λ vs. refl)) c.in_err-forward.ensures.refused)
 
-pub read_procedure-returns-in_ok-rest-clause-found : goal.read_procedure-returns-in_ok-rest-clause-found
-read_procedure-returns-in_ok-rest-clause-found t c = added (λ xs. valued {ws = []} (past {ws = due.declared (decl_behind xs (trees.forward _)) ∷ []} (making {xs = due.declared (decl_behind xs (trees.forward _)) ∷ []} (then (bringing (begun (procedure_in c.args.kind c.args.depth) (due.declared xs ∷ []) _) c.in_ok-heading.ensures.found) (takes_all c.first_of.ensures (due.procedure_body c.args.depth) _ (forward_takes c.args.depth c.first_of.ensures (sym c.is_word.ensures ∙ c.if-is_word.true)))) (λ vs. refl)) c.in_ok-rest.ensures.passes) (ap (λ d. due.declared (decl_behind xs d)) c.forward.ensures)) (rest_of c.in_ok-heading.ensures.found.behind (rest_of (behind_word c.first_of.ensures reserved.Forward c.in_ok-heading.ensures.found.behind.ended (sym c.is_word.ensures ∙ c.if-is_word.true)) c.in_ok-rest.ensures.passes.behind))
+pub read_procedure-returns-in_ok-forward-clause-found : goal.read_procedure-returns-in_ok-forward-clause-found
+read_procedure-returns-in_ok-forward-clause-found t c = added (λ xs. valued {ws = []} (past {ws = due.declared (decl_behind xs (trees.forward _)) ∷ []} (making {xs = due.declared (decl_behind xs (trees.forward _)) ∷ []} (then (bringing (begun (procedure_in c.args.kind c.args.depth) (due.declared xs ∷ []) _) c.in_ok-heading.ensures.found) (takes_all c.first_of.ensures (due.procedure_body c.args.depth) _ (forward_takes c.args.depth c.first_of.ensures (sym c.is_word.ensures ∙ c.if-is_word.true)))) (λ vs. refl)) c.in_ok-forward.ensures.passes) (ap (λ d. due.declared (decl_behind xs d)) c.in_ok-forward.ensures.built)) (rest_of c.in_ok-heading.ensures.found.behind (rest_of (behind_word c.first_of.ensures reserved.Forward c.in_ok-heading.ensures.found.behind.ended (sym c.is_word.ensures ∙ c.if-is_word.true)) c.in_ok-forward.ensures.passes.behind))
 
 pub read_procedure-returns-in_err-inner-clause-refused : goal.read_procedure-returns-in_err-inner-clause-refused
 read_procedure-returns-in_err-inner-clause-refused t c = left_as _ _ _ c.from_residual-in_err-inner.ensures.1 (λ xs. refusing (bringing (begun (procedure_in c.args.kind c.args.depth) (due.declared xs ∷ []) _) c.in_ok-heading.ensures.found) (body_too_deep c.args.depth [] c.first_of.ensures _ (sym c.begins_body.ensures ∙ c.if-begins_body.true) c.in_err-inner.ensures.deep.0 c.in_err-inner.ensures.deep.2))
@@ -144,14 +168,11 @@ read_procedure-returns-in_err-inner-clause-refused t c = left_as _ _ _ c.from_re
 pub read_procedure-returns-in_err-statement-clause-refused : goal.read_procedure-returns-in_err-statement-clause-refused
 read_procedure-returns-in_err-statement-clause-refused t c = left_as _ _ _ c.from_residual-in_err-statement.ensures.1 (λ xs. refusing (then (bringing (begun (procedure_in c.args.kind c.args.depth) (due.declared xs ∷ []) _) c.in_ok-heading.ensures.found) (body_starts c.args.depth _ c.first_of.ensures (sym c.begins_body.ensures ∙ c.if-begins_body.true) c.in_ok-inner.ensures.opens.0 c.in_ok-inner.ensures.opens.1)) c.in_err-statement.ensures.refused)
 
-pub read_procedure-returns-in_err-rest-2-clause-refused : goal.read_procedure-returns-in_err-rest-2-clause-refused
-read_procedure-returns-in_err-rest-2-clause-refused t c = left_as _ _ _ c.from_residual-in_err-rest-2.ensures.1 (λ xs. failing {ws = due.declared (decl_behind xs (trees.procedure _ _)) ∷ []} (making {xs = due.declared (decl_behind xs (trees.procedure _ _)) ∷ []} (completing (then (bringing (begun (procedure_in c.args.kind c.args.depth) (due.declared xs ∷ []) _) c.in_ok-heading.ensures.found) (body_starts c.args.depth _ c.first_of.ensures (sym c.begins_body.ensures ∙ c.if-begins_body.true) c.in_ok-inner.ensures.opens.0 c.in_ok-inner.ensures.opens.1)) c.in_ok-statement.ensures.found) (λ vs. refl)) c.in_err-rest-2.ensures.fails)
-
 pub read_procedure-returns-in_err-procedure-clause-refused : goal.read_procedure-returns-in_err-procedure-clause-refused
-read_procedure-returns-in_err-procedure-clause-refused t c = left_as _ _ _ c.from_residual-in_err-procedure.ensures.1 (λ xs. no_memory c.in_err-procedure.ensures.memory)
+read_procedure-returns-in_err-procedure-clause-refused t c = left_as _ _ _ c.from_residual-in_err-procedure.ensures.1 (λ xs. refusing {ws = due.declared (decl_behind xs (trees.procedure _ _)) ∷ []} (making {xs = due.declared (decl_behind xs (trees.procedure _ _)) ∷ []} (completing (then (bringing (begun (procedure_in c.args.kind c.args.depth) (due.declared xs ∷ []) _) c.in_ok-heading.ensures.found) (body_starts c.args.depth _ c.first_of.ensures (sym c.begins_body.ensures ∙ c.if-begins_body.true) c.in_ok-inner.ensures.opens.0 c.in_ok-inner.ensures.opens.1)) c.in_ok-statement.ensures.found) (λ vs. refl)) c.in_err-procedure.ensures.refused)
 
 pub read_procedure-returns-in_ok-procedure-clause-found : goal.read_procedure-returns-in_ok-procedure-clause-found
-read_procedure-returns-in_ok-procedure-clause-found t c = added (λ xs. valued {ws = []} (past {ws = due.declared (decl_behind xs (trees.procedure _ _)) ∷ []} (making {xs = due.declared (decl_behind xs (trees.procedure _ _)) ∷ []} (completing (then (bringing (begun (procedure_in c.args.kind c.args.depth) (due.declared xs ∷ []) _) c.in_ok-heading.ensures.found) (body_starts c.args.depth _ c.first_of.ensures (sym c.begins_body.ensures ∙ c.if-begins_body.true) c.in_ok-inner.ensures.opens.0 c.in_ok-inner.ensures.opens.1)) c.in_ok-statement.ensures.found) (λ vs. refl)) c.in_ok-rest-2.ensures.passes) (ap (λ d. due.declared (decl_behind xs d)) c.in_ok-procedure.ensures.built)) (rest_of (rest_on c.in_ok-heading.ensures.found.behind c.in_ok-statement.ensures.found.ended c.in_ok-statement.ensures.found.no_longer) c.in_ok-rest-2.ensures.passes.behind)
+read_procedure-returns-in_ok-procedure-clause-found t c = added (λ xs. valued {ws = []} (past {ws = due.declared (decl_behind xs (trees.procedure _ _)) ∷ []} (making {xs = due.declared (decl_behind xs (trees.procedure _ _)) ∷ []} (completing (then (bringing (begun (procedure_in c.args.kind c.args.depth) (due.declared xs ∷ []) _) c.in_ok-heading.ensures.found) (body_starts c.args.depth _ c.first_of.ensures (sym c.begins_body.ensures ∙ c.if-begins_body.true) c.in_ok-inner.ensures.opens.0 c.in_ok-inner.ensures.opens.1)) c.in_ok-statement.ensures.found) (λ vs. refl)) c.in_ok-procedure.ensures.passes) (ap (λ d. due.declared (decl_behind xs d)) c.in_ok-procedure.ensures.built)) (rest_of (rest_on c.in_ok-heading.ensures.found.behind c.in_ok-statement.ensures.found.ended c.in_ok-statement.ensures.found.no_longer) c.in_ok-procedure.ensures.passes.behind)
 
 pub read_procedure-returns-else-begins_body-clause-refused : goal.read_procedure-returns-else-begins_body-clause-refused
 read_procedure-returns-else-begins_body-clause-refused t c = λ xs. refusing (bringing (begun (procedure_in c.args.kind c.args.depth) (due.declared xs ∷ []) _) c.in_ok-heading.ensures.found) (refuses_here c.first_of.ensures _ (due.procedure_body c.args.depth) [] [] _ refl (body_refuses c.args.depth c.first_of.ensures (sym c.is_word.ensures ∙ c.if-is_word.false) (sym c.begins_body.ensures ∙ c.if-begins_body.false)) c.unexpected.ensures)

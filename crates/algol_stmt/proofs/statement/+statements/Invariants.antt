@@ -2,9 +2,9 @@ use Rattle.std.proofs.Common.{◌+◌, ◌*◌, [], ◌∷◌, ◌++◌, length}
 use Rattle.algol_tree.specs.Due as due
 use Rattle.algol_tree.specs.Image as image
 use Rattle.algol_tree.specs.Plain.{no_decls}
-use Rattle.algol_stmt.specs.Phrases.{statements_in}
-use Rattle.algol_stmt.proofs.Loops.{GoesOn}
-use Rattle.algol_stmt.proofs.Begun.{more_stmts}
+use Rattle.algol_part.specs.Phrases.{statements_in}
+use Rattle.algol_part.proofs.Loops.{GoesOn}
+use Rattle.algol_part.proofs.Begun.{more_stmts}
 use Rattle.algol_tree.specs.declared.token.Reserved.TheVariants as reserved
 use Rattle.algol_stmt.proofs.statement.+statements.Given as goal
 
@@ -13,6 +13,18 @@ decreases-read_statement l = 16 * length l.tokens.now + 2
 
 abbrev pub decreases-read_opened : goal.decreases-read_opened
 decreases-read_opened l = 16 * length l.tokens.now + 14
+
+abbrev pub decreases-read_led : goal.decreases-read_led
+decreases-read_led l = 16 * length l.tokens.now + 12
+
+abbrev pub decreases-read_block : goal.decreases-read_block
+decreases-read_block l = 16 * length l.tokens.now + 12
+
+abbrev pub decreases-read_repeated : goal.decreases-read_repeated
+decreases-read_repeated l = 16 * length l.tokens.now + 12
+
+abbrev pub decreases-read_cases : goal.decreases-read_cases
+decreases-read_cases l = 16 * length l.tokens.now + 12
 
 abbrev pub decreases-read_arms : goal.decreases-read_arms
 decreases-read_arms l = 16 * length l.tokens.now + 12

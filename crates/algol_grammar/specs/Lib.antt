@@ -1,0 +1,4 @@
+pub mod OneTree
+pub mod ReadExactly
+pub mod InOrder
+pub mod OneRefusal

@@ -1,0 +1,4 @@
+pub mod Brings
+pub mod Phrases
+pub mod Starts
+pub mod Openings

@@ -1,0 +1,105 @@
+-- What is due in one piece of the text that a reader goes through.
+use Rattle.std.specs.Prelude.{ℕ, Bool, true, false, ◌||◌, List, [], ◌∷◌, ◌++◌, Option, Some, None}
+use Rattle.algol_tree.specs.declared.token.TokenKind.{TokenKind}
+use Rattle.algol_tree.specs.declared.token.TokenKind.TheVariants as kinds
+use Rattle.algol_tree.specs.declared.token.Reserved.{Reserved}
+use Rattle.algol_tree.specs.declared.token.Reserved.TheVariants as reserved
+use Rattle.algol_tree.specs.declared.token.Symbol.{Symbol}
+use Rattle.algol_tree.specs.declared.token.Symbol.TheVariants as symbols
+use Rattle.algol_tree.specs.declared.tree.Kind.{Kind}
+use Rattle.algol_tree.specs.declared.tree.Named.{Named}
+use Rattle.algol_tree.specs.declared.tree.EventAct.{EventAct}
+use Rattle.algol_tree.specs.Plain.{PDecl, events, tasks, labels, no_stmts}
+use Rattle.algol_tree.specs.Tokens.{is_word}
+use Rattle.algol_tree.specs.Headings.{type_of}
+use Rattle.algol_tree.specs.Due.{put, pairs, lows, specified, phrases, list, Due, make, word, symbol, named, event, whole, items_part, literal, lows_more, values_part, spec, specs_more, pairs_more, phrase, phrases_more, statement, stmts_more}
+use Rattle.algol_tree.specs.DueDecl.{names_in, files_in, low_added, headed_with}
+use Rattle.algol_tree.specs.DueStmt.{wholes_in, pair_in, segment_in, rows_declared, assigned_element, acting, stmt_added}
+
+abbrev pub name_before : Symbol → List Due
+name_before s = named ∷ symbol s ∷ []
+
+abbrev pub names_before : Symbol → List Due
+names_before s = names_in ++ symbol s ∷ []
+
+abbrev pub closed_names : List Due
+closed_names = names_before symbols.Semicolon
+
+abbrev pub closed_files : List Due
+closed_files = files_in ++ symbol symbols.Semicolon ∷ []
+
+abbrev pub closed_wholes : Symbol → List Due
+closed_wholes closing = wholes_in ++ symbol closing ∷ []
+
+abbrev pub whole_before : Reserved → List Due
+whole_before w = whole 0 ∷ word w ∷ []
+
+abbrev pub whole_behind : Reserved → List Due
+whole_behind w = word w ∷ whole 0 ∷ []
+
+-- a heading behind its "("
+abbrev pub parameters_in : Option Kind → List Due
+parameters_in kind = names_in ++ symbol symbols.CloseRound ∷ symbol symbols.Semicolon ∷ values_part ∷ make (put (specified [])) ∷ spec ∷ specs_more
+    ∷ make (headed_with kind) ∷ []
+
+abbrev pub specs_in : List Due
+specs_in = make (put (specified [])) ∷ spec ∷ specs_more ∷ []
+
+abbrev pub lows_in : List Due
+lows_in = make (put (lows [])) ∷ literal ∷ make low_added ∷ lows_more ∷ []
+
+abbrev pub pairs_in : List Due
+pairs_in = make (put (pairs [])) ∷ pair_in ++ pairs_more ∷ []
+
+-- one segment of arrays
+abbrev pub one_segment : Kind → List Due
+one_segment kind = names_in ++ symbol symbols.OpenSquare ∷ pairs_in ++ symbol symbols.CloseSquare ∷ make (rows_declared kind) ∷ []
+
+-- segments and the semicolon behind them
+abbrev pub arrays_in : Kind → List Due
+arrays_in kind = segment_in kind ++ symbol symbols.Semicolon ∷ []
+
+abbrev pub phrases_in : List Due
+phrases_in = make (put (phrases [])) ∷ phrase ∷ phrases_more ∷ []
+
+abbrev pub closed_phrases : List Due
+closed_phrases = phrases_in ++ symbol symbols.Greater ∷ []
+
+abbrev pub closed_items : List Due
+closed_items = items_part ∷ symbol symbols.CloseRound ∷ []
+
+-- an assignment to an element of that name, behind its "["
+abbrev pub element_in : Named → List Due
+element_in n = wholes_in ++ symbol symbols.CloseSquare ∷ symbol symbols.Becomes ∷ whole 0 ∷ make (assigned_element n) ∷ []
+
+-- a statement on an event behind its word
+abbrev pub acted : EventAct → List Due
+acted act = symbol symbols.OpenRound ∷ event ∷ symbol symbols.CloseRound ∷ make (acting act) ∷ []
+
+-- statements up to their END
+abbrev pub statements_in : ℕ → List Due
+statements_in d = make (put (list no_stmts)) ∷ statement d ∷ make stmt_added ∷ stmts_more d ∷ word reserved.End ∷ []
+
+abbrev pub is_type : Option Kind → Bool
+is_type (Some kind) = true
+is_type None = false
+
+-- a specification begins so
+abbrev pub begins_spec : TokenKind → Bool
+begins_spec k = is_type (type_of k) || (is_word reserved.Event k || is_word reserved.Array k)
+
+-- a declaration that begins with no type, and is none of a procedure, begins so
+abbrev pub lists_names : TokenKind → Bool
+lists_names (kinds.Word reserved.File) = true
+lists_names (kinds.Word reserved.Event) = true
+lists_names (kinds.Word reserved.Task) = true
+lists_names (kinds.Word reserved.Label) = true
+lists_names (kinds.Word reserved.Array) = true
+lists_names k = false
+
+-- the declaration of names behind EVENT, TASK or LABEL
+abbrev pub listing : TokenKind → List Named → Option PDecl
+listing (kinds.Word reserved.Event) ns = Some (events ns)
+listing (kinds.Word reserved.Task) ns = Some (tasks ns)
+listing (kinds.Word reserved.Label) ns = Some (labels ns)
+listing k ns = None

@@ -1,5 +1,0 @@
-use Rattle.algol_stmt.proofs.InOrder.{in_order}
-use Rattle.algol_stmt.proofs.programs_are_in_order.Goals as goal
-
-pub returns : goal.returns
-returns c = in_order

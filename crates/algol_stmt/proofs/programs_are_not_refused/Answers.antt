@@ -1,5 +1,0 @@
-use Rattle.algol_stmt.proofs.Refusals.{program_not_refused}
-use Rattle.algol_stmt.proofs.programs_are_not_refused.Goals as goal
-
-pub returns : goal.returns
-returns c = program_not_refused

@@ -1,5 +1,0 @@
-use Rattle.algol_stmt.proofs.OneTree.{one_tree_of_text}
-use Rattle.algol_stmt.proofs.texts_have_one_tree.Goals as goal
-
-pub returns : goal.returns
-returns c = one_tree_of_text
