@@ -20,7 +20,7 @@ use crate::cell::Cell;
 use crate::operator::{inverted, negated, result_of, truth_of};
 use crate::part::{Answer, Control, Frame, Given, Head, Outcome, Place, Supplied, Supply};
 use crate::scope::{Scopes, Sort};
-use crate::stack::Stack;
+use crate::stack::{Stack, append};
 use crate::value::Value;
 use algol_tree::{Call, Expr, List, Named, Op, Variable, Whole};
 use std::alloc::{AllocError, Global};
@@ -117,7 +117,7 @@ fn further<'p>(
 ) -> Result<Supply<'p>, AllocError>
     ensures { IfOk result (λ s. IsSupplied (scoped scopes.now) callee.now rest.now (settling.settle_actuals (scoped scopes.now) (exprs rest.now) (sorts_after (scoped scopes.now) callee.now gs.entry) (all_done gs.entry ++ done given.entry ∷ [])) (exprs_size (exprs rest.now)) s) }
 {
-    gs.items_mut().push(given)?;
+    append(&mut gs, given)?;
     Ok(Supply::Further(gs))
 }
 
@@ -320,7 +320,7 @@ fn next_argument<'p>(
 ) -> Result<Control<'p>, AllocError>
     ensures { IfOk result (λ c. Moves (scoped scopes.now) (refilled (scoped scopes.now) frames.old (settling.called_of callee.now (settling.settle_actuals (scoped scopes.now) (exprs es.now) (sorts_after (scoped scopes.now) callee.now gs.entry) (all_done gs.entry ++ rest.valued (value v) ∷ [])))) (1 + exprs_size (exprs es.now) + weigh_frames frames.old) c frames.new) }
 {
-    gs.items_mut().push(Given::Valued(v))?;
+    append(&mut gs, Given::Valued(v))?;
     call(scopes, callee, gs, es, frames)
 }
 
@@ -400,7 +400,7 @@ fn passed<'p>(
 ) -> Result<Control<'p>, AllocError>
     ensures { IfOk result (λ c. Moves (scoped scopes.now) (refilled (scoped scopes.now) frames.old (settling.called_of callee.now (settling.settle_actuals (scoped scopes.now) (exprs es.now) (sorts_after (scoped scopes.now) callee.now gs.entry) (all_done gs.entry ++ rest.passed (cell passing.entry) ∷ [])))) (1 + exprs_size (exprs es.now) + weigh_frames frames.old) c frames.new) }
 {
-    gs.items_mut().push(Given::Passed(passing))?;
+    append(&mut gs, Given::Passed(passing))?;
     call(scopes, callee, gs, es, frames)
 }
 

@@ -159,10 +159,14 @@ impl<'p> Work<'p> {
                 self.begin_from(alloc, scopes, Control::Eval(test), Within::Testing(s))
             }
             Stmt::Until(b, _) => self.begin_until(s, b),
-            Stmt::For(n, first, _, _, _) => {
-                Ok(Some(self.begin_for(alloc, scopes, s, n, first)?))
-            }
-            _ => Ok(Some(self.act(alloc, scopes, s)?)),
+            Stmt::For(n, first, _, _, _) => match self.begin_for(alloc, scopes, s, n, first) {
+                Ok(point) => Ok(Some(point)),
+                Err(error) => Err(error),
+            },
+            _ => match self.act(alloc, scopes, s) {
+                Ok(point) => Ok(Some(point)),
+                Err(error) => Err(error),
+            },
         }
     }
 
@@ -247,7 +251,10 @@ impl<'p> Work<'p> {
         match part {
             Again::Count(n) => self.count_on(n, s),
             Again::Check => self.check(alloc, scopes, s),
-            Again::Step => Ok(Some(self.step(alloc, scopes, s)?)),
+            Again::Step => match self.step(alloc, scopes, s) {
+                Ok(point) => Ok(Some(point)),
+                Err(error) => Err(error),
+            },
             Again::Test => self.test(alloc, scopes, s),
         }
     }
@@ -279,8 +286,10 @@ impl<'p> Work<'p> {
     {
         self.frames.clear();
         'going: while let Some(next) = self.todo.pop() {
-            if let Some(point) = self.advance(alloc, scopes, &next)? {
-                return Ok(point);
+            match self.advance(alloc, scopes, &next) {
+                Ok(None) => (),
+                Ok(Some(point)) => return Ok(point),
+                Err(error) => return Err(error),
             }
         }
         Ok(Point::Last(Last::Over))
@@ -296,9 +305,10 @@ impl<'p> Work<'p> {
     ) -> Result<Point<'p>, AllocError>
         ensures { IfOk result (λ p. Finds (scoped scopes.now) (held (scoped scopes.now) within.entry (refilled (scoped scopes.now) self.old.frames (half (scoped scopes.now) from.entry)) (ahead self.old)) p self.new) }
     {
-        match self.begin_from(alloc, scopes, from, within)? {
-            Some(point) => Ok(point),
-            None => self.go_on(alloc, scopes),
+        match self.begin_from(alloc, scopes, from, within) {
+            Ok(Some(point)) => Ok(point),
+            Ok(None) => self.go_on(alloc, scopes),
+            Err(error) => Err(error),
         }
     }
 }

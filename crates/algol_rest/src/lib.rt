@@ -7,6 +7,7 @@ mod ask;
 mod cell;
 mod expression;
 mod going;
+mod held;
 mod operator;
 mod part;
 mod rest;

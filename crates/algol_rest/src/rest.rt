@@ -8,22 +8,25 @@ ghost use Rattle.algol_meaning.specs.Statements.{settle_items, items_of, items_f
 ghost use Rattle.algol_meaning.specs.Asks as asks;
 ghost use Rattle.algol_meaning.specs.SeenTree.{expr, stmt, stmts};
 ghost use Rattle.algol_rest.specs.SeenScope.{scoped, block};
-ghost use Rattle.algol_rest.specs.SeenStatement.{answered, ahead, Finds};
+ghost use Rattle.algol_rest.specs.SeenStatement.{answered, ahead, Finds, rest_of};
 ghost use Rattle.algol_rest.specs.SeenRest.{rest, asked};
 
 use crate::ask::Ask;
+use crate::held::boxed;
 use crate::part::{Answer, Control};
 use crate::scope::{Block, BlockStatements, Scopes};
 use crate::stack::Stack;
-use crate::statement::{Next, Point, Sought, Target, Within, Work};
+use crate::statement::{Last, Next, Point, Sought, Target, Within, Work};
 use algol_meaning::same_name;
 use algol_tree::{Expr, Line, Stmt};
+use b67_list::discard;
 use std::alloc::{AllocError, Global};
+use std::mem;
 
 /// What a part of a process has still to do: where its head is, what is around the head, and what follows.
 #[derive(Drop)]
 pub struct Rest<'p> {
-    point: Point<'p>,
+    point: Box<Point<'p>>,
     work: Work<'p>,
 }
 
@@ -37,14 +40,14 @@ impl<'p> Rest<'p> {
     ) -> Result<Rest<'p>, AllocError>
         ensures { IfOk result (λ r. rest (scoped scopes.now) r ≡ settle_items (scoped scopes.now) (items_of (block entered.now))) }
     {
-        let mut work = Work::ending(alloc, entered)?;
-        match entered.stmts {
-            BlockStatements::All(ss) => work.todo.push(Next::Rest(ss))?,
-            BlockStatements::One(s) => work.todo.push(Next::Run(s))?,
+        let mut work = Work::new(alloc);
+        match work.enter_from(alloc, scopes, entered) {
+            Ok(point) => Ok(Rest { point, work }),
+            Err(error) => {
+                discard(work);
+                Err(error)
+            }
         }
-        work.todo.push(Next::Decls(entered.decls))?;
-        let point = work.go_on(alloc, scopes)?;
-        Ok(Rest { point, work })
     }
 
     /// The part that goes to a label in a block's own list of statements: that list from the label on.
@@ -56,17 +59,14 @@ impl<'p> Rest<'p> {
     ) -> Result<Rest<'p>, AllocError>
         ensures { IfOk result (λ r. rest (scoped scopes.now) r ≡ settle_items (scoped scopes.now) (items_from (block within.now) label.now)) }
     {
-        let mut work = Work::ending(alloc, within)?;
-        match within.stmts {
-            BlockStatements::All(ss) => work.todo.push(Next::Rest(from_label(ss, label)))?,
-            BlockStatements::One(s) => {
-                if is_labelled(s, label) {
-                    work.todo.push(Next::Run(s))?;
-                }
+        let mut work = Work::new(alloc);
+        match work.enter_at(alloc, scopes, within, label) {
+            Ok(point) => Ok(Rest { point, work }),
+            Err(error) => {
+                discard(work);
+                Err(error)
             }
         }
-        let point = work.go_on(alloc, scopes)?;
-        Ok(Rest { point, work })
     }
 
     /// The part that evaluates a name for its value.
@@ -78,8 +78,13 @@ impl<'p> Rest<'p> {
         ensures { IfOk result (λ r. rest (scoped scopes.now) r ≡ asks.evaluated_of (settling.settle (scoped scopes.now) (expr actual.now))) }
     {
         let mut work = Work::new(alloc);
-        let point = work.go_on_from(alloc, scopes, Control::Eval(actual), Within::Evaluating)?;
-        Ok(Rest { point, work })
+        match work.evaluate(alloc, scopes, actual) {
+            Ok(point) => Ok(Rest { point, work }),
+            Err(error) => {
+                discard(work);
+                Err(error)
+            }
+        }
     }
 
     /// The part that evaluates a name for its place.
@@ -91,8 +96,13 @@ impl<'p> Rest<'p> {
         ensures { IfOk result (λ r. rest (scoped scopes.now) r ≡ asks.located_of (settling.settle_actual_place (scoped scopes.now) (expr actual.now))) }
     {
         let mut work = Work::new(alloc);
-        let point = work.locate(alloc, scopes, actual)?;
-        Ok(Rest { point, work })
+        match work.locate(alloc, scopes, actual) {
+            Ok(point) => Ok(Rest { point, work }),
+            Err(error) => {
+                discard(work);
+                Err(error)
+            }
+        }
     }
 
     /// What the head asks for.
@@ -111,9 +121,18 @@ impl<'p> Rest<'p> {
     ) -> Result<Rest<'p>, AllocError>
         ensures { IfOk result (λ r. rest (scoped scopes.now) r ≡ asks.resume (scoped scopes.now) (rest (scoped scopes.now) self.entry) (answered answer.entry)) }
     {
-        let Rest { point, mut work } = self;
-        let point = work.resume(alloc, scopes, point, answer)?;
-        Ok(Rest { point, work })
+        let Rest {
+            mut point,
+            mut work,
+        } = self;
+        match work.resume_at(alloc, scopes, &mut *point, answer) {
+            Ok(()) => Ok(Rest { point, work }),
+            Err(error) => {
+                discard(point);
+                discard(work);
+                Err(error)
+            }
+        }
     }
 }
 
@@ -130,20 +149,98 @@ impl<'p> Work<'p> {
     }
 
     /// What comes at the end of a block: the result, where it is a typed procedure's.
-    fn ending(alloc: Global, ended: &Block<'p>) -> Result<Work<'p>, AllocError>
-        ensures { IfOk result (λ w. ahead w ≡ ending (block ended.now)) }
+    fn end(&mut self, ended: &Block<'p>) -> Result<(), AllocError>
+        requires { self.old.todo ≡ [] }
+        ensures { IfOk result (λ _. ahead self.new ≡ ending (block ended.now)) }
     {
-        let mut work = Work::new(alloc);
         if let Some(owner) = ended.owner {
             if owner.result.is_some() {
-                work.todo.push(Next::Result(owner.name))?;
+                self.todo.push(Next::Result(owner.name))?;
             }
         }
-        Ok(work)
+        Ok(())
+    }
+
+    /// All that follows, up to the next head.
+    fn start(&mut self, alloc: Global, scopes: &Scopes<'p>) -> Result<Box<Point<'p>>, AllocError>
+        ensures { IfOk result (λ p. Finds (scoped scopes.now) (settle_items (scoped scopes.now) (ahead self.old)) p.value self.new) }
+    {
+        let point = self.go_on(alloc, scopes)?;
+        boxed(alloc, point)
+    }
+
+    /// All of a block, up to the first head.
+    fn enter_from(
+        &mut self,
+        alloc: Global,
+        scopes: &Scopes<'p>,
+        entered: &Block<'p>,
+    ) -> Result<Box<Point<'p>>, AllocError>
+        requires { self.old.todo ≡ [] }
+        ensures { IfOk result (λ p. Finds (scoped scopes.now) (settle_items (scoped scopes.now) (items_of (block entered.now))) p.value self.new) }
+    {
+        self.end(entered)?;
+        match entered.stmts {
+            BlockStatements::All(ss) => self.todo.push(Next::Rest(ss))?,
+            BlockStatements::One(s) => self.todo.push(Next::Run(s))?,
+        }
+        self.todo.push(Next::Decls(entered.decls))?;
+        self.start(alloc, scopes)
+    }
+
+    /// A block from a label on, up to the first head.
+    fn enter_at(
+        &mut self,
+        alloc: Global,
+        scopes: &Scopes<'p>,
+        within: &Block<'p>,
+        label: &Line,
+    ) -> Result<Box<Point<'p>>, AllocError>
+        requires { self.old.todo ≡ [] }
+        ensures { IfOk result (λ p. Finds (scoped scopes.now) (settle_items (scoped scopes.now) (items_from (block within.now) label.now)) p.value self.new) }
+    {
+        self.end(within)?;
+        match within.stmts {
+            BlockStatements::All(ss) => self.todo.push(Next::Rest(from_label(ss, label)))?,
+            BlockStatements::One(s) => {
+                if is_labelled(s, label) {
+                    self.todo.push(Next::Run(s))?;
+                }
+            }
+        }
+        self.start(alloc, scopes)
+    }
+
+    /// The value of an actual, up to the first head.
+    fn evaluate(
+        &mut self,
+        alloc: Global,
+        scopes: &Scopes<'p>,
+        actual: &'p Expr,
+    ) -> Result<Box<Point<'p>>, AllocError>
+        requires { self.old.frames ≡ [] }
+        ensures { IfOk result (λ p. Finds (scoped scopes.now) (asks.evaluated_of (settling.settle (scoped scopes.now) (expr actual.now))) p.value self.new) }
+    {
+        let point = self.go_on_from(alloc, scopes, Control::Eval(actual), Within::Evaluating)?;
+        boxed(alloc, point)
+    }
+
+    /// The place of an actual, up to the first head.
+    fn locate(
+        &mut self,
+        alloc: Global,
+        scopes: &Scopes<'p>,
+        actual: &'p Expr,
+    ) -> Result<Box<Point<'p>>, AllocError>
+        requires { self.old.frames ≡ [] }
+        ensures { IfOk result (λ p. Finds (scoped scopes.now) (asks.located_of (settling.settle_actual_place (scoped scopes.now) (expr actual.now))) p.value self.new) }
+    {
+        let point = self.find(alloc, scopes, actual)?;
+        boxed(alloc, point)
     }
 
     /// The place of an actual.
-    fn locate(
+    fn find(
         &mut self,
         alloc: Global,
         scopes: &Scopes<'p>,
@@ -158,6 +255,22 @@ impl<'p> Work<'p> {
             }
             _ => Ok(Point::Seek(Sought::Locating, Target::Inside)),
         }
+    }
+
+    /// The head has this answer, and the part stands at the next head.
+    fn resume_at(
+        &mut self,
+        alloc: Global,
+        scopes: &Scopes<'p>,
+        at: &mut Point<'p>,
+        answer: Answer<'p>,
+    ) -> Result<(), AllocError>
+        ensures { IfOk result (λ _. Finds (scoped scopes.now) (asks.resume (scoped scopes.now) (rest_of (scoped scopes.now) at.old self.old.frames self.old.todo) (answered answer.entry)) at.new self.new) }
+    {
+        let from = mem::replace(at, Point::Last(Last::Over));
+        let next = self.resume(alloc, scopes, from, answer)?;
+        discard(mem::replace(at, next));
+        Ok(())
     }
 }
 

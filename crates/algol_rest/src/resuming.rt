@@ -23,6 +23,7 @@ use crate::stack::append;
 use crate::statement::{Deed, Next, Point, Role, Sought, Target, Within, Work};
 use crate::value::Value;
 use algol_tree::{Expr, List, Named, Stmt};
+use b67_list::discard;
 use std::alloc::{AllocError, Global};
 
 impl<'p> Work<'p> {
@@ -31,12 +32,14 @@ impl<'p> Work<'p> {
         &mut self,
         alloc: Global,
         scopes: &Scopes<'p>,
-        answer: &Answer<'p>,
+        answer: Answer<'p>,
     ) -> Result<Point<'p>, AllocError>
-        ensures { IfOk result (λ p. Finds (scoped scopes.now) (asks.evaluated_of (settling.half_of (answered answer.now))) p self.new) }
+        ensures { IfOk result (λ p. Finds (scoped scopes.now) (asks.evaluated_of (settling.half_of (answered answer.entry))) p self.new) }
     {
         self.frames.clear();
-        self.go_on_from(alloc, scopes, filled(answer), Within::Evaluating)
+        let from = filled(&answer);
+        discard(answer);
+        self.go_on_from(alloc, scopes, from, Within::Evaluating)
     }
 
     /// The statement of a CASE with that number comes next.
@@ -130,7 +133,10 @@ impl<'p> Work<'p> {
     {
         match answer {
             Answer::Place(at) => self.found(alloc, scopes, sought, at),
-            _ => Ok(Point::Seek(sought, Target::Inside)),
+            other => {
+                discard(other);
+                Ok(Point::Seek(sought, Target::Inside))
+            }
         }
     }
 
@@ -169,8 +175,11 @@ impl<'p> Work<'p> {
     {
         self.frames.clear();
         match target {
-            Target::Index(n, _, _, es) => self.index(alloc, scopes, sought, n, es, answer),
-            _ => self.place(alloc, scopes, sought, answer),
+            Target::Index(n, ks, _, es) => {
+                discard(ks);
+                self.index(alloc, scopes, sought, n, es, answer)
+            }
+            Target::Resolve(_) | Target::Inside => self.place(alloc, scopes, sought, answer),
         }
     }
 
@@ -186,8 +195,13 @@ impl<'p> Work<'p> {
     ) -> Result<Point<'p>, AllocError>
         ensures { IfOk result (λ p. Finds (scoped scopes.now) (asks.resume (scoped scopes.now) (held (scoped scopes.now) within.entry (rest.busy (wrap (scoped scopes.now) self.old.frames (hole (scoped scopes.now) head.entry))) (ahead self.old)) (answered answer.entry)) p self.new) }
     {
-        let from = put(alloc, scopes, head, answer, &mut self.frames)?;
-        self.go_on_from(alloc, scopes, from, within)
+        match put(alloc, scopes, head, answer, &mut self.frames) {
+            Ok(from) => self.go_on_from(alloc, scopes, from, within),
+            Err(error) => {
+                discard(within);
+                Err(error)
+            }
+        }
     }
 
     /// The head has this answer, and the part goes on up to the next head.
@@ -202,12 +216,31 @@ impl<'p> Work<'p> {
         ensures { IfOk result (λ p. Finds (scoped scopes.now) (asks.resume (scoped scopes.now) (rest_of (scoped scopes.now) point.entry self.old.frames self.old.todo) (answered answer.entry)) p self.new) }
     {
         match point {
-            Point::Last(last) => Ok(Point::Last(last)),
-            Point::Reading(_) => self.read(alloc, scopes, &answer),
-            Point::Deed(_) => self.go_on(alloc, scopes),
-            Point::Select(v, ss) => self.select(alloc, scopes, v, ss),
-            Point::EnterBlock(_) => self.enter_block(alloc, scopes, &answer),
-            Point::Enter(n, _) => self.enter(alloc, scopes, n, &answer),
+            Point::Last(last) => {
+                discard(answer);
+                Ok(Point::Last(last))
+            }
+            Point::Reading(_) => self.read(alloc, scopes, answer),
+            Point::Deed(deed) => {
+                discard(deed);
+                discard(answer);
+                self.go_on(alloc, scopes)
+            }
+            Point::Select(v, ss) => {
+                discard(answer);
+                self.select(alloc, scopes, v, ss)
+            }
+            Point::EnterBlock(_) => {
+                let found = self.enter_block(alloc, scopes, &answer);
+                discard(answer);
+                found
+            }
+            Point::Enter(n, gs) => {
+                discard(gs);
+                let found = self.enter(alloc, scopes, n, &answer);
+                discard(answer);
+                found
+            }
             Point::Pass(role, n, gs, _, es) => self.pass(alloc, scopes, role, n, gs, es, answer),
             Point::Seek(sought, target) => self.seek(alloc, scopes, sought, target, answer),
             Point::In(head, within) => self.fill(alloc, scopes, head, within, answer),

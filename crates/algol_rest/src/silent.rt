@@ -14,7 +14,7 @@ ghost use Rattle.algol_tree.specs.Scopes as scoping;
 ghost use Rattle.algol_rest.specs.declared.statement.Work.{Work};
 ghost use Rattle.algol_rest.specs.SeenValue.{value};
 ghost use Rattle.algol_rest.specs.SeenScope.{scoped};
-ghost use Rattle.algol_rest.specs.SeenExpression.{place, all_done, sorts_from, refilled, half};
+ghost use Rattle.algol_rest.specs.SeenExpression.{place, all_done, sorts_from, sorts_after, refilled, half, Comes};
 ghost use Rattle.algol_rest.specs.SeenStatement.{ahead, Finds, Advances, right_side, sought_at, role_at, tested, stepped_by, held, stmt_size, stmts_size, test_size, weigh, within_size};
 
 use crate::expression::{alone, evaluate, supplied};
@@ -27,6 +27,7 @@ use crate::value::Value;
 use algol_tree::{
     Body, Decl, Expr, Kind, List, Named, Op, Pair, PhraseText, Stmt, Variable, Whole,
 };
+use b67_list::discard;
 use std::alloc::{AllocError, Global};
 
 impl<'p> Work<'p> {
@@ -50,6 +51,21 @@ impl<'p> Work<'p> {
         }
     }
 
+    /// The right side of an assignment after its silent steps.
+    fn compute(
+        &mut self,
+        alloc: Global,
+        scopes: &Scopes<'p>,
+        right: Right<'p>,
+    ) -> Result<Outcome<'p>, AllocError>
+        requires { self.old.frames ≡ [] }
+        ensures comes { IfOk result (λ found. Comes (scoped scopes.now) (settling.settle (scoped scopes.now) (right_side right.entry)) found self.new.frames) }
+        ensures same { self.new.todo ≡ self.old.todo }
+    {
+        let from = self.right(alloc, scopes, right)?;
+        evaluate(alloc, scopes, from, &mut self.frames)
+    }
+
     /// The right side of an assignment to this place.
     fn assign(
         &mut self,
@@ -61,10 +77,13 @@ impl<'p> Work<'p> {
         requires { self.old.frames ≡ [] }
         ensures { IfOk result (λ p. Finds (scoped scopes.now) (statements.assigned_of (place to.entry) (settling.settle (scoped scopes.now) (right_side right.entry)) (ahead self.old)) p self.new) }
     {
-        let from = self.right(alloc, scopes, right)?;
-        match evaluate(alloc, scopes, from, &mut self.frames)? {
-            Outcome::Busy(head) => Ok(Point::In(head, Within::Storing(to))),
-            Outcome::Value(v) => Ok(Point::Deed(Deed::Store(to, v))),
+        match self.compute(alloc, scopes, right) {
+            Ok(Outcome::Busy(head)) => Ok(Point::In(head, Within::Storing(to))),
+            Ok(Outcome::Value(v)) => Ok(Point::Deed(Deed::Store(to, v))),
+            Err(error) => {
+                discard(to);
+                Err(error)
+            }
         }
     }
 
@@ -396,6 +415,72 @@ impl<'p> Work<'p> {
         }
     }
 
+    /// An actual of a statement has this value, and the actuals after it come next.
+    #[tactic(auto, using(crate::proofs::Following::held_laws))]
+    fn supply_value(
+        &mut self,
+        alloc: Global,
+        scopes: &Scopes<'p>,
+        v: Value,
+        role: Role<'p>,
+        n: &'p Named,
+        mut gs: List<Given<'p>>,
+        es: &'p [Expr],
+    ) -> Result<Option<Point<'p>>, AllocError>
+        requires { self.old.frames ≡ [] }
+        ensures { IfOk result (λ found. Advances (scoped scopes.now) (role_at role.entry n.now (settling.settle_actuals (scoped scopes.now) (exprs es.now) (sorts_after (scoped scopes.now) n.now gs.entry) (all_done gs.entry ++ rest.valued (value v) ∷ [])) (ahead self.old)) (1 + weigh self.old.todo) found self.new) }
+    {
+        append(&mut gs, Given::Valued(v))?;
+        match self.prepare(alloc, scopes, role, n, gs, es) {
+            Ok(point) => Ok(Some(point)),
+            Err(error) => Err(error),
+        }
+    }
+
+    /// An item of a line has this value, and the items after it come next.
+    #[tactic(auto, using(crate::proofs::Following::held_laws))]
+    fn write_value(
+        &mut self,
+        alloc: Global,
+        scopes: &Scopes<'p>,
+        v: Value,
+        phrases: &'p [PhraseText],
+        mut vs: List<Value>,
+        es: &'p [Expr],
+    ) -> Result<Option<Point<'p>>, AllocError>
+        requires { self.old.frames ≡ [] }
+        ensures { IfOk result (λ found. Advances (scoped scopes.now) (statements.settle_line (scoped scopes.now) (exprs es.now) phrases.now (ahead self.old) (map value vs ++ value v ∷ [])) (1 + weigh self.old.todo) found self.new) }
+    {
+        append(&mut vs, v)?;
+        match self.write(alloc, scopes, phrases, vs, es) {
+            Ok(point) => Ok(Some(point)),
+            Err(error) => Err(error),
+        }
+    }
+
+    /// An upper bound has this value, and the bounds after it come next.
+    #[tactic(auto, using(crate::proofs::Following::held_laws))]
+    fn bound_value(
+        &mut self,
+        alloc: Global,
+        scopes: &Scopes<'p>,
+        v: Value,
+        kind: Kind,
+        ns: &'p [Named],
+        all: &'p [Pair],
+        mut vs: List<Value>,
+        left: &'p [Pair],
+    ) -> Result<Option<Point<'p>>, AllocError>
+        requires { self.old.frames ≡ [] }
+        ensures { IfOk result (λ found. Advances (scoped scopes.now) (statements.settle_bounds (scoped scopes.now) (pairs left.now) kind ns.now (pairs all.now) (ahead self.old) (map value vs ++ value v ∷ [])) (1 + weigh self.old.todo) found self.new) }
+    {
+        append(&mut vs, v)?;
+        match self.bound(alloc, scopes, kind, ns, all, vs, left) {
+            Ok(point) => Ok(Some(point)),
+            Err(error) => Err(error),
+        }
+    }
+
     /// What follows an expression with this value.
     #[tactic(auto, using(crate::proofs::Following::held_laws))]
     fn held_value(
@@ -413,20 +498,17 @@ impl<'p> Work<'p> {
             Within::Storing(to) => Ok(Some(Point::Deed(Deed::Store(to, v)))),
             Within::Testing(s) => self.tested(alloc, scopes, v, s),
             Within::Stepping(difference, s) => self.stepped(difference, v, s),
-            Within::Supplying(role, n, mut gs, es) => {
-                append(&mut gs, Given::Valued(v))?;
-                Ok(Some(self.prepare(alloc, scopes, role, n, gs, es)?))
+            Within::Supplying(role, n, gs, es) => {
+                self.supply_value(alloc, scopes, v, role, n, gs, es)
             }
             Within::Subscripting(sought, n, ks, es) => {
                 Ok(Some(Point::Seek(sought, Target::Index(n, ks, v, es))))
             }
-            Within::Writing(phrases, mut vs, es) => {
-                append(&mut vs, v)?;
-                Ok(Some(self.write(alloc, scopes, phrases, vs, es)?))
+            Within::Writing(phrases, vs, es) => {
+                self.write_value(alloc, scopes, v, phrases, vs, es)
             }
-            Within::Bounding(kind, ns, all, mut vs, left) => {
-                append(&mut vs, v)?;
-                Ok(Some(self.bound(alloc, scopes, kind, ns, all, vs, left)?))
+            Within::Bounding(kind, ns, all, vs, left) => {
+                self.bound_value(alloc, scopes, v, kind, ns, all, vs, left)
             }
         }
     }
@@ -441,9 +523,13 @@ impl<'p> Work<'p> {
     ) -> Result<Option<Point<'p>>, AllocError>
         ensures { IfOk result (λ found. Advances (scoped scopes.now) (held (scoped scopes.now) within.entry (refilled (scoped scopes.now) self.old.frames (half (scoped scopes.now) from.entry)) (ahead self.old)) (within_size within.entry + weigh self.old.todo) found self.new) }
     {
-        match evaluate(alloc, scopes, from, &mut self.frames)? {
-            Outcome::Busy(head) => Ok(Some(Point::In(head, within))),
-            Outcome::Value(v) => self.held_value(alloc, scopes, v, within),
+        match evaluate(alloc, scopes, from, &mut self.frames) {
+            Ok(Outcome::Busy(head)) => Ok(Some(Point::In(head, within))),
+            Ok(Outcome::Value(v)) => self.held_value(alloc, scopes, v, within),
+            Err(error) => {
+                discard(within);
+                Err(error)
+            }
         }
     }
 
@@ -459,7 +545,10 @@ impl<'p> Work<'p> {
         requires { self.old.frames ≡ [] }
         ensures { IfOk result (λ found. Advances (scoped scopes.now) (settle_items (scoped scopes.now) (rest.make_arrays kind ns.now (pairs ps.now) ∷ ahead self.old)) (3 + weigh self.old.todo) found self.new) }
     {
-        Ok(Some(self.bound(alloc, scopes, kind, ns, ps, List::of(Vec::new(alloc)), ps)?))
+        match self.bound(alloc, scopes, kind, ns, ps, List::of(Vec::new(alloc)), ps) {
+            Ok(point) => Ok(Some(point)),
+            Err(error) => Err(error),
+        }
     }
 
     /// The making of events.

@@ -8,7 +8,7 @@ use algol_tree::{
 };
 
 /// What follows a statement.
-#[derive(Drop)]
+#[derive(Clone, Copy)]
 pub enum Next<'p> {
     Run(&'p Stmt),
     /// The statements of a list from there on.

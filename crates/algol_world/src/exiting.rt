@@ -18,6 +18,7 @@ use crate::lists::no_items;
 use crate::world::{Process, World};
 use algol_rest::{Answer, Reference};
 use algol_tree::List;
+use b67_list::discard;
 use b67_num::FaultKind;
 use std::alloc::{AllocError, Global};
 
@@ -117,15 +118,20 @@ impl<'p> World<'p> {
         ensures same { self.new.scopes ≡ self.old.scopes }
     {
         match self.innermost(number) {
-            None => Ok(Acted::alone(alloc, Action::Fault)),
+            None => {
+                discard(answer);
+                Ok(Acted::alone(alloc, Action::Fault))
+            }
             Some(part) => {
                 if part.evaluates {
                     self.end_part(alloc, number, answer)?;
                     Ok(Acted::alone(alloc, Action::Leave))
                 } else if self.some_depends(part.instance) {
+                    discard(answer);
                     self.fail(number, FaultKind::CriticalBlockExit);
                     Ok(Acted::alone(alloc, Action::Fault))
                 } else if part.alone {
+                    discard(answer);
                     Ok(self.end(alloc, number, part.instance))
                 } else {
                     self.leave(part.instance);

@@ -13,6 +13,7 @@ use crate::instance::place;
 use crate::lists::item;
 use crate::world::{Part, Process, Purpose, State, World, WorldFault};
 use algol_rest::{Answer, Scopes};
+use b67_list::discard;
 use b67_num::FaultKind;
 use std::alloc::{AllocError, Global};
 
@@ -50,10 +51,17 @@ impl<'p> Process<'p> {
         ensures { IfOk result (λ _. process (scoped scopes.now) self.new ≡ record (process (scoped scopes.now) self.old) { todo = left_todo (scoped scopes.now) ((process (scoped scopes.now) self.old).todo) (answered answer.entry) }) }
     {
         match self.todo.pop() {
-            None => Ok(()),
+            None => {
+                discard(answer);
+                Ok(())
+            }
             Some(inner) => match self.todo.pop() {
-                None => self.todo.push(inner),
+                None => {
+                    discard(answer);
+                    self.todo.push(inner)
+                }
                 Some(next) => {
+                    discard(inner);
                     let Part {
                         instance,
                         purpose,

@@ -11,6 +11,7 @@ ghost use Rattle.algol_world.specs.Going.{resumed, going, stopping, opening};
 use crate::instance::place;
 use crate::world::{Part, Process, State, World};
 use algol_rest::{Answer, Scopes};
+use b67_list::discard;
 use std::alloc::{AllocError, Global};
 
 impl<'p> Process<'p> {
@@ -23,20 +24,25 @@ impl<'p> Process<'p> {
     ) -> Result<(), AllocError>
         ensures { IfOk result (λ _. process (scoped scopes.now) self.new ≡ record (process (scoped scopes.now) self.old) { todo = resumed (scoped scopes.now) ((process (scoped scopes.now) self.old).todo) (answered answer.entry) }) }
     {
-        if let Some(inner) = self.todo.pop() {
-            let Part {
-                instance,
-                purpose,
-                rest,
-            } = inner;
-            let rest = rest.resume(alloc, scopes, answer)?;
-            self.todo.push(Part {
-                instance,
-                purpose,
-                rest,
-            })?;
+        match self.todo.pop() {
+            None => {
+                discard(answer);
+                Ok(())
+            }
+            Some(inner) => {
+                let Part {
+                    instance,
+                    purpose,
+                    rest,
+                } = inner;
+                let rest = rest.resume(alloc, scopes, answer)?;
+                self.todo.push(Part {
+                    instance,
+                    purpose,
+                    rest,
+                })
+            }
         }
-        Ok(())
     }
 
     /// It goes on, and waits.
