@@ -195,8 +195,8 @@ thru_read whole e b y same k = ap stmt same ∙ its e b ∙ ap (λ (z : Stmt). t
     its : (e : Expr) (b : Box Stmt Global) → stmt (forms.Thru e b) ≡ tree.thru (expr e) (stmt b.value)
     its e b = search (rules, statements.the_lemmas)
 
-pub case_read : (whole : Stmt) (e : Expr) (ss : List Stmt) → whole ≡ (forms.Case e ss) → stmt whole ≡ tree.case (expr e) (stmts ss)
-case_read whole e ss same = ap stmt same ∙ its e ss
+pub case_read : (whole : Stmt) (e : Expr) (ss us : List Stmt) → whole ≡ (forms.Case e ss) → us ≡ ss → stmt whole ≡ tree.case (expr e) (stmts us)
+case_read whole e ss us same k = ap stmt same ∙ its e ss ∙ ap (λ (z : List Stmt). tree.case (expr e) (stmts z)) (sym k)
   where
     its : (e : Expr) (ss : List Stmt) → stmt (forms.Case e ss) ≡ tree.case (expr e) (stmts ss)
     its e ss = search (rules, statements.the_lemmas)

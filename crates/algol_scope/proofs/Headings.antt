@@ -65,13 +65,6 @@ abbrev pub after : List (List ℕ) → List Named → List (List ℕ)
 after seen [] = seen
 after seen (n ∷ ns) = after (n.name ∷ seen) ns
 
-pub repeated-same : (xs ys : List (List ℕ)) (ns : List Named) → ((q : List ℕ) → is_one_of xs q ≡ is_one_of ys q) → repeated xs ns ≡ repeated ys ns
-repeated-same xs ys [] h = refl
-repeated-same xs ys (n ∷ ns) h =
-    ap (λ b. if_so b n.spot ++ repeated (n.name ∷ xs) ns) (h n.name)
-    ∙ ap (λ z. if_so (is_one_of ys n.name) n.spot ++ z)
-    (repeated-same (n.name ∷ xs) (n.name ∷ ys) ns (λ q. ap (λ b. if same_name n.name q then true else b) (h q)))
-
 pub repeated-append : (seen : List (List ℕ)) (xs ys : List Named) → repeated seen (xs ++ ys) ≡ repeated seen xs ++ repeated (after seen xs) ys
 repeated-append seen [] ys = refl
 repeated-append seen (x ∷ xs) ys =

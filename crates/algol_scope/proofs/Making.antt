@@ -140,9 +140,6 @@ widens-then k l m f g x y =
       holds = λ a s h. y.holds (f a) (x.sees a s) (x.holds a s h);
     }
 
-pub widens-none : (k : Around) → Widens k k (λ a. a)
-widens-none k = record { outer = refl; procedures = refl; typed = refl; before = λ a s. s; sees = λ a s. s; holds = λ a s h. h }
-
 -- one more declaration
 pub widens-one : (k m : Around) (name : List ℕ) (entry : Entry) (d : Surroundings → Declared) → Declares k m name entry → m.outer ≡ k.outer →
     m.procedures ≡ k.procedures → m.innermost.typed ≡ k.innermost.typed →

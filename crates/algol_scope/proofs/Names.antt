@@ -31,7 +31,7 @@ use Rattle.algol_scope.specs.Seeing.{Declares, Introduces, IsClass, IsEntry, See
 use Rattle.algol_scope.specs.Noting.{Adds, content_of}
 use Rattle.algol_scope.specs.Declaring.{Admits, StandsFor, Widens, declaring, parameters_so, result_in}
 use Rattle.algol_scope.proofs.Walking.{adds-as, adds-none, adds-then}
-use Rattle.algol_scope.proofs.Making.{level-here, widens-none, widens-one, widens-then}
+use Rattle.algol_scope.proofs.Making.{level-here, widens-one, widens-then}
 
 split : {A : Type 0} (xs : List A) (i : ℕ) (x : A) → i < length xs → drop i xs ≡ get_or xs i x ∷ drop (i + 1) xs
 split xs i x h =
@@ -65,10 +65,6 @@ names-step k l m sort c class x rest name entry stands n e w d o p t before =
       level = ap (λ (z : Entry). z.level) e ∙ level-here l seens.All a s;
       class = (let P : Class → Type 0 = λ z. IsClass l.procedures.items z c in subst P (sym (ap (λ (z : Entry). z.class) e)) (stands l.procedures.items));
     }))
-
-pub names-none : (k : Around) (sort : Sort) (c : classes.Class) (ns : List Named) (i : ℕ) → length ns ≤ i → Widens k k (declaring sort c (drop i ns))
-names-none k sort c ns i h =
-    let P : List Named → Type 0 = λ z. Widens k k (declaring sort c z) in subst P (sym (dropped ns i h)) (widens-none k)
 
 pub names-back : (k l m : Around) (sort : Sort) (c : classes.Class) (class : Class) (ns : List Named) (at : ℕ) (n o : Named) (name : List ℕ) (entry : Entry) → 0 < at →
     at ≤ length ns → StandsFor class c → name ≡ (get_or ns (at - 1) o).name →
@@ -126,12 +122,6 @@ mode_at : (h : Heading) (ns : List Named) (i : ℕ) (n : Named) → i < length n
 mode_at h [] i n l = absurd (omega arith)
 mode_at h (x ∷ xs) zero n l = refl
 mode_at h (x ∷ xs) (suc i) n l = mode_at h xs i n (omega arith)
-
-pub admits-none : (k : Around) (h : Heading) (i : ℕ) (ns : List Named) → length ns ≤ i → Admits k k (parameters_so (record h { params = drop i ns }))
-admits-none k h i ns l =
-    let P : List Named → Type 0 = λ z. Admits k k (parameters_so (record h { params = z })) in
-    subst P (sym (dropped ns i l))
-    (record { outer = refl; procedures = refl; typed = refl; declared = refl; sees = λ sees a b s t. t; holds = λ a b s t. t })
 
 admits-step : (k l m : Around) (h : Heading) (x : Named) (rest : List Named) (name : List ℕ) (entry : Entry) → name ≡ x.name →
     entry.spot ≡ x.spot → entry.block ≡ l.innermost.block → entry.level ≡ level_within l → IsClass l.procedures.items entry.class (class_in h.specs x.name) →

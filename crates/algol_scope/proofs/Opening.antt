@@ -5,6 +5,7 @@ use Rattle.std.specs.Bool.{◌==◌}
 use Rattle.algol_tree.specs.declared.token.Spot.{Spot}
 use Rattle.algol_tree.specs.declared.tree.Body.{Body}
 use Rattle.algol_tree.specs.declared.tree.Decl.{Decl}
+use Rattle.algol_tree.specs.declared.tree.Stmt.{Stmt}
 use Rattle.algol_tree.specs.Plain as tree
 use Rattle.algol_tree.specs.Plain.{PDecl, PDecls, PStmt, PStmts, PBody}
 use Rattle.algol_tree.specs.Image.{body, decls, stmts}
@@ -98,10 +99,12 @@ compound old new spot [] ss listed h v =
     (stmt_blocks (tree.block (tree.body spot tree.no_decls ss))) (λ blocks a. refl) (λ blocks a. refl) (λ blocks a. refl) (λ spots. refl) v
 compound old new spot (d ∷ ds) ss listed h v = absurd (not_empty (length ds) h)
 
-pub visits-compound : (old new : Resolver) (b : Body) (n : ℕ) (listed : Bool) (answer : Bool) → n ≡ length b.decls → answer ≡ (n == 0) → answer ≡ true →
-    Visits old new (λ blocks. sites_in_stmts blocks (stmts b.stmts) false) (blocks_in_stmts (stmts b.stmts)) →
+pub visits-compound : (old new : Resolver) (b : Body) (all : List Stmt) → all ≡ b.stmts → (n : ℕ) (listed : Bool) (answer : Bool) → n ≡ length b.decls →
+    answer ≡ (n == 0) → answer ≡ true → Visits old new (λ blocks. sites_in_stmts blocks (stmts all) false) (blocks_in_stmts (stmts all)) →
     Visits old new (stmt_parts (tree.block (body b)) listed) (stmt_blocks (tree.block (body b)))
-visits-compound old new b n listed answer count e h v =
+visits-compound old new b all whole n listed answer count e h u =
+    let V : List Stmt → Type 0 = λ z. Visits old new (λ blocks. sites_in_stmts blocks (stmts z) false) (blocks_in_stmts (stmts z)) in
+    let v : V b.stmts = subst V whole u in
     let P : PBody → Type 0 = λ z. Visits old new (stmt_parts (tree.block z) listed) (stmt_blocks (tree.block z)) in
     subst P (sym (body_is b)) (compound old new b.spot b.decls (stmts b.stmts) listed (ap (λ z. z == 0) (sym count) ∙ sym e ∙ h) v)
 
@@ -208,11 +211,13 @@ closed old mid ful around o k give same =
 
 -- ---- a body: its declarations, and its statements
 
-pub fills-body : (old mid new : Resolver) (b : Body) (items : List Decl) → items ≡ b.decls →
+pub fills-body : (old mid new : Resolver) (b : Body) (items : List Decl) → items ≡ b.decls → (all : List Stmt) → all ≡ b.stmts →
     Enters old mid (λ blocks. sites_in_decls blocks (decls items)) (blocks_in_decls (decls items)) (λ blocks. knowing_all blocks (decls items)) →
-    ((listed : Bool) → Visits mid new (λ blocks. sites_in_stmts blocks (stmts b.stmts) listed) (blocks_in_stmts (stmts b.stmts))) →
+    ((listed : Bool) → Visits mid new (λ blocks. sites_in_stmts blocks (stmts all) listed) (blocks_in_stmts (stmts all))) →
     Fills old new (λ blocks. sites_in_body blocks (body b)) (blocks_in_body (body b))
-fills-body old mid new b items same enters v =
+fills-body old mid new b items same all whole enters u =
+    let V : List Stmt → Type 0 = λ z. (listed : Bool) → Visits mid new (λ blocks. sites_in_stmts blocks (stmts z) listed) (blocks_in_stmts (stmts z)) in
+    let v : V b.stmts = subst V whole u in
     let E : List Decl → Type 0 = λ z. Enters old mid (λ blocks. sites_in_decls blocks (decls z)) (blocks_in_decls (decls z)) (λ blocks. knowing_all blocks (decls z)) in
     let e : E b.decls = subst E same enters in
     let P : PBody → Type 0 = λ z. Fills old new (λ blocks. sites_in_body blocks z) (blocks_in_body z) in

@@ -43,9 +43,6 @@ of_call c = search (rules, exprs_of.the_lemmas)
 pub expr_variable : (e : Expr) (v : Variable) → e ≡ expression.Variable v → expr e ≡ tree.variable (tree.subscripted v.name (exprs v.subs))
 expr_variable e v h = ap expr h ∙ of_variable v ∙ ap (λ w. tree.variable w) (variable_is v)
 
-pub expr_call : (e : Expr) (c : Call) → e ≡ expression.Call c → expr e ≡ tree.call (tree.called c.name (exprs c.actuals))
-expr_call e c h = ap expr h ∙ of_call c ∙ ap (λ w. tree.call w) (call_is c)
-
 pub expr_happened : (e : Expr) (event : EventName) (spot : Spot) → e ≡ expression.Happened event spot → expr e ≡ tree.tested tree.happened event spot
 expr_happened e event spot h = ap expr h ∙ of_happened event spot
   where

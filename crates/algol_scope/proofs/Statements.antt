@@ -212,11 +212,6 @@ visits-event old new act e listed x =
     visits-as old new (λ blocks a. at_name e.name a ∷ []) (stmt_parts (tree.event act e) listed) no_blocks no_blocks (λ blocks a. refl) (λ blocks a. refl)
     (λ blocks a. refl) (λ spots. refl) x
 
-pub visits-empty : (r : Resolver) (listed : Bool) → Visits r r (stmt_parts tree.empty listed) no_blocks
-visits-empty r listed =
-    visits-as r r (λ blocks a. []) (stmt_parts tree.empty listed) no_blocks no_blocks (λ blocks a. refl) (λ blocks a. refl) (λ blocks a. refl) (λ spots. refl)
-    (visits-none r)
-
 -- ---- a list of statements
 
 -- a walk that has come so far: with the rest it goes through all

@@ -164,12 +164,6 @@ abbrev others : List Formal → List Formal
 others [] = []
 others (f ∷ fs) = fs
 
-first-drop : (i : ℕ) (fs : List Formal) → first (drop i fs) ≡ slice_get fs i
-first-drop zero [] = refl
-first-drop zero (f ∷ fs) = refl
-first-drop (suc i) [] = refl
-first-drop (suc i) (f ∷ fs) = first-drop i fs
-
 others-drop : (i : ℕ) (fs : List Formal) → others (drop i fs) ≡ drop (suc i) fs
 others-drop zero [] = refl
 others-drop zero (f ∷ fs) = refl

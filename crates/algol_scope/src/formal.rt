@@ -15,7 +15,7 @@ use std::alloc::{AllocError, Global};
 use std::collections::BTreeMap;
 
 /// How an actual is given to a parameter.
-#[derive(Clone, Copy, PartialEq, Eq)]
+#[derive(Clone, Copy)]
 pub enum Mode {
     ByValue,
     ByName,
@@ -109,10 +109,24 @@ pub fn modes(alloc: Global, heading: &Heading) -> Result<Vec<Mode>, AllocError>
 {
     let simple = simple_names(alloc, heading)?;
     let by_value = named_in(alloc, heading.values.items().as_slice())?;
+    modes_by(alloc, heading, &simple, &by_value)
+}
+
+/// The same, by what is said of the names: which are simple, and which are by value.
+fn modes_by(
+    alloc: Global,
+    heading: &Heading,
+    simple: &Said,
+    by_value: &Said,
+) -> Result<Vec<Mode>, AllocError>
+    requires simple { (q : List ℕ) → said (under simple.now q) false ≡ classes.is_simple (class_in heading.now.specs q) }
+    requires by_value { (q : List ℕ) → said (under by_value.now q) false ≡ is_named_in heading.now.values q }
+    ensures { IfOk result (λ found. found.items ≡ map mode_of (formals_of heading.now)) }
+{
     let mut found = Vec::new(alloc);
     'params: for n in heading.params.items() {
         let name = n.name.bytes();
-        found.push(mode_for(is_said(&simple, name), is_said(&by_value, name)))?;
+        found.push(mode_for(is_said(simple, name), is_said(by_value, name)))?;
     }
     Ok(found)
 }

@@ -28,7 +28,7 @@ pub struct Entry {
 }
 
 /// How much of the innermost block is seen: all, or for a bound what stands before its declarations.
-#[derive(Clone, Copy, PartialEq, Eq)]
+#[derive(Clone, Copy)]
 pub enum Seen {
     All,
     BeforeDeclarations,

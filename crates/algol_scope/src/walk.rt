@@ -13,7 +13,8 @@ ghost use Rattle.algol_scope.specs.Stating.{Enters, Fills, Visits, stmt_blocks, 
 
 use crate::declaration::Ahead;
 use crate::resolver::Resolver;
-use algol_tree::{Body, Decl, Expr, Heading, List, Named, Stmt};
+use algol_rules::{boxed_stmt, decls_in, is_compound, stmts_in};
+use algol_tree::{Body, Decl, Expr, Heading, Named, Stmt};
 use std::alloc::AllocError;
 
 impl<'p> Resolver<'p> {
@@ -23,23 +24,23 @@ impl<'p> Resolver<'p> {
     {
         match s {
             Stmt::Empty => Ok(()),
-            Stmt::Label(n, s) => self.labelled(n, s),
+            Stmt::Label(n, s) => self.labelled(n, boxed_stmt(s)),
             Stmt::Assign(v, e) => self.assign(v, e),
             Stmt::Call(c) => self.call(c),
             Stmt::GoTo(n) => self.name(n),
             Stmt::Block(b) => self.begin(b),
             Stmt::If(c, a, b) => {
-                self.guarded(a, c)?;
+                self.guarded(boxed_stmt(a), c)?;
                 match b {
                     None => Ok(()),
-                    Some(b) => self.stmt(b),
+                    Some(b) => self.stmt(boxed_stmt(b)),
                 }
             }
-            Stmt::While(c, b) => self.guarded(b, c),
-            Stmt::Until(b, c) => self.until(b, c),
-            Stmt::For(v, a, s, l, b) => self.counted(b, v, a, s, l),
-            Stmt::Thru(e, b) => self.guarded(b, e),
-            Stmt::Case(e, ss) => self.case(ss, e),
+            Stmt::While(c, b) => self.guarded(boxed_stmt(b), c),
+            Stmt::Until(b, c) => self.until(boxed_stmt(b), c),
+            Stmt::For(v, a, s, l, b) => self.counted(boxed_stmt(b), v, a, s, l),
+            Stmt::Thru(e, b) => self.guarded(boxed_stmt(b), e),
+            Stmt::Case(e, ss) => self.case(stmts_in(ss), e),
             Stmt::Process(c, task) => self.process(c, task),
             Stmt::Event(_, event) => self.name(&event.name),
             Stmt::Write(n, _, _, items) => self.write(n, items),
@@ -87,7 +88,7 @@ impl<'p> Resolver<'p> {
     }
 
     #[cycle(statements)]
-    fn case(&mut self, ss: &'p List<Stmt>, e: &'p Expr) -> Result<(), AllocError>
+    fn case(&mut self, ss: &'p [Stmt], e: &'p Expr) -> Result<(), AllocError>
         ensures { OnOk result ((listed : Bool) → Visits self.old self.new (stmt_parts (tree.case (expr e.now) (stmts ss.now)) listed) (blocks_in_stmts (stmts ss.now))) }
     {
         self.expr(e)?;
@@ -95,10 +96,10 @@ impl<'p> Resolver<'p> {
     }
 
     #[cycle(statements)]
-    fn stmts(&mut self, ss: &'p List<Stmt>) -> Result<(), AllocError>
+    fn stmts(&mut self, ss: &'p [Stmt]) -> Result<(), AllocError>
         ensures { OnOk result ((listed : Bool) → Visits self.old self.new (λ blocks. sites_in_stmts blocks (stmts ss.now) listed) (blocks_in_stmts (stmts ss.now))) }
     {
-        'statements: for s in ss.items() {
+        'statements: for s in ss {
             self.stmt(s)?;
         }
         Ok(())
@@ -109,8 +110,8 @@ impl<'p> Resolver<'p> {
     fn begin(&mut self, b: &'p Body) -> Result<(), AllocError>
         ensures { OnOk result ((listed : Bool) → Visits self.old self.new (stmt_parts (tree.block (body b.now)) listed) (stmt_blocks (tree.block (body b.now)))) }
     {
-        if b.decls.items().as_slice().is_empty() {
-            return self.stmts(&b.stmts);
+        if is_compound(b) {
+            return self.stmts(stmts_in(&b.stmts));
         }
         self.open(b.spot, None, false)?;
         self.body(b)?;
@@ -123,8 +124,8 @@ impl<'p> Resolver<'p> {
     pub fn body(&mut self, b: &'p Body) -> Result<(), AllocError>
         ensures { OnOk result (Fills self.old self.new (λ blocks. sites_in_body blocks (body b.now)) (blocks_in_body (body b.now))) }
     {
-        self.decls(b.decls.items().as_slice())?;
-        self.stmts(&b.stmts)
+        self.decls(decls_in(&b.decls))?;
+        self.stmts(stmts_in(&b.stmts))
     }
 
     #[cycle(statements)]
@@ -150,7 +151,7 @@ impl<'p> Resolver<'p> {
             Decl::Labels(ns) => self.labels(ns),
             Decl::Arrays(_, ns, pairs) => self.arrays(ns, pairs),
             Decl::Forward(h) => self.forward(h, ahead),
-            Decl::Procedure(h, s) => self.procedure(h, s, ahead),
+            Decl::Procedure(h, s) => self.procedure(h, boxed_stmt(s), ahead),
         }
     }
 

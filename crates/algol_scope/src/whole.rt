@@ -8,7 +8,7 @@ ghost use Rattle.algol_tree.specs.Names.{program_segment};
 ghost use Rattle.algol_tree.specs.declared.TheConstants.{MOST_BLOCK_CELLS};
 ghost use Rattle.algol_tree.specs.declared.refusal.Code.TheVariants as codes;
 ghost use Rattle.algol_tree.specs.declared.refusal.Refusal.TheVariants as refusals;
-ghost use Rattle.algol_scope.specs.Finding.{Holds, limit_faults};
+ghost use Rattle.algol_scope.specs.Finding.{Holds, IsNew, limit_faults};
 ghost use Rattle.algol_scope.specs.Framing.{cells_in};
 ghost use Rattle.algol_scope.specs.Laying.{AreLaid};
 ghost use Rattle.algol_scope.specs.Noting.{long_segment};
@@ -21,6 +21,7 @@ use crate::resolver::Resolver;
 use crate::scopes::Scopes;
 use algol_rules::{Faults, program_tokens};
 use algol_tree::{Code, MOST_SEGMENT_TOKENS, Program, Refusal};
+use b67_list::discard;
 use std::alloc::{AllocError, Global};
 
 /// What is found in a whole program.
@@ -29,9 +30,23 @@ fn found_in<'p>(alloc: Global, program: &'p Program) -> Result<Resolver<'p>, All
     ensures { IfOk result (λ found. Holds found (image.program program.now)) }
 {
     let mut resolver = Resolver::new(alloc);
+    match walk(program, &mut resolver) {
+        Ok(()) => Ok(resolver),
+        Err(error) => {
+            discard(resolver);
+            Err(error)
+        }
+    }
+}
+
+/// The walk over a whole program, from before its outer block.
+fn walk<'p>(program: &'p Program, resolver: &mut Resolver<'p>) -> Result<(), AllocError>
+    requires order { IsInOrder (image.program program.now) }
+    requires fresh { IsNew resolver.old }
+    ensures { OnOk result (Holds resolver.new (image.program program.now)) }
+{
     resolver.begun(program.body.spot, false)?;
-    resolver.body(&program.body)?;
-    Ok(resolver)
+    resolver.body(&program.body)
 }
 
 /// Notes whether the text of the program itself is too long.
@@ -78,11 +93,23 @@ pub fn resolve(alloc: Global, program: &Program) -> Result<Scopes, Refusal>
     ensures are { IfOk result (AreOf (image.program program.now)) }
 {
     let mut found = found_in(alloc, program)?;
+    let scopes = scopes_found(alloc, program, &mut found);
+    discard(found);
+    scopes
+}
+
+/// The scopes of a program that the walk has gone over, or its refusal.
+fn scopes_found(alloc: Global, program: &Program, found: &mut Resolver) -> Result<Scopes, Refusal>
+    requires order { IsInOrder (image.program program.now) }
+    requires found { Holds found.old (image.program program.now) }
+    ensures refused { IfErr result (IsRefused (image.program program.now)) }
+    ensures are { IfOk result (AreOf (image.program program.now)) }
+{
     let cells = by_block(alloc, found.findings.cells.as_slice())?;
-    note_limits(alloc, program, &mut found, &cells)?;
+    note_limits(alloc, program, found, &cells)?;
     match found.findings.faults.refusal() {
         Err(refusal) => Err(refusal),
-        Ok(()) => scopes_of(alloc, &found, &cells),
+        Ok(()) => scopes_of(alloc, found, &cells),
     }
 }
 

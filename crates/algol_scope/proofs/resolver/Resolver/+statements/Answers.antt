@@ -1,4 +1,4 @@
-use Rattle.std.proofs.Common.{◌∙◌, ap, length, false, drop, arith}
+use Rattle.std.proofs.Common.{length, false, drop, refl, arith}
 use Rattle.std.proofs.lemmas.List.{drop_all}
 use Rattle.algol_tree.specs.Image.{expr, stmt, stmts}
 use Rattle.algol_scope.proofs.Walking.{on_ok}
@@ -46,34 +46,33 @@ case-returns t c =
 
 pub stmts-statements-init : goal.stmts-statements-init
 stmts-statements-init t c =
-    λ listed. heads-start c.args.self.now c.args.ss.now c.deref-s-items.result.now listed (c.deref-s-items.ensures.value ∙ c.items.ensures)
+    λ listed. heads-start c.args.self.now c.args.ss.now c.args.ss.now listed refl
 
 pub stmts-statements-preserved : goal.stmts-statements-preserved
 stmts-statements-preserved t c =
     λ listed.
-    heads-item c.args.self.now c.statements.self c.stmt.new.self _ _ c.deref-s-items.result.now c.statements.s-index c.s-item.result listed
+    heads-item c.args.self.now c.statements.self c.stmt.new.self _ _ c.args.ss.now c.statements.s-index c.s-item.result listed
     c.statements-test.true c.s-item.is (c.statements.invariant listed) (c.in_ok-stmt.ensures listed)
 
 pub stmts-returns : goal.stmts-returns
 stmts-returns t c =
     λ listed.
-    heads-end c.args.self.now c.statements.self _ _ _ listed (drop_all c.statements.s-index c.deref-s-items.result.now c.statements-test.false)
+    heads-end c.args.self.now c.statements.self _ _ _ listed (drop_all c.statements.s-index c.args.ss.now c.statements-test.false)
     (c.statements.invariant listed)
 
-pub begin-returns-then-is_empty : goal.begin-returns-then-is_empty
-begin-returns-then-is_empty t c =
+pub begin-returns-then-is_compound : goal.begin-returns-then-is_compound
+begin-returns-then-is_compound t c =
     on_ok c.stmts.result
     (λ h listed.
-    visits-compound c.args.self.now c.stmts.new.self c.args.b.now (length c.as_slice.result.now) listed c.is_empty.result
-    (ap length (c.as_slice.ensures.value ∙ c.items.ensures)) c.is_empty.ensures c.if-is_empty.true (h false))
+    visits-compound c.args.self.now c.stmts.new.self c.args.b.now c.stmts_in.result.now c.stmts_in.ensures (length c.args.b.now.decls) listed c.is_compound.result refl
+    c.is_compound.ensures c.if-is_compound.true (h false))
     c.stmts.ensures
 
 pub begin-returns : goal.begin-returns
 begin-returns t c =
     λ listed.
-    visits-block c.args.self.now c.open.new.self c.body.new.self _ c.args.b.now (length c.as_slice.result.now) listed c.is_empty.result
-    (ap length (c.as_slice.ensures.value ∙ c.items.ensures)) c.is_empty.ensures c.if-is_empty.false c.in_ok-open.ensures.opens
-    c.in_ok-open.ensures.typed c.in_ok-open.ensures.begins c.in_ok-open.ensures.findings c.in_ok-body.ensures
+    visits-block c.args.self.now c.open.new.self c.body.new.self _ c.args.b.now (length c.args.b.now.decls) listed c.is_compound.result refl c.is_compound.ensures
+    c.if-is_compound.false c.in_ok-open.ensures.opens c.in_ok-open.ensures.typed c.in_ok-open.ensures.begins c.in_ok-open.ensures.findings c.in_ok-body.ensures
     (closed c.args.self.now c.open.new.self c.body.new.self c.close.new.self c.in_ok-open.ensures.opens.outer c.in_ok-body.ensures.outer
     c.close.ensures.outside c.close.ensures.procedures)
 
@@ -81,7 +80,7 @@ pub body-returns : goal.body-returns
 body-returns t c =
     on_ok c.stmts.result
     (λ h.
-    fills-body c.args.self.now c.decls.new.self c.stmts.new.self c.args.b.now c.as_slice.result.now (c.as_slice.ensures.value ∙ c.items.ensures)
+    fills-body c.args.self.now c.decls.new.self c.stmts.new.self c.args.b.now c.decls_in.result.now c.decls_in.ensures c.stmts_in.result.now c.stmts_in.ensures
     c.in_ok-decls.ensures h)
     c.stmts.ensures
 
@@ -125,7 +124,7 @@ procedure_body-returns-in_default t c =
 
 pub stmt-returns-in-Label : goal.stmt-returns-in-Label
 stmt-returns-in-Label t c =
-    on_ok c.labelled.result (λ h. visits-of c.args.self.now c.labelled.new.self c.args.s.now _ (label_read c.args.s.now _ _ _ c.in-Label.is c.deref.ensures) (h)) c.labelled.ensures
+    on_ok c.labelled.result (λ h. visits-of c.args.self.now c.labelled.new.self c.args.s.now _ (label_read c.args.s.now _ _ _ c.in-Label.is c.boxed_stmt.ensures) (h)) c.labelled.ensures
 
 pub stmt-returns-in-Assign : goal.stmt-returns-in-Assign
 stmt-returns-in-Assign t c =
@@ -145,38 +144,38 @@ stmt-returns-in-Block t c =
 
 pub stmt-returns-in-None : goal.stmt-returns-in-None
 stmt-returns-in-None t c =
-    visits-of c.args.self.now c.guarded.new.self c.args.s.now _ (if_read c.args.s.now _ _ _ _ c.in-If.is c.deref-in-If.ensures)
+    visits-of c.args.self.now c.guarded.new.self c.args.s.now _ (if_read c.args.s.now _ _ _ _ c.in-If.is c.boxed_stmt-in-If.ensures)
     (λ listed. visits-then-only c.args.self.now c.guarded.new.self _ _ _ listed c.in-None.is c.in_ok-guarded-in-If.ensures)
 
 pub stmt-returns-in-Some : goal.stmt-returns-in-Some
 stmt-returns-in-Some t c =
     on_ok c.stmt.result
     (λ h.
-    visits-of c.args.self.now c.stmt.new.self c.args.s.now _ (if_read c.args.s.now _ _ _ _ c.in-If.is c.deref-in-If.ensures)
+    visits-of c.args.self.now c.stmt.new.self c.args.s.now _ (if_read c.args.s.now _ _ _ _ c.in-If.is c.boxed_stmt-in-If.ensures)
     (λ listed.
-    visits-branches c.args.self.now c.guarded.new.self c.stmt.new.self _ _ _ _ _ listed c.in-Some.is c.deref-in-Some.ensures
+    visits-branches c.args.self.now c.guarded.new.self c.stmt.new.self _ _ _ _ _ listed c.in-Some.is c.boxed_stmt-in-Some.ensures
     c.in_ok-guarded-in-If.ensures (h false)))
     c.stmt.ensures
 
 pub stmt-returns-in-While : goal.stmt-returns-in-While
 stmt-returns-in-While t c =
-    on_ok c.guarded-in-While.result (λ h. visits-of c.args.self.now c.guarded-in-While.new.self c.args.s.now _ (while_read c.args.s.now _ _ _ c.in-While.is c.deref-in-While.ensures) (λ listed. visits-while c.args.self.now c.guarded-in-While.new.self _ _ listed h)) c.guarded-in-While.ensures
+    on_ok c.guarded-in-While.result (λ h. visits-of c.args.self.now c.guarded-in-While.new.self c.args.s.now _ (while_read c.args.s.now _ _ _ c.in-While.is c.boxed_stmt-in-While.ensures) (λ listed. visits-while c.args.self.now c.guarded-in-While.new.self _ _ listed h)) c.guarded-in-While.ensures
 
 pub stmt-returns-in-Until : goal.stmt-returns-in-Until
 stmt-returns-in-Until t c =
-    on_ok c.until.result (λ h. visits-of c.args.self.now c.until.new.self c.args.s.now _ (until_read c.args.s.now _ _ _ c.in-Until.is c.deref-in-Until.ensures) (h)) c.until.ensures
+    on_ok c.until.result (λ h. visits-of c.args.self.now c.until.new.self c.args.s.now _ (until_read c.args.s.now _ _ _ c.in-Until.is c.boxed_stmt-in-Until.ensures) (h)) c.until.ensures
 
 pub stmt-returns-in-For : goal.stmt-returns-in-For
 stmt-returns-in-For t c =
-    on_ok c.counted.result (λ h. visits-of c.args.self.now c.counted.new.self c.args.s.now _ (for_read c.args.s.now _ _ _ _ _ _ c.in-For.is c.deref-in-For.ensures) (h)) c.counted.ensures
+    on_ok c.counted.result (λ h. visits-of c.args.self.now c.counted.new.self c.args.s.now _ (for_read c.args.s.now _ _ _ _ _ _ c.in-For.is c.boxed_stmt-in-For.ensures) (h)) c.counted.ensures
 
 pub stmt-returns-in-Thru : goal.stmt-returns-in-Thru
 stmt-returns-in-Thru t c =
-    on_ok c.guarded-in-Thru.result (λ h. visits-of c.args.self.now c.guarded-in-Thru.new.self c.args.s.now _ (thru_read c.args.s.now _ _ _ c.in-Thru.is c.deref-in-Thru.ensures) (λ listed. visits-thru c.args.self.now c.guarded-in-Thru.new.self _ _ listed h)) c.guarded-in-Thru.ensures
+    on_ok c.guarded-in-Thru.result (λ h. visits-of c.args.self.now c.guarded-in-Thru.new.self c.args.s.now _ (thru_read c.args.s.now _ _ _ c.in-Thru.is c.boxed_stmt-in-Thru.ensures) (λ listed. visits-thru c.args.self.now c.guarded-in-Thru.new.self _ _ listed h)) c.guarded-in-Thru.ensures
 
 pub stmt-returns-in-Case : goal.stmt-returns-in-Case
 stmt-returns-in-Case t c =
-    on_ok c.case.result (λ h. visits-of c.args.self.now c.case.new.self c.args.s.now _ (case_read c.args.s.now _ _ c.in-Case.is) (h)) c.case.ensures
+    on_ok c.case.result (λ h. visits-of c.args.self.now c.case.new.self c.args.s.now _ (case_read c.args.s.now _ _ _ c.in-Case.is c.stmts_in.ensures) (h)) c.case.ensures
 
 pub stmt-returns-in-Process : goal.stmt-returns-in-Process
 stmt-returns-in-Process t c =
@@ -238,5 +237,5 @@ decl-returns-in-Procedure t c =
     on_ok c.procedure.result
     (λ h.
     declares-of c.args.self.now c.procedure.new.self c.args.d.now _ c.args.ahead
-    (procedure_read c.args.d.now _ _ _ c.in-Procedure.is c.deref.ensures) h)
+    (procedure_read c.args.d.now _ _ _ c.in-Procedure.is c.boxed_stmt.ensures) h)
     c.procedure.ensures

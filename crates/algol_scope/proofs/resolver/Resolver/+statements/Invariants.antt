@@ -10,7 +10,7 @@ abbrev pub invariant-stmts-statements : goal.invariant-stmts-statements
 invariant-stmts-statements l =
     (listed : Bool) →
     Heads l.fn.self l.self (λ blocks. sites_in_stmts blocks (stmts l.fn.ss) listed) (blocks_in_stmts (stmts l.fn.ss))
-    (λ blocks. sites_in_stmts blocks (stmts (drop l.s-index l.s-items)) listed) (blocks_in_stmts (stmts (drop l.s-index l.s-items)))
+    (λ blocks. sites_in_stmts blocks (stmts (drop l.s-index l.ss)) listed) (blocks_in_stmts (stmts (drop l.s-index l.ss)))
 
 abbrev pub invariant-decls-declarations : goal.invariant-decls-declarations
 invariant-decls-declarations l = Through l.fn.self l.self l.fn.ds (drop l.at l.ds) (drop l.at l.ahead.items)

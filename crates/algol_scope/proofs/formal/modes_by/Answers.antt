@@ -1,7 +1,7 @@
 use Rattle.std.proofs.Common.{drop}
 use Rattle.std.proofs.lemmas.List.{drop_all}
 use Rattle.algol_scope.proofs.Formals.{modes-end}
-use Rattle.algol_scope.proofs.formal.modes.Goals as goal
+use Rattle.algol_scope.proofs.formal.modes_by.Goals as goal
 
 pub returns : goal.returns
 returns c =
