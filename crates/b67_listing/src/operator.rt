@@ -24,11 +24,26 @@ pub fn operator_line(
         line ≡ operator_line record { place = place; level = level; operator = operator.now }) }
 {
     let mut text = Vec::new(alloc);
-    push_place(&mut text, place, level)?;
-    push_syllables(&mut text, syllables)?;
-    push_words(&mut text, b" ")?;
-    push_operator(&mut text, operator)?;
+    push_line(&mut text, place, level, operator, syllables)?;
     Ok(Line::of(text))
+}
+
+/// Appends what stands in the line.
+fn push_line(
+    text: &mut Vec<u8>,
+    place: usize,
+    level: u8,
+    operator: &Operator,
+    syllables: &[u8],
+) -> Result<(), AllocError>
+    requires { syllables.now ≡ spelling place level operator.now }
+    ensures { OnOk result (text.new.items ≡ text.old.items
+        ++ operator_line record { place = place; level = level; operator = operator.now }) }
+{
+    push_place(text, place, level)?;
+    push_syllables(text, syllables)?;
+    push_words(text, b" ")?;
+    push_operator(text, operator)
 }
 
 /// Appends a place and a level, a blank after each.
