@@ -37,6 +37,7 @@ goes_by old new code img p n most c i v able s counts others =
       counts = counts;
       others = others;
       states = k.states ∙ ap (λ (x : Image). x.states) (sym i);
+      started = k.started ∙ ap (λ (x : Image). x.started) (sym i);
       fault = k.fault ∙ ap (λ (x : Image). x.fault) (sym i);
     }
 

@@ -2,6 +2,7 @@ pub mod Ends
 pub mod Failures
 pub mod Plainly
 pub mod Going
+pub mod Enabling
 pub mod Raised
 pub mod Begun
 pub mod Tailing

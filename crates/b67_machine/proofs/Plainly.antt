@@ -52,6 +52,7 @@ private_of_plain code img p e = both (private_next code img p) (is_new (table co
 pub record Keeps (code : Code) (a b : Image) : Type 0 where
   pub valid : IsValid code b
   pub states : b.states ≡ a.states
+  pub started : b.started ≡ a.started
   pub fault : b.fault ≡ a.fault
 
 one_keeps : (code : Code) (p : ℕ) (a b : Image) → IsValid code a → is_able (numbered a.states p) ≡ true → plain code a p ≡ true → table code a p ≡ gives b → Keeps code a b
@@ -60,14 +61,14 @@ one_keeps code p a b v able e t =
     let here = some_of (numbered a.regs p) (registers_there code a p v able) in
     let next = private_of_plain code a p e in
     let same = private_is_private.leaves code p here.0 a b (valid_stands code a p here.0 v live here.1) next ((limit_comes_last.new code a b p).0 t).0 in
-    record { valid = operators_keep_valid.private code a b p v live next t; states = same.states; fault = same.fault }
+    record { valid = operators_keep_valid.private code a b p v live next t; states = same.states; started = same.started; fault = same.fault }
 
 pub plains_keep : (code : Code) (p : ℕ) (a b : Image) (n : ℕ) → IsValid code a → is_able (numbered a.states p) ≡ true → Plains code p a n b → Keeps code a b
-plains_keep code p a b n v able stay = record { valid = v; states = refl; fault = refl }
+plains_keep code p a b n v able stay = record { valid = v; states = refl; started = refl; fault = refl }
 plains_keep code p a b n v able (go {b = c} e t rest) =
     let one = one_keeps code p a c v able e t in
     let more = plains_keep code p c b _ one.valid (ap (λ (ss : List ProcessState). is_able (numbered ss p)) one.states ∙ able) rest in
-    record { valid = more.valid; states = more.states ∙ one.states; fault = more.fault ∙ one.fault }
+    record { valid = more.valid; states = more.states ∙ one.states; started = more.started ∙ one.started; fault = more.fault ∙ one.fault }
 
 -- the same stack's
 pub ends_at_stack : (a r b : Registers) → a ≡ r → RegistersKeep a b → b.stack ≡ r.stack

@@ -8,6 +8,7 @@ use Rattle.b67_table.specs.Table.{plain}
 use Rattle.b67_table.specs.Valid.{IsValid}
 use Rattle.b67_action.specs.declared.done.Done.{Done}
 use Rattle.b67_action.specs.declared.done.Done.TheVariants.{Went, Waits, Ended, Fault, Interrupt, StackLimit, NoMemory}
+use Rattle.b67_action.specs.Able.{AbleAfter}
 use Rattle.b67_action.specs.Acting.{NextReleases}
 use Rattle.b67_action.specs.Done.{Came, is_performed}
 use Rattle.b67_machine.specs.declared.Failure.{Failure}
@@ -56,6 +57,8 @@ pub record Acts (old : Kept) (p : ℕ) (done : Done) (new : Kept) : Type 0 where
   pub image : new.image ≡ image_after p done acted
   pub counts : Counts old.counts p (operators_in done) new.counts
   pub released : Releases (is_performed done) old.code old.image p new.released
+  -- who is able, where the operator is counted
+  pub able : operators_in done ≡ 1 → AbleAfter old.image new.image p new.released
   pub limit : new.limit ≡ limit_of p done
   pub lacked : new.lacked ≡ lacks done
   pub code : new.code ≡ old.code
@@ -82,6 +85,7 @@ pub record Goes (old : Kept) (p n : ℕ) (new : Kept) : Type 0 where
   pub counts : Counts old.counts p n new.counts
   pub others : new ≡ record old { image = new.image; counts = new.counts }
   pub states : new.image.states ≡ old.image.states
+  pub started : new.image.started ≡ old.image.started
   pub fault : new.image.fault ≡ old.image.fault
 
 -- ---- an entry

@@ -1,11 +1,12 @@
 // One entry of a schedule.
-ghost use Rattle.std.specs.Prelude.{◌≡◌, ◌+◌, ◌<◌, ◌^◌, None, true};
+ghost use Rattle.std.specs.Prelude.{◌≡◌, ◌+◌, ◌<◌, ◌^◌, IfSome, None, true};
 ghost use Rattle.b67_list.specs.Numbered.{numbered};
 ghost use Rattle.b67_table.specs.Image.{is_able};
 ghost use Rattle.b67_table.specs.Valid.{IsValid};
+ghost use Rattle.b67_action.specs.Able.{AbleAfter};
 ghost use Rattle.b67_machine.specs.Kept.{counted};
 ghost use Rattle.b67_machine.specs.Reads.{machine_end};
-ghost use Rattle.b67_machine.specs.Stepping.{Performs};
+ghost use Rattle.b67_machine.specs.Stepping.{operators_in, Performs};
 
 use crate::Machine;
 use b67_action::Done;
@@ -28,6 +29,7 @@ impl<C: Core> Machine<C> {
         requires going { machine_end self.old ≡ None }
         requires count { counted self.old.counts process + most < 2 ^ 64 }
         ensures performs { Performs self.old process most result self.new }
+        ensures able { IfSome result.done (λ done. operators_in done ≡ 1 → AbleAfter self.old.image self.new.image process self.new.released) }
         ensures valid { IsValid self.new.code self.new.image }
     {
         let plain = self.perform_plain(process, most);

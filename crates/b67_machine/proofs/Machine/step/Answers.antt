@@ -10,6 +10,7 @@ use Rattle.b67_action.proofs.Ready.{registers_there, if_some}
 use Rattle.b67_control.specs.declared.Registers.{Registers}
 use Rattle.b67_segment.specs.declared.code.Code.{Code}
 use Rattle.b67_segment.specs.Decoded.{AreDecoded}
+use Rattle.b67_action.specs.Able.{AbleAfter}
 use Rattle.b67_action.specs.Done.{is_performed}
 use Rattle.b67_machine.specs.declared.Failure.{Failure}
 use Rattle.b67_machine.specs.Kept.{Kept, Counts}
@@ -75,6 +76,7 @@ returns-clause-steps g c =
     (subst (λ (k : Kept). Counts k.counts c.args.process c.operators_in.result c.count.new.counts.items) c.self.view_is c.count.ensures.counts))
     (releases (is_performed done) c.self.inside.parts.code base c.args.process c.action-done.new.parts.woken.processes.items c.settle.new.released.items
     c.action-done.ensures.woken c.settle.ensures.kept c.settle.ensures.none)
+    (λ e. subst (AbleAfter base acted c.args.process) (sym (c.settle.ensures.kept e)) (c.action-done.ensures.able e))
     c.limit_of-self-inside.ensures c.lacks-self-inside.ensures c.action-done.ensures.code)
 
 pub returns-clause-valid : goal.returns-clause-valid
