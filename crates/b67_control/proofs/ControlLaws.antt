@@ -2,10 +2,10 @@
 use Rattle.std.proofs.Common.{◌≡◌, ◌≢◌, ℕ, Bool, true, List, [], ◌∷◌, refl, sym, ◌∙◌, ap, ◌==◌, ◌<◌, ◌^◌, subst, lit<}
 use Rattle.std.proofs.lemmas.Bool.{eqb-true, and_parts}
 use Rattle.std.specs.Prelude.{ℤ, Option, Some, None}
-use Rattle.b67_word.proofs.WordLaws.{as_whole-tag, as_whole-other, as_truth-tag, as_truth-other, operand-tag, truth-tag}
-use Rattle.b67_word.specs.Word.{Word, IsWord, field, operand, as_whole, truth, as_truth}
+use Rattle.b67_word.proofs.WordLaws.{as_whole-tag, as_whole-other, as_truth-tag, as_truth-other}
+use Rattle.b67_word.specs.Word.{Word, IsWord, field, operand, as_whole, as_truth}
 use Rattle.b67_control.specs.Layout.{Layout, Field, Is, Values, Fit, is_laid_out, is_tiled, packed, unpacked, values_in}
-use Rattle.b67_control.specs.Kind.{Kind, kind_of, kind_by_top}
+use Rattle.b67_control.specs.Kind.{Kind, kind_of}
 use Rattle.b67_control.specs.Kind as kind
 use Rattle.b67_control.specs.Control.{irw_layout, irw_values, irw_from, Fits_irw, irw_word, as_irw, sirw_layout, sirw_values, sirw_from, Fits_sirw, sirw_word, as_sirw, mscw_layout, mscw_values, mscw_from, Fits_mscw, mscw_word, as_mscw, rcw_layout, rcw_values, rcw_from, Fits_rcw, rcw_word, as_rcw, segment_layout, segment_values, segment_from, Fits_segment, segment_word, as_segment, event_layout, event_values, event_from, Fits_event, event_word, as_event, descriptor_layout, descriptor_values, descriptor_from, Fits_descriptor, descriptor_word, as_descriptor, pcw_layout, pcw_values, pcw_from, Fits_pcw, pcw_word, as_pcw}
 use Rattle.b67_control.specs.Laws.{ReadsBack, OperandsAreApart}
@@ -13,7 +13,6 @@ use Rattle.b67_control.specs.declared.Irw.{Irw}
 use Rattle.b67_control.specs.declared.Sirw.{Sirw}
 use Rattle.b67_control.specs.declared.Mscw.{Mscw}
 use Rattle.b67_control.specs.declared.Rcw.{Rcw}
-use Rattle.b67_control.specs.declared.SegmentWord.{SegmentWord}
 use Rattle.b67_control.specs.declared.EventWord.{EventWord}
 use Rattle.b67_control.specs.declared.Descriptor.{Descriptor}
 use Rattle.b67_control.specs.declared.Pcw.{Pcw}
@@ -209,9 +208,6 @@ kind_of-as_whole w {z} e = tag_zero w (as_whole-tag w z e)
 
 kind_of-as_truth : (w : Word) {b : Bool} → as_truth w ≡ Some b → kind_of w ≡ kind.operand
 kind_of-as_truth w {b} e = tag_zero w (as_truth-tag w b e)
-
-pub kind_of-operand : (z : ℤ) → kind_of (operand z) ≡ kind.operand
-kind_of-operand z = tag_zero (operand z) (operand-tag z)
 
 as_whole-no_operand : (w : Word) → kind_of w ≢ kind.operand → as_whole w ≡ None
 as_whole-no_operand w h = as_whole-other w (λ e. h (tag_zero w e))

@@ -9,8 +9,8 @@ use Rattle.b67_store.specs.Store.{Rows, row_at, row_words, row_words_or, opened_
 use Rattle.b67_store.proofs.StoreLaws.{opened_here}
 use Rattle.b67_table.specs.Image.{with_rows}
 use Rattle.b67_table.specs.Program.{changed}
-use Rattle.b67_table.specs.Arrays.{rows_made, array_made, array_word, two}
-use Rattle.b67_descriptor.specs.Arrays.{array_descriptor, HasMore, AreOpen, MakesRows, Makes, row_added}
+use Rattle.b67_table.specs.Arrays.{rows_made, array_word}
+use Rattle.b67_descriptor.specs.Arrays.{array_descriptor, HasMore, AreOpen, MakesRows, row_added}
 use Rattle.b67_descriptor.proofs.Rows.{has_mother, has_one_more, open_one_more, same_length, still_there}
 
 pub record Filled (before first rows : Rows) (mother m n at : ℕ) : Type 0 where
@@ -57,15 +57,3 @@ filled_more before first rows new mother m n at f h k low e =
       there = still_there before rows mother at (zero_row n true) w d f.there within reads refl;
       makes = makes_more first rows mother m n at h f.makes;
     })
-
-pub filled_whole : (before first rows : Rows) (mother m n : ℕ) → mother ≡ least_free before → first ≡ opened_at before mother (zero_row m false)
-    → Filled before first rows mother m n m → Makes (two m n) before rows (array_descriptor true m mother)
-filled_whole before first rows mother m n e f all p img next g =
-    ap (λ (r : Rows). changed p (array_made (two m n) next) (with_rows img r)) g
-    ∙ ap (λ (k : ℕ). changed p (rows_made m k 0 n (next (array_word true m k))) (with_rows img (opened_at before k (zero_row m false)))) (sym e)
-    ∙ ap (λ (r : Rows). changed p (rows_made m mother 0 n (next (array_word true m mother))) (with_rows img r)) (sym f)
-    ∙ all.makes p img (next (array_word true m mother))
-    ∙ ap (λ (k : ℕ). changed p (rows_made k mother m n (next (array_word true m mother))) (with_rows img rows)) none_left
-  where
-    none_left : m - m ≡ 0
-    none_left = omega arith

@@ -9,7 +9,7 @@ use crate::DescriptorFault;
 use b67_store::MOST_COUNTED_WORDS;
 
 /// The elements of an array in each of its dimensions.
-#[derive(Clone, Copy, PartialEq, Eq, Debug)]
+#[derive(Clone, Copy)]
 pub enum Size {
     One(u32),
     /// So many rows, and the elements of each.

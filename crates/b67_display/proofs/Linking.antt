@@ -1,15 +1,13 @@
 -- One step along static links, and what it leaves of a display.
-use Rattle.std.proofs.Common.{◌≡◌, refl, sym, ap, subst, ◌∙◌, ℕ, zero, suc, ◌+◌, ◌-◌, ◌<◌, ◌≤◌, List, [], ◌∷◌, ◌++◌, length, drop, replicate, set, Option, Some, None, Result, Ok, Err, Bool, true, false, cond, arith}
-use Rattle.std.specs.Prelude.{leb}
+use Rattle.std.proofs.Common.{◌≡◌, refl, sym, ap, subst, ◌∙◌, ℕ, zero, suc, ◌+◌, ◌-◌, ◌≤◌, List, ◌∷◌, ◌++◌, drop, replicate, set, Option, Some, None, Result, Ok, Err, Bool, cond, arith}
 use Rattle.std.proofs.lemmas.Bool.{le-leb}
 use Rattle.b67_table.specs.declared.InterruptKind.TheVariants.{BrokenChain}
 use Rattle.b67_word.specs.declared.Place.{Place}
-use Rattle.b67_word.specs.Word.{Word}
 use Rattle.b67_control.specs.declared.Mscw.{Mscw}
 use Rattle.b67_store.specs.Store.{Stacks, word_at}
 use Rattle.b67_table.specs.declared.InterruptKind.{InterruptKind}
 use Rattle.b67_table.specs.Look.{Look, found, stops, at, several, ◌>->◌, seen}
-use Rattle.b67_table.specs.Chains.{links, link_of, linked_frame, mark_at, linked, rebuilt}
+use Rattle.b67_table.specs.Chains.{links, link_of, linked_frame, linked}
 
 abbrev pub after : {A B : Type 0} → Result A InterruptKind → (A → Result B InterruptKind) → Result B InterruptKind
 after (Ok a) next = next a
@@ -48,14 +46,6 @@ module _ (st : Stacks) (link : Place) (known : List (Option Place)) where
   stop below kind h f =
       let j_is : below - 1 ≡ suc (below - 1 - 1) = omega (arith, h) in
       ap (λ (j : ℕ). seen st (links j link known)) j_is ∙ linked_on (below - 1 - 1) below (Err kind) (omega (arith, h)) f
-
--- the display that a level is set in
-pub known_set : (d : List (Option Place)) (n : ℕ) (x : Option Place) → n < length d → drop n (set d n x) ≡ x ∷ drop (n + 1) d
-known_set [] n x h = absurd (omega (arith, h))
-known_set (y ∷ ys) zero x h = refl
-known_set (y ∷ ys) (suc n) x h =
-    let k_is : suc (n + 1) ≡ suc n + 1 = omega arith in
-    known_set ys n x (omega (arith, h)) ∙ ap (λ (k : ℕ). x ∷ drop k (y ∷ ys)) k_is
 
 -- nothing is known below
 pub unknown_set : (d rest : List (Option Place)) (n : ℕ) (x : Option Place) → d ≡ replicate (suc n) None ++ rest → set d n x ≡ replicate n None ++ x ∷ rest

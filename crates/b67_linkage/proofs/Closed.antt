@@ -1,12 +1,11 @@
 -- Rows that are closed, in whatever order.
-use Rattle.std.proofs.Common.{◌≡◌, refl, sym, ap, subst, ◌∙◌, ℕ, zero, suc, ◌+◌, ◌-◌, ◌<◌, ◌≤◌, ◌≢◌, List, [], ◌∷◌, length, set, take, drop, Option, Some, None, Bool, true, false, cond, arith}
+use Rattle.std.proofs.Common.{◌≡◌, refl, sym, ap, ◌∙◌, ℕ, zero, suc, ◌+◌, ◌-◌, ◌≤◌, ◌≢◌, List, [], ◌∷◌, take, drop, Option, Some, None, Bool, true, false, cond, arith}
 use Rattle.std.specs.Prelude.{slice_get}
-use Rattle.std.proofs.lemmas.List.{drop_all}
 use Rattle.std.proofs.Math.Seq.{drop-nil, take-nil}
 use Rattle.b67_word.specs.Word.{Word}
 use Rattle.b67_control.specs.declared.Descriptor.{Descriptor}
 use Rattle.b67_control.specs.Control.{as_descriptor}
-use Rattle.b67_store.specs.Store.{Row, Rows, at_number, closed_at, row_at, row_words, row_words_or}
+use Rattle.b67_store.specs.Store.{Row, Rows, closed_at, row_words, row_words_or}
 use Rattle.b67_store.proofs.StoreLaws.{changed_others}
 use Rattle.b67_linkage.specs.Closing.{without, without_row, without_rows, without_array, without_arrays}
 
@@ -73,9 +72,6 @@ next_daughter words at w old new a e c =
 pub no_daughter : (words : List Word) (at : ℕ) (old : Rows) (a : ℕ) → slice_get words at ≡ None → closed_at (without_rows (drop at words) old) a ≡ closed_at old a
 no_daughter words at old a e = ap (λ (z : List Word). closed_at (without_rows z old) a) (drop_past words at e)
 
-pub past_daughters : (words : List Word) (at : ℕ) (old : Rows) (a : ℕ) → length words ≤ at → closed_at (without_rows (drop at words) old) a ≡ closed_at old a
-past_daughters words at old a h = ap (λ (z : List Word). closed_at (without_rows z old) a) (drop_all at words h)
-
 -- to close another row leaves a row's words
 pub words_stay : (rows : Rows) (n k : ℕ) → k ≢ n → row_words (closed_at rows n) k ≡ row_words rows k
 words_stay rows n k h = ap row_words_or (changed_others rows n k None h)
@@ -91,9 +87,6 @@ next_cell words at most w old new h e c =
 
 pub no_cell : (words : List Word) (at most : ℕ) (old : Rows) → slice_get words at ≡ None → without_arrays (take most (drop at words)) old ≡ old
 no_cell words at most old e = ap (λ (z : List Word). without_arrays (take most z) old) (drop_past words at e) ∙ ap (λ (z : List Word). without_arrays z old) (take-nil most)
-
-pub last_cell : (words : List Word) (most : ℕ) (old : Rows) → most ≡ 0 → without_arrays (take most words) old ≡ old
-last_cell words most old e = ap (λ (j : ℕ). without_arrays (take j words) old) e
 
 -- a word of a mother's row that describes that row itself
 pub own_daughter : (rows : Rows) (o : Option Descriptor) (d : Descriptor) (a : ℕ) → o ≡ Some d → d.copy ≡ false → d.address ≡ a

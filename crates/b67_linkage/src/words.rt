@@ -9,6 +9,7 @@ use b67_control::Registers;
 use b67_store::Core;
 use b67_word::{Place, Word};
 
+/// Writes a word over one that is there.
 #[tactic(auto, using(crate::proofs::There::there))]
 pub fn save_word<C: Core>(core: &mut C, at: Place, word: Word)
     requires { IsSome (word_at (C.Core.stacks core.old) at) }
@@ -18,6 +19,7 @@ pub fn save_word<C: Core>(core: &mut C, at: Place, word: Word)
     let _ = core.write(at, word);
 }
 
+/// Pushes a word on a stack that has room for it.
 #[tactic(auto, using(crate::proofs::There::there))]
 pub fn push_word<C: Core>(core: &mut C, stack: u16, word: Word)
     requires open { IsSome (stack_at (C.Core.stacks core.old) stack) }
@@ -28,6 +30,7 @@ pub fn push_word<C: Core>(core: &mut C, stack: u16, word: Word)
     let _ = core.push(stack, word);
 }
 
+/// Leaves the lowest words of a stack that is open, so many of them.
 #[tactic(auto, using(crate::proofs::There::there))]
 pub fn cut_words<C: Core>(core: &mut C, stack: u16, length: u32)
     requires { IsSome (stack_at (C.Core.stacks core.old) stack) }

@@ -19,13 +19,13 @@ use crate::entering::{entering_after, stop_by};
 use b67_control::{Mscw, Pcw};
 use b67_linkage::{control_word, go_in, marked};
 use b67_reach::{InterruptKind, Registers, Stop, cell_of, frame_at, invalid, reached};
-use b67_segment::MOST_SEGMENT_WORDS;
+use b67_segment::MOST_SEGMENT_SYLLABLES;
 use b67_store::Core;
 use b67_table::Entry;
 use b67_word::{Place, Word};
 
 /// What ENTR calls.
-#[derive(Clone, Copy, PartialEq, Eq, Debug)]
+#[derive(Clone, Copy)]
 pub struct Called {
     /// The mark at F.
     pub mark: Mscw,
@@ -174,7 +174,7 @@ pub fn entry<C: Core>(
 {
     match called.home {
         Some(home) => enter_in(core, regs, next, called.mark.df, &called.pcw, home),
-        None if usize::from(next) >= 6 * MOST_SEGMENT_WORDS => {
+        None if usize::from(next) >= MOST_SEGMENT_SYLLABLES => {
             Err(Stop::Interrupt(InterruptKind::BadCode))
         }
         None => Err(invalid()),

@@ -25,7 +25,7 @@ use b67_reach::{
     Cell, InterruptKind, Reached, Registers, Stop, cell_of, couple_cell, invalid, is_operand,
     popped, reached, replaced,
 };
-use b67_segment::MOST_SEGMENT_WORDS;
+use b67_segment::MOST_SEGMENT_SYLLABLES;
 use b67_store::{Core, MOST_STACK_WORDS};
 use b67_table::Entry;
 use b67_word::{Place, Word, operand};
@@ -58,7 +58,7 @@ pub fn entering_after<C: Core>(
     ensures returnable { IfOk result (λ e. next < end_of_code) }
     ensures same { regs.new ≡ regs.old }
 {
-    if usize::from(next) >= 6 * MOST_SEGMENT_WORDS {
+    if usize::from(next) >= MOST_SEGMENT_SYLLABLES {
         return Err(Stop::Interrupt(InterruptKind::BadCode));
     }
     let here = regs.place;

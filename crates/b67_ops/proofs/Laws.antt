@@ -3,7 +3,7 @@
 use Rattle.std.proofs.Common.{◌≡◌, ℕ, zero, suc, ◌+◌, ◌-◌, ◌<◌, ◌≤◌, cond, ltb, List, [], ◌∷◌, ◌++◌, length, take, drop, replicate, Result, Ok, Err, refl, sym, ap, ◌∙◌, subst, inl, inr, ◌↔◌, arith, append_assoc, length-append, length-drop, length-take}
 use Rattle.std.specs.Prelude.{IfOk}
 use Rattle.std.specs.Int.{bytes_high_first}
-use Rattle.std.proofs.lemmas.Bool.{lt-ltb, le-ltb, cond-true, cond-false, cond_both, cases_lt, ltb-true, ltb-false}
+use Rattle.std.proofs.lemmas.Bool.{le-ltb, cond-false, cond_both, cases_lt, ltb-true, ltb-false}
 use Rattle.std.proofs.lemmas.List.{append-nil, drop_at, drop_all, drop-drop, drop-append-le, take_at, get_or-drop, get_or_append_left, get_or-append_right, length-replicate}
 use Rattle.b67_ops.specs.declared.TheConstants.{MOST_LEVEL}
 use Rattle.b67_ops.specs.declared.BadCode.{BadCode}
@@ -131,9 +131,6 @@ decoded-front bytes at level r h = ap (λ x. x >>= judged at level) h
 
 judged-seen : (at level : ℕ) (found : Operator × ℕ) → level_named found.0 ≤ level → judged at level found ≡ Ok (found.0, at + found.1)
 judged-seen at level found h = cond-false (ltb level (level_named found.0)) (Err BadLevel) (Ok (found.0, at + found.1)) (le-ltb level (level_named found.0) h)
-
-judged-above : (at level : ℕ) (found : Operator × ℕ) → level < level_named found.0 → judged at level found ≡ Err BadLevel
-judged-above at level found h = cond-true (ltb level (level_named found.0)) (Err BadLevel) (Ok (found.0, at + found.1)) (lt-ltb level (level_named found.0) h)
 
 -- what stands is decoded
 pub decoded-stands : {bytes : List ℕ} {at level : ℕ} {op : Operator} {next : ℕ} → level ≤ MOST_LEVEL → Stands bytes at level op next → decoded bytes at level ≡ Ok (op, next)

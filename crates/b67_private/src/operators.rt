@@ -19,7 +19,7 @@ use b67_table::{InterruptKind, Private};
 use b67_word::{Word, make_word, operand};
 
 /// What is done to the words on top alone.
-#[derive(Clone, Copy, PartialEq, Eq, Debug)]
+#[derive(Clone, Copy)]
 pub enum TopRow {
     Negate,
     Complement,
@@ -30,7 +30,7 @@ pub enum TopRow {
 }
 
 /// What an operator does to a private part, with the word that it pushes made ready.
-#[derive(Clone, Copy, PartialEq, Eq, Debug)]
+#[derive(Clone, Copy)]
 pub enum Row {
     Push(Word),
     Calculate(Calculation),

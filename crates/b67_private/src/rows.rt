@@ -10,12 +10,12 @@ ghost use Rattle.b67_private.specs.Parts.{IsPart, length_of};
 ghost use Rattle.b67_private.specs.Performing.{Performs, own_row, bits_by, Stuffs, Holds, AreSeen, stuffed_in};
 
 use crate::Stop;
-use crate::taking::{UNDERFLOW, frame, lower, replace, top, two, wide};
+use crate::taking::{UNDERFLOW, lower, replace, top, two};
 use b67_control::{Irw, Mscw, Registers, Sirw};
 use b67_num::{Calculation, Relation, calculate, compare, neg};
 use b67_ops::BranchKind;
 use b67_store::MOST_STACK_WORDS;
-use b67_table::{InterruptKind, Private};
+use b67_table::{InterruptKind, Private, frame, wide};
 use b67_word::{Word, make_word, operand, truth};
 
 // The most cells of a frame, which a control word can hold.
@@ -24,7 +24,7 @@ const MOST_CELLS: u16 = b67_limits::MOST_FRAME_CELLS;
 const INVALID: Stop = Stop::Interrupt(InterruptKind::InvalidOperand);
 
 /// What is made of the bits of two operands.
-#[derive(Clone, Copy, PartialEq, Eq, Debug)]
+#[derive(Clone, Copy)]
 pub enum Logic {
     /// The bits that both have.
     Both,

@@ -1,50 +1,15 @@
 // The words on top of a private part, and words in their place.
 ghost use Rattle.std.specs.Prelude.{◌≡◌, ◌+◌, ◌<◌, ◌≤◌, length};
-ghost use Rattle.b67_control.specs.Display.{levels};
 ghost use Rattle.b67_store.specs.Store.{stack_limit};
-ghost use Rattle.b67_table.specs.Private.{display_at, floor, frame};
 ghost use Rattle.b67_private.specs.Parts.{IsPart};
 ghost use Rattle.b67_private.specs.Performing.{TakesOne, TakesTwo, replaced, lowered};
 
 use crate::Stop;
-use b67_control::Registers;
-use b67_table::{InterruptKind, Private};
-use b67_word::{Place, Word};
+use b67_table::{InterruptKind, Private, floor};
+use b67_word::Word;
 
 /// No word lies in the private part.
 pub const UNDERFLOW: Stop = Stop::Interrupt(InterruptKind::StackUnderflow);
-
-/// The same number, as wide as S.
-#[inline(always)]
-pub fn wide(value: u16) -> u32
-    ensures value { result ≡ value }
-    ensures bound { result < 65536 }
-{
-    u32::from(value)
-}
-
-// Where the frame lies.
-#[inline(always)]
-pub fn frame(regs: &Registers) -> u32
-    requires { regs.now.ll < levels }
-    ensures value { result ≡ frame regs.now }
-    ensures bound { result < 65536 }
-{
-    match regs.display.get(regs.ll) {
-        Some(place) => wide(place.at),
-        None => 0,
-    }
-}
-
-// Where the cells end and the private part begins.
-#[inline(always)]
-pub fn floor(regs: &Registers) -> u32
-    requires { regs.now.ll < levels }
-    ensures value { result ≡ floor regs.now }
-    ensures bound { result < 131074 }
-{
-    frame(regs) + 2 + wide(regs.cells)
-}
 
 // The word on top.
 #[inline(always)]

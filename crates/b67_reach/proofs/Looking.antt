@@ -46,14 +46,6 @@ look_then st l k a b e f =
     f
     ∙ sym (ap looked (seen_then st l k ∙ ap (λ (r : Result _ InterruptKind). after_found r (λ a. seen st (k a))) (looked_ok (seen st l) a e)))
 
-pub look_stop : {A B : Type 0} (st : Stacks) (l : Look A) (k : A → Look B) (stop : Stop) → ◌≡◌ {A = Result A Stop} (Err stop) (looked (seen st l))
-    → Err stop ≡ looked (seen st (l >-> k))
-look_stop st l k stop e = stops_by (seen st l) e ∙ sym (ap looked (seen_then st l k))
-  where
-    stops_by : (r : Result _ InterruptKind) → Err stop ≡ looked r → Err stop ≡ looked (after_found r (λ a. seen st (k a)))
-    stops_by (Ok a) e = cc
-    stops_by (Err kind) e = cc
-
 pub second_is_refused : (st : Stacks) (c : Option Cell) (first second : Reached) (s t : Sirw) → Ok first ≡ looked (seen st (named c))
     → as_sirw first.word ≡ Some s → Ok second ≡ looked (seen st (named (Some (sirw_cell s)))) → as_sirw second.word ≡ Some t
     → Err (Interrupt InvalidOperand) ≡ looked (seen st (reached c))
@@ -174,10 +166,6 @@ acts_stop p t next stop old new x same = record {
       ∙ stops_program p old (asked old t) next stop x;
   stays = same;
 }
-
--- what every image with these stacks and rows is told, one of them is
-pub tells_of : {A : Type 0} (t : Test A) (img : Image) (r : Result A Stop) → Tells t img.stacks img.rows r → whole (asked img t) ≡ answered r
-tells_of t img r x = x.told img refl refl
 
 stays_in : {A : Type 0} (p : ℕ) (old new : Own) (img : Image) (r : Result A Stop) → with_own old p img ≡ img → OnErr r (new ≡ old)
     → OnErr r (with_own new p img ≡ img)

@@ -15,11 +15,11 @@ use b67_events::Woken;
 use b67_list::Line;
 use b67_num::FaultKind;
 use b67_segment::Code;
-pub use b67_table::{Cell, InterruptKind, ProcessState, Reached, Registers};
+pub use b67_table::{Cell, InterruptKind, ProcessState, Reached, Registers, floor};
 pub use critical::is_critical;
 pub use reading::{
-    as_indexed, cell_of, couple_cell, element, floor, frame_at, from_top, invalid, is_operand,
-    is_ready, named, operand_in, popped, popped_two, reached, read_cell, sirw_cell,
+    as_indexed, cell_of, couple_cell, element, frame_at, from_top, invalid, is_operand, named,
+    operand_in, popped, popped_two, reached, read_cell, sirw_cell,
 };
 pub use states::{set_state, wake};
 pub use writing::{dropped, replaced};

@@ -1,6 +1,6 @@
 //! Reads: each answers what the table's look or test finds.
 
-ghost use Rattle.std.specs.Prelude.{◌≡◌, ◌+◌, ◌<◌, ◌≤◌, ◌==◌, nat_le, if◌then◌else◌, ℕ, Ok, Err, OnOk, IfOk, IfSome, IsSome, Some, ◌^◌, true};
+ghost use Rattle.std.specs.Prelude.{◌≡◌, ◌+◌, ◌<◌, ◌≤◌, ◌==◌, nat_le, if◌then◌else◌, Ok, Err, OnOk, IfOk, IfSome, IsSome, Some, ◌^◌};
 ghost use Rattle.b67_control.specs.Display.{levels};
 ghost use Rattle.b67_store.specs.Store.{Stacks, stack_at, word_at, stack_limit};
 ghost use Rattle.b67_table.specs.Look.{seen};
@@ -9,12 +9,12 @@ ghost use Rattle.b67_table.specs.References.{cell_place, couple_cell, sirw_cell,
 ghost use Rattle.b67_table.specs.Arrays.{as_indexed, element};
 ghost use Rattle.b67_table.specs.declared.InterruptKind.TheVariants.{InvalidOperand, StackUnderflow};
 ghost use Rattle.b67_reach.specs.declared.Stop.TheVariants.{Interrupt};
-ghost use Rattle.b67_reach.specs.Answers.{looked, both, IsReady, Tells};
+ghost use Rattle.b67_reach.specs.Answers.{looked, both, Tells};
 
 use crate::{Cell, InterruptKind, Reached, Registers, Stop};
 use b67_control::{Descriptor, Irw, Sirw};
-use b67_ops::MOST_LEVEL;
 use b67_store::Core;
+use b67_table::floor;
 use b67_word::{Place, Word};
 
 /// The interrupt of a word that has a tag, kind or range that the operator does not name.
@@ -32,26 +32,6 @@ pub fn frame_at(regs: &Registers, level: u8) -> Option<Place>
     regs.display.get(level)
 }
 
-// The number as it is, which is below 65,536.
-fn wide(value: u16) -> u32
-    ensures value { result ≡ value }
-    ensures bound { result < 2 ^ 16 }
-{
-    u32::from(value)
-}
-
-/// The displacement at which the private part begins.
-pub fn floor(regs: &Registers) -> u32
-    requires { regs.now.ll < levels }
-    ensures value { result ≡ floor regs.now }
-    ensures bound { result ≤ 2 ^ 17 }
-{
-    match frame_at(regs, regs.ll) {
-        Some(frame) => wide(frame.at) + 2 + wide(regs.cells),
-        None => 2 + wide(regs.cells),
-    }
-}
-
 // ---- words on top
 
 /// The word so far below the top, 0 being the top. An error comes exactly where no such word is in the stack.
@@ -67,16 +47,6 @@ pub fn from_top<C: Core>(core: &C, regs: &Registers, n: u32) -> Result<Word, Sto
     match core.read(place) {
         Some(word) => Ok(word),
         None => Err(invalid()),
-    }
-}
-
-/// Tests that a process's stack is open and as long as S says, and its level is one of a display.
-pub fn is_ready<C: Core>(core: &C, regs: &Registers) -> bool
-    ensures { result ≡ true → IsReady (C.Core.stacks core.now) regs.now }
-{
-    match core.length(regs.stack) {
-        Some(length) => length == regs.s && regs.ll <= MOST_LEVEL,
-        None => false,
     }
 }
 

@@ -154,9 +154,6 @@ cleared_waits : (q : ℕ) (e : Event) → waits_at q (cleared e) ≡ true → wa
 unfolding waits_at
 cleared_waits q e i = i
 
-fresh_waits : (q : ℕ) (at : Place) → is_waiting q (fresh at ∷ []) ≡ false
-fresh_waits q at = refl
-
 placed_waits : (q : ℕ) (at : Place) (es : List Event) → is_waiting q (placed (fresh at) es) ≡ true → is_waiting q es ≡ true
 unfolding waits_at
 placed_waits q at [] e = e

@@ -11,7 +11,7 @@ use Rattle.b67_store.specs.Store.{Stacks, stack_at, words_of, with_word, opened_
 use Rattle.b67_table.specs.Effect.{Effect, gives, faults, interrupts}
 use Rattle.b67_table.specs.declared.Private.{Private}
 use Rattle.b67_table.specs.Image.{Image, with_private, critical_in, critical_of}
-use Rattle.b67_table.specs.Questions.{Question, Answer, told, live_criticals, with_critical, unless}
+use Rattle.b67_table.specs.Questions.{Question, Answer, told}
 use Rattle.b67_table.specs.Questions as questions
 use Rattle.b67_table.specs.Writes.{Write, written}
 use Rattle.b67_table.specs.Writes as writes
@@ -85,9 +85,6 @@ module _ (q base : ℕ) (part : Private) where
       ∙ asked_same img b (more (told img c)) (λ x r. apart x (inr r))
 
   -- ---- writes
-
-  base_place : Place
-  base_place = record { stack = part.regs.stack; at = base }
 
   away : (stack : ℕ) → (stack ≡ part.regs.stack → ⊥) → stack ≢ part.regs.stack
   away stack h = h

@@ -1,23 +1,15 @@
 -- A look at stacks, as a test of an image: what the calls on stacks alone find, a program of the table is told.
 use Rattle.std.proofs.Common.{◌≡◌, refl, Result, Ok, Err}
-use Rattle.b67_store.specs.Store.{word_at}
 use Rattle.b67_table.specs.declared.InterruptKind.{InterruptKind}
 use Rattle.b67_table.specs.Effect.{Effect, gives, faults, interrupts}
 use Rattle.b67_table.specs.Image.{Image}
-use Rattle.b67_table.specs.Look.{Look, found, stops, at, several, seen}
 use Rattle.b67_table.specs.Questions.{told}
-use Rattle.b67_table.specs.Program.{Test, answer, interrupt, fault, ask, asked, see, ◌>>=◌}
+use Rattle.b67_table.specs.Program.{Test, answer, interrupt, fault, ask, asked, ◌>>=◌}
 
 -- the rest of a test, after what a look found
 abbrev pub after_look : {A B : Type 0} → Image → Result A InterruptKind → (A → Test B) → Effect B
 after_look img (Ok a) next = asked img (next a)
 after_look img (Err kind) next = interrupts kind
-
-pub asked_see : {A B : Type 0} (img : Image) (l : Look A) (next : A → Test B) → asked img (see l >>= next) ≡ after_look img (seen img.stacks l) next
-asked_see img (found a) next = refl
-asked_see img (stops kind) next = refl
-asked_see img (at place more) next = asked_see img (more (word_at img.stacks place)) next
-asked_see img (several place n more) next = asked_see img (more _) next
 
 -- the rest of a test, after its first part
 abbrev pub after_test : {A B : Type 0} → Image → Effect A → (A → Test B) → Effect B

@@ -1,7 +1,7 @@
 -- How large the parts of a run may be, where no crate below says it.
-use Rattle.std.specs.Prelude.{ℕ, ◌+◌, ◌*◌}
+use Rattle.std.specs.Prelude.{ℕ, ◌+◌}
 use Rattle.b67_limits.specs.declared.TheConstants.{MOST_FRAME_CELLS, MOST_PROCESSES, MOST_BLOCK_CELLS, MOST_PROCEDURES}
-use Rattle.b67_segment.specs.declared.TheConstants.{MOST_SEGMENT_WORDS}
+use Rattle.b67_segment.specs.declared.TheConstants.{MOST_SEGMENT_SYLLABLES, MOST_SEGMENT_WORDS}
 
 -- the most words of a segment
 abbrev pub segment_limit : ℕ
@@ -9,7 +9,7 @@ segment_limit = MOST_SEGMENT_WORDS
 
 -- the place after the last syllable of such a segment: a branch may lead there, and no control word can hold it
 abbrev pub end_of_code : ℕ
-end_of_code = 6 * segment_limit
+end_of_code = MOST_SEGMENT_SYLLABLES
 
 -- how many segments a control word can name: the program's and one for each procedure
 abbrev pub segment_numbers : ℕ

@@ -45,10 +45,6 @@ abbrev pub program_by : Row → Code → Registers → ℕ → Program
 program_by (private_part change) code r next = interrupt bad_code
 program_by (action program) code r next = program code r next
 
--- the program of an action operator at the pointer of these registers, given the place after it
-unfoldable pub action_op : Code → Operator → Registers → ℕ → Program
-action_op code op r next = program_by (row op r.place) code r next
-
 -- ---- the table
 
 -- what a row does to an image

@@ -9,6 +9,7 @@ ghost use Rattle.std.specs.Prelude.{◌≡◌};
 ghost use Rattle.b67_table.specs.Rows.{plain_row};
 ghost use Rattle.b67_table.specs.Table.{class_at, class_by};
 
+mod floors;
 mod laws;
 mod private_words;
 
@@ -16,6 +17,7 @@ pub use b67_control::Registers;
 use b67_control::{Display, Rcw};
 use b67_ops::{Operator, PlainKind};
 use b67_word::{Place, Word};
+pub use floors::{floor, frame, wide};
 pub use laws::{
     first_image_is_valid, limit_comes_last, operators_keep_validity, others_stay_apart,
     plain_operators_commute, private_operators_stay_private, reading_decides,
@@ -111,14 +113,14 @@ pub struct Cell {
 }
 
 /// A word, and the cell in which it lies.
-#[derive(Clone, Copy, PartialEq, Eq, Debug)]
+#[derive(Clone, Copy)]
 pub struct Reached {
     pub word: Word,
     pub cell: Cell,
 }
 
 /// What is there to come back to where a frame that is no base frame is left.
-#[derive(Clone, Copy, PartialEq, Eq, Debug)]
+#[derive(Clone, Copy)]
 pub struct Below {
     /// The displacement of the mark below the frame.
     pub mark: u16,
@@ -129,7 +131,7 @@ pub struct Below {
 }
 
 /// What an entry finds.
-#[derive(Clone, Copy, PartialEq, Eq, Debug)]
+#[derive(Clone, Copy)]
 pub struct Entry {
     /// The frame to which the new one is linked.
     pub home: Place,
@@ -138,7 +140,7 @@ pub struct Entry {
 }
 
 /// What leaving a frame that is no base frame finds.
-#[derive(Clone, Copy, PartialEq, Eq, Debug)]
+#[derive(Clone, Copy)]
 pub struct Leaving {
     pub below: Below,
     /// The display of the frame below.
