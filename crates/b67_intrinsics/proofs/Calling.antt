@@ -1,5 +1,5 @@
 -- The arguments of an intrinsic, and the tests that lead to its changes.
-use Rattle.std.proofs.Common.{◌≡◌, refl, sym, ap, ◌∙◌, ℕ, zero, suc, ◌+◌, ◌<◌, ℤ, List, [], ◌∷◌, take, drop, length, Option, Some, None, Result, Ok, Err, slice_get, arith}
+use Rattle.std.proofs.Common.{◌≡◌, refl, sym, ap, ◌∙◌, ℕ, zero, suc, ◌<◌, ℤ, List, [], ◌∷◌, take, drop, length, Option, Some, None, Result, Ok, Err, slice_get, arith}
 use Rattle.b67_word.specs.Word.{Word, as_whole}
 use Rattle.b67_store.specs.Store.{Stacks}
 use Rattle.b67_table.specs.declared.InterruptKind.TheVariants.{InvalidOperand}
@@ -21,38 +21,7 @@ drop_at (x ∷ xs) (suc k) w e = drop_at xs k w e
 pub only_one : (xs : List Word) (n k : ℕ) (w : Word) → n ≡ 1 → slice_get xs k ≡ Some w → Ok w ≡ only (take n (drop k xs))
 only_one xs n k w one e = sym (ap (λ (m : ℕ). only (take m (drop k xs))) one ∙ ap (λ (ys : List Word). only (take 1 ys)) (drop_at xs k w e))
 
-get_of_take : (xs : List Word) (m n : ℕ) → n < m → slice_get (take m xs) n ≡ slice_get xs n
-get_of_take xs zero n h = absurd (impossible n h)
-  where
-    impossible : (n : ℕ) → n < 0 → ⊥
-    impossible n h = omega (arith, h)
-get_of_take [] (suc m) n h = refl
-get_of_take (x ∷ xs) (suc m) zero h = refl
-get_of_take (x ∷ xs) (suc m) (suc n) h = get_of_take xs m n (omega (arith, h))
-
-pub get_of_part : (xs : List Word) (m k n : ℕ) → n < m → slice_get (take m (drop k xs)) n ≡ slice_get xs (k + n)
-get_of_part xs m zero n h =
-    let p : n ≡ 0 + n = omega arith in get_of_take xs m n h ∙ ap (λ (i : ℕ). slice_get xs i) p
-get_of_part [] m (suc k) n h = get_of_take [] m n h
-get_of_part (x ∷ xs) m (suc k) n h =
-    let p : suc (k + n) ≡ suc k + n = omega arith in get_of_part xs m k n h ∙ ap (λ (i : ℕ). slice_get (x ∷ xs) i) p
-
 -- ---- three whole numbers
-
-whole_was : (o : Option ℤ) (x : ℤ) → Ok x ≡ whole_of o → o ≡ Some x
-whole_was None x e = cc
-whole_was (Some z) x e = cc
-
-pub three_are : (st : Stacks) (ws : List Word) (x y z : ℤ) → length ws ≡ 3 → Ok x ≡ whole_in (slice_get ws 0) → Ok y ≡ whole_in (slice_get ws 1)
-    → Ok z ≡ whole_in (slice_get ws 2) → Ok (x, y, z) ≡ looked (as_triple (seen st (three ws)))
-three_are st [] x y z l e f g = cc
-three_are st (a ∷ []) x y z l e f g = cc
-three_are st (a ∷ b ∷ []) x y z l e f g = cc
-three_are st (a ∷ b ∷ c ∷ []) x y z l e f g =
-    sym (ap (λ (o : Option ℤ). looked (as_triple (seen st (valid (joined o (joined (as_whole b) (joined (as_whole c) (Some [])))) >-> three_in)))) (whole_was (as_whole a) x e)
-    ∙ ap (λ (o : Option ℤ). looked (as_triple (seen st (valid (joined (Some x) (joined o (joined (as_whole c) (Some [])))) >-> three_in)))) (whole_was (as_whole b) y f)
-    ∙ ap (λ (o : Option ℤ). looked (as_triple (seen st (valid (joined (Some x) (joined (Some y) (joined o (Some [])))) >-> three_in)))) (whole_was (as_whole c) z g))
-three_are st (a ∷ b ∷ c ∷ d ∷ ws) x y z l e f g = cc
 
 -- a look that only InvalidOperand stops, where it finds nothing
 nothing_left : (st : Stacks) (q : Option (List ℤ)) (stop : Stop) → stop ≡ Interrupt InvalidOperand → ◌≡◌ {A = Option (List ℤ)} q None

@@ -44,10 +44,6 @@ triple_is (Ok t) x y z e =
     let p : (x, y, z) ≡ (t.first, t.second, t.third) = cc in ap (λ (q : ℤ × ℤ × ℤ). Ok (record { first = q.0; second = q.1; third = q.2 })) p
 triple_is (Err kind) x y z e = cc
 
-triple_stops : (q : Result Three InterruptKind) (stop : Stop) → ◌≡◌ {A = Result (ℤ × ℤ × ℤ) Stop} (Err stop) (looked (as_triple q)) → Err stop ≡ looked q
-triple_stops (Ok t) stop e = cc
-triple_stops (Err kind) stop e = cc
-
 module _ (code : Code) (next : ℕ) (m : Mscw) (old : Own) (res : Result (Unit {0}) Stop) where
   abbrev words : List Word
   words = arguments old.stacks old.regs
@@ -57,13 +53,6 @@ module _ (code : Code) (next : ℕ) (m : Mscw) (old : Own) (res : Result (Unit {
 
   abbrev cases : Three → Program
   cases z = see (case_place z.third (case_in z.first z.second)) >>= chain
-
-  pub select_stops : (stop : Stop) → ◌≡◌ {A = Result (ℤ × ℤ × ℤ) Stop} (Err stop) (looked (as_triple (seen old.stacks (three words)))) → IsErrAnd res (λ e. e ≡ stop)
-      → Performs (called select code old.regs next m) old old res
-  select_stops stop e i =
-      performs_called select code next m old old res
-      (exits (see (three words) >>= cases) old old res stop i
-      (performs_stop (see (three words)) cases stop old old (tells_look (three words) old.stacks old.rows (Err stop) (triple_stops (seen old.stacks (three words)) stop e)) refl))
 
   module _ (x y z : ℤ) (e : Ok (x, y, z) ≡ looked (as_triple (seen old.stacks (three words)))) where
     abbrev case : Three

@@ -8,4 +8,3 @@ pub mod Numbers
 pub mod LineTests
 pub mod Pushing
 pub mod MakingArrays
-pub mod Naming

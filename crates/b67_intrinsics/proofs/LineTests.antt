@@ -95,10 +95,6 @@ given_exit code words (Err i) h fail e = subst (λ (k : Hindrance). LineGiven co
     by (Stopped stop) fail = (fail.0, ap (line_in code) fail.1)
     by NoMemory fail = tt
 
-pub given_lack : (code : Code) (words : List Word) (res : Result (List ℕ) Hindrance) → IsErrAnd res (λ h. h ≡ NoMemory) → LineGiven code words res
-given_lack code words (Ok a) e = absurd e
-given_lack code words (Err h) e = subst (λ (k : Hindrance). LineGiven code words (Err k)) (sym e) tt
-
 -- ---- and then the end
 
 abbrev pub adding : Option Registers → Mscw → ℕ → List ℕ → Program

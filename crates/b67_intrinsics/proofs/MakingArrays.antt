@@ -17,7 +17,7 @@ use Rattle.b67_table.specs.Arrays.{Extents, one, two, array_word, array_made, ar
 use Rattle.b67_table.specs.Effect.{Effect}
 use Rattle.b67_table.specs.Effect as effects
 use Rattle.b67_table.specs.Image.{Image, with_rows, with_stacks}
-use Rattle.b67_table.specs.Intrinsics.{Wanted, wanted, count_in, arrays, extents}
+use Rattle.b67_table.specs.Intrinsics.{Wanted, wanted, arrays, extents}
 use Rattle.b67_table.specs.Look as look
 use Rattle.b67_table.specs.Look.{Look, seen, valid, ◌>->◌}
 use Rattle.b67_table.specs.Outcome.{gives, limit, limited}
@@ -33,7 +33,7 @@ use Rattle.b67_reach.specs.declared.Stop.TheVariants.{Interrupt, StackLimit}
 use Rattle.b67_reach.specs.Answers.{Acts, looked, stopped, whole}
 use Rattle.b67_intrinsics.specs.declared.hindrance.Hindrance.{Hindrance}
 use Rattle.b67_intrinsics.specs.declared.hindrance.Hindrance.TheVariants.{Stopped, NoMemory}
-use Rattle.b67_intrinsics.specs.Called.{called_in, finished_in, mark_below, Leads, MayLead, WholesFail}
+use Rattle.b67_intrinsics.specs.Called.{called_in, finished_in, mark_below, Leads, MayLead}
 use Rattle.b67_intrinsics.specs.Arrays.{as_order, is_order, order_in, stop_for, array_tests, array_tests_in, pushed_on}
 use Rattle.b67_intrinsics.proofs.Pushing.{ends, numbered_set, pushed_is}
 use Rattle.b67_intrinsics.proofs.Trying.{leads_then, leads_not, told_look}
@@ -48,15 +48,6 @@ at_most n h = by (n == 3) (n == 5) refl refl h
     by false true e f h = omega (arith, eqb-true n 5 f)
     by false false e f h = cc
 
-pub no_order : (st : Stacks) (zs : List ℤ) → is_order zs ≡ false → Err (Interrupt InvalidOperand) ≡ looked (seen st (wanted zs))
-no_order st [] h = refl
-no_order st (a ∷ []) h = refl
-no_order st (a ∷ b ∷ []) h = refl
-no_order st (a ∷ b ∷ c ∷ []) h = cc
-no_order st (a ∷ b ∷ c ∷ d ∷ []) h = refl
-no_order st (a ∷ b ∷ c ∷ d ∷ e ∷ []) h = cc
-no_order st (a ∷ b ∷ c ∷ d ∷ e ∷ f ∷ zs) h = refl
-
 counted : (st : Stacks) (o : Option ℕ) (bounds : List ℤ) (zs : List ℤ) → drop 1 zs ≡ bounds
     → looked (seen st (valid o >-> (λ (n : ℕ). look.found (record { count = n; bounds = bounds })))) ≡ order_in zs o
 counted st None bounds zs e = refl
@@ -64,17 +55,6 @@ counted st (Some n) bounds zs e = ap (λ (b : List ℤ). Ok (record { count = n;
 
 some_same : (a b : ℤ) → Some a ≡ Some b → a ≡ b
 some_same a b e = cc
-
-pub an_order : (st : Stacks) (zs : List ℤ) (k : ℤ) → is_order zs ≡ true → slice_get zs 0 ≡ Some k → looked (seen st (wanted zs)) ≡ order_in zs (count_in k)
-an_order st [] k h e = cc
-an_order st (a ∷ []) k h e = cc
-an_order st (a ∷ b ∷ []) k h e = cc
-an_order st (a ∷ b ∷ c ∷ []) k h e =
-    counted st (count_in a) (b ∷ c ∷ []) (a ∷ b ∷ c ∷ []) refl ∙ ap (λ (z : ℤ). order_in (a ∷ b ∷ c ∷ []) (count_in z)) (some_same a k e)
-an_order st (a ∷ b ∷ c ∷ d ∷ []) k h e = cc
-an_order st (a ∷ b ∷ c ∷ d ∷ f ∷ []) k h e =
-    counted st (count_in a) (b ∷ c ∷ d ∷ f ∷ []) (a ∷ b ∷ c ∷ d ∷ f ∷ []) refl ∙ ap (λ (z : ℤ). order_in (a ∷ b ∷ c ∷ d ∷ f ∷ []) (count_in z)) (some_same a k e)
-an_order st (a ∷ b ∷ c ∷ d ∷ f ∷ x ∷ zs) k h e = absurd (omega (arith, at_most (length (a ∷ b ∷ c ∷ d ∷ f ∷ x ∷ zs)) h))
 
 -- ---- what is told
 
@@ -113,9 +93,6 @@ look_order words = wholes words >-> wanted
 order_seen : (st : Stacks) (words : List Word) (zs : List ℤ) → wholes_in words ≡ Some zs → looked (seen st (look_order words)) ≡ looked (seen st (wanted zs))
 order_seen st words zs e = ap (λ (o : Option (List ℤ)). looked (seen st (valid o >-> wanted))) e
 
-no_wholes : (st : Stacks) (words : List Word) → wholes_in words ≡ None → looked (seen st (look_order words)) ≡ Err (Interrupt InvalidOperand)
-no_wholes st words e = ap (λ (o : Option (List ℤ)). looked (seen st (valid o >-> wanted))) e
-
 abbrev Going : Type 0
 Going = ℕ × Extents → Program
 
@@ -131,15 +108,6 @@ module _ (img : Image) (r : Registers) (m : Mscw) (words : List Word) where
 
   tests_stop : (stop : Stop) → looked (seen img.stacks (look_order words)) ≡ Err stop → Leads {A = ℕ × Extents} img (array_tests r m words) (Err stop)
   tests_stop stop e = leads_not img (see (look_order words)) chain stop (told_look img (look_order words) (Err stop) (sym e))
-
-  -- the exit where the arguments are no whole numbers
-  pub words_exit : (res : Result (ℕ × Size) Hindrance) (h : Hindrance) → WholesFail words h → IsErrAnd res (λ e. e ≡ h) → MayLead img (array_tests r m words) (as_order res)
-  words_exit (Ok a) h fail e = absurd e
-  words_exit (Err i) h fail e = subst (λ (k : Hindrance). MayLead {A = ℕ × Extents} img (array_tests r m words) (Err k)) (sym e) (by h fail)
-    where
-      by : (h : Hindrance) → WholesFail words h → MayLead {A = ℕ × Extents} img (array_tests r m words) (Err h)
-      by (Stopped stop) fail = tests_stop stop (no_wholes img.stacks words fail.1 ∙ ap Err (sym fail.0))
-      by NoMemory fail = tt
 
   -- the exit of a question mark
   pub order_exit : (res : Result (ℕ × Size) Hindrance) (stop : Stop) → IsErrAnd res (λ h. h ≡ Stopped stop) → Leads {A = ℕ × Extents} img (array_tests r m words) (Err stop)

@@ -8,7 +8,7 @@ use Rattle.b67_table.specs.Arguments.{joined, wholes_in}
 use Rattle.b67_reach.specs.declared.Stop.{Stop}
 use Rattle.b67_reach.specs.declared.Stop.TheVariants.{Interrupt}
 use Rattle.b67_intrinsics.specs.declared.hindrance.Hindrance.{Hindrance}
-use Rattle.b67_intrinsics.specs.declared.hindrance.Hindrance.TheVariants.{Stopped, NoMemory}
+use Rattle.b67_intrinsics.specs.declared.hindrance.Hindrance.TheVariants.{Stopped}
 use Rattle.b67_intrinsics.specs.Called.{whole_in, whole_of, WholesFail}
 use Rattle.b67_intrinsics.proofs.Calling.{drop_at}
 
@@ -62,10 +62,6 @@ pub wholes_stop : {A : Type 0} (words : List Word) (res : Result A Hindrance) (s
     → IsErrAnd res (λ h. h ≡ Stopped stop) → IfErr res (WholesFail words)
 wholes_stop words (Ok a) stop e n i = tt
 wholes_stop words (Err h) stop e n i = subst (λ (k : Hindrance). WholesFail words k) (sym i) (e, n)
-
-pub wholes_lack : {A : Type 0} (words : List Word) (res : Result A Hindrance) → IsErrAnd res (λ h. h ≡ NoMemory) → IfErr res (WholesFail words)
-wholes_lack words (Ok a) i = tt
-wholes_lack words (Err h) i = subst (λ (k : Hindrance). WholesFail words k) (sym i) tt
 
 pub length_last : (zs : List ℤ) (z : ℤ) → length (zs ++ z ∷ []) ≡ length zs + 1
 length_last [] z = refl

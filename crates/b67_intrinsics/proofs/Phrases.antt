@@ -1,31 +1,15 @@
 -- The phrases of a line, one after another.
-use Rattle.std.proofs.Common.{◌≡◌, refl, sym, ap, ◌∙◌, ℕ, zero, suc, ◌+◌, ◌≤◌, ◌<◌, ℤ, List, [], ◌∷◌, ◌++◌, length, drop, Option, Some, None, slice_get, append_assoc, append-nil, arith}
-use Rattle.std.proofs.lemmas.List.{drop-drop}
+use Rattle.std.proofs.Common.{◌≡◌, refl, sym, ap, ◌∙◌, ℕ, zero, suc, ◌+◌, ◌≤◌, ◌<◌, ℤ, List, [], ◌∷◌, length, drop, Some, None, slice_get, append-nil, arith}
 use Rattle.b67_segment.specs.declared.code.Phrase.{Phrase}
 use Rattle.b67_table.specs.Lines.{before, phrase_line, format_line}
-use Rattle.b67_intrinsics.specs.Lines.{AddsPhrase}
 
 -- ---- one phrase
-
-pub before_twice : (old more : List ℕ) (rest : Option (List ℕ)) → before old (before more rest) ≡ before (old ++ more) rest
-before_twice old more None = refl
-before_twice old more (Some bytes) = ap Some (sym (append_assoc old more bytes))
-
-pub adds_bytes : (old new bytes : List ℕ) (rest : Option (List ℕ)) → new ≡ old ++ bytes → before old (before bytes rest) ≡ before new rest
-adds_bytes old new bytes rest e = before_twice old bytes rest ∙ ap (λ (text : List ℕ). before text rest) (sym e)
 
 -- ---- some phrases
 
 -- what is made so far, and the line of the phrases and items that are left, are the line of all
 abbrev pub IsBegun : List Phrase → List ℤ → List ℕ → ℕ → ℕ → Type 0
 IsBegun phrases items text at used = before text (format_line (drop at phrases) (drop used items)) ≡ format_line phrases items
-
-pub begun_first : (phrases : List Phrase) (items : List ℤ) → IsBegun phrases items [] 0 0
-begun_first phrases items = before_nothing (format_line phrases items)
-  where
-    before_nothing : (rest : Option (List ℕ)) → before [] rest ≡ rest
-    before_nothing None = refl
-    before_nothing (Some bytes) = refl
 
 phrase_at : (xs : List Phrase) (k : ℕ) (p : Phrase) → slice_get xs k ≡ Some p → drop k xs ≡ p ∷ drop (k + 1) xs
 phrase_at [] k p e = cc
@@ -37,14 +21,6 @@ phrase_at (x ∷ xs) (suc k) p e =
 module _ (phrases : List Phrase) (items : List ℤ) (old new : List ℕ) (at used : ℕ) (p : Phrase) (here : slice_get phrases at ≡ Some p) (begun : IsBegun phrases items old at used) where
   this : before old (phrase_line p (drop used items) (format_line (drop (at + 1) phrases))) ≡ format_line phrases items
   this = ap (λ (ps : List Phrase). before old (format_line ps (drop used items))) (sym (phrase_at phrases at p here)) ∙ begun
-
-  pub begun_next : (taken : ℕ) → AddsPhrase p (drop used items) old new (Some taken) → IsBegun phrases items new (at + 1) (used + taken)
-  begun_next taken adds =
-      ap (λ (zs : List ℤ). before new (format_line (drop (at + 1) phrases) zs)) (sym (drop-drop taken used items))
-      ∙ sym (adds.1 (format_line (drop (at + 1) phrases))) ∙ this
-
-  pub no_item : AddsPhrase p (drop used items) old new None → None ≡ format_line phrases items
-  no_item none = ap (before old) (sym (none (format_line (drop (at + 1) phrases)))) ∙ this
 
 none_left : (xs : List Phrase) (k : ℕ) → length xs ≤ k → drop k xs ≡ []
 none_left [] zero h = refl

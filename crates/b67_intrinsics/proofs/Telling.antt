@@ -1,28 +1,24 @@
 -- What is told of the event that is an intrinsic's argument.
 use Rattle.std.specs.Result.{IsErrAnd}
-use Rattle.std.proofs.Common.{◌≡◌, refl, sym, ap, subst, ◌∙◌, Bool, true, List, [], ◌∷◌, Option, Some, None, Result, Ok, Err, is_some}
+use Rattle.std.proofs.Common.{◌≡◌, refl, sym, ap, subst, ◌∙◌, List, [], ◌∷◌, Option, Some, None, Result, Ok, Err}
 use Rattle.b67_word.specs.declared.Place.{Place}
 use Rattle.b67_word.specs.Word.{Word}
 use Rattle.b67_control.specs.declared.Mscw.{Mscw}
 use Rattle.b67_control.specs.declared.Registers.{Registers}
 use Rattle.b67_control.specs.declared.Sirw.{Sirw}
-use Rattle.b67_control.specs.declared.EventWord.{EventWord}
-use Rattle.b67_control.specs.Control.{as_sirw, as_event}
+use Rattle.b67_control.specs.Control.{as_sirw}
 use Rattle.b67_store.specs.Store.{Stacks, word_at}
-use Rattle.b67_events.specs.Events.{is_open}
 use Rattle.b67_table.specs.declared.Cell.{Cell}
 use Rattle.b67_table.specs.declared.Reached.{Reached}
 use Rattle.b67_table.specs.declared.InterruptKind.{InterruptKind}
-use Rattle.b67_table.specs.declared.InterruptKind.TheVariants.{InvalidOperand}
-use Rattle.b67_table.specs.Arguments.{event_of, event_in, if_open, if_chained}
+use Rattle.b67_table.specs.Arguments.{event_of, event_in, if_chained}
 use Rattle.b67_table.specs.Image.{Image}
-use Rattle.b67_table.specs.Look.{seen, valid}
-use Rattle.b67_table.specs.Program.{asked, see, ◌>>=◌, is_event}
+use Rattle.b67_table.specs.Look.{seen}
+use Rattle.b67_table.specs.Program.{asked, see}
 use Rattle.b67_table.specs.References.{named, reached, reached_in, sirw_cell, one_sirw, no_second, cell_place, cell_of}
 use Rattle.b67_reach.specs.declared.Stop.{Stop}
-use Rattle.b67_reach.specs.declared.Stop.TheVariants.{Interrupt}
 use Rattle.b67_reach.specs.Answers.{looked, whole, stopped, answered}
-use Rattle.b67_reach.proofs.Looking.{seen_then, after_found, looked_ok, asked_on, tells_look, tells_stop, acts_then, acts_stop}
+use Rattle.b67_reach.proofs.Looking.{seen_then, after_found, asked_on, tells_look, tells_stop, acts_then, acts_stop}
 use Rattle.b67_intrinsics.specs.Called.{arguments, only, mark_below, event_tests, Leads}
 
 -- ---- the word that is reached lies in its cell
@@ -59,14 +55,6 @@ first_stands st f (Ok v) h e = by (as_sirw v.word) e
         second_stands st f (seen st (named (Some (sirw_cell s)))) (λ v q. named_stands st (Some (sirw_cell s)) v q)
         (sym (seen_then st (named (Some (sirw_cell s))) (λ (v : Reached). no_second (as_sirw v.word) v)) ∙ e)
 
-pub reached_stands : (st : Stacks) (c : Option Cell) (f : Reached) → Ok f ≡ looked (seen st (reached c)) → Stands st f
-reached_stands st c f e =
-    first_stands st f (seen st (named c)) (λ v q. named_stands st c v q)
-    (sym (seen_then st (named c) (λ (w : Reached). one_sirw (as_sirw w.word) w)) ∙ looked_ok (seen st (reached c)) f e)
-
-pub reached_some : (st : Stacks) (c : Option Cell) (f : Reached) → Ok f ≡ looked (seen st (reached c)) → is_some (word_at st (cell_place f.cell)) ≡ true
-reached_some st c f e = ap is_some (reached_stands st c f e)
-
 -- ---- what is told of an event
 
 module _ (img : Image) (r : Registers) (w : Word) where
@@ -79,34 +67,7 @@ module _ (img : Image) (r : Registers) (w : Word) where
     in_reached =
         asked_on img (see (reached (cell_of r w))) event_in f ((tells_look (reached (cell_of r w)) img.stacks img.rows (Ok f) e).told img refl refl)
 
-    pub no_event_word : as_event f.word ≡ None → whole (asked img (event_of r w)) ≡ stopped (Interrupt InvalidOperand)
-    no_event_word n =
-        ap whole (in_reached ∙ ap (λ (o : Option EventWord). asked img (see (valid o) >>= (λ e. is_event (cell_place f.cell) (λ (there : Bool). if_open there f.cell)))) n)
-
-    pub if_event : (x : EventWord) (b : Bool) → as_event f.word ≡ Some x → is_open (cell_place f.cell) img.events ≡ b → asked img (event_of r w) ≡ asked img (if_open b f.cell)
-    if_event x b n o =
-        in_reached ∙ ap (λ (o : Option EventWord). asked img (see (valid o) >>= (λ e. is_event (cell_place f.cell) (λ (there : Bool). if_open there f.cell)))) n
-        ∙ ap (λ (there : Bool). asked img (if_open there f.cell)) o
-
 -- ---- the tests of an intrinsic on an event
-
-only_stop : (words : List Word) (stop : Stop) → ◌≡◌ {A = Result Word Stop} (Err stop) (only words) → (img : Image) (r : Registers) (m : Mscw)
-    → Leads img (event_tests r m words) (Err stop)
-only_stop [] stop e img r m = λ p next. record { outcome = ap (λ (s : Stop). stopped s) (sym (stop_is e)); stays = refl }
-  where
-    stop_is : ◌≡◌ {A = Result Word Stop} (Err stop) (Err (Interrupt InvalidOperand)) → stop ≡ Interrupt InvalidOperand
-    stop_is e = cc
-only_stop (w ∷ []) stop e img r m = cc
-only_stop (w ∷ v ∷ words) stop e img r m = λ p next. record { outcome = ap (λ (s : Stop). stopped s) (sym (stop_is e)); stays = refl }
-  where
-    stop_is : ◌≡◌ {A = Result Word Stop} (Err stop) (Err (Interrupt InvalidOperand)) → stop ≡ Interrupt InvalidOperand
-    stop_is e = cc
-
-pub no_argument : (img : Image) (r : Registers) (m : Mscw) (res : Result Place Stop) (stop : Stop) → ◌≡◌ {A = Result Word Stop} (Err stop) (only (arguments img.stacks r)) → IsErrAnd res (λ e. e ≡ stop)
-    → Leads img (event_tests r m (arguments img.stacks r)) res
-no_argument img r m (Ok place) stop e i = absurd i
-no_argument img r m (Err other) stop e i =
-    only_stop (arguments img.stacks r) other (ap (λ (s : Stop). Err s) i ∙ e) img r m
 
 only_is : (words : List Word) (w : Word) → Ok w ≡ only words → words ≡ w ∷ []
 only_is [] w e = cc

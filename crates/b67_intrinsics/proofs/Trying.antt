@@ -25,7 +25,7 @@ use Rattle.b67_reach.specs.Answers.{Acts, answered, looked, stopped, whole}
 use Rattle.b67_reach.proofs.Looking.{asked_on, tells_look, acts_then, acts_stop}
 use Rattle.b67_intrinsics.specs.declared.hindrance.Hindrance.{Hindrance}
 use Rattle.b67_intrinsics.specs.declared.hindrance.Hindrance.TheVariants.{Stopped, NoMemory}
-use Rattle.b67_intrinsics.specs.Called.{arguments, called_in, finished_in, mark_below, mark_tests, mark_tests_in, Leads, MayLead, IsLeft, Tries}
+use Rattle.b67_intrinsics.specs.Called.{arguments, called_in, finished_in, mark_tests, mark_tests_in, Leads, MayLead, IsLeft, Tries}
 
 -- ---- tests, and what comes after them
 
@@ -63,12 +63,6 @@ tries_exit p img program tests after (Ok a) NoMemory is x i = absurd i
 tries_exit p img program tests after (Err h) NoMemory is x i =
     subst (λ (k : Hindrance). Tries p program img img (Err k)) (sym i) (left_alone img img refl)
 
--- the exit of a question mark
-pub leads_exit : {A : Type 0} (img : Image) (tests : (A → Program) → Program) (res : Result A Stop) (stop : Stop) → IsErrAnd res (λ e. e ≡ stop)
-    → Leads {A = A} img tests (Err stop) → Leads img tests res
-leads_exit img tests (Ok a) stop e x = absurd e
-leads_exit {A = A} img tests (Err other) stop e x = subst (λ (s : Stop). Leads {A = A} img tests (Err s)) (sym e) x
-
 -- ---- a test before other tests
 
 pub leads_then : {A B : Type 0} (img : Image) (t : Test A) (rest : A → (B → Program) → Program) (a : A) (res : Result B Stop) → whole (asked img t) ≡ gives a
@@ -100,14 +94,6 @@ module _ (img : Image) (r : Registers) (m : Mscw) (words : List Word) (none : le
 
   abbrev there : Mscw → (Place → Program) → Program
   there lower next = next (place r.stack r.f)
-
-  pub mark_unchained : (stop : Stop) → ◌≡◌ {A = Result Mscw Stop} (Err stop) (looked (seen img.stacks (mark_below r m))) → Leads {A = Place} img (mark_tests r m words) (Err stop)
-  mark_unchained stop e = in_none (Err stop) (leads_not img (see (mark_below r m)) there stop (told_look img (mark_below r m) (Err stop) e))
-
-  pub mark_chained : (lower : Mscw) → Ok lower ≡ looked (seen img.stacks (mark_below r m)) → Leads img (mark_tests r m words) (Ok (place r.stack r.f))
-  mark_chained lower e =
-      in_none (Ok (place r.stack r.f))
-      (leads_then img (see (mark_below r m)) there lower (Ok (place r.stack r.f)) (told_look img (mark_below r m) (Ok lower) e) (λ next. refl))
 
 -- what comes after the tests
 abbrev pub opening : Option Registers → Mscw → ℕ → Place → Program

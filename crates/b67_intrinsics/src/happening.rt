@@ -1,7 +1,7 @@
 //! The intrinsics on one event: WAIT, CAUSE, RESET, HAPPENED, PROCURE and LIBERATE.
 
-ghost use Rattle.std.specs.Prelude.{take, ◌≡◌, ◌≤◌, ℕ, OnOk, IfOk, IsSome, Some, IsTrue, IsFalse, vec_capacity, [], ◌∷◌, Ok};
-ghost use Rattle.b67_list.specs.Numbered.{numbered, set_numbered};
+ghost use Rattle.std.specs.Prelude.{take, ◌≡◌, ◌≤◌, OnOk, IfOk, IsSome, Some, IsTrue, IsFalse, vec_capacity, [], ◌∷◌, Ok};
+ghost use Rattle.b67_list.specs.Numbered.{numbered};
 ghost use Rattle.b67_control.specs.declared.Registers.{Registers};
 ghost use Rattle.b67_events.specs.Events.{is_open, is_waiting, waiters_at, procurers_at};
 ghost use Rattle.b67_table.specs.Image.{Image};
@@ -16,7 +16,7 @@ use crate::finding::find_event;
 use crate::marks::{finish, finish_with};
 use b67_control::Mscw;
 use b67_events::{Kernel, Took, Woken};
-use b67_reach::{Parts, ProcessState, Registers, Stop};
+use b67_reach::{Parts, ProcessState, Registers, Stop, set_state, wake};
 use b67_store::Core;
 use b67_word::{Place, Word, truth};
 
@@ -74,16 +74,6 @@ pub fn reset<C: Core>(
     kernel.reset(place);
     end(core, &mut parts.regs, process, mark, next);
     Ok(())
-}
-
-// A process is in a state.
-fn set_state(states: &mut Vec<ProcessState>, process: u32, state: ProcessState)
-    ensures { states.new.items ≡ set_numbered states.old.items process state }
-{
-    let index = process as usize;
-    if 1 <= index && index <= states.len() {
-        states[index - 1] = state;
-    }
 }
 
 // A process is in a state, where it waits.
@@ -152,15 +142,6 @@ pub fn procure<C: Core>(
     );
     end(core, &mut parts.regs, process, mark, next);
     Ok(())
-}
-
-// These processes are able.
-fn wake(states: &mut Vec<ProcessState>, processes: &Vec<u32>)
-    ensures { states.new.items ≡ able_again processes.now.items states.old.items }
-{
-    'waking: for process in processes {
-        set_state(states, *process, ProcessState::Able);
-    }
 }
 
 // The process that was served is the one released, and is able.

@@ -6,7 +6,6 @@
 //! The events' intrinsics are those of the B6700's Extended ALGOL; their effects are this project's profile.
 #![tactic(auto)]
 
-mod all;
 mod allocating;
 mod finding;
 mod happening;
@@ -17,7 +16,6 @@ mod marks;
 mod selecting;
 mod writing;
 
-pub use all::{intrinsic, needs_frames};
 pub use allocating::{MOST_ARRAYS, arrays};
 pub use finding::{event_of, find_event, find_mark};
 pub use happening::{cause, end, happened, liberate, procure, registers, reset, wait};

@@ -14,7 +14,7 @@ use crate::marks::{chained, finish, three_arguments};
 use b67_control::Mscw;
 use b67_num::FaultKind;
 use b67_reach::{Registers, Stop, invalid};
-use b67_segment::MOST_SEGMENT_WORDS;
+use b67_segment::MOST_SEGMENT_SYLLABLES;
 use b67_store::Core;
 
 // The index, where it is from 0 to one below the count.
@@ -41,7 +41,7 @@ fn case_place(first: i64, index: Option<u64>) -> Result<Option<u16>, Stop>
         return Ok(None);
     };
     let place = first + 3 * index as i64;
-    if 0 <= place && place <= 6 * MOST_SEGMENT_WORDS as i64 {
+    if 0 <= place && place <= MOST_SEGMENT_SYLLABLES as i64 {
         Ok(Some(place as u16))
     } else {
         Err(invalid())

@@ -1,6 +1,0 @@
-use Rattle.std.proofs.Common.{◌≡◌, drop}
-use Rattle.b67_table.specs.Writes.{able_again}
-use Rattle.b67_intrinsics.proofs.happening.wake.Given as goal
-
-abbrev pub invariant-waking : goal.invariant-waking
-invariant-waking l = able_again (drop l.process-index l.processes.items) l.states.items ≡ able_again l.processes.items l.fn.states.items
