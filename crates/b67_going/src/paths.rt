@@ -23,7 +23,7 @@ use b67_word::{Place, Word};
 
 /// The frames that a new process needs: where its procedure lies, where its task's event lies, and those that its
 /// parameters name.
-#[derive(Clone, Copy, PartialEq, Eq, Debug)]
+#[derive(Clone, Copy)]
 pub struct Needs {
     /// The frame in which the procedure lies.
     pub home: Place,

@@ -27,7 +27,7 @@ pub const MOST_PROCESSES: u32 = b67_limits::MOST_PROCESSES;
 pub const MOST_CELLS: u32 = b67_limits::MOST_FRAME_CELLS as u32;
 
 /// What START is given.
-#[derive(Clone, Copy, PartialEq, Eq, Debug)]
+#[derive(Clone, Copy)]
 pub struct Given {
     /// The procedure that the new process runs.
     pub procedure: Pcw,

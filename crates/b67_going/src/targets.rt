@@ -11,14 +11,11 @@ ghost use Rattle.b67_reach.specs.Answers.{looked};
 ghost use Rattle.b67_going.specs.Targets.{target_in};
 
 use b67_reach::{Registers, Stop, frame_at, invalid};
-use b67_segment::MOST_SEGMENT_WORDS;
+use b67_segment::MOST_SEGMENT_SYLLABLES;
 use b67_word::Place;
 
 // The greatest number of a segment that a control word can hold.
 const LAST_SEGMENT: u32 = b67_limits::MOST_PROCEDURES as u32;
-
-// The place after the last syllable that a segment can have: 6 in each of its words.
-const END_OF_CODE: u32 = 6 * MOST_SEGMENT_WORDS as u32;
 
 /// A number from 0 to a greatest one.
 pub fn number_in(value: i64, most: u32) -> Option<u32>
@@ -49,7 +46,7 @@ pub fn level_in(regs: &Registers, value: i64) -> Option<u8>
 }
 
 /// What GOTO goes to.
-#[derive(Clone, Copy, PartialEq, Eq, Debug)]
+#[derive(Clone, Copy)]
 pub struct Target {
     /// The frame that stays.
     pub frame: Place,
@@ -82,7 +79,7 @@ pub fn target_of(regs: &Registers, level: i64, segment: i64, pointer: i64) -> Re
     let Some(segment) = number_in(segment, LAST_SEGMENT) else {
         return Err(invalid());
     };
-    let Some(pointer) = number_in(pointer, END_OF_CODE) else {
+    let Some(pointer) = number_in(pointer, MOST_SEGMENT_SYLLABLES as u32) else {
         return Err(invalid());
     };
     Ok(Target {
