@@ -5,7 +5,6 @@ use Rattle.b67_control.specs.declared.Mscw.{Mscw}
 use Rattle.b67_ops.specs.declared.intrinsic.Intrinsic.{Intrinsic}
 use Rattle.b67_segment.specs.declared.code.Code.{Code}
 use Rattle.b67_store.specs.Store.{row_at}
-use Rattle.b67_table.specs.declared.InterruptKind.TheVariants.{InvalidOperand}
 use Rattle.b67_table.specs.Image.{Image}
 use Rattle.b67_table.specs.Intrinsics.{intrinsic_row, select}
 use Rattle.b67_table.specs.Look.{seen}
@@ -18,15 +17,12 @@ use Rattle.b67_operators.specs.declared.calling.Called.{Called}
 use Rattle.b67_operators.specs.Entries.{called as entered, enter_called}
 use Rattle.b67_operators.specs.Leaves.{program_in}
 use Rattle.b67_operators.proofs.Choices.{enters_what_it_calls}
-use Rattle.b67_operators.proofs.Leaves.{acts_refused, in_process}
+use Rattle.b67_operators.proofs.Leaves.{in_process}
 use Rattle.b67_intrinsics.specs.declared.hindrance.Hindrance.{Hindrance}
 use Rattle.b67_intrinsics.specs.declared.hindrance.Hindrance.TheVariants.{Stopped, NoMemory}
 use Rattle.b67_intrinsics.specs.Called.{called_in, Tries, IsLeft}
-use Rattle.b67_going.specs.declared.processes.Unstarted.{Unstarted}
 use Rattle.b67_going.specs.declared.processes.Unstarted.TheVariants as unstarted
-use Rattle.b67_going.specs.Starts.{Starts}
 use Rattle.b67_reach.specs.declared.Stop.{Stop}
-use Rattle.b67_reach.specs.declared.Stop.TheVariants.{Interrupt}
 use Rattle.b67_reach.specs.Answers.{looked, Acts}
 use Rattle.b67_reach.proofs.Looking.{tells_look, asked_on, acts_stop}
 use Rattle.b67_action.specs.Acting.{hindered, selects}
@@ -38,21 +34,11 @@ pub tries_plainly : (p : ℕ) (program : Program) (old new : Image) (res : Resul
 tries_plainly p program old new (Ok u) x = x
 tries_plainly p program old new (Err stop) x = x
 
-abbrev pub untold : Result ℕ Unstarted → Result (Unit {0}) Hindrance
-untold (Ok n) = Ok (tt {0})
-untold (Err (unstarted.Stopped stop)) = Err (Stopped stop)
-untold (Err unstarted.NoMemory) = Err NoMemory
-
 same_left : (old new : Image) → new ≡ old → IsLeft old new
 same_left old new e = record {
   rows = λ n. ap (λ (z : Image). row_at z.rows n) e;
   others = e ∙ ap (λ (z : Image). record old { rows = z.rows }) (sym e);
 }
-
-pub tries_started : (p : ℕ) (program : Program) (old new : Image) (res : Result ℕ Unstarted) → Starts p program old new res → Tries p program old new (untold res)
-tries_started p program old new (Ok n) x = record { outcome = x.outcome; stays = tt {0} }
-tries_started p program old new (Err (unstarted.Stopped stop)) x = record { outcome = x.outcome; stays = x.stays }
-tries_started p program old new (Err unstarted.NoMemory) x = same_left old new x
 
 tries_as : (p : ℕ) (a b : Program) (img new : Image) (res : Result (Unit {0}) Hindrance) → does p a img ≡ does p b img → Tries p b img new res → Tries p a img new res
 tries_as p a b img new (Ok u) e x = record { outcome = ap (limited (stack_length p)) e ∙ x.outcome; stays = x.stays }
@@ -64,20 +50,6 @@ tries_as p a b img new (Err NoMemory) e x = x
 pub select_is : (code : Code) (m : Mscw) (o : Option Registers) (next : ℕ) → program_in (selects code m) o next ≡ called_in select code o next m
 select_is code m None next = refl
 select_is code m (Some r) next = refl
-
-pub tries_named : (p : ℕ) (o : Option Intrinsic) (name : Intrinsic) (code : Code) (regs : Option Registers) (next : ℕ) (m : Mscw) (img new : Image) (res : Result (Unit {0}) Hindrance)
-    → o ≡ Some name → Tries p (called_in (intrinsic_row (Some name)) code regs next m) img new res → Tries p (called_in (intrinsic_row o) code regs next m) img new res
-tries_named p o name code regs next m img new res e x = subst (λ (z : Option Intrinsic). Tries p (called_in (intrinsic_row z) code regs next m) img new res) (sym e) x
-
-pub tries_nothing : (p : ℕ) (o : Option Intrinsic) (code : Code) (regs : Option Registers) (next : ℕ) (m : Mscw) (img : Image) (stop : Stop) → o ≡ None → stop ≡ Interrupt InvalidOperand
-    → Tries p (called_in (intrinsic_row o) code regs next m) img img (Err (Stopped stop))
-tries_nothing p o code regs next m img stop e s =
-    subst (λ (z : Option Intrinsic). Tries p (called_in (intrinsic_row z) code regs next m) img img (Err (Stopped stop))) (sym e)
-    (subst (λ (z : Stop). Tries p (called_in (intrinsic_row None) code regs next m) img img (Err (Stopped z))) (sym s) (by regs))
-  where
-    by : (o : Option Registers) → Acts {A = Unit {0}} p (called_in (intrinsic_row None) code o next m) img img (Err (Interrupt InvalidOperand))
-    by None = acts_refused p (called_in (intrinsic_row None) code None next m) img (Interrupt InvalidOperand) refl
-    by (Some r) = acts_refused p (called_in (intrinsic_row None) code (Some r) next m) img (Interrupt InvalidOperand) refl
 
 -- ---- what is called
 

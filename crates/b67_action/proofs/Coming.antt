@@ -19,7 +19,7 @@ use Rattle.b67_events.specs.Events.{happened_at, available_at, waiters_at, procu
 use Rattle.b67_store.specs.Store.{stack_limit}
 use Rattle.b67_table.specs.declared.Private.{Private as Part}
 use Rattle.b67_table.specs.Image.{Image, private_of, with_private, with_effect, is_able, is_live}
-use Rattle.b67_table.specs.Outcome.{Outcome, limited}
+use Rattle.b67_table.specs.Outcome.{limited}
 use Rattle.b67_table.specs.Outcome as outcomes
 use Rattle.b67_table.specs.Private.{floor}
 use Rattle.b67_table.specs.Program.{Program, Change, done, look_up, write, changed, asked, does, effect_of}
@@ -34,13 +34,12 @@ use Rattle.b67_table.proofs.EventKept.{length_states, length_again}
 use Rattle.b67_table.proofs.Lists.{numbered_within, numbered_from}
 use Rattle.b67_intrinsics.specs.declared.hindrance.Hindrance.{Hindrance}
 use Rattle.b67_intrinsics.specs.declared.hindrance.Hindrance.TheVariants.{Stopped, NoMemory}
-use Rattle.b67_intrinsics.specs.Called.{Tries}
 use Rattle.b67_reach.specs.declared.Stop.{Stop}
 use Rattle.b67_reach.specs.declared.Stop.TheVariants.{Interrupt, Fault, StackLimit}
 use Rattle.b67_reach.specs.Answers.{Acts}
 use Rattle.b67_action.specs.declared.rows.Row.{Row}
 use Rattle.b67_action.specs.declared.rows.Row.TheVariants as ours
-use Rattle.b67_action.specs.Acting.{row_effect, hindered, ComesOrNot, CallsMaker}
+use Rattle.b67_action.specs.Acting.{row_effect, ComesOrNot, CallsMaker}
 use Rattle.b67_action.specs.Among.{Comes}
 use Rattle.b67_action.specs.Done.{went, hindered_by, is_performed, MakesNext, Came}
 use Rattle.b67_action.specs.Rows.{Is}
@@ -49,15 +48,6 @@ use Rattle.b67_action.specs.Rows.{Is}
 
 pub comes_by : {A : Type 0} (p : ℕ) (program : Program) (old new : Image) (res : Result A Stop) → Acts p program old new res → Comes p (does p program old) old new res
 comes_by p program old new res x = record { outcome = x.outcome; stays = x.stays }
-
-pub comes_tried : (p : ℕ) (program : Program) (old new : Image) (res : Result (Unit {0}) Hindrance) → Tries p program old new res → ComesOrNot p (does p program old) old new res
-comes_tried p program old new (Ok u) x = record { outcome = x.outcome; stays = x.stays }
-comes_tried p program old new (Err (Stopped stop)) x = record { outcome = x.outcome; stays = x.stays }
-comes_tried p program old new (Err NoMemory) x = x
-
-pub comes_plainly : (p : ℕ) (effect : Effect Image) (old new : Image) (res : Result (Unit {0}) Stop) → Comes p effect old new res → ComesOrNot p effect old new (hindered res)
-comes_plainly p effect old new (Ok u) x = x
-comes_plainly p effect old new (Err stop) x = x
 
 -- ---- the row of an operator
 

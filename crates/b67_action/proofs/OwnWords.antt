@@ -23,11 +23,6 @@ long_taken ws zero h = omega arith
 long_taken [] (suc i) h = h
 long_taken (x ∷ ws) (suc i) h = omega (arith, long_taken ws i (omega (arith, h)))
 
-pub first_taken : (ws : List Word) (n : ℕ) → reverse (drop n (take n ws)) ≡ []
-first_taken ws zero = refl
-first_taken [] (suc n) = refl
-first_taken (x ∷ ws) (suc n) = first_taken ws n
-
 pub next_taken : (ws : List Word) (base at : ℕ) (w : Word) → base ≤ at → slice_get ws at ≡ Some w → reverse (drop base (take (at + 1) ws)) ≡ w ∷ reverse (drop base (take at ws))
 next_taken ws base at w h e =
     let long : base ≤ length (take at ws) = omega (arith, h, long_taken ws at (omega (arith, slice_get_within ws at w e))) in
@@ -35,12 +30,6 @@ next_taken ws base at w h e =
     ∙ ap (λ (z : List Word). reverse (drop base z)) (sym (one_taken ws at w e))
     ∙ ap reverse (drop-append-le base (take at ws) (w ∷ []) long)
     ∙ reverse-append (drop base (take at ws)) (w ∷ [])
-
-pub whole_taken : (ws : List Word) (n : ℕ) → length ws ≤ n → take n ws ≡ ws
-whole_taken [] zero h = refl
-whole_taken [] (suc n) h = refl
-whole_taken (x ∷ ws) zero h = absurd (omega (arith, h))
-whole_taken (x ∷ ws) (suc n) h = ap (λ (z : List Word). x ∷ z) (whole_taken ws n (omega (arith, h)))
 
 -- ---- words that are put back
 

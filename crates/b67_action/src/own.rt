@@ -1,20 +1,21 @@
 // Private operators, performed on a copy of the private part.
-ghost use Rattle.std.specs.Prelude.{◌≡◌, ◌+◌, ◌<◌, ◌≤◌, ◌++◌, IfSome, IsSome, length, reverse, take, vec_capacity};
+ghost use Rattle.std.specs.Prelude.{◌≡◌, ◌+◌, ◌≤◌, ◌++◌, IfSome, IsSome, length, reverse, take, vec_capacity};
 ghost use Rattle.b67_list.specs.Numbered.{numbered};
 ghost use Rattle.b67_ops.specs.Spelling.{Fits};
-ghost use Rattle.b67_store.specs.Store.{stack_at, words_of, with_stack, with_push, with_cut, stack_limit};
+ghost use Rattle.b67_store.specs.Store.{stack_at, words_of, with_stack, stack_limit};
 ghost use Rattle.b67_linkage.specs.Held.{IsLinked};
 ghost use Rattle.b67_operators.specs.Leaves.{IsLinkedIn};
 ghost use Rattle.b67_private.specs.Parts.{IsPart};
 ghost use Rattle.b67_reach.specs.Images.{own};
 ghost use Rattle.b67_action.specs.Own.{part_of, stop_by, DoesOwn, DoesOwnIn};
 
+use b67_linkage::{cut_words, push_word};
 use b67_ops::Operator;
 use b67_private::operate;
 use b67_reach::{Registers, Stop, floor};
 use b67_store::Core;
 use b67_table::Private;
-use b67_word::{Place, Word};
+use b67_word::Place;
 
 /// The private part of a process is copied: its registers, and the words at its floor and above.
 pub fn take_part<C: Core>(core: &C, regs: &Registers, part: &mut Private)
@@ -33,25 +34,6 @@ pub fn take_part<C: Core>(core: &C, regs: &Registers, part: &mut Private)
         at += 1;
     }
     part.regs = *regs;
-}
-
-// Leaves so many words of a stack that is open.
-fn cut_words<C: Core>(core: &mut C, stack: u16, length: u32)
-    requires { IsSome (stack_at (C.Core.stacks core.old) stack) }
-    ensures stacks { C.Core.stacks core.new ≡ with_cut (C.Core.stacks core.old) stack length }
-    ensures rows { C.Core.rows core.new ≡ C.Core.rows core.old }
-{
-    let _ = core.cut(stack, length);
-}
-
-// Pushes a word on a stack that has room for it.
-fn push_word<C: Core>(core: &mut C, stack: u16, word: Word)
-    requires open { IsSome (stack_at (C.Core.stacks core.old) stack) }
-    requires room { length (words_of (C.Core.stacks core.old) stack) < stack_limit }
-    ensures stacks { C.Core.stacks core.new ≡ with_push (C.Core.stacks core.old) stack word }
-    ensures rows { C.Core.rows core.new ≡ C.Core.rows core.old }
-{
-    let _ = core.push(stack, word);
 }
 
 /// A private part is put back: the words of its stack from a place on give way to its own.

@@ -10,7 +10,7 @@ ghost use Rattle.b67_action.specs.Rows.{HasRow, HasRowOf, IsHeldRow};
 use b67_ops::{BranchKind, Couple, Operator, PlainKind};
 
 /// What reads and writes words and rows, and no more than the registers of its own process beside them.
-#[derive(Clone, Copy, PartialEq, Eq, Debug)]
+#[derive(Clone, Copy)]
 pub enum WordsRow {
     ValueCall(Couple),
     /// A branch that does not go forward.
@@ -26,7 +26,7 @@ pub enum WordsRow {
 }
 
 /// What an operator does, by its kind.
-#[derive(Clone, Copy, PartialEq, Eq, Debug)]
+#[derive(Clone, Copy)]
 pub enum Row {
     /// A private operator.
     Own,
