@@ -50,7 +50,7 @@ module _ {from : List Due} {us : List Value} {tokens : List Token} {s : Due} {ds
   pub failing_on : {left : Value} → Reaches from us tokens (s ∷ ds) (left ∷ ws) mid → Fails (s ∷ []) (left ∷ []) mid at_ e → Fails from us tokens at_ e
   failing_on r p = record { run = λ spot code q due vs. r.run due vs ∙ p.run spot code q (ds ++ due) (ws ++ vs) }
 
--- the value that is made, where it stands behind `make m`
+-- the value that is made, where it stands after `make m`
 pub making : {from : List Due} {us : List Value} {tokens : List Token} {m : Make} {ds : List Due} {ws xs : List Value} {rest : List Token} →
     Reaches from us tokens (make m ∷ ds) ws rest → ((vs : List Value) → m (ws ++ vs) ≡ xs ++ vs) → Reaches from us tokens ds xs rest
 making {m = m} {ds = ds} {ws = ws} {rest = rest} r e = record { run = λ due vs. r.run due vs ∙ make_step 0 rest m (ds ++ due) (ws ++ vs) ∙ ap (read 0 rest (ds ++ due)) (e vs) }
@@ -104,7 +104,7 @@ fails_on r a h = if_err r _ _ (λ e f. failing_on a f) h
 pub rest_of : {tokens mid rest : List Token} → IsRest tokens mid → IsRest mid rest → IsRest tokens rest
 rest_of p q = record { ended = q.ended; shorter = omega arith }
 
--- the tokens behind the first
+-- the tokens after the first
 pub behind_first : (t : Token) (ts : List Token) → EndsOnce (t ∷ ts) → (t.kind ≡ kinds.End → ⊥) → IsRest (t ∷ ts) ts
 behind_first t [] ended other = absurd (other ended)
 behind_first t (u ∷ ts) ended other = record { ended = ended.1; shorter = omega arith }

@@ -24,7 +24,7 @@ use Rattle.algol_tree.specs.Ends.{ends, Ends}
 use Rattle.algol_expr.proofs.Ends.{operator_ends, relop_ends, operand_ends, level_over, rel_ends, primary_over}
 use Rattle.algol_expr.proofs.Parts.{if_refuses, not_refuses, tested, expr_at, not_at, rel_at, level_at, signless, none_empty, more_over, more_end}
 
--- parts that are another part alone, or begin with it
+-- parts that are another part only, or begin with it
 
 expr_read : (free d : ℕ) (from rest : List Token) (v : Value) → Leads free (part (level levels.Eqv) d) from v rest → Leads free (part expr d) from v rest
 expr_read free d [] rest v e = absurd (none_empty free (level levels.Eqv) d v rest e)
@@ -60,7 +60,7 @@ name_left free n d (t ∷ rest) due vs e =
     makes_step free t rest (behind_name n d) due vs (put (one (trees.variable (subscripted n none))))
     (rw (p.0, p.1) refl)
 
--- the token of a name makes what may stand behind that name due
+-- the token of a name makes what may stand after that name due
 pub name_step : (free : ℕ) (t : Token) (n : Named) (d : ℕ) (ts : List Token) (due : List Due) (vs : List Value) → IsName n t →
     read free (t ∷ ts) (part primary d ∷ due) vs ≡ read free ts (behind_name n d ∷ due) vs
 name_step free t n d ts due vs k =
@@ -94,7 +94,7 @@ pub behind-all_of : (acc : PExprs) (e : PExpr) → behind acc e ≡ all_of acc (
 behind-all_of none e = refl
 behind-all_of (more x acc) e = ap (more x) (behind-all_of acc e)
 
--- the token of an event's name makes what may stand behind it due
+-- the token of an event's name makes what may stand after it due
 event_step : (free : ℕ) (t : Token) (n : Named) (ts : List Token) (due : List Due) (vs : List Value) → IsName n t →
     read free (t ∷ ts) (event ∷ due) vs ≡ read free ts (behind_event n ∷ due) vs
 event_step free t n ts due vs k =
@@ -201,7 +201,7 @@ mutual
       ∙ make_step free after _ _ _
       ∙ more_read free l d _ after e rest y end due vs
 
-  -- expressions behind those of acc, and the symbol that closes them
+  -- expressions after those of acc, and the symbol that closes them
   pub exprs_read : (free d : ℕ) (from : List Token) (es : PExprs) (v : Token) (rest : List Token) (s : Symbol) (acc : PExprs) (due : List Due) (vs : List Value) →
       IsExprs free d from es (v ∷ rest) → IsSymbol s v → ends expr (kinds.Symbol s) ≡ true → is_symbol symbols.Comma (kinds.Symbol s) ≡ false →
       read free from (part expr d ∷ make listed ∷ exprs_more d ∷ symbol s ∷ due) (many acc ∷ vs) ≡ read free rest due (many (all_of acc es) ∷ vs)

@@ -129,7 +129,7 @@ deep_exact d tokens left spot short r =
       none = deep_none d r.front r.t r.ds r.us r.fed_so spot r.stops_so;
     }
 
--- It is decided behind the token from which on so many tokens are left.
+-- It is decided after the token from which on so many tokens are left.
 abbrev pub IsLater : Reading → ℕ → Type 0
 IsLater (to rest ws) n = length rest < n
 IsLater (refused left spot code) n = left < n
@@ -176,7 +176,7 @@ goes_over (u ∷ front) t rest due vs i later = at_token (step strict due u.spot
     at_token (over c xs) is later more = absurd (grind (arith, length-append))
     at_token (stops spot code) is later more = absurd (grind (arith, length-append))
 
--- a token behind as many as an expression may have
+-- a token after as many as an expression may have
 pub long_exact : (d : ℕ) (front : List Token) (t : Token) (rest : List Token) → length front ≡ MOST_EXPRESSION_TOKENS →
     IsLater (read 0 (front ++ t ∷ rest) (all_due d) []) (length (t ∷ rest)) → IsTooDeep (Expressions d) (front ++ t ∷ rest) t.spot
 long_exact d front t rest e later =

@@ -150,9 +150,9 @@ refused_shorter free (t ∷ ts) c due vs left spot code e = at_token (step (judg
     at_token (over n us) e more = cc
     at_token (stops place c) e more = let same : length (t ∷ ts) ≡ left = cc in omega (arith, same)
 
--- what is due of an expression, with the end of it and more behind
+-- what is due of an expression, with the end of it and more after
 module _ (free : ℕ) (due : List Due) where
-  -- it is read, and nothing is counted behind it
+  -- it is read, and nothing is counted after it
   found_inside : (ts : List Token) (c : ℕ) (a : List Due) (vs : List Value) (rest : List Token) (ws : List Value) → Inners a → HasRoom free c ts (length rest) →
       read free ts a vs ≡ to rest ws → reading free ts (inside c) (a ++ whole_ends ∷ due) vs ≡ read free rest due ws
   unfolding reading
@@ -223,7 +223,7 @@ module _ (free : ℕ) (due : List Due) where
           ∙ ap (λ x. joined x (whole_ends ∷ due) (step (judged free (t ∷ ts)) (whole_ends ∷ due) t.spot t.kind)) h)
           ∙ e
 
--- a token behind as many as an expression may have is refused, where reading it without the count goes over it
+-- a token after as many as an expression may have is refused, where reading it without the count goes over it
 long_inside : (due : List Due) (front : List Token) (t : Token) (rest : List Token) (c : ℕ) (a : List Due) (vs : List Value) → Inners a →
     c + length front ≡ MOST_EXPRESSION_TOKENS → IsLater (read 0 (front ++ t ∷ rest) a vs) (length (t ∷ rest)) →
     reading 0 (front ++ t ∷ rest) (inside c) (a ++ whole_ends ∷ due) vs ≡ refused (length (t ∷ rest)) t.spot codes.TooDeep

@@ -54,7 +54,7 @@ listed-snoc (x ∷ es) e = ap (more x) (listed-snoc es e)
 one_more : (found new : List Expr) (item : Expr) → new ≡ found ++ item ∷ [] → behind (plain_list found) (image.expr item) ≡ plain_list new
 one_more found new item e = listed-snoc (map image.expr found) (image.expr item) ∙ ap listed (sym (map-append image.expr found (item ∷ []))) ∙ ap plain_list (sym e)
 
--- an item and what is due behind it
+-- an item and what is due after it
 item_read : (d : ℕ) (closing : Symbol) (tokens rest after : List Token) (found new : List Expr) (item : Expr) → new ≡ found ++ item ∷ [] →
     GoesOn d closing tokens found rest → Finds (part expr d) rest (one (image.expr item)) after →
     Reaches (list_in d closing) (many none ∷ []) tokens (exprs_more d ∷ symbol closing ∷ []) (many (plain_list new) ∷ []) after

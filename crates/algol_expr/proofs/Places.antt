@@ -12,7 +12,7 @@ ends_drop (suc n) [] e less = absurd e
 ends_drop (suc n) (t ∷ []) e less = absurd (omega arith)
 ends_drop (suc n) (t ∷ u ∷ ts) e less = ends_drop n (u ∷ ts) e.1 (omega arith)
 
--- the tokens behind an expression, by the place of the first
+-- the tokens after an expression, by the place of the first
 pub rest_at : (tokens : List Token) (at d : ℕ) (rest : List Token) → at < length tokens → IsLongest d (drop at tokens) rest → drop (length tokens - length rest) tokens ≡ rest
 rest_at tokens at d rest less l =
     let e : drop at tokens ≡ l.front ++ rest = l.is ∙ ap (λ x. l.front ++ x) (sym l.follows) in

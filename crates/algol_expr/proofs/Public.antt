@@ -76,7 +76,7 @@ module _ (d : ℕ) (tokens : List Token) (left : ℕ) (e : Refusal) where
         long_refuses d tokens left e l (λ vs. (to rest (one x ∷ vs), before, found_to d tokens x rest f vs)),
       )
 
-  -- where one was refused behind it
+  -- where one was refused after it
   pub fails_long : (spot : Spot) (code : Code) (was : Refusal) → was ≡ At spot code → Fails (part expr d ∷ []) [] tokens left was → IsLong tokens left e →
       RefusedExpression d tokens e × Refuses (whole d ∷ []) [] tokens e
   fails_long spot code was is f l = (

@@ -7,7 +7,7 @@ use Rattle.algol_tree.specs.declared.token.Spot.{Spot}
 use Rattle.algol_tree.specs.Due.{Value, Due, Limit, Turn, takes, makes, skips, closes, refuses, followed, either}
 use Rattle.algol_tree.specs.Reading.{turn, Count, outside, full, counted, Judged, broken, broken_at, Step, goes, over, stops, unless, stepped, step, read_on, read_end, judged, unjudged, nowhere, reading, read}
 
--- what a step over the first part of what is due comes to, with what is due behind it
+-- what a step over the first part of what is due comes to, with what is due after it
 abbrev pub joined : Step → List Due → (Count → List Value → Step) → Step
 joined (goes c ds vs) b other = goes c (ds ++ b) vs
 joined (over c vs) b other = other c vs
@@ -48,7 +48,7 @@ pub either_takes : (b : Bool) (x y : Turn) → Takes x → Takes y → Takes (ei
 either_takes true x y p q = p
 either_takes false x y p q = q
 
--- a part that begins as another does, with more behind it
+-- a part that begins as another does, with more after it
 stepped-followed : (j : Judged) (c : Count) (spot : Spot) (x : Turn) (more due : List Due) (vs : List Value) (here other : Count → List Value → Step) → Takes x →
     stepped j c spot (followed x more) due vs here ≡ stepped j c spot x (more ++ due) vs other
 stepped-followed j c spot _ more due vs here other (taken l ds) =

@@ -90,7 +90,7 @@ in_two free (s ∷ a) b vs from ws rest (cons _ _ _ us _ _ mid _ x y) =
     let r = in_two free a b us mid ws rest y in
     record { us = r.us; mid = r.mid; first = cons s a vs us r.us from mid r.mid x r.first; second = r.second }
 
--- the tokens behind t are those that its turn makes due
+-- the tokens after t are those that its turn makes due
 abbrev pub Taken : ℕ → Turn → Token → List Token → List Value → List Value → List Token → Type 0
 Taken free (takes plain ds) t ts vs ws rest = IsAll free ds vs ts ws rest
 Taken free (takes (nests d) ds) t ts vs ws rest = Opens free d (t ∷ ts) × IsAll free ds vs ts ws rest
@@ -129,7 +129,7 @@ back_list : (free d : ℕ) (vs ws : List Value) (from rest : List Token) (s : Sy
 back_list free d vs ws from rest s m (cons _ _ _ _ _ _ _ _ makes_it (cons _ _ _ _ _ _ _ _ (it e mid x) (cons _ _ _ _ _ _ _ _ makes_it (cons _ _ _ us _ _ after _ f y)))) =
     list_is free (d + 1) s m from vs us ws after rest (f none e vs from refl x) y
 
--- a literal, a name with what may stand behind it, or a group
+-- a literal, a name with what may stand after it, or a group
 back_primary : (free d : ℕ) (t : Token) (ts : List Token) (vs ws : List Value) (rest : List Token) (k : TokenKind) → t.kind ≡ k →
     Taken free (turn_primary d t.spot k) t ts vs ws rest → Makes free primary d (t ∷ ts) vs ws rest
 back_primary free d t ts vs _ _ (kinds.Number value) k (cons _ _ _ _ _ _ _ _ makes_it (nil _ _)) = it (trees.number value t.spot) ts (grammar.literal t d value ts k)
@@ -144,7 +144,7 @@ back_primary free d t ts vs _ _ (kinds.Symbol symbols.OpenRound) k
     it (trees.paren e t.spot) rest (grammar.grouped t u d e ts rest k o x c)
 back_primary free d t ts vs ws rest k e x = absurd x
 
--- { operator operand } behind an operand
+-- { operator operand } after an operand
 chained : (free : ℕ) (l : Level) (d : ℕ) (first : PExpr) (from mid : List Token) (vs ws : List Value) (rest : List Token) → IsPart free (operand l) d from first mid →
     MakesMore free l d first mid vs ws rest → Makes free (level l) d from vs ws rest
 chained free l d first from mid vs _ _ x (it_on e rest y) = it e rest (grammar.chain l d first e from mid rest x y)

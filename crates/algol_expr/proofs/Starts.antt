@@ -25,7 +25,7 @@ use Rattle.algol_tree.specs.Found.{Fails}
 use Rattle.algol_expr.proofs.Parts.{expr_at, not_at, rel_at, level_at}
 use Rattle.algol_expr.proofs.Chain.{Reaches, takes_first, opens_first, too_deep, skips_first, puts_first, making, from_tokens, fails_from}
 
--- what IF makes due, where i levels are open behind it
+-- what IF makes due, where i levels are open after it
 abbrev after_if : ℕ → Token → List Due
 after_if i t = part expr i ∷ word reserved.Then ∷ part (level levels.Eqv) i ∷ word reserved.Else ∷ part expr i ∷ make (chosen t.spot) ∷ []
 
@@ -160,7 +160,7 @@ pub event_fails : (tokens : List Token) (t : Token) (ts : List Token) (left : �
     left ≡ length (t ∷ ts) → e ≡ At t.spot codes.Unexpected → Fails (event ∷ []) [] tokens left e
 event_fails tokens t ts left e is a l r = fails_at tokens t ts event left e is (event_refuses t.spot t.kind a) l r
 
--- behind an event's name
+-- after an event's name
 
 event_turn : Named → Bool → Turn
 event_turn n b = either b (takes plain (spelled (codes_of "EXCEPTIONEVENT") ∷ make (put (event_named (record { name = n; task = true }))) ∷ []))
@@ -189,7 +189,7 @@ pub group_too_deep : (d : ℕ) (t : Token) (ts : List Token) (left : ℕ) (e : R
     Fails (part primary d ∷ []) [] (t ∷ ts) left e
 group_too_deep d t ts left e k o l r = too_deep d t ts (part primary d) (after_open (d + 1) t) left e (ap (turn_primary d t.spot) (symbol_from t.kind symbols.OpenRound k)) o l r
 
--- behind a name
+-- after a name
 
 abbrev pub behind_turn : Bool → Bool → Named → ℕ → Turn
 behind_turn square round n d = either square (takes (nests d) (exprs_in d symbols.CloseSquare (element n)))

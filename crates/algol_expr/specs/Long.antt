@@ -1,4 +1,4 @@
--- A text of tokens in which one stands behind as many as an expression may have.
+-- A text of tokens in which one stands after as many as an expression may have.
 use Rattle.std.specs.Prelude.{◌≡◌, ◌<◌, ℕ, List, ◌∷◌, ◌++◌, length}
 use Rattle.algol_tree.specs.declared.TheConstants.{MOST_EXPRESSION_TOKENS}
 use Rattle.algol_tree.specs.declared.token.Token.{Token}
@@ -6,7 +6,7 @@ use Rattle.algol_tree.specs.declared.refusal.Code.TheVariants as codes
 use Rattle.algol_tree.specs.declared.refusal.Refusal.{Refusal}
 use Rattle.algol_tree.specs.declared.refusal.Refusal.TheVariants as refusals
 
--- The token behind as many as an expression may have stands before the last `left` ones, and the refusal is for it.
+-- The token after as many as an expression may have stands before the last `left` ones, and the refusal is for it.
 pub record IsLong (tokens : List Token) (left : ℕ) (e : Refusal) : Type 0 where
   pub front : List Token
   pub token : Token

@@ -19,7 +19,7 @@ use crate::take::{
 use algol_tree::{Code, EventName, Expr, Named, Symbol, Token};
 use std::alloc::Global;
 
-/// HAPPENED "(" event ")", behind the HAPPENED
+/// HAPPENED "(" event ")", after the HAPPENED
 pub(crate) fn read_happened<'a>(
     alloc: Global,
     first: &Token,
@@ -53,7 +53,7 @@ pub fn read_event(alloc: Global, tokens: &[Token]) -> Result<(EventName, &[Token
     }
 }
 
-/// [ "." EXCEPTIONEVENT ], behind an event's name
+/// [ "." EXCEPTIONEVENT ], after an event's name
 fn read_behind_event(name: Named, tokens: &[Token]) -> Result<(EventName, &[Token]), Stop>
     requires ended { EndsOnce tokens.now }
     ensures found { IfOk result (λ r. Completes (due.behind_event name) tokens.now (event_named r.0) r.1.now) }

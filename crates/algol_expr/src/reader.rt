@@ -45,7 +45,7 @@ pub(crate) fn read_expression(
     }
 }
 
-/// IF expr THEN eqv ELSE expr, behind the IF
+/// IF expr THEN eqv ELSE expr, after the IF
 #[cycle(expressions)]
 fn read_choice<'a>(
     alloc: Global,
@@ -112,7 +112,7 @@ fn read_operand(
     }
 }
 
-/// { operator operand }, behind the expression `left`
+/// { operator operand }, after the expression `left`
 #[cycle(expressions)]
 fn read_more(
     alloc: Global,
@@ -200,7 +200,7 @@ fn read_primary(alloc: Global, tokens: &[Token], depth: u32) -> Result<(Held<Exp
     }
 }
 
-/// "(" expr ")", behind the "("
+/// "(" expr ")", after the "("
 #[cycle(expressions)]
 fn read_group<'a>(
     alloc: Global,
@@ -219,7 +219,7 @@ fn read_group<'a>(
     Ok((grouped(alloc, inside, first.spot)?, rest))
 }
 
-/// A variable or a call, behind its name: [ "[" expr { "," expr } "]" | "(" expr { "," expr } ")" ]
+/// A variable or a call, after its name: [ "[" expr { "," expr } "]" | "(" expr { "," expr } ")" ]
 #[cycle(expressions)]
 fn read_behind_name(
     alloc: Global,

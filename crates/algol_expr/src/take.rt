@@ -11,7 +11,7 @@ ghost use Rattle.algol_tree.specs.Found.{Passes, Fails};
 use crate::stop::Stop;
 use algol_tree::{Code, Line, MOST_NESTING, Refusal, Reserved, Symbol, Token, TokenKind};
 
-/// The first token, and those behind it.
+/// The first token, and those after it.
 pub fn first_of(tokens: &[Token]) -> (&Token, &[Token])
     requires ended { EndsOnce tokens.now }
     ensures { tokens.now ≡ result.0.now ∷ result.1.now }
@@ -65,7 +65,7 @@ pub(crate) fn refused(first: &Token, behind: &[Token], code: Code) -> Stop
     }
 }
 
-/// How many levels are open behind a first token that opens one, where `depth` are open before it. It is refused as
+/// How many levels are open after a first token that opens one, where `depth` are open before it. It is refused as
 /// `TooDeep` at that token where those are as many as may be.
 pub fn opened(first: &Token, behind: &[Token], depth: u32) -> Result<u32, Stop>
     ensures opens { IfOk result (λ inner. (depth < MOST_NESTING) × (inner ≡ depth + 1)) }

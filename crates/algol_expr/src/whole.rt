@@ -18,7 +18,7 @@ use crate::reader::read_expression;
 use algol_tree::{Code, Expr, MOST_EXPRESSION_TOKENS, Refusal, Token};
 use std::alloc::Global;
 
-/// The refusal of the token behind as many as an expression may have, where it stands before the last `left` ones.
+/// The refusal of the token after as many as an expression may have, where it stands before the last `left` ones.
 fn overlong(tokens: &[Token], left: usize) -> Option<Refusal>
     ensures some { IfSome result (λ e. IsLong tokens.now left e) }
     ensures none { IfNone result (length tokens.now ≤ left + MOST_EXPRESSION_TOKENS) }

@@ -51,7 +51,7 @@ there test (x ∷ cs) c (inr i) t = decide (test x.content) (there test cs c i t
     decide true k = inr k
     decide false k = k
 
--- the first of these, and one behind it
+-- the first of these, and one after it
 not-again : (test : Content → Bool) (x : Cell) (cs : List Cell) (c : Cell) → AreApart (Picked test (x ∷ cs)) → test x.content ≡ true → IsIn cs c → test c.content ≡ true →
     x.spot ≡ c.spot → ⊥
 not-again test x cs c a t i u e =

@@ -38,7 +38,7 @@ spots_at x = spots_in_part x.part
 abbrev At : List Site → List Spot
 At xs = flat_map spots_at xs
 
--- the first sites have some of the first places, and the others some of those behind
+-- the first sites have some of the first places, and the others some of those after
 both : (xs ys : List Site) (us vs : List Spot) → Fits (At xs) us → Fits (At ys) vs → Fits (At (xs ++ ys)) (us ++ vs)
 both xs ys us vs h k = flat-fit spots_at xs ys us vs h k
 
@@ -99,7 +99,7 @@ module _ (a : Surroundings) where
   in-pairs [] = none-fits []
   in-pairs (p ∷ ps) = both (sites p.high a) (sites_in_pairs ps a) (spots_of_expr p.high) (spots_of_pairs ps) (in-expr p.high) (in-pairs ps)
 
-  -- the task of a process stands behind its actuals
+  -- the task of a process stands after its actuals
   in-process : (n : Named) (es : PExprs) (task : Option Named) (fs : List Formal) →
       Fits (n.spot ∷ (spots_of_names (if_named task) ++ At (inside_actuals es fs a))) (n.spot ∷ (spots_of_exprs es ++ spots_of_task task))
   in-process n es None fs =
@@ -180,7 +180,7 @@ module _ (blocks : List Block) where
         let n : Surroundings = knowing blocks d ds a in
         one-declaration d (inside_decl blocks d n begun) (sites_in_decls blocks ds n begun) (spots_of_decl d) (spots_of_decls ds) (in-decl d n begun) (in-decls ds n begun)
 
-    -- the place is behind the declaration
+    -- the place is after the declaration
     in-decl : (d : PDecl) (a : Surroundings) (begun : List Declared) → Fits (spots_in_decl d ++ At (inside_decl blocks d a begun)) (spots_of_decl d)
     in-decl (tree.simple kind ns) a begun = nil-fits (spots_of_names ns) (spots_of_names ns) (all-fit (spots_of_names ns))
     in-decl (tree.files ns) a begun = nil-fits (spots_of_names ns) (spots_of_names ns) (all-fit (spots_of_names ns))

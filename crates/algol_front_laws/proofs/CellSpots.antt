@@ -199,7 +199,7 @@ module _ (blocks : List Block) where
         let n : Surroundings = knowing blocks d ds a in
         one-declaration d (inside_decl blocks d n begun) (sites_in_decls blocks ds n begun) (spots_of_decl d) (spots_of_decls ds) (in-decl d n begun) (in-decls ds n begun)
 
-    -- the place is behind the declaration
+    -- the place is after the declaration
     in-decl : (d : PDecl) (a : Surroundings) (begun : List Declared) → Fits (cells_in_decl d ++ At (inside_decl blocks d a begun)) (spots_of_decl d)
     in-decl (tree.simple kind ns) a begun = nil-fits (spots_of_names ns) (spots_of_names ns) (all-fit (spots_of_names ns))
     in-decl (tree.files ns) a begun = none-fits (spots_of_names ns)

@@ -53,7 +53,7 @@ module _ (blocks : List Block) (all : List Cell) where
   parameters-have block depth h [] i = tt
   parameters-have block depth h (n ∷ ns) i = (λ takes. (cells.parameter, i.0), parameters-have block depth h ns i.1)
 
-  -- the declarations behind this one
+  -- the declarations after this one
   behind : (d : PDecl) (ds : PDecls) (a : Surroundings) (begun : List Declared) → AllByRecursion Passes (sites_in_decls blocks (tree.decls d ds) a begun) →
       AllByRecursion Passes (sites_in_decls blocks ds (knowing blocks d ds a) begun)
   behind d ds a begun p = all-right Passes (inside_decl blocks d (knowing blocks d ds a) begun) (sites_in_decls blocks ds (knowing blocks d ds a) begun) p.1

@@ -83,7 +83,7 @@ module _ (blocks : List Block) (all : List Known) where
       (names-so (IsThere all) b (h.name ∷ []) (all-left (IsThere all) (known_names b (h.name ∷ [])) rest k)).0 (procedure_of h a)
       (ap (λ (t : Bool). if t then Some (procedure_of h a) else look_up a.known h.name.name) (name-itself h.name.name))
 
-  -- the declarations behind this one
+  -- the declarations after this one
   behind : (d : PDecl) (ds : PDecls) (a : Surroundings) (begun : List Declared) → AllByRecursion Passes (sites_in_decls blocks (tree.decls d ds) a begun) →
       AllByRecursion Passes (sites_in_decls blocks ds (knowing blocks d ds a) begun)
   behind d ds a begun p = all-right Passes (inside_decl blocks d (knowing blocks d ds a) begun) (sites_in_decls blocks ds (knowing blocks d ds a) begun) p.1

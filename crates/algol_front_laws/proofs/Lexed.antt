@@ -107,7 +107,7 @@ lexed_or_refused bytes = by_records (all_readable (records_of bytes) Program)
 
 -- ---- the tokens of a text end once
 
--- what follows these tokens ends once, and so does it behind them
+-- what follows these tokens ends once, and so does it after them
 abbrev Passes : List Token → Type 0
 Passes ts = (t : Token) (more : List Token) → EndsOnce (t ∷ more) → EndsOnce (ts ++ t ∷ more)
 

@@ -15,7 +15,7 @@ use Rattle.algol_tree.specs.Sites.{Part, Site, actual_part, first_formal, here, 
 use Rattle.algol_front_laws.proofs.Lists.{all-append, all-left, all-right}
 
 module _ (blocks : List Block) (Holds : Surroundings → Type 0) where
-  -- it holds behind a declaration too, and inside a procedure
+  -- it holds after a declaration too, and inside a procedure
   abbrev pub Behind : Part → Surroundings → Type 0
   Behind (site.declaration (tree.procedure h s) ds) a =
       Holds (knowing blocks (tree.procedure h s) ds a) × Holds (inside_procedure blocks h (knowing blocks (tree.procedure h s) ds a))
@@ -26,7 +26,7 @@ module _ (blocks : List Block) (Holds : Surroundings → Type 0) where
     pub around : Holds x.around
     pub behind : Behind x.part x.around
 
--- `begins`, `knows` and `enters`: it stays so where a block begins, behind a declaration, and inside a procedure, wherever the sites pass
+-- `begins`, `knows` and `enters`: it stays so where a block begins, after a declaration, and inside a procedure, wherever the sites pass
 -- this test. `begun` is what was known where the block began, and `a` the place before a declaration.
 module _ (blocks : List Block) (Holds : Surroundings → Type 0) (Passes : Site → Type 0)
     (begins : (spot : Spot) (a : Surroundings) → Holds a → Holds (record { block = number_at blocks spot; depth = a.depth + 1; known = a.known }))

@@ -28,7 +28,7 @@ abbrev pub names_from : Surroundings → List Named → List NameAt
 names_from a ns = map (λ (n : Named). record { name = n; around = a }) ns
 
 module _ (blocks : List Block) where
-  -- The names that a declaration declares are seen from behind it, and those of a heading from inside its procedure. In the heading of a
+  -- The names that a declaration declares are seen from after it, and those of a heading from inside its procedure. In the heading of a
   -- FORWARD only the procedure's own name has a declaration.
   abbrev pub names_in_decl : PDecl → Surroundings → List NameAt
   names_in_decl (tree.simple kind ns) a = names_from a ns
@@ -82,7 +82,7 @@ abbrev pub EachNameHasOne : Type 0
 EachNameHasOne = (bytes : List ℕ) (tree : PProgram) → Source bytes tree → EachHasOne tree
 
 -- Of what is known at a place no block declares a name twice. A procedure that FORWARD announces is known from there on as the heading
--- with its body, and again behind that, which is one declaration.
+-- with its body, and again after that, which is one declaration.
 abbrev pub EachOnce : Surroundings → Type 0
 EachOnce a = (d other : Declared) → Contains a.known d → Contains a.known other → d.block ≡ other.block → d.name ≡ other.name → d ≡ other
 

@@ -1,4 +1,4 @@
--- A token that keeps the limits in one text keeps them in another that goes on alike: they are known at the token behind it.
+-- A token that keeps the limits in one text keeps them in another that goes on alike: they are known at the token after it.
 use Rattle.std.proofs.Common.{◌≡◌, ◌≤◌, ◌<◌, ◌+◌, ℕ, nat_lt, Bool, true, false, List, [], ◌∷◌, ◌++◌, length, length-append, refl, sym, subst, ap, ◌∙◌, arith}
 use Rattle.std.proofs.lemmas.Bool.Decides.{nat_tests}
 use Rattle.algol_tree.specs.declared.token.Spot.{Spot}
@@ -58,9 +58,9 @@ unjudged_same free other (t ∷ ts) c due vs ws a b e =
     goes_on other t ts c w.n due w.ds vs w.us ws (subst (λ j. step j due t.spot t.kind c vs ≡ goes w.n w.ds w.us) same w.goes_so)
     (unjudged_same free other ts w.n w.ds w.us ws (omega (arith, a)) (omega (arith, b)) w.on)
 
--- two texts that are alike up to the token u behind t: in one of them t is judged
+-- two texts that are alike up to the token u after t: in one of them t is judged
 module _ (t u : Token) (rest others : List Token) (free : ℕ) (within : free ≤ length (u ∷ others)) where
-  -- where t is judged by what comes behind it
+  -- where t is judged by what comes after it
   at_token : (c : Count) (due : List Due) (vs ws xs : List Value) → reading (1 + length (u ∷ rest)) (t ∷ u ∷ rest) c due vs ≡ to [] ws →
       reading free (t ∷ u ∷ others) c due vs ≡ to [] xs → reading (length (u ∷ rest)) (t ∷ u ∷ rest) c due vs ≡ to [] ws
   at_token c due vs ws xs e f =

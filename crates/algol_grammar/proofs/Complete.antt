@@ -35,7 +35,7 @@ use Rattle.algol_grammar.proofs.Headings.{named_read, names_read, names_by_first
 use Rattle.algol_grammar.proofs.Lists.{whole_read, wholes_read, actuals_read, items_read, task_read, phrases_on, segments_on, behind-decls}
 use Rattle.algol_grammar.proofs.Begins.{act_turn, Begins, BeginsAt, begins_at, IsOwn, nothing_opened, level_opened, stmt_begins, begins_declaration, no_declaration, no_specification, specs_no_value}
 
--- What may stand behind a statement, where b says that it ends in an IF without an ELSE.
+-- What may stand after a statement, where b says that it ends in an IF without an ELSE.
 pub data Closes (b : Bool) : List Token → Type 0 where
   semi : (t : Token) (ts : List Token) → IsSymbol symbols.Semicolon t → Closes b (t ∷ ts)
   ending : (t : Token) (ts : List Token) → IsWord reserved.End t → Closes b (t ∷ ts)
@@ -120,7 +120,7 @@ task_first : (from : List Token) (t : Option Named) (rest : List Token) → gram
 task_first _ _ rest (grammar.nothing _) end = end
 task_first _ _ rest (grammar.task t u v n _ o k c) end = ap (is_symbol symbols.OpenRound) o
 
--- these statements, and those behind them
+-- these statements, and those after them
 abbrev pub stmts_and : PStmts → PStmts → PStmts
 stmts_and no_stmts ss = ss
 stmts_and (stmts s ss) ts = stmts s (stmts_and ss ts)
@@ -157,7 +157,7 @@ pub stmts_first : (free d : ℕ) (from : List Token) (ss : PStmts) (u : Token) (
 stmts_first free d from _ u rest (grammar.last _ s _ _ x) e = stmt_first free d from s (u ∷ rest) x (ap begins_declaration e)
 stmts_first free d from _ u rest (grammar.semicolon t _ s ss _ mid _ x c y) e = stmt_first free d from s (t ∷ mid) x (ap begins_declaration c)
 
--- a declaration behind its type
+-- a declaration after its type
 type_turn : (d : ℕ) (k : TokenKind) (kind : Kind) → type_of k ≡ Some kind → turn_declaration d k skips ≡ takes plain (typed kind d ∷ [])
 type_turn d (kinds.Word reserved.Integer) kind e = let same : types.Number ≡ kind = cc in ap (λ kind. takes plain (typed kind d ∷ [])) same
 type_turn d (kinds.Word reserved.Real) kind e = let same : types.Number ≡ kind = cc in ap (λ kind. takes plain (typed kind d ∷ [])) same
@@ -356,7 +356,7 @@ mutual
       ∙ items_read free mid es z rest h i _ _
       ∙ make_step free rest _ due _
 
-  -- statements behind others, and the END behind them
+  -- statements after others, and the END after them
   pub stmts_read : (free d : ℕ) (from : List Token) (ss : PStmts) (u : Token) (rest : List Token) → IsStmts free d from ss (u ∷ rest) → IsWord reserved.End u →
       (acc : PStmts) (due : List Due) (vs : List Value) →
       read free from (statement d ∷ make stmt_added ∷ stmts_more d ∷ word reserved.End ∷ due) (list acc ∷ vs) ≡ read free rest due (list (stmts_and acc ss) ∷ vs)
@@ -423,7 +423,7 @@ mutual
       ∙ body_of free d (declarations d ∷ due) s u mid c h acc vs body y o (stmt_read free (d + 1) body s (u ∷ mid) y (semi u mid c))
       ∙ ap (λ ds. read free mid (declarations d ∷ due) (declared ds ∷ vs)) (behind-decls acc (trees.procedure h s))
 
-  -- declarations behind others
+  -- declarations after others
   pub decls_read : (free d : ℕ) (from : List Token) (ds : PDecls) (rest : List Token) → IsDecls free d from ds rest → NotFirst begins_declaration rest →
       (acc : PDecls) (due : List Due) (vs : List Value) → read free from (declarations d ∷ due) (declared acc ∷ vs) ≡ read free rest due (declared (decls_and acc ds) ∷ vs)
   decls_read free _ _ _ rest (grammar.no_more d _) end acc due vs =

@@ -106,7 +106,7 @@ label_place : (b : Bool) (at spot : Spot) (n : Count) (ds : List Due) (us : List
 label_place true at spot n ds us e = cc
 label_place false at spot n ds us e = cc
 
--- behind a name, where no expression is being read
+-- after a name, where no expression is being read
 name_broken : (name : Named) (d : ℕ) (due : List Due) (here : Spot) (k : TokenKind) (vs : List Value) (spot : Spot) → all_fresh due ≡ true →
     step strict (behind_start name d ∷ due) here k outside vs ≡ stops spot codes.TooDeep →
     Own (behind_start name d ∷ due) here k outside vs spot ⊎ ((spot ≡ name.spot) × Before (behind_start name d ∷ due) here k outside vs spot)

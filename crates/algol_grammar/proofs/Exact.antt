@@ -1,4 +1,4 @@
--- The first token through which no program goes, and the first behind a program.
+-- The first token through which no program goes, and the first after a program.
 use Rattle.std.proofs.Common.{◌≡◌, ℕ, List, [], ◌∷◌, ◌++◌, length, refl, sym, subst, ap, ◌∙◌, arith}
 use Rattle.std.proofs.lemmas.List.{append-nil}
 use Rattle.algol_tree.specs.declared.token.Spot.{Spot}
@@ -132,7 +132,7 @@ whole_before tokens t rest ws e =
     let whole : Programs 0 (r.front ++ []) = made_program 0 (r.front ++ []) ws (b.1 ws [] x) in
     (r.front, r.is, subst (Programs 0) (append-nil r.front) whole)
 
--- and where that token is not the end of the text, it is the first behind a program
+-- and where that token is not the end of the text, it is the first after a program
 pub behind_exact : (tokens : List Token) (t : Token) (rest : List Token) (ws : List Value) → read 0 tokens (program ∷ []) [] ≡ to (t ∷ rest) ws → (t.kind ≡ kinds.End → ⊥) →
     IsBehind Programs tokens t.spot
 behind_exact tokens t rest ws e other =

@@ -31,7 +31,7 @@ named_read free t n ts k due vs =
 is_comma : TokenKind → Bool
 is_comma = is_symbol symbols.Comma
 
--- names behind others
+-- names after others
 pub names_on : (free : ℕ) (from : List Token) (ns : List Named) (rest : List Token) → IsNames from ns rest → NotFirst (is_symbol symbols.Comma) rest →
     (acc : List Named) (due : List Due) (vs : List Value) →
     read free from (named ∷ make name_added ∷ names_more ∷ due) (names acc ∷ vs) ≡ read free rest due (names (acc ++ ns) ∷ vs)
@@ -66,7 +66,7 @@ file_read free _ n rest (grammar.printer t opening key equal value closing _ _ k
     ∙ spelled_step free value _ _ _ _ b
     ∙ symbol_step free closing rest symbols.CloseRound due _ c
 
--- files behind others
+-- files after others
 files_on : (free : ℕ) (from : List Token) (ns : List Named) (rest : List Token) → IsFiles from ns rest → NotFirst (is_symbol symbols.Comma) rest →
     NotFirst (is_symbol symbols.OpenRound) rest → (acc : List Named) (due : List Due) (vs : List Value) →
     read free from (named ∷ make name_added ∷ printer_part ∷ files_more ∷ due) (names acc ∷ vs) ≡ read free rest due (names (acc ++ ns) ∷ vs)
@@ -92,7 +92,7 @@ literal_read free _ _ rest (grammar.negative t u value _ m k) due vs =
     ∙ takes_step free u rest number_negated _ due vs (ap turn_negated k)
     ∙ make_step free rest _ due vs
 
--- literal [ "," literal ], behind a list with nothing in it yet
+-- literal [ "," literal ], after a list with nothing in it yet
 pub lows_read : (free : ℕ) (from : List Token) (ls : List ℤ) (rest : List Token) → IsLows from ls rest → NotFirst (is_symbol symbols.Comma) rest → (due : List Due) (vs : List Value) →
     read free from (literal ∷ make low_added ∷ lows_more ∷ due) (lows [] ∷ vs) ≡ read free rest due (lows ls ∷ vs)
 lows_read free from _ rest (grammar.one l _ _ x) end due vs =
@@ -112,7 +112,7 @@ pub semi_names : (free : ℕ) (from : List Token) (ns : List Named) (u : Token) 
 semi_names free from ns u rest x s due vs =
     names_read free from ns (u ∷ rest) x (ap (is_symbol symbols.Comma) s) _ vs ∙ symbol_step free u rest symbols.Semicolon due _ s
 
--- the rows of a specification behind the word ARRAY
+-- the rows of a specification after the word ARRAY
 rows_read : (free : ℕ) (kind : Kind) (names_ mid rest : List Token) (u v w : Token) (ns : List Named) (ls : List ℤ) → IsNames names_ ns (u ∷ mid) → IsSymbol symbols.OpenSquare u →
     IsLows mid ls (v ∷ w ∷ rest) → IsSymbol symbols.CloseSquare v → IsSymbol symbols.Semicolon w → (acc : List Spec) (due : List Due) (vs : List Value) →
     read free names_ (rows_specified kind ++ due) (specified acc ∷ vs) ≡ read free rest due (specified (acc ++ specs.Arrays kind ns ls ∷ []) ∷ vs)
@@ -235,7 +235,7 @@ values_read free _ _ rest (grammar.values t u ns from _ w x c) end due vs =
     gone_on free values_part (is_word reserved.Value) _ _ (λ spot k. refl) t from (word_is t reserved.Value w) due vs
     ∙ semi_names free from ns u rest x c due vs
 
--- a heading behind the word PROCEDURE
+-- a heading after the word PROCEDURE
 pub heading_on : (free : ℕ) (kind : Option Kind) (n : Named) (u v : Token) (after rest : List Token) → IsName n u → IsSymbol symbols.Semicolon v → (due : List Due) (vs : List Value) →
     read free (u ∷ v ∷ rest) (named ∷ behind_procedure kind ∷ due) vs
     ≡ read free rest due (heading (record { kind = kind; name = n; params = []; values = []; specs = [] }) ∷ vs)

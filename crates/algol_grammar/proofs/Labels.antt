@@ -1,4 +1,4 @@
--- What follows a name tells whether it is a label. What is due behind such a name stands first alone, and the name is the newest token.
+-- What follows a name tells whether it is a label. What is due after such a name stands first only, and the name is the newest token.
 use Rattle.std.proofs.Common.{◌≡◌, ◌+◌, ℕ, Bool, true, false, ◌&&◌, List, [], ◌∷◌, ◌++◌, Option, Some, None, refl, subst}
 use Rattle.algol_tree.specs.declared.token.Spot.{Spot}
 use Rattle.algol_tree.specs.declared.token.TokenKind.{TokenKind}
@@ -38,7 +38,7 @@ fresh_append : (a b : List Due) → all_fresh a ≡ true → all_fresh b ≡ tru
 fresh_append [] b x y = y
 fresh_append (s ∷ a) b x y = let p = both (is_fresh s) (all_fresh a) x in rw (p.0, fresh_append a b p.1 y) refl
 
--- what is due behind a token at that spot
+-- what is due after a token at that spot
 pub data Behind (spot : Spot) : List Due → Type 0 where
   fresh : (due : List Due) → all_fresh due ≡ true → Behind spot due
   a_name : (n : Named) (d : ℕ) (due : List Due) → n.spot ≡ spot → all_fresh due ≡ true → Behind spot (behind_start n d ∷ due)
@@ -228,7 +228,7 @@ turn_calm (typed kind d) spot k f = calm spot _ (typed_calm kind d spot k)
 turn_calm (procedure_body d) spot k f = body_calm d spot k
 turn_calm program spot k f = calm spot _ (either_calm (is_word reserved.Begin k) _ _ refl refl)
 
--- the turn behind a name
+-- the turn after a name
 pub data AtName (n : Named) (d : ℕ) : Turn → Type 0 where
   is_label : (ds : List Due) → all_fresh ds ≡ true → AtName n d (takes (label d n.spot) ds)
   is_none : (ds : List Due) → all_fresh ds ≡ true → AtName n d (takes plain ds)

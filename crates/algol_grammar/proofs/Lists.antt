@@ -54,7 +54,7 @@ actuals_read free _ _ rest (grammar.actuals t u es from _ o x c) end due vs =
     ∙ wholes_read free from es (u ∷ rest) x (ap (ends expr) c) (ap (is_symbol symbols.Comma) c) _ vs
     ∙ symbol_step free u rest symbols.CloseRound due _ c
 
--- items and the parenthesis behind them
+-- items and the parenthesis after them
 pub items_read : (free : ℕ) (from : List Token) (es : PExprs) (z : Token) (rest : List Token) → IsItems free from es (z ∷ rest) → IsSymbol symbols.CloseRound z →
     (due : List Due) (vs : List Value) → read free from (items_part ∷ symbol symbols.CloseRound ∷ due) vs ≡ read free rest due (many es ∷ vs)
 items_read free _ _ z rest (grammar.nothing _) c due vs =
@@ -74,7 +74,7 @@ task_read free _ _ rest (grammar.task t u v n _ o k c) end due vs =
     ∙ make_step free (v ∷ rest) with_task _ _
     ∙ symbol_step free v rest symbols.CloseSquare due _ c
 
--- phrases behind others
+-- phrases after others
 pub phrases_on : (free : ℕ) (from : List Token) (ps : List PhraseText) (rest : List Token) → IsPhrases from ps rest → NotFirst (is_symbol symbols.Comma) rest →
     (acc : List PhraseText) (due : List Due) (vs : List Value) → read free from (phrase ∷ phrases_more ∷ due) (phrases acc ∷ vs) ≡ read free rest due (phrases (acc ++ ps) ∷ vs)
 phrases_on free _ _ rest (grammar.last t p _ k) end acc due vs =
@@ -88,7 +88,7 @@ phrases_on free _ _ rest (grammar.comma t u p ps from _ k c x) end acc due vs =
     ∙ phrases_on free from ps rest x end (acc ++ p ∷ []) due vs
     ∙ ap (λ ps. read free rest due (phrases ps ∷ vs)) (append_assoc acc (p ∷ []) ps)
 
--- a pair behind others
+-- a pair after others
 pair_read : (free : ℕ) (from : List Token) (p : PPair) (rest : List Token) → IsPair free from p rest → Ends expr rest → (acc : List PPair) (due : List Due) (vs : List Value) →
     read free from (pair_in ++ due) (pairs acc ∷ vs) ≡ read free rest due (pairs (acc ++ p ∷ []) ∷ vs)
 pair_read free _ _ rest (grammar.pair t l high from after _ x c y) end acc due vs =
@@ -118,7 +118,7 @@ pub behind-decls : (acc : PDecls) (d : PDecl) → decl_behind acc d ≡ decls_an
 behind-decls no_decls d = refl
 behind-decls (decls x acc) d = ap (decls x) (behind-decls acc d)
 
--- segments behind other declarations
+-- segments after other declarations
 pub segments_on : (free : ℕ) (kind : Kind) (from : List Token) (ds : PDecls) (rest : List Token) → IsSegments free kind from ds rest → NotFirst (is_symbol symbols.Comma) rest →
     (acc : PDecls) (due : List Due) (vs : List Value) → read free from (segment_in kind ++ due) (declared acc ∷ vs) ≡ read free rest due (declared (decls_and acc ds) ∷ vs)
 segments_on free _ from _ rest (grammar.last kind u v ns ps _ mid _ x a y b) end acc due vs =

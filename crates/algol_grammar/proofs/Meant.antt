@@ -45,7 +45,7 @@ pub data IsSegment (free : ℕ) (kind : Kind) : List Token → PDecl → List To
       IsNames from ns (u ∷ mid) → IsSymbol symbols.OpenSquare u → IsPairs free mid ps (v ∷ rest) → IsSymbol symbols.CloseSquare v →
       IsSegment free kind from (trees.arrays kind ns ps) rest
 
--- a statement behind which no ELSE stands that would be its own
+-- a statement after which no ELSE stands that would be its own
 pub record IsClosed (free d : ℕ) (from : List Token) (s : PStmt) (rest : List Token) : Type 0 where
   pub reads : IsStmt free d from s rest
   pub closed : open_if s ≡ true → NotFirst (is_word reserved.Else) rest
@@ -54,7 +54,7 @@ pub record IsClosed (free d : ℕ) (from : List Token) (s : PStmt) (rest : List 
 pub data IsEnded (free d : ℕ) : List Token → PDecls → List Token → Type 0 where
   ended : (u : Token) (ds : PDecls) (from rest : List Token) → IsDecl free d from ds (u ∷ rest) → IsSymbol symbols.Semicolon u → IsEnded free d from ds rest
 
--- the statement s behind THEN, and what stands behind it
+-- the statement s after THEN, and what stands after it
 pub data IsArms (free d : ℕ) (c : PExpr) (s : PStmt) (below : List Value) : List Token → List Value → List Token → Type 0 where
   without : (rest : List Token) → NotFirst (is_word reserved.Else) rest → IsArms free d c s below rest (stmt (trees.if_then c s) ∷ below) rest
   with_else : (v : Token) (b : PStmt) (from rest : List Token) → IsWord reserved.Else v → IsClosed free d from b rest →
@@ -130,7 +130,7 @@ in_two free (s ∷ a) b vs from ws rest (cons _ _ _ us _ _ mid _ x y) =
     let r = in_two free a b us mid ws rest y in
     record { us = r.us; mid = r.mid; first = cons s a vs us r.us from mid r.mid x r.first; second = r.second }
 
--- the tokens behind t are those that its turn makes due
+-- the tokens after t are those that its turn makes due
 abbrev pub Taken : ℕ → Turn → Token → List Token → List Value → List Value → List Token → Type 0
 Taken free (takes plain ds) t ts vs ws rest = IsAll free ds vs ts ws rest
 Taken free (takes (nests d) ds) t ts vs ws rest = Opens free d (t ∷ ts) × IsAll free ds vs ts ws rest

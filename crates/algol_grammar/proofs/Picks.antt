@@ -25,7 +25,7 @@ and_then (over mid) q = q
 and_then (passed t p) q = passed t (and_then p q)
 and_then (picked t p) q = picked t (and_then p q)
 
--- of the tokens behind none is picked
+-- of the tokens after none is picked
 pub up_to : {from mid rest : List Token} {spots : List Spot} → Picks from spots mid → Picks mid [] rest → Picks from spots rest
 up_to (over mid) q = q
 up_to (passed t p) q = passed t (up_to p q)

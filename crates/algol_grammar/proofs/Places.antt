@@ -17,7 +17,7 @@ use Rattle.algol_grammar.proofs.Meant.{gives, IsDue, IsAll, cons, in_two, Taken}
 use Rattle.algol_grammar.proofs.SoundDue.{is_outer, all_outer, outer_append, back, leave}
 use Rattle.algol_grammar.proofs.Keeps.{Keeps, keeps}
 
--- outside of all expressions; or within one of which so many tokens are read, with what is due of it and what is due behind it
+-- outside of all expressions; or within one of which so many tokens are read, with what is due of it and what is due after it
 pub data Place : Type 0 where
   out : List Due → Place
   within : ℕ → List Due → List Due → Place
@@ -81,7 +81,7 @@ outer_first s due e = by_first (is_outer s) e
     by_first true e = (refl, e)
     by_first false e = cc
 
--- the tokens behind one that is taken are those of what it makes due
+-- the tokens after one that is taken are those of what it makes due
 taken_back : (free : ℕ) (s : Due) (due es : List Due) (t : Token) (ts : List Token) (vs us ws : List Value) (rest : List Token) → vs ≡ us →
     ((ms : List Value) (mid : List Token) → IsAll free es vs ts ms mid → IsDue free s vs (t ∷ ts) ms mid) → IsAll free (es ++ due) us ts ws rest → IsAll free (s ∷ due) vs (t ∷ ts) ws rest
 taken_back free s due es t ts vs us ws rest e f x =

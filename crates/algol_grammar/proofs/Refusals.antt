@@ -51,7 +51,7 @@ reach_of ahead (y ∷ ys) us w ws e = by_cut (cuts_of ahead y ys us w ws e)
     by_cut (before vs a b) = short (y ∷ vs) a
     by_cut (after vs a b) = long vs a
 
--- ---- a program with a token behind it
+-- ---- a program with a token after it
 
 record Stops (tokens : List Token) (token : Token) : Type 0 where
   front : List Token
@@ -66,7 +66,7 @@ reads_stops tokens tree r =
 behind_stops : (tokens : List Token) (spot : Spot) (b : IsBehind Programs tokens spot) → Stops tokens b.token
 behind_stops tokens spot b = record { front = b.front; rest = b.rest; is = b.is; whole = b.good }
 
--- the tokens of a text behind a front that goes on
+-- the tokens of a text after a front that goes on
 goes_behind : (free : ℕ) (front : List Token) (t : Token) (us more text : List Token) → text ≡ front ++ t ∷ us → Programs free (text ++ more) → Programs free (front ++ t ∷ (us ++ more))
 goes_behind free front t us more text e x =
     subst (Programs free) (ap (λ (xs : List Token). xs ++ more) e ∙ append_assoc front (t ∷ us) more) x
@@ -104,7 +104,7 @@ module _ (tokens : List Token) where
   -- ---- a token that breaks a limit
 
   module _ (spot : Spot) (a : IsTooDeep Programs tokens spot) where
-    -- the text that goes over it, as one that goes on behind another front
+    -- the text that goes over it, as one that goes on after another front
     passes : (front : List Token) (t : Token) (us : List Token) → a.front ≡ front ++ t ∷ us →
         Programs (1 + length (a.ahead ++ a.good.0)) (front ++ t ∷ (us ++ a.token ∷ (a.ahead ++ a.good.0)))
     passes front t us p = goes_behind (1 + length (a.ahead ++ a.good.0)) front t us (a.token ∷ (a.ahead ++ a.good.0)) a.front p a.good.1
@@ -167,7 +167,7 @@ module _ (tokens : List Token) where
         later : Programs (1 + length (b.ahead ++ b.good.0)) (a.front ++ a.token ∷ (us ++ b.token ∷ (b.ahead ++ b.good.0)))
         later = goes_behind (1 + length (b.ahead ++ b.good.0)) a.front a.token us (b.token ∷ (b.ahead ++ b.good.0)) b.front p b.good.1
 
-        -- the first token behind it
+        -- the first token after it
         next : (w : Token) (ws vs : List Token) → w ∷ ws ≡ vs ++ b.token ∷ (b.ahead ++ b.rest) →
             (others : List Token) × (vs ++ b.token ∷ (b.ahead ++ b.good.0) ≡ w ∷ others) × (1 + length (b.ahead ++ b.good.0) ≤ length (w ∷ others))
         next w ws [] e = let same : b.token ≡ w = cc in (b.ahead ++ b.good.0, ap (λ z. z ∷ (b.ahead ++ b.good.0)) same, omega arith)

@@ -81,7 +81,7 @@ rows_ended : (free d : ℕ) (o : Option Kind) (t : Token) (before ts rest : List
     IsEnded free d before ds rest
 rows_ended free d o t before ts _ _ x w (rows_of u ds _ rest y s) = ended u ds before rest (grammar.rows t o ds d before ts (u ∷ rest) x w y) s
 
--- a procedure behind its word
+-- a procedure after its word
 by_procedure : (free d : ℕ) (kind : Option Kind) (from : List Token) (vs ws : List Value) (rest : List Token) → IsAll free (procedure_in kind d) vs from ws rest →
     (acc : PDecls) (below : List Value) → vs ≡ declared acc ∷ below →
     Gives (λ from ds rest. (before : List Token) (t : Token) → IsTyped before kind (t ∷ from) → IsWord reserved.Procedure t → IsEnded free d before ds rest)

@@ -41,7 +41,7 @@ module _ (free : ℕ) (more : List Due) (vs ws : List Value) (rest : List Token)
   pub names_then : (from : List Token) → IsAll free (names_in ++ more) vs from ws rest → Then IsNames names free more from vs ws rest
   names_then _ (cons _ _ _ _ _ _ _ _ makes_it (cons _ _ _ _ _ _ _ _ (gives n _ (one_name t _ mid k)) (cons _ _ _ _ _ _ _ _ makes_it y))) = names_from t n mid k y
 
--- names and the symbol behind them
+-- names and the symbol after them
 pub record NamesEnd (free : ℕ) (s : Symbol) (more : List Due) (from : List Token) (vs ws : List Value) (rest : List Token) : Type 0 where
   pub ns : List Named
   pub u : Token
@@ -152,7 +152,7 @@ back_simple free kind n name from vs ws rest k x =
     by_end ns _ x _ _ (cons _ _ _ _ _ _ _ _ (single u mid s) (cons _ _ _ _ _ _ _ _ makes_it (nil _ _))) =
         λ acc below is. put_given (specs.Simple kind ns) (ap (λ us. spec_simple kind (names ns ∷ us)) is) (λ t k. grammar.simple t u kind ns (n ∷ from) mid k x s)
 
--- rows behind their word
+-- rows after their word
 pub back_rows : (free : ℕ) (kind : Kind) (from : List Token) (vs ws : List Value) (rest : List Token) → IsAll free (rows_specified kind) vs from ws rest →
     (acc : List Spec) (below : List Value) → vs ≡ specified acc ∷ below →
     Gives (λ from s rest. (before : List Token) (o : Option Kind) (t : Token) → elements_of o ≡ kind → IsTyped before o (t ∷ from) → IsWord reserved.Array t → IsSpec before s rest)
@@ -217,7 +217,7 @@ back_specs_more free t ts vs ws rest x =
         by_more s mid p ws rest acc below (cons _ _ _ _ _ _ _ _ g (nil _ _)) = regive _ _ (t ∷ ts) (g (acc ++ s ∷ []) below refl) (λ ss. s ∷ ss)
             (λ ss rest q. λ before other z. grammar.on other (s ∷ ss) before (t ∷ ts) rest z (q (t ∷ ts) s p)) (λ ss. ap specified (append_assoc acc (s ∷ []) ss))
 
--- a heading behind its name
+-- a heading after its name
 
 headed_by : (free : ℕ) (kind : Option Kind) (t x : Token) (from mid : List Token) (params values : List Named) (w : Token) (after : List Token) →
     IsSymbol symbols.OpenRound t → IsNames from params (w ∷ x ∷ mid) → IsSymbol symbols.CloseRound w → IsSymbol symbols.Semicolon x → IsValues mid values after →

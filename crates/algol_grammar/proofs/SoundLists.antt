@@ -90,7 +90,7 @@ back_items free true t ts vs ws rest e x = let r = wholes_then free [] vs ws ts 
 
 -- bounds
 
--- one pair behind others
+-- one pair after others
 record PairThen (free : ℕ) (more_due : List Due) (from : List Token) (vs ws : List Value) (rest : List Token) : Type 0 where
   p : PPair
   mid : List Token
@@ -119,7 +119,7 @@ back_pairs_more free true t ts vs ws rest e x = λ p below is. let r = pair_then
         Gives (λ from ps rest. (before : List Token) → IsPair free before p from → IsPairs free before ps rest) pairs (t ∷ ts) below ws rest
     by_end p below q mid y _ _ (nil _ _) = gives (p ∷ q ∷ []) mid (λ before x. grammar.two t p q before ts mid x (symbol_from t.kind symbols.Comma e) y)
 
--- one segment, as a declaration behind others
+-- one segment, as a declaration after others
 record SegmentThen (free : ℕ) (kind : Kind) (from : List Token) (vs ws : List Value) (rest : List Token) : Type 0 where
   d : PDecl
   mid : List Token
@@ -169,7 +169,7 @@ module _ (free : ℕ) (kind : Kind) where
       Gives (λ from ds rest. (before : List Token) (d : PDecl) → IsSegment free kind before d from → IsSegments free kind before (decls d ds) rest) (λ ds. declared (decls_and acc ds)) mid below ws rest
   segments_on vs ws mid rest acc below is (cons _ _ _ _ _ _ _ _ f (nil _ _)) = f acc below is
 
-  -- segments behind ARRAY
+  -- segments after ARRAY
   pub back_segments : (vs ws : List Value) (from rest : List Token) → IsAll free (segment_in kind) vs from ws rest → (acc : PDecls) (below : List Value) → vs ≡ declared acc ∷ below →
       Gives (IsSegments free kind) (λ ds. declared (decls_and acc ds)) from below ws rest
   back_segments vs ws from rest x acc below is =
@@ -229,7 +229,7 @@ back_phrases_more free true t ts vs ws rest e (cons _ _ _ _ _ _ _ _ f y) = λ ac
         (λ ps rest q. λ v m h. grammar.comma v t m (p ∷ ps) (u ∷ mid) rest h (symbol_from t.kind symbols.Comma e) (q u p k))
         (λ ps. ap phrases (append_assoc acc (p ∷ []) ps))
 
--- phrases and the symbol behind them
+-- phrases and the symbol after them
 pub record PhrasesEnd (free : ℕ) (s : Symbol) (more_due : List Due) (from : List Token) (vs ws : List Value) (rest : List Token) : Type 0 where
   pub ps : List PhraseText
   pub u : Token

@@ -93,7 +93,7 @@ back_else free d false t ts vs ws rest e x = absurd x
 back_else free d true t ts vs _ _ e (cons _ _ _ _ _ _ _ _ (gives b rest y) (cons _ _ _ _ _ _ _ _ makes_it (nil _ _))) = λ s c below is.
     subst (λ us. IsArms free d c s below (t ∷ ts) (two_armed (stmt b ∷ us)) rest) (sym is) (with_else t b ts rest (word_from t.kind reserved.Else e) y)
 
--- an ELSE stands behind no statement that ends in an IF without one
+-- an ELSE stands after no statement that ends in an IF without one
 else_is : (s : PStmt) (v : Token) (after : List Token) → IsWord reserved.Else v → (open_if s ≡ true → NotFirst (is_word reserved.Else) (v ∷ after)) → open_if s ≡ false
 else_is s v after w f = by_test (open_if s) refl
   where
@@ -198,7 +198,7 @@ back_start free d t _ vs _ _ (kinds.Word reserved.Process) k other never
 back_start free d t ts vs ws rest (kinds.Word reserved.Write) k other never x = back_write free d t ts vs ts ws rest k x
 back_start free d t ts vs ws rest k e other never x = absurd (never x)
 
--- behind the name that it begins with
+-- after the name that it begins with
 
 pub back_behind : (free : ℕ) (n : Named) (d : ℕ) (t : Token) (ts : List Token) (vs ws : List Value) (rest : List Token) (k : TokenKind) → t.kind ≡ k →
     Taken free (turn_behind_start n d k) t ts vs ws rest → IsDue free (behind_start n d) vs (t ∷ ts) ws rest

@@ -115,7 +115,7 @@ abbrev pub text : List Due → List Token
 text [] = []
 text (s ∷ due) = text_of s ++ text due
 
--- an ELSE is never left out, so that nothing need be known of what stands behind
+-- an ELSE is never left out, so that nothing need be known of what stands after
 sample : (free : ℕ) (s : Due) (vs : List Value) (rest : List Token) → all_outer (s ∷ []) ≡ true → length (text_of s ++ rest) ≤ free →
     (ws : List Value) × IsDue free s vs (text_of s ++ rest) ws rest
 sample free (make m) vs rest o le = (m vs, makes_it)

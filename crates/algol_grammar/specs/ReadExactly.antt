@@ -13,7 +13,7 @@ use Rattle.algol_tree.specs.Reading.{to, refused, read}
 
 -- What is read as a program is one; where reading meets a token of nothing that is due, it is the first through which no program goes;
 -- where it stops at a limit, that is the token which breaks it; it is refused for no other reason; where it ends before a token that is
--- not the end of the text, that is the first behind a program.
+-- not the end of the text, that is the first after a program.
 pub record IsExact (tokens : List Token) : Type 0 where
   pub reads : (tree : PProgram) (rest : List Token) → read 0 tokens (program ∷ []) [] ≡ to rest (whole_program tree ∷ []) → IsProgram 0 tokens tree rest
   pub unexpected : (left : ℕ) (spot : Spot) → read 0 tokens (program ∷ []) [] ≡ refused left spot codes.Unexpected → IsUnexpected Programs tokens spot

@@ -17,7 +17,7 @@ pub fn texts_have_one_tree()
 {}
 
 /// Law: what tokens are read as is what the grammar has, and a token is refused as of no program, as the one
-/// that breaks a limit, or as behind a program, where the grammar has it so.
+/// that breaks a limit, or as after a program, where the grammar has it so.
 pub fn reading_is_exact()
     ensures { ReadExactly }
 {}

@@ -9,7 +9,7 @@ use Rattle.algol_meaning.specs.World.{block, Process, able, is_able, lives, Worl
 use Rattle.algol_meaning.specs.Instances.{fresh_cells}
 use Rattle.algol_meaning.specs.Choice.{choice}
 
--- ---- the first world: process 1 alone at the outer block
+-- ---- the first world: process 1 only at the outer block
 
 unfoldable pub start : Scopes → World
 start sc =

@@ -42,7 +42,7 @@ condition_of (busy h) x y settled_x settled_y = busy (condition h x y)
 
 -- ---- names, subscripts, calls
 
--- a procedure's name alone is a call
+-- a procedure's name by itself is a call
 abbrev pub named_of : Option ℕ → Named → Half
 named_of (Some block) n = busy (enter n [])
 named_of None n = busy (read n)
@@ -61,7 +61,7 @@ abbrev pub valued_of : List Given → Half → List Sort → PExprs → (List Gi
 valued_of gs (val v) sorts es go_on = go_on (gs ++ valued v ∷ [])
 valued_of gs (busy h) sorts es go_on = wants (in_value gs h sorts es)
 
--- A name alone as an actual that is not by value: of a procedure, of a parameter that stands for something else, of another.
+-- A name by itself as an actual that is not by value: of a procedure, of a parameter that stands for something else, of another.
 abbrev pub alone_of : Option ℕ → Bool → List Given → Named → List Sort → PExprs → (List Given → HalfGiven) → HalfGiven
 alone_of (Some block) formal gs n sorts es go_on = go_on (gs ++ names (tree.variable (tree.subscripted n tree.none)) ∷ [])
 alone_of None true gs n sorts es go_on = wants (pass gs n sorts es)

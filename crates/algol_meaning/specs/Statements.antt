@@ -91,7 +91,7 @@ sign_of z = if int_lt z (pos 0) then pos 0 -ℤ pos 1 else if int_lt (pos 0) z t
 abbrev pub is_past : ℤ → ℤ → Bool
 is_past difference step = int_lt (pos 0) (difference *ℤ sign_of step)
 
--- a name alone
+-- a name by itself
 abbrev pub alone : Named → PExpr
 alone n = tree.variable (tree.subscripted n tree.none)
 

@@ -1,4 +1,4 @@
-//! Facts of worlds alone: to which blocks and names what a process has still to do keeps, and which arrays it has still to make.
+//! Facts of worlds only: to which blocks and names what a process has still to do keeps, and which arrays it has still to make.
 #![tactic(auto)]
 
 ghost use Rattle.algol_paths.specs.Laws.{RestsKeepToTheirText, ArraysAreMadeInOrder};

@@ -36,7 +36,7 @@ module _ (sc : Scopes) where
   part_of w block purpose =
       record { instance = length w.instances + 1; purpose = purpose; rest = settle_items sc (items_of (block_numbered sc.blocks block)) }
 
--- one more process, with that part alone
+-- one more process, with that part only
 abbrev pub with_process_of : World → Part → Option ℕ → Option Reference → World
 with_process_of w part critical task =
     record w { processes = w.processes ++ record { todo = part ∷ []; critical = critical; task = task; state = world.able } ∷ [] }

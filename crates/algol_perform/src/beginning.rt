@@ -11,7 +11,7 @@ use algol_tree::List;
 use algol_world::{Instances, Purpose, World};
 use std::alloc::{AllocError, Global};
 
-/// The world in which a run of the tree begins whose scopes these are: process 1 alone at the head of the outer block,
+/// The world in which a run of the tree begins whose scopes these are: process 1 only at the head of the outer block,
 /// after the silent steps.
 ///
 /// # Errors

@@ -125,7 +125,7 @@ pub fn part_in<'p>(
     })
 }
 
-/// One more process, with that part alone.
+/// One more process, with that part only.
 #[tactic(auto, using(crate::proofs::Fresh::growing_laws))]
 pub fn add_process<'p>(
     world: &mut World<'p>,

@@ -1,4 +1,4 @@
--- What is behind an optional reference.
+-- What is after an optional reference.
 use Rattle.std.specs.Prelude.{Option, Some, None}
 use Rattle.std.specs.Borrow.{Bor}
 

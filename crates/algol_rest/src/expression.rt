@@ -25,7 +25,7 @@ use crate::value::Value;
 use algol_tree::{Call, Expr, List, Named, Op, Variable, Whole};
 use std::alloc::{AllocError, Global};
 
-/// A name alone: a call where it names a procedure.
+/// A name by itself: a call where it names a procedure.
 pub fn alone<'p>(alloc: Global, scopes: &Scopes<'p>, n: &'p Named) -> Head<'p>
     ensures { settling.named_of (procedure_in (settling.sort_at (scoped scopes.now) n.now)) n.now ≡ rest.busy (hole (scoped scopes.now) result) }
 {
@@ -86,7 +86,7 @@ pub fn subscripted<'p>(n: &'p Named, ks: List<usize>, v: Value, es: &'p [Expr]) 
     }
 }
 
-/// The name of an actual that is a name alone.
+/// The name of an actual that is a name by itself.
 pub fn name_alone<'p>(e: &'p Expr) -> Option<&'p Named>
     ensures { maybe_named result ≡ settling.name_alone (expr e.now) }
 {
@@ -121,7 +121,7 @@ fn further<'p>(
     Ok(Supply::Further(gs))
 }
 
-/// An actual that is a name alone and not by value.
+/// An actual that is a name by itself and not by value.
 fn supply_alone<'p>(
     scopes: &Scopes<'p>,
     callee: &'p Named,

@@ -1,4 +1,4 @@
-//! Values behind a box.
+//! Values after a box.
 
 ghost use Rattle.std.specs.Prelude.{◌≡◌, IfOk};
 

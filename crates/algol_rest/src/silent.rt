@@ -226,7 +226,7 @@ impl<'p> Work<'p> {
         }
     }
 
-    /// A name alone whose place is asked for.
+    /// A name by itself whose place is asked for.
     pub fn aim_alone(
         &mut self,
         alloc: Global,

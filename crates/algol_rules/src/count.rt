@@ -24,7 +24,7 @@ fn event_tokens(e: &EventName) -> usize
     if e.task { 3 } else { 1 }
 }
 
-/// A name with the brackets behind it, but for the comma that the first expression between them has not.
+/// A name with the brackets after it, but for the comma that the first expression between them has not.
 fn opening(es: &[Expr]) -> usize
     ensures { result ≡ opened (exprs es.now) }
 {
@@ -167,7 +167,7 @@ fn spec_tokens(spec: &Spec) -> usize
     }
 }
 
-/// Names with a word or a bracket before and behind them, where there are some.
+/// Names with a word or a bracket before and after them, where there are some.
 fn part_tokens(names: &[Named]) -> usize
     ensures { result ≡ min (counts.params_tokens names.now) (2 ^ 64 - 1) }
 {
@@ -235,7 +235,7 @@ fn stmt_tokens(s: &Stmt) -> usize
     }
 }
 
-/// Statements, each with the semicolon behind it.
+/// Statements, each with the semicolon after it.
 #[cycle(statements)]
 fn stmts_tokens(ss: &[Stmt]) -> usize
     ensures { result ≡ min (counts.stmts_tokens (stmts ss.now)) (2 ^ 64 - 1) }
@@ -257,7 +257,7 @@ fn body_tokens(b: &Body) -> usize
         .saturating_add(1)
 }
 
-/// Declarations, each with the semicolon behind it.
+/// Declarations, each with the semicolon after it.
 fn decls_tokens(ds: &[Decl]) -> usize
     ensures { result ≡ min (counts.decls_tokens (decls ds.now)) (2 ^ 64 - 1) }
 {

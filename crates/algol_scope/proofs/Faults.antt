@@ -52,7 +52,7 @@ pub or_none : {X : Type 0} (b : Bool) (o : Option X) → o ≡ None → b ≡ (b
 or_none true o h = refl
 or_none false o h = ap (λ z. is_some z) (sym h)
 
--- ---- faults alone
+-- ---- faults only
 
 noted-findings : (old new : Findings) (fs : List Fault) → new.faults.first ≡ noted_all old.faults.first fs → new.cells ≡ old.cells → new.uses ≡ old.uses →
     Adds old fs [] [] new

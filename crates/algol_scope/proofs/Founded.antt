@@ -124,7 +124,7 @@ module _ (blocks : List Block) where
       known-append (known_names a h.params ++ known_names a h.values) (known_names a (specified h))
       (known-append (known_names a h.params) (known_names a h.values) (names-at a s h.params) (names-at a s h.values)) (names-at a s (specified h))
 
-  -- the place is behind the declaration
+  -- the place is after the declaration
   decl-at : (d : PDecl) (later : PDecls) (a : Surroundings) → Stands blocks a → HasBlock blocks (site.declaration d later) a →
       AreKnownAt (known_in_decl blocks d a)
   decl-at (tree.simple kind ns) later a s b = names-at a s ns

@@ -39,7 +39,7 @@ couples-append level index (c ∷ cs) ds q = decide (same_spot c.spot q) (couple
         h
         ∙ ap (λ z. option_or (couple_from level (index + 1) cs q) (couple_from level z ds q)) next
 
--- more cells lie behind those that lie there
+-- more cells lie after those that lie there
 pub one-more : (level first : ℕ) (cs ds : List Cell) (index : ℕ) (q : Spot) (old new : Option Couple) → old ≡ couple_from level first cs q →
     index ≡ first + length cs → new ≡ option_or old (couple_from level index ds q) → new ≡ couple_from level first (cs ++ ds) q
 one-more level first cs ds index q old new a b e =

@@ -196,7 +196,7 @@ has-told blocks r a spots first q s =
     (named_or_not (own a) q
     ∙ some_found r.around.procedures.items (seen_under m.declared m.parameters seens.All q) (look_up (own a) q) (s.holds.here q))
 
--- ---- a declaration alone, and declarations one after the other
+-- ---- a declaration only, and declarations one after the other
 
 pub enters-made : (old new : Resolver) (d : PDecl) (later : PDecls) (f : List Block → Surroundings → List Fault) (c : List Block → Surroundings → List cells.Cell)
     (u : List Block → Surroundings → List Known) (p : List Block → Surroundings → Surroundings) →

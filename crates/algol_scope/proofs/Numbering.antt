@@ -62,7 +62,7 @@ sub-behind : (us xs ys : List Spot) → Sub xs ys → Sub xs (us ++ ys)
 sub-behind [] xs ys m = m
 sub-behind (u ∷ us) xs ys m = sub-skip u xs (us ++ ys) (sub-behind us xs ys m)
 
--- the first places are some of the others, whatever stands behind both
+-- the first places are some of the others, whatever stands after both
 record Among (xs us : List Spot) : Type 0 where
   pub sub : (ys vs : List Spot) → Sub ys vs → Sub (xs ++ ys) (us ++ vs)
 

@@ -294,7 +294,7 @@ module _ (blocks : List Block) where
         one-declaration d ds outer a first st e fd (in-decl d outer (knowing blocks d ds a) first (knows d ds a st) k e fd)
         (in-decls ds outer (knowing blocks d ds a) first (knows d ds a st) k e (found-last (blocks_in_decl d outer) (blocks_in_decls ds outer) f))
 
-    -- the place is behind the declaration
+    -- the place is after the declaration
     in-decl : (d : PDecl) (outer : List Spot) (a : Surroundings) (first : List Declared) → Stands a → AllAt first → length outer ≡ a.depth + 1 →
         AreFound (blocks_in_decl d outer) → Each (inside_decl blocks d a first)
     in-decl (tree.simple kind ns) outer a first st k e f = tt

@@ -186,7 +186,7 @@ actual_at e f a = record { part = site.actual e f; around = a }
 abbrev one_by_one : PExpr → PExprs → List Formal → Surroundings → List Site
 one_by_one e es fs a = (actual_at e (first fs) a ∷ []) ++ (sites e a ++ inside_actuals es (others fs) a)
 
--- a name alone as an actual, for a parameter of each class
+-- a name by itself as an actual, for a parameter of each class
 bare-faults : (blocks : List Block) (n : Named) (es : PExprs) (c : Class) (v : Bool) (fs : List Formal) (a : Surroundings) →
     let f : Formal = record { class = c; by_value = v } in
     flat_map (faults_at blocks) (inside_actuals (tree.more (tree.variable (tree.subscripted n tree.none)) es) (f ∷ fs) a)

@@ -54,11 +54,11 @@ AreAhead ps _ _ = ⊥
 
 -- ---- names
 
--- the place behind a declaration of these names
+-- the place after a declaration of these names
 abbrev pub declaring : Sort → classes.Class → List Named → Surroundings → Surroundings
 declaring sort c ns a = record a { known = declare a.block a.depth sort c ns ++ a.known }
 
--- The innermost block declares more, of which this is found, and behind which the surroundings are these.
+-- The innermost block declares more, of which this is found, and after which the surroundings are these.
 pub record Makes (old new : Resolver) (faults : List rules.Block → Surroundings → List Fault) (cs : List rules.Block → Surroundings → List cells.Cell)
     (uses : List rules.Block → Surroundings → List Known) (after : List rules.Block → Surroundings → Surroundings) : Type 0 where
   pub outer : new.around.outer.items ≡ old.around.outer.items
@@ -85,7 +85,7 @@ no_uses blocks a = []
 abbrev pub cells_here : cells.Content → List Named → List rules.Block → Surroundings → List cells.Cell
 cells_here content ns blocks a = cells_for a.block content ns
 
--- the places behind declarations
+-- the places after declarations
 abbrev pub declared_so : Sort → classes.Class → List Named → List rules.Block → Surroundings → Surroundings
 declared_so sort c ns blocks a = declaring sort c ns a
 
@@ -98,7 +98,7 @@ parameters_so h a = record a { known = declared_parameters a.block a.depth h ++ 
 abbrev pub nothing_so : List rules.Block → Surroundings → Surroundings
 nothing_so blocks a = a
 
--- the names as they are known behind declarations
+-- the names as they are known after declarations
 abbrev pub known_so : (List rules.Block → Surroundings → Surroundings) → List Named → List rules.Block → Surroundings → List Known
 known_so after ns blocks a = known_names (after blocks a) ns
 
@@ -106,7 +106,7 @@ known_so after ns blocks a = known_names (after blocks a) ns
 abbrev pub StandsFor : Class → classes.Class → Type 0
 StandsFor class c = (ps : List Procedure) → IsClass ps class c
 
--- The innermost block declares more names, behind which the surroundings are these.
+-- The innermost block declares more names, after which the surroundings are these.
 pub record Widens (old new : Around) (after : Surroundings → Surroundings) : Type 0 where
   pub outer : new.outer ≡ old.outer
   pub procedures : new.procedures ≡ old.procedures
@@ -115,7 +115,7 @@ pub record Widens (old new : Around) (after : Surroundings → Surroundings) : T
   pub sees : (a : Surroundings) → Sees old seens.All a → Sees new seens.All (after a)
   pub holds : (a : Surroundings) → Sees old seens.All a → Holds old a → Holds new (after a)
 
--- The innermost block, which declares nothing yet, has parameters, behind which the surroundings are these.
+-- The innermost block, which declares nothing yet, has parameters, after which the surroundings are these.
 pub record Admits (old new : Around) (after : Surroundings → Surroundings) : Type 0 where
   pub outer : new.outer ≡ old.outer
   pub procedures : new.procedures ≡ old.procedures

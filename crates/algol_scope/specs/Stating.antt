@@ -54,7 +54,7 @@ pub record Visits (old new : Resolver) (parts : List rules.Block → Surrounding
   pub comes : (blocks : List rules.Block) (a : Surroundings) (spots : List Spot) → Stands old a spots → AreNumbered blocks (length old.blocks.items) (inner spots) →
       Comes blocks old new (parts blocks a) (inner spots)
 
--- The walk goes through declarations of the innermost block, behind which the surroundings are these.
+-- The walk goes through declarations of the innermost block, after which the surroundings are these.
 pub record Enters (old new : Resolver) (parts : List rules.Block → Surroundings → List Declared → List Site) (inner : List Spot → List rules.Block)
     (after : List rules.Block → Surroundings → Surroundings) : Type 0 where
   pub outer : new.around.outer.items ≡ old.around.outer.items

@@ -42,7 +42,7 @@ use std::alloc::{AllocError, Global};
 use std::collections::BTreeMap;
 
 /// What is found before the declarations of a body are gone through: of each, the procedure that it declares, where the
-/// heading of that with its body stands, and whether it stands there or behind it.
+/// heading of that with its body stands, and whether it stands there or after it.
 #[derive(Clone, Copy)]
 pub struct Ahead {
     pub procedure: usize,

@@ -45,7 +45,7 @@ fn add_found(frame: &mut Frame, spot: Spot, couple: Option<Couple>) -> Result<()
 
 // ---- frames
 
-/// The cells that hold this lie next in the frame, from the index on. Answers the index behind them.
+/// The cells that hold this lie next in the frame, from the index on. Answers the index after them.
 fn lay_out_those(
     frame: &mut Frame,
     cells: &[Cell],

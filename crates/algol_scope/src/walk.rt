@@ -55,7 +55,7 @@ impl<'p> Resolver<'p> {
         self.stmt(s)
     }
 
-    /// A statement behind its condition or its count.
+    /// A statement after its condition or its count.
     #[cycle(statements)]
     fn guarded(&mut self, s: &'p Stmt, c: &'p Expr) -> Result<(), AllocError>
         ensures { OnOk result (Visits self.old self.new (λ blocks a. sites (expr c.now) a ++ stmt_parts (stmt s.now) false blocks a) (stmt_blocks (stmt s.now))) }

@@ -36,7 +36,7 @@ miscounted_actuals n count a = broken_if codes.WrongCount (takes_others (class_o
 abbrev pub miscounted_subscripts : Named → ℕ → Surroundings → List Fault
 miscounted_subscripts n count a = broken_if codes.WrongCount (has_others (class_of a n) count) n.spot
 
--- after a name alone that is read
+-- after a name by itself that is read
 abbrev pub noted_name : Option Fault → Named → Surroundings → Option Fault
 noted_name first n a =
     noted_all (noted_all first (unfit wanted.Read codes.WrongType n a))
@@ -51,7 +51,7 @@ noted_element first n es count a =
 abbrev pub noted_here : Option Fault → PExpr → Surroundings → Option Fault
 noted_here first e a = noted_at [] first (record { part = site.expression e; around = a })
 
--- something else than the name alone of what is wanted
+-- something else than the name by itself of what is wanted
 abbrev pub misplaced : Wanted → PExpr → Surroundings → List Fault
 misplaced w (tree.variable (tree.subscripted n tree.none)) a = unfit w codes.WrongType n a
 misplaced w e a = broken codes.WrongType (first_spot e ∷ [])
@@ -65,7 +65,7 @@ abbrev pub is_simple_formal : Option Formal → Bool
 is_simple_formal (Some (formal.Simple k)) = true
 is_simple_formal _ = false
 
--- a name alone that no value is wanted of
+-- a name by itself that no value is wanted of
 abbrev pub is_alone : PExpr → Option Formal → Bool
 is_alone (tree.variable (tree.subscripted n tree.none)) f = not (is_simple_formal f)
 is_alone _ f = false

@@ -39,7 +39,7 @@ pub fn count_actuals(known: &[Names], name: &Named, count: usize, faults: &mut F
     }
 }
 
-/// A name alone that is read: the name of a typed procedure is a call without actuals.
+/// A name by itself that is read: the name of a typed procedure is a call without actuals.
 fn read_name(known: &[Names], name: &Named, faults: &mut Faults)
     ensures { faults.new.first ≡ noted_name faults.old.first name.now (seen known.now) }
 {
@@ -69,7 +69,7 @@ fn read_variable(known: &[Names], v: &Variable, faults: &mut Faults)
     }
 }
 
-/// An array or an event that is wanted of an actual: its name alone.
+/// An array or an event that is wanted of an actual: its name by itself.
 fn want_reference(known: &[Names], e: &Expr, wanted: Wanted, faults: &mut Faults)
     ensures { faults.new.first ≡ noted_all faults.old.first (misplaced wanted (expr e.now) (seen known.now)) }
 {
@@ -104,7 +104,7 @@ fn is_simple(formal: Option<Formal>) -> bool
     matches!(formal, Some(Formal::Simple(_)))
 }
 
-/// Whether the actual is a name alone that no value is wanted of.
+/// Whether the actual is a name by itself that no value is wanted of.
 fn is_name_alone(e: &Expr, formal: Option<Formal>) -> bool
     ensures { result ≡ is_alone (expr e.now) formal }
 {

@@ -126,7 +126,7 @@ fn check_body(heading: &Heading, body: Option<&Heading>, faults: &mut Faults)
     }
 }
 
-/// The rules of a FORWARD, whose procedure has its body behind that heading.
+/// The rules of a FORWARD, whose procedure has its body after that heading.
 pub fn check_forward(
     heading: &Heading,
     specified: &Specified,

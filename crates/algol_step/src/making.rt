@@ -106,7 +106,7 @@ fn new_arrays<'p>(
     Ok(cells)
 }
 
-/// Arrays of these bounds: none may be empty or too large, and there is room for so many live elements alone.
+/// Arrays of these bounds: none may be empty or too large, and there is room for so many live elements only.
 pub fn decide_arrays<'p>(
     world: &World<'p>,
     alloc: Global,

@@ -33,7 +33,7 @@ abbrev pub known_in_heading : Heading → Surroundings → List Known
 known_in_heading h a = known_names a h.params ++ known_names a h.values ++ known_names a (specified h)
 
 module _ (blocks : List Block) where
-  -- the names that a declaration declares, seen from behind it
+  -- the names that a declaration declares, seen from after it
   abbrev pub known_in_decl : PDecl → Surroundings → List Known
   known_in_decl (tree.simple kind ns) a = known_names a ns
   known_in_decl (tree.files ns) a = known_names a ns

@@ -1,6 +1,6 @@
--- What is still due after the first tokens of a text: a list, the next first. A token decides alone how the list goes on.
+-- What is still due after the first tokens of a text: a list, the next first. A token decides only how the list goes on.
 -- Beside it stand the values that the tokens before have made, the newest first.
--- This is a device of the proofs, one for the whole language: what a text means is said by the grammar alone.
+-- This is a device of the proofs, one for the whole language: what a text means is said by the grammar only.
 use Rattle.std.specs.Prelude.{ℕ, ℤ, List, ◌∷◌, ◌++◌, Bool, true, false, Option, Some, None}
 use Rattle.algol_tree.specs.declared.token.Spot.{Spot}
 use Rattle.algol_tree.specs.declared.token.Reserved.{Reserved}

@@ -85,12 +85,12 @@ turn_lows_more k = either (is_symbol symbols.Comma k) (takes plain (literal ∷ 
 abbrev pub turn_values_part : TokenKind → Turn
 turn_values_part k = either (is_word reserved.Value k) (takes plain (names_in ++ symbol symbols.Semicolon ∷ [])) (makes (put (names [])))
 
--- an array's specification behind its word ARRAY
+-- an array's specification after its word ARRAY
 abbrev pub rows_specified : Kind → List Due
 rows_specified kind = names_in ++ symbol symbols.OpenSquare ∷ make (put (lows [])) ∷ literal ∷ make low_added ∷ lows_more
     ∷ symbol symbols.CloseSquare ∷ symbol symbols.Semicolon ∷ make (spec_arrays kind) ∷ []
 
--- a specification behind its type: names ";" | ARRAY names "[" literal [ "," literal ] "]" ";"
+-- a specification after its type: names ";" | ARRAY names "[" literal [ "," literal ] "]" ";"
 abbrev pub turn_spec_typed : Kind → Spot → TokenKind → Turn
 turn_spec_typed kind spot (kinds.Name name) = takes plain (make (put (names (record { name = name; spot = spot } ∷ []))) ∷ names_more
     ∷ symbol symbols.Semicolon ∷ make (spec_simple kind) ∷ [])
@@ -106,7 +106,7 @@ turn_spec k otherwise = optional (type_of k) (λ kind. spec_typed kind ∷ [])
 abbrev pub turn_specs_more : TokenKind → Turn
 turn_specs_more k = followed (turn_spec k skips) (specs_more ∷ [])
 
--- a heading behind its name, which is the newest value: ";" | "(" names ")" ";" [ VALUE names ";" ] spec { spec }
+-- a heading after its name, which is the newest value: ";" | "(" names ")" ";" [ VALUE names ";" ] spec { spec }
 abbrev pub turn_behind_procedure : Option Kind → TokenKind → Turn
 turn_behind_procedure kind k = either (is_symbol symbols.Semicolon k) (takes plain (make (headed kind) ∷ []))
     (either (is_symbol symbols.OpenRound k)

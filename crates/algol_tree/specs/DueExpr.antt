@@ -24,12 +24,12 @@ abbrev pub signs : Level → TokenKind → Bool
 signs levels.Sum k = is_sign k
 signs l k = false
 
--- es, and e behind them
+-- es, and e after them
 abbrev pub behind : PExprs → PExpr → PExprs
 behind none e = more e none
 behind (more x es) e = more x (behind es e)
 
--- es, and those behind them
+-- es, and those after them
 abbrev pub all_of : PExprs → PExprs → PExprs
 all_of none fs = fs
 all_of (more e es) fs = more e (all_of es fs)
@@ -157,7 +157,7 @@ on_with l d op = part (operand l) d ∷ make (joined op) ∷ more_of l d ∷ []
 abbrev pub related : ℕ → Op → List Due
 related d op = part (level levels.Sum) d ∷ make (joined op) ∷ []
 
--- expr { "," expr } and the symbol that closes them, behind a list with nothing in it yet
+-- expr { "," expr } and the symbol that closes them, after a list with nothing in it yet
 abbrev pub list_in : ℕ → Symbol → List Due
 list_in d closing = part expr d ∷ make listed ∷ exprs_more d ∷ symbol closing ∷ []
 
@@ -170,6 +170,6 @@ turn_behind_name n d k = either (is_symbol symbols.OpenSquare k) (takes (nests d
     (either (is_symbol symbols.OpenRound k) (takes (nests d) (exprs_in d symbols.CloseRound (applied n)))
     (makes (put (one (trees.variable (subscripted n none))))))
 
--- the turn of what stands behind commas
+-- the turn of what stands after commas
 abbrev pub turn_exprs_more : ℕ → TokenKind → Turn
 turn_exprs_more d k = either (is_symbol symbols.Comma k) (takes plain (part expr d ∷ make listed ∷ exprs_more d ∷ [])) skips

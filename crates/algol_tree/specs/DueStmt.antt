@@ -19,7 +19,7 @@ use Rattle.algol_tree.specs.DueExpr.{listed}
 use Rattle.algol_tree.specs.DueDecl.{names_in, files_in}
 use Rattle.algol_tree.specs.Due.{one, many, event_named, name_is, names, low, pairs, heading, task, place, phrases, stmt, list, declared, whole_program, Make, put, Due, make, word, symbol, event, whole, named, names_more, literal, behind_procedure, wholes_more, actuals_part, items_part, pairs_more, segments_more, task_part, to_part, angle, phrase, phrases_more, statement, behind_start, else_part, stmts_more, declarations, typed, procedure_body, Turn, takes, makes, skips, refuses, plain, nests, label, followed, either, optional}
 
--- a statement behind others, a declaration behind others
+-- a statement after others, a declaration after others
 abbrev pub stmt_behind : PStmts → PStmt → PStmts
 stmt_behind no_stmts s = stmts s no_stmts
 stmt_behind (stmts x ss) s = stmts x (stmt_behind ss s)
@@ -175,7 +175,7 @@ turn_phrase k = optional (phrase_of k) (λ p. make (phrase_added p) ∷ []) refu
 abbrev pub turn_phrases_more : TokenKind → Turn
 turn_phrases_more k = either (is_symbol symbols.Comma k) (takes plain (phrase ∷ phrases_more ∷ [])) skips
 
--- statement { ";" statement } with END behind it, made into one so
+-- statement { ";" statement } with END after it, made into one so
 abbrev pub stmts_in : ℕ → Make → List Due
 stmts_in d m = make (put (list no_stmts)) ∷ statement d ∷ make stmt_added ∷ stmts_more d ∷ word reserved.End ∷ make m ∷ []
 
@@ -213,7 +213,7 @@ turn_start d spot k otherwise =
 abbrev pub turn_statement : ℕ → Spot → TokenKind → Turn
 turn_statement d spot k = turn_start d spot k (makes (put (stmt trees.empty)))
 
--- behind the name n: ":" statement | [ subscripts ] ":=" expr | [ actuals ]
+-- after the name n: ":" statement | [ subscripts ] ":=" expr | [ actuals ]
 abbrev pub turn_behind_start : Named → ℕ → TokenKind → Turn
 turn_behind_start n d (kinds.Symbol symbols.Colon) = takes (label d n.spot) (statement (d + 1) ∷ make (labelled n) ∷ [])
 turn_behind_start n d (kinds.Symbol symbols.Becomes) = takes plain (whole 0 ∷ make (assigned n) ∷ [])
@@ -232,11 +232,11 @@ turn_stmts_more d k = either (is_symbol symbols.Semicolon k) (takes plain (state
 abbrev pub names_by : (List Named → PDecl) → List Due
 names_by f = names_in ++ make (names_declared f) ∷ symbol symbols.Semicolon ∷ []
 
--- a procedure behind its word
+-- a procedure after its word
 abbrev pub procedure_in : Option Kind → ℕ → List Due
 procedure_in kind d = named ∷ behind_procedure kind ∷ procedure_body d ∷ []
 
--- behind its type: names ";" | ARRAY segment { "," segment } ";" | PROCEDURE ..
+-- after its type: names ";" | ARRAY segment { "," segment } ";" | PROCEDURE ..
 abbrev pub turn_typed : Kind → ℕ → Spot → TokenKind → Turn
 turn_typed kind d spot (kinds.Name n) = takes plain (make (put (names (record { name = n; spot = spot } ∷ []))) ∷ names_more
     ∷ make (names_declared (trees.simple kind)) ∷ symbol symbols.Semicolon ∷ [])

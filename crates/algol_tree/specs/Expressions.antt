@@ -73,7 +73,7 @@ mutual
         IsSymbol symbols.OpenRound t → Opens free d (t ∷ from) → IsPart free expr (d + 1) from e (u ∷ rest) → IsSymbol symbols.CloseRound u →
         IsPart free primary d (t ∷ from) (paren e t.spot) rest
 
-  -- { operator operand }, behind the expression `left`: each operator takes all that stands to its left
+  -- { operator operand }, after the expression `left`: each operator takes all that stands to its left
   pub data IsMore (free : ℕ) : Level → ℕ → PExpr → List Token → PExpr → List Token → Type 0 where
     last : (l : Level) (d : ℕ) (left : PExpr) (rest : List Token) → IsMore free l d left rest left rest
     on : (t : Token) (l : Level) (op : Op) (d : ℕ) (left right e : PExpr) (from after rest : List Token) →

@@ -1,4 +1,4 @@
--- What a reader has found out, whatever is due behind what it was to read: the words of the readers' own contracts.
+-- What a reader has found out, whatever is due after what it was to read: the words of the readers' own contracts.
 use Rattle.std.specs.Prelude.{◌≡◌, ◌<◌, ◌≤◌, ℕ, List, ◌∷◌, ◌++◌, length}
 use Rattle.algol_tree.specs.declared.token.Spot.{Spot}
 use Rattle.algol_tree.specs.declared.token.Token.{Token}
@@ -41,7 +41,7 @@ pub record Lists (from : List Due) (tokens : List Token) (left v : Value) (rest 
   pub run : (due : List Due) (vs : List Value) → read 0 tokens (from ++ due) (left ∷ vs) ≡ read 0 rest due (v ∷ vs)
   pub behind : IsRest tokens rest
 
--- Reading what is due, with these values before it, comes to this refusal where so many tokens are left, whatever is due behind it.
+-- Reading what is due, with these values before it, comes to this refusal where so many tokens are left, whatever is due after it.
 pub record Fails (from : List Due) (us : List Value) (tokens : List Token) (left : ℕ) (e : Refusal) : Type 0 where
   pub run : (spot : Spot) (code : Code) → e ≡ refusals.At spot code → (due : List Due) (vs : List Value) →
       read 0 tokens (from ++ due) (us ++ vs) ≡ refused left spot code

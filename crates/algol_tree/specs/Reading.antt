@@ -114,7 +114,7 @@ abbrev pub step : Judged → List Due → Spot → TokenKind → Count → List 
 step j [] spot k c vs = over c vs
 step j (s ∷ due) spot k c vs = stepped j c spot (turn s spot k) due vs (step j due spot k)
 
--- What reading what is due comes to: the tokens behind it and the values; or the place and the reason of a refusal, and how many
+-- What reading what is due comes to: the tokens after it and the values; or the place and the reason of a refusal, and how many
 -- tokens are left from the one that showed it on
 pub data Reading : Type 0 where
   to : List Token → List Value → Reading

@@ -33,7 +33,7 @@ pub record IsUnexpected (texts : Language) (tokens : List Token) (spot : Spot) :
   pub unfinished : (free : ℕ) → texts free front → ⊥
   pub none : (free : ℕ) (more : List Token) → texts free (front ++ token ∷ more) → ⊥
 
--- The token that breaks a limit: with the tokens `ahead` behind it they begin a text whose tokens before it keep the limits, and none
+-- The token that breaks a limit: with the tokens `ahead` after it they begin a text whose tokens before it keep the limits, and none
 -- in which it keeps them too. What follows a name tells whether it is a label, so a token ahead may be needed.
 pub record IsTooDeep (texts : Language) (tokens : List Token) (spot : Spot) : Type 0 where
   pub front : List Token
@@ -45,7 +45,7 @@ pub record IsTooDeep (texts : Language) (tokens : List Token) (spot : Spot) : Ty
   pub good : (more : List Token) × texts (1 + length (ahead ++ more)) (front ++ token ∷ (ahead ++ more))
   pub none : (more : List Token) → texts (length (ahead ++ more)) (front ++ token ∷ (ahead ++ more)) → ⊥
 
--- The first token behind a whole text, which is not the end of the tokens.
+-- The first token after a whole text, which is not the end of the tokens.
 pub record IsBehind (texts : Language) (tokens : List Token) (spot : Spot) : Type 0 where
   pub front : List Token
   pub token : Token

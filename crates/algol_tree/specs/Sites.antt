@@ -11,7 +11,7 @@ use Rattle.algol_tree.specs.Blocks.{Block, Begin, of_statement, of_procedure}
 use Rattle.algol_tree.specs.Surroundings.{Surroundings, outermost, formals_at, knowing, knowing_all, inside, inside_procedure}
 
 pub data Part : Type 0 where
-  -- a name alone as an actual that no value is wanted of
+  -- a name by itself as an actual that no value is wanted of
   name : Named → Part
   -- an expression, also inside another
   expression : PExpr → Part

@@ -27,13 +27,13 @@ pub data IsWholes (free : ℕ) : List Token → PExprs → List Token → Type 0
   comma : (t : Token) (e : PExpr) (es : PExprs) (from after rest : List Token) →
       IsWhole free 0 from e (t ∷ after) → IsSymbol symbols.Comma t → IsWholes free after es rest → IsWholes free from (more e es) rest
 
--- [ "(" expr { "," expr } ")" ], behind a name
+-- [ "(" expr { "," expr } ")" ], after a name
 pub data IsActuals (free : ℕ) : List Token → PExprs → List Token → Type 0 where
   nothing : (rest : List Token) → IsActuals free rest none rest
   actuals : (t u : Token) (es : PExprs) (from rest : List Token) →
       IsSymbol symbols.OpenRound t → IsWholes free from es (u ∷ rest) → IsSymbol symbols.CloseRound u → IsActuals free (t ∷ from) es rest
 
--- [ "[" expr { "," expr } "]" ], behind a name
+-- [ "[" expr { "," expr } "]" ], after a name
 pub data IsSubscripts (free : ℕ) : List Token → PExprs → List Token → Type 0 where
   nothing : (rest : List Token) → IsSubscripts free rest none rest
   subscripts : (t u : Token) (es : PExprs) (from rest : List Token) →
@@ -96,7 +96,7 @@ pub data IsSegments (free : ℕ) : Kind → List Token → PDecls → List Token
       IsNames from ns (u ∷ mid) → IsSymbol symbols.OpenSquare u → IsPairs free mid ps (v ∷ w ∷ after) → IsSymbol symbols.CloseSquare v →
       IsSymbol symbols.Comma w → IsSegments free kind after ds rest → IsSegments free kind from (decls (arrays kind ns ps) ds) rest
 
--- The statement ends in an IF without an ELSE, so that an ELSE behind it would belong to that IF.
+-- The statement ends in an IF without an ELSE, so that an ELSE after it would belong to that IF.
 abbrev pub open_if : PStmt → Bool
 open_if (if_then c s) = true
 open_if (if_else c a b) = open_if b
@@ -106,7 +106,7 @@ open_if (for v a s l b) = open_if b
 open_if (thru e s) = open_if s
 open_if s = false
 
--- these declarations, and those behind them
+-- these declarations, and those after them
 abbrev pub decls_and : PDecls → PDecls → PDecls
 decls_and no_decls es = es
 decls_and (decls d ds) es = decls d (decls_and ds es)
@@ -132,7 +132,7 @@ mutual
     compound : (t u : Token) (d : ℕ) (b : PBody) (from rest : List Token) →
         IsWord reserved.Begin t → Opens free d (t ∷ from) → IsBody free (d + 1) t.spot from b (u ∷ rest) → IsWord reserved.End u →
         IsStmt free d (t ∷ from) (block b) rest
-    -- IF expr THEN statement; an ELSE behind it would belong to it
+    -- IF expr THEN statement; an ELSE after it would belong to it
     one_armed : (t u : Token) (c : PExpr) (d : ℕ) (s : PStmt) (from mid rest : List Token) →
         IsWord reserved.If t → Opens free d (t ∷ from) → IsWhole free 0 from c (u ∷ mid) → IsWord reserved.Then u → IsStmt free (d + 1) mid s rest →
         IsStmt free d (t ∷ from) (if_then c s) rest
@@ -204,7 +204,7 @@ mutual
     -- heading FORWARD
     announced : (t : Token) (h : Heading) (d : ℕ) (from rest : List Token) →
         IsHeading from h (t ∷ rest) → IsWord reserved.Forward t → IsDecl free d from (decls (forward h) no_decls) rest
-    -- heading statement; the body opens a level at the first token behind the heading, before what that token opens itself
+    -- heading statement; the body opens a level at the first token after the heading, before what that token opens itself
     with_body : (h : Heading) (s : PStmt) (d : ℕ) (from mid rest : List Token) →
         IsHeading from h mid → Opens free d mid → IsStmt free (d + 1) mid s rest → IsDecl free d from (decls (procedure h s) no_decls) rest
 
@@ -214,7 +214,7 @@ mutual
     another : (t : Token) (d : ℕ) (ds es : PDecls) (from mid rest : List Token) →
         IsDecl free d from ds (t ∷ mid) → IsSymbol symbols.Semicolon t → IsDecls free d mid es rest → IsDecls free d from (decls_and ds es) rest
 
-  -- body = { declaration ";" } statement { ";" statement }, behind a BEGIN at that spot
+  -- body = { declaration ";" } statement { ";" statement }, after a BEGIN at that spot
   pub data IsBody (free : ℕ) : ℕ → Spot → List Token → PBody → List Token → Type 0 where
     declared : (d : ℕ) (spot : Spot) (ds : PDecls) (ss : PStmts) (from mid rest : List Token) →
         IsDecls free d from ds mid → IsStmts free d mid ss rest → IsBody free d spot from (body spot ds ss) rest

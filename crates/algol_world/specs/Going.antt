@@ -13,7 +13,7 @@ use Rattle.algol_meaning.specs.Actions.{Action}
 use Rattle.algol_meaning.specs.Choice.{Choice}
 use Rattle.algol_meaning.specs.Events.{Released, event_at, caused, reset, liberated, with_waiter, with_procurer, taken}
 
--- an action alone
+-- an action only
 abbrev pub chosen : Action → World → Choice
 chosen action after = record { action = action; world = after; released = []; started = None }
 

@@ -31,7 +31,7 @@ abbrev pub cell_or_none : Option (Bor Cell) → plain.Cell
 cell_or_none None = zero_cell
 cell_or_none (Some c) = seen.cell c.now
 
--- a world of these instances alone: what is asked of it depends on nothing else
+-- a world of these instances only: what is asked of it depends on nothing else
 abbrev pub holding : List world.Instance → world.World
 holding instances = record { instances = instances; processes = []; output = []; fault = None }
 

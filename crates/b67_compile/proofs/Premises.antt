@@ -102,7 +102,7 @@ all_taken (x ∷ xs) = ap (λ (ys : List _). x ∷ ys) (all_taken xs)
 length_three : {X : Type 0} (xs ys zs : List X) → length (xs ++ ys ++ zs) ≡ length xs + length (ys ++ zs)
 length_three xs ys zs = omega (arith, length-append (xs ++ ys) zs, length-append xs ys, length-append ys zs)
 
--- the cells of 0 stand behind those of the parameters
+-- the cells of 0 stand after those of the parameters
 zeros_behind : (sc : Scopes) (b : Block) → length (simple_cells sc b) ≡ length (parameter_cells sc b) + length (zero_cells b)
 zeros_behind sc b = length_three (parameter_cells sc b) (result_of b.result b.name) (variables b.decls)
 

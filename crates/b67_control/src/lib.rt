@@ -481,7 +481,7 @@ pub struct Registers {
     pub critical: Option<Place>,
 }
 
-/// Law: each kind of control word is read back as what was packed, is read from that word alone, and no word
+/// Law: each kind of control word is read back as what was packed, is read from that word only, and no word
 /// is of two kinds.
 pub fn control_words_are_read_back()
     ensures irw { ReadsBack kind.irw Fits_irw irw_word as_irw }

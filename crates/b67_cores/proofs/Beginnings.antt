@@ -70,7 +70,7 @@ cells-length level many segments =
     )
 
 module _ (sc : Scopes) (known : List Known) (level home base : ℕ) where
-  -- a slot that has this word alone, and is no mark
+  -- a slot that has this word only, and is no mark
   record IsMade (slot : Slot) (w : Word) : Type 0 where
     pub only : (x : List Slot) (v : Word) → SlotIs sc known level home base x slot v → v ≡ w
     pub plain : (x : List Slot) → newest home base (slot ∷ x) ≡ newest home base x

@@ -1,4 +1,4 @@
--- What a process performs is a fact of its core alone.
+-- What a process performs is a fact of its core only.
 use Rattle.std.proofs.Common.{◌≡◌, refl, sym, ap, ◌∙◌, subst, ℕ, suc, ◌+◌, ◌≤◌, true, ◌++◌, length, take, drop, Result, Ok, arith, length-append}
 use Rattle.std.specs.Prelude.{reverse}
 use Rattle.std.proofs.Math.Seq.{drop-append_seam, take-append_seam}

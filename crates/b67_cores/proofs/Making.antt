@@ -75,7 +75,7 @@ module _ (sc : Scopes) (known : List Known) (code : Code) (ps : List Placed) (le
   pub push_steps : size (moved core from x ws) ≤ bound → CoreSteps code bound 1 (moved core from x ws) made
   push_steps fits = onward {b = made} {c = made} fits push_step (here {a = made} (omega (arith, fits, length-append core.below (reverse ws), length-reverse ws)))
 
-  -- where no mark lies above the cells, the core is behind PUSH
+  -- where no mark lies above the cells, the core is after PUSH
   pub made_at : newest (frame core.registers) (length core.below) x ≡ frame core.registers → CoreAt sc known code ps level to [] made
   made_at bare = record {
     segment = st.segment;

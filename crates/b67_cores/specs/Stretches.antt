@@ -107,7 +107,7 @@ abbrev pub StepsGoForward : Type 0
 StepsGoForward =
     (code : Code) (bound n : ℕ) (a b : Core) → a.registers.ll ≤ MOST_LEVEL → CoreSteps code bound n a b → n + a.registers.place ≤ b.registers.place
 
--- What a process performs is a fact of its core alone.
+-- What a process performs is a fact of its core only.
 pub record CoresDecide : Type 0 where
   -- plain operators of a process are steps of its core, and leave all else of the image
   pub steps : (code : Code) (p n : ℕ) (img new : Image) (a : Core) → HasCore img p a → size a ≤ stack_limit → Plains code p img n new → Decided code p img n a new
@@ -135,7 +135,7 @@ pub record CoreAt (sc : Scopes) (known : List Known) (code : Code) (ps : List Pl
   pub mark_is : core.registers.f ≡ newest (frame core.registers) (length core.below) slots
   pub words_are : SlotsAre sc known level (frame core.registers) (length core.below) slots core.words
 
--- the core is another one in the words above the floor and in S, F and the place of the pointer alone
+-- the core is another one in the words above the floor and in S, F and the place of the pointer only
 pub record IsMoved (a b : Core) : Type 0 where
   pub below : b.below ≡ a.below
   pub registers : b.registers ≡ record a.registers { s = b.registers.s; f = b.registers.f; place = b.registers.place }

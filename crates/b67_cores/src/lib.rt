@@ -22,7 +22,7 @@ pub fn faults_are_performed()
     ensures { FaultsArePerformed }
 {}
 
-/// Law: what a process performs by plain operators is decided by its core alone.
+/// Law: what a process performs by plain operators is decided by its core only.
 pub fn cores_decide()
     ensures { CoresDecide }
 {}
@@ -37,7 +37,7 @@ pub fn steps_stay_above()
     ensures { StepsStayAbove }
 {}
 
-/// Law: the machine performs each fragment of private operators as the meaning of its words says, one alone or
+/// Law: the machine performs each fragment of private operators as the meaning of its words says, one only or
 /// several one after another, and faults where an operator of the language has no result.
 pub fn fragments_are_performed()
     ensures { FragmentsArePerformed }

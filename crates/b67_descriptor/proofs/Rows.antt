@@ -231,7 +231,7 @@ has_no_more before rows after mother to more gone kept x =
     (λ (ne : x ≢ mother). kept x ne ∙ more.others x ne (λ k low l. absurd (omega (arith, low, l))))
     (cases_eq x mother)
 
--- the mother's row alone
+-- the mother's row only
 pub has_mother : (before : Rows) (mother : ℕ) (row : Row) → mother ≡ least_free before → HasMore before (opened_at before mother row) mother 0 0
 has_mother before mother row e = record {
   fresh = ap (λ (n : ℕ). row_at before n) e ∙ free_here before;

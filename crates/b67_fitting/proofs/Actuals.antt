@@ -1,4 +1,4 @@
--- The actual of an array parameter at which no rule is broken: the name alone of an array with such elements and as many bounds.
+-- The actual of an array parameter at which no rule is broken: the name by itself of an array with such elements and as many bounds.
 use Rattle.std.proofs.Common.{◌≡◌, ℕ, ◌==◌, ◌&&◌, not, Bool, true, false, List, [], ◌∷◌, Some, refl, sym, ap, ◌∙◌, subst}
 use Rattle.std.proofs.lemmas.Bool.{eqb-true}
 use Rattle.algol_tree.specs.declared.token.Spot.{Spot}

@@ -87,7 +87,7 @@ aligned_over (x ∷ xs) ys (c ∷ cs) ds name spot wanted h l =
 aligned_over [] ys (c ∷ cs) ds name spot wanted h l = absurd h
 aligned_over (x ∷ xs) ys [] ds name spot wanted h l = absurd h
 
--- more cells behind
+-- more cells after
 pub index_on : (cs ds : List Cell) (j : ℕ) (spot : Spot) (i : ℕ) → index_from j cs spot ≡ Some i → index_from j (cs ++ ds) spot ≡ Some i
 index_on [] ds j spot i h = absurd (let clash : None ≡ Some i = h in cc)
 index_on (c ∷ cs) ds j spot i h = by (same_spot c.spot spot) (index_on cs ds (j + 1) spot i) h

@@ -40,7 +40,7 @@ pub record IsArrayed (xs : List DeclaredArray) (cs : List Cell) (name : List ℕ
   pub found : (i : ℕ) → array_from i xs name ≡ Some (record { number = i + number; array = array })
   pub index : (j : ℕ) → index_from j cs spot ≡ Some (j + number)
 
--- behind one of another name, at another place
+-- after one of another name, at another place
 arrayed_behind : (x : DeclaredArray) (c : Cell) (xs : List DeclaredArray) (cs : List Cell) (name : List ℕ) (spot : Spot) (array : DeclaredArray) → same_name x.name name ≡ false → IsApart c.spot spot →
     IsArrayed xs cs name spot array → IsArrayed (x ∷ xs) (c ∷ cs) name spot array
 arrayed_behind x c xs cs name spot array g h r =

@@ -1,4 +1,4 @@
--- Behind lists, bounds and headings stand tokens of the same text.
+-- After lists, bounds and headings stand tokens of the same text.
 use Rattle.std.proofs.Common.{ℤ, List, Option}
 use Rattle.std.specs.List.{AllByRecursion}
 use Rattle.algol_tree.specs.declared.token.Token.{Token}
@@ -14,7 +14,7 @@ use Rattle.algol_tree.specs.Headings.{IsTyped, IsNames, IsFile, IsFiles, IsLiter
 use Rattle.algol_tree.specs.Statements as grammar
 use Rattle.algol_tree.specs.Statements.{IsTaskPart, IsTo, IsPhrases}
 
--- what holds of each token up to the end holds of those behind
+-- what holds of each token up to the end holds of those after
 module _ (P : Token → Type 0) where
   abbrev pub All : List Token → Type 0
   All ts = AllByRecursion P ts

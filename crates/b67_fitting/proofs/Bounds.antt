@@ -34,7 +34,7 @@ abbrev pub AreEarly : ℕ → List Declared → Type 0
 AreEarly depth ds = AllByRecursion (IsEarly depth) ds
 
 module _ (sc : Scopes) (j : ℕ) (outer : List Spot) (a : Surroundings) (r : IsAround sc.blocks j outer a) where
-  -- behind a BEGIN
+  -- after a BEGIN
   pub early_inside : AreEarly (a.depth + 1) a.known
   early_inside = each_of (IsKnown sc.blocks j a.depth) (IsEarly (a.depth + 1)) a.known (λ d k. inl (omega (arith, k.shallow))) r.known
 

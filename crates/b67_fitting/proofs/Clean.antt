@@ -55,7 +55,7 @@ class_from a k n (Some d) e h = k.each n.name d e
 pub plain_name : (a : Surroundings) → KnowsPlain a → (n : Named) → if_so (not (is_some (declared_as a n))) n.spot ≡ [] → IsPlain (class_of a n)
 plain_name a k n h = class_from a k n (declared_as a n) refl h
 
--- the name of a use alone, or of the first of a part
+-- the name of a use only, or of the first of a part
 pub plain_first : (a : Surroundings) → KnowsPlain a → (n : Named) (more : List Spot) → if_so (not (is_some (declared_as a n))) n.spot ++ more ≡ [] → IsPlain (class_of a n)
 plain_first a k n more h = plain_name a k n (nil_front (if_so (not (is_some (declared_as a n))) n.spot) more h)
 

@@ -52,7 +52,7 @@ given_cell block [] s i = absurd i
 given_cell block (n ∷ ns) s (inl e) = inl (ap (λ (z : Spot). record { block = block; spot = z; content = cells.parameter }) e)
 given_cell block (n ∷ ns) s (inr i) = inr (given_cell block ns s i)
 
--- The parts of a program: what stands in one place stands there alone, the cells of each block are those of its heading and its
+-- The parts of a program: what stands in one place stands there only, the cells of each block are those of its heading and its
 -- declarations, and no other cells are there.
 pub record IsProgram (blocks : List Block) (all : List Site) : Type 0 where
   pub blocks_apart : Apart (block_spots blocks)

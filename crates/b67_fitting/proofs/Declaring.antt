@@ -99,7 +99,7 @@ module _ (block depth : ℕ) (s : Sort) (c : Class) where
           (ap (λ (z : Declared). z.class) (sym same), ap (λ (z : Declared). z.sort) (sym same))
       by false later g = later g
 
-  -- what is found of one name alone
+  -- what is found of one name by itself
   pub found_one : (n : Named) (name : List ℕ) (d : Declared) → look_up (declare block depth s c (n ∷ [])) name ≡ Some d → (same_name n.name name ≡ true) × (entry n ≡ d)
   found_one n name d h = by (same_name n.name name) refl h
     where

@@ -196,7 +196,7 @@ module _ (block : ℕ) where
     abbrev behind : List Cell
     behind = params ++ decl_cells block ds
 
-    -- what lies behind the result
+    -- what lies after the result
     abbrev others : List Cell
     others = variable_cells block ds ++ (control_cells block ds ++ made_cells block ds)
 

@@ -25,7 +25,7 @@ use Rattle.b67_fitting.proofs.Lists.{each_front, each_back, each_both, each_of}
 
 -- ---- places
 
--- those of a procedure behind its name
+-- those of a procedure after its name
 abbrev behind_procedure : Heading → PStmt → List Spot
 behind_procedure h s = spots_of_names h.params ++ spots_of_names h.values ++ spots_of_names (specified h) ++ spots_of_stmt s
 
@@ -171,7 +171,7 @@ module _ (blocks : List Block) (b : Block) (home : IsHome blocks b) where
   abbrev pub block : ℕ
   block = number_at blocks b.spot
 
-  -- what lies behind the variables
+  -- what lies after the variables
   abbrev others : List Cell
   others = control_cells block b.decls ++ made_cells block b.decls
 
@@ -235,7 +235,7 @@ module _ (blocks : List Block) (b : Block) (home : IsHome blocks b) where
         as_long b.result b.decls,
       )
 
-  -- a procedure lies behind the simple cells
+  -- a procedure lies after the simple cells
   pub controlled : (h : Heading) → IsIn h (headings b.decls) → (r : IsControl block b.decls h.name.spot) × (index_from 2 frame h.name.spot ≡ Some (2 + length simples + r.number))
   controlled h i =
       let r = control block b.decls h.name.spot (heading_named b.decls h i) in
@@ -274,7 +274,7 @@ module _ (blocks : List Block) (b : Block) (home : IsHome blocks b) where
       (each_both (λ (c : Cell). IsApart c.spot b.spot) vars others (variables_far block b.decls b.spot far)
       (each_both (λ (c : Cell). IsApart c.spot b.spot) (control_cells block b.decls) (made_cells block b.decls) (controls_far block b.decls b.spot far) (made_far block b.decls b.spot far))))
 
-  -- the result lies behind the parameters
+  -- the result lies after the parameters
   pub result_index : (kind : Kind) → b.result ≡ Some kind → index_from 2 frame b.spot ≡ Some (2 + length (given_cells blocks b))
   result_index kind e =
       let more = variable_cells block b.decls ++ others in

@@ -1,4 +1,4 @@
--- Where the arrays of a block lie in its frame: behind its simple cells and its procedures.
+-- Where the arrays of a block lie in its frame: after its simple cells and its procedures.
 use Rattle.std.proofs.Common.{arith, ◌≡◌, ◌⊎◌, inl, inr, ℕ, ◌+◌, Bool, true, false, List, [], ◌∷◌, ◌++◌, length, is_some, Option, Some, None, refl, sym, ap, ◌∙◌, append_assoc, if◌then◌else◌}
 use Rattle.std.proofs.lemmas.List.{length-append}
 use Rattle.std.specs.List.{AllByRecursion}

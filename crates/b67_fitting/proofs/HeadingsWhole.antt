@@ -13,7 +13,7 @@ use Rattle.b67_fitting.specs.Wholes.{HaveDimensions, SpecWhole}
 use Rattle.b67_fitting.proofs.Behind.{behind_names, behind_typed, behind_spec, behind_values}
 use Rattle.b67_fitting.proofs.Lexed.{KindRight, TokenRight, AreRight}
 
--- what was read, and what stands behind it
+-- what was read, and what stands after it
 abbrev pub Read : Type 0 → List Token → Type 0
 Read what rest = what × AreRight rest
 

@@ -34,7 +34,7 @@ declared_name block depth s c (n ∷ ns) name d h =
     by false later g = later g
 
 module _ (blocks : List Block) where
-  -- behind a declaration the block has the names that it had
+  -- after a declaration the block has the names that it had
   still_named : (a : Surroundings) (d : PDecl) (ds : PDecls) (name : List ℕ) → is_one_of (names_of a.block a.known) name ≡ true → is_one_of (names_of a.block (knowing blocks d ds a).known) name ≡ true
   still_named a d ds name h =
       let new = made_known blocks d ds a in

@@ -34,7 +34,7 @@ abbrev pub lefts_in : Part → List Named
 lefts_in (parts.statement (tree.assign (tree.subscripted n tree.none) e) listed) = n ∷ []
 lefts_in _ = []
 
--- a cell that has the place of its name alone: that of a parameter, of a variable or of an array
+-- a cell that has the place of its name by itself: that of a parameter, of a variable or of an array
 abbrev pub has_own_place : Content → Bool
 has_own_place contents.parameter = true
 has_own_place contents.variable = true

@@ -78,7 +78,7 @@ module _ (blocks : List Block) where
   abbrev known_places : List Site → List Spot
   known_places xs = places (λ (k : Known). k.spot) (known_at blocks) xs
 
-  -- of parts behind one
+  -- of parts after one
   behind_use : (x : Site) (xs : List Site) {p q : List Spot} → Among (map (λ (u : Use). u.spot) (uses_at x)) p → Among (use_places xs) q → Among (use_places (x ∷ xs)) (p ++ q)
   behind_use x xs {p} {q} g h = subst (λ (z : List Spot). Among z (p ++ q)) (sym (map-append (λ (u : Use). u.spot) (uses_at x) (flat_map uses_at xs))) (join g h)
 

@@ -72,7 +72,7 @@ abbrev pub wants_in : Heading → List Named → List Wanted
 wants_in h ns = map (λ (c : Simple). wanted_by c.kind c.shape) (map (cell_of h) ns)
 
 module _ (blocks : List Block) (sc : Scopes) (known results : Spot → Option Couple) (lows : Spot → Option Lows) where
-  -- A name that is read or called has its couple. Lower bounds are known of arrays alone.
+  -- A name that is read or called has its couple. Lower bounds are known of arrays only.
   pub record IsPlaced (a : Surroundings) (n : Named) : Type 0 where
     pub simple : (k : Kind) (level : ℕ) → a.depth + 2 ≡ level → IsOf a k n → ReadFits sc known results lows level k n × LeftFits sc known results lows level k n
     pub array : (k : Kind) (rank level : ℕ) → a.depth + 2 ≡ level → class_of a n ≡ class.array k rank → RowFits sc known results lows level n k rank

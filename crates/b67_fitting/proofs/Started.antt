@@ -1,4 +1,4 @@
--- What is known behind each declaration of a block, in their order.
+-- What is known after each declaration of a block, in their order.
 use Rattle.std.proofs.Common.{arith, ◌≡◌, inl, inr, ℕ, ◌≤◌, ◌==◌, Bool, true, false, cond, not, List, [], ◌∷◌, ◌++◌, map, filter, length, is_some, Option, Some, None, sym, refl, ap, ◌∙◌, subst, append_assoc, if◌then◌else◌}
 use Rattle.std.proofs.lemmas.Bool.{eq-eqb}
 use Rattle.std.specs.List.{AllByRecursion}
@@ -314,7 +314,7 @@ module _ (blocks : List Block) where
             (each_both (λ (x : Simple). same_name x.name name ≡ false) s.passed_variables (variables ds) (passed_named names (own ++ spots_of_decls ds) name s.passed_variables s.passed_cells other s.passed) later_ones);
       })
 
-  -- the names of arrays are among those that the block has behind them
+  -- the names of arrays are among those that the block has after them
   array_named : (a : Surroundings) (kind : Kind) (ns : List Named) (pairs : List PPair) (n : Named) → IsIn n ns →
       is_one_of (names_of a.block (declare a.block a.depth sort.array (class.array kind (length pairs)) ns) ++ names_of a.block a.known) n.name ≡ true
   array_named a kind ns pairs n i =

@@ -73,7 +73,7 @@ module _ (blocks : List Block) where
     TypedStmts a tree.no_stmts = Unit {0}
     TypedStmts a (tree.stmts s ss) = TypedStmt of_statement a s × TypedStmts a ss
 
-    -- the place is behind the declaration; these are known at the begin of its block
+    -- the place is after the declaration; these are known at the begin of its block
     pub TypedDecl : Surroundings → List Declared → PDecl → Type 0
     TypedDecl a first (tree.simple kind ns) = Unit {0}
     TypedDecl a first (tree.files ns) = Unit {0}

@@ -137,7 +137,7 @@ module _ (blocks : List Block) where
         knows_all ds (knowing blocks (tree.procedure h t) ds a) b.1 c.1 (knows_one (tree.procedure h t) ds a b.0 c r)
     knows_all (tree.decls d ds) a b c r = absurd b.0
 
-    -- the place behind a BEGIN or the name of a procedure, at `spot` in the block j
+    -- the place after a BEGIN or the name of a procedure, at `spot` in the block j
     pub enters : (spot : Spot) (a : Surroundings) → number_at blocks spot < length blocks → around blocks (number_at blocks spot) ≡ map (number_at blocks) outer → IsAround j outer a →
         IsAround (number_at blocks spot) (spot ∷ outer) (record { block = number_at blocks spot; depth = a.depth + 1; known = a.known })
     enters spot a n e r =

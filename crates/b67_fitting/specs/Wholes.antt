@@ -1,6 +1,6 @@
 -- The numbers of a program are whole: the magnitude of each number in its expressions is at most the greatest that the machine has. And
 -- each call in an expression has actuals, each array one dimension or two, and each declaration of arrays a name, as in a tree that was
--- read from a text, where a name alone reads as a variable.
+-- read from a text, where a name by itself reads as a variable.
 use Rattle.std.specs.Prelude.{ℤ, ◌≤◌, List, [], ◌∷◌, length}
 use Rattle.std.specs.List.{AllByRecursion}
 use Rattle.algol_tree.specs.declared.tree.Spec.{Spec}

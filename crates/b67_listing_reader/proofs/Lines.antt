@@ -128,7 +128,7 @@ syllables_back (suc most) _ rest (more_bytes b bs small are) long =
     ∙ ap (λ v. v ∷ syllables_in most (hexadecimal bs ++ 32 ∷ rest)) value
     ∙ ap (λ xs. b ∷ xs) (syllables_back most bs rest are (omega arith))
 
--- what stands behind the level in the line of an operator
+-- what stands after the level in the line of an operator
 abbrev pub line_tail : Placed → List ℕ
 line_tail p = hexadecimal (spelled p) ++ 32 ∷ operator_text p.operator
 

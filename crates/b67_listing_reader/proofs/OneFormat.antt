@@ -99,7 +99,7 @@ phrase_first (Blanks n) a b byte ends e = let f : 88 ≡ byte = first_byte 88 by
 abbrev pub further : List Phrase → List ℕ
 further ps = flat_map (λ phrase. codes "," ++ phrase_text phrase) ps
 
--- and the bracket behind them
+-- and the bracket after them
 abbrev pub closed : List Phrase → List ℕ
 closed ps = further ps ++ codes ">"
 

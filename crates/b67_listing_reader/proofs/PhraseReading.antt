@@ -13,12 +13,12 @@ use Rattle.b67_listing.specs.Listings.{IsPhrase}
 use Rattle.b67_listing_reader.specs.Reading.{IsEnded, ReadsPhrase}
 use Rattle.b67_listing_reader.proofs.OneFormat.{further, closed, closed_ended, opened, phrase_first, phrases_alike}
 
--- what is left of phrases behind others
+-- what is left of phrases after others
 abbrev pub left_text : List Phrase → List Phrase → List ℕ
 left_text [] ps = phrases_text ps ++ codes ">"
 left_text (q ∷ qs) ps = closed ps
 
--- what other phrases with this text have behind those that are read
+-- what other phrases with this text have after those that are read
 pub record Left (done ps : List Phrase) (tail : List ℕ) : Type 0 where
   pub later : List Phrase
   pub are : ps ≡ done ++ later
@@ -95,7 +95,7 @@ phrases_early text at next done s here early ps each e =
     let last = bracket_last done left.later (drop (next + 1) text) (sym here ∙ left.tail_is) in
     omega (arith, ap length last, length-drop (next + 1) text)
 
--- where a phrase begins: the first one at a place, another behind a comma there
+-- where a phrase begins: the first one at a place, another after a comma there
 pub data BeginsPhrase (text : List ℕ) (next : ℕ) (begin : ℕ) : List Phrase → Type 0 where
   first : begin ≡ next → BeginsPhrase text next begin []
   behind_comma : (d : Phrase) (ds : List Phrase) → drop next text ≡ 44 ∷ drop begin text → BeginsPhrase text next begin (d ∷ ds)

@@ -97,7 +97,7 @@ pub text_not_ended : (text : List ℕ) (at : ℕ) (quoted : List ℕ) (end : ℕ
 text_not_ended text at quoted end a never other last r =
     never (subst (λ k. IsEnded (drop (k + 1) text)) (sym (quoted_once text at quoted end other last a r.0)) r.1)
 
--- a text behind a quote is a phrase
+-- a text after a quote is a phrase
 text_phrase : (text : List ℕ) (at : ℕ) (quoted : List ℕ) (end : ℕ) → HasByte 34 text at → ReadsText text (at + 1) quoted end → ReadsPhrase text at (Text quoted) (end + 1)
 text_phrase text at quoted end here r =
     let inside = slice_get_within text end 34 r.0.quote in
@@ -113,7 +113,7 @@ text_phrase text at quoted end here r =
       ended = r.1;
     }
 
--- and each phrase behind a quote is a text
+-- and each phrase after a quote is a text
 phrase_text_read : (text : List ℕ) (at : ℕ) (phrase : Phrase) (next : ℕ) → HasByte 34 text at → ReadsPhrase text at phrase next →
     (quoted : List ℕ) × (end : ℕ) × ReadsText text (at + 1) quoted end
 phrase_text_read text at (Text quoted) next here r =
@@ -139,7 +139,7 @@ phrase_text_read text at (Blanks width) next here r =
     let f : ◌≡◌ {A = ℕ} 34 88 = ap (λ (xs : List ℕ). get_or xs 0 0) (sym (at_byte text at 34 here) ∙ r.stands.part_is) in
     absurd (omega arith)
 
--- what is read behind a quote is what is read at it
+-- what is read after a quote is what is read at it
 pub quoted_phrase : {E : Type 0} (text : List ℕ) (at : ℕ) (result : Result (Option (Phrase × ℕ)) E) → HasByte 34 text at →
     IfOk result (λ found. MatchOption found ((quoted : List ℕ) (end : ℕ) → ReadsText text (at + 1) quoted end → ⊥)
     (λ found. (quoted : List ℕ) × (end : ℕ) × ReadsText text (at + 1) quoted end × (found.0 ≡ Text quoted) × (found.1 ≡ end + 1))) →

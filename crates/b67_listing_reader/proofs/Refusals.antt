@@ -22,7 +22,7 @@ use Rattle.b67_listing_reader.proofs.Lines.{code-bytes, IsBytes-from}
 use Rattle.b67_listing_reader.proofs.Segments.{SegmentsText-push}
 use Rattle.b67_listing_reader.proofs.Ahead.{head_of, tail_of, GoesOn, next_operator, body, one_count, HasNoHead, formats_first, ahead, formats_ahead}
 
--- what stands behind so many lines makes them no beginning of a listing
+-- what stands after so many lines makes them no beginning of a listing
 pub record Stops (lines : List (List ℕ)) (count : ℕ) : Type 0 where
   pub within : count ≤ length lines
   pub begins : Begins IsListing (take count lines)
@@ -114,7 +114,7 @@ part_by segments words ops end x b never count order left _ _ (more n segment qs
     let whole = body segment qs first in
     next_operator 0 ops end qs (6 * words) x (ls ++ b) order (subst (λ k. AreInOrder 0 qs (6 * k)) (sym same) whole.order) left (tails ∙ append_assoc (operator_lines qs) ls b)
 
--- what goes on a listing behind a part of a segment begins with an operator
+-- what goes on a listing after a part of a segment begins with an operator
 part_goes_on : (segments : List Segment) (front : List (List ℕ)) (words : ℕ) (ops : List Placed) (end : ℕ) (x : List (List ℕ)) → SegmentsText 0 segments front →
     IsWordCount words → AreInOrder 0 ops end → end < 6 * words → IsListing ((front ++ part_lines (length segments) words ops) ++ x) → GoesOn end (6 * words) x
 part_goes_on segments front words ops end x listed count order left is =
@@ -172,7 +172,7 @@ part_refused lines count p = refused lines count record {
   short = λ e is. no_rest p.end (6 * p.words) (goes_on lines count p [] (subst IsListing (sym (append-nil (take count lines))) is));
 }
 
--- lines that end behind formats
+-- lines that end after formats
 pub record BehindFormats (lines : List (List ℕ)) (count : ℕ) : Type 0 where
   pub segments : List Segment
   pub front : List (List ℕ)

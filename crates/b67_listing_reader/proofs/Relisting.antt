@@ -28,13 +28,13 @@ has_operators operators segment a spells =
     let few = a.few in
     (more.all, built_segment segment more.all end more.order spelled (omega arith) (omega arith))
 
--- the code of this segment alone can be listed
+-- the code of this segment only can be listed
 pub one_listable : (operators : List building.Placed) (segment : Segment) (code : Code) → AreOperators operators → Spells (building.filled operators) segment →
     code ≡ record { segments = segment ∷ []; formats = [] } → IsListable code
 one_listable operators segment code a spells is = subst IsListable (sym is)
     (record { segments = All-cons HasOperators segment [] (has_operators operators segment a spells) (All-nil HasOperators); formats = All-nil IsFormat })
 
--- and its listing has the lines of its operators behind the first
+-- and its listing has the lines of its operators after the first
 pub is_relisted : (operators : List building.Placed) (segment : Segment) (code : Code) (listed lines : List (List ℕ)) (same : ℕ) → Spells (building.filled operators) segment →
     code ≡ record { segments = segment ∷ []; formats = [] } → ListingText code listed → IsFirstOther lines (drop 1 listed) same → IsRelisted operators lines segment same
 is_relisted operators segment code listed lines same spells is t first =

@@ -33,7 +33,7 @@ here old at level op before =
     let same : filling (length old) ≡ filling at = omega arith in
     spelled_alike (length old) at level op same
 
--- an operator whose line this is, where these are its level and what stands behind it, and its syllables are added to others
+-- an operator whose line this is, where these are its level and what stands after it, and its syllables are added to others
 record Known (new : List ℕ) (old : List ℕ) (level : ℕ) (p : Placed) : Type 0 where
   level_is : p.level ≡ level
   stands : Stands new (length old) level p.operator (length new)

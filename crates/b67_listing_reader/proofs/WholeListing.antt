@@ -20,7 +20,7 @@ pub taken : {A : Type 0} (part items : List A) (at next : ℕ) → Stands part i
 taken part items at next s =
     ap (λ n. take n items) s.next_is ∙ take-add at (length part) items ∙ ap (λ t. take at items ++ t) (ap (take (length part)) s.part_is ∙ take_at part (drop next items) (length part) refl)
 
--- a head line and what stands behind it
+-- a head line and what stands after it
 pub behind_head : (line : List ℕ) (part lines : List (List ℕ)) (at next : ℕ) → at < length lines → drop at lines ≡ line ∷ drop (at + 1) lines → Stands part lines (at + 1) next →
     Stands (line ∷ part) lines at next
 behind_head line part lines at next inside here s =

@@ -46,7 +46,7 @@ pub record IsWordCount (words : ℕ) : Type 0 where
 abbrev pub two_digits : ℕ → ℕ → ℕ
 two_digits tens units = 10 * (tens - 48) + (units - 48)
 
--- the level in an operator's line, from the outer block's to the deepest, and what stands behind it and a blank
+-- the level in an operator's line, from the outer block's to the deepest, and what stands after it and a blank
 abbrev pub level_part : List ℕ → Option (ℕ × List ℕ)
 level_part (a ∷ b ∷ c ∷ d ∷ e ∷ f ∷ tens ∷ units ∷ g ∷ rest) =
     if nat_le OUTER_LEVEL (two_digits tens units) && nat_le (two_digits tens units) MOST_LEVEL then Some (two_digits tens units, rest) else None
@@ -79,7 +79,7 @@ IsFormat format = All IsPhrase format.phrases
 abbrev pub IsTextByte : ℕ → Type 0
 IsTextByte byte = (32 ≤ byte) × (byte ≤ 126) × (byte ≢ 34)
 
--- the bytes that end a phrase: a comma, or the bracket behind the last one
+-- the bytes that end a phrase: a comma, or the bracket after the last one
 abbrev pub EndsPhrase : ℕ → Type 0
 EndsPhrase byte = (byte ≡ 44) ⊎ (byte ≡ 62)
 
@@ -131,7 +131,7 @@ pub record TellSoFar (lines : List (List ℕ)) (at most : ℕ) (operators : List
   pub next_is : next ≡ at + length placed
   pub inside : next ≤ length lines
 
--- and the line behind them is that of no operator that could go on
+-- and the line after them is that of no operator that could go on
 pub record TellsOperators (lines : List (List ℕ)) (at most : ℕ) (operators : List building.Placed) (next : ℕ) : Type 0 where
   pub front : TellSoFar lines at most operators next
   pub stops : (line : List ℕ) (rest : List (List ℕ)) → drop next lines ≡ line ∷ rest → IsNoOperator line front.end most
@@ -167,7 +167,7 @@ pub record ReadsBody (words : ℕ) (lines : List (List ℕ)) (at : ℕ) (segment
   pub words_are : length segment.words ≡ words
   pub stands : Stands (operator_lines operators) lines at next
 
--- operators' lines stand at a place among lines, they leave a part of so many words, and the line behind them is that of no operator that could go on
+-- operators' lines stand at a place among lines, they leave a part of so many words, and the line after them is that of no operator that could go on
 pub record StopsInBody (words : ℕ) (lines : List (List ℕ)) (at next : ℕ) : Type 0 where
   pub operators : List Placed
   pub end : ℕ
@@ -192,7 +192,7 @@ pub record ReadsWidth (text : List ℕ) (at width next : ℕ) : Type 0 where
   pub stands : Stands (decimal width) text at next
   pub ended : IsEnded (drop next text)
 
--- a number of 32 bits stands at a place, and this byte behind it
+-- a number of 32 bits stands at a place, and this byte after it
 pub record HasWidthBefore (text : List ℕ) (at end width next : ℕ) : Type 0 where
   pub fits : width < 2 ^ 32
   pub stands : Stands (decimal width) text at next
@@ -202,13 +202,13 @@ pub record HasWidthBefore (text : List ℕ) (at end width next : ℕ) : Type 0 w
 abbrev pub HasNoWidth : List ℕ → ℕ → ℕ → Type 0
 HasNoWidth text at end = (width : ℕ) (rest : List ℕ) → width < 2 ^ 32 → drop at text ≡ decimal width ++ end ∷ rest → ⊥
 
--- bytes of texts and a quote behind them stand at a place, the quote at the other
+-- bytes of texts and a quote after them stand at a place, the quote at the other
 pub record ReadsQuoted (text : List ℕ) (at : ℕ) (quoted : List ℕ) (end : ℕ) : Type 0 where
   pub bytes : All IsTextByte quoted
   pub stands : Stands quoted text at end
   pub quote : HasByte 34 text end
 
--- and behind the quote stands what ends a phrase
+-- and after the quote stands what ends a phrase
 abbrev pub ReadsText : List ℕ → ℕ → List ℕ → ℕ → Type 0
 ReadsText text at quoted end = ReadsQuoted text at quoted end × IsEnded (drop (end + 1) text)
 
@@ -220,7 +220,7 @@ IsNoHead line number = (words : ℕ) → IsWordCount words → line ≡ segment_
 abbrev pub IsNoFormat : List ℕ → ℕ → Type 0
 IsNoFormat line number = (format : Format) → IsFormat format → line ≡ format_line (number, format) → ⊥
 
--- the lines of segments stand first, and at the place behind them no head line of a further one
+-- the lines of segments stand first, and at the place after them no head line of a further one
 pub record ReadsSegments (lines : List (List ℕ)) (segments : List Segment) (at : ℕ) : Type 0 where
   pub within : at ≤ length lines
   pub listed : SegmentsText 0 segments (take at lines)
@@ -231,7 +231,7 @@ pub record ReadsFormats (lines : List (List ℕ)) (at : ℕ) (formats : List For
   pub are : All IsFormat formats
   pub listed : drop at lines ≡ format_lines formats
 
--- the lines of formats stand at a place, and behind them one that is no line of a further one
+-- the lines of formats stand at a place, and after them one that is no line of a further one
 pub record StopsInFormats (lines : List (List ℕ)) (at next : ℕ) : Type 0 where
   pub formats : List Format
   pub are : All IsFormat formats

@@ -10,7 +10,7 @@ use b67_listing::listing;
 use b67_segment::{Builder, Code, Segment};
 use std::alloc::{AllocError, Global};
 
-/// The segment of so many words whose operators' lines stand at a place, and the place behind them.
+/// The segment of so many words whose operators' lines stand at a place, and the place after them.
 pub fn read_body(
     alloc: Global,
     lines: &[Line],

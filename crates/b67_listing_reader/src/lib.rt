@@ -43,7 +43,7 @@ pub fn read_listing(alloc: Global, lines: &[Line]) -> Result<Code, ReadListing>
     })
 }
 
-/// The segments whose lines stand first, and the place behind them, where no further segment begins.
+/// The segments whose lines stand first, and the place after them, where no further segment begins.
 fn read_segments(alloc: Global, lines: &[Line]) -> Result<(Vec<Segment>, usize), ReadListing>
     requires { length lines.now < 2 ^ 32 - 1 }
     ensures read { IfOk result (λ found. ReadsSegments lines.now found.0.items found.1) }

@@ -18,8 +18,8 @@ pub struct Told {
     pub width: usize,
 }
 
-/// Appends the operators that the lines from a place on tell, as far as each stands behind the one before and they are
-/// no more than so many syllables, and answers the place of the line behind theirs.
+/// Appends the operators that the lines from a place on tell, as far as each stands after the one before and they are
+/// no more than so many syllables, and answers the place of the line after theirs.
 pub fn read_operators(
     alloc: Global,
     lines: &[Line],
@@ -49,7 +49,7 @@ pub fn read_operators(
 }
 
 /// What a line tells of the operator whose line it is, where one at this place has it: of its level and its syllables
-/// alone. Where the rest of the line is another, it is that of none.
+/// only. Where the rest of the line is another, it is that of none.
 fn read_operator(alloc: Global, line: &[u8], place: u16) -> Result<Option<Told>, AllocError>
     ensures tells { IfOk result (λ told. MatchOption told (TellsNone line.now place) (λ told. Tells line.now place told)) }
     ensures short { IfOk result (λ told. IfSome told (λ told. told.width ≤ 12)) }
@@ -74,7 +74,7 @@ fn read_operator(alloc: Global, line: &[u8], place: u16) -> Result<Option<Told>,
     }))
 }
 
-/// The level in an operator's line, from the outer block's to the deepest, and what stands behind it and a blank.
+/// The level in an operator's line, from the outer block's to the deepest, and what stands after it and a blank.
 fn level_part(line: &[u8]) -> Option<(u8, &[u8])>
     ensures value { MatchOption result (level_part line.now ≡ None) (λ found. level_part line.now ≡ Some (found.0, found.1.now)) }
     ensures least { IfSome result (λ found. OUTER_LEVEL ≤ found.0) }

@@ -35,7 +35,7 @@ pub fn read_format(alloc: Global, number: usize, line: &[u8]) -> Result<Option<F
     }
 }
 
-/// The phrases that stand at a place, with commas between them and a bracket behind the last one, with which the text
+/// The phrases that stand at a place, with commas between them and a bracket after the last one, with which the text
 /// ends. Where there are none such, there is no answer.
 fn read_phrases(alloc: Global, text: &[u8], at: usize) -> Result<Option<Vec<Phrase>>, AllocError>
     requires { at ≤ length text.now }
@@ -64,7 +64,7 @@ fn read_phrases(alloc: Global, text: &[u8], at: usize) -> Result<Option<Vec<Phra
     Ok(None)
 }
 
-/// The place where a phrase begins: the first one at this place, another behind the comma that stands there.
+/// The place where a phrase begins: the first one at this place, another after the comma that stands there.
 fn phrase_place(text: &[u8], at: usize, first: bool) -> Option<usize>
     requires { at < length text.now }
     ensures { MatchOption result ((first ≡ false) × (HasByte 44 text.now at → ⊥)) (λ begin.
@@ -97,7 +97,7 @@ fn read_phrase(alloc: Global, text: &[u8], at: usize) -> Result<Option<(Phrase, 
     }
 }
 
-/// The text that stands at a place before a quote and what ends a phrase, and the place behind the quote.
+/// The text that stands at a place before a quote and what ends a phrase, and the place after the quote.
 fn read_text(alloc: Global, text: &[u8], at: usize) -> Result<Option<(Phrase, usize)>, AllocError>
     requires { at ≤ length text.now }
     ensures { IfOk result (λ found. MatchOption found
@@ -113,7 +113,7 @@ fn read_text(alloc: Global, text: &[u8], at: usize) -> Result<Option<(Phrase, us
     }
 }
 
-/// The place of the quote behind the text that stands at a place, where what ends a phrase stands behind the quote.
+/// The place of the quote after the text that stands at a place, where what ends a phrase stands after the quote.
 fn text_end(text: &[u8], at: usize) -> Option<usize>
     requires { at ≤ length text.now }
     ensures { MatchOption result ((quoted : List ℕ) (end : ℕ) → ReadsText text.now at quoted end → ⊥)

@@ -1,4 +1,4 @@
--- An operator is read from the word that it begins in and the word after it alone.
+-- An operator is read from the word that it begins in and the word after it only.
 use Rattle.std.proofs.Common.{◌≡◌, ℕ, ◌+◌, ◌-◌, ◌%◌, ◌≤◌, List, ◌++◌, take, drop, Result, Ok, Err, refl, sym, ap, ◌∙◌, inl, inr, arith, append_assoc, length-take, cond, ltb, Bool, true, false}
 use Rattle.std.proofs.lemmas.Bool.{cases_lt}
 use Rattle.std.proofs.lemmas.List.{take_all, take-append-drop, drop-take, drop-drop, get_or-take, get_or_past}

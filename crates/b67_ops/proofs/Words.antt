@@ -2,7 +2,7 @@
 use Rattle.std.proofs.Common.{◌≡◌, ℕ, ◌+◌, ◌≤◌, List, [], ◌∷◌, ◌++◌, take, replicate, refl, ap, one-add, append_assoc}
 use Rattle.std.proofs.lemmas.List.{take-replicate}
 
--- so many zeros behind a code
+-- so many zeros after a code
 pub code_and_zeros : (code count : ℕ) → count ≤ 5 → take (1 + count) (code ∷ 0 ∷ 0 ∷ 0 ∷ 0 ∷ 0 ∷ []) ≡ code ∷ replicate count 0
 code_and_zeros code count h = rw one-add (ap (λ xs. code ∷ xs) (take-replicate count 5 0 h))
 

@@ -29,7 +29,7 @@ pub enum Intrinsic {
     Reset,
     /// Tells whether an event has happened.
     Happened,
-    /// Takes an event for this process alone.
+    /// Takes an event for this process only.
     Procure,
     /// Gives such an event to the next process.
     Liberate,

@@ -64,7 +64,7 @@ module _ (p : ℕ) where
   array_made_does (two m n) next img =
       rows_made_does m (least_free img.rows) 0 n (next (array_word true m (least_free img.rows))) (with_rows img (row_opened img.rows (zero_row m false)))
 
-  -- the descriptors come behind those that are made already
+  -- the descriptors come after those that are made already
   pub arrays_made_do : (k : ℕ) (e : Extents) (made : List Word) (next : List Word → Change) (img : Image) →
       changed p (arrays_made k e made next) img ≡ changed p (next (made ++ arrays_descriptors k e img.rows)) (with_rows img (arrays_rows k e img.rows))
   arrays_made_do zero e made next img = ap (λ (ws : List Word). changed p (next ws) img) (sym (append-nil made))

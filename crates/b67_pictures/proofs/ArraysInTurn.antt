@@ -32,7 +32,7 @@ made_long (d ∷ ds) (c ∷ cells) (a ∷ as') (w ∷ ws) made =
     let rest = made_long ds cells as' ws made.1 in
     (ap suc rest.0, ap suc rest.1, ap suc rest.2)
 
--- arrays behind others
+-- arrays after others
 pub made_both : (ds : List DeclaredArray) (cells : List NamedCell) (as' : List Allotted) (ws : List Word) (es : List DeclaredArray) (more : List NamedCell) (bs : List Allotted) (vs : List Word) → AreMade ds cells as' ws → AreMade es more bs vs →
     AreMade (ds ++ es) (cells ++ more) (as' ++ bs) (ws ++ vs)
 made_both [] [] [] [] es more bs vs made others = others

@@ -58,7 +58,7 @@ pub cells_added : (w : World) (i : ℕ) (x : Instance) (cells : List NamedCell) 
     (add_cells w i cells).instances ≡ set_numbered w.instances i (record x { cells = x.cells ++ cells })
 cells_added w i x cells is = ap (λ (o : Option Instance). set_numbered w.instances i (record (or_no_instance o) { cells = (or_no_instance o).cells ++ cells })) is
 
--- An instance makes arrays of these names, which its block declares behind those that the instance has made: their sizes are right, and
+-- An instance makes arrays of these names, which its block declares after those that the instance has made: their sizes are right, and
 -- there is room for their elements.
 pub record Makes (sc : Scopes) (w : World) (lay : Layout) (i : ℕ) (kind : Kind) (ns : List Named) (pairs : List PPair) (bs : List Bounds) : Type 0 where
   pub instance : Instance
@@ -78,7 +78,7 @@ pub record Makes (sc : Scopes) (w : World) (lay : Layout) (i : ℕ) (kind : Kind
   pub right : has_wrong_size bs ≡ false
   pub room : has_no_room w bs ns ≡ false
 
--- what is allotted to new arrays behind these rows, and their descriptors
+-- what is allotted to new arrays after these rows, and their descriptors
 abbrev pub allotted_new : List Named → List Bounds → Rows → List Allotted
 allotted_new ns bs rows = arrays_allotted (length ns) (extents_of bs) rows
 

@@ -1,4 +1,4 @@
--- The making of arrays: ENTR on ARRAYS, behind which PUSH makes cells of the descriptors; or a fault.
+-- The making of arrays: ENTR on ARRAYS, after which PUSH makes cells of the descriptors; or a fault.
 use Rattle.std.proofs.Common.{◌≡◌, ◌≢◌, ◌⊎◌, inl, inr, refl, sym, ap, ◌∙◌, subst, ℕ, ◌+◌, ◌<◌, ◌≤◌, List, [], ◌∷◌, ◌++◌, length, Option, Some, None, Ok, Bool, true, false, arith, length-append}
 use Rattle.std.specs.Prelude.{if◌then◌else◌}
 use Rattle.std.proofs.lemmas.List.{length-reverse, reverse-reverse}
@@ -179,7 +179,7 @@ module _ (tree : PProgram) (code : Code) (texts : ℕ → List Placed) (nested :
           ∙ ap (λ (o : Option Instance). record { action = MakeArrays; world = with_process (with_instance w part.instance (record (or_no_instance o) { cells = (or_no_instance o).cells ++ new_arrays kind bs ns })) p q'; released = []; started = None })
           s.stands.frame.framed.is
 
-      -- ---- the core behind the entry
+      -- ---- the core after the entry
 
       abbrev rows_img : Image
       rows_img = with_rows img (rows_after ns bs img.rows)

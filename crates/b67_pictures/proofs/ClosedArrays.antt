@@ -88,7 +88,7 @@ module _ (sc : Scopes) (w : World) (lay : Layout) (img : Image) (are : ArraysAre
     fewer : Fewer rows after (rows_of_cells cells) (size_of_cells cells)
     keeps : (n : ℕ) → ((number j : ℕ) → HasRow sc w lay i number j n → ⊥) → row_at after n ≡ row_at img.rows n
 
-  -- one array, and then those behind it
+  -- one array, and then those after it
   one_more : (d : DeclaredArray) (c : NamedCell) (a : Allotted) (word : Word) (cells : List NamedCell) (words : List Word) (k : ℕ) (rows : Rows) (made : IsMade d c a word) →
       ((n : ℕ) → IsNone k n → row_at rows n ≡ row_at img.rows n) → HasArray sc w lay i k d made.cell a →
       (((n : ℕ) → IsNone (k + 1) n → row_at (without_array rows a) n ≡ row_at img.rows n) → Closes (without_array rows a) cells words) → Closes rows (c ∷ cells) (word ∷ words)

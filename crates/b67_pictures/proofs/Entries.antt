@@ -210,7 +210,7 @@ module _ (tree : PProgram) (code : Code) (texts : ℕ → List Placed) (nested :
 
     -- ---- what control words hold
 
-    -- the place behind the entry can be held
+    -- the place after the entry can be held
     pub returns : next < end_of_code
     returns =
         let within : next ≤ 6 * length s.stands.there.segment.words =

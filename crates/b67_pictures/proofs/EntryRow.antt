@@ -42,7 +42,7 @@ use Rattle.std.proofs.lemmas.List.{reverse-append, length-reverse}
 fewer_is : (m n : ℕ) → m < n → nat_lt m n ≡ true
 fewer_is m n h = grind (arith, nat_tests)
 
--- another word behind so many
+-- another word after so many
 set-over : (front back : List Word) (k n : ℕ) (x : Word) → n ≡ length front + k → slice_set (front ++ back) n x ≡ front ++ slice_set back k x
 set-over [] back k n x e = let e' : n ≡ k = omega (arith, e) in ap (λ (m : ℕ). slice_set back m x) e'
 set-over (y ∷ front) back k zero x e = absurd (omega (arith, e))

@@ -115,7 +115,7 @@ module _ (tree : PProgram) (code : Code) (texts : ℕ → List Placed) (nested :
     pub comes : ComesTo sc (context_of code sc j) (texts (segment_of sc.blocks j)) (level_of (block_numbered sc.blocks j)) (most_around tree j) (settle_items sc (items_of (block_numbered sc.blocks j))) start []
     pub small : length (procedures (block_numbered sc.blocks j).decls) ≤ 4 * tokens_around tree j
 
-  -- behind the entry the part around goes on, once the value that is wanted was given
+  -- after the entry the part around goes on, once the value that is wanted was given
   pub record GoesOnBehind (next : ℕ) (waiting : List Slot) (j : ℕ) : Type 0 where
     pub unmade : left_to_make part.rest ≡ to_make part.rest
     pub waits : ask (resume sc part.rest entered) ≡ nothing
@@ -151,7 +151,7 @@ module _ (tree : PProgram) (code : Code) (texts : ℕ → List Placed) (nested :
     abbrev segments : List ℕ
     segments = control_segments sc b.decls
 
-    -- what was given, and behind it zeros
+    -- what was given, and after it zeros
     abbrev arguments : List Word
     arguments = entries.arguments tree code texts nested short w lay img p q part outer bound core s wanted gs slot next waiting h j begin e
 

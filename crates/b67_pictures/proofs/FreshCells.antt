@@ -19,7 +19,7 @@ use Rattle.b67_pictures.specs.Frames.{CellsAre}
 use Rattle.b67_pictures.proofs.Formals.{LeadAll, lead_both, kinds_lead}
 use Rattle.b67_pictures.proofs.Zeros.{zero_word, block_zeros, HaveKinds, block_kinds}
 
--- cells behind others
+-- cells after others
 cells_both : (ss : List Simple) (cells : List NamedCell) (ws : List Word) (ss' : List Simple) (cells' : List NamedCell) (ws' : List Word) → CellsAre ss cells ws → CellsAre ss' cells' ws' →
     CellsAre (ss ++ ss') (cells ++ cells') (ws ++ ws')
 cells_both [] [] [] ss' cells' ws' a b = b
@@ -29,11 +29,11 @@ cells_both (s ∷ ss) [] ws ss' cells' ws' a b = absurd a
 cells_both (s ∷ ss) (c ∷ cells) [] ss' cells' ws' a b = absurd a
 cells_both (s ∷ ss) (c ∷ cells) (w ∷ ws) ss' cells' ws' a b = (a.0, a.1, cells_both ss cells ws ss' cells' ws' a.2 b)
 
--- those of the parameters, and behind them those of 0
+-- those of the parameters, and after them those of 0
 pub cells_joined : (sc : Scopes) (b : Block) → simple_cells sc b ≡ cells.parameter_cells sc b ++ zero_cells b
 cells_joined sc b = append_assoc (cells.parameter_cells sc b) (cells.result_of b.result b.name) (cells.variables b.decls)
 
--- behind the cells of the parameters they are as many zeros as its code pushes
+-- after the cells of the parameters they are as many zeros as its code pushes
 pub fresh_are : (sc : Scopes) (b : Block) (given : List Cell) (ws : List Word) → CellsAre (cells.parameter_cells sc b) (instances.parameter_cells b.parameters given) ws →
     CellsAre (simple_cells sc b) (fresh_cells b given) (ws ++ replicate (length (zero_cells b)) zero_word)
 fresh_are sc b given ws are =

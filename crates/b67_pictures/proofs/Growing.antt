@@ -1,4 +1,4 @@
--- The world in which an instance is made, and where the code behind an entry ends.
+-- The world in which an instance is made, and where the code after an entry ends.
 use Rattle.std.proofs.Common.{◌≡◌, sym, ap, ◌∙◌, ℕ, zero, suc, ◌+◌, ◌*◌, ◌≤◌, List, [], ◌∷◌, ◌++◌, length, Option, Some, None, arith, length-append}
 use Rattle.b67_list.specs.Numbered.{numbered}
 use Rattle.algol_tree.specs.declared.tree.Kind.{Kind}

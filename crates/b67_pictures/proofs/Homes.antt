@@ -46,7 +46,7 @@ operator_there sc known code ps level pc slots core op next at has =
     ∙ ap (λ (l : ℕ). fetched code (record { segment = core.registers.segment; place = pc }) l) at.level_is
     ∙ fetched-spelled code core.registers.segment at.there at.spells has
 
--- so far behind a front
+-- so far after a front
 pub get-behind : {A : Type 0} (front back : List A) (k n : ℕ) → n ≡ length front + k → slice_get (front ++ back) n ≡ slice_get back k
 get-behind [] back k n e = let same : n ≡ k = omega (arith, e) in ap (slice_get back) same
 get-behind (x ∷ front) back k n e =

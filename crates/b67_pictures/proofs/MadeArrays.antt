@@ -1,4 +1,4 @@
--- The cells of simple variables, and the arrays that are made behind them: which of them a name means.
+-- The cells of simple variables, and the arrays that are made after them: which of them a name means.
 use Rattle.std.proofs.Common.{◌≡◌, refl, sym, ap, ◌∙◌, subst, ℕ, zero, suc, ◌+◌, ◌<◌, ◌≤◌, List, [], ◌∷◌, ◌++◌, length, Option, Some, None, Bool, true, false, arith}
 use Rattle.std.specs.Prelude.{slice_get, slice_set, if◌then◌else◌, map}
 use Rattle.algol_tree.specs.declared.tree.Kind.{Kind}
@@ -16,7 +16,7 @@ use Rattle.b67_pictures.specs.Frames.{CellIs, CellsAre}
 
 -- ---- lists
 
--- so far behind a front
+-- so far after a front
 pub get_past : {A : Type 0} (front back : List A) (k n : ℕ) → n ≡ length front + k → slice_get (front ++ back) n ≡ slice_get back k
 get_past [] back k n e = let same : n ≡ k = omega (arith, e) in ap (slice_get back) same
 get_past (x ∷ front) back k zero e = absurd (omega (arith, e))
@@ -40,7 +40,7 @@ as_many_values (s ∷ ss) [] ws are = absurd are
 as_many_values (s ∷ ss) (c ∷ cells) [] are = absurd are
 as_many_values (s ∷ ss) (c ∷ cells) (w ∷ ws) are = ap suc (as_many_values ss cells ws are.2)
 
--- a name of none of these cells means what it means among those behind them
+-- a name of none of these cells means what it means among those after them
 pub record IsPast (cells : List NamedCell) (name : List ℕ) : Type 0 where
   pub found : (more : List NamedCell) → cell_in (cells ++ more) name ≡ cell_in more name
   pub changed : (more : List NamedCell) (c : Cell) → cells_with (cells ++ more) name c ≡ cells ++ cells_with more name c

@@ -1,4 +1,4 @@
--- The frame of a part in which arrays are made: behind its cells lie their descriptors.
+-- The frame of a part in which arrays are made: after its cells lie their descriptors.
 use Rattle.std.proofs.Common.{◌≡◌, ◌≢◌, refl, sym, ap, ◌∙◌, subst, ℕ, suc, ◌+◌, ◌*◌, ◌<◌, ◌≤◌, List, [], ◌∷◌, ◌++◌, length, Option, Some, Bool, false, arith, append_assoc, length-append}
 use Rattle.std.specs.Prelude.{if◌then◌else◌}
 use Rattle.b67_list.specs.Numbered.{numbered}
@@ -190,7 +190,7 @@ module _ (tree : PProgram) (code : Code) (texts : ℕ → List Placed) (nested :
       s.stands.chained up low
       ∙ ap (λ (j : ℕ). numbered lay.places j) (same_ancestors w w' (λ j. same_of w i x framed.is cells' (λ (z : Instance). z.parent) refl j) up i)
 
-  -- ---- the frame, with the descriptors behind its cells
+  -- ---- the frame, with the descriptors after its cells
 
   module _ (dimensions : AreDimensions pairs) (each : length vs ≡ length pairs) (right : has_wrong_size bs ≡ false) (room : has_no_room w bs ns ≡ false) where
     abbrev making : Makes sc w lay i kind ns pairs bs

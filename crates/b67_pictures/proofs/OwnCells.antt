@@ -197,7 +197,7 @@ module _ (sc : Scopes) (w : World) (lay : Layout) where
         subst (λ (b : Allotted). HasArray sc w lay i of.number declared cell b) known.2
         (subst (λ (c : ArrayCell). HasArray sc w lay i of.number declared c known.0.allotted) known.1 known.0.has)
 
-    -- its descriptor lies behind the control words
+    -- its descriptor lies after the control words
     pub descriptor_lies : (name : List ℕ) (number : ℕ) (declared : DeclaredArray) (found : OwnArray i x own name number declared) (level : ℕ) (segments : List ℕ) →
         slice_get (own.values ++ (control_words level segments ++ own.descriptors)) (length (simple_cells sc (block_numbered sc.blocks x.block)) + length segments + number) ≡ Some found.word
     descriptor_lies name number declared found level segments =

@@ -232,7 +232,7 @@ module _ (tree : PProgram) (code : Code) (program : ProgramAt code tree) (nested
       ∙ ap (λ (k : ℕ). Some (pcw_word (code_at (segment_of sc.blocks k) 0 (level_of (block_numbered sc.blocks u) + 1)))) named.callee_is
       ∙ ap (λ (l : ℕ). Some (pcw_word (code_at (segment_of sc.blocks callee) 0 l))) (sym level_new)
 
-  -- it lies behind the values, before the descriptors of arrays
+  -- it lies after the values, before the descriptors of arrays
   cells_lie : slice_get lies.frame.cells far ≡ Some (pcw_word c)
   cells_lie =
       ap (λ (ws : List Word). slice_get ws far) lies.frame.framed.cells_is

@@ -1,4 +1,4 @@
--- Before its action a process has plain operators alone; where its core is settled, its operator is its action. On the way there, or
+-- Before its action a process has plain operators only; where its core is settled, its operator is its action. On the way there, or
 -- there, it may come to the stack limit.
 use Rattle.std.proofs.Common.{◌≡◌, ◌⊎◌, inl, inr, refl, sym, ◌∙◌, subst, ℕ, ◌<◌, ◌≤◌, List, Some, true, false, arith}
 use Rattle.b67_list.specs.Numbered.{numbered}

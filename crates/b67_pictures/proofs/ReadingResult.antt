@@ -57,7 +57,7 @@ same_itself : (name : List ℕ) → same_name name name ≡ true
 same_itself [] = refl
 same_itself (x ∷ xs) = ap (λ (t : Bool). t && same_name xs xs) (itself x) ∙ same_itself xs
 
--- what is not found among the first cells is found behind them
+-- what is not found among the first cells is found after them
 found_behind : (from : ℕ) (ss others : List Simple) (name : List ℕ) (f : Found) → found_from from ss name ≡ None → found_from (from + length ss) others name ≡ Some f → found_from from (ss ++ others) name ≡ Some f
 found_behind from [] others name f none e = subst (λ (n : ℕ). found_from n others name ≡ Some f) (omega arith) e
 found_behind from (s ∷ ss) others name f none e = by_name (same_name s.name name) none (λ h. found_behind (from + 1) ss others name f h (subst (λ (n : ℕ). found_from n others name ≡ Some f) (omega arith) e))
@@ -67,7 +67,7 @@ found_behind from (s ∷ ss) others name f none e = by_name (same_name s.name na
     by_name true h later = cc
     by_name false h later = later h
 
--- the result comes first behind the cells of the parameters
+-- the result comes first after the cells of the parameters
 result_found : (sc : Scopes) (b : Block) (kind : Kind) → found_from 0 (parameter_cells sc b) b.name ≡ None → b.result ≡ Some kind →
     found_from 0 (simple_cells sc b) b.name ≡ Some (record { number = length (parameter_cells sc b); cell = record { name = b.name; kind = Some kind; shape = None } })
 result_found sc b kind apart typed =

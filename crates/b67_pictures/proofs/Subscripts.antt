@@ -273,7 +273,7 @@ in_others s lows is b low dimension z there some few =
     ∙ sym (ap (λ (t : Sort). placed b (moved_by_sort t (Some b) dimension z)) is ∙ ap (λ (o : Option ℤ). placed b (moved_to (Some b) o z)) there)
 
 module _ (s : Sort) (cell : ArrayCell) (sized : AreSized cell.bounds) where
-  -- the place of a subscript behind so many
+  -- the place of a subscript after so many
   abbrev At : List Bounds → List ℕ → ℤ → Option ℕ
   At bs ks z = placed_in (slice_get bs (length ks)) (moved_by_sort s (slice_get bs (length ks)) (length ks) z)
 

@@ -72,11 +72,11 @@ record First (far : ℕ) (words : List Word) : Type 0 where
   lies : slice_get words far ≡ Some word
   is : IsOperand word
 
--- the result and what lies behind it
+-- the result and what lies after it
 abbrev from_result : Block → Kind → List Simple
 from_result b kind = record { name = b.name; kind = Some kind; shape = None } ∷ variables b.decls
 
--- the cell behind those of the parameters is that of the result
+-- the cell after those of the parameters is that of the result
 first_value : (sc : Scopes) (b : Block) (kind : Kind) → b.result ≡ Some kind → (cells : List NamedCell) (words : List Word) → CellsAre (simple_cells sc b) cells words → First (length (parameter_cells sc b)) words
 first_value sc b kind typed cells words are = behind (parameter_cells sc b) cells words (subst (λ (ss : List Simple). CellsAre ss cells words) (cells_joined sc b ∙ ap (λ (o : Option Kind). parameter_cells sc b ++ (result_of o b.name ++ variables b.decls)) typed) are)
   where

@@ -1,4 +1,4 @@
--- What ARRAYS reads and writes: rows, and of stacks that of its process alone.
+-- What ARRAYS reads and writes: rows, and of stacks that of its process only.
 use Rattle.std.proofs.Common.{◌≡◌, ◌∙◌, inl, inr, ℕ, zero, suc, ◌+◌, ◌-◌, ◌*◌, List, [], ◌∷◌, ◌++◌, length, Option, Some, None, Bool, true, false, ℤ}
 use Rattle.std.specs.Prelude.{if◌then◌else◌, nat_le, pos, negsuc, ◌-ℤ◌}
 use Rattle.algol_tree.specs.declared.tree.Kind.{Kind}

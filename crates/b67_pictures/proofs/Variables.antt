@@ -50,7 +50,7 @@ variable_cell (s ∷ ss) (c ∷ cells) (w ∷ words) from name f are e =
           is = subst (λ (k : Cell). CellIs f.cell.kind k later.word) (sym cell_is) later.is;
         }
 
--- cells behind do not hide it
+-- cells after do not hide it
 pub cell_front : (ss : List Simple) (cells more : List NamedCell) (words : List Word) (from : ℕ) (name : List ℕ) (f : Found) → CellsAre ss cells words → found_from from ss name ≡ Some f →
     cell_in (cells ++ more) name ≡ cell_in cells name
 cell_front [] cells more words from name f are e = cc

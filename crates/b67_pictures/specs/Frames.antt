@@ -96,7 +96,7 @@ module _ (sc : Scopes) (w : World) (lay : Layout) where
     pub formals : (k : ℕ) (s : Simple) (shape : Shape) → slice_get (simple_cells sc (block_numbered sc.blocks instance.block)) k ≡ Some s → s.kind ≡ None → s.shape ≡ Some shape →
         (c : NamedCell) × (word : Word) × (r : Reference) × (slice_get simple k ≡ Some c) × (slice_get values k ≡ Some word) × (c.cell ≡ reference r)
         × LeadsTo sc w lay outer shape r word
-    -- behind them lie the control words of the block's procedures, and then the descriptors of the arrays that are made
+    -- after them lie the control words of the block's procedures, and then the descriptors of the arrays that are made
     pub arrays : List NamedCell
     pub declared : List DeclaredArray
     pub later : List DeclaredArray

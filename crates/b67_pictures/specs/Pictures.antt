@@ -29,7 +29,7 @@ innermost_most tree w [] = 0
 innermost_most tree w (part ∷ outer) = most_around tree ((instance_at w part.instance).block)
 
 module _ (tree : PProgram) (code : Code) (texts : ℕ → List Placed) (w : World) (lay : Layout) (img : Image) where
-  -- A process that is able comes by private operators alone to where its core stands for its parts. It depends on no instance, and has
+  -- A process that is able comes by private operators only to where its core stands for its parts. It depends on no instance, and has
   -- no task: that comes with PROCESS.
   pub record Living (p : ℕ) (q : Process) : Type 0 where
     pub independent : q.critical ≡ None

@@ -1,4 +1,4 @@
--- Plain operators on a private part alone.
+-- Plain operators on a private part only.
 use Rattle.std.specs.Prelude.{◌≡◌, ℕ, ◌+◌, ◌^◌, ◌<◌, ◌≤◌, Bool, true, false, length, All, Option, Some, None}
 use Rattle.b67_word.specs.declared.Place.{Place}
 use Rattle.b67_word.specs.Word.{IsWord}

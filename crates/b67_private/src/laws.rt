@@ -1,7 +1,7 @@
 // What a stretch of a private part is to its process.
 ghost use Rattle.b67_private.specs.Laws.{OperatorsAreOwn, PartsOfValid, StretchesAreOwn};
 
-/// Law: the next operator of a process is plain exactly where it is plain in the process's private part alone, and then the
+/// Law: the next operator of a process is plain exactly where it is plain in the process's private part only, and then the
 /// new image is the one before with the new part in its place.
 pub fn operators_are_own()
     ensures { OperatorsAreOwn }

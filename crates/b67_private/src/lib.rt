@@ -1,7 +1,7 @@
 //! The private operators: what each does to the private part of its process, and stretches of them.
 //!
 //! A private operator only goes forward, and reads and writes the registers and the words at the floor and above of its own
-//! process. So a processor can perform a stretch of them on a copy of the private part alone.
+//! process. So a processor can perform a stretch of them on a copy of the private part only.
 #![tactic(auto)]
 
 mod laws;

@@ -18,7 +18,7 @@ use b67_ops::{BranchKind, Operator, PlainKind};
 use b67_table::{InterruptKind, Private};
 use b67_word::{Word, make_word, operand};
 
-/// What is done to the words on top alone.
+/// What is done to the words on top only.
 #[derive(Clone, Copy)]
 pub enum TopRow {
     Negate,

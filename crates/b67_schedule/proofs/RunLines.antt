@@ -123,7 +123,7 @@ pub times_stop : (before : Option ℕ) (bytes : List ℕ) (at mid end n : ℕ) �
 times_stop before bytes at mid end n is_in st stop =
     second_stops (IsRunLine before) (IsField (numbers 1 None) line_end) (process_part n) bytes at mid end (times_lead before n is_in) st stop
 
--- runs behind runs
+-- runs after runs
 follow_on : (before : Option ℕ) (front rest : List Run) → Follow before front → Follow (last_process before front) rest → Follow before (front ++ rest)
 follow_on before [] rest a b = b
 follow_on before (run ∷ front) rest a b = (a.0, follow_on (Some run.process) front rest a.1 b)

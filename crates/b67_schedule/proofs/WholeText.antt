@@ -66,7 +66,7 @@ head = codes "SCHEDULE 1 "
 abbrev pub count_part : ℕ → List ℕ
 count_part n = decimal n ++ line_end ∷ []
 
--- behind the head stand the count and the lines
+-- after the head stand the count and the lines
 pub record IsBehindHead (text : List ℕ) : Type 0 where
   pub runs : List Run
   pub schedule : IsSchedule runs

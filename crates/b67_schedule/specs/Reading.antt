@@ -18,7 +18,7 @@ pub record IsScheduleText (text : List ℕ) : Type 0 where
 abbrev pub numbers : ℕ → Option ℕ → Numbers
 numbers least except = record { least = least; most = most; except = except }
 
--- a run that can stand behind one of this process
+-- a run that can stand after one of this process
 pub record CanFollow (before : Option ℕ) (run : Run) : Type 0 where
   pub numbers : IsRun run
   pub other : before ≢ Some run.process
@@ -29,7 +29,7 @@ pub record IsRunLine (before : Option ℕ) (text : List ℕ) : Type 0 where
   pub follows : CanFollow before run
   pub text_is : text ≡ run_line run
 
--- runs each of which can stand behind the one before it
+-- runs each of which can stand after the one before it
 abbrev pub Follow : Option ℕ → List Run → Type 0
 Follow before [] = Unit {0}
 Follow before (run ∷ runs) = CanFollow before run × Follow (Some run.process) runs

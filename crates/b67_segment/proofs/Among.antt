@@ -106,7 +106,7 @@ aimed-aside from place target (q ∷ before) after p h =
           }
     ]
 
--- a branch that is aimed leaves the operators at other places alone
+-- a branch that is aimed leaves the operators at other places only
 pub StandsAmong-aimed : {ps : List Placed} {at level : ℕ} {op : Operator} {next : ℕ} (branch target : ℕ) → at ≢ branch
     → StandsAmong ps at level op next → StandsAmong (aimed_from 0 branch target ps) at level op next
 StandsAmong-aimed {ps} {at} {level} {op} {next} branch target h s =

@@ -13,7 +13,7 @@ use Rattle.b67_segment.specs.Operators.{Placed, width, text, is_level, marks_aft
 use Rattle.b67_segment.specs.Building.{level_at, marks_left, with_first, operators_from, operators_of, Builds}
 use Rattle.b67_segment.proofs.Texts.{same-level}
 
--- marks of operators from a place on leave an earlier place alone
+-- marks of operators from a place on leave an earlier place only
 no-mark : (at next : ℕ) (level : ℕ) (before : Option ℕ) (ps : List Placed) → at < next
     → (level_at at level (marks_after next before ps) ≡ level) × (marks_left at (marks_after next before ps) ≡ marks_after next before ps)
 no-mark at next level before [] h = (refl, refl)

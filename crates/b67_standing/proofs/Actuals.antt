@@ -70,7 +70,7 @@ module _ (sc : Scopes) (level : ℕ) where
 module _ (sc : Scopes) (context : Context) (ps : List Placed) (level most : ℕ) where
   -- ---- calls
 
-  -- Here the machine stands for a call whose actuals are evaluated up to their head, or whose entry is next. Behind the entry the
+  -- Here the machine stands for a call whose actuals are evaluated up to their head, or whose entry is next. After the entry the
   -- code goes on at the place `next`.
   abbrev pub Filled : Named → ℕ → HalfGiven → ℕ → List Slot → List Slot → ℕ → Type 0
   Filled n callee (given gs) pc slots below next = CallsAt sc context ps level most n gs callee pc next slots below

@@ -50,7 +50,7 @@ module _ (sc : Scopes) (context : Context) (ps : List Placed) (level most : ℕ)
       stays_here sc context ps level most pc slots (rests.storing (element_of r ks) x k)
       (heads_ask sc context ps level most kind x pc slots (descriptor (element_held r ks kind) ∷ pend k) m s) (kind, m, next, s, h, f)
 
-  -- behind the descriptor of the element the right side begins
+  -- after the descriptor of the element the right side begins
   pub valued_next : (r : Reference) (ks : List ℕ) (kind : Kind) (e : PExpr) (k : List Item) (m q next : ℕ) → ExprAt sc context ps level kind e m q q →
       Has ps level q (ops.Plain kinds.Stod) next → Following k next → HasRoom most (pend k) (1 + depth e) →
       Coming (assigned_of (element_of r ks) (settle sc e) k) m (descriptor (element_held r ks kind) ∷ pend k)

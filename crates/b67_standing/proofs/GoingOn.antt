@@ -142,7 +142,7 @@ module _ (sc : Scopes) (context : Context) (ps : List Placed) (level most : ℕ)
 
   -- ---- parts inside
 
-  -- behind the entry a result is dropped, and what comes after goes on
+  -- after the entry a result is dropped, and what comes after goes on
   dropped : (o : Option Kind) (a : Answer) (k : List Item) (next u at : ℕ) (left : List Slot) → DroppedAt sc context ps level o next u → Gives o a → at ≡ next → left ≡ pend k →
       Following k u → Coming (settle_items sc k) at (pushed a left)
   dropped None rests.done k next u at left d fits e l follows = next_at sc context ps level most k (settle_items sc k) u at left (e ∙ d) l (items_at sc context ps level most k u follows)

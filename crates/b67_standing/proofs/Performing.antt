@@ -84,7 +84,7 @@ module _ (sc : Scopes) (context : Context) (ps : List Placed) (level most : ℕ)
 
   -- ---- calls
 
-  -- a mark, the reference of the procedure's control word, the actuals, behind which it is entered
+  -- a mark, the reference of the procedure's control word, the actuals, after which it is entered
   call_at : (n : Named) (es : PExprs) (f t u : ℕ) → CallStmtAt sc context ps level n es f t → Goes ps level t u → Doing (tree.call_of (tree.called n es)) f u
   call_at n es f t u h g k r follows room c =
       let entry = h.2 in

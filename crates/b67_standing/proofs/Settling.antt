@@ -1,4 +1,4 @@
--- From the start of its code an expression comes, by private operators alone, to where the machine stands for it after the silent steps.
+-- From the start of its code an expression comes, by private operators only, to where the machine stands for it after the silent steps.
 use Rattle.std.proofs.Common.{◌≡◌, refl, sym, ap, ◌∙◌, subst, ℕ, ◌≤◌, arith, Bool, true, List, [], ◌∷◌, Some}
 use Rattle.std.proofs.lemmas.List.{append-nil}
 use Rattle.algol_tree.specs.declared.tree.Kind.{Kind}
@@ -36,7 +36,7 @@ module _ (sc : Scopes) (context : Context) (ps : List Placed) (level most : ℕ)
   abbrev Coming : Kind → ℕ → List Slot → Half → List Slot → ℕ → Type 0
   Coming = Comes sc context ps level most
 
-  -- a name alone: a variable that is read, or a typed procedure that is called
+  -- a name by itself: a variable that is read, or a typed procedure that is called
   name_at : (k : Kind) (n : Named) (f t u : ℕ) → NameAt sc context ps level k n f t → Goes ps level t u → (below : List Slot) → HasRoom most below 2 →
       Coming k f below (named_of (procedure_in (sort_at sc n)) n) below u
   name_at k n f t u (reads h) g below room =

@@ -72,7 +72,7 @@ pub implication_takes : (op : Op) → is_implication op ≡ true → taken_by op
 implication_takes operators.Imp e = refl
 implication_takes _ e = cc
 
--- a variable has no action but its reading, a procedure none but its entry, and a variable's name alone is a place
+-- a variable has no action but its reading, a procedure none but its entry, and a variable's name by itself is a place
 pub variable_reads : (s : Sort) (n : Named) → is_variable s ≡ true → named_of (procedure_in s) n ≡ busy (read n)
 variable_reads sorts.variable n e = refl
 variable_reads _ n e = cc

@@ -28,7 +28,7 @@ BlocksStart =
     (sc : Scopes) (context : Context) (ps : List Placed) (level most : ℕ) (b : Block) (pc : ℕ) →
     KAt sc context ps level (items_of b) pc → decls_depth b.decls + stmts_depth b.stmts ≤ most → 1 ≤ most → ComesTo sc context ps level most (settle_items sc (items_of b)) pc []
 
--- so it does from the arrays and the statements of an inner block, behind which its EXIT stands
+-- so it does from the arrays and the statements of an inner block, after which its EXIT stands
 abbrev pub InnerBlocksStart : Type 0
 InnerBlocksStart =
     (sc : Scopes) (context : Context) (ps : List Placed) (level most : ℕ) (ds : PDecls) (ss : PStmts) (pc from end over : ℕ) →

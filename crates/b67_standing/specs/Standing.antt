@@ -97,13 +97,13 @@ abbrev pub AreWholeLows : List PPair → Type 0
 AreWholeLows [] = Unit {0}
 AreWholeLows (p ∷ pairs) = IsWhole p.low × AreWholeLows pairs
 
--- the last subscript, behind these, moved by its lower bound: it lies under the reference of the array, or the descriptor of its row
+-- the last subscript, after these, moved by its lower bound: it lies under the reference of the array, or the descriptor of its row
 abbrev pub IsLast : Named → Couple → List ℤ → List ℕ → ℤ → List Slot → List Slot → Type 0
 IsLast n c (low ∷ []) [] i slots below = slots ≡ reference c ∷ operand (number (moved low i)) ∷ below
 IsLast n c (low ∷ low' ∷ []) (k ∷ []) i slots below = slots ≡ descriptor (row n (k ∷ [])) ∷ operand (number (moved low' i)) ∷ below
 IsLast n c _ _ i slots below = ⊥
 
--- a subscript behind the others
+-- a subscript after the others
 abbrev pub IsNext : List ℕ → List ℕ → Type 0
 IsNext ks more = (k : ℕ) × (more ≡ ks ++ k ∷ [])
 
@@ -142,7 +142,7 @@ module _ (sc : Scopes) (context : Context) (ps : List Placed) (level most : ℕ)
     pub lies : slots ≡ operand w ∷ operand (ready op v) ∷ below
     pub stands : Has ps level pc (ops.Plain (operator_for op)) next
 
-  -- the number of a statement of CASE, how many there are, and their table, which begins behind the entry
+  -- the number of a statement of CASE, how many there are, and their table, which begins after the entry
   pub record SelectAt (v : Value) (ss : PStmts) (pc table : ℕ) (slots below : List Slot) : Type 0 where
     pub fits : HasKind types.Number v
     pub many : IsWhole (pos (stmts_count ss))
@@ -229,7 +229,7 @@ module _ (sc : Scopes) (context : Context) (ps : List Placed) (level most : ℕ)
     of_row : (low second : ℤ) (next : ℕ) (below : List Slot) → RowIndexAt n ks v low second pc next slots below → IndexesAt n ks v pc slots
     of_element : (kind : Kind) (next : ℕ) (below : List Slot) → ElementIndexAt n ks v kind pc next slots below → IndexesAt n ks v pc slots
 
-  -- The head is in a subscript, behind these, before those; `holds` is where its value is to lie, and from which place on. At the place `to`
+  -- The head is in a subscript, after these, before those; `holds` is where its value is to lie, and from which place on. At the place `to`
   -- the last subscript is moved.
   abbrev pub Seeks : (List Slot → ℕ → Type 0) → Named → Couple → List ℤ → List ℕ → PExprs → List Slot → ℕ → Type 0
   Seeks holds n c (low ∷ []) [] tree.none below to =
@@ -321,7 +321,7 @@ module _ (sc : Scopes) (context : Context) (ps : List Placed) (level most : ℕ)
     pub lies : slots ≡ operand v ∷ descriptor (element_held r ks kind) ∷ below
     pub stands : Has ps level pc (ops.Plain kinds.Stod) next
 
-  -- The bounds lie on the number of arrays, with nothing below: behind the entry PUSH makes cells of the descriptors. There is one at least,
+  -- The bounds lie on the number of arrays, with nothing below: after the entry PUSH makes cells of the descriptors. There is one at least,
   -- and no more than there may be words.
   pub record MakesAt (ns : List Named) (pairs : List PPair) (vs : List Value) (pc next : ℕ) (slots : List Slot) : Type 0 where
     pub dimensions : AreDimensions pairs
@@ -341,7 +341,7 @@ module _ (sc : Scopes) (context : Context) (ps : List Placed) (level most : ℕ)
   WhileAt c b f m t u =
       (m' : ℕ) × (n : ℕ) × ExprAt sc context ps level types.Truth c f m m × BranchAt ps level Brfl m u m' × StmtAt sc context ps level b m' n n × TurnAt ps level n f t
 
-  -- FOR behind its test, which begins at q: the body, the step, the turn
+  -- FOR after its test, which begins at q: the body, the step, the turn
   abbrev pub RoundAt : Loop → ℕ → ℕ → ℕ → Type 0
   RoundAt loop q n t =
       (w : ℕ) × (x : ℕ) × StmtAt sc context ps level loop.body n w w × StmtAt sc context ps level (stepped loop) w x x × TurnAt ps level x q t
@@ -476,14 +476,14 @@ module _ (sc : Scopes) (context : Context) (ps : List Placed) (level most : ℕ)
   Acted (writes phrases vs) pc slots a done at after = (at ≡ a.0) × (after ≡ a.1)
   Acted _ pc slots a _ at after = ⊥
 
-  -- where the machine goes on behind the entry of a part inside, what lies there, and the kind of the value that is wanted of it
+  -- where the machine goes on after the entry of a part inside, what lies there, and the kind of the value that is wanted of it
   abbrev pub Entered : (q : Ask) (pc : ℕ) (slots : List Slot) → ActionAt q pc slots → ℕ → List Slot → Option Kind → Type 0
   Entered (enters_block (tree.body spot ds ss)) pc slots a at after wanted = (at ≡ a.0) × (after ≡ a.1) × (wanted ≡ None)
   Entered (enters n gs) pc slots a at after wanted = (at ≡ a.1) × (after ≡ a.2) × (wanted ≡ (block_numbered sc.blocks a.0).result)
   Entered _ pc slots a at after wanted = ⊥
 
   -- The head's action stands at this place. Whatever it answers, the machine then comes to where it stands for what is left. Where a part
-  -- inside was entered, it does so behind the entry once that has left with what is wanted of it.
+  -- inside was entered, it does so after the entry once that has left with what is wanted of it.
   pub record GoesOn (r : Rest) (pc : ℕ) (slots : List Slot) : Type 0 where
     pub action : ActionAt (ask r) pc slots
     pub answered : (a : Answer) (at : ℕ) (after : List Slot) → Acted (ask r) pc slots action a at after → ComesTo (resume sc r a) at after

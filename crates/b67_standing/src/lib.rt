@@ -2,7 +2,7 @@
 //! actions.
 //!
 //! What a part of a process has still to do ends at a head, whose action comes next. For each such rest `specs/Standing.antt` says at
-//! which place of the code the machine then is, and what lies above the floor of the frame there. By the laws private operators alone
+//! which place of the code the machine then is, and what lies above the floor of the frame there. By the laws private operators only
 //! lead from one head to the next, as the silent steps of the meaning do.
 #![tactic(auto)]
 
@@ -18,7 +18,7 @@ pub fn items_stand()
 {}
 
 /// Law: wherever the machine stands for a rest whose head asks for an action, the operator of that action stands there, with what it takes.
-/// From where that leaves the machine, with any answer, private operators lead to where it stands for what is left after that answer. Behind
+/// From where that leaves the machine, with any answer, private operators lead to where it stands for what is left after that answer. After
 /// the entry of a part inside they do so once that part has left with what is wanted of it.
 pub fn rests_go_on()
     ensures { RestsGoOn }

@@ -39,7 +39,7 @@ use Rattle.b67_table.proofs.OwnStep.{Registered, cut_is, lower_valid}
 use Rattle.b67_table.proofs.Simple.{Ends, ends_own, moved_valid}
 use Rattle.b67_table.proofs.Closing.{same_self, Goes, frame_goes, caused_ends}
 
--- ---- the pointer alone
+-- ---- the pointer only
 
 pub pointed_valid : (code : Code) (i : Image) (p : ℕ) (r : Registers) → IsValid code i → is_live (numbered i.states p) ≡ true → numbered i.regs p ≡ Some r → (place : ℕ)
     → place < 2 ^ 16 → IsValid code (with_registers i p (record r { place = place }))

@@ -1,4 +1,4 @@
--- A look at stacks, as a test of an image: what the calls on stacks alone find, a program of the table is told.
+-- A look at stacks, as a test of an image: what the calls on stacks only find, a program of the table is told.
 use Rattle.std.proofs.Common.{◌≡◌, refl, Result, Ok, Err}
 use Rattle.b67_table.specs.declared.InterruptKind.{InterruptKind}
 use Rattle.b67_table.specs.Effect.{Effect, gives, faults, interrupts}

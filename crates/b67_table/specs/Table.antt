@@ -25,7 +25,7 @@ abbrev pub class_by : Row → Class
 class_by (private_part change) = classes.Private
 class_by (action program) = classes.Action
 
--- A private operator only goes forward, and reads and writes the private part of its own process alone.
+-- A private operator only goes forward, and reads and writes the private part of its own process only.
 unfoldable pub class_at : Operator → ℕ → Class
 class_at op place = class_by (row op place)
 

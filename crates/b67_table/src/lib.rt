@@ -55,7 +55,7 @@ pub enum ProcessState {
 /// The class of an operator at its place.
 #[derive(Clone, Copy, PartialEq, Eq, Debug)]
 pub enum Class {
-    /// It only goes forward, and reads and writes the private part of its own process alone.
+    /// It only goes forward, and reads and writes the private part of its own process only.
     Private,
     /// Every other operator.
     Action,

@@ -122,7 +122,7 @@ abbrev pub zero_cells : Block → List Simple
 zero_cells b = result_of b.result b.name ++ variables b.decls
 
 -- At this level the name is that of the procedure whose block has this number, and this is the couple of its control word, which lies
--- behind the simple cells of the block that declares it.
+-- after the simple cells of the block that declares it.
 pub record IsProcedure (sc : Scopes) (level : ℕ) (n : Named) (callee : ℕ) (couple : Couple) : Type 0 where
   pub sort_is : (use_of sc n).sort ≡ procedure callee
   pub number : ℕ
@@ -142,7 +142,7 @@ pub record IsVariable (sc : Scopes) (level : ℕ) (n : Named) (kind : Kind) (cou
   pub level_is : couple.level + (use_of sc n).up ≡ level
   pub index_is : couple.index ≡ 2 + found.number
 
--- At this level the name is that of an array that a block declares, and this is the couple of its descriptor. The cell lies behind the
+-- At this level the name is that of an array that a block declares, and this is the couple of its descriptor. The cell lies after the
 -- control words of the block, which has no simple cell of that name.
 pub record IsDeclaredArray (sc : Scopes) (level : ℕ) (n : Named) (declared : DeclaredArray) (couple : Couple) : Type 0 where
   pub sort_is : (use_of sc n).sort ≡ sort.array

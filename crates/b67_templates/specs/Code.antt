@@ -73,7 +73,7 @@ abbrev pub stmts_count : PStmts → ℕ
 stmts_count tree.no_stmts = 0
 stmts_count (tree.stmts s ss) = stmts_count ss + 1
 
--- a number, or one behind a sign
+-- a number, or one after a sign
 abbrev pub literal_of : PExpr → Option ℤ
 literal_of (tree.number z spot) = Some z
 literal_of (tree.neg (tree.number z spot) sign) = Some (neg_ℤ z)
@@ -125,7 +125,7 @@ module _ (sc : Scopes) (context : Context) (ps : List Placed) (level : ℕ) wher
     passes : (a : Shape) (c : Couple) (m : ℕ) → IsFormalArray sc level n a c → Agrees shape a → Has ps level f (ops.Namc c) m → Has ps level m (ops.Plain kinds.Lodt) t →
         ArrayActualAt shape n f t
 
-  -- a name alone in an expression: a variable is read, a typed procedure is called
+  -- a name by itself in an expression: a variable is read, a typed procedure is called
   pub data NameAt (k : Kind) (n : Named) (f t : ℕ) : Type 0 where
     reads : ReadAt n k f t → NameAt k n f t
     calls : (callee : ℕ) → CallAt n callee without f t → parameter_wants sc callee ≡ [] → (block_numbered sc.blocks callee).result ≡ Some k → NameAt k n f t
@@ -245,7 +245,7 @@ module _ (sc : Scopes) (context : Context) (ps : List Placed) (level : ℕ) wher
     pub items : LineAt es numbered valued
     pub enter : Has ps level valued (ops.Plain kinds.Entr) t
 
-  -- CASE behind its number: how many statements there are, the place of their table, the entry, behind which the table begins
+  -- CASE after its number: how many statements there are, the place of their table, the entry, after which the table begins
   abbrev pub TableAt : ℕ → ℕ → ℕ → Type 0
   TableAt many from table =
       (b : ℕ) × (c : ℕ) × NumberAt ps level (pos many) from b × NumberAt ps level (pos table) b c × Has ps level c (ops.Plain kinds.Entr) table

@@ -28,7 +28,7 @@ abbrev mutual
   line_depth tree.none = 0
   line_depth (tree.more e es) = depth e + line_depth es
 
--- the same of an element on the left of an assignment, where a name alone takes none
+-- the same of an element on the left of an assignment, where a name by itself takes none
 abbrev pub place_depth : PExprs → ℕ
 place_depth tree.none = 0
 place_depth (tree.more e es) = 5 + line_depth (tree.more e es)

@@ -36,7 +36,7 @@ AreExits ps [] from to = Unit {0}
 AreExits ps (e ∷ es) from to =
     ((level : ℕ) × (kind : BranchKind) × (old : ℕ) × (next : ℕ) × (from ≤ e) × (next ≤ to) × StandsAmong ps e level (Branch kind old) next) × AreExits ps es from to
 
--- The claim holds wherever the code is kept and its exits, which are added to those of before, all go to that target behind it.
+-- The claim holds wherever the code is kept and its exits, which are added to those of before, all go to that target after it.
 pub record EmittedWithExits (before after : Built) (exits_before exits_after : List ℕ) (claim : List Placed → ℕ → Type 0) : Type 0 where
   pub level : after.level ≡ before.level
   pub grown : size before.operators ≤ size after.operators

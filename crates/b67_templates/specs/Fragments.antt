@@ -132,7 +132,7 @@ module _ (ps : List Placed) (level : ℕ) where
     pub stands : Has from (ops.Branch Brun target) to
     pub back : target ≤ from
 
-  -- from one place branches forward alone lead to another
+  -- from one place branches forward only lead to another
   pub data Goes : ℕ → ℕ → Type 0 where
     stop : {a : ℕ} → Goes a a
     over : {a b c : ℕ} (next : ℕ) → BranchAt Brun a b next → Goes b c → Goes a c

@@ -1,6 +1,6 @@
 //! The code of each construct of the language, as definitions: which operators stand where, in a segment whose operators stand one
 //! after another.
 //!
-//! A construct has one template. Between two actions it has private operators alone, which go forward; an action operator stands
+//! A construct has one template. Between two actions it has private operators only, which go forward; an action operator stands
 //! exactly where the source has an action. So the operators of a template come in the order of the actions of its construct.
 #![tactic(auto)]

@@ -27,7 +27,7 @@ begins_by numbers v can =
     ⊎_elim (λ (is : IsIn numbers (10 * v)). let same : 10 * v ≡ 10 * v + 0 = omega arith in longer_begins numbers v 0 h.0 (omega arith) (subst (IsIn numbers) same is))
     (λ (is : IsIn numbers (10 * v + 1)). longer_begins numbers v 1 h.0 (omega arith) is) h.1) can
 
--- where a longer one is one of these, one with a 0 or 1 behind the digits is
+-- where a longer one is one of these, one with a 0 or 1 after the digits is
 longer_there : (numbers : Numbers) (v n : ℕ) → numbers.least ≤ 1 → 1 ≤ v → 10 * v ≤ n → IsIn numbers n → HasLonger numbers v
 longer_there numbers v n least some great is =
     ⊎_elim (λ (e : n ≡ 10 * v). inl (subst (IsIn numbers) e is))
@@ -51,7 +51,7 @@ can_by numbers v n (d ∷ c) least small is e =
 pub can_begin_by : (numbers : Numbers) (v : ℕ) → numbers.least ≤ 1 → v < 2 ^ 64 → BeginsOne numbers (decimal v) → CanBegin numbers v
 can_begin_by numbers v least small h = can_by numbers v h.0 h.1 least small h.2 h.3
 
--- a byte behind digits that begin one is a digit
+-- a byte after digits that begin one is a digit
 pub next_digit : (numbers : Numbers) (front : List ℕ) (byte : ℕ) → BeginsOne numbers (front ++ byte ∷ []) → IsDigit byte
 next_digit numbers front byte h = digits h.0 front h.1 byte (wide h.0 h.2.fits) (h.3 ∙ append_assoc front (byte ∷ []) h.1)
 

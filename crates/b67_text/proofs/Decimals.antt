@@ -95,7 +95,7 @@ digits n a b d small e =
     let here : get_or (decimal n) (length a) 0 ≡ d = ap (λ xs. get_or xs (length a) 0) e ∙ get_or_at a d b 0 (length a) refl in
     (omega (arith, is.0), omega (arith, is.1))
 
--- behind the digits so far stands what ends the number
+-- after the digits so far stands what ends the number
 pub record AtEnd (n : ℕ) (o : Option ℕ) (end : ℕ) (z ys : List ℕ) : Type 0 where
   pub all : o ≡ Some n
   pub rest : ys ≡ end ∷ z

@@ -38,7 +38,7 @@ stands_more part bytes at next byte st here =
 pub stands_none : (bytes : List ℕ) (at : ℕ) → at ≤ length bytes → Stands [] bytes at at
 stands_none bytes at inside = record { within = inside; next_is = omega arith; part_is = refl }
 
--- what begins one of these, is none itself, and begins none with what is behind it
+-- what begins one of these, is none itself, and begins none with what is after it
 pub record Ends (Is : List ℕ → Type 0) (front rest : List ℕ) : Type 0 where
   pub begins : Begins Is front
   pub not_yet : Is front → ⊥

@@ -54,7 +54,7 @@ pub record GoesOnWith (Rest : List ℕ → Type 0) (front text : List ℕ) : Typ
   pub is_rest : Rest rest
   pub text_is : text ≡ front ++ rest
 
--- what may stand behind the items that begin a text
+-- what may stand after the items that begin a text
 pub record Leads (Is Rest : List ℕ → Type 0) (front : List ℕ) : Type 0 where
   pub goes_on : (text after items : List ℕ) → Is text → text ++ after ≡ front ++ items → GoesOnWith Rest front text
   pub joins : (rest : List ℕ) → Rest rest → Is (front ++ rest)
@@ -89,7 +89,7 @@ second_none Is Rest front items count leads stop = record {
   };
 }
 
--- where what stands behind the front stops, the text stops
+-- where what stands after the front stops, the text stops
 pub second_stops : (Is Rest : List ℕ → Type 0) (front bytes : List ℕ) (at mid end : ℕ) → Leads Is Rest front → Stands front bytes at mid → StopsAt Rest bytes mid end → StopsAt Is bytes at end
 second_stops Is Rest front bytes at mid end leads st stop =
     let count : length front + (end - mid) ≡ end - at = omega (arith, st.next_is, stop.behind) in
@@ -99,7 +99,7 @@ second_stops Is Rest front bytes at mid end leads st stop =
           (subst (λ xs. HasNone Is xs (length front + (end - mid))) (sym st.part_is) (second_none Is Rest front (drop mid bytes) (end - mid) leads stop.none));
     }
 
--- one part behind another
+-- one part after another
 pub stands_on : (part more bytes : List ℕ) (at mid next : ℕ) → Stands part bytes at mid → Stands more bytes mid next → Stands (part ++ more) bytes at next
 stands_on part more bytes at mid next first second = record {
   within = second.within;
@@ -114,7 +114,7 @@ refused_where_it_stops Is bytes end stop =
     let none : HasNone Is bytes end = subst (λ n. HasNone Is bytes n) same stop.none in
     record { none = λ is. none.none bytes [] is (append-nil bytes); reach = none.reach }
 
--- bytes that go on behind a text are refused where they do
+-- bytes that go on after a text are refused where they do
 pub refused_behind : (Is : List ℕ → Type 0) (text bytes : List ℕ) (next : ℕ) → AreApart Is → Is text → Stands text bytes 0 next → next < length bytes → IsRefused Is bytes next
 refused_behind Is text bytes next apart is st more =
     let whole : bytes ≡ text ++ drop next bytes = st.part_is in

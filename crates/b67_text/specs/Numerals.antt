@@ -34,7 +34,7 @@ IsSmall (Some n) = n < 2 ^ 64
 abbrev pub BeginsOne : Numbers → List ℕ → Type 0
 BeginsOne numbers digits = (n : ℕ) × (more : List ℕ) × IsIn numbers n × (decimal n ≡ digits ++ more)
 
--- one of these is this number with a 0 or a 1 behind it
+-- one of these is this number with a 0 or a 1 after it
 abbrev pub HasLonger : Numbers → ℕ → Type 0
 HasLonger numbers n = IsIn numbers (10 * n) ⊎ IsIn numbers (10 * n + 1)
 
@@ -47,7 +47,7 @@ abbrev pub lengthened : Option ℕ → ℕ → Option ℕ
 lengthened None digit = Some digit
 lengthened (Some front) digit = if nat_lt 0 front && nat_lt (10 * front + digit) (2 ^ 64) then Some (10 * front + digit) else None
 
--- the digits of this number stand from a place on to the next, they begin one of these, and with the byte behind them they begin none
+-- the digits of this number stand from a place on to the next, they begin one of these, and with the byte after them they begin none
 pub record AreDigits (numbers : Numbers) (bytes : List ℕ) (at : ℕ) (number : Option ℕ) (next : ℕ) : Type 0 where
   pub small : IsSmall number
   pub stand : Stands (spelled number) bytes at next

@@ -53,7 +53,7 @@ impl Numbers {
     }
 }
 
-/// The number of these digits and one more behind them, where the first of several is not 0 and it has 64 bits at most.
+/// The number of these digits and one more after them, where the first of several is not 0 and it has 64 bits at most.
 fn lengthened(before: Option<u64>, digit: u64) -> Option<u64>
     requires { digit < 10 }
     ensures { result ≡ lengthened before digit }
