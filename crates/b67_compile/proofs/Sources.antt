@@ -3,7 +3,7 @@ use Rattle.std.proofs.Common.{ℕ, ap, List, [], ◌∷◌}
 use Rattle.std.proofs.Props.{props}
 use Rattle.std.proofs.Math.Logic.{∥∥₁_elim}
 use Rattle.std.specs.Coded.{×_prop, Π_prop, Unit-prop, le_prop}
-use Rattle.std.specs.List.{AllByRecursion, AllByRecursion-prop}
+use Rattle.std.specs.List.{AllByRecursion-prop}
 use Rattle.algol_tree.specs.declared.token.Spot.{Spot}
 use Rattle.algol_tree.specs.declared.tree.PhraseText.{PhraseText}
 use Rattle.algol_tree.specs.declared.tree.PhraseText.TheVariants as phrase
@@ -18,7 +18,7 @@ use Rattle.algol_lexer.proofs.LexOrder.{tokens_ascend}
 use Rattle.algol_stmt.proofs.InOrder.{in_order}
 use Rattle.b67_fitting.specs.Names.{StmtNamed, StmtsNamed, DeclNamed, DeclsNamed, HasNames}
 use Rattle.b67_fitting.specs.Texts.{PhrasePlain, StmtPlain, StmtsPlain, DeclPlain, DeclsPlain, HasPlainTexts}
-use Rattle.b67_fitting.specs.Wholes.{NumbersWhole, AllWhole, BoundsWhole, HaveDimensions, SpecWhole, StmtWhole, StmtsWhole, DeclWhole, DeclsWhole, HasWholeNumbers}
+use Rattle.b67_fitting.specs.Wholes.{NumbersWhole, AllWhole, BoundsWhole, SpecWhole, StmtWhole, StmtsWhole, DeclWhole, DeclsWhole, HasWholeNumbers}
 use Rattle.b67_fitting.proofs.NamesRead.{sources_named}
 use Rattle.b67_fitting.proofs.Numbered.{sources_whole}
 use Rattle.b67_fitting.proofs.Written.{sources_plain}
