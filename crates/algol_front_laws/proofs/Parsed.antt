@@ -13,8 +13,8 @@ use Rattle.algol_tree.specs.Programs.{IsProgram, Reads}
 use Rattle.algol_tree.specs.Refused.{RefusedProgram}
 use Rattle.algol_tree.specs.Due.{Value, Due, program}
 use Rattle.algol_tree.specs.Reading.{Count, outside, Step, goes, over, stops, step, Reading, to, refused, read_on, judged, reading, read}
-use Rattle.algol_stmt.proofs.Exact.{exact}
-use Rattle.algol_stmt.proofs.Sound.{program_sound}
+use Rattle.algol_grammar.proofs.Exact.{exact}
+use Rattle.algol_grammar.proofs.Sound.{program_sound}
 use Rattle.algol_front_laws.proofs.EndToken.{Halts, end_halts}
 
 -- ---- reading comes to an end

@@ -15,7 +15,7 @@ use Rattle.algol_tree.specs.First.{Source}
 use Rattle.algol_tree.specs.Plain as tree
 use Rattle.algol_tree.specs.Plain.{PExpr, PExprs, PPair, PStmt, PStmts, PDecl, PDecls, PBody, PProgram}
 use Rattle.algol_lexer.proofs.LexOrder.{tokens_ascend}
-use Rattle.algol_stmt.proofs.InOrder.{in_order}
+use Rattle.algol_grammar.proofs.InOrder.{in_order}
 use Rattle.b67_fitting.specs.Names.{StmtNamed, StmtsNamed, DeclNamed, DeclsNamed, HasNames}
 use Rattle.b67_fitting.specs.Texts.{PhrasePlain, StmtPlain, StmtsPlain, DeclPlain, DeclsPlain, HasPlainTexts}
 use Rattle.b67_fitting.specs.Wholes.{NumbersWhole, AllWhole, BoundsWhole, SpecWhole, StmtWhole, StmtsWhole, DeclWhole, DeclsWhole, HasWholeNumbers}
