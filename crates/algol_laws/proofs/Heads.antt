@@ -133,7 +133,7 @@ module _ (sc : Scopes) where
     settle_acts (tree.variable (tree.subscripted n tree.none)) = named_acts (procedure_in (sort_at sc n)) n
     settle_acts (tree.variable (tree.subscripted n (tree.more e es))) = subscripted_acts n [] (settle sc e) es (settle_acts e)
     settle_acts (tree.call (tree.called n es)) = called_acts n (settle_actuals sc es (sorts_of (callee sc n).parameters) []) (actuals_act es (sorts_of (callee sc n).parameters) [])
-    settle_acts (tree.tested test e spot) = refl
+    settle_acts (tree.tested tree.happened e spot) = refl
     settle_acts (tree.paren e spot) = settle_acts e
     settle_acts (tree.plus e spot) = settle_acts e
     settle_acts (tree.neg e spot) = negated_acts (settle sc e) (settle_acts e)
