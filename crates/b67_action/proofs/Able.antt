@@ -1,7 +1,7 @@
 -- Who is able, by the states before and after.
 use Rattle.std.specs.Prelude.{nat_lt, slice_get, if◌then◌else◌}
 use Rattle.std.specs.List.{list_any}
-use Rattle.std.proofs.Common.{◌≡◌, ◌≢◌, refl, sym, ap, subst, ◌∙◌, ℕ, zero, suc, ◌+◌, ◌≤◌, ◌==◌, ◌||◌, Bool, true, false, cond, List, [], ◌∷◌, ◌++◌, length, take, Option, Some, None, inl, inr, arith}
+use Rattle.std.proofs.Common.{◌≡◌, ◌≢◌, refl, ap, subst, ◌∙◌, ℕ, zero, suc, ◌+◌, ◌≤◌, ◌==◌, ◌||◌, Bool, true, false, cond, List, [], ◌∷◌, ◌++◌, length, take, Option, Some, None, inl, inr, arith}
 use Rattle.std.proofs.Math.Decide.{ℕ_discrete}
 use Rattle.std.proofs.lemmas.Bool.{or_cases, or_parts, eqb-true, eq-eqb, le-leb, leb-true}
 use Rattle.b67_list.specs.Numbered.{numbered, set_numbered}
@@ -11,10 +11,10 @@ use Rattle.b67_events.specs.Events.{Event, same_place, event_at, waiters_of, wai
 use Rattle.b67_events.specs.Once.{times_in, times as times_at_all, EachOnce}
 use Rattle.b67_table.specs.declared.ProcessState.{ProcessState}
 use Rattle.b67_table.specs.declared.ProcessState.TheVariants.{Able, WaitsFor, Procures, Ended}
-use Rattle.b67_table.specs.Image.{Image, is_able, is_live}
+use Rattle.b67_table.specs.Image.{Image, is_able}
 use Rattle.b67_table.specs.Writes.{able_again, waiting}
 use Rattle.b67_table.specs.Valid.{IsValid, waits}
-use Rattle.b67_table.proofs.Stacks.{get_numbered_other, get_numbered_append}
+use Rattle.b67_table.proofs.Stacks.{get_numbered_other}
 use Rattle.b67_table.proofs.Lists.{numbered_set}
 use Rattle.b67_table.proofs.States.{able_all}
 use Rattle.b67_table.proofs.EventKept.{not_both, length_states, same_state, live_of, within_of}

@@ -3,41 +3,38 @@ use Rattle.std.specs.Prelude.{nat_eq, nat_le, nat_lt}
 use Rattle.std.proofs.Common.{◌≡◌, refl, ℕ, zero, suc, ◌+◌, ◌-◌, ◌&&◌, not, Bool, true, false, cond, ℤ, List, [], ◌∷◌, ◌++◌, take, drop, Option, Some, None}
 use Rattle.b67_num.specs.declared.FaultKind.TheVariants.{CriticalBlockExit, BadGoTo, NotAVariable, ProcessLimit}
 use Rattle.b67_word.specs.declared.Place.{Place}
-use Rattle.b67_word.specs.Word.{Word, truth}
+use Rattle.b67_word.specs.Word.{Word}
 use Rattle.b67_control.specs.declared.Registers.{Registers}
 use Rattle.b67_control.specs.declared.Mscw.{Mscw}
 use Rattle.b67_control.specs.declared.Pcw.{Pcw}
 use Rattle.b67_control.specs.declared.Descriptor.{Descriptor}
-use Rattle.b67_control.specs.Control.{as_pcw, as_descriptor, event_word}
+use Rattle.b67_control.specs.Control.{as_pcw, as_descriptor}
 use Rattle.b67_ops.specs.declared.BranchKind.{BranchKind}
 use Rattle.b67_ops.specs.declared.BranchKind.TheVariants.{Brfl, Brtr, Brun}
 use Rattle.b67_ops.specs.declared.Couple.{Couple}
 use Rattle.b67_segment.specs.declared.code.Code.{Code}
 use Rattle.b67_store.specs.Store.{Row, row_words_or}
-use Rattle.b67_table.specs.declared.Cell.{Cell}
-use Rattle.b67_table.specs.declared.Entry.{Entry}
-use Rattle.b67_table.specs.declared.Leaving.{Leaving}
 use Rattle.b67_table.specs.declared.Reached.{Reached}
 use Rattle.b67_table.specs.Limits.{most_cells, most_processes}
 use Rattle.b67_table.specs.Private.{frame}
 use Rattle.b67_table.specs.Look.{◌>->◌, valid}
 use Rattle.b67_table.specs.Chains.{place, broken, mark_at, rebuilt}
-use Rattle.b67_table.specs.References.{cell_place, couple_cell, cell_of, named, reached, popped, Two, popped_two, operand_in, invalid}
+use Rattle.b67_table.specs.References.{cell_place, couple_cell, cell_of, named, reached, popped, popped_two, operand_in, invalid}
 use Rattle.b67_table.specs.Image.{Image}
 use Rattle.b67_table.specs.Questions.{Answer, told}
 use Rattle.b67_table.specs.Questions as questions
 use Rattle.b67_table.specs.Writes.{written}
 use Rattle.b67_table.specs.Writes as writes
-use Rattle.b67_table.specs.Program.{Test, answer, interrupt, fault, ask, ◌>>=◌, asked, see, Change, done, look_up, write, changed, registers, row_of, close_row, close_events, cut, start, reset, Program}
+use Rattle.b67_table.specs.Program.{Test, answer, interrupt, fault, ask, ◌>>=◌, asked, see, Change, done, look_up, write, changed, registers, row_of, close_row, close_events, start, Program}
 use Rattle.b67_table.specs.Moves.{pushed}
 use Rattle.b67_table.specs.Linkage.{entering, selected, entry, accidental, closed_by, rows_closed, array_closed, arrays_closed, is_critical, if_not_critical, leaving, leave_base, leave_other}
-use Rattle.b67_table.specs.Arrays.{as_indexed, element, index_in, index_or_fault, subscripted, Subscripted, subscripted_element, index, index_and_load, index_mother, Extents, one, two}
+use Rattle.b67_table.specs.Arrays.{as_indexed, element, index_in, index_or_fault, subscripted, subscripted_element, index, index_and_load, index_mother, Extents, one, two}
 use Rattle.b67_table.specs.Arrays.{array_word, rows_made, array_made, arrays_made, if_held}
-use Rattle.b67_table.specs.Arguments.{Three, three, wholes, event_of, if_chained, finished_at}
-use Rattle.b67_table.specs.GoingTo.{Passed, Passing, Target, target_of, passed_by, frames_left, passed_frames, go_to}
-use Rattle.b67_table.specs.Intrinsics.{case_in, case_place, gone_to_case, select, Wanted, wanted, extents, arrays, write as write_line, make_event, on_event, tell_event}
+use Rattle.b67_table.specs.Arguments.{three, wholes, event_of, if_chained, finished_at}
+use Rattle.b67_table.specs.GoingTo.{Passed, target_of, passed_by, frames_left, passed_frames, go_to}
+use Rattle.b67_table.specs.Intrinsics.{case_in, case_place, gone_to_case, select, wanted, extents, arrays, write as write_line, make_event, on_event, tell_event}
 use Rattle.b67_table.specs.Lines.{line_for}
-use Rattle.b67_table.specs.Starting.{Starting, starting, first_display, named_frames, frames_with, on_path, start_process}
+use Rattle.b67_table.specs.Starting.{starting, first_display, named_frames, frames_with, on_path, start_process}
 use Rattle.b67_table.specs.Rows.{turn_by, turn, value_or_entry, value_call, loaded, load_value, is_passed, load_through, cell_or_entry, evaluate, after_store, store_by, store, is_result, return_value}
 use Rattle.b67_table.proofs.Keeping.{Gives}
 use Rattle.b67_action.specs.declared.rows.WordsRow.{WordsRow}

@@ -1,5 +1,5 @@
 -- Whom an operator makes able, row by row.
-use Rattle.std.proofs.Common.{◌≡◌, ◌≢◌, refl, sym, ap, subst, ◌∙◌, ℕ, ◌+◌, ◌-◌, ◌≤◌, Bool, true, false, cond, List, [], ◌∷◌, take, drop, Option, Some, None, Result, Ok, Err, arith}
+use Rattle.std.proofs.Common.{◌≡◌, refl, sym, ap, subst, ◌∙◌, ℕ, ◌+◌, ◌≤◌, Bool, true, false, cond, List, [], ◌∷◌, take, Option, Some, None, Ok, arith}
 use Rattle.std.specs.Prelude.{nat_eq}
 use Rattle.b67_list.specs.Numbered.{numbered, set_numbered}
 use Rattle.b67_word.specs.declared.Place.{Place}
@@ -7,7 +7,6 @@ use Rattle.b67_word.specs.Word.{Word}
 use Rattle.b67_control.specs.declared.Registers.{Registers}
 use Rattle.b67_control.specs.declared.Mscw.{Mscw}
 use Rattle.b67_ops.specs.declared.Operator.{Operator}
-use Rattle.b67_ops.specs.declared.BadCode.{BadCode}
 use Rattle.b67_ops.specs.declared.intrinsic.Intrinsic.{Intrinsic}
 use Rattle.b67_ops.specs.declared.intrinsic.Intrinsic.TheVariants as names
 use Rattle.b67_segment.specs.declared.code.Code.{Code}
@@ -20,14 +19,13 @@ use Rattle.b67_table.specs.declared.Private.{Private as Part}
 use Rattle.b67_table.specs.declared.ProcessState.{ProcessState}
 use Rattle.b67_table.specs.declared.ProcessState.TheVariants.{Ended, WaitsFor, Procures}
 use Rattle.b67_table.specs.Effect.{Effect, gives, faults, interrupts}
-use Rattle.b67_table.specs.Image.{Image, with_rows, with_events, with_registers, with_private, with_effect, private_of, is_able}
-use Rattle.b67_table.specs.Look.{seen}
+use Rattle.b67_table.specs.Image.{Image, with_rows, with_private, with_effect, private_of, is_able}
 use Rattle.b67_table.specs.Names.{intrinsic_numbered}
 use Rattle.b67_table.specs.Outcome as outcomes
 use Rattle.b67_table.specs.Private.{frame, floor}
 use Rattle.b67_table.specs.Writes.{written, able_again, waiting}
 use Rattle.b67_table.specs.Writes as writes
-use Rattle.b67_table.specs.Program.{Change, done, write, changed, answer, asked, effect_of, does, registers, close_events, end_process, wait, cause, reset, procure, liberate, start, Program}
+use Rattle.b67_table.specs.Program.{Change, done, changed, answer, asked, effect_of, registers, close_events, end_process, wait, cause, reset, procure, liberate, start, Program}
 use Rattle.b67_table.specs.Linkage.{caused_by, leave_base, leave_other, entry}
 use Rattle.b67_table.specs.Arguments.{finished_at}
 use Rattle.b67_table.specs.Intrinsics.{row_of_intrinsic, intrinsic_row, intrinsic, on_event}
@@ -41,16 +39,15 @@ use Rattle.b67_table.proofs.Limit.{new_of}
 use Rattle.b67_table.proofs.EventKept.{close_events_valid}
 use Rattle.b67_table.proofs.Waking.{able_live}
 use Rattle.b67_operators.specs.declared.calling.Called.{Called}
-use Rattle.b67_operators.specs.Entries.{called as entered, enter_called}
+use Rattle.b67_operators.specs.Entries.{enter_called}
 use Rattle.b67_operators.specs.Leaves.{task_waiters, released as released_by}
 use Rattle.b67_intrinsics.specs.Called.{arguments, event_tests, event_tests_in, Leads}
 use Rattle.b67_intrinsics.specs.Names.{Releases}
-use Rattle.b67_reach.specs.Answers.{looked}
 use Rattle.b67_action.specs.declared.done.Done.{Done}
 use Rattle.b67_action.specs.declared.done.Done.TheVariants.{Went, Waits, Ended as has_ended, Fault, Interrupt, StackLimit, NoMemory}
 use Rattle.b67_action.specs.declared.rows.Row.{Row}
 use Rattle.b67_action.specs.declared.rows.Row.TheVariants as ours
-use Rattle.b67_action.specs.Able.{times, one_if, able_in, AbleAfter, ActionsMakeAble}
+use Rattle.b67_action.specs.Able.{one_if, AbleAfter, ActionsMakeAble}
 use Rattle.b67_action.specs.Acting.{CallReleases, CalleeReleases, RowReleases, NextReleases}
 use Rattle.b67_action.specs.Done.{Came, is_performed}
 use Rattle.b67_action.specs.Rows.{words_program, Is}

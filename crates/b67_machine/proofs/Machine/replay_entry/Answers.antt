@@ -1,4 +1,4 @@
-use Rattle.std.proofs.Common.{◌≤◌, ◌<◌, ◌⊎◌, sym, ap, subst, inl, inr, ℕ, ◌+◌, ◌-◌, List, length, Option, arith}
+use Rattle.std.proofs.Common.{◌≤◌, ◌<◌, ◌⊎◌, sym, ap, subst, inl, inr, ℕ, ◌+◌, List, length, Option, arith}
 use Rattle.b67_schedule.specs.Schedules.{entries, most}
 use Rattle.b67_machine.specs.declared.replay.Replayed.{Replayed}
 use Rattle.b67_machine.specs.Replaying.{Between, StopsBefore}
