@@ -29,8 +29,8 @@ use Rattle.algol_part.specs.declared.start.Start.TheVariants as starts
 use Rattle.algol_part.specs.Starts.{start_of, begins_body}
 use Rattle.algol_part.specs.Openings.{behind_word, behind_verb}
 use Rattle.algol_tree.specs.Plain.{PDecl}
-use Rattle.algol_tree.specs.DueDecl.{names_in, files_in}
-use Rattle.algol_part.specs.Phrases.{element_in, lists_names, listing}
+use Rattle.algol_tree.specs.DueDecl.{names_in}
+use Rattle.algol_part.specs.Phrases.{element_in, lists_names, listing, printers_in}
 use Rattle.algol_expr.proofs.Reading.{Takes, taken, read-at}
 use Rattle.algol_part.proofs.Chains.{here, too_deep_here}
 use Rattle.algol_part.proofs.Specs.{names_there}
@@ -184,11 +184,8 @@ pub array_declared : (d : ℕ) {tokens : List Token} {t : Token} {ts : List Toke
     turn (declarations d) t.spot t.kind ≡ takes plain ((segment_in types.Number ++ symbol symbols.Semicolon ∷ []) ++ declarations d ∷ [])
 array_declared d {t = t} at_ e = ap (turn_declarations d) (word_from t.kind reserved.Array e)
 
-abbrev pub files_due : List Due
-files_due = files_in ++ make (names_declared trees.files) ∷ symbol symbols.Semicolon ∷ []
-
 pub file_declared : (d : ℕ) {tokens : List Token} {t : Token} {ts : List Token} → tokens ≡ t ∷ ts → is_word reserved.File t.kind ≡ true →
-    turn (declarations d) t.spot t.kind ≡ takes plain (files_due ++ declarations d ∷ [])
+    turn (declarations d) t.spot t.kind ≡ takes plain (printers_in ++ declarations d ∷ [])
 file_declared d {t = t} at_ e = ap (turn_declarations d) (word_from t.kind reserved.File e)
 
 -- the names behind EVENT, TASK or LABEL

@@ -1,5 +1,5 @@
 -- How a statement that is opened goes on.
-use Rattle.std.proofs.Common.{◌≡◌, ◌≤◌, ℕ, List, [], ◌∷◌, ◌++◌, length, Result, IfErr, refl, sym, subst, ◌∙◌, arith}
+use Rattle.std.proofs.Common.{◌≡◌, ◌≤◌, ℕ, List, [], ◌∷◌, ◌++◌, length, Result, IfErr, refl, sym, subst, ap, ◌∙◌, append_assoc, arith}
 use Rattle.std.specs.Result.{IfOk}
 use Rattle.std.proofs.lemmas.Result.{IfOk-weaker}
 use Rattle.algol_tree.specs.declared.token.Spot.{Spot}
@@ -10,6 +10,7 @@ use Rattle.algol_tree.specs.Ended.{EndsOnce}
 use Rattle.algol_tree.specs.Plain.{PStmt}
 use Rattle.algol_tree.specs.Image as image
 use Rattle.algol_tree.specs.Due.{Value, Due, stmt}
+use Rattle.algol_tree.specs.Reading.{read}
 use Rattle.algol_tree.specs.Found.{IsRest, Completes, Refuses}
 use Rattle.algol_expr.proofs.Chain.{Reaches}
 use Rattle.algol_part.specs.Brings.{Brings}
@@ -27,6 +28,14 @@ use Rattle.algol_part.proofs.Tails.{if_err}
 pub comes : {from : List Due} {us : List Value} {tokens : List Token} {ds : List Due} {ws : List Value} {rest : List Token} → Reaches from us tokens ds ws rest → EndsOnce rest →
     length rest ≤ length tokens → ComesTo from us tokens ds ws rest
 comes r e n = record { run = r.run; ended = e; no_longer = n }
+
+-- a chain goes on with a part that makes values
+pub coming : {from : List Due} {us : List Value} {tokens : List Token} {part ds : List Due} {ws xs : List Value} {mid rest : List Token} →
+    Reaches from us tokens (part ++ ds) ws mid → ComesTo part [] mid [] xs rest → Reaches from us tokens ds (xs ++ ws) rest
+coming {part = part} {ds = ds} {ws = ws} {xs = xs} {mid = mid} {rest = rest} r p = record {
+  run = λ due vs. r.run due vs ∙ ap (λ x. read 0 mid x (ws ++ vs)) (append_assoc part ds due) ∙ p.run (ds ++ due) (ws ++ vs)
+      ∙ ap (read 0 rest (ds ++ due)) (sym (append_assoc xs ws vs));
+}
 
 pub ending : {from : List Due} {us : List Value} {tokens : List Token} {v w : Value} {rest : List Token} → Reaches from us tokens [] (v ∷ []) rest → w ≡ v → EndsOnce rest →
     length rest ≤ length tokens → ComesTo from us tokens [] (w ∷ []) rest

@@ -82,3 +82,8 @@ module _ {T : Type 0} (r : Result T Refusal) {tokens other : List Token} (is : t
 pub lists_by : {T : Type 0} (r : Result T Refusal) (left v : Value) (end : T → List Token) {tokens mid : List Token} {from : List Due} (part : List Due) → IsRest tokens mid →
     Reaches from (left ∷ []) tokens (part ++ []) (left ∷ []) mid → IfOk r (λ x. Lists part mid left v (end x)) → IfOk r (λ x. Lists from tokens left v (end x))
 lists_by r left v end part b a h = IfOk-weaker r _ _ (λ x f. record { run = (listing a f).run; behind = rest_of b f.behind }) h
+
+-- the same of what reads nothing before the part
+pub lists_here : {T : Type 0} (r : Result T Refusal) (left v : Value) (end : T → List Token) {tokens : List Token} {from : List Due} (part : List Due) →
+    Reaches from (left ∷ []) tokens (part ++ []) (left ∷ []) tokens → IfOk r (λ x. Lists part tokens left v (end x)) → IfOk r (λ x. Lists from tokens left v (end x))
+lists_here r left v end part a h = IfOk-weaker r _ _ (λ x f. record { run = (listing a f).run; behind = f.behind }) h

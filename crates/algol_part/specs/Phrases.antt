@@ -9,12 +9,12 @@ use Rattle.algol_tree.specs.declared.token.Symbol.TheVariants as symbols
 use Rattle.algol_tree.specs.declared.tree.Kind.{Kind}
 use Rattle.algol_tree.specs.declared.tree.Named.{Named}
 use Rattle.algol_tree.specs.declared.tree.EventAct.{EventAct}
-use Rattle.algol_tree.specs.Plain.{PDecl, events, tasks, labels, no_stmts}
+use Rattle.algol_tree.specs.Plain.{PDecl, simple, files, events, tasks, labels, no_stmts}
 use Rattle.algol_tree.specs.Tokens.{is_word}
 use Rattle.algol_tree.specs.Headings.{type_of}
-use Rattle.algol_tree.specs.Due.{put, pairs, lows, specified, phrases, list, Due, make, word, symbol, named, event, whole, items_part, literal, lows_more, values_part, spec, specs_more, pairs_more, phrase, phrases_more, statement, stmts_more}
+use Rattle.algol_tree.specs.Due.{put, pairs, lows, specified, phrases, list, Due, make, word, symbol, named, angle, event, whole, items_part, literal, lows_more, values_part, spec, specs_more, pairs_more, phrase, phrases_more, statement, stmts_more}
 use Rattle.algol_tree.specs.DueDecl.{names_in, files_in, low_added, headed_with}
-use Rattle.algol_tree.specs.DueStmt.{wholes_in, pair_in, segment_in, rows_declared, assigned_element, acting, stmt_added}
+use Rattle.algol_tree.specs.DueStmt.{writing, assigned, wholes_in, names_declared, pair_in, segment_in, rows_declared, assigned_element, acting, stmt_added}
 
 abbrev pub name_before : Symbol → List Due
 name_before s = named ∷ symbol s ∷ []
@@ -25,8 +25,13 @@ names_before s = names_in ++ symbol s ∷ []
 abbrev pub closed_names : List Due
 closed_names = names_before symbols.Semicolon
 
-abbrev pub closed_files : List Due
-closed_files = files_in ++ symbol symbols.Semicolon ∷ []
+-- the names behind a type
+abbrev pub simples_in : Kind → List Due
+simples_in kind = names_in ++ make (names_declared (simple kind)) ∷ symbol symbols.Semicolon ∷ []
+
+-- the files behind FILE
+abbrev pub printers_in : List Due
+printers_in = files_in ++ make (names_declared files) ∷ symbol symbols.Semicolon ∷ []
 
 abbrev pub closed_wholes : Symbol → List Due
 closed_wholes closing = wholes_in ++ symbol closing ∷ []
@@ -36,6 +41,10 @@ whole_before w = whole 0 ∷ word w ∷ []
 
 abbrev pub whole_behind : Reserved → List Due
 whole_behind w = word w ∷ whole 0 ∷ []
+
+-- the values and the specifications of a heading
+abbrev pub specified_in : List Due
+specified_in = values_part ∷ make (put (specified [])) ∷ spec ∷ specs_more ∷ []
 
 -- a heading behind its "("
 abbrev pub parameters_in : Option Kind → List Due
@@ -65,8 +74,20 @@ phrases_in = make (put (phrases [])) ∷ phrase ∷ phrases_more ∷ []
 abbrev pub closed_phrases : List Due
 closed_phrases = phrases_in ++ symbol symbols.Greater ∷ []
 
+-- what is written to a file, behind its name
+abbrev pub format_in : List Due
+format_in = angle ∷ phrases_in ++ symbol symbols.Greater ∷ items_part ∷ symbol symbols.CloseRound ∷ make writing ∷ []
+
 abbrev pub closed_items : List Due
 closed_items = items_part ∷ symbol symbols.CloseRound ∷ []
+
+-- what CASE chooses by
+abbrev pub choice_in : List Due
+choice_in = whole 0 ∷ word reserved.Of ∷ word reserved.Begin ∷ []
+
+-- an assignment to a simple variable of that name, behind its ":="
+abbrev pub value_in : Named → List Due
+value_in n = whole 0 ∷ make (assigned n) ∷ []
 
 -- an assignment to an element of that name, behind its "["
 abbrev pub element_in : Named → List Due

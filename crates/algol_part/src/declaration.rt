@@ -2,7 +2,6 @@
 
 ghost use Rattle.std.specs.Prelude.{◌≡◌, [], ◌∷◌, ◌++◌, ℕ, true, false, Some, IfOk, IfErr};
 ghost use Rattle.algol_tree.specs.Ended.{EndsOnce};
-ghost use Rattle.algol_tree.specs.Due as due;
 ghost use Rattle.algol_tree.specs.Due.{pairs, declared, declarations};
 ghost use Rattle.algol_tree.specs.DueStmt.{pair_in, decl_behind};
 ghost use Rattle.algol_tree.specs.Tokens.{is_word};
@@ -11,9 +10,9 @@ ghost use Rattle.algol_tree.specs.Image as image;
 ghost use Rattle.algol_tree.specs.Image.{decls as decls_of};
 ghost use Rattle.algol_tree.specs.Found.{Lists, Refuses};
 ghost use Rattle.algol_part.specs.Brings.{Brings, Adds, AddsNone, Repeats};
-ghost use Rattle.algol_part.specs.Phrases.{pairs_in, one_segment, arrays_in, lists_names, listing};
+ghost use Rattle.algol_part.specs.Phrases.{pairs_in, one_segment, arrays_in, lists_names, listing, printers_in, simples_in};
 
-use crate::make::{arrays, pair, printers};
+use crate::make::{arrays, pair, printers, simple};
 use crate::names::{read_files, read_names, read_names_before};
 use crate::take::read_literal;
 use algol_expr::{expect_symbol, first_of, is_symbol, is_word, read_whole};
@@ -116,16 +115,46 @@ pub fn read_listed<'a>(
     if is_word(first, Reserved::Array) {
         read_arrays(alloc, Kind::Number, decls, behind)
     } else if is_word(first, Reserved::File) {
-        let (files, rest) = read_files(alloc, behind)?;
-        let rest = expect_symbol(rest, Symbol::Semicolon)?;
-        decls.push(printers(files))?;
-        Ok(rest)
+        read_printers(alloc, decls, behind)
     } else {
         let (names, rest) = read_names(alloc, behind)?;
         let rest = expect_symbol(rest, Symbol::Semicolon)?;
         decls.push(listing(first, names))?;
         Ok(rest)
     }
+}
+
+/// names ";", behind a type
+pub fn read_simples<'a>(
+    alloc: Global,
+    kind: Kind,
+    decls: &mut Vec<Decl>,
+    tokens: &'a [Token],
+) -> Result<&'a [Token], Refusal>
+    requires ended { EndsOnce tokens.now }
+    ensures found { IfOk result (λ rest. Lists (simples_in kind) tokens.now (declared (decls_of decls.old.items)) (declared (decls_of decls.new.items)) rest.now) }
+    ensures refused { IfErr result (λ e. Refuses (simples_in kind) (declared (decls_of decls.old.items) ∷ []) tokens.now e) }
+{
+    let (names, rest) = read_names(alloc, tokens)?;
+    let rest = expect_symbol(rest, Symbol::Semicolon)?;
+    decls.push(simple(kind, names))?;
+    Ok(rest)
+}
+
+/// files ";", behind FILE
+fn read_printers<'a>(
+    alloc: Global,
+    decls: &mut Vec<Decl>,
+    tokens: &'a [Token],
+) -> Result<&'a [Token], Refusal>
+    requires ended { EndsOnce tokens.now }
+    ensures found { IfOk result (λ rest. Lists printers_in tokens.now (declared (decls_of decls.old.items)) (declared (decls_of decls.new.items)) rest.now) }
+    ensures refused { IfErr result (λ e. Refuses printers_in (declared (decls_of decls.old.items) ∷ []) tokens.now e) }
+{
+    let (files, rest) = read_files(alloc, tokens)?;
+    let rest = expect_symbol(rest, Symbol::Semicolon)?;
+    decls.push(printers(files))?;
+    Ok(rest)
 }
 
 /// The declaration of the names behind EVENT, TASK or LABEL

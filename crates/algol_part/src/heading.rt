@@ -7,11 +7,12 @@ ghost use Rattle.algol_tree.specs.Due.{name_is, names, heading, specified, lows}
 ghost use Rattle.algol_tree.specs.DueDecl.{rows_specified};
 ghost use Rattle.algol_tree.specs.Found.{Lists, Completes, Refuses};
 ghost use Rattle.algol_part.specs.Brings.{Brings, Adds, AddsNone};
-ghost use Rattle.algol_part.specs.Phrases.{parameters_in, closed_names, specs_in, lows_in, begins_spec};
+ghost use Rattle.algol_part.specs.Openings.{ComesTo};
+ghost use Rattle.algol_part.specs.Phrases.{parameters_in, specified_in, closed_names, specs_in, lows_in, begins_spec};
 
 use crate::names::{read_name, read_names_before};
 use crate::take::{read_literal, type_of, unexpected};
-use algol_expr::{expect_symbol, first_of, is_symbol, is_word};
+use algol_expr::{Held, expect_symbol, first_of, is_symbol, is_word};
 use algol_tree::{Heading, Kind, List, Named, Refusal, Reserved, Spec, Symbol, Token};
 use std::alloc::Global;
 
@@ -21,7 +22,7 @@ pub fn read_heading(
     alloc: Global,
     kind: Option<Kind>,
     tokens: &[Token],
-) -> Result<(Heading, &[Token]), Refusal>
+) -> Result<(Held<Heading>, &[Token]), Refusal>
     requires ended { EndsOnce tokens.now }
     ensures found { IfOk result (λ r. Brings (due.named ∷ due.behind_procedure kind ∷ []) tokens.now (heading r.0) r.1.now) }
     ensures refused { IfErr result (λ e. Refuses (due.named ∷ due.behind_procedure kind ∷ []) [] tokens.now e) }
@@ -38,16 +39,16 @@ pub fn read_heading(
 }
 
 /// The heading of a procedure without parameters.
-fn bare(alloc: Global, kind: Option<Kind>, name: Named) -> Heading
+fn bare(alloc: Global, kind: Option<Kind>, name: Named) -> Held<Heading>
     ensures { result ≡ record { kind = kind; name = name; params = []; values = []; specs = [] } }
 {
-    Heading {
+    Held::of(Heading {
         kind,
         name,
         params: List::of(Vec::new(alloc)),
         values: List::of(Vec::new(alloc)),
         specs: List::of(Vec::new(alloc)),
-    }
+    })
 }
 
 /// names ")" ";" [ VALUE names ";" ] spec { spec }, behind the "("
@@ -56,15 +57,15 @@ fn read_parameters(
     kind: Option<Kind>,
     name: Named,
     tokens: &[Token],
-) -> Result<(Heading, &[Token]), Refusal>
+) -> Result<(Held<Heading>, &[Token]), Refusal>
     requires ended { EndsOnce tokens.now }
     ensures found { IfOk result (λ r. Lists (parameters_in kind) tokens.now (name_is name) (heading r.0) r.1.now) }
     ensures refused { IfErr result (λ e. Refuses (parameters_in kind) (name_is name ∷ []) tokens.now e) }
 {
     let (params, rest) = read_names_before(alloc, tokens, Symbol::CloseRound)?;
     let rest = expect_symbol(rest, Symbol::Semicolon)?;
-    let (values, rest) = read_values(alloc, rest)?;
-    let (specs, rest) = read_specs(alloc, rest)?;
+    let (parts, rest) = read_specified(alloc, rest)?;
+    let (values, specs) = parts;
     let heading = Heading {
         kind,
         name,
@@ -72,7 +73,21 @@ fn read_parameters(
         values,
         specs,
     };
-    Ok((heading, rest))
+    Ok((Held::of(heading), rest))
+}
+
+/// [ VALUE names ";" ] spec { spec }
+fn read_specified(
+    alloc: Global,
+    tokens: &[Token],
+) -> Result<((List<Named>, List<Spec>), &[Token]), Refusal>
+    requires ended { EndsOnce tokens.now }
+    ensures found { IfOk result (λ r. ComesTo specified_in [] tokens.now [] (specified r.0.1 ∷ names r.0.0 ∷ []) r.1.now) }
+    ensures refused { IfErr result (λ e. Refuses specified_in [] tokens.now e) }
+{
+    let (values, rest) = read_values(alloc, tokens)?;
+    let (specs, rest) = read_specs(alloc, rest)?;
+    Ok(((values, specs), rest))
 }
 
 /// [ VALUE names ";" ]

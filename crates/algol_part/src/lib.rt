@@ -13,9 +13,8 @@ mod simple;
 mod start;
 mod take;
 
-pub use declaration::{lists_names, read_arrays, read_listed};
+pub use declaration::{lists_names, read_arrays, read_listed, read_simples};
 pub use heading::read_heading;
-pub use names::read_names;
 pub use opening::{Beginning, Lead, Opening, read_beginning};
 pub use simple::read_until;
 pub use start::begins_body;

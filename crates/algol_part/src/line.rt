@@ -3,20 +3,22 @@
 ghost use Rattle.std.specs.Prelude.{◌≡◌, [], ◌∷◌, ◌++◌, IfOk, IfErr};
 ghost use Rattle.algol_tree.specs.Ended.{EndsOnce};
 ghost use Rattle.algol_tree.specs.Due as due;
-ghost use Rattle.algol_tree.specs.Due.{many, phrases, place, stmt};
+ghost use Rattle.algol_tree.specs.Due.{many, name_is, phrases, place, stmt};
 ghost use Rattle.algol_tree.specs.DueStmt.{written};
 ghost use Rattle.algol_tree.specs.Statements.{phrase_of};
 ghost use Rattle.algol_tree.specs.Image.{stmt as plain, exprs as plain_list};
-ghost use Rattle.algol_tree.specs.Found.{Finds, Refuses};
+ghost use Rattle.algol_tree.specs.Found.{Finds, Lists, Refuses};
 ghost use Rattle.algol_part.specs.Brings.{Brings, Adds, AddsNone};
-ghost use Rattle.algol_part.specs.Phrases.{phrases_in, closed_phrases, closed_items};
+ghost use Rattle.algol_part.specs.Phrases.{phrases_in, format_in, closed_phrases, closed_items};
 
 use crate::exprs::read_items;
 use crate::make::writing;
 use crate::names::read_name_before;
 use crate::take::unexpected;
 use algol_expr::{expect_symbol, first_of, is_symbol};
-use algol_tree::{Expr, Line, List, PhraseText, Refusal, Spot, Stmt, Symbol, Token, TokenKind};
+use algol_tree::{
+    Expr, Line, List, Named, PhraseText, Refusal, Spot, Stmt, Symbol, Token, TokenKind,
+};
 use std::alloc::{AllocError, Global};
 
 /// WRITE "(" name "," "<" phrase { "," phrase } ">" [ "," expr { "," expr } ] ")", behind the WRITE
@@ -27,7 +29,17 @@ pub(crate) fn read_write(alloc: Global, tokens: &[Token]) -> Result<(Stmt, &[Tok
 {
     let rest = expect_symbol(tokens, Symbol::OpenRound)?;
     let (file, rest) = read_name_before(alloc, rest, Symbol::Comma)?;
-    let (spot, rest) = read_angle(rest)?;
+    let (statement, rest) = read_format(alloc, file, rest)?;
+    Ok((statement, rest))
+}
+
+/// "<" phrase { "," phrase } ">" [ "," expr { "," expr } ] ")", behind the name of the file
+fn read_format(alloc: Global, file: Named, tokens: &[Token]) -> Result<(Stmt, &[Token]), Refusal>
+    requires ended { EndsOnce tokens.now }
+    ensures found { IfOk result (λ r. Lists format_in tokens.now (name_is file) (stmt (plain r.0)) r.1.now) }
+    ensures refused { IfErr result (λ e. Refuses format_in (name_is file ∷ []) tokens.now e) }
+{
+    let (spot, rest) = read_angle(tokens)?;
     let (phrases, rest) = read_closed_phrases(alloc, rest)?;
     let (items, rest) = read_closed_items(alloc, rest)?;
     Ok((writing(file, spot, phrases, items), rest))

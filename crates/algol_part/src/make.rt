@@ -34,6 +34,12 @@ pub(crate) fn writing(file: Named, spot: Spot, phrases: List<PhraseText>, items:
     Stmt::Write(file, spot, phrases, items)
 }
 
+pub(crate) fn simple(kind: Kind, names: List<Named>) -> Decl
+    ensures { image.decl result ≡ trees.simple kind names }
+{
+    Decl::Simple(kind, names)
+}
+
 pub(crate) fn printers(files: List<Named>) -> Decl
     ensures { image.decl result ≡ trees.files files }
 {

@@ -43,7 +43,10 @@ pub(crate) fn read_name_before(
 }
 
 /// names = name { "," name }
-pub fn read_names(alloc: Global, tokens: &[Token]) -> Result<(List<Named>, &[Token]), Refusal>
+pub(crate) fn read_names(
+    alloc: Global,
+    tokens: &[Token],
+) -> Result<(List<Named>, &[Token]), Refusal>
     requires ended { EndsOnce tokens.now }
     ensures found { IfOk result (λ r. Brings names_in tokens.now (names r.0) r.1.now) }
     ensures refused { IfErr result (λ e. Refuses names_in [] tokens.now e) }

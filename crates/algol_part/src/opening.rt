@@ -5,10 +5,12 @@ ghost use Rattle.algol_tree.specs.Ended.{EndsOnce};
 ghost use Rattle.algol_tree.specs.declared.refusal.Code.TheVariants as codes;
 ghost use Rattle.algol_tree.specs.declared.refusal.Refusal.TheVariants as refusals;
 ghost use Rattle.algol_tree.specs.Due as due;
-ghost use Rattle.algol_tree.specs.Due.{stmt};
+ghost use Rattle.algol_tree.specs.Due.{one, stmt};
+ghost use Rattle.algol_tree.specs.Image as image;
 ghost use Rattle.algol_tree.specs.Image.{stmt as plain};
 ghost use Rattle.algol_tree.specs.Found.{Refuses};
 ghost use Rattle.algol_part.specs.Brings.{Brings};
+ghost use Rattle.algol_part.specs.Phrases.{choice_in, value_in};
 ghost use Rattle.algol_part.specs.Openings.{behind_for, behind_word, behind_verb, still_due, so_far, ComesTo, Begins};
 
 use crate::exprs::read_actuals;
@@ -100,9 +102,8 @@ fn read_behind_name(
             behind,
         ))
     } else if is_symbol(first, Symbol::Becomes) {
-        let (value, rest) = read_whole(alloc, behind, 0)?;
-        let subs = List::of(Vec::new(alloc));
-        Ok((Beginning::Whole(assignment(name, subs, value)), rest))
+        let (assignment, rest) = read_value(alloc, name, behind)?;
+        Ok((Beginning::Whole(assignment), rest))
     } else if is_symbol(first, Symbol::OpenSquare) {
         let (element, rest) = read_element(alloc, name, behind)?;
         Ok((Beginning::Whole(element), rest))
@@ -110,6 +111,17 @@ fn read_behind_name(
         let (actuals, rest) = read_actuals(alloc, tokens)?;
         Ok((Beginning::Whole(called(name, actuals)), rest))
     }
+}
+
+/// expr, behind a name and ":="
+fn read_value(alloc: Global, name: Named, tokens: &[Token]) -> Result<(Stmt, &[Token]), Refusal>
+    requires ended { EndsOnce tokens.now }
+    ensures found { IfOk result (λ r. Brings (value_in name) tokens.now (stmt (plain r.0)) r.1.now) }
+    ensures refused { IfErr result (λ e. Refuses (value_in name) [] tokens.now e) }
+{
+    let (value, rest) = read_whole(alloc, tokens, 0)?;
+    let subs = List::of(Vec::new(alloc));
+    Ok((assignment(name, subs, value), rest))
 }
 
 /// How many levels are open behind a label at that place, which opens one
@@ -155,11 +167,21 @@ fn read_opening(
             Ok((Opening::Led(Lead::Thru(count)), rest))
         }
         Opener::Case => {
-            let (choice, rest) = read_before(alloc, tokens, Reserved::Of)?;
-            let begun = expect_word(rest, Reserved::Begin)?;
-            Ok((Opening::Case(choice), begun))
+            let (choice, rest) = read_choice(alloc, tokens)?;
+            Ok((Opening::Case(choice), rest))
         }
     }
+}
+
+/// expr OF BEGIN, behind CASE
+fn read_choice(alloc: Global, tokens: &[Token]) -> Result<(Held<Expr>, &[Token]), Refusal>
+    requires ended { EndsOnce tokens.now }
+    ensures found { IfOk result (λ r. Brings choice_in tokens.now (one (image.expr r.0)) r.1.now) }
+    ensures refused { IfErr result (λ e. Refuses choice_in [] tokens.now e) }
+{
+    let (choice, rest) = read_before(alloc, tokens, Reserved::Of)?;
+    let rest = expect_word(rest, Reserved::Begin)?;
+    Ok((choice, rest))
 }
 
 /// name ":=" expr STEP expr UNTIL expr DO, behind FOR

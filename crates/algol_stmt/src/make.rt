@@ -9,7 +9,7 @@ ghost use Rattle.algol_part.specs.Openings.{led};
 
 use algol_expr::{Held, boxed};
 use algol_part::Lead;
-use algol_tree::{Body, Decl, Expr, Heading, Kind, List, Named, Program, Refusal, Spot, Stmt};
+use algol_tree::{Body, Decl, Expr, Heading, List, Named, Program, Refusal, Spot, Stmt};
 use std::alloc::Global;
 
 fn labelled(alloc: Global, name: Named, statement: Held<Stmt>) -> Result<Held<Stmt>, Refusal>
@@ -131,24 +131,18 @@ pub(crate) fn program(spot: Spot, decls: List<Decl>, stmts: List<Stmt>) -> Progr
 
 pub(crate) fn procedure(
     alloc: Global,
-    heading: Heading,
+    heading: Held<Heading>,
     statement: Held<Stmt>,
 ) -> Result<Decl, Refusal>
     ensures built { IfOk result (λ d. image.decl d ≡ trees.procedure heading (plain statement)) }
     ensures memory { IfErr result (λ e. e ≡ NoMemory) }
 {
     let statement = boxed(alloc, statement)?;
-    Ok(Decl::Procedure(heading, statement))
+    Ok(Decl::Procedure(heading.free(), statement))
 }
 
-pub(crate) fn forward(heading: Heading) -> Decl
+pub(crate) fn forward(heading: Held<Heading>) -> Decl
     ensures { image.decl result ≡ trees.forward heading }
 {
-    Decl::Forward(heading)
-}
-
-pub(crate) fn simple(kind: Kind, names: List<Named>) -> Decl
-    ensures { image.decl result ≡ trees.simple kind names }
-{
-    Decl::Simple(kind, names)
+    Decl::Forward(heading.free())
 }

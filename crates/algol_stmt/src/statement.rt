@@ -16,13 +16,11 @@ ghost use Rattle.algol_part.specs.declared.opening.Opening.TheVariants as openin
 ghost use Rattle.algol_part.specs.Openings.{still_due, so_far, ComesTo};
 ghost use Rattle.algol_part.specs.Phrases.{statements_in};
 
-use crate::make::{
-    block, choosing, forward, led, one_armed, procedure, repeating, simple, two_armed,
-};
+use crate::make::{block, choosing, forward, led, one_armed, procedure, repeating, two_armed};
 use algol_expr::{Held, expect_symbol, expect_word, first_of, is_symbol, is_word, opened, push};
 use algol_part::{
     Beginning, Lead, Opening, begins_body, lists_names, read_arrays, read_beginning, read_heading,
-    read_listed, read_names, read_until, type_of, unexpected,
+    read_listed, read_simples, read_until, type_of, unexpected,
 };
 use algol_tree::{Decl, Expr, Heading, Kind, List, Refusal, Reserved, Spot, Stmt, Symbol, Token};
 use std::alloc::Global;
@@ -231,10 +229,7 @@ fn read_typed<'a>(
     } else if is_word(first, Reserved::Array) {
         read_arrays(alloc, kind, decls, behind)
     } else {
-        let (names, rest) = read_names(alloc, tokens)?;
-        let rest = expect_symbol(rest, Symbol::Semicolon)?;
-        decls.push(simple(kind, names))?;
-        Ok(rest)
+        read_simples(alloc, kind, decls, tokens)
     }
 }
 
@@ -266,7 +261,7 @@ fn read_procedure(
 }
 
 /// The heading that the word FORWARD stands behind, where a semicolon follows
-fn closed_forward(heading: Heading, tokens: &[Token]) -> Result<(Decl, &[Token]), Refusal>
+fn closed_forward(heading: Held<Heading>, tokens: &[Token]) -> Result<(Decl, &[Token]), Refusal>
     requires ended { EndsOnce tokens.now }
     ensures passes { IfOk result (λ r. Passes (due.symbol symbols.Semicolon) tokens.now r.1.now) }
     ensures built { IfOk result (λ r. image.decl r.0 ≡ trees.forward heading) }
@@ -279,7 +274,7 @@ fn closed_forward(heading: Heading, tokens: &[Token]) -> Result<(Decl, &[Token])
 /// The procedure of that heading and statement, where a semicolon follows
 fn closed_procedure(
     alloc: Global,
-    heading: Heading,
+    heading: Held<Heading>,
     statement: Held<Stmt>,
     tokens: &[Token],
 ) -> Result<(Decl, &[Token]), Refusal>

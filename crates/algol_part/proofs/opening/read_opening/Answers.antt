@@ -1,6 +1,5 @@
 use Rattle.std.proofs.Common.{[], arith}
-use Rattle.algol_expr.proofs.Chain.{past}
-use Rattle.algol_part.proofs.Chains.{begun, bringing, failing, refusing_all, left_as, rest_of}
+use Rattle.algol_part.proofs.Chains.{begun, bringing, refusing_all, left_as}
 use Rattle.algol_part.specs.Openings.{behind_word}
 use Rattle.algol_part.proofs.Openings.{comes, comes_behind, refuses_behind, range_as, range_refused}
 use Rattle.algol_part.specs.declared.start.Opener.TheVariants as openers
@@ -39,8 +38,5 @@ returns-in-For-clause-refused c = range_refused c.read_range.result c.in-For.is 
 pub returns-in_err-choice-in-Case-clause-refused : goal.returns-in_err-choice-in-Case-clause-refused
 returns-in_err-choice-in-Case-clause-refused c = left_as _ _ _ c.from_residual-in_err-choice-in-Case.ensures.1 (λ i. refuses_behind c.in-Case.is c.args.spot i (refusing_all _ (begun (behind_word openers.Case c.args.spot i) [] _) c.in_err-choice-in-Case.ensures.refused))
 
-pub returns-in_err-begun-in-Case-clause-refused : goal.returns-in_err-begun-in-Case-clause-refused
-returns-in_err-begun-in-Case-clause-refused c = left_as _ _ _ c.from_residual-in_err-begun-in-Case.ensures.1 (λ i. refuses_behind c.in-Case.is c.args.spot i (failing (bringing (begun (behind_word openers.Case c.args.spot i) [] _) c.in_ok-choice-in-Case.ensures.found) c.in_err-begun-in-Case.ensures.fails))
-
-pub returns-in_ok-begun-in-Case-clause-found : goal.returns-in_ok-begun-in-Case-clause-found
-returns-in_ok-begun-in-Case-clause-found c = let b = rest_of c.in_ok-choice-in-Case.ensures.found.behind c.in_ok-begun-in-Case.ensures.passes.behind in λ i. comes_behind c.in-Case.is c.args.spot i (comes (past (bringing (begun (behind_word openers.Case c.args.spot i) [] _) c.in_ok-choice-in-Case.ensures.found) c.in_ok-begun-in-Case.ensures.passes) b.ended (omega (arith, b.shorter)))
+pub returns-in_ok-choice-in-Case-clause-found : goal.returns-in_ok-choice-in-Case-clause-found
+returns-in_ok-choice-in-Case-clause-found c = let b = c.in_ok-choice-in-Case.ensures.found.behind in λ i. comes_behind c.in-Case.is c.args.spot i (comes (bringing (begun (behind_word openers.Case c.args.spot i) [] _) c.in_ok-choice-in-Case.ensures.found) b.ended (omega (arith, b.shorter)))

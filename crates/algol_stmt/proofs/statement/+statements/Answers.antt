@@ -2,11 +2,11 @@ use Rattle.std.proofs.Common.{[], ◌∷◌, ◌++◌, length, refl, sym, ap, �
 use Rattle.algol_expr.proofs.Chain.{completing, extending, making, past}
 use Rattle.algol_part.proofs.Chains.{added, adding, begun, behind_it, behind_symbol, behind_word, bringing, brought, failing, left_as, listed, listing, makes_it, no_memory, refuses_here, refusing, refusing_all, refusing_on, rest_of, rest_on, rest_within, skips_it, takes_all, takes_it, then, valued}
 use Rattle.algol_part.proofs.Loops.{goes_on, one_decl, one_stmt, goes_to, goes_as, refused_as_other, extends_all}
-use Rattle.algol_part.proofs.Tails.{lists_by, refuses_on}
+use Rattle.algol_part.proofs.Tails.{lists_by, lists_here, refuses_on}
 use Rattle.algol_part.proofs.Begun.{body_refuses, body_starts, body_too_deep, else_off, else_on, forward_takes, more_stmts, none_declared, procedure_declared, stmts_off, stmts_on, type_declared, typed_arrays, typed_list, typed_procedure}
-use Rattle.algol_part.proofs.Openings.{ending, ends_opened, is_open, is_whole, led_is_made, opened_as, opened_found, opened_refused, refused_as, refuses_opened}
+use Rattle.algol_part.proofs.Openings.{ending, is_open, is_whole, led_is_made, opened_as, opened_found, opened_refused, refused_as}
 use Rattle.algol_part.specs.Openings.{led, led_by, still_due}
-use Rattle.algol_part.specs.Phrases.{arrays_in, statements_in}
+use Rattle.algol_part.specs.Phrases.{arrays_in, simples_in, statements_in}
 use Rattle.algol_part.proofs.Specs.{not_end_type}
 use Rattle.algol_tree.specs.DueStmt.{decl_behind, procedure_in}
 use Rattle.algol_tree.specs.Plain.{no_decls}
@@ -141,14 +141,11 @@ read_typed-returns-then-is_word-2-clause-found t c = lists_by c.read_arrays.resu
 pub read_typed-returns-then-is_word-2-clause-refused : goal.read_typed-returns-then-is_word-2-clause-refused
 read_typed-returns-then-is_word-2-clause-refused t c = refuses_on c.read_arrays.result (arrays_in c.args.kind) {ws = []} (takes_all c.first_of.ensures (due.typed c.args.kind c.args.depth) (arrays_in c.args.kind) {us = due.declared (image.decls _) ∷ []} (typed_arrays c.args.kind c.args.depth c.first_of.ensures (sym c.is_word-else-is_word.ensures ∙ c.if-is_word-2.true))) c.read_arrays.ensures.refused
 
-pub read_typed-returns-in_err-names-clause-refused : goal.read_typed-returns-in_err-names-clause-refused
-read_typed-returns-in_err-names-clause-refused t c = left_as _ _ _ c.from_residual-in_err-names.ensures.1 (refusing_all _ (typed_list c.args.kind c.args.depth (due.declared (image.decls _) ∷ []) c.first_of.ensures (sym c.is_word.ensures ∙ c.if-is_word.false) (sym c.is_word-else-is_word.ensures ∙ c.if-is_word-2.false)) c.in_err-names.ensures.refused)
+pub read_typed-returns-else-is_word-2-clause-found : goal.read_typed-returns-else-is_word-2-clause-found
+read_typed-returns-else-is_word-2-clause-found t c = lists_here c.read_simples.result _ _ (λ x. x.now) (simples_in c.args.kind) (typed_list c.args.kind c.args.depth (due.declared (image.decls _) ∷ []) c.first_of.ensures (sym c.is_word.ensures ∙ c.if-is_word.false) (sym c.is_word-else-is_word.ensures ∙ c.if-is_word-2.false)) c.read_simples.ensures.found
 
-pub read_typed-returns-in_err-rest-clause-refused : goal.read_typed-returns-in_err-rest-clause-refused
-read_typed-returns-in_err-rest-clause-refused t c = left_as _ _ _ c.from_residual-in_err-rest.ensures.1 (failing {ws = due.declared (decl_behind _ (trees.simple c.args.kind _)) ∷ []} (making {xs = due.declared (decl_behind _ (trees.simple c.args.kind _)) ∷ []} (bringing (typed_list c.args.kind c.args.depth (due.declared (image.decls _) ∷ []) c.first_of.ensures (sym c.is_word.ensures ∙ c.if-is_word.false) (sym c.is_word-else-is_word.ensures ∙ c.if-is_word-2.false)) c.in_ok-names.ensures.found) (λ vs. refl)) c.in_err-rest.ensures.fails)
-
-pub read_typed-returns-in_ok-push-2-clause-found : goal.read_typed-returns-in_ok-push-2-clause-found
-read_typed-returns-in_ok-push-2-clause-found t c = listed (valued {ws = []} (past {ws = due.declared (decl_behind _ (trees.simple c.args.kind _)) ∷ []} (making {xs = due.declared (decl_behind _ (trees.simple c.args.kind _)) ∷ []} (bringing (typed_list c.args.kind c.args.depth (due.declared (image.decls _) ∷ []) c.first_of.ensures (sym c.is_word.ensures ∙ c.if-is_word.false) (sym c.is_word-else-is_word.ensures ∙ c.if-is_word-2.false)) c.in_ok-names.ensures.found) (λ vs. refl)) c.in_ok-rest.ensures.passes) (ap due.declared (sym (ap (decl_behind _) (sym c.simple.ensures) ∙ one_decl _ _ _ c.in_ok-push-2.ensures.items)))) refl (rest_of c.in_ok-names.ensures.found.behind c.in_ok-rest.ensures.passes.behind)
+pub read_typed-returns-else-is_word-2-clause-refused : goal.read_typed-returns-else-is_word-2-clause-refused
+read_typed-returns-else-is_word-2-clause-refused t c = refuses_on c.read_simples.result (simples_in c.args.kind) {ws = []} (typed_list c.args.kind c.args.depth (due.declared (image.decls _) ∷ []) c.first_of.ensures (sym c.is_word.ensures ∙ c.if-is_word.false) (sym c.is_word-else-is_word.ensures ∙ c.if-is_word-2.false)) c.read_simples.ensures.refused
 
 pub read_declarations-declarations-init : goal.read_declarations-declarations-init
 read_declarations-declarations-init t c = goes_on (valued {ws = []} (begun ((due.declarations c.args.depth) ∷ []) (due.declared no_decls ∷ []) _) (ap (λ xs. due.declared (image.decls xs)) c.new-decls.ensures.items)) c.requires.ended
