@@ -1,6 +1,6 @@
 -- Walks over statements and declarations, by their shapes.
 use Rattle.std.proofs.Common.{rules, ◌≡◌, ℕ, ◌+◌, ◌<◌, ◌≤◌, List, [], ◌∷◌, ◌++◌, length, drop, get_or, map, take, ◌-◌, Bool, true, false, Option, Some, None, refl, ap, sym, ◌∙◌, subst, drop-cons, suc, zero, arith}
-use Rattle.std.specs.Prelude.{not, ◌==◌, MatchOption, option_copied, option_to_list}
+use Rattle.std.specs.Prelude.{not, ◌==◌, Result, Ok, Err, OnOk, MatchOption, option_copied, option_to_list}
 use Rattle.std.specs.Borrow.{Bor}
 use Rattle.std.specs.declared.vec.Vec.{Vec}
 use Rattle.std.specs.declared.boxed.Box.{Box}
@@ -55,6 +55,16 @@ use Rattle.algol_check.proofs.Bodied.{body_begins, body_walks, decls_end, decls_
 use Rattle.algol_check.proofs.Bodies.{announced_at}
 use Rattle.algol_check.proofs.Named.{arrays_walk, events_walk, files_walk, forward_walks, labels_walk, popped_known, procedure_walks, simple_walks, tasks_walk}
 use Rattle.algol_check.proofs.Stated.{IsTyped, block_walks, case_walks, empty_walks, for_walks, if_else_walks, if_then_walks, label_walks, stmts_end, stmts_more, thru_walks, until_walks, while_walks}
+
+-- ---- what holds where nothing fails
+
+pub on_ok : {A E : Type 0} (r : Result A E) {P Q : Type 0} → (P → Q) → OnOk r P → OnOk r Q
+on_ok (Ok x) f h = f h
+on_ok (Err e) f h = tt
+
+pub on_both : {A E : Type 0} (r : Result A E) {P Q R : Type 0} → (P → Q → R) → OnOk r P → OnOk r Q → OnOk r R
+on_both (Ok x) f h k = f h k
+on_both (Err e) f h k = tt
 
 -- ---- the plain trees
 
@@ -217,6 +227,12 @@ remains_less start now next all ss i s listed h e w r = λ end v.
 pub remains_none : (start now : Checker) (all ss : List Stmt) (i : ℕ) (listed : Bool) → length ss ≤ i → Remains start now all (drop i ss) listed → WalksStmts start now (stmts all) listed
 remains_none start now all ss i listed h r =
     let P : List Stmt → Type 0 = λ xs. WalksStmts now now (stmts xs) listed in r now (subst P (sym (dropped ss i h)) (stmts_end now listed))
+
+pub stmts_as : (c d : Checker) (us ss : List Stmt) (x y : Bool) → us ≡ ss → x ≡ y → WalksStmts c d (stmts us) x → WalksStmts c d (stmts ss) y
+stmts_as c d us ss x y e k w =
+    let P : List Stmt → Type 0 = λ zs. WalksStmts c d (stmts zs) x in
+    let Q : Bool → Type 0 = λ z. WalksStmts c d (stmts ss) z in
+    subst Q k (subst P e w)
 
 -- a body has declarations where its list is not empty
 pub listed_as : (ds : List Decl) (n : ℕ) → n ≡ length ds → not (n == 0) ≡ has_decls (decls ds)
@@ -408,14 +424,13 @@ announced_here ds es i d body' slice items h e f s b q =
     sym (announced_at ds i d h e) ∙ ap (λ (xs : List Decl). body_at (bodies_for (decls xs)) i) (sym q) ∙ ap (λ os. body_at os i) (sym b)
     ∙ ap (λ (xs : List (Option (Bor Heading))). body_at (map option_copied xs) i) (sym s) ∙ sym f
 
-pub body_arm : (b : Body) (c d e f : Checker) (v : Vec Names Global) (t : Names) (r : Option Names) (n m : ℕ) (ds : List Decl) (ss : List Stmt) (listed : Bool) (i j : ℕ) → IsBare t.entries →
+pub body_arm : (b : Body) (c d e f : Checker) (v : Vec Names Global) (t : Names) (r : Option Names) (n m : ℕ) (ds : List Decl) (ss : List Stmt) (listed : Bool) (i : ℕ) → IsBare t.entries →
     d ≡ record c { known = d.known } → d.known.items ≡ c.known.items ++ t ∷ [] → ds ≡ b.decls → ss ≡ b.stmts → listed ≡ has_decls (decls_in (body b)) →
-    length ds ≤ i → InBody e.known.items c.known.items → RemainsDecls d e c.known.items ds (drop i ds) → length ss ≤ j → Remains e f ss (drop j ss) listed →
+    length ds ≤ i → InBody e.known.items c.known.items → RemainsDecls d e c.known.items ds (drop i ds) → WalksStmts e f (stmts ss) listed →
     f.known.items ≡ v.items ++ option_to_list r → v.items ≡ take (n - 1) f.known.items → MatchOption r ((n ≡ 0) × (m ≡ 0)) (λ x. m + 1 ≡ n) →
     WalksBody c (record f { known = v }) (body b)
-body_arm b c d e f v t r n m ds ss listed i j bare fresh k p q l hi inb rd hj rs pi pr pc =
+body_arm b c d e f v t r n m ds ss listed i bare fresh k p q l hi inb rd walked pi pr pc =
     let w = decls_none d e c.known.items ds ds i hi inb rd in
-    let walked = remains_none e f ss ss j listed hj rs in
     let P : Bool → Type 0 = λ x. WalksStmts e f (stmts ss) x in
     let is_listed : listed ≡ has_decls (decls ds) =
     l ∙ ap (λ (x : PBody). has_decls (decls_in x)) (body_is b) ∙ ap (λ (xs : List Decl). has_decls (decls xs)) (sym p) in

@@ -6,7 +6,7 @@ use Rattle.algol_tree.specs.Plain.{PBody, PDecl, PDecls, PStmts}
 use Rattle.algol_tree.specs.Blocks.{Begin, of_procedure, of_statement, number_at, spot_of, Block, blocks_in_decl, blocks_in_decls, blocks_in_stmts}
 use Rattle.algol_tree.specs.Surroundings.{Surroundings, knowing, knowing_all}
 use Rattle.algol_tree.specs.Sites as site
-use Rattle.algol_tree.specs.Sites.{Site, has_decls, inside_decl, sites_in_decls, sites_in_stmts}
+use Rattle.algol_tree.specs.Sites.{has_decls, inside_decl, sites_in_decls, sites_in_stmts}
 use Rattle.algol_sites.specs.declared.known.Names.{Names}
 use Rattle.algol_sites.specs.declared.place.Place.{Place}
 use Rattle.algol_sites.specs.Placing.{IsFound, IsPlaced, outer_of}

@@ -1,5 +1,5 @@
 -- Tables of bodies, and what declarations announce.
-use Rattle.std.proofs.Common.{rules, ◌≡◌, ℕ, ◌+◌, ◌-◌, ◌<◌, ◌≤◌, Bool, true, false, List, [], ◌∷◌, ◌++◌, map, length, drop, get_or, reverse, Option, Some, None, refl, ap, sym, ◌∙◌, subst, arith, drop-cons, suc, zero}
+use Rattle.std.proofs.Common.{rules, ◌≡◌, ℕ, ◌+◌, ◌-◌, ◌<◌, ◌≤◌, Bool, true, false, List, [], ◌∷◌, ◌++◌, map, length, drop, get_or, reverse, Option, Some, refl, ap, sym, ◌∙◌, subst, arith, drop-cons, suc, zero}
 use Rattle.std.proofs.lemmas.List.{reverse-append}
 use Rattle.std.specs.Prelude.{◌==◌, ◌&&◌, if◌then◌else◌, cond, option_copied}
 use Rattle.std.specs.Borrow.{Bor}
@@ -19,7 +19,6 @@ use Rattle.algol_tree.specs.Image.{decl, decls, stmt}
 use Rattle.algol_tree.specs.Plain as tree
 use Rattle.algol_tree.specs.Plain.{PDecl, PDecls}
 use Rattle.algol_tree.specs.Sorts.{same_name}
-use Rattle.algol_tree.specs.Surroundings.{body_of}
 use Rattle.algol_check.specs.Announced.{HasBodies, bodies_for, body_at, body_for, heading_in}
 
 straight : (xs ys : List ℕ) → bytes_eq xs ys ≡ same_name xs ys
@@ -51,25 +50,6 @@ procedure_is h s = search (rules, the_lemmas)
 forward_is : (h : Heading) → decl (shapes.Forward h) ≡ tree.forward h
 forward_is h = search (rules, the_lemmas)
 
-pub procedure_bodies : (d : Decl) (h : Heading) (s : Box Stmt Global) (old new : BTreeMap (Bor (List ℕ)) (Bor Heading)) (later : PDecls) → d ≡ shapes.Procedure h s →
-    ((name : List ℕ) → heading_in new name ≡ (if same_name h.name.name name then Some h else heading_in old name)) → HasBodies old later →
-    HasBodies new (tree.decls (decl d) later)
-procedure_bodies d h s old new later is put had = λ name.
-    put name ∙ ap (λ o. if same_name h.name.name name then Some h else o) (had name)
-    ∙ sym (ap (λ (x : PDecl). body_of name (tree.decls x later)) (ap decl is ∙ procedure_is h s))
-
-pub procedure_announces : (d : Decl) (h : Heading) (s : Box Stmt Global) (later : PDecls) → d ≡ shapes.Procedure h s → None ≡ body_for (decl d) later
-procedure_announces d h s later is = sym (ap (λ (x : PDecl). body_for x later) (ap decl is ∙ procedure_is h s))
-
-pub forward_bodies : (d : Decl) (h : Heading) (table : BTreeMap (Bor (List ℕ)) (Bor Heading)) (later : PDecls) → d ≡ shapes.Forward h → HasBodies table later →
-    HasBodies table (tree.decls (decl d) later)
-forward_bodies d h table later is had = λ name. had name ∙ sym (ap (λ (x : PDecl). body_of name (tree.decls x later)) (ap decl is ∙ forward_is h))
-
-pub forward_announces : (d : Decl) (h : Heading) (table : BTreeMap (Bor (List ℕ)) (Bor Heading)) (bytes : List ℕ) (found : Option (Bor Heading)) (later : PDecls) →
-    d ≡ shapes.Forward h → bytes ≡ h.name.name → option_copied found ≡ heading_in table bytes → HasBodies table later → option_copied found ≡ body_for (decl d) later
-forward_announces d h table bytes found later is b f had =
-    f ∙ had bytes ∙ ap (λ (name : List ℕ). body_of name later) b ∙ sym (ap (λ (x : PDecl). body_for x later) (ap decl is ∙ forward_is h))
-
 -- ---- all declarations, the last first
 
 split : {A : Type 0} (xs : List A) (i : ℕ) (x : A) → i < length xs → drop i xs ≡ get_or xs i x ∷ drop (i + 1) xs
@@ -100,18 +80,9 @@ dropped [] (suc i) h = refl
 dropped (x ∷ xs) zero h = absurd (omega arith)
 dropped (x ∷ xs) (suc i) h = dropped xs i (omega arith)
 
-pub bodies_none : (ds : List Decl) (i : ℕ) (table : BTreeMap (Bor (List ℕ)) (Bor Heading)) → length ds ≤ i → ((name : List ℕ) → heading_in table name ≡ None) →
-    HasBodies table (decls (drop i ds))
-bodies_none ds i table h none =
-    let P : List Decl → Type 0 = λ xs. HasBodies table (decls xs) in subst P (sym (dropped ds i h)) (λ name. none name)
-
 pub found_none : (ds : List Decl) (i : ℕ) (found : List (Option (Bor Heading))) → length ds ≤ i → found ≡ [] → map option_copied (reverse found) ≡ bodies_for (decls (drop i ds))
 found_none ds i found h e =
     ap (λ (xs : List (Option (Bor Heading))). map option_copied (reverse xs)) e ∙ sym (ap (λ (xs : List Decl). bodies_for (decls xs)) (dropped ds i h))
-
-pub found_all : (ds : List Decl) (at : ℕ) (found : List (Option (Bor Heading))) → at ≤ 0 → map option_copied (reverse found) ≡ bodies_for (decls (drop at ds)) →
-    map option_copied (reverse found) ≡ bodies_for (decls ds)
-found_all ds at found h e = let z : at ≡ 0 = omega arith in e ∙ ap (λ (n : ℕ). bodies_for (decls (drop n ds))) z
 
 -- ---- the body of one of them
 

@@ -18,7 +18,7 @@ use Rattle.algol_tree.specs.Sorts.{Declared, look_up}
 use Rattle.algol_tree.specs.Blocks.{Block, blocks_of, number_at, of_procedure, procedure_block}
 use Rattle.algol_tree.specs.Surroundings.{Surroundings, body_of, declare_procedure, heading_or, inside_procedure, knowing}
 use Rattle.algol_tree.specs.Sites as site
-use Rattle.algol_tree.specs.Sites.{Site, inside_decl, sites_in_pairs}
+use Rattle.algol_tree.specs.Sites.{Site, sites_in_pairs}
 use Rattle.algol_tree.specs.Accepted.{noted_all}
 use Rattle.algol_rules.specs.declared.fault.Faults.{Faults}
 use Rattle.algol_sites.specs.declared.known.Names.{Names}

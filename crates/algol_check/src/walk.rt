@@ -6,16 +6,18 @@ ghost use Rattle.algol_tree.specs.declared.refusal.Code.{Code};
 ghost use Rattle.algol_tree.specs.declared.refusal.Refusal.TheVariants.{At};
 ghost use Rattle.algol_tree.specs.Accepted.{check_faults, first_fault};
 ghost use Rattle.algol_tree.specs.Ascending.{IsInOrder};
-ghost use Rattle.algol_tree.specs.Image.{body, decl, program, stmt};
+ghost use Rattle.algol_tree.specs.Image.{body, decl, program, stmt, stmts};
 ghost use Rattle.algol_tree.specs.Plain.{PDecls};
+ghost use Rattle.algol_tree.specs.Sites.{has_decls};
 ghost use Rattle.algol_sites.specs.declared.known.Names.{Names};
 ghost use Rattle.algol_sites.specs.Seen.{HaveFormals};
 ghost use Rattle.algol_check.specs.Announced.{body_for};
-ghost use Rattle.algol_check.specs.Declaring.{InBody, WalksDecl};
-ghost use Rattle.algol_check.specs.Walking.{WalksBody, WalksStmt, begin_as};
+ghost use Rattle.algol_check.specs.Declaring.{InBody, WalksDecl, decls_in};
+ghost use Rattle.algol_check.specs.Walking.{WalksBody, WalksStmt, WalksStmts, begin_as};
 
 use crate::announced::{announced, body_at};
 use crate::checker::{Begin, Checker, has_declarations};
+use algol_rules::{boxed_stmt, decls_in, exprs_in, stmts_in};
 use algol_sites::{Class, Names, Specified, counting, typed};
 use algol_tree::{Body, Decl, Heading, Kind, Program, Refusal, Stmt};
 use std::alloc::{AllocError, Global};
@@ -31,8 +33,7 @@ impl<'p> Checker<'p> {
             Stmt::Empty => Ok(()),
             Stmt::Label(n, s) => {
                 self.label(n, listed)?;
-                self.stmt(s, Begin::OfStatement, listed)?;
-                Ok(())
+                self.stmt(boxed_stmt(s), Begin::OfStatement, listed)
             }
             Stmt::Assign(v, e) => {
                 self.assign(v, e);
@@ -54,41 +55,32 @@ impl<'p> Checker<'p> {
             }
             Stmt::If(c, x, other) => {
                 typed(self.known.as_slice(), Kind::Truth, c, &mut self.faults);
-                self.stmt(x, Begin::OfStatement, false)?;
+                self.stmt(boxed_stmt(x), Begin::OfStatement, false)?;
                 match other {
                     None => Ok(()),
-                    Some(y) => {
-                        self.stmt(y, Begin::OfStatement, false)?;
-                        Ok(())
-                    }
+                    Some(y) => self.stmt(boxed_stmt(y), Begin::OfStatement, false),
                 }
             }
             Stmt::While(c, b) => {
                 typed(self.known.as_slice(), Kind::Truth, c, &mut self.faults);
-                self.stmt(b, Begin::OfStatement, false)?;
-                Ok(())
+                self.stmt(boxed_stmt(b), Begin::OfStatement, false)
             }
             Stmt::Until(b, c) => {
-                self.stmt(b, Begin::OfStatement, false)?;
+                self.stmt(boxed_stmt(b), Begin::OfStatement, false)?;
                 typed(self.known.as_slice(), Kind::Truth, c, &mut self.faults);
                 Ok(())
             }
             Stmt::For(v, x, step, last, b) => {
                 counting(self.known.as_slice(), v, x, step, last, &mut self.faults);
-                self.stmt(b, Begin::OfStatement, false)?;
-                Ok(())
+                self.stmt(boxed_stmt(b), Begin::OfStatement, false)
             }
             Stmt::Thru(e, b) => {
                 typed(self.known.as_slice(), Kind::Number, e, &mut self.faults);
-                self.stmt(b, Begin::OfStatement, false)?;
-                Ok(())
+                self.stmt(boxed_stmt(b), Begin::OfStatement, false)
             }
             Stmt::Case(e, ss) => {
                 typed(self.known.as_slice(), Kind::Number, e, &mut self.faults);
-                'cases: for s in ss.items() {
-                    self.stmt(s, Begin::OfStatement, false)?;
-                }
-                Ok(())
+                self.stmts(stmts_in(ss), false)
             }
             Stmt::Process(c, task) => {
                 self.process(c, task);
@@ -99,10 +91,31 @@ impl<'p> Checker<'p> {
                 Ok(())
             }
             Stmt::Write(file, spot, phrases, items) => {
-                self.write(file, *spot, phrases.items(), items.items());
+                self.write(file, *spot, phrases.items(), exprs_in(items));
                 Ok(())
             }
         }
+    }
+
+    /// Statements, which are the list of statements of their block or are not.
+    #[cycle(statements)]
+    fn stmts(&mut self, ss: &'p [Stmt], listed: bool) -> Result<(), AllocError>
+        requires { HaveFormals self.old.known.items }
+        ensures { OnOk result (WalksStmts self.old self.new (stmts ss.now) listed) }
+    {
+        'statements: for s in ss {
+            self.stmt(s, Begin::OfStatement, listed)?;
+        }
+        Ok(())
+    }
+
+    /// The statements of a body, which are the list of its block where it has declarations.
+    #[cycle(statements)]
+    fn list(&mut self, b: &'p Body) -> Result<(), AllocError>
+        requires { HaveFormals self.old.known.items }
+        ensures { OnOk result (WalksStmts self.old self.new (stmts b.now.stmts) (has_decls (decls_in (body b.now)))) }
+    {
+        self.stmts(stmts_in(&b.stmts), has_declarations(b))
     }
 
     /// Declarations and statements, whose names are known in them.
@@ -111,15 +124,13 @@ impl<'p> Checker<'p> {
         requires { HaveFormals self.old.known.items }
         ensures { OnOk result (WalksBody self.old self.new (body b.now)) }
     {
-        let bodies = announced(self.alloc, b.decls.items())?;
+        let ds = decls_in(&b.decls);
+        let bodies = announced(self.alloc, ds)?;
         self.known.push(Names::none(self.alloc))?;
-        'declarations: for (at, d) in b.decls.items().iter().enumerate() {
+        'declarations: for (at, d) in ds.iter().enumerate() {
             self.decl(d, body_at(bodies.as_slice(), at))?;
         }
-        let listed = has_declarations(b);
-        'statements: for s in b.stmts.items() {
-            self.stmt(s, Begin::OfStatement, listed)?;
-        }
+        self.list(b)?;
         self.known.pop();
         Ok(())
     }
@@ -131,44 +142,27 @@ impl<'p> Checker<'p> {
         ensures { OnOk result ((around : List Names) (later : PDecls) → body_for (decl d.now) later ≡ option_copied body.entry → InBody self.old.known.items around → WalksDecl self.old self.new around (decl d.now) later) }
     {
         match d {
-            Decl::Simple(kind, ns) => {
-                self.names(ns.items(), Class::Simple(*kind))?;
-                Ok(())
-            }
-            Decl::Files(ns) => {
-                self.names(ns.items(), Class::File)?;
-                Ok(())
-            }
-            Decl::Events(ns) => {
-                self.names(ns.items(), Class::Event)?;
-                Ok(())
-            }
-            Decl::Tasks(ns) => {
-                self.names(ns.items(), Class::Task)?;
-                Ok(())
-            }
+            Decl::Simple(kind, ns) => self.names(ns.items(), Class::Simple(*kind)),
+            Decl::Files(ns) => self.names(ns.items(), Class::File),
+            Decl::Events(ns) => self.names(ns.items(), Class::Event),
+            Decl::Tasks(ns) => self.names(ns.items(), Class::Task),
             Decl::Labels(ns) => {
                 self.keep_labels(ns.items())?;
-                self.names(ns.items(), Class::Label)?;
-                Ok(())
+                self.names(ns.items(), Class::Label)
             }
             Decl::Arrays(kind, ns, pairs) => {
                 self.bounds(pairs.items());
                 self.names(
                     ns.items(),
                     Class::Array(*kind, pairs.items().as_slice().len()),
-                )?;
-                Ok(())
+                )
             }
-            Decl::Forward(h) => {
-                self.forward(h, body)?;
-                Ok(())
-            }
+            Decl::Forward(h) => self.forward(h, body),
             Decl::Procedure(h, s) => {
                 let specified = Specified::of(self.alloc, h)?;
                 self.heading(h, &specified)?;
                 self.enter(h, &specified)?;
-                self.stmt(s, Begin::OfProcedure, false)?;
+                self.stmt(boxed_stmt(s), Begin::OfProcedure, false)?;
                 self.leave();
                 Ok(())
             }

@@ -1,13 +1,15 @@
-use Rattle.std.proofs.Common.{rules, ◌∙◌, ◌+◌, drop, ap, false, length, refl, sym}
+use Rattle.std.proofs.Common.{rules, ◌∙◌, ◌+◌, drop, ap, false, length, refl}
 use Rattle.std.specs.Prelude.{option_copied}
 use Rattle.algol_tree.specs.declared.tree.Body as bodies'
 use Rattle.algol_tree.specs.declared.tree.Decl as decls'
 use Rattle.algol_tree.specs.declared.tree.Stmt as stmts'
-use Rattle.algol_tree.specs.Image.{decls}
+use Rattle.algol_tree.specs.Image.{body, decls}
 use Rattle.algol_tree.specs.Plain as tree
 use Rattle.algol_check.specs.declared.checker.Checker.{Checker}
+use Rattle.algol_tree.specs.Sites.{has_decls}
+use Rattle.algol_check.specs.Declaring.{decls_in}
 use Rattle.algol_check.specs.Walking.{begin_as}
-use Rattle.algol_check.proofs.Arms.{announced_here, arrays_arm, assign_arm, begins_in, block_arm, body_arm, call_arm, case_arm, decls_less, decls_remain, empty_arm, event_arm, events_arm, files_arm, for_arm, forward_arm, go_to_arm, if_else_arm, if_then_arm, label_arm, labels_arm, procedure_arm, process_arm, remains_all, remains_less, remains_none, simple_arm, tasks_arm, thru_arm, until_arm, while_arm, write_arm}
+use Rattle.algol_check.proofs.Arms.{announced_here, arrays_arm, assign_arm, begins_in, block_arm, body_arm, call_arm, case_arm, decls_less, decls_remain, empty_arm, event_arm, events_arm, files_arm, for_arm, forward_arm, go_to_arm, if_else_arm, if_then_arm, label_arm, labels_arm, on_both, on_ok, stmts_as, procedure_arm, process_arm, remains_all, remains_less, remains_none, simple_arm, tasks_arm, thru_arm, until_arm, while_arm, write_arm}
 use Rattle.algol_check.proofs.Stated.{formals_kept, formals_stay}
 use Rattle.algol_check.proofs.checker.Checker.+statements.Goals as goal
 
@@ -20,10 +22,13 @@ stmt-stmt-requires t c =
     let h = formals_stay c.args.self.now c.label.new.self (c.in_ok-label-in-Label.ensures tree.empty).stays c.requires in
     search (rules, stmts'.the_lemmas, decls'.the_lemmas, bodies'.the_lemmas, h)
 
-pub stmt-returns-in_ok-stmt-in-Label : goal.stmt-returns-in_ok-stmt-in-Label
-stmt-returns-in_ok-stmt-in-Label t c =
-    label_arm c.args.s.now c.in-Label.n c.in-Label.s c.deref.result.now c.args.self.now c.label.new.self c.stmt.new.self (begin_as c.args.begin) c.args.listed c.in-Label.is
-    c.deref.ensures c.in_ok-label-in-Label.ensures c.in_ok-stmt-in-Label.ensures
+pub stmt-returns-in_ok-label-in-Label : goal.stmt-returns-in_ok-label-in-Label
+stmt-returns-in_ok-label-in-Label t c =
+    on_ok c.stmt.result
+    (λ went.
+    label_arm c.args.s.now c.in-Label.n c.in-Label.s c.boxed_stmt.result.now c.args.self.now c.label.new.self c.stmt.new.self (begin_as c.args.begin) c.args.listed c.in-Label.is
+    c.boxed_stmt.ensures c.in_ok-label-in-Label.ensures went)
+    c.stmt.ensures
 
 pub stmt-returns-in-Assign : goal.stmt-returns-in-Assign
 stmt-returns-in-Assign t c =
@@ -52,8 +57,8 @@ stmt-returns-in-Event t c =
 
 pub stmt-returns-in-Write : goal.stmt-returns-in-Write
 stmt-returns-in-Write t c =
-    write_arm c.args.s.now c.in-Write.file c.in-Write.spot c.in-Write.phrases c.deref-in-Write.result.now c.in-Write.items c.deref-in-Write-2.result.now c.args.self.now c.write.new.self
-    (begin_as c.args.begin) c.args.listed c.in-Write.is (c.deref-in-Write.ensures.value ∙ c.items-in-Write.ensures) (c.deref-in-Write-2.ensures.value ∙ c.items-in-Write-2.ensures)
+    write_arm c.args.s.now c.in-Write.file c.in-Write.spot c.in-Write.phrases c.deref.result.now c.in-Write.items c.exprs_in.result.now c.args.self.now c.write.new.self
+    (begin_as c.args.begin) c.args.listed c.in-Write.is (c.deref.ensures.value ∙ c.items.ensures) c.exprs_in.ensures
     (c.write.ensures (begin_as c.args.begin) c.args.listed)
 
 pub stmt-body-requires : goal.stmt-body-requires
@@ -68,29 +73,38 @@ stmt-returns-in_ok-body-in-Block t c =
 
 pub stmt-returns-in-None : goal.stmt-returns-in-None
 stmt-returns-in-None t c =
-    if_then_arm c.args.s.now c.in-If.c c.in-If.x c.in-If.other c.deref-in-If.result.now c.args.self.now c.stmt-in-If.new.self c.typed.new.faults c.as_slice.result.now (begin_as c.args.begin) c.args.listed
-    c.in-If.is c.in-None.is c.deref-in-If.ensures c.as_slice.ensures.value c.typed.ensures c.in_ok-stmt-in-If.ensures
+    if_then_arm c.args.s.now c.in-If.c c.in-If.x c.in-If.other c.boxed_stmt-in-If.result.now c.args.self.now c.stmt-in-If.new.self c.typed.new.faults c.as_slice.result.now (begin_as c.args.begin) c.args.listed
+    c.in-If.is c.in-None.is c.boxed_stmt-in-If.ensures c.as_slice.ensures.value c.typed.ensures c.in_ok-stmt-in-If.ensures
 
-pub stmt-returns-in_ok-stmt-in-Some : goal.stmt-returns-in_ok-stmt-in-Some
-stmt-returns-in_ok-stmt-in-Some t c =
-    if_else_arm c.args.s.now c.in-If.c c.in-If.x c.in-If.other c.in-Some.y c.deref-in-If.result.now c.deref-in-Some.result.now c.args.self.now c.stmt-in-If.new.self
-    c.stmt-in-Some.new.self c.typed.new.faults c.as_slice.result.now (begin_as c.args.begin) c.args.listed c.in-If.is c.in-Some.is c.deref-in-If.ensures c.deref-in-Some.ensures c.as_slice.ensures.value
-    c.typed.ensures c.in_ok-stmt-in-If.ensures c.in_ok-stmt-in-Some.ensures
+pub stmt-returns-in-Some : goal.stmt-returns-in-Some
+stmt-returns-in-Some t c =
+    on_ok c.stmt-in-Some.result
+    (λ went.
+    if_else_arm c.args.s.now c.in-If.c c.in-If.x c.in-If.other c.in-Some.y c.boxed_stmt-in-If.result.now c.boxed_stmt-in-Some.result.now c.args.self.now c.stmt-in-If.new.self
+    c.stmt-in-Some.new.self c.typed.new.faults c.as_slice.result.now (begin_as c.args.begin) c.args.listed c.in-If.is c.in-Some.is c.boxed_stmt-in-If.ensures c.boxed_stmt-in-Some.ensures c.as_slice.ensures.value
+    c.typed.ensures c.in_ok-stmt-in-If.ensures went)
+    c.stmt-in-Some.ensures
 
 pub stmt-stmt-requires-in-Some : goal.stmt-stmt-requires-in-Some
 stmt-stmt-requires-in-Some t c =
     let h = formals_stay (record c.args.self.now { faults = c.typed.new.faults }) c.stmt-in-If.new.self c.in_ok-stmt-in-If.ensures.stays c.requires in
     search (rules, stmts'.the_lemmas, decls'.the_lemmas, bodies'.the_lemmas, h)
 
-pub stmt-returns-in_ok-stmt-in-While : goal.stmt-returns-in_ok-stmt-in-While
-stmt-returns-in_ok-stmt-in-While t c =
-    while_arm c.args.s.now c.in-While.c c.in-While.b c.deref-in-While.result.now c.args.self.now c.stmt-in-While.new.self c.typed-in-While.new.faults c.as_slice-in-While.result.now
-    (begin_as c.args.begin) c.args.listed c.in-While.is c.deref-in-While.ensures c.as_slice-in-While.ensures.value c.typed-in-While.ensures c.in_ok-stmt-in-While.ensures
+pub stmt-returns-in-While : goal.stmt-returns-in-While
+stmt-returns-in-While t c =
+    on_ok c.stmt-in-While.result
+    (λ went.
+    while_arm c.args.s.now c.in-While.c c.in-While.b c.boxed_stmt-in-While.result.now c.args.self.now c.stmt-in-While.new.self c.typed-in-While.new.faults c.as_slice-in-While.result.now
+    (begin_as c.args.begin) c.args.listed c.in-While.is c.boxed_stmt-in-While.ensures c.as_slice-in-While.ensures.value c.typed-in-While.ensures went)
+    c.stmt-in-While.ensures
 
-pub stmt-returns-in_ok-stmt-in-Thru : goal.stmt-returns-in_ok-stmt-in-Thru
-stmt-returns-in_ok-stmt-in-Thru t c =
-    thru_arm c.args.s.now c.in-Thru.e c.in-Thru.b c.deref-in-Thru.result.now c.args.self.now c.stmt-in-Thru.new.self c.typed-in-Thru.new.faults c.as_slice-in-Thru.result.now
-    (begin_as c.args.begin) c.args.listed c.in-Thru.is c.deref-in-Thru.ensures c.as_slice-in-Thru.ensures.value c.typed-in-Thru.ensures c.in_ok-stmt-in-Thru.ensures
+pub stmt-returns-in-Thru : goal.stmt-returns-in-Thru
+stmt-returns-in-Thru t c =
+    on_ok c.stmt-in-Thru.result
+    (λ went.
+    thru_arm c.args.s.now c.in-Thru.e c.in-Thru.b c.boxed_stmt-in-Thru.result.now c.args.self.now c.stmt-in-Thru.new.self c.typed-in-Thru.new.faults c.as_slice-in-Thru.result.now
+    (begin_as c.args.begin) c.args.listed c.in-Thru.is c.boxed_stmt-in-Thru.ensures c.as_slice-in-Thru.ensures.value c.typed-in-Thru.ensures went)
+    c.stmt-in-Thru.ensures
 
 pub stmt-typed-requires-in-Until : goal.stmt-typed-requires-in-Until
 stmt-typed-requires-in-Until t c =
@@ -99,84 +113,113 @@ stmt-typed-requires-in-Until t c =
 
 pub stmt-returns-in_ok-stmt-in-Until : goal.stmt-returns-in_ok-stmt-in-Until
 stmt-returns-in_ok-stmt-in-Until t c =
-    until_arm c.args.s.now c.in-Until.b c.in-Until.c c.deref-in-Until.result.now c.args.self.now c.stmt-in-Until.new.self c.typed-in-Until.new.faults c.as_slice-in-Until.result.now
-    (begin_as c.args.begin) c.args.listed c.in-Until.is c.deref-in-Until.ensures c.as_slice-in-Until.ensures.value c.in_ok-stmt-in-Until.ensures c.typed-in-Until.ensures
+    until_arm c.args.s.now c.in-Until.b c.in-Until.c c.boxed_stmt-in-Until.result.now c.args.self.now c.stmt-in-Until.new.self c.typed-in-Until.new.faults c.as_slice-in-Until.result.now
+    (begin_as c.args.begin) c.args.listed c.in-Until.is c.boxed_stmt-in-Until.ensures c.as_slice-in-Until.ensures.value c.in_ok-stmt-in-Until.ensures c.typed-in-Until.ensures
 
-pub stmt-returns-in_ok-stmt-in-For : goal.stmt-returns-in_ok-stmt-in-For
-stmt-returns-in_ok-stmt-in-For t c =
-    for_arm c.args.s.now c.in-For.v c.in-For.x c.in-For.step c.in-For.last c.in-For.b c.deref-in-For.result.now c.args.self.now c.stmt-in-For.new.self c.counting.new.faults
-    c.as_slice-in-For.result.now (begin_as c.args.begin) c.args.listed c.in-For.is c.deref-in-For.ensures c.as_slice-in-For.ensures.value c.counting.ensures c.in_ok-stmt-in-For.ensures
+pub stmt-returns-in-For : goal.stmt-returns-in-For
+stmt-returns-in-For t c =
+    on_ok c.stmt-in-For.result
+    (λ went.
+    for_arm c.args.s.now c.in-For.v c.in-For.x c.in-For.step c.in-For.last c.in-For.b c.boxed_stmt-in-For.result.now c.args.self.now c.stmt-in-For.new.self c.counting.new.faults
+    c.as_slice-in-For.result.now (begin_as c.args.begin) c.args.listed c.in-For.is c.boxed_stmt-in-For.ensures c.as_slice-in-For.ensures.value c.counting.ensures went)
+    c.stmt-in-For.ensures
 
-pub stmt-cases-init : goal.stmt-cases-init
-stmt-cases-init t c =
-    let ss = c.deref-s-items.result.now in
-    (c.requires, remains_all (record c.args.self.now { faults = c.typed-in-Case.new.faults }) ss ss false refl)
+pub stmt-returns-in-Case : goal.stmt-returns-in-Case
+stmt-returns-in-Case t c =
+    on_ok c.stmts.result
+    (λ went.
+    case_arm c.args.s.now c.in-Case.e c.in-Case.ss c.stmts_in.result.now c.args.self.now c.stmts.new.self c.typed-in-Case.new.faults c.as_slice-in-Case.result.now (begin_as c.args.begin) c.args.listed
+    c.in-Case.is c.stmts_in.ensures c.as_slice-in-Case.ensures.value c.typed-in-Case.ensures went)
+    c.stmts.ensures
 
-pub stmt-cases-preserved : goal.stmt-cases-preserved
-stmt-cases-preserved t c =
-    let ss = c.deref-s-items.result.now in (
-      formals_stay c.cases.self c.stmt-in-cases.new.self c.in_ok-stmt-in-Case.ensures.stays c.cases.invariant.0,
-      remains_less (record c.args.self.now { faults = c.typed-in-Case.new.faults }) c.cases.self c.stmt-in-cases.new.self ss ss c.cases.s-index c.s-item.result false
-          c.cases-test.true c.s-item.is c.in_ok-stmt-in-Case.ensures c.cases.invariant.1,
+pub stmts-statements-init : goal.stmts-statements-init
+stmts-statements-init t c =
+    let ss = c.args.ss.now in
+    (c.requires, remains_all c.args.self.now ss ss c.args.listed refl)
+
+pub stmts-statements-preserved : goal.stmts-statements-preserved
+stmts-statements-preserved t c =
+    let ss = c.args.ss.now in (
+      formals_stay c.statements.self c.stmt.new.self c.in_ok-stmt.ensures.stays c.statements.invariant.0,
+      remains_less c.args.self.now c.statements.self c.stmt.new.self ss ss c.statements.s-index c.s-item.result c.args.listed c.statements-test.true c.s-item.is c.in_ok-stmt.ensures
+          c.statements.invariant.1,
     )
 
-pub stmt-returns-after-cases : goal.stmt-returns-after-cases
-stmt-returns-after-cases t c =
-    let ss = c.deref-s-items.result.now in
-    case_arm c.args.s.now c.in-Case.e c.in-Case.ss ss c.args.self.now c.cases.self c.typed-in-Case.new.faults c.as_slice-in-Case.result.now (begin_as c.args.begin) c.args.listed c.in-Case.is
-    (c.deref-s-items.ensures.value ∙ c.items.ensures) c.as_slice-in-Case.ensures.value c.typed-in-Case.ensures
-    (remains_none (record c.args.self.now { faults = c.typed-in-Case.new.faults }) c.cases.self ss ss c.cases.s-index false c.cases-test.false c.cases.invariant.1)
+pub stmts-returns : goal.stmts-returns
+stmts-returns t c =
+    let ss = c.args.ss.now in
+    remains_none c.args.self.now c.statements.self ss ss c.statements.s-index c.args.listed c.statements-test.false c.statements.invariant.1
 
-pub decl-returns-in_ok-names-in-Simple : goal.decl-returns-in_ok-names-in-Simple
-decl-returns-in_ok-names-in-Simple t c =
+pub decl-returns-in-Simple : goal.decl-returns-in-Simple
+decl-returns-in-Simple t c =
+    on_ok c.names.result
+    (λ went.
     λ around later e h.
     simple_arm c.args.d.now c.in-Simple.kind c.in-Simple.ns c.deref.result.now c.args.self.now c.names.new.self around later c.in-Simple.is
-    (c.deref.ensures.value ∙ c.items.ensures) c.names.ensures.rest c.in_ok-names-in-Simple.ensures.made h
+    (c.deref.ensures.value ∙ c.items.ensures) c.names.ensures.rest went h)
+    c.names.ensures.made
 
-pub decl-returns-in_ok-names-in-Files : goal.decl-returns-in_ok-names-in-Files
-decl-returns-in_ok-names-in-Files t c =
+pub decl-returns-in-Files : goal.decl-returns-in-Files
+decl-returns-in-Files t c =
+    on_ok c.names-in-Files.result
+    (λ went.
     λ around later e h.
     files_arm c.args.d.now c.in-Files.ns c.deref-in-Files.result.now c.args.self.now c.names-in-Files.new.self around later c.in-Files.is
-    (c.deref-in-Files.ensures.value ∙ c.items-in-Files.ensures) c.names-in-Files.ensures.rest c.in_ok-names-in-Files.ensures.made h
+    (c.deref-in-Files.ensures.value ∙ c.items-in-Files.ensures) c.names-in-Files.ensures.rest went h)
+    c.names-in-Files.ensures.made
 
-pub decl-returns-in_ok-names-in-Events : goal.decl-returns-in_ok-names-in-Events
-decl-returns-in_ok-names-in-Events t c =
+pub decl-returns-in-Events : goal.decl-returns-in-Events
+decl-returns-in-Events t c =
+    on_ok c.names-in-Events.result
+    (λ went.
     λ around later e h.
     events_arm c.args.d.now c.in-Events.ns c.deref-in-Events.result.now c.args.self.now c.names-in-Events.new.self around later c.in-Events.is
-    (c.deref-in-Events.ensures.value ∙ c.items-in-Events.ensures) c.names-in-Events.ensures.rest c.in_ok-names-in-Events.ensures.made h
+    (c.deref-in-Events.ensures.value ∙ c.items-in-Events.ensures) c.names-in-Events.ensures.rest went h)
+    c.names-in-Events.ensures.made
 
-pub decl-returns-in_ok-names-in-Tasks : goal.decl-returns-in_ok-names-in-Tasks
-decl-returns-in_ok-names-in-Tasks t c =
+pub decl-returns-in-Tasks : goal.decl-returns-in-Tasks
+decl-returns-in-Tasks t c =
+    on_ok c.names-in-Tasks.result
+    (λ went.
     λ around later e h.
     tasks_arm c.args.d.now c.in-Tasks.ns c.deref-in-Tasks.result.now c.args.self.now c.names-in-Tasks.new.self around later c.in-Tasks.is
-    (c.deref-in-Tasks.ensures.value ∙ c.items-in-Tasks.ensures) c.names-in-Tasks.ensures.rest c.in_ok-names-in-Tasks.ensures.made h
+    (c.deref-in-Tasks.ensures.value ∙ c.items-in-Tasks.ensures) c.names-in-Tasks.ensures.rest went h)
+    c.names-in-Tasks.ensures.made
 
-pub decl-returns-in_ok-names-in-Labels : goal.decl-returns-in_ok-names-in-Labels
-decl-returns-in_ok-names-in-Labels t c =
+pub decl-returns-in_ok-keep_labels-in-Labels : goal.decl-returns-in_ok-keep_labels-in-Labels
+decl-returns-in_ok-keep_labels-in-Labels t c =
+    on_ok c.names-in-Labels.result
+    (λ went.
     λ around later e h.
     labels_arm c.args.d.now c.in-Labels.ns c.deref-in-Labels-2.result.now c.deref-in-Labels.result.now c.args.self.now c.keep_labels.new.self c.names-in-Labels.new.self around later
     c.in-Labels.is (c.deref-in-Labels-2.ensures.value ∙ c.items-in-Labels-2.ensures) (c.deref-in-Labels.ensures.value ∙ c.items-in-Labels.ensures) c.keep_labels.ensures.rest
-    c.in_ok-keep_labels-in-Labels.ensures.labels c.names-in-Labels.ensures.rest c.in_ok-names-in-Labels.ensures.made h
+    c.in_ok-keep_labels-in-Labels.ensures.labels c.names-in-Labels.ensures.rest went h)
+    c.names-in-Labels.ensures.made
 
-pub decl-returns-in_ok-names-in-Arrays : goal.decl-returns-in_ok-names-in-Arrays
-decl-returns-in_ok-names-in-Arrays t c =
+pub decl-returns-in-Arrays : goal.decl-returns-in-Arrays
+decl-returns-in-Arrays t c =
+    on_ok c.names-in-Arrays.result
+    (λ went.
     λ around later e h.
     arrays_arm c.args.d.now c.in-Arrays.kind c.in-Arrays.ns c.deref-in-Arrays-2.result.now c.in-Arrays.pairs c.deref-in-Arrays.result.now (length c.as_slice.result.now) c.args.self.now c.bounds.new.self
     c.names-in-Arrays.new.self around later c.in-Arrays.is (c.deref-in-Arrays-2.ensures.value ∙ c.items-in-Arrays-2.ensures) (c.deref-in-Arrays.ensures.value ∙ c.items-in-Arrays.ensures)
     (ap length (c.as_slice.ensures.value ∙ c.items-in-Arrays-3.ensures)) c.bounds.ensures.rest c.bounds.ensures.faults c.names-in-Arrays.ensures.rest
-    c.in_ok-names-in-Arrays.ensures.made h
+    went h)
+    c.names-in-Arrays.ensures.made
 
-pub decl-returns-in_ok-forward-in-Forward : goal.decl-returns-in_ok-forward-in-Forward
-decl-returns-in_ok-forward-in-Forward t c =
-    λ around later e h.
+pub decl-returns-in-Forward : goal.decl-returns-in-Forward
+decl-returns-in-Forward t c =
+    on_both c.forward.result
+    (λ made faults around later e h.
     forward_arm c.args.d.now c.in-Forward.h (option_copied c.args.body) c.args.self.now c.forward.new.self around later c.in-Forward.is c.forward.ensures.rest e
-    (c.in_ok-forward-in-Forward.ensures.made around h) c.in_ok-forward-in-Forward.ensures.faults
+    (made around h) faults)
+    c.forward.ensures.made c.forward.ensures.faults
 
 pub decl-returns-in_ok-stmt-in-Procedure : goal.decl-returns-in_ok-stmt-in-Procedure
 decl-returns-in_ok-stmt-in-Procedure t c =
     λ around later e h.
-    procedure_arm c.args.d.now c.in-Procedure.h c.in-Procedure.s c.deref-in-Procedure.result.now c.args.self.now c.heading.new.self c.enter.new.self c.stmt.new.self c.leave.new.self around
-    later c.in-Procedure.is c.deref-in-Procedure.ensures c.heading.ensures.rest (c.in_ok-heading-in-Procedure.ensures.made around h) c.in_ok-heading-in-Procedure.ensures.faults
+    procedure_arm c.args.d.now c.in-Procedure.h c.in-Procedure.s c.boxed_stmt.result.now c.args.self.now c.heading.new.self c.enter.new.self c.stmt.new.self c.leave.new.self around
+    later c.in-Procedure.is c.boxed_stmt.ensures c.heading.ensures.rest (c.in_ok-heading-in-Procedure.ensures.made around h) c.in_ok-heading-in-Procedure.ensures.faults
     c.enter.ensures.rest c.in_ok-enter-in-Procedure.ensures.enters c.in_ok-stmt-in-Procedure.ensures c.leave.ensures.rest c.leave.ensures.known c.leave.ensures.place
 
 pub decl-stmt-requires : goal.decl-stmt-requires
@@ -186,7 +229,7 @@ decl-stmt-requires t c =
 
 pub body-declarations-init : goal.body-declarations-init
 body-declarations-init t c =
-    let ds = c.deref-d-items.result.now in (
+    let ds = c.decls_in-ds.result.now in (
       begins_in c.args.self.now.known.items c.push.new.self.items c.none.result c.in_ok-push.ensures.items c.none.ensures c.requires,
       decls_remain (record c.args.self.now { known = c.push.new.self }) c.args.self.now.known.items ds ds refl,
     )
@@ -198,33 +241,32 @@ body-decl-requires t c =
 
 pub body-declarations-preserved : goal.body-declarations-preserved
 body-declarations-preserved t c =
-    let ds = c.deref-d-items.result.now in
-    let whole = c.deref.ensures.value ∙ c.items.ensures ∙ sym (c.deref-d-items.ensures.value ∙ c.items-2.ensures) in
-    let announced = announced_here ds c.deref.result.now c.declarations.at c.d-item.result c.body_at.result c.as_slice.result.now c.in_ok-bodies.bodies.items c.declarations-test.true c.d-item.is
-    c.body_at.ensures c.as_slice.ensures.value c.in_ok-bodies.ensures whole in
+    let ds = c.decls_in-ds.result.now in
+    let announced = announced_here ds ds c.declarations.at c.index-ds-at.result c.body_at.result c.as_slice.result.now c.in_ok-bodies.bodies.items c.declarations-test.true c.index-ds-at.is
+    c.body_at.ensures c.as_slice.ensures.value c.in_ok-bodies.ensures refl in
     let walked = c.in_ok-decl.ensures c.args.self.now.known.items (decls (drop (c.declarations.at + 1) ds)) announced c.declarations.invariant.0 in (
       walked.in_body,
-      decls_less (record c.args.self.now { known = c.push.new.self }) c.declarations.self c.decl.new.self c.args.self.now.known.items ds ds c.declarations.at c.d-item.result
-          c.declarations-test.true c.d-item.is walked c.declarations.invariant.1,
+      decls_less (record c.args.self.now { known = c.push.new.self }) c.declarations.self c.decl.new.self c.args.self.now.known.items ds ds c.declarations.at c.index-ds-at.result
+          c.declarations-test.true c.index-ds-at.is walked c.declarations.invariant.1,
     )
 
-pub body-statements-init : goal.body-statements-init
-body-statements-init t c =
-    let ss = c.deref-s-items.result.now in
-    (c.declarations.invariant.0.formals, remains_all c.declarations.self ss ss c.has_declarations-listed.result refl)
+pub list-returns : goal.list-returns
+list-returns t c =
+    on_ok c.stmts.result
+    (λ went.
+    stmts_as c.args.self.now c.stmts.new.self c.stmts_in.result.now c.args.b.now.stmts c.has_declarations.result (has_decls (decls_in (body c.args.b.now)))
+    c.stmts_in.ensures c.has_declarations.ensures went)
+    c.stmts.ensures
 
-pub body-statements-preserved : goal.body-statements-preserved
-body-statements-preserved t c =
-    let ss = c.deref-s-items.result.now in (
-      formals_stay c.statements.self c.stmt.new.self c.in_ok-stmt.ensures.stays c.statements.invariant.0,
-      remains_less c.declarations.self c.statements.self c.stmt.new.self ss ss c.statements.s-index c.s-item.result c.has_declarations-listed.result c.statements-test.true c.s-item.is
-          c.in_ok-stmt.ensures c.statements.invariant.1,
-    )
+pub body-list-requires : goal.body-list-requires
+body-list-requires t c =
+    let h = c.declarations.invariant.0.formals in
+    search (rules, stmts'.the_lemmas, decls'.the_lemmas, bodies'.the_lemmas, h)
 
 pub body-returns : goal.body-returns
 body-returns t c =
-    body_arm c.args.b.now c.args.self.now (record c.args.self.now { known = c.push.new.self }) c.declarations.self c.statements.self c.pop.new.self c.none.result c.pop.result
-    c.statements.self.known.len c.pop.new.self.len c.deref-d-items.result.now c.deref-s-items.result.now c.has_declarations-listed.result c.declarations.at c.statements.s-index c.none.ensures refl
-    c.in_ok-push.ensures.items (c.deref-d-items.ensures.value ∙ c.items-2.ensures) (c.deref-s-items.ensures.value ∙ c.items-3.ensures) c.has_declarations-listed.ensures
-    c.declarations-test.false c.declarations.invariant.0 c.declarations.invariant.1 c.statements-test.false c.statements.invariant.1 c.pop.ensures.items c.pop.ensures.rest
+    body_arm c.args.b.now c.args.self.now (record c.args.self.now { known = c.push.new.self }) c.declarations.self c.list.new.self c.pop.new.self c.none.result c.pop.result
+    c.list.new.self.known.len c.pop.new.self.len c.decls_in-ds.result.now c.args.b.now.stmts (has_decls (decls_in (body c.args.b.now))) c.declarations.at c.none.ensures refl
+    c.in_ok-push.ensures.items c.decls_in-ds.ensures refl refl
+    c.declarations-test.false c.declarations.invariant.0 c.declarations.invariant.1 c.in_ok-list.ensures c.pop.ensures.items c.pop.ensures.rest
     c.pop.ensures.cases

@@ -1,15 +1,12 @@
-use Rattle.std.proofs.Common.{drop, false}
+use Rattle.std.proofs.Common.{drop}
 use Rattle.algol_sites.specs.Seen.{HaveFormals}
 use Rattle.algol_check.specs.Declaring.{InBody}
 use Rattle.algol_check.proofs.Arms.{Remains, RemainsDecls}
 use Rattle.algol_check.proofs.checker.Checker.+statements.Given as goal
 
-abbrev pub invariant-stmt-cases : goal.invariant-stmt-cases
-invariant-stmt-cases l = HaveFormals l.self.known.items × Remains l.initial.self l.self l.s-items (drop l.s-index l.s-items) false
+abbrev pub invariant-stmts-statements : goal.invariant-stmts-statements
+invariant-stmts-statements l = HaveFormals l.self.known.items × Remains l.initial.self l.self l.ss (drop l.s-index l.ss) l.listed
 
 abbrev pub invariant-body-declarations : goal.invariant-body-declarations
 invariant-body-declarations l =
-    InBody l.self.known.items l.fn.self.known.items × RemainsDecls l.initial.self l.self l.fn.self.known.items l.d-items (drop l.at l.d-items)
-
-abbrev pub invariant-body-statements : goal.invariant-body-statements
-invariant-body-statements l = HaveFormals l.self.known.items × Remains l.initial.self l.self l.s-items (drop l.s-index l.s-items) l.listed
+    InBody l.self.known.items l.fn.self.known.items × RemainsDecls l.initial.self l.self l.fn.self.known.items l.ds (drop l.at l.ds)
