@@ -5,7 +5,8 @@ ghost use Rattle.algol_tree.specs.Ended.{EndsOnce};
 ghost use Rattle.algol_tree.specs.declared.refusal.Code.TheVariants as codes;
 ghost use Rattle.algol_tree.specs.declared.refusal.Refusal.TheVariants as refusals;
 ghost use Rattle.algol_tree.specs.Due as due;
-ghost use Rattle.algol_tree.specs.Due.{one, stmt};
+ghost use Rattle.algol_tree.specs.Due.{one, stmt, make};
+ghost use Rattle.algol_tree.specs.DueStmt.{calling};
 ghost use Rattle.algol_tree.specs.Image as image;
 ghost use Rattle.algol_tree.specs.Image.{stmt as plain};
 ghost use Rattle.algol_tree.specs.Found.{Refuses};
@@ -108,8 +109,8 @@ fn read_behind_name(
         let (element, rest) = read_element(alloc, name, behind)?;
         Ok((Beginning::Whole(element), rest))
     } else {
-        let (actuals, rest) = read_actuals(alloc, tokens)?;
-        Ok((Beginning::Whole(called(name, actuals)), rest))
+        let (call, rest) = read_call(alloc, name, tokens)?;
+        Ok((Beginning::Whole(call), rest))
     }
 }
 
@@ -122,6 +123,16 @@ fn read_value(alloc: Global, name: Named, tokens: &[Token]) -> Result<(Stmt, &[T
     let (value, rest) = read_whole(alloc, tokens, 0)?;
     let subs = List::of(Vec::new(alloc));
     Ok((assignment(name, subs, value), rest))
+}
+
+/// [ "(" expr { "," expr } ")" ], behind a name
+fn read_call(alloc: Global, name: Named, tokens: &[Token]) -> Result<(Stmt, &[Token]), Refusal>
+    requires ended { EndsOnce tokens.now }
+    ensures found { IfOk result (λ r. ComesTo (due.actuals_part ∷ make (calling name) ∷ []) [] tokens.now [] (stmt (plain r.0) ∷ []) r.1.now) }
+    ensures refused { IfErr result (λ e. Refuses (due.actuals_part ∷ make (calling name) ∷ []) [] tokens.now e) }
+{
+    let (actuals, rest) = read_actuals(alloc, tokens)?;
+    Ok((called(name, actuals), rest))
 }
 
 /// How many levels are open behind a label at that place, which opens one
