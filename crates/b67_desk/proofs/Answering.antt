@@ -20,14 +20,9 @@ use Rattle.b67_words.specs.declared.Words.TheVariants as commands
 use Rattle.b67_words.specs.declared.BadWords.{BadWords}
 use Rattle.b67_report.specs.declared.Report.{Report}
 use Rattle.b67_report.specs.Texts.{ReportText}
-use Rattle.algol_tree.specs.Accepted.{Accepted}
-use Rattle.algol_tree.specs.Ascending.{IsInOrder}
-use Rattle.b67_templates.specs.Programs.{ProgramAt}
-use Rattle.b67_faithful.specs.Faithful.{IsShort}
 use Rattle.b67_schedule.specs.declared.Run.{Run}
 use Rattle.b67_schedule.specs.Schedules.{entries, IsSchedule, ScheduleText}
-use Rattle.b67_desk.proofs.Laws.{programs_are_faithful}
-use Rattle.b67_listing.specs.Listings.{ListingText, IsListable}
+use Rattle.b67_listing.specs.Listings.{ListingText}
 use Rattle.b67_segment.specs.declared.code.Code.{Code}
 use Rattle.b67_faithful.specs.Faithful.{Faithful}
 use Rattle.b67_explain.specs.Explaining.{ExplainsRun, ExplainsReplay}
@@ -77,12 +72,7 @@ pub bad_answered : (budget : ℕ) (schedule kept : Option (List ℕ)) (input : �
 bad_answered budget schedule kept input tree byte result same bad is =
     subst (λ (o : Option (List ℕ)). IfOk result (λ a. Replays budget o input tree a.text.items a.status)) (sym same) (bad_is budget kept input tree byte result bad is)
 
--- the code of an accepted program that is built, whose places are in the order of the text
-pub code_is_faithful : (tree : PProgram) (result : Result Code AllocError) → Accepted tree → IsInOrder tree → IsBuilt tree → IfOk result (λ code. ProgramAt code tree) →
-    IfOk result (IsShort tree) → IfOk result IsListable → IfOk result (Faithful tree)
-code_is_faithful tree (Ok code) a order is_built there short listable = programs_are_faithful tree code a order is_built there short listable
-code_is_faithful tree (Err e) a order is_built there short listable = there
-
+-- a listing
 pub listed_is : (tree : PProgram) (code : Code) (lines : List (List ℕ)) (text : List ℕ) → Faithful tree code → ListingText code lines → text ≡ listing_text lines →
     Lists tree text status.Finished
 listed_is tree code lines text faithful are is = subst (λ (t : List ℕ). Lists tree t status.Finished) (sym is) (listed code lines faithful are)

@@ -1,7 +1,6 @@
 //! The top call: words and a source in, an answer and a status out.
 #![tactic(auto)]
 
-mod code;
 mod desk;
 mod refusals;
 mod running;

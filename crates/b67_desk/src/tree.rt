@@ -1,21 +1,19 @@
 //! The answers to the tree of an accepted source.
 
-ghost use Rattle.std.specs.Prelude.{◌≡◌, ◌≤◌, ℕ, List, IfOk, option_copied};
+ghost use Rattle.std.specs.Prelude.{◌≡◌, ◌≤◌, IfOk, option_copied};
 ghost use Rattle.algol_tree.specs.Image.{program as plain};
-ghost use Rattle.algol_tree.specs.First.{Source};
 ghost use Rattle.b67_words.specs.declared.TheConstants.{MOST_BUDGET};
 ghost use Rattle.b67_fitting.specs.Built.{IsBuilt};
 ghost use Rattle.b67_desk.specs.Answers.{AnswersTree, SaysAccepted, Runs, Lists, Replays, status_of};
 ghost use Rattle.b67_desk.specs.Calls.{InRange, IsRefusal, IsBadAt, IsReportAnswer};
 
-use crate::code::code_of;
 use crate::desk::Answer;
 use crate::running::{replay_report, run_report};
 use crate::status::Status;
 use crate::texts::{accepted_line, bad_schedule_line, listing_lines, refused_line};
 use algol_front::Checked;
 use algol_tree::{Code as RefusalCode, Spot};
-use b67_compile::is_built;
+use b67_compile::{compile, is_built};
 use b67_listing::listing;
 use b67_report::{EndWords, Report, text as report_text};
 use b67_schedule::{ReadSchedule, read as read_schedule};
@@ -76,21 +74,19 @@ fn answer_run(
 ) -> Result<Answer, AllocError>
     requires some { 1 ≤ processors }
     requires most { budget ≤ MOST_BUDGET }
-    requires source { (bytes : List ℕ) × Source bytes (plain checked.now.program) }
     requires built { IsBuilt (plain checked.now.program) }
     ensures { IfOk result (λ answer. Runs processors budget (plain checked.now.program) answer.text.items answer.status) }
 {
-    let code = code_of(alloc, checked)?;
+    let code = compile(alloc, checked)?;
     tell(alloc, &run_report(alloc, processors, budget, code)?)
 }
 
 /// The answer to a built source whose code is listed.
 fn answer_list(alloc: Global, checked: &Checked) -> Result<Answer, AllocError>
-    requires source { (bytes : List ℕ) × Source bytes (plain checked.now.program) }
     requires built { IsBuilt (plain checked.now.program) }
     ensures { IfOk result (λ answer. Lists (plain checked.now.program) answer.text.items answer.status) }
 {
-    let code = code_of(alloc, checked)?;
+    let code = compile(alloc, checked)?;
     let lines = listing(alloc, &code)?;
     Ok(Answer {
         text: listing_lines(alloc, &lines)?,
@@ -117,7 +113,6 @@ fn answer_replay(
     checked: &Checked,
 ) -> Result<Answer, AllocError>
     requires most { budget ≤ MOST_BUDGET }
-    requires source { (bytes : List ℕ) × Source bytes (plain checked.now.program) }
     requires built { IsBuilt (plain checked.now.program) }
     ensures { IfOk result (λ answer. Replays budget (option_copied schedule.entry) input (plain checked.now.program) answer.text.items answer.status) }
 {
@@ -126,7 +121,7 @@ fn answer_replay(
     };
     match read_schedule(alloc, text) {
         Ok(given) => {
-            let code = code_of(alloc, checked)?;
+            let code = compile(alloc, checked)?;
             tell(alloc, &replay_report(alloc, budget, &given, code)?)
         }
         Err(ReadSchedule::Bad(bad)) => refuse_schedule(alloc, bad.byte as u64),
@@ -143,7 +138,6 @@ pub fn answer_tree(
     checked: &Checked,
 ) -> Result<Answer, AllocError>
     requires range { InRange command }
-    requires source { (bytes : List ℕ) × Source bytes (plain checked.now.program) }
     ensures { IfOk result (λ answer. AnswersTree command (option_copied schedule.entry) input (plain checked.now.program) answer.text.items answer.status) }
 {
     if let Words::Check = command {
