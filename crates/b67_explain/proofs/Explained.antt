@@ -1,7 +1,7 @@
 -- The report of a machine after a run of a faithful code explains it.
 use Rattle.std.proofs.Common.{◌≡◌, ◌⊎◌, inl, inr, ℕ, zero, suc, ◌+◌, ◌*◌, ◌<◌, ◌≤◌, Bool, true, false, List, [], ◌∷◌, ◌++◌, length, Option, Some, None, refl, sym, ap, ◌∙◌, subst, arith}
 use Rattle.std.specs.Prelude.{◌≢◌, reverse, sum}
-use Rattle.std.specs.List.{AllByRecursion}
+use Rattle.std.specs.List.{All, AllByRecursion}
 use Rattle.std.proofs.lemmas.List.{length-append}
 use mathlib.Core.List.{reverse-cons}
 use Rattle.b67_list.specs.Numbered.{numbered}
@@ -11,6 +11,7 @@ use Rattle.algol_meaning.specs.World.{World, process_at}
 use Rattle.algol_meaning.specs.Run.{run, start, may_go}
 use Rattle.algol_laws.specs.Kept.{EachRunGrows}
 use Rattle.b67_schedule.specs.Schedules.{entries, IsSchedule, Kept as Schedule}
+use Rattle.b67_report.specs.Reading.{IsLine, IsReport}
 use Rattle.b67_report.specs.declared.Report.{Report}
 use Rattle.b67_report.specs.declared.EndWords.{EndWords}
 use Rattle.b67_listing.specs.Listings.{ListingText}
@@ -28,6 +29,8 @@ use Rattle.b67_machine.specs.Replaying.{Replays, Answers, MayGo, AtLimit, Stands
 use Rattle.b67_words.specs.declared.TheConstants.{MOST_STRETCH}
 use Rattle.b67_explain.specs.Explaining.{EndIs, IsLeft, IsTail, NextGoes, Explains, IsOwnEnd, ExplainsRun, ExplainsReplay}
 use Rattle.b67_explain.specs.Telling.{CanBeTold, Tells, IsReportOf}
+use Rattle.b67_explain.proofs.Outputs.{run_writes}
+use Rattle.b67_explain.proofs.Printed.{listing_fine, output_fine}
 use Rattle.b67_explain.proofs.Naming.{IsOneOf, able_is_one, entries_are_there}
 use Rattle.b67_explain.proofs.Summing.{from_on, from_on_equal, from_on_sum, entries_by_process, sum_by_number}
 use Rattle.b67_explain.proofs.Tailed.{IsTailOf, tail_counted, each_may_go, tail_sum, sum_tails, tails_are_few, more_room}
@@ -170,10 +173,26 @@ module _ (grows : EachRunGrows) (tree : PProgram) (code : Code) (faithful : Fait
         ∙ ap (λ n. (length (entries report.schedule.runs) + n) * longest code.segments) (sym number_of) in
         omega (arith, all_operators, bound, room)
 
+    is_report : IsReport report
+    is_report = record {
+      listing = record {
+        each = subst (All IsLine) (sym is.listing) (listing_fine code lines faithful.listable listed);
+        few = is.sizes.listing;
+      };
+      output = record {
+        each = subst (All IsLine) (sym (is.output ∙ ap (λ (i : Image). i.output) same)) (run_writes IsLine code (output_fine code faithful.listable) replays.run);
+        few = is.sizes.output;
+      };
+      end = is.sizes.end;
+      operators = is.sizes.operators;
+      acts = is.sizes.acts;
+      schedule = subst IsSchedule (sym schedule_is) valid;
+    }
+
     pub explained : Explains tree processors budget report
     explained = record {
+      is_report = is_report;
       world = agrees.world;
-      schedule = subst IsSchedule (sym schedule_is) valid;
       legal = ap (run tree) entries_are ∙ agrees.is;
       output = is.output ∙ ap (λ (i : Image). i.output) same ∙ agrees.shows.output;
       processors_are = is.acts.each;

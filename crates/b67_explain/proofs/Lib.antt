@@ -3,4 +3,6 @@ mod Naming
 mod Summing
 mod Tailed
 mod Ending
+mod Outputs
+mod Printed
 pub mod Explained

@@ -5,7 +5,8 @@ use Rattle.b67_words.specs.declared.TheConstants.{MOST_STRETCH}
 use Rattle.algol_tree.specs.Plain.{PProgram}
 use Rattle.algol_meaning.specs.World.{World}
 use Rattle.algol_meaning.specs.Run.{run, may_go, end_of, End, finished, fault, all_waiting}
-use Rattle.b67_schedule.specs.Schedules.{entries, IsSchedule}
+use Rattle.b67_schedule.specs.Schedules.{entries}
+use Rattle.b67_report.specs.Reading.{IsReport}
 use Rattle.b67_report.specs.declared.Report.{Report}
 use Rattle.b67_report.specs.declared.EndWords.{EndWords}
 use Rattle.b67_report.specs.declared.EndWords.TheVariants as ends
@@ -50,9 +51,10 @@ module _ (tree : PProgram) (code : Code) (world : World) (image : Image) (budget
 
 -- The report is one of a run of this source on so many processors under that budget.
 pub record Explains (tree : PProgram) (processors budget : ℕ) (report : Report) : Type 0 where
+  -- it is one that its text tells: no line has an LF, each number has its bits, and the printed schedule is one: each of its runs has an
+  -- entry at least, and neighbours are of different processes
+  pub is_report : IsReport report
   pub world : World
-  -- the printed schedule is one: each of its runs has an entry at least, and neighbours are of different processes
-  pub schedule : IsSchedule report.schedule.runs
   -- it is legal for the source, and the output is that of the source under it
   pub legal : run tree (entries report.schedule.runs) ≡ Some world
   pub output : report.output ≡ world.output

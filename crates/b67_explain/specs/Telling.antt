@@ -1,6 +1,8 @@
 -- The report of a machine after a run.
-use Rattle.std.specs.Prelude.{◌≡◌, ℕ, ◌≤◌, List, length, sum, Option, Some, None}
+use Rattle.std.specs.Prelude.{◌≡◌, ℕ, ◌<◌, ◌≤◌, ◌^◌, List, length, sum, Option, Some, None}
 use Rattle.b67_schedule.specs.Schedules.{entries, Kept as Schedule}
+use Rattle.b67_report.specs.Reading.{IsEnd}
+use Rattle.b67_report.specs.Reading.{AreCounts as AreNumbers}
 use Rattle.b67_report.specs.declared.Report.{Report}
 use Rattle.b67_report.specs.declared.EndWords.{EndWords}
 use Rattle.b67_report.specs.declared.EndWords.TheVariants as words
@@ -42,6 +44,14 @@ pub record AreActs (processors count : ℕ) (acts : List ℕ) : Type 0 where
   pub each : length acts ≡ processors
   pub sum_is : sum acts ≡ count
 
+-- there are as many lines and counts as 64 bits can number, and each number has its bits
+pub record HasSizes (report : Report) : Type 0 where
+  pub listing : length report.listing < 2 ^ 64
+  pub output : length report.output < 2 ^ 64
+  pub end : IsEnd report.end
+  pub operators : AreNumbers report.operators
+  pub acts : AreNumbers report.acts
+
 -- the report of the machine after a run that ended so
 pub record IsReportOf (machine : Kept) (answer : Replayed) (lines : List (List ℕ)) (processors : ℕ) (schedule : Schedule) (report : Report) : Type 0 where
   pub listing : report.listing ≡ lines
@@ -50,3 +60,4 @@ pub record IsReportOf (machine : Kept) (answer : Replayed) (lines : List (List �
   pub operators : AreCounts machine report.operators
   pub acts : AreActs processors (length (entries schedule.runs)) report.acts
   pub performed : report.schedule ≡ schedule
+  pub sizes : HasSizes report

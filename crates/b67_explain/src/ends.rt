@@ -1,6 +1,7 @@
 //! How a report says that a run ended.
 
 ghost use Rattle.std.specs.Prelude.{◌≡◌};
+ghost use Rattle.b67_report.specs.Reading.{IsEnd};
 ghost use Rattle.b67_explain.specs.Telling.{words_of_end, CanBeTold, Tells};
 
 use b67_machine::{End, Replayed};
@@ -8,7 +9,8 @@ use b67_report::EndWords;
 
 /// How a report says that a machine has an end.
 fn words_of_end(end: End) -> EndWords
-    ensures { result ≡ words_of_end end }
+    ensures value { result ≡ words_of_end end }
+    ensures fits { IsEnd result }
 {
     match end {
         End::Finished => EndWords::Finished,
@@ -21,7 +23,8 @@ fn words_of_end(end: End) -> EndWords
 /// How a report says that a run ended so on a machine with this end.
 pub fn words_of(answer: Replayed, end: Option<End>) -> EndWords
     requires { CanBeTold answer end }
-    ensures { Tells answer end result }
+    ensures tells { Tells answer end result }
+    ensures fits { IsEnd result }
 {
     match answer {
         Replayed::Ended => match end {

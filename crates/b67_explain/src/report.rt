@@ -1,6 +1,7 @@
 //! The report of a machine after a run.
 
-ghost use Rattle.std.specs.Prelude.{◌≡◌, ◌≤◌, IfOk, length};
+ghost use Rattle.std.specs.Prelude.{◌≡◌, ◌<◌, ◌≤◌, ◌^◌, IfOk, length};
+ghost use Rattle.b67_report.specs.Reading.{AreCounts as AreNumbers};
 ghost use Rattle.b67_schedule.specs.Schedules.{entries};
 ghost use Rattle.b67_machine.specs.Reads.{machine_end};
 ghost use Rattle.b67_explain.specs.Telling.{CanBeTold, AreCounts, AreActs, IsReportOf};
@@ -15,7 +16,8 @@ use std::alloc::{AllocError, Global};
 
 /// The same lines once more.
 fn copied(alloc: Global, lines: &[Line]) -> Result<List<Line>, AllocError>
-    ensures { IfOk result (λ copy. copy ≡ lines.now) }
+    ensures value { IfOk result (λ copy. copy ≡ lines.now) }
+    ensures few { IfOk result (λ copy. length copy < 2 ^ 64) }
 {
     let mut copy = Vec::with_capacity(alloc, lines.len())?;
     'lines: for line in lines {
@@ -26,7 +28,8 @@ fn copied(alloc: Global, lines: &[Line]) -> Result<List<Line>, AllocError>
 
 /// How many operators each process performed, from process 1 on.
 fn operators_of<C: Core>(alloc: Global, machine: &Machine<C>) -> Result<List<u64>, AllocError>
-    ensures { IfOk result (AreCounts machine.now) }
+    ensures counts { IfOk result (AreCounts machine.now) }
+    ensures numbers { IfOk result AreNumbers }
 {
     let mut operators = Vec::new(alloc);
     'processes: for before in 0..machine.started() {
@@ -38,7 +41,8 @@ fn operators_of<C: Core>(alloc: Global, machine: &Machine<C>) -> Result<List<u64
 /// The acts of so many processors, where the first one made so many and the others none.
 fn acts_of(alloc: Global, processors: u32, count: u64) -> Result<List<u64>, AllocError>
     requires { 1 ≤ processors }
-    ensures { IfOk result (AreActs processors count) }
+    ensures acts { IfOk result (AreActs processors count) }
+    ensures numbers { IfOk result AreNumbers }
 {
     let mut acts = Vec::new(alloc);
     acts.push(count)?;
@@ -62,6 +66,8 @@ pub fn report_of<C: Core>(
     requires told { CanBeTold answer (machine_end machine.now) }
     ensures { IfOk result (IsReportOf machine.now answer lines processors schedule) }
 {
+    // The number of the lines is read once, so that it is known to have 64 bits.
+    let _count = lines.items().len();
     Ok(Report {
         output: copied(alloc, machine.output())?,
         end: words_of(answer, machine.end()),

@@ -1,4 +1,4 @@
-use Rattle.std.proofs.Common.{◌≡◌, length}
+use Rattle.std.proofs.Common.{◌≡◌, ◌<◌, ◌^◌, ℕ, All, length}
 use Rattle.std.specs.Prelude.{sum}
 use Rattle.b67_explain.proofs.report.acts_of.Given as goal
 
@@ -6,4 +6,5 @@ abbrev pub invariant-others : goal.invariant-others
 invariant-others l = record {
   processors : length l.acts.items ≡ l.counter;
   sum : sum l.acts.items ≡ l.count;
+  numbers : All (λ (count : ℕ). count < 2 ^ 64) l.acts.items;
 }

@@ -1,4 +1,4 @@
-use Rattle.std.proofs.Common.{◌≡◌, ◌≤◌, ℕ, length}
+use Rattle.std.proofs.Common.{◌≡◌, ◌<◌, ◌≤◌, ◌^◌, ℕ, All, length}
 use Rattle.b67_machine.specs.Kept.{counted}
 use Rattle.b67_explain.proofs.report.operators_of.Given as goal
 
@@ -6,4 +6,5 @@ abbrev pub invariant-processes : goal.invariant-processes
 invariant-processes g l = record {
   each : length l.operators.items ≡ l.before;
   are : (p : ℕ) → 1 ≤ p → p ≤ length l.operators.items → counted l.operators.items p ≡ counted l.machine.counts p;
+  numbers : All (λ (count : ℕ). count < 2 ^ 64) l.operators.items;
 }
