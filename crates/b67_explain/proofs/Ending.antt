@@ -1,14 +1,13 @@
 -- The printed end of a run is that of the source, and what is left of the given schedule is what it says.
-use Rattle.std.proofs.Common.{◌≡◌, ◌⊎◌, inl, inr, ℕ, zero, suc, ◌+◌, ◌<◌, ◌≤◌, Bool, true, false, List, [], ◌∷◌, length, Option, Some, None, refl, sym, ap, ◌∙◌, subst, arith}
+use Rattle.std.proofs.Common.{◌≡◌, ◌⊎◌, inl, inr, ℕ, ◌<◌, ◌≤◌, Bool, true, List, [], ◌∷◌, length, Option, Some, None, refl, sym, ap, ◌∙◌, subst, arith}
 use Rattle.std.specs.Prelude.{◌≢◌}
 use Rattle.b67_list.specs.Numbered.{numbered}
 use Rattle.algol_tree.specs.Plain.{PProgram}
 use Rattle.algol_meaning.specs.World.{World, process_at}
 use Rattle.algol_meaning.specs.World.{is_able as meaning_able}
-use Rattle.algol_meaning.specs.Run.{end_of, End, may_go}
+use Rattle.algol_meaning.specs.Run.{end_of, may_go}
 use Rattle.algol_meaning.specs.Run as meaning
 use Rattle.b67_report.specs.declared.EndWords.{EndWords}
-use Rattle.b67_report.specs.declared.EndWords.TheVariants as words
 use Rattle.b67_segment.specs.declared.code.Code.{Code}
 use Rattle.b67_table.specs.Image.{Image, is_able}
 use Rattle.b67_table.specs.Ending.{ImageEnd, image_end, goes_on, may_act}

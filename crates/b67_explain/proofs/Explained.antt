@@ -1,13 +1,10 @@
 -- The report of a machine after a run of a faithful code explains it.
-use Rattle.std.proofs.Common.{◌≡◌, ◌⊎◌, inl, inr, ℕ, zero, suc, ◌+◌, ◌*◌, ◌<◌, ◌≤◌, Bool, true, false, List, [], ◌∷◌, ◌++◌, length, Option, Some, None, refl, sym, ap, ◌∙◌, subst, arith}
+use Rattle.std.proofs.Common.{◌≡◌, ◌⊎◌, inl, inr, ℕ, suc, ◌+◌, ◌*◌, ◌≤◌, Bool, true, false, List, [], ◌∷◌, ◌++◌, length, Option, Some, None, refl, sym, ap, ◌∙◌, subst, arith}
 use Rattle.std.specs.Prelude.{◌≢◌, reverse, sum}
 use Rattle.std.specs.List.{All, AllByRecursion}
-use Rattle.std.proofs.lemmas.List.{length-append}
 use mathlib.Core.List.{reverse-cons}
-use Rattle.b67_list.specs.Numbered.{numbered}
 use Rattle.algol_tree.specs.Plain.{PProgram}
 use Rattle.algol_tree.specs.Scopes.{scopes_of}
-use Rattle.algol_meaning.specs.World.{World, process_at}
 use Rattle.algol_meaning.specs.Run.{run, start, may_go}
 use Rattle.algol_laws.specs.Kept.{EachRunGrows}
 use Rattle.b67_schedule.specs.Schedules.{entries, IsSchedule, Kept as Schedule}
@@ -16,7 +13,7 @@ use Rattle.b67_report.specs.declared.Report.{Report}
 use Rattle.b67_report.specs.declared.EndWords.{EndWords}
 use Rattle.b67_listing.specs.Listings.{ListingText}
 use Rattle.b67_segment.specs.declared.code.Code.{Code}
-use Rattle.b67_table.specs.Image.{Image, is_able}
+use Rattle.b67_table.specs.Image.{Image}
 use Rattle.b67_table.specs.Ending.{ImageEnd, image_end, may_act}
 use Rattle.b67_table.specs.Runs.{TableRun, Runs, begin, entry, count_of, none}
 use Rattle.b67_faithful.specs.Agreement.{Agrees}
@@ -26,13 +23,12 @@ use Rattle.b67_machine.specs.declared.replay.Replayed.TheVariants.{Ended, Ran, I
 use Rattle.b67_machine.specs.Kept.{Kept, counted}
 use Rattle.b67_machine.specs.Reads.{machine_end, end_by, shown, limit_end}
 use Rattle.b67_machine.specs.Replaying.{Replays, Answers, MayGo, AtLimit, Stands, is_lacking, tails_of, tail_of}
-use Rattle.b67_words.specs.declared.TheConstants.{MOST_STRETCH}
 use Rattle.b67_explain.specs.Explaining.{EndIs, IsLeft, IsTail, NextGoes, Explains, IsOwnEnd, ExplainsRun, ExplainsReplay}
 use Rattle.b67_explain.specs.Telling.{CanBeTold, Tells, IsReportOf}
 use Rattle.b67_explain.proofs.Outputs.{run_writes}
 use Rattle.b67_explain.proofs.Printed.{listing_fine, output_fine}
 use Rattle.b67_explain.proofs.Naming.{IsOneOf, able_is_one, entries_are_there}
-use Rattle.b67_explain.proofs.Summing.{from_on, from_on_equal, from_on_sum, entries_by_process, sum_by_number}
+use Rattle.b67_explain.proofs.Summing.{from_on, from_on_sum, entries_by_process, sum_by_number}
 use Rattle.b67_explain.proofs.Tailed.{IsTailOf, tail_counted, each_may_go, tail_sum, sum_tails, tails_are_few, more_room}
 use Rattle.b67_explain.proofs.Ending.{acting, going_there, Said, said_of}
 

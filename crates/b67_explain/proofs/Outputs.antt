@@ -1,5 +1,5 @@
 -- What holds of each line that a format of a code makes holds of each line of the output of a run.
-use Rattle.std.proofs.Common.{◌≡◌, refl, subst, sym, ap, ◌∙◌, ℕ, zero, suc, ◌+◌, ◌-◌, ◌&&◌, Bool, true, false, not, ℤ, List, [], ◌∷◌, ◌++◌, All, take, drop, Option, Some, None, Result, Ok, Err, cond}
+use Rattle.std.proofs.Common.{◌≡◌, refl, subst, sym, ℕ, zero, suc, ◌+◌, ◌-◌, ◌&&◌, Bool, true, false, not, ℤ, List, [], ◌∷◌, ◌++◌, All, take, drop, Option, Some, None, Result, Ok, Err, cond}
 use Rattle.std.specs.Prelude.{nat_lt, nat_le, nat_eq, length}
 use Rattle.std.proofs.lemmas.List.Elements.{All-nil, All-push}
 use Rattle.b67_list.specs.Numbered.{numbered}
@@ -30,8 +30,8 @@ use Rattle.b67_table.specs.declared.InterruptKind.TheVariants.{InvalidOperand, B
 use Rattle.b67_table.specs.Names.{intrinsic_numbered}
 use Rattle.b67_table.specs.Effect.{Effect, gives, faults, interrupts}
 use Rattle.b67_table.specs.Outcome as outcomes
-use Rattle.b67_table.specs.Private.{floor, frame}
-use Rattle.b67_table.specs.Image.{Image, private_of, with_private, with_effect, is_live}
+use Rattle.b67_table.specs.Private.{frame}
+use Rattle.b67_table.specs.Image.{Image, private_of, is_live}
 use Rattle.b67_table.specs.Look.{Look, at, ◌>->◌, seen, valid}
 use Rattle.b67_table.specs.Questions.{told}
 use Rattle.b67_table.specs.Questions as questions
@@ -50,15 +50,15 @@ use Rattle.b67_table.specs.Lines.{line_for}
 use Rattle.b67_table.specs.Intrinsics.{case_in, case_place, wanted, extents, gone_to_case, select, arrays, write, make_event, on_event, tell_event, row_of_intrinsic, intrinsic_row, intrinsic}
 use Rattle.b67_table.specs.Starting.{starting, first_display, first_words, begun, on_path, frames_with, named_frames, start_process}
 use Rattle.b67_table.specs.References.{invalid, cell_place, cell_word, couple_cell, cell_of, named, reached, popped, popped_two, operand_in}
-use Rattle.b67_table.specs.Rows.{Row, private_part, action, turn, value_pushed, value_or_entry, value_call, loaded, load_value, is_passed, load_through, cell_or_entry, evaluate, after_store, kept_words, store_by, store, level_below, enter_procedure, enter_by, marked, enter, exit, is_result, return_value, acts, plain_row, row}
+use Rattle.b67_table.specs.Rows.{Row, private_part, action, turn, value_pushed, value_or_entry, value_call, loaded, load_value, is_passed, load_through, cell_or_entry, evaluate, after_store, kept_words, store_by, store, level_below, enter_procedure, enter_by, marked, enter, is_result, return_value, acts, plain_row, row}
 use Rattle.b67_table.specs.PrivateRows.{branch, is_taken}
 use Rattle.b67_table.specs.Table.{raw, table, program_by, by_row, by_operator, by_registers, operator_at, stack_length}
 use Rattle.b67_table.specs.Ending.{failed}
 use Rattle.b67_table.specs.Beginning.{first_image}
-use Rattle.b67_table.specs.Runs.{Plains, stay, go, Acts, Entry, Runs, begin, Tails, none, next, TableRun}
+use Rattle.b67_table.specs.Runs.{Plains, stay, go, Acts, Runs, begin, Tails, none, next, TableRun}
 use Rattle.b67_table.specs.Runs as runs
 use Rattle.b67_table.proofs.Keeping.{Gives, then_gives, anything}
-use Rattle.b67_table.proofs.Finding.{Found, look_then, see_then, test_then, gives_by, there_found, anything_found}
+use Rattle.b67_table.proofs.Finding.{look_then, see_then, test_then, gives_by, there_found, anything_found}
 use Rattle.b67_table.proofs.Limit.{new_of}
 
 module _ (P : List ℕ → Type 0) where

@@ -1,5 +1,5 @@
 -- No line of a listing has an LF, and none that a format of a code makes which can be listed.
-use Rattle.std.proofs.Common.{◌≡◌, refl, sym, subst, ap, ℕ, zero, suc, ◌+◌, ◌-◌, ◌/◌, ◌%◌, ◌<◌, ◌≤◌, ◌==◌, ◌&&◌, Bool, true, false, nat_le, nat_lt, cond, ℤ, pos, negsuc, List, [], ◌∷◌, ◌++◌, All, length, map, codes, Option, Some, None, arith}
+use Rattle.std.proofs.Common.{◌≡◌, refl, sym, subst, ℕ, zero, suc, ◌+◌, ◌-◌, ◌/◌, ◌%◌, ◌<◌, ◌≤◌, ◌==◌, ◌&&◌, Bool, true, false, nat_le, nat_lt, cond, ℤ, pos, negsuc, List, [], ◌∷◌, ◌++◌, All, length, map, codes, Option, Some, None, arith}
 use Rattle.std.specs.Prelude.{◌≢◌, replicate, slice_get}
 use Rattle.std.specs.List.{flat_map, list_all, enumerate_from}
 use Rattle.std.specs.Fmt.{decimal, digits, digits_onto, digit_glyph}
@@ -25,7 +25,7 @@ use Rattle.b67_listing.specs.Operators.{Placed, couple_text, operand_text, opera
 use Rattle.b67_listing.specs.Formats.{phrase_text, phrases_text, format_lines}
 use Rattle.b67_listing.specs.Formats as printed
 use Rattle.b67_listing.specs.Listings.{IsPhrase, IsListable, segment_line, segment_lines, SegmentsText, none, more, ListingText}
-use Rattle.b67_table.specs.Lines.{before, phrase_line, format_line, line_by, line_for}
+use Rattle.b67_table.specs.Lines.{before, format_line, line_by, line_for}
 
 -- a byte other than LF
 abbrev Fine : ℕ → Type 0

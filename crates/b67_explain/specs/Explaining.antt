@@ -1,10 +1,10 @@
 -- What the report of a run says: of the source under the printed schedule, and of the printed code under the operator table.
-use Rattle.std.specs.Prelude.{◌≡◌, ◌≢◌, ◌⊎◌, ℕ, ◌+◌, ◌*◌, ◌<◌, ◌≤◌, true, false, List, [], ◌∷◌, ◌++◌, length, sum, Option, Some, None}
+use Rattle.std.specs.Prelude.{◌≡◌, ◌≢◌, ◌⊎◌, ℕ, ◌+◌, ◌*◌, ◌<◌, ◌≤◌, true, false, List, [], ◌∷◌, ◌++◌, length, sum, Some, None}
 use Rattle.b67_list.specs.Numbered.{numbered}
 use Rattle.b67_words.specs.declared.TheConstants.{MOST_STRETCH}
 use Rattle.algol_tree.specs.Plain.{PProgram}
 use Rattle.algol_meaning.specs.World.{World}
-use Rattle.algol_meaning.specs.Run.{run, may_go, end_of, End, finished, fault, all_waiting}
+use Rattle.algol_meaning.specs.Run.{run, may_go, end_of, finished, fault, all_waiting}
 use Rattle.b67_schedule.specs.Schedules.{entries}
 use Rattle.b67_report.specs.Reading.{IsReport}
 use Rattle.b67_report.specs.declared.Report.{Report}

@@ -2,7 +2,6 @@
 
 ghost use Rattle.std.specs.Prelude.{◌≡◌, ◌<◌, ◌≤◌, ◌^◌, IfOk, length};
 ghost use Rattle.b67_report.specs.Reading.{AreCounts as AreNumbers};
-ghost use Rattle.b67_schedule.specs.Schedules.{entries};
 ghost use Rattle.b67_machine.specs.Reads.{machine_end};
 ghost use Rattle.b67_explain.specs.Telling.{CanBeTold, AreCounts, AreActs, IsReportOf};
 
