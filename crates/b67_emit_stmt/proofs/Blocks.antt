@@ -1,12 +1,12 @@
 -- The code of a block: its cells, its arrays, its statements, whose exits go to the place behind them, and EXIT; and that of a block within another.
-use Rattle.std.proofs.Common.{◌≡◌, ℕ, ◌+◌, ◌*◌, ◌≤◌, [], ◌∷◌, length, take, drop, refl, sym, ap, ◌∙◌, subst, arith}
+use Rattle.std.proofs.Common.{◌≡◌, ℕ, ◌+◌, ◌≤◌, [], ◌∷◌, length, take, drop, refl, sym, ap, ◌∙◌, subst, arith}
 use Rattle.std.specs.Prelude.{unwrap_or, Option, Some, IsSome}
 use Rattle.std.proofs.lemmas.List.{take_at}
 use Rattle.algol_tree.specs.Plain.{PDecls, PStmts}
 use Rattle.b67_ops.specs.declared.Operator.TheVariants as ops
 use Rattle.b67_ops.specs.declared.PlainKind.TheVariants as kinds
 use Rattle.b67_ops.specs.declared.BranchKind.TheVariants.{Brun}
-use Rattle.b67_segment.specs.declared.TheConstants.{MOST_SEGMENT_WORDS}
+use Rattle.b67_segment.specs.declared.TheConstants.{MOST_SEGMENT_SYLLABLES}
 use Rattle.b67_segment.specs.Operators.{size}
 use Rattle.b67_segment.specs.Building.{Built, level_set}
 use Rattle.b67_templates.specs.Cells.{control_segments}
@@ -78,7 +78,7 @@ module _ (s : Known) (level : ℕ) (ds : PDecls) (ss : PStmts) (a d : Draft) (at
   pub exit_set : (fits : (sc : Place) × InsideFits sc s level ds ss) → IsSome a.out.level → IsSome d.out.level
   exit_set fits h = set_same a.out d.out (inside fits.0 fits.1).code.level h
 
-  pub exit_room : (fits : (sc : Place) × InsideFits sc s level ds ss) → IsReady s a (block_syllables ds ss) → size d.out.operators + 1 ≤ 6 * MOST_SEGMENT_WORDS
+  pub exit_room : (fits : (sc : Place) × InsideFits sc s level ds ss) → IsReady s a (block_syllables ds ss) → size d.out.operators + 1 ≤ MOST_SEGMENT_SYLLABLES
   exit_room fits r = omega (arith, is, (inside fits.0 fits.1).short, r.room)
 
   pub block_stands : (e : Draft) → e.exits.items ≡ d.exits.items → e.formats.items ≡ d.formats.items →
@@ -131,7 +131,7 @@ module _ (s : Known) (ds : PDecls) (ss : PStmts) (a b : Draft) (over_level : b.o
       pub entry_inner : HaveFitInside s a ds ss → (level : ℕ) → IsAt level a → level + 1 ≡ level_set d.out + 1
       entry_inner fits level at = sym (ap (λ (o : Option ℕ). unwrap_or o 0 + 1) (entry_level fits ∙ at.set))
 
-      pub entry_room : HaveFitInside s a ds ss → IsReady s a (inner_syllables ds ss) → size d.out.operators + 14 ≤ 6 * MOST_SEGMENT_WORDS
+      pub entry_room : HaveFitInside s a ds ss → IsReady s a (inner_syllables ds ss) → size d.out.operators + 14 ≤ MOST_SEGMENT_SYLLABLES
       entry_room fits r = let inside = inside_fit fits in omega (arith, (code inside.0 inside.1).short, aimed.place, wide, r.room)
 
       pub inner_stands : (e : Draft) (begin : ℕ) → b.exits.items ≡ a.exits.items → b.formats.items ≡ a.formats.items → d.exits.items ≡ c.exits.items →

@@ -44,6 +44,3 @@ phrases_listed (t ∷ ts) ps e h =
 -- with the format of such phrases
 pub format_listed : (xs : List Format) (f : Format) (ts : List PhraseText) → AreParts ts f.phrases → PhrasesFit ts → AreListed xs → AreListed (xs ++ f ∷ [])
 format_listed xs f ts e h l = All-push (λ (format : Format). All IsPhrase format.phrases) xs f l (phrases_listed ts f.phrases e h)
-
-pub none_listed : {xs : List Format} → xs ≡ [] → AreListed xs
-none_listed e = subst AreListed (sym e) (All-nil (λ (format : Format). All IsPhrase format.phrases))

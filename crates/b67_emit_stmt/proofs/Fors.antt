@@ -1,5 +1,5 @@
 -- FOR: what each of its parts needs, from what those before it promise.
-use Rattle.std.proofs.Common.{◌≡◌, ℕ, ◌+◌, ◌*◌, ◌≤◌, ◌∙◌, List, refl, sym, subst, arith}
+use Rattle.std.proofs.Common.{◌≡◌, ℕ, ◌+◌, ◌≤◌, ◌∙◌, List, refl, sym, subst, arith}
 use Rattle.std.specs.Prelude.{IsSome}
 use Rattle.algol_tree.specs.declared.tree.Kind.TheVariants as types
 use Rattle.algol_tree.specs.declared.tree.Named.{Named}
@@ -7,7 +7,7 @@ use Rattle.algol_tree.specs.declared.tree.Op.TheVariants as operators
 use Rattle.algol_tree.specs.Plain as tree
 use Rattle.algol_tree.specs.Plain.{PExpr, PStmt}
 use Rattle.algol_meaning.specs.Statements.{alone}
-use Rattle.b67_segment.specs.declared.TheConstants.{MOST_SEGMENT_WORDS}
+use Rattle.b67_segment.specs.declared.TheConstants.{MOST_SEGMENT_SYLLABLES}
 use Rattle.b67_segment.specs.declared.code.Format.{Format}
 use Rattle.b67_segment.specs.Operators.{size}
 use Rattle.b67_segment.specs.Building.{Built, level_set}
@@ -79,7 +79,7 @@ module _ (s : Known) (sc : Place) (v : Named) (first p l : PExpr) (x : PStmt) (a
           let E : ℕ → Type 0 = λ n. ExprFits sc s n types.Number p in
           (sc, variable_at s (level_set f.out) level sc v behind_body fits.0, subst E (sym behind_body) fits.2)
 
-      pub advance_needs : IsSome f.out.level × (size f.out.operators + (6 + expr_syllables p) ≤ 6 * MOST_SEGMENT_WORDS)
+      pub advance_needs : IsSome f.out.level × (size f.out.operators + (6 + expr_syllables p) ≤ MOST_SEGMENT_SYLLABLES)
       advance_needs = (
         matched.set_behind a.out (emits_then stepped performed) (difference_level ∙ assign_level) ready.set,
         omega (arith, performed.short, stepped.short, difference_short, assign_short, ready.room),
@@ -89,7 +89,7 @@ module _ (s : Known) (sc : Place) (v : Named) (first p l : PExpr) (x : PStmt) (a
           (advance : (sc' : Place) (formats : List Format) → VariableFits sc' s (level_set f.out) v → ExprFits sc' s (level_set f.out) types.Number p →
           Emitted f.out n' (λ qs. AssignAt sc' formats qs (level_set f.out) v (tree.two operators.Add (alone v) p) (size f.out.operators) (size n'.operators)))
           (advance_level : n'.level ≡ f.out.level) (advance_short : size n'.operators ≤ size f.out.operators + (6 + expr_syllables p)) where
-        pub turn_needs : (start : ℕ) → start ≡ size b'.operators → IsSome n'.level × (start ≤ size n'.operators) × (size n'.operators + 3 ≤ 6 * MOST_SEGMENT_WORDS)
+        pub turn_needs : (start : ℕ) → start ≡ size b'.operators → IsSome n'.level × (start ≤ size n'.operators) × (size n'.operators + 3 ≤ MOST_SEGMENT_SYLLABLES)
         turn_needs start is =
             let advanced = matched.advanced s sc level v p f (record f { out = n' }) behind_body refl refl performed.few advance advance_short fits.0 fits.2 in (
               matched.set_ahead n' (emits_then stepped performed) advance_level (set_same a.out d' (difference_level ∙ assign_level) ready.set),

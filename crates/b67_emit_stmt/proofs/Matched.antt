@@ -1,5 +1,5 @@
 -- A statement whose plain tree is known: what it needs, and what its code is.
-use Rattle.std.proofs.Common.{◌≡◌, ℕ, ◌+◌, ◌*◌, ◌≤◌, List, length, refl, sym, ap, ◌∙◌, subst, arith}
+use Rattle.std.proofs.Common.{◌≡◌, ℕ, ◌+◌, ◌≤◌, List, length, refl, sym, ap, ◌∙◌, subst, arith}
 use Rattle.std.specs.Prelude.{IsSome}
 use Rattle.algol_tree.specs.declared.token.Spot.{Spot}
 use Rattle.algol_tree.specs.declared.tree.Kind.TheVariants as types
@@ -7,11 +7,11 @@ use Rattle.algol_tree.specs.declared.tree.Named.{Named}
 use Rattle.algol_tree.specs.declared.tree.Op.TheVariants as operators
 use Rattle.algol_tree.specs.declared.tree.PhraseText.{PhraseText}
 use Rattle.algol_tree.specs.Plain as tree
-use Rattle.algol_tree.specs.Plain.{PCall, PDecls, PExpr, PExprs, PStmt, PStmts}
+use Rattle.algol_tree.specs.Plain.{PCall, PExpr, PExprs, PStmt}
 use Rattle.b67_emit_stmt.specs.Places.{Place, AssignAt, CallStmtAt, ExprAt, StepAt, WriteAt}
 use Rattle.b67_emit_stmt.specs.declared.draft.Known.{Known}
 use Rattle.algol_meaning.specs.Statements as meaning
-use Rattle.b67_segment.specs.declared.TheConstants.{MOST_SEGMENT_WORDS}
+use Rattle.b67_segment.specs.declared.TheConstants.{MOST_SEGMENT_SYLLABLES}
 use Rattle.b67_segment.specs.declared.code.Format.{Format}
 use Rattle.b67_segment.specs.Operators.{Placed, size}
 use Rattle.b67_segment.specs.Building.{Built, level_set}
@@ -40,9 +40,9 @@ emits_as s a b p q is e = let E : PStmt → Type 0 = λ x. EmitsStmt s a b x in 
 
 -- a call has room where its statement has
 pub call_fits : (s : Known) (a : Draft) (p : PStmt) (c : PCall) (n : Named) (es : PExprs) → p ≡ tree.call_of (tree.called n es) → c ≡ tree.called n es → IsReady s a (stmt_syllables p) →
-    size a.out.operators + (expr_syllables (tree.call c) + 1) ≤ 6 * MOST_SEGMENT_WORDS
+    size a.out.operators + (expr_syllables (tree.call c) + 1) ≤ MOST_SEGMENT_SYLLABLES
 call_fits s a p c n es is same ready =
-    let Z : PCall → Type 0 = λ x. size a.out.operators + (expr_syllables (tree.call x) + 1) ≤ 6 * MOST_SEGMENT_WORDS in
+    let Z : PCall → Type 0 = λ x. size a.out.operators + (expr_syllables (tree.call x) + 1) ≤ MOST_SEGMENT_SYLLABLES in
     let there : Z (tree.called n es) = omega (arith, call_room n es, (ready_as s a p (tree.call_of (tree.called n es)) is ready).room) in
     subst Z (sym same) there
 

@@ -1,11 +1,11 @@
 -- An assignment to a variable, a result or an element: what is stored through, the value, the store.
-use Rattle.std.proofs.Common.{◌≡◌, ℕ, ◌+◌, ◌*◌, ◌≤◌, ◌∙◌, List, refl, arith}
+use Rattle.std.proofs.Common.{◌≡◌, ℕ, ◌+◌, ◌≤◌, ◌∙◌, List, refl, arith}
 use Rattle.algol_tree.specs.declared.tree.Kind.{Kind}
 use Rattle.algol_tree.specs.Plain as tree
 use Rattle.algol_tree.specs.Plain.{PExpr, PVariable, PStmt}
 use Rattle.b67_ops.specs.declared.Operator.TheVariants as ops
 use Rattle.b67_ops.specs.declared.PlainKind.TheVariants as kinds
-use Rattle.b67_segment.specs.declared.TheConstants.{MOST_SEGMENT_WORDS}
+use Rattle.b67_segment.specs.declared.TheConstants.{MOST_SEGMENT_SYLLABLES}
 use Rattle.b67_segment.specs.declared.code.Format.{Format}
 use Rattle.b67_segment.specs.Operators.{Placed, size}
 use Rattle.b67_segment.specs.Building.{Built, level_set}
@@ -43,7 +43,7 @@ store_room (tree.subscripted n tree.none) e = omega arith
 store_room (tree.subscripted n (tree.more i is)) e = omega arith
 
 pub store_fits : (s : Known) (a : Draft) (p : PStmt) (v : PVariable) (e : PExpr) → p ≡ tree.assign v e → IsReady s a (stmt_syllables p) →
-    size a.out.operators + (place_syllables v + expr_syllables e + 1) ≤ 6 * MOST_SEGMENT_WORDS
+    size a.out.operators + (place_syllables v + expr_syllables e + 1) ≤ MOST_SEGMENT_SYLLABLES
 store_fits s a p v e is ready = omega (arith, store_room v e, (ready_as s a p (tree.assign v e) is ready).room)
 
 -- ---- the code

@@ -14,7 +14,7 @@ use Rattle.b67_ops.specs.declared.Operator.TheVariants as ops
 use Rattle.b67_ops.specs.declared.PlainKind.TheVariants as kinds
 use Rattle.b67_ops.specs.declared.BranchKind.TheVariants.{Brun}
 use Rattle.b67_ops.specs.declared.intrinsic.Intrinsic.TheVariants.{Select}
-use Rattle.b67_segment.specs.declared.TheConstants.{MOST_SEGMENT_WORDS}
+use Rattle.b67_segment.specs.declared.TheConstants.{MOST_SEGMENT_SYLLABLES}
 use Rattle.b67_segment.specs.declared.code.Format.{Format}
 use Rattle.b67_segment.specs.Operators.{Placed, size}
 use Rattle.b67_segment.specs.Building.{Built, level_set}
@@ -170,7 +170,7 @@ module _ (s : Known) (sc : Place) (level : ℕ) (xs : List Stmt) (i : ℕ) (x : 
 
   -- .. and the branch behind it
   pub exit_needs : (d : Draft) (n : ℕ) → Aimed (entry ∷ []) b.out d.out → d.formats.items ≡ b.formats.items → stmts_syllables (stmts xs) ≤ n → IsReady s a n → level_set a.out ≡ level →
-      StmtsFit sc s level (stmts xs) → (e : Draft) → EmitsStmt s d e (stmt x) → IsSome e.out.level × (size e.out.operators + 3 ≤ 6 * MOST_SEGMENT_WORDS)
+      StmtsFit sc s level (stmts xs) → (e : Draft) → EmitsStmt s d e (stmt x) → IsSome e.out.level × (size e.out.operators + 3 ≤ MOST_SEGMENT_SYLLABLES)
   exit_needs d n aimed fs le r q fits e k =
       let part = stmt_piece s sc (stmt x) d e level (next_level d q aimed) k (next_fits s sc level xs i x lo is fits) in
       (set_behind a.out part (aimed.level ∙ m.level_is) r.set, omega (arith, part.short, (next_ready d n aimed fs le r).room))

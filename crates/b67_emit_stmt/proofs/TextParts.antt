@@ -1,7 +1,7 @@
 -- A text where its code is emitted, with its level, its result's cell, its declarations and its statements as they are found.
-use Rattle.std.proofs.Common.{◌≡◌, ℕ, ◌+◌, ◌*◌, ◌≤◌, Option, List, sym, subst}
+use Rattle.std.proofs.Common.{◌≡◌, ℕ, ◌+◌, ◌≤◌, Option, List, sym, subst}
 use Rattle.algol_tree.specs.Plain.{PDecls, PStmts}
-use Rattle.b67_segment.specs.declared.TheConstants.{MOST_SEGMENT_WORDS}
+use Rattle.b67_segment.specs.declared.TheConstants.{MOST_SEGMENT_SYLLABLES}
 use Rattle.b67_segment.specs.declared.code.Format.{Format}
 use Rattle.b67_segment.specs.declared.code.Segment.{Segment}
 use Rattle.b67_emit_stmt.specs.declared.draft.Known.{Known}
@@ -34,8 +34,8 @@ module _ (t : Text) (returned : Option ℕ) (level : ℕ) (ds : PDecls) (ss : PS
     pub fits_found : (sc : Place) × InsideFits sc s level ds ss
     fits_found = found (λ r l xs ys. (sc : Place) × InsideFits sc s l xs ys) can.fits
 
-    pub room_found : text_syllables returned ds ss + 5 ≤ 6 * MOST_SEGMENT_WORDS
-    room_found = found (λ r l xs ys. text_syllables r xs ys + 5 ≤ 6 * MOST_SEGMENT_WORDS) can.room
+    pub room_found : text_syllables returned ds ss + 5 ≤ MOST_SEGMENT_SYLLABLES
+    room_found = found (λ r l xs ys. text_syllables r xs ys + 5 ≤ MOST_SEGMENT_SYLLABLES) can.room
 
     pub segment_own : (sc : Place) (all : List Format) (segment : Segment) → (InsideFits sc s level ds ss → Stands sc all segment level returned ds ss) → TextFits sc s t →
         HasSegment sc all segment t

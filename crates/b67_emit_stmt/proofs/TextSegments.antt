@@ -3,8 +3,7 @@ use Rattle.std.proofs.Common.{◌≡◌, ℕ, ◌+◌, ◌*◌, ◌≤◌, List,
 use Rattle.std.specs.Prelude.{unwrap_or, Option, Some, None, IsSome}
 use Rattle.algol_tree.specs.declared.TheConstants.{MOST_PROCEDURES}
 use Rattle.algol_tree.specs.Plain.{PDecls, PStmts}
-use Rattle.b67_ops.specs.declared.TheConstants.{OUTER_LEVEL}
-use Rattle.b67_segment.specs.declared.TheConstants.{MOST_SEGMENT_WORDS}
+use Rattle.b67_segment.specs.declared.TheConstants.{MOST_SEGMENT_SYLLABLES}
 use Rattle.b67_segment.specs.declared.code.Format.{Format}
 use Rattle.b67_segment.specs.declared.code.Segment.{Segment}
 use Rattle.b67_segment.specs.Operators.{Placed, size, filled, last_level, missing}
@@ -17,7 +16,7 @@ use Rattle.b67_emitter.specs.Values.{AreNear}
 use Rattle.b67_emit_stmt.specs.declared.draft.Draft.{Draft}
 use Rattle.b67_emit_stmt.specs.declared.draft.Known.{Known}
 use Rattle.b67_emit_stmt.specs.Bodies.{EmitsInside, EndingAt, InsideAt, Stands, inside_syllables, text_syllables, zeros_for}
-use Rattle.b67_emit_stmt.specs.Drafts.{AreListed, Emits, IsAt, IsFront, IsReady}
+use Rattle.b67_emit_stmt.specs.Drafts.{AreListed, Emits, IsFront, IsReady}
 use Rattle.b67_emit_stmt.specs.Fits.{InsideFits}
 use Rattle.b67_emit_stmt.specs.Places.{Place}
 use Rattle.b67_emit_stmt.proofs.Drafts.{emits_then, piece}
@@ -43,11 +42,8 @@ module _ {level : ℕ} {formats : List Format} {a : Draft} (new : IsNew level fo
   set_new : IsSome a.out.level
   set_new = let S : Option ℕ → Type 0 = λ o. IsSome o in subst S (sym new.set) refl
 
-  pub at_new : OUTER_LEVEL ≤ level → IsAt level a
-  at_new outer = record { set = new.set; outer = outer }
-
   pub ready_new : (s : Known) (n : ℕ) → AreNear s.names.now → length s.procedures.now ≤ MOST_PROCEDURES → s.segment ≤ MOST_PROCEDURES →
-      length formats ≤ 6 * MOST_SEGMENT_WORDS * s.segment → n ≤ 6 * MOST_SEGMENT_WORDS → IsReady s a n
+      length formats ≤ MOST_SEGMENT_SYLLABLES * s.segment → n ≤ MOST_SEGMENT_SYLLABLES → IsReady s a n
   ready_new s n near many segment few room = record {
     set = set_new;
     near = near;
@@ -77,7 +73,7 @@ module _ (s : Known) (level : ℕ) (formats : List Format) (many : ℕ) (returne
     pub end_at : level ≡ level_set d.out
     end_at = sym (ap (λ (o : Option ℕ). unwrap_or o 0) end_level)
 
-    pub end_room : text_syllables returned ds ss + 5 ≤ 6 * MOST_SEGMENT_WORDS → size d.out.operators + 3 ≤ 6 * MOST_SEGMENT_WORDS
+    pub end_room : text_syllables returned ds ss + 5 ≤ MOST_SEGMENT_SYLLABLES → size d.out.operators + 3 ≤ MOST_SEGMENT_SYLLABLES
     end_room room = omega (arith, (whole fits.0 fits.1).short, new.start, room)
 
     pub front_after : IsFront formats d.formats.items
@@ -86,7 +82,7 @@ module _ (s : Known) (level : ℕ) (formats : List Format) (many : ℕ) (returne
     pub listed_after : AreListed formats → AreListed d.formats.items
     listed_after l = (whole fits.0 fits.1).listed (subst AreListed (sym new.formats_are) l)
 
-    pub few_after : text_syllables returned ds ss + 5 ≤ 6 * MOST_SEGMENT_WORDS → length d.formats.items ≤ length formats + 6 * MOST_SEGMENT_WORDS
+    pub few_after : text_syllables returned ds ss + 5 ≤ MOST_SEGMENT_SYLLABLES → length d.formats.items ≤ length formats + MOST_SEGMENT_SYLLABLES
     few_after room = omega (arith, (whole fits.0 fits.1).more, (whole fits.0 fits.1).short, new.start, ap length new.formats_are, room)
 
     pub short_after : (e : Built) → size e.operators ≤ size d.out.operators + 3 → size e.operators + 5 ≤ text_syllables returned ds ss + 5

@@ -1,10 +1,10 @@
 -- THRU: what each of its parts needs, from what those before it promise.
-use Rattle.std.proofs.Common.{◌≡◌, ℕ, ◌+◌, ◌*◌, ◌≤◌, ◌∙◌, [], ◌∷◌, refl, arith}
+use Rattle.std.proofs.Common.{◌≡◌, ℕ, ◌+◌, ◌≤◌, ◌∙◌, [], ◌∷◌, refl, arith}
 use Rattle.std.specs.Prelude.{IsSome}
 use Rattle.algol_tree.specs.declared.tree.Kind.TheVariants as types
 use Rattle.algol_tree.specs.Plain as tree
 use Rattle.algol_tree.specs.Plain.{PExpr, PStmt}
-use Rattle.b67_segment.specs.declared.TheConstants.{MOST_SEGMENT_WORDS}
+use Rattle.b67_segment.specs.declared.TheConstants.{MOST_SEGMENT_SYLLABLES}
 use Rattle.b67_segment.specs.Operators.{size}
 use Rattle.b67_segment.specs.Building.{Built, level_set}
 use Rattle.b67_templates.specs.Depths.{expr_syllables, stmt_syllables}
@@ -48,7 +48,7 @@ module _ (s : Known) (sc : Place) (p : PExpr) (x : PStmt) (a : Draft) (b' d' e' 
     performed : Emits (stmt_syllables x) f n (Closed sc (level_set a.out) x f n)
     performed = body_piece s sc x f n (level_set a.out) (level_same a.out f' same) body fits.1
 
-    pub turn_needs : (start : ℕ) → start ≡ size b'.operators → IsSome n.out.level × (start ≤ size n.out.operators) × (size n.out.operators + 3 ≤ 6 * MOST_SEGMENT_WORDS)
+    pub turn_needs : (start : ℕ) → start ≡ size b'.operators → IsSome n.out.level × (start ≤ size n.out.operators) × (size n.out.operators + 3 ≤ MOST_SEGMENT_SYLLABLES)
     turn_needs start is = (
       set_behind a.out performed same ready.set,
       omega (arith, is, tests_wide, branch_wide, less_wide, performed.code.grown),
@@ -56,7 +56,7 @@ module _ (s : Known) (sc : Place) (p : PExpr) (x : PStmt) (a : Draft) (b' d' e' 
     )
 
     module _ (o' j' : Built) (over : ℕ) (turn_level : o'.level ≡ n.out.level) (turn_wide : size o'.operators ≡ size n.out.operators + 3) (aimed : Aimed (over ∷ []) o' j') where
-      pub end_needs : IsSome j'.level × (size j'.operators + 1 ≤ 6 * MOST_SEGMENT_WORDS)
+      pub end_needs : IsSome j'.level × (size j'.operators + 1 ≤ MOST_SEGMENT_SYLLABLES)
       end_needs = (
         set_ahead j' performed (aimed.level ∙ turn_level) (set_same a.out f' same ready.set),
         omega (arith, performed.short, aimed.place, turn_wide, value_short, tests_wide, branch_wide, less_wide, ready.room),

@@ -4,7 +4,7 @@ use Rattle.std.specs.List.{All}
 use Rattle.algol_tree.specs.declared.TheConstants.{MOST_PROCEDURES}
 use Rattle.b67_emit_stmt.specs.declared.draft.Known.{Known}
 use Rattle.b67_ops.specs.declared.TheConstants.{OUTER_LEVEL}
-use Rattle.b67_segment.specs.declared.TheConstants.{MOST_SEGMENT_WORDS}
+use Rattle.b67_segment.specs.declared.TheConstants.{MOST_SEGMENT_SYLLABLES}
 use Rattle.b67_segment.specs.declared.code.Format.{Format}
 use Rattle.b67_segment.specs.Operators.{Placed, size}
 use Rattle.b67_listing.specs.Listings.{IsPhrase}
@@ -18,7 +18,7 @@ IsFront xs ys = (more : List Format) × (ys ≡ xs ++ more)
 
 -- how many formats a program has at most: the line of each has more code than a syllable
 abbrev pub most_formats : ℕ
-most_formats = 6 * MOST_SEGMENT_WORDS * (1 + MOST_PROCEDURES)
+most_formats = MOST_SEGMENT_SYLLABLES * (1 + MOST_PROCEDURES)
 
 abbrev pub HasFew : Draft → Type 0
 HasFew d = length d.formats.items ≤ most_formats + size d.out.operators
@@ -39,7 +39,7 @@ pub record IsReady (s : Known) (d : Draft) (syllables : ℕ) : Type 0 where
   pub many : length s.procedures.now ≤ MOST_PROCEDURES
   pub segment : s.segment < 2 ^ 10
   pub few : HasFew d
-  pub room : size d.out.operators + syllables ≤ 6 * MOST_SEGMENT_WORDS
+  pub room : size d.out.operators + syllables ≤ MOST_SEGMENT_SYLLABLES
 
 -- At most so many syllables were added. The claim holds wherever they are kept, the exits go to that target behind them, and the formats
 -- are the first of these. If the formats could be listed before, they can be now.

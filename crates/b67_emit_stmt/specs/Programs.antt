@@ -10,7 +10,7 @@ use Rattle.b67_emitter.specs.declared.names.Names.{Names}
 use Rattle.b67_ops.specs.declared.Operator.TheVariants as ops
 use Rattle.b67_ops.specs.declared.PlainKind.TheVariants as kinds
 use Rattle.b67_ops.specs.declared.TheConstants.{MOST_LEVEL}
-use Rattle.b67_segment.specs.declared.TheConstants.{MOST_SEGMENT_WORDS}
+use Rattle.b67_segment.specs.declared.TheConstants.{MOST_SEGMENT_SYLLABLES}
 use Rattle.b67_segment.specs.Operators.{Placed}
 use Rattle.b67_segment.specs.Syllables.{Spells}
 use Rattle.b67_segment.specs.declared.code.Format.{Format}
@@ -43,7 +43,7 @@ pub record IsDue (sc : Scopes) (known : Names) (number : ℕ) (t : Text) : Type 
   pub few : t.parameters + length (zeros_of t) + length (procedures t.decls) + length (arrays_of t.decls) ≤ MOST_BLOCK_CELLS
   pub decls : DeclsFit sc (couples known) (results known) (lows known) t.level t.decls
   pub fits : StmtsFit sc (couples known) (results known) (lows known) t.level t.stmts
-  pub room : 24 * t.tokens + 48 ≤ 6 * MOST_SEGMENT_WORDS
+  pub room : 24 * t.tokens + 48 ≤ MOST_SEGMENT_SYLLABLES
 
 -- .. of each text, numbered from 0
 abbrev pub AreDue : Scopes → Names → List Text → Type 0

@@ -1,8 +1,8 @@
 -- The texts of a program where their code is emitted, each in a segment of its own.
-use Rattle.std.specs.Prelude.{ℕ, ◌+◌, ◌*◌, ◌≤◌, Option, List}
+use Rattle.std.specs.Prelude.{ℕ, ◌+◌, ◌≤◌, Option, List}
 use Rattle.algol_tree.specs.declared.TheConstants.{MOST_BLOCK_CELLS}
 use Rattle.b67_ops.specs.declared.TheConstants.{MOST_LEVEL, OUTER_LEVEL}
-use Rattle.b67_segment.specs.declared.TheConstants.{MOST_SEGMENT_WORDS}
+use Rattle.b67_segment.specs.declared.TheConstants.{MOST_SEGMENT_SYLLABLES}
 use Rattle.b67_segment.specs.declared.code.Format.{Format}
 use Rattle.b67_segment.specs.declared.code.Segment.{Segment}
 use Rattle.b67_emit_stmt.specs.declared.draft.Known.{Known}
@@ -31,7 +31,7 @@ pub record CanStand (s : Known) (t : Text) : Type 0 where
   pub cell : IsNear (returned_in t)
   pub small : IsSmall (zeros_for (returned_in t) t.decls) t.decls
   pub fits : (sc : Place) × TextFits sc s t
-  pub room : code_syllables t + 5 ≤ 6 * MOST_SEGMENT_WORDS
+  pub room : code_syllables t + 5 ≤ MOST_SEGMENT_SYLLABLES
 
 -- the code of a text stands in the segment
 abbrev pub HasSegment : Place → List Format → Segment → Text → Type 0

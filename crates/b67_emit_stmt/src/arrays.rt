@@ -1,10 +1,10 @@
 //! The arrays of a block.
 
-ghost use Rattle.std.specs.Prelude.{◌≡◌, ◌+◌, ◌*◌, ◌≤◌, List, length, IsSome, OnOk};
+ghost use Rattle.std.specs.Prelude.{◌≡◌, ◌+◌, ◌≤◌, List, length, IsSome, OnOk};
 ghost use Rattle.algol_tree.specs.declared.TheConstants.{MOST_BLOCK_CELLS};
 ghost use Rattle.algol_tree.specs.Image as plain;
 ghost use Rattle.algol_paths.specs.Arrays.{arrays_of};
-ghost use Rattle.b67_segment.specs.declared.TheConstants.{MOST_SEGMENT_WORDS};
+ghost use Rattle.b67_segment.specs.declared.TheConstants.{MOST_SEGMENT_SYLLABLES};
 ghost use Rattle.b67_segment.specs.declared.code.Format.{Format};
 ghost use Rattle.b67_segment.specs.Operators.{size};
 ghost use Rattle.b67_segment.specs.Building.{level_set};
@@ -31,7 +31,7 @@ impl<'a, E: ExprEmitter> StmtEmitter<'a, E> {
         requires set { IsSome out.old.level }
         requires near { AreNear self.now.known.now.names.now }
         requires fits { (sc : Place) × BoundsFit sc self.now.known.now (level_set out.old) (plain.pairs pairs.now) }
-        requires room { size out.old.operators + bounds_syllables (plain.pairs pairs.now) ≤ 6 * MOST_SEGMENT_WORDS }
+        requires room { size out.old.operators + bounds_syllables (plain.pairs pairs.now) ≤ MOST_SEGMENT_SYLLABLES }
         ensures code { OnOk result ((sc : Place) (formats : List Format) → BoundsFit sc self.now.known.now (level_set out.old) (plain.pairs pairs.now) → Emitted out.old out.new (λ qs. BoundsAt sc formats qs (level_set out.old) (plain.pairs pairs.now) (size out.old.operators) (size out.new.operators))) }
         ensures level { OnOk result (out.new.level ≡ out.old.level) }
         ensures size { OnOk result (size out.new.operators ≤ size out.old.operators + bounds_syllables (plain.pairs pairs.now)) }
@@ -52,7 +52,7 @@ impl<'a, E: ExprEmitter> StmtEmitter<'a, E> {
         requires few { many ≤ MOST_BLOCK_CELLS }
         requires dimensions { AreDimensions (plain.pairs pairs.now) }
         requires fits { (sc : Place) × BoundsFit sc self.now.known.now (level_set out.old) (plain.pairs pairs.now) }
-        requires room { size out.old.operators + arrays_syllables (plain.pairs pairs.now) ≤ 6 * MOST_SEGMENT_WORDS }
+        requires room { size out.old.operators + arrays_syllables (plain.pairs pairs.now) ≤ MOST_SEGMENT_SYLLABLES }
         ensures code { OnOk result ((sc : Place) (formats : List Format) → BoundsFit sc self.now.known.now (level_set out.old) (plain.pairs pairs.now) → Emitted out.old out.new (λ qs. ArraysAt sc formats qs (level_set out.old) many (plain.pairs pairs.now) (size out.old.operators) (size out.new.operators))) }
         ensures level { OnOk result (out.new.level ≡ out.old.level) }
         ensures size { OnOk result (size out.new.operators ≤ size out.old.operators + arrays_syllables (plain.pairs pairs.now)) }
@@ -69,7 +69,7 @@ impl<'a, E: ExprEmitter> StmtEmitter<'a, E> {
         requires near { AreNear self.now.known.now.names.now }
         requires few { length (arrays_of (plain.decls ds.now)) ≤ MOST_BLOCK_CELLS }
         requires fits { (sc : Place) × DeclsFit sc self.now.known.now (level_set out.old) (plain.decls ds.now) }
-        requires room { size out.old.operators + decls_syllables (plain.decls ds.now) ≤ 6 * MOST_SEGMENT_WORDS }
+        requires room { size out.old.operators + decls_syllables (plain.decls ds.now) ≤ MOST_SEGMENT_SYLLABLES }
         ensures code { OnOk result ((sc : Place) (formats : List Format) → DeclsFit sc self.now.known.now (level_set out.old) (plain.decls ds.now) → Emitted out.old out.new (λ qs. DeclsAt sc formats qs (level_set out.old) (plain.decls ds.now) (size out.old.operators) (size out.new.operators))) }
         ensures size { OnOk result (size out.new.operators ≤ size out.old.operators + decls_syllables (plain.decls ds.now)) }
     {

@@ -8,7 +8,7 @@ ghost use Rattle.b67_emit_stmt.specs.Drafts.{IsAt, IsReady};
 ghost use Rattle.b67_emit_stmt.specs.Emits.{HasFit, HaveFit, EmitsStmt, EmitsCases, stmts_syllables};
 ghost use Rattle.algol_tree.specs.declared.tree.Kind.TheVariants as types;
 ghost use Rattle.b67_emit_stmt.specs.Places.{Place};
-ghost use Rattle.b67_segment.specs.declared.TheConstants.{MOST_SEGMENT_WORDS};
+ghost use Rattle.b67_segment.specs.declared.TheConstants.{MOST_SEGMENT_SYLLABLES};
 ghost use Rattle.b67_segment.specs.declared.code.Format.{Format};
 ghost use Rattle.b67_segment.specs.Operators.{size};
 ghost use Rattle.b67_segment.specs.Building.{level_set};
@@ -34,7 +34,7 @@ const TO_TABLE: u16 = 4;
 /// A branch for each of so many statements, to be aimed when the statement begins.
 fn append_entries(many: usize, out: &mut Builder) -> Result<(), AllocError>
     requires set { IsSome out.old.level }
-    requires room { size out.old.operators + 3 * many ≤ 6 * MOST_SEGMENT_WORDS }
+    requires room { size out.old.operators + 3 * many ≤ MOST_SEGMENT_SYLLABLES }
     ensures code { OnOk result (Emitted out.old out.new (λ qs. EntriesAt qs (level_set out.old) many (size out.old.operators) (size out.new.operators))) }
     ensures level { OnOk result (out.new.level ≡ out.old.level) }
     ensures size { OnOk result (size out.new.operators ≡ size out.old.operators + 3 * many) }
@@ -51,9 +51,9 @@ impl<'a, E: ExprEmitter> StmtEmitter<'a, E> {
     fn select(&self, e: &Expr, many: usize, out: &mut Builder) -> Result<(), AllocError>
         requires set { IsSome out.old.level }
         requires near { AreNear self.now.known.now.names.now }
-        requires few { many ≤ 6 * MOST_SEGMENT_WORDS }
+        requires few { many ≤ MOST_SEGMENT_SYLLABLES }
         requires fits { (sc : Place) × ExprFits sc self.now.known.now (level_set out.old) types.Number (expr e.now) }
-        requires room { size out.old.operators + (19 + expr_syllables (expr e.now)) ≤ 6 * MOST_SEGMENT_WORDS }
+        requires room { size out.old.operators + (19 + expr_syllables (expr e.now)) ≤ MOST_SEGMENT_SYLLABLES }
         ensures code { OnOk result ((sc : Place) (formats : List Format) → ExprFits sc self.now.known.now (level_set out.old) types.Number (expr e.now) → Emitted out.old out.new (λ qs. SelectAt sc formats qs (level_set out.old) (expr e.now) many (size out.old.operators) (size out.new.operators))) }
         ensures level { OnOk result (out.new.level ≡ out.old.level) }
         ensures size { OnOk result (size out.new.operators ≤ size out.old.operators + (19 + expr_syllables (expr e.now))) }

@@ -6,7 +6,7 @@ ghost use Rattle.algol_tree.specs.declared.TheConstants.{MOST_BLOCK_CELLS, MOST_
 ghost use Rattle.algol_tree.specs.Image as plain;
 ghost use Rattle.b67_ops.specs.declared.TheConstants.{MOST_LEVEL};
 ghost use Rattle.b67_ops.specs.declared.PlainKind.TheVariants as kinds;
-ghost use Rattle.b67_segment.specs.declared.TheConstants.{MOST_SEGMENT_WORDS};
+ghost use Rattle.b67_segment.specs.declared.TheConstants.{MOST_SEGMENT_SYLLABLES};
 ghost use Rattle.b67_segment.specs.Operators.{size};
 ghost use Rattle.b67_segment.specs.Building.{level_set};
 ghost use Rattle.b67_templates.specs.Cells as frames;
@@ -42,7 +42,7 @@ pub(crate) fn variables(decls: &[Decl]) -> usize
 /// So many zeros.
 fn append_zeros(many: usize, out: &mut Builder) -> Result<(), AllocError>
     requires set { IsSome out.old.level }
-    requires room { size out.old.operators + many ≤ 6 * MOST_SEGMENT_WORDS }
+    requires room { size out.old.operators + many ≤ MOST_SEGMENT_SYLLABLES }
     ensures code { OnOk result (Emitted out.old out.new (λ qs. AllAt qs (level_set out.old) (replicate many kinds.Zero) (size out.old.operators) (size out.new.operators))) }
     ensures level { OnOk result (out.new.level ≡ out.old.level) }
     ensures size { OnOk result (size out.new.operators ≡ size out.old.operators + many) }
@@ -59,7 +59,7 @@ fn append_words(segments: &[u16], level: u8, out: &mut Builder) -> Result<(), Al
     requires level { level ≡ level_set out.old }
     requires inner { 1 ≤ length segments.now → level + 1 ≤ MOST_LEVEL }
     requires segments { All (λ (segment : ℕ). segment < 2 ^ 10) segments.now }
-    requires room { size out.old.operators + 12 * length segments.now ≤ 6 * MOST_SEGMENT_WORDS }
+    requires room { size out.old.operators + 12 * length segments.now ≤ MOST_SEGMENT_SYLLABLES }
     ensures code { OnOk result (Emitted out.old out.new (λ qs. ControlsAt qs (level_set out.old) segments.now (size out.old.operators) (size out.new.operators))) }
     ensures level { OnOk result (out.new.level ≡ out.old.level) }
     ensures size { OnOk result (size out.new.operators ≤ size out.old.operators + 12 * length segments.now) }
@@ -93,7 +93,7 @@ impl<'a, E: ExprEmitter> StmtEmitter<'a, E> {
         requires many { length self.now.known.now.procedures.now ≤ MOST_PROCEDURES }
         requires most { many + length (frames.procedures (plain.decls ds.now)) ≤ MOST_BLOCK_CELLS }
         requires numbered { (sc : Place) × AreNumbered sc.scopes self.now.known.now self.now.level (frames.procedures (plain.decls ds.now)) }
-        requires room { size to.old.out.operators + cells_syllables many (plain.decls ds.now) ≤ 6 * MOST_SEGMENT_WORDS }
+        requires room { size to.old.out.operators + cells_syllables many (plain.decls ds.now) ≤ MOST_SEGMENT_SYLLABLES }
         ensures { OnOk result (EmitsCells self.now.known.now self.now.level to.old to.new many (plain.decls ds.now)) }
     {
         append_zeros(many, &mut to.out)?;

@@ -6,7 +6,7 @@ ghost use Rattle.algol_tree.specs.Image.{exprs};
 ghost use Rattle.algol_tree.specs.Counts.{exprs_tokens};
 ghost use Rattle.b67_emit_stmt.specs.Places.{Place, LineAt, WriteAt};
 ghost use Rattle.algol_tree.specs.Spelling.{value_of};
-ghost use Rattle.b67_segment.specs.declared.TheConstants.{MOST_SEGMENT_WORDS};
+ghost use Rattle.b67_segment.specs.declared.TheConstants.{MOST_SEGMENT_SYLLABLES};
 ghost use Rattle.b67_segment.specs.declared.code.Format.{Format};
 ghost use Rattle.b67_segment.specs.Operators.{size};
 ghost use Rattle.b67_segment.specs.Building.{level_set};
@@ -83,7 +83,7 @@ impl<'a, E: ExprEmitter> StmtEmitter<'a, E> {
         requires set { IsSome out.old.level }
         requires near { AreNear self.now.known.now.names.now }
         requires fits { (sc : Place) × LineFits sc self.now.known.now (level_set out.old) (exprs items.now) }
-        requires room { size out.old.operators + 12 * exprs_tokens (exprs items.now) ≤ 6 * MOST_SEGMENT_WORDS }
+        requires room { size out.old.operators + 12 * exprs_tokens (exprs items.now) ≤ MOST_SEGMENT_SYLLABLES }
         ensures code { OnOk result ((sc : Place) (formats : List Format) → LineFits sc self.now.known.now (level_set out.old) (exprs items.now) → Emitted out.old out.new (λ qs. LineAt sc formats qs (level_set out.old) (exprs items.now) (size out.old.operators) (size out.new.operators))) }
         ensures level { OnOk result (out.new.level ≡ out.old.level) }
         ensures size { OnOk result (size out.new.operators ≤ size out.old.operators + 12 * exprs_tokens (exprs items.now)) }
@@ -106,11 +106,11 @@ impl<'a, E: ExprEmitter> StmtEmitter<'a, E> {
         ensures { OnOk result ((sc : Place) → WriteFits sc self.now.known.now (level_set to.old.out) phrases.now (exprs items.now) → Emits (write_syllables (exprs items.now)) to.old to.new (λ formats qs target. WriteAt sc formats qs (level_set to.old.out) phrases.now (exprs items.now) (size to.old.out.operators) (size to.new.out.operators))) }
     {
         let number = to.formats.len();
-        let format = format_of(*to.formats.allocator(), phrases)?;
         append_intrinsic(&mut to.out, Intrinsic::Write)?;
         append_number(&mut to.out, Whole::fitting(number as i64))?;
         self.items(items, &mut to.out)?;
         append_plain(&mut to.out, PlainKind::Entr)?;
+        let format = format_of(*to.formats.allocator(), phrases)?;
         to.formats.push(format)?;
         Ok(())
     }

@@ -1,12 +1,12 @@
 //! The segments of a program: one for each text.
 
-ghost use Rattle.std.specs.Prelude.{◌≡◌, ◌+◌, ◌*◌, ◌≤◌, ◌<◌, List, length, IfOk, OnOk, IsSome};
+ghost use Rattle.std.specs.Prelude.{◌≡◌, ◌+◌, ◌*◌, ◌≤◌, ◌<◌, List, length, map, IfOk, OnOk, IsSome};
 ghost use Rattle.algol_tree.specs.declared.TheConstants.{MOST_BLOCK_CELLS, MOST_PROCEDURES};
 ghost use Rattle.algol_tree.specs.Blocks.{decls_of, stmts_of};
 ghost use Rattle.algol_tree.specs.Image as plain;
 ghost use Rattle.algol_tree.specs.Scopes as scoped;
 ghost use Rattle.b67_ops.specs.declared.TheConstants as machine;
-ghost use Rattle.b67_segment.specs.declared.TheConstants.{MOST_SEGMENT_WORDS};
+ghost use Rattle.b67_segment.specs.declared.TheConstants.{MOST_SEGMENT_SYLLABLES};
 ghost use Rattle.b67_segment.specs.declared.code.Format.{Format};
 ghost use Rattle.b67_segment.specs.Operators.{size};
 ghost use Rattle.b67_segment.specs.Building.{level_set};
@@ -18,11 +18,12 @@ ghost use Rattle.b67_emit_stmt.specs.Fits.{InsideFits};
 ghost use Rattle.b67_emit_stmt.specs.Places.{Place};
 ghost use Rattle.b67_emit_stmt.specs.Programs.{AreDue, AreShort, Coded};
 ghost use Rattle.b67_emit_stmt.specs.Segments.{CanStand, HasSegment, TextFits, code_syllables};
-ghost use Rattle.b67_emit_stmt.specs.Texts.{outer_text, text_of, texts};
+ghost use Rattle.b67_emit_stmt.specs.Texts.{outer_text, places_of, text_of, texts, texts_in_body};
 
 use crate::cells::variables;
 use crate::draft::{Draft, Known, StmtEmitter};
 use crate::texts::{Procedure, places_of_names, within_body};
+use algol_places::Places;
 use algol_tree::{Body, Decl, Heading, Stmt};
 use b67_emitter::{ExprEmitter, Names, append_plain, append_reading};
 use b67_ops::{Couple, OUTER_LEVEL, PlainKind};
@@ -68,7 +69,7 @@ fn append_end(level: u8, returned: Option<u16>, out: &mut Builder) -> Result<(),
     requires set { IsSome out.old.level }
     requires level { level ≡ level_set out.old }
     requires near { IsNear returned }
-    requires room { size out.old.operators + 3 ≤ 6 * MOST_SEGMENT_WORDS }
+    requires room { size out.old.operators + 3 ≤ MOST_SEGMENT_SYLLABLES }
     ensures code { OnOk result (Emitted out.old out.new (λ qs. EndingAt returned qs level (size out.old.operators))) }
     ensures size { OnOk result (size out.new.operators ≤ size out.old.operators + 3) }
 {
@@ -94,17 +95,17 @@ fn emit_text<E: ExprEmitter>(
     requires cell { IsNear returned }
     requires many { length emitter.now.known.now.procedures.now ≤ MOST_PROCEDURES }
     requires segment { emitter.now.known.now.segment ≤ MOST_PROCEDURES }
-    requires formats { length formats.items ≤ 6 * MOST_SEGMENT_WORDS * emitter.now.known.now.segment }
+    requires formats { length formats.items ≤ MOST_SEGMENT_SYLLABLES * emitter.now.known.now.segment }
     requires outer { machine.OUTER_LEVEL ≤ emitter.now.level }
     requires most { emitter.now.level ≤ machine.MOST_LEVEL }
     requires small { IsSmall (zeros_for returned (plain.decls ds.now)) (plain.decls ds.now) }
     requires fits { (sc : Place) × InsideFits sc emitter.now.known.now emitter.now.level (plain.decls ds.now) (plain.stmts ss.now) }
-    requires room { text_syllables returned (plain.decls ds.now) (plain.stmts ss.now) + 5 ≤ 6 * MOST_SEGMENT_WORDS }
+    requires room { text_syllables returned (plain.decls ds.now) (plain.stmts ss.now) + 5 ≤ MOST_SEGMENT_SYLLABLES }
     ensures code { IfOk result (λ made. (sc : Place) → InsideFits sc emitter.now.known.now emitter.now.level (plain.decls ds.now) (plain.stmts ss.now) →
         (all : List Format) → IsFront made.1.items all → Stands sc all made.0 emitter.now.level returned (plain.decls ds.now) (plain.stmts ss.now)) }
     ensures formats { IfOk result (λ made. IsFront formats.items made.1.items) }
     ensures listed { IfOk result (λ made. AreListed formats.items → AreListed made.1.items) }
-    ensures few { IfOk result (λ made. length made.1.items ≤ length formats.items + 6 * MOST_SEGMENT_WORDS) }
+    ensures few { IfOk result (λ made. length made.1.items ≤ length formats.items + MOST_SEGMENT_SYLLABLES) }
     ensures short { IfOk result (λ made. 6 * length made.0.words ≤ text_syllables returned (plain.decls ds.now) (plain.stmts ss.now) + 5) }
 {
     let mut to = Draft {
@@ -137,7 +138,7 @@ fn emit_outer<E: ExprEmitter>(
     ensures code { IfOk result (λ made. (sc : Place) → TextFits sc known.now (outer_text (plain.body body.now)) →
         (all : List Format) → IsFront made.1.items all → HasSegment sc all made.0 (outer_text (plain.body body.now))) }
     ensures listed { IfOk result (λ made. AreListed made.1.items) }
-    ensures few { IfOk result (λ made. length made.1.items ≤ 6 * MOST_SEGMENT_WORDS) }
+    ensures few { IfOk result (λ made. length made.1.items ≤ MOST_SEGMENT_SYLLABLES) }
     ensures short { IfOk result (λ made. 6 * length made.0.words ≤ code_syllables (outer_text (plain.body body.now)) + 5) }
 {
     let emitter = StmtEmitter {
@@ -167,13 +168,13 @@ fn emit_procedure<E: ExprEmitter>(
     requires near { AreNear known.now.names.now }
     requires many { length known.now.procedures.now ≤ MOST_PROCEDURES }
     requires segment { known.now.segment ≤ MOST_PROCEDURES }
-    requires formats { length formats.items ≤ 6 * MOST_SEGMENT_WORDS * known.now.segment }
+    requires formats { length formats.items ≤ MOST_SEGMENT_SYLLABLES * known.now.segment }
     requires text { CanStand known.now (text_of procedure.now) }
     ensures code { IfOk result (λ made. (sc : Place) → TextFits sc known.now (text_of procedure.now) →
         (all : List Format) → IsFront made.1.items all → HasSegment sc all made.0 (text_of procedure.now)) }
     ensures formats { IfOk result (λ made. IsFront formats.items made.1.items) }
     ensures listed { IfOk result (λ made. AreListed formats.items → AreListed made.1.items) }
-    ensures few { IfOk result (λ made. length made.1.items ≤ length formats.items + 6 * MOST_SEGMENT_WORDS) }
+    ensures few { IfOk result (λ made. length made.1.items ≤ length formats.items + MOST_SEGMENT_SYLLABLES) }
     ensures short { IfOk result (λ made. 6 * length made.0.words ≤ code_syllables (text_of procedure.now) + 5) }
 {
     let emitter = StmtEmitter {
@@ -184,6 +185,45 @@ fn emit_procedure<E: ExprEmitter>(
     let (ds, ss) = parts(procedure.body);
     let returned = returned_by(procedure.heading);
     emit_text(alloc, &emitter, returned, ds, ss, formats)
+}
+
+/// The segments of a program whose procedures and the places of whose names are these, and the formats of all its lines.
+fn emit_texts<E: ExprEmitter>(
+    alloc: Global,
+    exprs: &E,
+    names: &Names,
+    body: &Body,
+    procedures: &[Procedure],
+    places: &Places,
+) -> Result<(Vec<Segment>, Vec<Format>), AllocError>
+    requires near { AreNear names.now }
+    requires few { length (texts (plain.body body.now)) ≤ 1 + MOST_PROCEDURES }
+    requires due { (sc : scoped.Scopes) × AreDue sc names.now (texts (plain.body body.now)) }
+    requires found { map text_of procedures.now ≡ texts_in_body (plain.body body.now) machine.OUTER_LEVEL }
+    requires places { places.now ≡ places_of (texts_in_body (plain.body body.now) machine.OUTER_LEVEL) }
+    ensures code { IfOk result (λ made. (sc : scoped.Scopes) → AreDue sc names.now (texts (plain.body body.now)) → Coded sc made.1.items made.0.items (texts (plain.body body.now))) }
+    ensures formats { IfOk result (λ made. AreListed made.1.items) }
+    ensures short { IfOk result (λ made. AreShort made.0.items (texts (plain.body body.now))) }
+{
+    let outer = Known {
+        names: &*names,
+        procedures: &*places,
+        segment: 0,
+    };
+    let (first, mut formats) = emit_outer(alloc, exprs, &outer, body)?;
+    let mut segments = Vec::new(alloc);
+    segments.push(first)?;
+    'procedures: for procedure in procedures {
+        let known = Known {
+            names: &*names,
+            procedures: &*places,
+            segment: segments.len() as u16,
+        };
+        let (segment, more) = emit_procedure(alloc, exprs, &known, procedure, formats)?;
+        segments.push(segment)?;
+        formats = more;
+    }
+    Ok((segments, formats))
 }
 
 /// The segments of a program: that of its outer block, and those of its procedures in the order of the text; and the formats of all
@@ -204,23 +244,5 @@ pub fn emit_program<E: ExprEmitter>(
     let mut procedures = Vec::new(alloc);
     within_body(body, OUTER_LEVEL, &mut procedures)?;
     let places = places_of_names(alloc, &procedures)?;
-    let outer = Known {
-        names: &*names,
-        procedures: &places,
-        segment: 0,
-    };
-    let (first, mut formats) = emit_outer(alloc, exprs, &outer, body)?;
-    let mut segments = Vec::new(alloc);
-    segments.push(first)?;
-    'procedures: for procedure in &procedures {
-        let known = Known {
-            names: &*names,
-            procedures: &places,
-            segment: segments.len() as u16,
-        };
-        let (segment, more) = emit_procedure(alloc, exprs, &known, procedure, formats)?;
-        segments.push(segment)?;
-        formats = more;
-    }
-    Ok((segments, formats))
+    emit_texts(alloc, exprs, names, body, &procedures, &places)
 }

@@ -1,11 +1,11 @@
 //! The parts of statements that have no statement in them: variables, assignments and the marks of intrinsics.
 
-ghost use Rattle.std.specs.Prelude.{◌≡◌, ◌+◌, ◌*◌, ◌≤◌, List, IsSome, OnOk};
+ghost use Rattle.std.specs.Prelude.{◌≡◌, ◌+◌, ◌≤◌, List, IsSome, OnOk};
 ghost use Rattle.algol_tree.specs.declared.tree.Kind.{Kind};
 ghost use Rattle.algol_tree.specs.Image.{call, expr, exprs, variable};
 ghost use Rattle.algol_tree.specs.Plain as tree;
 ghost use Rattle.b67_emit_stmt.specs.Places.{Place, AssignAt, CallStmtAt, ReadAt, ReferenceAt, StoredAt};
-ghost use Rattle.b67_segment.specs.declared.TheConstants.{MOST_SEGMENT_WORDS};
+ghost use Rattle.b67_segment.specs.declared.TheConstants.{MOST_SEGMENT_SYLLABLES};
 ghost use Rattle.b67_segment.specs.declared.code.Format.{Format};
 ghost use Rattle.b67_segment.specs.Operators.{size};
 ghost use Rattle.b67_segment.specs.Building.{level_set};
@@ -28,7 +28,7 @@ use std::alloc::AllocError;
 /// A mark, and the reference of an intrinsic.
 pub(crate) fn append_intrinsic(out: &mut Builder, intrinsic: Intrinsic) -> Result<(), AllocError>
     requires set { IsSome out.old.level }
-    requires room { size out.old.operators + 3 ≤ 6 * MOST_SEGMENT_WORDS }
+    requires room { size out.old.operators + 3 ≤ MOST_SEGMENT_SYLLABLES }
     ensures code { OnOk result (Emitted out.old out.new (λ qs. IntrinsicAt qs (level_set out.old) intrinsic (size out.old.operators) (size out.new.operators))) }
     ensures size { OnOk result (size out.new.operators ≡ size out.old.operators + 3) }
 {
@@ -42,7 +42,7 @@ impl<'a, E: ExprEmitter> StmtEmitter<'a, E> {
         requires set { IsSome out.old.level }
         requires near { AreNear self.now.known.now.names.now }
         requires fits { (sc : Place) × (k : Kind) × LeftFits sc self.now.known.now (level_set out.old) k v.now }
-        requires room { size out.old.operators + 2 ≤ 6 * MOST_SEGMENT_WORDS }
+        requires room { size out.old.operators + 2 ≤ MOST_SEGMENT_SYLLABLES }
         ensures code { OnOk result ((sc : Place) (k : Kind) (formats : List Format) → LeftFits sc self.now.known.now (level_set out.old) k v.now → Emitted out.old out.new (λ qs. ReferenceAt sc formats qs (level_set out.old) v.now k (size out.old.operators) (size out.new.operators))) }
         ensures level { OnOk result (out.new.level ≡ out.old.level) }
         ensures size { OnOk result (size out.new.operators ≡ size out.old.operators + 2) }
@@ -55,7 +55,7 @@ impl<'a, E: ExprEmitter> StmtEmitter<'a, E> {
         requires set { IsSome out.old.level }
         requires near { AreNear self.now.known.now.names.now }
         requires fits { (sc : Place) × (k : Kind) × ReadFits sc self.now.known.now (level_set out.old) k v.now }
-        requires room { size out.old.operators + 2 ≤ 6 * MOST_SEGMENT_WORDS }
+        requires room { size out.old.operators + 2 ≤ MOST_SEGMENT_SYLLABLES }
         ensures code { OnOk result ((sc : Place) (k : Kind) (formats : List Format) → ReadFits sc self.now.known.now (level_set out.old) k v.now → Emitted out.old out.new (λ qs. ReadAt sc formats qs (level_set out.old) v.now k (size out.old.operators) (size out.new.operators))) }
         ensures level { OnOk result (out.new.level ≡ out.old.level) }
         ensures size { OnOk result (size out.new.operators ≡ size out.old.operators + 2) }
@@ -68,7 +68,7 @@ impl<'a, E: ExprEmitter> StmtEmitter<'a, E> {
         requires set { IsSome out.old.level }
         requires near { AreNear self.now.known.now.names.now }
         requires fits { (sc : Place) × AssignFits sc self.now.known.now (level_set out.old) v.now (expr e.now) }
-        requires room { size out.old.operators + (3 + expr_syllables (expr e.now)) ≤ 6 * MOST_SEGMENT_WORDS }
+        requires room { size out.old.operators + (3 + expr_syllables (expr e.now)) ≤ MOST_SEGMENT_SYLLABLES }
         ensures code { OnOk result ((sc : Place) (formats : List Format) → AssignFits sc self.now.known.now (level_set out.old) v.now (expr e.now) → Emitted out.old out.new (λ qs. AssignAt sc formats qs (level_set out.old) v.now (expr e.now) (size out.old.operators) (size out.new.operators))) }
         ensures level { OnOk result (out.new.level ≡ out.old.level) }
         ensures size { OnOk result (size out.new.operators ≤ size out.old.operators + (3 + expr_syllables (expr e.now))) }
@@ -83,7 +83,7 @@ impl<'a, E: ExprEmitter> StmtEmitter<'a, E> {
         requires set { IsSome out.old.level }
         requires near { AreNear self.now.known.now.names.now }
         requires fits { (sc : Place) × StoreFits sc self.now.known.now (level_set out.old) (variable v.now) (expr e.now) }
-        requires room { size out.old.operators + (place_syllables (variable v.now) + expr_syllables (expr e.now) + 1) ≤ 6 * MOST_SEGMENT_WORDS }
+        requires room { size out.old.operators + (place_syllables (variable v.now) + expr_syllables (expr e.now) + 1) ≤ MOST_SEGMENT_SYLLABLES }
         ensures code { OnOk result ((sc : Place) (formats : List Format) → StoreFits sc self.now.known.now (level_set out.old) (variable v.now) (expr e.now) → Emitted out.old out.new (λ qs. StoredAt sc formats qs (level_set out.old) (variable v.now) (expr e.now) (size out.old.operators) (size out.new.operators))) }
         ensures size { OnOk result (size out.new.operators ≤ size out.old.operators + (place_syllables (variable v.now) + expr_syllables (expr e.now) + 1)) }
     {
@@ -97,7 +97,7 @@ impl<'a, E: ExprEmitter> StmtEmitter<'a, E> {
         requires set { IsSome out.old.level }
         requires near { AreNear self.now.known.now.names.now }
         requires fits { (sc : Place) × CallStmtFits sc self.now.known.now (level_set out.old) c.now.name (exprs c.now.actuals) }
-        requires room { size out.old.operators + (expr_syllables (tree.call (call c.now)) + 1) ≤ 6 * MOST_SEGMENT_WORDS }
+        requires room { size out.old.operators + (expr_syllables (tree.call (call c.now)) + 1) ≤ MOST_SEGMENT_SYLLABLES }
         ensures code { OnOk result ((sc : Place) (formats : List Format) → CallStmtFits sc self.now.known.now (level_set out.old) c.now.name (exprs c.now.actuals) → Emitted out.old out.new (λ qs. CallStmtAt sc formats qs (level_set out.old) c.now.name (exprs c.now.actuals) (size out.old.operators) (size out.new.operators))) }
         ensures level { OnOk result (out.new.level ≡ out.old.level) }
         ensures size { OnOk result (size out.new.operators ≤ size out.old.operators + (expr_syllables (tree.call (call c.now)) + 1)) }

@@ -9,7 +9,7 @@ ghost use Rattle.algol_tree.specs.Image.{expr};
 ghost use Rattle.algol_tree.specs.Plain as tree;
 ghost use Rattle.b67_emit_stmt.specs.Places.{Place, AssignAt, ExprAt, PastAt, SignedAt, StepAt};
 ghost use Rattle.algol_meaning.specs.Statements.{alone};
-ghost use Rattle.b67_segment.specs.declared.TheConstants.{MOST_SEGMENT_WORDS};
+ghost use Rattle.b67_segment.specs.declared.TheConstants.{MOST_SEGMENT_SYLLABLES};
 ghost use Rattle.b67_segment.specs.declared.code.Format.{Format};
 ghost use Rattle.b67_segment.specs.Operators.{size};
 ghost use Rattle.b67_segment.specs.Building.{level_set};
@@ -46,7 +46,7 @@ fn literal_of(e: &Expr) -> Option<Whole>
 fn append_comparison(kind: PlainKind, to: &mut Draft) -> Result<(), AllocError>
     requires set { IsSome to.old.out.level }
     requires few { HasFew to.old }
-    requires room { size to.old.out.operators + 5 ≤ 6 * MOST_SEGMENT_WORDS }
+    requires room { size to.old.out.operators + 5 ≤ MOST_SEGMENT_SYLLABLES }
     ensures { OnOk result (Emits 5 to.old to.new (λ formats qs target. (m : ℕ) × AllAt qs (level_set to.old.out) (kinds.Zero ∷ kind ∷ []) (size to.old.out.operators) m × BranchAt qs (level_set to.old.out) Brtr m target (size to.new.out.operators))) }
 {
     append_all(&mut to.out, &[PlainKind::Zero, kind])?;
@@ -57,7 +57,7 @@ fn append_comparison(kind: PlainKind, to: &mut Draft) -> Result<(), AllocError>
 fn append_signed(step: i64, to: &mut Draft) -> Result<(), AllocError>
     requires set { IsSome to.old.out.level }
     requires few { HasFew to.old }
-    requires room { size to.old.out.operators + 5 ≤ 6 * MOST_SEGMENT_WORDS }
+    requires room { size to.old.out.operators + 5 ≤ MOST_SEGMENT_SYLLABLES }
     ensures { OnOk result ((sc : Place) → Emits 5 to.old to.new (λ formats qs target. (sign : StepSign step) × SignedAt sc formats qs (level_set to.old.out) sign (size to.old.out.operators) target (size to.new.out.operators))) }
 {
     if step > 0 {
@@ -73,7 +73,7 @@ fn append_signed(step: i64, to: &mut Draft) -> Result<(), AllocError>
 fn append_past(to: &mut Draft) -> Result<(), AllocError>
     requires set { IsSome to.old.out.level }
     requires few { HasFew to.old }
-    requires room { size to.old.out.operators + 13 ≤ 6 * MOST_SEGMENT_WORDS }
+    requires room { size to.old.out.operators + 13 ≤ MOST_SEGMENT_SYLLABLES }
     ensures { OnOk result ((sc : Place) → Emits 13 to.old to.new (λ formats qs target. PastAt sc formats qs (level_set to.old.out) (size to.old.out.operators) target (size to.new.out.operators))) }
 {
     let operators = [
@@ -103,7 +103,7 @@ impl<'a, E: ExprEmitter> StmtEmitter<'a, E> {
         requires set { IsSome out.old.level }
         requires near { AreNear self.now.known.now.names.now }
         requires fits { (sc : Place) × ReadFits sc self.now.known.now (level_set out.old) types.Number v.now × ExprFits sc self.now.known.now (level_set out.old) types.Number (expr l.now) }
-        requires room { size out.old.operators + (3 + expr_syllables (expr l.now)) ≤ 6 * MOST_SEGMENT_WORDS }
+        requires room { size out.old.operators + (3 + expr_syllables (expr l.now)) ≤ MOST_SEGMENT_SYLLABLES }
         ensures code { OnOk result ((sc : Place) (formats : List Format) → ReadFits sc self.now.known.now (level_set out.old) types.Number v.now → ExprFits sc self.now.known.now (level_set out.old) types.Number (expr l.now) → Emitted out.old out.new (λ qs. ExprAt sc formats qs (level_set out.old) types.Number (tree.two operators.Sub (alone v.now) (expr l.now)) (size out.old.operators) (size out.new.operators) (size out.new.operators))) }
         ensures level { OnOk result (out.new.level ≡ out.old.level) }
         ensures size { OnOk result (size out.new.operators ≤ size out.old.operators + (3 + expr_syllables (expr l.now))) }
@@ -118,7 +118,7 @@ impl<'a, E: ExprEmitter> StmtEmitter<'a, E> {
         requires set { IsSome out.old.level }
         requires near { AreNear self.now.known.now.names.now }
         requires fits { (sc : Place) × VariableFits sc self.now.known.now (level_set out.old) v.now × ExprFits sc self.now.known.now (level_set out.old) types.Number (expr s.now) }
-        requires room { size out.old.operators + (6 + expr_syllables (expr s.now)) ≤ 6 * MOST_SEGMENT_WORDS }
+        requires room { size out.old.operators + (6 + expr_syllables (expr s.now)) ≤ MOST_SEGMENT_SYLLABLES }
         ensures code { OnOk result ((sc : Place) (formats : List Format) → VariableFits sc self.now.known.now (level_set out.old) v.now → ExprFits sc self.now.known.now (level_set out.old) types.Number (expr s.now) → Emitted out.old out.new (λ qs. AssignAt sc formats qs (level_set out.old) v.now (tree.two operators.Add (alone v.now) (expr s.now)) (size out.old.operators) (size out.new.operators))) }
         ensures level { OnOk result (out.new.level ≡ out.old.level) }
         ensures size { OnOk result (size out.new.operators ≤ size out.old.operators + (6 + expr_syllables (expr s.now))) }

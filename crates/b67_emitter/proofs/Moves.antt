@@ -1,5 +1,5 @@
 -- A subscript is moved by code after code.
-use Rattle.std.proofs.Common.{◌≡◌, ℕ, [], ◌∷◌, ℤ, pos, refl, sym, ◌∙◌, subst, arith}
+use Rattle.std.proofs.Common.{◌≡◌, ℕ, [], ◌∷◌, ℤ, sym, ◌∙◌, subst}
 use Rattle.std.specs.Prelude.{neg_ℤ}
 use Rattle.b67_ops.specs.declared.Operator.TheVariants as ops
 use Rattle.b67_ops.specs.declared.PlainKind.TheVariants as kinds
@@ -68,9 +68,3 @@ pub moved_part : (low value : ℤ) (place : Low) (a b : Built) → value ≡ low
 moved_part low value place a b same is e =
     let M : Low → ℤ → Type 0 = λ l z. Emitted a b (λ qs. MovedBy qs (level_set a) l z (size a.operators) (size b.operators)) in
     subst (λ l. M l low) (sym is) (subst (M place) same e)
-
--- a bound of 0 moves nothing
-pub unmoved : (low : ℤ) (a : Built) → low ≡ pos 0 → Emitted a a (λ qs. MovedAt qs (level_set a) low (size a.operators) (size a.operators))
-unmoved low a z =
-    let M : ℤ → Type 0 = λ l. Emitted a a (λ qs. MovedAt qs (level_set a) l (size a.operators) (size a.operators)) in
-    subst M (sym z) (record { level = refl; grown = omega arith; kept = λ at level next op lo hi s. s; claimed = λ qs k. refl })

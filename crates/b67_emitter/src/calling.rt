@@ -1,13 +1,13 @@
 //! The beginning of a call, an array among its actuals, and what a statement does with its result.
 
-ghost use Rattle.std.specs.Prelude.{◌≡◌, ℕ, ◌+◌, ◌*◌, ◌≤◌, Option, is_some, IsSome, OnOk};
+ghost use Rattle.std.specs.Prelude.{◌≡◌, ℕ, ◌+◌, ◌≤◌, Option, is_some, IsSome, OnOk};
 ghost use Rattle.algol_tree.specs.declared.tree.Kind.{Kind};
 ghost use Rattle.algol_tree.specs.declared.tree.Named.{Named};
 ghost use Rattle.algol_tree.specs.Scopes as names;
 ghost use Rattle.algol_tree.specs.Sorts.{is_formal};
 ghost use Rattle.algol_paths.specs.Arrays.{Shape};
 ghost use Rattle.b67_ops.specs.Spelling.{IsSeen};
-ghost use Rattle.b67_segment.specs.declared.TheConstants.{MOST_SEGMENT_WORDS};
+ghost use Rattle.b67_segment.specs.declared.TheConstants.{MOST_SEGMENT_SYLLABLES};
 ghost use Rattle.b67_segment.specs.Operators.{size};
 ghost use Rattle.b67_segment.specs.Building.{level_set};
 ghost use Rattle.b67_templates.specs.Contexts.{Context};
@@ -24,7 +24,7 @@ use std::alloc::AllocError;
 pub fn append_begun(out: &mut Builder, couple: Couple) -> Result<(), AllocError>
     requires set { IsSome out.old.level }
     requires seen { IsSeen (level_set out.old) couple }
-    requires room { size out.old.operators + 3 ≤ 6 * MOST_SEGMENT_WORDS }
+    requires room { size out.old.operators + 3 ≤ MOST_SEGMENT_SYLLABLES }
     ensures code { OnOk result ((sc : names.Scopes) (context : Context) (n : Named) (callee : ℕ) → IsProcedure sc (level_set out.old) n callee couple →
         Emitted out.old out.new (λ qs. BegunAt sc context qs (level_set out.old) n callee (size out.old.operators) (size out.new.operators))) }
     ensures level { OnOk result (out.new.level ≡ out.old.level) }
@@ -39,7 +39,7 @@ pub fn append_begun(out: &mut Builder, couple: Couple) -> Result<(), AllocError>
 pub fn append_array(out: &mut Builder, couple: Couple, formal: bool) -> Result<(), AllocError>
     requires set { IsSome out.old.level }
     requires seen { IsSeen (level_set out.old) couple }
-    requires room { size out.old.operators + 3 ≤ 6 * MOST_SEGMENT_WORDS }
+    requires room { size out.old.operators + 3 ≤ MOST_SEGMENT_SYLLABLES }
     ensures code { OnOk result ((sc : names.Scopes) (context : Context) (shape a : Shape) (n : Named) → IsArray sc (level_set out.old) n a couple →
         formal ≡ is_formal ((names.use_of sc n).sort) → Agrees shape a →
         Emitted out.old out.new (λ qs. ArrayActualAt sc context qs (level_set out.old) shape n (size out.old.operators) (size out.new.operators))) }
@@ -57,7 +57,7 @@ pub fn append_array(out: &mut Builder, couple: Couple, formal: bool) -> Result<(
 /// Drops the result of a call that a statement makes, where the procedure is typed.
 pub fn append_dropped(out: &mut Builder, typed: bool) -> Result<(), AllocError>
     requires set { IsSome out.old.level }
-    requires room { size out.old.operators + 1 ≤ 6 * MOST_SEGMENT_WORDS }
+    requires room { size out.old.operators + 1 ≤ MOST_SEGMENT_SYLLABLES }
     ensures code { OnOk result ((sc : names.Scopes) (context : Context) (result : Option Kind) → typed ≡ is_some result →
         Emitted out.old out.new (λ qs. DroppedAt sc context qs (level_set out.old) result (size out.old.operators) (size out.new.operators))) }
     ensures level { OnOk result (out.new.level ≡ out.old.level) }

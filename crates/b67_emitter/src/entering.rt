@@ -4,7 +4,7 @@ ghost use Rattle.std.specs.Prelude.{◌≡◌, ℕ, ◌+◌, ◌*◌, ◌<◌, �
 ghost use Rattle.std.specs.List.{All};
 ghost use Rattle.b67_control.specs.Control.{Fits_pcw};
 ghost use Rattle.b67_ops.specs.declared.TheConstants.{MOST_LEVEL};
-ghost use Rattle.b67_segment.specs.declared.TheConstants.{MOST_SEGMENT_WORDS};
+ghost use Rattle.b67_segment.specs.declared.TheConstants.{MOST_SEGMENT_SYLLABLES};
 ghost use Rattle.b67_segment.specs.Operators.{size};
 ghost use Rattle.b67_segment.specs.Building.{level_set};
 ghost use Rattle.b67_templates.specs.Fragments.{ControlsAt, EntryAt, code_at};
@@ -19,7 +19,7 @@ use std::alloc::AllocError;
 /// The control word of the code that begins at a place of a segment and runs at a level.
 fn code_at(segment: u16, place: u16, level: u8) -> Pcw
     requires segment { segment < 2 ^ 10 }
-    requires place { place < 6 * MOST_SEGMENT_WORDS }
+    requires place { place < MOST_SEGMENT_SYLLABLES }
     requires level { level ≤ MOST_LEVEL }
     ensures code { result ≡ code_at segment place level }
     ensures fits { Fits_pcw result }
@@ -47,8 +47,8 @@ pub fn append_entry(
     requires inner { level ≡ level_set out.old + 1 }
     requires most { level ≤ MOST_LEVEL }
     requires segment { segment < 2 ^ 10 }
-    requires place { place < 6 * MOST_SEGMENT_WORDS }
-    requires room { size out.old.operators + 14 ≤ 6 * MOST_SEGMENT_WORDS }
+    requires place { place < MOST_SEGMENT_SYLLABLES }
+    requires room { size out.old.operators + 14 ≤ MOST_SEGMENT_SYLLABLES }
     ensures code { OnOk result (Emitted out.old out.new
         (λ qs. EntryAt qs (level_set out.old) segment place (size out.old.operators) (size out.new.operators))) }
     ensures level { OnOk result (out.new.level ≡ out.old.level) }
@@ -67,7 +67,7 @@ pub fn append_control(out: &mut Builder, segment: u16, level: u8) -> Result<(), 
     requires inner { level ≡ level_set out.old + 1 }
     requires most { level ≤ MOST_LEVEL }
     requires segment { segment < 2 ^ 10 }
-    requires room { size out.old.operators + 12 ≤ 6 * MOST_SEGMENT_WORDS }
+    requires room { size out.old.operators + 12 ≤ MOST_SEGMENT_SYLLABLES }
     ensures code { OnOk result (Emitted out.old out.new
         (λ qs. ControlsAt qs (level_set out.old) (segment ∷ []) (size out.old.operators) (size out.new.operators))) }
     ensures level { OnOk result (out.new.level ≡ out.old.level) }
@@ -83,7 +83,7 @@ pub fn append_controls(out: &mut Builder, segments: &[u16], level: u8) -> Result
     requires inner { level ≡ level_set out.old + 1 }
     requires most { level ≤ MOST_LEVEL }
     requires segments { All (λ (segment : ℕ). segment < 2 ^ 10) segments.now }
-    requires room { size out.old.operators + 12 * length segments.now ≤ 6 * MOST_SEGMENT_WORDS }
+    requires room { size out.old.operators + 12 * length segments.now ≤ MOST_SEGMENT_SYLLABLES }
     ensures code { OnOk result (Emitted out.old out.new
         (λ qs. ControlsAt qs (level_set out.old) segments.now (size out.old.operators) (size out.new.operators))) }
     ensures level { OnOk result (out.new.level ≡ out.old.level) }

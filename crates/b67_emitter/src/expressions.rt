@@ -1,9 +1,9 @@
 //! What appends the code of expressions.
 
-ghost use Rattle.std.specs.Prelude.{◌≡◌, ◌+◌, ◌*◌, ◌≤◌, Some, IsSome, OnOk, option_copied};
+ghost use Rattle.std.specs.Prelude.{◌≡◌, ◌+◌, ◌≤◌, Some, IsSome, OnOk, option_copied};
 ghost use Rattle.algol_tree.specs.Plain as tree;
 ghost use Rattle.algol_tree.specs.Image.{expr, call, variable};
-ghost use Rattle.b67_segment.specs.declared.TheConstants.{MOST_SEGMENT_WORDS};
+ghost use Rattle.b67_segment.specs.declared.TheConstants.{MOST_SEGMENT_SYLLABLES};
 ghost use Rattle.b67_segment.specs.Operators.{size};
 ghost use Rattle.b67_segment.specs.Building.{level_set};
 ghost use Rattle.b67_templates.specs.Depths.{expr_syllables};
@@ -93,7 +93,7 @@ pub trait ExprEmitter {
         requires set { IsSome out.old.level }
         requires near { AreNear names.now }
         requires code { HasCode names.now (level_set out.old) (expr e.now) }
-        requires room { size out.old.operators + expr_syllables (expr e.now) ≤ 6 * MOST_SEGMENT_WORDS }
+        requires room { size out.old.operators + expr_syllables (expr e.now) ≤ MOST_SEGMENT_SYLLABLES }
         ensures code { OnOk result (ValueEmitted names.now (level_set out.old) out.old out.new (expr e.now)) }
         ensures level { OnOk result (out.new.level ≡ out.old.level) }
         ensures size { OnOk result (size out.new.operators ≤ size out.old.operators + expr_syllables (expr e.now)) };
@@ -103,7 +103,7 @@ pub trait ExprEmitter {
         requires set { IsSome out.old.level }
         requires near { AreNear names.now }
         requires code { HasCall names.now (level_set out.old) (call c.now) }
-        requires room { size out.old.operators + expr_syllables (tree.call (call c.now)) ≤ 6 * MOST_SEGMENT_WORDS }
+        requires room { size out.old.operators + expr_syllables (tree.call (call c.now)) ≤ MOST_SEGMENT_SYLLABLES }
         ensures code { OnOk result (CallEmitted names.now (level_set out.old) out.old out.new (call c.now)) }
         ensures level { OnOk result (out.new.level ≡ out.old.level) }
         ensures size { OnOk result (size out.new.operators ≤ size out.old.operators + expr_syllables (tree.call (call c.now))) };
@@ -113,7 +113,7 @@ pub trait ExprEmitter {
         requires set { IsSome out.old.level }
         requires near { AreNear names.now }
         requires code { HasReference names.now (level_set out.old) (variable v.now) }
-        requires room { size out.old.operators + place_syllables (variable v.now) ≤ 6 * MOST_SEGMENT_WORDS }
+        requires room { size out.old.operators + place_syllables (variable v.now) ≤ MOST_SEGMENT_SYLLABLES }
         ensures code { OnOk result (ReferenceEmitted names.now (level_set out.old) out.old out.new (variable v.now)) }
         ensures level { OnOk result (out.new.level ≡ out.old.level) }
         ensures size { OnOk result (size out.new.operators ≤ size out.old.operators + place_syllables (variable v.now)) };

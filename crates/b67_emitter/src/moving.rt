@@ -3,8 +3,8 @@
 //! What is subtracted is the product of the bound with a comparison: without it the difference of a subscript that is far away might be
 //! no whole number.
 
-ghost use Rattle.std.specs.Prelude.{◌≡◌, ◌+◌, ◌*◌, ◌≤◌, neg_ℤ, IsSome, OnOk};
-ghost use Rattle.b67_segment.specs.declared.TheConstants.{MOST_SEGMENT_WORDS};
+ghost use Rattle.std.specs.Prelude.{◌≡◌, ◌+◌, ◌≤◌, neg_ℤ, IsSome, OnOk};
+ghost use Rattle.b67_segment.specs.declared.TheConstants.{MOST_SEGMENT_SYLLABLES};
 ghost use Rattle.b67_segment.specs.Operators.{size};
 ghost use Rattle.b67_segment.specs.Building.{level_set};
 ghost use Rattle.b67_templates.specs.Fragments as fragments;
@@ -24,7 +24,7 @@ const MOST_ELEMENTS: i64 = b67_limits::MOST_ELEMENTS as i64;
 fn append_above(out: &mut Builder, low: i64) -> Result<(), AllocError>
     requires set { IsSome out.old.level }
     requires whole { IsWhole low }
-    requires room { size out.old.operators + 17 ≤ 6 * MOST_SEGMENT_WORDS }
+    requires room { size out.old.operators + 17 ≤ MOST_SEGMENT_SYLLABLES }
     ensures code { OnOk result (Emitted out.old out.new
         (λ qs. MovedBy qs (level_set out.old) fragments.above low (size out.old.operators) (size out.new.operators))) }
     ensures level { OnOk result (out.new.level ≡ out.old.level) }
@@ -39,7 +39,7 @@ fn append_above(out: &mut Builder, low: i64) -> Result<(), AllocError>
 fn append_near(out: &mut Builder, low: i64) -> Result<(), AllocError>
     requires set { IsSome out.old.level }
     requires whole { IsWhole low }
-    requires room { size out.old.operators + 21 ≤ 6 * MOST_SEGMENT_WORDS }
+    requires room { size out.old.operators + 21 ≤ MOST_SEGMENT_SYLLABLES }
     ensures code { OnOk result (Emitted out.old out.new
         (λ qs. MovedBy qs (level_set out.old) fragments.near low (size out.old.operators) (size out.new.operators))) }
     ensures level { OnOk result (out.new.level ≡ out.old.level) }
@@ -56,7 +56,7 @@ fn append_near(out: &mut Builder, low: i64) -> Result<(), AllocError>
 fn append_far(out: &mut Builder, low: i64) -> Result<(), AllocError>
     requires set { IsSome out.old.level }
     requires whole { IsWhole low }
-    requires room { size out.old.operators + 17 ≤ 6 * MOST_SEGMENT_WORDS }
+    requires room { size out.old.operators + 17 ≤ MOST_SEGMENT_SYLLABLES }
     ensures code { OnOk result (Emitted out.old out.new
         (λ qs. MovedBy qs (level_set out.old) fragments.far low (size out.old.operators) (size out.new.operators))) }
     ensures level { OnOk result (out.new.level ≡ out.old.level) }
@@ -79,7 +79,7 @@ fn append_far(out: &mut Builder, low: i64) -> Result<(), AllocError>
 pub fn append_moved(out: &mut Builder, low: i64) -> Result<(), AllocError>
     requires set { IsSome out.old.level }
     requires whole { IsWhole low }
-    requires room { size out.old.operators + 21 ≤ 6 * MOST_SEGMENT_WORDS }
+    requires room { size out.old.operators + 21 ≤ MOST_SEGMENT_SYLLABLES }
     ensures code { OnOk result (Emitted out.old out.new
         (λ qs. MovedAt qs (level_set out.old) low (size out.old.operators) (size out.new.operators))) }
     ensures level { OnOk result (out.new.level ≡ out.old.level) }

@@ -1,18 +1,18 @@
 use Rattle.std.proofs.Common.{◌≡◌, ◌+◌, ◌*◌, ◌≤◌, List, length, take}
 use Rattle.algol_tree.specs.Image.{body}
 use Rattle.algol_tree.specs.Scopes.{Scopes}
-use Rattle.b67_segment.specs.declared.TheConstants.{MOST_SEGMENT_WORDS}
+use Rattle.b67_segment.specs.declared.TheConstants.{MOST_SEGMENT_SYLLABLES}
 use Rattle.b67_segment.specs.declared.code.Format.{Format}
 use Rattle.b67_emit_stmt.specs.Drafts.{AreListed, IsFront}
 use Rattle.b67_emit_stmt.specs.Programs.{AreDue}
 use Rattle.b67_emit_stmt.specs.Texts.{texts}
 use Rattle.b67_emit_stmt.proofs.TextStanding.{AllStand}
-use Rattle.b67_emit_stmt.proofs.program.emit_program.Given as goal
+use Rattle.b67_emit_stmt.proofs.program.emit_texts.Given as goal
 
 abbrev pub invariant-procedures : goal.invariant-procedures
 invariant-procedures g l = record {
   many : length l.segments.items ≡ l.procedure-index + 1;
-  few : length l.formats.items ≤ 6 * MOST_SEGMENT_WORDS * length l.segments.items;
+  few : length l.formats.items ≤ MOST_SEGMENT_SYLLABLES * length l.segments.items;
   listed : AreListed l.formats.items;
   stood : (sc : Scopes) → AreDue sc l.names (texts (body l.body)) → (all : List Format) → IsFront l.formats.items all →
       AllStand sc all l.segments.items (take (l.procedure-index + 1) (texts (body l.body)));
