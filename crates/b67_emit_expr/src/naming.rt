@@ -1,7 +1,7 @@
 //! A name alone in an expression.
 
-ghost use Rattle.std.specs.Prelude.{◌≡◌, ◌+◌, ◌*◌, ◌≤◌, IsSome, OnOk};
-ghost use Rattle.b67_segment.specs.declared.TheConstants.{MOST_SEGMENT_WORDS};
+ghost use Rattle.std.specs.Prelude.{◌≡◌, ◌+◌, ◌≤◌, IsSome, OnOk};
+ghost use Rattle.b67_segment.specs.declared.TheConstants.{MOST_SEGMENT_SYLLABLES};
 ghost use Rattle.b67_segment.specs.Operators.{size};
 ghost use Rattle.b67_segment.specs.Building.{level_set};
 ghost use Rattle.b67_emitter.specs.Values.{AreNear};
@@ -18,7 +18,7 @@ pub fn append_name(name: &Named, names: &Names, out: &mut Builder) -> Result<(),
     requires set { IsSome out.old.level }
     requires near { AreNear names.now }
     requires code { NameHasCode names.now (level_set out.old) name.now }
-    requires room { size out.old.operators + 4 ≤ 6 * MOST_SEGMENT_WORDS }
+    requires room { size out.old.operators + 4 ≤ MOST_SEGMENT_SYLLABLES }
     ensures code { OnOk result (NameEmitted names.now (level_set out.old) out.old out.new name.now) }
     ensures level { OnOk result (out.new.level ≡ out.old.level) }
     ensures size { OnOk result (size out.new.operators ≤ size out.old.operators + 4) }

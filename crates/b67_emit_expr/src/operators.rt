@@ -1,7 +1,7 @@
 //! The operators of the language in the machine's.
 
-ghost use Rattle.std.specs.Prelude.{◌≡◌, ◌+◌, ◌*◌, ◌≤◌, IsSome, OnOk};
-ghost use Rattle.b67_segment.specs.declared.TheConstants.{MOST_SEGMENT_WORDS};
+ghost use Rattle.std.specs.Prelude.{◌≡◌, ◌+◌, ◌≤◌, IsSome, OnOk};
+ghost use Rattle.b67_segment.specs.declared.TheConstants.{MOST_SEGMENT_SYLLABLES};
 ghost use Rattle.b67_segment.specs.Operators.{size};
 ghost use Rattle.b67_segment.specs.Building.{level_set};
 ghost use Rattle.b67_templates.specs.Fragments as fragments;
@@ -51,7 +51,7 @@ pub fn operator_for(op: Op) -> PlainKind
 /// Inverts the first operand of an implication.
 pub fn append_ready(out: &mut Builder, op: Op) -> Result<(), AllocError>
     requires set { IsSome out.old.level }
-    requires room { size out.old.operators + 1 ≤ 6 * MOST_SEGMENT_WORDS }
+    requires room { size out.old.operators + 1 ≤ MOST_SEGMENT_SYLLABLES }
     ensures code { OnOk result (Emitted out.old out.new
         (λ qs. ReadyAt qs (level_set out.old) (fragments.is_implication op) (size out.old.operators) (size out.new.operators))) }
     ensures level { OnOk result (out.new.level ≡ out.old.level) }

@@ -4,7 +4,7 @@ ghost use Rattle.std.specs.Prelude.{◌≡◌, ◌+◌, ◌*◌, ◌≤◌, IsSo
 ghost use Rattle.algol_tree.specs.declared.token.Spot.{Spot};
 ghost use Rattle.algol_tree.specs.Image.{expr, call, variable};
 ghost use Rattle.algol_tree.specs.Plain as tree;
-ghost use Rattle.b67_segment.specs.declared.TheConstants.{MOST_SEGMENT_WORDS};
+ghost use Rattle.b67_segment.specs.declared.TheConstants.{MOST_SEGMENT_SYLLABLES};
 ghost use Rattle.b67_segment.specs.Operators.{size};
 ghost use Rattle.b67_segment.specs.Building.{level_set};
 ghost use Rattle.b67_templates.specs.Depths.{expr_syllables};
@@ -37,7 +37,7 @@ pub fn operand(
     requires set { IsSome out.old.level }
     requires near { AreNear names.now }
     requires code { HasCode names.now (level_set out.old) (expr e.now) }
-    requires room { size out.old.operators + expr_syllables (expr e.now) ≤ 6 * MOST_SEGMENT_WORDS }
+    requires room { size out.old.operators + expr_syllables (expr e.now) ≤ MOST_SEGMENT_SYLLABLES }
     ensures code { OnOk result (ValueEmitted names.now (level_set out.old) out.old out.new (expr e.now)) }
     ensures level { OnOk result (out.new.level ≡ out.old.level) }
     ensures size { OnOk result (size out.new.operators ≤ size out.old.operators + expr_syllables (expr e.now)) }
@@ -61,7 +61,7 @@ fn applied(
     requires set { IsSome out.old.level }
     requires near { AreNear names.now }
     requires code { HasCode names.now (level_set out.old) (expr e.now) }
-    requires room { size out.old.operators + expr_syllables (expr e.now) + 1 ≤ 6 * MOST_SEGMENT_WORDS }
+    requires room { size out.old.operators + expr_syllables (expr e.now) + 1 ≤ MOST_SEGMENT_SYLLABLES }
     ensures code { OnOk result (AppliedEmitted names.now (level_set out.old) out.old out.new kind (expr e.now)) }
     ensures level { OnOk result (out.new.level ≡ out.old.level) }
     ensures size { OnOk result (size out.new.operators ≤ size out.old.operators + expr_syllables (expr e.now) + 1) }
@@ -84,7 +84,7 @@ fn calculated(
     requires set { IsSome out.old.level }
     requires near { AreNear names.now }
     requires code { HasCode names.now (level_set out.old) (tree.two op (expr a.now) (expr b.now)) }
-    requires room { size out.old.operators + expr_syllables (tree.two op (expr a.now) (expr b.now)) ≤ 6 * MOST_SEGMENT_WORDS }
+    requires room { size out.old.operators + expr_syllables (tree.two op (expr a.now) (expr b.now)) ≤ MOST_SEGMENT_SYLLABLES }
     ensures code { OnOk result (ValueEmitted names.now (level_set out.old) out.old out.new (tree.two op (expr a.now) (expr b.now))) }
     ensures level { OnOk result (out.new.level ≡ out.old.level) }
     ensures size { OnOk result (size out.new.operators
@@ -103,7 +103,7 @@ fn given(e: &Expr, names: &Names, out: &mut Builder, exits: &mut Vec<u16>) -> Re
     requires set { IsSome out.old.level }
     requires near { AreNear names.now }
     requires code { HasActual names.now (level_set out.old) (expr e.now) }
-    requires room { size out.old.operators + expr_syllables (expr e.now) ≤ 6 * MOST_SEGMENT_WORDS }
+    requires room { size out.old.operators + expr_syllables (expr e.now) ≤ MOST_SEGMENT_SYLLABLES }
     ensures code { OnOk result (ActualEmitted names.now (level_set out.old) out.old out.new (expr e.now)) }
     ensures level { OnOk result (out.new.level ≡ out.old.level) }
     ensures size { OnOk result (size out.new.operators ≤ size out.old.operators + expr_syllables (expr e.now)) }
@@ -126,7 +126,7 @@ pub fn called(
     requires set { IsSome out.old.level }
     requires near { AreNear names.now }
     requires code { HasCall names.now (level_set out.old) (call c.now) }
-    requires room { size out.old.operators + expr_syllables (tree.call (call c.now)) ≤ 6 * MOST_SEGMENT_WORDS }
+    requires room { size out.old.operators + expr_syllables (tree.call (call c.now)) ≤ MOST_SEGMENT_SYLLABLES }
     ensures code { OnOk result (CallEmitted names.now (level_set out.old) out.old out.new (call c.now)) }
     ensures level { OnOk result (out.new.level ≡ out.old.level) }
     ensures size { OnOk result (size out.new.operators ≤ size out.old.operators + expr_syllables (tree.call (call c.now))) }
@@ -153,7 +153,7 @@ fn subscript(
     requires near { AreNear names.now }
     requires code { HasCode names.now (level_set out.old) (expr e.now) }
     requires whole { IsWhole low }
-    requires room { size out.old.operators + expr_syllables (expr e.now) + 21 ≤ 6 * MOST_SEGMENT_WORDS }
+    requires room { size out.old.operators + expr_syllables (expr e.now) + 21 ≤ MOST_SEGMENT_SYLLABLES }
     ensures code { OnOk result (SubscriptEmitted names.now (level_set out.old) out.old out.new low (expr e.now)) }
     ensures level { OnOk result (out.new.level ≡ out.old.level) }
     ensures size { OnOk result (size out.new.operators ≤ size out.old.operators + expr_syllables (expr e.now) + 21) }
@@ -175,7 +175,7 @@ pub fn subscripts(
     requires set { IsSome out.old.level }
     requires near { AreNear names.now }
     requires code { HasSubscripts names.now (level_set out.old) (variable v.now) }
-    requires room { size out.old.operators + expr_syllables (tree.variable (variable v.now)) ≤ 6 * MOST_SEGMENT_WORDS }
+    requires room { size out.old.operators + expr_syllables (tree.variable (variable v.now)) ≤ MOST_SEGMENT_SYLLABLES }
     ensures code { OnOk result (SubscriptsEmitted names.now (level_set out.old) out.old out.new (variable v.now)) }
     ensures level { OnOk result (out.new.level ≡ out.old.level) }
     ensures size { OnOk result (size out.new.operators + 1 ≤ size out.old.operators + expr_syllables (tree.variable (variable v.now))) }
@@ -204,7 +204,7 @@ fn read(
     requires set { IsSome out.old.level }
     requires near { AreNear names.now }
     requires code { HasCode names.now (level_set out.old) (tree.variable (variable v.now)) }
-    requires room { size out.old.operators + expr_syllables (tree.variable (variable v.now)) ≤ 6 * MOST_SEGMENT_WORDS }
+    requires room { size out.old.operators + expr_syllables (tree.variable (variable v.now)) ≤ MOST_SEGMENT_SYLLABLES }
     ensures code { OnOk result (ValueEmitted names.now (level_set out.old) out.old out.new (tree.variable (variable v.now))) }
     ensures level { OnOk result (out.new.level ≡ out.old.level) }
     ensures size { OnOk result (size out.new.operators ≤ size out.old.operators + expr_syllables (tree.variable (variable v.now))) }
@@ -234,7 +234,7 @@ fn chosen(
     requires first { HasCode names.now (level_set out.old) (expr x.now) }
     requires second { HasCode names.now (level_set out.old) (expr y.now) }
     requires room { size out.old.operators + expr_syllables (expr condition.now) + expr_syllables (expr x.now) + expr_syllables (expr y.now) + 6
-        ≤ 6 * MOST_SEGMENT_WORDS }
+        ≤ MOST_SEGMENT_SYLLABLES }
     ensures code { OnOk result ((spot : Spot) → ValueWithExits names.now (level_set out.old) out.old out.new exits.old.items exits.new.items
         (tree.if (expr condition.now) (expr x.now) (expr y.now) spot)) }
     ensures level { OnOk result (out.new.level ≡ out.old.level) }
@@ -260,7 +260,7 @@ fn value_with_exits(
     requires set { IsSome out.old.level }
     requires near { AreNear names.now }
     requires code { HasCode names.now (level_set out.old) (expr e.now) }
-    requires room { size out.old.operators + expr_syllables (expr e.now) ≤ 6 * MOST_SEGMENT_WORDS }
+    requires room { size out.old.operators + expr_syllables (expr e.now) ≤ MOST_SEGMENT_SYLLABLES }
     ensures code { OnOk result (ValueWithExits names.now (level_set out.old) out.old out.new exits.old.items exits.new.items (expr e.now)) }
     ensures level { OnOk result (out.new.level ≡ out.old.level) }
     ensures size { OnOk result (size out.new.operators ≤ size out.old.operators + expr_syllables (expr e.now)) }

@@ -5,7 +5,7 @@ use Rattle.algol_tree.specs.declared.tree.Expr.{Expr}
 use Rattle.algol_tree.specs.Counts.{expr_tokens, variable_tokens, call_tokens, exprs_tokens}
 use Rattle.algol_tree.specs.Image.{expr, exprs, variable, call}
 use Rattle.algol_tree.specs.Plain as tree
-use Rattle.b67_segment.specs.declared.TheConstants.{MOST_SEGMENT_WORDS}
+use Rattle.b67_segment.specs.declared.TheConstants.{MOST_SEGMENT_SYLLABLES}
 use Rattle.b67_segment.specs.Operators.{size}
 use Rattle.b67_segment.specs.Building.{level_set}
 use Rattle.b67_templates.specs.Fragments.{MovedAt, operator_for, truth_literal}
@@ -72,7 +72,7 @@ calculated-operand-requires-2 t c =
     let b = c.append_ready.new.out in
     let level = c.in_ok-append_ready.ensures.level ∙ c.in_ok-operand.ensures.level in
     let smaller : 3 * expr_tokens (expr c.args.b.now) + 1 < t = omega (arith, c.decreases) in
-    let room : size b.operators + 12 * expr_tokens (expr c.args.b.now) ≤ 6 * MOST_SEGMENT_WORDS = omega (arith, c.in_ok-append_ready.ensures.size, c.in_ok-operand.ensures.size, c.requires.room) in
+    let room : size b.operators + 12 * expr_tokens (expr c.args.b.now) ≤ MOST_SEGMENT_SYLLABLES = omega (arith, c.in_ok-append_ready.ensures.size, c.in_ok-operand.ensures.size, c.requires.room) in
     let code = code_on s (level_set a) (level_set b) (expr c.args.b.now) (same_level a b level)
     (second_code s (level_set a) c.args.op (expr c.args.a.now) (expr c.args.b.now) c.requires.code) in
     (smaller, (set_after a b level c.requires.set, (c.requires.near, (code, room))))
@@ -155,7 +155,7 @@ called-given-requires t c =
     let tokens = next_tokens xs i x c.actuals-test.true c.actual-item.is in
     let same = ap (λ (l : List Expr). exprs_tokens (exprs l)) whole in
     let smaller : 3 * expr_tokens (expr x) + 2 < t = omega (arith, tokens, c.actuals.invariant.few, same, c.decreases) in
-    let room : size b.operators + 12 * expr_tokens (expr x) ≤ 6 * MOST_SEGMENT_WORDS = omega (arith, tokens, same, c.actuals.invariant.short, call_long c.args.c.now, c.requires.room) in
+    let room : size b.operators + 12 * expr_tokens (expr x) ≤ MOST_SEGMENT_SYLLABLES = omega (arith, tokens, same, c.actuals.invariant.short, call_long c.args.c.now, c.requires.room) in
     let code = wanted_on s (level_set a) (level_set b) (expr x) (same_level a b c.actuals.invariant.level)
     (next_wanted s (level_set a) c.append_begun.new.out b xs c.args.c.now x (drop i xs) (drop (i + 1) xs) whole next c.requires.code c.actuals.invariant.code) in
     (smaller, (set_after a b c.actuals.invariant.level c.requires.set, (c.requires.near, (code, room))))
@@ -278,7 +278,7 @@ subscripts-subscript-requires t c =
     let all = own_tokens s (level_set a) v c.requires.code ls xs bounds whole in
     let same = ap (λ (l : List Expr). exprs_tokens (exprs l)) whole in
     let smaller : 3 * expr_tokens (expr x) + 2 < t = omega (arith, tokens, same, c.decreases) in
-    let room : size a.operators + 12 * expr_tokens (expr x) + 21 ≤ 6 * MOST_SEGMENT_WORDS = omega (arith, tokens, all, c.requires.room) in
+    let room : size a.operators + 12 * expr_tokens (expr x) + 21 ≤ MOST_SEGMENT_SYLLABLES = omega (arith, tokens, all, c.requires.room) in
     let has = first_has s (level_set a) v c.requires.code ls xs bounds whole x c.index-subs-0.is in
     let fits = first_whole s (level_set a) v c.requires.code ls xs bounds whole x c.index-subs-0.is in
     (smaller, (c.requires.set, (c.requires.near, (has, (fits, room)))))
@@ -330,7 +330,7 @@ subscripts-subscript-requires-then-subs-gt1 t c =
     let all = own_tokens s (level_set a) v c.requires.code ls xs bounds whole in
     let same = ap (λ (l : List Expr). exprs_tokens (exprs l)) whole in
     let smaller : 3 * expr_tokens (expr y) + 2 < t = omega (arith, tokens, same, c.decreases) in
-    let room : size d.operators + 12 * expr_tokens (expr y) + 21 ≤ 6 * MOST_SEGMENT_WORDS =
+    let room : size d.operators + 12 * expr_tokens (expr y) + 21 ≤ MOST_SEGMENT_SYLLABLES =
     omega (arith, tokens, all, c.in_ok-subscript.ensures.size, c.in_ok-append_reference.ensures.size, c.in_ok-append_plain.ensures.size, c.requires.room) in
     let has = code_on s (level_set a) (level_set d) (expr y) (same_level a d level)
     (second_has s (level_set a) v c.requires.code ls xs bounds whole y c.if-subs-gt1.true c.index-subs-1.is) in
@@ -461,7 +461,7 @@ value_with_exits-read-requires t c =
     let v = c.in-Variable.v in
     let tokens = variable_as s (level_set a) c.args.e.now v c.in-Variable.is in
     let smaller : 3 * exprs_tokens (exprs v.subs) + 2 < t = omega (arith, tokens, subscripts_fewer v, c.decreases) in
-    let room : size a.operators + 12 * variable_tokens (variable v) ≤ 6 * MOST_SEGMENT_WORDS = omega (arith, tokens, c.requires.room) in
+    let room : size a.operators + 12 * variable_tokens (variable v) ≤ MOST_SEGMENT_SYLLABLES = omega (arith, tokens, c.requires.room) in
     (smaller, (c.requires.set, (c.requires.near, (variable_has s (level_set a) c.args.e.now v c.in-Variable.is c.requires.code, room))))
 
 pub value_with_exits-returns-in-Variable-clause-code : goal.value_with_exits-returns-in-Variable-clause-code
@@ -567,7 +567,7 @@ value_with_exits-called-requires t c =
     let d = c.in-Call.c in
     let tokens = calling_tokens c.args.names.now (level_set c.args.out.now) c.args.e.now d c.in-Call.is in
     let smaller : 3 * exprs_tokens (exprs d.actuals) + 2 < t = omega (arith, tokens, call_long d, c.decreases) in
-    let room : size c.args.out.now.operators + 12 * call_tokens (call d) ≤ 6 * MOST_SEGMENT_WORDS = omega (arith, tokens, c.requires.room) in
+    let room : size c.args.out.now.operators + 12 * call_tokens (call d) ≤ MOST_SEGMENT_SYLLABLES = omega (arith, tokens, c.requires.room) in
     (smaller, (c.requires.set, (c.requires.near, (call_has c.args.names.now (level_set c.args.out.now) c.args.e.now d c.in-Call.is c.requires.code, room))))
 
 pub value_with_exits-returns-in-Call-clause-code : goal.value_with_exits-returns-in-Call-clause-code
