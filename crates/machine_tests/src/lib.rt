@@ -1,63 +1,15 @@
-//! Tests of the program and of the crates of the machine below its actions, by their public functions.
+//! Tests of what no text shows: sources and sinks by themselves, numbers and words.
+//!
+//! `io` has the tests of `read_all` and `write_all` (b67_io), on sources and sinks in memory and over std; `num`, `word` and `control`
+//! have worked values of b67_num, b67_word and b67_control. All other tests of the machine are cases of `action_tests`, and of the
+//! top call those of `examples`.
 #![tactic(auto)]
 
 #[cfg(test)]
-mod arrays;
-#[cfg(test)]
-mod blocks;
-#[cfg(test)]
-mod calls;
-#[cfg(test)]
 mod control;
-#[cfg(test)]
-mod descriptor;
-#[cfg(test)]
-mod desk;
-#[cfg(test)]
-mod display;
-#[cfg(test)]
-mod events;
-#[cfg(test)]
-mod failing;
-#[cfg(test)]
-mod formals;
 #[cfg(test)]
 mod io;
 #[cfg(test)]
-mod lengths;
-#[cfg(test)]
-mod list;
-#[cfg(test)]
-mod listing;
-#[cfg(test)]
 mod num;
 #[cfg(test)]
-mod operators;
-#[cfg(test)]
-mod ops;
-#[cfg(test)]
-mod parameters;
-#[cfg(test)]
-mod private;
-#[cfg(test)]
-mod procedures;
-#[cfg(test)]
-mod replays;
-#[cfg(test)]
-mod report;
-#[cfg(test)]
-mod rows;
-#[cfg(test)]
-mod runs;
-#[cfg(test)]
-mod schedule;
-#[cfg(test)]
-mod segment;
-#[cfg(test)]
-mod store;
-#[cfg(test)]
-mod told;
-#[cfg(test)]
 mod word;
-#[cfg(test)]
-mod words;
