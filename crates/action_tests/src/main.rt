@@ -11,7 +11,7 @@
 //! of the outer block, and the lines that were written.
 //!
 //! In `entries.sheet` by `p*most*n` process p performs n entries of at most so many operators on the machine. The answer
-//! has a line for each turn, with the plain operators of each entry and what the operator behind them came to; then the end,
+//! has a line for each turn, with the plain operators of each entry and what the operator after them came to; then the end,
 //! the operators of process 1 and the lines that were written.
 //!
 //! In `listings.sheet` the input is a listing; the answer has a line with the words of each segment and then the listing of

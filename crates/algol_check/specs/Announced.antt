@@ -1,4 +1,4 @@
--- Of each FORWARD the heading with the body, which stands behind it.
+-- Of each FORWARD the heading with the body, which stands after it.
 use Rattle.std.specs.Prelude.{◌≡◌, ℕ, List, [], ◌∷◌, Option, Some, None, option_copied, slice_get}
 use Rattle.std.specs.Borrow.{Bor}
 use Rattle.std.specs.Ordering.{nat_cmp}

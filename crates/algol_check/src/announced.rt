@@ -1,4 +1,4 @@
-//! Of each FORWARD the heading with the body, which stands behind it in the same block.
+//! Of each FORWARD the heading with the body, which stands after it in the same block.
 
 ghost use Rattle.std.specs.Prelude.{◌≡◌, ℕ, List, if◌then◌else◌, map, option_copied, OnOk, IfOk};
 ghost use Rattle.algol_tree.specs.Image as image;

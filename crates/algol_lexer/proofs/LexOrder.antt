@@ -21,7 +21,7 @@ IsUpTo a b = (a.line ≤ b.line) × (a.line ≡ b.line → a.column ≤ b.column
 abbrev behind : Spot → Spot
 behind a = record { line = a.line; column = a.column + 1 }
 
--- These tokens stand at the place a or behind it, each behind the one before, and all of them before the place b.
+-- These tokens stand at the place a or after it, each after the one before, and all of them before the place b.
 abbrev Climbs : Spot → List Token → Spot → Type 0
 Climbs a [] b = IsUpTo a b
 Climbs a (t ∷ ts) b = IsUpTo a t.spot × Climbs (behind t.spot) ts b
@@ -93,7 +93,7 @@ none_read (next r rs left m n o tokens more read there) e = cc
 abbrev column_1 : ℕ → Spot
 column_1 line = record { line = line; column = 1 }
 
--- the tokens behind those of a record, and the end of the text
+-- the tokens after those of a record, and the end of the text
 rest_rises : (r : Record) (rs : List Record) (more : List Token) → (rs ≡ [] → more ≡ []) → ((line : ℕ) → AreFrom line rs → Rises (column_1 line) (more ++ end_of rs)) →
     AreFrom (r.line + 1) rs → Rises (spot_in r (length (columns r))) (more ++ end_of (r ∷ rs))
 rest_rises r [] more none whole f =

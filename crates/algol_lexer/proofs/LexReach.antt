@@ -47,7 +47,7 @@ one_way {r} (piece m n o at size to kind tokens st g) (piece m' n' o' at' size' 
       place_is = rest.place_is;
     }
 
--- behind the last column stands nothing, and where something is wrong stands no piece
+-- after the last column stands nothing, and where something is wrong stands no piece
 nothing : {n : Mode} {text : List ℕ} {f : Front} → text ≡ [] → Stands n text f → ⊥
 nothing {text = text} {f} e st = none_fits f (length text) (ap length e) (stands_fits st)
   where
@@ -159,7 +159,7 @@ lexes_only bytes tokens l = record { lexes = l; only = λ others m. one_lexing m
 pub refused_only : (bytes : List ℕ) (spot : Spot) (code : Code) → IsRefused bytes spot code → RefusedOnly bytes spot code
 refused_only bytes spot code r = record { refused = r; first = λ other reason q. let one = one_refusal q r in (one.spot_is, one.code_is); none = λ tokens l. not_both l r }
 
--- a record is read up to a place, and the tokens so far stand behind those before
+-- a record is read up to a place, and the tokens so far stand after those before
 pub record Reaches (r : Record) (m n : Mode) (at : ℕ) (before after : List Token) : Type 0 where
   pub tokens : List Token
   pub gives : Gives r m 0 tokens n at

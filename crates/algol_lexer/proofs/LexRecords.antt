@@ -25,7 +25,7 @@ records_cons : (line from : ℕ) (bytes : List ℕ) (parts : List (List ℕ)) �
 records_cons line from bytes [] some = absurd (omega arith)
 records_cons line from bytes (part ∷ parts) some = refl
 
--- the record that an LF ends, and those behind it
+-- the record that an LF ends, and those after it
 pub records_next : (line from : ℕ) (rest : List ℕ) (k : ℕ) → position is_line_feed rest ≡ Some k → records_from line from (slice_split is_line_feed rest) ≡ record { line = line; from = from; bytes = strip_carriage_return (take k rest) } ∷ records_from (line + 1) (from + (k + 1)) (slice_split is_line_feed (drop (k + 1) rest))
 records_next line from rest k e =
     let first = first_is is_line_feed rest k e in

@@ -122,7 +122,7 @@ stands_no_end (semicolon after) = λ e. cc
 stands_no_end (period after) = λ e. cc
 stands_no_end (passed b after h i j) = tt
 
--- what follows ends once, and so does it behind these tokens
+-- what follows ends once, and so does it after these tokens
 abbrev pub Passes : List Token → Type 0
 Passes ts = (t : Token) (more : List Token) → EndsOnce (t ∷ more) → EndsOnce (ts ++ t ∷ more)
 

@@ -6,7 +6,7 @@ use Rattle.algol_tree.specs.declared.token.Token.{Token}
 use Rattle.algol_tree.specs.Records.{Record}
 use Rattle.algol_tree.specs.Lexes.{Mode, IsRead, Lexes, IsRefused}
 
--- the tokens of the record are put behind those before
+-- the tokens of the record are put after those before
 pub record Reads (r : Record) (m n : Mode) (before after : List Token) : Type 0 where
   pub tokens : List Token
   pub read : IsRead r m tokens n

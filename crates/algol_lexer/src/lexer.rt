@@ -25,7 +25,7 @@ fn read_record(
     tokens: &mut Vec<Token>,
 ) -> Result<Mode, Refusal>
     requires room { card.now.from + length card.now.bytes.now < 2 ^ 32 - 1 }
-    // The tokens of the record are put behind those before.
+    // The tokens of the record are put after those before.
     ensures read { IfOk result (λ next. Reads (record_of card.now) (mode_of mode) (mode_of next) tokens.old.items tokens.new.items) }
     // There are at most as many as bytes.
     ensures many { OnOk result (length tokens.new.items ≤ length tokens.old.items + length card.now.bytes.now) }
@@ -72,7 +72,7 @@ fn read_record(
 /// A text is refused at the first spot at which it cannot be read: at a byte that begins no token, or that is not
 /// printable and stands in a string (`BadCharacter`), at the quote of a string that no quote closes (`OpenString`),
 /// at a number above [`MOST`](b67_num::MOST) (`NumberTooWide`), at a name of more than
-/// [`MOST_NAME_BYTES`](algol_tree::MOST_NAME_BYTES) (`NameTooLong`) and at the byte behind
+/// [`MOST_NAME_BYTES`](algol_tree::MOST_NAME_BYTES) (`NameTooLong`) and at the byte after
 /// [`MOST_RECORD_BYTES`] (`LineTooLong`). `NoMemory` is want of memory.
 pub fn lex(alloc: Global, bytes: &[u8]) -> Result<Vec<Token>, Refusal>
     requires { length bytes.now < 2 ^ 32 - 1 }

@@ -11,7 +11,7 @@ pub(crate) enum Mode {
 }
 
 /// What stands at the front of a record's columns: so many bytes, which are a token or none, and what the bytes
-/// behind them stand in; or what cannot be read, so many bytes further on.
+/// after them stand in; or what cannot be read, so many bytes further on.
 #[derive(Drop)]
 pub(crate) enum Front {
     Piece {
@@ -60,7 +60,7 @@ impl Front {
         Front::token(TokenKind::Symbol(symbol), size)
     }
 
-    /// A reserved word: COMMENT begins a comment, and behind END there is a remark.
+    /// A reserved word: COMMENT begins a comment, and after END there is a remark.
     pub(crate) fn word(word: Reserved, size: usize) -> Front
         ensures { front_shown result ≡ word_front word size }
     {

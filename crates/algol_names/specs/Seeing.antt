@@ -58,7 +58,7 @@ abbrev pub used_by : Option Use → List scoping.Use
 used_by None = []
 used_by (Some u) = used u ∷ []
 
--- In these surroundings these uses come behind those before.
+-- In these surroundings these uses come after those before.
 pub record Adds (k : Around) (seen : Seen) (old new : List Use) (found : Surroundings → List scoping.Use) : Type 0 where
   pub adds : (a : Surroundings) → Sees k seen a → map used new ≡ map used old ++ found a
 
@@ -109,12 +109,12 @@ decls_uses blocks ds a first = flat_map uses_at (sites_in_decls blocks ds a firs
 abbrev pub at_first : Surroundings → List Declared → Surroundings
 at_first a first = record a { known = first }
 
--- The uses in a declaration come behind those before.
+-- The uses in a declaration come after those before.
 pub record AddsDecl (blocks : List Block) (k : Around) (old new : List Use) (d : PDecl) : Type 0 where
   pub adds : (a : Surroundings) (first : List Declared) → Sees k seens.All a → Sees k seens.BeforeDeclarations (at_first a first) →
       map used new ≡ map used old ++ decl_uses blocks d a first
 
--- The uses in declarations come behind those before, and what they declare is known then.
+-- The uses in declarations come after those before, and what they declare is known then.
 pub record AddsDecls (blocks : List Block) (k m : Around) (old new : List Use) (ds : PDecls) : Type 0 where
   pub adds : (a : Surroundings) (first : List Declared) → Sees k seens.All a → Sees k seens.BeforeDeclarations (at_first a first) →
       map used new ≡ map used old ++ decls_uses blocks ds a first

@@ -18,7 +18,7 @@ pub enum Begin {
     OfProcedure,
 }
 
-/// This spot, and others behind it.
+/// This spot, and others after it.
 fn with_first(alloc: Global, first: Spot, others: &[Spot]) -> Result<Vec<Spot>, AllocError>
     ensures { IfOk result (λ all. all.items ≡ first ∷ others.now) }
 {

@@ -73,7 +73,7 @@ pub fn declare<'p>(around: &mut Around<'p>, d: &'p Decl, number: usize) -> Resul
 }
 
 /// The number of the block of the procedure that a declaration declares, 0 where it declares none. What FORWARD announces
-/// is the procedure of that name behind it, of which the table tells; this declaration is told of then too.
+/// is the procedure of that name after it, of which the table tells; this declaration is told of then too.
 fn number_of<'p>(
     bodies: &mut Bodies<'p>,
     blocks: &Blocks<'_>,

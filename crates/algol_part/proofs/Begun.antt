@@ -35,7 +35,7 @@ use Rattle.algol_expr.proofs.Reading.{Takes, taken, read-at}
 use Rattle.algol_part.proofs.Chains.{here, too_deep_here}
 use Rattle.algol_part.proofs.Specs.{names_there}
 
--- behind a level that is opened
+-- after a level that is opened
 pub opens_with : {tokens : List Token} {t : Token} {ts : List Token} → tokens ≡ t ∷ ts → (d i : ℕ) (s : Due) (es : ℕ → List Due) {us : List Value} →
     turn s t.spot t.kind ≡ takes (nests d) (es (d + 1)) → d < MOST_NESTING → i ≡ d + 1 → Reaches (s ∷ []) us tokens (es i) us ts
 opens_with {tokens = tokens} {t = t} {ts = ts} at_ d i s es {us = us} q o is = subst (λ i. Reaches (s ∷ []) us tokens (es i) us ts) (sym is) (record {
@@ -104,7 +104,7 @@ pub name_begins : (d : ℕ) {tokens : List Token} {t : Token} {ts : List Token} 
 name_begins d {t = t} at_ n name e same = ap (turn_statement d t.spot) (name_of t.kind name e ∙ ap kinds.Name (sym same.0))
     ∙ ap (λ spot. takes plain (behind_start (record { name = n.name; spot = spot }) d ∷ [])) (sym same.1)
 
--- behind a name
+-- after a name
 
 module _ (n : Named) (d : ℕ) {tokens : List Token} {t : Token} {ts : List Token} (at_ : tokens ≡ t ∷ ts) where
   pub becomes_takes : is_symbol symbols.Becomes t.kind ≡ true → turn (behind_start n d) t.spot t.kind ≡ takes plain (whole 0 ∷ make (assigned n) ∷ [])
@@ -188,7 +188,7 @@ pub file_declared : (d : ℕ) {tokens : List Token} {t : Token} {ts : List Token
     turn (declarations d) t.spot t.kind ≡ takes plain (printers_in ++ declarations d ∷ [])
 file_declared d {t = t} at_ e = ap (turn_declarations d) (word_from t.kind reserved.File e)
 
--- the names behind EVENT, TASK or LABEL
+-- the names after EVENT, TASK or LABEL
 pub record Lister (k : TokenKind) : Type 0 where
   pub of : List Named → PDecl
   pub is : (ns : List Named) → listing k ns ≡ Some (of ns)
@@ -238,7 +238,7 @@ pub none_declared : (d : ℕ) {tokens : List Token} {t : Token} {ts : List Token
     lists_names t.kind ≡ false → turn (declarations d) t.spot t.kind ≡ skips
 none_declared d {t = t} at_ a b c = none_turn d t.kind a b c
 
--- behind a type
+-- after a type
 
 module _ (kind : Kind) (d : ℕ) {tokens : List Token} {t : Token} {ts : List Token} (at_ : tokens ≡ t ∷ ts) where
   pub typed_procedure : is_word reserved.Procedure t.kind ≡ true → turn (typed kind d) t.spot t.kind ≡ takes plain (procedure_in (Some kind) d)

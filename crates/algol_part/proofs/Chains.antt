@@ -155,7 +155,7 @@ module _ {tokens : List Token} {t : Token} {ts : List Token} (is : tokens ≡ t 
         ∙ ap (λ x. read 0 x (ds ++ due) (m (us ++ vs))) (sym is) ∙ sym (make_step 0 tokens m (ds ++ due) (us ++ vs));
   }
 
-  -- the tokens behind it
+  -- the tokens after it
   pub behind_it : EndsOnce tokens → (t.kind ≡ kinds.End → ⊥) → IsRest tokens ts
   behind_it ended other = let b = behind_first t ts (subst EndsOnce is ended) other in record { ended = b.ended; shorter = omega (arith, b.shorter, ap length is) }
 

@@ -30,7 +30,7 @@ module _ (s : Due) (test : TokenKind → Bool) (es : List Due) (other : Turn) (i
   pub off : test t.kind ≡ false → turn s t.spot t.kind ≡ other
   off e = is t.spot t.kind ∙ ap (λ b. either b (takes plain es) other) e
 
--- behind a comma
+-- after a comma
 
 abbrev pub more_names : List Due
 more_names = named ∷ make name_added ∷ due.names_more ∷ []

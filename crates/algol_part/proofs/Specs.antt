@@ -1,4 +1,4 @@
--- The first token of a specification, of a heading and of what stands behind a type.
+-- The first token of a specification, of a heading and of what stands after a type.
 use Rattle.std.proofs.Common.{◌≡◌, ℕ, Bool, true, false, ◌||◌, List, [], ◌∷◌, ◌++◌, Option, Some, None, refl, sym, subst, ap, ◌∙◌}
 use Rattle.algol_tree.specs.declared.token.Spot.{Spot}
 use Rattle.algol_tree.specs.declared.token.Token.{Token}
@@ -123,7 +123,7 @@ typed_names us {t = t} {ts = ts} at_ kind e = subst (λ x. Reaches (due.spec_typ
     (names_there (due.spec_typed kind) (symbol symbols.Semicolon ∷ make (spec_simple kind) ∷ []) t ts (λ name q. ap (turn_spec_typed kind t.spot) q)
     (λ q. typed_refused kind t.spot t.kind e q) us)
 
--- behind the name of a procedure
+-- after the name of a procedure
 
 pub heading_bare : {tokens : List Token} {t : Token} {ts : List Token} → tokens ≡ t ∷ ts → (kind : Option Kind) → is_symbol symbols.Semicolon t.kind ≡ true →
     turn (due.behind_procedure kind) t.spot t.kind ≡ takes plain (make (headed kind) ∷ [])

@@ -24,12 +24,12 @@ use Rattle.algol_part.specs.declared.opening.Opening.TheVariants as openings
 use Rattle.algol_part.specs.declared.opening.Beginning.{Beginning}
 use Rattle.algol_part.specs.declared.opening.Beginning.TheVariants as beginnings
 
--- what is due behind FOR, where i levels are open
+-- what is due after FOR, where i levels are open
 abbrev pub behind_for : ℕ → List Due
 behind_for i = named ∷ symbol symbols.Becomes ∷ whole 0 ∷ word reserved.Step ∷ whole 0 ∷ word reserved.Until ∷ whole 0 ∷ word reserved.Do ∷ statement i
     ∷ make counting ∷ []
 
--- what is due behind such a word at that place
+-- what is due after such a word at that place
 abbrev pub behind_word : Opener → Spot → ℕ → List Due
 behind_word openers.Begin spot i = body_in i (compound spot)
 behind_word openers.If spot i = whole 0 ∷ word reserved.Then ∷ statement i ∷ else_part i ∷ []
@@ -85,7 +85,7 @@ pub record ComesTo (from : List Due) (us : List Value) (tokens : List Token) (ds
   pub ended : EndsOnce rest
   pub no_longer : length rest ≤ length tokens
 
--- The tokens open a statement so, with i levels behind it, and `rest` is what follows.
+-- The tokens open a statement so, with i levels after it, and `rest` is what follows.
 pub record Opens (s : Due) (tokens : List Token) (opening : Opening) (i : ℕ) (rest : List Token) : Type 0 where
   pub run : (due : List Due) (vs : List Value) → read 0 tokens (s ∷ due) vs ≡ read 0 rest (still_due opening i ++ due) (so_far opening ++ vs)
   pub behind : IsRest tokens rest

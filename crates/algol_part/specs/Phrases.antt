@@ -25,11 +25,11 @@ names_before s = names_in ++ symbol s ∷ []
 abbrev pub closed_names : List Due
 closed_names = names_before symbols.Semicolon
 
--- the names behind a type
+-- the names after a type
 abbrev pub simples_in : Kind → List Due
 simples_in kind = names_in ++ make (names_declared (simple kind)) ∷ symbol symbols.Semicolon ∷ []
 
--- the files behind FILE
+-- the files after FILE
 abbrev pub printers_in : List Due
 printers_in = files_in ++ make (names_declared files) ∷ symbol symbols.Semicolon ∷ []
 
@@ -46,7 +46,7 @@ whole_behind w = word w ∷ whole 0 ∷ []
 abbrev pub specified_in : List Due
 specified_in = values_part ∷ make (put (specified [])) ∷ spec ∷ specs_more ∷ []
 
--- a heading behind its "("
+-- a heading after its "("
 abbrev pub parameters_in : Option Kind → List Due
 parameters_in kind = names_in ++ symbol symbols.CloseRound ∷ symbol symbols.Semicolon ∷ values_part ∷ make (put (specified [])) ∷ spec ∷ specs_more
     ∷ make (headed_with kind) ∷ []
@@ -64,7 +64,7 @@ pairs_in = make (put (pairs [])) ∷ pair_in ++ pairs_more ∷ []
 abbrev pub one_segment : Kind → List Due
 one_segment kind = names_in ++ symbol symbols.OpenSquare ∷ pairs_in ++ symbol symbols.CloseSquare ∷ make (rows_declared kind) ∷ []
 
--- segments and the semicolon behind them
+-- segments and the semicolon after them
 abbrev pub arrays_in : Kind → List Due
 arrays_in kind = segment_in kind ++ symbol symbols.Semicolon ∷ []
 
@@ -74,7 +74,7 @@ phrases_in = make (put (phrases [])) ∷ phrase ∷ phrases_more ∷ []
 abbrev pub closed_phrases : List Due
 closed_phrases = phrases_in ++ symbol symbols.Greater ∷ []
 
--- what is written to a file, behind its name
+-- what is written to a file, after its name
 abbrev pub format_in : List Due
 format_in = angle ∷ phrases_in ++ symbol symbols.Greater ∷ items_part ∷ symbol symbols.CloseRound ∷ make writing ∷ []
 
@@ -85,15 +85,15 @@ closed_items = items_part ∷ symbol symbols.CloseRound ∷ []
 abbrev pub choice_in : List Due
 choice_in = whole 0 ∷ word reserved.Of ∷ word reserved.Begin ∷ []
 
--- an assignment to a simple variable of that name, behind its ":="
+-- an assignment to a simple variable of that name, after its ":="
 abbrev pub value_in : Named → List Due
 value_in n = whole 0 ∷ make (assigned n) ∷ []
 
--- an assignment to an element of that name, behind its "["
+-- an assignment to an element of that name, after its "["
 abbrev pub element_in : Named → List Due
 element_in n = wholes_in ++ symbol symbols.CloseSquare ∷ symbol symbols.Becomes ∷ whole 0 ∷ make (assigned_element n) ∷ []
 
--- a statement on an event behind its word
+-- a statement on an event after its word
 abbrev pub acted : EventAct → List Due
 acted act = symbol symbols.OpenRound ∷ event ∷ symbol symbols.CloseRound ∷ make (acting act) ∷ []
 
@@ -118,7 +118,7 @@ lists_names (kinds.Word reserved.Label) = true
 lists_names (kinds.Word reserved.Array) = true
 lists_names k = false
 
--- the declaration of names behind EVENT, TASK or LABEL
+-- the declaration of names after EVENT, TASK or LABEL
 abbrev pub listing : TokenKind → List Named → Option PDecl
 listing (kinds.Word reserved.Event) ns = Some (events ns)
 listing (kinds.Word reserved.Task) ns = Some (tasks ns)

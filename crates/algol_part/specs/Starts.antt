@@ -38,6 +38,6 @@ abbrev pub starts_some : Start → Bool
 starts_some starts.Nothing = false
 starts_some s = true
 
--- the body of a procedure may begin so: with a statement that is not empty, or with the semicolon behind an empty one
+-- the body of a procedure may begin so: with a statement that is not empty, or with the semicolon after an empty one
 abbrev pub begins_body : TokenKind → Bool
 begins_body k = is_symbol symbols.Semicolon k || (is_name k || starts_some (start_of k))

@@ -19,7 +19,7 @@ use algol_expr::{expect_symbol, first_of, is_symbol, is_word, read_whole};
 use algol_tree::{Decl, Kind, List, Named, Pair, Refusal, Reserved, Symbol, Token, TokenKind};
 use std::alloc::Global;
 
-/// segment { "," segment } ";", behind ARRAY
+/// segment { "," segment } ";", after ARRAY
 pub fn read_arrays<'a>(
     alloc: Global,
     kind: Kind,
@@ -124,7 +124,7 @@ pub fn read_listed<'a>(
     }
 }
 
-/// names ";", behind a type
+/// names ";", after a type
 pub fn read_simples<'a>(
     alloc: Global,
     kind: Kind,
@@ -141,7 +141,7 @@ pub fn read_simples<'a>(
     Ok(rest)
 }
 
-/// files ";", behind FILE
+/// files ";", after FILE
 fn read_printers<'a>(
     alloc: Global,
     decls: &mut Vec<Decl>,
@@ -157,7 +157,7 @@ fn read_printers<'a>(
     Ok(rest)
 }
 
-/// The declaration of the names behind EVENT, TASK or LABEL
+/// The declaration of the names after EVENT, TASK or LABEL
 fn listing(word: &Token, names: List<Named>) -> Decl
     requires word { lists_names word.now.kind ≡ true }
     requires array { is_word reserved.Array word.now.kind ≡ false }

@@ -16,7 +16,7 @@ use algol_expr::{Held, expect_symbol, first_of, is_symbol, is_word};
 use algol_tree::{Heading, Kind, List, Named, Refusal, Reserved, Spec, Symbol, Token};
 use std::alloc::Global;
 
-/// A heading behind its word PROCEDURE:
+/// A heading after its word PROCEDURE:
 /// name ";" | name "(" names ")" ";" [ VALUE names ";" ] spec { spec }
 pub fn read_heading(
     alloc: Global,
@@ -51,7 +51,7 @@ fn bare(alloc: Global, kind: Option<Kind>, name: Named) -> Held<Heading>
     })
 }
 
-/// names ")" ";" [ VALUE names ";" ] spec { spec }, behind the "("
+/// names ")" ";" [ VALUE names ";" ] spec { spec }, after the "("
 fn read_parameters(
     alloc: Global,
     kind: Option<Kind>,
@@ -166,7 +166,7 @@ fn read_spec(alloc: Global, tokens: &[Token]) -> Result<(Spec, &[Token]), Refusa
     }
 }
 
-/// names ";" | ARRAY names "[" literal [ "," literal ] "]" ";", behind a type
+/// names ";" | ARRAY names "[" literal [ "," literal ] "]" ";", after a type
 fn read_typed_spec(alloc: Global, kind: Kind, tokens: &[Token]) -> Result<(Spec, &[Token]), Refusal>
     requires ended { EndsOnce tokens.now }
     ensures found { IfOk result (λ r. Adds (due.spec_typed kind ∷ []) specified tokens.now (λ ss. ss ++ r.0 ∷ []) r.1.now) }
@@ -181,7 +181,7 @@ fn read_typed_spec(alloc: Global, kind: Kind, tokens: &[Token]) -> Result<(Spec,
     }
 }
 
-/// names "[" literal [ "," literal ] "]" ";", behind ARRAY
+/// names "[" literal [ "," literal ] "]" ";", after ARRAY
 fn read_array_spec(alloc: Global, kind: Kind, tokens: &[Token]) -> Result<(Spec, &[Token]), Refusal>
     requires ended { EndsOnce tokens.now }
     ensures found { IfOk result (λ r. Adds (rows_specified kind) specified tokens.now (λ ss. ss ++ r.0 ∷ []) r.1.now) }

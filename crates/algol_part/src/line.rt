@@ -21,7 +21,7 @@ use algol_tree::{
 };
 use std::alloc::{AllocError, Global};
 
-/// WRITE "(" name "," "<" phrase { "," phrase } ">" [ "," expr { "," expr } ] ")", behind the WRITE
+/// WRITE "(" name "," "<" phrase { "," phrase } ">" [ "," expr { "," expr } ] ")", after the WRITE
 pub(crate) fn read_write(alloc: Global, tokens: &[Token]) -> Result<(Stmt, &[Token]), Refusal>
     requires ended { EndsOnce tokens.now }
     ensures found { IfOk result (λ r. Brings written tokens.now (stmt (plain r.0)) r.1.now) }
@@ -33,7 +33,7 @@ pub(crate) fn read_write(alloc: Global, tokens: &[Token]) -> Result<(Stmt, &[Tok
     Ok((statement, rest))
 }
 
-/// "<" phrase { "," phrase } ">" [ "," expr { "," expr } ] ")", behind the name of the file
+/// "<" phrase { "," phrase } ">" [ "," expr { "," expr } ] ")", after the name of the file
 fn read_format(alloc: Global, file: Named, tokens: &[Token]) -> Result<(Stmt, &[Token]), Refusal>
     requires ended { EndsOnce tokens.now }
     ensures found { IfOk result (λ r. Lists format_in tokens.now (name_is file) (stmt (plain r.0)) r.1.now) }

@@ -27,7 +27,7 @@ pub(crate) fn read_name(alloc: Global, tokens: &[Token]) -> Result<(Named, &[Tok
     }
 }
 
-/// The name that is due, and the symbol behind it
+/// The name that is due, and the symbol after it
 pub(crate) fn read_name_before(
     alloc: Global,
     tokens: &[Token],
@@ -65,7 +65,7 @@ pub(crate) fn read_names(
     }
 }
 
-/// names, and the symbol behind them
+/// names, and the symbol after them
 pub(crate) fn read_names_before(
     alloc: Global,
     tokens: &[Token],

@@ -83,7 +83,7 @@ pub fn read_beginning(
     }
 }
 
-/// ":" | [ "[" expr { "," expr } "]" ] ":=" expr | [ "(" expr { "," expr } ")" ], behind the name that a statement
+/// ":" | [ "[" expr { "," expr } "]" ] ":=" expr | [ "(" expr { "," expr } ")" ], after the name that a statement
 /// begins with
 fn read_behind_name(
     alloc: Global,
@@ -114,7 +114,7 @@ fn read_behind_name(
     }
 }
 
-/// expr, behind a name and ":="
+/// expr, after a name and ":="
 fn read_value(alloc: Global, name: Named, tokens: &[Token]) -> Result<(Stmt, &[Token]), Refusal>
     requires ended { EndsOnce tokens.now }
     ensures found { IfOk result (λ r. Brings (value_in name) tokens.now (stmt (plain r.0)) r.1.now) }
@@ -125,7 +125,7 @@ fn read_value(alloc: Global, name: Named, tokens: &[Token]) -> Result<(Stmt, &[T
     Ok((assignment(name, subs, value), rest))
 }
 
-/// [ "(" expr { "," expr } ")" ], behind a name
+/// [ "(" expr { "," expr } ")" ], after a name
 fn read_call(alloc: Global, name: Named, tokens: &[Token]) -> Result<(Stmt, &[Token]), Refusal>
     requires ended { EndsOnce tokens.now }
     ensures found { IfOk result (λ r. ComesTo (due.actuals_part ∷ make (calling name) ∷ []) [] tokens.now [] (stmt (plain r.0) ∷ []) r.1.now) }
@@ -135,7 +135,7 @@ fn read_call(alloc: Global, name: Named, tokens: &[Token]) -> Result<(Stmt, &[To
     Ok((called(name, actuals), rest))
 }
 
-/// How many levels are open behind a label at that place, which opens one
+/// How many levels are open after a label at that place, which opens one
 fn labelled_level(spot: Spot, depth: u32) -> Result<u32, Refusal>
     ensures opens { IfOk result (λ inner. (depth < MOST_NESTING) × (inner ≡ depth + 1)) }
     ensures deep { IfErr result (λ e. (MOST_NESTING ≤ depth) × (e ≡ refusals.At spot codes.TooDeep)) }
@@ -150,7 +150,7 @@ fn labelled_level(spot: Spot, depth: u32) -> Result<u32, Refusal>
     }
 }
 
-/// What opens a statement behind its first word, which stands at that place
+/// What opens a statement after its first word, which stands at that place
 fn read_opening(
     alloc: Global,
     opener: Opener,
@@ -184,7 +184,7 @@ fn read_opening(
     }
 }
 
-/// expr OF BEGIN, behind CASE
+/// expr OF BEGIN, after CASE
 fn read_choice(alloc: Global, tokens: &[Token]) -> Result<(Held<Expr>, &[Token]), Refusal>
     requires ended { EndsOnce tokens.now }
     ensures found { IfOk result (λ r. Brings choice_in tokens.now (one (image.expr r.0)) r.1.now) }
@@ -195,7 +195,7 @@ fn read_choice(alloc: Global, tokens: &[Token]) -> Result<(Held<Expr>, &[Token])
     Ok((choice, rest))
 }
 
-/// name ":=" expr STEP expr UNTIL expr DO, behind FOR
+/// name ":=" expr STEP expr UNTIL expr DO, after FOR
 fn read_range(alloc: Global, tokens: &[Token]) -> Result<(Opening, &[Token]), Refusal>
     requires ended { EndsOnce tokens.now }
     ensures found { IfOk result (λ r. (i : ℕ) → ComesTo (behind_for i) [] tokens.now (still_due r.0 i) (so_far r.0) r.1.now) }
@@ -208,7 +208,7 @@ fn read_range(alloc: Global, tokens: &[Token]) -> Result<(Opening, &[Token]), Re
     Ok((Opening::Led(Lead::For(name, from, step, limit)), rest))
 }
 
-/// A statement in which no other stands, behind its word
+/// A statement in which no other stands, after its word
 fn read_simple(alloc: Global, verb: Verb, tokens: &[Token]) -> Result<(Stmt, &[Token]), Refusal>
     requires ended { EndsOnce tokens.now }
     ensures found { IfOk result (λ r. Brings (behind_verb verb) tokens.now (stmt (plain r.0)) r.1.now) }

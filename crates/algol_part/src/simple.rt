@@ -38,7 +38,7 @@ pub(crate) fn called(name: Named, actuals: List<Expr>) -> Stmt
     Stmt::Call(Call { name, actuals })
 }
 
-/// expr { "," expr } "]" ":=" expr, behind a name and its "["
+/// expr { "," expr } "]" ":=" expr, after a name and its "["
 pub(crate) fn read_element(
     alloc: Global,
     name: Named,
@@ -54,7 +54,7 @@ pub(crate) fn read_element(
     Ok((assignment(name, subs, value), rest))
 }
 
-/// GO [ TO ] name, behind the GO
+/// GO [ TO ] name, after the GO
 pub(crate) fn read_go(alloc: Global, tokens: &[Token]) -> Result<(Stmt, &[Token]), Refusal>
     requires ended { EndsOnce tokens.now }
     ensures found { IfOk result (λ r. Brings (due.to_part ∷ due.named ∷ make going ∷ []) tokens.now (stmt (plain r.0)) r.1.now) }
@@ -77,7 +77,7 @@ fn behind_to(tokens: &[Token]) -> &[Token]
     }
 }
 
-/// PROCESS call [ "[" name "]" ], behind the PROCESS
+/// PROCESS call [ "[" name "]" ], after the PROCESS
 pub(crate) fn read_process(alloc: Global, tokens: &[Token]) -> Result<(Stmt, &[Token]), Refusal>
     requires ended { EndsOnce tokens.now }
     ensures found { IfOk result (λ r. Brings (due.named ∷ due.actuals_part ∷ due.task_part ∷ make processing ∷ []) tokens.now (stmt (plain r.0)) r.1.now) }
@@ -112,7 +112,7 @@ fn read_task(alloc: Global, tokens: &[Token]) -> Result<(Option<Named>, &[Token]
     }
 }
 
-/// "(" event ")", behind the word of the act
+/// "(" event ")", after the word of the act
 pub(crate) fn read_act(
     alloc: Global,
     act: EventAct,
@@ -128,7 +128,7 @@ pub(crate) fn read_act(
     Ok((acting(act, event), rest))
 }
 
-/// An expression, and the word behind it
+/// An expression, and the word after it
 pub(crate) fn read_before(
     alloc: Global,
     tokens: &[Token],

@@ -69,7 +69,7 @@ fn start_of_word(word: Reserved) -> Start
     }
 }
 
-/// The body of a procedure may begin with the token: it begins a statement, or it is the semicolon behind an empty one.
+/// The body of a procedure may begin with the token: it begins a statement, or it is the semicolon after an empty one.
 pub fn begins_body(token: &Token) -> bool
     ensures { result ≡ begins_body token.now.kind }
 {

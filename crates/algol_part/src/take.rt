@@ -62,7 +62,7 @@ pub(crate) fn read_literal(tokens: &[Token]) -> Result<(i64, &[Token]), Refusal>
     }
 }
 
-/// The number behind a "-", negated
+/// The number after a "-", negated
 fn read_negated(tokens: &[Token]) -> Result<(i64, &[Token]), Refusal>
     requires ended { EndsOnce tokens.now }
     ensures found { IfOk result (λ r. Finds due.number_negated tokens.now (low r.0) r.1.now) }

@@ -20,7 +20,7 @@ use std::alloc::Global;
 
 /// The program that the tokens are, of which the last is the end of the text. It is refused as `Unexpected` at the first
 /// token through which no program goes, as `TooDeep` at the token that breaks a limit, and as `TextAfterEnd` at the first
-/// token behind a program that is not the end of the text.
+/// token after a program that is not the end of the text.
 pub fn read_program(alloc: Global, tokens: &[Token]) -> Result<Program, Refusal>
     requires ended { EndsOnce tokens.now }
     ensures reads { IfOk result (λ p. Reads tokens.now (plain p)) }

@@ -64,7 +64,7 @@ fn read_opened(
     }
 }
 
-/// The statement that stands behind a lead
+/// The statement that stands after a lead
 #[cycle(statements)]
 fn read_led(
     alloc: Global,
@@ -80,7 +80,7 @@ fn read_led(
     Ok((led(alloc, lead, statement)?, rest))
 }
 
-/// { declaration ";" } statement { ";" statement } END, behind the BEGIN at that place
+/// { declaration ";" } statement { ";" statement } END, after the BEGIN at that place
 #[cycle(statements)]
 fn read_block(
     alloc: Global,
@@ -97,7 +97,7 @@ fn read_block(
     Ok((block(spot, decls, stmts), rest))
 }
 
-/// statement UNTIL expr, behind DO
+/// statement UNTIL expr, after DO
 #[cycle(statements)]
 fn read_repeated(
     alloc: Global,
@@ -113,7 +113,7 @@ fn read_repeated(
     Ok((repeating(alloc, body, end)?, rest))
 }
 
-/// statement { ";" statement } END, behind CASE, this choice, OF and BEGIN
+/// statement { ";" statement } END, after CASE, this choice, OF and BEGIN
 #[cycle(statements)]
 fn read_cases(
     alloc: Global,
@@ -129,7 +129,7 @@ fn read_cases(
     Ok((choosing(choice, cases), rest))
 }
 
-/// statement [ ELSE statement ], behind IF, this condition and THEN
+/// statement [ ELSE statement ], after IF, this condition and THEN
 #[cycle(statements)]
 fn read_arms(
     alloc: Global,
@@ -208,7 +208,7 @@ pub(crate) fn read_declarations(
     }
 }
 
-/// names ";" | ARRAY segment { "," segment } ";" | a procedure, behind a type
+/// names ";" | ARRAY segment { "," segment } ";" | a procedure, after a type
 #[cycle(statements)]
 fn read_typed<'a>(
     alloc: Global,
@@ -233,7 +233,7 @@ fn read_typed<'a>(
     }
 }
 
-/// A procedure behind its word: its heading, and ( FORWARD | statement ) ";"
+/// A procedure after its word: its heading, and ( FORWARD | statement ) ";"
 #[cycle(statements)]
 fn read_procedure(
     alloc: Global,
@@ -260,7 +260,7 @@ fn read_procedure(
     }
 }
 
-/// The heading that the word FORWARD stands behind, where a semicolon follows
+/// The heading that the word FORWARD stands after, where a semicolon follows
 fn closed_forward(heading: Held<Heading>, tokens: &[Token]) -> Result<(Decl, &[Token]), Refusal>
     requires ended { EndsOnce tokens.now }
     ensures passes { IfOk result (λ r. Passes (due.symbol symbols.Semicolon) tokens.now r.1.now) }

@@ -149,7 +149,7 @@ pub data RefusedOr (bytes : List ℕ) (AnswersIts : PProgram → List ℕ → St
   refused : (place : Spot) (code : RefusalCode) → IsRefusedAt bytes place code → RefusedOr bytes AnswersIts (refused_text place code) (status.Refused place code)
   accepted : (tree : PProgram) (text : List ℕ) (s : Status) → IsSourceOf bytes tree → AnswersIts tree text s → RefusedOr bytes AnswersIts text s
 
--- the source in the bytes that are read, and the schedule text behind it: under `replay` those of its two parts, else all is the source
+-- the source in the bytes that are read, and the schedule text after it: under `replay` those of its two parts, else all is the source
 abbrev pub IsDivided : Words → List ℕ → List ℕ → Option (List ℕ) → Type 0
 IsDivided (Replay budget) bytes source schedule = Parts (codes "%%SCHEDULE") bytes source schedule
 IsDivided command bytes source schedule = (source ≡ bytes) × (schedule ≡ None)

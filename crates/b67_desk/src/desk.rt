@@ -28,7 +28,7 @@ pub enum Unanswered {
     NoMemory,
 }
 
-/// The source in bytes that were read under a command, and the schedule text behind it.
+/// The source in bytes that were read under a command, and the schedule text after it.
 fn divided(command: Words, bytes: &[u8]) -> (&[u8], Option<&[u8]>)
     ensures { IsDivided command bytes.now result.0.now (option_copied result.1) }
 {
@@ -149,8 +149,8 @@ fn answer_call<S: Source>(
 ///
 /// `words` are the words after the program's name; today the commands are `run 1 B` and `replay B` with a budget B of 1 to
 /// [`MOST_BUDGET`](b67_words::MOST_BUDGET) operators, `check`, and `list`. `source` gives the bytes of an ALGOL source, at most
-/// [`MOST_SOURCE_BYTES`] of them, and is read to its end. Under `replay` it gives at most [`MOST_INPUT_BYTES`]: behind the source a
-/// record that is exactly `%%SCHEDULE`, and behind that the text of the schedule to be followed. `sink` gets the answer whole: the
+/// [`MOST_SOURCE_BYTES`] of them, and is read to its end. Under `replay` it gives at most [`MOST_INPUT_BYTES`]: after the source a
+/// record that is exactly `%%SCHEDULE`, and after that the text of the schedule to be followed. `sink` gets the answer whole: the
 /// report of the run, the listing of the code, the word ACCEPTED, or one line of refusal. It returns on every input.
 ///
 /// The first of these that holds is the answer. `Usage` comes exactly where the words break the grammar, names the first word

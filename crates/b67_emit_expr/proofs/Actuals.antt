@@ -97,7 +97,7 @@ module _ (s : Names) (scopes : Scopes) (context : Context) (level : ℕ) (a : Bu
       by (sort ∷ ss) [] fit = absurd fit
       by (sort ∷ ss) (w ∷ ws) fit = record { scopes = scopes; wanted = w; fits = (first_fits s scopes level sort ss ws rest w e fit).1 }
 
-  -- .. and then those behind it are left
+  -- .. and then those after it are left
   pub next_left : (b c : Built) (e : PExpr) (rest : PExprs) → ActualEmitted s level b c e → Left s scopes context level a b sorts wanted es (tree.more e rest) →
       Left s scopes context level a c sorts wanted es rest
   next_left b c e rest actual l = by l.sorts_left l.wanted_left l.fit l.code

@@ -1,4 +1,4 @@
--- A variable is an element of an array, which is read or assigned, or a name alone.
+-- A variable is an element of an array, which is read or assigned, or a name by itself.
 use Rattle.std.proofs.Common.{◌≡◌, ℕ, ◌+◌, ◌<◌, ◌==◌, Bool, true, false, List, [], ◌∷◌, length, refl, sym, ap, ◌∙◌, subst, arith}
 use Rattle.algol_tree.specs.declared.tree.Expr.{Expr}
 use Rattle.algol_tree.specs.declared.tree.Variable.{Variable}
@@ -69,7 +69,7 @@ module _ (s : Names) where
         (λ qs x. (fits.0, x.0.0, size b.operators, x.0.1, fits.2, x.0.2, x.1));
   }
 
-  -- ---- a name alone
+  -- ---- a name by itself
 
   pub alone_has : (level : ℕ) (v : Variable) → v.subs ≡ [] → HasCode s level (tree.variable (variable v)) → NameHasCode s level v.name
   alone_has level v none h =

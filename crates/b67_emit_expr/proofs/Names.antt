@@ -1,4 +1,4 @@
--- A name alone: a variable that is read, or a typed procedure that is called.
+-- A name by itself: a variable that is read, or a typed procedure that is called.
 use Rattle.std.proofs.Common.{◌≡◌, ℕ, true, false, Option, Some, None, inl, inr, refl, sym, ap, ◌∙◌, subst}
 use Rattle.std.specs.Prelude.{is_some}
 use Rattle.algol_tree.specs.declared.tree.Kind.{Kind}

@@ -1,4 +1,4 @@
--- An actual is a value, or an array's name alone: by the lower bounds that are known of names it is told which.
+-- An actual is a value, or an array's name by itself: by the lower bounds that are known of names it is told which.
 use Rattle.std.proofs.Common.{◌≡◌, ℕ, ◌<◌, ◌≤◌, true, false, [], length, Bool, Option, Some, None, is_some, option_copied, refl, sym, ap, ◌∙◌, subst, arith, if◌then◌else◌}
 use Rattle.std.specs.Prelude.{IsSome}
 use Rattle.std.specs.Borrow.{Bor}
@@ -32,7 +32,7 @@ use Rattle.b67_emit_expr.specs.Passing.{if_array, array_alone, ActualFits, Actua
 use Rattle.b67_emit_expr.proofs.Couples.{some, known_array, seen_array}
 use Rattle.b67_emit_expr.proofs.Elements.{IsElement, is_element, is_alone}
 
--- ---- a name alone
+-- ---- a name by itself
 
 alone_is : (e : PExpr) (n : Named) → name_alone e ≡ Some n → e ≡ tree.variable (tree.subscripted n tree.none)
 alone_is (tree.variable (tree.subscripted m tree.none)) n is = let same : m ≡ n = cc in ap (λ (x : Named). tree.variable (tree.subscripted x tree.none)) same
@@ -155,7 +155,7 @@ found_is None found is off = refl
 found_is (Some x) found is off = sym is ∙ off
 
 module _ (s : Names) (v : Variable) where
-  -- an element is no name alone
+  -- an element is no name by itself
   pub element_alone : 0 < length v.subs → None ≡ array_alone s (tree.variable (variable v))
   element_alone some = by (variable v) (is_element v some)
     where

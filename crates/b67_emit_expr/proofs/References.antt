@@ -32,7 +32,7 @@ use Rattle.b67_emit_expr.proofs.Couples.{some, seen_left}
 use Rattle.b67_emit_expr.proofs.Subscripts.{none_fits}
 use Rattle.b67_emit_expr.proofs.Elements.{IsElement, is_alone}
 
--- ---- a name alone
+-- ---- a name by itself
 
 module _ (s : Names) (level : ℕ) (v : Variable) (none : v.subs ≡ []) where
   -- it is no element
@@ -74,7 +74,7 @@ element_syllables (tree.subscripted n tree.none) is = absurd is
 element_syllables (tree.subscripted n (tree.more e es)) is = refl
 
 module _ (s : Names) (w : PVariable) (is_element : IsElement w) where
-  -- it is no name alone
+  -- it is no name by itself
   not_alone : (n : Named) → w ≡ tree.subscripted n tree.none → ⊥
   not_alone n is = let I : PVariable → Type 0 = λ x. IsElement x in subst I is is_element
 

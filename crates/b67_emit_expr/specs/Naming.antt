@@ -1,4 +1,4 @@
--- A name alone in an expression.
+-- A name by itself in an expression.
 use Rattle.std.specs.Prelude.{◌⊎◌, ℕ}
 use Rattle.algol_tree.specs.declared.tree.Kind.{Kind}
 use Rattle.algol_tree.specs.declared.tree.Named.{Named}

@@ -17,13 +17,13 @@ use Rattle.b67_templates.specs.Fitting.{ArrayFits, ExprFits}
 use Rattle.b67_emitter.specs.declared.names.Names.{Names}
 use Rattle.b67_emitter.specs.Values.{couples, results, lows}
 
--- ---- an array's name alone
+-- ---- an array's name by itself
 
 abbrev pub if_array : Names → Option Named → Option Named
 if_array s None = None
 if_array s (Some n) = if is_some (lows s n.spot) then Some n else None
 
--- the name of the array that an expression is, none where it is not the name alone of one
+-- the name of the array that an expression is, none where it is not the name by itself of one
 abbrev pub array_alone : Names → PExpr → Option Named
 array_alone s e = if_array s (name_alone e)
 

@@ -8,7 +8,7 @@ ghost use Rattle.b67_emit_expr.specs.Passing.{array_alone};
 use algol_tree::{Expr, Named, Variable};
 use b67_emitter::{Names, array_of};
 
-/// The name of the array that an actual is; none where it is not the name alone of one.
+/// The name of the array that an actual is; none where it is not the name by itself of one.
 pub fn array_alone<'f>(e: &'f Expr, names: &Names) -> Option<&'f Named>
     ensures { option_copied result ≡ array_alone names.now (expr e.now) }
 {

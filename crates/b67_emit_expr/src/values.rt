@@ -26,7 +26,7 @@ use b67_ops::{BranchKind, PlainKind};
 use b67_segment::Builder;
 use std::alloc::AllocError;
 
-/// An operand: its value stands at the place behind it.
+/// An operand: its value stands at the place after it.
 #[cycle(values)]
 pub fn operand(
     e: &Expr,
@@ -193,7 +193,7 @@ pub fn subscripts(
     Ok(())
 }
 
-/// The value of a variable: an element is read, and a name alone is read or called.
+/// The value of a variable: an element is read, and a name by itself is read or called.
 #[cycle(values)]
 fn read(
     v: &Variable,
@@ -249,7 +249,7 @@ fn chosen(
     value_with_exits(y, names, out, exits)
 }
 
-/// The code of a value, with the exits out of it behind those that there are.
+/// The code of a value, with the exits out of it after those that there are.
 #[cycle(values)]
 fn value_with_exits(
     e: &Expr,

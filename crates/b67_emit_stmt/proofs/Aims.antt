@@ -1,4 +1,4 @@
--- Branches that are aimed behind a loop's body or behind the first part of an IF.
+-- Branches that are aimed after a loop's body or after the first part of an IF.
 use Rattle.std.proofs.Common.{◌≡◌, ℕ, ◌≤◌, List, [], ◌∷◌, length, take, drop, sym, subst, arith}
 use Rattle.algol_tree.specs.Plain.{PStmt}
 use Rattle.b67_emit_stmt.specs.Places.{Place, StmtAt}
@@ -15,7 +15,7 @@ use Rattle.b67_emit_stmt.specs.Drafts.{Emits}
 use Rattle.b67_emit_stmt.proofs.Arms.{Closed, Stands}
 use Rattle.b67_emit_stmt.proofs.Drafts.{closed, emits_weaker, exits_there}
 
--- the exits of a body go to the place behind it
+-- the exits of a body go to the place after it
 pub body_closed : (sc : Place) (level : ℕ) (x : PStmt) (a b d : Draft) (first : ℕ) → first ≡ length a.exits.items → Emits (stmt_syllables x) a b (Stands sc level x a b) →
     Aimed (drop first b.exits.items) b.out d.out → d.exits.items ≡ take first b.exits.items → d.formats.items ≡ b.formats.items →
     Emits (stmt_syllables x) a d (Closed sc level x a d)

@@ -29,7 +29,7 @@ module _ (sc : Place) (level : ℕ) where
   abbrev pub Stands : PStmt → Draft → Draft → List Format → List Placed → ℕ → Type 0
   Stands s a b formats qs target = StmtAt sc formats qs level s (size a.out.operators) (size b.out.operators) target
 
-  -- the same where its exits go to the place behind it
+  -- the same where its exits go to the place after it
   abbrev pub Closed : PStmt → Draft → Draft → List Format → List Placed → ℕ → Type 0
   Closed s a b formats qs target = StmtAt sc formats qs level s (size a.out.operators) (size b.out.operators) (size b.out.operators)
 

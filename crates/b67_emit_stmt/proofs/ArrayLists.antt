@@ -1,4 +1,4 @@
--- The arrays of declarations, one declaration after another, behind the cells of a block.
+-- The arrays of declarations, one declaration after another, after the cells of a block.
 use Rattle.std.proofs.Common.{rules, ◌≡◌, ℕ, zero, suc, ◌+◌, ◌≤◌, Bool, true, false, List, [], ◌∷◌, length, drop, refl, sym, ap, ◌∙◌, subst, arith, length-append}
 use Rattle.std.proofs.lemmas.List.{length-map}
 use Rattle.algol_tree.specs.declared.TheConstants.{MOST_BLOCK_CELLS}

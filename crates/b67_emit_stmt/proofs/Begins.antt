@@ -1,4 +1,4 @@
--- What a block begins with: its cells, and behind them its arrays.
+-- What a block begins with: its cells, and after them its arrays.
 use Rattle.std.proofs.Common.{◌≡◌, ℕ, ◌+◌, ◌≤◌, ◌∙◌, List, refl, sym, subst, arith}
 use Rattle.std.specs.Prelude.{Result, OnOk}
 use Rattle.algol_tree.specs.Plain.{PDecls}

@@ -1,4 +1,4 @@
--- The code of a block: its cells, its arrays, its statements, whose exits go to the place behind them, and EXIT; and that of a block within another.
+-- The code of a block: its cells, its arrays, its statements, whose exits go to the place after them, and EXIT; and that of a block within another.
 use Rattle.std.proofs.Common.{◌≡◌, ℕ, ◌+◌, ◌≤◌, [], ◌∷◌, length, take, drop, refl, sym, ap, ◌∙◌, subst, arith}
 use Rattle.std.specs.Prelude.{unwrap_or, Option, Some, IsSome}
 use Rattle.std.proofs.lemmas.List.{take_at}
@@ -73,7 +73,7 @@ module _ (s : Known) (level many : ℕ) (ds : PDecls) (ss : PStmts) (a b : Draft
           let whole = emits_then (begun fits.0 fits.1.0 fits.1.1) (performed fits.0 fits.1) in
           es ∙ ap (take first) whole.code.added ∙ take_at a.exits.items whole.code.exits first (sym is)
 
--- the block ends behind that
+-- the block ends after that
 module _ (s : Known) (level : ℕ) (ds : PDecls) (ss : PStmts) (a d : Draft) (at : IsAt level a) (many : ℕ) (is : many ≡ variables_in ds) (inside : EmitsInside s level a d many ds ss) where
   pub exit_set : (fits : (sc : Place) × InsideFits sc s level ds ss) → IsSome a.out.level → IsSome d.out.level
   exit_set fits h = set_same a.out d.out (inside fits.0 fits.1).code.level h
@@ -114,7 +114,7 @@ module _ (s : Known) (ds : PDecls) (ss : PStmts) (a b : Draft) (over_level : b.o
   pub inside_ready : b.formats.items ≡ a.formats.items → IsReady s a (inner_syllables ds ss) → IsReady s b (block_syllables ds ss)
   inside_ready fs r = ready_behind s a b (inner_syllables ds ss) (block_syllables ds ss) r over_level fs (omega (arith, wide)) (omega (arith, wide))
 
-  -- the branch over the code, which is aimed behind it
+  -- the branch over the code, which is aimed after it
   module _ (place : ℕ) (place_is : place ≡ size a.out.operators)
       (hole : EmittedWithExits a.out b.out [] (size a.out.operators ∷ []) (λ qs target. BranchAt qs (level_set a.out) Brun (size a.out.operators) target (size b.out.operators)))
       (c : Draft) (code : EmitsBlock s (level_set b.out + 1) b c ds ss) where

@@ -45,7 +45,7 @@ entries_more ps level zero f m t h k e =
     (subst K (sym h) (subst (H m) (e ∙ ap (λ x. x + 3) (sym h)) k), omega (arith, h, e))
 entries_more ps level (suc many) f m t h k e = (h.0, entries_more ps level many (f + 3) m t h.1 k e)
 
--- ---- statements behind a table
+-- ---- statements after a table
 
 pub cases-append : (sc : Place) (formats : List Format) (qs : List Placed) (level : ℕ) (xs : List Stmt) (y : Stmt) (entry u p x : ℕ) →
     CasesAt sc formats qs level (stmts xs) entry u → BranchAt qs level Brun (entry + 3 * length xs) p (entry + 3 * length xs + 3) →
@@ -65,7 +65,7 @@ single_out x at h = let e : nat_eq x at ≡ false = ne_eqb x at h in rw e refl
 single_in : (x : ℕ) → is_among (x ∷ []) x ≡ true
 single_in x = let e : nat_eq x x ≡ true = eq-eqb x x refl in rw e refl
 
--- what stands in the table up to a place, and behind the table, stands still, but the exits, which go to that target
+-- what stands in the table up to a place, and after the table, stands still, but the exits, which go to that target
 pub record Partly (exits : List ℕ) (target from upto behind to : ℕ) (ps qs : List Placed) : Type 0 where
   pub table :
       (at level next : ℕ) (op : Operator) → is_among exits at ≡ false → from ≤ at → at < upto → next ≤ to → StandsAmong ps at level op next → StandsAmong qs at level op next
@@ -75,7 +75,7 @@ pub record Partly (exits : List ℕ) (target from upto behind to : ℕ) (ps qs :
       (at level next old : ℕ) (kind : BranchKind) → is_among exits at ≡ true → behind ≤ at → next ≤ to → StandsAmong ps at level (Branch kind old) next →
       StandsAmong qs at level (Branch kind target) next
 
--- The statements that are done stand behind the table, and the branches to the others are not aimed yet.
+-- The statements that are done stand after the table, and the branches to the others are not aimed yet.
 pub record Midcase (sc : Place) (level : ℕ) (done : List Stmt) (left : ℕ) (a t c : Draft) : Type 0 where
   pub level_is : c.out.level ≡ a.out.level
   pub begun : size a.out.operators ≤ size t.out.operators

@@ -126,7 +126,7 @@ emits_none a few = record {
 
 -- ---- branches that are aimed
 
--- the exits that were added go to the place behind the code
+-- the exits that were added go to the place after the code
 pub closed : {n : ℕ} {a b c : Draft} {P : List Format → List Placed → ℕ → Type 0} → Emits n a b P → Aimed (drop (length a.exits.items) b.exits.items) b.out c.out →
     c.exits.items ≡ take (length a.exits.items) b.exits.items → c.formats.items ≡ b.formats.items →
     Emits n a c (λ formats qs target. P formats qs (size b.out.operators))
@@ -149,7 +149,7 @@ closed {n} {a} {b} {c} {P} e g es fs =
       listed = λ l. listed_equal fs (e.listed l);
     }
 
--- branches of code before go to the place behind it
+-- branches of code before go to the place after it
 pub hole_closed : (m : ℕ) {n : ℕ} {a b c d : Draft} {holes : List ℕ} {P : List Placed → ℕ → Type 0} {Q : List Format → List Placed → ℕ → Type 0} →
     EmittedWithExits a.out b.out [] holes P → size b.out.operators ≤ size a.out.operators + m → b.exits.items ≡ a.exits.items → b.formats.items ≡ a.formats.items →
     Emits n b c Q → Aimed holes c.out d.out → d.exits.items ≡ c.exits.items → d.formats.items ≡ c.formats.items →

@@ -31,7 +31,7 @@ next_fits s sc level xs i x h e fit =
     let F : List Stmt → Type 0 = λ l. StmtsFit sc s level (stmts l) in
     fits-append sc s level (take i xs) x (drop (i + 1) xs) (subst F (around xs i x h e) fit)
 
--- the tokens before the next statement, its own and those behind it are those of the list
+-- the tokens before the next statement, its own and those after it are those of the list
 pub next_tokens : (xs : List Stmt) (i : ℕ) (x : Stmt) → i < length xs → x ≡ get_or xs i x →
     stmts_tokens (stmts xs) ≡ stmts_tokens (stmts (take i xs)) + (1 + stmt_tokens (stmt x)) + stmts_tokens (stmts (drop (i + 1) xs))
 next_tokens xs i x h e = ap (λ (l : List Stmt). stmts_tokens (stmts l)) (around xs i x h e) ∙ tokens-append (take i xs) x (drop (i + 1) xs)

@@ -74,11 +74,11 @@ empty_emitted s a few = λ sc fit. emits_weaker (Stands sc (level_set a.out) tre
 
 -- ---- levels
 
--- a level that was set is still set behind code that follows other code
+-- a level that was set is still set after code that follows other code
 pub set_behind : {n : ℕ} {b c : Draft} {P : List Format → List Placed → ℕ → Type 0} (a : Built) → Emits n b c P → b.out.level ≡ a.level → IsSome a.level → IsSome c.out.level
 set_behind {n} {b} {c} a e l h = set_same a c.out (e.code.level ∙ l) h
 
--- the same behind code that is followed by other code
+-- the same after code that is followed by other code
 pub set_ahead : {n : ℕ} {a b : Draft} {P : List Format → List Placed → ℕ → Type 0} (d : Built) → Emits n a b P → d.level ≡ b.out.level → IsSome a.out.level → IsSome d.level
 set_ahead {n} {a} {b} d e l h = set_same a.out d (l ∙ e.code.level) h
 

@@ -1,4 +1,4 @@
--- The test of FOR behind the difference.
+-- The test of FOR after the difference.
 use Rattle.std.proofs.Common.{◌≡◌, ℕ, zero, suc, ◌+◌, ◌≤◌, ℤ, true, false, refl, sym, subst, arith, lit≤}
 use Rattle.std.proofs.lemmas.Bool.{lt-ltb}
 use Rattle.std.specs.Prelude.{List, pos, negsuc, Some, int_lt, [], ◌∷◌}

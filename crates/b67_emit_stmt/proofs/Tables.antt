@@ -1,4 +1,4 @@
--- CASE: the call of SELECT, the table, and the statements behind it.
+-- CASE: the call of SELECT, the table, and the statements after it.
 use Rattle.std.proofs.Common.{◌≡◌, ℕ, zero, suc, ◌+◌, ◌*◌, ◌-◌, ◌≤◌, ◌<◌, List, [], ◌∷◌, length, take, drop, get_or, pos, refl, sym, ap, ◌∙◌, subst, arith, length-append}
 use Rattle.std.proofs.lemmas.List.{length-take-le}
 use Rattle.std.specs.Prelude.{IsSome}
@@ -94,7 +94,7 @@ case_arm sc level e ss a b d h i =
     let T : ℕ → Type 0 = λ n. TableAt sc formats qs level n p.0.1 (size b.out.operators) in
     (p.0.0, p.0.1, size b.out.operators, p.0.2, p.0.3, subst T (count_is ss) p.0.4, p.1))
 
--- ---- the statements behind the table, one after another
+-- ---- the statements after the table, one after another
 
 -- none is done
 pub cases_begun : (sc : Place) (level many : ℕ) (xs : List Stmt) (a t : Draft) → many ≡ length xs → HasFew a → t.exits.items ≡ a.exits.items → t.formats.items ≡ a.formats.items →
@@ -168,7 +168,7 @@ module _ (s : Known) (sc : Place) (level : ℕ) (xs : List Stmt) (i : ℕ) (x : 
     at_same a d (aimed.level ∙ m.level_is) at,
   )
 
-  -- .. and the branch behind it
+  -- .. and the branch after it
   pub exit_needs : (d : Draft) (n : ℕ) → Aimed (entry ∷ []) b.out d.out → d.formats.items ≡ b.formats.items → stmts_syllables (stmts xs) ≤ n → IsReady s a n → level_set a.out ≡ level →
       StmtsFit sc s level (stmts xs) → (e : Draft) → EmitsStmt s d e (stmt x) → IsSome e.out.level × (size e.out.operators + 3 ≤ MOST_SEGMENT_SYLLABLES)
   exit_needs d n aimed fs le r q fits e k =

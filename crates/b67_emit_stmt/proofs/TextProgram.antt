@@ -1,4 +1,4 @@
--- The segments of a program: that of its outer block, and those of its procedures behind it.
+-- The segments of a program: that of its outer block, and those of its procedures after it.
 use Rattle.std.proofs.Common.{rules, ◌≡◌, ℕ, zero, suc, ◌+◌, ◌*◌, ◌<◌, ◌≤◌, Option, None, List, [], ◌∷◌, ◌++◌, length, map, take, get_or, sym, ap, ◌∙◌, subst, arith}
 use Rattle.std.specs.Prelude.{Some, slice_get}
 use Rattle.std.proofs.lemmas.List.{length-map, take_all, take_more}
@@ -74,7 +74,7 @@ module _ (b : PBody) (ps : List Procedure) (are : map text_of ps ≡ texts_in_bo
   pub all_taken : (i : ℕ) → length ps ≤ i → take (i + 1) (texts b) ≡ texts b
   all_taken i le = take_all (i + 1) (texts b) (omega (arith, texts_many))
 
--- behind the outer block's text
+-- after the outer block's text
 pub behind : (b : PBody) (k : ℕ) (t : Text) → slice_get (texts_in_body b OUTER_LEVEL) k ≡ Some t → slice_get (texts b) (k + 1) ≡ Some t
 behind b k t e = let next : suc k ≡ k + 1 = omega arith in ap (λ n. slice_get (texts b) n) (sym next) ∙ e
 

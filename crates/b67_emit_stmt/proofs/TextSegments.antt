@@ -94,7 +94,7 @@ none_of : (xs ys : List ℕ) → [] ≡ xs ++ ys → ys ≡ []
 none_of [] ys h = sym h
 none_of (x ∷ xs) ys h = cc
 
--- it stands among its own operators and NOOPs behind them
+-- it stands among its own operators and NOOPs after them
 stands_filled : {n : ℕ} {a b : Draft} {P : List Format → List Placed → ℕ → Type 0} → Emits n a b P → b.exits.items ≡ [] → (all : List Format) → IsFront b.formats.items all →
     P all (filled b.out.operators) (size b.out.operators)
 stands_filled {n} {a} {b} {P} h none all front =

@@ -26,7 +26,7 @@ declared kind ns ds =
 simple_is : (kind : Kind) (ns : List Named) → decl (shapes.Simple kind ns) ≡ tree.simple kind ns
 simple_is kind ns = search (rules, the_lemmas)
 
--- a declaration of variables, and those behind it
+-- a declaration of variables, and those after it
 pub variables_more : (d : Decl) (kind : Kind) (ns : List Named) (ds : List Decl) → d ≡ shapes.Simple kind ns →
     length (variables (decls (d ∷ ds))) ≡ length ns + length (variables (decls ds))
 variables_more d kind ns ds is =
@@ -55,7 +55,7 @@ variables_same d ds other =
 procedure_is : (h : Heading) (s : Box Stmt Global) → decl (shapes.Procedure h s) ≡ tree.procedure h (stmt s.value)
 procedure_is h s = search (rules, the_lemmas)
 
--- a declaration of a procedure, and those behind it
+-- a declaration of a procedure, and those after it
 pub procedures_more : (d : Decl) (h : Heading) (s : Box Stmt Global) (ds : List Decl) → d ≡ shapes.Procedure h s → procedures (decls (d ∷ ds)) ≡ h.name ∷ procedures (decls ds)
 procedures_more d h s ds is = ap (λ (x : PDecl). procedures (tree.decls x (decls ds))) (ap decl is ∙ procedure_is h s)
 

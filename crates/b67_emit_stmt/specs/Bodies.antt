@@ -66,7 +66,7 @@ decls_syllables (tree.decls d ds) = decls_syllables ds
 
 -- ---- what a block begins with
 
--- the cells, and behind them the arrays
+-- the cells, and after them the arrays
 abbrev pub BeginAt : Place → List Format → List Placed → ℕ → ℕ → PDecls → ℕ → ℕ → Type 0
 BeginAt sc formats ps level many ds f t =
     (b : ℕ) × CellsAt sc formats ps level many (control_segments sc.scopes ds) f b × DeclsAt sc formats ps level ds b t
@@ -82,7 +82,7 @@ EmitsBegin s level before after many ds =
 
 -- ---- a block up to its end
 
--- the cells, the arrays, and the statements, whose exits go to the place behind them
+-- the cells, the arrays, and the statements, whose exits go to the place after them
 abbrev pub InsideAt : Place → List Format → List Placed → ℕ → ℕ → PDecls → PStmts → ℕ → ℕ → Type 0
 InsideAt sc formats ps level many ds ss f e =
     (b : ℕ) × (d : ℕ) × CellsAt sc formats ps level many (control_segments sc.scopes ds) f b × DeclsAt sc formats ps level ds b d
@@ -133,7 +133,7 @@ EmitsInner s before after ds ss =
 
 -- ---- a text
 
--- the index of the result's cell, where there is a result: it lies behind the frame's two words and so many parameters
+-- the index of the result's cell, where there is a result: it lies after the frame's two words and so many parameters
 abbrev pub result_index : Option Kind → ℕ → Option ℕ
 result_index None parameters = None
 result_index (Some kind) parameters = Some (2 + parameters)

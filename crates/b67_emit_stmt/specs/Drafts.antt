@@ -41,7 +41,7 @@ pub record IsReady (s : Known) (d : Draft) (syllables : ℕ) : Type 0 where
   pub few : HasFew d
   pub room : size d.out.operators + syllables ≤ MOST_SEGMENT_SYLLABLES
 
--- At most so many syllables were added. The claim holds wherever they are kept, the exits go to that target behind them, and the formats
+-- At most so many syllables were added. The claim holds wherever they are kept, the exits go to that target after them, and the formats
 -- are the first of these. If the formats could be listed before, they can be now.
 pub record Emits (most : ℕ) (before after : Draft) (claim : List Format → List Placed → ℕ → Type 0) : Type 0 where
   pub code :

@@ -38,14 +38,14 @@ EmitsStmts scopes before after ss =
     Emits (stmts_syllables ss) before after
     (λ formats qs target. StmtsAt sc formats qs (level_set before.out) ss (size before.out.operators) (size after.out.operators) target)
 
--- the table of CASE, and the statements behind it
+-- the table of CASE, and the statements after it
 abbrev pub EmitsCases : Known → Draft → Draft → PStmts → Type 0
 EmitsCases scopes before after ss =
     (sc : Place) → StmtsFit sc scopes (level_set before.out) ss →
     Emits (stmts_syllables ss) before after
     (λ formats qs target. CasesAt sc formats qs (level_set before.out) ss (size before.out.operators) target)
 
--- the code of a statement whose exits go to the place behind it
+-- the code of a statement whose exits go to the place after it
 abbrev pub EmitsBody : Known → Draft → Draft → PStmt → Type 0
 EmitsBody scopes before after s =
     (sc : Place) → StmtFits sc scopes (level_set before.out) s →

@@ -1,4 +1,4 @@
--- The texts of a program: that of its outer block, and behind it those of its procedures in the order in which they stand. Each has a
+-- The texts of a program: that of its outer block, and after it those of its procedures in the order in which they stand. Each has a
 -- segment of its own.
 use Rattle.std.specs.Prelude.{ℕ, ◌+◌, ◌≤◌, List, [], ◌∷◌, ◌++◌, map, length, Option, None}
 use Rattle.algol_tree.specs.declared.token.Spot.{Spot}

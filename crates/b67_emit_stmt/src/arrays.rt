@@ -81,7 +81,7 @@ impl<'a, E: ExprEmitter> StmtEmitter<'a, E> {
         Ok(())
     }
 
-    /// What a block begins with: a cell of 0 for each of so many, those of the procedures that are declared, and behind them those of
+    /// What a block begins with: a cell of 0 for each of so many, those of the procedures that are declared, and after them those of
     /// the arrays.
     pub(crate) fn begin(&self, many: usize, ds: &[Decl], to: &mut Draft) -> Result<(), AllocError>
         requires level { IsAt self.now.level to.old }

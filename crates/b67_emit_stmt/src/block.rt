@@ -18,7 +18,7 @@ use std::alloc::AllocError;
 
 impl<'a, E: ExprEmitter> StmtEmitter<'a, E> {
     /// The code of a block up to its end, at the level that is set: what it begins with, and its statements, whose exits go to the place
-    /// behind them.
+    /// after them.
     #[cycle(statements)]
     pub(crate) fn inside(
         &self,

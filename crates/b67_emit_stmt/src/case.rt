@@ -28,7 +28,7 @@ use std::alloc::AllocError;
 /// The syllables of a branch, and so of an entry of the table.
 const ENTRY: u16 = 3;
 
-/// The syllables of the table's place as a literal and of ENTR behind it.
+/// The syllables of the table's place as a literal and of ENTR after it.
 const TO_TABLE: u16 = 4;
 
 /// A branch for each of so many statements, to be aimed when the statement begins.
@@ -46,7 +46,7 @@ fn append_entries(many: usize, out: &mut Builder) -> Result<(), AllocError>
 }
 
 impl<'a, E: ExprEmitter> StmtEmitter<'a, E> {
-    /// The mark, the reference of SELECT, the number, how many statements there are, the place of their table, and ENTR, behind
+    /// The mark, the reference of SELECT, the number, how many statements there are, the place of their table, and ENTR, after
     /// which the table begins.
     fn select(&self, e: &Expr, many: usize, out: &mut Builder) -> Result<(), AllocError>
         requires set { IsSome out.old.level }
@@ -66,7 +66,7 @@ impl<'a, E: ExprEmitter> StmtEmitter<'a, E> {
         append_plain(out, PlainKind::Entr)
     }
 
-    /// The table of branches, and behind it the statements to which they go.
+    /// The table of branches, and after it the statements to which they go.
     #[cycle(statements)]
     fn cases(&self, ss: &[Stmt], to: &mut Draft) -> Result<(), AllocError>
         requires level { IsAt self.now.level to.old }

@@ -16,7 +16,7 @@ use b67_ops::{BranchKind, PlainKind};
 use std::alloc::AllocError;
 
 impl<'a, E: ExprEmitter> StmtEmitter<'a, E> {
-    /// A body, whose exits go to the place behind it.
+    /// A body, whose exits go to the place after it.
     #[cycle(statements)]
     fn loop_body(&self, b: &Stmt, to: &mut Draft) -> Result<(), AllocError>
         requires level { IsAt self.now.level to.old }

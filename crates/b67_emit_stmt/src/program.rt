@@ -41,7 +41,7 @@ fn parts(body: &Stmt) -> (&[Decl], &[Stmt])
     }
 }
 
-/// The index of the cell of its result, where a procedure with this heading has one: it lies behind the frame's two words and the
+/// The index of the cell of its result, where a procedure with this heading has one: it lies after the frame's two words and the
 /// parameters.
 fn returned_by(heading: &Heading) -> Option<u16>
     requires { length heading.now.params ≤ MOST_BLOCK_CELLS }

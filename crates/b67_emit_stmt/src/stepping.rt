@@ -28,7 +28,7 @@ use b67_ops::{BranchKind, PlainKind};
 use b67_segment::Builder;
 use std::alloc::AllocError;
 
-/// The value of a number, or of one behind a sign.
+/// The value of a number, or of one after a sign.
 fn literal_of(e: &Expr) -> Option<Whole>
     ensures { result ≡ literal_of (expr e.now) }
 {

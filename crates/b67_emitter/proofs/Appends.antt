@@ -122,7 +122,7 @@ branch_exit b n level old kind wide e =
       };
     }
 
--- exits that are put behind others
+-- exits that are put after others
 pub listed_behind : {a b : Built} {es : List ℕ} {P : List Placed → ℕ → Type 0} (xs ys : List ℕ) → ys ≡ xs ++ es → EmittedWithExits a b [] es P →
     EmittedWithExits a b xs ys P
 listed_behind {a} {b} xs ys h e = record {

@@ -99,7 +99,7 @@ module _ (a b c : Built) (P Q : List Placed → ℕ → Type 0) (xs ys zs : List
 
 -- ---- branches that are aimed
 
--- the exits all go to the place behind the code
+-- the exits all go to the place after the code
 module _ (a b c : Built) (P : List Placed → ℕ → Type 0) (xs ys : List ℕ) (e : EmittedWithExits a b xs ys P) (d : Aimed (drop (length xs) ys) b c) where
   exits_are : drop (length xs) ys ≡ e.exits
   exits_are = ap (drop (length xs)) e.added ∙ drop_at xs e.exits (length xs) refl
@@ -121,7 +121,7 @@ module _ (a b c : Built) (P : List Placed → ℕ → Type 0) (xs ys : List ℕ)
     });
   }
 
--- branches of the first code go to the place behind the second
+-- branches of the first code go to the place after the second
 module _ (a b c d : Built) (P Q : List Placed → ℕ → Type 0) (holes xs ys : List ℕ) (e : EmittedWithExits a b [] holes P) (f : EmittedWithExits b c xs ys Q) (g : Aimed holes c d) where
   holes_are : AreExits b.operators holes (size a.operators) (size b.operators)
   holes_are = let A : List ℕ → Type 0 = λ es. AreExits b.operators es (size a.operators) (size b.operators) in subst A (sym e.added) e.are

@@ -9,7 +9,7 @@ use Rattle.b67_ops.proofs.Laws.{length-spelling}
 use Rattle.b67_segment.specs.Operators.{Placed, StandsAmong}
 use Rattle.b67_templates.specs.Emitting.{is_among, AreExits}
 
--- the place after an operator lies behind it
+-- the place after an operator lies after it
 pub next-behind : (ps : List Placed) (at level next : ℕ) (op : Operator) → StandsAmong ps at level op next → at < next
 next-behind ps at level next op s = omega (arith, s.next_is, length-spelling at level op)
 
@@ -32,7 +32,7 @@ pub is_among-append : (xs ys : List ℕ) (at : ℕ) → is_among (xs ++ ys) at �
 is_among-append [] ys at = refl
 is_among-append (x ∷ xs) ys at = ap (λ b. nat_eq x at || b) (is_among-append xs ys at) ∙ or-assoc (nat_eq x at) (is_among xs at) (is_among ys at)
 
--- branches from one place to another are none before and none behind
+-- branches from one place to another are none before and none after
 pub none_before : (ps : List Placed) (es : List ℕ) (from to at : ℕ) → AreExits ps es from to → at < from → is_among es at ≡ false
 none_before ps [] from to at h lo = refl
 none_before ps (e ∷ es) from to at ((level, kind, old, next, low, high, s), h) lo =

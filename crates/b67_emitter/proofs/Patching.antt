@@ -105,7 +105,7 @@ module _ (ps qs : List Placed) (done : List ℕ) (x target from to : ℕ) (l : L
 
 -- ---- one after another
 
--- Some of the branches go to the place behind the code, and the others are branches still.
+-- Some of the branches go to the place after the code, and the others are branches still.
 pub record Midway (done left : List ℕ) (before now : Built) : Type 0 where
   pub level : now.level ≡ before.level
   pub place : size now.operators ≡ size before.operators

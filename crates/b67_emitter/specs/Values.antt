@@ -73,7 +73,7 @@ lows_found s (Some d) = lows_told (get ghosts.cmp s.lows d.spot)
 abbrev pub lows : Names → Spot → Option arrays.Lows
 lows s spot = lows_found s (declaration_of s.scopes.now spot)
 
--- each cell lies among the first of its frame, as many as a block may have, behind the frame's two words
+-- each cell lies among the first of its frame, as many as a block may have, after the frame's two words
 pub record AreNear (s : Names) : Type 0 where
   pub own : (spot : Spot) (c : Couple) → couples s spot ≡ Some c → c.index < 2 + MOST_BLOCK_CELLS
   pub result : (spot : Spot) (c : Couple) → results s spot ≡ Some c → c.index < 2 + MOST_BLOCK_CELLS
@@ -86,7 +86,7 @@ pub record HasCode (s : Names) (level : ℕ) (e : PExpr) : Type 0 where
   pub kind : Kind
   pub fits : ExprFits scopes (couples s) (results s) (lows s) level kind e
 
--- From the first builder to the second the expression's code was appended, and the value stands at the place behind it.
+-- From the first builder to the second the expression's code was appended, and the value stands at the place after it.
 pub record ValueEmitted (s : Names) (level : ℕ) (before after : Built) (e : PExpr) : Type 0 where
   pub code :
       (scopes : Scopes) (context : Context) (kind : Kind) → ExprFits scopes (couples s) (results s) (lows s) level kind e →
@@ -129,7 +129,7 @@ abbrev pub ElementFits : Names → Scopes → ℕ → Named → Shape → PExprs
 ElementFits s scopes level n shape es =
     ArrayFits scopes (couples s) (results s) (lows s) level n shape × SubscriptsFit scopes (couples s) (results s) (lows s) level shape.lows es
 
--- a name alone that has a cell on the left of an assignment, or an element
+-- a name by itself that has a cell on the left of an assignment, or an element
 pub data HasReference (s : Names) (level : ℕ) (v : PVariable) : Type 0 where
   alone :
       (scopes : Scopes) (kind : Kind) (name : Named) → v ≡ tree.subscripted name tree.none →

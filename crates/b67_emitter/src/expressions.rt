@@ -88,7 +88,7 @@ pub fn lows_of<'f>(names: &'f Names, name: &Named) -> &'f Lows
 /// Each call wants that the tree has code, that cells lie within the range of a couple's index, and that the segment has room for
 /// the greatest length of the code. After an `Err`, which is want of memory, the code may be longer.
 pub trait ExprEmitter {
-    /// The code of an expression: its value stands behind it.
+    /// The code of an expression: its value stands after it.
     fn value(&self, e: &Expr, names: &Names, out: &mut Builder) -> Result<(), AllocError>
         requires set { IsSome out.old.level }
         requires near { AreNear names.now }
@@ -98,7 +98,7 @@ pub trait ExprEmitter {
         ensures level { OnOk result (out.new.level ≡ out.old.level) }
         ensures size { OnOk result (size out.new.operators ≤ size out.old.operators + expr_syllables (expr e.now)) };
 
-    /// The code of a call, with its actuals and its entry: behind it the result lies on top, if the procedure is typed.
+    /// The code of a call, with its actuals and its entry: after it the result lies on top, if the procedure is typed.
     fn call(&self, c: &Call, names: &Names, out: &mut Builder) -> Result<(), AllocError>
         requires set { IsSome out.old.level }
         requires near { AreNear names.now }

@@ -2,7 +2,7 @@
 use Rattle.std.proofs.Common.{◌≡◌, ℕ, zero, suc, ◌+◌, ◌≤◌, List, [], ◌∷◌, ◌++◌, length, refl, ap, ◌∙◌, arith}
 use Rattle.b67_machine.specs.Kept.{counted}
 
--- one more number behind numbers that are those of processes from 1 on
+-- one more number after numbers that are those of processes from 1 on
 pub counts_more : (xs : List ℕ) (x : ℕ) (own : ℕ → ℕ) → ((p : ℕ) → 1 ≤ p → p ≤ length xs → counted xs p ≡ own p) → x ≡ own (length xs + 1) →
     (p : ℕ) → 1 ≤ p → p ≤ length (xs ++ x ∷ []) → counted (xs ++ x ∷ []) p ≡ own p
 counts_more xs x own are is zero one most = absurd (omega (arith, one))

@@ -29,7 +29,7 @@ from_on_none : (p n : ℕ) → from_on (λ q. 0) p n ≡ 0
 from_on_none p zero = refl
 from_on_none p (suc n) = let rest = from_on_none (p + 1) n in omega (arith, rest)
 
--- one process alone has some
+-- one process only has some
 pub has_none : (c p k : ℕ) → (p ≡ k → ⊥) → (if nat_eq p k then c else 0) ≡ 0
 has_none c p k h = ap (λ (b : Bool). if b then c else 0) (ne_eqb p k h)
 

@@ -22,7 +22,7 @@ next_number p k n = by (ℕ_discrete p k)
     by (yes e) = has_some n p k e ∙ sym (has_some n (suc p) (suc k) (ap suc e))
     by (no h) = has_none n p k h ∙ sym (has_none n (suc p) (suc k) (λ e. h (omega (arith, e))))
 
--- the last number behind so many zeros
+-- the last number after so many zeros
 at_end : (k n p : ℕ) → counted (replicate k 0 ++ n ∷ []) (suc p) ≡ (if nat_eq (suc p) (suc k) then n else 0)
 at_end zero n zero = sym (has_some n 1 1 refl)
 at_end zero n (suc p) = sym (has_none n (suc (suc p)) 1 (λ e. omega (arith, e)))

@@ -1,4 +1,4 @@
--- What a write that failed in the middle left behind.
+-- What a write that failed in the middle left after.
 use Rattle.std.specs.Prelude.{ℕ, ◌<◌, List, length, take, Option}
 use Rattle.std.specs.Io.KnownBytes.{Appends}
 use Rattle.b67_io.specs.declared.writing.WriteAll.{WriteAll}

@@ -21,7 +21,7 @@ entries_next (r ∷ runs) (suc i) d less =
     ap (λ (zs : List ℕ). of_run r ++ zs) (entries_next runs i d (omega (arith, less)))
     ∙ sym (append_assoc (of_run r) (entries (take i runs)) (of_run (get_or runs i d)))
 
--- and with those of the runs behind them they are all
+-- and with those of the runs after them they are all
 pub entries_split : (runs : List Run) (i : ℕ) → entries runs ≡ entries (take i runs) ++ entries (drop i runs)
 entries_split [] zero = refl
 entries_split [] (suc i) = refl
@@ -67,7 +67,7 @@ module _ (code : Code) (budget : ℕ) (runs : List Run) (i : ℕ) (d : Run) (les
 
 -- ---- the entries of one run
 
--- so many of them, the next one and those behind it
+-- so many of them, the next one and those after it
 replicate_split : (p n k t : ℕ) → t ≡ n + (k + 1) → replicate t p ≡ replicate n p ++ p ∷ replicate k p
 replicate_split p zero k t e =
     let all : t ≡ suc k = omega (arith, e) in ap (λ (m : ℕ). replicate m p) all

@@ -5,7 +5,7 @@ use Rattle.std.proofs.lemmas.List.{take_all, take_more, append_assoc, append_can
 use Rattle.std.proofs.Math.Seq.{get_or-append_seam}
 use Rattle.b67_parts.specs.Parts.{AreRecords, Ends, Begins, Divides, HasNone, HasNoneBefore, Parts, IsFirstLineFeed}
 
--- what stands behind the end of the record that is the mark stands behind the mark
+-- what stands after the end of the record that is the mark stands after the mark
 pub behind_mark : (mark bytes rest : List ℕ) (r : Option (Bor (List ℕ))) → bytes ≡ mark ++ rest → MatchOption r ((text : List ℕ) → Ends rest text → ⊥) (λ text. Ends rest text.now) →
     MatchOption r ((text : List ℕ) → Begins mark bytes text → ⊥) (λ text. Begins mark bytes text.now)
 behind_mark mark bytes rest None e none = λ text begins. none text (subst (λ bs. Ends bs text) (append_cancel_left mark begins.rest rest (sym begins.are ∙ e)) begins.ends)
@@ -24,7 +24,7 @@ first_at mark bytes text from within records none marked =
     let divides : Divides mark bytes (take from bytes) text = record { rest = drop from bytes; are = sym (take-append-drop from bytes); records = records; marked = marked } in
     (divides, subst (λ n. HasNoneBefore mark bytes n) (sym (length-take-le from bytes within)) none)
 
--- a mark that begins at the place or behind it begins behind it, where none is at it
+-- a mark that begins at the place or after it begins after it, where none is at it
 behind_place : (mark bytes source text : List ℕ) (from : ℕ) → ((text : List ℕ) → Begins mark (drop from bytes) text → ⊥) → Divides mark bytes source text → from ≤ length source →
     from < length source
 behind_place mark bytes source text from none divides reached =
@@ -35,7 +35,7 @@ behind_place mark bytes source text from none divides reached =
     cases : ((length source ≡ from) → ⊥) → from < length source
     cases other = elim (cases_eq (length source) from) [ inl e ↦ absurd (other e) | inr ne ↦ omega arith ]
 
--- an LF stands before each mark behind the place
+-- an LF stands before each mark after the place
 record FeedBefore (bytes source : List ℕ) (from : ℕ) : Type 0 where
   pub place : ℕ
   pub size : length source ≡ from + (place + 1)
@@ -74,7 +74,7 @@ feed_of : (mark bytes source text : List ℕ) (from : ℕ) → HasNoneBefore mar
 feed_of mark bytes source text from before none divides =
     feed_before mark bytes source text from divides divides.records (behind_place mark bytes source text from none divides (before source text divides))
 
--- there is no mark, where none is at the place and no LF behind it
+-- there is no mark, where none is at the place and no LF after it
 pub nowhere : (mark bytes : List ℕ) (from : ℕ) → HasNoneBefore mark bytes from → NoneAt mark bytes from →
     ((k : ℕ) → k < length (drop from bytes) → get_or (drop from bytes) k 0 ≢ 10) → HasNone mark bytes
 nowhere mark bytes from before none no_feed = λ source text divides.
@@ -89,7 +89,7 @@ later mark bytes from place before none first = λ source text divides.
     let reached : place ≤ feed.place = elim (cases_lt feed.place place) [ inl less ↦ absurd (first.none feed.place less feed.is) | inr more ↦ more ] in
     omega arith
 
--- the next record begins behind the LF
+-- the next record begins after the LF
 pub next_records : (bytes : List ℕ) (from place : ℕ) → from ≤ length bytes → IsFirstLineFeed (drop from bytes) place → (from + (place + 1) ≤ length bytes) × AreRecords (take (from + (place + 1)) bytes)
 next_records bytes from place within first =
     let dropped = length-drop from bytes in

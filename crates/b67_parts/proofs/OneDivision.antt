@@ -10,7 +10,7 @@ apart text later e = differ (get_or (10 ∷ text) 0 0) (get_or (13 ∷ later) 0 
     differ : {B : Type 0} (a b : ℕ) → a ≡ 10 → b ≡ 13 → a ≡ b → B
     differ a b p q same = absurd (omega arith)
 
--- what stands behind the end of a record is determined
+-- what stands after the end of a record is determined
 same_end : (bytes text later : List ℕ) → Ends bytes text → Ends bytes later → text ≡ later
 same_end bytes text later (by_line_feed e) (by_line_feed f) = let both = sym e ∙ f in cc
 same_end bytes text later (by_line_feed e) (by_return f) = apart text (10 ∷ later) (sym e ∙ f)
@@ -27,7 +27,7 @@ same_text mark bytes text later one other =
     let rest = append_cancel_left mark other.rest one.rest (sym other.are ∙ one.are) in
     same_end one.rest text later one.ends (subst (λ bs. Ends bs later) rest other.ends)
 
--- two marks that begin behind equally many bytes
+-- two marks that begin after equally many bytes
 same_divide : (mark bytes source other text later : List ℕ) → Divides mark bytes source text → Divides mark bytes other later → length source ≡ length other →
     (source ≡ other) × (Some text ≡ Some later)
 same_divide mark bytes source other text later one two size =

@@ -1,23 +1,23 @@
--- The two parts of an input: what stands before the first record that is exactly a mark, and what stands behind it.
+-- The two parts of an input: what stands before the first record that is exactly a mark, and what stands after it.
 use Rattle.std.specs.Prelude.{◌≡◌, ◌≢◌, ◌⊎◌, ℕ, ◌<◌, ◌≤◌, slice_index, List, [], ◌∷◌, ◌++◌, length, Option, Some, None}
 
--- a record can begin behind these bytes: they are none, or the last of them is an LF
+-- a record can begin after these bytes: they are none, or the last of them is an LF
 abbrev pub AreRecords : List ℕ → Type 0
 AreRecords bytes = (bytes ≡ []) ⊎ ((before : List ℕ) × (bytes ≡ before ++ 10 ∷ []))
 
--- a record ends where these bytes begin, and the text is behind its end: an LF ends it, or a CR and an LF, or the end of the input
+-- a record ends where these bytes begin, and the text is after its end: an LF ends it, or a CR and an LF, or the end of the input
 pub data Ends (bytes text : List ℕ) : Type 0 where
   by_line_feed : bytes ≡ 10 ∷ text → Ends bytes text
   by_return : bytes ≡ 13 ∷ 10 ∷ text → Ends bytes text
   by_end : bytes ≡ [] → text ≡ [] → Ends bytes text
 
--- the first record of these bytes is exactly the mark, and the text is all behind it
+-- the first record of these bytes is exactly the mark, and the text is all after it
 pub record Begins (mark bytes text : List ℕ) : Type 0 where
   pub rest : List ℕ
   pub are : bytes ≡ mark ++ rest
   pub ends : Ends rest text
 
--- behind the source stands a record that is exactly the mark, and the text is all behind it
+-- after the source stands a record that is exactly the mark, and the text is all after it
 pub record Divides (mark bytes source text : List ℕ) : Type 0 where
   pub rest : List ℕ
   pub are : bytes ≡ source ++ rest
@@ -32,13 +32,13 @@ HasNone mark bytes = (source text : List ℕ) → Divides mark bytes source text
 abbrev pub HasNoneBefore : List ℕ → List ℕ → ℕ → Type 0
 HasNoneBefore mark bytes count = (source text : List ℕ) → Divides mark bytes source text → count ≤ length source
 
--- The source is what stands before the first record that is exactly the mark, and the text is all behind that. Without such
+-- The source is what stands before the first record that is exactly the mark, and the text is all after that. Without such
 -- a record the source is the whole, and there is no text.
 abbrev pub Parts : List ℕ → List ℕ → List ℕ → Option (List ℕ) → Type 0
 Parts mark bytes source (Some text) = Divides mark bytes source text × HasNoneBefore mark bytes (length source)
 Parts mark bytes source None = (source ≡ bytes) × HasNone mark bytes
 
--- the first LF stands behind so many bytes
+-- the first LF stands after so many bytes
 pub record IsFirstLineFeed (bytes : List ℕ) (place : ℕ) : Type 0 where
   pub within : place < length bytes
   pub is : slice_index bytes place ≡ 10

@@ -1,4 +1,4 @@
-//! The parts of an input: a source, a record that is exactly a mark, and the text behind it.
+//! The parts of an input: a source, a record that is exactly a mark, and the text after it.
 //!
 //! A record ends with an LF, or with a CR and an LF, and the last one may end with the input. A mark holds neither.
 #![tactic(auto)]
@@ -9,13 +9,13 @@ ghost use Rattle.b67_parts.specs.Parts.{Begins, Ends, IsFirstLineFeed, Parts};
 /// The most bytes of an input that has two parts.
 pub const MOST_INPUT_BYTES: usize = 16_777_216;
 
-/// Law: an input has one division at a mark. What stands before the mark and behind it are determined.
+/// Law: an input has one division at a mark. What stands before the mark and after it are determined.
 pub fn inputs_have_one_division()
     ensures { (mark bytes source other : List ℕ) (text later : Option (List ℕ)) → Parts mark bytes source text → Parts mark bytes other later → (source ≡ other) × (text ≡ later) }
 {}
 
 /// The source and the schedule text of an input. The source is what stands before the first record that is exactly
-/// `%%SCHEDULE`, and the schedule text is all behind it; without such a record the source is the whole input, and
+/// `%%SCHEDULE`, and the schedule text is all after it; without such a record the source is the whole input, and
 /// there is no schedule text. Takes no memory.
 pub fn parts(bytes: &[u8]) -> (&[u8], Option<&[u8]>)
     ensures { Parts (codes "%%SCHEDULE") bytes.now result.0.now (option_copied result.1) }
@@ -23,7 +23,7 @@ pub fn parts(bytes: &[u8]) -> (&[u8], Option<&[u8]>)
     divided(b"%%SCHEDULE", bytes)
 }
 
-/// What stands before the first record that is exactly the mark, and what stands behind it; the whole, where no record
+/// What stands before the first record that is exactly the mark, and what stands after it; the whole, where no record
 /// is the mark. Takes no memory.
 pub fn divided<'a>(mark: &[u8], bytes: &'a [u8]) -> (&'a [u8], Option<&'a [u8]>)
     ensures { Parts mark.now bytes.now result.0.now (option_copied result.1) }
@@ -41,7 +41,7 @@ pub fn divided<'a>(mark: &[u8], bytes: &'a [u8]) -> (&'a [u8], Option<&'a [u8]>)
     }
 }
 
-/// What stands behind the first record, if that is exactly the mark.
+/// What stands after the first record, if that is exactly the mark.
 fn behind<'a>(mark: &[u8], bytes: &'a [u8]) -> Option<&'a [u8]>
     ensures { MatchOption result ((text : List ℕ) → Begins mark.now bytes.now text → ⊥) (λ text. Begins mark.now bytes.now text.now) }
 {
@@ -51,7 +51,7 @@ fn behind<'a>(mark: &[u8], bytes: &'a [u8]) -> Option<&'a [u8]>
     }
 }
 
-/// What stands behind the end of a record, if the bytes begin with it or are none.
+/// What stands after the end of a record, if the bytes begin with it or are none.
 fn behind_end(bytes: &[u8]) -> Option<&[u8]>
     ensures { MatchOption result ((text : List ℕ) → Ends bytes.now text → ⊥) (λ text. Ends bytes.now text.now) }
 {

@@ -106,7 +106,7 @@ end_apart part other a b p q e =
     sym (append_assoc (end_words p.end) (line_end ∷ []) a) ∙ ap (λ t. t ++ a) (sym p.text_is) ∙ e ∙ ap (λ t. t ++ b) q.text_is ∙ append_assoc (end_words q.end) (line_end ∷ []) b in
     p.text_is ∙ ap line_text (feeds_alike (end_words p.end) (end_words q.end) a b (end_no_feed p.end p.is_end) (end_no_feed q.end q.is_end) joined) ∙ sym q.text_is
 
--- the parts, each with all behind it
+-- the parts, each with all after it
 abbrev pub listing_word : List ℕ
 listing_word = codes "LISTING "
 
@@ -501,7 +501,7 @@ parts_alike First first second other rest apart p q e =
     let same : first ≡ other = apart first other second rest p q e in
     record { firsts = same; seconds = append_cancel_left other second rest (ap (λ f. f ++ second) (sym same) ∙ e) }
 
--- ends that read alike are one: the letters behind END tell their forms apart
+-- ends that read alike are one: the letters after END tell their forms apart
 abbrev form_at : ℕ → ℕ → ℕ
 form_at x y = cond (x == 83) (cond (y == 84) 1 2) (cond (x == 70) (cond (y == 73) 3 4) (cond (x == 65) 5 (cond (x == 66) 6 7)))
 

@@ -14,7 +14,7 @@ use Rattle.b67_report.specs.Reading.{IsLine, IsEnd}
 abbrev pub up_to : ℕ → Numbers
 up_to most = record { least = 0; most = most; except = None }
 
--- a part of one kind and one of another behind it
+-- a part of one kind and one of another after it
 pub record Joined (First Second : List ℕ → Type 0) (text : List ℕ) : Type 0 where
   pub first : List ℕ
   pub second : List ℕ
@@ -22,7 +22,7 @@ pub record Joined (First Second : List ℕ → Type 0) (text : List ℕ) : Type 
   pub is_second : Second second
   pub text_is : text ≡ first ++ second
 
--- so many parts one behind another, each of the kind of its number, from this number on
+-- so many parts one after another, each of the kind of its number, from this number on
 abbrev pub Many : (ℕ → List ℕ → Type 0) → ℕ → ℕ → List ℕ → Type 0
 Many Is from zero text = text ≡ []
 Many Is from (suc count) text = Joined (Is from) (Many Is (from + 1) count) text

@@ -55,13 +55,13 @@ broken_after front rest most (Usage k Unknown) awaits n = absurd n
 broken_after front rest most (Usage k BadRule) awaits n = absurd n
 broken_after front rest most (Usage k Extra) awaits n = absurd n
 
--- where no number stands behind the words, they break the grammar there
+-- where no number stands after the words, they break the grammar there
 pub number_broken : (front words : List (List ℕ)) (most : ℕ) (bad : BadWords) → Awaits front most → GoOn front words →
     NumberStandsAt words (length front) most (Err bad) → WordsMean words (Err bad)
 number_broken front words most bad awaits (rest, e) n =
     subst (λ ws. WordsMean ws (Err bad)) (sym e) (broken_after front rest most bad awaits (subst (λ ws. NumberStandsAt ws (length front) most (Err bad)) e n))
 
--- the number that stands behind the words, and that they go on with it
+-- the number that stands after the words, and that they go on with it
 pub record ReadNumber (front words : List (List ℕ)) (most n : ℕ) : Type 0 where
   pub word : List ℕ
   pub is : IsNumber most word n
@@ -148,7 +148,7 @@ begin_check_whole words h = begin_whole (codes "check" ∷ []) words Check (star
 pub begin_list_whole : (words : List (List ℕ)) → slice_get words 0 ≡ Some (codes "list") → BeginWhole words 1 commands.List
 begin_list_whole words h = begin_whole (codes "list" ∷ []) words commands.List (starts (codes "list") words h) whole_list
 
--- ---- behind a whole command
+-- ---- after a whole command
 
 extra_after : (front after : List (List ℕ)) (count : ℕ) (meaning : Words) → IsWhole front meaning → length front ≡ count → count < length (front ++ after) →
     WordsMean (front ++ after) (Err (Usage (count + 1) Extra))

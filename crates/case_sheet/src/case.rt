@@ -42,7 +42,7 @@ fn words_in(alloc: Global, text: &str) -> Result<Vec<String>, AllocError> {
     Ok(words)
 }
 
-/// What stands before a sign and what stands behind it, nothing where it is not there.
+/// What stands before a sign and what stands after it, nothing where it is not there.
 fn parted(text: &str, sign: char) -> (&str, &str) {
     match text.split_once(sign) {
         Some(parts) => parts,
@@ -98,7 +98,7 @@ impl Case {
         })
     }
 
-    /// Takes the line behind the input.
+    /// Takes the line after the input.
     pub(crate) fn take_status(&mut self, line: &str) {
         let (status, end) = parted(line, ' ');
         self.status = status.parse().ok();

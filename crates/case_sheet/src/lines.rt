@@ -8,7 +8,7 @@ fn push_digits(bytes: &mut Vec<u8>, number: u32) -> Result<(), AllocError> {
     bytes.extend_from_slice(digits.format(number).as_bytes())
 }
 
-/// Appends what a byte behind `\` stands for.
+/// Appends what a byte after `\` stands for.
 fn push_sign(bytes: &mut Vec<u8>, byte: u8, number: u32) -> Result<(), AllocError> {
     let sign = match byte {
         b'#' => return push_digits(bytes, number),

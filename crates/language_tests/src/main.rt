@@ -4,7 +4,7 @@
 //! The folder that it runs in has three sheets, of which `case_sheet` tells the form.
 //!
 //! In `tokens.sheet` the input is a text; the answer has a line for each token: its line and column, its first byte and the
-//! first behind it, and what it is.
+//! first after it, and what it is.
 //!
 //! In `names.sheet` the input is a source; the answer has a line for each token at whose place a name stands, with the place and
 //! the level of the declaration that it means and the couple of its cell, or an actual or a result that has a cell, with that

@@ -29,7 +29,7 @@ fn push_kind(told: &mut Vec<u8>, kind: &TokenKind) -> Result<(), AllocError> {
     }
 }
 
-/// Appends the line of a token: its spot, its first byte and the first behind it, and what it is.
+/// Appends the line of a token: its spot, its first byte and the first after it, and what it is.
 fn push_token(told: &mut Vec<u8>, token: &Token) -> Result<(), AllocError> {
     push_spot(told, token.spot)?;
     push_number(told, b" ", token.from)?;

@@ -62,7 +62,7 @@ returns-in-Wrong-clause-refused c =
     let codes_are : c.in-Wrong.code ≡ code = cc in
     subst (λ (k : Code). Fails (record_of c.args.card.now) (mode_of c.args.mode) spot k) codes_are (subst (λ (s : Spot). Fails (record_of c.args.card.now) (mode_of c.args.mode) s c.in-Wrong.code) spots fails)
 
--- the byte behind the last column of a card
+-- the byte after the last column of a card
 pub returns-then-card-gt-MOST_RECORD_BYTES-clause-refused :
     goal.returns-then-card-gt-MOST_RECORD_BYTES-clause-refused
 returns-then-card-gt-MOST_RECORD_BYTES-clause-refused c =
@@ -74,6 +74,6 @@ returns-then-card-gt-MOST_RECORD_BYTES-clause-refused c =
     let codes_are : LineTooLong ≡ code = cc in
     subst (λ (k : Code). Fails (record_of c.args.card.now) (mode_of c.args.mode) spot k) codes_are (subst (λ (s : Spot). Fails (record_of c.args.card.now) (mode_of c.args.mode) s LineTooLong) spots fails)
 
--- behind the last column
+-- after the last column
 pub returns-clause-many : goal.returns-clause-many
 returns-clause-many c = omega (arith, c.reading.invariant.many, c.reading.invariant.within, c.columns-columns.ensures.within)

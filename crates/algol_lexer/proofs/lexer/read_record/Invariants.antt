@@ -4,7 +4,7 @@ use Rattle.algol_lexer.specs.Shown.{mode_of}
 use Rattle.algol_lexer.proofs.LexReach.{Reaches}
 use Rattle.algol_lexer.proofs.lexer.read_record.Given as goal
 
--- the tokens of the columns so far stand behind those before
+-- the tokens of the columns so far stand after those before
 abbrev pub invariant-reading : goal.invariant-reading
 invariant-reading l = record {
   reached : Reaches (record_of l.card) (mode_of l.fn.mode) (mode_of l.mode) l.at l.fn.tokens.items l.tokens.items;

@@ -134,7 +134,7 @@ then_part-returns g t c =
     (hole_as Brfl b.out d.out level c.in_ok-otherwise.otherwise q c.in_ok-otherwise.ensures.place c.in_ok-otherwise.ensures.code)
     (omega (arith, c.in_ok-otherwise.ensures.size)) refl refl part out c.aim.ensures refl refl
 
--- ---- a body, whose exits go to the place behind it
+-- ---- a body, whose exits go to the place after it
 
 pub loop_body-aim_exits-requires-clause-branches : goal.loop_body-aim_exits-requires-clause-branches
 loop_body-aim_exits-requires-clause-branches g t c =
