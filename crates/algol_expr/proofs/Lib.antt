@@ -17,3 +17,4 @@ pub mod Lists
 pub mod Lift
 pub mod Public
 mod Places
+mod Arms

@@ -10,8 +10,8 @@ ghost use Rattle.algol_tree.specs.declared.level.Level.TheVariants as levels;
 ghost use Rattle.algol_tree.specs.declared.token.TokenKind.TheVariants as kinds;
 ghost use Rattle.algol_tree.specs.declared.token.Symbol.TheVariants as symbols;
 ghost use Rattle.algol_tree.specs.Tokens.{is_word, is_symbol};
-ghost use Rattle.algol_tree.specs.Due.{part, more_of, behind_name, one, many};
-ghost use Rattle.algol_tree.specs.DueExpr.{list_in};
+ghost use Rattle.algol_tree.specs.Due.{part, more_of, behind_name, one, many, make, word};
+ghost use Rattle.algol_tree.specs.DueExpr.{list_in, chosen};
 ghost use Rattle.algol_tree.specs.Found.{Finds, Extends, Completes, Fails, Lists};
 ghost use Rattle.algol_tree.specs.Plain.{none};
 
@@ -23,7 +23,7 @@ use crate::stop::Stop;
 use crate::take::{
     expect_symbol, expect_word, first_of, is_symbol, is_word, name_in, opened, refused,
 };
-use algol_tree::{Code, Expr, Level, List, Named, Reserved, Symbol, Token};
+use algol_tree::{Code, Expr, Level, List, Named, Reserved, Spot, Symbol, Token};
 use std::alloc::Global;
 
 /// expr = IF expr THEN eqv ELSE expr | eqv
@@ -61,10 +61,27 @@ fn read_choice<'a>(
     let inner = opened(first, rest, depth)?;
     let (condition, rest) = read_expression(alloc, rest, inner)?;
     let rest = expect_word(rest, Reserved::Then)?;
-    let (yes, rest) = read_level(alloc, rest, Level::Eqv, inner)?;
+    let (whole, rest) = read_arms(alloc, condition, first.spot, rest, inner)?;
+    Ok((whole, rest))
+}
+
+/// eqv ELSE expr, behind the IF at that place, this condition and THEN
+#[cycle(expressions)]
+fn read_arms(
+    alloc: Global,
+    condition: Held<Expr>,
+    spot: Spot,
+    tokens: &[Token],
+    depth: u32,
+) -> Result<(Held<Expr>, &[Token]), Stop>
+    requires ended { EndsOnce tokens.now }
+    ensures found { IfOk result (λ r. Lists (part (grammar.level levels.Eqv) depth ∷ word reserved.Else ∷ part expr depth ∷ make (chosen spot) ∷ []) tokens.now (one (plain condition)) (one (plain r.0)) r.1.now) }
+    ensures refused { IfErr result (λ e. Fails (part (grammar.level levels.Eqv) depth ∷ word reserved.Else ∷ part expr depth ∷ make (chosen spot) ∷ []) (one (plain condition) ∷ []) tokens.now e.left e.refusal) }
+{
+    let (yes, rest) = read_level(alloc, tokens, Level::Eqv, depth)?;
     let rest = expect_word(rest, Reserved::Else)?;
-    let (otherwise, rest) = read_expression(alloc, rest, inner)?;
-    Ok((choice(alloc, condition, yes, otherwise, first.spot)?, rest))
+    let (otherwise, rest) = read_expression(alloc, rest, depth)?;
+    Ok((choice(alloc, condition, yes, otherwise, spot)?, rest))
 }
 
 /// A level of binary operators: operand { operator operand }, in a sum with a sign before it or none

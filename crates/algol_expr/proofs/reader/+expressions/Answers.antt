@@ -2,9 +2,14 @@ use Rattle.std.proofs.Common.{[], ◌∷◌, sym, ap, ◌∙◌, refl, arith}
 use Rattle.algol_tree.specs.Plain as plains
 use Rattle.algol_tree.specs.Image.{expr as plain, exprs as plain_list}
 use Rattle.algol_expr.proofs.Lists.{list_begins, list_goes_on, list_fails_item, list_fails_closing, list_done}
-use Rattle.algol_tree.specs.Due.{one}
+use Rattle.algol_tree.specs.Due.{one, part, word, make}
 use Rattle.algol_expr.proofs.Chain.{left_as, turning, no_memory, failing, via, past, making, done, finds_as, fails_as, fails_on, extends_to, extends_on, completes_to, listing, failing_list, completes_done, behind_token, first_shorter, rest_of, rest_cons, rest_first, from_tokens, fails_from}
 use Rattle.algol_expr.proofs.Starts.{if_starts, if_too_deep, expr_is, not_starts, not_too_deep, not_is, rel_starts, relation_on, relation_over, level_starts, sign_starts, more_on, more_over, literal_is, not_end_literal, name_starts, primary_fails, group_starts, group_too_deep, square_starts, round_starts, square_too_deep, round_too_deep, name_alone}
+use Rattle.algol_expr.proofs.Arms.{failing_on, through, started, lists_as}
+use Rattle.algol_tree.specs.Operators.{expr, level}
+use Rattle.algol_tree.specs.declared.level.Level.TheVariants as levels
+use Rattle.algol_tree.specs.declared.token.Reserved.TheVariants as reserved
+use Rattle.algol_tree.specs.DueExpr.{chosen}
 use Rattle.algol_expr.proofs.reader.+expressions.Goals as goal
 
 pub read_choice-returns-in_err-inner-clause-refused : goal.read_choice-returns-in_err-inner-clause-refused
@@ -16,20 +21,26 @@ read_choice-returns-in_err-condition-clause-refused t c = left_as _ _ _ c.from_r
 pub read_choice-returns-in_err-rest-clause-refused : goal.read_choice-returns-in_err-rest-clause-refused
 read_choice-returns-in_err-rest-clause-refused t c = left_as _ _ _ c.from_residual-in_err-rest.ensures.1 (failing (via (if_starts _ _ _ _ c.requires.word c.in_ok-inner.ensures.opens.0 c.in_ok-inner.ensures.opens.1) c.in_ok-condition.ensures.found) c.in_err-rest.ensures.fails)
 
-pub read_choice-returns-in_err-yes-clause-refused : goal.read_choice-returns-in_err-yes-clause-refused
-read_choice-returns-in_err-yes-clause-refused t c = left_as _ _ _ c.from_residual-in_err-yes.ensures.1 (failing (past (via (if_starts _ _ _ _ c.requires.word c.in_ok-inner.ensures.opens.0 c.in_ok-inner.ensures.opens.1) c.in_ok-condition.ensures.found) c.in_ok-rest.ensures.passes) c.in_err-yes.ensures.refused)
-
-pub read_choice-returns-in_err-rest-2-clause-refused : goal.read_choice-returns-in_err-rest-2-clause-refused
-read_choice-returns-in_err-rest-2-clause-refused t c = left_as _ _ _ c.from_residual-in_err-rest-2.ensures.1 (failing (via (past (via (if_starts _ _ _ _ c.requires.word c.in_ok-inner.ensures.opens.0 c.in_ok-inner.ensures.opens.1) c.in_ok-condition.ensures.found) c.in_ok-rest.ensures.passes) c.in_ok-yes.ensures.found) c.in_err-rest-2.ensures.fails)
-
-pub read_choice-returns-in_err-otherwise-clause-refused : goal.read_choice-returns-in_err-otherwise-clause-refused
-read_choice-returns-in_err-otherwise-clause-refused t c = left_as _ _ _ c.from_residual-in_err-otherwise.ensures.1 (failing (past (via (past (via (if_starts _ _ _ _ c.requires.word c.in_ok-inner.ensures.opens.0 c.in_ok-inner.ensures.opens.1) c.in_ok-condition.ensures.found) c.in_ok-rest.ensures.passes) c.in_ok-yes.ensures.found) c.in_ok-rest-2.ensures.passes) c.in_err-otherwise.ensures.refused)
-
-pub read_choice-returns-in_err-choice-clause-refused : goal.read_choice-returns-in_err-choice-clause-refused
-read_choice-returns-in_err-choice-clause-refused t c = no_memory _ _ _ _ _ c.from_residual-in_err-choice.ensures.1 c.in_err-choice.ensures.memory
+pub read_choice-returns-in_err-whole-clause-refused : goal.read_choice-returns-in_err-whole-clause-refused
+read_choice-returns-in_err-whole-clause-refused t c = left_as _ _ _ c.from_residual-in_err-whole.ensures.1 (failing_on (past (via (if_starts _ _ _ _ c.requires.word c.in_ok-inner.ensures.opens.0 c.in_ok-inner.ensures.opens.1) c.in_ok-condition.ensures.found) c.in_ok-rest.ensures.passes) c.in_err-whole.ensures.refused)
 
 pub read_choice-returns-clause-found : goal.read_choice-returns-clause-found
-read_choice-returns-clause-found t c = done (making (via (past (via (past (via (if_starts _ _ _ _ c.requires.word c.in_ok-inner.ensures.opens.0 c.in_ok-inner.ensures.opens.1) c.in_ok-condition.ensures.found) c.in_ok-rest.ensures.passes) c.in_ok-yes.ensures.found) c.in_ok-rest-2.ensures.passes) c.in_ok-otherwise.ensures.found) (λ vs. refl)) (ap one c.in_ok-choice.ensures.built) (rest_cons (rest_of c.in_ok-condition.ensures.found.behind (rest_of c.in_ok-rest.ensures.passes.behind (rest_of c.in_ok-yes.ensures.found.behind (rest_of c.in_ok-rest-2.ensures.passes.behind c.in_ok-otherwise.ensures.found.behind)))))
+read_choice-returns-clause-found t c = done (through (past (via (if_starts _ _ _ _ c.requires.word c.in_ok-inner.ensures.opens.0 c.in_ok-inner.ensures.opens.1) c.in_ok-condition.ensures.found) c.in_ok-rest.ensures.passes) c.in_ok-whole.ensures.found) refl (rest_cons (rest_of c.in_ok-condition.ensures.found.behind (rest_of c.in_ok-rest.ensures.passes.behind c.in_ok-whole.ensures.found.behind)))
+
+pub read_arms-returns-in_err-yes-clause-refused : goal.read_arms-returns-in_err-yes-clause-refused
+read_arms-returns-in_err-yes-clause-refused t c = left_as _ _ _ c.from_residual.ensures.1 (failing (started (part (level levels.Eqv) c.args.depth ∷ word reserved.Else ∷ part expr c.args.depth ∷ make (chosen c.args.spot) ∷ []) (one (plain c.args.condition) ∷ []) _) c.in_err-yes.ensures.refused)
+
+pub read_arms-returns-in_err-rest-clause-refused : goal.read_arms-returns-in_err-rest-clause-refused
+read_arms-returns-in_err-rest-clause-refused t c = left_as _ _ _ c.from_residual-in_err-rest.ensures.1 (failing (via (started (part (level levels.Eqv) c.args.depth ∷ word reserved.Else ∷ part expr c.args.depth ∷ make (chosen c.args.spot) ∷ []) (one (plain c.args.condition) ∷ []) _) c.in_ok-yes.ensures.found) c.in_err-rest.ensures.fails)
+
+pub read_arms-returns-in_err-otherwise-clause-refused : goal.read_arms-returns-in_err-otherwise-clause-refused
+read_arms-returns-in_err-otherwise-clause-refused t c = left_as _ _ _ c.from_residual-in_err-otherwise.ensures.1 (failing (past (via (started (part (level levels.Eqv) c.args.depth ∷ word reserved.Else ∷ part expr c.args.depth ∷ make (chosen c.args.spot) ∷ []) (one (plain c.args.condition) ∷ []) _) c.in_ok-yes.ensures.found) c.in_ok-rest.ensures.passes) c.in_err-otherwise.ensures.refused)
+
+pub read_arms-returns-in_err-choice-clause-refused : goal.read_arms-returns-in_err-choice-clause-refused
+read_arms-returns-in_err-choice-clause-refused t c = no_memory _ _ _ _ _ c.from_residual-in_err-choice.ensures.1 c.in_err-choice.ensures.memory
+
+pub read_arms-returns-clause-found : goal.read_arms-returns-clause-found
+read_arms-returns-clause-found t c = lists_as (making (via (past (via (started (part (level levels.Eqv) c.args.depth ∷ word reserved.Else ∷ part expr c.args.depth ∷ make (chosen c.args.spot) ∷ []) (one (plain c.args.condition) ∷ []) _) c.in_ok-yes.ensures.found) c.in_ok-rest.ensures.passes) c.in_ok-otherwise.ensures.found) (λ vs. refl)) (ap one c.in_ok-choice.ensures.built) (rest_of c.in_ok-yes.ensures.found.behind (rest_of c.in_ok-rest.ensures.passes.behind c.in_ok-otherwise.ensures.found.behind))
 
 pub read_expression-returns-else-is_word-clause-found : goal.read_expression-returns-else-is_word-clause-found
 read_expression-returns-else-is_word-clause-found t c = finds_as c.read_level.result (λ x. one (plain x.0)) (λ x. x.1.now) (expr_is _ _ _ _ c.first_of.ensures (sym c.is_word.ensures ∙ c.if-is_word.false)) c.read_level.ensures.found

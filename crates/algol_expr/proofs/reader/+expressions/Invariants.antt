@@ -2,6 +2,9 @@ use Rattle.std.proofs.Common.{◌+◌, ◌*◌, length}
 use Rattle.algol_expr.proofs.Lists.{GoesOn, rank, operand_rank}
 use Rattle.algol_expr.proofs.reader.+expressions.Given as goal
 
+abbrev pub decreases-read_arms : goal.decreases-read_arms
+decreases-read_arms l = 32 * length l.tokens.now + 31
+
 abbrev pub decreases-read_behind_name : goal.decreases-read_behind_name
 decreases-read_behind_name l = 32 * length l.tokens.now + 31
 
