@@ -1,6 +1,5 @@
 -- The blocks of procedures, found before their declarations are gone through.
-use Rattle.std.proofs.Common.{rules, arith, ◌≡◌, ℕ, ◌+◌, ◌-◌, ◌<◌, ◌≤◌, Bool, true, false, cond, List, [], ◌∷◌, ◌++◌, length, drop, get_or, reverse, Option, Some, None, refl, ap, sym, ◌∙◌, subst, drop-cons, suc}
-use Rattle.std.proofs.lemmas.List.{reverse-append}
+use Rattle.std.proofs.Common.{rules, arith, ◌≡◌, ℕ, ◌+◌, ◌-◌, ◌<◌, ◌≤◌, Bool, true, false, cond, List, ◌∷◌, length, drop, get_or, reverse, Option, Some, None, refl, ap, sym, ◌∙◌, drop-cons, suc}
 use Rattle.std.specs.Prelude.{if◌then◌else◌}
 use Rattle.std.specs.Borrow.{Bor}
 use Rattle.std.specs.BTreeMap.{BTreeMap}
@@ -36,9 +35,6 @@ decl_of_forward d h e = ap decl e ∙ of_forward h
 abbrev pub Bodies : Type 0
 Bodies = BTreeMap (Bor (List ℕ)) ℕ
 
-pub knows_none : (blocks : List Block) (bodies : Bodies) → ((q : List ℕ) → under bodies q ≡ None) → Knows blocks bodies tree.no_decls
-knows_none blocks bodies e = record { number = λ q. e q }
-
 found : (blocks : List Block) (b : Bool) (h : Heading) (o : Option Heading) →
     cond b (Some (number_at blocks h.name.spot)) (numbered blocks o) ≡ numbered blocks (if b then Some h else o)
 found blocks true h o = refl
@@ -57,15 +53,6 @@ knows_procedure blocks old new d h s name number later e n m p k =
           ∙ found blocks (same_name h.name.name q) h (body_of q later)
           ∙ ap (λ z. numbered blocks (body_of q (tree.decls z later))) (sym e);
     }
-
-pub knows_forward : (blocks : List Block) (bodies : Bodies) (d : PDecl) (h : Heading) (later : PDecls) → d ≡ tree.forward h → Knows blocks bodies later →
-    Knows blocks bodies (tree.decls d later)
-knows_forward blocks bodies d h later e k =
-    record { number = λ q. k.number q ∙ ap (λ z. numbered blocks (body_of q (tree.decls z later))) (sym e) }
-
-pub ahead_procedure : (blocks : List Block) (d : PDecl) (h : Heading) (s : PStmt) (number : ℕ) (later : PDecls) → d ≡ tree.procedure h s →
-    number ≡ number_at blocks h.name.spot → number ≡ number_ahead blocks d later
-ahead_procedure blocks d h s number later e m = m ∙ ap (λ z. number_ahead blocks z later) (sym e)
 
 chosen : (blocks : List Block) (h : Heading) (o : Option Heading) (r : Option ℕ) → r ≡ numbered blocks o → r ≡ None → number_at blocks h.name.spot ≡ number_at blocks (heading_or h o).name.spot
 chosen blocks h None r e n = refl
@@ -106,33 +93,3 @@ cut_back ds at d e low high same =
 pub record Ahead (blocks : List Block) (found : List ℕ) (bodies : Bodies) (ds : PDecls) : Type 0 where
   pub numbers : reverse found ≡ numbers_ahead blocks ds
   pub knows : Knows blocks bodies ds
-
-pub ahead_self : (blocks : List Block) (bodies : Bodies) (ds : List Decl) → ((q : List ℕ) → under bodies q ≡ None) → Ahead blocks [] bodies (decls (drop (length ds) ds))
-ahead_self blocks bodies ds e =
-    let P : List Decl → Type 0 = λ z. Ahead blocks [] bodies (decls z) in
-    subst P (sym (all_gone ds)) (record { numbers = refl; knows = knows_none blocks bodies e })
-  where
-    all_gone : (ds : List Decl) → drop (length ds) ds ≡ []
-    all_gone [] = refl
-    all_gone (x ∷ xs) = all_gone xs
-
-pub ahead_back : (blocks : List Block) (numbers : List ℕ) (old new : Bodies) (ds : List Decl) (at : ℕ) (d e : Decl) (number : ℕ) → 0 < at → at ≤ length ds →
-    d ≡ get_or ds (at - 1) e → Ahead blocks numbers old (decls (drop at ds)) →
-    ((later : PDecls) → Knows blocks old later → number ≡ number_ahead blocks (decl d) later) →
-    ((later : PDecls) → Knows blocks old later → Knows blocks new (tree.decls (decl d) later)) →
-    Ahead blocks (numbers ++ number ∷ []) new (decls (drop (at - 1) ds))
-ahead_back blocks numbers old new ds at d e number low high same a n k =
-    let P : List Decl → Type 0 = λ z. Ahead blocks (numbers ++ number ∷ []) new (decls z) in
-    subst P (sym (cut_back ds at d e low high same))
-    (record {
-      numbers =
-          reverse-append numbers (number ∷ []) ∙ ap (λ z. z ∷ reverse numbers) (n (decls (drop at ds)) a.knows)
-          ∙ ap (λ z. number_ahead blocks (decl d) (decls (drop at ds)) ∷ z) a.numbers;
-      knows = k (decls (drop at ds)) a.knows;
-    })
-
-pub ahead_all : (blocks : List Block) (numbers : List ℕ) (bodies : Bodies) (ds : List Decl) (at : ℕ) → at ≤ 0 → Ahead blocks numbers bodies (decls (drop at ds)) →
-    reverse numbers ≡ numbers_ahead blocks (decls ds)
-ahead_all blocks numbers bodies ds at e a =
-    let z : at ≡ 0 = omega (arith, e) in
-    let P : ℕ → Type 0 = λ n. Ahead blocks numbers bodies (decls (drop n ds)) in (subst P z a).numbers

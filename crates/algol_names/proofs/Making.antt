@@ -125,10 +125,6 @@ names_all k m s c ns at h v =
 abbrev pub given : Heading → List Named → Heading
 given h ns = record h { params = ns }
 
-pub parameters_none : (k : Around) (h : Heading) (ns : List Named) (i : ℕ) → length ns ≤ i → Makes k k (parameters_made (given h (drop i ns)))
-parameters_none k h ns i e =
-    makes_as k k (λ a. []) (parameters_made (given h (drop i ns))) (λ a. ap (λ z. parameters_made (given h z) a) (sym (dropped ns i e))) (makes_none k)
-
 pub parameters_back : (k m w : Around) (h : Heading) (ns : List Named) (at : ℕ) (n : Named) (bytes : List ℕ) (s : Sort) → 0 < at → at ≤ length ns →
     bytes ≡ (get_or ns (at - 1) n).name → sort s ≡ sort_in h.specs (is_named_in h.values bytes) bytes → Makes k m (parameters_made (given h (drop at ns))) →
     Declares m w bytes s → Makes k w (parameters_made (given h (drop (at - 1) ns)))

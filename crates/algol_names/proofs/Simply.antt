@@ -17,7 +17,7 @@ use Rattle.algol_tree.specs.Surroundings.{Surroundings}
 use Rattle.algol_rest.specs.declared.scope.Use.{Use}
 use Rattle.algol_names.specs.declared.known.Seen.TheVariants as seens
 use Rattle.algol_names.specs.declared.known.Around.{Around}
-use Rattle.algol_names.specs.Seeing.{Adds, expr_uses, list_uses, stmt_uses, task_uses, for_uses}
+use Rattle.algol_names.specs.Seeing.{Adds, expr_uses, list_uses, stmt_uses, task_uses}
 use Rattle.algol_names.proofs.Walking.{adds_then, adds_as, variable_is, call_is}
 use Rattle.algol_names.proofs.Stating.{assign_uses, called_uses, go_to_uses, event_uses, write_uses, process_uses}
 
@@ -76,9 +76,3 @@ module _ (k : Around) (blocks : List Block) (begin : Begin) (listed : Bool) wher
       One k vs ws (list_uses es) → One k us ws (stmt_uses blocks (tree.write n spot phrases es) begin listed)
   write_adds us vs ws n spot phrases es f g =
       both us vs ws (λ a. scoping.used a n) (list_uses es) (tree.write n spot phrases es) (write_uses blocks n spot phrases es begin listed) f g
-
-pub for_adds : (k : Around) (us vs ws xs ys : List Use) (v : Named) (x s l : PExpr) → One k us vs (λ a. scoping.used a v) → One k vs ws (expr_uses x) →
-    One k ws xs (expr_uses s) → One k xs ys (expr_uses l) → One k us ys (for_uses v x s l)
-for_adds k us vs ws xs ys v x s l f g h i =
-    adds_then k seens.All us vs ys (λ a. scoping.used a v) (λ a. expr_uses x a ++ (expr_uses s a ++ expr_uses l a)) f
-    (adds_then k seens.All vs ws ys (expr_uses x) (λ a. expr_uses s a ++ expr_uses l a) g (adds_then k seens.All ws xs ys (expr_uses s) (expr_uses l) h i))

@@ -1,6 +1,5 @@
 -- What a heading says of its parameters, found name by name.
-use Rattle.std.proofs.Common.{◌≡◌, ℕ, ◌+◌, ◌-◌, ◌<◌, ◌≤◌, Bool, true, false, cond, List, [], ◌∷◌, ◌++◌, map, length, drop, get_or, Option, Some, refl, ap, sym, ◌∙◌, add-one, arith, suc, drop-cons, append_assoc}
-use Rattle.std.proofs.lemmas.List.{map-append}
+use Rattle.std.proofs.Common.{◌≡◌, ℕ, ◌+◌, ◌-◌, ◌<◌, Bool, true, false, cond, List, [], ◌∷◌, length, drop, get_or, Option, Some, refl, ap, sym, ◌∙◌, add-one, arith, suc, drop-cons}
 use Rattle.std.specs.Prelude.{if◌then◌else◌}
 use Rattle.std.specs.Str.{bytes_eq}
 use Rattle.algol_tree.specs.declared.tree.Named.{Named}
@@ -9,11 +8,11 @@ use Rattle.algol_tree.specs.declared.tree.Spec.TheVariants as specs
 use Rattle.algol_tree.specs.declared.tree.Heading.{Heading}
 use Rattle.algol_tree.specs.Names.{names_of_spec}
 use Rattle.algol_tree.specs.Sorts as plain
-use Rattle.algol_tree.specs.Sorts.{is_named_in, sort_in, sort_by, specified_by, parameters_of}
-use Rattle.algol_rest.specs.SeenScope.{sort, parameter}
-use Rattle.algol_rest.specs.declared.scope.Sort.{Sort}
-use Rattle.algol_rest.specs.declared.scope.Sort.TheVariants as sorts
-use Rattle.algol_rest.specs.declared.scope.Parameter.{Parameter}
+use Rattle.algol_tree.specs.Sorts.{is_named_in, sort_in, sort_by, specified_by}
+use Rattle.algol_meaning.specs.SeenScope.{sort}
+use Rattle.algol_meaning.specs.declared.scope.Sort.{Sort}
+use Rattle.algol_meaning.specs.declared.scope.Sort.TheVariants as sorts
+use Rattle.algol_meaning.specs.declared.scope.Parameter.{Parameter}
 use Rattle.algol_names.specs.Specified.{or_variable, valued}
 use Rattle.algol_names.proofs.Tables.{same}
 
@@ -53,30 +52,11 @@ split ss i x h =
     let next : suc i ≡ i + 1 = omega arith in
     drop-cons ss i x h ∙ ap (λ n. get_or ss i x ∷ drop n ss) next
 
-pub specifications-step : (old new : Option Sort) (ss : List Spec) (at : ℕ) (x y : Spec) (q : List ℕ) (s : Sort) → 0 < at → at ≤ length ss → y ≡ get_or ss (at - 1) x →
-    sort s ≡ sort_by y false → or_variable old ≡ sort_in (drop at ss) false q → new ≡ (if is_named_in (names_of_spec y) q then Some s else old) →
-    or_variable new ≡ sort_in (drop (at - 1) ss) false q
-specifications-step old new ss at x y q s low high e t inv k =
-    let i = at - 1 in
-    let next : at ≡ i + 1 = omega (arith, low) in
-    let h : i < length ss = omega (arith, low, high) in
-    let b : Bool = is_named_in (names_of_spec y) q in
-    let cut : drop i ss ≡ y ∷ drop at ss = split ss i x h ∙ ap (λ z. z ∷ drop (i + 1) ss) (sym e) ∙ ap (λ n. y ∷ drop n ss) (sym next) in
-    ap or_variable k ∙ chosen b s old ∙ ap (λ z. if b then z else or_variable old) t ∙ ap (λ z. if b then sort_by y false else z) inv
-    ∙ ap (λ z. if z then sort_by y false else sort_in (drop at ss) false q) (sym (by_names y q))
-    ∙ ap (λ z. sort_in z false q) (sym cut)
-
 -- ---- VALUE
-
-same_sort : (old : Option Sort) (s : Sort) → old ≡ Some s → or_variable old ≡ sort s
-same_sort old s h = ap or_variable h
 
 told : (b : Bool) (old new : Option Sort) → or_variable old ≡ plain.by_name → new ≡ cond b (Some sorts.Variable) old → or_variable new ≡ valued b (or_variable old)
 told true old new h k = ap or_variable k ∙ ap (valued true) (sym h)
 told false old new h k = ap or_variable k
-
-under_name : (at : List ℕ → Option Sort) (name q : List ℕ) (b : Bool) (v : Option Sort) → b ≡ bytes_eq name q → (b ≡ true → name ≡ q) → at name ≡ v → b ≡ true → at q ≡ v
-under_name at name q b v e h k t = ap at (sym (h t)) ∙ k
 
 pub value-given : (at : List ℕ → Option Sort) (new : Option Sort) (name q : List ℕ) → (bytes_eq name q ≡ true → name ≡ q) → at name ≡ Some sorts.ByName →
     new ≡ cond (bytes_eq name q) (Some sorts.Variable) (at q) → or_variable new ≡ valued (bytes_eq name q) (or_variable (at q))
@@ -89,14 +69,6 @@ value-given at new name q h k n = by (bytes_eq name q) h n
 other : (s : plain.Sort) (b : Bool) → plain.is_by_name s ≡ false → s ≡ valued b s
 other s true h = ap (λ z. if z then plain.variable else s) (sym h)
 other s false h = refl
-
-pub value-kept : (at : List ℕ → Option Sort) (name q : List ℕ) → (bytes_eq name q ≡ true → name ≡ q) → plain.is_by_name (or_variable (at name)) ≡ false →
-    or_variable (at q) ≡ valued (bytes_eq name q) (or_variable (at q))
-value-kept at name q h k = by (bytes_eq name q) h
-  where
-    by : (b : Bool) → (b ≡ true → name ≡ q) → or_variable (at q) ≡ valued b (or_variable (at q))
-    by true h = other (or_variable (at q)) true (ap (λ z. plain.is_by_name (or_variable (at z))) (sym (h refl)) ∙ k)
-    by false h = refl
 
 twice : (s : plain.Sort) (b rest : Bool) → valued rest (valued b s) ≡ valued (if b then true else rest) s
 twice s false rest = refl
@@ -140,13 +112,3 @@ valued-in (s ∷ ss) b q =
 
 abbrev pub parameter_in : Heading → Named → plain.Parameter
 parameter_in h n = record { name = n.name; sort = sort_in h.specs (is_named_in h.values n.name) n.name }
-
-pub parameters-step : (h : Heading) (found : List Parameter) (all : List plain.Parameter) (ns : List Named) (i : ℕ) (n : Named) (p : Parameter) → i < length ns →
-    n ≡ get_or ns i n → parameter p ≡ parameter_in h n → map parameter found ++ map (parameter_in h) (drop i ns) ≡ all →
-    map parameter (found ++ p ∷ []) ++ map (parameter_in h) (drop (i + 1) ns) ≡ all
-parameters-step h found all ns i n p lt e k inv =
-    rw add-one
-    (let at : drop i ns ≡ n ∷ drop (suc i) ns = drop-cons ns i n lt ∙ ap (λ z. z ∷ drop (suc i) ns) (sym e) in
-    let rest : List plain.Parameter = map (parameter_in h) (drop (suc i) ns) in
-    ap (λ z. z ++ rest) (map-append parameter found (p ∷ [])) ∙ append_assoc (map parameter found) (parameter p ∷ []) rest
-    ∙ ap (λ z. map parameter found ++ z ∷ rest) k ∙ ap (λ z. map parameter found ++ map (parameter_in h) z) (sym at) ∙ inv)

@@ -1,5 +1,5 @@
 -- The plain trees of blocks.
-use Rattle.std.proofs.Common.{rules, arith, suc, ◌≡◌, ℕ, Bool, true, false, not, List, [], ◌∷◌, ◌++◌, length, None, refl, ap, sym, ◌∙◌, append_assoc}
+use Rattle.std.proofs.Common.{rules, arith, suc, ◌≡◌, ℕ, Bool, true, false, not, List, [], ◌∷◌, length, None, refl, ap, sym, ◌∙◌}
 use Rattle.std.specs.Prelude.{◌==◌}
 use Rattle.algol_tree.specs.declared.token.Spot.{Spot}
 use Rattle.algol_tree.specs.declared.tree.Body as bodies
@@ -8,10 +8,9 @@ use Rattle.algol_tree.specs.declared.tree.Decl.{Decl}
 use Rattle.algol_tree.specs.Plain as tree
 use Rattle.algol_tree.specs.Plain.{PBody}
 use Rattle.algol_tree.specs.Blocks as plain
-use Rattle.algol_tree.specs.Blocks.{Block}
 use Rattle.algol_tree.specs.Sites.{has_decls}
 use Rattle.algol_meaning.specs.SeenTree.{body, decls, stmts}
-use Rattle.algol_names.specs.Blocks.{is_block, block_of_begin, begin_blocks}
+use Rattle.algol_names.specs.Blocks.{is_block, block_of_begin}
 
 pub body_is : (b : Body) → body b ≡ tree.body b.spot (decls b.decls) (stmts b.stmts)
 body_is b = search (rules, bodies.the_lemmas)
@@ -48,30 +47,3 @@ pub stands : (b : Body) → b.spot ≡ plain.spot_of (body b)
 stands b = ap plain.spot_of (sym (body_is b))
 
 pub ruleset tree_laws = (body_is, begun, declared_begin, outermost_begun, stands)
-
--- ---- a BEGIN and the blocks in it
-
-block_begun : (b : PBody) (begin : plain.Begin) (outer : List Spot) → is_block b begin ≡ true →
-    begin_blocks begin b outer ≡ block_of_begin b outer ∷ plain.blocks_in_body b (plain.spot_of b ∷ outer)
-block_begun (tree.body spot tree.no_decls ss) plain.of_statement outer h = absurd (let clash : false ≡ true = h in cc)
-block_begun (tree.body spot (tree.decls d ds) ss) plain.of_statement outer h = refl
-block_begun (tree.body spot ds ss) plain.of_procedure outer h = absurd (let clash : false ≡ true = h in cc)
-
-compound_begun : (b : PBody) (begin : plain.Begin) (outer : List Spot) → is_block b begin ≡ false → begin_blocks begin b outer ≡ plain.blocks_in_body b outer
-compound_begun (tree.body spot tree.no_decls ss) plain.of_statement outer h = refl
-compound_begun (tree.body spot (tree.decls d ds) ss) plain.of_statement outer h = absurd (let clash : true ≡ false = h in cc)
-compound_begun (tree.body spot ds ss) plain.of_procedure outer h = refl
-
--- the block of a BEGIN, and then those in it
-pub block_added : (before with after : List Block) (b : Body) (begin : plain.Begin) (outer within : List Spot) (own : Block) → is_block (body b) begin ≡ true →
-    with ≡ before ++ own ∷ [] → own ≡ block_of_begin (body b) outer → within ≡ b.spot ∷ outer → after ≡ with ++ plain.blocks_in_body (body b) within →
-    after ≡ before ++ begin_blocks begin (body b) outer
-block_added before with after b begin outer within own h w o s e =
-    e ∙ ap (λ z. z ++ plain.blocks_in_body (body b) within) w ∙ append_assoc before (own ∷ []) (plain.blocks_in_body (body b) within)
-    ∙ ap (λ z. before ++ z ∷ plain.blocks_in_body (body b) within) o
-    ∙ ap (λ z. before ++ block_of_begin (body b) outer ∷ plain.blocks_in_body (body b) z) (s ∙ ap (λ p. plain.spot_of p ∷ outer) (sym (body_is b)))
-    ∙ ap (λ z. before ++ z) (sym (block_begun (body b) begin outer h))
-
-pub compound_added : (before after : List Block) (b : Body) (begin : plain.Begin) (outer : List Spot) → is_block (body b) begin ≡ false →
-    after ≡ before ++ plain.blocks_in_body (body b) outer → after ≡ before ++ begin_blocks begin (body b) outer
-compound_added before after b begin outer h e = e ∙ ap (λ z. before ++ z) (sym (compound_begun (body b) begin outer h))

@@ -1,5 +1,5 @@
--- Uses that come after others.
-use Rattle.std.proofs.Common.{rules, ◌≡◌, ℕ, ◌+◌, ◌<◌, Bool, List, [], ◌∷◌, ◌++◌, map, length, drop, get_or, Option, Some, None, refl, ap, sym, ◌∙◌, append_assoc, append-nil, drop-cons, add-one, suc, Result, Ok, Err, OnOk}
+-- Uses that come behind others.
+use Rattle.std.proofs.Common.{rules, ◌≡◌, ◌+◌, Bool, List, [], ◌∷◌, ◌++◌, map, Option, Some, None, refl, ap, sym, ◌∙◌, append_assoc, append-nil, Result, Ok, Err, OnOk}
 use Rattle.std.proofs.lemmas.Grind.{flat_map-append}
 use Rattle.std.specs.List.{flat_map}
 use Rattle.std.specs.declared.boxed.Box.{Box}
@@ -15,21 +15,20 @@ use Rattle.algol_tree.specs.declared.tree.Variable as variables
 use Rattle.algol_tree.specs.declared.tree.Variable.{Variable}
 use Rattle.algol_tree.specs.declared.tree.Call as calls
 use Rattle.algol_tree.specs.declared.tree.Call.{Call}
-use Rattle.algol_tree.specs.declared.tree.Pair.{Pair}
 use Rattle.algol_tree.specs.Plain as tree
 use Rattle.algol_tree.specs.Plain.{PExpr, PExprs}
 use Rattle.algol_tree.specs.Classes.{Formal, Class}
 use Rattle.algol_tree.specs.Classes as classes
-use Rattle.algol_tree.specs.Image.{expr, exprs, pairs, variable, call}
+use Rattle.algol_tree.specs.Image.{expr, exprs, variable, call}
 use Rattle.algol_tree.specs.Scopes as scoping
 use Rattle.algol_tree.specs.Scopes.{uses_at}
 use Rattle.algol_tree.specs.Surroundings.{Surroundings, formals_at}
-use Rattle.algol_tree.specs.Sites.{sites, inside_list, inside_actuals, sites_in_pairs}
-use Rattle.algol_rest.specs.SeenScope.{used}
-use Rattle.algol_rest.specs.declared.scope.Use.{Use}
+use Rattle.algol_tree.specs.Sites.{sites, inside_list, inside_actuals}
+use Rattle.algol_meaning.specs.SeenScope.{used}
+use Rattle.algol_meaning.specs.declared.scope.Use.{Use}
 use Rattle.algol_names.specs.declared.known.Seen.{Seen}
 use Rattle.algol_names.specs.declared.known.Around.{Around}
-use Rattle.algol_names.specs.Seeing.{Sees, Adds, expr_uses, list_uses, pairs_uses}
+use Rattle.algol_names.specs.Seeing.{Sees, Adds, expr_uses, list_uses}
 
 pub on_ok : {E : Type 0} {P Q : Type 0} (r : Result Unit E) → (P → Q) → OnOk r P → OnOk r Q
 on_ok (Ok x) f p = f p
@@ -194,48 +193,11 @@ module _ (k : Around) (seen : Seen) where
 pub record Leads (k : Around) (seen : Seen) (old now : List Use) (all rest : Surroundings → List scoping.Use) : Type 0 where
   pub leads : (a : Surroundings) → Sees k seen a → map used now ++ rest a ≡ map used old ++ all a
 
-pub leads_all : (k : Around) (seen : Seen) (old : List Use) (all : Surroundings → List scoping.Use) → Leads k seen old old all all
-leads_all k seen old all = record { leads = λ a s. refl }
-
 pub leads_end : (k : Around) (seen : Seen) (old now : List Use) (all rest : Surroundings → List scoping.Use) → ((a : Surroundings) → rest a ≡ []) →
     Leads k seen old now all rest → Adds k seen old now all
 leads_end k seen old now all rest e l =
     record { adds = λ a s. sym (append-nil (map used now)) ∙ ap (λ z. map used now ++ z) (sym (e a)) ∙ l.leads a s }
 
-pub leads_step : (k : Around) (seen : Seen) (old now new : List Use) (all f rest next : Surroundings → List scoping.Use) →
-    ((a : Surroundings) → rest a ≡ f a ++ next a) → Leads k seen old now all rest → Adds k seen now new f → Leads k seen old new all next
-leads_step k seen old now new all f rest next e l v =
-    record {
-      leads =
-          λ a s.
-          ap (λ z. z ++ next a) (v.adds a s) ∙ append_assoc (map used now) (f a) (next a) ∙ ap (λ z. map used now ++ z) (sym (e a)) ∙ l.leads a s;
-    }
-
-pub expr_item : (k : Around) (seen : Seen) (old now new : List Use) (all : Surroundings → List scoping.Use) (es : List Expr) (i : ℕ) (e : Expr) → i < length es →
-    e ≡ get_or es i e → Leads k seen old now all (list_uses (exprs (drop i es))) → Adds k seen now new (expr_uses (expr e)) →
-    Leads k seen old new all (list_uses (exprs (drop (i + 1) es)))
-expr_item k seen old now new all es i e h same l v =
-    rw add-one
-    (let cut : drop i es ≡ e ∷ drop (suc i) es = drop-cons es i e h ∙ ap (λ z. z ∷ drop (suc i) es) (sym same) in
-    leads_step k seen old now new all (expr_uses (expr e)) (list_uses (exprs (drop i es))) (list_uses (exprs (drop (suc i) es)))
-    (λ a. ap (λ z. list_uses (exprs z) a) cut ∙ flat_map-append uses_at (sites (expr e) a) (inside_list (exprs (drop (suc i) es)) a)) l v)
-
 pub exprs_end : (k : Around) (seen : Seen) (old now : List Use) (all : Surroundings → List scoping.Use) (es : List Expr) → es ≡ [] →
     Leads k seen old now all (list_uses (exprs es)) → Adds k seen old now all
 exprs_end k seen old now all es e l = leads_end k seen old now all (list_uses (exprs es)) (λ a. ap (λ z. list_uses (exprs z) a) e) l
-
-pub pair_item : (k : Around) (seen : Seen) (old now new : List Use) (all : Surroundings → List scoping.Use) (ps : List Pair) (i : ℕ) (p : Pair) → i < length ps →
-    p ≡ get_or ps i p → Leads k seen old now all (pairs_uses (pairs (drop i ps))) → Adds k seen now new (expr_uses (expr p.high)) →
-    Leads k seen old new all (pairs_uses (pairs (drop (i + 1) ps)))
-pair_item k seen old now new all ps i p h same l v =
-    rw add-one
-    (let cut : drop i ps ≡ p ∷ drop (suc i) ps = drop-cons ps i p h ∙ ap (λ z. z ∷ drop (suc i) ps) (sym same) in
-    leads_step k seen old now new all (expr_uses (expr p.high)) (pairs_uses (pairs (drop i ps))) (pairs_uses (pairs (drop (suc i) ps)))
-    (λ a. ap (λ z. pairs_uses (pairs z) a) cut ∙ pair_cut p (drop (suc i) ps) a) l v)
-  where
-    pair_cut : (p : Pair) (ps : List Pair) (a : Surroundings) → pairs_uses (pairs (p ∷ ps)) a ≡ expr_uses (expr p.high) a ++ pairs_uses (pairs ps) a
-    pair_cut p ps a = flat_map-append uses_at (sites (expr p.high) a) (sites_in_pairs (pairs ps) a)
-
-pub pairs_end : (k : Around) (seen : Seen) (old now : List Use) (all : Surroundings → List scoping.Use) (ps : List Pair) → ps ≡ [] →
-    Leads k seen old now all (pairs_uses (pairs ps)) → Adds k seen old now all
-pairs_end k seen old now all ps e l = leads_end k seen old now all (pairs_uses (pairs ps)) (λ a. ap (λ z. pairs_uses (pairs z) a) e) l

@@ -1,13 +1,14 @@
 //! The blocks of a program, in the order of the text.
 
-ghost use Rattle.std.specs.Prelude.{◌≡◌, ◌∷◌, ◌++◌, map, IfOk, OnOk};
+ghost use Rattle.std.specs.Prelude.{◌≡◌, [], ◌∷◌, ◌++◌, map, IfOk, OnOk};
 ghost use Rattle.algol_tree.specs.Blocks as plain;
 ghost use Rattle.algol_meaning.specs.SeenTree.{stmt, stmts, body, decl, decls, program};
 ghost use Rattle.algol_rest.specs.SeenScope.{block, in_block};
 ghost use Rattle.algol_names.specs.Blocks as seen;
 
 use crate::parameters::parameters_of;
-use algol_rest::{Block, BlockStatements, Owner};
+use algol_meaning::{Block, BlockStatements, Owner};
+use algol_rules::{boxed_stmt, decls_in, is_compound, stmts_in};
 use algol_tree::{Body, Decl, Heading, List, Program, Spot, Stmt};
 use std::alloc::{AllocError, Global};
 
@@ -42,10 +43,7 @@ fn parts_of(s: &Stmt) -> (&[Decl], BlockStatements<'_>)
     ensures stmts { in_block result.1 ≡ plain.stmts_of (stmt s.now) }
 {
     match s {
-        Stmt::Block(b) => (
-            b.decls.items().as_slice(),
-            BlockStatements::All(b.stmts.items().as_slice()),
-        ),
+        Stmt::Block(b) => (decls_in(&b.decls), BlockStatements::All(stmts_in(&b.stmts))),
         _ => (&[], BlockStatements::One(s)),
     }
 }
@@ -83,9 +81,17 @@ fn begin_block<'p>(alloc: Global, b: &'p Body, outer: &[Spot]) -> Result<Block<'
         outer: copied(alloc, outer)?,
         owner: None,
         parameters: List::of(Vec::new(alloc)),
-        decls: b.decls.items().as_slice(),
-        stmts: BlockStatements::All(b.stmts.items().as_slice()),
+        decls: decls_in(&b.decls),
+        stmts: BlockStatements::All(stmts_in(&b.stmts)),
     })
+}
+
+/// One more block.
+fn push<'p>(blocks: &mut Vec<Block<'p>>, own: Block<'p>) -> Result<(), AllocError>
+    ensures { OnOk result (blocks.new.items ≡ blocks.old.items ++ own.entry ∷ []) }
+{
+    blocks.push(own)?;
+    Ok(())
 }
 
 /// Tests that a BEGIN is a block of its own: it has declarations, and is no procedure's.
@@ -95,7 +101,7 @@ pub fn is_block(b: &Body, begin: Begin) -> bool
 {
     match begin {
         Begin::OfProcedure => false,
-        Begin::OfStatement => !b.decls.items().is_empty(),
+        Begin::OfStatement => !is_compound(b),
     }
 }
 
@@ -111,18 +117,30 @@ fn add_in_stmt<'p>(
     ensures { OnOk result (map block blocks.new.items ≡ map block blocks.old.items ++ plain.blocks_of (stmt s.now) (seen.begin begin) outer.now) }
 {
     match s {
-        Stmt::Label(_, s) => add_in_stmt(blocks, alloc, s, Begin::OfStatement, outer),
+        Stmt::Label(_, s) => add_in_stmt(blocks, alloc, boxed_stmt(s), Begin::OfStatement, outer),
         Stmt::Block(b) => add_in_begin(blocks, alloc, b, begin, outer),
-        Stmt::If(_, a, None) => add_in_stmt(blocks, alloc, a, Begin::OfStatement, outer),
+        Stmt::If(_, a, None) => add_in_stmt(
+            blocks,
+            alloc,
+            boxed_stmt(a),
+            Begin::OfStatement,
+            outer,
+        ),
         Stmt::If(_, a, Some(b)) => {
-            add_in_stmt(blocks, alloc, a, Begin::OfStatement, outer)?;
-            add_in_stmt(blocks, alloc, b, Begin::OfStatement, outer)
+            add_in_stmt(blocks, alloc, boxed_stmt(a), Begin::OfStatement, outer)?;
+            add_in_stmt(blocks, alloc, boxed_stmt(b), Begin::OfStatement, outer)
         }
-        Stmt::While(_, b) => add_in_stmt(blocks, alloc, b, Begin::OfStatement, outer),
-        Stmt::Until(b, _) => add_in_stmt(blocks, alloc, b, Begin::OfStatement, outer),
-        Stmt::For(_, _, _, _, b) => add_in_stmt(blocks, alloc, b, Begin::OfStatement, outer),
-        Stmt::Thru(_, b) => add_in_stmt(blocks, alloc, b, Begin::OfStatement, outer),
-        Stmt::Case(_, ss) => add_in_stmts(blocks, alloc, ss.items().as_slice(), outer),
+        Stmt::While(_, b) => add_in_stmt(blocks, alloc, boxed_stmt(b), Begin::OfStatement, outer),
+        Stmt::Until(b, _) => add_in_stmt(blocks, alloc, boxed_stmt(b), Begin::OfStatement, outer),
+        Stmt::For(_, _, _, _, b) => add_in_stmt(
+            blocks,
+            alloc,
+            boxed_stmt(b),
+            Begin::OfStatement,
+            outer,
+        ),
+        Stmt::Thru(_, b) => add_in_stmt(blocks, alloc, boxed_stmt(b), Begin::OfStatement, outer),
+        Stmt::Case(_, ss) => add_in_stmts(blocks, alloc, stmts_in(ss), outer),
         _ => Ok(()),
     }
 }
@@ -172,7 +190,7 @@ fn add_in_begin<'p>(
 {
     if is_block(b, begin) {
         let own = begin_block(alloc, b, outer)?;
-        blocks.push(own)?;
+        push(blocks, own)?;
         let within = with_first(alloc, b.spot, outer)?;
         add_in_body(blocks, alloc, b, within.as_slice())
     } else {
@@ -190,8 +208,8 @@ fn add_in_body<'p>(
 ) -> Result<(), AllocError>
     ensures { OnOk result (map block blocks.new.items ≡ map block blocks.old.items ++ plain.blocks_in_body (body b.now) outer.now) }
 {
-    add_in_decls(blocks, alloc, b.decls.items().as_slice(), outer)?;
-    add_in_stmts(blocks, alloc, b.stmts.items().as_slice(), outer)
+    add_in_decls(blocks, alloc, decls_in(&b.decls), outer)?;
+    add_in_stmts(blocks, alloc, stmts_in(&b.stmts), outer)
 }
 
 /// The blocks in a declaration, after others.
@@ -206,10 +224,11 @@ fn add_in_decl<'p>(
 {
     match d {
         Decl::Procedure(h, s) => {
-            let own = procedure_block(alloc, h, s, outer)?;
-            blocks.push(own)?;
+            let body = boxed_stmt(s);
+            let own = procedure_block(alloc, h, body, outer)?;
+            push(blocks, own)?;
             let within = with_first(alloc, h.name.spot, outer)?;
-            add_in_stmt(blocks, alloc, s, Begin::OfProcedure, within.as_slice())
+            add_in_stmt(blocks, alloc, body, Begin::OfProcedure, within.as_slice())
         }
         _ => Ok(()),
     }
@@ -222,7 +241,7 @@ pub fn blocks_of<'p>(alloc: Global, p: &'p Program) -> Result<Vec<Block<'p>>, Al
 {
     let mut blocks = Vec::new(alloc);
     let outermost = begin_block(alloc, &p.body, &[])?;
-    blocks.push(outermost)?;
+    push(&mut blocks, outermost)?;
     let within = with_first(alloc, p.body.spot, &[])?;
     add_in_body(&mut blocks, alloc, &p.body, within.as_slice())?;
     Ok(blocks)

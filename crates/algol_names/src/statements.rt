@@ -16,7 +16,8 @@ use crate::simple::{
     add_in_write,
 };
 use crate::uses::{add, add_in_expr, add_in_pairs};
-use algol_rest::{Blocks, Use};
+use algol_meaning::{Blocks, Use};
+use algol_rules::{boxed_stmt, decls_in, exprs_in, stmts_in};
 use algol_tree::{Body, Decl, Heading, Stmt};
 use std::alloc::{AllocError, Global};
 
@@ -37,7 +38,14 @@ fn add_in_stmt<'p>(
         Stmt::Empty => Ok(()),
         Stmt::Label(n, s) => {
             add(uses, n, around, Seen::All)?;
-            add_in_stmt(uses, alloc, blocks, s, Begin::OfStatement, around)
+            add_in_stmt(
+                uses,
+                alloc,
+                blocks,
+                boxed_stmt(s),
+                Begin::OfStatement,
+                around,
+            )
         }
         Stmt::Assign(v, e) => add_in_assignment(uses, v, e, around),
         Stmt::Call(c) => add_in_call(uses, c, around),
@@ -45,35 +53,77 @@ fn add_in_stmt<'p>(
         Stmt::Block(b) => add_in_begin(uses, alloc, blocks, b, begin, around),
         Stmt::If(c, a, b) => {
             add_in_expr(uses, c, around, Seen::All)?;
-            add_in_stmt(uses, alloc, blocks, a, Begin::OfStatement, around)?;
+            add_in_stmt(
+                uses,
+                alloc,
+                blocks,
+                boxed_stmt(a),
+                Begin::OfStatement,
+                around,
+            )?;
             match b {
                 None => Ok(()),
-                Some(b) => add_in_stmt(uses, alloc, blocks, b, Begin::OfStatement, around),
+                Some(b) => add_in_stmt(
+                    uses,
+                    alloc,
+                    blocks,
+                    boxed_stmt(b),
+                    Begin::OfStatement,
+                    around,
+                ),
             }
         }
         Stmt::While(c, b) => {
             add_in_expr(uses, c, around, Seen::All)?;
-            add_in_stmt(uses, alloc, blocks, b, Begin::OfStatement, around)
+            add_in_stmt(
+                uses,
+                alloc,
+                blocks,
+                boxed_stmt(b),
+                Begin::OfStatement,
+                around,
+            )
         }
         Stmt::Until(b, c) => {
-            add_in_stmt(uses, alloc, blocks, b, Begin::OfStatement, around)?;
+            add_in_stmt(
+                uses,
+                alloc,
+                blocks,
+                boxed_stmt(b),
+                Begin::OfStatement,
+                around,
+            )?;
             add_in_expr(uses, c, around, Seen::All)
         }
         Stmt::For(v, x, s, l, b) => {
             add_in_for(uses, v, x, s, l, around)?;
-            add_in_stmt(uses, alloc, blocks, b, Begin::OfStatement, around)
+            add_in_stmt(
+                uses,
+                alloc,
+                blocks,
+                boxed_stmt(b),
+                Begin::OfStatement,
+                around,
+            )
         }
         Stmt::Thru(n, b) => {
             add_in_expr(uses, n, around, Seen::All)?;
-            add_in_stmt(uses, alloc, blocks, b, Begin::OfStatement, around)
+            add_in_stmt(
+                uses,
+                alloc,
+                blocks,
+                boxed_stmt(b),
+                Begin::OfStatement,
+                around,
+            )
         }
         Stmt::Case(e, ss) => {
             add_in_expr(uses, e, around, Seen::All)?;
-            add_in_stmts(uses, alloc, blocks, ss.items().as_slice(), around)
+            add_in_stmts(uses, alloc, blocks, stmts_in(ss), around)
         }
         Stmt::Process(c, task) => add_in_process(uses, c, task, around),
         Stmt::Event(_, e) => add_in_event(uses, e, around),
-        Stmt::Write(n, _, _, es) => add_in_write(uses, n, es.items().as_slice(), around),
+        Stmt::Write(n, _, _, es) => add_in_write(uses, n, exprs_in(es), around),
     }
 }
 
@@ -131,8 +181,8 @@ fn add_in_body<'p>(
     ensures kept { OnOk result (Kept around.old around.new) }
 {
     around.open(alloc)?;
-    add_in_decls(uses, alloc, blocks, b.decls.items().as_slice(), around)?;
-    add_in_stmts(uses, alloc, blocks, b.stmts.items().as_slice(), around)?;
+    add_in_decls(uses, alloc, blocks, decls_in(&b.decls), around)?;
+    add_in_stmts(uses, alloc, blocks, stmts_in(&b.stmts), around)?;
     around.close();
     Ok(())
 }
@@ -173,7 +223,7 @@ fn add_in_decl<'p>(
 {
     match d {
         Decl::Arrays(_, _, pairs) => add_in_pairs(uses, pairs.items().as_slice(), around),
-        Decl::Procedure(h, s) => add_in_procedure(uses, alloc, blocks, h, s, around),
+        Decl::Procedure(h, s) => add_in_procedure(uses, alloc, blocks, h, boxed_stmt(s), around),
         Decl::Simple(_, _) => Ok(()),
         Decl::Files(_) => Ok(()),
         Decl::Events(_) => Ok(()),

@@ -9,7 +9,8 @@ ghost use Rattle.algol_names.specs.declared.known.Seen.TheVariants as seens;
 ghost use Rattle.algol_names.specs.Seeing.{Sees, Adds, used_by, expr_uses, list_uses, pairs_uses};
 
 use crate::known::{Around, Seen};
-use algol_rest::{Sort, Use};
+use algol_meaning::{Sort, Use};
+use algol_rules::{boxed_expr, exprs_in};
 use algol_tree::{Expr, Named, Pair};
 use std::alloc::AllocError;
 
@@ -105,25 +106,25 @@ pub fn add_in_expr<'p>(
         Expr::Truth(_, _) => Ok(()),
         Expr::Variable(v) => {
             add(uses, &v.name, around, seen)?;
-            add_in_exprs(uses, v.subs.items().as_slice(), around, seen)
+            add_in_exprs(uses, exprs_in(&v.subs), around, seen)
         }
         Expr::Call(c) => {
             add(uses, &c.name, around, seen)?;
-            add_in_exprs(uses, c.actuals.items().as_slice(), around, seen)
+            add_in_exprs(uses, exprs_in(&c.actuals), around, seen)
         }
         Expr::Happened(n, _) => add(uses, &n.name, around, seen),
-        Expr::Paren(e, _) => add_in_expr(uses, e, around, seen),
-        Expr::Plus(e, _) => add_in_expr(uses, e, around, seen),
-        Expr::Neg(e, _) => add_in_expr(uses, e, around, seen),
-        Expr::Not(e, _) => add_in_expr(uses, e, around, seen),
+        Expr::Paren(e, _) => add_in_expr(uses, boxed_expr(e), around, seen),
+        Expr::Plus(e, _) => add_in_expr(uses, boxed_expr(e), around, seen),
+        Expr::Neg(e, _) => add_in_expr(uses, boxed_expr(e), around, seen),
+        Expr::Not(e, _) => add_in_expr(uses, boxed_expr(e), around, seen),
         Expr::Two(_, x, y) => {
-            add_in_expr(uses, x, around, seen)?;
-            add_in_expr(uses, y, around, seen)
+            add_in_expr(uses, boxed_expr(x), around, seen)?;
+            add_in_expr(uses, boxed_expr(y), around, seen)
         }
         Expr::If(c, x, y, _) => {
-            add_in_expr(uses, c, around, seen)?;
-            add_in_expr(uses, x, around, seen)?;
-            add_in_expr(uses, y, around, seen)
+            add_in_expr(uses, boxed_expr(c), around, seen)?;
+            add_in_expr(uses, boxed_expr(x), around, seen)?;
+            add_in_expr(uses, boxed_expr(y), around, seen)
         }
     }
 }

@@ -25,7 +25,7 @@ add_in_stmt-returns-in_ok-add-in-Label-clause-adds t c =
     on_ok c.add_in_stmt.result
     (λ h.
     label_adds c.args.around.now (blocks_in c.args.blocks.now) (seen.begin c.args.begin) c.args.uses.now.items c.add.new.uses.items
-    c.add_in_stmt.new.uses.items c.args.s.now c.in-Label.n c.in-Label.s c.deref.result.now c.in-Label.is c.deref.ensures
+    c.add_in_stmt.new.uses.items c.args.s.now c.in-Label.n c.in-Label.s c.boxed_stmt.result.now c.in-Label.is c.boxed_stmt.ensures
     c.in_ok-add-in-Label.ensures h)
     c.add_in_stmt.ensures.adds
 
@@ -79,7 +79,7 @@ add_in_stmt-returns-in-Block-clause-adds t c =
 pub add_in_stmt-returns-in-None-clause-adds : goal.add_in_stmt-returns-in-None-clause-adds
 add_in_stmt-returns-in-None-clause-adds t c =
     then_adds c.args.around.now (blocks_in c.args.blocks.now) (seen.begin c.args.begin) c.args.uses.now.items c.add_in_expr.new.uses.items
-    c.add_in_stmt-in-If.new.uses.items c.args.s.now _ _ _ c.deref-in-If.result.now c.in-If.is c.in-None.is c.deref-in-If.ensures c.in_ok-add_in_expr-in-If.ensures
+    c.add_in_stmt-in-If.new.uses.items c.args.s.now _ _ _ c.boxed_stmt-in-If.result.now c.in-If.is c.in-None.is c.boxed_stmt-in-If.ensures c.in_ok-add_in_expr-in-If.ensures
     c.in_ok-add_in_stmt-in-If.ensures.adds
 
 pub add_in_stmt-returns-in-Some-clause-adds : goal.add_in_stmt-returns-in-Some-clause-adds
@@ -87,8 +87,8 @@ add_in_stmt-returns-in-Some-clause-adds t c =
     on_ok c.add_in_stmt-in-Some.result
     (λ h.
     else_adds c.args.around.now (blocks_in c.args.blocks.now) (seen.begin c.args.begin) c.add_in_stmt-in-If.new.around c.args.uses.now.items
-    c.add_in_expr.new.uses.items c.add_in_stmt-in-If.new.uses.items c.add_in_stmt-in-Some.new.uses.items c.args.s.now _ _ _ _ c.deref-in-If.result.now
-    c.deref-in-Some.result.now c.in-If.is c.in-Some.is c.deref-in-If.ensures c.deref-in-Some.ensures c.in_ok-add_in_stmt-in-If.ensures.kept
+    c.add_in_expr.new.uses.items c.add_in_stmt-in-If.new.uses.items c.add_in_stmt-in-Some.new.uses.items c.args.s.now _ _ _ _ c.boxed_stmt-in-If.result.now
+    c.boxed_stmt-in-Some.result.now c.in-If.is c.in-Some.is c.boxed_stmt-in-If.ensures c.boxed_stmt-in-Some.ensures c.in_ok-add_in_stmt-in-If.ensures.kept
     c.in_ok-add_in_expr-in-If.ensures c.in_ok-add_in_stmt-in-If.ensures.adds h)
     c.add_in_stmt-in-Some.ensures.adds
 
@@ -97,7 +97,7 @@ add_in_stmt-returns-in_ok-add_in_expr-in-While-clause-adds t c =
     on_ok c.add_in_stmt-in-While.result
     (λ h.
     while_adds c.args.around.now (blocks_in c.args.blocks.now) (seen.begin c.args.begin) c.args.uses.now.items c.add_in_expr-in-While.new.uses.items
-    c.add_in_stmt-in-While.new.uses.items c.args.s.now c.in-While.c c.in-While.b c.deref-in-While.result.now c.in-While.is c.deref-in-While.ensures
+    c.add_in_stmt-in-While.new.uses.items c.args.s.now c.in-While.c c.in-While.b c.boxed_stmt-in-While.result.now c.in-While.is c.boxed_stmt-in-While.ensures
     c.in_ok-add_in_expr-in-While.ensures h)
     c.add_in_stmt-in-While.ensures.adds
 
@@ -106,7 +106,7 @@ add_in_stmt-returns-in_ok-add_in_expr-in-Thru-clause-adds t c =
     on_ok c.add_in_stmt-in-Thru.result
     (λ h.
     thru_adds c.args.around.now (blocks_in c.args.blocks.now) (seen.begin c.args.begin) c.args.uses.now.items c.add_in_expr-in-Thru.new.uses.items
-    c.add_in_stmt-in-Thru.new.uses.items c.args.s.now c.in-Thru.n c.in-Thru.b c.deref-in-Thru.result.now c.in-Thru.is c.deref-in-Thru.ensures
+    c.add_in_stmt-in-Thru.new.uses.items c.args.s.now c.in-Thru.n c.in-Thru.b c.boxed_stmt-in-Thru.result.now c.in-Thru.is c.boxed_stmt-in-Thru.ensures
     c.in_ok-add_in_expr-in-Thru.ensures h)
     c.add_in_stmt-in-Thru.ensures.adds
 
@@ -115,7 +115,7 @@ add_in_stmt-returns-in_ok-add_in_for-in-For-clause-adds t c =
     on_ok c.add_in_stmt-in-For.result
     (λ h.
     counting_adds c.args.around.now (blocks_in c.args.blocks.now) (seen.begin c.args.begin) c.args.uses.now.items c.add_in_for.new.uses.items
-    c.add_in_stmt-in-For.new.uses.items c.args.s.now c.in-For.v c.in-For.x c.in-For.s c.in-For.l c.in-For.b c.deref-in-For.result.now c.in-For.is c.deref-in-For.ensures
+    c.add_in_stmt-in-For.new.uses.items c.args.s.now c.in-For.v c.in-For.x c.in-For.s c.in-For.l c.in-For.b c.boxed_stmt-in-For.result.now c.in-For.is c.boxed_stmt-in-For.ensures
     c.in_ok-add_in_for-in-For.ensures h)
     c.add_in_stmt-in-For.ensures.adds
 
@@ -124,7 +124,7 @@ add_in_stmt-returns-in_ok-add_in_expr-in-Case-clause-adds t c =
     on_ok c.add_in_stmts.result
     (λ h.
     case_adds c.args.around.now (blocks_in c.args.blocks.now) (seen.begin c.args.begin) c.args.uses.now.items c.add_in_expr-in-Case.new.uses.items
-    c.add_in_stmts.new.uses.items c.args.s.now c.in-Case.e c.in-Case.ss c.as_slice.result.now c.in-Case.is (c.as_slice.ensures.value ∙ c.items.ensures)
+    c.add_in_stmts.new.uses.items c.args.s.now c.in-Case.e c.in-Case.ss c.stmts_in.result.now c.in-Case.is c.stmts_in.ensures
     c.in_ok-add_in_expr-in-Case.ensures h)
     c.add_in_stmts.ensures.adds
 
@@ -133,8 +133,8 @@ add_in_stmt-returns-in_ok-add_in_stmt-in-Until-clause-adds t c =
     on_ok c.add_in_expr-in-Until.result
     (λ h.
     until_adds c.args.around.now (blocks_in c.args.blocks.now) (seen.begin c.args.begin) c.add_in_stmt-in-Until.new.around c.args.uses.now.items
-    c.add_in_stmt-in-Until.new.uses.items c.add_in_expr-in-Until.new.uses.items c.args.s.now c.in-Until.b c.in-Until.c c.deref-in-Until.result.now c.in-Until.is
-    c.deref-in-Until.ensures c.in_ok-add_in_stmt-in-Until.ensures.kept c.in_ok-add_in_stmt-in-Until.ensures.adds h)
+    c.add_in_stmt-in-Until.new.uses.items c.add_in_expr-in-Until.new.uses.items c.args.s.now c.in-Until.b c.in-Until.c c.boxed_stmt-in-Until.result.now c.in-Until.is
+    c.boxed_stmt-in-Until.ensures c.in_ok-add_in_stmt-in-Until.ensures.kept c.in_ok-add_in_stmt-in-Until.ensures.adds h)
     c.add_in_expr-in-Until.ensures
 
 pub add_in_stmt-returns-in_ok-add_in_stmt-in-Until-clause-kept : goal.add_in_stmt-returns-in_ok-add_in_stmt-in-Until-clause-kept
@@ -173,7 +173,7 @@ add_in_stmt-returns-in-Write-clause-adds t c =
     on_ok c.add_in_write.result
     (λ h.
     write_whole c.args.around.now blocks begin c.args.uses.now.items c.add_in_write.new.uses.items c.args.s.now c.in-Write.n c.in-Write.field-1 c.in-Write.field-2
-    c.in-Write.es c.as_slice-in-Write.result.now c.in-Write.is (c.as_slice-in-Write.ensures.value ∙ c.items-in-Write.ensures)
+    c.in-Write.es c.exprs_in.result.now c.in-Write.is c.exprs_in.ensures
     (λ listed. h blocks begin listed c.in-Write.field-1 c.in-Write.field-2))
     c.add_in_write.ensures
 
@@ -222,8 +222,8 @@ add_in_begin-returns-else-is_block-clause-adds t c =
 pub add_in_body-returns-clause-adds : goal.add_in_body-returns-clause-adds
 add_in_body-returns-clause-adds t c =
     body_walked (blocks_in c.args.blocks.now) c.args.around.now c.open.new.self c.add_in_decls.new.around c.args.uses.now.items c.add_in_decls.new.uses.items
-    c.add_in_stmts.new.uses.items c.args.b.now c.as_slice.result.now c.as_slice-2.result.now (c.as_slice.ensures.value ∙ c.items.ensures)
-    (c.as_slice-2.ensures.value ∙ c.items-2.ensures) c.in_ok-open.ensures.inside c.in_ok-add_in_decls.ensures.adds c.in_ok-add_in_stmts.ensures.adds
+    c.add_in_stmts.new.uses.items c.args.b.now c.decls_in.result.now c.stmts_in.result.now c.decls_in.ensures
+    c.stmts_in.ensures c.in_ok-open.ensures.inside c.in_ok-add_in_decls.ensures.adds c.in_ok-add_in_stmts.ensures.adds
 
 pub add_in_body-returns-clause-kept : goal.add_in_body-returns-clause-kept
 add_in_body-returns-clause-kept t c =
@@ -268,7 +268,7 @@ add_in_decl-returns-in-Procedure-clause-adds t c =
     on_ok c.add_in_procedure.result
     (λ h.
     procedure_decl (blocks_in c.args.blocks.now) c.args.around.now c.args.uses.now.items c.add_in_procedure.new.uses.items c.args.d.now c.in-Procedure.h c.in-Procedure.s
-    c.deref.result.now c.in-Procedure.is c.deref.ensures h)
+    c.boxed_stmt.result.now c.in-Procedure.is c.boxed_stmt.ensures h)
     c.add_in_procedure.ensures.adds
 
 pub add_in_decl-returns-in-Simple-clause-adds : goal.add_in_decl-returns-in-Simple-clause-adds

@@ -1,4 +1,4 @@
-use Rattle.std.proofs.Common.{◌∙◌, drop}
+use Rattle.std.proofs.Common.{drop}
 use Rattle.std.proofs.lemmas.List.{drop_all}
 use Rattle.algol_tree.specs.Image.{exprs}
 use Rattle.algol_names.specs.Seeing.{list_uses}
@@ -10,7 +10,7 @@ add_in_expr-returns-in_ok-add-in-Call t c =
     on_ok c.add_in_exprs-in-Call.result
     (λ h.
     call_adds c.args.around.now c.args.seen c.args.uses.now.items c.add-in-Call.new.uses.items c.add_in_exprs-in-Call.new.uses.items c.args.e.now c.in-Call.c
-    c.as_slice-in-Call.result.now c.in-Call.is (c.as_slice-in-Call.ensures.value ∙ c.items-in-Call.ensures) c.in_ok-add-in-Call.ensures h)
+    c.exprs_in-in-Call.result.now c.in-Call.is c.exprs_in-in-Call.ensures c.in_ok-add-in-Call.ensures h)
     c.add_in_exprs-in-Call.ensures
 
 pub add_in_expr-returns-in_ok-add_in_expr-in-Two : goal.add_in_expr-returns-in_ok-add_in_expr-in-Two
@@ -18,7 +18,7 @@ add_in_expr-returns-in_ok-add_in_expr-in-Two t c =
     on_ok c.add_in_expr-in-Two-2.result
     (λ h.
     two_adds c.args.around.now c.args.seen c.args.uses.now.items c.add_in_expr-in-Two.new.uses.items c.add_in_expr-in-Two-2.new.uses.items c.args.e.now
-    c.in-Two.field-0 c.in-Two.x c.in-Two.y c.deref-in-Two.result.now c.deref-in-Two-2.result.now c.in-Two.is c.deref-in-Two.ensures c.deref-in-Two-2.ensures
+    c.in-Two.field-0 c.in-Two.x c.in-Two.y c.boxed_expr-in-Two.result.now c.boxed_expr-in-Two-2.result.now c.in-Two.is c.boxed_expr-in-Two.ensures c.boxed_expr-in-Two-2.ensures
     c.in_ok-add_in_expr-in-Two.ensures h)
     c.add_in_expr-in-Two-2.ensures
 
@@ -27,8 +27,8 @@ add_in_expr-returns-in_ok-add_in_expr-in-If-2 t c =
     on_ok c.add_in_expr-in-If-3.result
     (λ h.
     if_adds c.args.around.now c.args.seen c.args.uses.now.items c.add_in_expr-in-If.new.uses.items c.add_in_expr-in-If-2.new.uses.items
-    c.add_in_expr-in-If-3.new.uses.items c.args.e.now c.in-If.c c.in-If.x c.in-If.y c.in-If.field-3 c.deref-in-If.result.now c.deref-in-If-2.result.now
-    c.deref-in-If-3.result.now c.in-If.is c.deref-in-If.ensures c.deref-in-If-2.ensures c.deref-in-If-3.ensures c.in_ok-add_in_expr-in-If.ensures
+    c.add_in_expr-in-If-3.new.uses.items c.args.e.now c.in-If.c c.in-If.x c.in-If.y c.in-If.field-3 c.boxed_expr-in-If.result.now c.boxed_expr-in-If-2.result.now
+    c.boxed_expr-in-If-3.result.now c.in-If.is c.boxed_expr-in-If.ensures c.boxed_expr-in-If-2.ensures c.boxed_expr-in-If-3.ensures c.in_ok-add_in_expr-in-If.ensures
     c.in_ok-add_in_expr-in-If-2.ensures h)
     c.add_in_expr-in-If-3.ensures
 
