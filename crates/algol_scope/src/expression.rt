@@ -17,7 +17,7 @@ use crate::around::Around;
 use crate::findings::{Cell, Content, Findings, Use};
 use crate::formal::Mode;
 use crate::known::{Class, Entry, Seen};
-use algol_rules::first_spot;
+use algol_rules::{boxed_expr, first_spot};
 use algol_tree::{Call, Code, Expr, List, MOST_LEVEL, Named, Pair, Spot, Variable};
 use std::alloc::AllocError;
 
@@ -142,18 +142,18 @@ impl Findings {
                 self.name(&event.name, around, seen)?;
                 Ok(())
             }
-            Expr::Paren(e, _) => self.expr(e, around, seen),
-            Expr::Plus(e, _) => self.expr(e, around, seen),
-            Expr::Neg(e, _) => self.expr(e, around, seen),
-            Expr::Not(e, _) => self.expr(e, around, seen),
+            Expr::Paren(e, _) => self.expr(boxed_expr(e), around, seen),
+            Expr::Plus(e, _) => self.expr(boxed_expr(e), around, seen),
+            Expr::Neg(e, _) => self.expr(boxed_expr(e), around, seen),
+            Expr::Not(e, _) => self.expr(boxed_expr(e), around, seen),
             Expr::Two(_, a, b) => {
-                self.expr(a, around, seen)?;
-                self.expr(b, around, seen)
+                self.expr(boxed_expr(a), around, seen)?;
+                self.expr(boxed_expr(b), around, seen)
             }
             Expr::If(c, a, b, _) => {
-                self.expr(c, around, seen)?;
-                self.expr(a, around, seen)?;
-                self.expr(b, around, seen)
+                self.expr(boxed_expr(c), around, seen)?;
+                self.expr(boxed_expr(a), around, seen)?;
+                self.expr(boxed_expr(b), around, seen)
             }
         }
     }

@@ -51,7 +51,7 @@ expr-returns-in_ok-expr-in-Two t c =
     on_ok c.expr-in-Two-2.result
     (λ h.
     walks-of c.args.around.now c.args.seen c.args.self.now c.expr-in-Two-2.new.self _ _
-    (expr_two _ _ _ _ _ _ c.in-Two.is c.deref-in-Two.ensures c.deref-in-Two-2.ensures)
+    (expr_two _ _ _ _ _ _ c.in-Two.is c.boxed_expr-in-Two.ensures c.boxed_expr-in-Two-2.ensures)
     (walks-two c.args.around.now c.args.seen c.args.self.now c.expr-in-Two.new.self c.expr-in-Two-2.new.self c.in-Two.field-0 _ _
     c.in_ok-expr-in-Two.ensures h))
     c.expr-in-Two-2.ensures
@@ -61,7 +61,7 @@ expr-returns-in_ok-expr-in-If-2 t c =
     on_ok c.expr-in-If-3.result
     (λ h.
     walks-of c.args.around.now c.args.seen c.args.self.now c.expr-in-If-3.new.self _ _
-    (expr_if _ _ _ _ _ _ _ _ c.in-If.is c.deref-in-If.ensures c.deref-in-If-2.ensures c.deref-in-If-3.ensures)
+    (expr_if _ _ _ _ _ _ _ _ c.in-If.is c.boxed_expr-in-If.ensures c.boxed_expr-in-If-2.ensures c.boxed_expr-in-If-3.ensures)
     (walks-if c.args.around.now c.args.seen c.args.self.now c.expr-in-If.new.self c.expr-in-If-2.new.self c.expr-in-If-3.new.self _ _ _
     c.in-If.field-3 c.in_ok-expr-in-If.ensures c.in_ok-expr-in-If-2.ensures h))
     c.expr-in-If-3.ensures
