@@ -8,7 +8,7 @@ use Rattle.std.proofs.lemmas.List.{length-map}
 use Rattle.std.proofs.lemmas.Map.Steps.{length-le_from_distinct_below}
 use Rattle.b67_word.specs.declared.Place.{Place}
 use Rattle.b67_events.specs.Events.{same_place, is_before, is_waiting}
-use Rattle.b67_events.specs.Kept.{same_queue, stands_in, listed, Entry, events_of, has_flags, set_flags, put, AreWithin, without_first, among, AreQueued}
+use Rattle.b67_events.specs.Kept.{same_queue, stands_in, listed, Entry, events_of, has_flags, set_flags, put, without_first, among, AreQueued}
 use Rattle.b67_events.specs.declared.Flags.{Flags}
 use Rattle.b67_events.specs.declared.Queue.{Queue}
 use Rattle.b67_events.specs.declared.Queue.TheVariants.{Waiters, Procurers}

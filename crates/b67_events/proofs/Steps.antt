@@ -4,7 +4,7 @@ use Rattle.std.specs.Prelude.{filter, slice_get, Option, Some, None}
 use Rattle.std.proofs.lemmas.Bool.{cond-true, cond-false, or_cases, or_right}
 use Rattle.b67_word.specs.declared.Place.{Place}
 use Rattle.b67_events.specs.Events.{Event, Events, same_place, event_at, is_open, happened_at, available_at, waiters_of, waiters_at, procurers_of, procurers_at, is_waiting, changed, joined, waited, taken, queued, procured, served, freed, passed_on, liberated, took}
-use Rattle.b67_events.specs.Kept.{stands_in, listed, Entry, events_of, has_flags, set_flags, put, AreWithin, with_available, without_first, IsKept}
+use Rattle.b67_events.specs.Kept.{stands_in, listed, Entry, events_of, has_flags, set_flags, put, with_available, without_first, IsKept}
 use Rattle.b67_events.specs.declared.Took.TheVariants.{Went, Waits}
 use Rattle.b67_events.specs.declared.Flags.{Flags}
 use Rattle.b67_events.specs.declared.Queue.TheVariants.{Waiters, Procurers}

@@ -17,7 +17,7 @@ use Rattle.b67_table.specs.declared.ProcessState.TheVariants.{Ended}
 use Rattle.b67_table.specs.Image.{Image, with_stacks, with_rows, with_events, with_states, is_able, is_live}
 use Rattle.b67_table.specs.Program.{Change, done, row_of, close_row, close_events, end_process}
 use Rattle.b67_table.specs.Linkage.{closed_by, rows_closed, array_closed, arrays_closed, frame_left, caused_by}
-use Rattle.b67_table.specs.Writes.{able_again, written}
+use Rattle.b67_table.specs.Writes.{written}
 use Rattle.b67_table.specs.Writes as writes
 use Rattle.b67_table.specs.Valid.{IsProcess, IsValid, waits}
 use Rattle.b67_table.proofs.Stacks.{set_other, get_numbered_other}

@@ -1,6 +1,6 @@
 -- A private operator sets S, F, cells and the pointer's place, and no other register.
 use Rattle.std.proofs.Common.{◌≡◌, refl, subst, ℕ, ◌+◌, ◌-◌, Bool, true, false, ℤ, pos, List, [], ◌∷◌, Result, cond}
-use Rattle.std.specs.Prelude.{nat_lt, nat_le, int_lt, int_le, bit_and, bit_or}
+use Rattle.std.specs.Prelude.{nat_lt, nat_le, bit_and, bit_or}
 use Rattle.b67_num.specs.declared.NumFault.{NumFault}
 use Rattle.b67_word.specs.Word.{Word, word, operand, truth}
 use Rattle.b67_num.specs.declared.Calculation.TheVariants.{Sum, Difference, Product, WholeQuotient, TruncatedQuotient, Remainder}

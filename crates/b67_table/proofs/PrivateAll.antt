@@ -1,6 +1,6 @@
 -- Every private operator makes of the private part of a valid image again such a part, as long as its stack is not too long.
 use Rattle.std.proofs.Common.{◌≡◌, subst, ℕ, ◌^◌, ◌<◌, ◌≤◌, Bool, true, false, pos, cond, arith}
-use Rattle.std.specs.Prelude.{nat_lt, bit_and, bit_or, int_lt, int_le}
+use Rattle.std.specs.Prelude.{nat_lt, bit_and, bit_or}
 use Rattle.b67_num.specs.declared.Calculation.TheVariants.{Sum, Difference, Product, WholeQuotient, TruncatedQuotient, Remainder}
 use Rattle.b67_num.specs.declared.Relation.TheVariants.{Less, LessOrEqual, Equal, NotEqual, GreaterOrEqual, Greater}
 use Rattle.b67_num.specs.Whole.{related, calculated}

@@ -5,8 +5,7 @@ use Rattle.std.proofs.lemmas.Bool.{leb-true}
 use Rattle.std.proofs.lemmas.List.Elements.{All-cons}
 use Rattle.b67_num.specs.declared.NumFault.{NumFault}
 use Rattle.b67_num.specs.Whole as num
-use Rattle.b67_num.specs.declared.Calculation.TheVariants.{Sum, Difference, Product, WholeQuotient, TruncatedQuotient, Remainder}
-use Rattle.b67_num.specs.Whole.{calculated, negation_of}
+use Rattle.b67_num.specs.Whole.{negation_of}
 use Rattle.b67_word.specs.declared.Place.{Place}
 use Rattle.b67_word.specs.Word.{Word, IsWord, word, operand, truth, as_whole}
 use Rattle.b67_word.proofs.WordLaws.{truth-word}

@@ -1,6 +1,5 @@
 -- The rows at work, by evaluation.
 use Rattle.std.proofs.Common.{refl}
-use Rattle.b67_num.specs.declared.Calculation.TheVariants.{Sum, Difference, Product, WholeQuotient, TruncatedQuotient, Remainder}
 use Rattle.b67_num.specs.Whole.{calculated, whole, over}
 use Rattle.b67_word.specs.Word.{field, operand, is_whole, as_whole}
 use Rattle.b67_control.specs.Control.{irw_word, as_irw, sirw_word, as_sirw, mscw_word, as_mscw, rcw_word, as_rcw, event_word, as_event, descriptor_word, as_descriptor, pcw_word, as_pcw}

@@ -1,4 +1,4 @@
-use Rattle.std.proofs.Common.{◌≡◌, ◌≤◌, ap, true, not, refl, length, arith, vec_capacity}
+use Rattle.std.proofs.Common.{◌≡◌, ◌≤◌, ap, true, not, length, arith, vec_capacity}
 use Rattle.b67_events.specs.Kept.{stands_in, with_happened}
 use Rattle.b67_events.specs.declared.Queue.TheVariants.{Waiters}
 use Rattle.b67_events.proofs.Shown.{events-caused}

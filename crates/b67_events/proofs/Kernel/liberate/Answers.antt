@@ -1,4 +1,4 @@
-use Rattle.std.proofs.Common.{◌∙◌, true, refl, ap, sym, vec_capacity}
+use Rattle.std.proofs.Common.{◌∙◌, true, ap, sym, vec_capacity}
 use Rattle.std.specs.Prelude.{slice_get}
 use Rattle.b67_events.specs.Kept.{stands_in, with_available}
 use Rattle.b67_events.specs.declared.Queue.TheVariants.{Procurers}

@@ -1,4 +1,4 @@
-use Rattle.std.proofs.Common.{◌≡◌, refl, true, false, ap, sym, ◌∙◌, vec_capacity}
+use Rattle.std.proofs.Common.{◌≡◌, true, false, ap, sym, ◌∙◌, vec_capacity}
 use Rattle.b67_events.specs.Events.{available_at}
 use Rattle.b67_events.specs.Kept.{events_of, with_available}
 use Rattle.b67_events.specs.declared.Waiting.{Waiting}

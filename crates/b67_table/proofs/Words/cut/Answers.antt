@@ -1,4 +1,4 @@
-use Rattle.std.proofs.Common.{◌≡◌, ◌+◌, ◌-◌, ◌∙◌, ap, length, drop, arith}
+use Rattle.std.proofs.Common.{◌-◌, ◌∙◌, ap, length, drop, arith}
 use Rattle.std.specs.Prelude.{reverse}
 use Rattle.std.proofs.lemmas.List.{length-reverse}
 use Rattle.b67_table.proofs.PrivateWords.{cut_is}
