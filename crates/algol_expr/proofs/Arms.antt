@@ -1,4 +1,4 @@
--- A choice behind its condition.
+-- A choice after its condition.
 use Rattle.std.proofs.Common.{◌≡◌, ℕ, List, [], ◌∷◌, sym, subst, ◌∙◌, refl}
 use Rattle.algol_tree.specs.declared.token.Token.{Token}
 use Rattle.algol_tree.specs.declared.refusal.Refusal.{Refusal}
@@ -6,7 +6,7 @@ use Rattle.algol_tree.specs.Due.{Value, Due}
 use Rattle.algol_tree.specs.Found.{IsRest, Lists, Fails}
 use Rattle.algol_expr.proofs.Chain.{Reaches}
 
--- a part behind one value
+-- a part after one value
 module _ {from : List Due} {us : List Value} {tokens : List Token} {part : List Due} {left : Value} {mid : List Token} where
   pub failing_on : {at_ : ℕ} {e : Refusal} → Reaches from us tokens part (left ∷ []) mid → Fails part (left ∷ []) mid at_ e → Fails from us tokens at_ e
   failing_on r p = record { run = λ spot code q due vs. r.run due vs ∙ p.run spot code q due vs }

@@ -65,7 +65,7 @@ fn read_choice<'a>(
     Ok((whole, rest))
 }
 
-/// eqv ELSE expr, behind the IF at that place, this condition and THEN
+/// eqv ELSE expr, after the IF at that place, this condition and THEN
 #[cycle(expressions)]
 fn read_arms(
     alloc: Global,

@@ -1,4 +1,4 @@
--- Uses that come behind others.
+-- Uses that come after others.
 use Rattle.std.proofs.Common.{rules, ◌≡◌, ◌+◌, Bool, List, [], ◌∷◌, ◌++◌, map, Option, Some, None, refl, ap, sym, ◌∙◌, append_assoc, append-nil, Result, Ok, Err, OnOk}
 use Rattle.std.proofs.lemmas.Grind.{flat_map-append}
 use Rattle.std.specs.List.{flat_map}

@@ -1,3 +1,4 @@
+-- What operator stands at the front of bytes, and why none does.
 use Rattle.std.specs.Prelude.{ℕ, ◌+◌, ◌*◌, ◌/◌, ◌%◌, ◌^◌, nat_eq, nat_lt, List, [], ◌∷◌, drop, take, Result, Ok, Err, Option, Some, None, if◌then◌else◌}
 use Rattle.std.specs.Int.{w16, w64, from_be_bytes}
 use Rattle.std.specs.List.{list_all}

@@ -1,3 +1,4 @@
+-- When no operator stands at a place of a code: it is cut short, names a level above the present one, or is unknown.
 use Rattle.std.specs.Prelude.{◌≡◌, ℕ, ◌<◌, List, ◌++◌, length, drop}
 use Rattle.b67_ops.specs.Spelling.{spelling, HasSpelling, level_named}
 use Rattle.b67_ops.specs.declared.Operator.{Operator}
