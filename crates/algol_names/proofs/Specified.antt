@@ -9,10 +9,10 @@ use Rattle.algol_tree.specs.declared.tree.Heading.{Heading}
 use Rattle.algol_tree.specs.Names.{names_of_spec}
 use Rattle.algol_tree.specs.Sorts as plain
 use Rattle.algol_tree.specs.Sorts.{is_named_in, sort_in, sort_by, specified_by}
-use Rattle.algol_meaning.specs.SeenScope.{sort}
-use Rattle.algol_meaning.specs.declared.scope.Sort.{Sort}
-use Rattle.algol_meaning.specs.declared.scope.Sort.TheVariants as sorts
-use Rattle.algol_meaning.specs.declared.scope.Parameter.{Parameter}
+use Rattle.algol_rest.specs.SeenScope.{sort}
+use Rattle.algol_rest.specs.declared.scope.Sort.{Sort}
+use Rattle.algol_rest.specs.declared.scope.Sort.TheVariants as sorts
+use Rattle.algol_rest.specs.declared.scope.Parameter.{Parameter}
 use Rattle.algol_names.specs.Specified.{or_variable, valued}
 use Rattle.algol_names.proofs.Tables.{same}
 

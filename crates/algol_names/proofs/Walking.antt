@@ -24,8 +24,8 @@ use Rattle.algol_tree.specs.Scopes as scoping
 use Rattle.algol_tree.specs.Scopes.{uses_at}
 use Rattle.algol_tree.specs.Surroundings.{Surroundings, formals_at}
 use Rattle.algol_tree.specs.Sites.{sites, inside_list, inside_actuals}
-use Rattle.algol_meaning.specs.SeenScope.{used}
-use Rattle.algol_meaning.specs.declared.scope.Use.{Use}
+use Rattle.algol_rest.specs.SeenScope.{used}
+use Rattle.algol_rest.specs.declared.scope.Use.{Use}
 use Rattle.algol_names.specs.declared.known.Seen.{Seen}
 use Rattle.algol_names.specs.declared.known.Around.{Around}
 use Rattle.algol_names.specs.Seeing.{Sees, Adds, expr_uses, list_uses}

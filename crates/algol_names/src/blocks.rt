@@ -7,7 +7,7 @@ ghost use Rattle.algol_rest.specs.SeenScope.{block, in_block};
 ghost use Rattle.algol_names.specs.Blocks as seen;
 
 use crate::parameters::parameters_of;
-use algol_meaning::{Block, BlockStatements, Owner};
+use algol_rest::{Block, BlockStatements, Owner};
 use algol_rules::{boxed_stmt, decls_in, is_compound, stmts_in};
 use algol_tree::{Body, Decl, Heading, List, Program, Spot, Stmt};
 use std::alloc::{AllocError, Global};

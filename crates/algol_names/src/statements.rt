@@ -16,7 +16,7 @@ use crate::simple::{
     add_in_write,
 };
 use crate::uses::{add, add_in_expr, add_in_pairs};
-use algol_meaning::{Blocks, Use};
+use algol_rest::{Blocks, Use};
 use algol_rules::{boxed_stmt, decls_in, exprs_in, stmts_in};
 use algol_tree::{Body, Decl, Heading, Stmt};
 use std::alloc::{AllocError, Global};

@@ -9,7 +9,7 @@ ghost use Rattle.algol_names.specs.declared.known.Seen.TheVariants as seens;
 ghost use Rattle.algol_names.specs.Seeing.{Sees, Adds, used_by, expr_uses, list_uses, pairs_uses};
 
 use crate::known::{Around, Seen};
-use algol_meaning::{Sort, Use};
+use algol_rest::{Sort, Use};
 use algol_rules::{boxed_expr, exprs_in};
 use algol_tree::{Expr, Named, Pair};
 use std::alloc::AllocError;
