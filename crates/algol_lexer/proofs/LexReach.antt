@@ -175,9 +175,6 @@ reaches_more {r} {at = at} {size = size} {kind = kind} {before = before} p st e 
   appended = e ∙ ap (λ (ts : List Token). ts ++ token_at r at size kind) p.appended ∙ append_assoc before p.tokens (token_at r at size kind);
 }
 
-pub reaches_end : {r : Record} {m n : Mode} {at : ℕ} {before after : List Token} → Reaches r m n at before after → at ≡ length (columns r) → length r.bytes ≤ MOST_RECORD_BYTES → Reads r m n before after
-reaches_end {r} {m} {n} p e short = record { tokens = p.tokens; read = record { gives = subst (λ (a : ℕ). Gives r m 0 p.tokens n a) e p.gives; short = short }; appended = p.appended }
-
 pub reaches_long : {r : Record} {m n : Mode} {at : ℕ} {before after : List Token} → Reaches r m n at before after → at ≡ length (columns r) → MOST_RECORD_BYTES < length r.bytes → Fails r m (spot_in r MOST_RECORD_BYTES) LineTooLong
 reaches_long {r} {m} {n} p e lt = long n p.tokens (subst (λ (a : ℕ). Gives r m 0 p.tokens n a) e p.gives) lt
 
