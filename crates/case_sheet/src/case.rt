@@ -98,15 +98,26 @@ impl Case {
         })
     }
 
-    /// Takes the line after the input.
-    pub(crate) fn take_status(&mut self, line: &str) {
+    /// Takes a line behind the head.
+    pub(crate) fn take(&mut self, alloc: Global, line: &str) -> Result<(), AllocError> {
+        match line.strip_prefix("---- ") {
+            Some(status) => {
+                self.take_status(status);
+                Ok(())
+            }
+            None => self.take_line(alloc, line),
+        }
+    }
+
+    /// Takes the line behind the input.
+    fn take_status(&mut self, line: &str) {
         let (status, end) = parted(line, ' ');
         self.status = status.parse().ok();
         self.is_end = end == "end";
     }
 
     /// Takes a line of the input or of the answer.
-    pub(crate) fn take_line(&mut self, alloc: Global, line: &str) -> Result<(), AllocError> {
+    fn take_line(&mut self, alloc: Global, line: &str) -> Result<(), AllocError> {
         if let Some(bounds) = line.strip_prefix("@@@@ ") {
             self.repeated.open(bounds);
             return Ok(());
