@@ -1,18 +1,25 @@
 //! Worked control words, and the display.
 
 use b67_control::{Display, EventWord, Pcw, Sirw};
-use b67_word::Place;
+use b67_word::{Place, Word};
 
-#[test]
-fn worked_words(rt: HostRuntime) {
+/// Tests that a word has this tag and these bits.
+fn is_word(word: Word, tag: u8, bits: u64) -> bool {
+    word.tag() == tag && word.bits() == bits
+}
+
+/// A reference to a cell, and back.
+fn is_cell() -> bool {
     let cell = Sirw {
         stack: 1,
         displacement: 0,
         index: 5,
     };
-    assert_eq!(rt; cell.pack().tag(), 1);
-    assert_eq!(rt; cell.pack().bits(), 0x8020_0000_0005);
-    assert_eq!(rt; Sirw::unpack(cell.pack()), Some(cell));
+    is_word(cell.pack(), 1, 0x8020_0000_0005) && Sirw::unpack(cell.pack()) == Some(cell)
+}
+
+/// A procedure word, and an event's.
+fn are_words() -> bool {
     let code = Pcw {
         intrinsic: false,
         names: false,
@@ -22,14 +29,20 @@ fn worked_words(rt: HostRuntime) {
         level: 3,
         number: 0,
     };
-    assert_eq!(rt; code.pack().tag(), 7);
-    assert_eq!(rt; code.pack().bits(), 0x0030_0001_8000);
-    assert_eq!(rt; EventWord.pack().tag(), 3);
-    assert_eq!(rt; EventWord.pack().bits(), 0xC000_0000_0000);
+    is_word(code.pack(), 7, 0x0030_0001_8000) && is_word(EventWord.pack(), 3, 0xC000_0000_0000)
+}
+
+/// A level that is set, and one that is not.
+fn is_display() -> bool {
     let mut display = Display::new();
     let frame = Some(Place { stack: 1, at: 7 });
     display.set(2, frame);
-    assert_eq!(rt; display.get(2), frame);
-    assert_eq!(rt; display.get(3), None);
-    assert!(rt; display != Display::new());
+    display.get(2) == frame && display.get(3).is_none()
+}
+
+#[test]
+fn worked_words(rt: HostRuntime) {
+    assert!(rt; is_cell());
+    assert!(rt; are_words());
+    assert!(rt; is_display());
 }

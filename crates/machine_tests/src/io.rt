@@ -4,43 +4,69 @@ use b67_io::{
     MemorySink, MemorySource, ReadAll, Sink, Source, StdinSource, StdoutSink, WriteAll, read_all,
     write_all,
 };
+use std::alloc::{AllocError, Global};
 use std::io;
 use std::io::{ErrorKind, Read};
 use std::test::Fail;
 
-#[test]
-fn reading(rt: HostRuntime) -> Result<(), Fail> {
-    let alloc = rt.alloc();
-    // Three bytes are too many for two, and not for three.
-    let mut source = MemorySource::new(b"abc".to_vec(alloc)?, 5, Vec::new(alloc));
-    let error = read_all(alloc, &mut source, 2).err();
-    assert_eq!(rt; error, Some(ReadAll::TooLong));
-    let mut source = MemorySource::new(b"abc".to_vec(alloc)?, 1, Vec::new(alloc));
-    let bytes = read_all(alloc, &mut source, 3)?;
-    assert_eq!(rt; bytes.as_slice(), b"abc".as_slice());
-
-    // The second read fails, and the next call goes on from there.
-    let mut source = MemorySource::new(b"abcdef".to_vec(alloc)?, 2, vec![in alloc; 7, 1]?);
-    let error = read_all(alloc, &mut source, 9).err();
-    assert_eq!(rt; error, Some(ReadAll::Failed));
-    assert_eq!(rt; source.fault_count(), 1);
-    assert_eq!(rt; source.bytes_left(), b"cdef".as_slice());
-    let bytes = read_all(alloc, &mut source, 9)?;
-    assert_eq!(rt; bytes.as_slice(), b"cdef".as_slice());
-    Ok(())
+/// A source of these bytes, which gives at most so many of them in a call, and fails at these calls.
+fn source_of(
+    alloc: Global,
+    bytes: &[u8],
+    most: usize,
+    fails: &[u32],
+) -> Result<MemorySource, AllocError> {
+    let bytes = Vec::from_slice(alloc, bytes)?;
+    let fails = Vec::from_slice(alloc, fails)?;
+    Ok(MemorySource::new(bytes, most.max(1), fails))
 }
 
-#[test]
-fn writing(rt: HostRuntime) -> Result<(), Fail> {
-    // The first write fails, and the second finds room for a part.
-    let mut sink = MemorySink::new(rt.alloc(), 3, vec![in rt.alloc(); 0]?)?;
-    let error = write_all(&mut sink, b"abcd").err();
-    assert_eq!(rt; error, Some(WriteAll::Failed { written: 0 }));
-    let error = write_all(&mut sink, b"abcd").err();
-    assert_eq!(rt; error, Some(WriteAll::Failed { written: 3 }));
-    assert_eq!(rt; sink.fault_count(), 2);
-    assert_eq!(rt; sink.bytes(), b"abc".as_slice());
-    Ok(())
+/// Tests that the bytes of a source are these.
+fn gives<S: Source>(alloc: Global, source: &mut S, most: usize, wanted: &[u8]) -> bool {
+    match read_all(alloc, source, most) {
+        Ok(bytes) => bytes.as_slice() == wanted,
+        Err(_) => false,
+    }
+}
+
+/// Tests that a source is not read, for this reason.
+fn gives_none<S: Source>(alloc: Global, source: &mut S, most: usize, wanted: ReadAll) -> bool {
+    match read_all(alloc, source, most) {
+        Ok(_) => false,
+        Err(error) => error == wanted,
+    }
+}
+
+/// Tests that a sink takes so many of the bytes, and not all.
+fn takes<S: Sink>(sink: &mut S, bytes: &[u8], written: usize) -> bool {
+    match write_all(sink, bytes) {
+        Ok(()) => false,
+        Err(error) => error == WriteAll::Failed { written },
+    }
+}
+
+/// Three bytes are too many for two, and not for three.
+fn are_limited(alloc: Global) -> Result<bool, AllocError> {
+    let mut long = source_of(alloc, b"abc", 5, &[])?;
+    let is_long = gives_none(alloc, &mut long, 2, ReadAll::TooLong);
+    let mut short = source_of(alloc, b"abc", 1, &[])?;
+    Ok(is_long && gives(alloc, &mut short, 3, b"abc"))
+}
+
+/// The second read fails, and the next call goes on from there.
+fn go_on(alloc: Global) -> Result<bool, AllocError> {
+    let mut source = source_of(alloc, b"abcdef", 2, &[7, 1])?;
+    let fails = gives_none(alloc, &mut source, 9, ReadAll::Failed);
+    let stays = source.fault_count() == 1 && source.bytes_left() == b"cdef".as_slice();
+    Ok(fails && stays && gives(alloc, &mut source, 9, b"cdef"))
+}
+
+/// The first write fails, and the second finds room for a part.
+fn have_room(alloc: Global) -> Result<bool, AllocError> {
+    let fails = Vec::from_slice(alloc, &[0])?;
+    let mut sink = MemorySink::new(alloc, 3, fails)?;
+    let is_cut = takes(&mut sink, b"abcd", 0) && takes(&mut sink, b"abcd", 3);
+    Ok(is_cut && sink.fault_count() == 2 && sink.bytes() == b"abc".as_slice())
 }
 
 #[derive(Drop)]
@@ -52,20 +78,28 @@ impl Read for Broken {
     }
 }
 
-#[test]
-fn over_std(rt: HostRuntime) -> Result<(), Fail> {
-    let alloc = rt.alloc();
-    let mut source = StdinSource::new(Broken);
-    let error = read_all(alloc, &mut source, 9).err();
-    assert_eq!(rt; error, Some(ReadAll::Failed));
-    assert_eq!(rt; source.fault_count(), 1);
+/// A reader that fails, and one that does not.
+fn are_read(alloc: Global) -> bool {
+    let mut broken = StdinSource::new(Broken);
+    let fails = gives_none(alloc, &mut broken, 9, ReadAll::Failed) && broken.fault_count() == 1;
+    let mut whole = StdinSource::new(b"abcd".as_slice());
+    fails && gives(alloc, &mut whole, 9, b"abcd")
+}
 
-    let mut source = StdinSource::new(b"abcd".as_slice());
-    let bytes = read_all(alloc, &mut source, 9)?;
+/// A writer with room for three bytes.
+fn are_written() -> bool {
     let mut room = [0u8; 3];
     let mut sink = StdoutSink::new(room.as_mut_slice());
-    let error = write_all(&mut sink, &bytes).err();
-    assert_eq!(rt; error, Some(WriteAll::Failed { written: 3 }));
-    assert_eq!(rt; sink.fault_count(), 1);
+    takes(&mut sink, b"abcd", 3) && sink.fault_count() == 1
+}
+
+#[test]
+fn sources_and_sinks(rt: HostRuntime) -> Result<(), Fail> {
+    let alloc = rt.alloc();
+    assert!(rt; are_limited(alloc)?);
+    assert!(rt; go_on(alloc)?);
+    assert!(rt; have_room(alloc)?);
+    assert!(rt; are_read(alloc));
+    assert!(rt; are_written());
     Ok(())
 }
