@@ -1,12 +1,10 @@
--- A token that keeps the limits in one text keeps them in another that goes on alike: they are known at the token after it.
-use Rattle.std.proofs.Common.{◌≡◌, ◌≤◌, ◌<◌, ◌+◌, ℕ, nat_lt, Bool, true, false, List, [], ◌∷◌, ◌++◌, length, length-append, refl, sym, subst, ap, ◌∙◌, arith}
+-- A token that keeps the limits in one text keeps them in another that goes on alike: they are known at the token behind it.
+use Rattle.std.proofs.Common.{◌≡◌, ◌≤◌, ◌<◌, ◌+◌, ℕ, nat_lt, true, false, List, [], ◌∷◌, ◌++◌, length, length-append, refl, sym, subst, ap, ◌∙◌, arith}
 use Rattle.std.proofs.lemmas.Bool.Decides.{nat_tests}
-use Rattle.algol_tree.specs.declared.token.Spot.{Spot}
 use Rattle.algol_tree.specs.declared.token.Token.{Token}
-use Rattle.algol_tree.specs.declared.token.TokenKind.{TokenKind}
 use Rattle.algol_tree.specs.Refused.{Programs}
 use Rattle.algol_tree.specs.Due.{Value, whole_program, Due, program}
-use Rattle.algol_tree.specs.Reading.{Count, outside, Judged, Step, goes, over, stops, step, to, read_on, judged, unjudged, reading}
+use Rattle.algol_tree.specs.Reading.{Count, outside, Step, goes, over, stops, step, to, read_on, judged, unjudged, reading}
 use Rattle.algol_expr.proofs.Steps.{strict, judged_strict, goes_is}
 use Rattle.algol_grammar.proofs.Sound.{program_sound}
 use Rattle.algol_grammar.proofs.Outset.{program_reads}

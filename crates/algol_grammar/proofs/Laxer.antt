@@ -1,5 +1,5 @@
 -- What keeps the limits but for its last tokens, keeps them but for more of them.
-use Rattle.std.proofs.Common.{◌≡◌, ◌≤◌, ℕ, nat_le, nat_lt, Bool, true, false, ◌&&◌, List, [], ◌∷◌, ◌++◌, length, refl, sym, subst, ap, ◌∙◌, arith}
+use Rattle.std.proofs.Common.{◌≡◌, ◌≤◌, ℕ, nat_le, Bool, true, false, ◌&&◌, List, [], ◌∷◌, ◌++◌, refl, sym, ap, ◌∙◌, arith}
 use Rattle.std.proofs.lemmas.Bool.Decides.{nat_tests}
 use Rattle.algol_tree.specs.declared.TheConstants.{MOST_NESTING}
 use Rattle.algol_tree.specs.declared.token.Spot.{Spot}
