@@ -1,4 +1,4 @@
--- A token that keeps the limits in one text keeps them in another that goes on alike: they are known at the token behind it.
+-- A token that keeps the limits in one text keeps them in another that goes on alike: they are known at the token after it.
 use Rattle.std.proofs.Common.{◌≡◌, ◌≤◌, ◌<◌, ◌+◌, ℕ, nat_lt, true, false, List, [], ◌∷◌, ◌++◌, length, length-append, refl, sym, subst, ap, ◌∙◌, arith}
 use Rattle.std.proofs.lemmas.Bool.Decides.{nat_tests}
 use Rattle.algol_tree.specs.declared.token.Token.{Token}

@@ -98,7 +98,7 @@ impl Case {
         })
     }
 
-    /// Takes a line behind the head.
+    /// Takes a line after the head.
     pub(crate) fn take(&mut self, alloc: Global, line: &str) -> Result<(), AllocError> {
         match line.strip_prefix("---- ") {
             Some(status) => {
@@ -109,7 +109,7 @@ impl Case {
         }
     }
 
-    /// Takes the line behind the input.
+    /// Takes the line after the input.
     fn take_status(&mut self, line: &str) {
         let (status, end) = parted(line, ' ');
         self.status = status.parse().ok();
