@@ -31,7 +31,7 @@ use Rattle.b67_desk.specs.declared.status.Status.TheVariants as status
 use Rattle.b67_desk.specs.declared.desk.Answer.{Answer}
 use Rattle.b67_desk.specs.declared.desk.Unanswered.{Unanswered}
 use Rattle.b67_desk.specs.declared.desk.Unanswered.TheVariants as why
-use Rattle.b67_desk.specs.Answers.{usage_text, refused_text, bad_schedule_text, listing_text, status_of, at_start, Runs, ran, Lists, listed, IsBadSchedule, AreGiven, Replays, bad_schedule, replayed, SaysAccepted, IsBuiltFor, BuiltOr, unbuilt, built, AnswersBuilt, AnswersTree, IsRefusedAt, RefusedOr, refused, accepted, IsDivided, AnswersBytes, long_part, divided, most_bytes, AnswersSource, too_long, too_long_text, read, Reading, Untouched, Answers, usage, answered, Writing, HasAnswer, write_fault}
+use Rattle.b67_desk.specs.Answers.{usage_text, refused_text, bad_schedule_text, listing_text, at_start, Runs, ran, Lists, listed, IsBadSchedule, AreGiven, Replays, bad_schedule, replayed, SaysAccepted, IsBuiltFor, BuiltOr, unbuilt, built, AnswersBuilt, AnswersTree, IsRefusedAt, RefusedOr, refused, accepted, IsDivided, AnswersBytes, long_part, divided, most_bytes, AnswersSource, too_long, too_long_text, read, Reading, Untouched, Answers, usage, answered, Writing, HasAnswer, write_fault}
 use Rattle.b67_desk.specs.Calls.{InRange, SourceAnswered, CallAnswered, IsUsage, IsRefusal, IsReportAnswer, IsBadAt, IsTooLong}
 
 -- a report is the answer to a run, and to a replay

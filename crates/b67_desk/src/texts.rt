@@ -1,6 +1,6 @@
 //! The lines of the answers that are no report.
 
-ghost use Rattle.std.specs.Prelude.{◌≡◌, ◌++◌, IfOk, OnOk};
+ghost use Rattle.std.specs.Prelude.{◌≡◌, IfOk};
 ghost use Rattle.b67_desk.specs.Answers.{usage_words, usage_text, refused_text, accepted_text, too_long_text, bad_schedule_text, listing_text};
 
 use crate::refusals::code_words;
