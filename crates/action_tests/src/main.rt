@@ -2,8 +2,8 @@
 //! expected.
 //!
 //! The folder that it runs in has four sheets, of which `case_sheet` tells the form. In the first two the input of a case has a
-//! line for segment 0, whose operators stand at level 2, and one for segment 1, at level 3: their words, each of 12 hexadecimal digits; lines
-//! that begin with `*` say what the words are. The code has one format, `<I5>`.
+//! line for segment 0, whose operators stand at level 2, and one for segment 1, at level 3: their words, each of 12 hexadecimal
+//! digits; lines that begin with `*` say what the words are. The code has one format, `<I5>`.
 //!
 //! In `operators.sheet` the words of a case are turns: by `p*n` process p performs n operators by themselves. The answer has a
 //! line for each turn, with what each of its operators came to, or MIXED; then S, F, the place and the word on top, tag and
