@@ -10,7 +10,7 @@ use Rattle.algol_tree.specs.declared.token.Token.{Token}
 use Rattle.algol_tree.specs.declared.token.TokenKind.{TokenKind}
 use Rattle.algol_tree.specs.Records.{Record, columns, records_of, spot_in}
 use Rattle.algol_tree.specs.Lexes.{Mode, Front, Piece, Wrong, Stands, token_at, Gives, stays, piece, IsRead, AreRead, all, next, Lexes, Fails, wrong, long, IsRefused, end_of}
-use Rattle.algol_lexer.specs.Outcome.{LexesOnly, RefusedOnly}
+use Rattle.algol_lexer.specs.Outcome.{Reads, LexesOnly, RefusedOnly}
 use Rattle.algol_lexer.proofs.LexOnly.{one_stands, FitsIn, stands_fits}
 
 -- one piece more
