@@ -5,6 +5,7 @@ use Rattle.std.specs.List.{All, AllByRecursion}
 use mathlib.Core.List.{reverse-cons}
 use Rattle.algol_tree.specs.Plain.{PProgram}
 use Rattle.algol_tree.specs.Scopes.{scopes_of}
+use Rattle.algol_meaning.specs.World.{World, is_able, process_at}
 use Rattle.algol_meaning.specs.Run.{run, start, may_go}
 use Rattle.algol_laws.specs.Kept.{EachRunGrows}
 use Rattle.b67_schedule.specs.Schedules.{entries, IsSchedule, Kept as Schedule}
@@ -27,7 +28,7 @@ use Rattle.b67_explain.specs.Explaining.{EndIs, IsLeft, IsTail, NextGoes, Explai
 use Rattle.b67_explain.specs.Telling.{CanBeTold, Tells, IsReportOf}
 use Rattle.b67_explain.proofs.Outputs.{run_writes}
 use Rattle.b67_explain.proofs.Printed.{listing_fine, output_fine}
-use Rattle.b67_explain.proofs.Naming.{IsOneOf, able_is_one, entries_are_there}
+use Rattle.b67_explain.proofs.Naming.{IsOneOf, able_is_one, going_is_able, entries_are_there}
 use Rattle.b67_explain.proofs.Summing.{from_on, from_on_sum, entries_by_process, sum_by_number}
 use Rattle.b67_explain.proofs.Tailed.{IsTailOf, tail_counted, each_may_go, tail_sum, sum_tails, tails_are_few, more_room}
 use Rattle.b67_explain.proofs.Ending.{acting, going_there, Said, said_of}
@@ -51,6 +52,11 @@ not_lacking Ran m end tells = refl
 not_lacking (Illegal number) m end tells = refl
 not_lacking BudgetSpent m end tells = refl
 not_lacking NoMemory m end tells = absurd tells
+
+-- who may go on is able
+able_if : (n : ℕ) (w : World) (p : ℕ) → (n ≡ 0) ⊎ (may_go w p ≡ true) → (n ≡ 0) ⊎ (is_able ((process_at w p).state) ≡ true)
+able_if n w p (inl e) = inl e
+able_if n w p (inr e) = inr (going_is_able w p e)
 
 -- where there is a tail, the next entry may go
 tail_may_go : (code : Code) (budget spent : ℕ) (done left : List ℕ) (tail : ℕ) (img : Image) (m : Kept) (answer : Replayed) →
@@ -238,6 +244,9 @@ module _ (grows : EachRunGrows) (tree : PProgram) (code : Code) (faithful : Fait
     each_goes : (p : ℕ) → (counted (tails_of replays.left replays.tail) p ≡ 0) ⊎ (may_go agrees.world p ≡ true)
     each_goes = each_may_go agrees.world replays.image.started replays.left replays.tail tailed tail_goes
 
+    each_able : (p : ℕ) → (counted (tails_of replays.left replays.tail) p ≡ 0) ⊎ (is_able ((process_at agrees.world p).state) ≡ true)
+    each_able p = able_if (counted (tails_of replays.left replays.tail) p) agrees.world p (each_goes p)
+
     pub all_within : sum report.operators ≤ budget
     all_within = omega (arith, all_operators, replays.within)
 
@@ -248,7 +257,7 @@ unfolding explained
 run_explained grows tree code faithful given budget m answer schedule replays processors lines report is valid listed own = record {
   explains = explained grows tree code faithful given budget m answer schedule replays processors lines report is valid listed;
   own = own;
-  goes = each_goes grows tree code faithful given budget m answer schedule replays processors lines report is valid listed;
+  able = each_able grows tree code faithful given budget m answer schedule replays processors lines report is valid listed;
 }
 
 pub replay_explained : (grows : EachRunGrows) (tree : PProgram) (code : Code) → Faithful tree code → (given : List ℕ) (budget : ℕ) (m : Kept) (answer : Replayed) (schedule : Schedule) →

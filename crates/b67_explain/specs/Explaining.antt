@@ -3,7 +3,7 @@ use Rattle.std.specs.Prelude.{◌≡◌, ◌≢◌, ◌⊎◌, ℕ, ◌+◌, ◌
 use Rattle.b67_list.specs.Numbered.{numbered}
 use Rattle.b67_words.specs.declared.TheConstants.{MOST_STRETCH}
 use Rattle.algol_tree.specs.Plain.{PProgram}
-use Rattle.algol_meaning.specs.World.{World}
+use Rattle.algol_meaning.specs.World.{World, is_able, process_at}
 use Rattle.algol_meaning.specs.Run.{run, may_go, end_of, finished, fault, all_waiting}
 use Rattle.b67_schedule.specs.Schedules.{entries}
 use Rattle.b67_report.specs.Reading.{IsReport}
@@ -88,12 +88,12 @@ IsOwnEnd ends.ScheduleEnded = ⊥
 IsOwnEnd (ends.Illegal entry) = ⊥
 IsOwnEnd end = Unit {0}
 
--- The report is one of a run of this source. Its end is its own, and only a process that may go on in the world has performed operators
+-- The report is one of a run of this source. Its end is its own, and only a process that is able in the world has performed operators
 -- after its last entry.
 pub record ExplainsRun (tree : PProgram) (processors budget : ℕ) (report : Report) : Type 0 where
   pub explains : Explains tree processors budget report
   pub own : IsOwnEnd report.end
-  pub goes : (p : ℕ) → (counted explains.tails p ≡ 0) ⊎ (may_go explains.world p ≡ true)
+  pub able : (p : ℕ) → (counted explains.tails p ≡ 0) ⊎ (is_able ((process_at explains.world p).state) ≡ true)
 
 -- ---- with one
 
