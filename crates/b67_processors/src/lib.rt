@@ -1,0 +1,169 @@
+//! A processor's loop: it takes parcels of a shop, works them, lands them and acts, until the shop is over.
+#![tactic(auto)]
+
+mod gates;
+
+ghost use Rattle.std.specs.Prelude.{◌≡◌, ℕ, ◌+◌, ◌<◌, ◌≤◌, ◌^◌, true};
+ghost use Rattle.b67_processors.specs.Acts.{IsActed, HasTaken, HasGiven};
+
+pub use gates::{Gate, Meeting, Open};
+use std::sync::Wait;
+use std::thread::Threads;
+
+/// What a take answers.
+#[derive(Clone, Copy, PartialEq, Eq, Debug)]
+pub enum Work {
+    /// There is a parcel to be worked.
+    Parcel,
+    /// There is nothing more to do.
+    Over,
+}
+
+/// What a landing answers.
+#[derive(Drop)]
+pub enum Landing<L> {
+    /// The parcel's end is in place, and an act may follow.
+    Landed(L),
+    /// The parcel does not begin with what is kept.
+    Stale,
+    /// The parcel's process is not out with this processor.
+    NotOut,
+    /// There is nothing more to do.
+    Over,
+}
+
+/// What an act answers.
+#[derive(Clone, Copy, PartialEq, Eq, Debug)]
+pub enum Acted {
+    /// An action was performed.
+    Went,
+    /// An action was performed, and its process waits.
+    Waits,
+    /// The process is not out with this processor.
+    NotOut,
+    /// There is nothing more to do, and no action was performed.
+    Over,
+    /// There is no memory for the action.
+    NoMemory,
+}
+
+/// Where processors get their work. A seat is a processor's: it has a count of acts, a count of leaves, and parts.
+pub trait Shop: Sync {
+    type Parcel;
+
+    type Seat;
+
+    type Pass: Drop;
+
+    ghost processors: { Self → ℕ };
+
+    ghost worked: { Self → Self.Parcel → Type 0 };
+
+    ghost count: { Self.Seat → ℕ };
+
+    ghost leaves: { Self.Seat → ℕ };
+
+    ghost parts: { Self.Seat → ℕ };
+
+    /// Waits for a parcel. An Over, and nothing else, is a leave.
+    fn take<R: Threads + Wait + Sync>(
+        &self,
+        rt: &R,
+        me: u32,
+        parcel: &mut Self::Parcel,
+        seat: &mut Self::Seat,
+    ) -> Work
+        requires { (1 ≤ me) × (me ≤ processors self.now) }
+        ensures leaves { HasTaken result (leaves seat.old) (leaves seat.new) }
+        ensures count { count seat.new ≡ count seat.old }
+        ensures parts { parts seat.new ≡ parts seat.old };
+
+    /// Works a parcel, by nobody's leave.
+    fn work(&self, parcel: &mut Self::Parcel) -> u32
+        ensures { worked self.now parcel.new };
+
+    /// Lands a parcel that was worked.
+    fn land<R: Threads + Wait + Sync>(
+        &self,
+        rt: &R,
+        me: u32,
+        parcel: &Self::Parcel,
+    ) -> Landing<Self::Pass>
+        requires me { (1 ≤ me) × (me ≤ processors self.now) }
+        requires worked { worked self.now parcel.now };
+
+    /// Performs an action, by leave of a landing.
+    fn act<R: Threads + Wait + Sync>(
+        &self,
+        rt: &R,
+        me: u32,
+        pass: Self::Pass,
+        seat: &mut Self::Seat,
+    ) -> Acted
+        requires { (1 ≤ me) × (me ≤ processors self.now) }
+        ensures count { IsActed result (count seat.old) (count seat.new) }
+        ensures fits { count seat.new < 2 ^ 64 }
+        ensures leaves { leaves seat.new ≡ leaves seat.old }
+        ensures parts { parts seat.new ≡ parts seat.old };
+}
+
+/// Takes, works, passes the gate, lands and acts until the shop is over, and answers how many acts were made.
+pub fn serve<S: Shop, G: Gate, R: Threads + Wait + Sync>(
+    rt: &R,
+    shop: &S,
+    gate: &G,
+    me: u32,
+    parcel: &mut S::Parcel,
+    seat: &mut S::Seat,
+) -> u64
+    requires { (1 ≤ me) × (me ≤ S.processors shop.now) }
+    ensures count { S.count seat.new ≡ S.count seat.old + result }
+    ensures leaves { S.leaves seat.new ≡ S.leaves seat.old + 1 }
+    ensures parts { S.parts seat.new ≡ S.parts seat.old }
+{
+    let mut acts = 0u64;
+    let mut turn = 0u64;
+    for _ in rt.forever() {
+        match shop.take(rt, me, parcel, seat) {
+            Work::Over => return acts,
+            Work::Parcel => {
+                shop.work(parcel);
+                gate.pass(rt, me, turn);
+                turn = turn.saturating_add(1);
+                if lands_and_acts(rt, shop, me, parcel, seat) {
+                    acts += 1;
+                }
+            }
+        }
+    }
+    unreachable!()
+}
+
+/// Lands the parcel and acts, and says whether an act was counted.
+fn lands_and_acts<S: Shop, R: Threads + Wait + Sync>(
+    rt: &R,
+    shop: &S,
+    me: u32,
+    parcel: &S::Parcel,
+    seat: &mut S::Seat,
+) -> bool
+    requires me { (1 ≤ me) × (me ≤ S.processors shop.now) }
+    requires worked { S.worked shop.now parcel.now }
+    ensures count { HasGiven result (S.count seat.old) (S.count seat.new) }
+    ensures fits { result ≡ true → S.count seat.new < 2 ^ 64 }
+    ensures leaves { S.leaves seat.new ≡ S.leaves seat.old }
+    ensures parts { S.parts seat.new ≡ S.parts seat.old }
+{
+    match shop.land(rt, me, parcel) {
+        Landing::Landed(pass) => match shop.act(rt, me, pass, seat) {
+            Acted::Went => true,
+            Acted::Waits => true,
+            Acted::NotOut => false,
+            Acted::Over => false,
+            Acted::NoMemory => false,
+        },
+        Landing::Stale => false,
+        Landing::NotOut => false,
+        Landing::Over => false,
+    }
+}

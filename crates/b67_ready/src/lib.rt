@@ -1,0 +1,97 @@
+//! Who waits for a processor: a queue under a rule.
+//!
+//! Processes are put at the rear. A take removes the one at the place that the rule picks, and the others close up.
+#![tactic(auto)]
+
+ghost use Rattle.std.specs.Prelude.{◌≡◌, ℕ, ◌+◌, ◌<◌, ◌≤◌, ◌^◌, [], ◌∷◌, ◌++◌, IfOk, length, Option, Some, List, slice_get};
+ghost use Rattle.b67_ready.specs.Ready.{Puts, Takes};
+ghost use Rattle.b67_ready.specs.Turning.{Move, taken, takes_in};
+
+mod order;
+
+pub use order::Order;
+use std::alloc::{AllocError, Global};
+use std::marker::Model;
+
+/// A rule of dispatch: which place of the queue the next take is of, by how many wait and how many takes there have been. It has no
+/// memory of its own, so that a schedule can be made again.
+pub trait Rule: Drop {
+    ghost pick: { Self → ℕ → ℕ → ℕ };
+
+    /// The place, counted from 0 at the earliest. The takes are counted up to the greatest number of 64 bits.
+    fn pick(&self, length: u32, takes: u64) -> u32
+        requires { 0 < length }
+        ensures value { result ≡ pick self.now length takes }
+        ensures below { result < length };
+}
+
+/// A queue of processes under a rule.
+#[derive(Drop)]
+pub struct Dispatcher<P: Rule> {
+    rule: P,
+    waiting: Vec<u32>,
+    takes: u64,
+}
+
+impl<P: Rule> Model for Dispatcher<P> {
+    ghost use Rattle.std.specs.Prelude.{◌<◌, ◌^◌, length};
+    ghost use Rattle.std.specs.Vec.{vec_capacity};
+    ghost use Rattle.b67_ready.specs.Ready.{Ready, ready_code};
+
+    ghost Value = { Ready P };
+
+    ghost coded = { ready_code P.code };
+
+    ghost view = { λ d. record { rule = d.rule; waiting = d.waiting.items; takes = d.takes; room = vec_capacity d.waiting } };
+
+    ghost invariant = { λ d. length d.waiting.items < 2 ^ 32 };
+}
+
+impl<P: Rule> Dispatcher<P> {
+    /// A queue in which nobody waits, with room for so many. Where memory lacks, the rule is let go.
+    pub fn new(alloc: Global, rule: P, room: u32) -> Result<Dispatcher<P>, AllocError>
+        ensures rule { IfOk result (λ d. d.rule ≡ rule) }
+        ensures empty { IfOk result (λ d. (d.waiting ≡ []) × (d.takes ≡ 0)) }
+        ensures room { IfOk result (λ d. room ≤ d.room) }
+    {
+        Ok(Dispatcher {
+            rule,
+            waiting: Vec::with_capacity(alloc, room as usize)?,
+            takes: 0,
+        })
+    }
+
+    /// Adds a process at the rear, for which there has to be room. Takes no memory.
+    pub fn put(&mut self, process: u32)
+        requires room { length self.old.waiting < self.old.room }
+        requires few { length self.old.waiting + 1 < 2 ^ 32 }
+        ensures { Puts self.old process self.new }
+    {
+        self.waiting.push(process).unwrap();
+    }
+
+    /// Removes the process at the place that the rule picks, and the others close up. None comes exactly where nobody waits, and then
+    /// no take is counted.
+    pub fn take(&mut self) -> Option<u32>
+        ensures { Takes P.pick self.old self.new result }
+    {
+        if self.waiting.is_empty() {
+            return None;
+        }
+        let at = self.rule.pick(self.waiting.len() as u32, self.takes);
+        self.takes = self.takes.saturating_add(1);
+        Some(self.waiting.remove(at as usize))
+    }
+
+    /// How many wait.
+    pub fn len(&self) -> u32
+        ensures { result ≡ length self.now.waiting }
+    {
+        self.waiting.len() as u32
+    }
+}
+
+/// Law: where the earliest is always picked, who waits at place k is taken by the take after k others.
+pub fn earliest_come_in_order()
+    ensures { (waiting : List ℕ) (k p n : ℕ) (moves : List Move) → slice_get waiting k ≡ Some p → k < takes_in moves → slice_get (taken (λ length takes. 0) waiting n moves) k ≡ Some p }
+{}
