@@ -216,7 +216,7 @@ arrays_made d kind ns ps names pairs is e f =
 
 pub case_within : (s : Stmt) (e : Expr) (ss : List Stmt) (among : List Stmt) → s ≡ forms.Case e ss → among ≡ ss →
     lows_in_stmts (plain.stmts among) ≡ lows_in_stmt (plain.stmt s)
-case_within s e ss among is same = ap (λ (xs : List Stmt). lows_in_stmts (plain.stmts xs)) same ∙ ap lows_in_stmt (sym (case_read s e ss is))
+case_within s e ss among is same = ap lows_in_stmt (sym (case_read s e ss among is same))
 
 pub body_added : (b : Body) (o : Option Lows) (spot : Spot) →
     or_lows (or_lows (or_lows o (lows_begun (plain.decls b.decls) spot)) (lows_in_decls (plain.decls b.decls) spot)) (lows_in_stmts (plain.stmts b.stmts) spot)
