@@ -20,7 +20,8 @@ use crate::stating::{
     decide_leaving, decide_store, decide_turn,
 };
 use crate::writing::decide_line;
-use algol_rest::Ask;
+use algol_rest::{Ask, Given, Place, Value};
+use algol_tree::{Body, Line, Named, Pair, PhraseText, Stmt};
 use algol_world::{Part, World};
 use std::alloc::{AllocError, Global};
 
@@ -65,6 +66,19 @@ pub fn decide<'p>(
     }
 }
 
+/// What an [`Ask`] refers to. The kit's borrow checker wants these types named where an ask that another crate made is lent.
+type Asked<'a, 'p> = (
+    &'a [Given<'p>],
+    &'a Place<'p>,
+    &'a [Value],
+    &'p [Stmt],
+    &'p Body,
+    &'p [Pair],
+    &'p [PhraseText],
+    &'p [Named],
+    &'p Line,
+);
+
 /// What the head of a part does.
 pub fn decide_part<'p>(
     world: &World<'p>,
@@ -74,6 +88,7 @@ pub fn decide_part<'p>(
 ) -> Result<Effect<'p>, AllocError>
     ensures { IfOk result (λ e. asked_choice world.now process part.now (asks.ask (rest (scoped world.now.scopes) part.now.rest)) ≡ effect_choice world.now process part.now e) }
 {
+    let _asked: Option<Asked<'_, 'p>> = None;
     let ask = part.rest.ask();
     decide(world, alloc, process, part, &ask)
 }
