@@ -1,0 +1,213 @@
+-- The first world is as worlds are.
+use Rattle.std.proofs.Common.{◌≡◌, ◌⊎◌, ℕ, zero, suc, ◌<◌, List, [], ◌∷◌, ◌++◌, Option, Some, None, true, false, refl, sym, ◌∙◌, subst, arith}
+use Rattle.std.specs.Prelude.{slice_get}
+use Rattle.b67_list.specs.Numbered.{numbered}
+use Rattle.algol_tree.specs.declared.tree.Kind.{Kind}
+use Rattle.algol_tree.specs.declared.tree.Named.{Named}
+use Rattle.algol_tree.specs.Plain as tree
+use Rattle.algol_tree.specs.Plain.{PDecls}
+use Rattle.algol_tree.specs.Sorts.{Parameter}
+use Rattle.algol_tree.specs.Blocks.{Block, block_numbered}
+use Rattle.algol_tree.specs.Scopes.{Scopes}
+use Rattle.algol_meaning.specs.Value.{initial_value, Value, NameCell, EventCell, Cell, simple, event}
+use Rattle.algol_meaning.specs.Rest.{Rest}
+use Rattle.algol_meaning.specs.Statements.{items_of, settle_items}
+use Rattle.algol_meaning.specs.World.{NamedCell, Instance, instance_at, cell_in, block, Part, Process, able, lives, World}
+use Rattle.algol_meaning.specs.Critical.{referred_in, referred_by}
+use Rattle.algol_meaning.specs.Instances.{parameter_cells, initial_cells, result_cells, variable_cells, fresh_cells}
+use Rattle.algol_meaning.specs.Asks.{nothing, ask}
+use Rattle.algol_meaning.specs.Run.{start}
+use Rattle.algol_paths.specs.Blocks.{IsSeen, IsSeenAround, IsInner}
+use Rattle.algol_paths.proofs.Statements.{declared_keeps}
+use Rattle.algol_standing.specs.Skeleton.{Evaluation, IsEvaluated, Stack, Home, IsIn, Owned, here, SkeletonOk}
+use Rattle.algol_standing.specs.Worlds.{home_of, held_in_rest, held_by, stack_of, skeleton, IsStanding, IsOnPath, IsOwn, IsAmong, outermost, IsNameHeld, IsWhole, PartOk, ProcessOk, InstanceOk, IsOk}
+use Rattle.algol_standing.specs.Laws.{HasOuterBlock}
+use Rattle.algol_standing.proofs.Lists.{none_some}
+use Rattle.algol_standing.proofs.Holding.{AreAll, items_hold}
+use Rattle.algol_standing.proofs.Seen.{in_either, evaluated_either}
+use Rattle.algol_standing.proofs.Changed.{IsPlain, ArePlain, refs_more, names_more, IsNoEvent, AreNoEvents, event_more}
+
+-- ---- the cells of a new instance without parameters
+
+simple_plain : (v : Value) → IsPlain (simple v)
+simple_plain v = (λ i n. absurd n, λ m n. absurd n)
+
+simple_no_event : (v : Value) → IsNoEvent (simple v)
+simple_no_event v e f = cc
+
+-- a plain cell, and no event
+abbrev AreSimple : List NamedCell → Type 0
+AreSimple cells = ArePlain cells × AreNoEvents cells
+
+both_simple : (xs ys : List NamedCell) → AreSimple xs → AreSimple ys → AreSimple (xs ++ ys)
+both_simple [] ys m n = n
+both_simple (x ∷ xs) ys m n =
+    let more = both_simple xs ys (m.0.1, m.1.1) n in
+    ((m.0.0, more.0), (m.1.0, more.1))
+
+parameters_simple : (ps : List Parameter) → AreSimple (parameter_cells ps [])
+parameters_simple [] = (tt, tt)
+parameters_simple (p ∷ ps) = (tt, tt)
+
+initial_simple : (kind : Kind) (ns : List Named) → AreSimple (initial_cells kind ns)
+initial_simple kind [] = (tt, tt)
+initial_simple kind (n ∷ ns) =
+    let more = initial_simple kind ns in
+    ((simple_plain (initial_value kind), more.0), (simple_no_event (initial_value kind), more.1))
+
+result_simple : (o : Option Kind) (name : List ℕ) → AreSimple (result_cells o name)
+result_simple None name = (tt, tt)
+result_simple (Some kind) name = ((simple_plain (initial_value kind), tt), (simple_no_event (initial_value kind), tt))
+
+variables_simple : (ds : PDecls) → AreSimple (variable_cells ds)
+variables_simple tree.no_decls = (tt, tt)
+variables_simple (tree.decls (tree.simple kind ns) ds) = both_simple (initial_cells kind ns) (variable_cells ds) (initial_simple kind ns) (variables_simple ds)
+variables_simple (tree.decls _ ds) = variables_simple ds
+
+fresh_simple : (b : Block) → AreSimple (fresh_cells b [])
+fresh_simple b =
+    both_simple (parameter_cells b.parameters [] ++ result_cells b.result b.name) (variable_cells b.decls)
+    (both_simple (parameter_cells b.parameters []) (result_cells b.result b.name) (parameters_simple b.parameters) (result_simple b.result b.name)) (variables_simple b.decls)
+
+-- ---- what plain cells refer to
+
+plain_refs : (cells : List Cell) (i : ℕ) → AreAll IsPlain cells → IsIn (referred_by cells) i → ⊥
+plain_refs [] i f n = n
+plain_refs (c ∷ cells) i f n = by (λ m. plain_refs cells i f.1 m) (in_either (referred_in c) (referred_by cells) i n)
+  where
+    by : (IsIn (referred_by cells) i → ⊥) → IsIn (referred_in c) i ⊎ IsIn (referred_by cells) i → ⊥
+    by g (◌⊎◌.inl m) = f.0.0 i m
+    by g (◌⊎◌.inr m) = g m
+
+plain_names : (cells : List Cell) (m : NameCell) → AreAll IsPlain cells → IsNameHeld cells m → ⊥
+plain_names [] m f n = n
+plain_names (c ∷ cells) m f (◌⊎◌.inl n) = f.0.1 m n
+plain_names (c ∷ cells) m f (◌⊎◌.inr n) = plain_names cells m f.1 n
+
+module _ (sc : Scopes) (o : HasOuterBlock sc) (acts : ask (settle_items sc (items_of (block_numbered sc.blocks 0))) ≡ nothing → ⊥) where
+  abbrev rest : Rest
+  rest = settle_items sc (items_of (block_numbered sc.blocks 0))
+
+  abbrev part : Part
+  part = record { instance = 1; purpose = block; rest = rest }
+
+  abbrev process : Process
+  process = record { todo = part ∷ []; critical = None; task = None; state = able }
+
+  abbrev instance : Instance
+  instance = record { block = 0; parent = 0; process = 1; cells = fresh_cells (block_numbered sc.blocks 0) []; left = false }
+
+  abbrev first : World
+  first = record { instances = instance ∷ []; processes = process ∷ []; output = []; fault = None }
+
+  cells_simple : AreSimple (fresh_cells (block_numbered sc.blocks 0) [])
+  cells_simple = fresh_simple (block_numbered sc.blocks 0)
+
+  held_plain : AreAll IsPlain (held_in_rest rest)
+  held_plain = (items_hold IsPlain simple_plain sc (items_of (block_numbered sc.blocks 0))).0
+
+  abbrev nobody : Stack
+  nobody = record { own = []; evaluations = []; critical = None; live = false }
+
+  stacks : (P : ℕ → Stack → Type 0) → P 0 nobody → P 1 (stack_of process) → (k : ℕ) (z : Stack) → slice_get (skeleton first).stacks k ≡ Some z → P k z
+  stacks P f g zero z e = let same : nobody ≡ z = cc in subst (λ s. P 0 s) same f
+  stacks P f g (suc zero) z e = let same : stack_of process ≡ z = cc in subst (λ s. P 1 s) same g
+  stacks P f g (suc (suc k)) z e = none_some e
+
+  processes : (P : ℕ → Process → Type 0) → P 1 process → (k : ℕ) (q : Process) → numbered first.processes k ≡ Some q → P k q
+  processes P f zero q e = none_some e
+  processes P f (suc zero) q e = let same : process ≡ q = cc in subst (λ s. P 1 s) same f
+  processes P f (suc (suc k)) q e = none_some e
+
+  instances : (P : ℕ → Instance → Type 0) → P 1 instance → (k : ℕ) (x : Instance) → numbered first.instances k ≡ Some x → P k x
+  instances P f zero x e = none_some e
+  instances P f (suc zero) x e = let same : instance ≡ x = cc in subst (λ s. P 1 s) same f
+  instances P f (suc (suc k)) x e = none_some e
+
+  stands : IsStanding first 1
+  stands = record { number = 1; stack = stack_of process; is = refl; inside = ◌⊎◌.inl refl }
+
+  no_refs : (i : ℕ) (h : Home) (r : ℕ) → slice_get (skeleton first).homes i ≡ Some h → IsIn h.refs r → ⊥
+  no_refs zero h r e n = let same : record { refs = []; process = 0 } ≡ h = cc in subst (λ (g : Home). IsIn g.refs r) (sym same) n
+  no_refs (suc zero) h r e n =
+      let same : home_of instance ≡ h = cc in
+      refs_more [] (fresh_cells (block_numbered sc.blocks 0) []) r cells_simple.0 (subst (λ (g : Home). IsIn g.refs r) (sym same) n)
+  no_refs (suc (suc k)) h r e n = none_some e
+
+  holds : (e : Evaluation) → IsEvaluated (held_by (part ∷ [])) e → IsIn (1 ∷ []) e.over × IsOnPath first e.over e.within
+  holds e n = by (evaluated_either 1 (1 ∷ referred_by (held_in_rest rest)) [] e n)
+    where
+      path : e.over ≡ 1 → IsIn (1 ∷ referred_by (held_in_rest rest)) e.within → IsOnPath first e.over e.within
+      path f (◌⊎◌.inl g) = subst (λ i. IsOnPath first e.over i) (f ∙ g) here
+      path f (◌⊎◌.inr m) = absurd (plain_refs (held_in_rest rest) e.within held_plain m)
+
+      by : ((e.over ≡ 1) × IsIn (1 ∷ referred_by (held_in_rest rest)) e.within) ⊎ IsEvaluated [] e → IsIn (1 ∷ []) e.over × IsOnPath first e.over e.within
+      by (◌⊎◌.inl f) = (◌⊎◌.inl (sym f.0), path f.0 f.1)
+      by (◌⊎◌.inr m) = absurd m
+
+  true_false : {A : Type 0} → false ≡ true → A
+  true_false e = cc
+
+  skeleton_first : SkeletonOk (skeleton first)
+  skeleton_first =
+      record {
+        owned = stacks (λ k z. Owned (skeleton first).homes k z.own) tt (home_of instance, refl, refl, λ b n. absurd n, tt);
+        ended = stacks (λ k z. z.live ≡ false → z.own ≡ []) (λ e. refl) (λ e. true_false (sym e));
+        known = λ i h r e n. absurd (no_refs i h r e n);
+        refers = λ i h r st e n. absurd (no_refs i h r e n);
+        evaluates = λ k z e g n. stacks (λ k z. IsEvaluated z.evaluations e → IsIn z.own e.over × IsOnPath first e.over e.within) (λ m. absurd m) (λ m. holds e m) k z g n;
+        holds = λ k z c g. stacks (λ k z. z.live ≡ true → z.critical ≡ Some c → IsStanding first c) (λ e f. true_false e) (λ e f. none_some f) k z g;
+      }
+
+  part_first : PartOk sc IsWhole first part
+  part_first =
+      record {
+        text = declared_keeps (IsSeen sc 0) (IsInner sc 0) (IsSeenAround sc 0) sc (items_of (block_numbered sc.blocks 0)) o.text;
+        narrow = λ e. true_false e;
+        names = λ m n. absurd (plain_names (held_in_rest rest) m held_plain n);
+      }
+
+  process_first : ProcessOk sc IsWhole first process
+  process_first =
+      record {
+        parts = parts;
+        heads = λ live. record { part = part; outer = []; is = refl; acts = acts; wait = λ x n. absurd n };
+        gives = (items_hold IsPlain simple_plain sc (items_of (block_numbered sc.blocks 0))).1;
+        awaited = λ r n. absurd n;
+      }
+    where
+      parts : (x : Part) → IsAmong (part ∷ []) x → PartOk sc IsWhole first x
+      parts x (◌⊎◌.inl e) = subst (λ y. PartOk sc IsWhole first y) e part_first
+      parts x (◌⊎◌.inr n) = absurd n
+
+  instance_first : InstanceOk sc IsWhole first 1 instance
+  instance_first =
+      record {
+        left = (λ e. stands, λ st. refl);
+        known = o.known;
+        placed = outermost refl o.outermost;
+        whole = λ st h. absurd (omega (arith, h));
+        actuals = λ m st n. absurd (names_more [] (fresh_cells (block_numbered sc.blocks 0) []) m cells_simple.0 n);
+      }
+
+  no_event : (i : ℕ) (name : List ℕ) (e : EventCell) → cell_in ((instance_at first i).cells) name ≡ event e → ⊥
+  no_event zero name e f = cc
+  no_event (suc zero) name e f = let g = event_more [] (fresh_cells (block_numbered sc.blocks 0) []) name e cells_simple.1 f in cc
+  no_event (suc (suc k)) name e f = cc
+
+  first_ok : IsOk sc IsWhole first
+  first_ok =
+      record {
+        skeleton_ok = skeleton_first;
+        instances = instances (λ i x. InstanceOk sc IsWhole first i x) instance_first;
+        processes = processes (λ k q. ProcessOk sc IsWhole first q) process_first;
+        older = λ k c q e. processes (λ k q. lives q.state ≡ true → q.critical ≡ Some c → (i : ℕ) → IsOwn q.todo i → c < i) (λ live f. none_some f) k q e;
+        first = λ q e. processes (λ k q. (q.critical ≡ None) × (q.task ≡ None)) (refl, refl) 1 q e;
+        later = λ k q e. none_some e;
+        tasks = λ k c q r e. processes (λ k q. lives q.state ≡ true → q.critical ≡ Some c → q.task ≡ Some r → IsOnPath first c r.instance) (λ live f. none_some f) k q e;
+        listed = λ r e st f. absurd (no_event r.instance r.name e f);
+      }
+
+pub first_world : (sc : Scopes) → HasOuterBlock sc → (ask (settle_items sc (items_of (block_numbered sc.blocks 0))) ≡ nothing → ⊥) → IsOk sc IsWhole (start sc)
+unfolding start
+first_world sc o acts = first_ok sc o acts

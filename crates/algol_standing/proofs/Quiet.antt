@@ -1,0 +1,214 @@
+-- Actions that change no stack and no event keep what worlds are: reads, stores, places, lines, loops, choices, arrays and faults.
+use Rattle.std.proofs.Common.{◌≡◌, ◌⊎◌, ℕ, List, [], ◌∷◌, ◌++◌, Option, Some, None, Bool, true, false, refl, sym, ap, ◌∙◌, subst}
+use Rattle.std.specs.Prelude.{if◌then◌else◌}
+use Rattle.b67_list.specs.Numbered.{numbered, set_numbered}
+use Rattle.b67_num.specs.declared.FaultKind.{FaultKind}
+use Rattle.b67_num.specs.declared.FaultKind.TheVariants as fault
+use Rattle.algol_tree.specs.declared.tree.Kind.{Kind}
+use Rattle.algol_tree.specs.declared.tree.Named.{Named}
+use Rattle.algol_tree.specs.Scopes.{Scopes}
+use Rattle.algol_meaning.specs.Value.{Value, Reference, EventCell, Bounds, ArrayCell, Cell, simple, event, array, named, reference}
+use Rattle.algol_meaning.specs.Rest.{Place, own, there, element_of, Rest, Answer, done, value, place}
+use Rattle.algol_meaning.specs.Settle.{settle_actual_place}
+use Rattle.algol_meaning.specs.World.{instance_at, cell_at, set_cell, add_cells, by_cell, followed, value_in, array_in, name_place, Part, Process, able, lives, with_process, World}
+use Rattle.algol_meaning.specs.Arrays.{element_at, with_element, new_array, new_arrays, has_wrong_size, has_no_room}
+use Rattle.algol_meaning.specs.Actions as actions
+use Rattle.algol_meaning.specs.Actions.{Action}
+use Rattle.algol_meaning.specs.Asks as asks
+use Rattle.algol_meaning.specs.Asks.{Ask, nothing, ask, resume, located_of}
+use Rattle.algol_meaning.specs.Choice.{Choice, is_subscripted, goes, opens, fails, home, here, read_of, resolved_of, indexed_at, element_read_at, stored, made_arrays}
+use Rattle.algol_paths.specs.Blocks.{IsSeen, IsSeenAround, IsInner}
+use Rattle.algol_standing.specs.Skeleton.{IsIn}
+use Rattle.algol_standing.specs.Worlds.{held_in_answer, newest_own, stack_of, IsOnPath, IsAwaited, AreListed, IsWhole, IsOk}
+use Rattle.algol_standing.specs.Actions.{IsQuiet}
+use Rattle.algol_standing.proofs.Lists.{some_same}
+use Rattle.algol_standing.proofs.Holding.{AreAll, IsForeign}
+use Rattle.algol_standing.proofs.Pairs.{AllPairs, pairs_self, pairs_then_set, stack_forth}
+use Rattle.algol_standing.proofs.Alike.{InstanceAlike, ProcessAlike, instance_self, process_self, alike_ok}
+use Rattle.algol_standing.proofs.Seen.{CellOk, part_ok, home_path, cell_here}
+use Rattle.algol_standing.proofs.Resumed.{Unmoved, unmoved_self, Moved, resumed, resumed_ok}
+use Rattle.algol_standing.proofs.Changed.{IsPlain, ArePlain, set_alike, add_alike, IsNoEvent, AreNoEvents, set_event_before, add_event_before, listed_still}
+use Rattle.algol_standing.proofs.Asking.{Sees, Suits, rest_sees}
+
+simple_plain : (v : Value) → IsPlain (simple v)
+simple_plain v = (λ i n. absurd n, λ m n. absurd n)
+
+array_plain : (a : ArrayCell) → IsPlain (array a)
+array_plain a = (λ i n. absurd n, λ m n. absurd n)
+
+simple_no_event : (v : Value) → IsNoEvent (simple v)
+simple_no_event v e f = cc
+
+array_no_event : (a : ArrayCell) → IsNoEvent (array a)
+array_no_event a e f = cc
+
+arrays_plain : (kind : Kind) (bs : List Bounds) (ns : List Named) → ArePlain (new_arrays kind bs ns)
+arrays_plain kind bs [] = tt
+arrays_plain kind bs (n ∷ ns) = ((λ i n. absurd n, λ m n. absurd n), arrays_plain kind bs ns)
+
+new_no_event : (kind : Kind) (bs : List Bounds) → IsNoEvent (new_array kind bs)
+new_no_event kind bs e f = cc
+
+arrays_no_events : (kind : Kind) (bs : List Bounds) (ns : List Named) → AreNoEvents (new_arrays kind bs ns)
+arrays_no_events kind bs [] = tt
+arrays_no_events kind bs (n ∷ ns) = (new_no_event kind bs, arrays_no_events kind bs ns)
+
+-- nothing of instances and processes changes
+pub same_ok : (sc : Scopes) (w v : World) → IsOk sc IsWhole w → v.instances ≡ w.instances → v.processes ≡ w.processes → IsOk sc IsWhole v
+same_ok sc w v ok e f =
+    alike_ok w v (subst (λ xs. AllPairs InstanceAlike w.instances xs) (sym e) (pairs_self InstanceAlike instance_self w.instances))
+    (subst (λ xs. AllPairs ProcessAlike w.processes xs) (sym f) (pairs_self ProcessAlike process_self w.processes)) sc IsWhole
+    (λ i h. record { number = h.number; process = h.process; part = h.part; is = ap (λ qs. numbered qs h.number) f ∙ h.is; among = h.among; owns = h.owns; instance_is = h.instance_is; made = h.made })
+    ok (λ k q g. ok.processes k q (ap (λ qs. numbered qs k) (sym f) ∙ g))
+    (λ k q x g n. ok.skeleton_ok.evaluates k (stack_of q) x (stack_forth w k q (ap (λ qs. numbered qs k) (sym f) ∙ g)) n)
+    (λ r x st g. listed r x (ok.listed r x st (cells r x g)))
+  where
+    cells : (r : Reference) (x : EventCell) → cell_at v r ≡ event x → cell_at w r ≡ event x
+    cells r x g = subst (λ xs. cell_at (record w { instances = xs }) r ≡ event x) e g
+
+    listed : (r : Reference) (x : EventCell) → AreListed w r x → AreListed v r x
+    listed r x l = subst (λ qs. AreListed (record w { instances = v.instances; processes = qs; output = v.output; fault = v.fault }) r x) (sym f)
+        (record { waiters = l.waiters; procurers = l.procurers })
+
+module _ (sc : Scopes) (heads_act : (r : Rest) (a : Answer) → Suits (ask r) a → ask (resume sc r a) ≡ nothing → ⊥) (w : World) (ok : IsOk sc IsWhole w) (p : ℕ) (q : Process) (part : Part) (outer : List Part)
+    (is : numbered w.processes p ≡ Some q) (todo : q.todo ≡ part ∷ outer) (able_is : q.state ≡ able) where
+  abbrev Held : Cell → Type 0
+  Held = CellOk sc IsWhole w ok (newest_own (part ∷ outer))
+
+  pub live : lives q.state ≡ true
+  live = ap lives able_is
+
+  pub waits_not : (r : Reference) → IsAwaited q.state r → IsOnPath w (newest_own (part ∷ outer)) r.instance
+  waits_not r n = absurd (subst (λ s. IsAwaited s r) able_is n)
+
+  -- ---- the part goes on with an answer
+
+  module _ (a : Answer) (foreign : IsForeign a) (brings : AreAll Held (held_in_answer a)) (suits : Suits (ask part.rest) a) (after : World)
+      (instances : AllPairs InstanceAlike w.instances after.instances) (same : after.processes ≡ w.processes)
+      (events : (r : Reference) (e : EventCell) → cell_at after r ≡ event e → cell_at w r ≡ event e) where
+    pub acts : ask (resume sc part.rest a) ≡ nothing → ⊥
+    acts = heads_act part.rest a suits
+
+    abbrev moved : Process
+    moved = resumed sc w ok p q part outer is todo live a foreign brings acts q.state live waits_not
+
+    abbrev MovedHere : Process → Process → Type 0
+    MovedHere = Moved sc w ok p q part outer is todo live a foreign brings acts q.state live waits_not
+
+    processes : AllPairs MovedHere w.processes (set_numbered after.processes p moved)
+    processes =
+        subst (λ qs. AllPairs MovedHere w.processes (set_numbered qs p moved)) (sym same)
+        (pairs_then_set Unmoved MovedHere (λ x y f. ◌⊎◌.inr f) w.processes w.processes p moved (pairs_self Unmoved unmoved_self w.processes)
+        (λ x e. ◌⊎◌.inl (some_same e is, refl)))
+
+    pub goes_ok : IsOk sc IsWhole (with_process after p moved)
+    goes_ok =
+        resumed_ok sc w ok p q part outer is todo live a foreign brings acts q.state live waits_not (with_process after p moved) instances processes
+        (λ r e st f. listed_still w (with_process after p moved) p q moved is able_is (ap (λ qs. set_numbered qs p moved) same) r e (ok.listed r e st (events r e f)))
+
+  -- .. where no cell changes
+  pub same_goes : (a : Answer) → IsForeign a → AreAll Held (held_in_answer a) → Suits (ask part.rest) a → IsOk sc IsWhole (with_process w p (record q { todo = record part { rest = resume sc part.rest a } ∷ outer }))
+  same_goes a f b s = goes_ok a f b s w (pairs_self InstanceAlike instance_self w.instances) refl (λ r e g. g)
+
+  -- ---- choices
+
+  abbrev pub Keeps : Choice → Type 0
+  Keeps c = IsQuiet c.action → IsOk sc IsWhole c.world
+
+  pub either : (b : Bool) (c d : Choice) → Keeps c → Keeps d → Keeps (if b then c else d)
+  either true c d f g = f
+  either false c d f g = g
+
+  pub fails_keeps : (k : FaultKind) → Keeps (fails sc w p q part outer k)
+  fails_keeps k m = same_ok sc w (fails sc w p q part outer k).world ok refl refl
+
+  abbrev seen : Named → Type 0
+  seen n = IsSeen sc ((instance_at w part.instance).block) n
+
+  at_home : (n : Named) → seen n → IsOnPath w (newest_own (part ∷ outer)) (home sc w p q part outer n)
+  at_home n s = home_path sc IsWhole w ok p q part outer is todo n s
+
+  -- what a reference leads to lies on the path
+  led_path : (n : Named) → seen n → (c : Cell) → Held c → IsOnPath w (newest_own (part ∷ outer)) (by_cell c (here sc w p q part outer n)).instance
+  led_path n s (reference r) h = h.0 r.instance (◌⊎◌.inl refl)
+  led_path n s (simple v) h = at_home n s
+  led_path n s (event e) h = at_home n s
+  led_path n s (array a) h = at_home n s
+  led_path n s (named c) h = at_home n s
+
+  pub at_followed : (n : Named) → seen n → IsOnPath w (newest_own (part ∷ outer)) (followed w (here sc w p q part outer n)).instance
+  at_followed n s = led_path n s (cell_at w (here sc w p q part outer n)) (cell_here sc IsWhole w ok p q part outer is todo n s)
+
+  to_there : (r : Reference) → IsOnPath w (newest_own (part ∷ outer)) r.instance → Held (reference r)
+  to_there r l = (by, λ m n. absurd n)
+    where
+      by : (i : ℕ) → IsIn (r.instance ∷ []) i → IsOnPath w (newest_own (part ∷ outer)) i
+      by i (◌⊎◌.inl e) = subst (λ j. IsOnPath w (newest_own (part ∷ outer)) j) e l
+      by i (◌⊎◌.inr n) = absurd n
+
+  module _ (x : Ask) (e : ask part.rest ≡ x) where
+    pub sees : Sees seen x
+    sees =
+        subst (λ y. Sees seen y) e
+        (rest_sees seen (IsInner sc ((instance_at w part.instance).block)) (IsSeenAround sc ((instance_at w part.instance).block)) (λ n s. s.0) part.rest
+        (part_ok sc IsWhole w ok p q part outer is todo).text)
+
+    pub suited : (a : Answer) → Suits x a → Suits (ask part.rest) a
+    suited a s = subst (λ y. Suits y a) (sym e) s
+
+    pub value_goes : (action : Action) (v : Value) → Suits x (value v) → Keeps (goes sc w p q part outer action w (value v))
+    value_goes action v s m = same_goes (value v) tt tt (suited (value v) s)
+
+    pub done_goes : (action : Action) → Suits x done → Keeps (goes sc w p q part outer action w done)
+    done_goes action s m = same_goes done tt tt (suited done s)
+
+  pub read_keeps : (n : Named) → ask part.rest ≡ asks.reads n → (c : Cell) → Keeps (read_of sc w p q part outer c)
+  read_keeps n e (named c) m = absurd m
+  read_keeps n e (reference r) m = value_goes (asks.reads n) e actions.Read (value_in (cell_at w r)) tt m
+  read_keeps n e (simple v) m = value_goes (asks.reads n) e actions.Read v tt m
+  read_keeps n e (event d) m = value_goes (asks.reads n) e actions.Read (value_in (event d)) tt m
+  read_keeps n e (array a) m = value_goes (asks.reads n) e actions.Read (value_in (array a)) tt m
+
+  place_goes : (n : Named) → ask part.rest ≡ asks.resolves n → (r : Reference) → IsOnPath w (newest_own (part ∷ outer)) r.instance →
+      Keeps (goes sc w p q part outer actions.Resolve w (place (there r)))
+  place_goes n e r l m = same_goes (place (there r)) tt (to_there r l, tt) (suited (asks.resolves n) e (place (there r)) tt)
+
+  pub resolved_keeps : (n : Named) → ask part.rest ≡ asks.resolves n → seen n → (c : Cell) → Held c → Keeps (resolved_of sc w p q part outer n c)
+  resolved_keeps n e s (named c) h =
+      either (is_subscripted c.actual) (opens sc w p q part outer w (record { instance = c.instance; purpose = name_place; rest = located_of (settle_actual_place sc c.actual) }))
+      (fails sc w p q part outer fault.NotAVariable) (λ m. absurd m) (fails_keeps fault.NotAVariable)
+  resolved_keeps n e s (reference r) h = place_goes n e r (h.0 r.instance (◌⊎◌.inl refl))
+  resolved_keeps n e s (simple v) h = place_goes n e (here sc w p q part outer n) (at_home n s)
+  resolved_keeps n e s (event d) h = place_goes n e (here sc w p q part outer n) (at_home n s)
+  resolved_keeps n e s (array a) h = place_goes n e (here sc w p q part outer n) (at_home n s)
+
+  pub indexed_keeps : (n : Named) (ks : List ℕ) (v : Value) → ask part.rest ≡ asks.indexes n ks v → (r : Reference) → IsOnPath w (newest_own (part ∷ outer)) r.instance → (o : Option ℕ) →
+      Keeps (indexed_at sc w p q part outer r ks o)
+  indexed_keeps n ks v e r l None = fails_keeps fault.InvalidIndex
+  indexed_keeps n ks v e r l (Some k) =
+      λ m. same_goes (place (element_of r (ks ++ k ∷ []))) tt (to_there r l, tt) (suited (asks.indexes n ks v) e (place (element_of r (ks ++ k ∷ []))) tt)
+
+  pub element_keeps : (n : Named) (ks : List ℕ) (v : Value) → ask part.rest ≡ asks.reads_element n ks v → (a : ArrayCell) (o : Option ℕ) → Keeps (element_read_at sc w p q part outer a ks o)
+  element_keeps n ks v e a None = fails_keeps fault.InvalidIndex
+  element_keeps n ks v e a (Some k) = value_goes (asks.reads_element n ks v) e actions.ElementRead (element_at a (ks ++ k ∷ [])) tt
+
+  module _ (x : Place) (v : Value) (e : ask part.rest ≡ asks.stores x v) where
+    set_goes : (r : Reference) (c : Cell) → IsPlain c → IsNoEvent c → IsOk sc IsWhole (with_process (set_cell w r c) p (record q { todo = record part { rest = resume sc part.rest done } ∷ outer }))
+    set_goes r c plain without = goes_ok done tt tt (suited (asks.stores x v) e done tt) (set_cell w r c) (set_alike w r c plain) refl (set_event_before w r c without)
+
+  pub stored_keeps : (x : Place) (v : Value) → ask part.rest ≡ asks.stores x v → Keeps (stored sc w p q part outer x v)
+  stored_keeps (own n) v e m = set_goes (own n) v e (here sc w p q part outer n) (simple v) (simple_plain v) (simple_no_event v)
+  stored_keeps (there r) v e m = set_goes (there r) v e r (simple v) (simple_plain v) (simple_no_event v)
+  stored_keeps (element_of r ks) v e m =
+      set_goes (element_of r ks) v e r (array (with_element (array_in (cell_at w r)) ks v)) (array_plain (with_element (array_in (cell_at w r)) ks v))
+      (array_no_event (with_element (array_in (cell_at w r)) ks v))
+
+  pub arrays_keep : (x : Ask) → ask part.rest ≡ x → Suits x done → (kind : Kind) (ns : List Named) (bs : List Bounds) → Keeps (made_arrays sc w p q part outer kind ns bs)
+  arrays_keep x e s kind ns bs =
+      either (has_wrong_size bs) (fails sc w p q part outer fault.ArraySize)
+      (if has_no_room w bs ns then fails sc w p q part outer fault.CoreFull else goes sc w p q part outer actions.MakeArrays (add_cells w part.instance (new_arrays kind bs ns)) done)
+      (fails_keeps fault.ArraySize)
+      (either (has_no_room w bs ns) (fails sc w p q part outer fault.CoreFull)
+      (goes sc w p q part outer actions.MakeArrays (add_cells w part.instance (new_arrays kind bs ns)) done) (fails_keeps fault.CoreFull)
+      (λ m. goes_ok done tt tt (suited x e done s) (add_cells w part.instance (new_arrays kind bs ns)) (add_alike w part.instance (new_arrays kind bs ns) (arrays_plain kind bs ns)) refl
+      (add_event_before w part.instance (new_arrays kind bs ns) (arrays_no_events kind bs ns))))

@@ -1,0 +1,73 @@
+-- The laws of skeletons and of worlds: each change that an action makes keeps them, and what is referred to stands.
+use Rattle.std.specs.Prelude.{◌≡◌, ℕ, ◌<◌, ◌≤◌, Bool, true, false, List, [], ◌∷◌, ◌++◌, length, Some, slice_get}
+use Rattle.b67_list.specs.Numbered.{numbered}
+use Rattle.algol_tree.specs.Blocks.{block_numbered, around}
+use Rattle.algol_tree.specs.Scopes.{Scopes}
+use Rattle.algol_meaning.specs.Value.{Reference}
+use Rattle.algol_meaning.specs.World.{Instance, instance_at, Part, Process, lives, World}
+use Rattle.algol_meaning.specs.Critical.{referred_by}
+use Rattle.algol_meaning.specs.Statements.{items_of}
+use Rattle.algol_meaning.specs.Choice.{choice}
+use Rattle.algol_meaning.specs.Run.{start, may_go}
+use Rattle.algol_paths.specs.Laws.{ItemsKeepToText}
+use Rattle.algol_standing.specs.Worlds.{referred_in_cells, held_in_rest, IsAmong, IsWhole, IsOk}
+use Rattle.algol_standing.specs.Actions.{IsQuiet}
+use Rattle.algol_standing.specs.Skeleton.{Evaluation, IsEvaluated, Stack, Skeleton, IsIn, Stands, OnPath, FirstOf, SkeletonOk, AreFree, AreIdle, entered, started, left, evaluated}
+
+-- all of these lie on the path from that instance
+abbrev pub AllOnPath : Skeleton → ℕ → List ℕ → Type 0
+AllOnPath s i refs = (x : ℕ) → IsIn refs x → OnPath s i x
+
+pub record SkeletonsAreKept : Type 0 where
+  -- by a new instance on top of a stack, which refers to what lies on the path from the top
+  pub enters : (s : Skeleton) (p : ℕ) (q : Stack) (i : ℕ) (r refs : List ℕ) → SkeletonOk s → slice_get s.stacks p ≡ Some q → q.own ≡ i ∷ r → AllOnPath s i refs →
+      SkeletonOk (entered s p q refs)
+  -- by a new stack, whose critical instance is the first on its starter's path of those that its base refers to
+  pub starts : (s : Skeleton) (i c : ℕ) (refs : List ℕ) → SkeletonOk s → Stands s i → FirstOf s refs i c → AllOnPath s i refs → SkeletonOk (started s refs c)
+  -- by the leaving of the newest instance of a stack, which no live process depends on and above which nothing is held
+  pub leaves : (s : Skeleton) (p : ℕ) (q : Stack) (i : ℕ) (r : List ℕ) (live : Bool) → SkeletonOk s → slice_get s.stacks p ≡ Some q → q.own ≡ i ∷ r → AreFree s (i ∷ []) →
+      AreIdle q.evaluations (i ∷ []) → (live ≡ false → r ≡ []) → (live ≡ true → q.live ≡ true) → SkeletonOk (left s p q r live)
+  -- by other evaluations in a stack, each above one of its instances and within one on the path from there
+  pub evaluates : (s : Skeleton) (p : ℕ) (q : Stack) (es : List Evaluation) → SkeletonOk s → slice_get s.stacks p ≡ Some q →
+      ((e : Evaluation) → IsEvaluated es e → IsIn q.own e.over × OnPath s e.over e.within) → SkeletonOk (evaluated s p q es)
+  -- by a GO TO, which leaves the newest instances of a stack
+  pub goes : (s : Skeleton) (p : ℕ) (q : Stack) (newer rest : List ℕ) → SkeletonOk s → slice_get s.stacks p ≡ Some q → q.own ≡ newer ++ rest → q.live ≡ true → AreFree s newer →
+      AreIdle q.evaluations newer → SkeletonOk (left s p q rest true)
+
+pub record PathsStand : Type 0 where
+  -- what lies on the path of a standing instance stands
+  pub stands : (s : Skeleton) (a b : ℕ) → SkeletonOk s → Stands s a → OnPath s a b → Stands s b
+  -- where one of these lies on the path from i, there is a first, and all of them that lie on the path from i lie on the path from that
+  pub first : (s : Skeleton) (refs : List ℕ) (i x : ℕ) → SkeletonOk s → IsIn refs x → OnPath s i x → (c : ℕ) × FirstOf s refs i c
+  pub leads : (s : Skeleton) (refs : List ℕ) (i c x : ℕ) → SkeletonOk s → FirstOf s refs i c → IsIn refs x → OnPath s i x → OnPath s c x
+
+-- Of a world that is as worlds are, nothing that is in use names an instance that was left.
+pub record WhatIsReferredToStands : Type 0 where
+  -- the parent of an instance
+  pub parents : (sc : Scopes) (w : World) (i : ℕ) (x : Instance) → IsOk sc IsWhole w → numbered w.instances i ≡ Some x → x.left ≡ false → 1 ≤ x.parent →
+      (instance_at w x.parent).left ≡ false
+  -- the instances of its References and Names
+  pub cells : (sc : Scopes) (w : World) (i r : ℕ) (x : Instance) → IsOk sc IsWhole w → numbered w.instances i ≡ Some x → x.left ≡ false →
+      IsIn (referred_in_cells x.cells) r → (instance_at w r).left ≡ false
+  -- the critical instance and the task of a live process
+  pub criticals : (sc : Scopes) (w : World) (p c : ℕ) (q : Process) → IsOk sc IsWhole w → numbered w.processes p ≡ Some q → lives q.state ≡ true →
+      q.critical ≡ Some c → (instance_at w c).left ≡ false
+  pub tasks : (sc : Scopes) (w : World) (p : ℕ) (q : Process) (r : Reference) → IsOk sc IsWhole w → numbered w.processes p ≡ Some q → lives q.state ≡ true →
+      q.task ≡ Some r → (instance_at w r.instance).left ≡ false
+  -- the instance of a part, and those of the places and cells that it holds
+  pub parts : (sc : Scopes) (w : World) (p : ℕ) (q : Process) (x : Part) (i : ℕ) → IsOk sc IsWhole w → numbered w.processes p ≡ Some q → IsAmong q.todo x →
+      IsIn (x.instance ∷ referred_by (held_in_rest x.rest)) i → (instance_at w i).left ≡ false
+
+-- Actions that change no stack and no event keep what worlds are.
+abbrev pub QuietActionsKeepWorlds : Type 0
+QuietActionsKeepWorlds =
+    (sc : Scopes) (w : World) (p : ℕ) → IsOk sc IsWhole w → may_go w p ≡ true → IsQuiet ((choice sc w p).action) → IsOk sc IsWhole ((choice sc w p).world)
+
+-- The outer block comes first, nothing is around it, and its items keep to its text.
+pub record HasOuterBlock (sc : Scopes) : Type 0 where
+  pub known : 0 < length sc.blocks
+  pub outermost : around sc.blocks 0 ≡ []
+  pub text : ItemsKeepToText sc 0 (items_of (block_numbered sc.blocks 0))
+
+abbrev pub FirstWorldStands : Type 0
+FirstWorldStands = (sc : Scopes) → HasOuterBlock sc → IsOk sc IsWhole (start sc)

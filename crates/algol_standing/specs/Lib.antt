@@ -1,0 +1,4 @@
+pub mod Skeleton
+pub mod Worlds
+pub mod Actions
+pub mod Laws
