@@ -10,7 +10,7 @@ use Rattle.algol_laws.proofs.Heads.{is_answer, is_place, items_act, resume_acts}
 use Rattle.algol_laws.proofs.Standing.{asks_place, awaiting_asks}
 use Rattle.algol_standing.proofs.Asking.{Suits}
 
-acting : (x : Ask) → is_action x ≡ true → x ≡ nothing → ⊥
+pub acting : (x : Ask) → is_action x ≡ true → x ≡ nothing → ⊥
 acting x e f = let g : false ≡ true = subst (λ y. is_action y ≡ true) f e in cc
 
 none_enters : (x : Ask) → Suits x entered → ⊥

@@ -7,11 +7,11 @@ use Rattle.algol_tree.specs.Scopes.{Scopes}
 use Rattle.algol_meaning.specs.Value.{Reference, NameCell, EventCell, event}
 use Rattle.algol_meaning.specs.World.{Instance, or_no_instance, Part, Process, lives, World, instance_at, cell_at}
 use Rattle.algol_meaning.specs.Critical.{own_instances}
-use Rattle.algol_paths.specs.Blocks.{IsSeen, IsSeenAround, IsInner}
+use Rattle.algol_paths.specs.Blocks.{IsSeen, IsSeenAround}
 use Rattle.algol_paths.specs.Texts.{InExpr, InRest}
 use Rattle.algol_paths.specs.Laws.{KeepsToText}
 use Rattle.algol_standing.specs.Skeleton.{Evaluation, IsEvaluated, Stack, Home, IsIn, NextIn, Owned, SkeletonOk}
-use Rattle.algol_standing.specs.Worlds.{home_of, held_by, stack_of, skeleton, IsStanding, IsOnPath, IsOwn, IsPlaced, outermost, inside, AreListed, IsNameAmong, KeepsActual, PartOk, ProcessOk, InstanceOk, IsOk}
+use Rattle.algol_standing.specs.Worlds.{home_of, held_by, stack_of, skeleton, IsStanding, IsOnPath, IsOwn, IsPlaced, outermost, inside, AreListed, IsNameAmong, IsNoBlock, KeepsActual, PartOk, ProcessOk, InstanceOk, IsOk}
 use Rattle.algol_standing.proofs.Growth.{Grows, stands_up, path_up}
 use Rattle.algol_standing.proofs.Pairs.{map_back, map_forth, map_length, AllPairs, numbered_back, numbered_forth, pairs_length, stack_back}
 
@@ -175,10 +175,10 @@ module _ (w v : World) (instances : AllPairs InstanceAlike w.instances v.instanc
           names = λ n m. actual_too n (k.names n m);
         }
       where
-        by : Whole w x.instance ⊎ InRest (IsSeenAround sc ((instance_at w x.instance).block)) (IsInner sc ((instance_at w x.instance).block)) (IsSeenAround sc ((instance_at w x.instance).block)) x.rest →
-            Whole v x.instance ⊎ InRest (IsSeenAround sc ((instance_at v x.instance).block)) (IsInner sc ((instance_at v x.instance).block)) (IsSeenAround sc ((instance_at v x.instance).block)) x.rest
+        by : Whole w x.instance ⊎ InRest (IsSeenAround sc ((instance_at w x.instance).block)) IsNoBlock (IsSeenAround sc ((instance_at w x.instance).block)) x.rest →
+            Whole v x.instance ⊎ InRest (IsSeenAround sc ((instance_at v x.instance).block)) IsNoBlock (IsSeenAround sc ((instance_at v x.instance).block)) x.rest
         by (◌⊎◌.inl f) = ◌⊎◌.inl (kept x.instance f)
-        by (◌⊎◌.inr f) = ◌⊎◌.inr (subst (λ j. InRest (IsSeenAround sc j) (IsInner sc j) (IsSeenAround sc j) x.rest) (sym (block_same x.instance)) f)
+        by (◌⊎◌.inr f) = ◌⊎◌.inr (subst (λ j. InRest (IsSeenAround sc j) IsNoBlock (IsSeenAround sc j) x.rest) (sym (block_same x.instance)) f)
 
     process_too : (q : Process) → ProcessOk sc Whole w q → ProcessOk sc Whole v q
     process_too q k =

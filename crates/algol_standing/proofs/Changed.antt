@@ -8,6 +8,7 @@ use Rattle.algol_meaning.specs.World.{NamedCell, Instance, or_no_instance, insta
 use Rattle.algol_meaning.specs.Critical.{referred_in}
 use Rattle.algol_standing.specs.Skeleton.{IsIn}
 use Rattle.algol_standing.specs.Worlds.{parent_in, referred_in_cells, IsNameIn, IsNameAmong, AreListed}
+use Rattle.algol_standing.specs.Calls.{IsNoEvent}
 use Rattle.algol_standing.proofs.Seen.{in_front, in_back, in_either}
 use Rattle.algol_standing.proofs.Pairs.{AllPairs, pairs_set, set_or}
 use Rattle.algol_standing.proofs.Alike.{InstanceAlike, instance_self}
@@ -109,10 +110,6 @@ add_alike w i more plain =
 
 -- ---- events
 
--- the cell is no event
-abbrev pub IsNoEvent : Cell → Type 0
-IsNoEvent c = (e : EventCell) → c ≡ event e → ⊥
-
 abbrev pub AreNoEvents : List NamedCell → Type 0
 AreNoEvents [] = Unit {0}
 AreNoEvents (c ∷ cells) = IsNoEvent c.cell × AreNoEvents cells
@@ -176,7 +173,7 @@ add_event_before w i more without r e f =
 pub listed_still : (w v : World) (p : ℕ) (q after : Process) → numbered w.processes p ≡ Some q → q.state ≡ able → v.processes ≡ set_numbered w.processes p after →
     (r : Reference) (e : EventCell) → AreListed w r e → AreListed v r e
 listed_still w v p q after is able_is same r e l =
-    record { waiters = λ k n. still k (waits_for r) (l.waiters k n) (waits r); procurers = λ k n. still k (procures r) (l.procurers k n) (procures_waits r) }
+    record { waiters = λ k n. still k (waits_for r) (l.waiters k n) (waits r); procurers = λ k n. still k (procures r) (l.procurers k n) (procures_waits r); once = l.once }
   where
     waits : (r : Reference) → waits_for r ≡ able → ⊥
     waits r f = cc

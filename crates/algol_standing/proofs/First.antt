@@ -1,88 +1,27 @@
 -- The first world is as worlds are.
-use Rattle.std.proofs.Common.{◌≡◌, ◌⊎◌, ℕ, zero, suc, ◌<◌, List, [], ◌∷◌, ◌++◌, Option, Some, None, true, false, refl, sym, ◌∙◌, subst, arith}
+use Rattle.std.proofs.Common.{◌≡◌, ◌⊎◌, ℕ, zero, suc, ◌<◌, List, [], ◌∷◌, Some, None, true, false, refl, sym, ◌∙◌, subst, arith}
 use Rattle.std.specs.Prelude.{slice_get}
 use Rattle.b67_list.specs.Numbered.{numbered}
-use Rattle.algol_tree.specs.declared.tree.Kind.{Kind}
-use Rattle.algol_tree.specs.declared.tree.Named.{Named}
-use Rattle.algol_tree.specs.Plain as tree
-use Rattle.algol_tree.specs.Plain.{PDecls}
-use Rattle.algol_tree.specs.Sorts.{Parameter}
-use Rattle.algol_tree.specs.Blocks.{Block, block_numbered}
+use Rattle.algol_tree.specs.Blocks.{block_numbered}
 use Rattle.algol_tree.specs.Scopes.{Scopes}
-use Rattle.algol_meaning.specs.Value.{initial_value, Value, NameCell, EventCell, Cell, simple, event}
+use Rattle.algol_meaning.specs.Value.{EventCell, event}
 use Rattle.algol_meaning.specs.Rest.{Rest}
 use Rattle.algol_meaning.specs.Statements.{items_of, settle_items}
-use Rattle.algol_meaning.specs.World.{NamedCell, Instance, instance_at, cell_in, block, Part, Process, able, lives, World}
-use Rattle.algol_meaning.specs.Critical.{referred_in, referred_by}
-use Rattle.algol_meaning.specs.Instances.{parameter_cells, initial_cells, result_cells, variable_cells, fresh_cells}
+use Rattle.algol_meaning.specs.World.{Instance, instance_at, cell_in, block, Part, Process, able, lives, World}
+use Rattle.algol_meaning.specs.Critical.{referred_by}
+use Rattle.algol_meaning.specs.Instances.{fresh_cells}
 use Rattle.algol_meaning.specs.Asks.{nothing, ask}
 use Rattle.algol_meaning.specs.Run.{start}
 use Rattle.algol_paths.specs.Blocks.{IsSeen, IsSeenAround, IsInner}
 use Rattle.algol_paths.proofs.Statements.{declared_keeps}
 use Rattle.algol_standing.specs.Skeleton.{Evaluation, IsEvaluated, Stack, Home, IsIn, Owned, here, SkeletonOk}
-use Rattle.algol_standing.specs.Worlds.{home_of, held_in_rest, held_by, stack_of, skeleton, IsStanding, IsOnPath, IsOwn, IsAmong, outermost, IsNameHeld, IsWhole, PartOk, ProcessOk, InstanceOk, IsOk}
+use Rattle.algol_standing.specs.Worlds.{home_of, held_in_rest, held_by, stack_of, skeleton, IsStanding, IsOnPath, IsOwn, IsAmong, outermost, IsWhole, PartOk, ProcessOk, InstanceOk, IsOk}
 use Rattle.algol_standing.specs.Laws.{HasOuterBlock}
 use Rattle.algol_standing.proofs.Lists.{none_some}
 use Rattle.algol_standing.proofs.Holding.{AreAll, items_hold}
-use Rattle.algol_standing.proofs.Seen.{in_either, evaluated_either}
-use Rattle.algol_standing.proofs.Changed.{IsPlain, ArePlain, refs_more, names_more, IsNoEvent, AreNoEvents, event_more}
-
--- ---- the cells of a new instance without parameters
-
-simple_plain : (v : Value) → IsPlain (simple v)
-simple_plain v = (λ i n. absurd n, λ m n. absurd n)
-
-simple_no_event : (v : Value) → IsNoEvent (simple v)
-simple_no_event v e f = cc
-
--- a plain cell, and no event
-abbrev AreSimple : List NamedCell → Type 0
-AreSimple cells = ArePlain cells × AreNoEvents cells
-
-both_simple : (xs ys : List NamedCell) → AreSimple xs → AreSimple ys → AreSimple (xs ++ ys)
-both_simple [] ys m n = n
-both_simple (x ∷ xs) ys m n =
-    let more = both_simple xs ys (m.0.1, m.1.1) n in
-    ((m.0.0, more.0), (m.1.0, more.1))
-
-parameters_simple : (ps : List Parameter) → AreSimple (parameter_cells ps [])
-parameters_simple [] = (tt, tt)
-parameters_simple (p ∷ ps) = (tt, tt)
-
-initial_simple : (kind : Kind) (ns : List Named) → AreSimple (initial_cells kind ns)
-initial_simple kind [] = (tt, tt)
-initial_simple kind (n ∷ ns) =
-    let more = initial_simple kind ns in
-    ((simple_plain (initial_value kind), more.0), (simple_no_event (initial_value kind), more.1))
-
-result_simple : (o : Option Kind) (name : List ℕ) → AreSimple (result_cells o name)
-result_simple None name = (tt, tt)
-result_simple (Some kind) name = ((simple_plain (initial_value kind), tt), (simple_no_event (initial_value kind), tt))
-
-variables_simple : (ds : PDecls) → AreSimple (variable_cells ds)
-variables_simple tree.no_decls = (tt, tt)
-variables_simple (tree.decls (tree.simple kind ns) ds) = both_simple (initial_cells kind ns) (variable_cells ds) (initial_simple kind ns) (variables_simple ds)
-variables_simple (tree.decls _ ds) = variables_simple ds
-
-fresh_simple : (b : Block) → AreSimple (fresh_cells b [])
-fresh_simple b =
-    both_simple (parameter_cells b.parameters [] ++ result_cells b.result b.name) (variable_cells b.decls)
-    (both_simple (parameter_cells b.parameters []) (result_cells b.result b.name) (parameters_simple b.parameters) (result_simple b.result b.name)) (variables_simple b.decls)
-
--- ---- what plain cells refer to
-
-plain_refs : (cells : List Cell) (i : ℕ) → AreAll IsPlain cells → IsIn (referred_by cells) i → ⊥
-plain_refs [] i f n = n
-plain_refs (c ∷ cells) i f n = by (λ m. plain_refs cells i f.1 m) (in_either (referred_in c) (referred_by cells) i n)
-  where
-    by : (IsIn (referred_by cells) i → ⊥) → IsIn (referred_in c) i ⊎ IsIn (referred_by cells) i → ⊥
-    by g (◌⊎◌.inl m) = f.0.0 i m
-    by g (◌⊎◌.inr m) = g m
-
-plain_names : (cells : List Cell) (m : NameCell) → AreAll IsPlain cells → IsNameHeld cells m → ⊥
-plain_names [] m f n = n
-plain_names (c ∷ cells) m f (◌⊎◌.inl n) = f.0.1 m n
-plain_names (c ∷ cells) m f (◌⊎◌.inr n) = plain_names cells m f.1 n
+use Rattle.algol_standing.proofs.Seen.{evaluated_either}
+use Rattle.algol_standing.proofs.Changed.{IsPlain}
+use Rattle.algol_standing.proofs.Fresh.{simple_plain, fresh_refs, fresh_names, fresh_no_event, plain_refs, plain_names}
 
 module _ (sc : Scopes) (o : HasOuterBlock sc) (acts : ask (settle_items sc (items_of (block_numbered sc.blocks 0))) ≡ nothing → ⊥) where
   abbrev rest : Rest
@@ -100,11 +39,8 @@ module _ (sc : Scopes) (o : HasOuterBlock sc) (acts : ask (settle_items sc (item
   abbrev first : World
   first = record { instances = instance ∷ []; processes = process ∷ []; output = []; fault = None }
 
-  cells_simple : AreSimple (fresh_cells (block_numbered sc.blocks 0) [])
-  cells_simple = fresh_simple (block_numbered sc.blocks 0)
-
   held_plain : AreAll IsPlain (held_in_rest rest)
-  held_plain = (items_hold IsPlain simple_plain sc (items_of (block_numbered sc.blocks 0))).0
+  held_plain = (items_hold IsPlain simple_plain false sc (items_of (block_numbered sc.blocks 0))).0
 
   abbrev nobody : Stack
   nobody = record { own = []; evaluations = []; critical = None; live = false }
@@ -131,7 +67,7 @@ module _ (sc : Scopes) (o : HasOuterBlock sc) (acts : ask (settle_items sc (item
   no_refs zero h r e n = let same : record { refs = []; process = 0 } ≡ h = cc in subst (λ (g : Home). IsIn g.refs r) (sym same) n
   no_refs (suc zero) h r e n =
       let same : home_of instance ≡ h = cc in
-      refs_more [] (fresh_cells (block_numbered sc.blocks 0) []) r cells_simple.0 (subst (λ (g : Home). IsIn g.refs r) (sym same) n)
+      fresh_refs (block_numbered sc.blocks 0) [] r (subst (λ (g : Home). IsIn g.refs r) (sym same) n)
   no_refs (suc (suc k)) h r e n = none_some e
 
   holds : (e : Evaluation) → IsEvaluated (held_by (part ∷ [])) e → IsIn (1 ∷ []) e.over × IsOnPath first e.over e.within
@@ -172,7 +108,7 @@ module _ (sc : Scopes) (o : HasOuterBlock sc) (acts : ask (settle_items sc (item
       record {
         parts = parts;
         heads = λ live. record { part = part; outer = []; is = refl; acts = acts; wait = λ x n. absurd n };
-        gives = (items_hold IsPlain simple_plain sc (items_of (block_numbered sc.blocks 0))).1;
+        gives = (items_hold IsPlain simple_plain false sc (items_of (block_numbered sc.blocks 0))).1;
         awaited = λ r n. absurd n;
       }
     where
@@ -187,12 +123,12 @@ module _ (sc : Scopes) (o : HasOuterBlock sc) (acts : ask (settle_items sc (item
         known = o.known;
         placed = outermost refl o.outermost;
         whole = λ st h. absurd (omega (arith, h));
-        actuals = λ m st n. absurd (names_more [] (fresh_cells (block_numbered sc.blocks 0) []) m cells_simple.0 n);
+        actuals = λ m st n. absurd (fresh_names (block_numbered sc.blocks 0) [] m n);
       }
 
   no_event : (i : ℕ) (name : List ℕ) (e : EventCell) → cell_in ((instance_at first i).cells) name ≡ event e → ⊥
   no_event zero name e f = cc
-  no_event (suc zero) name e f = let g = event_more [] (fresh_cells (block_numbered sc.blocks 0) []) name e cells_simple.1 f in cc
+  no_event (suc zero) name e f = fresh_no_event (block_numbered sc.blocks 0) [] tt name e f
   no_event (suc (suc k)) name e f = cc
 
   first_ok : IsOk sc IsWhole first

@@ -21,7 +21,7 @@ is_in (x ∷ refs) a = by (same_or_other x a) (is_in refs a)
 
 -- ---- one instance lies directly below another
 
-below_in : (c : Option ℕ) (own : List ℕ) (a b : ℕ) → NextIn c own a b → IsIn own a
+pub below_in : (c : Option ℕ) (own : List ℕ) (a b : ℕ) → NextIn c own a b → IsIn own a
 below_in c [] a b n = absurd n
 below_in c (x ∷ []) a b n = ◌⊎◌.inl n.0
 below_in c (x ∷ y ∷ r) a b (◌⊎◌.inl n) = ◌⊎◌.inl n.0
@@ -78,8 +78,8 @@ module _ (s : Skeleton) (ok : SkeletonOk s) (p : ℕ) (q : Stack) (is : slice_ge
   abbrev t : Skeleton
   t = evaluated s p q es
 
-  grows : Grows s t
-  grows k y e = by (same_or_other p k)
+  pub evaluations_grow : Grows s t
+  evaluations_grow k y e = by (same_or_other p k)
     where
       by : (p ≡ k) ⊎ (p ≡ k → ⊥) → Grown t k y
       by (◌⊎◌.inl f) =
@@ -109,9 +109,9 @@ module _ (s : Skeleton) (ok : SkeletonOk s) (p : ℕ) (q : Stack) (is : slice_ge
         owned = λ k y e. let z = was k y e in subst (λ o. Owned s.homes k o) (sym z.2) (ok.owned k z.0 z.1);
         ended = λ k y e dead. let z = was k y e in z.2 ∙ ok.ended k z.0 z.1 (sym z.4 ∙ dead);
         known = ok.known;
-        refers = λ a h r st e m. path_up s t grows a r (ok.refers a h r (stood a st) e m);
+        refers = λ a h r st e m. path_up s t evaluations_grow a r (ok.refers a h r (stood a st) e m);
         evaluates = evaluates;
-        holds = λ k y c e live cr. let z = was k y e in stands_up s t grows c (ok.holds k z.0 c z.1 (sym z.4 ∙ live) (sym z.3 ∙ cr));
+        holds = λ k y c e live cr. let z = was k y e in stands_up s t evaluations_grow c (ok.holds k z.0 c z.1 (sym z.4 ∙ live) (sym z.3 ∙ cr));
       }
     where
       evaluates : (k : ℕ) (y : Stack) (e : Evaluation) → slice_get t.stacks k ≡ Some y → IsEvaluated y.evaluations e → IsIn y.own e.over × OnPath t e.over e.within
@@ -120,8 +120,8 @@ module _ (s : Skeleton) (ok : SkeletonOk s) (p : ℕ) (q : Stack) (is : slice_ge
           by : ((k ≡ p) × (y ≡ other)) ⊎ ((p ≡ k → ⊥) × (slice_get s.stacks k ≡ Some y)) → IsIn y.own e.over × OnPath t e.over e.within
           by (◌⊎◌.inl f) =
               let o = fine e (subst (λ (z : Stack). IsEvaluated z.evaluations e) f.1 n) in
-              (subst (λ (z : Stack). IsIn z.own e.over) (sym f.1) o.0, path_up s t grows e.over e.within o.1)
-          by (◌⊎◌.inr f) = let o = ok.evaluates k y e f.1 n in (o.0, path_up s t grows e.over e.within o.1)
+              (subst (λ (z : Stack). IsIn z.own e.over) (sym f.1) o.0, path_up s t evaluations_grow e.over e.within o.1)
+          by (◌⊎◌.inr f) = let o = ok.evaluates k y e f.1 n in (o.0, path_up s t evaluations_grow e.over e.within o.1)
 
 pub evaluate_ok : (s : Skeleton) → SkeletonOk s → (p : ℕ) (q : Stack) (i a : ℕ) (r : List ℕ) → slice_get s.stacks p ≡ Some q → q.own ≡ i ∷ r → OnPath s i a → SkeletonOk (evaluating s p q (record { over = i; within = a }))
 evaluate_ok s ok p q i a r is own path = evaluations_ok s ok p q is (record { over = i; within = a } ∷ q.evaluations) fine

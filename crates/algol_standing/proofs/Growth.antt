@@ -66,7 +66,7 @@ module _ (s : Skeleton) (ok : SkeletonOk s) (p : ℕ) (q : Stack) (i : ℕ) (r :
   at_p : slice_get with_entered.stacks p ≡ Some above
   at_p = get-set s.stacks p above q is
 
-  enter_grows : Grows s with_entered
+  pub enter_grows : Grows s with_entered
   enter_grows k y e = by (same_or_other p k)
     where
       by : (p ≡ k) ⊎ (p ≡ k → ⊥) → Grown with_entered k y
@@ -175,7 +175,7 @@ module _ (s : Skeleton) (ok : SkeletonOk s) (c : ℕ) (refs : List ℕ) (stands 
   abbrev with_started : Skeleton
   with_started = started s refs c
 
-  start_grows : Grows s with_started
+  pub start_grows : Grows s with_started
   start_grows k y e = record { stack = y; is = get-front s.stacks (base ∷ []) k y e; inside = λ b n. n; next = λ b c n. n }
 
   start_owned : (k : ℕ) (y : Stack) → slice_get with_started.stacks k ≡ Some y → Owned with_started.homes k y.own

@@ -1,5 +1,5 @@
 -- What a part holds once its head has an answer, it held before or the answer brings.
-use Rattle.std.proofs.Common.{ℕ, Bool, true, false, List, [], ◌∷◌, ◌++◌, Some, None}
+use Rattle.std.proofs.Common.{◌≡◌, ℕ, Bool, true, false, List, [], ◌∷◌, ◌++◌, Some, None}
 use Rattle.std.specs.Prelude.{if◌then◌else◌, ℤ, pos, int_lt, nat_abs, Option, Result, Ok, Err}
 use Rattle.algol_tree.specs.declared.tree.Op.{Op}
 use Rattle.algol_tree.specs.declared.tree.Kind.{Kind}
@@ -52,9 +52,6 @@ module _ (C : Cell → Type 0) (plain : (v : Value) → C (simple v)) where
   abbrev pub PlaceHolds : HalfPlace → Type 0
   PlaceHolds (at p) = AreAll C (held_in_place p)
   PlaceHolds (aims x) = AreAll C (held_in_aim x)
-
-  abbrev pub RestHolds : Rest → Type 0
-  RestHolds r = AreAll C (held_in_rest r) × GivesNoOwn r
 
   -- ---- operators
 
@@ -231,226 +228,230 @@ module _ (C : Cell → Type 0) (plain : (v : Value) → C (simple v)) where
     put_place_holds rests.inside_place a i j = half_place_holds a j
     put_place_holds (rests.place_subscript n ks h es) a i j = aimed_holds n ks (put sc h a) es (put_holds h a i j)
 
-  -- ---- one lemma for each form that settling and resuming share
+  -- ---- one lemma for each form that settling and resuming share; the part evaluates a name, or it does not
 
-  rest_either : (b : Bool) (x y : Rest) → RestHolds x → RestHolds y → RestHolds (if b then x else y)
-  rest_either true x y i j = i
-  rest_either false x y i j = j
+  module _ (evaluates : Bool) where
+    abbrev pub RestHolds : Rest → Type 0
+    RestHolds r = AreAll C (held_in_rest r) × GivesNoOwn evaluates r
 
-  assigned_holds : (p : Place) (x : Half) (k : List Item) → AreAll C (held_in_place p) → HalfHolds x → RestHolds (assigned_of p x k)
-  assigned_holds p (val v) k i h = (i, tt)
-  assigned_holds p (busy h) k i l = (all_both C (held_in_place p) (held_in_hole h) i l, tt)
+    rest_either : (b : Bool) (x y : Rest) → RestHolds x → RestHolds y → RestHolds (if b then x else y)
+    rest_either true x y i j = i
+    rest_either false x y i j = j
 
-  aimed_at_holds : (x : HalfPlace) (e : PExpr) (s : Half) (k : List Item) → PlaceHolds x → HalfHolds s → RestHolds (aimed_at x e s k)
-  aimed_at_holds (at p) e s k i h = assigned_holds p s k i h
-  aimed_at_holds (aims x) e s k i h = (i, tt)
+    assigned_holds : (p : Place) (x : Half) (k : List Item) → AreAll C (held_in_place p) → HalfHolds x → RestHolds (assigned_of p x k)
+    assigned_holds p (val v) k i h = (i, tt)
+    assigned_holds p (busy h) k i l = (all_both C (held_in_place p) (held_in_hole h) i l, tt)
 
-  chosen_holds : (x : Half) (a b : PStmt) (k : List Item) (r s : Rest) → HalfHolds x → RestHolds r → RestHolds s → RestHolds (chosen_of x a b k r s)
-  chosen_holds (val v) a b k r s h m n = rest_either (truth_of v) r s m n
-  chosen_holds (busy x) a b k r s h m n = (h, tt)
+    aimed_at_holds : (x : HalfPlace) (e : PExpr) (s : Half) (k : List Item) → PlaceHolds x → HalfHolds s → RestHolds (aimed_at x e s k)
+    aimed_at_holds (at p) e s k i h = assigned_holds p s k i h
+    aimed_at_holds (aims x) e s k i h = (i, tt)
 
-  looped_holds : (x : Half) (c : PExpr) (b : PStmt) (k : List Item) (body r : Rest) → HalfHolds x → RestHolds body → RestHolds r → RestHolds (looped_of x c b k body r)
-  looped_holds (val v) c b k body r h m n = rest_either (truth_of v) body r m n
-  looped_holds (busy x) c b k body r h m n = (h, tt)
+    chosen_holds : (x : Half) (a b : PStmt) (k : List Item) (r s : Rest) → HalfHolds x → RestHolds r → RestHolds s → RestHolds (chosen_of x a b k r s)
+    chosen_holds (val v) a b k r s h m n = rest_either (truth_of v) r s m n
+    chosen_holds (busy x) a b k r s h m n = (h, tt)
 
-  checked_holds : (x : Half) (b : PStmt) (c : PExpr) (k : List Item) (r : Rest) → HalfHolds x → RestHolds r → RestHolds (checked_of x b c k r)
-  checked_holds (val v) b c k r h n = rest_either (truth_of v) r (rests.turning (run_and (tree.until b c) k)) n (tt, tt)
-  checked_holds (busy x) b c k r h n = (h, tt)
+    looped_holds : (x : Half) (c : PExpr) (b : PStmt) (k : List Item) (body r : Rest) → HalfHolds x → RestHolds body → RestHolds r → RestHolds (looped_of x c b k body r)
+    looped_holds (val v) c b k body r h m n = rest_either (truth_of v) body r m n
+    looped_holds (busy x) c b k body r h m n = (h, tt)
 
-  repeated_holds : (n : ℤ) (body : ℤ → Rest) (r : Rest) → ((z : ℤ) → RestHolds (body z)) → RestHolds r → RestHolds (repeated_of n body r)
-  repeated_holds n body r m i = rest_either (int_lt (pos 0) n) (body n) r (m n) i
+    checked_holds : (x : Half) (b : PStmt) (c : PExpr) (k : List Item) (r : Rest) → HalfHolds x → RestHolds r → RestHolds (checked_of x b c k r)
+    checked_holds (val v) b c k r h n = rest_either (truth_of v) r (rests.turning (run_and (tree.until b c) k)) n (tt, tt)
+    checked_holds (busy x) b c k r h n = (h, tt)
 
-  counted_holds : (x : Half) (b : PStmt) (k : List Item) (body : ℤ → Rest) (r : Rest) → HalfHolds x → ((z : ℤ) → RestHolds (body z)) → RestHolds r → RestHolds (counted_of x b k body r)
-  counted_holds (val v) b k body r h m n = repeated_holds (whole_of v) body r m n
-  counted_holds (busy x) b k body r h m n = (h, tt)
+    repeated_holds : (n : ℤ) (body : ℤ → Rest) (r : Rest) → ((z : ℤ) → RestHolds (body z)) → RestHolds r → RestHolds (repeated_of n body r)
+    repeated_holds n body r m i = rest_either (int_lt (pos 0) n) (body n) r (m n) i
 
-  selected_holds : (x : Half) (ss : PStmts) (k : List Item) → HalfHolds x → RestHolds (selected_of x ss k)
-  selected_holds (val v) ss k h = (tt, tt)
-  selected_holds (busy x) ss k h = (h, tt)
+    counted_holds : (x : Half) (b : PStmt) (k : List Item) (body : ℤ → Rest) (r : Rest) → HalfHolds x → ((z : ℤ) → RestHolds (body z)) → RestHolds r → RestHolds (counted_of x b k body r)
+    counted_holds (val v) b k body r h m n = repeated_holds (whole_of v) body r m n
+    counted_holds (busy x) b k body r h m n = (h, tt)
 
-  called_rest_holds : (n : Named) (x : HalfGiven) (k : List Item) → GivenHolds x → RestHolds (statement_called_of n x k)
-  called_rest_holds n (given gs) k i = (i, tt)
-  called_rest_holds n (wants x) k i = (i, tt)
+    selected_holds : (x : Half) (ss : PStmts) (k : List Item) → HalfHolds x → RestHolds (selected_of x ss k)
+    selected_holds (val v) ss k h = (tt, tt)
+    selected_holds (busy x) ss k h = (h, tt)
 
-  prepared_holds : (n : Named) (x : HalfGiven) (task : Option Named) (k : List Item) → GivenHolds x → RestHolds (prepared_of n x task k)
-  prepared_holds n (given gs) task k i = (i, tt)
-  prepared_holds n (wants x) task k i = (i, tt)
+    called_rest_holds : (n : Named) (x : HalfGiven) (k : List Item) → GivenHolds x → RestHolds (statement_called_of n x k)
+    called_rest_holds n (given gs) k i = (i, tt)
+    called_rest_holds n (wants x) k i = (i, tt)
 
-  item_holds : (phrases : List PhraseText) (vs : List Value) (x : Half) (es : PExprs) (k : List Item) (go_on : List Value → Rest) → HalfHolds x → ((ws : List Value) → RestHolds (go_on ws)) →
-      RestHolds (item_of phrases vs x es k go_on)
-  item_holds phrases vs (val v) es k go_on h g = g (vs ++ v ∷ [])
-  item_holds phrases vs (busy x) es k go_on h g = (h, tt)
+    prepared_holds : (n : Named) (x : HalfGiven) (task : Option Named) (k : List Item) → GivenHolds x → RestHolds (prepared_of n x task k)
+    prepared_holds n (given gs) task k i = (i, tt)
+    prepared_holds n (wants x) task k i = (i, tt)
 
-  bound_holds : (kind : Kind) (ns : List Named) (pairs : List PPair) (vs : List Value) (x : Half) (ps : List PPair) (k : List Item) (go_on : List Value → Rest) → HalfHolds x →
-      ((ws : List Value) → RestHolds (go_on ws)) → RestHolds (bound_of kind ns pairs vs x ps k go_on)
-  bound_holds kind ns pairs vs (val v) ps k go_on h g = g (vs ++ v ∷ [])
-  bound_holds kind ns pairs vs (busy x) ps k go_on h g = (h, tt)
+    item_holds : (phrases : List PhraseText) (vs : List Value) (x : Half) (es : PExprs) (k : List Item) (go_on : List Value → Rest) → HalfHolds x → ((ws : List Value) → RestHolds (go_on ws)) →
+        RestHolds (item_of phrases vs x es k go_on)
+    item_holds phrases vs (val v) es k go_on h g = g (vs ++ v ∷ [])
+    item_holds phrases vs (busy x) es k go_on h g = (h, tt)
 
-  begun_holds : (b : PBody) (k : List Item) (r : Rest) → RestHolds r → RestHolds (begun_of b k r)
-  begun_holds (tree.body spot tree.no_decls ss) k r i = i
-  begun_holds (tree.body spot (tree.decls d ds) ss) k r i = (tt, tt)
+    bound_holds : (kind : Kind) (ns : List Named) (pairs : List PPair) (vs : List Value) (x : Half) (ps : List PPair) (k : List Item) (go_on : List Value → Rest) → HalfHolds x →
+        ((ws : List Value) → RestHolds (go_on ws)) → RestHolds (bound_of kind ns pairs vs x ps k go_on)
+    bound_holds kind ns pairs vs (val v) ps k go_on h g = g (vs ++ v ∷ [])
+    bound_holds kind ns pairs vs (busy x) ps k go_on h g = (h, tt)
 
-  pub evaluated_holds : (x : Half) → HalfHolds x → RestHolds (evaluated_of x)
-  evaluated_holds (val v) i = (tt, tt)
-  evaluated_holds (busy h) i = (i, tt)
+    begun_holds : (b : PBody) (k : List Item) (r : Rest) → RestHolds r → RestHolds (begun_of b k r)
+    begun_holds (tree.body spot tree.no_decls ss) k r i = i
+    begun_holds (tree.body spot (tree.decls d ds) ss) k r i = (tt, tt)
 
-  abbrev pub PlaceGivable : HalfPlace → Type 0
-  PlaceGivable (at p) = IsGivable p
-  PlaceGivable (aims x) = Unit {0}
+    pub evaluated_holds : (x : Half) → HalfHolds x → RestHolds (evaluated_of x)
+    evaluated_holds (val v) i = (tt, tt)
+    evaluated_holds (busy h) i = (i, tt)
 
-  pub located_holds : (x : HalfPlace) → PlaceHolds x → PlaceGivable x → RestHolds (located_of x)
-  located_holds (at p) i g = (i, g)
-  located_holds (aims x) i g = (i, tt)
+    abbrev pub PlaceGivable : HalfPlace → Type 0
+    PlaceGivable (at p) = IsGivable p
+    PlaceGivable (aims x) = Unit {0}
 
-  aimed_givable : (n : Named) (ks : List ℕ) (x : Half) (es : PExprs) → PlaceGivable (aimed_of n ks x es)
-  aimed_givable n ks (busy h) es = tt
-  aimed_givable n ks (val v) es = tt
+    pub located_holds : (x : HalfPlace) → PlaceHolds x → PlaceGivable x → evaluates ≡ true → RestHolds (located_of x)
+    located_holds (at p) i g e = (i, (e, g))
+    located_holds (aims x) i g e = (i, e)
 
-  half_place_givable : (a : Answer) → IsForeign a → PlaceGivable (half_place_of a)
-  half_place_givable (place p) i = i
-  half_place_givable _ i = tt
+    aimed_givable : (n : Named) (ks : List ℕ) (x : Half) (es : PExprs) → PlaceGivable (aimed_of n ks x es)
+    aimed_givable n ks (busy h) es = tt
+    aimed_givable n ks (val v) es = tt
 
-  module _ (sc : Scopes) where
-    indexed_givable : (n : Named) (a : Answer) (es : PExprs) → IsForeign a → PlaceGivable (indexed_of sc n a es)
-    indexed_givable n a tree.none i = half_place_givable a i
-    indexed_givable n a (tree.more e es) i = aimed_givable n (subscripts_of a) (settle sc e) es
+    half_place_givable : (a : Answer) → IsForeign a → PlaceGivable (half_place_of a)
+    half_place_givable (place p) i = i
+    half_place_givable _ i = tt
 
-    pub put_place_givable : (x : Aim) (a : Answer) → IsForeign a → PlaceGivable (put_place sc x a)
-    put_place_givable (rests.resolve n) a i = half_place_givable a i
-    put_place_givable (rests.place_index n ks v es) a i = indexed_givable n a es i
-    put_place_givable rests.inside_place a i = half_place_givable a i
-    put_place_givable (rests.place_subscript n ks h es) a i = aimed_givable n ks (put sc h a) es
+    module _ (sc : Scopes) where
+      indexed_givable : (n : Named) (a : Answer) (es : PExprs) → IsForeign a → PlaceGivable (indexed_of sc n a es)
+      indexed_givable n a tree.none i = half_place_givable a i
+      indexed_givable n a (tree.more e es) i = aimed_givable n (subscripts_of a) (settle sc e) es
 
-    line_holds : (es : PExprs) (phrases : List PhraseText) (k : List Item) (vs : List Value) → RestHolds (settle_line sc es phrases k vs)
-    line_holds tree.none phrases k vs = (tt, tt)
-    line_holds (tree.more e es) phrases k vs = item_holds phrases vs (settle sc e) es k (settle_line sc es phrases k) (settle_holds sc e) (λ ws. line_holds es phrases k ws)
+      pub put_place_givable : (x : Aim) (a : Answer) → IsForeign a → PlaceGivable (put_place sc x a)
+      put_place_givable (rests.resolve n) a i = half_place_givable a i
+      put_place_givable (rests.place_index n ks v es) a i = indexed_givable n a es i
+      put_place_givable rests.inside_place a i = half_place_givable a i
+      put_place_givable (rests.place_subscript n ks h es) a i = aimed_givable n ks (put sc h a) es
 
-    bounds_hold : (ps : List PPair) (kind : Kind) (ns : List Named) (pairs : List PPair) (k : List Item) (vs : List Value) → RestHolds (settle_bounds sc ps kind ns pairs k vs)
-    bounds_hold [] kind ns pairs k vs = (tt, tt)
-    bounds_hold (p ∷ ps) kind ns pairs k vs =
-        bound_holds kind ns pairs vs (settle sc p.high) ps k (settle_bounds sc ps kind ns pairs k) (settle_holds sc p.high) (λ ws. bounds_hold ps kind ns pairs k ws)
+      line_holds : (es : PExprs) (phrases : List PhraseText) (k : List Item) (vs : List Value) → RestHolds (settle_line sc es phrases k vs)
+      line_holds tree.none phrases k vs = (tt, tt)
+      line_holds (tree.more e es) phrases k vs = item_holds phrases vs (settle sc e) es k (settle_line sc es phrases k) (settle_holds sc e) (λ ws. line_holds es phrases k ws)
 
-    mutual
-      pub stmt_holds : (s : PStmt) (k : List Item) (r : Rest) → RestHolds r → RestHolds (settle_stmt sc s k r)
-      stmt_holds tree.empty k r n = n
-      stmt_holds (tree.label name s) k r n = stmt_holds s k r n
-      stmt_holds (tree.assign v e) k r n = aimed_at_holds (settle_place sc v) e (settle sc e) k (settle_place_holds sc v) (settle_holds sc e)
-      stmt_holds (tree.call_of (tree.called m es)) k r n =
-          called_rest_holds m (settle_actuals sc es (sorts_of (callee sc m).parameters) []) k (actuals_hold sc es (sorts_of (callee sc m).parameters) [] tt)
-      stmt_holds (tree.go_to m) k r n = (tt, tt)
-      stmt_holds (tree.block b) k r n = begun_holds b k (settle_body sc b k r) (body_holds b k r n)
-      stmt_holds (tree.if_then c x) k r n = chosen_holds (settle sc c) x tree.empty k (settle_stmt sc x k r) r (settle_holds sc c) (stmt_holds x k r n) n
-      stmt_holds (tree.if_else c x y) k r n =
-          chosen_holds (settle sc c) x y k (settle_stmt sc x k r) (settle_stmt sc y k r) (settle_holds sc c) (stmt_holds x k r n) (stmt_holds y k r n)
-      stmt_holds (tree.while c b) k r n =
-          let again = rests.turning (run_and (tree.while c b) k) in
-          looped_holds (settle sc c) c b k (settle_stmt sc b (turn_and (tree.while c b) k) again) r (settle_holds sc c) (stmt_holds b (turn_and (tree.while c b) k) again (tt, tt)) n
-      stmt_holds (tree.until b c) k r n =
-          stmt_holds b (rests.check b c ∷ k) (checked_of (settle sc c) b c k r) (checked_holds (settle sc c) b c k r (settle_holds sc c) n)
-      stmt_holds (tree.for v a s l b) k r n =
-          aimed_at_holds (settle_place sc (tree.subscripted v tree.none)) a (settle sc a) (rests.test (record { control = v; step = s; last = l; body = b }) ∷ k)
-          (settle_place_holds sc (tree.subscripted v tree.none)) (settle_holds sc a)
-      stmt_holds (tree.thru e b) k r n =
-          counted_holds (settle sc e) b k (counted_body sc b k) r (settle_holds sc e)
-          (λ z. stmt_holds b (rests.turn ∷ after_count z b k) (rests.turning (after_count z b k)) (tt, tt)) n
-      stmt_holds (tree.case e ss) k r n = selected_holds (settle sc e) ss k (settle_holds sc e)
-      stmt_holds (tree.process (tree.called m es) task) k r n =
-          prepared_holds m (settle_actuals sc es (sorts_of (callee sc m).parameters) []) task k (actuals_hold sc es (sorts_of (callee sc m).parameters) [] tt)
-      stmt_holds (tree.event act e) k r n = (tt, tt)
-      stmt_holds (tree.write m spot phrases es) k r n = line_holds es phrases k []
+      bounds_hold : (ps : List PPair) (kind : Kind) (ns : List Named) (pairs : List PPair) (k : List Item) (vs : List Value) → RestHolds (settle_bounds sc ps kind ns pairs k vs)
+      bounds_hold [] kind ns pairs k vs = (tt, tt)
+      bounds_hold (p ∷ ps) kind ns pairs k vs =
+          bound_holds kind ns pairs vs (settle sc p.high) ps k (settle_bounds sc ps kind ns pairs k) (settle_holds sc p.high) (λ ws. bounds_hold ps kind ns pairs k ws)
 
-      stmts_hold : (ss : PStmts) (k : List Item) (r : Rest) → RestHolds r → RestHolds (settle_stmts sc ss k r)
-      stmts_hold tree.no_stmts k r n = n
-      stmts_hold (tree.stmts s ss) k r n = stmt_holds s (items ss k) (settle_stmts sc ss k r) (stmts_hold ss k r n)
+      mutual
+        pub stmt_holds : (s : PStmt) (k : List Item) (r : Rest) → RestHolds r → RestHolds (settle_stmt sc s k r)
+        stmt_holds tree.empty k r n = n
+        stmt_holds (tree.label name s) k r n = stmt_holds s k r n
+        stmt_holds (tree.assign v e) k r n = aimed_at_holds (settle_place sc v) e (settle sc e) k (settle_place_holds sc v) (settle_holds sc e)
+        stmt_holds (tree.call_of (tree.called m es)) k r n =
+            called_rest_holds m (settle_actuals sc es (sorts_of (callee sc m).parameters) []) k (actuals_hold sc es (sorts_of (callee sc m).parameters) [] tt)
+        stmt_holds (tree.go_to m) k r n = (tt, tt)
+        stmt_holds (tree.block b) k r n = begun_holds b k (settle_body sc b k r) (body_holds b k r n)
+        stmt_holds (tree.if_then c x) k r n = chosen_holds (settle sc c) x tree.empty k (settle_stmt sc x k r) r (settle_holds sc c) (stmt_holds x k r n) n
+        stmt_holds (tree.if_else c x y) k r n =
+            chosen_holds (settle sc c) x y k (settle_stmt sc x k r) (settle_stmt sc y k r) (settle_holds sc c) (stmt_holds x k r n) (stmt_holds y k r n)
+        stmt_holds (tree.while c b) k r n =
+            let again = rests.turning (run_and (tree.while c b) k) in
+            looped_holds (settle sc c) c b k (settle_stmt sc b (turn_and (tree.while c b) k) again) r (settle_holds sc c) (stmt_holds b (turn_and (tree.while c b) k) again (tt, tt)) n
+        stmt_holds (tree.until b c) k r n =
+            stmt_holds b (rests.check b c ∷ k) (checked_of (settle sc c) b c k r) (checked_holds (settle sc c) b c k r (settle_holds sc c) n)
+        stmt_holds (tree.for v a s l b) k r n =
+            aimed_at_holds (settle_place sc (tree.subscripted v tree.none)) a (settle sc a) (rests.test (record { control = v; step = s; last = l; body = b }) ∷ k)
+            (settle_place_holds sc (tree.subscripted v tree.none)) (settle_holds sc a)
+        stmt_holds (tree.thru e b) k r n =
+            counted_holds (settle sc e) b k (counted_body sc b k) r (settle_holds sc e)
+            (λ z. stmt_holds b (rests.turn ∷ after_count z b k) (rests.turning (after_count z b k)) (tt, tt)) n
+        stmt_holds (tree.case e ss) k r n = selected_holds (settle sc e) ss k (settle_holds sc e)
+        stmt_holds (tree.process (tree.called m es) task) k r n =
+            prepared_holds m (settle_actuals sc es (sorts_of (callee sc m).parameters) []) task k (actuals_hold sc es (sorts_of (callee sc m).parameters) [] tt)
+        stmt_holds (tree.event act e) k r n = (tt, tt)
+        stmt_holds (tree.write m spot phrases es) k r n = line_holds es phrases k []
 
-      body_holds : (b : PBody) (k : List Item) (r : Rest) → RestHolds r → RestHolds (settle_body sc b k r)
-      body_holds (tree.body spot ds ss) k r n = stmts_hold ss k r n
+        stmts_hold : (ss : PStmts) (k : List Item) (r : Rest) → RestHolds r → RestHolds (settle_stmts sc ss k r)
+        stmts_hold tree.no_stmts k r n = n
+        stmts_hold (tree.stmts s ss) k r n = stmt_holds s (items ss k) (settle_stmts sc ss k r) (stmts_hold ss k r n)
 
-    counted_body_holds : (b : PStmt) (k : List Item) (z : ℤ) → RestHolds (counted_body sc b k z)
-    counted_body_holds b k z = stmt_holds b (rests.turn ∷ after_count z b k) (rests.turning (after_count z b k)) (tt, tt)
+        body_holds : (b : PBody) (k : List Item) (r : Rest) → RestHolds r → RestHolds (settle_body sc b k r)
+        body_holds (tree.body spot ds ss) k r n = stmts_hold ss k r n
 
-    -- ---- the test of FOR
+      counted_body_holds : (b : PStmt) (k : List Item) (z : ℤ) → RestHolds (counted_body sc b k z)
+      counted_body_holds b k z = stmt_holds b (rests.turn ∷ after_count z b k) (rests.turning (after_count z b k)) (tt, tt)
 
-    again_holds : (loop : Loop) (k : List Item) → RestHolds (again sc loop k)
-    again_holds loop k =
-        stmt_holds loop.body (rests.run (stepped loop) ∷ rests.turn ∷ rests.test loop ∷ k)
-        (settle_stmt sc (stepped loop) (rests.turn ∷ rests.test loop ∷ k) (rests.turning (rests.test loop ∷ k)))
-        (stmt_holds (stepped loop) (rests.turn ∷ rests.test loop ∷ k) (rests.turning (rests.test loop ∷ k)) (tt, tt))
+      -- ---- the test of FOR
 
-    tested_holds : (d : Value) (x : Half) (loop : Loop) (k : List Item) (r : Rest) → HalfHolds x → RestHolds r → RestHolds (tested_of sc d x loop k r)
-    tested_holds d (val v) loop k r h n = rest_either (is_past (whole_of d) (whole_of v)) r (again sc loop k) n (again_holds loop k)
-    tested_holds d (busy x) loop k r h n = (h, tt)
+      again_holds : (loop : Loop) (k : List Item) → RestHolds (again sc loop k)
+      again_holds loop k =
+          stmt_holds loop.body (rests.run (stepped loop) ∷ rests.turn ∷ rests.test loop ∷ k)
+          (settle_stmt sc (stepped loop) (rests.turn ∷ rests.test loop ∷ k) (rests.turning (rests.test loop ∷ k)))
+          (stmt_holds (stepped loop) (rests.turn ∷ rests.test loop ∷ k) (rests.turning (rests.test loop ∷ k)) (tt, tt))
 
-    differed_holds : (x : Half) (loop : Loop) (k : List Item) (r : Rest) → HalfHolds x → RestHolds r → RestHolds (differed_of sc x loop k r)
-    differed_holds (val v) loop k r h n = tested_holds v (settle sc loop.step) loop k r (settle_holds sc loop.step) n
-    differed_holds (busy x) loop k r h n = (h, tt)
+      tested_holds : (d : Value) (x : Half) (loop : Loop) (k : List Item) (r : Rest) → HalfHolds x → RestHolds r → RestHolds (tested_of sc d x loop k r)
+      tested_holds d (val v) loop k r h n = rest_either (is_past (whole_of d) (whole_of v)) r (again sc loop k) n (again_holds loop k)
+      tested_holds d (busy x) loop k r h n = (h, tt)
 
-    -- ---- items
+      differed_holds : (x : Half) (loop : Loop) (k : List Item) (r : Rest) → HalfHolds x → RestHolds r → RestHolds (differed_of sc x loop k r)
+      differed_holds (val v) loop k r h n = tested_holds v (settle sc loop.step) loop k r (settle_holds sc loop.step) n
+      differed_holds (busy x) loop k r h n = (h, tt)
 
-    -- what is still to be done holds nothing
-    pub items_hold : (k : List Item) → RestHolds (settle_items sc k)
-    items_hold [] = (tt, tt)
-    items_hold (rests.run s ∷ k) = stmt_holds s k (settle_items sc k) (items_hold k)
-    items_hold (rests.turn ∷ k) = (tt, tt)
-    items_hold (rests.count n b ∷ k) = repeated_holds n (counted_body sc b k) (settle_items sc k) (counted_body_holds b k) (items_hold k)
-    items_hold (rests.check b c ∷ k) = checked_holds (settle sc c) b c k (settle_items sc k) (settle_holds sc c) (items_hold k)
-    items_hold (rests.test loop ∷ k) = differed_holds (settle sc (difference_in loop)) loop k (settle_items sc k) (settle_holds sc (difference_in loop)) (items_hold k)
-    items_hold (rests.result name ∷ k) = (tt, tt)
-    items_hold (rests.make_arrays kind ns ps ∷ k) = bounds_hold ps kind ns ps k []
-    items_hold (rests.make_event n ∷ k) = (tt, tt)
+      -- ---- items
 
-    inside_holds : (a : Answer) (k : List Item) → RestHolds (inside_or_after sc a k)
-    inside_holds entered k = (tt, tt)
-    inside_holds done k = items_hold k
-    inside_holds (value v) k = items_hold k
-    inside_holds (cell c) k = items_hold k
-    inside_holds (place p) k = items_hold k
+      -- what is still to be done holds nothing
+      pub items_hold : (k : List Item) → RestHolds (settle_items sc k)
+      items_hold [] = (tt, tt)
+      items_hold (rests.run s ∷ k) = stmt_holds s k (settle_items sc k) (items_hold k)
+      items_hold (rests.turn ∷ k) = (tt, tt)
+      items_hold (rests.count n b ∷ k) = repeated_holds n (counted_body sc b k) (settle_items sc k) (counted_body_holds b k) (items_hold k)
+      items_hold (rests.check b c ∷ k) = checked_holds (settle sc c) b c k (settle_items sc k) (settle_holds sc c) (items_hold k)
+      items_hold (rests.test loop ∷ k) = differed_holds (settle sc (difference_in loop)) loop k (settle_items sc k) (settle_holds sc (difference_in loop)) (items_hold k)
+      items_hold (rests.result name ∷ k) = (tt, tt)
+      items_hold (rests.make_arrays kind ns ps ∷ k) = bounds_hold ps kind ns ps k []
+      items_hold (rests.make_event n ∷ k) = (tt, tt)
 
-    entered_holds : (typed : Bool) (a : Answer) (k : List Item) → RestHolds (called sc typed a k)
-    entered_holds true entered k = (tt, tt)
-    entered_holds false entered k = (tt, tt)
-    entered_holds typed done k = items_hold k
-    entered_holds typed (value v) k = items_hold k
-    entered_holds typed (cell c) k = items_hold k
-    entered_holds typed (place p) k = items_hold k
+      inside_holds : (a : Answer) (k : List Item) → RestHolds (inside_or_after sc a k)
+      inside_holds entered k = (tt, tt)
+      inside_holds done k = items_hold k
+      inside_holds (value v) k = items_hold k
+      inside_holds (cell c) k = items_hold k
+      inside_holds (place p) k = items_hold k
 
-    pub resumed_holds : (r : Rest) (a : Answer) → RestHolds r → AreAll C (held_in_answer a) → IsForeign a → RestHolds (resume sc r a)
-    resumed_holds rests.over a i j f = (tt, tt)
-    resumed_holds (rests.reading name) a i j f = evaluated_holds (half_of a) (half_holds a)
-    resumed_holds (rests.giving v) a i j f = (tt, tt)
-    resumed_holds (rests.giving_place p) a i j f = i
-    resumed_holds (rests.store p v k) a i j f = items_hold k
-    resumed_holds (rests.select v ss k) a i j f = stmt_holds (nth_stmt ss (nat_abs (whole_of v))) k (settle_items sc k) (items_hold k)
-    resumed_holds (rests.turning k) a i j f = items_hold k
-    resumed_holds (rests.going n) a i j f = (tt, tt)
-    resumed_holds (rests.entering_block b k) a i j f = inside_holds a k
-    resumed_holds (rests.entering n gs k) a i j f = entered_holds (is_typed sc n) a k
-    resumed_holds (rests.starting n gs task k) a i j f = items_hold k
-    resumed_holds (rests.acting act n k) a i j f = items_hold k
-    resumed_holds (rests.line phrases vs k) a i j f = items_hold k
-    resumed_holds (rests.arrays kind ns pairs vs k) a i j f = items_hold k
-    resumed_holds (rests.event n k) a i j f = items_hold k
-    resumed_holds (rests.within k) a i j f = items_hold k
-    resumed_holds (rests.dropping k) a i j f = items_hold k
-    resumed_holds (rests.evaluating h) a i j f = evaluated_holds (put sc h a) (put_holds sc h a i.0 j)
-    resumed_holds (rests.locating x) a i j f = located_holds (put_place sc x a) (put_place_holds sc x a i.0 j) (put_place_givable x a f)
-    resumed_holds (rests.aiming x e k) a i j f = aimed_at_holds (put_place sc x a) e (settle sc e) k (put_place_holds sc x a i.0 j) (settle_holds sc e)
-    resumed_holds (rests.storing p h k) a i j f =
-        assigned_holds p (put sc h a) k (all_front C (held_in_place p) (held_in_hole h) i.0) (put_holds sc h a (all_back C (held_in_place p) (held_in_hole h) i.0) j)
-    resumed_holds (rests.choosing h x y k) a i j f =
-        chosen_holds (put sc h a) x y k (settle_stmt sc x k (settle_items sc k)) (settle_stmt sc y k (settle_items sc k)) (put_holds sc h a i.0 j)
-        (stmt_holds x k (settle_items sc k) (items_hold k)) (stmt_holds y k (settle_items sc k) (items_hold k))
-    resumed_holds (rests.looping h c b k) a i j f =
-        looped_holds (put sc h a) c b k (settle_stmt sc b (turn_and (tree.while c b) k) (rests.turning (run_and (tree.while c b) k))) (settle_items sc k) (put_holds sc h a i.0 j)
-        (stmt_holds b (turn_and (tree.while c b) k) (rests.turning (run_and (tree.while c b) k)) (tt, tt)) (items_hold k)
-    resumed_holds (rests.checking h b c k) a i j f = checked_holds (put sc h a) b c k (settle_items sc k) (put_holds sc h a i.0 j) (items_hold k)
-    resumed_holds (rests.counting h b k) a i j f = counted_holds (put sc h a) b k (counted_body sc b k) (settle_items sc k) (put_holds sc h a i.0 j) (counted_body_holds b k) (items_hold k)
-    resumed_holds (rests.differing h loop k) a i j f = differed_holds (put sc h a) loop k (settle_items sc k) (put_holds sc h a i.0 j) (items_hold k)
-    resumed_holds (rests.stepping d h loop k) a i j f = tested_holds d (put sc h a) loop k (settle_items sc k) (put_holds sc h a i.0 j) (items_hold k)
-    resumed_holds (rests.selecting h ss k) a i j f = selected_holds (put sc h a) ss k (put_holds sc h a i.0 j)
-    resumed_holds (rests.calling n x k) a i j f = called_rest_holds n (put_actuals sc x a) k (put_actuals_hold sc x a i.0 j)
-    resumed_holds (rests.preparing n x task k) a i j f = prepared_holds n (put_actuals sc x a) task k (put_actuals_hold sc x a i.0 j)
-    resumed_holds (rests.writing phrases vs h es k) a i j f =
-        item_holds phrases vs (put sc h a) es k (settle_line sc es phrases k) (put_holds sc h a i.0 j) (λ ws. line_holds es phrases k ws)
-    resumed_holds (rests.bounding kind ns pairs vs h ps k) a i j f =
-        bound_holds kind ns pairs vs (put sc h a) ps k (settle_bounds sc ps kind ns pairs k) (put_holds sc h a i.0 j) (λ ws. bounds_hold ps kind ns pairs k ws)
+      entered_holds : (typed : Bool) (a : Answer) (k : List Item) → RestHolds (called sc typed a k)
+      entered_holds true entered k = (tt, tt)
+      entered_holds false entered k = (tt, tt)
+      entered_holds typed done k = items_hold k
+      entered_holds typed (value v) k = items_hold k
+      entered_holds typed (cell c) k = items_hold k
+      entered_holds typed (place p) k = items_hold k
+
+      pub resumed_holds : (r : Rest) (a : Answer) → RestHolds r → AreAll C (held_in_answer a) → IsForeign a → RestHolds (resume sc r a)
+      resumed_holds rests.over a i j f = (tt, tt)
+      resumed_holds (rests.reading name) a i j f = evaluated_holds (half_of a) (half_holds a)
+      resumed_holds (rests.giving v) a i j f = (tt, tt)
+      resumed_holds (rests.giving_place p) a i j f = i
+      resumed_holds (rests.store p v k) a i j f = items_hold k
+      resumed_holds (rests.select v ss k) a i j f = stmt_holds (nth_stmt ss (nat_abs (whole_of v))) k (settle_items sc k) (items_hold k)
+      resumed_holds (rests.turning k) a i j f = items_hold k
+      resumed_holds (rests.going n) a i j f = (tt, tt)
+      resumed_holds (rests.entering_block b k) a i j f = inside_holds a k
+      resumed_holds (rests.entering n gs k) a i j f = entered_holds (is_typed sc n) a k
+      resumed_holds (rests.starting n gs task k) a i j f = items_hold k
+      resumed_holds (rests.acting act n k) a i j f = items_hold k
+      resumed_holds (rests.line phrases vs k) a i j f = items_hold k
+      resumed_holds (rests.arrays kind ns pairs vs k) a i j f = items_hold k
+      resumed_holds (rests.event n k) a i j f = items_hold k
+      resumed_holds (rests.within k) a i j f = items_hold k
+      resumed_holds (rests.dropping k) a i j f = items_hold k
+      resumed_holds (rests.evaluating h) a i j f = evaluated_holds (put sc h a) (put_holds sc h a i.0 j)
+      resumed_holds (rests.locating x) a i j f = located_holds (put_place sc x a) (put_place_holds sc x a i.0 j) (put_place_givable x a f) i.1
+      resumed_holds (rests.aiming x e k) a i j f = aimed_at_holds (put_place sc x a) e (settle sc e) k (put_place_holds sc x a i.0 j) (settle_holds sc e)
+      resumed_holds (rests.storing p h k) a i j f =
+          assigned_holds p (put sc h a) k (all_front C (held_in_place p) (held_in_hole h) i.0) (put_holds sc h a (all_back C (held_in_place p) (held_in_hole h) i.0) j)
+      resumed_holds (rests.choosing h x y k) a i j f =
+          chosen_holds (put sc h a) x y k (settle_stmt sc x k (settle_items sc k)) (settle_stmt sc y k (settle_items sc k)) (put_holds sc h a i.0 j)
+          (stmt_holds x k (settle_items sc k) (items_hold k)) (stmt_holds y k (settle_items sc k) (items_hold k))
+      resumed_holds (rests.looping h c b k) a i j f =
+          looped_holds (put sc h a) c b k (settle_stmt sc b (turn_and (tree.while c b) k) (rests.turning (run_and (tree.while c b) k))) (settle_items sc k) (put_holds sc h a i.0 j)
+          (stmt_holds b (turn_and (tree.while c b) k) (rests.turning (run_and (tree.while c b) k)) (tt, tt)) (items_hold k)
+      resumed_holds (rests.checking h b c k) a i j f = checked_holds (put sc h a) b c k (settle_items sc k) (put_holds sc h a i.0 j) (items_hold k)
+      resumed_holds (rests.counting h b k) a i j f = counted_holds (put sc h a) b k (counted_body sc b k) (settle_items sc k) (put_holds sc h a i.0 j) (counted_body_holds b k) (items_hold k)
+      resumed_holds (rests.differing h loop k) a i j f = differed_holds (put sc h a) loop k (settle_items sc k) (put_holds sc h a i.0 j) (items_hold k)
+      resumed_holds (rests.stepping d h loop k) a i j f = tested_holds d (put sc h a) loop k (settle_items sc k) (put_holds sc h a i.0 j) (items_hold k)
+      resumed_holds (rests.selecting h ss k) a i j f = selected_holds (put sc h a) ss k (put_holds sc h a i.0 j)
+      resumed_holds (rests.calling n x k) a i j f = called_rest_holds n (put_actuals sc x a) k (put_actuals_hold sc x a i.0 j)
+      resumed_holds (rests.preparing n x task k) a i j f = prepared_holds n (put_actuals sc x a) task k (put_actuals_hold sc x a i.0 j)
+      resumed_holds (rests.writing phrases vs h es k) a i j f =
+          item_holds phrases vs (put sc h a) es k (settle_line sc es phrases k) (put_holds sc h a i.0 j) (λ ws. line_holds es phrases k ws)
+      resumed_holds (rests.bounding kind ns pairs vs h ps k) a i j f =
+          bound_holds kind ns pairs vs (put sc h a) ps k (settle_bounds sc ps kind ns pairs k) (put_holds sc h a i.0 j) (λ ws. bounds_hold ps kind ns pairs k ws)

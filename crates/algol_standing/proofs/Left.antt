@@ -1,17 +1,17 @@
 -- Nothing that an instance in use refers to is left.
-use Rattle.std.proofs.Common.{◌≡◌, ◌⊎◌, ℕ, zero, suc, ◌≤◌, List, [], ◌∷◌, ◌++◌, Some, true, false, refl, sym, ap, ◌∙◌, subst, arith}
+use Rattle.std.proofs.Common.{◌≡◌, ◌⊎◌, ℕ, zero, suc, ◌≤◌, List, ◌++◌, Some, true, false, refl, sym, ap, ◌∙◌, arith}
 use Rattle.b67_list.specs.Numbered.{numbered}
 use Rattle.algol_tree.specs.Scopes.{Scopes}
 use Rattle.algol_meaning.specs.Value.{Reference}
-use Rattle.algol_meaning.specs.World.{Instance, instance_at, Part, Process, lives, World}
-use Rattle.algol_meaning.specs.Critical.{referred_by}
-use Rattle.algol_standing.specs.Skeleton.{IsEvaluated, IsIn}
-use Rattle.algol_standing.specs.Worlds.{parent_in, referred_in_cells, home_of, held_in_rest, newest_own, held_by, stack_of, skeleton, IsStanding, IsAmong, IsWhole, IsOk}
-use Rattle.algol_standing.specs.Laws.{WhatIsReferredToStands}
+use Rattle.algol_meaning.specs.World.{Instance, instance_at, Process, lives, World}
+use Rattle.algol_standing.specs.Skeleton.{IsIn}
+use Rattle.algol_standing.specs.Worlds.{parent_in, referred_in_cells, home_of, stack_of, skeleton, IsStanding, IsWhole, IsOk}
+use Rattle.algol_standing.specs.Laws.{WhatIsReferredToStands, ReferencesLieOnPaths}
 use Rattle.algol_standing.proofs.Lists.{none_some}
 use Rattle.algol_standing.proofs.Standing.{stands_path}
 use Rattle.algol_standing.proofs.Pairs.{stack_forth, home_forth}
-use Rattle.algol_standing.proofs.Seen.{in_back, evaluated_front, evaluated_back, there, instance_is}
+use Rattle.algol_standing.proofs.Seen.{in_back, there, instance_is}
+use Rattle.algol_standing.proofs.Fine.{held_among, part_stands_in}
 
 module _ (sc : Scopes) (Whole : World → ℕ → Type 0) (w : World) (ok : IsOk sc Whole w) where
   in_use : (i : ℕ) → IsStanding w i → (instance_at w i).left ≡ false
@@ -29,31 +29,12 @@ module _ (sc : Scopes) (Whole : World → ℕ → Type 0) (w : World) (ok : IsOk
   critical : (p c : ℕ) (q : Process) → numbered w.processes p ≡ Some q → lives q.state ≡ true → q.critical ≡ Some c → IsStanding w c
   critical p c q e live f = ok.skeleton_ok.holds p (stack_of q) c (stack_forth w p q e) live f
 
-  task : (p : ℕ) (q : Process) (r : Reference) → numbered w.processes p ≡ Some q → lives q.state ≡ true → q.task ≡ Some r → IsStanding w r.instance
+  pub task : (p : ℕ) (q : Process) (r : Reference) → numbered w.processes p ≡ Some q → lives q.state ≡ true → q.task ≡ Some r → IsStanding w r.instance
   task zero q r e live f = none_some e
   task (suc zero) q r e live f = none_some (sym (ok.first q e).1 ∙ f)
   task (suc (suc p)) q r e live f =
       let c = ok.later p q e in
       stands_path (skeleton w) ok.skeleton_ok c.0 r.instance (critical (suc (suc p)) c.0 q e live c.1) (ok.tasks (suc (suc p)) c.0 q r e live c.1 f)
-
-  -- a part's own instance and what it holds
-  held_among : (parts : List Part) (x : Part) (i : ℕ) → IsAmong parts x → IsIn (x.instance ∷ referred_by (held_in_rest x.rest)) i →
-      (top : ℕ) × IsEvaluated (held_by parts) (record { over = top; within = i })
-  held_among [] x i n m = absurd n
-  held_among (y ∷ parts) x i (◌⊎◌.inl e) m = (
-    newest_own (y ∷ parts),
-    evaluated_front (newest_own (y ∷ parts)) (y.instance ∷ referred_by (held_in_rest y.rest)) (held_by parts) i
-        (subst (λ (z : Part). IsIn (z.instance ∷ referred_by (held_in_rest z.rest)) i) (sym e) m),
-  )
-  held_among (y ∷ parts) x i (◌⊎◌.inr n) m =
-      let o = held_among parts x i n m in
-      (o.0, evaluated_back (newest_own (y ∷ parts)) (y.instance ∷ referred_by (held_in_rest y.rest)) (held_by parts) (record { over = o.0; within = i }) o.1)
-
-  part_holds : (p : ℕ) (q : Process) (x : Part) (i : ℕ) → numbered w.processes p ≡ Some q → IsAmong q.todo x → IsIn (x.instance ∷ referred_by (held_in_rest x.rest)) i → IsStanding w i
-  part_holds p q x i e n m =
-      let o = held_among q.todo x i n m in
-      let f = ok.skeleton_ok.evaluates p (stack_of q) (record { over = o.0; within = i }) (stack_forth w p q e) o.1 in
-      stands_path (skeleton w) ok.skeleton_ok o.0 i (record { number = p; stack = stack_of q; is = stack_forth w p q e; inside = f.0 }) f.1
 
 pub what_is_referred_to_stands : WhatIsReferredToStands
 what_is_referred_to_stands = record {
@@ -61,5 +42,15 @@ what_is_referred_to_stands = record {
   cells = λ sc w i r x ok e f n. refers sc IsWhole w ok i r x e f (in_back (parent_in x.parent) (referred_in_cells x.cells) r n);
   criticals = λ sc w p c q ok e live f. in_use sc IsWhole w ok c (critical sc IsWhole w ok p c q e live f);
   tasks = λ sc w p q r ok e live f. in_use sc IsWhole w ok r.instance (task sc IsWhole w ok p q r e live f);
-  parts = λ sc w p q x i ok e n m. in_use sc IsWhole w ok i (part_holds sc IsWhole w ok p q x i e n m);
+  parts = λ sc w p q x i ok e n m. in_use sc IsWhole w ok i (part_stands_in w ok.skeleton_ok p q x i e n m);
+}
+
+pub references_lie_on_paths : ReferencesLieOnPaths
+references_lie_on_paths = record {
+  instances = λ sc w i r x ok e f n. ok.skeleton_ok.refers i (home_of x) r ((ok.instances i x e).left.0 f) (home_forth w i x e) n;
+  parts = λ sc w p q x i ok e n m.
+      let o = held_among q.todo x i n m in
+      let f = ok.skeleton_ok.evaluates p (stack_of q) (record { over = o.0; within = i }) (stack_forth w p q e) o.1 in
+      (o.0, f.0, f.1);
+  tasks = λ sc w p c q r ok e live f g. ok.tasks p c q r e live f g;
 }

@@ -97,6 +97,18 @@ module _ {A : Type 0} (R S : A → A → Type 0) (f : (x y : A) → R x y → S 
   pairs_then_set xs ys zero z m g = pairs_map R S f xs ys m
   pairs_then_set xs ys (suc k) z m g = set_then xs ys k z m g
 
+-- in both lists one item is set to the same
+pub pairs_set_both : {A : Type 0} (R : A → A → Type 0) (xs ys : List A) (i : ℕ) (z : A) → R z z → AllPairs R xs ys → AllPairs R (set_numbered xs i z) (set_numbered ys i z)
+pairs_set_both R xs ys zero z self m = m
+pairs_set_both {A = A} R xs ys (suc k) z self m = by xs ys k m
+  where
+    by : (xs ys : List A) (k : ℕ) → AllPairs R xs ys → AllPairs R (slice_set xs k z) (slice_set ys k z)
+    by [] [] k m = m
+    by [] (y ∷ ys) k m = absurd m
+    by (x ∷ xs) [] k m = absurd m
+    by (x ∷ xs) (y ∷ ys) zero m = (self, m.1)
+    by (x ∷ xs) (y ∷ ys) (suc k) m = (m.0, by xs ys k m.1)
+
 -- an item after one was set is that, or what it was
 pub set_or : {A : Type 0} (xs : List A) (i j : ℕ) (y : A) → (numbered (set_numbered xs i y) j ≡ numbered xs j) ⊎ ((i ≡ j) × (numbered (set_numbered xs i y) j ≡ Some y))
 set_or xs zero j y = ◌⊎◌.inl refl

@@ -1,4 +1,5 @@
--- Actions that change no stack and no event keep what worlds are: reads, stores, places, lines, loops, choices, arrays and faults.
+-- Actions that change no stack of instances and no event keep what worlds are: reads, stores, places, evaluations of names, lines, loops, choices, arrays and
+-- faults.
 use Rattle.std.proofs.Common.{◌≡◌, ◌⊎◌, ℕ, List, [], ◌∷◌, ◌++◌, Option, Some, None, Bool, true, false, refl, sym, ap, ◌∙◌, subst}
 use Rattle.std.specs.Prelude.{if◌then◌else◌}
 use Rattle.b67_list.specs.Numbered.{numbered, set_numbered}
@@ -20,24 +21,21 @@ use Rattle.algol_meaning.specs.Choice.{Choice, is_subscripted, goes, opens, fail
 use Rattle.algol_paths.specs.Blocks.{IsSeen, IsSeenAround, IsInner}
 use Rattle.algol_standing.specs.Skeleton.{IsIn}
 use Rattle.algol_standing.specs.Worlds.{held_in_answer, newest_own, stack_of, IsOnPath, IsAwaited, AreListed, IsWhole, IsOk}
-use Rattle.algol_standing.specs.Actions.{IsQuiet}
+use Rattle.algol_standing.specs.Calls.{IsNoEvent}
 use Rattle.algol_standing.proofs.Lists.{some_same}
 use Rattle.algol_standing.proofs.Holding.{AreAll, IsForeign}
 use Rattle.algol_standing.proofs.Pairs.{AllPairs, pairs_self, pairs_then_set, stack_forth}
 use Rattle.algol_standing.proofs.Alike.{InstanceAlike, ProcessAlike, instance_self, process_self, alike_ok}
 use Rattle.algol_standing.proofs.Seen.{CellOk, part_ok, home_path, cell_here}
-use Rattle.algol_standing.proofs.Resumed.{Unmoved, unmoved_self, Moved, resumed, resumed_ok}
-use Rattle.algol_standing.proofs.Changed.{IsPlain, ArePlain, set_alike, add_alike, IsNoEvent, AreNoEvents, set_event_before, add_event_before, listed_still}
+use Rattle.algol_standing.proofs.Unmoved.{Unmoved, unmoved_self}
+use Rattle.algol_standing.proofs.Resumed.{Moved, resumed, resumed_ok}
+use Rattle.algol_standing.proofs.Changed.{IsPlain, ArePlain, set_alike, add_alike, AreNoEvents, set_event_before, add_event_before, listed_still}
+use Rattle.algol_standing.proofs.Fresh.{simple_plain, simple_no_event}
 use Rattle.algol_standing.proofs.Asking.{Sees, Suits, rest_sees}
-
-simple_plain : (v : Value) → IsPlain (simple v)
-simple_plain v = (λ i n. absurd n, λ m n. absurd n)
+use Rattle.algol_standing.proofs.Evaluating.{read_enters, place_enters}
 
 array_plain : (a : ArrayCell) → IsPlain (array a)
 array_plain a = (λ i n. absurd n, λ m n. absurd n)
-
-simple_no_event : (v : Value) → IsNoEvent (simple v)
-simple_no_event v e f = cc
 
 array_no_event : (a : ArrayCell) → IsNoEvent (array a)
 array_no_event a e f = cc
@@ -68,7 +66,7 @@ same_ok sc w v ok e f =
 
     listed : (r : Reference) (x : EventCell) → AreListed w r x → AreListed v r x
     listed r x l = subst (λ qs. AreListed (record w { instances = v.instances; processes = qs; output = v.output; fault = v.fault }) r x) (sym f)
-        (record { waiters = l.waiters; procurers = l.procurers })
+        (record { waiters = l.waiters; procurers = l.procurers; once = l.once })
 
 module _ (sc : Scopes) (heads_act : (r : Rest) (a : Answer) → Suits (ask r) a → ask (resume sc r a) ≡ nothing → ⊥) (w : World) (ok : IsOk sc IsWhole w) (p : ℕ) (q : Process) (part : Part) (outer : List Part)
     (is : numbered w.processes p ≡ Some q) (todo : q.todo ≡ part ∷ outer) (able_is : q.state ≡ able) where
@@ -113,14 +111,14 @@ module _ (sc : Scopes) (heads_act : (r : Rest) (a : Answer) → Suits (ask r) a 
   -- ---- choices
 
   abbrev pub Keeps : Choice → Type 0
-  Keeps c = IsQuiet c.action → IsOk sc IsWhole c.world
+  Keeps c = IsOk sc IsWhole c.world
 
   pub either : (b : Bool) (c d : Choice) → Keeps c → Keeps d → Keeps (if b then c else d)
   either true c d f g = f
   either false c d f g = g
 
   pub fails_keeps : (k : FaultKind) → Keeps (fails sc w p q part outer k)
-  fails_keeps k m = same_ok sc w (fails sc w p q part outer k).world ok refl refl
+  fails_keeps k = same_ok sc w (fails sc w p q part outer k).world ok refl refl
 
   abbrev seen : Named → Type 0
   seen n = IsSeen sc ((instance_at w part.instance).block) n
@@ -147,9 +145,9 @@ module _ (sc : Scopes) (heads_act : (r : Rest) (a : Answer) → Suits (ask r) a 
       by i (◌⊎◌.inr n) = absurd n
 
   module _ (x : Ask) (e : ask part.rest ≡ x) where
-    pub sees : Sees seen x
+    pub sees : Sees seen (IsInner sc ((instance_at w part.instance).block)) x
     sees =
-        subst (λ y. Sees seen y) e
+        subst (λ y. Sees seen (IsInner sc ((instance_at w part.instance).block)) y) e
         (rest_sees seen (IsInner sc ((instance_at w part.instance).block)) (IsSeenAround sc ((instance_at w part.instance).block)) (λ n s. s.0) part.rest
         (part_ok sc IsWhole w ok p q part outer is todo).text)
 
@@ -157,26 +155,31 @@ module _ (sc : Scopes) (heads_act : (r : Rest) (a : Answer) → Suits (ask r) a 
     suited a s = subst (λ y. Suits y a) (sym e) s
 
     pub value_goes : (action : Action) (v : Value) → Suits x (value v) → Keeps (goes sc w p q part outer action w (value v))
-    value_goes action v s m = same_goes (value v) tt tt (suited (value v) s)
+    value_goes action v s = same_goes (value v) tt tt (suited (value v) s)
 
     pub done_goes : (action : Action) → Suits x done → Keeps (goes sc w p q part outer action w done)
-    done_goes action s m = same_goes done tt tt (suited done s)
+    done_goes action s = same_goes done tt tt (suited done s)
 
-  pub read_keeps : (n : Named) → ask part.rest ≡ asks.reads n → (c : Cell) → Keeps (read_of sc w p q part outer c)
-  read_keeps n e (named c) m = absurd m
-  read_keeps n e (reference r) m = value_goes (asks.reads n) e actions.Read (value_in (cell_at w r)) tt m
-  read_keeps n e (simple v) m = value_goes (asks.reads n) e actions.Read v tt m
-  read_keeps n e (event d) m = value_goes (asks.reads n) e actions.Read (value_in (event d)) tt m
-  read_keeps n e (array a) m = value_goes (asks.reads n) e actions.Read (value_in (array a)) tt m
+  pub read_keeps : (n : Named) → ask part.rest ≡ asks.reads n → (c : Cell) → Held c → Keeps (read_of sc w p q part outer c)
+  read_keeps n e (named c) h = read_enters sc w ok p q part outer is todo able_is c h n e
+  read_keeps n e (reference r) h = value_goes (asks.reads n) e actions.Read (value_in (cell_at w r)) tt
+  read_keeps n e (simple v) h = value_goes (asks.reads n) e actions.Read v tt
+  read_keeps n e (event d) h = value_goes (asks.reads n) e actions.Read (value_in (event d)) tt
+  read_keeps n e (array a) h = value_goes (asks.reads n) e actions.Read (value_in (array a)) tt
 
   place_goes : (n : Named) → ask part.rest ≡ asks.resolves n → (r : Reference) → IsOnPath w (newest_own (part ∷ outer)) r.instance →
       Keeps (goes sc w p q part outer actions.Resolve w (place (there r)))
-  place_goes n e r l m = same_goes (place (there r)) tt (to_there r l, tt) (suited (asks.resolves n) e (place (there r)) tt)
+  place_goes n e r l = same_goes (place (there r)) tt (to_there r l, tt) (suited (asks.resolves n) e (place (there r)) tt)
 
   pub resolved_keeps : (n : Named) → ask part.rest ≡ asks.resolves n → seen n → (c : Cell) → Held c → Keeps (resolved_of sc w p q part outer n c)
-  resolved_keeps n e s (named c) h =
-      either (is_subscripted c.actual) (opens sc w p q part outer w (record { instance = c.instance; purpose = name_place; rest = located_of (settle_actual_place sc c.actual) }))
-      (fails sc w p q part outer fault.NotAVariable) (λ m. absurd m) (fails_keeps fault.NotAVariable)
+  resolved_keeps n e s (named c) h = by (is_subscripted c.actual) refl
+    where
+      by : (b : Bool) → is_subscripted c.actual ≡ b →
+          Keeps
+          (if b then opens sc w p q part outer w (record { instance = c.instance; purpose = name_place; rest = located_of (settle_actual_place sc c.actual) })
+          else fails sc w p q part outer fault.NotAVariable)
+      by true f = place_enters sc w ok p q part outer is todo able_is c h n e f
+      by false f = fails_keeps fault.NotAVariable
   resolved_keeps n e s (reference r) h = place_goes n e r (h.0 r.instance (◌⊎◌.inl refl))
   resolved_keeps n e s (simple v) h = place_goes n e (here sc w p q part outer n) (at_home n s)
   resolved_keeps n e s (event d) h = place_goes n e (here sc w p q part outer n) (at_home n s)
@@ -186,7 +189,7 @@ module _ (sc : Scopes) (heads_act : (r : Rest) (a : Answer) → Suits (ask r) a 
       Keeps (indexed_at sc w p q part outer r ks o)
   indexed_keeps n ks v e r l None = fails_keeps fault.InvalidIndex
   indexed_keeps n ks v e r l (Some k) =
-      λ m. same_goes (place (element_of r (ks ++ k ∷ []))) tt (to_there r l, tt) (suited (asks.indexes n ks v) e (place (element_of r (ks ++ k ∷ []))) tt)
+      same_goes (place (element_of r (ks ++ k ∷ []))) tt (to_there r l, tt) (suited (asks.indexes n ks v) e (place (element_of r (ks ++ k ∷ []))) tt)
 
   pub element_keeps : (n : Named) (ks : List ℕ) (v : Value) → ask part.rest ≡ asks.reads_element n ks v → (a : ArrayCell) (o : Option ℕ) → Keeps (element_read_at sc w p q part outer a ks o)
   element_keeps n ks v e a None = fails_keeps fault.InvalidIndex
@@ -197,9 +200,9 @@ module _ (sc : Scopes) (heads_act : (r : Rest) (a : Answer) → Suits (ask r) a 
     set_goes r c plain without = goes_ok done tt tt (suited (asks.stores x v) e done tt) (set_cell w r c) (set_alike w r c plain) refl (set_event_before w r c without)
 
   pub stored_keeps : (x : Place) (v : Value) → ask part.rest ≡ asks.stores x v → Keeps (stored sc w p q part outer x v)
-  stored_keeps (own n) v e m = set_goes (own n) v e (here sc w p q part outer n) (simple v) (simple_plain v) (simple_no_event v)
-  stored_keeps (there r) v e m = set_goes (there r) v e r (simple v) (simple_plain v) (simple_no_event v)
-  stored_keeps (element_of r ks) v e m =
+  stored_keeps (own n) v e = set_goes (own n) v e (here sc w p q part outer n) (simple v) (simple_plain v) (simple_no_event v)
+  stored_keeps (there r) v e = set_goes (there r) v e r (simple v) (simple_plain v) (simple_no_event v)
+  stored_keeps (element_of r ks) v e =
       set_goes (element_of r ks) v e r (array (with_element (array_in (cell_at w r)) ks v)) (array_plain (with_element (array_in (cell_at w r)) ks v))
       (array_no_event (with_element (array_in (cell_at w r)) ks v))
 
@@ -210,5 +213,5 @@ module _ (sc : Scopes) (heads_act : (r : Rest) (a : Answer) → Suits (ask r) a 
       (fails_keeps fault.ArraySize)
       (either (has_no_room w bs ns) (fails sc w p q part outer fault.CoreFull)
       (goes sc w p q part outer actions.MakeArrays (add_cells w part.instance (new_arrays kind bs ns)) done) (fails_keeps fault.CoreFull)
-      (λ m. goes_ok done tt tt (suited x e done s) (add_cells w part.instance (new_arrays kind bs ns)) (add_alike w part.instance (new_arrays kind bs ns) (arrays_plain kind bs ns)) refl
+      (goes_ok done tt tt (suited x e done s) (add_cells w part.instance (new_arrays kind bs ns)) (add_alike w part.instance (new_arrays kind bs ns) (arrays_plain kind bs ns)) refl
       (add_event_before w part.instance (new_arrays kind bs ns) (arrays_no_events kind bs ns))))

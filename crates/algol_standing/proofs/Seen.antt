@@ -128,11 +128,11 @@ module _ (sc : Scopes) (Whole : World → ℕ → Type 0) (w : World) (ok : IsOk
   pub instance_is : (i : ℕ) (x : Instance) → numbered w.instances i ≡ Some x → instance_at w i ≡ x
   instance_is i x e = ap or_no_instance e
 
-  parent_among : (j : ℕ) (is : List ℕ) → 1 ≤ j → IsIn (parent_in j ++ is) j
+  pub parent_among : (j : ℕ) (is : List ℕ) → 1 ≤ j → IsIn (parent_in j ++ is) j
   parent_among zero is h = absurd (omega (arith, h))
   parent_among (suc j) is h = ◌⊎◌.inl refl
 
-  parent_path : (i : ℕ) (x : Instance) → IsStanding w i → numbered w.instances i ≡ Some x → 1 ≤ x.parent → IsOnPath w i x.parent
+  pub parent_path : (i : ℕ) (x : Instance) → IsStanding w i → numbered w.instances i ≡ Some x → 1 ≤ x.parent → IsOnPath w i x.parent
   parent_path i x st e h = ok.skeleton_ok.refers i (home_of x) x.parent st (home_forth w i x e) (parent_among x.parent (referred_in_cells x.cells) h)
 
   -- the instance so many static parents up, where the blocks around reach so far

@@ -9,7 +9,7 @@ not_itself : {B : Type 0} (a : ℕ) → a < a → B
 not_itself a h = absurd (omega (arith, h))
 
 -- what lies next to it in a list stands in the list, or is the critical instance
-next_in : (c : Option ℕ) (own : List ℕ) (a b : ℕ) → NextIn c own a b → IsIn own b ⊎ (c ≡ Some b)
+pub next_in : (c : Option ℕ) (own : List ℕ) (a b : ℕ) → NextIn c own a b → IsIn own b ⊎ (c ≡ Some b)
 next_in c [] a b n = absurd n
 next_in c (x ∷ []) a b n = ◌⊎◌.inr n.1
 next_in c (x ∷ y ∷ r) a b (◌⊎◌.inl n) = ◌⊎◌.inl (◌⊎◌.inr (◌⊎◌.inl n.1))

@@ -4,14 +4,14 @@ use Rattle.b67_list.specs.Numbered.{numbered}
 use Rattle.algol_tree.specs.Blocks.{block_numbered, around}
 use Rattle.algol_tree.specs.Scopes.{Scopes}
 use Rattle.algol_meaning.specs.Value.{Reference}
-use Rattle.algol_meaning.specs.World.{Instance, instance_at, Part, Process, lives, World}
-use Rattle.algol_meaning.specs.Critical.{referred_by}
+use Rattle.algol_meaning.specs.World.{Instance, instance_at, Part, Process, process_at, lives, World}
+use Rattle.algol_meaning.specs.Critical.{own_instances, referred_by}
 use Rattle.algol_meaning.specs.Statements.{items_of}
 use Rattle.algol_meaning.specs.Choice.{choice}
 use Rattle.algol_meaning.specs.Run.{start, may_go}
 use Rattle.algol_paths.specs.Laws.{ItemsKeepToText}
-use Rattle.algol_standing.specs.Worlds.{referred_in_cells, held_in_rest, IsAmong, IsWhole, IsOk}
-use Rattle.algol_standing.specs.Actions.{IsQuiet}
+use Rattle.algol_standing.specs.Worlds.{referred_in_cells, home_of, held_in_rest, IsOnPath, IsAmong, IsWhole, IsOk}
+use Rattle.algol_standing.specs.Calls.{HeadFits}
 use Rattle.algol_standing.specs.Skeleton.{Evaluation, IsEvaluated, Stack, Skeleton, IsIn, Stands, OnPath, FirstOf, SkeletonOk, AreFree, AreIdle, entered, started, left, evaluated}
 
 -- all of these lie on the path from that instance
@@ -58,10 +58,26 @@ pub record WhatIsReferredToStands : Type 0 where
   pub parts : (sc : Scopes) (w : World) (p : ℕ) (q : Process) (x : Part) (i : ℕ) → IsOk sc IsWhole w → numbered w.processes p ≡ Some q → IsAmong q.todo x →
       IsIn (x.instance ∷ referred_by (held_in_rest x.rest)) i → (instance_at w i).left ≡ false
 
--- Actions that change no stack and no event keep what worlds are.
-abbrev pub QuietActionsKeepWorlds : Type 0
-QuietActionsKeepWorlds =
-    (sc : Scopes) (w : World) (p : ℕ) → IsOk sc IsWhole w → may_go w p ≡ true → IsQuiet ((choice sc w p).action) → IsOk sc IsWhole ((choice sc w p).world)
+-- All that is referred to lies on the path from what refers to it.
+pub record ReferencesLieOnPaths : Type 0 where
+  -- by an instance: its parent, and the instances of its References and Names
+  pub instances : (sc : Scopes) (w : World) (i r : ℕ) (x : Instance) → IsOk sc IsWhole w → numbered w.instances i ≡ Some x → x.left ≡ false → IsIn (home_of x).refs r →
+      IsOnPath w i r
+  -- by an open part: its instance, and those of the places and cells that it holds, from an instance of its process
+  pub parts : (sc : Scopes) (w : World) (p : ℕ) (q : Process) (x : Part) (i : ℕ) → IsOk sc IsWhole w → numbered w.processes p ≡ Some q → IsAmong q.todo x →
+      IsIn (x.instance ∷ referred_by (held_in_rest x.rest)) i → (top : ℕ) × IsIn (own_instances q.todo) top × IsOnPath w top i
+  -- by a live process: its task, from its critical instance
+  pub tasks : (sc : Scopes) (w : World) (p c : ℕ) (q : Process) (r : Reference) → IsOk sc IsWhole w → numbered w.processes p ≡ Some q → lives q.state ≡ true → q.critical ≡ Some c →
+      q.task ≡ Some r → IsOnPath w c r.instance
+
+-- The items of each block keep to its text.
+abbrev pub AreTexts : Scopes → Type 0
+AreTexts sc = (j : ℕ) → j < length sc.blocks → ItemsKeepToText sc j (items_of (block_numbered sc.blocks j))
+
+-- An action keeps what worlds are, whichever it is and of whichever process; where it enters or starts a procedure, what it calls fits.
+abbrev pub ChoicesKeepWorlds : Type 0
+ChoicesKeepWorlds =
+    (sc : Scopes) (w : World) (p : ℕ) → AreTexts sc → IsOk sc IsWhole w → may_go w p ≡ true → HeadFits sc ((process_at w p).todo) → IsOk sc IsWhole ((choice sc w p).world)
 
 -- The outer block comes first, nothing is around it, and its items keep to its text.
 pub record HasOuterBlock (sc : Scopes) : Type 0 where

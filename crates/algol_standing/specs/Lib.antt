@@ -1,4 +1,4 @@
 pub mod Skeleton
 pub mod Worlds
-pub mod Actions
+pub mod Calls
 pub mod Laws

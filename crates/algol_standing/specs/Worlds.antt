@@ -1,6 +1,7 @@
 -- Facts of worlds only: what stands, what is referred to, and that all of it lies on the path.
-use Rattle.std.specs.Prelude.{◌≡◌, ◌⊎◌, ◌↔◌, ℕ, zero, suc, ◌<◌, ◌≤◌, true, false, if◌then◌else◌, List, [], ◌∷◌, ◌++◌, length, map, Some, None}
+use Rattle.std.specs.Prelude.{◌≡◌, ◌⊎◌, ◌↔◌, ℕ, zero, suc, ◌<◌, ◌≤◌, Bool, true, false, if◌then◌else◌, List, [], ◌∷◌, ◌++◌, length, map, Some, None}
 use Rattle.b67_list.specs.Numbered.{numbered}
+use Rattle.algol_tree.specs.Plain.{PBody}
 use Rattle.algol_tree.specs.Blocks.{around}
 use Rattle.algol_tree.specs.Scopes.{Scopes}
 use Rattle.algol_meaning.specs.Value.{Reference, NameCell, Cell, event, named, reference, EventCell}
@@ -8,7 +9,7 @@ use Rattle.algol_meaning.specs.Rest.{Place, own, there, element_of, Given, passe
 use Rattle.algol_meaning.specs.World.{NamedCell, Instance, Part, Process, State, waits_for, procures, lives, World, instance_at, process_at, cell_at}
 use Rattle.algol_meaning.specs.Critical.{is_evaluation, own_instances, referred_in, referred_by}
 use Rattle.algol_meaning.specs.Asks.{nothing, ask}
-use Rattle.algol_paths.specs.Blocks.{IsSeen, IsSeenAround, IsInner}
+use Rattle.algol_paths.specs.Blocks.{IsSeen, IsSeenAround}
 use Rattle.algol_paths.specs.Texts.{InExpr, InRest}
 use Rattle.algol_paths.specs.Arrays.{to_make}
 use Rattle.algol_paths.specs.Laws.{KeepsToText}
@@ -139,10 +140,16 @@ abbrev pub IsListed : List ℕ → ℕ → Type 0
 IsListed [] p = ⊥
 IsListed (x ∷ xs) p = (x ≡ p) ⊎ IsListed xs p
 
--- who is in an event's list lives and waits for that very event
+-- each of them stands there once
+abbrev pub AreOnce : List ℕ → Type 0
+AreOnce [] = Unit {0}
+AreOnce (x ∷ xs) = (IsListed xs x → ⊥) × AreOnce xs
+
+-- who is in an event's list lives and waits for that very event; nobody waits twice to procure it
 pub record AreListed (w : World) (r : Reference) (e : EventCell) : Type 0 where
   pub waiters : (p : ℕ) → IsListed e.waiters p → (process_at w p).state ≡ waits_for r
   pub procurers : (p : ℕ) → IsListed e.procurers p → (process_at w p).state ≡ procures r
+  pub once : AreOnce e.procurers
 
 -- what a state waits for
 abbrev pub IsAwaited : State → Reference → Type 0
@@ -172,9 +179,11 @@ abbrev pub IsGivable : Place → Type 0
 IsGivable (own n) = ⊥
 IsGivable _ = Unit {0}
 
-abbrev pub GivesNoOwn : Rest → Type 0
-GivesNoOwn (giving_place p) = IsGivable p
-GivesNoOwn _ = Unit {0}
+-- only an evaluation comes to give a place
+abbrev pub GivesNoOwn : Bool → Rest → Type 0
+GivesNoOwn evaluates (giving_place p) = (evaluates ≡ true) × IsGivable p
+GivesNoOwn evaluates (locating x) = evaluates ≡ true
+GivesNoOwn evaluates _ = Unit {0}
 
 -- the part comes to give a place
 abbrev pub GivesPlace : Rest → Type 0
@@ -190,8 +199,14 @@ WaitsForPlace _ = ⊥
 
 abbrev pub AreGiven : List Part → Type 0
 AreGiven [] = Unit {0}
-AreGiven (part ∷ []) = GivesNoOwn part.rest
-AreGiven (part ∷ next ∷ parts) = GivesNoOwn part.rest × (WaitsForPlace next.rest → GivesPlace part.rest) × AreGiven (next ∷ parts)
+AreGiven (part ∷ []) = GivesNoOwn (is_evaluation part.purpose) part.rest
+AreGiven (part ∷ next ∷ parts) = GivesNoOwn (is_evaluation part.purpose) part.rest × (WaitsForPlace next.rest → GivesPlace part.rest) × AreGiven (next ∷ parts)
+
+-- ---- evaluations
+
+-- no block stands there
+abbrev pub IsNoBlock : PBody → Type 0
+IsNoBlock b = ⊥
 
 -- ---- heads
 
@@ -228,11 +243,11 @@ module _ (sc : Scopes) (Whole : World → ℕ → Type 0) (w : World) where
     pub seen : InExpr (IsSeen sc (block_at n.instance)) n.actual
     pub narrow : Whole w n.instance ⊎ InExpr (IsSeenAround sc (block_at n.instance)) n.actual
 
-  -- What a part has still to do keeps to the text of its block; an evaluation in an instance that is not whole, to what is around that.
-  -- Names that it holds keep to theirs.
+  -- What a part has still to do keeps to the text of its block; an evaluation in an instance that is not whole, to what is around that, and it
+  -- enters no block. Names that it holds keep to theirs.
   pub record PartOk (part : Part) : Type 0 where
     pub text : KeepsToText sc (block_at part.instance) part.rest
-    pub narrow : is_evaluation part.purpose ≡ true → Whole w part.instance ⊎ InRest (IsSeenAround sc (block_at part.instance)) (IsInner sc (block_at part.instance))
+    pub narrow : is_evaluation part.purpose ≡ true → Whole w part.instance ⊎ InRest (IsSeenAround sc (block_at part.instance)) IsNoBlock
         (IsSeenAround sc (block_at part.instance)) part.rest
     pub names : (n : NameCell) → IsNameHeld (held_in_rest part.rest) n → KeepsActual n
 

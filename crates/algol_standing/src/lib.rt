@@ -1,7 +1,7 @@
 //! Facts of worlds only: which instances stand, and that all that is referred to lies on the path of who refers to it.
 #![tactic(auto)]
 
-ghost use Rattle.algol_standing.specs.Laws.{SkeletonsAreKept, PathsStand, WhatIsReferredToStands, FirstWorldStands, QuietActionsKeepWorlds};
+ghost use Rattle.algol_standing.specs.Laws.{SkeletonsAreKept, PathsStand, WhatIsReferredToStands, ReferencesLieOnPaths, FirstWorldStands, ChoicesKeepWorlds};
 
 /// Law: entering, starting, leaving, evaluations and GO TO keep the skeleton of a world. In each stack the newer instance has the greater
 /// number, what an instance refers to lies on the path from it, and the critical instance of a live process stands.
@@ -22,13 +22,19 @@ pub fn what_is_referred_to_stands()
     ensures { WhatIsReferredToStands }
 {}
 
+/// Law: all that an instance in use refers to lies on the path from it, all that an open part holds on the path from an instance of its process,
+/// and the task of a live process on the path from its critical instance.
+pub fn references_lie_on_paths()
+    ensures { ReferencesLieOnPaths }
+{}
+
 /// Law: the first world of a source is as worlds are, where its outer block comes first and keeps to its text.
 pub fn first_world_stands()
     ensures { FirstWorldStands }
 {}
 
-/// Law: an action that changes no stack of instances and no event keeps what worlds are. It is a Read, Index, ElementRead, Resolve, Store,
-/// ElementStore, Pass, MakeArrays, MakeEvent, Select, Turn, Line, Happened or Fault.
-pub fn quiet_actions_keep_worlds()
-    ensures { QuietActionsKeepWorlds }
+/// Law: each action of each process keeps what worlds are, where the items of each block keep to its text. Where the action enters or starts a
+/// procedure, the name that is called has to be one of a procedure, and no event may be passed on but by a Reference to it.
+pub fn choices_keep_worlds()
+    ensures { ChoicesKeepWorlds }
 {}

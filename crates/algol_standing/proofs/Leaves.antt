@@ -1,0 +1,359 @@
+-- The leaving of a part keeps what worlds are: of an evaluation, of an instance, and of a process's last one, which ends it.
+use Rattle.std.proofs.Common.{◌≡◌, ◌⊎◌, ℕ, List, [], ◌∷◌, ◌++◌, Option, Some, None, Bool, true, false, refl, sym, ap, ◌∙◌, subst}
+use Rattle.std.specs.Prelude.{if◌then◌else◌, ◌||◌}
+use Rattle.b67_list.specs.Numbered.{numbered}
+use Rattle.b67_num.specs.declared.FaultKind.TheVariants as fault
+use Rattle.algol_tree.specs.Scopes.{Scopes}
+use Rattle.algol_meaning.specs.Value.{Value, Reference, EventCell, Cell, event}
+use Rattle.algol_meaning.specs.Rest as rests
+use Rattle.algol_meaning.specs.Rest.{Place, Hole, Actuals, Aim, Rest, Answer, done, value, place}
+use Rattle.algol_meaning.specs.World.{Instance, cell_in, cell_at, Part, Process, able, procures, ended, lives, with_process, set_all_able, World}
+use Rattle.algol_meaning.specs.Critical.{some_depends, some_depends_on_any, is_evaluation, own_instances}
+use Rattle.algol_meaning.specs.Instances.{leave}
+use Rattle.algol_meaning.specs.Events.{event_at, set_event, caused_by_end}
+use Rattle.algol_meaning.specs.Asks as asks
+use Rattle.algol_meaning.specs.Asks.{Ask, ask_hole, ask_actuals, ask_aim, ask, resume}
+use Rattle.algol_meaning.specs.Choice.{fails, left_with, ended_releasing, left_or_ended, left}
+use Rattle.algol_laws.proofs.Cells.{numbered_set}
+use Rattle.algol_laws.proofs.Heads.{is_answer, is_place, awaits_place, awaits_place_in, resume_acts}
+use Rattle.algol_paths.specs.Arrays.{to_make}
+use Rattle.algol_standing.specs.Skeleton.{IsIn}
+use Rattle.algol_standing.specs.Worlds.{held_in_rest, held_in_answer, newest_own, stack_of, IsStanding, IsOwn, IsAmong, IsListed, AreListed, IsAwaited, GivesNoOwn, GivesPlace, WaitsForPlace, HasHead, IsWhole, IsOk}
+use Rattle.algol_standing.proofs.Holding.{AreAll, IsForeign}
+use Rattle.algol_standing.proofs.Pairs.{AllPairs, pairs_self, pairs_map, pairs_set_both, stack_forth}
+use Rattle.algol_standing.proofs.Alike.{InstanceAlike, process_self}
+use Rattle.algol_standing.proofs.Seen.{CellOk, there}
+use Rattle.algol_standing.proofs.Fine.{Fine, fine_of, fine_tail}
+use Rattle.algol_standing.proofs.Unmoved.{Unmoved, unmoved_self}
+use Rattle.algol_standing.proofs.Acted.{IsStillMade, still_self, acted_ok}
+use Rattle.algol_standing.proofs.Resumed.{others_wait, no_own, fine_holds, answered, answered_fine, answered_still}
+use Rattle.algol_standing.proofs.Changed.{set_alike}
+use Rattle.algol_standing.proofs.Listed.{able_instances, able_unmoved, waits_procures, procures_able, now_listed, WaitsAt, waits_live, happened, still_waits, listed_then}
+use Rattle.algol_standing.proofs.Events.{event_plain}
+use Rattle.algol_standing.proofs.Quiet.{same_ok}
+use Rattle.algol_standing.proofs.Acting.{acting}
+use Rattle.algol_standing.proofs.Left.{task}
+use Rattle.algol_standing.proofs.Stacks.{leave_same, leave_forth}
+use Rattle.algol_standing.proofs.Leaving.{stood, left_ok}
+
+-- ---- what a part leaves with
+
+mutual
+  hole_stays : (h : Hole) (a : Answer) → ask_hole h ≡ asks.leaves a → ⊥
+  hole_stays (rests.read n) a e = cc
+  hole_stays (rests.element n ks i) a e = cc
+  hole_stays (rests.index n ks i x es) a e = cc
+  hole_stays (rests.happens n) a e = cc
+  hole_stays (rests.broken op v w f) a e = cc
+  hole_stays (rests.enter n gs) a e = cc
+  hole_stays rests.inside a e = cc
+  hole_stays (rests.subscript n ks h es) a e = hole_stays h a e
+  hole_stays (rests.argument n x) a e = actuals_stay x a e
+  hole_stays (rests.left op h b) a e = hole_stays h a e
+  hole_stays (rests.right op v h) a e = hole_stays h a e
+  hole_stays (rests.negated h) a e = hole_stays h a e
+  hole_stays (rests.inverted h) a e = hole_stays h a e
+  hole_stays (rests.condition h x y) a e = hole_stays h a e
+
+  actuals_stay : (x : Actuals) (a : Answer) → ask_actuals x ≡ asks.leaves a → ⊥
+  actuals_stay (rests.pass gs n sorts es) a e = cc
+  actuals_stay (rests.in_value gs h sorts es) a e = hole_stays h a e
+
+aim_stays : (x : Aim) (a : Answer) → ask_aim x ≡ asks.leaves a → ⊥
+aim_stays (rests.resolve n) a e = cc
+aim_stays (rests.place_index n ks i es) a e = cc
+aim_stays rests.inside_place a e = cc
+aim_stays (rests.place_subscript n ks h es) a e = hole_stays h a e
+
+-- it is over, or it gives a value or a place
+module _ (P : Rest → Answer → Type 0) (over_done : P rests.over done) (value_given : (v : Value) → P (rests.giving v) (value v))
+    (place_given : (p : Place) → P (rests.giving_place p) (place p)) where
+  leaves_by : (r : Rest) (a : Answer) → ask r ≡ asks.leaves a → P r a
+  leaves_by rests.over a e = let same : done ≡ a = cc in subst (λ b. P rests.over b) same over_done
+  leaves_by (rests.giving v) a e = let same : value v ≡ a = cc in subst (λ b. P (rests.giving v) b) same (value_given v)
+  leaves_by (rests.giving_place p) a e = let same : place p ≡ a = cc in subst (λ b. P (rests.giving_place p) b) same (place_given p)
+  leaves_by (rests.reading name) a e = cc
+  leaves_by (rests.store p v k) a e = cc
+  leaves_by (rests.select v ss k) a e = cc
+  leaves_by (rests.turning k) a e = cc
+  leaves_by (rests.going n) a e = cc
+  leaves_by (rests.entering_block b k) a e = cc
+  leaves_by (rests.entering n gs k) a e = cc
+  leaves_by (rests.starting n gs t k) a e = cc
+  leaves_by (rests.acting x n k) a e = cc
+  leaves_by (rests.line phrases vs k) a e = cc
+  leaves_by (rests.arrays kind ns pairs vs k) a e = cc
+  leaves_by (rests.event n k) a e = cc
+  leaves_by (rests.within k) a e = cc
+  leaves_by (rests.dropping k) a e = cc
+  leaves_by (rests.evaluating h) a e = absurd (hole_stays h a e)
+  leaves_by (rests.locating x) a e = absurd (aim_stays x a e)
+  leaves_by (rests.aiming x b k) a e = absurd (aim_stays x a e)
+  leaves_by (rests.storing p h k) a e = absurd (hole_stays h a e)
+  leaves_by (rests.choosing h x y k) a e = absurd (hole_stays h a e)
+  leaves_by (rests.looping h c b k) a e = absurd (hole_stays h a e)
+  leaves_by (rests.checking h b c k) a e = absurd (hole_stays h a e)
+  leaves_by (rests.counting h b k) a e = absurd (hole_stays h a e)
+  leaves_by (rests.differing h loop k) a e = absurd (hole_stays h a e)
+  leaves_by (rests.stepping d h loop k) a e = absurd (hole_stays h a e)
+  leaves_by (rests.selecting h ss k) a e = absurd (hole_stays h a e)
+  leaves_by (rests.calling n x k) a e = absurd (actuals_stay x a e)
+  leaves_by (rests.preparing n x t k) a e = absurd (actuals_stay x a e)
+  leaves_by (rests.writing phrases vs h es k) a e = absurd (hole_stays h a e)
+  leaves_by (rests.bounding kind ns pairs vs h ps k) a e = absurd (hole_stays h a e)
+
+leaves_foreign : (b : Bool) (r : Rest) (a : Answer) → ask r ≡ asks.leaves a → GivesNoOwn b r → IsForeign a
+leaves_foreign b = leaves_by (λ r a. GivesNoOwn b r → IsForeign a) (λ g. tt) (λ v g. tt) (λ p g. g.1)
+
+leaves_held : (C : Cell → Type 0) (r : Rest) (a : Answer) → ask r ≡ asks.leaves a → AreAll C (held_in_rest r) → AreAll C (held_in_answer a)
+leaves_held C = leaves_by (λ r a. AreAll C (held_in_rest r) → AreAll C (held_in_answer a)) (λ i. tt) (λ v i. tt) (λ p i. i)
+
+leaves_answer : (r : Rest) (a : Answer) → ask r ≡ asks.leaves a → is_answer a ≡ true
+leaves_answer = leaves_by (λ r a. is_answer a ≡ true) refl (λ v. refl) (λ p. refl)
+
+leaves_place : (r : Rest) (a : Answer) → ask r ≡ asks.leaves a → GivesPlace r → is_place a ≡ true
+leaves_place = leaves_by (λ r a. GivesPlace r → is_place a ≡ true) (λ g. absurd g) (λ v g. absurd g) (λ p g. refl)
+
+no_place : {A : Type 0} → false ≡ true → A
+no_place e = cc
+
+-- what has an instance of its own gives no place, and so nothing that is held
+leaves_nothing : (C : Cell → Type 0) (r : Rest) (a : Answer) → ask r ≡ asks.leaves a → GivesNoOwn false r → AreAll C (held_in_answer a)
+leaves_nothing C = leaves_by (λ r a. GivesNoOwn false r → AreAll C (held_in_answer a)) (λ g. tt) (λ v g. tt) (λ p g. no_place g.0)
+
+-- what awaits a place and asks for nothing waits for the part inside
+aim_waits : (x : Aim) → awaits_place x ≡ true → ask_aim x ≡ asks.nothing → x ≡ rests.inside_place
+aim_waits (rests.resolve n) e f = cc
+aim_waits (rests.place_index n ks i es) e f = cc
+aim_waits rests.inside_place e f = refl
+aim_waits (rests.place_subscript n ks h es) e f = cc
+
+waits : (r : Rest) → awaits_place_in r ≡ true → ask r ≡ asks.nothing → WaitsForPlace r
+waits (rests.locating x) e f = subst (λ y. WaitsForPlace (rests.locating y)) (sym (aim_waits x e f)) tt
+waits (rests.aiming x b k) e f = subst (λ y. WaitsForPlace (rests.aiming y b k)) (sym (aim_waits x e f)) tt
+waits _ e f = cc
+
+module _ (sc : Scopes) (w : World) (ok : IsOk sc IsWhole w) (p : ℕ) (q : Process) (part : Part) (outer : List Part) (is : numbered w.processes p ≡ Some q) (todo : q.todo ≡ part ∷ outer)
+    (able_is : q.state ≡ able) (a : Answer) (asks_it : ask part.rest ≡ asks.leaves a) where
+  fine : Fine sc w (part ∷ outer)
+  fine = subst (λ ps. Fine sc w ps) todo (fine_of sc w ok p q is)
+
+  head : HasHead q.todo
+  head = (ok.processes p q is).heads (ap lives able_is)
+
+  not_awaited : (r : Reference) → IsAwaited q.state r → ⊥
+  not_awaited r n = subst (λ s. IsAwaited s r) able_is n
+
+  foreign : IsForeign a
+  foreign = leaves_foreign (is_evaluation part.purpose) part.rest a asks_it (no_own part outer fine.given)
+
+  -- ---- the part below goes on
+
+  module _ (next : Part) (parts : List Part) (below : outer ≡ next ∷ parts) (newer : List ℕ) (own_is : own_instances (part ∷ next ∷ parts) ≡ newer ++ own_instances (next ∷ parts))
+      (out : is_evaluation part.purpose ≡ false → IsIn newer part.instance) (none : some_depends_on_any w.processes newer ≡ false)
+      (brings : AreAll (CellOk sc IsWhole w ok (newest_own (next ∷ parts))) (held_in_answer a)) where
+    both : q.todo ≡ part ∷ next ∷ parts
+    both = todo ∙ ap (λ ps. part ∷ ps) below
+
+    fine_here : Fine sc w (part ∷ next ∷ parts)
+    fine_here = subst (λ ps. Fine sc w (part ∷ ps)) below fine
+
+    fine_next : Fine sc w (next ∷ parts)
+    fine_next = fine_tail sc w part (next ∷ parts) fine_here
+
+    waits_now : (x : Part) → IsAmong (next ∷ parts) x → ask x.rest ≡ asks.nothing
+    waits_now = others_wait q part (next ∷ parts) head both
+
+    acts : ask (resume sc next.rest a) ≡ asks.nothing → ⊥
+    acts =
+        acting (ask (resume sc next.rest a))
+        (resume_acts sc next.rest a (leaves_answer part.rest a asks_it)
+        (λ f. leaves_place part.rest a asks_it ((fine_here.given).1 (waits next.rest f (waits_now next (◌⊎◌.inl refl))))))
+
+    head_then : HasHead (answered sc w ok next parts fine_next a foreign brings ∷ parts)
+    head_then =
+        record {
+          part = answered sc w ok next parts fine_next a foreign brings;
+          outer = parts;
+          is = refl;
+          acts = acts;
+          wait = λ x n. waits_now x (◌⊎◌.inr n);
+        }
+
+    still_then : (x : Part) → IsAmong q.todo x → is_evaluation x.purpose ≡ false → to_make x.rest ≡ [] →
+        IsIn newer x.instance ⊎ IsStillMade (answered sc w ok next parts fine_next a foreign brings ∷ parts) x
+    still_then x n o m = by (subst (λ ps. IsAmong ps x) both n)
+      where
+        by : IsAmong (part ∷ next ∷ parts) x → IsIn newer x.instance ⊎ IsStillMade (answered sc w ok next parts fine_next a foreign brings ∷ parts) x
+        by (◌⊎◌.inl f) = ◌⊎◌.inl (subst (λ (y : Part). IsIn newer y.instance) f (out (ap (λ (y : Part). is_evaluation y.purpose) f ∙ o)))
+        by (◌⊎◌.inr k) = ◌⊎◌.inr (answered_still sc w ok next parts fine_next a foreign brings x k o m)
+
+    owned : (i : ℕ) → IsOwn (answered sc w ok next parts fine_next a foreign brings ∷ parts) i → IsOwn q.todo i
+    owned i n = subst (λ ps. IsOwn ps i) (sym both) (◌⊎◌.inr (same n))
+      where
+        same : IsOwn (answered sc w ok next parts fine_next a foreign brings ∷ parts) i → IsOwn (next ∷ parts) i
+        same m = m
+
+    goes_on : IsOk sc IsWhole (left_with sc w p q part outer (leave w newer) a (next ∷ parts)).world
+    goes_on =
+        left_ok sc w ok p q is able_is newer (answered sc w ok next parts fine_next a foreign brings ∷ parts) q.state (ap own_instances both ∙ own_is)
+        (answered_fine sc w ok next parts fine_next a foreign brings) (λ l. head_then) not_awaited owned still_then none (◌⊎◌.inl (ap lives able_is))
+
+  -- ---- an evaluation
+
+  evaluation_left : is_evaluation part.purpose ≡ true → (parts : List Part) → outer ≡ parts → IsOk sc IsWhole (left_with sc w p q part outer w a parts).world
+  evaluation_left e [] below = ok
+  evaluation_left e (next ∷ parts) below = goes_on next parts below [] (ap (λ b. if b then own_instances (next ∷ parts) else part.instance ∷ own_instances (next ∷ parts)) e) out refl brings
+    where
+      out : is_evaluation part.purpose ≡ false → IsIn [] part.instance
+      out f = no_place (sym f ∙ e)
+
+      top_same : newest_own (part ∷ outer) ≡ newest_own (next ∷ parts)
+      top_same = ap (λ b. if b then newest_own outer else part.instance) e ∙ ap newest_own below
+
+      brings : AreAll (CellOk sc IsWhole w ok (newest_own (next ∷ parts))) (held_in_answer a)
+      brings =
+          subst (λ i. AreAll (CellOk sc IsWhole w ok i) (held_in_answer a)) top_same
+          (leaves_held (CellOk sc IsWhole w ok (newest_own (part ∷ outer))) part.rest a asks_it (fine_holds sc w ok part outer fine))
+
+  -- ---- an instance
+
+  module _ (owns : is_evaluation part.purpose ≡ false) (free : some_depends w.processes part.instance ≡ false) where
+    own_first : (parts : List Part) → own_instances (part ∷ parts) ≡ part.instance ∷ own_instances parts
+    own_first parts = ap (λ b. if b then own_instances parts else part.instance ∷ own_instances parts) owns
+
+    none : some_depends_on_any w.processes (part.instance ∷ []) ≡ false
+    none = ap (λ b. b || false) free
+
+    instance_left : (next : Part) (parts : List Part) → outer ≡ next ∷ parts → IsOk sc IsWhole (left_with sc w p q part outer (leave w (part.instance ∷ [])) a (next ∷ parts)).world
+    instance_left next parts below =
+        goes_on next parts below (part.instance ∷ []) (own_first (next ∷ parts)) (λ e. ◌⊎◌.inl refl) none
+        (leaves_nothing (CellOk sc IsWhole w ok (newest_own (next ∷ parts))) part.rest a asks_it
+        (subst (λ b. GivesNoOwn b part.rest) owns (no_own part outer fine.given)))
+
+    -- ---- the last one
+
+    module _ (last : outer ≡ []) where
+      only : q.todo ≡ part ∷ []
+      only = todo ∙ ap (λ ps. part ∷ ps) last
+
+      abbrev before : World
+      before = leave w (part.instance ∷ [])
+
+      abbrev over : Process
+      over = record q { todo = []; state = ended }
+
+      abbrev closed : World
+      closed = with_process before p over
+
+      none_fine : Fine sc w []
+      none_fine = record { each = λ x n. absurd n; given = tt; holds = λ e n. absurd n; some = λ n. n }
+
+      dead : lives ended ≡ true → HasHead []
+      dead e = no_place e
+
+      never : (r : Reference) → IsAwaited ended r → ⊥
+      never r n = n
+
+      all_left : (x : Part) → IsAmong q.todo x → is_evaluation x.purpose ≡ false → to_make x.rest ≡ [] → IsIn (part.instance ∷ []) x.instance ⊎ IsStillMade [] x
+      all_left x n o m = by (subst (λ ps. IsAmong ps x) only n)
+        where
+          by : IsAmong (part ∷ []) x → IsIn (part.instance ∷ []) x.instance ⊎ IsStillMade [] x
+          by (◌⊎◌.inl f) = ◌⊎◌.inl (◌⊎◌.inl (ap (λ (y : Part). y.instance) f))
+          by (◌⊎◌.inr k) = absurd k
+
+      owned_none : (i : ℕ) → IsOwn [] i → IsOwn q.todo i
+      owned_none i n = absurd n
+
+      own_only : own_instances q.todo ≡ (part.instance ∷ []) ++ own_instances []
+      own_only = ap own_instances only ∙ own_first []
+
+      closed_ok : IsOk sc IsWhole closed
+      closed_ok =
+          left_ok sc w ok p q is able_is (part.instance ∷ []) [] ended own_only none_fine dead never owned_none all_left none (◌⊎◌.inr (part.instance, refl, refl, refl))
+
+      closed_stood : (i : ℕ) → IsStanding closed i → IsStanding w i
+      closed_stood i st =
+          (stood sc w ok p q is able_is (part.instance ∷ []) [] ended own_only none_fine dead never owned_none all_left none (◌⊎◌.inr (part.instance, refl, refl, refl)) i st).0
+
+      cells_same : (r : Reference) → cell_at before r ≡ cell_at w r
+      cells_same r = leave_same (λ (x : Instance). cell_in x.cells r.name) (λ x. refl) w (part.instance ∷ []) r.instance
+
+      listed_before : (r : Reference) (e : EventCell) → IsStanding w r.instance → cell_at before r ≡ event e → AreListed before r e
+      listed_before r e st f =
+          let l = ok.listed r e st (sym (cells_same r) ∙ f) in
+          record { waiters = l.waiters; procurers = l.procurers; once = l.once }
+
+      -- its task's event is caused
+      module _ (r : Reference) (task_is : q.task ≡ Some r) where
+        stands : IsStanding w r.instance
+        stands = task sc IsWhole w ok p q r is (ap lives able_is) task_is
+
+        listed_now : AreListed before r (event_at before r)
+        listed_now = now_listed before r (λ e f. listed_before r e stands f)
+
+        abbrev happens : EventCell
+        happens = record (event_at before r) { happened = true; waiters = [] }
+
+        free_now : (k : ℕ) → IsListed (event_at before r).waiters k → WaitsAt before r k
+        free_now k n = ◌⊎◌.inl (listed_now.waiters k n)
+
+        abbrev v : World
+        v = happened before p q over is able_is r happens (event_at before r).waiters free_now
+
+        instances : AllPairs InstanceAlike closed.instances v.instances
+        instances =
+            subst (λ xs. AllPairs InstanceAlike before.instances xs) (sym (able_instances (set_event before r happens) (event_at before r).waiters))
+            (set_alike before r (event happens) (event_plain happens))
+
+        processes : AllPairs Unmoved closed.processes v.processes
+        processes =
+            pairs_set_both Unmoved before.processes (set_all_able (set_event before r happens) (event_at before r).waiters).processes p over (unmoved_self over)
+            (able_unmoved before (set_event before r happens) (event_at before r).waiters (pairs_self Unmoved unmoved_self before.processes)
+            (λ k n. waits_live before r k (free_now k n)))
+
+        here : AreListed v r happens
+        here =
+            record {
+              waiters = λ k n. absurd n;
+              procurers = λ k n.
+                  still_waits before p q over is able_is r happens (event_at before r).waiters free_now k (procures r) (listed_now.procurers k n) (procures_able r)
+                  (λ m. waits_procures r r (sym (listed_now.waiters k m) ∙ listed_now.procurers k n));
+              once = listed_now.once;
+            }
+
+        at_p : numbered closed.processes p ≡ Some over
+        at_p = numbered_set before.processes p q over is
+
+        task_caused : IsOk sc IsWhole v
+        task_caused =
+            let x = there sc IsWhole w ok r.instance stands in
+            let y = leave_forth w (part.instance ∷ []) r.instance x.0 x.1 in
+            acted_ok sc closed closed_ok p over at_p over (process_self over) (closed_ok.processes p over at_p)
+            (λ e n. closed_ok.skeleton_ok.evaluates p (stack_of over) e (stack_forth closed p over at_p) n) (still_self []) v instances
+            (pairs_map Unmoved (λ x z. ((x ≡ over) × (z ≡ over)) ⊎ Unmoved x z) (λ x z f. ◌⊎◌.inr f) closed.processes v.processes processes)
+            (λ s d st f. listed_then before p q over is able_is r happens (event_at before r).waiters free_now y.0 y.1 here s d (listed_before s d (closed_stood s.instance st)) f)
+
+      ends : (o : Option Reference) → q.task ≡ o → IsOk sc IsWhole (ended_releasing sc w p q part outer (caused_by_end before o)).world
+      ends None e = closed_ok
+      ends (Some r) e = task_caused r e
+
+    by_parts : (parts : List Part) → outer ≡ parts → IsOk sc IsWhole (left_or_ended sc w p q part outer a parts).world
+    by_parts [] last = ends last q.task refl
+    by_parts (next ∷ parts) below = instance_left next parts below
+
+  pub left_keeps : IsOk sc IsWhole (left sc w p q part outer a).world
+  left_keeps = by (is_evaluation part.purpose) refl
+    where
+      owns_it : is_evaluation part.purpose ≡ false → (b : Bool) → some_depends w.processes part.instance ≡ b →
+          IsOk sc IsWhole (if b then fails sc w p q part outer fault.CriticalBlockExit else left_or_ended sc w p q part outer a outer).world
+      owns_it o true f = same_ok sc w (fails sc w p q part outer fault.CriticalBlockExit).world ok refl refl
+      owns_it o false f = by_parts o f outer refl
+
+      by : (b : Bool) → is_evaluation part.purpose ≡ b →
+          IsOk sc IsWhole
+          (if b then left_with sc w p q part outer w a outer
+          else if some_depends w.processes part.instance then fails sc w p q part outer fault.CriticalBlockExit
+          else left_or_ended sc w p q part outer a outer).world
+      by true e = evaluation_left e outer refl
+      by false e = owns_it e (some_depends w.processes part.instance) refl

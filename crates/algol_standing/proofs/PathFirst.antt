@@ -1,0 +1,328 @@
+-- The first instance on a process's path of those that are referred to is the one that the walk down the numbers finds.
+use Rattle.std.proofs.Common.{◌≡◌, ◌⊎◌, ℕ, zero, suc, ◌+◌, ◌<◌, ◌≤◌, List, [], ◌∷◌, ◌++◌, length, Option, Some, None, Bool, true, false, refl, sym, ap, ◌∙◌, subst, arith, length-append, append_assoc}
+use Rattle.std.specs.Prelude.{slice_get, if◌then◌else◌, ◌==◌, ◌&&◌, ◌||◌, not}
+use Rattle.b67_list.specs.Numbered.{numbered}
+use Rattle.algol_tree.specs.Scopes.{Scopes}
+use Rattle.algol_meaning.specs.World.{Instance, or_no_instance, instance_at, Part, Process, or_no_process, process_at, lives, World}
+use Rattle.algol_meaning.specs.Critical.{is_this, is_evaluation, own_instances, NumberedInstance, newest_first, is_one_of, first_on_path}
+use Rattle.algol_laws.proofs.Cells.{itself, same_number}
+use Rattle.algol_standing.specs.Skeleton.{Stack, Home, IsIn, NextIn, Owned, FirstOf, this, further}
+use Rattle.algol_standing.specs.Worlds.{home_of, newest_own, stack_of, skeleton, IsStanding, IsOwn, IsWhole, IsOk}
+use Rattle.algol_standing.proofs.Lists.{none_some, some_same, get-seam, same_or_other}
+use Rattle.algol_standing.proofs.Standing.{home_stands, stands_small, lives as stack_lives}
+use Rattle.algol_standing.proofs.Shrink.{next_in}
+use Rattle.algol_standing.proofs.Firsts.{below_in}
+use Rattle.algol_standing.proofs.Pairs.{map_length, stack_forth, stack_back, home_forth}
+use Rattle.algol_standing.proofs.Seen.{there, instance_is}
+
+-- ---- tests
+
+or_left : (a b : Bool) → a ≡ true → (a || b) ≡ true
+or_left true b e = refl
+or_left false b e = cc
+
+or_right : (a b : Bool) → b ≡ true → (a || b) ≡ true
+or_right true b e = refl
+or_right false b e = e
+
+or_either : (a b : Bool) → (a || b) ≡ true → (a ≡ true) ⊎ (b ≡ true)
+or_either true b e = ◌⊎◌.inl refl
+or_either false b e = ◌⊎◌.inr e
+
+and_true : (a b : Bool) → a ≡ true → b ≡ true → (a && b) ≡ true
+and_true true b e f = f
+and_true false b e f = cc
+
+and_both : (a b : Bool) → (a && b) ≡ true → (a ≡ true) × (b ≡ true)
+and_both true b e = (refl, e)
+and_both false b e = cc
+
+not_false : (b : Bool) → b ≡ false → not b ≡ true
+not_false true e = cc
+not_false false e = refl
+
+not_back : (b : Bool) → not b ≡ true → b ≡ false
+not_back true e = cc
+not_back false e = refl
+
+one_of_true : (js : List ℕ) (i : ℕ) → IsIn js i → is_one_of js i ≡ true
+one_of_true [] i n = absurd n
+one_of_true (j ∷ js) i (◌⊎◌.inl e) = or_left (j == i) (is_one_of js i) (subst (λ k. (j == k) ≡ true) e (itself j))
+one_of_true (j ∷ js) i (◌⊎◌.inr n) = or_right (j == i) (is_one_of js i) (one_of_true js i n)
+
+one_of_back : (js : List ℕ) (i : ℕ) → is_one_of js i ≡ true → IsIn js i
+one_of_back [] i e = cc
+one_of_back (j ∷ js) i e = by (or_either (j == i) (is_one_of js i) e) (λ f. one_of_back js i f)
+  where
+    by : ((j == i) ≡ true) ⊎ (is_one_of js i ≡ true) → (is_one_of js i ≡ true → IsIn js i) → IsIn (j ∷ js) i
+    by (◌⊎◌.inl f) g = ◌⊎◌.inl (same_number j i f)
+    by (◌⊎◌.inr f) g = ◌⊎◌.inr (g f)
+
+this_true : (o : Option ℕ) (i : ℕ) → o ≡ Some i → is_this o i ≡ true
+this_true o i e = ap (λ c. is_this c i) e ∙ itself i
+
+this_back : (o : Option ℕ) (i : ℕ) → is_this o i ≡ true → o ≡ Some i
+this_back None i e = cc
+this_back (Some c) i e = ap Some (same_number c i e)
+
+-- ---- the order of a stack, with its critical instance below
+
+module _ (homes : List Home) (p : ℕ) (c : Option ℕ) where
+  lower : (own : List ℕ) (a : ℕ) → Owned homes p own → IsIn own a → (x : ℕ) (xs : List ℕ) → own ≡ x ∷ xs → a ≤ x
+  lower [] a o n x xs e = absurd n
+  lower (y ∷ own) a o n x xs e = by n
+    where
+      same : y ≡ x
+      same = cc
+
+      by : (y ≡ a) ⊎ IsIn own a → a ≤ x
+      by (◌⊎◌.inl f) = omega (arith, f, same)
+      by (◌⊎◌.inr m) = let h = o.3 a m in omega (arith, h, same)
+
+  between : (own : List ℕ) (a b : ℕ) → Owned homes p own → ((d i : ℕ) → c ≡ Some d → IsIn own i → d < i) → NextIn c own a b →
+      (b < a) × ((m : ℕ) → IsIn own m ⊎ (c ≡ Some m) → b < m → m < a → ⊥)
+  between [] a b o older n = absurd n
+  between (x ∷ []) a b o older n = (let h = older b x n.1 (◌⊎◌.inl refl) in let e = n.0 in omega (arith, h, e), none)
+    where
+      none : (m : ℕ) → IsIn (x ∷ []) m ⊎ (c ≡ Some m) → b < m → m < a → ⊥
+      none m (◌⊎◌.inl (◌⊎◌.inl e)) g h = let f = n.0 in absurd (omega (arith, e, f, h))
+      none m (◌⊎◌.inl (◌⊎◌.inr k)) g h = k
+      none m (◌⊎◌.inr e) g h = let f : b ≡ m = some_same n.1 e in absurd (omega (arith, f, g))
+  between (x ∷ y ∷ r) a b o older (◌⊎◌.inl n) = (let h = o.3 y (◌⊎◌.inl refl) in let e = n.0 in let f = n.1 in omega (arith, h, e, f), none)
+    where
+      none : (m : ℕ) → IsIn (x ∷ y ∷ r) m ⊎ (c ≡ Some m) → b < m → m < a → ⊥
+      none m (◌⊎◌.inl (◌⊎◌.inl e)) g h = let f = n.0 in absurd (omega (arith, e, f, h))
+      none m (◌⊎◌.inl (◌⊎◌.inr (◌⊎◌.inl e))) g h = let f = n.1 in absurd (omega (arith, e, f, g))
+      none m (◌⊎◌.inl (◌⊎◌.inr (◌⊎◌.inr k))) g h = let l = (o.4).3 m k in let f = n.1 in absurd (omega (arith, l, f, g))
+      none m (◌⊎◌.inr e) g h = let l = older m y e (◌⊎◌.inr (◌⊎◌.inl refl)) in let f = n.1 in absurd (omega (arith, l, f, g))
+  between (x ∷ y ∷ r) a b o older (◌⊎◌.inr n) = up (between (y ∷ r) a b o.4 (λ d i e k. older d i e (◌⊎◌.inr k)) n)
+    where
+      none : ((m : ℕ) → IsIn (y ∷ r) m ⊎ (c ≡ Some m) → b < m → m < a → ⊥) → (m : ℕ) → IsIn (x ∷ y ∷ r) m ⊎ (c ≡ Some m) → b < m → m < a → ⊥
+      none f m (◌⊎◌.inl (◌⊎◌.inl e)) g h = let l = o.3 a (below_in c (y ∷ r) a b n) in absurd (omega (arith, l, e, h))
+      none f m (◌⊎◌.inl (◌⊎◌.inr k)) g h = f m (◌⊎◌.inl k) g h
+      none f m (◌⊎◌.inr e) g h = f m (◌⊎◌.inr e) g h
+
+      up : (b < a) × ((m : ℕ) → IsIn (y ∷ r) m ⊎ (c ≡ Some m) → b < m → m < a → ⊥) →
+          (b < a) × ((m : ℕ) → IsIn (x ∷ y ∷ r) m ⊎ (c ≡ Some m) → b < m → m < a → ⊥)
+      up f = (f.0, λ m k g h. none f.1 m k g h)
+
+-- ---- the list of all instances, the newest first
+
+abbrev down_from : World → ℕ → List NumberedInstance
+down_from w zero = []
+down_from w (suc k) = record { number = suc k; of = instance_at w (suc k) } ∷ down_from w k
+
+newest_down : (w : World) (xs front : List Instance) → w.instances ≡ front ++ xs → newest_first (suc (length front)) xs (down_from w (length front)) ≡ down_from w (length w.instances)
+newest_down w [] front e = ap (λ k. down_from w k) all
+  where
+    all : length front ≡ length w.instances
+    all = let f = ap length e in let g = length-append front [] in omega (arith, f, g)
+newest_down w (x ∷ xs) front e =
+    ap (λ k. newest_first k xs (record { number = suc (length front); of = x } ∷ down_from w (length front))) next_is
+    ∙ (ap (λ l. newest_first (suc (length (front ++ x ∷ []))) xs l) here ∙ newest_down w xs (front ++ x ∷ []) (e ∙ sym (append_assoc front (x ∷ []) xs)))
+  where
+    longer : length (front ++ x ∷ []) ≡ length front + 1
+    longer = length-append front (x ∷ [])
+
+    next_is : suc (length front) + 1 ≡ suc (length (front ++ x ∷ []))
+    next_is = let f = longer in omega (arith, f)
+
+    number_is : suc (length front) ≡ length (front ++ x ∷ [])
+    number_is = let f = longer in omega (arith, f)
+
+    at : instance_at w (suc (length front)) ≡ x
+    at = ap (λ zs. or_no_instance (slice_get zs (length front))) e ∙ ap or_no_instance (get-seam front x xs)
+
+    here : record { number = suc (length front); of = x } ∷ down_from w (length front) ≡ down_from w (length (front ++ x ∷ []))
+    here = ap (λ z. record { number = suc (length front); of = z } ∷ down_from w (length front)) (sym at) ∙ ap (λ k. down_from w k) number_is
+
+module _ (sc : Scopes) (w : World) (ok : IsOk sc IsWhole w) where
+  -- it stands in the stack of the process, or is its critical instance
+  abbrev IsOn : Process → ℕ → Type 0
+  IsOn q m = IsIn (own_instances q.todo) m ⊎ (q.critical ≡ Some m)
+
+  on_stands : (p : ℕ) (q : Process) → numbered w.processes p ≡ Some q → lives q.state ≡ true → (m : ℕ) → IsOn q m → IsStanding w m
+  on_stands p q is live m (◌⊎◌.inl n) = record { number = p; stack = stack_of q; is = stack_forth w p q is; inside = n }
+  on_stands p q is live m (◌⊎◌.inr e) = ok.skeleton_ok.holds p (stack_of q) m (stack_forth w p q is) live e
+
+  -- the test of the walk
+  abbrev on_test : ℕ → ℕ → Bool
+  on_test p m = (((instance_at w m).process == p) && not (instance_at w m).left) || is_this ((process_at w p).critical) m
+
+  home_process : (m : ℕ) (st : IsStanding w m) → (instance_at w m).process ≡ st.number
+  home_process m st =
+      let h = home_stands (skeleton w) ok.skeleton_ok m st in
+      let x = there sc IsWhole w ok m st in
+      let same : h.0 ≡ home_of x.0 = some_same h.1 (home_forth w m x.0 x.1) in
+      ap (λ (y : Instance). y.process) (instance_is sc IsWhole w ok m x.0 x.1) ∙ (ap (λ (g : Home). g.process) (sym same) ∙ h.2)
+
+  not_left : (m : ℕ) → IsStanding w m → (instance_at w m).left ≡ false
+  not_left m st = let x = there sc IsWhole w ok m st in ap (λ (y : Instance). y.left) (instance_is sc IsWhole w ok m x.0 x.1) ∙ (ok.instances m x.0 x.1).left.1 st
+
+  left_stands : (m : ℕ) → (instance_at w m).left ≡ false → IsStanding w m
+  left_stands m e = by (numbered w.instances m) refl
+    where
+      by : (o : Option Instance) → numbered w.instances m ≡ o → IsStanding w m
+      by None f = absurd (let g : true ≡ false = sym (ap (λ o. (or_no_instance o).left) f) ∙ e in cc)
+      by (Some x) f = (ok.instances m x f).left.0 (sym (ap (λ o. (or_no_instance o).left) f) ∙ e)
+
+  module _ (p : ℕ) (q : Process) (is : numbered w.processes p ≡ Some q) (live : lives q.state ≡ true) where
+    at_p : process_at w p ≡ q
+    at_p = ap or_no_process is
+
+    on_true : (m : ℕ) → IsOn q m → on_test p m ≡ true
+    on_true m (◌⊎◌.inl n) =
+        let st : IsStanding w m = record { number = p; stack = stack_of q; is = stack_forth w p q is; inside = n } in
+        or_left (((instance_at w m).process == p) && not (instance_at w m).left) (is_this ((process_at w p).critical) m)
+        (and_true ((instance_at w m).process == p) (not (instance_at w m).left) (subst (λ k. ((instance_at w m).process == k) ≡ true) (home_process m st) (itself ((instance_at w m).process)))
+        (not_false ((instance_at w m).left) (not_left m st)))
+    on_true m (◌⊎◌.inr e) =
+        or_right (((instance_at w m).process == p) && not (instance_at w m).left) (is_this ((process_at w p).critical) m)
+        (this_true ((process_at w p).critical) m (ap (λ (z : Process). z.critical) at_p ∙ e))
+
+    on_back : (m : ℕ) → on_test p m ≡ true → IsOn q m
+    on_back m e = by (or_either (((instance_at w m).process == p) && not (instance_at w m).left) (is_this ((process_at w p).critical) m) e)
+      where
+        in_own : (st : IsStanding w m) → st.number ≡ p → IsOn q m
+        in_own st f =
+            let same : st.stack ≡ stack_of q = some_same st.is (ap (λ k. slice_get (skeleton w).stacks k) f ∙ stack_forth w p q is) in
+            ◌⊎◌.inl (subst (λ (z : Stack). IsIn z.own m) same st.inside)
+
+        by : ((((instance_at w m).process == p) && not (instance_at w m).left) ≡ true) ⊎ (is_this ((process_at w p).critical) m ≡ true) → IsOn q m
+        by (◌⊎◌.inl f) =
+            let g = and_both ((instance_at w m).process == p) (not (instance_at w m).left) f in
+            let st = left_stands m (not_back ((instance_at w m).left) g.1) in
+            in_own st (sym (home_process m st) ∙ same_number ((instance_at w m).process) p g.0)
+        by (◌⊎◌.inr f) = ◌⊎◌.inr (ap (λ (z : Process). z.critical) (sym at_p) ∙ this_back ((process_at w p).critical) m f)
+
+  -- the newest of those that are no newer than k and lie on the path from the top of the process
+  record IsTop (k : ℕ) (q : Process) (a : ℕ) : Type 0 where
+    low : a ≤ k
+    on : IsOn q a
+    none : (m : ℕ) → m ≤ k → a < m → IsOn q m → ⊥
+
+  own_older : (p : ℕ) (q : Process) → numbered w.processes p ≡ Some q → lives q.state ≡ true → (d i : ℕ) → q.critical ≡ Some d → IsIn (own_instances q.todo) i → d < i
+  own_older p q is live d i e n = ok.older p d q is live e i (own_of q.todo n)
+    where
+      own_of : (parts : List Part) → IsIn (own_instances parts) i → IsOwn parts i
+      own_of [] m = absurd m
+      own_of (x ∷ parts) m = by (is_evaluation x.purpose) refl m (own_of parts)
+        where
+          by : (b : Bool) → is_evaluation x.purpose ≡ b → IsIn (if b then own_instances parts else x.instance ∷ own_instances parts) i → (IsIn (own_instances parts) i → IsOwn parts i) →
+              IsOwn (x ∷ parts) i
+          by true f l g = ◌⊎◌.inr (g l)
+          by false f (◌⊎◌.inl h) g = ◌⊎◌.inl (f, h)
+          by false f (◌⊎◌.inr l) g = ◌⊎◌.inr (g l)
+
+  -- the next one down is the newest below
+  next_top : (k p : ℕ) (q : Process) (a b : ℕ) → numbered w.processes p ≡ Some q → lives q.state ≡ true → a ≡ suc k → NextIn q.critical (own_instances q.todo) a b → IsTop k q b
+  next_top k p q a b is live e n =
+      record {
+        low = let h = order.0 in omega (arith, h, e);
+        on = on (next_in q.critical (own_instances q.todo) a b n);
+        none = λ m h g o. order.1 m o g (let f = h in omega (arith, f, e));
+      }
+    where
+      order : (b < a) × ((m : ℕ) → IsIn (own_instances q.todo) m ⊎ (q.critical ≡ Some m) → b < m → m < a → ⊥)
+      order = between (skeleton w).homes p q.critical (own_instances q.todo) a b (ok.skeleton_ok.owned p (stack_of q) (stack_forth w p q is)) (own_older p q is live) n
+
+      on : IsIn (own_instances q.todo) b ⊎ (q.critical ≡ Some b) → IsOn q b
+      on m = m
+
+  module _ (wanted : List ℕ) where
+    -- the walk from further down
+    abbrev Again : ℕ → ℕ → Type 0
+    Again k d =
+        (p : ℕ) (q : Process) (a : ℕ) → numbered w.processes p ≡ Some q → lives q.state ≡ true → IsTop k q a → FirstOf (skeleton w) wanted a d →
+        first_on_path w (down_from w k) p wanted ≡ d
+
+    -- the walk is there
+    found : (k a d : ℕ) → Again k d → a ≡ suc k → FirstOf (skeleton w) wanted a d →
+        (if is_one_of wanted (suc k) then suc k else first_on_path w (down_from w k) ((instance_at w (suc k)).process) wanted) ≡ d
+    found k a d again e (this n) =
+        ap (λ b. if b then suc k else first_on_path w (down_from w k) ((instance_at w (suc k)).process) wanted) (one_of_true wanted (suc k) (subst (λ i. IsIn wanted i) e n)) ∙ sym e
+    found k a d again e (further {b = b} out n g) =
+        ap (λ t. if t then suc k else first_on_path w (down_from w k) ((instance_at w (suc k)).process) wanted) (one_of_false (is_one_of wanted (suc k)) refl)
+        ∙ (ap (λ i. first_on_path w (down_from w k) i wanted) process_is ∙ down (stack_back w n.number n.stack n.is))
+      where
+        one_of_false : (t : Bool) → is_one_of wanted (suc k) ≡ t → is_one_of wanted (suc k) ≡ false
+        one_of_false true h = absurd (out (subst (λ i. IsIn wanted i) (sym e) (one_of_back wanted (suc k) h)))
+        one_of_false false h = h
+
+        st : IsStanding w a
+        st = record { number = n.number; stack = n.stack; is = n.is; inside = below_in n.stack.critical n.stack.own a b n.next }
+
+        process_is : (instance_at w (suc k)).process ≡ n.number
+        process_is = ap (λ i. (instance_at w i).process) (sym e) ∙ home_process a st
+
+        lived : (y : Process) → numbered w.processes n.number ≡ Some y → (xs : List ℕ) → own_instances y.todo ≡ xs → IsIn xs a → lives y.state ≡ true
+        lived y h [] i m = absurd m
+        lived y h (x ∷ xs) i m = stack_lives (skeleton w) ok.skeleton_ok n.number (stack_of y) x xs (stack_forth w n.number y h) i
+
+        down : ((n.stack.own ≡ []) × (n.stack.evaluations ≡ []) × (n.stack.live ≡ false)) ⊎ ((y : Process) × (numbered w.processes n.number ≡ Some y) × (n.stack ≡ stack_of y)) →
+            first_on_path w (down_from w k) n.number wanted ≡ d
+        down (◌⊎◌.inl h) = absurd (subst (λ xs. IsIn xs a) h.0 (below_in n.stack.critical n.stack.own a b n.next))
+        down (◌⊎◌.inr h) =
+            let next : NextIn (h.0).critical (own_instances (h.0).todo) a b = subst (λ (z : Stack). NextIn z.critical z.own a b) h.2 n.next in
+            let lives_on : lives (h.0).state ≡ true = lived h.0 h.1 (own_instances (h.0).todo) refl (below_in (h.0).critical (own_instances (h.0).todo) a b next) in
+            again n.number h.0 b h.1 lives_on (next_top k n.number h.0 a b h.1 lives_on e next) g
+
+    walk : (k p : ℕ) (q : Process) (a d : ℕ) → numbered w.processes p ≡ Some q → lives q.state ≡ true → IsTop k q a → FirstOf (skeleton w) wanted a d →
+        first_on_path w (down_from w k) p wanted ≡ d
+    walk zero p q a d is live top f = absurd (nothing_there (on_stands p q is live a top.on) (let l = top.low in omega (arith, l)))
+      where
+        nothing_there : IsStanding w a → a ≡ 0 → ⊥
+        nothing_there st e = let x = there sc IsWhole w ok a st in none_some (ap (λ i. numbered w.instances i) (sym e) ∙ x.1)
+    walk (suc k) p q a d is live top f = by (λ p q a is live top f. walk k p q a d is live top f) (same_or_other a (suc k))
+      where
+        older : List NumberedInstance
+        older = down_from w k
+
+        here : Again k d → a ≡ suc k → first_on_path w (down_from w (suc k)) p wanted ≡ d
+        here again e =
+            ap
+            (λ b. if b then (if is_one_of wanted (suc k) then suc k else first_on_path w older ((instance_at w (suc k)).process) wanted) else first_on_path w older p wanted)
+            (on_true p q is live (suc k) (subst (λ i. IsOn q i) e top.on))
+            ∙ found k a d again e f
+
+        -- .. or goes by
+        past : Again k d → (a ≡ suc k → ⊥) → first_on_path w (down_from w (suc k)) p wanted ≡ d
+        past again other =
+            ap
+            (λ b. if b then (if is_one_of wanted (suc k) then suc k else first_on_path w older ((instance_at w (suc k)).process) wanted) else first_on_path w older p wanted)
+            (off (on_test p (suc k)) refl)
+            ∙ again p q a is live (record { low = low; on = top.on; none = λ m h g o. top.none m (let l = h in omega (arith, l)) g o }) f
+          where
+            low : a ≤ k
+            low = let l = top.low in omega (arith, l, other)
+
+            off : (b : Bool) → on_test p (suc k) ≡ b → on_test p (suc k) ≡ false
+            off true e = absurd (top.none (suc k) (omega arith) (let l = low in omega (arith, l)) (on_back p q is live (suc k) e))
+            off false e = e
+
+        by : Again k d → (a ≡ suc k) ⊎ (a ≡ suc k → ⊥) → first_on_path w (down_from w (suc k)) p wanted ≡ d
+        by again (◌⊎◌.inl e) = here again e
+        by again (◌⊎◌.inr other) = past again other
+
+    pub first_found : (p : ℕ) (q : Process) (r : List ℕ) (d : ℕ) → numbered w.processes p ≡ Some q → lives q.state ≡ true → own_instances q.todo ≡ newest_own q.todo ∷ r →
+        FirstOf (skeleton w) wanted (newest_own q.todo) d → first_on_path w (newest_first 1 w.instances []) p wanted ≡ d
+    first_found p q r d is live own f =
+        ap (λ l. first_on_path w l p wanted) (newest_down w w.instances [] refl) ∙ walk (length w.instances) p q (newest_own q.todo) d is live top f
+      where
+        at_top : IsIn (own_instances q.todo) (newest_own q.todo)
+        at_top = subst (λ xs. IsIn xs (newest_own q.todo)) (sym own) (◌⊎◌.inl refl)
+
+        highest : (m : ℕ) → IsOn q m → m ≤ newest_own q.todo
+        highest m (◌⊎◌.inl n) = lower (skeleton w).homes p q.critical (own_instances q.todo) m (ok.skeleton_ok.owned p (stack_of q) (stack_forth w p q is)) n (newest_own q.todo) r own
+        highest m (◌⊎◌.inr e) = let h = own_older p q is live m (newest_own q.todo) e at_top in omega (arith, h)
+
+        top : IsTop (length w.instances) q (newest_own q.todo)
+        top =
+            record {
+              low =
+                  let h = stands_small (skeleton w) ok.skeleton_ok (newest_own q.todo) (on_stands p q is live (newest_own q.todo) (◌⊎◌.inl at_top)) in
+                  let n = map_length home_of w.instances in
+                  omega (arith, h, n);
+              on = ◌⊎◌.inl at_top;
+              none = λ m h g o. let l = highest m o in absurd (omega (arith, g, l));
+            }
