@@ -1,10 +1,11 @@
 -- The order of faults: which of them is the first does not depend on the order in which they are found.
-use Rattle.std.proofs.Common.{◌≡◌, ℕ, ◌+◌, ◌<◌, Bool, true, false, nat_lt, List, [], ◌∷◌, ◌++◌, Option, Some, None, refl, ap, sym, ◌∙◌, arith}
+use Rattle.std.proofs.Common.{◌≡◌, ℕ, ◌<◌, Bool, true, false, nat_lt, List, [], ◌∷◌, ◌++◌, Option, Some, None, refl, ap, sym, ◌∙◌, arith}
 use Rattle.std.specs.Prelude.{◌==◌, ◌&&◌, ◌||◌, if◌then◌else◌}
 use Rattle.algol_tree.specs.declared.refusal.Code.{Code}
 use Rattle.algol_tree.specs.declared.refusal.Code.TheVariants as codes
 use Rattle.algol_tree.specs.declared.refusal.Fault.{Fault}
-use Rattle.algol_tree.specs.Accepted.{rule_number, is_earlier, earlier, noted, noted_all}
+use Rattle.algol_tree.specs.Codes.{rule_number}
+use Rattle.algol_tree.specs.Accepted.{is_earlier, earlier, noted, noted_all}
 
 -- the order of two triples of numbers, the first counting most
 abbrev lex : ℕ → ℕ → ℕ → ℕ → ℕ → ℕ → Bool

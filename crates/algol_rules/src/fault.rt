@@ -5,7 +5,7 @@ ghost use Rattle.algol_tree.specs.Accepted as rules;
 ghost use Rattle.algol_tree.specs.declared.refusal.Fault.{Fault};
 ghost use Rattle.algol_rules.specs.Refusing.{refusing};
 
-use algol_tree::{Code, Fault, Refusal, Spot};
+use algol_tree::{Code, Fault, Refusal, Spot, rule_number};
 
 /// The first of the faults that were found, in text order, and at one place that of the rule with the lowest number.
 #[derive(Drop)]
@@ -65,33 +65,4 @@ fn is_before(spot: Spot, other: Spot) -> bool
     ensures { result ≡ rules.is_before spot other }
 {
     spot.line < other.line || (spot.line == other.line && spot.column < other.column)
-}
-
-/// The number of the rule, 0 for what is no rule of a tree.
-fn rule_number(code: Code) -> u8
-    ensures { result ≡ rules.rule_number code }
-{
-    match code {
-        Code::UnknownName => 1,
-        Code::DeclaredTwice => 2,
-        Code::TooManyLevels => 3,
-        Code::TooManyCells => 4,
-        Code::TooManyProcedures => 5,
-        Code::SegmentTooLong => 6,
-        Code::WrongType => 7,
-        Code::WrongCount => 8,
-        Code::NotAssignable => 9,
-        Code::WriteList => 10,
-        Code::LineTooWide => 11,
-        Code::BadLabel => 12,
-        Code::BadCharacter => 0,
-        Code::LineTooLong => 0,
-        Code::OpenString => 0,
-        Code::NumberTooWide => 0,
-        Code::NameTooLong => 0,
-        Code::Unexpected => 0,
-        Code::TooDeep => 0,
-        Code::TextAfterEnd => 0,
-        Code::Unbuilt => 0,
-    }
 }

@@ -32,6 +32,7 @@ pub mod Phrases
 pub mod Checks
 pub mod Counted
 pub mod Labels
+pub mod Codes
 pub mod Accepted
 pub mod Ascending
 pub mod First

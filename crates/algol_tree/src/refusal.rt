@@ -4,9 +4,7 @@ ghost use Rattle.algol_tree.specs.declared.refusal.Refusal.TheVariants.{NoMemory
 use crate::token::Spot;
 use std::alloc::{AllocError, AllocFailed};
 
-/// Why a source is refused. The letter and the number of each are what the program prints:
-/// L1 to L5 of the text, S1 to S3 of the grammar, N1 to N6 of names and limits, C7 to C12 of types,
-/// counts and labels. U0 is a source that is not built yet.
+/// Why a source is refused. The letter and the number of each, as they are printed, stand in a table of their own.
 #[derive(Clone, Copy, PartialEq, Eq)]
 pub enum Code {
     BadCharacter,
