@@ -13,7 +13,7 @@ use b67_action::Done;
 use b67_store::Core;
 
 /// What was performed of an entry.
-#[derive(Clone, Copy, PartialEq, Eq, Debug)]
+#[derive(Clone, Copy)]
 pub struct Performed {
     /// How many plain operators came first.
     pub plain: u32,

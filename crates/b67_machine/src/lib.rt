@@ -25,7 +25,7 @@ use std::marker::Model;
 use tables::Levels;
 
 /// The fault that ended a run, and whose it was.
-#[derive(Clone, Copy, PartialEq, Eq, Debug)]
+#[derive(Clone, Copy)]
 pub struct Failure {
     pub kind: FaultKind,
     pub process: u32,
@@ -33,7 +33,6 @@ pub struct Failure {
 
 /// A machine with its code. Contracts see its code and its image, how many operators each process has performed, whom
 /// the last operator released, and what the last operator that was tried came to.
-#[derive(Drop)]
 pub struct Machine<C: Core> {
     core: C,
     kernel: Kernel,
@@ -49,6 +48,23 @@ pub struct Machine<C: Core> {
     limit: Option<u32>,
     // Whether an operator found no memory.
     lacked: bool,
+}
+
+/// A machine is let go by a call, so that the proofs of the crates above do not go through its parts.
+impl<C: Core> Drop for Machine<C> {
+    fn drop(self) {
+        let Machine {
+            core: _core,
+            kernel: _kernel,
+            parts: _parts,
+            counts: _counts,
+            tables: _tables,
+            part: _part,
+            failure: _,
+            limit: _,
+            lacked: _,
+        } = self;
+    }
 }
 
 impl<C: Core> Model for Machine<C> {

@@ -22,17 +22,19 @@ impl<C: Core> Machine<C> {
         ensures code { IfOk result (λ machine. machine.code ≡ code) }
     {
         first_image_is_valid();
+        let words = Words::new(alloc)?;
+        let counts = vec![in alloc; 0; MOST_PROCESSES as usize]?;
         let mut core = core;
         let (kernel, parts) = load(alloc, &mut core, code)?;
         let part = Private {
             regs: parts.regs[0],
-            words: Words::new(alloc)?,
+            words,
         };
         Ok(Machine {
             core,
             kernel,
             parts,
-            counts: vec![in alloc; 0; MOST_PROCESSES as usize]?,
+            counts,
             tables: Vec::new(alloc),
             part,
             failure: None,

@@ -16,7 +16,7 @@ use b67_segment::Code;
 use b67_store::Core;
 
 /// How a run ended.
-#[derive(Clone, Copy, PartialEq, Eq, Debug)]
+#[derive(Clone, Copy)]
 pub enum End {
     /// Process 1 has ended.
     Finished,

@@ -11,7 +11,7 @@ use b67_schedule::{Run, Schedule};
 use b67_store::Core;
 
 /// How a replay ended.
-#[derive(Clone, Copy, PartialEq, Eq, Debug)]
+#[derive(Clone, Copy)]
 pub enum Replayed {
     /// The machine has an end: the run's after the last entry, or the stack limit within the next one.
     Ended,

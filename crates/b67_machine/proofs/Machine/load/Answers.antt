@@ -12,7 +12,6 @@ use Rattle.b67_table.specs.Valid.{IsValid}
 use Rattle.b67_table.proofs.FirstValid.{first_is_valid}
 use Rattle.b67_reach.specs.declared.Parts.{Parts}
 use Rattle.b67_reach.specs.Images.{image_of}
-use Rattle.b67_action.specs.Done.{HasRoom}
 use Rattle.b67_machine.specs.Kept.{counted}
 use Rattle.b67_machine.specs.Tables.{AreTables}
 use Rattle.b67_machine.proofs.Begun.{none_counted, no_tables}
@@ -31,24 +30,23 @@ index-requires g c =
     c.in_ok-kernel.ensures.image c.in_ok-kernel.ensures.code in
     omega (arith, valid.registers, valid.some)
 
-pub invariant_of-result-2 : goal.invariant_of-result-2
-invariant_of-result-2 g c =
+pub invariant_of-result : goal.invariant_of-result
+invariant_of-result g c =
     let stacks = g.C.Core.stacks c.load.new.core in
     let rows = g.C.Core.rows c.load.new.core in
     let parts = c.in_ok-kernel.parts in
     let valid = loaded c.args.code stacks rows c.in_ok-kernel.kernel parts c.requires.segments c.in_ok-kernel.ensures.image c.in_ok-kernel.ensures.code in
-    let both = subst (λ (k : Events). IsValid parts.code (image_of stacks rows k.events parts) × HasRoom k parts) (sym c.kernel.view_is) (valid, c.in_ok-kernel.ensures.room) in
-    let items : c.in_ok-vec.field-0.items ≡ replicate 256 0 = c.in_ok-vec.ensures.items_if_clones_equal (λ y h. h) in
-    (both.0, both.1, ap length items ∙ length-replicate {A = ℕ} 256 0, subst (AreTables parts.code) (sym c.new-2.ensures.items) (no_tables parts.code))
+    let items : c.in_ok-counts.counts.items ≡ replicate 256 0 = c.in_ok-counts.ensures.items_if_clones_equal (λ y h. h) in
+    (valid, c.in_ok-kernel.ensures.room, ap length items ∙ length-replicate {A = ℕ} 256 0, subst (AreTables parts.code) (sym c.new-2.ensures.items) (no_tables parts.code))
 
 pub returns-clause-fresh : goal.returns-clause-fresh
 returns-clause-fresh g c =
     let stacks = g.C.Core.stacks c.load.new.core in
     let rows = g.C.Core.rows c.load.new.core in
     let parts = c.in_ok-kernel.parts in
-    let items : c.in_ok-vec.field-0.items ≡ replicate 256 0 = c.in_ok-vec.ensures.items_if_clones_equal (λ y h. h) in
+    let items : c.in_ok-counts.counts.items ≡ replicate 256 0 = c.in_ok-counts.ensures.items_if_clones_equal (λ y h. h) in
     record {
-      image = without _ refl ∙ ap (λ (k : Events). image_of stacks rows k.events parts) c.kernel.view_is ∙ c.in_ok-kernel.ensures.image;
+      image = without _ refl ∙ c.in_ok-kernel.ensures.image;
       counts = λ p. subst (λ (xs : List ℕ). counted xs p ≡ 0) (sym items) (none_counted 256 p);
       limit = refl;
       lacked = refl;
