@@ -10,7 +10,6 @@ ghost use Rattle.algol_tree.specs.Due as due;
 ghost use Rattle.algol_tree.specs.Due.{part, one, event_named};
 ghost use Rattle.algol_tree.specs.Found.{Finds, Completes, Fails};
 
-use crate::held::Held;
 use crate::make::{happened, named};
 use crate::stop::Stop;
 use crate::take::{
@@ -25,7 +24,7 @@ pub(crate) fn read_happened<'a>(
     first: &Token,
     rest: &'a [Token],
     depth: u32,
-) -> Result<(Held<Expr>, &'a [Token]), Stop>
+) -> Result<(Expr, &'a [Token]), Stop>
     requires ended { EndsOnce (first.now ∷ rest.now) }
     requires word { is_word reserved.Happened first.now.kind ≡ true }
     ensures found { IfOk result (λ r. Finds (part primary depth) (first.now ∷ rest.now) (one (plain r.0)) r.1.now) }

@@ -5,7 +5,6 @@
 #![tactic(auto)]
 
 mod event;
-mod held;
 mod make;
 mod operator;
 mod reader;
@@ -14,7 +13,6 @@ mod take;
 mod whole;
 
 pub use event::read_event;
-pub use held::{Held, boxed, push};
 pub use make::named;
 pub use stop::Stop;
 pub use take::{

@@ -16,7 +16,6 @@ ghost use Rattle.algol_tree.specs.Found.{Finds, Extends, Completes, Fails, Lists
 ghost use Rattle.algol_tree.specs.Plain.{none};
 
 use crate::event::read_happened;
-use crate::held::{Held, push};
 use crate::make::{call, choice, grouped, literal, named, negated, signed, two, variable};
 use crate::operator::{has_sign, operator, relation};
 use crate::stop::Stop;
@@ -32,7 +31,7 @@ pub(crate) fn read_expression(
     alloc: Global,
     tokens: &[Token],
     depth: u32,
-) -> Result<(Held<Expr>, &[Token]), Stop>
+) -> Result<(Expr, &[Token]), Stop>
     requires ended { EndsOnce tokens.now }
     ensures found { IfOk result (λ r. Finds (part expr depth) tokens.now (one (plain r.0)) r.1.now) }
     ensures refused { IfErr result (λ e. Fails (part expr depth ∷ []) [] tokens.now e.left e.refusal) }
@@ -52,7 +51,7 @@ fn read_choice<'a>(
     first: &Token,
     rest: &'a [Token],
     depth: u32,
-) -> Result<(Held<Expr>, &'a [Token]), Stop>
+) -> Result<(Expr, &'a [Token]), Stop>
     requires ended { EndsOnce (first.now ∷ rest.now) }
     requires word { is_word reserved.If first.now.kind ≡ true }
     ensures found { IfOk result (λ r. Finds (part expr depth) (first.now ∷ rest.now) (one (plain r.0)) r.1.now) }
@@ -69,11 +68,11 @@ fn read_choice<'a>(
 #[cycle(expressions)]
 fn read_arms(
     alloc: Global,
-    condition: Held<Expr>,
+    condition: Expr,
     spot: Spot,
     tokens: &[Token],
     depth: u32,
-) -> Result<(Held<Expr>, &[Token]), Stop>
+) -> Result<(Expr, &[Token]), Stop>
     requires ended { EndsOnce tokens.now }
     ensures found { IfOk result (λ r. Lists (part (grammar.level levels.Eqv) depth ∷ word reserved.Else ∷ part expr depth ∷ make (chosen spot) ∷ []) tokens.now (one (plain condition)) (one (plain r.0)) r.1.now) }
     ensures refused { IfErr result (λ e. Fails (part (grammar.level levels.Eqv) depth ∷ word reserved.Else ∷ part expr depth ∷ make (chosen spot) ∷ []) (one (plain condition) ∷ []) tokens.now e.left e.refusal) }
@@ -91,7 +90,7 @@ fn read_level(
     tokens: &[Token],
     level: Level,
     depth: u32,
-) -> Result<(Held<Expr>, &[Token]), Stop>
+) -> Result<(Expr, &[Token]), Stop>
     requires ended { EndsOnce tokens.now }
     ensures found { IfOk result (λ r. Finds (part (grammar.level level) depth) tokens.now (one (plain r.0)) r.1.now) }
     ensures refused { IfErr result (λ e. Fails (part (grammar.level level) depth ∷ []) [] tokens.now e.left e.refusal) }
@@ -114,7 +113,7 @@ fn read_operand(
     tokens: &[Token],
     level: Level,
     depth: u32,
-) -> Result<(Held<Expr>, &[Token]), Stop>
+) -> Result<(Expr, &[Token]), Stop>
     requires ended { EndsOnce tokens.now }
     ensures found { IfOk result (λ r. Finds (part (operand level) depth) tokens.now (one (plain r.0)) r.1.now) }
     ensures refused { IfErr result (λ e. Fails (part (operand level) depth ∷ []) [] tokens.now e.left e.refusal) }
@@ -133,11 +132,11 @@ fn read_operand(
 #[cycle(expressions)]
 fn read_more(
     alloc: Global,
-    left: Held<Expr>,
+    left: Expr,
     tokens: &[Token],
     level: Level,
     depth: u32,
-) -> Result<(Held<Expr>, &[Token]), Stop>
+) -> Result<(Expr, &[Token]), Stop>
     requires ended { EndsOnce tokens.now }
     ensures found { IfOk result (λ r. Extends (more_of level depth) tokens.now (one (plain left)) (one (plain r.0)) r.1.now) }
     ensures refused { IfErr result (λ e. Fails (more_of level depth ∷ []) (one (plain left) ∷ []) tokens.now e.left e.refusal) }
@@ -155,7 +154,7 @@ fn read_more(
 
 /// not = NOT not | rel
 #[cycle(expressions)]
-fn read_not(alloc: Global, tokens: &[Token], depth: u32) -> Result<(Held<Expr>, &[Token]), Stop>
+fn read_not(alloc: Global, tokens: &[Token], depth: u32) -> Result<(Expr, &[Token]), Stop>
     requires ended { EndsOnce tokens.now }
     ensures found { IfOk result (λ r. Finds (part not_part depth) tokens.now (one (plain r.0)) r.1.now) }
     ensures refused { IfErr result (λ e. Fails (part not_part depth ∷ []) [] tokens.now e.left e.refusal) }
@@ -172,11 +171,7 @@ fn read_not(alloc: Global, tokens: &[Token], depth: u32) -> Result<(Held<Expr>, 
 
 /// rel = sum [ relop sum ]
 #[cycle(expressions)]
-fn read_relation(
-    alloc: Global,
-    tokens: &[Token],
-    depth: u32,
-) -> Result<(Held<Expr>, &[Token]), Stop>
+fn read_relation(alloc: Global, tokens: &[Token], depth: u32) -> Result<(Expr, &[Token]), Stop>
     requires ended { EndsOnce tokens.now }
     ensures found { IfOk result (λ r. Finds (part rel depth) tokens.now (one (plain r.0)) r.1.now) }
     ensures refused { IfErr result (λ e. Fails (part rel depth ∷ []) [] tokens.now e.left e.refusal) }
@@ -194,7 +189,7 @@ fn read_relation(
 
 /// primary = number | TRUE | FALSE | variable | name "(" expr { "," expr } ")" | HAPPENED "(" event ")" | "(" expr ")"
 #[cycle(expressions)]
-fn read_primary(alloc: Global, tokens: &[Token], depth: u32) -> Result<(Held<Expr>, &[Token]), Stop>
+fn read_primary(alloc: Global, tokens: &[Token], depth: u32) -> Result<(Expr, &[Token]), Stop>
     requires ended { EndsOnce tokens.now }
     ensures found { IfOk result (λ r. Finds (part primary depth) tokens.now (one (plain r.0)) r.1.now) }
     ensures refused { IfErr result (λ e. Fails (part primary depth ∷ []) [] tokens.now e.left e.refusal) }
@@ -224,7 +219,7 @@ fn read_group<'a>(
     first: &Token,
     rest: &'a [Token],
     depth: u32,
-) -> Result<(Held<Expr>, &'a [Token]), Stop>
+) -> Result<(Expr, &'a [Token]), Stop>
     requires ended { EndsOnce (first.now ∷ rest.now) }
     requires symbol { is_symbol symbols.OpenRound first.now.kind ≡ true }
     ensures found { IfOk result (λ r. Finds (part primary depth) (first.now ∷ rest.now) (one (plain r.0)) r.1.now) }
@@ -243,7 +238,7 @@ fn read_behind_name(
     name: Named,
     tokens: &[Token],
     depth: u32,
-) -> Result<(Held<Expr>, &[Token]), Stop>
+) -> Result<(Expr, &[Token]), Stop>
     requires ended { EndsOnce tokens.now }
     ensures found { IfOk result (λ r. Completes (behind_name name depth) tokens.now (one (plain r.0)) r.1.now) }
     ensures refused { IfErr result (λ e. Fails (behind_name name depth ∷ []) [] tokens.now e.left e.refusal) }
@@ -279,7 +274,7 @@ fn read_list(
     let mut rest = tokens;
     'items: loop {
         let (item, after) = read_expression(alloc, rest, depth)?;
-        push(&mut items, item)?;
+        items.push(item)?;
         let (first, behind) = first_of(after);
         if is_symbol(first, Symbol::Comma) {
             rest = behind;

@@ -13,7 +13,6 @@ ghost use Rattle.algol_tree.specs.Found.{Finds, Refuses};
 ghost use Rattle.algol_tree.specs.declared.token.Token as token;
 ghost use Rattle.algol_expr.specs.Long.{IsLong};
 
-use crate::held::Held;
 use crate::reader::read_expression;
 use algol_tree::{Code, Expr, MOST_EXPRESSION_TOKENS, Refusal, Token};
 use std::alloc::Global;
@@ -42,11 +41,7 @@ fn overlong(tokens: &[Token], left: usize) -> Option<Refusal>
 /// beyond [`MOST_NESTING`](algol_tree::MOST_NESTING) or is one more than
 /// [`MOST_EXPRESSION_TOKENS`](algol_tree::MOST_EXPRESSION_TOKENS). `found` and `fails` are for the readers of what
 /// expressions stand in.
-pub fn read_whole(
-    alloc: Global,
-    tokens: &[Token],
-    depth: u32,
-) -> Result<(Held<Expr>, &[Token]), Refusal>
+pub fn read_whole(alloc: Global, tokens: &[Token], depth: u32) -> Result<(Expr, &[Token]), Refusal>
     requires ended { EndsOnce tokens.now }
     ensures reads { IfOk result (λ r. IsWhole 0 depth tokens.now (plain r.0) r.1.now) }
     ensures only { IfOk result (λ r. (e : PExpr) (rest : List token.Token) →
@@ -89,5 +84,5 @@ pub fn read_expr(
 {
     let (_, from) = tokens.split_at(at);
     let (expr, rest) = read_whole(alloc, from, depth)?;
-    Ok((expr.free(), tokens.len() - rest.len()))
+    Ok((expr, tokens.len() - rest.len()))
 }
