@@ -36,3 +36,5 @@ pub mod TextTrees
 pub mod TextNumbers
 pub mod TextProgram
 pub mod TextParts
+pub mod Added
+pub mod TextLines

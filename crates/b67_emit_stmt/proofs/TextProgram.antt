@@ -137,7 +137,7 @@ module _ (sc : Scopes) (known : Names) (b : PBody) (due : AreDue sc known (texts
 
 -- ---- one more of them
 
-got : (ts : List Text) (k : ℕ) (t : Text) → slice_get ts k ≡ Some t → get_or ts k t ≡ t
+pub got : (ts : List Text) (k : ℕ) (t : Text) → slice_get ts k ≡ Some t → get_or ts k t ≡ t
 got [] zero t e = cc
 got [] (suc k) t e = cc
 got (x ∷ xs) zero t e = cc

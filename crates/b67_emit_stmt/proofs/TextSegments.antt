@@ -76,9 +76,6 @@ module _ (s : Known) (level : ℕ) (formats : List Format) (many : ℕ) (returne
     pub end_room : text_syllables returned ds ss + 5 ≤ MOST_SEGMENT_SYLLABLES → size d.out.operators + 3 ≤ MOST_SEGMENT_SYLLABLES
     end_room room = omega (arith, (whole fits.0 fits.1).short, new.start, room)
 
-    pub front_after : IsFront formats d.formats.items
-    front_after = let F : List Format → Type 0 = λ l. IsFront l d.formats.items in subst F new.formats_are (whole fits.0 fits.1).formats
-
     pub listed_after : AreListed formats → AreListed d.formats.items
     listed_after l = (whole fits.0 fits.1).listed (subst AreListed (sym new.formats_are) l)
 

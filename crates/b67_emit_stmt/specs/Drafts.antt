@@ -2,6 +2,7 @@
 use Rattle.std.specs.Prelude.{◌≡◌, ℕ, ◌+◌, ◌*◌, ◌<◌, ◌≤◌, ◌^◌, List, ◌++◌, length, Some, IsSome}
 use Rattle.std.specs.List.{All}
 use Rattle.algol_tree.specs.declared.TheConstants.{MOST_PROCEDURES}
+use Rattle.algol_tree.specs.declared.tree.PhraseText.{PhraseText}
 use Rattle.b67_emit_stmt.specs.declared.draft.Known.{Known}
 use Rattle.b67_ops.specs.declared.TheConstants.{OUTER_LEVEL}
 use Rattle.b67_segment.specs.declared.TheConstants.{MOST_SEGMENT_SYLLABLES}
@@ -10,6 +11,7 @@ use Rattle.b67_segment.specs.Operators.{Placed, size}
 use Rattle.b67_listing.specs.Listings.{IsPhrase}
 use Rattle.b67_templates.specs.Emitting.{EmittedWithExits}
 use Rattle.b67_emitter.specs.Values.{AreNear}
+use Rattle.b67_faithful.specs.Lines.{formats_for}
 use Rattle.b67_emit_stmt.specs.declared.draft.Draft.{Draft}
 
 -- the formats are the first of these
@@ -53,3 +55,7 @@ pub record Emits (most : ℕ) (before after : Draft) (claim : List Format → Li
   -- at most one for each syllable
   pub more : length after.formats.items + size before.out.operators ≤ length before.formats.items + size after.out.operators
   pub listed : AreListed before.formats.items → AreListed after.formats.items
+
+-- the formats of these lines were added, and no other
+abbrev pub Adds : Draft → Draft → List (List PhraseText) → Type 0
+Adds before after lines = after.formats.items ≡ before.formats.items ++ formats_for lines

@@ -4,12 +4,14 @@ use Rattle.std.specs.Prelude.{ℕ, ◌+◌, ◌≤◌, List, [], ◌∷◌, ◌+
 use Rattle.algol_tree.specs.declared.token.Spot.{Spot}
 use Rattle.algol_tree.specs.declared.tree.Kind.{Kind}
 use Rattle.algol_tree.specs.declared.tree.Heading.{Heading}
+use Rattle.algol_tree.specs.declared.tree.PhraseText.{PhraseText}
 use Rattle.algol_tree.specs.Image.{stmt}
 use Rattle.algol_tree.specs.Plain as tree
 use Rattle.algol_tree.specs.Plain.{PStmt, PStmts, PDecl, PDecls, PBody}
 use Rattle.algol_tree.specs.Blocks.{Begin, of_statement, of_procedure, decls_of, stmts_of}
 use Rattle.algol_tree.specs.Counts.{body_tokens, heading_tokens, stmt_tokens}
 use Rattle.b67_ops.specs.declared.TheConstants.{MOST_LEVEL, OUTER_LEVEL}
+use Rattle.b67_faithful.specs.Lines.{stmts_lines}
 use Rattle.b67_emit_stmt.specs.declared.texts.Procedure.{Procedure}
 
 -- A text: the level of its block and where that stands; of a procedure its name, how many parameters it has and the kind of its result; the
@@ -85,6 +87,11 @@ abbrev mutual
 
 abbrev pub texts : PBody → List Text
 texts b = outer_text b ∷ texts_in_body b OUTER_LEVEL
+
+-- the lines of these texts, one text after another
+abbrev pub texts_lines : List Text → List (List PhraseText)
+texts_lines [] = []
+texts_lines (t ∷ ts) = stmts_lines t.stmts ++ texts_lines ts
 
 -- each block of them has a level that the machine has
 abbrev mutual

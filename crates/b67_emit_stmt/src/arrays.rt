@@ -88,7 +88,8 @@ impl<'a, E: ExprEmitter> StmtEmitter<'a, E> {
         requires ready { IsReady self.now.known.now to.old (begin_syllables many (plain.decls ds.now)) }
         requires few { IsSmall many (plain.decls ds.now) }
         requires fits { (sc : Place) × AreNumbered sc.scopes self.now.known.now self.now.level (procedures (plain.decls ds.now)) × DeclsFit sc self.now.known.now self.now.level (plain.decls ds.now) }
-        ensures { OnOk result (EmitsBegin self.now.known.now self.now.level to.old to.new many (plain.decls ds.now)) }
+        ensures code { OnOk result (EmitsBegin self.now.known.now self.now.level to.old to.new many (plain.decls ds.now)) }
+        ensures formats { OnOk result (to.new.formats.items ≡ to.old.formats.items) }
     {
         self.cells(many, ds, to)?;
         self.arrays(ds, &mut to.out)

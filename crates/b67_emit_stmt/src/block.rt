@@ -4,7 +4,8 @@ ghost use Rattle.std.specs.Prelude.{◌≡◌, ◌+◌, ◌≤◌, OnOk};
 ghost use Rattle.algol_tree.specs.Image.{decls, stmts};
 ghost use Rattle.b67_ops.specs.declared.TheConstants.{MOST_LEVEL};
 ghost use Rattle.b67_segment.specs.Building.{level_set};
-ghost use Rattle.b67_emit_stmt.specs.Drafts.{IsAt, IsReady};
+ghost use Rattle.b67_faithful.specs.Lines.{stmts_lines};
+ghost use Rattle.b67_emit_stmt.specs.Drafts.{Adds, IsAt, IsReady};
 ghost use Rattle.b67_emit_stmt.specs.Bodies.{EmitsBlock, EmitsInner, EmitsInside, HaveFitInside, IsSmall, block_syllables, inner_syllables, inside_syllables, variables_in};
 ghost use Rattle.b67_emit_stmt.specs.Fits.{InsideFits};
 ghost use Rattle.b67_emit_stmt.specs.Places.{Place};
@@ -33,6 +34,7 @@ impl<'a, E: ExprEmitter> StmtEmitter<'a, E> {
         requires fits { (sc : Place) × InsideFits sc self.now.known.now self.now.level (decls ds.now) (stmts ss.now) }
         ensures code { OnOk result (EmitsInside self.now.known.now self.now.level to.old to.new many (decls ds.now) (stmts ss.now)) }
         ensures exits { OnOk result (to.new.exits.items ≡ to.old.exits.items) }
+        ensures lines { OnOk result (Adds to.old to.new (stmts_lines (stmts ss.now))) }
     {
         let first = to.exits.len();
         self.begin(many, ds, to)?;
@@ -48,7 +50,8 @@ impl<'a, E: ExprEmitter> StmtEmitter<'a, E> {
         requires ready { IsReady self.now.known.now to.old (block_syllables (decls ds.now) (stmts ss.now)) }
         requires few { IsSmall (variables_in (decls ds.now)) (decls ds.now) }
         requires fits { (sc : Place) × InsideFits sc self.now.known.now self.now.level (decls ds.now) (stmts ss.now) }
-        ensures { OnOk result (EmitsBlock self.now.known.now self.now.level to.old to.new (decls ds.now) (stmts ss.now)) }
+        ensures code { OnOk result (EmitsBlock self.now.known.now self.now.level to.old to.new (decls ds.now) (stmts ss.now)) }
+        ensures lines { OnOk result (Adds to.old to.new (stmts_lines (stmts ss.now))) }
     {
         self.inside(ss, ds, variables(ds), to)?;
         append_plain(&mut to.out, PlainKind::Exit)
@@ -62,7 +65,8 @@ impl<'a, E: ExprEmitter> StmtEmitter<'a, E> {
         requires ready { IsReady self.now.known.now to.old (block_syllables (decls ds.now) (stmts ss.now)) }
         requires few { IsSmall (variables_in (decls ds.now)) (decls ds.now) }
         requires fits { HaveFitInside self.now.known.now to.old (decls ds.now) (stmts ss.now) }
-        ensures { OnOk result (EmitsBlock self.now.known.now (level_set to.old.out + 1) to.old to.new (decls ds.now) (stmts ss.now)) }
+        ensures code { OnOk result (EmitsBlock self.now.known.now (level_set to.old.out + 1) to.old to.new (decls ds.now) (stmts ss.now)) }
+        ensures lines { OnOk result (Adds to.old to.new (stmts_lines (stmts ss.now))) }
     {
         let inner = StmtEmitter {
             exprs: self.exprs,
@@ -87,7 +91,8 @@ impl<'a, E: ExprEmitter> StmtEmitter<'a, E> {
         requires ready { IsReady self.now.known.now to.old (inner_syllables (decls ds.now) (stmts ss.now)) }
         requires few { IsSmall (variables_in (decls ds.now)) (decls ds.now) }
         requires fits { HaveFitInside self.now.known.now to.old (decls ds.now) (stmts ss.now) }
-        ensures { OnOk result (EmitsInner self.now.known.now to.old to.new (decls ds.now) (stmts ss.now)) }
+        ensures code { OnOk result (EmitsInner self.now.known.now to.old to.new (decls ds.now) (stmts ss.now)) }
+        ensures lines { OnOk result (Adds to.old to.new (stmts_lines (stmts ss.now))) }
     {
         let over = append_branch(&mut to.out, BranchKind::Brun)?;
         let begin = to.out.place();

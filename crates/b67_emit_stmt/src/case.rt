@@ -4,7 +4,8 @@ ghost use Rattle.std.specs.Prelude.{◌≡◌, ◌+◌, ◌*◌, ◌≤◌, List
 ghost use Rattle.algol_tree.specs.Image.{expr, stmts};
 ghost use Rattle.algol_tree.specs.Plain as tree;
 ghost use Rattle.b67_templates.specs.Depths.{stmt_syllables, expr_syllables};
-ghost use Rattle.b67_emit_stmt.specs.Drafts.{IsAt, IsReady};
+ghost use Rattle.b67_faithful.specs.Lines.{stmt_lines, stmts_lines};
+ghost use Rattle.b67_emit_stmt.specs.Drafts.{Adds, IsAt, IsReady};
 ghost use Rattle.b67_emit_stmt.specs.Emits.{HasFit, HaveFit, EmitsStmt, EmitsCases, stmts_syllables};
 ghost use Rattle.algol_tree.specs.declared.tree.Kind.TheVariants as types;
 ghost use Rattle.b67_emit_stmt.specs.Places.{Place};
@@ -72,7 +73,8 @@ impl<'a, E: ExprEmitter> StmtEmitter<'a, E> {
         requires level { IsAt self.now.level to.old }
         requires ready { IsReady self.now.known.now to.old (stmts_syllables (stmts ss.now)) }
         requires fits { HaveFit self.now.known.now to.old (stmts ss.now) }
-        ensures { OnOk result (EmitsCases self.now.known.now to.old to.new (stmts ss.now)) }
+        ensures code { OnOk result (EmitsCases self.now.known.now to.old to.new (stmts ss.now)) }
+        ensures lines { OnOk result (Adds to.old to.new (stmts_lines (stmts ss.now))) }
     {
         let mut entry = to.out.place();
         append_entries(ss.len(), &mut to.out)?;
@@ -91,7 +93,8 @@ impl<'a, E: ExprEmitter> StmtEmitter<'a, E> {
         requires level { IsAt self.now.level to.old }
         requires ready { IsReady self.now.known.now to.old (stmt_syllables (tree.case (expr e.now) (stmts ss.now))) }
         requires fits { HasFit self.now.known.now to.old (tree.case (expr e.now) (stmts ss.now)) }
-        ensures { OnOk result (EmitsStmt self.now.known.now to.old to.new (tree.case (expr e.now) (stmts ss.now))) }
+        ensures code { OnOk result (EmitsStmt self.now.known.now to.old to.new (tree.case (expr e.now) (stmts ss.now))) }
+        ensures lines { OnOk result (Adds to.old to.new (stmt_lines (tree.case (expr e.now) (stmts ss.now)))) }
     {
         self.select(e, ss.len(), &mut to.out)?;
         self.cases(ss, to)

@@ -94,7 +94,8 @@ impl<'a, E: ExprEmitter> StmtEmitter<'a, E> {
         requires most { many + length (frames.procedures (plain.decls ds.now)) ≤ MOST_BLOCK_CELLS }
         requires numbered { (sc : Place) × AreNumbered sc.scopes self.now.known.now self.now.level (frames.procedures (plain.decls ds.now)) }
         requires room { size to.old.out.operators + cells_syllables many (plain.decls ds.now) ≤ MOST_SEGMENT_SYLLABLES }
-        ensures { OnOk result (EmitsCells self.now.known.now self.now.level to.old to.new many (plain.decls ds.now)) }
+        ensures code { OnOk result (EmitsCells self.now.known.now self.now.level to.old to.new many (plain.decls ds.now)) }
+        ensures formats { OnOk result (to.new.formats.items ≡ to.old.formats.items) }
     {
         append_zeros(many, &mut to.out)?;
         let numbers = self.numbers(*to.exits.allocator(), ds)?;

@@ -1,6 +1,6 @@
 //! Lines: their formats, and the statement that writes one.
 
-ghost use Rattle.std.specs.Prelude.{◌≡◌, ◌+◌, ◌*◌, ◌≤◌, List, IsSome, IfOk, OnOk};
+ghost use Rattle.std.specs.Prelude.{◌≡◌, ◌+◌, ◌*◌, ◌≤◌, List, [], ◌∷◌, IsSome, IfOk, OnOk};
 ghost use Rattle.algol_tree.specs.declared.TheConstants.{MOST_LINE_WIDTH};
 ghost use Rattle.algol_tree.specs.Image.{exprs};
 ghost use Rattle.algol_tree.specs.Counts.{exprs_tokens};
@@ -15,7 +15,7 @@ ghost use Rattle.b67_templates.specs.Fitting.{IsNarrowWord, PhraseFits, PhrasesF
 ghost use Rattle.b67_emit_stmt.specs.Fits.{LineFits, WriteFits};
 ghost use Rattle.b67_templates.specs.Emitting.{Emitted};
 ghost use Rattle.b67_emitter.specs.Values.{AreNear};
-ghost use Rattle.b67_emit_stmt.specs.Drafts.{Emits, IsReady};
+ghost use Rattle.b67_emit_stmt.specs.Drafts.{Adds, Emits, IsReady};
 ghost use Rattle.b67_emit_stmt.specs.Emits.{write_syllables};
 
 use crate::draft::{Draft, StmtEmitter};
@@ -103,7 +103,8 @@ impl<'a, E: ExprEmitter> StmtEmitter<'a, E> {
     ) -> Result<(), AllocError>
         requires ready { IsReady self.now.known.now to.old (write_syllables (exprs items.now)) }
         requires fits { (sc : Place) × WriteFits sc self.now.known.now (level_set to.old.out) phrases.now (exprs items.now) }
-        ensures { OnOk result ((sc : Place) → WriteFits sc self.now.known.now (level_set to.old.out) phrases.now (exprs items.now) → Emits (write_syllables (exprs items.now)) to.old to.new (λ formats qs target. WriteAt sc formats qs (level_set to.old.out) phrases.now (exprs items.now) (size to.old.out.operators) (size to.new.out.operators))) }
+        ensures code { OnOk result ((sc : Place) → WriteFits sc self.now.known.now (level_set to.old.out) phrases.now (exprs items.now) → Emits (write_syllables (exprs items.now)) to.old to.new (λ formats qs target. WriteAt sc formats qs (level_set to.old.out) phrases.now (exprs items.now) (size to.old.out.operators) (size to.new.out.operators))) }
+        ensures lines { OnOk result (Adds to.old to.new (phrases.now ∷ [])) }
     {
         let number = to.formats.len();
         append_intrinsic(&mut to.out, Intrinsic::Write)?;

@@ -4,7 +4,8 @@ ghost use Rattle.std.specs.Prelude.{OnOk};
 ghost use Rattle.algol_tree.specs.Image.{expr, stmt};
 ghost use Rattle.algol_tree.specs.Plain as tree;
 ghost use Rattle.b67_templates.specs.Depths.{stmt_syllables};
-ghost use Rattle.b67_emit_stmt.specs.Drafts.{IsAt, IsReady};
+ghost use Rattle.b67_faithful.specs.Lines.{stmt_lines};
+ghost use Rattle.b67_emit_stmt.specs.Drafts.{Adds, IsAt, IsReady};
 ghost use Rattle.b67_emit_stmt.specs.Emits.{HasFit, EmitsStmt, EmitsBody};
 
 use crate::draft::{Draft, StmtEmitter};
@@ -22,7 +23,8 @@ impl<'a, E: ExprEmitter> StmtEmitter<'a, E> {
         requires level { IsAt self.now.level to.old }
         requires ready { IsReady self.now.known.now to.old (stmt_syllables (stmt b.now)) }
         requires fits { HasFit self.now.known.now to.old (stmt b.now) }
-        ensures { OnOk result (EmitsBody self.now.known.now to.old to.new (stmt b.now)) }
+        ensures code { OnOk result (EmitsBody self.now.known.now to.old to.new (stmt b.now)) }
+        ensures lines { OnOk result (Adds to.old to.new (stmt_lines (stmt b.now))) }
     {
         let first = to.exits.len();
         self.stmt(b, to)?;
@@ -36,7 +38,8 @@ impl<'a, E: ExprEmitter> StmtEmitter<'a, E> {
         requires level { IsAt self.now.level to.old }
         requires ready { IsReady self.now.known.now to.old (stmt_syllables (tree.while (expr c.now) (stmt b.now))) }
         requires fits { HasFit self.now.known.now to.old (tree.while (expr c.now) (stmt b.now)) }
-        ensures { OnOk result (EmitsStmt self.now.known.now to.old to.new (tree.while (expr c.now) (stmt b.now))) }
+        ensures code { OnOk result (EmitsStmt self.now.known.now to.old to.new (tree.while (expr c.now) (stmt b.now))) }
+        ensures lines { OnOk result (Adds to.old to.new (stmt_lines (tree.while (expr c.now) (stmt b.now)))) }
     {
         let start = to.out.place();
         self.exprs.value(c, self.known.names, &mut to.out)?;
@@ -51,7 +54,8 @@ impl<'a, E: ExprEmitter> StmtEmitter<'a, E> {
         requires level { IsAt self.now.level to.old }
         requires ready { IsReady self.now.known.now to.old (stmt_syllables (tree.until (stmt b.now) (expr c.now))) }
         requires fits { HasFit self.now.known.now to.old (tree.until (stmt b.now) (expr c.now)) }
-        ensures { OnOk result (EmitsStmt self.now.known.now to.old to.new (tree.until (stmt b.now) (expr c.now))) }
+        ensures code { OnOk result (EmitsStmt self.now.known.now to.old to.new (tree.until (stmt b.now) (expr c.now))) }
+        ensures lines { OnOk result (Adds to.old to.new (stmt_lines (tree.until (stmt b.now) (expr c.now)))) }
     {
         let start = to.out.place();
         self.loop_body(b, to)?;
@@ -74,7 +78,8 @@ impl<'a, E: ExprEmitter> StmtEmitter<'a, E> {
         requires level { IsAt self.now.level to.old }
         requires ready { IsReady self.now.known.now to.old (stmt_syllables (tree.for v.now (expr a.now) (expr s.now) (expr l.now) (stmt b.now))) }
         requires fits { HasFit self.now.known.now to.old (tree.for v.now (expr a.now) (expr s.now) (expr l.now) (stmt b.now)) }
-        ensures { OnOk result (EmitsStmt self.now.known.now to.old to.new (tree.for v.now (expr a.now) (expr s.now) (expr l.now) (stmt b.now))) }
+        ensures code { OnOk result (EmitsStmt self.now.known.now to.old to.new (tree.for v.now (expr a.now) (expr s.now) (expr l.now) (stmt b.now))) }
+        ensures lines { OnOk result (Adds to.old to.new (stmt_lines (tree.for v.now (expr a.now) (expr s.now) (expr l.now) (stmt b.now)))) }
     {
         self.assign(v, a, &mut to.out)?;
         let start = to.out.place();
@@ -91,7 +96,8 @@ impl<'a, E: ExprEmitter> StmtEmitter<'a, E> {
         requires level { IsAt self.now.level to.old }
         requires ready { IsReady self.now.known.now to.old (stmt_syllables (tree.thru (expr e.now) (stmt b.now))) }
         requires fits { HasFit self.now.known.now to.old (tree.thru (expr e.now) (stmt b.now)) }
-        ensures { OnOk result (EmitsStmt self.now.known.now to.old to.new (tree.thru (expr e.now) (stmt b.now))) }
+        ensures code { OnOk result (EmitsStmt self.now.known.now to.old to.new (tree.thru (expr e.now) (stmt b.now))) }
+        ensures lines { OnOk result (Adds to.old to.new (stmt_lines (tree.thru (expr e.now) (stmt b.now)))) }
     {
         self.exprs.value(e, self.known.names, &mut to.out)?;
         let start = to.out.place();

@@ -1,6 +1,6 @@
 //! The segments of a program: one for each text.
 
-ghost use Rattle.std.specs.Prelude.{◌≡◌, ◌+◌, ◌*◌, ◌≤◌, ◌<◌, List, length, map, IfOk, OnOk, IsSome};
+ghost use Rattle.std.specs.Prelude.{◌≡◌, ◌+◌, ◌*◌, ◌≤◌, ◌<◌, List, ◌++◌, length, map, IfOk, OnOk, IsSome};
 ghost use Rattle.algol_tree.specs.declared.TheConstants.{MOST_BLOCK_CELLS, MOST_PROCEDURES};
 ghost use Rattle.algol_tree.specs.Blocks.{decls_of, stmts_of};
 ghost use Rattle.algol_tree.specs.Image as plain;
@@ -12,13 +12,14 @@ ghost use Rattle.b67_segment.specs.Operators.{size};
 ghost use Rattle.b67_segment.specs.Building.{level_set};
 ghost use Rattle.b67_templates.specs.Emitting.{Emitted};
 ghost use Rattle.b67_emitter.specs.Values.{AreNear};
+ghost use Rattle.b67_faithful.specs.Lines.{formats_for, lines_in, stmts_lines};
 ghost use Rattle.b67_emit_stmt.specs.Bodies.{EndingAt, IsNear, IsSmall, Stands, result_index, text_syllables, zeros_for};
 ghost use Rattle.b67_emit_stmt.specs.Drafts.{AreListed, IsFront};
 ghost use Rattle.b67_emit_stmt.specs.Fits.{InsideFits};
 ghost use Rattle.b67_emit_stmt.specs.Places.{Place};
 ghost use Rattle.b67_emit_stmt.specs.Programs.{AreDue, AreShort, Coded};
 ghost use Rattle.b67_emit_stmt.specs.Segments.{CanStand, HasSegment, TextFits, code_syllables};
-ghost use Rattle.b67_emit_stmt.specs.Texts.{outer_text, places_of, text_of, texts, texts_in_body};
+ghost use Rattle.b67_emit_stmt.specs.Texts.{outer_text, places_of, text_of, texts, texts_in_body, texts_lines};
 
 use crate::cells::variables;
 use crate::draft::{Draft, Known, StmtEmitter};
@@ -103,9 +104,9 @@ fn emit_text<E: ExprEmitter>(
     requires room { text_syllables returned (plain.decls ds.now) (plain.stmts ss.now) + 5 ≤ MOST_SEGMENT_SYLLABLES }
     ensures code { IfOk result (λ made. (sc : Place) → InsideFits sc emitter.now.known.now emitter.now.level (plain.decls ds.now) (plain.stmts ss.now) →
         (all : List Format) → IsFront made.1.items all → Stands sc all made.0 emitter.now.level returned (plain.decls ds.now) (plain.stmts ss.now)) }
-    ensures formats { IfOk result (λ made. IsFront formats.items made.1.items) }
     ensures listed { IfOk result (λ made. AreListed formats.items → AreListed made.1.items) }
     ensures few { IfOk result (λ made. length made.1.items ≤ length formats.items + MOST_SEGMENT_SYLLABLES) }
+    ensures lines { IfOk result (λ made. made.1.items ≡ formats.items ++ formats_for (stmts_lines (plain.stmts ss.now))) }
     ensures short { IfOk result (λ made. 6 * length made.0.words ≤ text_syllables returned (plain.decls ds.now) (plain.stmts ss.now) + 5) }
 {
     let mut to = Draft {
@@ -139,6 +140,7 @@ fn emit_outer<E: ExprEmitter>(
         (all : List Format) → IsFront made.1.items all → HasSegment sc all made.0 (outer_text (plain.body body.now))) }
     ensures listed { IfOk result (λ made. AreListed made.1.items) }
     ensures few { IfOk result (λ made. length made.1.items ≤ MOST_SEGMENT_SYLLABLES) }
+    ensures lines { IfOk result (λ made. made.1.items ≡ formats_for (stmts_lines (outer_text (plain.body body.now)).stmts)) }
     ensures short { IfOk result (λ made. 6 * length made.0.words ≤ code_syllables (outer_text (plain.body body.now)) + 5) }
 {
     let emitter = StmtEmitter {
@@ -172,9 +174,9 @@ fn emit_procedure<E: ExprEmitter>(
     requires text { CanStand known.now (text_of procedure.now) }
     ensures code { IfOk result (λ made. (sc : Place) → TextFits sc known.now (text_of procedure.now) →
         (all : List Format) → IsFront made.1.items all → HasSegment sc all made.0 (text_of procedure.now)) }
-    ensures formats { IfOk result (λ made. IsFront formats.items made.1.items) }
     ensures listed { IfOk result (λ made. AreListed formats.items → AreListed made.1.items) }
     ensures few { IfOk result (λ made. length made.1.items ≤ length formats.items + MOST_SEGMENT_SYLLABLES) }
+    ensures lines { IfOk result (λ made. made.1.items ≡ formats.items ++ formats_for (stmts_lines (text_of procedure.now).stmts)) }
     ensures short { IfOk result (λ made. 6 * length made.0.words ≤ code_syllables (text_of procedure.now) + 5) }
 {
     let emitter = StmtEmitter {
@@ -203,6 +205,7 @@ fn emit_texts<E: ExprEmitter>(
     requires places { places.now ≡ places_of (texts_in_body (plain.body body.now) machine.OUTER_LEVEL) }
     ensures code { IfOk result (λ made. (sc : scoped.Scopes) → AreDue sc names.now (texts (plain.body body.now)) → Coded sc made.1.items made.0.items (texts (plain.body body.now))) }
     ensures formats { IfOk result (λ made. AreListed made.1.items) }
+    ensures lines { IfOk result (λ made. made.1.items ≡ formats_for (texts_lines (texts (plain.body body.now)))) }
     ensures short { IfOk result (λ made. AreShort made.0.items (texts (plain.body body.now))) }
 {
     let outer = Known {
@@ -239,6 +242,7 @@ pub fn emit_program<E: ExprEmitter>(
     requires due { (sc : scoped.Scopes) × AreDue sc names.now (texts (plain.body body.now)) }
     ensures code { IfOk result (λ made. (sc : scoped.Scopes) → AreDue sc names.now (texts (plain.body body.now)) → Coded sc made.1.items made.0.items (texts (plain.body body.now))) }
     ensures formats { IfOk result (λ made. AreListed made.1.items) }
+    ensures lines { IfOk result (λ made. made.1.items ≡ formats_for (lines_in (plain.body body.now))) }
     ensures short { IfOk result (λ made. AreShort made.0.items (texts (plain.body body.now))) }
 {
     let mut procedures = Vec::new(alloc);

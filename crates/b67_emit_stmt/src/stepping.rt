@@ -47,7 +47,8 @@ fn append_comparison(kind: PlainKind, to: &mut Draft) -> Result<(), AllocError>
     requires set { IsSome to.old.out.level }
     requires few { HasFew to.old }
     requires room { size to.old.out.operators + 5 ≤ MOST_SEGMENT_SYLLABLES }
-    ensures { OnOk result (Emits 5 to.old to.new (λ formats qs target. (m : ℕ) × AllAt qs (level_set to.old.out) (kinds.Zero ∷ kind ∷ []) (size to.old.out.operators) m × BranchAt qs (level_set to.old.out) Brtr m target (size to.new.out.operators))) }
+    ensures code { OnOk result (Emits 5 to.old to.new (λ formats qs target. (m : ℕ) × AllAt qs (level_set to.old.out) (kinds.Zero ∷ kind ∷ []) (size to.old.out.operators) m × BranchAt qs (level_set to.old.out) Brtr m target (size to.new.out.operators))) }
+    ensures formats { OnOk result (to.new.formats.items ≡ to.old.formats.items) }
 {
     append_all(&mut to.out, &[PlainKind::Zero, kind])?;
     append_exit(&mut to.out, BranchKind::Brtr, &mut to.exits)
@@ -58,7 +59,8 @@ fn append_signed(step: i64, to: &mut Draft) -> Result<(), AllocError>
     requires set { IsSome to.old.out.level }
     requires few { HasFew to.old }
     requires room { size to.old.out.operators + 5 ≤ MOST_SEGMENT_SYLLABLES }
-    ensures { OnOk result ((sc : Place) → Emits 5 to.old to.new (λ formats qs target. (sign : StepSign step) × SignedAt sc formats qs (level_set to.old.out) sign (size to.old.out.operators) target (size to.new.out.operators))) }
+    ensures code { OnOk result ((sc : Place) → Emits 5 to.old to.new (λ formats qs target. (sign : StepSign step) × SignedAt sc formats qs (level_set to.old.out) sign (size to.old.out.operators) target (size to.new.out.operators))) }
+    ensures formats { OnOk result (to.new.formats.items ≡ to.old.formats.items) }
 {
     if step > 0 {
         append_comparison(PlainKind::Grtr, to)
@@ -74,7 +76,8 @@ fn append_past(to: &mut Draft) -> Result<(), AllocError>
     requires set { IsSome to.old.out.level }
     requires few { HasFew to.old }
     requires room { size to.old.out.operators + 13 ≤ MOST_SEGMENT_SYLLABLES }
-    ensures { OnOk result ((sc : Place) → Emits 13 to.old to.new (λ formats qs target. PastAt sc formats qs (level_set to.old.out) (size to.old.out.operators) target (size to.new.out.operators))) }
+    ensures code { OnOk result ((sc : Place) → Emits 13 to.old to.new (λ formats qs target. PastAt sc formats qs (level_set to.old.out) (size to.old.out.operators) target (size to.new.out.operators))) }
+    ensures formats { OnOk result (to.new.formats.items ≡ to.old.formats.items) }
 {
     let operators = [
         PlainKind::Dupl,
@@ -134,7 +137,8 @@ impl<'a, E: ExprEmitter> StmtEmitter<'a, E> {
     pub(crate) fn step(&self, s: &Expr, to: &mut Draft) -> Result<(), AllocError>
         requires ready { IsReady self.now.known.now to.old (13 + expr_syllables (expr s.now)) }
         requires fits { (sc : Place) × ExprFits sc self.now.known.now (level_set to.old.out) types.Number (expr s.now) }
-        ensures { OnOk result ((sc : Place) → ExprFits sc self.now.known.now (level_set to.old.out) types.Number (expr s.now) → Emits (13 + expr_syllables (expr s.now)) to.old to.new (λ formats qs target. StepAt sc formats qs (level_set to.old.out) (expr s.now) (size to.old.out.operators) target (size to.new.out.operators))) }
+        ensures code { OnOk result ((sc : Place) → ExprFits sc self.now.known.now (level_set to.old.out) types.Number (expr s.now) → Emits (13 + expr_syllables (expr s.now)) to.old to.new (λ formats qs target. StepAt sc formats qs (level_set to.old.out) (expr s.now) (size to.old.out.operators) target (size to.new.out.operators))) }
+        ensures formats { OnOk result (to.new.formats.items ≡ to.old.formats.items) }
     {
         match literal_of(s) {
             Some(step) => append_signed(step.number(), to),

@@ -4,7 +4,8 @@ ghost use Rattle.std.specs.Prelude.{◌+◌, OnOk};
 ghost use Rattle.algol_tree.specs.Image.{expr, stmt, stmts};
 ghost use Rattle.algol_tree.specs.Plain as tree;
 ghost use Rattle.b67_templates.specs.Depths.{stmt_syllables, expr_syllables};
-ghost use Rattle.b67_emit_stmt.specs.Drafts.{IsAt, IsReady};
+ghost use Rattle.b67_faithful.specs.Lines.{stmt_lines, stmts_lines};
+ghost use Rattle.b67_emit_stmt.specs.Drafts.{Adds, IsAt, IsReady};
 ghost use Rattle.b67_emit_stmt.specs.Emits.{HasFit, HaveFit, EmitsStmt, EmitsStmts, EmitsThen, HasFitThen, stmts_syllables};
 
 use crate::draft::{Draft, StmtEmitter};
@@ -20,7 +21,8 @@ impl<'a, E: ExprEmitter> StmtEmitter<'a, E> {
         requires level { IsAt self.now.level to.old }
         requires ready { IsReady self.now.known.now to.old (stmt_syllables (tree.if_then (expr c.now) (stmt x.now))) }
         requires fits { HasFit self.now.known.now to.old (tree.if_then (expr c.now) (stmt x.now)) }
-        ensures { OnOk result (EmitsStmt self.now.known.now to.old to.new (tree.if_then (expr c.now) (stmt x.now))) }
+        ensures code { OnOk result (EmitsStmt self.now.known.now to.old to.new (tree.if_then (expr c.now) (stmt x.now))) }
+        ensures lines { OnOk result (Adds to.old to.new (stmt_lines (tree.if_then (expr c.now) (stmt x.now)))) }
     {
         self.exprs.value(c, self.known.names, &mut to.out)?;
         append_exit(&mut to.out, BranchKind::Brfl, &mut to.exits)?;
@@ -33,7 +35,8 @@ impl<'a, E: ExprEmitter> StmtEmitter<'a, E> {
         requires level { IsAt self.now.level to.old }
         requires ready { IsReady self.now.known.now to.old (expr_syllables (expr c.now) + stmt_syllables (stmt x.now) + 6) }
         requires fits { HasFitThen self.now.known.now to.old (expr c.now) (stmt x.now) }
-        ensures { OnOk result (EmitsThen self.now.known.now to.old to.new (expr c.now) (stmt x.now)) }
+        ensures code { OnOk result (EmitsThen self.now.known.now to.old to.new (expr c.now) (stmt x.now)) }
+        ensures lines { OnOk result (Adds to.old to.new (stmt_lines (stmt x.now))) }
     {
         self.exprs.value(c, self.known.names, &mut to.out)?;
         let otherwise = append_branch(&mut to.out, BranchKind::Brfl)?;
@@ -49,7 +52,8 @@ impl<'a, E: ExprEmitter> StmtEmitter<'a, E> {
         requires level { IsAt self.now.level to.old }
         requires ready { IsReady self.now.known.now to.old (stmt_syllables (stmt s.now)) }
         requires fits { HasFit self.now.known.now to.old (stmt s.now) }
-        ensures { OnOk result (EmitsStmt self.now.known.now to.old to.new (stmt s.now)) }
+        ensures code { OnOk result (EmitsStmt self.now.known.now to.old to.new (stmt s.now)) }
+        ensures lines { OnOk result (Adds to.old to.new (stmt_lines (stmt s.now))) }
     {
         match s {
             Stmt::Empty => Ok(()),
@@ -89,7 +93,8 @@ impl<'a, E: ExprEmitter> StmtEmitter<'a, E> {
         requires level { IsAt self.now.level to.old }
         requires ready { IsReady self.now.known.now to.old (stmts_syllables (stmts ss.now)) }
         requires fits { HaveFit self.now.known.now to.old (stmts ss.now) }
-        ensures { OnOk result (EmitsStmts self.now.known.now to.old to.new (stmts ss.now)) }
+        ensures code { OnOk result (EmitsStmts self.now.known.now to.old to.new (stmts ss.now)) }
+        ensures lines { OnOk result (Adds to.old to.new (stmts_lines (stmts ss.now))) }
     {
         let first = to.exits.len();
         'statements: for s in ss {

@@ -1,7 +1,8 @@
-use Rattle.std.proofs.Common.{ap, ◌∙◌, ◌*◌, arith, length}
+use Rattle.std.proofs.Common.{ap, ◌∙◌, ◌*◌, ◌++◌, arith, length}
 use Rattle.std.proofs.lemmas.Result.{IfOk-weaker}
 use Rattle.std.specs.Prelude.{None}
 use Rattle.algol_tree.specs.Image.{body, decls, stmts}
+use Rattle.b67_faithful.specs.Lines.{formats_for, stmts_lines}
 use Rattle.b67_emit_stmt.specs.Texts.{outer_text}
 use Rattle.b67_emit_stmt.proofs.TextParts.{fits_found, room_found, segment_own, short_own, small_found}
 use Rattle.b67_emit_stmt.proofs.TextProgram.{outer_decls, outer_level, outer_returned, outer_stmts}
@@ -50,3 +51,12 @@ returns-clause-short g c =
     short_own (outer_text (body b)) None 2 (decls c.deref.result.now) (stmts c.deref-2.result.now) (outer_returned b) (outer_level b)
     (outer_decls b c.deref.result.now (c.deref.ensures.value ∙ c.items.ensures)) (outer_stmts b c.deref-2.result.now (c.deref-2.ensures.value ∙ c.items-2.ensures)) (6 * length made.0.words) short)
     c.emit_text.ensures.short
+
+pub returns-clause-lines : goal.returns-clause-lines
+returns-clause-lines g c =
+    let b = c.args.body.now in
+    IfOk-weaker c.emit_text.result _ _
+    (λ made lines.
+    lines ∙ ap (λ none. none ++ formats_for (stmts_lines (stmts c.deref-2.result.now))) c.new-none.ensures.items
+    ∙ ap (λ ss. formats_for (stmts_lines ss)) (outer_stmts b c.deref-2.result.now (c.deref-2.ensures.value ∙ c.items-2.ensures)))
+    c.emit_text.ensures.lines

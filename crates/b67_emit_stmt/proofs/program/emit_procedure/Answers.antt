@@ -1,6 +1,7 @@
-use Rattle.std.proofs.Common.{◌*◌, length, refl}
+use Rattle.std.proofs.Common.{◌*◌, ◌++◌, ◌∙◌, length, refl, ap}
 use Rattle.std.proofs.lemmas.Result.{IfOk-weaker}
 use Rattle.algol_tree.specs.Image.{decls, stmts}
+use Rattle.b67_faithful.specs.Lines.{formats_for, stmts_lines}
 use Rattle.b67_emit_stmt.specs.Texts.{text_of}
 use Rattle.b67_emit_stmt.proofs.TextParts.{cell_found, fits_found, room_found, segment_own, short_own, small_found}
 use Rattle.b67_emit_stmt.proofs.program.emit_procedure.Goals as goal
@@ -43,3 +44,7 @@ returns-clause-short g c =
     short_own (text_of p) c.returned_by-returned.result p.level (decls c.parts.result.0.now) (stmts c.parts.result.1.now) c.returned_by-returned.ensures refl c.parts.ensures.decls
     c.parts.ensures.stmts (6 * length made.0.words) short)
     c.emit_text.ensures.short
+
+pub returns-clause-lines : goal.returns-clause-lines
+returns-clause-lines g c =
+    IfOk-weaker c.emit_text.result _ _ (λ made lines. lines ∙ ap (λ ss. c.args.formats.items ++ formats_for (stmts_lines ss)) c.parts.ensures.stmts) c.emit_text.ensures.lines

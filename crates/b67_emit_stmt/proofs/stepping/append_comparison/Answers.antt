@@ -1,4 +1,5 @@
 use Rattle.std.proofs.Common.{refl, arith}
+use Rattle.std.proofs.lemmas.Result.{on_ok_weaker}
 use Rattle.b67_ops.specs.declared.BranchKind.TheVariants.{Brtr}
 use Rattle.b67_segment.specs.Building.{level_set}
 use Rattle.b67_segment.specs.Operators.{size}
@@ -9,8 +10,8 @@ use Rattle.b67_emit_stmt.proofs.Parts.{on_ok_two}
 use Rattle.b67_emit_stmt.proofs.Steps.{comparison_part}
 use Rattle.b67_emit_stmt.proofs.stepping.append_comparison.Goals as goal
 
-pub returns : goal.returns
-returns c =
+pub returns-clause-code : goal.returns-clause-code
+returns-clause-code c =
     let a = c.args.to.now in
     let b : Draft = record a { out = c.append_all.new.out } in
     let d : Draft = record a { out = c.append_exit.new.out; exits = c.append_exit.new.exits } in
@@ -21,3 +22,6 @@ returns c =
     (at_level (level_set a.out) (λ l formats qs target. BranchAt qs l Brtr (size b.out.operators) target (size d.out.operators)) (level_same a.out b.out c.in_ok-append_all.ensures.level)
     (exit_piece {n = 3} {d = b} {e = d} refl (omega (arith, c.requires.few, c.in_ok-append_all.ensures.size)) h (omega (arith, wide)))))
     c.append_exit.ensures.code c.append_exit.ensures.size
+
+pub returns-clause-formats : goal.returns-clause-formats
+returns-clause-formats c = on_ok_weaker c.append_exit.result (λ h. refl) c.append_exit.ensures.size

@@ -1,4 +1,4 @@
-use Rattle.std.proofs.Common.{rules, ◌≡◌, ◌+◌, ◌∙◌, ℕ, List, [], ◌∷◌, length, refl, sym, ap, subst, arith}
+use Rattle.std.proofs.Common.{rules, ◌≡◌, ◌+◌, ◌∙◌, ℕ, List, [], ◌∷◌, ◌++◌, length, take, refl, sym, ap, subst, arith}
 use Rattle.std.proofs.lemmas.List.{take_all}
 use Rattle.std.proofs.lemmas.Result.{on_ok_weaker}
 use Rattle.algol_tree.specs.declared.tree.Kind.TheVariants as types
@@ -13,11 +13,13 @@ use Rattle.b67_segment.specs.Operators.{size}
 use Rattle.b67_segment.specs.Building.{level_set}
 use Rattle.b67_emit_stmt.specs.Places.{CasesAt}
 use Rattle.b67_templates.specs.Depths.{expr_syllables, stmt_syllables}
+use Rattle.b67_faithful.specs.Lines.{stmt_lines, stmts_lines}
 use Rattle.b67_emit_stmt.specs.Fits.{StmtsFit}
 use Rattle.b67_emit_stmt.specs.declared.draft.Draft.{Draft}
 use Rattle.b67_emit_stmt.specs.Bodies.{begin_syllables, inside_syllables}
 use Rattle.b67_emit_stmt.specs.Drafts.{Emits}
 use Rattle.b67_emit_stmt.specs.Emits.{HaveFit, stmts_syllables}
+use Rattle.b67_emit_stmt.proofs.Added as added
 use Rattle.b67_emit_stmt.proofs.Aims.{body_closed, exits_lie, hole_as}
 use Rattle.b67_emit_stmt.proofs.Arms.{if_then_arm, then_arm, until_arm, while_arm}
 use Rattle.b67_emit_stmt.proofs.Blocked as blocked
@@ -54,8 +56,8 @@ if_then-stmt-requires g t c =
     let ready = ready_after s a (stmt_syllables (tree.if_then e x)) (stmt_syllables x) c.requires.ready both (omega arith) in
     search (rules, stmts'.the_lemmas, decls'.the_lemmas, bodies'.the_lemmas, ready, fit_after s sc x both c.requires.fits.1.1, at_after both c.requires.level)
 
-pub if_then-returns : goal.if_then-returns
-if_then-returns g t c =
+pub if_then-returns-clause-code : goal.if_then-returns-clause-code
+if_then-returns-clause-code g t c =
     let s = c.args.self.now.known.now in
     let a = c.args.to.now in
     let level = level_set a.out in
@@ -69,7 +71,10 @@ if_then-returns g t c =
     let v = value_piece s a b level sc types.Truth e refl refl refl c.requires.ready.few c.in_ok-value.ensures.code c.in_ok-value.ensures.size fit.0 in
     if_then_arm sc level e x a b d c.stmt.new.to v (branch_piece sc Brfl b d level q refl v.few c.in_ok-append_exit.ensures.code c.in_ok-append_exit.ensures.size)
     (stmt_piece s sc x d c.stmt.new.to level (level_same b.out d.out c.in_ok-append_exit.ensures.level ∙ q) h fit.1))
-    c.stmt.ensures
+    c.stmt.ensures.code
+
+pub if_then-returns-clause-lines : goal.if_then-returns-clause-lines
+if_then-returns-clause-lines g t c = c.stmt.ensures.lines
 
 pub then_part-stmt-requires : goal.then_part-stmt-requires
 then_part-stmt-requires g t c =
@@ -91,7 +96,7 @@ then_part-append_exit-requires g t c =
     let b : Draft = record a { out = c.value.new.out } in
     let d : Draft = record a { out = c.append_branch.new.out } in
     let r = level_same b.out d.out c.in_ok-otherwise.ensures.level ∙ level_same a.out b.out c.in_ok-value.ensures.level in
-    let part = stmt_piece c.args.self.now.known.now c.requires.fits.0 (stmt c.args.x.now) d c.stmt.new.to (level_set a.out) r c.in_ok-stmt.ensures c.requires.fits.2 in
+    let part = stmt_piece c.args.self.now.known.now c.requires.fits.0 (stmt c.args.x.now) d c.stmt.new.to (level_set a.out) r c.in_ok-stmt.ensures.code c.requires.fits.2 in
     record {
       set = matched.set_behind c.args.to.now.out part (c.in_ok-otherwise.ensures.level ∙ c.in_ok-value.ensures.level) c.requires.ready.set;
       room = omega (arith, part.short, c.in_ok-otherwise.ensures.size, c.in_ok-value.ensures.size, c.requires.ready.room);
@@ -107,13 +112,13 @@ then_part-aim-requires g t c =
     let f : Draft = record e { out = c.append_exit.new.out; exits = c.append_exit.new.exits } in
     let q = level_same a.out b.out c.in_ok-value.ensures.level in
     let r = level_same b.out d.out c.in_ok-otherwise.ensures.level ∙ q in
-    let part = stmt_piece c.args.self.now.known.now c.requires.fits.0 (stmt c.args.x.now) d e level r c.in_ok-stmt.ensures c.requires.fits.2 in
+    let part = stmt_piece c.args.self.now.known.now c.requires.fits.0 (stmt c.args.x.now) d e level r c.in_ok-stmt.ensures.code c.requires.fits.2 in
     let out = branch_piece c.requires.fits.0 Brun e f level (level_after part ∙ r) refl part.few c.in_ok-append_exit.ensures.code c.in_ok-append_exit.ensures.size in
     hole_there (c.in_ok-otherwise.otherwise ∷ []) b {b = d}
     (hole_as Brfl b.out d.out level c.in_ok-otherwise.otherwise q c.in_ok-otherwise.ensures.place c.in_ok-otherwise.ensures.code) (emits_then part out)
 
-pub then_part-returns : goal.then_part-returns
-then_part-returns g t c =
+pub then_part-returns-clause-code : goal.then_part-returns-clause-code
+then_part-returns-clause-code g t c =
     let s = c.args.self.now.known.now in
     let a = c.args.to.now in
     let level = level_set a.out in
@@ -128,11 +133,14 @@ then_part-returns g t c =
     let r = level_same b.out d.out c.in_ok-otherwise.ensures.level ∙ q in
     λ sc condition fit.
     let v = value_piece s a b level sc types.Truth p refl refl refl c.requires.ready.few c.in_ok-value.ensures.code c.in_ok-value.ensures.size condition in
-    let part = stmt_piece s sc x d e level r c.in_ok-stmt.ensures fit in
+    let part = stmt_piece s sc x d e level r c.in_ok-stmt.ensures.code fit in
     let out = branch_piece sc Brun e f level (level_after part ∙ r) refl part.few c.in_ok-append_exit.ensures.code c.in_ok-append_exit.ensures.size in
     then_arm sc level p x a b d e f n (c.in_ok-otherwise.otherwise ∷ []) v
     (hole_as Brfl b.out d.out level c.in_ok-otherwise.otherwise q c.in_ok-otherwise.ensures.place c.in_ok-otherwise.ensures.code)
     (omega (arith, c.in_ok-otherwise.ensures.size)) refl refl part out c.aim.ensures refl refl
+
+pub then_part-returns-clause-lines : goal.then_part-returns-clause-lines
+then_part-returns-clause-lines g t c = c.in_ok-stmt.ensures.lines
 
 -- ---- a body, whose exits go to the place after it
 
@@ -140,14 +148,17 @@ pub loop_body-aim_exits-requires-clause-branches : goal.loop_body-aim_exits-requ
 loop_body-aim_exits-requires-clause-branches g t c =
     let a = c.args.to.now in
     let is : c.len-first.result ≡ length a.exits.items = omega (arith, c.len-first.ensures, a.exits.ok.0) in
-    (exits_lie a c.stmt.new.to c.len-first.result is (c.in_ok-stmt.ensures c.requires.fits.0 c.requires.fits.1)).1
+    (exits_lie a c.stmt.new.to c.len-first.result is (c.in_ok-stmt.ensures.code c.requires.fits.0 c.requires.fits.1)).1
 
-pub loop_body-returns : goal.loop_body-returns
-loop_body-returns g t c =
+pub loop_body-returns-clause-code : goal.loop_body-returns-clause-code
+loop_body-returns-clause-code g t c =
     let a = c.args.to.now in
     let d : Draft = record c.stmt.new.to { out = c.aim_exits.new.out; exits = c.aim_exits.new.exits } in
     let is : c.len-first.result ≡ length a.exits.items = omega (arith, c.len-first.ensures, a.exits.ok.0) in
-    λ sc fit. body_closed sc (level_set a.out) (stmt c.args.b.now) a c.stmt.new.to d c.len-first.result is (c.in_ok-stmt.ensures sc fit) c.aim_exits.ensures.aimed c.aim_exits.ensures.list refl
+    λ sc fit. body_closed sc (level_set a.out) (stmt c.args.b.now) a c.stmt.new.to d c.len-first.result is (c.in_ok-stmt.ensures.code sc fit) c.aim_exits.ensures.aimed c.aim_exits.ensures.list refl
+
+pub loop_body-returns-clause-lines : goal.loop_body-returns-clause-lines
+loop_body-returns-clause-lines g t c = c.in_ok-stmt.ensures.lines
 
 -- ---- WHILE
 
@@ -174,7 +185,7 @@ while_loop-append_turn-requires g t c =
     let b : Draft = record a { out = c.value.new.out } in
     let d : Draft = record a { out = c.append_exit.new.out; exits = c.append_exit.new.exits } in
     let r = level_same b.out d.out c.in_ok-append_exit.ensures.level ∙ level_same a.out b.out c.in_ok-value.ensures.level in
-    let part = body_piece s c.requires.fits.0 (stmt c.args.b.now) d c.loop_body.new.to (level_set a.out) r c.in_ok-loop_body.ensures c.requires.fits.1.1 in
+    let part = body_piece s c.requires.fits.0 (stmt c.args.b.now) d c.loop_body.new.to (level_set a.out) r c.in_ok-loop_body.ensures.code c.requires.fits.1.1 in
     let v = value_piece s a b (level_set a.out) c.requires.fits.0 types.Truth (expr c.args.c.now) refl refl refl c.requires.ready.few c.in_ok-value.ensures.code c.in_ok-value.ensures.size c.requires.fits.1.0 in
     record {
       set = matched.set_behind c.args.to.now.out part (c.in_ok-append_exit.ensures.level ∙ c.in_ok-value.ensures.level) c.requires.ready.set;
@@ -182,8 +193,8 @@ while_loop-append_turn-requires g t c =
       room = omega (arith, part.short, c.in_ok-append_exit.ensures.size, c.in_ok-value.ensures.size, c.requires.ready.room);
     }
 
-pub while_loop-returns : goal.while_loop-returns
-while_loop-returns g t c =
+pub while_loop-returns-clause-code : goal.while_loop-returns-clause-code
+while_loop-returns-clause-code g t c =
     let s = c.args.self.now.known.now in
     let a = c.args.to.now in
     let level = level_set a.out in
@@ -199,26 +210,29 @@ while_loop-returns g t c =
     (λ h wide sc fit.
     let v = value_piece s a b level sc types.Truth p refl refl refl c.requires.ready.few c.in_ok-value.ensures.code c.in_ok-value.ensures.size fit.0 in
     let left = branch_piece sc Brfl b d level q refl v.few c.in_ok-append_exit.ensures.code c.in_ok-append_exit.ensures.size in
-    let part = body_piece s sc x d e level r c.in_ok-loop_body.ensures fit.1 in
+    let part = body_piece s sc x d e level r c.in_ok-loop_body.ensures.code fit.1 in
     while_arm sc level p x a b d e f v left part (turn_piece sc a e f c.place-start.result level c.place-start.ensures (level_after part ∙ r) refl refl part.few h wide))
     c.append_turn.ensures.code c.append_turn.ensures.size
+
+pub while_loop-returns-clause-lines : goal.while_loop-returns-clause-lines
+while_loop-returns-clause-lines g t c = on_ok_weaker c.append_turn.result (λ h. c.in_ok-loop_body.ensures.lines) c.append_turn.ensures.size
 
 -- ---- DO with UNTIL
 
 pub until_loop-value-requires-clause-code : goal.until_loop-value-requires-clause-code
 until_loop-value-requires-clause-code g t c =
-    code_at c.args.self.now.known.now (level_set c.loop_body.new.to.out) (level_set c.args.to.now.out) c.requires.fits.0 types.Truth (expr c.args.c.now) (level_after (c.in_ok-loop_body.ensures c.requires.fits.0 c.requires.fits.1.0)) c.requires.fits.1.1
+    code_at c.args.self.now.known.now (level_set c.loop_body.new.to.out) (level_set c.args.to.now.out) c.requires.fits.0 types.Truth (expr c.args.c.now) (level_after (c.in_ok-loop_body.ensures.code c.requires.fits.0 c.requires.fits.1.0)) c.requires.fits.1.1
 
 pub until_loop-append_turn-requires-clause-back : goal.until_loop-append_turn-requires-clause-back
 until_loop-append_turn-requires-clause-back g t c =
     let d : Draft = record c.loop_body.new.to { out = c.value.new.out } in
-    let part = c.in_ok-loop_body.ensures c.requires.fits.0 c.requires.fits.1.0 in
+    let part = c.in_ok-loop_body.ensures.code c.requires.fits.0 c.requires.fits.1.0 in
     let v = value_piece c.args.self.now.known.now c.loop_body.new.to d (level_set c.args.to.now.out) c.requires.fits.0 types.Truth (expr c.args.c.now) (level_after part) refl refl part.few c.in_ok-value.ensures.code
     c.in_ok-value.ensures.size c.requires.fits.1.1 in
     omega (arith, c.place-start.ensures, part.code.grown, v.code.grown, c.in_ok-append_exit.ensures.size)
 
-pub until_loop-returns : goal.until_loop-returns
-until_loop-returns g t c =
+pub until_loop-returns-clause-code : goal.until_loop-returns-clause-code
+until_loop-returns-clause-code g t c =
     let a = c.args.to.now in
     let level = level_set a.out in
     let p = expr c.args.c.now in
@@ -228,7 +242,7 @@ until_loop-returns g t c =
     let f : Draft = record e { out = c.append_turn.new.out } in
     on_ok_two c.append_turn.result
     (λ h wide sc fit.
-    let part = c.in_ok-loop_body.ensures sc fit.0 in
+    let part = c.in_ok-loop_body.ensures.code sc fit.0 in
     let q = level_after part in
     let v = value_piece c.args.self.now.known.now b d level sc types.Truth p q refl refl part.few c.in_ok-value.ensures.code c.in_ok-value.ensures.size fit.1 in
     let r = level_same b.out d.out c.in_ok-value.ensures.level ∙ q in
@@ -236,6 +250,9 @@ until_loop-returns g t c =
     until_arm sc level p (stmt c.args.b.now) a b d e f part v left
     (turn_piece sc a e f c.place-start.result level c.place-start.ensures (level_same d.out e.out c.in_ok-append_exit.ensures.level ∙ r) refl refl left.few h wide))
     c.append_turn.ensures.code c.append_turn.ensures.size
+
+pub until_loop-returns-clause-lines : goal.until_loop-returns-clause-lines
+until_loop-returns-clause-lines g t c = on_ok_weaker c.append_turn.result (λ h. c.in_ok-loop_body.ensures.lines) c.append_turn.ensures.size
 
 -- ---- FOR
 
@@ -267,7 +284,7 @@ for_loop-loop_body-requires g t c =
     let assign = c.in_ok-assign.ensures in
     let test = c.in_ok-difference.ensures in
     let needs = fors.body_needs s c.requires.fits.0 c.args.v.now (expr c.args.a.now) (expr c.args.s.now) (expr c.args.l.now) (stmt c.args.b.now) c.args.to.now c.assign.new.out c.difference.new.out c.requires.fits.1
-    c.requires.ready assign.code assign.level assign.size test.code test.level test.size c.step.new.to c.in_ok-step.ensures c.args.self.now.level c.requires.level in
+    c.requires.ready assign.code assign.level assign.size test.code test.level test.size c.step.new.to c.in_ok-step.ensures.code c.args.self.now.level c.requires.level in
     search (rules, stmts'.the_lemmas, decls'.the_lemmas, bodies'.the_lemmas, needs.0, needs.1, needs.2)
 
 pub for_loop-advance-requires : goal.for_loop-advance-requires
@@ -276,9 +293,9 @@ for_loop-advance-requires g t c =
     let assign = c.in_ok-assign.ensures in
     let test = c.in_ok-difference.ensures in
     let needs = fors.advance_needs s c.requires.fits.0 c.args.v.now (expr c.args.a.now) (expr c.args.s.now) (expr c.args.l.now) (stmt c.args.b.now) c.args.to.now c.assign.new.out c.difference.new.out c.requires.fits.1
-    c.requires.ready assign.code assign.level assign.size test.code test.level test.size c.step.new.to c.in_ok-step.ensures c.loop_body.new.to c.in_ok-loop_body.ensures in
+    c.requires.ready assign.code assign.level assign.size test.code test.level test.size c.step.new.to c.in_ok-step.ensures.code c.loop_body.new.to c.in_ok-loop_body.ensures.code in
     let fits = fors.advance_fits s c.requires.fits.0 c.args.v.now (expr c.args.a.now) (expr c.args.s.now) (expr c.args.l.now) (stmt c.args.b.now) c.args.to.now c.assign.new.out c.difference.new.out c.requires.fits.1
-    c.requires.ready assign.code assign.level assign.size test.code test.level test.size c.step.new.to c.in_ok-step.ensures c.loop_body.new.to c.in_ok-loop_body.ensures in
+    c.requires.ready assign.code assign.level assign.size test.code test.level test.size c.step.new.to c.in_ok-step.ensures.code c.loop_body.new.to c.in_ok-loop_body.ensures.code in
     record { set = needs.0; near = c.requires.ready.near; fits = fits; room = needs.1 }
 
 pub for_loop-append_turn-requires : goal.for_loop-append_turn-requires
@@ -288,19 +305,26 @@ for_loop-append_turn-requires g t c =
     let test = c.in_ok-difference.ensures in
     let next = c.in_ok-advance.ensures in
     let needs = fors.turn_needs s c.requires.fits.0 c.args.v.now (expr c.args.a.now) (expr c.args.s.now) (expr c.args.l.now) (stmt c.args.b.now) c.args.to.now c.assign.new.out c.difference.new.out c.requires.fits.1
-    c.requires.ready assign.code assign.level assign.size test.code test.level test.size c.step.new.to c.in_ok-step.ensures c.loop_body.new.to c.in_ok-loop_body.ensures c.advance.new.out next.code next.level next.size c.place-start.result c.place-start.ensures in
+    c.requires.ready assign.code assign.level assign.size test.code test.level test.size c.step.new.to c.in_ok-step.ensures.code c.loop_body.new.to c.in_ok-loop_body.ensures.code c.advance.new.out next.code next.level next.size c.place-start.result c.place-start.ensures in
     record { set = needs.0; back = needs.1; room = needs.2 }
 
-pub for_loop-returns : goal.for_loop-returns
-for_loop-returns g t c =
+pub for_loop-returns-clause-code : goal.for_loop-returns-clause-code
+for_loop-returns-clause-code g t c =
     let assign = c.in_ok-assign.ensures in
     let test = c.in_ok-difference.ensures in
     let next = c.in_ok-advance.ensures in
     on_ok_two c.append_turn.result
     (turns.for_emitted c.args.self.now.known.now c.args.v.now (expr c.args.a.now) (expr c.args.s.now) (expr c.args.l.now) (stmt c.args.b.now) c.args.to.now c.step.new.to c.loop_body.new.to c.assign.new.out
-    c.difference.new.out c.advance.new.out c.append_turn.new.out c.place-start.result c.requires.ready.few assign.code assign.level assign.size c.place-start.ensures test.code test.level test.size c.in_ok-step.ensures
-    c.in_ok-loop_body.ensures next.code next.level next.size)
+    c.difference.new.out c.advance.new.out c.append_turn.new.out c.place-start.result c.requires.ready.few assign.code assign.level assign.size c.place-start.ensures test.code test.level test.size c.in_ok-step.ensures.code
+    c.in_ok-loop_body.ensures.code next.code next.level next.size)
     c.append_turn.ensures.code c.append_turn.ensures.size
+
+pub for_loop-returns-clause-lines : goal.for_loop-returns-clause-lines
+for_loop-returns-clause-lines g t c =
+    let lines = stmt_lines (stmt c.args.b.now) in
+    on_ok_weaker c.append_turn.result
+    (λ h. added.then_added c.args.to.now.formats.items c.step.new.to.formats.items c.loop_body.new.to.formats.items lines c.in_ok-step.ensures.formats c.in_ok-loop_body.ensures.lines)
+    c.append_turn.ensures.size
 
 -- ---- THRU
 
@@ -321,7 +345,7 @@ thru_loop-append_turn-requires g t c =
     let over = c.in_ok-over.ensures in
     let less = c.in_ok-append_all-2.ensures in
     let needs = thrus.turn_needs c.args.self.now.known.now c.requires.fits.0 (expr c.args.e.now) (stmt c.args.b.now) c.args.to.now c.value.new.out c.append_all.new.out c.append_branch.new.out c.append_all-2.new.out
-    c.requires.fits.1 c.requires.ready value.code value.level value.size test.level test.size over.level over.size less.level less.size c.loop_body.new.to c.in_ok-loop_body.ensures c.place-start.result c.place-start.ensures in
+    c.requires.fits.1 c.requires.ready value.code value.level value.size test.level test.size over.level over.size less.level less.size c.loop_body.new.to c.in_ok-loop_body.ensures.code c.place-start.result c.place-start.ensures in
     record { set = needs.0; back = needs.1; room = needs.2 }
 
 pub thru_loop-aim-requires : goal.thru_loop-aim-requires
@@ -332,7 +356,7 @@ thru_loop-aim-requires g t c =
     let less = c.in_ok-append_all-2.ensures in
     let turn = c.in_ok-append_turn.ensures in
     turns.thru_lies c.args.self.now.known.now (expr c.args.e.now) (stmt c.args.b.now) c.args.to.now c.loop_body.new.to c.value.new.out c.append_all.new.out c.append_branch.new.out c.append_all-2.new.out c.append_turn.new.out c.in_ok-over.over c.place-start.result c.requires.ready.few
-    value.code value.level value.size c.place-start.ensures test.code test.level test.size over.place over.code over.level over.size less.code less.level less.size c.in_ok-loop_body.ensures turn.code turn.level turn.size
+    value.code value.level value.size c.place-start.ensures test.code test.level test.size over.place over.code over.level over.size less.code less.level less.size c.in_ok-loop_body.ensures.code turn.code turn.level turn.size
     c.requires.fits.0 c.requires.fits.1.0 c.requires.fits.1.1
 
 pub thru_loop-append_plain-requires : goal.thru_loop-append_plain-requires
@@ -343,11 +367,11 @@ thru_loop-append_plain-requires g t c =
     let less = c.in_ok-append_all-2.ensures in
     let turn = c.in_ok-append_turn.ensures in
     let needs = thrus.end_needs c.args.self.now.known.now c.requires.fits.0 (expr c.args.e.now) (stmt c.args.b.now) c.args.to.now c.value.new.out c.append_all.new.out c.append_branch.new.out c.append_all-2.new.out
-    c.requires.fits.1 c.requires.ready value.code value.level value.size test.level test.size over.level over.size less.level less.size c.loop_body.new.to c.in_ok-loop_body.ensures c.append_turn.new.out c.aim.new.out c.in_ok-over.over turn.level turn.size c.aim.ensures in
+    c.requires.fits.1 c.requires.ready value.code value.level value.size test.level test.size over.level over.size less.level less.size c.loop_body.new.to c.in_ok-loop_body.ensures.code c.append_turn.new.out c.aim.new.out c.in_ok-over.over turn.level turn.size c.aim.ensures in
     record { set = needs.0; room = needs.1 }
 
-pub thru_loop-returns : goal.thru_loop-returns
-thru_loop-returns g t c =
+pub thru_loop-returns-clause-code : goal.thru_loop-returns-clause-code
+thru_loop-returns-clause-code g t c =
     let value = c.in_ok-value.ensures in
     let test = c.in_ok-append_all.ensures in
     let over = c.in_ok-over.ensures in
@@ -355,9 +379,12 @@ thru_loop-returns g t c =
     let turn = c.in_ok-append_turn.ensures in
     on_ok_two c.append_plain.result
     (turns.thru_emitted c.args.self.now.known.now (expr c.args.e.now) (stmt c.args.b.now) c.args.to.now c.loop_body.new.to c.value.new.out c.append_all.new.out c.append_branch.new.out c.append_all-2.new.out c.append_turn.new.out c.in_ok-over.over c.place-start.result c.requires.ready.few
-    value.code value.level value.size c.place-start.ensures test.code test.level test.size over.place over.code over.level over.size less.code less.level less.size c.in_ok-loop_body.ensures turn.code turn.level turn.size
+    value.code value.level value.size c.place-start.ensures test.code test.level test.size over.place over.code over.level over.size less.code less.level less.size c.in_ok-loop_body.ensures.code turn.code turn.level turn.size
     c.aim.new.out c.append_plain.new.out c.aim.ensures)
     c.append_plain.ensures.code c.append_plain.ensures.size
+
+pub thru_loop-returns-clause-lines : goal.thru_loop-returns-clause-lines
+thru_loop-returns-clause-lines g t c = on_ok_weaker c.append_plain.result (λ h. c.in_ok-loop_body.ensures.lines) c.append_plain.ensures.size
 
 -- ---- CASE
 
@@ -378,8 +405,8 @@ case-cases-requires g t c =
     let at = at_same a b c.in_ok-select.ensures.level c.requires.level in
     search (rules, stmts'.the_lemmas, decls'.the_lemmas, bodies'.the_lemmas, ready, fit, at)
 
-pub case-returns : goal.case-returns
-case-returns g t c =
+pub case-returns-clause-code : goal.case-returns-clause-code
+case-returns-clause-code g t c =
     let a = c.args.to.now in
     let level = level_set a.out in
     let ss = c.args.ss.now in
@@ -393,7 +420,10 @@ case-returns g t c =
     let first = piece {n = 19 + expr_syllables e} {d = a} {e = b} refl refl c.requires.ready.few (λ formats. c.in_ok-select.ensures.code sc formats fit.0) c.in_ok-select.ensures.size in
     let rest = at_level level (λ l formats qs target. CasesAt sc formats qs l (stmts ss) (size b.out.operators) target) q (h sc (subst F (sym q) fit.1)) in
     tabled.case_arm sc level e ss a b d first rest)
-    c.cases.ensures
+    c.cases.ensures.code
+
+pub case-returns-clause-lines : goal.case-returns-clause-lines
+case-returns-clause-lines g t c = c.cases.ensures.lines
 
 pub cases-append_entries-requires-clause-room : goal.cases-append_entries-requires-clause-room
 cases-append_entries-requires-clause-room g t c = omega (arith, tabled.few_statements c.args.ss.now, c.requires.ready.room)
@@ -405,6 +435,7 @@ cases-statements-init g t c =
     record {
       entry = omega (arith, c.place-entry.ensures);
       code = λ sc fit. tabled.cases_begun sc (level_set a.out) (length c.args.ss.now) c.args.ss.now a b refl c.requires.ready.few refl refl c.in_ok-append_entries.ensures.code;
+      lines = added.none_added c.args.to.now.formats.items;
     }
 
 pub cases-aim-requires : goal.cases-aim-requires
@@ -434,7 +465,7 @@ cases-append_exit-requires g t c =
     let u : Draft = record a { out = c.append_entries.new.out } in
     let d : Draft = record c.statements.to { out = c.aim.new.out } in
     let needs = tabled.exit_needs s c.requires.fits.0 (level_set a.out) ss c.statements.s-index c.s-item.result c.statements-test.true c.s-item.is a u c.statements.to c.statements.entry c.statements.invariant.entry
-    (c.statements.invariant.code c.requires.fits.0 c.requires.fits.1) d (stmts_syllables (stmts ss)) c.aim.ensures refl (omega arith) c.requires.ready refl c.requires.fits.1 c.stmt.new.to c.in_ok-stmt.ensures in
+    (c.statements.invariant.code c.requires.fits.0 c.requires.fits.1) d (stmts_syllables (stmts ss)) c.aim.ensures refl (omega arith) c.requires.ready refl c.requires.fits.1 c.stmt.new.to c.in_ok-stmt.ensures.code in
     record { set = needs.0; room = needs.1 }
 
 pub cases-overflow_add-entry : goal.cases-overflow_add-entry
@@ -458,25 +489,37 @@ cases-statements-preserved g t c =
       entry = omega (arith, c.statements.invariant.entry);
       code = λ sc fit.
           tabled.cases_more s sc level c.args.ss.now c.statements.s-index c.s-item.result c.statements-test.true c.s-item.is a u c.statements.to c.statements.entry c.statements.invariant.entry (c.statements.invariant.code sc fit) d c.stmt.new.to f refl
-          c.aim.ensures refl refl (next_fits s sc level c.args.ss.now c.statements.s-index c.s-item.result c.statements-test.true c.s-item.is fit) c.in_ok-stmt.ensures refl c.in_ok-append_exit.ensures.code c.in_ok-append_exit.ensures.size;
+          c.aim.ensures refl refl (next_fits s sc level c.args.ss.now c.statements.s-index c.s-item.result c.statements-test.true c.s-item.is fit) c.in_ok-stmt.ensures.code refl c.in_ok-append_exit.ensures.code c.in_ok-append_exit.ensures.size;
+      lines = added.both_added c.args.to.now.formats.items c.statements.to.formats.items c.stmt.new.to.formats.items (stmts_lines (stmts (take c.statements.s-index c.args.ss.now))) (stmt_lines (stmt c.s-item.result))
+          (stmts_lines (stmts (take (c.statements.s-index + 1) c.args.ss.now))) (added.next_lines c.args.ss.now c.statements.s-index c.s-item.result c.statements-test.true c.s-item.is)
+          c.statements.invariant.lines c.in_ok-stmt.ensures.lines;
     }
 
-pub cases-returns : goal.cases-returns
-cases-returns g t c =
+pub cases-returns-clause-code : goal.cases-returns-clause-code
+cases-returns-clause-code g t c =
     let a = c.args.to.now in
     let u : Draft = record a { out = c.append_entries.new.out } in
     λ sc fit. tabled.cases_ended sc (level_set a.out) c.args.ss.now c.statements.s-index a u c.statements.to (take_all c.statements.s-index c.args.ss.now c.statements-test.false) c.statements-test.false (c.statements.invariant.code sc fit)
 
+pub cases-returns-clause-lines : goal.cases-returns-clause-lines
+cases-returns-clause-lines g t c =
+    added.added_for c.args.to.now.formats.items c.statements.to.formats.items (stmts_lines (stmts (take c.statements.s-index c.args.ss.now))) (stmts_lines (stmts c.args.ss.now))
+    (added.all_lines c.args.ss.now c.statements.s-index c.statements-test.false) c.statements.invariant.lines
+
 -- ---- statements one after another
 
 pub stmts-statements-init : goal.stmts-statements-init
-stmts-statements-init g t c = λ sc fit. together_none sc (level_set c.args.to.now.out) c.args.ss.now c.args.to.now c.requires.ready.few
+stmts-statements-init g t c =
+    record {
+      code = λ sc fit. together_none sc (level_set c.args.to.now.out) c.args.ss.now c.args.to.now c.requires.ready.few;
+      lines = added.none_added c.args.to.now.formats.items;
+    }
 
 pub stmts-aim_exits-requires : goal.stmts-aim_exits-requires
 stmts-aim_exits-requires g t c =
     let a = c.args.to.now in
     let is : c.len-first.result ≡ length a.exits.items = omega (arith, c.len-first.ensures, a.exits.ok.0) in
-    let lie = exits_lie a c.statements.to c.len-first.result is (c.statements.invariant c.requires.fits.0 c.requires.fits.1) in
+    let lie = exits_lie a c.statements.to c.len-first.result is (c.statements.invariant.code c.requires.fits.0 c.requires.fits.1) in
     record { list = lie.0; branches = lie.1 }
 
 pub stmts-stmt-requires : goal.stmts-stmt-requires
@@ -491,7 +534,7 @@ stmts-stmt-requires g t c =
     let b = c.statements.to in
     let d : Draft = record b { out = c.aim_exits.new.out; exits = c.aim_exits.new.exits } in
     let is : c.len-first.result ≡ length a.exits.items = omega (arith, c.len-first.ensures, a.exits.ok.0) in
-    let h = c.statements.invariant sc c.requires.fits.1 in
+    let h = c.statements.invariant.code sc c.requires.fits.1 in
     let ready = next_ready s sc level ss i x c.statements-test.true c.s-item.is a b d c.len-first.result is h c.aim_exits.ensures.aimed c.aim_exits.ensures.list refl (stmts_syllables (stmts ss))
     (omega arith) c.requires.ready in
     let q = done_level s sc level ss i x c.statements-test.true c.s-item.is a b d c.len-first.result is h c.aim_exits.ensures.aimed c.aim_exits.ensures.list refl in
@@ -504,25 +547,40 @@ stmts-statements-preserved g t c =
     let level = level_set a.out in
     let d : Draft = record c.statements.to { out = c.aim_exits.new.out; exits = c.aim_exits.new.exits } in
     let is : c.len-first.result ≡ length a.exits.items = omega (arith, c.len-first.ensures, a.exits.ok.0) in
-    λ sc fit.
-    together_more s sc level c.args.ss.now c.statements.s-index c.s-item.result c.statements-test.true c.s-item.is a c.statements.to d c.len-first.result is (c.statements.invariant sc fit) c.aim_exits.ensures.aimed c.aim_exits.ensures.list refl
-    c.stmt.new.to refl (next_fits s sc level c.args.ss.now c.statements.s-index c.s-item.result c.statements-test.true c.s-item.is fit) c.in_ok-stmt.ensures
+    record {
+      code = λ sc fit.
+          together_more s sc level c.args.ss.now c.statements.s-index c.s-item.result c.statements-test.true c.s-item.is a c.statements.to d c.len-first.result is (c.statements.invariant.code sc fit) c.aim_exits.ensures.aimed c.aim_exits.ensures.list refl
+          c.stmt.new.to refl (next_fits s sc level c.args.ss.now c.statements.s-index c.s-item.result c.statements-test.true c.s-item.is fit) c.in_ok-stmt.ensures.code;
+      lines = added.both_added c.args.to.now.formats.items c.statements.to.formats.items c.stmt.new.to.formats.items (stmts_lines (stmts (take c.statements.s-index c.args.ss.now))) (stmt_lines (stmt c.s-item.result))
+          (stmts_lines (stmts (take (c.statements.s-index + 1) c.args.ss.now))) (added.next_lines c.args.ss.now c.statements.s-index c.s-item.result c.statements-test.true c.s-item.is)
+          c.statements.invariant.lines c.in_ok-stmt.ensures.lines;
+    }
 
-pub stmts-returns : goal.stmts-returns
-stmts-returns g t c =
+pub stmts-returns-clause-code : goal.stmts-returns-clause-code
+stmts-returns-clause-code g t c =
     let a = c.args.to.now in
     let b = c.statements.to in
     λ sc fit.
     let E : List Stmt → Type 0 = λ l. Emits (stmts_syllables (stmts l)) a b (StandTogether sc (level_set a.out) l a b) in
-    subst E (take_all c.statements.s-index c.args.ss.now c.statements-test.false) (c.statements.invariant sc fit)
+    subst E (take_all c.statements.s-index c.args.ss.now c.statements-test.false) (c.statements.invariant.code sc fit)
+
+pub stmts-returns-clause-lines : goal.stmts-returns-clause-lines
+stmts-returns-clause-lines g t c =
+    added.added_for c.args.to.now.formats.items c.statements.to.formats.items (stmts_lines (stmts (take c.statements.s-index c.args.ss.now))) (stmts_lines (stmts c.args.ss.now))
+    (added.all_lines c.args.ss.now c.statements.s-index c.statements-test.false) c.statements.invariant.lines
 
 -- ---- a statement
 
-pub stmt-returns-in-Empty : goal.stmt-returns-in-Empty
-stmt-returns-in-Empty g t c =
+pub stmt-returns-in-Empty-clause-code : goal.stmt-returns-in-Empty-clause-code
+stmt-returns-in-Empty-clause-code g t c =
     let s = c.args.self.now.known.now in
     let a = c.args.to.now in
     matched.emits_as s a a (stmt c.args.s.now) tree.empty (shaped.empty_as c.args.s.now c.in-Empty.is) (matched.empty_emitted s a c.requires.ready.few)
+
+pub stmt-returns-in-Empty-clause-lines : goal.stmt-returns-in-Empty-clause-lines
+stmt-returns-in-Empty-clause-lines g t c =
+    let before = c.args.to.now.formats.items in
+    added.added_as before before (stmt c.args.s.now) tree.empty (shaped.empty_as c.args.s.now c.in-Empty.is) (added.none_added before)
 
 pub stmt-store-requires-clause-fits : goal.stmt-store-requires-clause-fits
 stmt-store-requires-clause-fits g t c =
@@ -534,8 +592,8 @@ stmt-store-requires-clause-room g t c =
     let v = c.in-Assign.v in
     store_fits c.args.self.now.known.now c.args.to.now (stmt c.args.s.now) (variable v) (expr c.in-Assign.e) (shaped.assign_as c.args.s.now v c.in-Assign.e c.in-Assign.is) c.requires.ready
 
-pub stmt-returns-in-Assign : goal.stmt-returns-in-Assign
-stmt-returns-in-Assign g t c =
+pub stmt-returns-in-Assign-clause-code : goal.stmt-returns-in-Assign-clause-code
+stmt-returns-in-Assign-clause-code g t c =
     let a = c.args.to.now in
     let v = c.in-Assign.v in
     let b : Draft = record a { out = c.store.new.out } in
@@ -543,15 +601,36 @@ stmt-returns-in-Assign g t c =
     (store_emitted c.args.self.now.known.now a b (stmt c.args.s.now) (variable v) (expr c.in-Assign.e) (shaped.assign_as c.args.s.now v c.in-Assign.e c.in-Assign.is) refl refl c.requires.ready.few)
     c.store.ensures.code c.store.ensures.size
 
-pub stmt-returns-in_ok-then_part-in-Some : goal.stmt-returns-in_ok-then_part-in-Some
-stmt-returns-in_ok-then_part-in-Some g t c =
+pub stmt-returns-in-Assign-clause-lines : goal.stmt-returns-in-Assign-clause-lines
+stmt-returns-in-Assign-clause-lines g t c =
+    let before = c.args.to.now.formats.items in
+    let v = c.in-Assign.v in
+    on_ok_weaker c.store.result
+    (λ h. added.added_as before before (stmt c.args.s.now) (tree.assign (variable v) (expr c.in-Assign.e)) (shaped.assign_as c.args.s.now v c.in-Assign.e c.in-Assign.is) (added.none_added before))
+    c.store.ensures.size
+
+pub stmt-returns-in_ok-then_part-in-Some-clause-code : goal.stmt-returns-in_ok-then_part-in-Some-clause-code
+stmt-returns-in_ok-then_part-in-Some-clause-code g t c =
     let x = c.deref-in-Some.result.now in
     let y = c.deref-in-Some-2.result.now in
     on_ok_weaker c.stmt.result
     (λ h. matched.else_emitted c.args.self.now.known.now c.args.to.now c.then_part.new.to c.stmt.new.to (stmt c.args.s.now) (expr c.in-If.c) (stmt x) (stmt y)
     (shaped.if_else_as c.args.s.now x y c.in-If.c c.in-If.x c.in-If.other c.in-Some.y c.in-If.is c.in-Some.is c.deref-in-Some.ensures c.deref-in-Some-2.ensures)
-    c.in_ok-then_part-in-Some.ensures h)
-    c.stmt.ensures
+    c.in_ok-then_part-in-Some.ensures.code h)
+    c.stmt.ensures.code
+
+pub stmt-returns-in_ok-then_part-in-Some-clause-lines : goal.stmt-returns-in_ok-then_part-in-Some-clause-lines
+stmt-returns-in_ok-then_part-in-Some-clause-lines g t c =
+    let x = c.deref-in-Some.result.now in
+    let y = c.deref-in-Some-2.result.now in
+    let shape = shaped.if_else_as c.args.s.now x y c.in-If.c c.in-If.x c.in-If.other c.in-Some.y c.in-If.is c.in-Some.is c.deref-in-Some.ensures c.deref-in-Some-2.ensures in
+    let before = c.args.to.now.formats.items in
+    on_ok_weaker c.stmt.result
+    (λ h.
+    added.added_as before c.stmt.new.to.formats.items (stmt c.args.s.now) (tree.if_else (expr c.in-If.c) (stmt x) (stmt y)) shape
+    (added.both_added before c.then_part.new.to.formats.items c.stmt.new.to.formats.items (stmt_lines (stmt x)) (stmt_lines (stmt y)) (stmt_lines (stmt x) ++ stmt_lines (stmt y)) refl
+    c.in_ok-then_part-in-Some.ensures.lines h))
+    c.stmt.ensures.lines
 
 pub stmt-stmt-requires : goal.stmt-stmt-requires
 stmt-stmt-requires g t c =
@@ -563,12 +642,12 @@ stmt-stmt-requires g t c =
     let p = tree.if_else (expr c.in-If.c) (stmt x) (stmt y) in
     let whole = matched.ready_as s a (stmt c.args.s.now) p shape c.requires.ready in
     let fits = matched.fit_as s a (stmt c.args.s.now) p shape c.requires.fits in
-    let first = c.in_ok-then_part-in-Some.ensures fits.0 fits.1.0 fits.1.1 in
+    let first = c.in_ok-then_part-in-Some.ensures.code fits.0 fits.1.0 fits.1.1 in
     let ready = ready_after s a (stmt_syllables p) (stmt_syllables (stmt y)) whole first (omega arith) in
     search (rules, stmts'.the_lemmas, decls'.the_lemmas, bodies'.the_lemmas, ready, fit_after s fits.0 (stmt y) first fits.1.2, at_after first c.requires.level)
 
-pub stmt-returns-in-Write : goal.stmt-returns-in-Write
-stmt-returns-in-Write g t c =
+pub stmt-returns-in-Write-clause-code : goal.stmt-returns-in-Write-clause-code
+stmt-returns-in-Write-clause-code g t c =
     let w = c.in-Write in
     let ps = c.deref-in-Write.result.now in
     let es = c.deref-in-Write-2.result.now in
@@ -576,7 +655,17 @@ stmt-returns-in-Write g t c =
     (λ h. matched.write_emitted c.args.self.now.known.now c.args.to.now c.write.new.to (stmt c.args.s.now) w.field-0 w.field-1 ps (exprs es)
     (shaped.write_as c.args.s.now w.field-0 w.field-1 w.phrases ps w.items es w.is (c.deref-in-Write.ensures.value ∙ c.items-in-Write.ensures) (c.deref-in-Write-2.ensures.value ∙ c.items-in-Write-2.ensures))
     h)
-    c.write.ensures
+    c.write.ensures.code
+
+pub stmt-returns-in-Write-clause-lines : goal.stmt-returns-in-Write-clause-lines
+stmt-returns-in-Write-clause-lines g t c =
+    let w = c.in-Write in
+    let ps = c.deref-in-Write.result.now in
+    let es = c.deref-in-Write-2.result.now in
+    let shape = shaped.write_as c.args.s.now w.field-0 w.field-1 w.phrases ps w.items es w.is (c.deref-in-Write.ensures.value ∙ c.items-in-Write.ensures) (c.deref-in-Write-2.ensures.value ∙ c.items-in-Write-2.ensures) in
+    on_ok_weaker c.write.result
+    (λ h. added.added_as c.args.to.now.formats.items c.write.new.to.formats.items (stmt c.args.s.now) (tree.write w.field-0 w.field-1 ps (exprs es)) shape h)
+    c.write.ensures.lines
 
 -- ---- blocks
 
@@ -594,14 +683,14 @@ inside-stmts-requires g t c =
     let level = c.args.self.now.level in
     let ds = decls c.args.ds.now in
     let ss = stmts c.args.ss.now in
-    let ready = blocks.stmts_ready s level c.args.many ds ss c.args.to.now c.begin.new.to c.requires.level c.requires.fits c.in_ok-begin.ensures c.requires.ready in
-    search (rules, stmts'.the_lemmas, decls'.the_lemmas, bodies'.the_lemmas, ready, blocks.stmts_fit s level c.args.many ds ss c.args.to.now c.begin.new.to c.requires.level c.requires.fits c.in_ok-begin.ensures, at_after (c.in_ok-begin.ensures c.requires.fits.0 c.requires.fits.1.0 c.requires.fits.1.1) c.requires.level)
+    let ready = blocks.stmts_ready s level c.args.many ds ss c.args.to.now c.begin.new.to c.requires.level c.requires.fits c.in_ok-begin.ensures.code c.requires.ready in
+    search (rules, stmts'.the_lemmas, decls'.the_lemmas, bodies'.the_lemmas, ready, blocks.stmts_fit s level c.args.many ds ss c.args.to.now c.begin.new.to c.requires.level c.requires.fits c.in_ok-begin.ensures.code, at_after (c.in_ok-begin.ensures.code c.requires.fits.0 c.requires.fits.1.0 c.requires.fits.1.1) c.requires.level)
 
 pub inside-aim_exits-requires : goal.inside-aim_exits-requires
 inside-aim_exits-requires g t c =
     let a = c.args.to.now in
-    let lie = blocks.block_exits c.args.self.now.known.now c.args.self.now.level c.args.many (decls c.args.ds.now) (stmts c.args.ss.now) a c.begin.new.to c.requires.level c.requires.fits c.in_ok-begin.ensures c.stmts.new.to
-    c.len-first.result (omega (arith, c.len-first.ensures, a.exits.ok.0)) c.in_ok-stmts.ensures in
+    let lie = blocks.block_exits c.args.self.now.known.now c.args.self.now.level c.args.many (decls c.args.ds.now) (stmts c.args.ss.now) a c.begin.new.to c.requires.level c.requires.fits c.in_ok-begin.ensures.code c.stmts.new.to
+    c.len-first.result (omega (arith, c.len-first.ensures, a.exits.ok.0)) c.in_ok-stmts.ensures.code in
     record { list = lie.0; branches = lie.1 }
 
 pub inside-returns : goal.inside-returns
@@ -614,10 +703,11 @@ inside-returns g t c =
     let d : Draft = record c.stmts.new.to { out = c.aim_exits.new.out; exits = c.aim_exits.new.exits } in
     let is : c.len-first.result ≡ length a.exits.items = omega (arith, c.len-first.ensures, a.exits.ok.0) in
     record {
-      code = blocks.inside_stands s level c.args.many ds ss a c.begin.new.to c.requires.level c.requires.fits c.in_ok-begin.ensures c.stmts.new.to c.len-first.result is c.in_ok-stmts.ensures d c.aim_exits.ensures.aimed
+      code = blocks.inside_stands s level c.args.many ds ss a c.begin.new.to c.requires.level c.requires.fits c.in_ok-begin.ensures.code c.stmts.new.to c.len-first.result is c.in_ok-stmts.ensures.code d c.aim_exits.ensures.aimed
           c.aim_exits.ensures.list refl;
-      exits = blocks.none_left s level c.args.many ds ss a c.begin.new.to c.requires.level c.requires.fits c.in_ok-begin.ensures c.stmts.new.to c.len-first.result is c.in_ok-stmts.ensures d c.aim_exits.ensures.aimed
+      exits = blocks.none_left s level c.args.many ds ss a c.begin.new.to c.requires.level c.requires.fits c.in_ok-begin.ensures.code c.stmts.new.to c.len-first.result is c.in_ok-stmts.ensures.code d c.aim_exits.ensures.aimed
           c.aim_exits.ensures.list refl;
+      lines = added.then_added a.formats.items c.begin.new.to.formats.items c.stmts.new.to.formats.items (stmts_lines (stmts c.args.ss.now)) c.in_ok-begin.ensures.formats c.in_ok-stmts.ensures.lines;
     }
 
 pub block-append_plain-requires : goal.block-append_plain-requires
@@ -628,21 +718,27 @@ block-append_plain-requires g t c =
       room = blocks.exit_room c.args.self.now.known.now c.args.self.now.level (decls c.args.ds.now) (stmts c.args.ss.now) c.args.to.now c.inside.new.to c.requires.level c.variables.result c.variables.ensures inside c.requires.fits c.requires.ready;
     }
 
-pub block-returns : goal.block-returns
-block-returns g t c =
+pub block-returns-clause-code : goal.block-returns-clause-code
+block-returns-clause-code g t c =
     let e : Draft = record c.inside.new.to { out = c.append_plain.new.out } in
     on_ok_two c.append_plain.result
     (blocks.block_stands c.args.self.now.known.now c.args.self.now.level (decls c.args.ds.now) (stmts c.args.ss.now) c.args.to.now c.inside.new.to c.requires.level c.variables.result c.variables.ensures c.in_ok-inside.ensures.code e refl
     refl)
     c.append_plain.ensures.code c.append_plain.ensures.size
 
-pub block_inside-returns : goal.block_inside-returns
-block_inside-returns g t c =
+pub block-returns-clause-lines : goal.block-returns-clause-lines
+block-returns-clause-lines g t c = on_ok_weaker c.append_plain.result (λ h. c.in_ok-inside.ensures.lines) c.append_plain.ensures.size
+
+pub block_inside-returns-clause-code : goal.block_inside-returns-clause-code
+block_inside-returns-clause-code g t c =
     on_ok_weaker c.level-2.result
     (λ o.
     blocks.inner_coded c.args.self.now.known.now (decls c.args.ds.now) (stmts c.args.ss.now) c.args.to.now c.block.new.to c.level.new.self c.level-2.new.self c.args.self.now.level c.requires.level.set c.in_ok-level.ensures.ok o
-    c.in_ok-block.ensures)
+    c.in_ok-block.ensures.code)
     c.level-2.ensures.ok
+
+pub block_inside-returns-clause-lines : goal.block_inside-returns-clause-lines
+block_inside-returns-clause-lines g t c = on_ok_weaker c.level-2.result (λ o. c.in_ok-block.ensures.lines) c.level-2.ensures.ok
 
 pub inner_block-block_inside-requires : goal.inner_block-block_inside-requires
 inner_block-block_inside-requires g t c =
@@ -658,7 +754,7 @@ inner_block-aim-requires g t c =
     let a = c.args.to.now in
     let b : Draft = record a { out = c.append_branch.new.out } in
     let over = c.in_ok-over.ensures in
-    blocks.over_lies c.args.self.now.known.now (decls c.args.ds.now) (stmts c.args.ss.now) a b over.level over.size c.in_ok-over.over over.place over.code c.block_inside.new.to c.in_ok-block_inside.ensures c.requires.fits
+    blocks.over_lies c.args.self.now.known.now (decls c.args.ds.now) (stmts c.args.ss.now) a b over.level over.size c.in_ok-over.over over.place over.code c.block_inside.new.to c.in_ok-block_inside.ensures.code c.requires.fits
 
 pub inner_block-append_entry-requires : goal.inner_block-append_entry-requires
 inner_block-append_entry-requires g t c =
@@ -668,7 +764,7 @@ inner_block-append_entry-requires g t c =
     let b : Draft = record a { out = c.append_branch.new.out } in
     let d : Draft = record c.block_inside.new.to { out = c.aim.new.out } in
     let over = c.in_ok-over.ensures in
-    let code = c.in_ok-block_inside.ensures in
+    let code = c.in_ok-block_inside.ensures.code in
     record {
       set = set_same a.out d.out (blocks.entry_level s (decls c.args.ds.now) ss a b over.level over.size c.in_ok-over.over over.place over.code c.block_inside.new.to code d c.aim.ensures c.requires.fits) c.requires.ready.set;
       inner = blocks.entry_inner s (decls c.args.ds.now) ss a b over.level over.size c.in_ok-over.over over.place over.code c.block_inside.new.to code d c.aim.ensures c.requires.fits c.args.self.now.level c.requires.level;
@@ -678,17 +774,20 @@ inner_block-append_entry-requires g t c =
       room = blocks.entry_room s (decls c.args.ds.now) ss a b over.level over.size c.in_ok-over.over over.place over.code c.block_inside.new.to code d c.aim.ensures c.requires.fits c.requires.ready;
     }
 
-pub inner_block-returns : goal.inner_block-returns
-inner_block-returns g t c =
+pub inner_block-returns-clause-code : goal.inner_block-returns-clause-code
+inner_block-returns-clause-code g t c =
     let a = c.args.to.now in
     let b : Draft = record a { out = c.append_branch.new.out } in
     let d : Draft = record c.block_inside.new.to { out = c.aim.new.out } in
     let e : Draft = record c.block_inside.new.to { out = c.append_entry.new.out } in
     let over = c.in_ok-over.ensures in
     on_ok_two c.append_entry.result
-    (blocks.inner_stands c.args.self.now.known.now (decls c.args.ds.now) (stmts c.args.ss.now) a b over.level over.size c.in_ok-over.over over.place over.code c.block_inside.new.to c.in_ok-block_inside.ensures d c.aim.ensures e
+    (blocks.inner_stands c.args.self.now.known.now (decls c.args.ds.now) (stmts c.args.ss.now) a b over.level over.size c.in_ok-over.over over.place over.code c.block_inside.new.to c.in_ok-block_inside.ensures.code d c.aim.ensures e
     c.place-begin.result refl refl refl refl c.place-begin.ensures refl refl)
     c.append_entry.ensures.code c.append_entry.ensures.size
+
+pub inner_block-returns-clause-lines : goal.inner_block-returns-clause-lines
+inner_block-returns-clause-lines g t c = on_ok_weaker c.append_entry.result (λ h. c.in_ok-block_inside.ensures.lines) c.append_entry.ensures.size
 
 pub stmt-inner_block-requires : goal.stmt-inner_block-requires
 stmt-inner_block-requires g t c κs within =
@@ -707,8 +806,8 @@ stmt-inner_block-requires g t c κs within =
     let inner = blocked.inside_level s a x b ss ds c.is_empty.result c.items.result.now.len c.in-Block.is same ds_are c.is_empty.ensures n c.if-is_empty.false c.args.self.now.level c.requires.level c.requires.fits in
     (search (rules, stmts'.the_lemmas, decls'.the_lemmas, bodies'.the_lemmas), (within, (c.requires.level, (inner, (ready, (few, fit))))))
 
-pub stmt-returns-else-is_empty : goal.stmt-returns-else-is_empty
-stmt-returns-else-is_empty g t c =
+pub stmt-returns-else-is_empty-clause-code : goal.stmt-returns-else-is_empty-clause-code
+stmt-returns-else-is_empty-clause-code g t c =
     let b = c.in-Block.b in
     let same = c.deref-else-is_empty.ensures.value ∙ c.items-else-is_empty.ensures in
     let ds_are = c.deref-else-is_empty-2.ensures.value ∙ c.items-else-is_empty-2.ensures in
@@ -716,16 +815,32 @@ stmt-returns-else-is_empty g t c =
     on_ok_weaker c.inner_block.result
     (blocked.inner_emitted c.args.self.now.known.now c.args.to.now c.args.s.now b c.deref-else-is_empty.result.now c.deref-else-is_empty-2.result.now c.is_empty.result c.items.result.now.len c.in-Block.is
     same ds_are c.is_empty.ensures n c.if-is_empty.false c.inner_block.new.to)
-    c.inner_block.ensures
+    c.inner_block.ensures.code
 
-pub stmt-returns-then-is_empty : goal.stmt-returns-then-is_empty
-stmt-returns-then-is_empty g t c =
+pub stmt-returns-else-is_empty-clause-lines : goal.stmt-returns-else-is_empty-clause-lines
+stmt-returns-else-is_empty-clause-lines g t c =
+    let ss = c.deref-else-is_empty.result.now in
+    let own = added.block_lines c.args.s.now c.in-Block.b ss c.in-Block.is (c.deref-else-is_empty.ensures.value ∙ c.items-else-is_empty.ensures) in
+    on_ok_weaker c.inner_block.result
+    (λ h. added.added_for c.args.to.now.formats.items c.inner_block.new.to.formats.items (stmts_lines (stmts ss)) (stmt_lines (stmt c.args.s.now)) own h)
+    c.inner_block.ensures.lines
+
+pub stmt-returns-then-is_empty-clause-code : goal.stmt-returns-then-is_empty-clause-code
+stmt-returns-then-is_empty-clause-code g t c =
     let b = c.in-Block.b in
     let n : c.items.result.now.len ≡ length b.decls = omega (arith, c.items.result.now.ok.0, ap length c.items.ensures) in
     on_ok_weaker c.stmts.result
     (blocked.compound_emitted c.args.self.now.known.now c.args.to.now c.stmts.new.to c.args.s.now b c.deref.result.now c.is_empty.result c.items.result.now.len c.in-Block.is
     (c.deref.ensures.value ∙ c.items-then-is_empty.ensures) c.is_empty.ensures n c.if-is_empty.true)
-    c.stmts.ensures
+    c.stmts.ensures.code
+
+pub stmt-returns-then-is_empty-clause-lines : goal.stmt-returns-then-is_empty-clause-lines
+stmt-returns-then-is_empty-clause-lines g t c =
+    let ss = c.deref.result.now in
+    let own = added.block_lines c.args.s.now c.in-Block.b ss c.in-Block.is (c.deref.ensures.value ∙ c.items-then-is_empty.ensures) in
+    on_ok_weaker c.stmts.result
+    (λ h. added.added_for c.args.to.now.formats.items c.stmts.new.to.formats.items (stmts_lines (stmts ss)) (stmt_lines (stmt c.args.s.now)) own h)
+    c.stmts.ensures.lines
 
 -- ---- a call
 
@@ -739,8 +854,8 @@ stmt-call-requires-clause-room g t c =
     let k = c.in-Call.c in
     matched.call_fits c.args.self.now.known.now c.args.to.now (stmt c.args.s.now) (call k) k.name (exprs k.actuals) (shaped.call_as c.args.s.now k c.in-Call.is) (shaped.call_is k) c.requires.ready
 
-pub stmt-returns-in-Call : goal.stmt-returns-in-Call
-stmt-returns-in-Call g t c =
+pub stmt-returns-in-Call-clause-code : goal.stmt-returns-in-Call-clause-code
+stmt-returns-in-Call-clause-code g t c =
     let a = c.args.to.now in
     let k = c.in-Call.c in
     let b : Draft = record a { out = c.call.new.out } in
@@ -748,3 +863,11 @@ stmt-returns-in-Call g t c =
     (matched.call_emitted c.args.self.now.known.now a b (stmt c.args.s.now) (call k) k.name (exprs k.actuals) (shaped.call_as c.args.s.now k c.in-Call.is) (shaped.call_is k) refl refl
     c.requires.ready.few)
     c.call.ensures.code c.call.ensures.size
+
+pub stmt-returns-in-Call-clause-lines : goal.stmt-returns-in-Call-clause-lines
+stmt-returns-in-Call-clause-lines g t c =
+    let before = c.args.to.now.formats.items in
+    let k = c.in-Call.c in
+    on_ok_weaker c.call.result
+    (λ h. added.added_as before before (stmt c.args.s.now) (tree.call_of (tree.called k.name (exprs k.actuals))) (shaped.call_as c.args.s.now k c.in-Call.is) (added.none_added before))
+    c.call.ensures.size

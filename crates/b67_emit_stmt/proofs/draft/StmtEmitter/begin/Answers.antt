@@ -1,4 +1,5 @@
 use Rattle.std.proofs.Common.{◌≡◌, ◌∙◌, ℕ, ap, subst, sym, arith}
+use Rattle.std.proofs.lemmas.Result.{on_ok_weaker}
 use Rattle.std.specs.Prelude.{unwrap_or, Option}
 use Rattle.algol_tree.specs.Image.{decls}
 use Rattle.b67_segment.specs.Building.{level_set}
@@ -11,7 +12,7 @@ pub arrays-requires : goal.arrays-requires
 arrays-requires g c =
     let s = c.args.self.now.known.now in
     let a = c.args.to.now in
-    let cells = c.in_ok-cells.ensures c.requires.fits.0 c.requires.fits.1 in
+    let cells = c.in_ok-cells.ensures.code c.requires.fits.0 c.requires.fits.1 in
     let set : level_set a.out ≡ c.args.self.now.level = ap (λ (o : Option ℕ). unwrap_or o 0) c.requires.level.set in
     let F : ℕ → Type 0 = λ l. DeclsFit c.requires.fits.0 s l (decls c.args.ds.now) in
     record {
@@ -22,7 +23,10 @@ arrays-requires g c =
       room = omega (arith, cells.short, c.requires.ready.room);
     }
 
-pub returns : goal.returns
-returns g c =
-    arrays_behind c.args.self.now.known.now c.args.self.now.level c.args.many (decls c.args.ds.now) c.args.to.now c.cells.new.to c.requires.level c.in_ok-cells.ensures c.arrays.result
+pub returns-clause-code : goal.returns-clause-code
+returns-clause-code g c =
+    arrays_behind c.args.self.now.known.now c.args.self.now.level c.args.many (decls c.args.ds.now) c.args.to.now c.cells.new.to c.requires.level c.in_ok-cells.ensures.code c.arrays.result
     c.arrays.new.out c.arrays.ensures.code c.arrays.ensures.size
+
+pub returns-clause-formats : goal.returns-clause-formats
+returns-clause-formats g c = on_ok_weaker c.arrays.result (λ h. c.in_ok-cells.ensures.formats) c.arrays.ensures.size

@@ -33,8 +33,8 @@ append_words-requires-clause-segments g c =
     let L : List ℕ → Type 0 = λ l. All (λ (k : ℕ). k < 2 ^ 10) l in
     subst L (sym are) (numbers_fit s c.requires.numbered.0.scopes c.args.self.now.level (procedures (decls c.args.ds.now)) c.requires.numbered.1)
 
-pub returns : goal.returns
-returns g c =
+pub returns-clause-code : goal.returns-clause-code
+returns-clause-code g c =
     let s = c.args.self.now.known.now in
     let a = c.args.to.now in
     let level = c.args.self.now.level in
@@ -71,4 +71,13 @@ returns g c =
           (no_cells sc level many (control_segments sc.scopes ds) (cells_syllables many ds) a d b e refl refl c.requires.few zeros words
           (omega (arith, long, same, c.in_ok-append_zeros.ensures.size, c.in_ok-append_words.ensures.size))
           (omega (arith, w.if-many-len-gt0.false, control, listed, c.len.ensures, counted.0)) refl)
+    ]
+
+pub returns-clause-formats : goal.returns-clause-formats
+returns-clause-formats g c =
+    let a = c.args.to.now in
+    let F : Draft → Type 0 = λ x. x.formats.items ≡ a.formats.items in
+    elim c.if-many-len-gt0.branch [
+      | then-many-len-gt0+in_ok-append_plain w ↦ subst F (sym w.to-is) refl
+      | else-many-len-gt0 w ↦ subst F (sym w.to-is) refl
     ]

@@ -18,17 +18,17 @@ pub append_past-requires-clause-few : goal.append_past-requires-clause-few
 append_past-requires-clause-few g c =
     let grown = (c.in_ok-value-in-None.ensures.code.code c.requires.fits.0.scopes (context_in c.requires.fits.0 []) types.Number c.requires.fits.1).grown in omega (arith, c.requires.ready.few, grown)
 
-pub returns-in-Some : goal.returns-in-Some
-returns-in-Some g c =
+pub returns-in-Some-clause-code : goal.returns-in-Some-clause-code
+returns-in-Some-clause-code g c =
     let f : FitsSigned w64 c.number.result = search rules in
     on_ok_weaker c.append_signed.result
     (λ h sc fit.
     let signed = simp to_z-of_z at (h sc) in
     literal_part sc (level_set c.args.to.now.out) c.args.to.now c.append_signed.new.to (expr c.args.s.now) c.number.result (sym c.literal_of.ensures ∙ c.in-Some.is ∙ ap Some (sym c.number.ensures.value)) (omega arith) signed)
-    c.append_signed.ensures
+    c.append_signed.ensures.code
 
-pub returns-in_ok-value-in-None : goal.returns-in_ok-value-in-None
-returns-in_ok-value-in-None g c =
+pub returns-in_ok-value-in-None-clause-code : goal.returns-in_ok-value-in-None-clause-code
+returns-in_ok-value-in-None-clause-code g c =
     let a = c.args.to.now in
     let b : Draft = record a { out = c.value.new.out } in
     let d = c.append_past.new.to in
@@ -40,4 +40,4 @@ returns-in_ok-value-in-None g c =
     (λ formats. value_at c.args.self.now.known.now a.out b.out (level_set a.out) sc formats types.Number (expr c.args.s.now) refl c.in_ok-value-in-None.ensures.code fit)
     c.in_ok-value-in-None.ensures.size)
     (at_level (level_set a.out) (λ l formats qs target. PastAt sc formats qs l (size b.out.operators) target (size d.out.operators)) q (h sc)))
-    c.append_past.ensures
+    c.append_past.ensures.code

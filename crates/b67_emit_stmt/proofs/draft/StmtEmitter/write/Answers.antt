@@ -1,4 +1,4 @@
-use Rattle.std.proofs.Common.{◌≡◌, ◌∙◌, ℕ, ℤ, pos, length, refl, sym, subst, arith}
+use Rattle.std.proofs.Common.{◌≡◌, ◌∙◌, ℕ, ℤ, pos, [], ◌∷◌, ◌++◌, length, refl, sym, ap, subst, arith}
 use Rattle.std.proofs.lemmas.Int.{ints}
 use Rattle.algol_tree.specs.Image.{exprs}
 use Rattle.b67_ops.specs.declared.PlainKind.TheVariants as kinds
@@ -10,13 +10,14 @@ use Rattle.b67_templates.specs.Fragments.{NumberAt}
 use Rattle.b67_templates.specs.Emitting.{Emitted}
 use Rattle.b67_emit_stmt.specs.declared.draft.Draft.{Draft}
 use Rattle.b67_emit_stmt.specs.Emits.{write_syllables}
+use Rattle.b67_emit_stmt.proofs.Added.{format_is}
 use Rattle.b67_emit_stmt.proofs.Drafts.{level_same}
 use Rattle.b67_emit_stmt.proofs.Parts.{leveled, plain_at}
 use Rattle.b67_emit_stmt.proofs.Writing.{write_part}
 use Rattle.b67_emit_stmt.proofs.draft.StmtEmitter.write.Goals as goal
 
-pub returns : goal.returns
-returns g c =
+pub returns-clause-code : goal.returns-clause-code
+returns-clause-code g c =
     let s = c.args.self.now.known.now in
     let es = exprs c.args.items.now in
     let a = c.args.to.now in
@@ -40,3 +41,7 @@ returns g c =
     (subst N number (leveled (λ l qs. NumberAt qs l c.fitting.result (size b.out.operators) (size d.out.operators)) level q c.in_ok-append_number.ensures.code))
     (λ formats. leveled (λ l qs. LineAt sc formats qs l es (size d.out.operators) (size e.out.operators)) level r (c.in_ok-items.ensures.code sc formats (subst F (sym r) fit.2)))
     (plain_at kinds.Entr level t c.in_ok-append_plain.ensures.code)
+
+pub returns-clause-lines : goal.returns-clause-lines
+returns-clause-lines g c =
+    c.in_ok-push.ensures.items ∙ ap (λ f. c.args.to.now.formats.items ++ f ∷ []) (format_is c.args.phrases.now c.in_ok-format.format c.in_ok-format.ensures)
