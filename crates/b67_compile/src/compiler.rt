@@ -11,7 +11,7 @@ ghost use Rattle.b67_fitting.specs.Built.{IsBuilt};
 ghost use Rattle.b67_fitting.specs.Names.{HasNames};
 ghost use Rattle.b67_fitting.specs.Texts.{HasPlainTexts};
 ghost use Rattle.b67_fitting.specs.Wholes.{HasWholeNumbers};
-ghost use Rattle.b67_faithful.specs.Faithful.{Faithful, IsShort};
+ghost use Rattle.b67_faithful.specs.Faithful.{Faithful, HasFormats, IsShort};
 
 use crate::lows::lows_of_program;
 use algol_front::Checked;
@@ -41,6 +41,7 @@ fn code_of<E: ExprEmitter>(
     requires named { HasNames (plain.program program.now) }
     requires built { IsBuilt (plain.program program.now) }
     ensures code { IfOk result (λ code. ProgramAt code (plain.program program.now)) }
+    ensures formats { IfOk result (HasFormats (plain.program program.now)) }
     ensures short { IfOk result (IsShort (plain.program program.now)) }
     ensures listable { IfOk result IsListable }
 {

@@ -14,6 +14,7 @@ use Rattle.b67_table.specs.Sound.{Sound}
 use Rattle.b67_listing.specs.Listings.{IsListable}
 use Rattle.b67_faithful.specs.Agreement.{Agrees}
 use Rattle.b67_faithful.specs.Correspondence.{operator_actions, source_actions}
+use Rattle.b67_faithful.specs.Lines.{formats_for, lines_of}
 
 -- after entries of the schedule the process of the next one comes to the stack limit before its next action is done
 pub record ComesToLimit (code : Code) (schedule : List ℕ) : Type 0 where
@@ -52,10 +53,15 @@ pub record Follows (tree : PProgram) (code : Code) : Type 0 where
 abbrev pub HasSegments : PProgram → Code → Type 0
 HasSegments tree code = length code.segments ≡ 1 + length (filter is_procedure (scopes_of tree).blocks)
 
--- A code that does what the source does, has its segments, is short and can be listed, so that its listing tells it.
+-- the formats of the code are those of the program's lines, one for each, in the order of its segments
+abbrev pub HasFormats : PProgram → Code → Type 0
+HasFormats tree code = code.formats ≡ formats_for (lines_of tree)
+
+-- A code that does what the source does, has its segments and its formats, is short and can be listed, so that its listing tells it.
 pub record Faithful (tree : PProgram) (code : Code) : Type 0 where
   pub follows : Follows tree code
   pub segments : HasSegments tree code
+  pub formats : HasFormats tree code
   pub short : IsShort tree code
   pub listable : IsListable code
   -- for each entry and for each tail at most as many operators are performed as the longest segment has syllables

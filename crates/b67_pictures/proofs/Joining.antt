@@ -22,7 +22,7 @@ use Rattle.b67_cores.proofs.Beginnings.{blocks_begin}
 use Rattle.b67_cores.proofs.Performing.{steps_are_performed, steps_come_to_limit}
 use Rattle.b67_cores.proofs.Placing.{fragments_are_performed}
 use Rattle.b67_listing.specs.Listings.{HasOperators, IsListable}
-use Rattle.b67_faithful.specs.Faithful.{IsShort, Faithful}
+use Rattle.b67_faithful.specs.Faithful.{HasFormats, IsShort, Faithful}
 use Rattle.b67_faithful.proofs.Contradictions.{none_some}
 use Rattle.b67_fitting.specs.Names.{HasNames}
 use Rattle.b67_fitting.specs.Nested.{AreNested, LiesNested}
@@ -102,12 +102,12 @@ module _ (keeps : RestsKeepToTheirText) (order : ArraysAreMadeInOrder) (closing 
       let s = scene_of tree code texts w lay img p q by at_p l has in
       scene_does tree code texts lies.nested fragments_are_performed keeps order rests_go_on others w lay img p q s.0 s.1 l.bound l.settled s.2 able_is able_p
 
-  program_is_faithful : IsListable code → Faithful tree code
-  program_is_faithful =
+  program_is_faithful : HasFormats tree code → IsListable code → Faithful tree code
+  program_is_faithful formats =
       simulating.code_is_faithful tree code texts steps_are_performed steps_come_to_limit settled_act
       (λ w lay img p q by at_p l. same_number tree code texts rests_go_on w lay img p q at_p l) apart
       (λ w lay a by b p n plains. operators_are_few tree code texts (λ j known. (lies.nested.each j known).low) w lay a by b p n plains)
-      (first_pictured tree code names lies.nested at fragments_are_performed blocks_begin blocks_start keeps order) at.many short
+      (first_pictured tree code names lies.nested at fragments_are_performed blocks_begin blocks_start keeps order) at.many formats short
 
 -- segments that can be listed have no more words than a segment may have
 within_limit : (segments : List Segment) → All HasOperators segments → All (λ (segment : Segment). length segment.words ≤ segment_limit) segments
@@ -120,5 +120,5 @@ ProcessesStandApart = (tree : PProgram) (code : Code) (texts : ℕ → List Plac
 -- Where the blocks of a program lie in one another, a code in which it stands is faithful to it.
 pub nested_programs_follow : RestsKeepToTheirText → ArraysAreMadeInOrder → FramesClose → ProcessesStandApart →
     ((tree : PProgram) (code : Code) (at : ProgramAt code tree) → LiesNested tree → IsShort tree code → ArraysAreDone tree code at.texts) → NestedProgramsAreFaithful
-nested_programs_follow keeps in_order closing apart arrays tree code lies names at short listable =
-    program_is_faithful keeps in_order closing tree code names lies short (within_limit code.segments listable.segments) at (apart tree code at.texts lies.nested rests_go_on) (arrays tree code at lies short) listable
+nested_programs_follow keeps in_order closing apart arrays tree code lies names at formats short listable =
+    program_is_faithful keeps in_order closing tree code names lies short (within_limit code.segments listable.segments) at (apart tree code at.texts lies.nested rests_go_on) (arrays tree code at lies short) formats listable

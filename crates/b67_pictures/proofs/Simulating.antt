@@ -24,7 +24,7 @@ use Rattle.b67_table.specs.Touches.{IsPrivate}
 use Rattle.b67_table.specs.Sound.{Lives, OperatorTouches}
 use Rattle.b67_cores.specs.Stretches.{StepsArePerformed, StepsComeToLimit}
 use Rattle.b67_listing.specs.Listings.{IsListable}
-use Rattle.b67_faithful.specs.Faithful.{HasSegments, IsShort, Faithful}
+use Rattle.b67_faithful.specs.Faithful.{HasFormats, HasSegments, IsShort, Faithful}
 use Rattle.b67_faithful.specs.Weight.{weight}
 use Rattle.b67_faithful.specs.Simulation.{AreFew, Acted, Comes, acts, stops, Simulates}
 use Rattle.b67_faithful.proofs.Contradictions.{true_false, gives_same, faults_same, gives_faults}
@@ -176,5 +176,5 @@ module _ (tree : PProgram) (code : Code) (texts : ℕ → List Placed) (performe
         }
 
     -- so the code is faithful to the source
-    pub code_is_faithful : HasSegments tree code → IsShort tree code → IsListable code → Faithful tree code
+    pub code_is_faithful : HasSegments tree code → HasFormats tree code → IsShort tree code → IsListable code → Faithful tree code
     code_is_faithful = simulations_are_faithful tree code (PicturesSome tree code texts) simulation

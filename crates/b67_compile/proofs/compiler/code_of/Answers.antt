@@ -1,4 +1,4 @@
-use Rattle.std.proofs.Common.{◌+◌, ◌≤◌, subst, length, sym}
+use Rattle.std.proofs.Common.{◌+◌, ◌≤◌, ◌∙◌, subst, length, sym}
 use Rattle.algol_tree.specs.declared.TheConstants.{MOST_PROCEDURES}
 use Rattle.algol_tree.specs.Image as plain
 use Rattle.algol_tree.specs.Plain as tree
@@ -59,6 +59,9 @@ returns-clause-code g c =
     let texts_due = subst (λ (z : PBody). AreDue sc n (texts z)) (sym (body_is b)) (due b.spot ds ss n has) in
     let coded = subst (λ (z : PBody). Coded sc formats segments (texts z)) (body_is b) (c.in_ok-segments.ensures.code sc texts_due) in
     rw (c.of.ensures, c.of-2.ensures, body_is b) (program_at b.spot ds ss n has segments formats coded)
+
+pub returns-clause-formats : goal.returns-clause-formats
+returns-clause-formats g c = c.of-2.ensures ∙ c.in_ok-segments.ensures.lines
 
 pub returns-clause-short : goal.returns-clause-short
 returns-clause-short g c =

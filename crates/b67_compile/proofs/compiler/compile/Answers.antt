@@ -20,4 +20,4 @@ code_of-requires-clause-named c = source_named (plain c.args.checked.now.program
 
 pub returns : goal.returns
 returns c =
-    code_is_faithful (plain c.args.checked.now.program) c.code_of.result c.args.checked.now.accepted c.requires c.code_of.ensures.code c.code_of.ensures.short c.code_of.ensures.listable
+    code_is_faithful (plain c.args.checked.now.program) c.code_of.result c.args.checked.now.accepted c.requires c.code_of.ensures.code c.code_of.ensures.formats c.code_of.ensures.short c.code_of.ensures.listable
