@@ -1,5 +1,5 @@
 -- Laws of declarations that are actions.
-use Rattle.std.proofs.Common.{arith, rules, ◌≡◌, ◌<◌, ◌+◌, ℕ, List, ◌∷◌, ◌++◌, ap, subst, ◌∙◌, Option, Some, None, Result, Ok, Err, IfOk}
+use Rattle.std.proofs.Common.{arith, rules, ◌≡◌, ◌<◌, ◌+◌, ℕ, List, ◌∷◌, ◌++◌, ap, subst, ◌∙◌, Bool, true, false, Result, Ok, Err, IfOk}
 use Rattle.std.proofs.lemmas.List.{append_assoc}
 use Rattle.std.specs.Borrow.{Bor}
 use Rattle.algol_tree.specs.Plain as tree
@@ -18,7 +18,6 @@ use Rattle.algol_meaning.specs.SeenTree.{stmt, decl, decls}
 use Rattle.algol_rest.specs.SeenStatement.{following, weigh, decl_size, decls_size, Advances}
 use Rattle.algol_rest.specs.declared.statement.Next.{Next}
 use Rattle.algol_rest.specs.declared.statement.Next.TheVariants as next
-use Rattle.algol_rest.specs.declared.statement.Point.{Point}
 use Rattle.algol_rest.specs.declared.statement.Work.{Work}
 
 pub decl_of_events : (ns : List Named) → decl (shapes.Events ns) ≡ tree.events ns
@@ -62,14 +61,14 @@ module _ (sc : Scopes) (d : Decl) (ds : Bor (List Decl)) (k : List Next) where
   fewer w l = omega (arith, l)
 
   by_found :
-      (found : Option Point) (w : Work)
+      (found : Bool) (w : Work)
       → Advances sc (settle_items sc (decl_items (decl d) ++ (decls_items (decls ds.now) ++ following k))) (decl_size (decl d) + (1 + decls_size (decls ds.now) + weigh k)) found w
       → Advances sc (settle_items sc (decls_items (decls (d ∷ ds.now)) ++ following k)) (1 + decls_size (decls (d ∷ ds.now)) + weigh k) found w
-  by_found None w a = (declared ∙ a.0, a.1, fewer (weigh w.todo) a.2)
-  by_found (Some p) w a = declared ∙ a
+  by_found false w a = (declared ∙ a.0, a.1, fewer (weigh w.todo) a.2)
+  by_found true w a = declared ∙ a
 
   by_waiting :
-      (mid : List Next) (found : Option Point) (w : Work) → mid ≡ next.Decls ds ∷ k
+      (mid : List Next) (found : Bool) (w : Work) → mid ≡ next.Decls ds ∷ k
       → Advances sc (settle_items sc (decl_items (decl d) ++ following mid)) (decl_size (decl d) + weigh mid) found w
       → Advances sc (settle_items sc (decls_items (decls (d ∷ ds.now)) ++ following k)) (1 + decls_size (decls (d ∷ ds.now)) + weigh k) found w
   by_waiting mid found w q a =
@@ -78,8 +77,8 @@ module _ (sc : Scopes) (d : Decl) (ds : Bor (List Decl)) (k : List Next) where
 
   -- the declarations after this one wait while its actions are done
   pub next_decl :
-      {E : Type 0} (r : Result (Option Point) E) (mid : List Next) (w : Work) → mid ≡ next.Decls ds ∷ k
-      → IfOk r (λ (found : Option Point). Advances sc (settle_items sc (decl_items (decl d) ++ following mid)) (decl_size (decl d) + weigh mid) found w)
-      → IfOk r (λ (found : Option Point). Advances sc (settle_items sc (decls_items (decls (d ∷ ds.now)) ++ following k)) (1 + decls_size (decls (d ∷ ds.now)) + weigh k) found w)
+      {E : Type 0} (r : Result Bool E) (mid : List Next) (w : Work) → mid ≡ next.Decls ds ∷ k
+      → IfOk r (λ (found : Bool). Advances sc (settle_items sc (decl_items (decl d) ++ following mid)) (decl_size (decl d) + weigh mid) found w)
+      → IfOk r (λ (found : Bool). Advances sc (settle_items sc (decls_items (decls (d ∷ ds.now)) ++ following k)) (1 + decls_size (decls (d ∷ ds.now)) + weigh k) found w)
   next_decl (Ok found) mid w q a = by_waiting mid found w q a
   next_decl (Err e) mid w q a = a

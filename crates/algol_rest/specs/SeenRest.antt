@@ -16,7 +16,7 @@ use Rattle.algol_rest.specs.declared.ask.Ask.{Ask}
 use Rattle.algol_rest.specs.declared.ask.Ask.TheVariants as ask
 
 abbrev pub rest : Scopes → Rest → plain.Rest
-rest sc r = rest_of sc r.point.value r.work.frames r.work.todo
+rest sc r = rest_of sc r.work.value.point.value r.work.value.frames r.work.value.todo
 
 abbrev pub asked : Ask → asks.Ask
 asked ask.Nothing = asks.nothing

@@ -1,5 +1,5 @@
 -- What the points of a part, and what follows them, stand for.
-use Rattle.std.specs.Prelude.{◌≡◌, ℕ, ◌+◌, ◌<◌, ◌++◌, Bool, true, false, List, [], ◌∷◌, map, length, Option, Some, None}
+use Rattle.std.specs.Prelude.{◌≡◌, ℕ, ◌+◌, ◌<◌, ◌++◌, Bool, true, false, List, [], ◌∷◌, map, length}
 use Rattle.algol_tree.specs.Plain as tree
 use Rattle.algol_tree.specs.Plain.{PExpr, PStmt, PStmts, PDecl, PDecls, PBody}
 use Rattle.algol_tree.specs.Scopes.{Scopes}
@@ -234,10 +234,10 @@ ahead w = following w.todo
 
 module _ (sc : Scopes) where
   -- a head is found
-  abbrev pub Finds : Rest → Point → Work → Type 0
-  Finds x p w = x ≡ rest_of sc p w.frames w.todo
+  abbrev pub Finds : Rest → Work → Type 0
+  Finds x w = x ≡ rest_of sc w.point.value w.frames w.todo
 
   -- One silent step: either a head is found, or less is left to do, and it comes to the same.
-  abbrev pub Advances : Rest → ℕ → Option Point → Work → Type 0
-  Advances x bound None w = (x ≡ settle_items sc (following w.todo)) × (w.frames ≡ []) × (weigh w.todo < bound)
-  Advances x bound (Some p) w = Finds x p w
+  abbrev pub Advances : Rest → ℕ → Bool → Work → Type 0
+  Advances x bound false w = (x ≡ settle_items sc (following w.todo)) × (w.frames ≡ []) × (weigh w.todo < bound)
+  Advances x bound true w = Finds x w

@@ -20,9 +20,11 @@ use crate::cell::Cell;
 use crate::operator::{inverted, negated, result_of, truth_of};
 use crate::part::{Answer, Control, Frame, Given, Head, Outcome, Place, Supplied, Supply};
 use crate::scope::{Scopes, Sort};
-use crate::stack::{Stack, append};
+use crate::stack::Stack;
+use crate::standing::{add_given, no_givens, no_subscripts, surround};
 use crate::value::Value;
 use algol_tree::{Call, Expr, List, Named, Op, Variable, Whole};
+use b67_list::discard;
 use std::alloc::{AllocError, Global};
 
 /// A name by itself: a call where it names a procedure.
@@ -30,7 +32,7 @@ pub fn alone<'p>(alloc: Global, scopes: &Scopes<'p>, n: &'p Named) -> Head<'p>
     ensures { settling.named_of (procedure_in (settling.sort_at (scoped scopes.now) n.now)) n.now ≡ rest.busy (hole (scoped scopes.now) result) }
 {
     match scopes.sort_at(n).procedure() {
-        Some(_) => Head::Enter(n, List::of(Vec::new(alloc))),
+        Some(_) => Head::Enter(n, no_givens(alloc)),
         None => Head::Read(n),
     }
 }
@@ -56,7 +58,7 @@ fn first_subscript<'p>(
 ) -> Result<Control<'p>, AllocError>
     ensures { IfOk result (λ c. Moves (scoped scopes.now) (refilled (scoped scopes.now) frames.old (settling.settle (scoped scopes.now) (tree.variable (tree.subscripted n.now (tree.more (expr e.now) (exprs es.now)))))) (2 + exprs_size (tree.more (expr e.now) (exprs es.now)) + weigh_frames frames.old) c frames.new) }
 {
-    frames.push(Frame::Subscript(n, List::of(Vec::new(alloc)), es))?;
+    surround(frames, Frame::Subscript(n, no_subscripts(alloc), es))?;
     Ok(Control::Eval(e))
 }
 
@@ -117,7 +119,7 @@ fn further<'p>(
 ) -> Result<Supply<'p>, AllocError>
     ensures { IfOk result (λ s. IsSupplied (scoped scopes.now) callee.now rest.now (settling.settle_actuals (scoped scopes.now) (exprs rest.now) (sorts_after (scoped scopes.now) callee.now gs.entry) (all_done gs.entry ++ done given.entry ∷ [])) (exprs_size (exprs rest.now)) s) }
 {
-    append(&mut gs, given)?;
+    add_given(&mut gs, given)?;
     Ok(Supply::Further(gs))
 }
 
@@ -208,9 +210,10 @@ pub fn supplied<'p>(
     let mut gs = before;
     let mut es = actuals;
     'supplying: while let Some((e, rest)) = es.split_first() {
-        match supply(scopes, callee, gs, e, rest)? {
-            Supply::Further(more) => gs = more,
-            Supply::Stopped(supplied) => return Ok(supplied),
+        match supply(scopes, callee, gs, e, rest) {
+            Ok(Supply::Further(more)) => gs = more,
+            Ok(Supply::Stopped(supplied)) => return Ok(supplied),
+            Err(error) => return Err(error),
         }
         es = rest;
     }
@@ -227,13 +230,14 @@ pub fn call<'p>(
 ) -> Result<Control<'p>, AllocError>
     ensures { IfOk result (λ c. Moves (scoped scopes.now) (refilled (scoped scopes.now) frames.old (settling.called_of callee.now (settling.settle_actuals (scoped scopes.now) (exprs es.now) (sorts_from (scoped scopes.now) callee.now (length gs.entry)) (all_done gs.entry)))) (1 + exprs_size (exprs es.now) + weigh_frames frames.old) c frames.new) }
 {
-    match supplied(scopes, callee, gs, es)? {
-        Supplied::Given(gs) => Ok(Control::Found(Head::Enter(callee, gs))),
-        Supplied::Pass(gs, n, es) => Ok(Control::Found(Head::Pass(callee, gs, n, es))),
-        Supplied::Value(gs, e, es) => {
-            frames.push(Frame::Argument(callee, gs, es))?;
+    match supplied(scopes, callee, gs, es) {
+        Ok(Supplied::Given(gs)) => Ok(Control::Found(Head::Enter(callee, gs))),
+        Ok(Supplied::Pass(gs, n, es)) => Ok(Control::Found(Head::Pass(callee, gs, n, es))),
+        Ok(Supplied::Value(gs, e, es)) => {
+            surround(frames, Frame::Argument(callee, gs, es))?;
             Ok(Control::Eval(e))
         }
+        Err(error) => Err(error),
     }
 }
 
@@ -247,7 +251,7 @@ fn first_call<'p>(
 ) -> Result<Control<'p>, AllocError>
     ensures { IfOk result (λ c. Moves (scoped scopes.now) (refilled (scoped scopes.now) frames.old (settling.settle (scoped scopes.now) (tree.call (tree.called n.now (exprs es.now))))) (2 + exprs_size (exprs es.now) + weigh_frames frames.old) c frames.new) }
 {
-    call(scopes, n, List::of(Vec::new(alloc)), es, frames)
+    call(scopes, n, no_givens(alloc), es, frames)
 }
 
 /// One silent step of an expression.
@@ -267,19 +271,19 @@ pub fn eval<'p>(
         Expr::Happened(event, _) => Ok(Control::Found(Head::Happens(&event.name))),
         Expr::Paren(e, _) | Expr::Plus(e, _) => Ok(Control::Eval(e)),
         Expr::Neg(e, _) => {
-            frames.push(Frame::Negated)?;
+            surround(frames, Frame::Negated)?;
             Ok(Control::Eval(e))
         }
         Expr::Not(e, _) => {
-            frames.push(Frame::Inverted)?;
+            surround(frames, Frame::Inverted)?;
             Ok(Control::Eval(e))
         }
         Expr::Two(op, a, b) => {
-            frames.push(Frame::Left(*op, b))?;
+            surround(frames, Frame::Left(*op, b))?;
             Ok(Control::Eval(a))
         }
         Expr::If(c, x, y, _) => {
-            frames.push(Frame::Condition(x, y))?;
+            surround(frames, Frame::Condition(x, y))?;
             Ok(Control::Eval(c))
         }
     }
@@ -298,7 +302,7 @@ pub fn outward<'p>(
         Frame::Subscript(n, ks, es) => Ok(Control::Found(subscripted(n, ks, v, es))),
         Frame::Argument(n, gs, es) => next_argument(scopes, n, gs, v, es, frames),
         Frame::Left(op, b) => {
-            frames.push(Frame::Right(op, v))?;
+            surround(frames, Frame::Right(op, v))?;
             Ok(Control::Eval(b))
         }
         Frame::Right(op, w) => Ok(calculated(op, w, v)),
@@ -320,7 +324,7 @@ fn next_argument<'p>(
 ) -> Result<Control<'p>, AllocError>
     ensures { IfOk result (λ c. Moves (scoped scopes.now) (refilled (scoped scopes.now) frames.old (settling.called_of callee.now (settling.settle_actuals (scoped scopes.now) (exprs es.now) (sorts_after (scoped scopes.now) callee.now gs.entry) (all_done gs.entry ++ rest.valued (value v) ∷ [])))) (1 + exprs_size (exprs es.now) + weigh_frames frames.old) c frames.new) }
 {
-    append(&mut gs, Given::Valued(v))?;
+    add_given(&mut gs, Given::Valued(v))?;
     call(scopes, callee, gs, es, frames)
 }
 
@@ -364,7 +368,10 @@ pub fn subscripts_of<'p>(alloc: Global, answer: Answer<'p>) -> List<usize>
 {
     match answer {
         Answer::Place(place) => subscripts_in(alloc, place),
-        _ => List::of(Vec::new(alloc)),
+        other => {
+            discard(other);
+            no_subscripts(alloc)
+        }
     }
 }
 
@@ -374,7 +381,7 @@ fn subscripts_in<'p>(alloc: Global, at: Place<'p>) -> List<usize>
 {
     match at {
         Place::ElementOf(_, ks) => ks,
-        _ => List::of(Vec::new(alloc)),
+        _ => no_subscripts(alloc),
     }
 }
 
@@ -384,7 +391,10 @@ pub fn cell_of<'p>(answer: Answer<'p>) -> Cell<'p>
 {
     match answer {
         Answer::Cell(cell) => cell,
-        _ => Cell::Simple(Value::Number(Whole::zero())),
+        other => {
+            discard(other);
+            Cell::Simple(Value::Number(Whole::zero()))
+        }
     }
 }
 
@@ -400,7 +410,7 @@ fn passed<'p>(
 ) -> Result<Control<'p>, AllocError>
     ensures { IfOk result (λ c. Moves (scoped scopes.now) (refilled (scoped scopes.now) frames.old (settling.called_of callee.now (settling.settle_actuals (scoped scopes.now) (exprs es.now) (sorts_after (scoped scopes.now) callee.now gs.entry) (all_done gs.entry ++ rest.passed (cell passing.entry) ∷ [])))) (1 + exprs_size (exprs es.now) + weigh_frames frames.old) c frames.new) }
 {
-    append(&mut gs, Given::Passed(passing))?;
+    add_given(&mut gs, Given::Passed(passing))?;
     call(scopes, callee, gs, es, frames)
 }
 
@@ -416,7 +426,10 @@ pub fn put<'p>(
 {
     match head {
         Head::Index(n, _, _, e, es) => {
-            frames.push(Frame::Subscript(n, subscripts_of(alloc, answer), es))?;
+            surround(
+                frames,
+                Frame::Subscript(n, subscripts_of(alloc, answer), es),
+            )?;
             Ok(Control::Eval(e))
         }
         Head::Pass(n, gs, _, es) => passed(scopes, n, gs, cell_of(answer), es, frames),

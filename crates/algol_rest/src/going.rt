@@ -14,18 +14,14 @@ ghost use Rattle.algol_rest.specs.declared.statement.Again.TheVariants as again;
 use crate::expression::alone;
 use crate::part::{Control, Frame};
 use crate::scope::Scopes;
+use crate::standing::{no_givens, no_values, stand, surround};
 use crate::statement::{Again, Deed, Last, Next, Point, Right, Role, Sought, Within, Work};
-use algol_tree::{Decl, Expr, List, Named, Op, Stmt, Whole};
+use algol_tree::{Decl, Expr, Named, Op, Stmt, Whole};
 use std::alloc::{AllocError, Global};
 
 impl<'p> Work<'p> {
     /// The actions of a declaration.
-    fn make(
-        &mut self,
-        alloc: Global,
-        scopes: &Scopes<'p>,
-        d: &'p Decl,
-    ) -> Result<Option<Point<'p>>, AllocError>
+    fn make(&mut self, alloc: Global, scopes: &Scopes<'p>, d: &'p Decl) -> Result<bool, AllocError>
         requires { self.old.frames ≡ [] }
         ensures { IfOk result (λ found. Advances (scoped scopes.now) (settle_items (scoped scopes.now) (decl_items (decl d.now) ++ ahead self.old)) (decl_size (decl d.now) + weigh self.old.todo) found self.new) }
     {
@@ -35,11 +31,11 @@ impl<'p> Work<'p> {
             }
             Decl::Events(ns) => self.make_events(ns.items()),
             Decl::Tasks(ns) => self.make_events(ns.items()),
-            Decl::Simple(_, _) => Ok(None),
-            Decl::Files(_) => Ok(None),
-            Decl::Labels(_) => Ok(None),
-            Decl::Forward(_) => Ok(None),
-            Decl::Procedure(_, _) => Ok(None),
+            Decl::Simple(_, _) => Ok(false),
+            Decl::Files(_) => Ok(false),
+            Decl::Labels(_) => Ok(false),
+            Decl::Forward(_) => Ok(false),
+            Decl::Procedure(_, _) => Ok(false),
         }
     }
 
@@ -49,12 +45,12 @@ impl<'p> Work<'p> {
         alloc: Global,
         scopes: &Scopes<'p>,
         ds: &'p [Decl],
-    ) -> Result<Option<Point<'p>>, AllocError>
+    ) -> Result<bool, AllocError>
         requires { self.old.frames ≡ [] }
         ensures { IfOk result (λ found. Advances (scoped scopes.now) (settle_items (scoped scopes.now) (decls_items (decls ds.now) ++ ahead self.old)) (1 + decls_size (decls ds.now) + weigh self.old.todo) found self.new) }
     {
         match ds.split_first() {
-            None => Ok(None),
+            None => Ok(false),
             Some((d, rest)) => {
                 self.todo.push(Next::Decls(rest))?;
                 self.make(alloc, scopes, d)
@@ -63,15 +59,10 @@ impl<'p> Work<'p> {
     }
 
     /// A statement that begins with an action, or with what an action needs.
-    fn act(
-        &mut self,
-        alloc: Global,
-        scopes: &Scopes<'p>,
-        s: &'p Stmt,
-    ) -> Result<Point<'p>, AllocError>
+    fn act(&mut self, alloc: Global, scopes: &Scopes<'p>, s: &'p Stmt) -> Result<(), AllocError>
         requires empty { self.old.frames ≡ [] }
         requires action { is_action (stmt s.now) ≡ true }
-        ensures { IfOk result (λ p. Finds (scoped scopes.now) (settle_items (scoped scopes.now) (rest.run (stmt s.now) ∷ ahead self.old)) p self.new) }
+        ensures { IfOk result (λ _. Finds (scoped scopes.now) (settle_items (scoped scopes.now) (rest.run (stmt s.now) ∷ ahead self.old)) self.new) }
     {
         match s {
             Stmt::Assign(v, e) => {
@@ -79,7 +70,7 @@ impl<'p> Work<'p> {
                 self.aim(alloc, scopes, sought, &v.name, v.subs.items())
             }
             Stmt::Call(c) => {
-                let before = List::of(Vec::new(alloc));
+                let before = no_givens(alloc);
                 self.prepare(
                     alloc,
                     scopes,
@@ -90,20 +81,20 @@ impl<'p> Work<'p> {
                 )
             }
             Stmt::Process(c, task) => {
-                let before = List::of(Vec::new(alloc));
+                let before = no_givens(alloc);
                 let role = Role::Starts(task);
                 self.prepare(alloc, scopes, role, &c.name, before, c.actuals.items())
             }
-            Stmt::GoTo(n) => Ok(Point::Last(Last::Going(n))),
-            Stmt::Event(act, event) => Ok(Point::Deed(Deed::Event(*act, &event.name))),
+            Stmt::GoTo(n) => {
+                stand(&mut self.point, Point::Last(Last::Going(n)));
+                Ok(())
+            }
+            Stmt::Event(act, event) => {
+                stand(&mut self.point, Point::Deed(Deed::Event(*act, &event.name)));
+                Ok(())
+            }
             Stmt::Write(_, _, phrases, es) => {
-                self.write(
-                    alloc,
-                    scopes,
-                    phrases.items(),
-                    List::of(Vec::new(alloc)),
-                    es.items(),
-                )
+                self.write(alloc, scopes, phrases.items(), no_values(alloc), es.items())
             }
             _ => unreachable!(),
         }
@@ -117,39 +108,34 @@ impl<'p> Work<'p> {
         s: &'p Stmt,
         n: &'p Named,
         first: &'p Expr,
-    ) -> Result<Point<'p>, AllocError>
+    ) -> Result<(), AllocError>
         requires { self.old.frames ≡ [] }
-        ensures { (step last : tree.PExpr) (b : tree.PStmt) → stmt s.now ≡ tree.for n.now (expr first.now) step last b → IfOk result (λ p. Finds (scoped scopes.now) (settle_items (scoped scopes.now) (rest.run (tree.for n.now (expr first.now) step last b) ∷ ahead self.old)) p self.new) }
+        ensures { (step last : tree.PExpr) (b : tree.PStmt) → stmt s.now ≡ tree.for n.now (expr first.now) step last b → IfOk result (λ _. Finds (scoped scopes.now) (settle_items (scoped scopes.now) (rest.run (tree.for n.now (expr first.now) step last b) ∷ ahead self.old)) self.new) }
     {
         self.todo.push(Next::Again(Again::Test, s))?;
         self.aim_alone(alloc, scopes, Sought::Aiming(Right::Expr(first)), n)
     }
 
     /// A DO .. UNTIL: its body comes first.
-    fn begin_until(&mut self, s: &'p Stmt, b: &'p Stmt) -> Result<Option<Point<'p>>, AllocError>
+    fn begin_until(&mut self, s: &'p Stmt, b: &'p Stmt) -> Result<bool, AllocError>
         requires { self.old.frames ≡ [] }
         ensures { (sc : scoping.Scopes) (c : tree.PExpr) → stmt s.now ≡ tree.until (stmt b.now) c → IfOk result (λ found. Advances sc (settle_items sc (rest.run (tree.until (stmt b.now) c) ∷ ahead self.old)) (stmt_size (tree.until (stmt b.now) c) + weigh self.old.todo) found self.new) }
     {
         self.todo.push(Next::Again(Again::Check, s))?;
         self.todo.push(Next::Run(b))?;
-        Ok(None)
+        Ok(false)
     }
 
     /// A statement.
-    fn begin(
-        &mut self,
-        alloc: Global,
-        scopes: &Scopes<'p>,
-        s: &'p Stmt,
-    ) -> Result<Option<Point<'p>>, AllocError>
+    fn begin(&mut self, alloc: Global, scopes: &Scopes<'p>, s: &'p Stmt) -> Result<bool, AllocError>
         requires { self.old.frames ≡ [] }
         ensures { IfOk result (λ found. Advances (scoped scopes.now) (settle_items (scoped scopes.now) (rest.run (stmt s.now) ∷ ahead self.old)) (stmt_size (stmt s.now) + weigh self.old.todo) found self.new) }
     {
         match s {
-            Stmt::Empty => Ok(None),
+            Stmt::Empty => Ok(false),
             Stmt::Label(_, s) => {
                 self.todo.push(Next::Run(s))?;
-                Ok(None)
+                Ok(false)
             }
             Stmt::Block(b) => self.open(b, b.decls.items(), b.stmts.items()),
             Stmt::If(test, _, _)
@@ -159,35 +145,33 @@ impl<'p> Work<'p> {
                 self.begin_from(alloc, scopes, Control::Eval(test), Within::Testing(s))
             }
             Stmt::Until(b, _) => self.begin_until(s, b),
-            Stmt::For(n, first, _, _, _) => match self.begin_for(alloc, scopes, s, n, first) {
-                Ok(point) => Ok(Some(point)),
-                Err(error) => Err(error),
-            },
-            _ => match self.act(alloc, scopes, s) {
-                Ok(point) => Ok(Some(point)),
-                Err(error) => Err(error),
-            },
+            Stmt::For(n, first, _, _, _) => {
+                self.begin_for(alloc, scopes, s, n, first)?;
+                Ok(true)
+            }
+            _ => {
+                self.act(alloc, scopes, s)?;
+                Ok(true)
+            }
         }
     }
 
     /// THRU with its number, before its next turn.
-    fn count_on(&mut self, n: Whole, s: &'p Stmt) -> Result<Option<Point<'p>>, AllocError>
+    fn count_on(&mut self, n: Whole, s: &'p Stmt) -> Result<bool, AllocError>
         requires { self.old.frames ≡ [] }
         ensures { (sc : scoping.Scopes) → IfOk result (λ found. Advances sc (settle_items sc (again_item (again.Count n) (stmt s.now) ∷ ahead self.old)) (stmt_size (stmt s.now) + weigh self.old.todo) found self.new) }
     {
         match s {
             Stmt::Thru(_, b) => self.repeat(n, s, b),
-            _ => Ok(Some(Point::Deed(Deed::Turn))),
+            _ => {
+                stand(&mut self.point, Point::Deed(Deed::Turn));
+                Ok(true)
+            }
         }
     }
 
     /// The test of DO .. UNTIL.
-    fn check(
-        &mut self,
-        alloc: Global,
-        scopes: &Scopes<'p>,
-        s: &'p Stmt,
-    ) -> Result<Option<Point<'p>>, AllocError>
+    fn check(&mut self, alloc: Global, scopes: &Scopes<'p>, s: &'p Stmt) -> Result<bool, AllocError>
         requires { self.old.frames ≡ [] }
         ensures { IfOk result (λ found. Advances (scoped scopes.now) (settle_items (scoped scopes.now) (again_item again.Check (stmt s.now) ∷ ahead self.old)) (1 + weigh self.old.todo) found self.new) }
     {
@@ -195,45 +179,44 @@ impl<'p> Work<'p> {
             Stmt::Until(_, c) => {
                 self.begin_from(alloc, scopes, Control::Eval(c), Within::Testing(s))
             }
-            _ => Ok(Some(Point::Deed(Deed::Turn))),
+            _ => {
+                stand(&mut self.point, Point::Deed(Deed::Turn));
+                Ok(true)
+            }
         }
     }
 
     /// The stepping of FOR: its control variable gets the sum of its value and the step.
-    fn step(
-        &mut self,
-        alloc: Global,
-        scopes: &Scopes<'p>,
-        s: &'p Stmt,
-    ) -> Result<Point<'p>, AllocError>
+    fn step(&mut self, alloc: Global, scopes: &Scopes<'p>, s: &'p Stmt) -> Result<(), AllocError>
         requires { self.old.frames ≡ [] }
-        ensures { IfOk result (λ p. Finds (scoped scopes.now) (settle_items (scoped scopes.now) (again_item again.Step (stmt s.now) ∷ ahead self.old)) p self.new) }
+        ensures { IfOk result (λ _. Finds (scoped scopes.now) (settle_items (scoped scopes.now) (again_item again.Step (stmt s.now) ∷ ahead self.old)) self.new) }
     {
         match s {
             Stmt::For(n, _, step, _, _) => {
                 self.aim_alone(alloc, scopes, Sought::Aiming(Right::Stepped(n, step)), n)
             }
-            _ => Ok(Point::Deed(Deed::Turn)),
+            _ => {
+                stand(&mut self.point, Point::Deed(Deed::Turn));
+                Ok(())
+            }
         }
     }
 
     /// The test of FOR: the difference of its control variable and its limit comes first.
-    fn test(
-        &mut self,
-        alloc: Global,
-        scopes: &Scopes<'p>,
-        s: &'p Stmt,
-    ) -> Result<Option<Point<'p>>, AllocError>
+    fn test(&mut self, alloc: Global, scopes: &Scopes<'p>, s: &'p Stmt) -> Result<bool, AllocError>
         requires { self.old.frames ≡ [] }
         ensures { IfOk result (λ found. Advances (scoped scopes.now) (settle_items (scoped scopes.now) (again_item again.Test (stmt s.now) ∷ ahead self.old)) (stmt_size (stmt s.now) + weigh self.old.todo) found self.new) }
     {
         match s {
             Stmt::For(n, _, _, last, _) => {
-                self.frames.push(Frame::Left(Op::Sub, last))?;
+                surround(&mut self.frames, Frame::Left(Op::Sub, last))?;
                 let control = Control::Found(alone(alloc, scopes, n));
                 self.begin_from(alloc, scopes, control, Within::Testing(s))
             }
-            _ => Ok(Some(Point::Deed(Deed::Turn))),
+            _ => {
+                stand(&mut self.point, Point::Deed(Deed::Turn));
+                Ok(true)
+            }
         }
     }
 
@@ -244,17 +227,17 @@ impl<'p> Work<'p> {
         scopes: &Scopes<'p>,
         part: Again,
         s: &'p Stmt,
-    ) -> Result<Option<Point<'p>>, AllocError>
+    ) -> Result<bool, AllocError>
         requires { self.old.frames ≡ [] }
         ensures { IfOk result (λ found. Advances (scoped scopes.now) (settle_items (scoped scopes.now) (again_item part (stmt s.now) ∷ ahead self.old)) (again_size part (stmt s.now) + weigh self.old.todo) found self.new) }
     {
         match part {
             Again::Count(n) => self.count_on(n, s),
             Again::Check => self.check(alloc, scopes, s),
-            Again::Step => match self.step(alloc, scopes, s) {
-                Ok(point) => Ok(Some(point)),
-                Err(error) => Err(error),
-            },
+            Again::Step => {
+                self.step(alloc, scopes, s)?;
+                Ok(true)
+            }
             Again::Test => self.test(alloc, scopes, s),
         }
     }
@@ -265,15 +248,21 @@ impl<'p> Work<'p> {
         alloc: Global,
         scopes: &Scopes<'p>,
         next: &Next<'p>,
-    ) -> Result<Option<Point<'p>>, AllocError>
+    ) -> Result<bool, AllocError>
         requires { self.old.frames ≡ [] }
         ensures { IfOk result (λ found. Advances (scoped scopes.now) (settle_items (scoped scopes.now) (item next.now (ahead self.old))) (weigh (next.now ∷ self.old.todo)) found self.new) }
     {
         match next {
             Next::Run(s) => self.begin(alloc, scopes, *s),
             Next::Rest(ss) => self.next_statement(*ss),
-            Next::Turn => Ok(Some(Point::Deed(Deed::Turn))),
-            Next::Result(name) => Ok(Some(Point::Reading(*name))),
+            Next::Turn => {
+                stand(&mut self.point, Point::Deed(Deed::Turn));
+                Ok(true)
+            }
+            Next::Result(name) => {
+                stand(&mut self.point, Point::Reading(*name));
+                Ok(true)
+            }
             Next::Again(part, s) => self.again(alloc, scopes, *part, *s),
             Next::Events(ns) => self.next_event(*ns),
             Next::Decls(ds) => self.declare(alloc, scopes, *ds),
@@ -281,18 +270,17 @@ impl<'p> Work<'p> {
     }
 
     /// All that follows, up to the next head.
-    pub fn go_on(&mut self, alloc: Global, scopes: &Scopes<'p>) -> Result<Point<'p>, AllocError>
-        ensures { IfOk result (λ p. Finds (scoped scopes.now) (settle_items (scoped scopes.now) (ahead self.old)) p self.new) }
+    pub fn go_on(&mut self, alloc: Global, scopes: &Scopes<'p>) -> Result<(), AllocError>
+        ensures { IfOk result (λ _. Finds (scoped scopes.now) (settle_items (scoped scopes.now) (ahead self.old)) self.new) }
     {
         self.frames.clear();
         'going: while let Some(next) = self.todo.pop() {
-            match self.advance(alloc, scopes, &next) {
-                Ok(None) => (),
-                Ok(Some(point)) => return Ok(point),
-                Err(error) => return Err(error),
+            if self.advance(alloc, scopes, &next)? {
+                return Ok(());
             }
         }
-        Ok(Point::Last(Last::Over))
+        stand(&mut self.point, Point::Last(Last::Over));
+        Ok(())
     }
 
     /// An expression from there on, what it is evaluated for, and what follows, up to the next head.
@@ -302,13 +290,13 @@ impl<'p> Work<'p> {
         scopes: &Scopes<'p>,
         from: Control<'p>,
         within: Within<'p>,
-    ) -> Result<Point<'p>, AllocError>
-        ensures { IfOk result (λ p. Finds (scoped scopes.now) (held (scoped scopes.now) within.entry (refilled (scoped scopes.now) self.old.frames (half (scoped scopes.now) from.entry)) (ahead self.old)) p self.new) }
+    ) -> Result<(), AllocError>
+        ensures { IfOk result (λ _. Finds (scoped scopes.now) (held (scoped scopes.now) within.entry (refilled (scoped scopes.now) self.old.frames (half (scoped scopes.now) from.entry)) (ahead self.old)) self.new) }
     {
-        match self.begin_from(alloc, scopes, from, within) {
-            Ok(Some(point)) => Ok(point),
-            Ok(None) => self.go_on(alloc, scopes),
-            Err(error) => Err(error),
+        if self.begin_from(alloc, scopes, from, within)? {
+            Ok(())
+        } else {
+            self.go_on(alloc, scopes)
         }
     }
 }

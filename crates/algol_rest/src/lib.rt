@@ -15,6 +15,7 @@ mod resuming;
 mod scope;
 mod silent;
 mod stack;
+mod standing;
 mod statement;
 mod table;
 mod value;

@@ -8,7 +8,7 @@ ghost use Rattle.algol_meaning.specs.Statements.{settle_items, items_of, items_f
 ghost use Rattle.algol_meaning.specs.Asks as asks;
 ghost use Rattle.algol_meaning.specs.SeenTree.{expr, stmt, stmts};
 ghost use Rattle.algol_rest.specs.SeenScope.{scoped, block};
-ghost use Rattle.algol_rest.specs.SeenStatement.{answered, ahead, Finds, rest_of};
+ghost use Rattle.algol_rest.specs.SeenStatement.{answered, ahead, Finds};
 ghost use Rattle.algol_rest.specs.SeenRest.{rest, asked};
 
 use crate::ask::Ask;
@@ -16,18 +16,16 @@ use crate::held::boxed;
 use crate::part::{Answer, Control};
 use crate::scope::{Block, BlockStatements, Scopes};
 use crate::stack::Stack;
+use crate::standing::stand;
 use crate::statement::{Last, Next, Point, Sought, Target, Within, Work};
 use algol_meaning::same_name;
 use algol_tree::{Expr, Line, Stmt};
-use b67_list::discard;
 use std::alloc::{AllocError, Global};
-use std::mem;
 
 /// What a part of a process has still to do: where its head is, what is around the head, and what follows.
 #[derive(Drop)]
 pub struct Rest<'p> {
-    point: Box<Point<'p>>,
-    work: Work<'p>,
+    work: Box<Work<'p>>,
 }
 
 impl<'p> Rest<'p> {
@@ -40,14 +38,9 @@ impl<'p> Rest<'p> {
     ) -> Result<Rest<'p>, AllocError>
         ensures { IfOk result (λ r. rest (scoped scopes.now) r ≡ settle_items (scoped scopes.now) (items_of (block entered.now))) }
     {
-        let mut work = Work::new(alloc);
-        match work.enter_from(alloc, scopes, entered) {
-            Ok(point) => Ok(Rest { point, work }),
-            Err(error) => {
-                discard(work);
-                Err(error)
-            }
-        }
+        let mut work = Work::new(alloc)?;
+        work.enter_from(alloc, scopes, entered)?;
+        Ok(Rest { work })
     }
 
     /// The part that goes to a label in a block's own list of statements: that list from the label on.
@@ -59,14 +52,9 @@ impl<'p> Rest<'p> {
     ) -> Result<Rest<'p>, AllocError>
         ensures { IfOk result (λ r. rest (scoped scopes.now) r ≡ settle_items (scoped scopes.now) (items_from (block within.now) label.now)) }
     {
-        let mut work = Work::new(alloc);
-        match work.enter_at(alloc, scopes, within, label) {
-            Ok(point) => Ok(Rest { point, work }),
-            Err(error) => {
-                discard(work);
-                Err(error)
-            }
-        }
+        let mut work = Work::new(alloc)?;
+        work.enter_at(alloc, scopes, within, label)?;
+        Ok(Rest { work })
     }
 
     /// The part that evaluates a name for its value.
@@ -77,14 +65,9 @@ impl<'p> Rest<'p> {
     ) -> Result<Rest<'p>, AllocError>
         ensures { IfOk result (λ r. rest (scoped scopes.now) r ≡ asks.evaluated_of (settling.settle (scoped scopes.now) (expr actual.now))) }
     {
-        let mut work = Work::new(alloc);
-        match work.evaluate(alloc, scopes, actual) {
-            Ok(point) => Ok(Rest { point, work }),
-            Err(error) => {
-                discard(work);
-                Err(error)
-            }
-        }
+        let mut work = Work::new(alloc)?;
+        work.evaluate(alloc, scopes, actual)?;
+        Ok(Rest { work })
     }
 
     /// The part that evaluates a name for its place.
@@ -95,21 +78,16 @@ impl<'p> Rest<'p> {
     ) -> Result<Rest<'p>, AllocError>
         ensures { IfOk result (λ r. rest (scoped scopes.now) r ≡ asks.located_of (settling.settle_actual_place (scoped scopes.now) (expr actual.now))) }
     {
-        let mut work = Work::new(alloc);
-        match work.locate(alloc, scopes, actual) {
-            Ok(point) => Ok(Rest { point, work }),
-            Err(error) => {
-                discard(work);
-                Err(error)
-            }
-        }
+        let mut work = Work::new(alloc)?;
+        work.locate(alloc, scopes, actual)?;
+        Ok(Rest { work })
     }
 
     /// What the head asks for.
     pub fn ask<'a>(&'a self) -> Ask<'a, 'p>
         ensures { (sc : scoping.Scopes) → asked result ≡ asks.ask (rest sc self.now) }
     {
-        self.point.ask()
+        self.work.point.ask()
     }
 
     /// What the part has still to do once its head has this answer, after the silent steps.
@@ -121,31 +99,25 @@ impl<'p> Rest<'p> {
     ) -> Result<Rest<'p>, AllocError>
         ensures { IfOk result (λ r. rest (scoped scopes.now) r ≡ asks.resume (scoped scopes.now) (rest (scoped scopes.now) self.entry) (answered answer.entry)) }
     {
-        let Rest {
-            mut point,
-            mut work,
-        } = self;
-        match work.resume_at(alloc, scopes, &mut *point, answer) {
-            Ok(()) => Ok(Rest { point, work }),
-            Err(error) => {
-                discard(point);
-                discard(work);
-                Err(error)
-            }
-        }
+        let Rest { mut work } = self;
+        work.resume(alloc, scopes, answer)?;
+        Ok(Rest { work })
     }
 }
 
 impl<'p> Work<'p> {
     /// No work.
-    fn new(alloc: Global) -> Work<'p>
-        ensures frames { result.frames ≡ [] }
-        ensures todo { result.todo ≡ [] }
+    fn new(alloc: Global) -> Result<Box<Work<'p>>, AllocError>
+        ensures frames { IfOk result (λ w. w.value.frames ≡ []) }
+        ensures todo { IfOk result (λ w. w.value.todo ≡ []) }
     {
-        Work {
+        let point = boxed(alloc, Point::Last(Last::Over))?;
+        let work = Work {
+            point,
             frames: Stack::new(alloc),
             todo: Stack::new(alloc),
-        }
+        };
+        boxed(alloc, work)
     }
 
     /// What comes at the end of a block: the result, where it is a typed procedure's.
@@ -161,23 +133,15 @@ impl<'p> Work<'p> {
         Ok(())
     }
 
-    /// All that follows, up to the next head.
-    fn start(&mut self, alloc: Global, scopes: &Scopes<'p>) -> Result<Box<Point<'p>>, AllocError>
-        ensures { IfOk result (λ p. Finds (scoped scopes.now) (settle_items (scoped scopes.now) (ahead self.old)) p.value self.new) }
-    {
-        let point = self.go_on(alloc, scopes)?;
-        boxed(alloc, point)
-    }
-
     /// All of a block, up to the first head.
     fn enter_from(
         &mut self,
         alloc: Global,
         scopes: &Scopes<'p>,
         entered: &Block<'p>,
-    ) -> Result<Box<Point<'p>>, AllocError>
+    ) -> Result<(), AllocError>
         requires { self.old.todo ≡ [] }
-        ensures { IfOk result (λ p. Finds (scoped scopes.now) (settle_items (scoped scopes.now) (items_of (block entered.now))) p.value self.new) }
+        ensures { IfOk result (λ _. Finds (scoped scopes.now) (settle_items (scoped scopes.now) (items_of (block entered.now))) self.new) }
     {
         self.end(entered)?;
         match entered.stmts {
@@ -185,7 +149,7 @@ impl<'p> Work<'p> {
             BlockStatements::One(s) => self.todo.push(Next::Run(s))?,
         }
         self.todo.push(Next::Decls(entered.decls))?;
-        self.start(alloc, scopes)
+        self.go_on(alloc, scopes)
     }
 
     /// A block from a label on, up to the first head.
@@ -195,20 +159,20 @@ impl<'p> Work<'p> {
         scopes: &Scopes<'p>,
         within: &Block<'p>,
         label: &Line,
-    ) -> Result<Box<Point<'p>>, AllocError>
+    ) -> Result<(), AllocError>
         requires { self.old.todo ≡ [] }
-        ensures { IfOk result (λ p. Finds (scoped scopes.now) (settle_items (scoped scopes.now) (items_from (block within.now) label.now)) p.value self.new) }
+        ensures { IfOk result (λ _. Finds (scoped scopes.now) (settle_items (scoped scopes.now) (items_from (block within.now) label.now)) self.new) }
     {
         self.end(within)?;
         match within.stmts {
-            BlockStatements::All(ss) => self.todo.push(Next::Rest(from_label(ss, label)))?,
+            BlockStatements::All(ss) => { self.todo.push(Next::Rest(from_label(ss, label)))? }
             BlockStatements::One(s) => {
                 if is_labelled(s, label) {
                     self.todo.push(Next::Run(s))?;
                 }
             }
         }
-        self.start(alloc, scopes)
+        self.go_on(alloc, scopes)
     }
 
     /// The value of an actual, up to the first head.
@@ -217,12 +181,11 @@ impl<'p> Work<'p> {
         alloc: Global,
         scopes: &Scopes<'p>,
         actual: &'p Expr,
-    ) -> Result<Box<Point<'p>>, AllocError>
+    ) -> Result<(), AllocError>
         requires { self.old.frames ≡ [] }
-        ensures { IfOk result (λ p. Finds (scoped scopes.now) (asks.evaluated_of (settling.settle (scoped scopes.now) (expr actual.now))) p.value self.new) }
+        ensures { IfOk result (λ _. Finds (scoped scopes.now) (asks.evaluated_of (settling.settle (scoped scopes.now) (expr actual.now))) self.new) }
     {
-        let point = self.go_on_from(alloc, scopes, Control::Eval(actual), Within::Evaluating)?;
-        boxed(alloc, point)
+        self.go_on_from(alloc, scopes, Control::Eval(actual), Within::Evaluating)
     }
 
     /// The place of an actual, up to the first head.
@@ -231,46 +194,22 @@ impl<'p> Work<'p> {
         alloc: Global,
         scopes: &Scopes<'p>,
         actual: &'p Expr,
-    ) -> Result<Box<Point<'p>>, AllocError>
+    ) -> Result<(), AllocError>
         requires { self.old.frames ≡ [] }
-        ensures { IfOk result (λ p. Finds (scoped scopes.now) (asks.located_of (settling.settle_actual_place (scoped scopes.now) (expr actual.now))) p.value self.new) }
-    {
-        let point = self.find(alloc, scopes, actual)?;
-        boxed(alloc, point)
-    }
-
-    /// The place of an actual.
-    fn find(
-        &mut self,
-        alloc: Global,
-        scopes: &Scopes<'p>,
-        actual: &'p Expr,
-    ) -> Result<Point<'p>, AllocError>
-        requires { self.old.frames ≡ [] }
-        ensures { IfOk result (λ p. Finds (scoped scopes.now) (asks.located_of (settling.settle_actual_place (scoped scopes.now) (expr actual.now))) p self.new) }
+        ensures { IfOk result (λ _. Finds (scoped scopes.now) (asks.located_of (settling.settle_actual_place (scoped scopes.now) (expr actual.now))) self.new) }
     {
         match actual {
             Expr::Variable(v) => {
                 self.aim(alloc, scopes, Sought::Locating, &v.name, v.subs.items())
             }
-            _ => Ok(Point::Seek(Sought::Locating, Target::Inside)),
+            _ => {
+                stand(
+                    &mut self.point,
+                    Point::Seek(Sought::Locating, Target::Inside),
+                );
+                Ok(())
+            }
         }
-    }
-
-    /// The head has this answer, and the part stands at the next head.
-    fn resume_at(
-        &mut self,
-        alloc: Global,
-        scopes: &Scopes<'p>,
-        at: &mut Point<'p>,
-        answer: Answer<'p>,
-    ) -> Result<(), AllocError>
-        ensures { IfOk result (λ _. Finds (scoped scopes.now) (asks.resume (scoped scopes.now) (rest_of (scoped scopes.now) at.old self.old.frames self.old.todo) (answered answer.entry)) at.new self.new) }
-    {
-        let from = mem::replace(at, Point::Last(Last::Over));
-        let next = self.resume(alloc, scopes, from, answer)?;
-        discard(mem::replace(at, next));
-        Ok(())
     }
 }
 

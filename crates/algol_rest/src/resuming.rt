@@ -19,7 +19,7 @@ use crate::expression::{cell_of, filled, put, subscripts_of};
 use crate::operator::whole_of;
 use crate::part::{Answer, Given, Head};
 use crate::scope::Scopes;
-use crate::stack::append;
+use crate::standing::{add_given, leave, stand};
 use crate::statement::{Deed, Next, Point, Role, Sought, Target, Within, Work};
 use crate::value::Value;
 use algol_tree::{Expr, List, Named, Stmt};
@@ -33,8 +33,8 @@ impl<'p> Work<'p> {
         alloc: Global,
         scopes: &Scopes<'p>,
         answer: Answer<'p>,
-    ) -> Result<Point<'p>, AllocError>
-        ensures { IfOk result (λ p. Finds (scoped scopes.now) (asks.evaluated_of (settling.half_of (answered answer.entry))) p self.new) }
+    ) -> Result<(), AllocError>
+        ensures { IfOk result (λ _. Finds (scoped scopes.now) (asks.evaluated_of (settling.half_of (answered answer.entry))) self.new) }
     {
         self.frames.clear();
         let from = filled(&answer);
@@ -59,8 +59,8 @@ impl<'p> Work<'p> {
         scopes: &Scopes<'p>,
         v: Value,
         ss: &'p [Stmt],
-    ) -> Result<Point<'p>, AllocError>
-        ensures { IfOk result (λ p. Finds (scoped scopes.now) (settle_items (scoped scopes.now) (rest.run (asks.nth_stmt (stmts ss.now) (nat_abs (plain.whole_of (value v)))) ∷ ahead self.old)) p self.new) }
+    ) -> Result<(), AllocError>
+        ensures { IfOk result (λ _. Finds (scoped scopes.now) (settle_items (scoped scopes.now) (rest.run (asks.nth_stmt (stmts ss.now) (nat_abs (plain.whole_of (value v)))) ∷ ahead self.old)) self.new) }
     {
         self.push_nth(v, ss)?;
         self.go_on(alloc, scopes)
@@ -72,11 +72,14 @@ impl<'p> Work<'p> {
         alloc: Global,
         scopes: &Scopes<'p>,
         answer: &Answer<'p>,
-    ) -> Result<Point<'p>, AllocError>
-        ensures { IfOk result (λ p. Finds (scoped scopes.now) (asks.inside_or_after (scoped scopes.now) (answered answer.now) (ahead self.old)) p self.new) }
+    ) -> Result<(), AllocError>
+        ensures { IfOk result (λ _. Finds (scoped scopes.now) (asks.inside_or_after (scoped scopes.now) (answered answer.now) (ahead self.old)) self.new) }
     {
         match answer {
-            Answer::Entered => Ok(Point::Deed(Deed::Within)),
+            Answer::Entered => {
+                stand(&mut self.point, Point::Deed(Deed::Within));
+                Ok(())
+            }
             _ => self.go_on(alloc, scopes),
         }
     }
@@ -88,15 +91,19 @@ impl<'p> Work<'p> {
         scopes: &Scopes<'p>,
         n: &'p Named,
         answer: &Answer<'p>,
-    ) -> Result<Point<'p>, AllocError>
-        ensures { IfOk result (λ p. Finds (scoped scopes.now) (asks.called (scoped scopes.now) (settling.is_typed (scoped scopes.now) n.now) (answered answer.now) (ahead self.old)) p self.new) }
+    ) -> Result<(), AllocError>
+        ensures { IfOk result (λ _. Finds (scoped scopes.now) (asks.called (scoped scopes.now) (settling.is_typed (scoped scopes.now) n.now) (answered answer.now) (ahead self.old)) self.new) }
     {
         match answer {
-            Answer::Entered => Ok(Point::Deed(if scopes.is_typed(n) {
-                Deed::Dropping
-            } else {
-                Deed::Within
-            })),
+            Answer::Entered => {
+                if scopes.is_typed(n) {
+                    stand(&mut self.point, Point::Deed(Deed::Dropping));
+                    Ok(())
+                } else {
+                    stand(&mut self.point, Point::Deed(Deed::Within));
+                    Ok(())
+                }
+            }
             _ => self.go_on(alloc, scopes),
         }
     }
@@ -112,11 +119,11 @@ impl<'p> Work<'p> {
         mut gs: List<Given<'p>>,
         es: &'p [Expr],
         answer: Answer<'p>,
-    ) -> Result<Point<'p>, AllocError>
-        ensures { IfOk result (λ p. Finds (scoped scopes.now) (role_at role.entry n.now (settling.settle_actuals (scoped scopes.now) (exprs es.now) (sorts_after (scoped scopes.now) n.now gs.entry) (all_done gs.entry ++ rest.passed (rest.cell_of (answered answer.entry) (plain.simple (plain.number (pos 0)))) ∷ [])) (ahead self.old)) p self.new) }
+    ) -> Result<(), AllocError>
+        ensures { IfOk result (λ _. Finds (scoped scopes.now) (role_at role.entry n.now (settling.settle_actuals (scoped scopes.now) (exprs es.now) (sorts_after (scoped scopes.now) n.now gs.entry) (all_done gs.entry ++ rest.passed (rest.cell_of (answered answer.entry) (plain.simple (plain.number (pos 0)))) ∷ [])) (ahead self.old)) self.new) }
     {
         self.frames.clear();
-        append(&mut gs, Given::Passed(cell_of(answer)))?;
+        add_given(&mut gs, Given::Passed(cell_of(answer)))?;
         self.prepare(alloc, scopes, role, n, gs, es)
     }
 
@@ -127,15 +134,16 @@ impl<'p> Work<'p> {
         scopes: &Scopes<'p>,
         sought: Sought<'p>,
         answer: Answer<'p>,
-    ) -> Result<Point<'p>, AllocError>
+    ) -> Result<(), AllocError>
         requires { self.old.frames ≡ [] }
-        ensures { IfOk result (λ p. Finds (scoped scopes.now) (sought_at (scoped scopes.now) sought.entry (settling.half_place_of (answered answer.entry)) (ahead self.old)) p self.new) }
+        ensures { IfOk result (λ _. Finds (scoped scopes.now) (sought_at (scoped scopes.now) sought.entry (settling.half_place_of (answered answer.entry)) (ahead self.old)) self.new) }
     {
         match answer {
             Answer::Place(at) => self.found(alloc, scopes, sought, at),
             other => {
                 discard(other);
-                Ok(Point::Seek(sought, Target::Inside))
+                stand(&mut self.point, Point::Seek(sought, Target::Inside));
+                Ok(())
             }
         }
     }
@@ -149,9 +157,9 @@ impl<'p> Work<'p> {
         n: &'p Named,
         es: &'p [Expr],
         answer: Answer<'p>,
-    ) -> Result<Point<'p>, AllocError>
+    ) -> Result<(), AllocError>
         requires { self.old.frames ≡ [] }
-        ensures { IfOk result (λ p. Finds (scoped scopes.now) (sought_at (scoped scopes.now) sought.entry (settling.indexed_of (scoped scopes.now) n.now (answered answer.entry) (exprs es.now)) (ahead self.old)) p self.new) }
+        ensures { IfOk result (λ _. Finds (scoped scopes.now) (sought_at (scoped scopes.now) sought.entry (settling.indexed_of (scoped scopes.now) n.now (answered answer.entry) (exprs es.now)) (ahead self.old)) self.new) }
     {
         match es.split_first() {
             None => self.place(alloc, scopes, sought, answer),
@@ -170,8 +178,8 @@ impl<'p> Work<'p> {
         sought: Sought<'p>,
         target: Target<'p>,
         answer: Answer<'p>,
-    ) -> Result<Point<'p>, AllocError>
-        ensures { IfOk result (λ p. Finds (scoped scopes.now) (sought_at (scoped scopes.now) sought.entry (settling.put_place (scoped scopes.now) (target_at target.entry) (answered answer.entry)) (ahead self.old)) p self.new) }
+    ) -> Result<(), AllocError>
+        ensures { IfOk result (λ _. Finds (scoped scopes.now) (sought_at (scoped scopes.now) sought.entry (settling.put_place (scoped scopes.now) (target_at target.entry) (answered answer.entry)) (ahead self.old)) self.new) }
     {
         self.frames.clear();
         match target {
@@ -192,8 +200,8 @@ impl<'p> Work<'p> {
         head: Head<'p>,
         within: Within<'p>,
         answer: Answer<'p>,
-    ) -> Result<Point<'p>, AllocError>
-        ensures { IfOk result (λ p. Finds (scoped scopes.now) (asks.resume (scoped scopes.now) (held (scoped scopes.now) within.entry (rest.busy (wrap (scoped scopes.now) self.old.frames (hole (scoped scopes.now) head.entry))) (ahead self.old)) (answered answer.entry)) p self.new) }
+    ) -> Result<(), AllocError>
+        ensures { IfOk result (λ _. Finds (scoped scopes.now) (asks.resume (scoped scopes.now) (held (scoped scopes.now) within.entry (rest.busy (wrap (scoped scopes.now) self.old.frames (hole (scoped scopes.now) head.entry))) (ahead self.old)) (answered answer.entry)) self.new) }
     {
         match put(alloc, scopes, head, answer, &mut self.frames) {
             Ok(from) => self.go_on_from(alloc, scopes, from, within),
@@ -204,21 +212,22 @@ impl<'p> Work<'p> {
         }
     }
 
-    /// The head has this answer, and the part goes on up to the next head.
+    /// The head at which the part stood has this answer, and the part goes on up to the next head.
     #[tactic(auto, using(crate::proofs::Answering::resume_laws))]
-    pub fn resume(
+    fn resume_from(
         &mut self,
         alloc: Global,
         scopes: &Scopes<'p>,
         point: Point<'p>,
         answer: Answer<'p>,
-    ) -> Result<Point<'p>, AllocError>
-        ensures { IfOk result (λ p. Finds (scoped scopes.now) (asks.resume (scoped scopes.now) (rest_of (scoped scopes.now) point.entry self.old.frames self.old.todo) (answered answer.entry)) p self.new) }
+    ) -> Result<(), AllocError>
+        ensures { IfOk result (λ _. Finds (scoped scopes.now) (asks.resume (scoped scopes.now) (rest_of (scoped scopes.now) point.entry self.old.frames self.old.todo) (answered answer.entry)) self.new) }
     {
         match point {
             Point::Last(last) => {
                 discard(answer);
-                Ok(Point::Last(last))
+                stand(&mut self.point, Point::Last(last));
+                Ok(())
             }
             Point::Reading(_) => self.read(alloc, scopes, answer),
             Point::Deed(deed) => {
@@ -245,6 +254,19 @@ impl<'p> Work<'p> {
             Point::Seek(sought, target) => self.seek(alloc, scopes, sought, target, answer),
             Point::In(head, within) => self.fill(alloc, scopes, head, within, answer),
         }
+    }
+
+    /// The head has this answer, and the part goes on up to the next head.
+    pub fn resume(
+        &mut self,
+        alloc: Global,
+        scopes: &Scopes<'p>,
+        answer: Answer<'p>,
+    ) -> Result<(), AllocError>
+        ensures { IfOk result (λ _. Finds (scoped scopes.now) (asks.resume (scoped scopes.now) (rest_of (scoped scopes.now) self.old.point.value self.old.frames self.old.todo) (answered answer.entry)) self.new) }
+    {
+        let point = leave(&mut self.point);
+        self.resume_from(alloc, scopes, point, answer)
     }
 }
 

@@ -11,7 +11,6 @@ ghost use Rattle.algol_meaning.specs.SeenTree.{expr, exprs, stmt, stmts, pairs, 
 ghost use Rattle.algol_tree.specs.declared.tree.Named.{Named};
 ghost use Rattle.algol_meaning.specs.SeenTree as seen;
 ghost use Rattle.algol_tree.specs.Scopes as scoping;
-ghost use Rattle.algol_rest.specs.declared.statement.Work.{Work};
 ghost use Rattle.algol_rest.specs.SeenValue.{value};
 ghost use Rattle.algol_rest.specs.SeenScope.{scoped};
 ghost use Rattle.algol_rest.specs.SeenExpression.{place, all_done, sorts_from, sorts_after, refilled, half, Comes};
@@ -21,7 +20,7 @@ use crate::expression::{alone, evaluate, supplied};
 use crate::operator::{truth_of, whole_of};
 use crate::part::{Control, Frame, Given, Head, Outcome, Place, Supplied};
 use crate::scope::Scopes;
-use crate::stack::append;
+use crate::standing::{add_given, add_value, no_subscripts, no_values, stand, surround};
 use crate::statement::{Again, Deed, Last, Next, Point, Right, Role, Sought, Target, Within, Work};
 use crate::value::Value;
 use algol_tree::{
@@ -45,7 +44,7 @@ impl<'p> Work<'p> {
         match right {
             Right::Expr(e) => Ok(Control::Eval(e)),
             Right::Stepped(n, e) => {
-                self.frames.push(Frame::Left(Op::Add, e))?;
+                surround(&mut self.frames, Frame::Left(Op::Add, e))?;
                 Ok(Control::Found(alone(alloc, scopes, n)))
             }
         }
@@ -62,8 +61,10 @@ impl<'p> Work<'p> {
         ensures comes { IfOk result (λ found. Comes (scoped scopes.now) (settling.settle (scoped scopes.now) (right_side right.entry)) found self.new.frames) }
         ensures same { self.new.todo ≡ self.old.todo }
     {
-        let from = self.right(alloc, scopes, right)?;
-        evaluate(alloc, scopes, from, &mut self.frames)
+        match self.right(alloc, scopes, right) {
+            Ok(from) => evaluate(alloc, scopes, from, &mut self.frames),
+            Err(error) => Err(error),
+        }
     }
 
     /// The right side of an assignment to this place.
@@ -73,13 +74,19 @@ impl<'p> Work<'p> {
         scopes: &Scopes<'p>,
         to: Place<'p>,
         right: Right<'p>,
-    ) -> Result<Point<'p>, AllocError>
+    ) -> Result<(), AllocError>
         requires { self.old.frames ≡ [] }
-        ensures { IfOk result (λ p. Finds (scoped scopes.now) (statements.assigned_of (place to.entry) (settling.settle (scoped scopes.now) (right_side right.entry)) (ahead self.old)) p self.new) }
+        ensures { IfOk result (λ _. Finds (scoped scopes.now) (statements.assigned_of (place to.entry) (settling.settle (scoped scopes.now) (right_side right.entry)) (ahead self.old)) self.new) }
     {
         match self.compute(alloc, scopes, right) {
-            Ok(Outcome::Busy(head)) => Ok(Point::In(head, Within::Storing(to))),
-            Ok(Outcome::Value(v)) => Ok(Point::Deed(Deed::Store(to, v))),
+            Ok(Outcome::Busy(head)) => {
+                stand(&mut self.point, Point::In(head, Within::Storing(to)));
+                Ok(())
+            }
+            Ok(Outcome::Value(v)) => {
+                stand(&mut self.point, Point::Deed(Deed::Store(to, v)));
+                Ok(())
+            }
             Err(error) => {
                 discard(to);
                 Err(error)
@@ -96,22 +103,28 @@ impl<'p> Work<'p> {
         phrases: &'p [PhraseText],
         before: List<Value>,
         items: &'p [Expr],
-    ) -> Result<Point<'p>, AllocError>
+    ) -> Result<(), AllocError>
         requires { self.old.frames ≡ [] }
-        ensures { IfOk result (λ p. Finds (scoped scopes.now) (statements.settle_line (scoped scopes.now) (exprs items.now) phrases.now (ahead self.old) (map value before)) p self.new) }
+        ensures { IfOk result (λ _. Finds (scoped scopes.now) (statements.settle_line (scoped scopes.now) (exprs items.now) phrases.now (ahead self.old) (map value before)) self.new) }
     {
         let mut vs = before;
         let mut es = items;
         'writing: while let Some((e, rest)) = es.split_first() {
-            match evaluate(alloc, scopes, Control::Eval(e), &mut self.frames)? {
-                Outcome::Busy(head) => {
-                    return Ok(Point::In(head, Within::Writing(phrases, vs, rest)));
+            match evaluate(alloc, scopes, Control::Eval(e), &mut self.frames) {
+                Ok(Outcome::Busy(head)) => {
+                    stand(
+                        &mut self.point,
+                        Point::In(head, Within::Writing(phrases, vs, rest)),
+                    );
+                    return Ok(());
                 }
-                Outcome::Value(v) => append(&mut vs, v)?,
+                Ok(Outcome::Value(v)) => add_value(&mut vs, v)?,
+                Err(error) => return Err(error),
             }
             es = rest;
         }
-        Ok(Point::Deed(Deed::Line(phrases, vs)))
+        stand(&mut self.point, Point::Deed(Deed::Line(phrases, vs)));
+        Ok(())
     }
 
     /// The upper bounds of arrays from the next one on, and their making.
@@ -125,31 +138,38 @@ impl<'p> Work<'p> {
         all: &'p [Pair],
         before: List<Value>,
         left: &'p [Pair],
-    ) -> Result<Point<'p>, AllocError>
+    ) -> Result<(), AllocError>
         requires { self.old.frames ≡ [] }
-        ensures { IfOk result (λ p. Finds (scoped scopes.now) (statements.settle_bounds (scoped scopes.now) (pairs left.now) kind ns.now (pairs all.now) (ahead self.old) (map value before)) p self.new) }
+        ensures { IfOk result (λ _. Finds (scoped scopes.now) (statements.settle_bounds (scoped scopes.now) (pairs left.now) kind ns.now (pairs all.now) (ahead self.old) (map value before)) self.new) }
     {
         let mut vs = before;
         let mut ps = left;
         'bounding: while let Some((pair, rest)) = ps.split_first() {
-            match evaluate(alloc, scopes, Control::Eval(&pair.high), &mut self.frames)? {
-                Outcome::Busy(head) => {
-                    return Ok(Point::In(head, Within::Bounding(kind, ns, all, vs, rest)));
+            match evaluate(alloc, scopes, Control::Eval(&pair.high), &mut self.frames) {
+                Ok(Outcome::Busy(head)) => {
+                    let within = Within::Bounding(kind, ns, all, vs, rest);
+                    stand(&mut self.point, Point::In(head, within));
+                    return Ok(());
                 }
-                Outcome::Value(v) => append(&mut vs, v)?,
+                Ok(Outcome::Value(v)) => add_value(&mut vs, v)?,
+                Err(error) => return Err(error),
             }
             ps = rest;
         }
-        Ok(Point::Deed(Deed::Arrays(kind, ns, all, vs)))
+        stand(
+            &mut self.point,
+            Point::Deed(Deed::Arrays(kind, ns, all, vs)),
+        );
+        Ok(())
     }
 
     /// A call whose actuals are all done.
-    fn called(role: Role<'p>, n: &'p Named, gs: List<Given<'p>>) -> Point<'p>
-        ensures { (sc : scoping.Scopes) (w : Work) → Finds sc (role_at role.entry n.now (rest.given (all_done gs.entry)) (ahead w)) result w }
+    fn call(&mut self, role: Role<'p>, n: &'p Named, gs: List<Given<'p>>)
+        ensures { (sc : scoping.Scopes) → Finds sc (role_at role.entry n.now (rest.given (all_done gs.entry)) (ahead self.old)) self.new }
     {
         match role {
-            Role::Calls => Point::Enter(n, gs),
-            Role::Starts(task) => Point::Deed(Deed::Start(n, gs, task)),
+            Role::Calls => stand(&mut self.point, Point::Enter(n, gs)),
+            Role::Starts(task) => stand(&mut self.point, Point::Deed(Deed::Start(n, gs, task))),
         }
     }
 
@@ -163,28 +183,38 @@ impl<'p> Work<'p> {
         n: &'p Named,
         before: List<Given<'p>>,
         actuals: &'p [Expr],
-    ) -> Result<Point<'p>, AllocError>
+    ) -> Result<(), AllocError>
         requires { self.old.frames ≡ [] }
-        ensures { IfOk result (λ p. Finds (scoped scopes.now) (role_at role.entry n.now (settling.settle_actuals (scoped scopes.now) (exprs actuals.now) (sorts_from (scoped scopes.now) n.now (length before.entry)) (all_done before.entry)) (ahead self.old)) p self.new) }
+        ensures { IfOk result (λ _. Finds (scoped scopes.now) (role_at role.entry n.now (settling.settle_actuals (scoped scopes.now) (exprs actuals.now) (sorts_from (scoped scopes.now) n.now (length before.entry)) (all_done before.entry)) (ahead self.old)) self.new) }
     {
         let mut gs = before;
         let mut es = actuals;
         'preparing: loop {
-            match supplied(scopes, n, gs, es)? {
-                Supplied::Given(gs) => return Ok(Work::called(role, n, gs)),
-                Supplied::Pass(gs, m, es) => return Ok(Point::Pass(role, n, gs, m, es)),
-                Supplied::Value(more, e, rest) => {
-                    match evaluate(alloc, scopes, Control::Eval(e), &mut self.frames)? {
-                        Outcome::Busy(head) => {
-                            return Ok(Point::In(head, Within::Supplying(role, n, more, rest)));
+            match supplied(scopes, n, gs, es) {
+                Ok(Supplied::Given(gs)) => {
+                    self.call(role, n, gs);
+                    return Ok(());
+                }
+                Ok(Supplied::Pass(gs, m, es)) => {
+                    stand(&mut self.point, Point::Pass(role, n, gs, m, es));
+                    return Ok(());
+                }
+                Ok(Supplied::Value(more, e, rest)) => {
+                    match evaluate(alloc, scopes, Control::Eval(e), &mut self.frames) {
+                        Ok(Outcome::Busy(head)) => {
+                            let within = Within::Supplying(role, n, more, rest);
+                            stand(&mut self.point, Point::In(head, within));
+                            return Ok(());
                         }
-                        Outcome::Value(v) => {
+                        Ok(Outcome::Value(v)) => {
                             gs = more;
-                            append(&mut gs, Given::Valued(v))?;
+                            add_given(&mut gs, Given::Valued(v))?;
                             es = rest;
                         }
+                        Err(error) => return Err(error),
                     }
                 }
+                Err(error) => return Err(error),
             }
         }
     }
@@ -196,13 +226,16 @@ impl<'p> Work<'p> {
         scopes: &Scopes<'p>,
         sought: Sought<'p>,
         at: Place<'p>,
-    ) -> Result<Point<'p>, AllocError>
+    ) -> Result<(), AllocError>
         requires { self.old.frames ≡ [] }
-        ensures { IfOk result (λ p. Finds (scoped scopes.now) (sought_at (scoped scopes.now) sought.entry (rest.at (place at.entry)) (ahead self.old)) p self.new) }
+        ensures { IfOk result (λ _. Finds (scoped scopes.now) (sought_at (scoped scopes.now) sought.entry (rest.at (place at.entry)) (ahead self.old)) self.new) }
     {
         match sought {
             Sought::Aiming(right) => self.assign(alloc, scopes, at, right),
-            Sought::Locating => Ok(Point::Last(Last::GivingPlace(at))),
+            Sought::Locating => {
+                stand(&mut self.point, Point::Last(Last::GivingPlace(at)));
+                Ok(())
+            }
         }
     }
 
@@ -216,13 +249,24 @@ impl<'p> Work<'p> {
         ks: List<usize>,
         e: &'p Expr,
         es: &'p [Expr],
-    ) -> Result<Point<'p>, AllocError>
+    ) -> Result<(), AllocError>
         requires { self.old.frames ≡ [] }
-        ensures { IfOk result (λ p. Finds (scoped scopes.now) (sought_at (scoped scopes.now) sought.entry (settling.aimed_of n.now ks (settling.settle (scoped scopes.now) (expr e.now)) (exprs es.now)) (ahead self.old)) p self.new) }
+        ensures { IfOk result (λ _. Finds (scoped scopes.now) (sought_at (scoped scopes.now) sought.entry (settling.aimed_of n.now ks (settling.settle (scoped scopes.now) (expr e.now)) (exprs es.now)) (ahead self.old)) self.new) }
     {
-        match evaluate(alloc, scopes, Control::Eval(e), &mut self.frames)? {
-            Outcome::Busy(head) => Ok(Point::In(head, Within::Subscripting(sought, n, ks, es))),
-            Outcome::Value(v) => Ok(Point::Seek(sought, Target::Index(n, ks, v, es))),
+        match evaluate(alloc, scopes, Control::Eval(e), &mut self.frames) {
+            Ok(Outcome::Busy(head)) => {
+                let within = Within::Subscripting(sought, n, ks, es);
+                stand(&mut self.point, Point::In(head, within));
+                Ok(())
+            }
+            Ok(Outcome::Value(v)) => {
+                stand(
+                    &mut self.point,
+                    Point::Seek(sought, Target::Index(n, ks, v, es)),
+                );
+                Ok(())
+            }
+            Err(error) => Err(error),
         }
     }
 
@@ -233,12 +277,13 @@ impl<'p> Work<'p> {
         scopes: &Scopes<'p>,
         sought: Sought<'p>,
         n: &'p Named,
-    ) -> Result<Point<'p>, AllocError>
+    ) -> Result<(), AllocError>
         requires { self.old.frames ≡ [] }
-        ensures { IfOk result (λ p. Finds (scoped scopes.now) (sought_at (scoped scopes.now) sought.entry (settling.settle_place (scoped scopes.now) (tree.subscripted n.now tree.none)) (ahead self.old)) p self.new) }
+        ensures { IfOk result (λ _. Finds (scoped scopes.now) (sought_at (scoped scopes.now) sought.entry (settling.settle_place (scoped scopes.now) (tree.subscripted n.now tree.none)) (ahead self.old)) self.new) }
     {
         if scopes.sort_at(n).is_by_name() {
-            Ok(Point::Seek(sought, Target::Resolve(n)))
+            stand(&mut self.point, Point::Seek(sought, Target::Resolve(n)));
+            Ok(())
         } else {
             self.found(alloc, scopes, sought, Place::Own(n))
         }
@@ -252,14 +297,14 @@ impl<'p> Work<'p> {
         sought: Sought<'p>,
         n: &'p Named,
         es: &'p [Expr],
-    ) -> Result<Point<'p>, AllocError>
+    ) -> Result<(), AllocError>
         requires { self.old.frames ≡ [] }
-        ensures { IfOk result (λ p. Finds (scoped scopes.now) (sought_at (scoped scopes.now) sought.entry (settling.settle_place (scoped scopes.now) (tree.subscripted n.now (exprs es.now))) (ahead self.old)) p self.new) }
+        ensures { IfOk result (λ _. Finds (scoped scopes.now) (sought_at (scoped scopes.now) sought.entry (settling.settle_place (scoped scopes.now) (tree.subscripted n.now (exprs es.now))) (ahead self.old)) self.new) }
     {
         match es.split_first() {
             None => self.aim_alone(alloc, scopes, sought, n),
             Some((e, rest)) => {
-                self.aim_subscript(alloc, scopes, sought, n, List::of(Vec::new(alloc)), e, rest)
+                self.aim_subscript(alloc, scopes, sought, n, no_subscripts(alloc), e, rest)
             }
         }
     }
@@ -270,7 +315,7 @@ impl<'p> Work<'p> {
         v: Value,
         x: &'p Stmt,
         y: &'p Option<Box<Stmt>>,
-    ) -> Result<Option<Point<'p>>, AllocError>
+    ) -> Result<bool, AllocError>
         requires { self.old.frames ≡ [] }
         ensures { (sc : scoping.Scopes) (c : tree.PExpr) → IfOk result (λ found. Advances sc (tested sc (branched c (stmt x.now) y.now) (rest.val (value v)) (ahead self.old)) (test_size (branched c (stmt x.now) y.now) + weigh self.old.todo) found self.new) }
     {
@@ -282,16 +327,11 @@ impl<'p> Work<'p> {
                 }
             }
         }
-        Ok(None)
+        Ok(false)
     }
 
     /// The body of a WHILE, where its test holds, and what follows it.
-    fn turn_while(
-        &mut self,
-        v: Value,
-        s: &'p Stmt,
-        body: &'p Stmt,
-    ) -> Result<Option<Point<'p>>, AllocError>
+    fn turn_while(&mut self, v: Value, s: &'p Stmt, body: &'p Stmt) -> Result<bool, AllocError>
         requires { self.old.frames ≡ [] }
         ensures { (sc : scoping.Scopes) (c : tree.PExpr) → stmt s.now ≡ tree.while c (stmt body.now) → IfOk result (λ found. Advances sc (tested sc (tree.while c (stmt body.now)) (rest.val (value v)) (ahead self.old)) (test_size (tree.while c (stmt body.now)) + weigh self.old.todo) found self.new) }
     {
@@ -300,29 +340,25 @@ impl<'p> Work<'p> {
             self.todo.push(Next::Turn)?;
             self.todo.push(Next::Run(body))?;
         }
-        Ok(None)
+        Ok(false)
     }
 
     /// The next turn of a DO .. UNTIL, where its test does not hold.
-    fn turn_until(&mut self, v: Value, s: &'p Stmt) -> Result<Option<Point<'p>>, AllocError>
+    fn turn_until(&mut self, v: Value, s: &'p Stmt) -> Result<bool, AllocError>
         requires { self.old.frames ≡ [] }
         ensures { (sc : scoping.Scopes) (b : tree.PStmt) (c : tree.PExpr) → stmt s.now ≡ tree.until b c → IfOk result (λ found. Advances sc (tested sc (tree.until b c) (rest.val (value v)) (ahead self.old)) (test_size (tree.until b c) + weigh self.old.todo) found self.new) }
     {
         if truth_of(v) {
-            Ok(None)
+            Ok(false)
         } else {
             self.todo.push(Next::Run(s))?;
-            Ok(Some(Point::Deed(Deed::Turn)))
+            stand(&mut self.point, Point::Deed(Deed::Turn));
+            Ok(true)
         }
     }
 
     /// The body of a THRU, where its number is at least 1, and what follows it.
-    pub fn repeat(
-        &mut self,
-        n: Whole,
-        s: &'p Stmt,
-        b: &'p Stmt,
-    ) -> Result<Option<Point<'p>>, AllocError>
+    pub fn repeat(&mut self, n: Whole, s: &'p Stmt, b: &'p Stmt) -> Result<bool, AllocError>
         requires { self.old.frames ≡ [] }
         ensures { (sc : scoping.Scopes) (e : tree.PExpr) → stmt s.now ≡ tree.thru e (stmt b.now) → IfOk result (λ found. Advances sc (statements.repeated_of n (statements.counted_body sc (stmt b.now) (ahead self.old)) (settle_items sc (ahead self.old))) (stmt_size (tree.thru e (stmt b.now)) + weigh self.old.todo) found self.new) }
     {
@@ -333,7 +369,7 @@ impl<'p> Work<'p> {
             self.todo.push(Next::Turn)?;
             self.todo.push(Next::Run(b))?;
         }
-        Ok(None)
+        Ok(false)
     }
 
     /// The body of a FOR whose control variable is not past its limit, and what follows it.
@@ -343,7 +379,7 @@ impl<'p> Work<'p> {
         v: Value,
         s: &'p Stmt,
         b: &'p Stmt,
-    ) -> Result<Option<Point<'p>>, AllocError>
+    ) -> Result<bool, AllocError>
         requires { self.old.frames ≡ [] }
         ensures { (sc : scoping.Scopes) (n : Named) (e step last : tree.PExpr) → stmt s.now ≡ tree.for n e step last (stmt b.now) → IfOk result (λ found. Advances sc (stepped_by sc (value difference) (tree.for n e step last (stmt b.now)) (rest.val (value v)) (ahead self.old)) (stmt_size (tree.for n e step last (stmt b.now)) + weigh self.old.todo) found self.new) }
     {
@@ -353,7 +389,7 @@ impl<'p> Work<'p> {
             self.todo.push(Next::Again(Again::Step, s))?;
             self.todo.push(Next::Run(b))?;
         }
-        Ok(None)
+        Ok(false)
     }
 
     /// A FOR whose difference in its test has this value: its step comes next.
@@ -365,12 +401,15 @@ impl<'p> Work<'p> {
         s: &'p Stmt,
         step: &'p Expr,
         b: &'p Stmt,
-    ) -> Result<Option<Point<'p>>, AllocError>
+    ) -> Result<bool, AllocError>
         requires { self.old.frames ≡ [] }
         ensures { (n : Named) (e last : tree.PExpr) → stmt s.now ≡ tree.for n e (expr step.now) last (stmt b.now) → IfOk result (λ found. Advances (scoped scopes.now) (tested (scoped scopes.now) (tree.for n e (expr step.now) last (stmt b.now)) (rest.val (value v)) (ahead self.old)) (test_size (tree.for n e (expr step.now) last (stmt b.now)) + weigh self.old.todo) found self.new) }
     {
         match evaluate(alloc, scopes, Control::Eval(step), &mut self.frames)? {
-            Outcome::Busy(head) => Ok(Some(Point::In(head, Within::Stepping(v, s)))),
+            Outcome::Busy(head) => {
+                stand(&mut self.point, Point::In(head, Within::Stepping(v, s)));
+                Ok(true)
+            }
             Outcome::Value(by) => self.turn_for(v, by, s, b),
         }
     }
@@ -383,7 +422,7 @@ impl<'p> Work<'p> {
         scopes: &Scopes<'p>,
         v: Value,
         s: &'p Stmt,
-    ) -> Result<Option<Point<'p>>, AllocError>
+    ) -> Result<bool, AllocError>
         requires { self.old.frames ≡ [] }
         ensures { IfOk result (λ found. Advances (scoped scopes.now) (tested (scoped scopes.now) (stmt s.now) (rest.val (value v)) (ahead self.old)) (test_size (stmt s.now) + weigh self.old.todo) found self.new) }
     {
@@ -393,25 +432,29 @@ impl<'p> Work<'p> {
             Stmt::Until(_, _) => self.turn_until(v, s),
             Stmt::Thru(_, b) => self.repeat(whole_of(v), s, b),
             Stmt::For(_, _, step, _, b) => self.test_for(alloc, scopes, v, s, step, b),
-            Stmt::Case(_, ss) => Ok(Some(Point::Select(v, ss.items()))),
-            _ => Ok(Some(Point::Last(Last::Giving(v)))),
+            Stmt::Case(_, ss) => {
+                stand(&mut self.point, Point::Select(v, ss.items()));
+                Ok(true)
+            }
+            _ => {
+                stand(&mut self.point, Point::Last(Last::Giving(v)));
+                Ok(true)
+            }
         }
     }
 
     /// A FOR whose step in its test has this value.
     #[tactic(auto, using(crate::proofs::Statements::stmt_laws))]
-    fn stepped(
-        &mut self,
-        difference: Value,
-        v: Value,
-        s: &'p Stmt,
-    ) -> Result<Option<Point<'p>>, AllocError>
+    fn stepped(&mut self, difference: Value, v: Value, s: &'p Stmt) -> Result<bool, AllocError>
         requires { self.old.frames ≡ [] }
         ensures { (sc : scoping.Scopes) → IfOk result (λ found. Advances sc (stepped_by sc (value difference) (stmt s.now) (rest.val (value v)) (ahead self.old)) (stmt_size (stmt s.now) + weigh self.old.todo) found self.new) }
     {
         match s {
             Stmt::For(_, _, _, _, b) => self.turn_for(difference, v, s, b),
-            _ => Ok(Some(Point::Last(Last::Giving(v)))),
+            _ => {
+                stand(&mut self.point, Point::Last(Last::Giving(v)));
+                Ok(true)
+            }
         }
     }
 
@@ -426,15 +469,13 @@ impl<'p> Work<'p> {
         n: &'p Named,
         mut gs: List<Given<'p>>,
         es: &'p [Expr],
-    ) -> Result<Option<Point<'p>>, AllocError>
+    ) -> Result<bool, AllocError>
         requires { self.old.frames ≡ [] }
         ensures { IfOk result (λ found. Advances (scoped scopes.now) (role_at role.entry n.now (settling.settle_actuals (scoped scopes.now) (exprs es.now) (sorts_after (scoped scopes.now) n.now gs.entry) (all_done gs.entry ++ rest.valued (value v) ∷ [])) (ahead self.old)) (1 + weigh self.old.todo) found self.new) }
     {
-        append(&mut gs, Given::Valued(v))?;
-        match self.prepare(alloc, scopes, role, n, gs, es) {
-            Ok(point) => Ok(Some(point)),
-            Err(error) => Err(error),
-        }
+        add_given(&mut gs, Given::Valued(v))?;
+        self.prepare(alloc, scopes, role, n, gs, es)?;
+        Ok(true)
     }
 
     /// An item of a line has this value, and the items after it come next.
@@ -447,15 +488,13 @@ impl<'p> Work<'p> {
         phrases: &'p [PhraseText],
         mut vs: List<Value>,
         es: &'p [Expr],
-    ) -> Result<Option<Point<'p>>, AllocError>
+    ) -> Result<bool, AllocError>
         requires { self.old.frames ≡ [] }
         ensures { IfOk result (λ found. Advances (scoped scopes.now) (statements.settle_line (scoped scopes.now) (exprs es.now) phrases.now (ahead self.old) (map value vs ++ value v ∷ [])) (1 + weigh self.old.todo) found self.new) }
     {
-        append(&mut vs, v)?;
-        match self.write(alloc, scopes, phrases, vs, es) {
-            Ok(point) => Ok(Some(point)),
-            Err(error) => Err(error),
-        }
+        add_value(&mut vs, v)?;
+        self.write(alloc, scopes, phrases, vs, es)?;
+        Ok(true)
     }
 
     /// An upper bound has this value, and the bounds after it come next.
@@ -470,15 +509,13 @@ impl<'p> Work<'p> {
         all: &'p [Pair],
         mut vs: List<Value>,
         left: &'p [Pair],
-    ) -> Result<Option<Point<'p>>, AllocError>
+    ) -> Result<bool, AllocError>
         requires { self.old.frames ≡ [] }
         ensures { IfOk result (λ found. Advances (scoped scopes.now) (statements.settle_bounds (scoped scopes.now) (pairs left.now) kind ns.now (pairs all.now) (ahead self.old) (map value vs ++ value v ∷ [])) (1 + weigh self.old.todo) found self.new) }
     {
-        append(&mut vs, v)?;
-        match self.bound(alloc, scopes, kind, ns, all, vs, left) {
-            Ok(point) => Ok(Some(point)),
-            Err(error) => Err(error),
-        }
+        add_value(&mut vs, v)?;
+        self.bound(alloc, scopes, kind, ns, all, vs, left)?;
+        Ok(true)
     }
 
     /// What follows an expression with this value.
@@ -489,20 +526,30 @@ impl<'p> Work<'p> {
         scopes: &Scopes<'p>,
         v: Value,
         within: Within<'p>,
-    ) -> Result<Option<Point<'p>>, AllocError>
+    ) -> Result<bool, AllocError>
         requires { self.old.frames ≡ [] }
         ensures { IfOk result (λ found. Advances (scoped scopes.now) (held (scoped scopes.now) within.entry (rest.val (value v)) (ahead self.old)) (within_size within.entry + weigh self.old.todo) found self.new) }
     {
         match within {
-            Within::Evaluating => Ok(Some(Point::Last(Last::Giving(v)))),
-            Within::Storing(to) => Ok(Some(Point::Deed(Deed::Store(to, v)))),
+            Within::Evaluating => {
+                stand(&mut self.point, Point::Last(Last::Giving(v)));
+                Ok(true)
+            }
+            Within::Storing(to) => {
+                stand(&mut self.point, Point::Deed(Deed::Store(to, v)));
+                Ok(true)
+            }
             Within::Testing(s) => self.tested(alloc, scopes, v, s),
             Within::Stepping(difference, s) => self.stepped(difference, v, s),
             Within::Supplying(role, n, gs, es) => {
                 self.supply_value(alloc, scopes, v, role, n, gs, es)
             }
             Within::Subscripting(sought, n, ks, es) => {
-                Ok(Some(Point::Seek(sought, Target::Index(n, ks, v, es))))
+                stand(
+                    &mut self.point,
+                    Point::Seek(sought, Target::Index(n, ks, v, es)),
+                );
+                Ok(true)
             }
             Within::Writing(phrases, vs, es) => {
                 self.write_value(alloc, scopes, v, phrases, vs, es)
@@ -520,11 +567,14 @@ impl<'p> Work<'p> {
         scopes: &Scopes<'p>,
         from: Control<'p>,
         within: Within<'p>,
-    ) -> Result<Option<Point<'p>>, AllocError>
+    ) -> Result<bool, AllocError>
         ensures { IfOk result (λ found. Advances (scoped scopes.now) (held (scoped scopes.now) within.entry (refilled (scoped scopes.now) self.old.frames (half (scoped scopes.now) from.entry)) (ahead self.old)) (within_size within.entry + weigh self.old.todo) found self.new) }
     {
         match evaluate(alloc, scopes, from, &mut self.frames) {
-            Ok(Outcome::Busy(head)) => Ok(Some(Point::In(head, within))),
+            Ok(Outcome::Busy(head)) => {
+                stand(&mut self.point, Point::In(head, within));
+                Ok(true)
+            }
             Ok(Outcome::Value(v)) => self.held_value(alloc, scopes, v, within),
             Err(error) => {
                 discard(within);
@@ -541,48 +591,44 @@ impl<'p> Work<'p> {
         kind: Kind,
         ns: &'p [Named],
         ps: &'p [Pair],
-    ) -> Result<Option<Point<'p>>, AllocError>
+    ) -> Result<bool, AllocError>
         requires { self.old.frames ≡ [] }
         ensures { IfOk result (λ found. Advances (scoped scopes.now) (settle_items (scoped scopes.now) (rest.make_arrays kind ns.now (pairs ps.now) ∷ ahead self.old)) (3 + weigh self.old.todo) found self.new) }
     {
-        match self.bound(alloc, scopes, kind, ns, ps, List::of(Vec::new(alloc)), ps) {
-            Ok(point) => Ok(Some(point)),
-            Err(error) => Err(error),
-        }
+        self.bound(alloc, scopes, kind, ns, ps, no_values(alloc), ps)?;
+        Ok(true)
     }
 
     /// The making of events.
-    pub fn make_events(&mut self, ns: &'p [Named]) -> Result<Option<Point<'p>>, AllocError>
+    pub fn make_events(&mut self, ns: &'p [Named]) -> Result<bool, AllocError>
         requires { self.old.frames ≡ [] }
         ensures { (sc : scoping.Scopes) → IfOk result (λ found. Advances sc (settle_items sc (statements.event_items ns.now ++ ahead self.old)) (3 + length ns.now + weigh self.old.todo) found self.new) }
     {
         self.todo.push(Next::Events(ns))?;
-        Ok(None)
+        Ok(false)
     }
 
     /// A BEGIN with these declarations and statements: a block is entered, a compound is not.
     #[tactic(auto, using(crate::proofs::Following::list_laws))]
-    pub fn open(
-        &mut self,
-        b: &'p Body,
-        ds: &'p [Decl],
-        ss: &'p [Stmt],
-    ) -> Result<Option<Point<'p>>, AllocError>
+    pub fn open(&mut self, b: &'p Body, ds: &'p [Decl], ss: &'p [Stmt]) -> Result<bool, AllocError>
         requires empty { self.old.frames ≡ [] }
         requires whole { seen.body b.now ≡ tree.body b.now.spot (seen.decls ds.now) (stmts ss.now) }
         ensures { (sc : scoping.Scopes) → IfOk result (λ found. Advances sc (settle_items sc (rest.run (tree.block (tree.body b.now.spot (seen.decls ds.now) (stmts ss.now))) ∷ ahead self.old)) (2 + stmts_size (stmts ss.now) + weigh self.old.todo) found self.new) }
     {
         match ds.split_first() {
-            Some(_) => Ok(Some(Point::EnterBlock(b))),
+            Some(_) => {
+                stand(&mut self.point, Point::EnterBlock(b));
+                Ok(true)
+            }
             None => {
                 self.todo.push(Next::Rest(ss))?;
-                Ok(None)
+                Ok(false)
             }
         }
     }
 
     /// The statements of a list from there on.
-    pub fn next_statement(&mut self, ss: &'p [Stmt]) -> Result<Option<Point<'p>>, AllocError>
+    pub fn next_statement(&mut self, ss: &'p [Stmt]) -> Result<bool, AllocError>
         requires { self.old.frames ≡ [] }
         ensures { (sc : scoping.Scopes) → IfOk result (λ found. Advances sc (settle_items sc (statements.items (stmts ss.now) (ahead self.old))) (1 + stmts_size (stmts ss.now) + weigh self.old.todo) found self.new) }
     {
@@ -590,19 +636,20 @@ impl<'p> Work<'p> {
             self.todo.push(Next::Rest(rest))?;
             self.todo.push(Next::Run(first))?;
         }
-        Ok(None)
+        Ok(false)
     }
 
     /// An event for each of these names.
-    pub fn next_event(&mut self, ns: &'p [Named]) -> Result<Option<Point<'p>>, AllocError>
+    pub fn next_event(&mut self, ns: &'p [Named]) -> Result<bool, AllocError>
         requires { self.old.frames ≡ [] }
         ensures { (sc : scoping.Scopes) → IfOk result (λ found. Advances sc (settle_items sc (statements.event_items ns.now ++ ahead self.old)) (1 + length ns.now + weigh self.old.todo) found self.new) }
     {
         match ns.split_first() {
-            None => Ok(None),
+            None => Ok(false),
             Some((n, rest)) => {
                 self.todo.push(Next::Events(rest))?;
-                Ok(Some(Point::Deed(Deed::MakeEvent(n))))
+                stand(&mut self.point, Point::Deed(Deed::MakeEvent(n)));
+                Ok(true)
             }
         }
     }

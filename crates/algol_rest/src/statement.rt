@@ -125,9 +125,11 @@ pub enum Point<'p> {
     In(Head<'p>, Within<'p>),
 }
 
-/// A part's work: what is around its head, with the innermost newest, and what follows, with the next newest.
+/// A part's work: where it stands, what is around its head, with the innermost newest, and what follows, with the next
+/// newest.
 #[derive(Drop)]
 pub struct Work<'p> {
+    pub point: Box<Point<'p>>,
     pub frames: Stack<Frame<'p>>,
     pub todo: Stack<Next<'p>>,
 }
