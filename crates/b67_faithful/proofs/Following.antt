@@ -1,5 +1,5 @@
 -- A code whose images picture the worlds of a source follows it.
-use Rattle.std.proofs.Common.{append_assoc, inl, inr, ◌≡◌, ℕ, ◌+◌, List, [], ◌∷◌, ◌++◌, Option, Some, true, refl, sym, ap, ◌∙◌, subst}
+use Rattle.std.proofs.Common.{append_assoc, inl, inr, ◌≡◌, ℕ, ◌+◌, List, [], ◌∷◌, ◌++◌, length, Option, Some, true, refl, sym, ap, ◌∙◌, subst}
 use Rattle.std.specs.Prelude.{◌⊎◌, reverse}
 use Rattle.std.proofs.lemmas.List.{reverse-reverse}
 use Rattle.algol_tree.specs.Plain.{PProgram}
@@ -10,16 +10,23 @@ use Rattle.algol_meaning.specs.Choice.{choice}
 use Rattle.algol_meaning.specs.Run.{start, run, Legal, may_go}
 use Rattle.b67_segment.specs.declared.code.Code.{Code}
 use Rattle.b67_table.specs.Image.{Image}
+use Rattle.b67_table.specs.Ending.{failed}
+use Rattle.b67_table.specs.Outcome.{Outcome}
 use Rattle.b67_table.specs.Beginning.{first_image}
-use Rattle.b67_table.specs.Runs.{Plains, stay, go, Runs, begin, entry, Tails, none, next, TableRun}
+use Rattle.b67_table.specs.Runs.{Plains, stay, go, Acts, Entry, Runs, begin, entry, Tails, none, next, TableRun}
+use Rattle.b67_table.specs.Runs as runs
+use Rattle.b67_table.specs.Table.{table}
 use Rattle.b67_table.specs.Sound.{Sound}
 use Rattle.b67_faithful.specs.Agreement.{Agrees}
-use Rattle.b67_faithful.specs.Correspondence.{operator_action, operator_actions, action_in, source_actions}
+use Rattle.b67_letters.specs.Releases.{releases, started_between, started_by, starts}
+use Rattle.b67_letters.specs.Entries.{all_released, all_started}
+use Rattle.b67_faithful.specs.Correspondence.{operator_action, operator_actions, action_in, released_in, started_in, source_actions, source_released, source_started}
 use Rattle.b67_faithful.specs.Faithful.{ComesToLimit, Follows}
-use Rattle.b67_faithful.specs.Simulation.{Simulates, Comes, acts, stops}
+use Rattle.b67_faithful.specs.Simulation.{Simulates, Acted, Comes, acts, stops}
 use Rattle.b67_faithful.proofs.Contradictions.{some_same}
 use Rattle.b67_faithful.proofs.Sources.{reverse-cons, entered, entered_back, run-later, before}
 use Rattle.b67_faithful.proofs.Ways.{may_follow, may_lead}
+use Rattle.b67_faithful.proofs.Choices.{none_added, starts_who_is_added}
 
 module _ (tree : PProgram) (code : Code) (Pictures : World → Image → Type 0) (sim : Simulates tree code Pictures) where
   -- plain operators of a process lead through images of one world
@@ -59,18 +66,60 @@ module _ (tree : PProgram) (code : Code) (Pictures : World → Image → Type 0)
       let pic : Pictures rel.world img = tails_through rel.world rel.pictures r.after in
       record { world = rel.world; is = ap (run tree) r.order ∙ rel.is; shows = sim.shows rel.world img pic; fits = sim.fits rel.world img pic }
 
-  -- ---- actions
+  -- ---- what the entries do
 
-  same_actions : {h counts : List ℕ} {img : Image} → (r : Runs code h counts img) → operator_actions r ≡ source_actions tree h
-  same_actions begin = refl
-  same_actions (entry {h} {a = a} {b = b} {p = p} runs e) =
+  -- the entry of a run, and what the source does there
+  record Entering (h : List ℕ) (p : ℕ) (quiet b : Image) : Type 0 where
+    world : World
+    is : run tree (reverse h) ≡ Some world
+    quiet_is : Pictures world quiet
+    acted : Acted tree code Pictures world p quiet b
+
+  entering : {h counts : List ℕ} {a b : Image} {p n : ℕ} → Runs code h counts a → (e : Entry code p a n b) → Entering h p e.quiet b
+  entering {a = a} {b = b} {p = p} runs e =
       let so_far = related runs in
       let w = so_far.world in
       let may : may_go w p ≡ true = may_lead code w a (sim.shows w a so_far.pictures) p e.may in
       let quiet : Pictures w e.quiet = through w so_far.pictures e.plains in
-      let acted = sim.act w e.quiet b p quiet (may_follow code w e.quiet (sim.shows w e.quiet quiet) p may) e.action in
-      let own : operator_action code e.quiet p ≡ action_in tree (run tree (reverse h)) p = acted.action ∙ sym (ap (λ (o : Option World). action_in tree o p) so_far.is) in
-      ap (λ (x : Option Action). x ∷ operator_actions runs) own ∙ ap (λ (xs : List (Option Action)). action_in tree (run tree (reverse h)) p ∷ xs) (same_actions runs)
+      record {
+        world = w;
+        is = so_far.is;
+        quiet_is = quiet;
+        acted = sim.act w e.quiet b p quiet (may_follow code w e.quiet (sim.shows w e.quiet quiet) p may) e.action;
+      }
+
+  same_actions : {h counts : List ℕ} {img : Image} → (r : Runs code h counts img) → operator_actions r ≡ source_actions tree h
+  same_actions begin = refl
+  same_actions (entry {h} {p = p} runs e) =
+      let x = entering runs e in
+      let own : operator_action code e.quiet p ≡ action_in tree (run tree (reverse h)) p = x.acted.action ∙ sym (ap (λ (o : Option World). action_in tree o p) x.is) in
+      ap (λ (o : Option Action). o ∷ operator_actions runs) own ∙ ap (λ (xs : List (Option Action)). action_in tree (run tree (reverse h)) p ∷ xs) (same_actions runs)
+
+  same_released : {h counts : List ℕ} {img : Image} → (r : Runs code h counts img) → all_released r ≡ source_released tree h
+  same_released begin = refl
+  same_released (entry {h} {p = p} runs e) =
+      let x = entering runs e in
+      let own : releases code e.quiet p ≡ released_in tree (run tree (reverse h)) p = x.acted.released ∙ sym (ap (λ (o : Option World). released_in tree o p) x.is) in
+      ap (λ (ps : List ℕ). ps ∷ all_released runs) own ∙ ap (λ (xs : List (List ℕ)). released_in tree (run tree (reverse h)) p ∷ xs) (same_released runs)
+
+  -- the process that an entry starts is the one that is added
+  starts_added : (p : ℕ) (quiet b : Image) → Acts code p quiet b → starts code quiet p ≡ started_between quiet.started b.started
+  unfolding failed
+  starts_added p quiet b (runs.acts np t) = ap (λ (o : Outcome Image). started_by quiet o) t
+  starts_added p quiet b (runs.fails kind t) = ap (λ (o : Outcome Image). started_by quiet o) t ∙ none_added quiet.started
+
+  same_started : {h counts : List ℕ} {img : Image} → (r : Runs code h counts img) → all_started r ≡ source_started tree h
+  same_started begin = refl
+  same_started (entry {h} {b = b} {p = p} runs e) =
+      let x = entering runs e in
+      let c = choice (scopes_of tree) x.world p in
+      let own : starts code e.quiet p ≡ started_in tree (run tree (reverse h)) p =
+      starts_added p e.quiet b e.action
+      ∙ ap (λ (n : ℕ). started_between n b.started) (sim.shows x.world e.quiet x.quiet_is).started
+      ∙ ap (λ (n : ℕ). started_between (length x.world.processes) n) (sim.shows c.world b x.acted.pictures).started
+      ∙ sym (starts_who_is_added (scopes_of tree) x.world p)
+      ∙ sym (ap (λ (o : Option World). started_in tree o p) x.is) in
+      ap (λ (o : Option ℕ). o ∷ all_started runs) own ∙ ap (λ (xs : List (Option ℕ)). started_in tree (run tree (reverse h)) p ∷ xs) (same_started runs)
 
   -- ---- legal schedules
 
@@ -136,4 +185,12 @@ module _ (tree : PProgram) (code : Code) (Pictures : World → Image → Type 0)
   }
 
   pub simulations_follow : Follows tree code
-  simulations_follow = record { sound = sound; legal = agree; actions = λ schedule tails image r. same_actions r.runs; whole = legal_runs }
+  simulations_follow =
+      record {
+        sound = sound;
+        legal = agree;
+        actions = λ schedule tails image r. same_actions r.runs;
+        released = λ schedule tails image r. same_released r.runs;
+        started = λ schedule tails image r. same_started r.runs;
+        whole = legal_runs;
+      }

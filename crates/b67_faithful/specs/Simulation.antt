@@ -16,6 +16,7 @@ use Rattle.b67_table.specs.Ending.{may_act}
 use Rattle.b67_table.specs.Runs.{Plains, Acts}
 use Rattle.b67_table.specs.Touches.{IsPrivate}
 use Rattle.b67_table.specs.Sound.{Lives, OperatorTouches}
+use Rattle.b67_letters.specs.Releases.{releases}
 use Rattle.b67_faithful.specs.Agreement.{Shows, Fits}
 use Rattle.b67_faithful.specs.Correspondence.{operator_action}
 use Rattle.b67_faithful.specs.Faithful.{longest}
@@ -27,9 +28,10 @@ pub record AreFew (code : Code) (p n : ℕ) (quiet : Image) : Type 0 where
   pub acting : (after : Image) → Acts code p quiet after → n + 1 ≤ longest code.segments
 
 module _ (tree : PProgram) (code : Code) (Pictures : World → Image → Type 0) where
-  -- an action of a process of the code is that of the source, and leads to an image of the world after it
+  -- an action of a process of the code is that of the source, releases the same in the same order, and leads to an image of the world after it
   pub record Acted (w : World) (p : ℕ) (quiet after : Image) : Type 0 where
     pub action : operator_action code quiet p ≡ Some ((choice (scopes_of tree) w p).action)
+    pub released : releases code quiet p ≡ (choice (scopes_of tree) w p).released
     pub pictures : Pictures ((choice (scopes_of tree) w p).world) after
 
   -- the process comes by plain operators to its action, or to the stack limit

@@ -45,6 +45,7 @@ use Rattle.b67_cores.specs.Slots.{Known, SlotsAre}
 use Rattle.b67_cores.specs.Stretches.{CoreAt, FragmentsArePerformed, IsAt, Becomes, CellsAreMade}
 use Rattle.b67_faithful.specs.Weight.{weight}
 use Rattle.b67_fitting.specs.Nested.{AreNested}
+use Rattle.b67_faithful.specs.Correspondence.{as_action}
 use Rattle.b67_pictures.specs.Acting.{Does, gave, failed_by, stopped}
 use Rattle.b67_pictures.specs.Arrays.{Layout}
 use Rattle.b67_pictures.specs.Frames.{most_around, IsChained, Frame}
@@ -60,7 +61,8 @@ use Rattle.b67_pictures.proofs.IntrinsicRows.{enter_class}
 use Rattle.b67_pictures.proofs.Landing.{living_of}
 use Rattle.b67_pictures.proofs.MakingFrame as frames
 use Rattle.b67_pictures.proofs.MakingRow.{with_descriptors, size_faults, room_faults, arrays_raw}
-use Rattle.b67_pictures.proofs.Numbers.{length_set_numbered, most_or_more}
+use Rattle.b67_faithful.proofs.Choices.{length_set_numbered}
+use Rattle.b67_pictures.proofs.Numbers.{most_or_more}
 use Rattle.b67_pictures.proofs.Rows.{action_not_plain, action_is, fault_not_plain}
 use Rattle.b67_pictures.proofs.Scene.{Scene}
 use Rattle.b67_pictures.proofs.Stage.{gives_within, limit_beyond, faults_so, choice_is, goes_on, faulted}
@@ -299,7 +301,7 @@ module _ (tree : PProgram) (code : Code) (texts : ℕ → List Placed) (nested :
           by_size (inl small) =
               let table_is : table code img p ≡ outcomes.gives after = gives_within code img after p new.registers raw_is has_here.registers small in
               gave after not_plain table_is
-              (action_is code img p core s.has (ops.Plain kinds.Entr) made there (outcomes.gives after) table_is ∙ c.action ∙ ap (λ (o : Choice). Some o.action) (sym chosen))
+              (action_is code img p core s.has (ops.Plain kinds.Entr) made there (outcomes.gives after) table_is ∙ ap as_action c.action ∙ ap (λ (o : Choice). Some o.action) (sym chosen))
               (subst (λ (o : Choice). Pictures tree code texts o.world after) (sym chosen) (lay', pictured (omega (arith, small, new_core.top))))
           by_size (inr long) =
               stopped not_plain (limit_beyond code img after p new.registers raw_is has_here.registers long) (omega (arith, long, new_core.top, words_many, a.1.room, s.room, s.light))

@@ -1,5 +1,5 @@
 -- A block of a statement is entered.
-use Rattle.std.proofs.Common.{◌≡◌, inl, refl, sym, ap, ◌∙◌, subst, ℕ, ◌+◌, ◌-◌, ◌*◌, ◌≤◌, List, [], ◌∷◌, ◌++◌, length, Option, Some, None, Bool, false, not, arith}
+use Rattle.std.proofs.Common.{◌≡◌, inl, refl, sym, ap, ◌∙◌, subst, ℕ, ◌+◌, ◌-◌, ◌*◌, ◌≤◌, List, [], ◌∷◌, ◌++◌, length, Option, Some, None, Bool, false, not, arith, Ok}
 use Rattle.std.specs.Prelude.{if◌then◌else◌, slice_get}
 use Rattle.b67_list.specs.Numbered.{numbered}
 use Rattle.algol_tree.specs.declared.token.Spot.{Spot}
@@ -53,6 +53,7 @@ use Rattle.b67_pictures.specs.Acting.{Does}
 use Rattle.b67_pictures.specs.Frames.{most_around, IsComplete}
 use Rattle.b67_pictures.proofs.AskedEntries.{blocks_seen, block_unmade}
 use Rattle.b67_pictures.proofs.Completing.{complete_of}
+use Rattle.b67_letters.specs.Letters.{called_by}
 use Rattle.b67_pictures.proofs.EnterBlockRow.{block_leads, block_calls}
 use Rattle.b67_pictures.proofs.Entries.{Calls}
 use Rattle.b67_pictures.proofs.FreshCells.{none_given, none_are, none_lead}
@@ -67,6 +68,8 @@ use Rattle.b67_pictures.proofs.Stage.{choice_is}
 use Rattle.b67_pictures.proofs.Staying.{text_in, level_in, context_in, most_in}
 use Rattle.b67_pictures.proofs.StoreRow.{most_is}
 use Rattle.b67_pictures.proofs.Unmade.{makes, unmade}
+use Rattle.b67_table.specs.Look.{seen}
+use Rattle.b67_table.specs.References.{cell_of}
 
 module _ (tree : PProgram) (code : Code) (texts : ℕ → List Placed) (nested : LiesNested tree) (short : IsShort tree code)
     (fragments : FragmentsArePerformed) (begins_so : BlocksBegin) (starts : InnerBlocksStart) (keeps : RestsKeepToTheirText) (order : ArraysAreMadeInOrder)
@@ -170,7 +173,8 @@ module _ (tree : PProgram) (code : Code) (texts : ℕ → List Placed) (nested :
         spells = subst (λ (k : ℕ). Spells (texts k) s.stands.there.segment) (sym same_segment) s.stands.there.spells;
         leads = λ m x is. subst (λ (y : Pcw). Leads code img core a.0 x m y (place p linked.at)) c_is
             (block_leads code img core a.0 x m c (place p linked.at) (no_irw x is) (no_sirw x is) (ap as_pcw is ∙ as_pcw-pcw_word c at.fits) home_there);
-        calls = λ x is. block_calls code img core a.0 x (record { entered = false; stack = 0; displacement = 0; df = 0 }) c (place p linked.at) (no_irw x is);
+        calls = λ x is. subst (λ (y : Pcw). seen img.stacks (called_by x (cell_of core.registers x)) ≡ Ok y) c_is
+            (block_calls code img core a.0 x (record { entered = false; stack = 0; displacement = 0; df = 0 }) c (place p linked.at) (no_irw x is) (no_sirw x is) (ap as_pcw is ∙ as_pcw-pcw_word c at.fits));
       }
 
   -- ---- its code

@@ -11,11 +11,15 @@ use Rattle.b67_word.specs.Word.{Word, as_whole}
 use Rattle.b67_control.specs.declared.Mscw.{Mscw}
 use Rattle.b67_control.specs.declared.Pcw.{Pcw}
 use Rattle.b67_control.specs.declared.Irw.{Irw}
+use Rattle.b67_control.specs.declared.Sirw.{Sirw}
 use Rattle.b67_control.specs.Control.{as_irw, as_sirw, as_mscw, as_pcw}
 use Rattle.b67_control.proofs.ControlLaws.{as_sirw-other, as_pcw-pcw_word, as_mscw-mscw_word, kind_of-pcw_word}
 use Rattle.b67_ops.specs.declared.intrinsic.Intrinsic.{Intrinsic}
 use Rattle.b67_ops.specs.declared.intrinsic.Intrinsic.TheVariants as names
 use Rattle.b67_ops.specs.Intrinsics.{number_of, couple_of_intrinsic}
+use Rattle.b67_ops.specs.declared.Operator.TheVariants as ops
+use Rattle.b67_ops.specs.declared.PlainKind.TheVariants as kinds
+use Rattle.b67_word.specs.declared.Place.{Place}
 use Rattle.b67_segment.specs.Operators.{Placed}
 use Rattle.b67_segment.specs.declared.code.Code.{Code}
 use Rattle.b67_store.specs.Store.{words_of, words_or, word_at}
@@ -23,9 +27,14 @@ use Rattle.b67_table.specs.Arguments.{wholes_in, joined}
 use Rattle.b67_table.specs.Beginning.{base_mark, intrinsic_pcw, system_stack}
 use Rattle.b67_table.specs.Chains.{place}
 use Rattle.b67_table.specs.Image.{Image}
+use Rattle.b67_table.specs.declared.Cell.{Cell}
+use Rattle.b67_table.specs.declared.Reached.{Reached}
+use Rattle.b67_table.specs.Look.{Look, ◌>->◌, valid, seen}
+use Rattle.b67_table.specs.References.{cell_in, cell_of, irw_or_sirw, reached_in, one_sirw}
 use Rattle.b67_table.specs.Names.{intrinsic_numbered}
 use Rattle.b67_table.specs.Private.{frame}
-use Rattle.b67_faithful.specs.Correspondence.{action_of_intrinsic, if_intrinsic, called_action, irw_in, called_by}
+use Rattle.b67_letters.specs.declared.Letter.{Letter}
+use Rattle.b67_letters.specs.Letters.{told_by, letter_of, intrinsic_letter, called_letter, called_by, operator_letter}
 use Rattle.b67_templates.specs.Fragments.{HasKind}
 use Rattle.b67_standing.specs.Stepping.{Slot, operand, reference, intrinsic, control, descriptor, mark}
 use Rattle.b67_standing.specs.Standing.{operands, AreNumbers}
@@ -184,7 +193,7 @@ module _ (tree : PProgram) (code : Code) (texts : ℕ → List Placed) (w : Worl
     pub others : List Word
     pub calls : CallsIntrinsic img core name arguments reference marked others
     pub wholes : wholes_in (reverse arguments) ≡ Some (wholes_of vs)
-    pub action : called_by img core.registers ≡ Some (action_of_intrinsic name)
+    pub action : operator_letter (ops.Plain kinds.Entr) img core.registers ≡ Some (letter_of name)
     pub after_at : (pc : ℕ) → CoreAt sc s.stands.held code (text_in tree texts w part) (level_in tree w part) pc below (without_call core others calls.m.df pc)
     pub few : length below ≤ most_in tree w part
 
@@ -278,13 +287,27 @@ module _ (tree : PProgram) (code : Code) (texts : ℕ → List Placed) (w : Worl
           reads_lower = lower.reads;
         }
 
-    action_is_called : called_by img core.registers ≡ Some (action_of_intrinsic name)
+    reference_lies : word_at img.stacks (place core.registers.stack (core.registers.f + 1)) ≡ Some i.word
+    reference_lies =
+        ap (λ (ws : List Word). slice_get ws (core.registers.f + 1)) (words_are img p core s.has ∙ ap (λ (ws : List Word). core.below ++ reverse ws) all_words)
+        ∙ word-under core.below g.arguments i.word (k.word ∷ k.words_below) (core.registers.f + 1) (omega (arith, mark_at, long))
+
+    abbrev entry_cell : Cell
+    entry_cell = record { frame = place 0 0; index = number_of name }
+
+    abbrev found_in : Look Pcw → Option Letter
+    found_in l = told_by called_letter (seen img.stacks l)
+
+    -- the intrinsic is what ENTR calls
+    action_is_called : operator_letter (ops.Plain kinds.Entr) img core.registers ≡ Some (letter_of name)
     action_is_called =
-        let at : core.registers.f + 1 ≡ base + length (k.word ∷ k.words_below) = omega (arith, mark_at, long) in
-        ap (λ (ws : List Word). called_action (irw_in (slice_get ws (core.registers.f + 1)))) (words_are img p core s.has ∙ ap (λ (ws : List Word). core.below ++ reverse ws) all_words)
-        ∙ ap (λ (o : Option Word). called_action (irw_in o)) (word-under core.below g.arguments i.word (k.word ∷ k.words_below) (core.registers.f + 1) at)
-        ∙ ap (λ (o : Option Irw). called_action o) reads_reference
-        ∙ ap (λ (o : Option Intrinsic). if_intrinsic o) intrinsic_is.named
+        ap (λ (o : Option Word). found_in (valid o >-> (λ (above : Word). called_by above (cell_of core.registers above)))) reference_lies
+        ∙ ap (λ (o : Option Irw). found_in (called_by i.word (irw_or_sirw core.registers o (as_sirw i.word)))) reads_reference
+        ∙ ap (λ (o : Option Place). found_in (called_by i.word (cell_in o (number_of name)))) s.sees
+        ∙ ap (λ (o : Option Word). found_in (reached_in entry_cell o >-> (λ (v : Reached). one_sirw (as_sirw v.word) v) >-> (λ (v : Reached). valid (as_pcw v.word)))) entry_lies
+        ∙ ap (λ (o : Option Sirw). found_in (one_sirw o (record { word = intrinsic_pcw (number_of name); cell = entry_cell }) >-> (λ (v : Reached). valid (as_pcw v.word)))) (pcw_no_sirw name)
+        ∙ ap (λ (o : Option Pcw). found_in (valid o)) (pcw_read name)
+        ∙ ap (λ (o : Option Intrinsic). intrinsic_letter o) intrinsic_is.named
 
     after_call : (pc : ℕ) → CoreAt sc s.stands.held code (text_in tree texts w part) (level_in tree w part) pc below (without_call core k.words_below df pc)
     after_call pc =

@@ -37,7 +37,9 @@ use Rattle.b67_cores.specs.Cores.{Core, size, HasCore, IsCore, with_core, here}
 use Rattle.b67_cores.specs.Slots.{ValueIs, newest, SlotsAre}
 use Rattle.b67_cores.specs.Stretches.{CoreAt, FragmentsArePerformed}
 use Rattle.b67_cores.proofs.Moving.{slots_length}
-use Rattle.b67_faithful.specs.Correspondence.{stored_action, indexed_in, stored_by}
+use Rattle.b67_letters.specs.declared.Letter.TheVariants as letters
+use Rattle.b67_letters.specs.Letters.{told_by, element_or_not, stored_letter, operator_letter}
+use Rattle.b67_faithful.specs.Correspondence.{as_action}
 use Rattle.b67_faithful.specs.Weight.{weight}
 use Rattle.b67_pictures.specs.Arrays.{Layout, AreMade, HoldElements, ArraysAre, IsElement, AreKnown}
 use Rattle.b67_pictures.specs.Acting.{Does, gave}
@@ -48,13 +50,14 @@ use Rattle.b67_pictures.proofs.Cored.{registers_now, has_now, others_have, syste
 use Rattle.b67_pictures.proofs.ElementHomes.{at_element, ElementHome, element_home}
 use Rattle.b67_pictures.proofs.ElementRows.{ElementFound, element_found}
 use Rattle.b67_pictures.proofs.Homes.{operator_there}
-use Rattle.b67_pictures.proofs.IndexRows.{without_two, under_word, stored_gives, stored_raw, stored_class}
+use Rattle.b67_pictures.proofs.IndexRows.{without_two, two_seen, stored_gives, stored_raw, stored_class}
 use Rattle.b67_pictures.proofs.Kept.{AreAlike, alike_but}
 use Rattle.b67_pictures.proofs.Knowing.{KeepsArrays, known_is, known_of}
 use Rattle.b67_pictures.proofs.Landing.{living_of}
 use Rattle.b67_pictures.proofs.Lying.{StayBelow}
 use Rattle.b67_pictures.proofs.MadeArrays.{IsPast, past_values}
-use Rattle.b67_pictures.proofs.Numbers.{numbered_set, length_set_numbered}
+use Rattle.b67_faithful.proofs.Choices.{length_set_numbered}
+use Rattle.b67_pictures.proofs.Numbers.{numbered_set}
 use Rattle.b67_pictures.proofs.OwnCells.{OwnCells, framed_cells}
 use Rattle.b67_pictures.proofs.Rows.{action_not_plain, action_is}
 use Rattle.b67_pictures.proofs.Scene.{Scene}
@@ -283,10 +286,10 @@ module _ (tree : PProgram) (code : Code) (texts : ℕ → List Placed) (fragment
     raw_is = stored_raw code img p core s.has next there ∙ stored_gives img p core s.has x y words top (at_element e.at e.number) old.word h.reads old.lies (value_tag v x x_is) next
 
     -- the word under the top is the descriptor of an element
-    stored_here : Some (stored_by img core.registers) ≡ Some ElementStore
+    stored_here : operator_letter (ops.Plain kinds.Stod) img core.registers ≡ Some letters.ElementStore
     stored_here =
-        ap (λ (o : Option Word). Some (stored_action (indexed_in o))) (under_word img p core s.has x y words top)
-        ∙ ap (λ o. Some (stored_action o)) h.reads
+        ap (told_by stored_letter) (two_seen img p core s.has x y words top)
+        ∙ ap (λ o. Some (element_or_not letters.ElementStore letters.Store o)) h.reads
 
     held : length below ≤ most_in tree w part
     held = let more : length st.slots ≡ length below + 2 = ap length a.2.lies ∙ omega arith in omega (arith, st.few, more)
@@ -365,7 +368,7 @@ module _ (tree : PProgram) (code : Code) (texts : ℕ → List Placed) (fragment
         let is : table code img p ≡ outcomes.gives after =
         gives_within code img after p new.registers raw_is (registers_now img' p core new has' refl) (omega (arith, smaller, is_new.top)) in
         gave after (action_not_plain code img p core s.has (ops.Plain kinds.Stod) next there (stored_class core.registers.place)) is
-        (action_is code img p core s.has (ops.Plain kinds.Stod) next there (outcomes.gives after) is ∙ stored_here ∙ ap (λ (c : Choice). Some c.action) (sym chosen))
+        (action_is code img p core s.has (ops.Plain kinds.Stod) next there (outcomes.gives after) is ∙ ap as_action stored_here ∙ ap (λ (c : Choice). Some c.action) (sym chosen))
         (lay, subst (λ (c : Choice). PicturesBy tree code texts c.world lay after) (sym chosen) pictured)
 
   pub element_storing : Does tree code texts w img p

@@ -39,7 +39,8 @@ use Rattle.b67_pictures.proofs.ExitRow.{ended_at, exit_raw, exit_class, exit_act
 use Rattle.b67_pictures.proofs.Homes.{operator_there}
 use Rattle.b67_pictures.proofs.Independent.{none_critical, none_dependent}
 use Rattle.b67_pictures.proofs.Kept.{AreAlike, alike_but}
-use Rattle.b67_pictures.proofs.Numbers.{numbered_set, numbered_other, length_set_numbered}
+use Rattle.b67_faithful.proofs.Choices.{length_set_numbered}
+use Rattle.b67_pictures.proofs.Numbers.{numbered_set, numbered_other}
 use Rattle.b67_pictures.proofs.Rows.{action_not_plain}
 use Rattle.b67_pictures.proofs.Scene.{Scene, frame_is}
 use Rattle.b67_pictures.proofs.Stage.{choice_is, comes_to, gives_within}

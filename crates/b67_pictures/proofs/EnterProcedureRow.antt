@@ -1,7 +1,5 @@
 -- ENTR on the reference of a procedure's control word: its home is the frame in which that word lies.
-use Rattle.std.proofs.Common.{◌≡◌, ap, ◌∙◌, ℕ, ◌+◌, ◌≤◌, Option, Some, None, Bool, false, arith}
-use Rattle.std.specs.Prelude.{if◌then◌else◌, nat_eq}
-use Rattle.std.proofs.lemmas.Bool.Decides.{nat_tests}
+use Rattle.std.proofs.Common.{◌≡◌, ap, ◌∙◌, ℕ, ◌+◌, Option, Some, None, Ok}
 use Rattle.b67_word.specs.declared.Place.{Place}
 use Rattle.b67_word.specs.Word.{Word}
 use Rattle.b67_control.specs.declared.Registers.{Registers}
@@ -14,21 +12,16 @@ use Rattle.b67_segment.specs.declared.code.Code.{Code}
 use Rattle.b67_store.specs.Store.{word_at}
 use Rattle.b67_table.specs.declared.Cell.{Cell}
 use Rattle.b67_table.specs.declared.Reached.{Reached}
-use Rattle.b67_table.specs.Names.{intrinsic_numbered}
 use Rattle.b67_table.specs.Effect.{Effect}
 use Rattle.b67_table.specs.Image.{Image}
-use Rattle.b67_table.specs.Look.{◌>->◌, valid}
+use Rattle.b67_table.specs.Look.{◌>->◌, valid, seen}
 use Rattle.b67_table.specs.Private.{display_at}
 use Rattle.b67_table.specs.Program.{Program, effect_of, asked, see, ◌>>=◌}
-use Rattle.b67_table.specs.References.{cell_in, irw_or_sirw, reached_in, one_sirw}
+use Rattle.b67_table.specs.References.{cell_in, cell_of, irw_or_sirw, reached_in, one_sirw}
 use Rattle.b67_table.specs.Rows.{enter_by, enter_procedure}
-use Rattle.algol_meaning.specs.Actions as act
 use Rattle.b67_cores.specs.Cores.{Core}
-use Rattle.b67_faithful.specs.Correspondence.{called_action, if_intrinsic}
+use Rattle.b67_letters.specs.Letters.{called_by}
 use Rattle.b67_pictures.proofs.EntryRow.{Leads}
-
-not_zero : (n : ℕ) → 1 ≤ n → nat_eq n 0 ≡ false
-not_zero n h = grind (arith, nat_tests)
 
 module _ (code : Code) (img : Image) (core : Core) (next : ℕ) (reference : Word) (m : Mscw) (c : Pcw) (home : Place) (level index : ℕ)
     (reads : as_irw reference ≡ Some (record { level = level; index = index })) where
@@ -56,8 +49,12 @@ module _ (code : Code) (img : Image) (core : Core) (next : ℕ) (reference : Wor
       tested : Program → Effect Image
       tested t = effect_of p img (asked img t)
 
-  -- its level is above that of the intrinsics
-  pub procedure_calls : 1 ≤ level → called_action (as_irw reference) ≡ Some act.Enter
-  procedure_calls high =
-      ap called_action reads
-      ∙ ap (λ (b : Bool). if b then if_intrinsic (intrinsic_numbered index) else Some act.Enter) (not_zero level high)
+  -- that word is what is called
+  pub procedure_calls : (entry : Word) → display_at core.registers level ≡ Some home → word_at img.stacks (record { stack = home.stack; at = home.at + index }) ≡ Some entry → as_sirw entry ≡ None → as_pcw entry ≡ Some c →
+      seen img.stacks (called_by reference (cell_of core.registers reference)) ≡ Ok c
+  procedure_calls entry shown lies no_sirw reads_entry =
+      ap (λ (i : Option Irw). seen img.stacks (called_by reference (irw_or_sirw r i (as_sirw reference)))) reads
+      ∙ ap (λ (o : Option Place). seen img.stacks (called_by reference (cell_in o index))) shown
+      ∙ ap (λ (o : Option Word). seen img.stacks (reached_in cell o >-> (λ (v : Reached). one_sirw (as_sirw v.word) v) >-> (λ (v : Reached). valid (as_pcw v.word)))) lies
+      ∙ ap (λ (o : Option Sirw). seen img.stacks (one_sirw o (record { word = entry; cell = cell }) >-> (λ (v : Reached). valid (as_pcw v.word)))) no_sirw
+      ∙ ap (λ (o : Option Pcw). seen img.stacks (valid o)) reads_entry

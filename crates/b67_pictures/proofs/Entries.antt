@@ -43,7 +43,8 @@ use Rattle.b67_cores.specs.Cores.{Core, IsCore, with_core}
 use Rattle.b67_cores.specs.Slots.{newest, SlotIs, SlotsAre}
 use Rattle.b67_cores.specs.Stretches.{CoreAt, control_words}
 use Rattle.b67_cores.proofs.Moving.{slots_length}
-use Rattle.b67_faithful.specs.Correspondence.{operator_action, called_action}
+use Rattle.b67_letters.specs.Letters.{called_by}
+use Rattle.b67_faithful.specs.Correspondence.{operator_action}
 use Rattle.b67_faithful.specs.Faithful.{IsShort}
 use Rattle.b67_fitting.specs.Nested.{AreNested, LiesNested}
 use Rattle.b67_pictures.specs.Arrays.{Layout, IsOwn}
@@ -65,6 +66,7 @@ use Rattle.b67_pictures.proofs.StackWords.{length-stack}
 use Rattle.b67_pictures.proofs.Staying.{text_in, level_in, frame_low}
 use Rattle.b67_pictures.proofs.Words.{mark_read}
 use Rattle.std.proofs.lemmas.Bool.Decides.{nat_tests}
+use Rattle.b67_table.specs.References.{cell_of}
 
 home_level : (n level : ℕ) → n ≡ level → 2 ≤ n → (n + 1 == level + 1 && nat_le 2 n) ≡ true
 home_level n level e h = grind (arith, nat_tests)
@@ -124,7 +126,8 @@ module _ (tree : PProgram) (code : Code) (texts : ℕ → List Placed) (nested :
     pub spells : Spells (texts (segment_of sc.blocks j)) segment
     pub leads : (m : Mscw) (x : Word) → SlotIs sc s.stands.held level own base (mark ∷ waiting) slot x →
         Leads code img core next x m (code_at (segment_of sc.blocks j) begin (level_of (block_numbered sc.blocks j))) (place p linked.at)
-    pub calls : (x : Word) → SlotIs sc s.stands.held level own base (mark ∷ waiting) slot x → called_action (as_irw x) ≡ Some Enter
+    pub calls : (x : Word) → SlotIs sc s.stands.held level own base (mark ∷ waiting) slot x →
+        seen img.stacks (called_by x (cell_of core.registers x)) ≡ Ok (code_at (segment_of sc.blocks j) begin (level_of (block_numbered sc.blocks j)))
 
   module _ (wanted : List Wanted) (gs : List Given) (slot : Slot) (next : ℕ) (waiting : List Slot) (h j begin : ℕ) (e : Calls wanted gs slot next waiting h j begin) where
     abbrev pub inner_level : ℕ

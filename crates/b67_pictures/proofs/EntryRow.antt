@@ -1,5 +1,5 @@
 -- ENTR on a word that leads to a procedure or a block: a frame is made of the mark under it and of the word itself.
-use Rattle.std.proofs.Common.{◌≡◌, refl, sym, ap, ◌∙◌, ℕ, zero, suc, ◌+◌, ◌-◌, ◌<◌, ◌≤◌, List, [], ◌∷◌, ◌++◌, length, Option, Some, Bool, true, false, Ok, arith, append_assoc, append-nil, length-append}
+use Rattle.std.proofs.Common.{◌≡◌, refl, sym, ap, ◌∙◌, ℕ, zero, suc, ◌+◌, ◌-◌, ◌<◌, ◌≤◌, List, [], ◌∷◌, ◌++◌, length, Option, Some, Bool, true, false, Result, Ok, arith, append_assoc, append-nil, length-append}
 use Rattle.std.specs.Prelude.{if◌then◌else◌, nat_lt, nat_le, ◌&&◌, slice_get, slice_set, reverse}
 use Rattle.b67_word.specs.declared.Place.{Place}
 use Rattle.b67_word.specs.Word.{Word}
@@ -15,6 +15,7 @@ use Rattle.b67_segment.specs.declared.code.Code.{Code}
 use Rattle.b67_store.specs.Store.{Stacks, words_of, word_at, with_stack, with_word}
 use Rattle.b67_table.specs.declared.Class.TheVariants as classes
 use Rattle.b67_table.specs.declared.Entry.{Entry}
+use Rattle.b67_table.specs.declared.InterruptKind.{InterruptKind}
 use Rattle.b67_table.specs.declared.InterruptKind.TheVariants.{BadCode}
 use Rattle.b67_table.specs.Effect.{Effect, gives}
 use Rattle.b67_table.specs.Outcome as outcomes
@@ -25,14 +26,17 @@ use Rattle.b67_table.specs.Look.{Look, found, stops, at, ◌>->◌, valid, read_
 use Rattle.b67_table.specs.Chains.{place, linked}
 use Rattle.b67_table.specs.Program.{Program, Change, done, does, effect_of, asked, see, answer, ◌>>=◌, save, registers}
 use Rattle.b67_table.specs.Private.{floor, frame, at_or}
-use Rattle.b67_table.specs.References.{irw_or_sirw, invalid}
+use Rattle.b67_table.specs.References.{irw_or_sirw, cell_of, invalid}
+use Rattle.b67_table.specs.Names.{intrinsic_numbered}
 use Rattle.b67_table.specs.Intrinsics.{intrinsic}
 use Rattle.b67_table.specs.Rows.{row, enter, enter_by, enter_procedure, not_entered}
 use Rattle.b67_table.specs.Table.{raw, table, operator_at, class_at}
 use Rattle.algol_meaning.specs.Actions as act
 use Rattle.b67_cores.specs.Cores.{Core, IsCore, HasCore, with_core, stack_of}
-use Rattle.b67_faithful.specs.Correspondence.{operator_action, called_action, irw_in}
-use Rattle.b67_pictures.proofs.Looks.{then_seen, see_found}
+use Rattle.b67_letters.specs.declared.Letter.TheVariants.{Enter}
+use Rattle.b67_letters.specs.Letters.{told_by, intrinsic_letter, called_letter, called_by}
+use Rattle.b67_faithful.specs.Correspondence.{as_action, operator_action}
+use Rattle.b67_letters.proofs.Looks.{then_seen, see_found}
 use Rattle.b67_pictures.proofs.Rows.{raw_is, words_are, action_is}
 use Rattle.b67_pictures.proofs.StackWords.{word-under, stack-over, length-stack, words-set, set-set}
 use Rattle.b67_pictures.proofs.StoreRow.{most_is}
@@ -76,7 +80,7 @@ pub record Enters (code : Code) (img : Image) (core : Core) (next : ℕ) (argume
   pub reads_mark : as_mscw marked ≡ Some m
   pub unentered : m.entered ≡ false
   pub leads : Leads code img core next control m c home
-  pub calls : called_action (as_irw control) ≡ Some act.Enter
+  pub calls : seen img.stacks (called_by control (cell_of core.registers control)) ≡ Ok c
   pub no_intrinsic : c.intrinsic ≡ false
   pub outer : Rcw
   pub outer_reads : read_as as_rcw (word_at img.stacks (place home.stack (home.at + 1))) ≡ Some outer
@@ -210,8 +214,9 @@ module _ (code : Code) (img : Image) (p : ℕ) (core : Core) (has : HasCore img 
   pub enter_action : table code img p ≡ outcomes.gives (with_core img p new) → operator_action code img p ≡ Some act.Enter
   enter_action t =
       action_is code img p core has (ops.Plain kinds.Entr) next there (outcomes.gives (with_core img p new)) t
-      ∙ ap (λ (o : Option Word). called_action (irw_in o)) control_there
-      ∙ e.calls
+      ∙ ap (λ (o : Option Word). as_action (told_by called_letter (seen img.stacks (valid o >-> (λ (above : Word). called_by above (cell_of r above)))))) control_there
+      ∙ ap (λ (x : Result Pcw InterruptKind). as_action (told_by called_letter x)) e.calls
+      ∙ ap (λ (b : Bool). as_action (if b then intrinsic_letter (intrinsic_numbered c.number) else Some Enter)) e.no_intrinsic
 
   -- the new core is one, where the display names the frame
   pub new_is : place_at display c.level ≡ Some (place r.stack r.f) → IsCore new

@@ -34,7 +34,8 @@ use Rattle.b67_templates.specs.Cells.{Simple}
 use Rattle.b67_templates.specs.Fragments.{code_at}
 use Rattle.b67_cores.specs.Stretches.{control_words}
 use Rattle.b67_cores.specs.Cores.{Core, HasCore}
-use Rattle.b67_faithful.specs.Correspondence.{operator_action}
+use Rattle.b67_letters.specs.Letters.{left_letter}
+use Rattle.b67_faithful.specs.Correspondence.{action_of, operator_action}
 use Rattle.b67_pictures.specs.Frames.{CellIs, CellsAre}
 use Rattle.b67_pictures.proofs.Rows.{raw_is, words_are, action_is}
 use Rattle.b67_pictures.proofs.StackWords.{take-seam}
@@ -165,4 +166,4 @@ module _ (code : Code) (img : Image) (p : ℕ) (core : Core) (has : HasCore img 
   pub exit_action : table code img p ≡ outcomes.gives (ended_at img rows p left) → operator_action code img p ≡ Some act.End
   exit_action t =
       action_is code img p core has (ops.Plain kinds.Exit) next at (outcomes.gives (ended_at img rows p left)) t
-      ∙ ap (λ (f : ℕ). if nat_eq f 0 then Some act.End else Some act.Leave) base
+      ∙ ap (λ (f : ℕ). Some (action_of (left_letter f))) base

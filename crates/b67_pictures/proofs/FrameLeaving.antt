@@ -62,7 +62,8 @@ use Rattle.b67_pictures.proofs.LeaveRow.{Leaves, given_words, without_frame, aft
 use Rattle.b67_pictures.proofs.Linked.{Linked, Begins_with, begins_front, begins_core, mark_there, control_there, around_linked, frame_linked, shown_chained}
 use Rattle.b67_pictures.proofs.Lying.{StayBelow, known_after}
 use Rattle.b67_pictures.proofs.Marks.{Above, left_seen}
-use Rattle.b67_pictures.proofs.Numbers.{numbered_set, length_set_numbered}
+use Rattle.b67_faithful.proofs.Choices.{length_set_numbered}
+use Rattle.b67_pictures.proofs.Numbers.{numbered_set}
 use Rattle.b67_pictures.proofs.Parting.{IsSameBut, parted, same_but, same_ancestors, others_stay}
 use Rattle.b67_pictures.proofs.Scene.{Scene, frame_is}
 use Rattle.b67_pictures.proofs.Spelled.{HasText, HaveTexts}

@@ -31,7 +31,7 @@ use Rattle.b67_table.specs.Rows as rows
 use Rattle.b67_table.specs.Rows.{store, store_by, stored}
 use Rattle.b67_table.specs.Table.{raw, operator_at, class_at}
 use Rattle.b67_cores.specs.Cores.{Core, HasCore, with_core, stack_of}
-use Rattle.b67_pictures.proofs.Looks.{then_seen, see_found}
+use Rattle.b67_letters.proofs.Looks.{then_seen, see_found}
 use Rattle.b67_pictures.proofs.Rows.{raw_is, words_are}
 use Rattle.b67_pictures.proofs.StackWords.{word-over, word-under, cut-stack, reverse-cons, words-set, set-set}
 use Rattle.b67_pictures.proofs.StoreRow.{most_is}

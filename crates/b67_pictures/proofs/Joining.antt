@@ -38,7 +38,7 @@ use Rattle.b67_pictures.proofs.Leaving.{leaving, leaving_with}
 use Rattle.b67_pictures.proofs.Scene.{scene_of}
 use Rattle.b67_pictures.proofs.Segmenting.{block_small}
 use Rattle.b67_pictures.proofs.Spelled.{have_texts}
-use Rattle.b67_pictures.proofs.Lasting.{same_number}
+use Rattle.b67_pictures.proofs.Lasting.{acts_alone}
 use Rattle.b67_pictures.proofs.Quiet.{SettledAct}
 use Rattle.b67_pictures.proofs.Simulating as simulating
 use Rattle.b67_pictures.proofs.Simulating.{StandApart}
@@ -105,7 +105,7 @@ module _ (keeps : RestsKeepToTheirText) (order : ArraysAreMadeInOrder) (closing 
   program_is_faithful : HasFormats tree code → IsListable code → Faithful tree code
   program_is_faithful formats =
       simulating.code_is_faithful tree code texts steps_are_performed steps_come_to_limit settled_act
-      (λ w lay img p q by at_p l. same_number tree code texts rests_go_on w lay img p q at_p l) apart
+      (λ w lay img p q by at_p l. acts_alone tree code texts rests_go_on w lay img p q at_p l) apart
       (λ w lay a by b p n plains. operators_are_few tree code texts (λ j known. (lies.nested.each j known).low) w lay a by b p n plains)
       (first_pictured tree code names lies.nested at fragments_are_performed blocks_begin blocks_start keeps order) at.many formats short
 

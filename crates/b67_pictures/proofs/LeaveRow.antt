@@ -28,8 +28,10 @@ use Rattle.b67_table.specs.Questions.{live_criticals}
 use Rattle.b67_table.specs.Rows.{row}
 use Rattle.b67_table.specs.Table.{raw, table, operator_at, class_at}
 use Rattle.b67_cores.specs.Cores.{Core, IsCore, HasCore, with_core, stack_of}
-use Rattle.b67_faithful.specs.Correspondence.{operator_action}
-use Rattle.b67_pictures.proofs.Looks.{then_seen, see_found}
+use Rattle.b67_letters.specs.declared.Letter.TheVariants.{End, Leave}
+use Rattle.b67_letters.specs.Letters.{left_letter}
+use Rattle.b67_faithful.specs.Correspondence.{action_of, operator_action}
+use Rattle.b67_letters.proofs.Looks.{then_seen, see_found}
 use Rattle.b67_pictures.proofs.Rows.{raw_is, words_are, action_is}
 use Rattle.b67_pictures.proofs.StackWords.{take-seam, drop-seam, stack-over, length-stack, words-set, set-set}
 use Rattle.std.proofs.lemmas.Bool.Decides.{nat_tests}
@@ -165,5 +167,5 @@ module _ (code : Code) (img : Image) (p : ℕ) (core : Core) (has : HasCore img 
     pub leave_action : table code img p ≡ outcomes.gives (after None) → operator_action code img p ≡ Some act.Leave
     leave_action t =
         action_is code img p core has (ops.Plain kinds.Exit) next at (outcomes.gives (after None)) t
-        ∙ ap (λ (n : ℕ). if nat_eq n 0 then Some act.End else Some act.Leave) e.frame_is
-        ∙ ap (λ (t : Bool). if t then Some act.End else Some act.Leave) (not_zero f e.some)
+        ∙ ap (λ (n : ℕ). Some (action_of (left_letter n))) e.frame_is
+        ∙ ap (λ (t : Bool). Some (action_of (if t then End else Leave))) (not_zero f e.some)

@@ -27,7 +27,6 @@ pub mod Rows
 pub mod StackWords
 pub mod StoreRow
 pub mod Words
-pub mod Looks
 pub mod Displays
 pub mod Cored
 pub mod Segmented

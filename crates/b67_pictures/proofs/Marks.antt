@@ -13,7 +13,7 @@ use Rattle.b67_table.specs.Chains.{place, broken, control_at, below, entered_fro
 use Rattle.b67_standing.specs.Stepping.{Slot, operand, reference, intrinsic, control, descriptor, mark}
 use Rattle.b67_cores.specs.Slots.{Known, newest, SlotsAre}
 use Rattle.b67_cores.proofs.Moving.{slots_length}
-use Rattle.b67_pictures.proofs.Looks.{then_seen}
+use Rattle.b67_letters.proofs.Looks.{then_seen}
 use Rattle.b67_pictures.proofs.StackWords.{word-under}
 use Rattle.b67_pictures.proofs.StoreRow.{most_is}
 use Rattle.b67_pictures.proofs.Words.{mark_read}

@@ -34,15 +34,6 @@ numbered_other xs zero q y h = refl
 numbered_other xs (suc k) zero y h = refl
 numbered_other xs (suc k) (suc j) y h = get_other xs k j y (λ e. h (ap suc e))
 
-length_set : {A : Type 0} (xs : List A) (k : ℕ) (y : A) → length (slice_set xs k y) ≡ length xs
-length_set [] k y = refl
-length_set (z ∷ zs) zero y = refl
-length_set (z ∷ zs) (suc k) y = ap suc (length_set zs k y)
-
-pub length_set_numbered : {A : Type 0} (xs : List A) (p : ℕ) (y : A) → length (set_numbered xs p y) ≡ length xs
-length_set_numbered xs zero y = refl
-length_set_numbered xs (suc k) y = length_set xs k y
-
 get_beyond : {A B : Type 0} (xs : List A) (ys : List B) (k : ℕ) → length ys ≡ length xs → slice_get xs k ≡ None → slice_get ys k ≡ None
 get_beyond [] [] k e n = refl
 get_beyond [] (y ∷ ys) k e n = absurd (omega (arith, e))

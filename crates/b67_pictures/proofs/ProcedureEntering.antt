@@ -322,7 +322,7 @@ module _ (tree : PProgram) (code : Code) (program : ProgramAt code tree) (nested
         spells = program.spells (segment_of sc.blocks callee) segment_there.0 segment_there.1;
         leads = λ m y is. procedure_leads code img core a.1 y m c (place p linked.at) couple.level couple.index (reads y is) (pcw_word c) shown entry_lies no_sirw (as_pcw-pcw_word c fits);
         calls = λ y is. procedure_calls code img core a.1 y (record { entered = false; stack = 0; displacement = 0; df = 0 }) c (place p linked.at) couple.level couple.index (reads y is)
-            (omega (arith, level_up, high));
+            (pcw_word c) shown entry_lies no_sirw (as_pcw-pcw_word c fits);
       }
 
   -- ---- its code

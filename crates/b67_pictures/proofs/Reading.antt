@@ -28,6 +28,7 @@ use Rattle.b67_standing.specs.Stepping.{Slot, operand}
 use Rattle.b67_standing.specs.Standing.{ActionAt, Acted, ComesTo}
 use Rattle.b67_cores.specs.Cores.{Core, IsCore, with_core}
 use Rattle.b67_cores.specs.Stretches.{CoreAt, FragmentsArePerformed}
+use Rattle.b67_faithful.specs.Correspondence.{as_action}
 use Rattle.b67_pictures.specs.Arrays.{Layout}
 use Rattle.b67_pictures.specs.Acting.{Does}
 use Rattle.b67_pictures.proofs.Asked.{reads_seen}
@@ -38,7 +39,7 @@ use Rattle.b67_pictures.proofs.Scene.{Scene}
 use Rattle.b67_pictures.proofs.Stage.{choice_is}
 use Rattle.b67_pictures.proofs.StackWords.{get-front}
 use Rattle.b67_pictures.proofs.Staying.{text_in, level_in, context_in, most_in}
-use Rattle.b67_pictures.proofs.ValueRow.{with_top, value_raw, value_class}
+use Rattle.b67_pictures.proofs.ValueRow.{with_top, reads_value, value_raw, value_class}
 use Rattle.b67_pictures.proofs.Words.{value_tag, no_sirw, no_pcw}
 use Rattle.b67_pictures.proofs.Unmade.{makes, unmade}
 
@@ -106,7 +107,8 @@ module _ (tree : PProgram) (code : Code) (texts : ℕ → List Placed) (fragment
           (choice_is sc w p q part outer s.at s.todo
           ∙ ap (λ (k : Ask). choice_of sc w p q part outer k) asks
           ∙ ap (λ (c : Cell). read_of sc w p q part outer c) f.cell_is)
-          (λ t. action_is code img p core s.has (ops.Valc a.2.0) a.1 there (outcomes.gives (record (with_core img p new) { output = w.output })) t)
+          (λ t. action_is code img p core s.has (ops.Valc a.2.0) a.1 there (outcomes.gives (record (with_core img p new) { output = w.output })) t
+          ∙ ap as_action (reads_value code img p core s.has a.2.0 a.1 there (place p at) f.shown f.word lies tag (no_sirw f.word tag) (no_pcw f.word tag)))
 
     pub reading : Does tree code texts w img p
     reading = read_does found

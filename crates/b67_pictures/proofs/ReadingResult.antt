@@ -34,6 +34,7 @@ use Rattle.b67_standing.specs.Stepping.{Slot, operand}
 use Rattle.b67_standing.specs.Standing.{ActionAt, Acted, ComesTo}
 use Rattle.b67_cores.specs.Cores.{Core, IsCore, with_core}
 use Rattle.b67_cores.specs.Stretches.{CoreAt, FragmentsArePerformed}
+use Rattle.b67_faithful.specs.Correspondence.{as_action}
 use Rattle.b67_pictures.specs.Arrays.{Layout}
 use Rattle.b67_pictures.specs.Acting.{Does}
 use Rattle.b67_pictures.proofs.FreshCells.{cells_joined}
@@ -45,7 +46,7 @@ use Rattle.b67_pictures.proofs.Scene.{Scene, shown_frame}
 use Rattle.b67_pictures.proofs.Stage.{choice_is}
 use Rattle.b67_pictures.proofs.StackWords.{get-front}
 use Rattle.b67_pictures.proofs.Staying.{text_in, level_in, context_in, most_in}
-use Rattle.b67_pictures.proofs.ValueRow.{with_top, value_raw, value_class}
+use Rattle.b67_pictures.proofs.ValueRow.{with_top, reads_value, value_raw, value_class}
 use Rattle.b67_pictures.proofs.Variables.{Cell_of, variable_cell, cell_front, Holds_value, value_of_cell}
 use Rattle.b67_pictures.proofs.Words.{value_tag, no_sirw, no_pcw}
 use Rattle.b67_pictures.proofs.Unmade.{makes, unmade}
@@ -197,7 +198,8 @@ module _ (tree : PProgram) (code : Code) (texts : ℕ → List Placed) (nested :
           (choice_is sc w p q part outer s.at s.todo
           ∙ ap (λ (k : Ask). choice_of sc w p q part outer k) asks
           ∙ ap (λ (x : Cell). goes sc w p q part outer Read w (value (value_in x))) cell_is)
-          (λ t. action_is code img p core s.has (ops.Valc at.couple) next there (outcomes.gives (record (with_core img p new) { output = w.output })) t)
+          (λ t. action_is code img p core s.has (ops.Valc at.couple) next there (outcomes.gives (record (with_core img p new) { output = w.output })) t
+          ∙ ap as_action (reads_value code img p core s.has at.couple next there (place p base) shown c.word lies tag (no_sirw c.word tag) (no_pcw c.word tag)))
 
   pub reading_result : Does tree code texts w img p
   reading_result = result_read c (held c)

@@ -42,6 +42,7 @@ use Rattle.b67_standing.specs.Standing.{AreNumbers, ActionAt, Acted, ComesTo}
 use Rattle.b67_cores.specs.Cores.{Core, with_core}
 use Rattle.b67_cores.specs.Stretches.{FragmentsArePerformed}
 use Rattle.algol_paths.specs.Laws.{RestsKeepToTheirText, ArraysAreMadeInOrder}
+use Rattle.b67_faithful.specs.Correspondence.{as_action}
 use Rattle.b67_pictures.specs.Arrays.{Layout}
 use Rattle.b67_pictures.specs.Acting.{Does, failed_by}
 use Rattle.b67_pictures.specs.Pictures.{Pictures}
@@ -178,7 +179,7 @@ module _ (tree : PProgram) (code : Code) (texts : ℕ → List Placed) (fragment
         (choice_is sc w p q part outer s.at s.todo
         ∙ ap (λ (k : Ask). choice_of sc w p q part outer k) asks
         ∙ ap (λ (b : Bool). if b then (goes sc w p q part outer act.Select w done) else fails sc w p q part outer CaseIndex) exists)
-        (λ t. action_is code img p core s.has (ops.Plain kinds.Entr) a.0 there (outcomes.gives (record (with_core img p (new i)) { output = w.output })) t ∙ c.action)
+        (λ t. action_is code img p core s.has (ops.Plain kinds.Entr) a.0 there (outcomes.gives (record (with_core img p (new i)) { output = w.output })) t ∙ ap as_action c.action)
 
     goes_nowhere : nth_exists (whole_of v) ss ≡ false → case_in (whole_of v) (pos (stmts_count ss)) ≡ None → Does tree code texts w img p
     goes_nowhere exists inside =

@@ -26,7 +26,8 @@ use Rattle.b67_faithful.specs.Weight.{weight, parts_weight}
 use Rattle.b67_pictures.specs.Arrays.{Layout, ArraysAre}
 use Rattle.b67_pictures.specs.Pictures.{failure_of, Living, Pictured, living, PicturesBy}
 use Rattle.b67_pictures.proofs.ArraysKept.{arrays_unchanged}
-use Rattle.b67_pictures.proofs.Numbers.{same_or_not, numbered_set, numbered_other, length_set_numbered}
+use Rattle.b67_faithful.proofs.Choices.{length_set_numbered}
+use Rattle.b67_pictures.proofs.Numbers.{same_or_not, numbered_set, numbered_other}
 use Rattle.b67_pictures.proofs.Kept.{AreAlike, alike_by, pictured_alike}
 use Rattle.b67_pictures.proofs.StoreRow.{most_is}
 

@@ -19,12 +19,14 @@ use Rattle.b67_table.specs.declared.Reached.{Reached}
 use Rattle.b67_table.specs.declared.InterruptKind.TheVariants.{StackUnderflow}
 use Rattle.b67_table.specs.Effect.{Effect, gives}
 use Rattle.b67_table.specs.Image.{Image, with_stacks, with_registers}
-use Rattle.b67_table.specs.Look.{Look, found, stops, ◌>->◌, valid}
+use Rattle.b67_table.specs.Look.{Look, found, stops, ◌>->◌, valid, seen}
 use Rattle.b67_table.specs.Program.{Program, does, effect_of, asked, see, answer, ◌>>=◌, save}
 use Rattle.b67_table.specs.Private.{display_at, floor}
 use Rattle.b67_table.specs.References.{Two, cell_in, cell_place, irw_or_sirw, reached_in, named, from_top, operand_in, invalid}
 use Rattle.b67_table.specs.Rows.{row, store, store_by, stored}
 use Rattle.b67_table.specs.Table.{raw, operator_at, class_at}
+use Rattle.b67_letters.specs.declared.Letter.TheVariants.{Store, ElementStore}
+use Rattle.b67_letters.specs.Letters.{told_by, element_or_not, stored_letter, operator_letter}
 use Rattle.b67_cores.specs.Cores.{Core, HasCore, with_core, stack_of}
 use Rattle.b67_pictures.proofs.Rows.{raw_is, words_are}
 use Rattle.b67_pictures.proofs.StackWords.{word-over, word-under, cut-stack, set-front, get-front, length-set, words-set, set-set}
@@ -113,6 +115,14 @@ module _ (code : Code) (img : Image) (p : ℕ) (core : Core) (has : HasCore img 
       ∙ ap (λ (o : Option Word). tested (see (reached_in cell o) >>= put)) old_word
       ∙ ap (λ (t : ℕ). tested (see (if t == 0 then found old else invalid) >>= (λ (o : Word). answer (stored false r next x (save (cell_place cell) x))))) old_tag
       ∙ ap (λ (ss : Stacks). gives (with_registers (with_stacks img ss) p after)) saved
+
+  -- the word under the top is no descriptor of an element
+  pub stores_variable : operator_letter (ops.Plain kinds.Stod) img r ≡ Some Store
+  stores_variable =
+      ap (λ (b : Bool). told_by stored_letter (seen img.stacks ((if b then from_top r 0 else stops StackUnderflow) >-> under))) (most_is (floor r + 2) r.s (omega (arith, long, has.is.bottom)))
+      ∙ ap (λ (o : Option Word). told_by stored_letter (seen img.stacks (valid o >-> under))) top_word
+      ∙ ap (λ (o : Option Word). told_by stored_letter (seen img.stacks (valid o >-> (λ (b : Word). found (two x b))))) under_word
+      ∙ ap (λ (d : Option Descriptor). Some (element_or_not ElementStore Store d)) plain_word
 
   pub store_raw : raw code img p ≡ gives (with_core img p (with_cell core (f + index) x words next))
   unfolding row

@@ -43,7 +43,7 @@ use Rattle.b67_cores.specs.Cores.{Core, size, IsCore, with_core, here}
 use Rattle.b67_cores.specs.Slots.{ValueIs, newest, SlotsAre}
 use Rattle.b67_cores.specs.Stretches.{CoreAt, FragmentsArePerformed}
 use Rattle.b67_cores.proofs.Moving.{slots_length}
-use Rattle.b67_faithful.specs.Correspondence.{stored_action, indexed_in, stored_by}
+use Rattle.b67_faithful.specs.Correspondence.{as_action}
 use Rattle.b67_faithful.specs.Weight.{weight}
 use Rattle.b67_pictures.specs.Arrays.{Layout, AreMade, AreKnown}
 use Rattle.b67_pictures.specs.Acting.{Does, gave}
@@ -58,14 +58,15 @@ use Rattle.b67_pictures.proofs.Homes.{operator_there, Home, home}
 use Rattle.b67_pictures.proofs.Knowing.{KeepsArrays, keeps_stored, known_of}
 use Rattle.b67_pictures.proofs.Landing.{living_of}
 use Rattle.b67_pictures.proofs.Lying.{StayBelow}
-use Rattle.b67_pictures.proofs.Numbers.{get_below, numbered_set, length_set_numbered}
+use Rattle.b67_faithful.proofs.Choices.{length_set_numbered}
+use Rattle.b67_pictures.proofs.Numbers.{get_below, numbered_set}
 use Rattle.b67_pictures.proofs.Rows.{action_not_plain, action_is, words_are}
 use Rattle.b67_pictures.proofs.Scene.{Scene}
 use Rattle.b67_pictures.proofs.Stage.{gives_within, choice_is, goes_on, weight_of}
 use Rattle.b67_pictures.proofs.Slotted.{Top, top_slot}
 use Rattle.b67_pictures.proofs.StackWords.{length-set, word-under}
 use Rattle.b67_pictures.proofs.Staying.{text_in, level_in, context_in, most_in, IsAsHeavy, same_weight, FrameStill, frame_still}
-use Rattle.b67_pictures.proofs.StoreRow.{with_cell, store_raw, store_class}
+use Rattle.b67_pictures.proofs.StoreRow.{with_cell, stores_variable, store_raw, store_class}
 use Rattle.b67_pictures.proofs.StoringFrames.{changed, stored_world, changed_at, same_of, same_ancestors, as_heavy, ChangedCells, Stored, known_stored, frame_stored}
 use Rattle.b67_pictures.proofs.Unmade.{makes, unmade}
 use Rattle.b67_pictures.proofs.Variables.{cell_changed, changed_front, references_stored}
@@ -306,14 +307,6 @@ module _ (tree : PProgram) (code : Code) (texts : ℕ → List Placed) (fragment
     raw_is reads plain_word =
         store_raw code img p core s.has a.0 there x y f.word words top couple.level couple.index high shown reads plain_word f.below_lies (value_tag v x x_is) tag
 
-    -- the word under the top is no descriptor of an element
-    stored_here : as_indexed y ≡ None → Some (stored_by img core.registers) ≡ Some Store
-    stored_here plain_word =
-        ap (λ (o : Option Word). Some (stored_action (indexed_in o)))
-        (ap (λ (ws : List Word). slice_get ws (core.registers.s - 2)) (words_are img p core s.has ∙ ap (λ (ws : List Word). core.below ++ reverse ws) top)
-        ∙ word-under core.below (x ∷ []) y words (core.registers.s - 2) (omega (arith, long)))
-        ∙ ap (λ o. Some (stored_action o)) plain_word
-
     held : length a.1 ≤ most_in tree w part
     held = let more : length st.slots ≡ length a.1 + 2 = ap length a.2.lies ∙ omega arith in omega (arith, st.few, more)
 
@@ -383,7 +376,9 @@ module _ (tree : PProgram) (code : Code) (texts : ℕ → List Placed) (fragment
         (action_not_plain code img p core s.has (ops.Plain kinds.Stod) a.0 there
         (store_class code img p core s.has a.0 there x y f.word words top couple.level couple.index high shown reads plain_word f.below_lies (value_tag v x x_is) tag))
         is
-        (action_is code img p core s.has (ops.Plain kinds.Stod) a.0 there (outcomes.gives (with_core img p new)) is ∙ stored_here plain_word ∙ ap (λ (c : Choice). Some c.action) (sym chosen))
+        (action_is code img p core s.has (ops.Plain kinds.Stod) a.0 there (outcomes.gives (with_core img p new)) is
+        ∙ ap as_action (stores_variable code img p core s.has a.0 there x y f.word words top couple.level couple.index high shown reads plain_word f.below_lies (value_tag v x x_is) tag)
+        ∙ ap (λ (c : Choice). Some c.action) (sym chosen))
         (lay, subst (λ (c : Choice). PicturesBy tree code texts c.world lay (with_core img p new)) (sym chosen) pictured)
 
   pub storing : a.2.couple.level < 32 → a.2.couple.index < 2 ^ 14 → Does tree code texts w img p

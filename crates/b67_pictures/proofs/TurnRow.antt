@@ -13,6 +13,8 @@ use Rattle.b67_table.specs.Image.{Image, with_stacks, with_registers}
 use Rattle.b67_table.specs.PrivateRows.{branch}
 use Rattle.b67_table.specs.Rows.{Row, row, private_part, acts, turn}
 use Rattle.b67_table.specs.Table.{raw, operator_at, class_at, class_by, by_row}
+use Rattle.b67_letters.specs.declared.Letter.TheVariants.{Turn}
+use Rattle.b67_letters.specs.Letters.{operator_letter}
 use Rattle.b67_cores.specs.Cores.{Core, HasCore, with_core, stack_of}
 use Rattle.b67_pictures.proofs.Rows.{raw_is}
 
@@ -40,6 +42,9 @@ module _ (code : Code) (img : Image) (p : ℕ) (core : Core) (has : HasCore img 
       raw_is code img p core has (ops.Branch Brun target) next at
       ∙ ap (λ (b : Bool). by_row (row_with b) code img p core.registers next) (not_below core.registers.place target back)
       ∙ ap (λ (ss : Stacks). gives (with_registers (with_stacks img ss) p (record core.registers { place = target }))) (sym (same_stack img.stacks core.registers.stack (stack_of core) has.stack))
+
+  pub turns_back : operator_letter (ops.Branch Brun target) img core.registers ≡ Some Turn
+  turns_back = ap (λ (b : Bool). if b then None else Some Turn) (not_below core.registers.place target back)
 
   pub turn_class : class_at (ops.Branch Brun target) core.registers.place ≡ classes.Action
   unfolding class_at row

@@ -22,10 +22,11 @@ use Rattle.b67_standing.specs.Standing.{ActionAt, Acted, ComesTo}
 use Rattle.b67_cores.specs.Cores.{Core, with_core}
 use Rattle.b67_cores.specs.Stretches.{CoreAt, FragmentsArePerformed}
 use Rattle.algol_paths.specs.Laws.{RestsKeepToTheirText, ArraysAreMadeInOrder}
+use Rattle.b67_faithful.specs.Correspondence.{as_action}
 use Rattle.b67_pictures.specs.Arrays.{Layout}
 use Rattle.b67_pictures.specs.Acting.{Does}
 use Rattle.b67_pictures.proofs.Rows.{action_not_plain, action_is}
-use Rattle.b67_pictures.proofs.TurnRow.{at_place, turn_raw, turn_class}
+use Rattle.b67_pictures.proofs.TurnRow.{at_place, turns_back, turn_raw, turn_class}
 use Rattle.b67_pictures.proofs.Homes.{operator_there}
 use Rattle.b67_pictures.proofs.Stage.{choice_is}
 use Rattle.b67_pictures.proofs.Scene.{Scene}
@@ -70,4 +71,5 @@ module _ (tree : PProgram) (code : Code) (texts : ℕ → List Placed) (fragment
         (action_not_plain code img p core s.has (ops.Branch Brun a.0) a.1 there (turn_class code img p core s.has a.0 a.1 there back))
         (turn_raw code img p core s.has a.0 a.1 there back ∙ ap (λ (o : List (List ℕ)). effects.gives (record (with_core img p new) { output = o })) s.by.output)
         (choice_is sc w p q part outer s.at s.todo ∙ ap (λ (k : Ask). choice_of sc w p q part outer k) asks)
-        (λ t. action_is code img p core s.has (ops.Branch Brun a.0) a.1 there (outcomes.gives (record (with_core img p new) { output = w.output })) t)
+        (λ t. action_is code img p core s.has (ops.Branch Brun a.0) a.1 there (outcomes.gives (record (with_core img p new) { output = w.output })) t
+        ∙ ap as_action (turns_back code img p core s.has a.0 a.1 there back))

@@ -16,12 +16,14 @@ use Rattle.b67_table.specs.declared.Class.TheVariants as classes
 use Rattle.b67_table.specs.declared.Reached.{Reached}
 use Rattle.b67_table.specs.Effect.{Effect, gives}
 use Rattle.b67_table.specs.Image.{Image, with_stacks, with_registers}
-use Rattle.b67_table.specs.Look.{found, ◌>->◌}
+use Rattle.b67_table.specs.Look.{found, ◌>->◌, seen}
 use Rattle.b67_table.specs.Program.{Program, does, effect_of, asked, see, ◌>>=◌}
 use Rattle.b67_table.specs.Private.{display_at}
 use Rattle.b67_table.specs.References.{cell_in, reached, reached_in, one_sirw, invalid}
 use Rattle.b67_table.specs.Rows.{row, value_call, value_or_entry, value_pushed}
 use Rattle.b67_table.specs.Table.{raw, operator_at, class_at}
+use Rattle.b67_letters.specs.declared.Letter.TheVariants.{Read}
+use Rattle.b67_letters.specs.Letters.{told_by, entered_or, value_letter, operator_letter}
 use Rattle.b67_cores.specs.Cores.{Core, HasCore, with_core}
 use Rattle.b67_pictures.proofs.Rows.{raw_is, pushed_stack, words_are}
 
@@ -54,6 +56,14 @@ module _ (code : Code) (img : Image) (p : ℕ) (core : Core) (has : HasCore img 
       ∙ ap (λ (t : ℕ). tested (see (if t == 0 then found w else invalid) >>= (λ (v : Word). value_pushed r next v))) tag
       ∙ ap (λ (ws : List Word). gives (with_registers (with_stacks img (with_stack img.stacks r.stack ws)) p (record r { s = r.s + 1; place = next })))
       (ap (λ (ws : List Word). ws ++ w ∷ []) (words_are img p core has) ∙ pushed_stack core w)
+
+  -- what it reaches is no procedure, so it is read
+  pub reads_value : operator_letter (ops.Valc couple) img r ≡ Some Read
+  reads_value =
+      ap (λ (o : Option Place). told_by value_letter (seen img.stacks (reached (cell_in o couple.index)))) shown
+      ∙ ap (λ (o : Option Word). told_by value_letter (seen img.stacks (reached_in cell o >-> (λ (v : Reached). one_sirw (as_sirw v.word) v)))) lies
+      ∙ ap (λ (o : Option Sirw). told_by value_letter (seen img.stacks (one_sirw o (record { word = w; cell = cell })))) no_sirw
+      ∙ ap (λ (o : Option Pcw). Some (entered_or Read o)) no_pcw
 
   pub value_raw : raw code img p ≡ gives (with_core img p (with_top core w next))
   unfolding row

@@ -35,6 +35,7 @@ use Rattle.b67_standing.specs.Standing.{ActionAt, Acted, ComesTo}
 use Rattle.b67_cores.specs.Cores.{Core, with_core}
 use Rattle.b67_cores.specs.Stretches.{FragmentsArePerformed}
 use Rattle.algol_paths.specs.Laws.{RestsKeepToTheirText, ArraysAreMadeInOrder}
+use Rattle.b67_faithful.specs.Correspondence.{as_action}
 use Rattle.b67_pictures.specs.Arrays.{Layout}
 use Rattle.b67_pictures.specs.Acting.{Does}
 use Rattle.b67_pictures.proofs.Rows.{action_not_plain, action_is}
@@ -117,7 +118,7 @@ module _ (tree : PProgram) (code : Code) (texts : ℕ → List Placed) (fragment
         (line_is sc code ((instance_at w part.instance).block) (text_in tree texts w part) (level_in tree w part) a.2.format ts vs a.2.is)
         ∙ ap (λ (o : List (List ℕ)). effects.gives (record (with_core img p new) { output = o ++ line_of ts vs ∷ [] })) s.by.output)
         (choice_is sc w p q part outer s.at s.todo ∙ ap (λ (k : Ask). choice_of sc w p q part outer k) asks)
-        (λ t. action_is code img p core s.has (ops.Plain kinds.Entr) a.0 there (outcomes.gives (record (with_core img p new) { output = out })) t ∙ c.action)
+        (λ t. action_is code img p core s.has (ops.Plain kinds.Entr) a.0 there (outcomes.gives (record (with_core img p new) { output = out })) t ∙ ap as_action c.action)
 
   pub writing : Does tree code texts w img p
   writing = does (call tree code texts w lay img p q part outer bound core s Write given a.1 (a.2.whole, a.2.fits) a.2.lies)

@@ -1,0 +1,5 @@
+pub mod Looks
+pub mod Calm
+pub mod Seen
+pub mod Mute
+pub mod Lettered

@@ -1,0 +1,4 @@
+pub mod Letters
+pub mod Releases
+pub mod Entries
+pub mod Laws
