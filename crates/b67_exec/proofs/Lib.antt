@@ -1,0 +1,6 @@
+pub mod Times
+pub mod Releasing
+pub mod Queues
+pub mod Turning
+pub mod Running
+pub mod Working

@@ -1,0 +1,165 @@
+-- What a turn does, by what the operator came to.
+use Rattle.std.proofs.Common.{◌≡◌, refl, sym, ap, subst, ◌∙◌, ℕ, ◌+◌, ◌≤◌, Bool, true, false, List, [], ◌∷◌, ◌++◌, length, length-append, Option, Some, None, Result, Ok, Err, arith}
+use Rattle.std.proofs.Math.Decide.{ℕ_discrete}
+use Rattle.b67_list.specs.Numbered.{numbered}
+use Rattle.b67_segment.specs.declared.code.Code.{Code}
+use Rattle.b67_table.specs.declared.InterruptKind.{InterruptKind}
+use Rattle.b67_table.specs.Ending.{ImageEnd, image_end, failed}
+use Rattle.b67_table.specs.Image.{Image}
+use Rattle.b67_table.specs.Limits.{most_processes}
+use Rattle.b67_table.specs.Table.{table, stack_length}
+use Rattle.b67_table.specs.Valid.{IsValid}
+use Rattle.b67_intrinsics.specs.Called.{IsLeft}
+use Rattle.b67_action.specs.declared.done.Done.{Done}
+use Rattle.b67_action.specs.declared.done.Done.TheVariants.{Went, Waits, Ended, Fault, Interrupt, StackLimit, NoMemory}
+use Rattle.b67_action.specs.Able.{able_in, newly, AbleAfter}
+use Rattle.b67_action.specs.Done.{Came, is_performed}
+use Rattle.b67_machine.specs.Kept.{Kept, Counts, counted}
+use Rattle.b67_machine.specs.Reads.{machine_end, end_by}
+use Rattle.b67_machine.specs.Stepping.{image_after, operators_in, limit_of, lacks, Acts, Steps, StepsBy}
+use Rattle.b67_machine.proofs.Ends.{goes_on}
+use Rattle.b67_exec.specs.declared.Stopped.{Stopped}
+use Rattle.b67_exec.specs.declared.Stopped.TheVariants as stopped
+use Rattle.b67_exec.specs.Exec.{told}
+use Rattle.b67_exec.specs.Turns.{Turns, turn, goes, turned, turn_by, turn_in, turn_unless, to_rear, released, if_able}
+use Rattle.b67_exec.specs.Turning.{IsQueue, IsListed, turns_at, TurnGoes, TurnStops, TurnLacks, Turned}
+use Rattle.b67_exec.proofs.Queues.{valid_listed, queue_few, front_able, joined, queue_after}
+use Rattle.b67_exec.proofs.Releasing.{within_by, released_are}
+
+-- ---- the definition, at an operator
+
+turn_is : (code : Code) (t : Turns) (p : ℕ) (others : List ℕ) → image_end t.image ≡ None → t.queue ≡ p ∷ others
+    → turn code t ≡ turn_by t p others (table code t.image p)
+turn_is code t p others e q = ap (turn_unless code t) e ∙ ap (turn_in code t) q
+
+goes_by : (code : Code) (t : Turns) (p : ℕ) (others : List ℕ) (done : Done) (acted new : Image) → operators_in done ≡ 1 → Came code t.image p done acted
+    → new ≡ image_after p done acted → turn_by t p others (table code t.image p) ≡ goes (turned t p others new)
+goes_by code t p others Went acted new one came is = ap (turn_by t p others) came.0 ∙ ap (λ (i : Image). goes (turned t p others i)) (sym is)
+goes_by code t p others Waits acted new one came is = ap (turn_by t p others) came.0 ∙ ap (λ (i : Image). goes (turned t p others i)) (sym is)
+goes_by code t p others Ended acted new one came is = ap (turn_by t p others) came.0 ∙ ap (λ (i : Image). goes (turned t p others i)) (sym is)
+goes_by code t p others (Fault kind) acted new one came is =
+    ap (turn_by t p others) came.0 ∙ ap (λ (i : Image). goes (turned t p others (failed i p kind))) (sym came.1)
+    ∙ ap (λ (i : Image). goes (turned t p others i)) (sym is)
+goes_by code t p others (Interrupt kind) acted new one came is = absurd (omega (arith, one))
+goes_by code t p others StackLimit acted new one came is = absurd (omega (arith, one))
+goes_by code t p others NoMemory acted new one came is = absurd (omega (arith, one))
+
+none_limit : (p : ℕ) (done : Done) → operators_in done ≡ 1 → limit_of p done ≡ None
+none_limit p Went one = refl
+none_limit p Waits one = refl
+none_limit p Ended one = refl
+none_limit p (Fault kind) one = refl
+none_limit p (Interrupt kind) one = refl
+none_limit p StackLimit one = absurd (omega (arith, one))
+none_limit p NoMemory one = refl
+
+none_lacks : (done : Done) → operators_in done ≡ 1 → lacks done ≡ false
+none_lacks Went one = refl
+none_lacks Waits one = refl
+none_lacks Ended one = refl
+none_lacks (Fault kind) one = refl
+none_lacks (Interrupt kind) one = refl
+none_lacks StackLimit one = refl
+none_lacks NoMemory one = absurd (omega (arith, one))
+
+-- ---- an operator that is counted
+
+module _ (old new : Kept) (p : ℕ) (others : List ℕ) (done : Done) (acts : Acts old p done new) (one : operators_in done ≡ 1) (going : image_end old.image ≡ None)
+    (is : IsQueue old.image (p ∷ others)) (listed : IsListed old.image) (valid : IsValid new.code new.image) where
+  released_is : released old.image new.image ≡ new.released
+  released_is =
+      released_are old.image new.image p new.released listed (front_able old.image new.image p others new.released is) (acts.able one)
+      (within_by old.image new.released (is_performed done) old.code p acts.released)
+
+  abbrev pub rear : List ℕ
+  rear = others ++ (new.released ++ newly old.image.started new.image.started ++ if_able (able_in new.image p) p)
+
+  rear_is : others ++ to_rear p old.image new.image ≡ rear
+  rear_is = ap (λ (zs : List ℕ). others ++ (zs ++ newly old.image.started new.image.started ++ if_able (able_in new.image p) p)) released_is
+
+  turns_are : (d : List ℕ) → turn old.code (turns_at old (p ∷ others) d) ≡ goes (turns_at new rear (p ∷ d))
+  turns_are d =
+      turn_is old.code (turns_at old (p ∷ others) d) p others going refl
+      ∙ goes_by old.code (turns_at old (p ∷ others) d) p others done acts.acted new.image one acts.came acts.image
+      ∙ ap (λ (zs : List ℕ). goes (turns_at new zs (p ∷ d))) rear_is
+
+  goes_rear : TurnGoes old (p ∷ others) new rear
+  goes_rear = record {
+    front = p;
+    turns = turns_are;
+    counts = subst (λ (n : ℕ). Counts old.counts p n new.counts) one acts.counts;
+    is_queue = queue_after old.image new.image p others new.released is (acts.able one);
+    listed = valid_listed new.code new.image valid;
+    limit = acts.limit ∙ none_limit p done one;
+    lacked = acts.lacked ∙ none_lacks done one;
+    same = acts.code;
+  }
+
+  -- there is room for those who join
+  pub joins_few : length others + length new.released ≤ most_processes
+  joins_few =
+      let few = queue_few new.image rear (valid_listed new.code new.image valid) (queue_after old.image new.image p others new.released is (acts.able one)) in
+      let part = new.released ++ newly old.image.started new.image.started in
+      omega (
+        arith,
+        few,
+        length-append others (part ++ if_able (able_in new.image p) p),
+        length-append part (if_able (able_in new.image p) p),
+        length-append new.released (newly old.image.started new.image.started),
+      )
+
+  pub goes_through : (next : List ℕ) → next ≡ others ++ new.released ++ newly old.image.started new.image.started ++ if_able (able_in new.image p) p
+      → TurnGoes old (p ∷ others) new next
+  goes_through next e = subst (TurnGoes old (p ∷ others) new) (sym (e ∙ joined old.image new.image p others new.released is)) goes_rear
+
+-- ---- an operator that is not
+
+counts_same : (before after : List ℕ) (p : ℕ) → Counts before p 0 after → (q : ℕ) → counted after q ≡ counted before q
+counts_same before after p c q = by (ℕ_discrete q p)
+  where
+    by : Dec (q ≡ p) → counted after q ≡ counted before q
+    by (yes e) =
+        let own : counted after p ≡ counted before p = omega (arith, c.own) in
+        subst (λ (n : ℕ). counted after n ≡ counted before n) (sym e) own
+    by (no h) = c.others q h
+
+module _ (old new : Kept) (p : ℕ) (others : List ℕ) where
+  pub interrupted : (kind : InterruptKind) → Acts old p (Interrupt kind) new → TurnStops old (p ∷ others) (stopped.Interrupt kind p) new
+  interrupted kind acts = record {
+    stops = (refl, acts.came.0);
+    image = acts.image ∙ acts.came.1;
+    counts = counts_same old.counts new.counts p acts.counts;
+    same = acts.code;
+  }
+
+  pub limited : Acts old p StackLimit new → image_end old.image ≡ None → (next : List ℕ) (answer : Option Stopped) → answer ≡ told (machine_end new)
+      → Turned old (p ∷ others) (Ok answer) new next
+  limited acts going next answer e =
+      subst (λ (o : Option Stopped). Turned old (p ∷ others) (Ok o) new next) (sym (e ∙ at_limit)) (record {
+        stops = (refl, refl, acts.came.0);
+        image = same;
+        counts = counts_same old.counts new.counts p acts.counts;
+        same = acts.code;
+      })
+    where
+      same : new.image ≡ old.image
+      same = acts.image ∙ acts.came.1
+
+      at_limit : told (machine_end new) ≡ Some (stopped.StackLimit p (stack_length p old.image))
+      at_limit =
+          ap (λ (o : Option ImageEnd). told (end_by o new)) (ap image_end same ∙ going)
+          ∙ ap (λ (o : Option ℕ). told (end_by None (record new { limit = o }))) acts.limit
+          ∙ ap (λ (i : Image). Some (stopped.StackLimit p (stack_length p i))) same
+
+  pub lacking : Acts old p NoMemory new → TurnLacks old (p ∷ others) new
+  lacking acts = record {
+    makes = acts.came.0;
+    image = subst (IsLeft old.image) (sym acts.image) acts.came.1;
+    counts = counts_same old.counts new.counts p acts.counts;
+    lacked = acts.lacked;
+    same = acts.code;
+  }
+
+-- the operator was tried, since memory did not lack before
+pub acts_of : (old new : Kept) (p : ℕ) (done : Done) → old.lacked ≡ false → Steps old p done new → Acts old p done new
+acts_of old new p done e steps = subst (λ (b : Bool). StepsBy b old p done new) e steps

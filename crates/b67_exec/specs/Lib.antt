@@ -1,0 +1,4 @@
+pub mod Turns
+pub mod Exec
+pub mod Turning
+pub mod Worked
