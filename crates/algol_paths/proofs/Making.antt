@@ -1,5 +1,5 @@
--- The arrays of a block are made in their order: silent steps make none, and an action those of its head.
-use Rattle.std.proofs.Common.{◌≡◌, ℤ, Bool, true, false, List, [], ◌∷◌, ◌++◌, refl, sym, ◌∙◌}
+-- The arrays, events and tasks of a block are made in their order: silent steps make none, and an action those of its head.
+use Rattle.std.proofs.Common.{◌≡◌, ℤ, Bool, true, false, List, [], ◌∷◌, ◌++◌, map, refl, sym, ap, ◌∙◌}
 use Rattle.std.specs.Prelude.{if◌then◌else◌, pos, int_lt, nat_abs, Option}
 use Rattle.algol_tree.specs.declared.tree.Kind.{Kind}
 use Rattle.algol_tree.specs.declared.tree.Named.{Named}
@@ -14,11 +14,11 @@ use Rattle.algol_meaning.specs.Statements.{items, run_and, turn_and, assigned_of
 use Rattle.algol_meaning.specs.Asks.{evaluated_of, located_of, nth_stmt, inside_or_after, called, resume}
 use Rattle.algol_paths.specs.Blocks.{IsSeen, IsSeenAround, IsInner}
 use Rattle.algol_paths.specs.Texts.{InItems, InDeclared, InRest}
-use Rattle.algol_paths.specs.Arrays.{arrays_in, arrays_to_come, to_make, left_to_make}
-use Rattle.algol_paths.specs.Laws.{ArraysAreMadeInOrder}
+use Rattle.algol_paths.specs.Arrays.{DeclaredArray, arrays_in, arrays_to_come, to_make, left_to_make, Made, an_array, made_in, to_come, all_to_make, all_left_to_make, arrays_among}
+use Rattle.algol_paths.specs.Laws.{ArraysAreMadeInOrder, AllIsMadeInOrder}
 
 abbrev MakesNone : Rest → Type 0
-MakesNone r = to_make r ≡ []
+MakesNone r = all_to_make r ≡ []
 
 either_none : (b : Bool) (x y : Rest) → MakesNone x → MakesNone y → MakesNone (if b then x else y)
 either_none true x y m n = m
@@ -80,8 +80,8 @@ located_none (aims x) = refl
 
 -- a bound that has no value is before the same arrays
 bound_makes : (kind : Kind) (ns : List Named) (pairs : List PPair) (vs : List Value) (x : Half) (ps : List PPair) (k : List Item) (go_on : List Value → Rest) →
-    ((ws : List Value) → to_make (go_on ws) ≡ arrays_in kind ns pairs ++ arrays_to_come k) →
-    to_make (bound_of kind ns pairs vs x ps k go_on) ≡ arrays_in kind ns pairs ++ arrays_to_come k
+    ((ws : List Value) → all_to_make (go_on ws) ≡ made_in kind ns pairs ++ to_come k) →
+    all_to_make (bound_of kind ns pairs vs x ps k go_on) ≡ made_in kind ns pairs ++ to_come k
 bound_makes kind ns pairs vs (val v) ps k go_on g = g (vs ++ v ∷ [])
 bound_makes kind ns pairs vs (busy h) ps k go_on g = refl
 
@@ -91,7 +91,7 @@ module _ (sc : Scopes) where
   line_none (tree.more e es) phrases k vs = item_none phrases vs (settle sc e) es k (settle_line sc es phrases k) (λ ws. line_none es phrases k ws)
 
   bounds_make : (ps : List PPair) (kind : Kind) (ns : List Named) (pairs : List PPair) (k : List Item) (vs : List Value) →
-      to_make (settle_bounds sc ps kind ns pairs k vs) ≡ arrays_in kind ns pairs ++ arrays_to_come k
+      all_to_make (settle_bounds sc ps kind ns pairs k vs) ≡ made_in kind ns pairs ++ to_come k
   bounds_make [] kind ns pairs k vs = refl
   bounds_make (p ∷ ps) kind ns pairs k vs =
       bound_makes kind ns pairs vs (settle sc p.high) ps k (settle_bounds sc ps kind ns pairs k) (λ ws. bounds_make ps kind ns pairs k ws)
@@ -145,14 +145,15 @@ module _ (sc : Scopes) where
   differed_none (busy h) loop k r n = refl
 
   module _ (P : Named → Type 0) (Q : PBody → Type 0) where
-    -- ---- items among which are no arrays
+    -- ---- items among which is nothing to make
 
-    none_to_come : (k : List Item) → InItems P Q k → arrays_to_come k ≡ []
+    none_to_come : (k : List Item) → InItems P Q k → to_come k ≡ []
     none_to_come [] i = refl
     none_to_come (make_arrays kind ns ps ∷ k) i = absurd i.0
+    none_to_come (make_event n ∷ k) i = absurd i.0
     none_to_come (item ∷ k) i = none_to_come k i.1
 
-    items_none : (k : List Item) → InItems P Q k → MakesNone (settle_items sc k)
+    pub items_none : (k : List Item) → InItems P Q k → MakesNone (settle_items sc k)
     items_none [] i = refl
     items_none (run s ∷ k) i = stmt_none s k (settle_items sc k) (items_none k i.1)
     items_none (turn ∷ k) i = refl
@@ -161,7 +162,7 @@ module _ (sc : Scopes) where
     items_none (test loop ∷ k) i = differed_none (settle sc (difference_in loop)) loop k (settle_items sc k) (items_none k i.1)
     items_none (result name ∷ k) i = refl
     items_none (make_arrays kind ns ps ∷ k) i = absurd i.0
-    items_none (make_event n ∷ k) i = refl
+    items_none (make_event n ∷ k) i = absurd i.0
 
     inside_none : (a : Answer) (k : List Item) → InItems P Q k → MakesNone (inside_or_after sc a k)
     inside_none entered k i = refl
@@ -173,13 +174,14 @@ module _ (sc : Scopes) where
     entered_none typed _ k i = items_none k i
 
     module _ (R : Named → Type 0) where
-      declared_make : (k : List Item) → InDeclared P Q R k → to_make (settle_items sc k) ≡ arrays_to_come k
+      declared_make : (k : List Item) → InDeclared P Q R k → all_to_make (settle_items sc k) ≡ to_come k
       declared_make (make_arrays kind ns ps ∷ k) i = bounds_make ps kind ns ps k []
+      declared_make (make_event n ∷ k) i = refl
       declared_make k i = items_none k i ∙ sym (none_to_come k i)
 
       -- ---- after an action
 
-      resumed_makes : (r : Rest) (a : Answer) → InRest P Q R r → to_make (resume sc r a) ≡ left_to_make r
+      resumed_makes : (r : Rest) (a : Answer) → InRest P Q R r → all_to_make (resume sc r a) ≡ all_left_to_make r
       resumed_makes over a i = refl
       resumed_makes (reading name) a i = evaluated_none (half_of a)
       resumed_makes (giving v) a i = refl
@@ -194,7 +196,7 @@ module _ (sc : Scopes) where
       resumed_makes (acting act n k) a i = items_none k i.1
       resumed_makes (line phrases vs k) a i = items_none k i
       resumed_makes (arrays kind ns pairs vs k) a i = declared_make k i
-      resumed_makes (event n k) a i = absurd i
+      resumed_makes (event n k) a i = declared_make k i
       resumed_makes (within k) a i = items_none k i
       resumed_makes (dropping k) a i = items_none k i
       resumed_makes (evaluating h) a i = evaluated_none (put sc h a)
@@ -222,10 +224,48 @@ module _ (sc : Scopes) where
       resumed_makes (bounding kind ns pairs vs h ps k) a i =
           bound_makes kind ns pairs vs (put sc h a) ps k (settle_bounds sc ps kind ns pairs k) (λ ws. bounds_make ps kind ns pairs k ws)
 
--- ---- the law
+-- ---- the arrays among what is made
+
+only_arrays : (as' : List DeclaredArray) (ms : List Made) → arrays_among (map an_array as' ++ ms) ≡ as' ++ arrays_among ms
+only_arrays [] ms = refl
+only_arrays (a ∷ as') ms = ap (λ xs. a ∷ xs) (only_arrays as' ms)
+
+arrays_come : (k : List Item) → arrays_among (to_come k) ≡ arrays_to_come k
+arrays_come [] = refl
+arrays_come (make_arrays kind ns ps ∷ k) = only_arrays (arrays_in kind ns ps) (to_come k) ∙ ap (λ xs. arrays_in kind ns ps ++ xs) (arrays_come k)
+arrays_come (make_event n ∷ k) = arrays_come k
+arrays_come (run s ∷ k) = arrays_come k
+arrays_come (turn ∷ k) = arrays_come k
+arrays_come (count n b ∷ k) = arrays_come k
+arrays_come (check b c ∷ k) = arrays_come k
+arrays_come (test loop ∷ k) = arrays_come k
+arrays_come (result name ∷ k) = arrays_come k
+
+both_come : (kind : Kind) (ns : List Named) (ps : List PPair) (k : List Item) → arrays_among (made_in kind ns ps ++ to_come k) ≡ arrays_in kind ns ps ++ arrays_to_come k
+both_come kind ns ps k = only_arrays (arrays_in kind ns ps) (to_come k) ∙ ap (λ xs. arrays_in kind ns ps ++ xs) (arrays_come k)
+
+arrays_made : (r : Rest) → arrays_among (all_to_make r) ≡ to_make r
+arrays_made (bounding kind ns pairs vs h ps k) = both_come kind ns pairs k
+arrays_made (arrays kind ns pairs vs k) = both_come kind ns pairs k
+arrays_made (event n k) = arrays_come k
+arrays_made _ = refl
+
+arrays_left : (r : Rest) → arrays_among (all_left_to_make r) ≡ left_to_make r
+arrays_left (bounding kind ns pairs vs h ps k) = both_come kind ns pairs k
+arrays_left (arrays kind ns pairs vs k) = arrays_come k
+arrays_left (event n k) = arrays_come k
+arrays_left _ = refl
+
+-- ---- the laws
+
+pub all_is_made_in_order : AllIsMadeInOrder
+all_is_made_in_order = record {
+  settled = λ sc j k i. declared_make sc (IsSeen sc j) (IsInner sc j) (IsSeenAround sc j) k i;
+  resumed = λ sc j r a i. resumed_makes sc (IsSeen sc j) (IsInner sc j) (IsSeenAround sc j) r a i;
+}
 
 pub arrays_are_made_in_order : ArraysAreMadeInOrder
 arrays_are_made_in_order = record {
-  settled = λ sc j k i. declared_make sc (IsSeen sc j) (IsInner sc j) (IsSeenAround sc j) k i;
-  resumed = λ sc j r a i. resumed_makes sc (IsSeen sc j) (IsInner sc j) (IsSeenAround sc j) r a i;
+  settled = λ sc j k i. sym (arrays_made (settle_items sc k)) ∙ (ap arrays_among (all_is_made_in_order.settled sc j k i) ∙ arrays_come k);
+  resumed = λ sc j r a i. sym (arrays_made (resume sc r a)) ∙ (ap arrays_among (all_is_made_in_order.resumed sc j r a i) ∙ arrays_left r);
 }

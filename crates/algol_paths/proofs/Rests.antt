@@ -56,7 +56,7 @@ module _ (P : Named → Type 0) (Q : PBody → Type 0) (R : Named → Type 0) wh
     resumed_keeps (acting act n k) a i j = settled_keeps P Q R sc k i.1
     resumed_keeps (line phrases vs k) a i j = settled_keeps P Q R sc k i
     resumed_keeps (arrays kind ns pairs vs k) a i j = declared_keeps P Q R sc k i
-    resumed_keeps (event n k) a i j = absurd i
+    resumed_keeps (event n k) a i j = declared_keeps P Q R sc k i
     resumed_keeps (within k) a i j = settled_keeps P Q R sc k i
     resumed_keeps (dropping k) a i j = settled_keeps P Q R sc k i
     resumed_keeps (evaluating h) a i j = evaluated_keeps (put sc h a) (put_in P sc h a i)

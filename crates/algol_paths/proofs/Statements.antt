@@ -178,4 +178,5 @@ module _ (P : Named → Type 0) (Q : PBody → Type 0) (R : Named → Type 0) wh
 
     pub declared_keeps : (k : List Item) → KeepDeclared k → Keeps (settle_items sc k)
     declared_keeps (make_arrays kind ns ps ∷ k) i = bounds_keep ps kind ns ps k [] i.0 i.1
+    declared_keeps (make_event n ∷ k) i = i
     declared_keeps k i = settled_keeps k i

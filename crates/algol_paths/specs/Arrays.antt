@@ -9,7 +9,7 @@ use Rattle.algol_tree.specs.Plain as tree
 use Rattle.algol_tree.specs.Plain.{PPair, PDecls}
 use Rattle.algol_tree.specs.Sorts.{specified_by}
 use Rattle.algol_tree.specs.Blocks.{Block, same_spot}
-use Rattle.algol_meaning.specs.Rest.{Item, make_arrays, Rest, arrays, bounding}
+use Rattle.algol_meaning.specs.Rest.{Item, make_arrays, make_event, Rest, arrays, event, bounding}
 
 -- an array that a declaration makes: its name, the kind of its elements, its bounds
 pub record DeclaredArray : Type 0 where
@@ -93,14 +93,53 @@ arrays_to_come [] = []
 arrays_to_come (make_arrays kind ns pairs ∷ k) = arrays_in kind ns pairs ++ arrays_to_come k
 arrays_to_come (_ ∷ k) = arrays_to_come k
 
--- by a part whose head is among its bounds, or makes arrays; any other has none to make
+-- by a part whose head is among its bounds, or makes arrays or an event; any other has none to make
 abbrev pub to_make : Rest → List DeclaredArray
 to_make (bounding kind ns pairs vs h ps k) = arrays_in kind ns pairs ++ arrays_to_come k
 to_make (arrays kind ns pairs vs k) = arrays_in kind ns pairs ++ arrays_to_come k
+to_make (event n k) = arrays_to_come k
 to_make _ = []
 
 -- .. after the action of its head
 abbrev pub left_to_make : Rest → List DeclaredArray
 left_to_make (bounding kind ns pairs vs h ps k) = arrays_in kind ns pairs ++ arrays_to_come k
 left_to_make (arrays kind ns pairs vs k) = arrays_to_come k
+left_to_make (event n k) = arrays_to_come k
 left_to_make _ = []
+
+-- ---- arrays, events and tasks together
+
+-- what a declaration makes by actions: an array, an event or a task. All of them stand in one order, which is that of their cells.
+pub data Made : Type 0 where
+  an_array : DeclaredArray → Made
+  an_event : List ℕ → Made
+
+abbrev pub made_in : Kind → List Named → List PPair → List Made
+made_in kind ns pairs = map an_array (arrays_in kind ns pairs)
+
+-- those that items still make
+abbrev pub to_come : List Item → List Made
+to_come [] = []
+to_come (make_arrays kind ns pairs ∷ k) = made_in kind ns pairs ++ to_come k
+to_come (make_event n ∷ k) = an_event n.name ∷ to_come k
+to_come (_ ∷ k) = to_come k
+
+-- .. and that a part still makes
+abbrev pub all_to_make : Rest → List Made
+all_to_make (bounding kind ns pairs vs h ps k) = made_in kind ns pairs ++ to_come k
+all_to_make (arrays kind ns pairs vs k) = made_in kind ns pairs ++ to_come k
+all_to_make (event n k) = an_event n.name ∷ to_come k
+all_to_make _ = []
+
+-- .. after the action of its head
+abbrev pub all_left_to_make : Rest → List Made
+all_left_to_make (bounding kind ns pairs vs h ps k) = made_in kind ns pairs ++ to_come k
+all_left_to_make (arrays kind ns pairs vs k) = to_come k
+all_left_to_make (event n k) = to_come k
+all_left_to_make _ = []
+
+-- the arrays among them
+abbrev pub arrays_among : List Made → List DeclaredArray
+arrays_among [] = []
+arrays_among (an_array a ∷ ms) = a ∷ arrays_among ms
+arrays_among (an_event name ∷ ms) = arrays_among ms

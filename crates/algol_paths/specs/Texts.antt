@@ -126,6 +126,7 @@ module _ (P : Named → Type 0) (Q : PBody → Type 0) (R : Named → Type 0) wh
   -- the items of a block
   abbrev pub InDeclared : List Item → Type 0
   InDeclared (make_arrays kind ns pairs ∷ k) = InPairs R pairs × InDeclared k
+  InDeclared (make_event n ∷ k) = InDeclared k
   InDeclared k = InItems P Q k
 
   abbrev pub InRest : Rest → Type 0
@@ -143,7 +144,7 @@ module _ (P : Named → Type 0) (Q : PBody → Type 0) (R : Named → Type 0) wh
   InRest (acting act n k) = P n × InItems P Q k
   InRest (line phrases vs k) = InItems P Q k
   InRest (arrays kind ns pairs vs k) = InDeclared k
-  InRest (event n k) = ⊥
+  InRest (event n k) = InDeclared k
   InRest (within k) = InItems P Q k
   InRest (dropping k) = InItems P Q k
   InRest (evaluating h) = InHole P h

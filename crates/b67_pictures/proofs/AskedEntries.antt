@@ -106,6 +106,7 @@ enters_seen P n gs Q R narrower (preparing m x task k) e is = actuals_enter P n 
 -- arrays are still to be made where it is entered in a bound
 pub entered_in_bound : (P : Named → Type 0) (n : Named) (gs : List Given) (Q : PBody → Type 0) (R : Named → Type 0) (r : Rest) → ask r ≡ enters n gs → InRest P Q R r → (to_make r ≡ []) ⊎ InEntry R n gs
 entered_in_bound P n gs Q R (arrays kind ns pairs vs k) e is = cc
+entered_in_bound P n gs Q R (event m k) e is = cc
 entered_in_bound P n gs Q R (bounding kind ns pairs vs h ps k) e is = inr (hole_enters R n gs h e is.0)
 entered_in_bound P n gs Q R r e is = inl refl
 
@@ -175,5 +176,6 @@ blocks_seen P Q R b (preparing m x task k) e is = actuals_block x b e
 -- and no arrays are still to be made there
 pub block_unmade : (b : PBody) (r : Rest) → ask r ≡ enters_block b → to_make r ≡ []
 block_unmade b (arrays kind ns pairs vs k) e = cc
+block_unmade b (event m k) e = cc
 block_unmade b (bounding kind ns pairs vs h ps k) e = hole_blocks h b e
 block_unmade b r e = refl
