@@ -6,7 +6,7 @@ use Rattle.algol_tree.specs.Scopes.{Scopes}
 use Rattle.algol_meaning.specs.Value.{EventCell, Reference, event}
 use Rattle.algol_meaning.specs.World.{cell_at, Part, Process, World}
 use Rattle.algol_meaning.specs.Critical.{is_evaluation, own_instances}
-use Rattle.algol_paths.specs.Arrays.{to_make}
+use Rattle.algol_paths.specs.Arrays.{all_to_make}
 use Rattle.algol_standing.specs.Skeleton.{Evaluation, IsEvaluated, IsIn}
 use Rattle.algol_standing.specs.Worlds.{held_by, stack_of, IsStanding, IsOnPath, IsAmong, AreListed, IsWhole, ProcessOk, IsOk}
 use Rattle.algol_standing.proofs.Pairs.{AllPairs, numbered_back, numbered_forth, pairs_map, stack_forth}
@@ -19,13 +19,13 @@ pub record IsStillMade (parts : List Part) (x : Part) : Type 0 where
   pub among : IsAmong parts part
   pub owns : is_evaluation part.purpose ≡ false
   pub instance_is : part.instance ≡ x.instance
-  pub made : to_make part.rest ≡ []
+  pub made : all_to_make part.rest ≡ []
 
 -- all that had nothing to make still have
 abbrev pub AreStillMade : List Part → List Part → Type 0
-AreStillMade before after = (x : Part) → IsAmong before x → is_evaluation x.purpose ≡ false → to_make x.rest ≡ [] → IsStillMade after x
+AreStillMade before after = (x : Part) → IsAmong before x → is_evaluation x.purpose ≡ false → all_to_make x.rest ≡ [] → IsStillMade after x
 
-pub still_self : (parts : List Part) (x : Part) → IsAmong parts x → is_evaluation x.purpose ≡ false → to_make x.rest ≡ [] → IsStillMade parts x
+pub still_self : (parts : List Part) (x : Part) → IsAmong parts x → is_evaluation x.purpose ≡ false → all_to_make x.rest ≡ [] → IsStillMade parts x
 still_self parts x n o m = record { part = x; among = n; owns = o; instance_is = refl; made = m }
 
 module _ (sc : Scopes) (w : World) (ok : IsOk sc IsWhole w) (p : ℕ) (q : Process) (is : numbered w.processes p ≡ Some q) (after : Process) (alike : ProcessAlike q after)

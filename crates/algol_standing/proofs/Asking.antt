@@ -9,7 +9,7 @@ use Rattle.algol_meaning.specs.Rest.{Given, Hole, Actuals, Aim, Rest, Answer, pl
 use Rattle.algol_meaning.specs.Asks as asks
 use Rattle.algol_meaning.specs.Asks.{Ask, ask_hole, ask_actuals, ask_aim, ask}
 use Rattle.algol_paths.specs.Texts.{InExpr, InExprs, InName, InGivens, InHole, InActuals, InAim, InRest}
-use Rattle.algol_paths.specs.Arrays.{to_make}
+use Rattle.algol_paths.specs.Arrays.{all_to_make}
 use Rattle.algol_standing.specs.Worlds.{held_in_place, held_in_givens, held_in_hole, held_in_actuals, held_in_aim, held_in_rest, IsNoBlock}
 use Rattle.algol_standing.proofs.Holding.{AreAll, all_back}
 
@@ -25,7 +25,6 @@ Sees P Q (asks.goes_to n) = P n
 Sees P Q (asks.enters_block b) = Q b
 Sees P Q (asks.starts n gs task) = P n × InGivens P gs × InName P task
 Sees P Q (asks.acts x n) = P n
-Sees P Q (asks.makes_event n) = ⊥
 Sees P Q _ = Unit {0}
 
 -- the answer is one to what was asked for, and leaves no part inside
@@ -83,7 +82,6 @@ module _ (P R : Named → Type 0) (f : (n : Named) → R n → P n) where
     sees_more (asks.enters_block b) i = i
     sees_more (asks.starts n gs task) i = (f n i.0, givens_more gs i.1, name_more task i.2)
     sees_more (asks.acts x n) i = f n i
-    sees_more (asks.makes_event n) i = i
     sees_more _ i = tt
 
 module _ (P : Named → Type 0) (Q : PBody → Type 0) where
@@ -130,7 +128,7 @@ module _ (P : Named → Type 0) (Q : PBody → Type 0) (R : Named → Type 0) (f
   rest_sees (rests.acting act n k) i = i.0
   rest_sees (rests.line phrases vs k) i = tt
   rest_sees (rests.arrays kind ns pairs vs k) i = tt
-  rest_sees (rests.event n k) i = i
+  rest_sees (rests.event n k) i = tt
   rest_sees (rests.within k) i = tt
   rest_sees (rests.dropping k) i = tt
   rest_sees (rests.evaluating h) i = hole_sees P Q h i
@@ -149,11 +147,12 @@ module _ (P : Named → Type 0) (Q : PBody → Type 0) (R : Named → Type 0) (f
   rest_sees (rests.writing phrases vs h es k) i = hole_sees P Q h i.0
   rest_sees (rests.bounding kind ns pairs vs h ps k) i = sees_more P R f Q (ask_hole h) (hole_sees R Q h i.0)
 
--- where something is left to make, the head is among the bounds of arrays, and sees only what is around
+-- where something is left to make, the head is among the bounds of arrays and sees only what is around, or it makes what it names
 module _ (P : Named → Type 0) (Q : PBody → Type 0) (R : Named → Type 0) where
-  pub bound_sees : (r : Rest) → InRest P Q R r → (to_make r ≡ []) ⊎ Sees R IsNoBlock (ask r)
+  pub bound_sees : (r : Rest) → InRest P Q R r → (all_to_make r ≡ []) ⊎ Sees R IsNoBlock (ask r)
   bound_sees (rests.bounding kind ns pairs vs h ps k) i = ◌⊎◌.inr (hole_sees R IsNoBlock h i.0)
   bound_sees (rests.arrays kind ns pairs vs k) i = ◌⊎◌.inr tt
+  bound_sees (rests.event n k) i = ◌⊎◌.inr tt
   bound_sees _ i = ◌⊎◌.inl refl
 
 -- ---- what a call hands on

@@ -24,7 +24,7 @@ use Rattle.algol_standing.proofs.Seen.{there, ancestors, part_ok, part_path, par
 use Rattle.algol_standing.proofs.Asking.{Sees, AskHolds, rest_sees, rest_asks}
 use Rattle.algol_standing.proofs.Inside.{Opens}
 use Rattle.algol_standing.proofs.Given.{narrow_here, callee_whole, cells_held, cells_no_events, Held}
-use Rattle.algol_standing.proofs.Entering.{entered_ok}
+use Rattle.algol_standing.proofs.Entered.{entered_ok}
 
 module _ (sc : Scopes) (w : World) (ok : IsOk sc IsWhole w) where
   pub some_number : (i : ℕ) → IsStanding w i → 1 ≤ i

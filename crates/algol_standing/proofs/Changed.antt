@@ -146,6 +146,21 @@ event_more (d ∷ cells) more n e without f = by (same_name d.name n) (λ g. eve
     by true h g = g
     by false h g = h g
 
+-- .. or it is the one that was added
+pub event_added : (cells : List NamedCell) (name n : List ℕ) (d e : EventCell) → cell_in (cells ++ record { name = name; cell = event d } ∷ []) n ≡ event e →
+    (cell_in cells n ≡ event e) ⊎ (e ≡ d)
+event_added [] name n d e f = by (same_name name n) f
+  where
+    by : (b : Bool) → (if b then event d else cell_in [] n) ≡ event e → (cell_in [] n ≡ event e) ⊎ (e ≡ d)
+    by true g = ◌⊎◌.inr cc
+    by false g = ◌⊎◌.inl g
+event_added (c ∷ cells) name n d e f = by (same_name c.name n) (λ g. event_added cells name n d e g) f
+  where
+    by : (b : Bool) → (cell_in (cells ++ record { name = name; cell = event d } ∷ []) n ≡ event e → (cell_in cells n ≡ event e) ⊎ (e ≡ d)) →
+        (if b then c.cell else cell_in (cells ++ record { name = name; cell = event d } ∷ []) n) ≡ event e → ((if b then c.cell else cell_in cells n) ≡ event e) ⊎ (e ≡ d)
+    by true h g = ◌⊎◌.inl g
+    by false h g = h g
+
 -- an instance with other cells has no event that it had not
 in_instance : (w : World) (i : ℕ) (y : Instance) → ((n : List ℕ) (e : EventCell) → cell_in y.cells n ≡ event e → cell_in ((instance_at w i).cells) n ≡ event e) →
     (r : Reference) (e : EventCell) → cell_at (with_instance w i y) r ≡ event e → cell_at w r ≡ event e
@@ -166,6 +181,22 @@ set_event_before w s c without r e f =
 pub add_event_before : (w : World) (i : ℕ) (more : List NamedCell) → AreNoEvents more → (r : Reference) (e : EventCell) → cell_at (add_cells w i more) r ≡ event e → cell_at w r ≡ event e
 add_event_before w i more without r e f =
     in_instance w i (record (instance_at w i) { cells = (instance_at w i).cells ++ more }) (λ n d g. event_more ((instance_at w i).cells) more n d without g) r e f
+
+pub event_before : (w : World) (i : ℕ) (name : List ℕ) (d : EventCell) (r : Reference) (e : EventCell) → cell_at (add_cells w i (record { name = name; cell = event d } ∷ [])) r ≡ event e →
+    (cell_at w r ≡ event e) ⊎ (e ≡ d)
+event_before w i name d r e g = by (set_or w.instances i r.instance y)
+  where
+    y : Instance
+    y = record (instance_at w i) { cells = (instance_at w i).cells ++ record { name = name; cell = event d } ∷ [] }
+
+    moved : i ≡ r.instance → (cell_in ((instance_at w i).cells) r.name ≡ event e) ⊎ (e ≡ d) → (cell_at w r ≡ event e) ⊎ (e ≡ d)
+    moved h (◌⊎◌.inl f) = ◌⊎◌.inl (subst (λ j. cell_in ((instance_at w j).cells) r.name ≡ event e) h f)
+    moved h (◌⊎◌.inr f) = ◌⊎◌.inr f
+
+    by : (numbered (set_numbered w.instances i y) r.instance ≡ numbered w.instances r.instance) ⊎ ((i ≡ r.instance) × (numbered (set_numbered w.instances i y) r.instance ≡ Some y)) →
+        (cell_at w r ≡ event e) ⊎ (e ≡ d)
+    by (◌⊎◌.inl h) = ◌⊎◌.inl (ap (λ o. cell_in ((or_no_instance o).cells) r.name) (sym h) ∙ g)
+    by (◌⊎◌.inr h) = moved h.0 (event_added ((instance_at w i).cells) name r.name d e (ap (λ o. cell_in ((or_no_instance o).cells) r.name) (sym h.1) ∙ g))
 
 -- ---- who is listed
 

@@ -34,7 +34,7 @@ use Rattle.algol_standing.proofs.Leaves.{left_keeps}
 use Rattle.algol_standing.proofs.Jumping.{jump_keeps}
 use Rattle.algol_standing.proofs.Calling.{procedure_enters, block_enters}
 use Rattle.algol_standing.proofs.Starting.{process_starts}
-use Rattle.algol_standing.proofs.Quiet.{Keeps, either, fails_keeps, at_followed, sees, suited, value_goes, done_goes, same_goes, goes_ok, read_keeps, resolved_keeps, indexed_keeps, element_keeps, stored_keeps, arrays_keep}
+use Rattle.algol_standing.proofs.Quiet.{Keeps, either, fails_keeps, at_followed, sees, suited, value_goes, done_goes, same_goes, goes_ok, read_keeps, resolved_keeps, indexed_keeps, element_keeps, stored_keeps, arrays_keep, event_keeps}
 
 module _ (sc : Scopes) (texts : AreTexts sc) (w : World) (ok : IsOk sc IsWhole w) (p : ℕ) (q : Process) (part : Part) (outer : List Part) (is : numbered w.processes p ≡ Some q)
     (todo : q.todo ≡ part ∷ outer) (able_is : q.state ≡ able) where
@@ -101,7 +101,7 @@ module _ (sc : Scopes) (texts : AreTexts sc) (w : World) (ok : IsOk sc IsWhole w
       (record w { output = w.output ++ line_of phrases vs ∷ [] }) (pairs_self InstanceAlike instance_self w.instances) refl (λ r d g. g)
   choice_keeps (asks.makes_arrays kind ns pairs vs) e fits =
       arrays_keep sc (heads_act sc) w ok p q part outer is todo able_is (asks.makes_arrays kind ns pairs vs) e tt kind ns (bounds_of pairs vs)
-  choice_keeps (asks.makes_event n) e fits = absurd (seen_by (asks.makes_event n) e)
+  choice_keeps (asks.makes_event n) e fits = event_keeps sc (heads_act sc) w ok p q part outer is todo able_is n e
 
 -- ---- a choice of a process that may go
 

@@ -1,5 +1,5 @@
 -- The Enter of a name's evaluation keeps what worlds are: it has no instance of its own.
-use Rattle.std.proofs.Common.{◌≡◌, ◌⊎◌, ℕ, List, [], ◌∷◌, Some, true, false, refl, sym, ap, ◌∙◌, subst}
+use Rattle.std.proofs.Common.{◌≡◌, ◌⊎◌, ℕ, List, [], ◌∷◌, Some, true, refl, sym, ap, ◌∙◌, subst}
 use Rattle.std.specs.Prelude.{if◌then◌else◌}
 use Rattle.b67_list.specs.Numbered.{numbered}
 use Rattle.algol_tree.specs.declared.tree.Named.{Named}
@@ -22,7 +22,7 @@ use Rattle.algol_paths.specs.Texts.{InExpr, InRest}
 use Rattle.algol_paths.proofs.Expressions.{InHalf, InHalfPlace, settle_in, settle_place_in}
 use Rattle.algol_standing.specs.Skeleton.{Evaluation, IsEvaluated, IsIn}
 use Rattle.algol_standing.specs.Worlds.{held_in_rest, newest_own, held_by, IsOnPath, IsOwn, IsAmong, IsAwaited, IsNoBlock, GivesNoOwn, GivesPlace, WaitsForPlace, AreGiven, IsWhole, KeepsActual, PartOk, ProcessOk, IsOk}
-use Rattle.algol_standing.proofs.Lists.{some_same}
+use Rattle.algol_standing.proofs.Lists.{false_true, some_same}
 use Rattle.algol_standing.proofs.Holding.{HalfHolds, RestHolds, settle_holds, evaluated_holds}
 use Rattle.algol_standing.proofs.Pairs.{pairs_self, pairs_then_set}
 use Rattle.algol_standing.proofs.Alike.{InstanceAlike, ProcessAlike, instance_self}
@@ -35,9 +35,6 @@ use Rattle.algol_standing.proofs.Changed.{listed_still}
 use Rattle.algol_standing.proofs.Acting.{acting}
 use Rattle.algol_standing.proofs.Inside.{Opens, opened_waits}
 
-no_such : {A : Type 0} → false ≡ true → A
-no_such e = cc
-
 waits_awaits : (r : Rest) → WaitsForPlace r → awaits_place_in r ≡ true
 waits_awaits (rests.locating rests.inside_place) f = refl
 waits_awaits (rests.aiming rests.inside_place e k) f = refl
@@ -45,7 +42,7 @@ waits_awaits _ f = absurd f
 
 -- what is opened without a place being asked for leaves no part that waits for one
 pub no_place_awaited : (sc : Scopes) (r : Rest) → opens_plain (ask r) ≡ true → WaitsForPlace (resume sc r entered) → ⊥
-no_place_awaited sc r e f = no_such (sym (opened sc r e) ∙ waits_awaits (resume sc r entered) f)
+no_place_awaited sc r e f = false_true (sym (opened sc r e) ∙ waits_awaits (resume sc r entered) f)
 
 module _ (P : Named → Type 0) (Q : PBody → Type 0) (R : Named → Type 0) where
   evaluated_text : (x : Half) → InHalf P x → InRest P Q R (evaluated_of x)
@@ -59,7 +56,7 @@ module _ (P : Named → Type 0) (Q : PBody → Type 0) (R : Named → Type 0) wh
   subscripted_text : (sc : Scopes) (e : PExpr) → is_subscripted e ≡ true → InExpr P e → InRest P Q R (located_of (settle_actual_place sc e))
   subscripted_text sc (tree.variable (tree.subscripted n (tree.more e es))) s i =
       located_text (settle_place sc (tree.subscripted n (tree.more e es))) (settle_place_in P sc n (tree.more e es) i.0 i.1)
-  subscripted_text sc _ s i = no_such s
+  subscripted_text sc _ s i = false_true s
 
 module _ (C : Cell → Type 0) (plain : (v : Value) → C (simple v)) (sc : Scopes) where
   aimed_rest : (n : Named) (x : Half) (es : PExprs) → HalfHolds C plain x → RestHolds C plain true (located_of (aimed_of n [] x es)) × GivesPlace (located_of (aimed_of n [] x es))
@@ -68,12 +65,12 @@ module _ (C : Cell → Type 0) (plain : (v : Value) → C (simple v)) (sc : Scop
 
   subscripted_holds : (e : PExpr) → is_subscripted e ≡ true → RestHolds C plain true (located_of (settle_actual_place sc e)) × GivesPlace (located_of (settle_actual_place sc e))
   subscripted_holds (tree.variable (tree.subscripted n (tree.more e es))) s = aimed_rest n (settle sc e) es (settle_holds C plain sc e)
-  subscripted_holds _ s = no_such s
+  subscripted_holds _ s = false_true s
 
 subscripted_acts : (sc : Scopes) (e : PExpr) → is_subscripted e ≡ true → ask (located_of (settle_actual_place sc e)) ≡ nothing → ⊥
 subscripted_acts sc (tree.variable v) s =
     acting (ask (located_of (settle_place sc v))) (located_acts (settle_place sc v) (place_acts sc v))
-subscripted_acts sc _ s = no_such s
+subscripted_acts sc _ s = false_true s
 
 module _ (sc : Scopes) (w : World) (ok : IsOk sc IsWhole w) (p : ℕ) (q : Process) (part : Part) (outer : List Part) (is : numbered w.processes p ≡ Some q) (todo : q.todo ≡ part ∷ outer)
     (able_is : q.state ≡ able) (c : NameCell) (held : CellOk sc IsWhole w ok (newest_own (part ∷ outer)) (named c)) where
@@ -176,7 +173,7 @@ module _ (sc : Scopes) (w : World) (ok : IsOk sc IsWhole w) (p : ℕ) (q : Proce
         }
       where
         owned : (i : ℕ) → IsOwn (inner ∷ around ∷ outer) i → IsOwn (part ∷ outer) i
-        owned i (◌⊎◌.inl f) = no_such (sym f.0 ∙ evaluates)
+        owned i (◌⊎◌.inl f) = false_true (sym f.0 ∙ evaluates)
         owned i (◌⊎◌.inr n) = n
 
     still : AreStillMade q.todo (inner ∷ around ∷ outer)

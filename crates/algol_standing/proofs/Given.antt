@@ -15,18 +15,15 @@ use Rattle.algol_meaning.specs.Asks.{ask}
 use Rattle.algol_meaning.specs.Choice.{home, here, given_cells}
 use Rattle.algol_paths.specs.Blocks.{IsSeen, IsSeenAround, IsInner}
 use Rattle.algol_paths.specs.Texts.{InExpr, InGivens, InRest}
-use Rattle.algol_paths.specs.Arrays.{to_make}
+use Rattle.algol_paths.specs.Arrays.{all_to_make}
 use Rattle.algol_standing.specs.Skeleton.{IsIn}
 use Rattle.algol_standing.specs.Worlds.{held_in_givens, newest_own, skeleton, IsStanding, IsOnPath, IsPlaced, outermost, inside, IsAmong, IsNoBlock, IsWhole, KeepsActual, PartOk, IsOk}
 use Rattle.algol_standing.specs.Calls.{IsNoEvent, IsCallee, PassNoEvents}
-use Rattle.algol_standing.proofs.Lists.{none_some}
+use Rattle.algol_standing.proofs.Lists.{false_true, none_some}
 use Rattle.algol_standing.proofs.Standing.{stands_path}
 use Rattle.algol_standing.proofs.Holding.{AreAll}
 use Rattle.algol_standing.proofs.Seen.{CellOk, there, instance_is, parent_path, part_ok, part_path, part_stands, home_path}
 use Rattle.algol_standing.proofs.Asking.{Sees, rest_sees, bound_sees}
-
-false_true : {A : Type 0} → false ≡ true → A
-false_true e = cc
 
 module _ (sc : Scopes) (w : World) (ok : IsOk sc IsWhole w) where
   up_one : (up i b : ℕ) → IsStanding w i → slice_get (around sc.blocks ((instance_at w i).block)) up ≡ Some b →
@@ -73,7 +70,7 @@ module _ (sc : Scopes) (w : World) (ok : IsOk sc IsWhole w) where
         evaluates (◌⊎◌.inl f) = ◌⊎◌.inl f
         evaluates (◌⊎◌.inr f) = ◌⊎◌.inr (rest_sees Around IsNoBlock Around (λ n s. s) part.rest f)
 
-        owns : is_evaluation part.purpose ≡ false → (to_make part.rest ≡ []) ⊎ Sees Around IsNoBlock (ask part.rest) → IsWhole w part.instance ⊎ Sees Around IsNoBlock (ask part.rest)
+        owns : is_evaluation part.purpose ≡ false → (all_to_make part.rest ≡ []) ⊎ Sees Around IsNoBlock (ask part.rest) → IsWhole w part.instance ⊎ Sees Around IsNoBlock (ask part.rest)
         owns o (◌⊎◌.inl m) =
             ◌⊎◌.inl
             (record {

@@ -1,17 +1,14 @@
 -- GO TO keeps what worlds are: the newer parts go, and the label's part goes on from there.
-use Rattle.std.proofs.Common.{◌≡◌, ◌⊎◌, ℕ, ◌<◌, List, [], ◌∷◌, ◌++◌, length, Option, Some, None, Bool, true, false, refl, sym, ap, ◌∙◌, subst, append_assoc}
+use Rattle.std.proofs.Common.{◌≡◌, ◌⊎◌, ℕ, ◌<◌, List, [], ◌∷◌, ◌++◌, length, Some, Bool, true, false, refl, sym, ap, ◌∙◌, subst, append_assoc}
 use Rattle.std.specs.Prelude.{if◌then◌else◌, ◌==◌}
 use Rattle.b67_list.specs.Numbered.{numbered}
 use Rattle.b67_num.specs.declared.FaultKind.TheVariants as fault
-use Rattle.algol_tree.specs.declared.tree.Kind.{Kind}
 use Rattle.algol_tree.specs.declared.tree.Named.{Named}
-use Rattle.algol_tree.specs.Plain as tree
-use Rattle.algol_tree.specs.Plain.{PStmts, PDecls, PBody}
-use Rattle.algol_tree.specs.Blocks.{Block, block_numbered}
+use Rattle.algol_tree.specs.Blocks.{block_numbered}
 use Rattle.algol_tree.specs.Scopes.{Scopes}
 use Rattle.algol_meaning.specs.Rest as rests
 use Rattle.algol_meaning.specs.Rest.{Item, Rest}
-use Rattle.algol_meaning.specs.Statements.{items, event_items, decls_items, ending, items_of, is_labelled, stmts_from, items_from, settle_items}
+use Rattle.algol_meaning.specs.Statements.{items_from, settle_items}
 use Rattle.algol_meaning.specs.World.{Instance, instance_at, Part, Process, able, lives, World}
 use Rattle.algol_meaning.specs.Critical.{some_depends_on_any, is_evaluation, own_instances}
 use Rattle.algol_meaning.specs.Instances.{Cut, is_part_of, cut_at}
@@ -19,14 +16,14 @@ use Rattle.algol_meaning.specs.Asks.{nothing, ask}
 use Rattle.algol_meaning.specs.Choice.{fails, gone, gone_to, goes_to}
 use Rattle.algol_laws.proofs.Cells.{same_number}
 use Rattle.algol_paths.specs.Blocks.{IsSeen, IsSeenAround, IsInner}
-use Rattle.algol_paths.specs.Texts.{InItems, InDeclared}
-use Rattle.algol_paths.specs.Arrays.{arrays_to_come, to_make}
-use Rattle.algol_paths.specs.Laws.{KeepsToText}
-use Rattle.algol_paths.proofs.Statements.{settled_keeps}
-use Rattle.algol_paths.proofs.Making.{arrays_are_made_in_order}
+use Rattle.algol_paths.specs.Arrays.{all_to_make}
+use Rattle.algol_paths.specs.Laws.{KeepsToText, ItemsKeepToText}
+use Rattle.algol_paths.proofs.Statements.{declared_keeps}
+use Rattle.algol_paths.proofs.Jumps.{jumps_keep_to_their_text}
 use Rattle.algol_standing.specs.Skeleton.{IsIn}
 use Rattle.algol_standing.specs.Worlds.{held_in_rest, newest_own, IsOwn, IsAmong, IsAwaited, GivesNoOwn, GivesPlace, HasHead, IsWhole, PartOk, IsOk}
 use Rattle.algol_standing.specs.Laws.{AreTexts}
+use Rattle.algol_standing.proofs.Lists.{false_true}
 use Rattle.algol_standing.proofs.Holding.{RestHolds, items_hold}
 use Rattle.algol_standing.proofs.Seen.{all_names, there, instance_is}
 use Rattle.algol_standing.proofs.Fine.{Fine, fine_of, fine_back, part_stands_in}
@@ -35,57 +32,6 @@ use Rattle.algol_standing.proofs.Resumed.{no_own, Held, plain_held, changed_fine
 use Rattle.algol_standing.proofs.Acting.{first_acts}
 use Rattle.algol_standing.proofs.Quiet.{same_ok}
 use Rattle.algol_standing.proofs.Leaving.{left_ok}
-
-no_place : {A : Type 0} → false ≡ true → A
-no_place e = cc
-
--- ---- a block's items from a label on
-
-module _ (P : Named → Type 0) (Q : PBody → Type 0) where
-  from_label : (ss : PStmts) (name : List ℕ) (k : List Item) → InItems P Q (items ss k) → InItems P Q (items (stmts_from ss name) k)
-  from_label tree.no_stmts name k i = i
-  from_label (tree.stmts s ss) name k i = by (is_labelled s name) (from_label ss name k i.1)
-    where
-      by : (b : Bool) → InItems P Q (items (stmts_from ss name) k) → InItems P Q (items (if b then tree.stmts s ss else stmts_from ss name) k)
-      by true j = i
-      by false j = j
-
-  none_to_come : (k : List Item) → InItems P Q k → arrays_to_come k ≡ []
-  none_to_come [] i = refl
-  none_to_come (rests.make_arrays kind ns ps ∷ k) i = absurd i.0
-  none_to_come (item ∷ k) i = none_to_come k i.1
-
-  declared_of : (R : Named → Type 0) (k : List Item) → InItems P Q k → InDeclared P Q R k
-  declared_of R (rests.make_arrays kind ns ps ∷ k) i = absurd i.0
-  declared_of R k i = i
-
-  module _ (R : Named → Type 0) (b : Block) where
-    statements : (o : Option Kind) → InDeclared P Q R (items b.stmts (ending (record b { result = o }))) → InItems P Q (items b.stmts (ending (record b { result = o })))
-    statements o i = by b.stmts o i
-      where
-        by : (ss : PStmts) (o : Option Kind) → InDeclared P Q R (items ss (ending (record b { result = o }))) → InItems P Q (items ss (ending (record b { result = o })))
-        by tree.no_stmts None i = i
-        by tree.no_stmts (Some kind) i = i
-        by (tree.stmts s ss) o i = i
-
-    after_events : (ns : List Named) (k : List Item) → (InDeclared P Q R k → InItems P Q (items b.stmts (ending b))) → InDeclared P Q R (event_items ns ++ k) →
-        InItems P Q (items b.stmts (ending b))
-    after_events [] k f i = f i
-    after_events (n ∷ ns) k f i = absurd i.0
-
-    after_declarations : (ds : PDecls) → InDeclared P Q R (decls_items ds ++ items b.stmts (ending b)) → InItems P Q (items b.stmts (ending b))
-    after_declarations tree.no_decls i = statements b.result i
-    after_declarations (tree.decls (tree.arrays kind ns ps) ds) i = after_declarations ds i.1
-    after_declarations (tree.decls (tree.events ns) ds) i =
-        after_events ns (decls_items ds ++ items b.stmts (ending b)) (after_declarations ds)
-        (subst (λ k. InDeclared P Q R k) (append_assoc (event_items ns) (decls_items ds) (items b.stmts (ending b))) i)
-    after_declarations (tree.decls (tree.tasks ns) ds) i =
-        after_events ns (decls_items ds ++ items b.stmts (ending b)) (after_declarations ds)
-        (subst (λ k. InDeclared P Q R k) (append_assoc (event_items ns) (decls_items ds) (items b.stmts (ending b))) i)
-    after_declarations (tree.decls _ ds) i = after_declarations ds i
-
-  pub jumps_keep : (R : Named → Type 0) (b : Block) (name : List ℕ) → InDeclared P Q R (items_of b) → InItems P Q (items_from b name)
-  jumps_keep R b name i = from_label b.stmts name (ending b) (after_declarations R b b.decls i)
 
 -- ---- the cut
 
@@ -203,13 +149,11 @@ module _ (sc : Scopes) (texts : AreTexts sc) (w : World) (ok : IsOk sc IsWhole w
         among [] = ◌⊎◌.inl refl
         among (x ∷ xs) = ◌⊎◌.inr (among xs)
 
-    in_text : InItems (IsSeen sc j) (IsInner sc j) from_here
-    in_text = jumps_keep (IsSeen sc j) (IsInner sc j) (IsSeenAround sc j) (block_numbered sc.blocks j) n.name (texts j known)
+    in_text : ItemsKeepToText sc j from_here
+    in_text = jumps_keep_to_their_text.text sc j (block_numbered sc.blocks j) n.name (texts j known)
 
-    made : to_make r ≡ []
-    made =
-        arrays_are_made_in_order.settled sc j from_here (declared_of (IsSeen sc j) (IsInner sc j) (IsSeenAround sc j) from_here in_text)
-        ∙ none_to_come (IsSeen sc j) (IsInner sc j) from_here in_text
+    made : all_to_make r ≡ []
+    made = jumps_keep_to_their_text.none sc j (block_numbered sc.blocks j) n.name (texts j known)
 
     holds_none : RestHolds (Held sc w ok target parts fine) (plain_held sc w ok target parts fine) (is_evaluation target.purpose) r
     holds_none = items_hold (Held sc w ok target parts fine) (plain_held sc w ok target parts fine) (is_evaluation target.purpose) sc from_here
@@ -217,8 +161,8 @@ module _ (sc : Scopes) (texts : AreTexts sc) (w : World) (ok : IsOk sc IsWhole w
     part_then : PartOk sc IsWhole w (record target { rest = r })
     part_then =
         record {
-          text = subst (λ k. KeepsToText sc ((instance_at w k).block) r) (sym at_i) (settled_keeps (IsSeen sc j) (IsInner sc j) (IsSeenAround sc j) sc from_here in_text);
-          narrow = λ e. no_place (sym owns ∙ e);
+          text = subst (λ k. KeepsToText sc ((instance_at w k).block) r) (sym at_i) (declared_keeps (IsSeen sc j) (IsInner sc j) (IsSeenAround sc j) sc from_here in_text);
+          narrow = λ e. false_true (sym owns ∙ e);
           names = λ m k. all_names sc IsWhole w ok (newest_own (target ∷ parts)) (held_in_rest r) holds_none.0 m k;
         }
 
@@ -226,8 +170,8 @@ module _ (sc : Scopes) (texts : AreTexts sc) (w : World) (ok : IsOk sc IsWhole w
     no_place_before g = absurd (never target.rest (subst (λ b. GivesNoOwn b target.rest) owns (no_own target parts fine.given)) g)
       where
         never : (x : Rest) → GivesNoOwn false x → GivesPlace x → ⊥
-        never (rests.giving_place y) f h = no_place f.0
-        never (rests.locating y) f h = no_place f
+        never (rests.giving_place y) f h = false_true f.0
+        never (rests.locating y) f h = false_true f
         never _ f h = h
 
     abbrev there_on : Part
@@ -236,7 +180,7 @@ module _ (sc : Scopes) (texts : AreTexts sc) (w : World) (ok : IsOk sc IsWhole w
     head_then : HasHead (there_on ∷ parts)
     head_then = record { part = there_on; outer = parts; is = refl; acts = first_acts sc from_here; wait = λ x m. behind newer target parts head x m }
 
-    still : (x : Part) → IsAmong q.todo x → is_evaluation x.purpose ≡ false → to_make x.rest ≡ [] → IsIn (own_instances newer) x.instance ⊎ IsStillMade (there_on ∷ parts) x
+    still : (x : Part) → IsAmong q.todo x → is_evaluation x.purpose ≡ false → all_to_make x.rest ≡ [] → IsIn (own_instances newer) x.instance ⊎ IsStillMade (there_on ∷ parts) x
     still x m o d = by (among_either newer (target ∷ parts) x (subst (λ ps. IsAmong ps x) all_is m))
       where
         in_target : IsAmong (target ∷ parts) x → IsStillMade (there_on ∷ parts) x

@@ -1,6 +1,6 @@
 -- A process leaves the newest instances of its stack, and goes on with the parts below, or ends.
 use Rattle.std.proofs.Common.{◌≡◌, ◌⊎◌, ℕ, zero, suc, ◌<◌, List, [], ◌∷◌, ◌++◌, length, Some, Bool, true, false, refl, sym, ap, ◌∙◌, subst}
-use Rattle.std.specs.Prelude.{slice_get, ◌&&◌, ◌||◌}
+use Rattle.std.specs.Prelude.{slice_get, ◌&&◌}
 use Rattle.b67_list.specs.Numbered.{numbered, set_numbered}
 use Rattle.algol_tree.specs.Scopes.{Scopes}
 use Rattle.algol_meaning.specs.Value.{Reference}
@@ -8,7 +8,7 @@ use Rattle.algol_meaning.specs.World.{Instance, instance_at, cell_in, cell_at, P
 use Rattle.algol_meaning.specs.Critical.{is_this, some_depends, some_depends_on_any, is_evaluation, own_instances}
 use Rattle.algol_meaning.specs.Instances.{leave}
 use Rattle.algol_laws.proofs.Cells.{numbered_set, numbered_other, itself}
-use Rattle.algol_paths.specs.Arrays.{to_make}
+use Rattle.algol_paths.specs.Arrays.{all_to_make}
 use Rattle.algol_standing.specs.Skeleton.{Stack, Skeleton, IsIn, Stands, OnPath, SkeletonOk, AreFree}
 use Rattle.algol_standing.specs.Worlds.{held_by, stack_of, skeleton, IsStanding, IsOnPath, IsOwn, IsAmong, IsAwaited, HasHead, IsWhole, ProcessOk, InstanceOk, IsOk}
 use Rattle.algol_standing.proofs.Lists.{some_same, same_or_other}
@@ -19,21 +19,10 @@ use Rattle.algol_standing.proofs.Unmoved.{unmoved_self}
 use Rattle.algol_standing.proofs.Acted.{IsStillMade}
 use Rattle.algol_standing.proofs.Carried.{part_kept, unmoved_kept, tasks_kept, instance_kept}
 use Rattle.algol_standing.proofs.Dropped.{dropped, dropped_stood, dropped_stands, dropped_ok, dropped_path, ended_ok, ended_path}
+use Rattle.algol_standing.proofs.PathOrder.{or_left, or_right, and_true}
 use Rattle.algol_standing.proofs.Stacks.{numbered_cases, skeleton_with, leave_processes, leave_homes, leave_same, IsLeftAs, leave_back}
 
 -- ---- no live process depends on them
-
-or_left : (a b : Bool) → a ≡ true → (a || b) ≡ true
-or_left true b e = refl
-or_left false b e = cc
-
-or_right : (a b : Bool) → b ≡ true → (a || b) ≡ true
-or_right true b e = refl
-or_right false b e = e
-
-and_true : (a b : Bool) → a ≡ true → b ≡ true → (a && b) ≡ true
-and_true true b e f = f
-and_true false b e f = cc
 
 depends : (qs : List Process) (k i : ℕ) (y : Process) → slice_get qs k ≡ Some y → lives y.state ≡ true → y.critical ≡ Some i → some_depends qs i ≡ true
 depends [] k i y e l c = cc
@@ -70,7 +59,7 @@ GoesOrEnds newer parts s = (lives s ≡ true) ⊎ ((i : ℕ) × (newer ≡ i ∷
 module _ (sc : Scopes) (w : World) (ok : IsOk sc IsWhole w) (p : ℕ) (q : Process) (is : numbered w.processes p ≡ Some q) (able_is : q.state ≡ able) (newer : List ℕ) (parts : List Part) (s : State)
     (own_is : own_instances q.todo ≡ newer ++ own_instances parts) (fine : Fine sc w parts) (heads : lives s ≡ true → HasHead parts) (awaits_none : (r : Reference) → IsAwaited s r → ⊥)
     (owned : (i : ℕ) → IsOwn parts i → IsOwn q.todo i)
-    (still : (x : Part) → IsAmong q.todo x → is_evaluation x.purpose ≡ false → to_make x.rest ≡ [] → IsIn newer x.instance ⊎ IsStillMade parts x)
+    (still : (x : Part) → IsAmong q.todo x → is_evaluation x.purpose ≡ false → all_to_make x.rest ≡ [] → IsIn newer x.instance ⊎ IsStillMade parts x)
     (none : some_depends_on_any w.processes newer ≡ false) (how : GoesOrEnds newer parts s) where
   abbrev pub goer : Process
   goer = record q { todo = parts; state = s }

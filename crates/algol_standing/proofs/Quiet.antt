@@ -13,14 +13,15 @@ use Rattle.algol_meaning.specs.Rest.{Place, own, there, element_of, Rest, Answer
 use Rattle.algol_meaning.specs.Settle.{settle_actual_place}
 use Rattle.algol_meaning.specs.World.{instance_at, cell_at, set_cell, add_cells, by_cell, followed, value_in, array_in, name_place, Part, Process, able, lives, with_process, World}
 use Rattle.algol_meaning.specs.Arrays.{element_at, with_element, new_array, new_arrays, has_wrong_size, has_no_room}
+use Rattle.algol_meaning.specs.Events.{new_event}
 use Rattle.algol_meaning.specs.Actions as actions
 use Rattle.algol_meaning.specs.Actions.{Action}
 use Rattle.algol_meaning.specs.Asks as asks
 use Rattle.algol_meaning.specs.Asks.{Ask, nothing, ask, resume, located_of}
-use Rattle.algol_meaning.specs.Choice.{Choice, is_subscripted, goes, opens, fails, home, here, read_of, resolved_of, indexed_at, element_read_at, stored, made_arrays}
+use Rattle.algol_meaning.specs.Choice.{Choice, is_subscripted, goes, opens, fails, home, here, read_of, resolved_of, indexed_at, element_read_at, stored, made_arrays, made_event}
 use Rattle.algol_paths.specs.Blocks.{IsSeen, IsSeenAround, IsInner}
 use Rattle.algol_standing.specs.Skeleton.{IsIn}
-use Rattle.algol_standing.specs.Worlds.{held_in_answer, newest_own, stack_of, IsOnPath, IsAwaited, AreListed, IsWhole, IsOk}
+use Rattle.algol_standing.specs.Worlds.{held_in_answer, newest_own, stack_of, IsStanding, IsOnPath, IsAwaited, AreListed, IsWhole, IsOk}
 use Rattle.algol_standing.specs.Calls.{IsNoEvent}
 use Rattle.algol_standing.proofs.Lists.{some_same}
 use Rattle.algol_standing.proofs.Holding.{AreAll, IsForeign}
@@ -29,7 +30,7 @@ use Rattle.algol_standing.proofs.Alike.{InstanceAlike, ProcessAlike, instance_se
 use Rattle.algol_standing.proofs.Seen.{CellOk, part_ok, home_path, cell_here}
 use Rattle.algol_standing.proofs.Unmoved.{Unmoved, unmoved_self}
 use Rattle.algol_standing.proofs.Resumed.{Moved, resumed, resumed_ok}
-use Rattle.algol_standing.proofs.Changed.{IsPlain, ArePlain, set_alike, add_alike, AreNoEvents, set_event_before, add_event_before, listed_still}
+use Rattle.algol_standing.proofs.Changed.{IsPlain, ArePlain, set_alike, add_alike, AreNoEvents, set_event_before, add_event_before, event_before, listed_still}
 use Rattle.algol_standing.proofs.Fresh.{simple_plain, simple_no_event}
 use Rattle.algol_standing.proofs.Asking.{Sees, Suits, rest_sees}
 use Rattle.algol_standing.proofs.Evaluating.{read_enters, place_enters}
@@ -103,6 +104,30 @@ module _ (sc : Scopes) (heads_act : (r : Rest) (a : Answer) → Suits (ask r) a 
     goes_ok =
         resumed_ok sc w ok p q part outer is todo live a foreign brings acts q.state live waits_not (with_process after p moved) instances processes
         (λ r e st f. listed_still w (with_process after p moved) p q moved is able_is (ap (λ qs. set_numbered qs p moved) same) r e (ok.listed r e st (events r e f)))
+
+  -- .. where an event comes to be, for which nobody waits
+  module _ (name : List ℕ) (suits : Suits (ask part.rest) done) where
+    abbrev made : World
+    made = add_cells w part.instance (record { name = name; cell = event new_event } ∷ [])
+
+    pub acts_then : ask (resume sc part.rest done) ≡ nothing → ⊥
+    acts_then = heads_act part.rest done suits
+
+    abbrev moved_then : Process
+    moved_then = resumed sc w ok p q part outer is todo live done tt tt acts_then q.state live waits_not
+
+    pub event_goes : IsOk sc IsWhole (with_process made p moved_then)
+    event_goes =
+        resumed_ok sc w ok p q part outer is todo live done tt tt acts_then q.state live waits_not (with_process made p moved_then)
+        (add_alike w part.instance (record { name = name; cell = event new_event } ∷ []) ((λ i n. absurd n, λ m n. absurd n), tt))
+        (pairs_then_set Unmoved (Moved sc w ok p q part outer is todo live done tt tt acts_then q.state live waits_not) (λ x y f. ◌⊎◌.inr f) w.processes w.processes p moved_then
+        (pairs_self Unmoved unmoved_self w.processes) (λ x e. ◌⊎◌.inl (some_same e is, refl)))
+        (λ r e st f. by r e st (event_before w part.instance name new_event r e f))
+      where
+        by : (r : Reference) (e : EventCell) → IsStanding w r.instance → (cell_at w r ≡ event e) ⊎ (e ≡ new_event) → AreListed (with_process made p moved_then) r e
+        by r e st (◌⊎◌.inl g) = listed_still w (with_process made p moved_then) p q moved_then is able_is refl r e (ok.listed r e st g)
+        by r e st (◌⊎◌.inr g) =
+            subst (λ d. AreListed (with_process made p moved_then) r d) (sym g) (record { waiters = λ k n. absurd n; procurers = λ k n. absurd n; once = tt })
 
   -- .. where no cell changes
   pub same_goes : (a : Answer) → IsForeign a → AreAll Held (held_in_answer a) → Suits (ask part.rest) a → IsOk sc IsWhole (with_process w p (record q { todo = record part { rest = resume sc part.rest a } ∷ outer }))
@@ -215,3 +240,6 @@ module _ (sc : Scopes) (heads_act : (r : Rest) (a : Answer) → Suits (ask r) a 
       (goes sc w p q part outer actions.MakeArrays (add_cells w part.instance (new_arrays kind bs ns)) done) (fails_keeps fault.CoreFull)
       (goes_ok done tt tt (suited x e done s) (add_cells w part.instance (new_arrays kind bs ns)) (add_alike w part.instance (new_arrays kind bs ns) (arrays_plain kind bs ns)) refl
       (add_event_before w part.instance (new_arrays kind bs ns) (arrays_no_events kind bs ns))))
+
+  pub event_keeps : (n : Named) → ask part.rest ≡ asks.makes_event n → Keeps (made_event sc w p q part outer n)
+  event_keeps n e = event_goes n.name (suited (asks.makes_event n) e done tt)

@@ -13,9 +13,9 @@ use Rattle.algol_meaning.specs.Critical.{is_evaluation, own_instances, referred_
 use Rattle.algol_meaning.specs.Asks.{located_of, nothing, ask, resume}
 use Rattle.algol_paths.specs.Blocks.{IsSeen, IsSeenAround, IsInner}
 use Rattle.algol_paths.specs.Texts.{InAnswer, InRest}
-use Rattle.algol_paths.specs.Arrays.{DeclaredArray, arrays_in, arrays_to_come, to_make, left_to_make}
+use Rattle.algol_paths.specs.Arrays.{Made, made_in, to_come, all_to_make, all_left_to_make}
 use Rattle.algol_paths.proofs.Rests.{resumed_keeps}
-use Rattle.algol_paths.proofs.Making.{arrays_are_made_in_order}
+use Rattle.algol_paths.proofs.Making.{all_is_made_in_order}
 use Rattle.algol_standing.specs.Skeleton.{Evaluation, IsEvaluated, IsIn}
 use Rattle.algol_standing.specs.Worlds.{held_in_rest, held_in_answer, newest_own, held_by, IsStanding, IsOnPath, IsOwn, IsAmong, AreListed, IsAwaited, IsNoBlock, GivesNoOwn, GivesPlace, AreGiven, HasHead, IsWhole, PartOk, ProcessOk, IsOk}
 use Rattle.algol_standing.proofs.Holding.{AreAll, IsForeign, RestHolds, PlaceGivable, put_place_givable, resumed_holds}
@@ -47,14 +47,15 @@ place_then C plain sc (rests.giving_place p) a f g = g
 place_then C plain sc (rests.locating x) a f g = located_gives C plain (put_place sc x a) (put_place_givable C plain true sc x a f)
 place_then C plain sc _ a f g = absurd g
 
-nothing_after : (xs ys : List DeclaredArray) → xs ++ ys ≡ [] → ys ≡ []
+nothing_after : (xs ys : List Made) → xs ++ ys ≡ [] → ys ≡ []
 nothing_after [] ys e = e
 nothing_after (x ∷ xs) ys e = cc
 
 -- where nothing is left to make, nothing is after the action of the head
-nothing_left : (r : Rest) → to_make r ≡ [] → left_to_make r ≡ []
+nothing_left : (r : Rest) → all_to_make r ≡ [] → all_left_to_make r ≡ []
 nothing_left (rests.bounding kind ns pairs vs h ps k) e = e
-nothing_left (rests.arrays kind ns pairs vs k) e = nothing_after (arrays_in kind ns pairs) (arrays_to_come k) e
+nothing_left (rests.arrays kind ns pairs vs k) e = nothing_after (made_in kind ns pairs) (to_come k) e
+nothing_left (rests.event n k) e = cc
 nothing_left _ e = refl
 
 tail_same : (x y : Part) (xs ys : List Part) → x ∷ xs ≡ y ∷ ys → xs ≡ ys
@@ -152,8 +153,8 @@ module _ (sc : Scopes) (w : World) (ok : IsOk sc IsWhole w) (part : Part) (outer
     pub answered_fine : Fine sc w (answered ∷ outer)
     answered_fine = changed_fine answered.rest part_then holds_then (λ g. place_then Held plain_held sc part.rest a foreign g)
 
-    still_none : to_make part.rest ≡ [] → to_make answered.rest ≡ []
-    still_none e = arrays_are_made_in_order.resumed sc ((instance_at w part.instance).block) part.rest a old.text ∙ nothing_left part.rest e
+    still_none : all_to_make part.rest ≡ [] → all_to_make answered.rest ≡ []
+    still_none e = all_is_made_in_order.resumed sc ((instance_at w part.instance).block) part.rest a old.text ∙ nothing_left part.rest e
 
     pub answered_still : AreStillMade (part ∷ outer) (answered ∷ outer)
     answered_still x (◌⊎◌.inl f) o m =
@@ -162,7 +163,7 @@ module _ (sc : Scopes) (w : World) (ok : IsOk sc IsWhole w) (part : Part) (outer
           among = ◌⊎◌.inl refl;
           owns = ap (λ (y : Part). is_evaluation y.purpose) f ∙ o;
           instance_is = ap (λ (y : Part). y.instance) f;
-          made = still_none (ap (λ (y : Part). to_make y.rest) f ∙ m);
+          made = still_none (ap (λ (y : Part). all_to_make y.rest) f ∙ m);
         }
     answered_still x (◌⊎◌.inr n) o m = record { part = x; among = ◌⊎◌.inr n; owns = o; instance_is = refl; made = m }
 

@@ -22,7 +22,7 @@ use Rattle.algol_standing.proofs.Acting.{heads_act}
 use Rattle.algol_standing.proofs.Quiet.{same_goes}
 use Rattle.algol_standing.proofs.Given.{cells_no_events}
 use Rattle.algol_standing.proofs.Calling.{seen_head, narrow_head, held_head, call_path, call_some, call_around, call_whole, call_held}
-use Rattle.algol_standing.proofs.Started.{started_ok, starter_before}
+use Rattle.algol_standing.proofs.Begun.{started_ok, starter_before}
 
 module _ (sc : Scopes) (texts : AreTexts sc) (w : World) (ok : IsOk sc IsWhole w) (p : ℕ) (q : Process) (part : Part) (outer : List Part) (is : numbered w.processes p ≡ Some q)
     (todo : q.todo ≡ part ∷ outer) (able_is : q.state ≡ able) (n : Named) (gs : List Given) (task : Option Named) (e : ask part.rest ≡ asks.starts n gs task) (callee : IsCallee sc n)

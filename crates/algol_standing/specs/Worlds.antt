@@ -11,7 +11,7 @@ use Rattle.algol_meaning.specs.Critical.{is_evaluation, own_instances, referred_
 use Rattle.algol_meaning.specs.Asks.{nothing, ask}
 use Rattle.algol_paths.specs.Blocks.{IsSeen, IsSeenAround}
 use Rattle.algol_paths.specs.Texts.{InExpr, InRest}
-use Rattle.algol_paths.specs.Arrays.{to_make}
+use Rattle.algol_paths.specs.Arrays.{all_to_make}
 use Rattle.algol_paths.specs.Laws.{KeepsToText}
 use Rattle.algol_standing.specs.Skeleton.{Evaluation, Stack, Home, Skeleton, Stands, OnPath, SkeletonOk}
 
@@ -229,7 +229,7 @@ pub record IsWhole (w : World) (i : ℕ) : Type 0 where
   pub among : IsAmong process.todo part
   pub owns : is_evaluation part.purpose ≡ false
   pub instance_is : part.instance ≡ i
-  pub made : to_make part.rest ≡ []
+  pub made : all_to_make part.rest ≡ []
 
 -- ---- all of it
 
