@@ -10,7 +10,7 @@ ghost use Rattle.algol_tree.specs.Found.{Completes, Refuses};
 ghost use Rattle.algol_part.specs.Brings.{Brings};
 ghost use Rattle.algol_part.specs.Phrases.{closed_wholes};
 
-use algol_expr::{expect_symbol, first_of, is_symbol, push, read_whole};
+use algol_expr::{expect_symbol, first_of, is_symbol, read_whole};
 use algol_tree::{Expr, List, Refusal, Symbol, Token};
 use std::alloc::Global;
 
@@ -24,7 +24,7 @@ pub(crate) fn read_exprs(alloc: Global, tokens: &[Token]) -> Result<(List<Expr>,
     let mut rest = tokens;
     'exprs: loop {
         let (expr, after) = read_whole(alloc, rest, 0)?;
-        push(&mut exprs, expr)?;
+        exprs.push(expr)?;
         let (first, behind) = first_of(after);
         if is_symbol(first, Symbol::Comma) {
             rest = behind;

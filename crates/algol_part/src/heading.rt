@@ -12,7 +12,7 @@ ghost use Rattle.algol_part.specs.Phrases.{parameters_in, specified_in, closed_n
 
 use crate::names::{read_name, read_names_before};
 use crate::take::{read_literal, type_of, unexpected};
-use algol_expr::{Held, expect_symbol, first_of, is_symbol, is_word};
+use algol_expr::{expect_symbol, first_of, is_symbol, is_word};
 use algol_tree::{Heading, Kind, List, Named, Refusal, Reserved, Spec, Symbol, Token};
 use std::alloc::Global;
 
@@ -22,7 +22,7 @@ pub fn read_heading(
     alloc: Global,
     kind: Option<Kind>,
     tokens: &[Token],
-) -> Result<(Held<Heading>, &[Token]), Refusal>
+) -> Result<(Heading, &[Token]), Refusal>
     requires ended { EndsOnce tokens.now }
     ensures found { IfOk result (λ r. Brings (due.named ∷ due.behind_procedure kind ∷ []) tokens.now (heading r.0) r.1.now) }
     ensures refused { IfErr result (λ e. Refuses (due.named ∷ due.behind_procedure kind ∷ []) [] tokens.now e) }
@@ -39,16 +39,16 @@ pub fn read_heading(
 }
 
 /// The heading of a procedure without parameters.
-fn bare(alloc: Global, kind: Option<Kind>, name: Named) -> Held<Heading>
+fn bare(alloc: Global, kind: Option<Kind>, name: Named) -> Heading
     ensures { result ≡ record { kind = kind; name = name; params = []; values = []; specs = [] } }
 {
-    Held::of(Heading {
+    Heading {
         kind,
         name,
         params: List::of(Vec::new(alloc)),
         values: List::of(Vec::new(alloc)),
         specs: List::of(Vec::new(alloc)),
-    })
+    }
 }
 
 /// names ")" ";" [ VALUE names ";" ] spec { spec }, after the "("
@@ -57,7 +57,7 @@ fn read_parameters(
     kind: Option<Kind>,
     name: Named,
     tokens: &[Token],
-) -> Result<(Held<Heading>, &[Token]), Refusal>
+) -> Result<(Heading, &[Token]), Refusal>
     requires ended { EndsOnce tokens.now }
     ensures found { IfOk result (λ r. Lists (parameters_in kind) tokens.now (name_is name) (heading r.0) r.1.now) }
     ensures refused { IfErr result (λ e. Refuses (parameters_in kind) (name_is name ∷ []) tokens.now e) }
@@ -73,7 +73,7 @@ fn read_parameters(
         values,
         specs,
     };
-    Ok((Held::of(heading), rest))
+    Ok((heading, rest))
 }
 
 /// [ VALUE names ";" ] spec { spec }

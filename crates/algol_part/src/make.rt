@@ -5,7 +5,6 @@ ghost use Rattle.algol_tree.specs.Plain as trees;
 ghost use Rattle.algol_tree.specs.Image as image;
 ghost use Rattle.algol_tree.specs.Image.{stmt as plain};
 
-use algol_expr::Held;
 use algol_tree::{
     Decl, EventAct, EventName, Expr, Kind, List, Named, Pair, PhraseText, Spot, Stmt,
 };
@@ -52,11 +51,8 @@ pub(crate) fn arrays(kind: Kind, names: List<Named>, pairs: List<Pair>) -> Decl
     Decl::Arrays(kind, names, pairs)
 }
 
-pub(crate) fn pair(low: i64, high: Held<Expr>) -> Pair
+pub(crate) fn pair(low: i64, high: Expr) -> Pair
     ensures { image.pair result ≡ record { low = low; high = image.expr high } }
 {
-    Pair {
-        low,
-        high: high.free(),
-    }
+    Pair { low, high }
 }

@@ -22,7 +22,7 @@ use crate::simple::{
     assignment, called, read_act, read_before, read_element, read_go, read_process,
 };
 use crate::start::{Opener, Start, Verb, start_of};
-use algol_expr::{Held, expect_word, first_of, is_symbol, name_in, named, opened, read_whole};
+use algol_expr::{expect_word, first_of, is_symbol, name_in, named, opened, read_whole};
 use algol_tree::{
     Code, Expr, List, MOST_NESTING, Named, Refusal, Reserved, Spot, Stmt, Symbol, Token,
 };
@@ -32,9 +32,9 @@ use std::alloc::Global;
 #[derive(Drop)]
 pub enum Lead {
     Label(Named),
-    While(Held<Expr>),
-    Thru(Held<Expr>),
-    For(Named, Held<Expr>, Held<Expr>, Held<Expr>),
+    While(Expr),
+    Thru(Expr),
+    For(Named, Expr, Expr, Expr),
 }
 
 /// A statement that others are to follow in, as far as it is read.
@@ -42,9 +42,9 @@ pub enum Lead {
 pub enum Opening {
     Led(Lead),
     Begin(Spot),
-    If(Held<Expr>),
+    If(Expr),
     Do,
-    Case(Held<Expr>),
+    Case(Expr),
 }
 
 /// The beginning of a statement: all of it, where no other stands in it, or what opens it and the levels that are then open.
@@ -185,7 +185,7 @@ fn read_opening(
 }
 
 /// expr OF BEGIN, after CASE
-fn read_choice(alloc: Global, tokens: &[Token]) -> Result<(Held<Expr>, &[Token]), Refusal>
+fn read_choice(alloc: Global, tokens: &[Token]) -> Result<(Expr, &[Token]), Refusal>
     requires ended { EndsOnce tokens.now }
     ensures found { IfOk result (λ r. Brings choice_in tokens.now (one (image.expr r.0)) r.1.now) }
     ensures refused { IfErr result (λ e. Refuses choice_in [] tokens.now e) }

@@ -17,7 +17,7 @@ use crate::exprs::{read_actuals, read_closed_exprs};
 use crate::make::{acting, going};
 use crate::names::read_name;
 use algol_expr::{
-    Held, expect_symbol, expect_word, first_of, is_symbol, is_word, read_event, read_whole,
+    expect_symbol, expect_word, first_of, is_symbol, is_word, read_event, read_whole,
 };
 use algol_tree::{
     Call, EventAct, Expr, List, Named, Refusal, Reserved, Stmt, Symbol, Token, Variable,
@@ -25,10 +25,10 @@ use algol_tree::{
 use std::alloc::Global;
 
 /// The value goes to the variable of that name, with its subscripts where it has some.
-pub(crate) fn assignment(name: Named, subs: List<Expr>, value: Held<Expr>) -> Stmt
+pub(crate) fn assignment(name: Named, subs: List<Expr>, value: Expr) -> Stmt
     ensures { plain result ≡ trees.assign (trees.subscripted name (image.exprs subs)) (image.expr value) }
 {
-    Stmt::Assign(Variable { name, subs }, value.free())
+    Stmt::Assign(Variable { name, subs }, value)
 }
 
 /// A call of that name, with its actuals where it has some.
@@ -133,7 +133,7 @@ pub(crate) fn read_before(
     alloc: Global,
     tokens: &[Token],
     word: Reserved,
-) -> Result<(Held<Expr>, &[Token]), Refusal>
+) -> Result<(Expr, &[Token]), Refusal>
     requires ended { EndsOnce tokens.now }
     ensures found { IfOk result (λ r. Brings (whole_before word) tokens.now (one (image.expr r.0)) r.1.now) }
     ensures refused { IfErr result (λ e. Refuses (whole_before word) [] tokens.now e) }
@@ -144,7 +144,7 @@ pub(crate) fn read_before(
 }
 
 /// UNTIL expr
-pub fn read_until(alloc: Global, tokens: &[Token]) -> Result<(Held<Expr>, &[Token]), Refusal>
+pub fn read_until(alloc: Global, tokens: &[Token]) -> Result<(Expr, &[Token]), Refusal>
     requires ended { EndsOnce tokens.now }
     ensures found { IfOk result (λ r. Brings (whole_behind reserved.Until) tokens.now (one (image.expr r.0)) r.1.now) }
     ensures refused { IfErr result (λ e. Refuses (whole_behind reserved.Until) [] tokens.now e) }

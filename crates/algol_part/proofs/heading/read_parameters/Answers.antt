@@ -16,4 +16,4 @@ pub returns-in_err-parts-clause-refused : goal.returns-in_err-parts-clause-refus
 returns-in_err-parts-clause-refused c = left_as _ _ _ c.from_residual-in_err-parts.ensures.1 (refusing_all _ (past (bringing (begun (parameters_in c.args.kind) (due.name_is c.args.name ∷ []) _) c.in_ok-params.ensures.found) c.in_ok-rest.ensures.passes) c.in_err-parts.ensures.refused)
 
 pub returns-clause-found : goal.returns-clause-found
-returns-clause-found c = listed (making (coming (past (bringing (begun (parameters_in c.args.kind) (due.name_is c.args.name ∷ []) _) c.in_ok-params.ensures.found) c.in_ok-rest.ensures.passes) c.in_ok-parts.ensures.found) (λ vs. refl)) (ap due.heading c.of.ensures) (rest_on (rest_of c.in_ok-params.ensures.found.behind c.in_ok-rest.ensures.passes.behind) c.in_ok-parts.ensures.found.ended c.in_ok-parts.ensures.found.no_longer)
+returns-clause-found c = listed (making (coming (past (bringing (begun (parameters_in c.args.kind) (due.name_is c.args.name ∷ []) _) c.in_ok-params.ensures.found) c.in_ok-rest.ensures.passes) c.in_ok-parts.ensures.found) (λ vs. refl)) refl (rest_on (rest_of c.in_ok-params.ensures.found.behind c.in_ok-rest.ensures.passes.behind) c.in_ok-parts.ensures.found.ended c.in_ok-parts.ensures.found.no_longer)
