@@ -1,11 +1,12 @@
 pub mod Able
 pub mod Among
 pub mod Calling
-pub mod Calm
+pub mod CalmWords
 pub mod Coming
 pub mod Kept
 pub mod MakeAble
 pub mod OwnOutcome
 pub mod OwnWords
 pub mod Ready
+pub mod Released
 pub mod Releasing

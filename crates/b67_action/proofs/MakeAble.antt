@@ -53,7 +53,8 @@ use Rattle.b67_action.specs.Done.{Came, is_performed}
 use Rattle.b67_action.specs.Rows.{words_program, Is}
 use Rattle.b67_action.proofs.Able.{waiters_few, first_procurer_few, woken_others, woken_own, other_waits, able_by, able_same, able_more}
 use Rattle.b67_action.proofs.Calling.{does_called}
-use Rattle.b67_action.proofs.Calm.{Calm, calm_keeps, Each, each_asked, each_as, each_critical, arrays_have, words_calm, entry_calm, other_calm, return_calm, go_to_calm, select_calm, arrays_row_calm, write_calm, event_calm, tell_calm, each_event, each_start}
+use Rattle.b67_letters.proofs.Calm.{Calm, calm_keeps, Each, each_asked, each_as, each_critical, arrays_have, entry_calm, other_calm, return_calm, go_to_calm, select_calm, arrays_row_calm, write_calm, event_calm, tell_calm, each_event, each_start}
+use Rattle.b67_action.proofs.CalmWords.{words_calm}
 
 module _ (code : Code) (img : Image) (p : ℕ) (v : IsValid code img) (able : is_able (numbered img.states p) ≡ true) where
   -- after the change these are released
@@ -253,7 +254,7 @@ make_able code img new p released v able t n =
     row_able code img p v able n.regs n.next new released n.op n.row n.is (subst (λ (o : Option Registers). RowReleases n.row img o [] released) n.has n.releases)
     (sym (row_is code img p v able n.regs n.has n.op n.next n.stands) ∙ g.0)
 
-came_new : (code : Code) (img new : Image) (p : ℕ) (d : Done) → Came code img p d new → is_performed d ≡ true → table_gives code img p ≡ outcomes.gives new
+pub came_new : (code : Code) (img new : Image) (p : ℕ) (d : Done) → Came code img p d new → is_performed d ≡ true → table_gives code img p ≡ outcomes.gives new
 came_new code img new p Went x e = x.0
 came_new code img new p Waits x e = x.0
 came_new code img new p has_ended x e = x.0
