@@ -7,95 +7,82 @@ ghost use Rattle.algol_tree.specs.Image as image;
 ghost use Rattle.algol_tree.specs.Image.{stmt as plain};
 ghost use Rattle.algol_part.specs.Openings.{led};
 
-use algol_expr::{Held, boxed};
 use algol_part::Lead;
 use algol_tree::{Body, Decl, Expr, Heading, List, Named, Program, Refusal, Spot, Stmt};
 use std::alloc::Global;
 
-fn labelled(alloc: Global, name: Named, statement: Held<Stmt>) -> Result<Held<Stmt>, Refusal>
+fn labelled(alloc: Global, name: Named, statement: Stmt) -> Result<Stmt, Refusal>
     ensures built { IfOk result (λ s. plain s ≡ trees.label name (plain statement)) }
     ensures memory { IfErr result (λ e. e ≡ NoMemory) }
 {
-    let statement = boxed(alloc, statement)?;
-    Ok(Held::of(Stmt::Label(name, statement)))
+    let statement = Box::new(alloc, statement)?;
+    Ok(Stmt::Label(name, statement))
 }
 
-pub(crate) fn one_armed(
-    alloc: Global,
-    condition: Held<Expr>,
-    yes: Held<Stmt>,
-) -> Result<Held<Stmt>, Refusal>
+pub(crate) fn one_armed(alloc: Global, condition: Expr, yes: Stmt) -> Result<Stmt, Refusal>
     ensures built { IfOk result (λ s. plain s ≡ trees.if_then (image.expr condition) (plain yes)) }
     ensures memory { IfErr result (λ e. e ≡ NoMemory) }
 {
-    let yes = boxed(alloc, yes)?;
-    Ok(Held::of(Stmt::If(condition.free(), yes, None)))
+    let yes = Box::new(alloc, yes)?;
+    Ok(Stmt::If(condition, yes, None))
 }
 
 pub(crate) fn two_armed(
     alloc: Global,
-    condition: Held<Expr>,
-    yes: Held<Stmt>,
-    otherwise: Held<Stmt>,
-) -> Result<Held<Stmt>, Refusal>
+    condition: Expr,
+    yes: Stmt,
+    otherwise: Stmt,
+) -> Result<Stmt, Refusal>
     ensures built { IfOk result (λ s. plain s ≡ trees.if_else (image.expr condition) (plain yes) (plain otherwise)) }
     ensures memory { IfErr result (λ e. e ≡ NoMemory) }
 {
-    let yes = boxed(alloc, yes)?;
-    let otherwise = boxed(alloc, otherwise)?;
-    Ok(Held::of(Stmt::If(condition.free(), yes, Some(otherwise))))
+    let yes = Box::new(alloc, yes)?;
+    let otherwise = Box::new(alloc, otherwise)?;
+    Ok(Stmt::If(condition, yes, Some(otherwise)))
 }
 
-fn looping(
-    alloc: Global,
-    condition: Held<Expr>,
-    statement: Held<Stmt>,
-) -> Result<Held<Stmt>, Refusal>
+fn looping(alloc: Global, condition: Expr, statement: Stmt) -> Result<Stmt, Refusal>
     ensures built { IfOk result (λ s. plain s ≡ trees.while (image.expr condition) (plain statement)) }
     ensures memory { IfErr result (λ e. e ≡ NoMemory) }
 {
-    let statement = boxed(alloc, statement)?;
-    Ok(Held::of(Stmt::While(condition.free(), statement)))
+    let statement = Box::new(alloc, statement)?;
+    Ok(Stmt::While(condition, statement))
 }
 
-pub(crate) fn repeating(
-    alloc: Global,
-    statement: Held<Stmt>,
-    condition: Held<Expr>,
-) -> Result<Held<Stmt>, Refusal>
+pub(crate) fn repeating(alloc: Global, statement: Stmt, condition: Expr) -> Result<Stmt, Refusal>
     ensures built { IfOk result (λ s. plain s ≡ trees.until (plain statement) (image.expr condition)) }
     ensures memory { IfErr result (λ e. e ≡ NoMemory) }
 {
-    let statement = boxed(alloc, statement)?;
-    Ok(Held::of(Stmt::Until(statement, condition.free())))
+    let statement = Box::new(alloc, statement)?;
+    Ok(Stmt::Until(statement, condition))
 }
 
-fn so_often(alloc: Global, count: Held<Expr>, statement: Held<Stmt>) -> Result<Held<Stmt>, Refusal>
+fn so_often(alloc: Global, count: Expr, statement: Stmt) -> Result<Stmt, Refusal>
     ensures built { IfOk result (λ s. plain s ≡ trees.thru (image.expr count) (plain statement)) }
     ensures memory { IfErr result (λ e. e ≡ NoMemory) }
 {
-    let statement = boxed(alloc, statement)?;
-    Ok(Held::of(Stmt::Thru(count.free(), statement)))
+    let statement = Box::new(alloc, statement)?;
+    Ok(Stmt::Thru(count, statement))
 }
 
 /// A FOR over that name, from a first value by a step up to a limit.
 fn counting(
     alloc: Global,
     name: Named,
-    from: Held<Expr>,
-    step: Held<Expr>,
-    limit: Held<Expr>,
-    statement: Held<Stmt>,
-) -> Result<Held<Stmt>, Refusal>
+    from: Expr,
+    step: Expr,
+    limit: Expr,
+    statement: Stmt,
+) -> Result<Stmt, Refusal>
     ensures built { IfOk result (λ s. plain s ≡ trees.for name (image.expr from) (image.expr step) (image.expr limit) (plain statement)) }
     ensures memory { IfErr result (λ e. e ≡ NoMemory) }
 {
-    let statement = boxed(alloc, statement)?;
-    Ok(Held::of(Stmt::For(name, from.free(), step.free(), limit.free(), statement)))
+    let statement = Box::new(alloc, statement)?;
+    Ok(Stmt::For(name, from, step, limit, statement))
 }
 
 /// The statement, led by what stands before it.
-pub(crate) fn led(alloc: Global, lead: Lead, statement: Held<Stmt>) -> Result<Held<Stmt>, Refusal>
+pub(crate) fn led(alloc: Global, lead: Lead, statement: Stmt) -> Result<Stmt, Refusal>
     ensures built { IfOk result (λ s. plain s ≡ led lead (plain statement)) }
     ensures memory { IfErr result (λ e. e ≡ NoMemory) }
 {
@@ -109,16 +96,16 @@ pub(crate) fn led(alloc: Global, lead: Lead, statement: Held<Stmt>) -> Result<He
     }
 }
 
-pub(crate) fn choosing(choice: Held<Expr>, stmts: List<Stmt>) -> Held<Stmt>
+pub(crate) fn choosing(choice: Expr, stmts: List<Stmt>) -> Stmt
     ensures { plain result ≡ trees.case (image.expr choice) (image.stmts stmts) }
 {
-    Held::of(Stmt::Case(choice.free(), stmts))
+    Stmt::Case(choice, stmts)
 }
 
-pub(crate) fn block(spot: Spot, decls: List<Decl>, stmts: List<Stmt>) -> Held<Stmt>
+pub(crate) fn block(spot: Spot, decls: List<Decl>, stmts: List<Stmt>) -> Stmt
     ensures { plain result ≡ trees.block (trees.body spot (image.decls decls) (image.stmts stmts)) }
 {
-    Held::of(Stmt::Block(Body { spot, decls, stmts }))
+    Stmt::Block(Body { spot, decls, stmts })
 }
 
 pub(crate) fn program(spot: Spot, decls: List<Decl>, stmts: List<Stmt>) -> Program
@@ -129,20 +116,16 @@ pub(crate) fn program(spot: Spot, decls: List<Decl>, stmts: List<Stmt>) -> Progr
     }
 }
 
-pub(crate) fn procedure(
-    alloc: Global,
-    heading: Held<Heading>,
-    statement: Held<Stmt>,
-) -> Result<Decl, Refusal>
+pub(crate) fn procedure(alloc: Global, heading: Heading, statement: Stmt) -> Result<Decl, Refusal>
     ensures built { IfOk result (λ d. image.decl d ≡ trees.procedure heading (plain statement)) }
     ensures memory { IfErr result (λ e. e ≡ NoMemory) }
 {
-    let statement = boxed(alloc, statement)?;
-    Ok(Decl::Procedure(heading.free(), statement))
+    let statement = Box::new(alloc, statement)?;
+    Ok(Decl::Procedure(heading, statement))
 }
 
-pub(crate) fn forward(heading: Held<Heading>) -> Decl
+pub(crate) fn forward(heading: Heading) -> Decl
     ensures { image.decl result ≡ trees.forward heading }
 {
-    Decl::Forward(heading.free())
+    Decl::Forward(heading)
 }

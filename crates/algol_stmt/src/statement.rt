@@ -17,7 +17,7 @@ ghost use Rattle.algol_part.specs.Openings.{still_due, so_far, ComesTo};
 ghost use Rattle.algol_part.specs.Phrases.{statements_in};
 
 use crate::make::{block, choosing, forward, led, one_armed, procedure, repeating, two_armed};
-use algol_expr::{Held, expect_symbol, expect_word, first_of, is_symbol, is_word, opened, push};
+use algol_expr::{expect_symbol, expect_word, first_of, is_symbol, is_word, opened};
 use algol_part::{
     Beginning, Lead, Opening, begins_body, lists_names, read_arrays, read_beginning, read_heading,
     read_listed, read_simples, read_until, type_of, unexpected,
@@ -31,14 +31,14 @@ pub(crate) fn read_statement(
     alloc: Global,
     tokens: &[Token],
     depth: u32,
-) -> Result<(Held<Stmt>, &[Token]), Refusal>
+) -> Result<(Stmt, &[Token]), Refusal>
     requires ended { EndsOnce tokens.now }
     ensures found { IfOk result (λ r. Completes (due.statement depth) tokens.now (stmt (plain r.0)) r.1.now) }
     ensures refused { IfErr result (λ e. Refuses (due.statement depth ∷ []) [] tokens.now e) }
 {
     let (beginning, rest) = read_beginning(alloc, tokens, depth)?;
     match beginning {
-        Beginning::Whole(statement) => Ok((Held::of(statement), rest)),
+        Beginning::Whole(statement) => Ok((statement, rest)),
         Beginning::Open(opening, inner) => read_opened(alloc, opening, rest, inner),
     }
 }
@@ -50,7 +50,7 @@ fn read_opened(
     opening: Opening,
     tokens: &[Token],
     depth: u32,
-) -> Result<(Held<Stmt>, &[Token]), Refusal>
+) -> Result<(Stmt, &[Token]), Refusal>
     requires ended { EndsOnce tokens.now }
     ensures found { IfOk result (λ r. ComesTo (still_due opening depth) (so_far opening) tokens.now [] (stmt (plain r.0) ∷ []) r.1.now) }
     ensures refused { IfErr result (λ e. Refuses (still_due opening depth) (so_far opening) tokens.now e) }
@@ -71,7 +71,7 @@ fn read_led(
     lead: Lead,
     tokens: &[Token],
     depth: u32,
-) -> Result<(Held<Stmt>, &[Token]), Refusal>
+) -> Result<(Stmt, &[Token]), Refusal>
     requires ended { EndsOnce tokens.now }
     ensures found { IfOk result (λ r. ComesTo (still_due (openings.Led lead) depth) (so_far (openings.Led lead)) tokens.now [] (stmt (plain r.0) ∷ []) r.1.now) }
     ensures refused { IfErr result (λ e. Refuses (still_due (openings.Led lead) depth) (so_far (openings.Led lead)) tokens.now e) }
@@ -87,7 +87,7 @@ fn read_block(
     spot: Spot,
     tokens: &[Token],
     depth: u32,
-) -> Result<(Held<Stmt>, &[Token]), Refusal>
+) -> Result<(Stmt, &[Token]), Refusal>
     requires ended { EndsOnce tokens.now }
     ensures found { IfOk result (λ r. ComesTo (still_due (openings.Begin spot) depth) (so_far (openings.Begin spot)) tokens.now [] (stmt (plain r.0) ∷ []) r.1.now) }
     ensures refused { IfErr result (λ e. Refuses (still_due (openings.Begin spot) depth) (so_far (openings.Begin spot)) tokens.now e) }
@@ -99,11 +99,7 @@ fn read_block(
 
 /// statement UNTIL expr, after DO
 #[cycle(statements)]
-fn read_repeated(
-    alloc: Global,
-    tokens: &[Token],
-    depth: u32,
-) -> Result<(Held<Stmt>, &[Token]), Refusal>
+fn read_repeated(alloc: Global, tokens: &[Token], depth: u32) -> Result<(Stmt, &[Token]), Refusal>
     requires ended { EndsOnce tokens.now }
     ensures found { IfOk result (λ r. ComesTo (still_due openings.Do depth) (so_far openings.Do) tokens.now [] (stmt (plain r.0) ∷ []) r.1.now) }
     ensures refused { IfErr result (λ e. Refuses (still_due openings.Do depth) (so_far openings.Do) tokens.now e) }
@@ -117,10 +113,10 @@ fn read_repeated(
 #[cycle(statements)]
 fn read_cases(
     alloc: Global,
-    choice: Held<Expr>,
+    choice: Expr,
     tokens: &[Token],
     depth: u32,
-) -> Result<(Held<Stmt>, &[Token]), Refusal>
+) -> Result<(Stmt, &[Token]), Refusal>
     requires ended { EndsOnce tokens.now }
     ensures found { IfOk result (λ r. ComesTo (still_due (openings.Case choice) depth) (so_far (openings.Case choice)) tokens.now [] (stmt (plain r.0) ∷ []) r.1.now) }
     ensures refused { IfErr result (λ e. Refuses (still_due (openings.Case choice) depth) (so_far (openings.Case choice)) tokens.now e) }
@@ -133,10 +129,10 @@ fn read_cases(
 #[cycle(statements)]
 fn read_arms(
     alloc: Global,
-    condition: Held<Expr>,
+    condition: Expr,
     tokens: &[Token],
     depth: u32,
-) -> Result<(Held<Stmt>, &[Token]), Refusal>
+) -> Result<(Stmt, &[Token]), Refusal>
     requires ended { EndsOnce tokens.now }
     ensures found { IfOk result (λ r. ComesTo (statement depth ∷ else_part depth ∷ []) (one (image.expr condition) ∷ []) tokens.now [] (stmt (plain r.0) ∷ []) r.1.now) }
     ensures refused { IfErr result (λ e. Refuses (statement depth ∷ else_part depth ∷ []) (one (image.expr condition) ∷ []) tokens.now e) }
@@ -166,7 +162,7 @@ pub(crate) fn read_statements(
     let mut rest = tokens;
     'statements: loop {
         let (statement, after) = read_statement(alloc, rest, depth)?;
-        push(&mut stmts, statement)?;
+        stmts.push(statement)?;
         let (first, behind) = first_of(after);
         if is_symbol(first, Symbol::Semicolon) {
             rest = behind;
@@ -261,7 +257,7 @@ fn read_procedure(
 }
 
 /// The heading that the word FORWARD stands after, where a semicolon follows
-fn closed_forward(heading: Held<Heading>, tokens: &[Token]) -> Result<(Decl, &[Token]), Refusal>
+fn closed_forward(heading: Heading, tokens: &[Token]) -> Result<(Decl, &[Token]), Refusal>
     requires ended { EndsOnce tokens.now }
     ensures passes { IfOk result (λ r. Passes (due.symbol symbols.Semicolon) tokens.now r.1.now) }
     ensures built { IfOk result (λ r. image.decl r.0 ≡ trees.forward heading) }
@@ -274,8 +270,8 @@ fn closed_forward(heading: Held<Heading>, tokens: &[Token]) -> Result<(Decl, &[T
 /// The procedure of that heading and statement, where a semicolon follows
 fn closed_procedure(
     alloc: Global,
-    heading: Held<Heading>,
-    statement: Held<Stmt>,
+    heading: Heading,
+    statement: Stmt,
     tokens: &[Token],
 ) -> Result<(Decl, &[Token]), Refusal>
     requires ended { EndsOnce tokens.now }

@@ -1,8 +1,7 @@
-use Rattle.std.proofs.Common.{ap, ◌∙◌, rules}
+use Rattle.std.proofs.Common.{rules}
 use Rattle.algol_tree.specs.declared.tree.Stmt as statements
 use Rattle.algol_tree.specs.declared.tree.Body as bodies
-use Rattle.algol_tree.specs.Image as image
 use Rattle.algol_stmt.proofs.make.block.Goals as goal
 
 pub returns : goal.returns
-returns c = ap image.stmt c.of.ensures ∙ search (rules, statements.the_lemmas, bodies.the_lemmas)
+returns c = search (rules, statements.the_lemmas, bodies.the_lemmas)

@@ -22,7 +22,7 @@ pub read_statement-returns-in_err-beginning-clause-refused : goal.read_statement
 read_statement-returns-in_err-beginning-clause-refused t c = left_as _ _ _ c.from_residual.ensures.1 c.in_err-beginning.ensures.refused
 
 pub read_statement-returns-in-Whole-clause-found : goal.read_statement-returns-in-Whole-clause-found
-read_statement-returns-in-Whole-clause-found t c = rw c.of.ensures (is_whole c.in-Whole.is c.in_ok-beginning.ensures.found)
+read_statement-returns-in-Whole-clause-found t c = is_whole c.in-Whole.is c.in_ok-beginning.ensures.found
 
 pub read_statement-returns-in-Open-clause-found : goal.read_statement-returns-in-Open-clause-found
 read_statement-returns-in-Open-clause-found t c = opened_found c.read_opened.result (λ x. due.stmt (image.stmt x.0)) (λ x. x.1.now) (is_open c.in-Open.is c.in_ok-beginning.ensures.found) c.read_opened.ensures.found
