@@ -1,11 +1,12 @@
 -- What the desk answers: the text that it writes and the status that it gives, for which words and which bytes.
-use Rattle.std.specs.Prelude.{◌≡◌, ℕ, ◌+◌, ◌<◌, ◌≤◌, List, [], ◌++◌, length, map, get_or, codes, Option, Some, None, IfSome, Ok, Err, take}
+use Rattle.std.specs.Prelude.{◌≡◌, ℕ, ◌+◌, ◌<◌, ◌≤◌, List, ◌∷◌, ◌++◌, length, codes, Option, Some, None, IfSome, Ok, Err, take}
 use Rattle.std.specs.Fmt.{decimal}
 use Rattle.std.specs.Io.KnownBytes.{Appends, IsAtEnd}
 use Rattle.algol_tree.specs.declared.TheConstants.{MOST_SOURCE_BYTES}
 use Rattle.algol_tree.specs.declared.token.Spot.{Spot}
 use Rattle.algol_tree.specs.declared.refusal.Code.{Code as RefusalCode}
 use Rattle.algol_tree.specs.declared.refusal.Code.TheVariants as refusals
+use Rattle.algol_tree.specs.Codes.{rule_letter, rule_number}
 use Rattle.algol_tree.specs.Plain.{PProgram}
 use Rattle.algol_tree.specs.First.{Source, First}
 use Rattle.b67_io.specs.Faults.{Rose}
@@ -30,8 +31,6 @@ use Rattle.b67_fitting.specs.Built.{IsBuilt}
 use Rattle.b67_parts.specs.declared.TheConstants.{MOST_INPUT_BYTES}
 use Rattle.b67_parts.specs.Parts.{Parts}
 use Rattle.b67_explain.specs.Explaining.{ExplainsRun, ExplainsReplay}
-use Rattle.b67_desk.specs.Refusals.{index}
-use Rattle.b67_desk.specs.declared.refusals.TheConstants.{TABLE}
 use Rattle.b67_desk.specs.declared.status.Status.{Status}
 use Rattle.b67_desk.specs.declared.status.Status.TheVariants as status
 
@@ -47,9 +46,9 @@ usage_words kinds.Extra = codes "EXTRA"
 abbrev pub usage_text : ℕ → UsageKind → List ℕ
 usage_text word kind = line_text (codes "USAGE " ++ decimal word ++ codes " " ++ usage_words kind)
 
--- the letter and the number of a refusal, which stand in its row
+-- the letter and the number of a refusal
 abbrev pub code_words : RefusalCode → List ℕ
-code_words code = get_or (map (λ row. row.1.now) TABLE) (index code) []
+code_words code = rule_letter code ∷ decimal (rule_number code)
 
 abbrev pub refused_text : Spot → RefusalCode → List ℕ
 refused_text place code = line_text (codes "REFUSED " ++ code_words code ++ codes " " ++ decimal place.line ++ codes ":" ++ decimal place.column)

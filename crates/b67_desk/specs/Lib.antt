@@ -1,4 +1,3 @@
-pub mod Refusals
 pub mod Answers
 pub mod Calls
 pub mod Exits

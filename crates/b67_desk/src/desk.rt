@@ -22,7 +22,7 @@ pub struct Answer {
 }
 
 /// Why there is nothing to be written.
-#[derive(Clone, Copy, PartialEq, Eq)]
+#[derive(Clone, Copy)]
 pub enum Unanswered {
     ReadFault,
     NoMemory,

@@ -2,7 +2,6 @@
 #![tactic(auto)]
 
 mod desk;
-mod refusals;
 mod running;
 mod status;
 mod texts;

@@ -8,7 +8,7 @@ use b67_num::FaultKind;
 use b67_words::UsageKind;
 
 /// How a call of the desk ended. The exit status of the program is the variant's place, from 0.
-#[derive(Clone, Copy, PartialEq, Eq)]
+#[derive(Clone, Copy)]
 pub enum Status {
     /// The run came to the end of process 1.
     Finished,

@@ -3,8 +3,7 @@
 ghost use Rattle.std.specs.Prelude.{◌≡◌, IfOk};
 ghost use Rattle.b67_desk.specs.Answers.{usage_words, usage_text, refused_text, accepted_text, too_long_text, bad_schedule_text, listing_text};
 
-use crate::refusals::code_words;
-use algol_tree::{Code as RefusalCode, Spot};
+use algol_tree::{Code as RefusalCode, Spot, rule_letter, rule_number};
 use b67_list::{Line, List, push_number};
 use b67_report::push_lines;
 use b67_words::UsageKind;
@@ -40,7 +39,7 @@ pub fn refused_line(alloc: Global, place: Spot, code: RefusalCode) -> Result<Vec
     ensures { IfOk result (λ text. text.items ≡ refused_text place code) }
 {
     let mut text = Vec::from_slice(alloc, b"REFUSED ")?;
-    text.extend_from_slice(code_words(code).as_bytes())?;
+    push_number(&mut text, &[rule_letter(code)], rule_number(code))?;
     push_number(&mut text, b" ", place.line)?;
     push_number(&mut text, b":", place.column)?;
     text.extend_from_slice(b"\n")?;

@@ -11,7 +11,7 @@ use std::alloc::{AllocError, AllocFailed};
 
 /// Why bytes are not read as a report: they are not the text of one, and so many of them are the longest front that
 /// some more bytes make such a text; or memory ran out.
-#[derive(Clone, Copy, PartialEq, Eq, Debug)]
+#[derive(Clone, Copy)]
 pub enum ReadReport {
     BadReport { byte: usize },
     NoMemory,
