@@ -43,18 +43,17 @@ use Rattle.algol_sites.specs.declared.known.Names.{Names}
 use Rattle.algol_sites.specs.declared.place.Place.{Place}
 use Rattle.algol_sites.specs.Declaring.{names_made}
 use Rattle.algol_sites.specs.Headings.{forward_site, missing, referring}
-use Rattle.algol_sites.specs.Labelling.{label_site}
 use Rattle.algol_sites.specs.Noting.{mistyped, noted_along, noted_at}
 use Rattle.algol_sites.specs.Seeing.{Sees, for_site}
 use Rattle.algol_check.specs.declared.checker.Checker.{Checker}
-use Rattle.algol_check.specs.Walking.{Walks, WalksBody, WalksStmt, WalksStmts, no_blocks}
+use Rattle.algol_check.specs.Walking.{IsCounted, IsTyped, Walks, WalksBody, WalksGuarded, WalksStmt, WalksStmts}
 use Rattle.algol_check.specs.Announced.{bodies_for, body_at, body_for}
 use Rattle.algol_check.specs.Declaring.{Enters, Opens, EntersProcedure, InBody, MakesKnown, WalksDecl, WalksDecls, decls_in}
 use Rattle.algol_sites.specs.Seen.{HaveFormals, IsBare}
 use Rattle.algol_check.proofs.Bodied.{body_begins, body_walks, decls_end, decls_more}
 use Rattle.algol_check.proofs.Bodies.{announced_at}
 use Rattle.algol_check.proofs.Named.{arrays_walk, events_walk, files_walk, forward_walks, labels_walk, popped_known, procedure_walks, simple_walks, tasks_walk}
-use Rattle.algol_check.proofs.Stated.{IsTyped, block_walks, case_walks, empty_walks, for_walks, if_else_walks, if_then_walks, label_walks, stmts_end, stmts_more, thru_walks, until_walks, while_walks}
+use Rattle.algol_check.proofs.Stated.{block_walks, case_walks, empty_walks, for_walks, if_else_walks, if_then_walks, stmts_end, stmts_more, thru_walks, until_walks, while_walks}
 
 -- ---- what holds where nothing fails
 
@@ -107,6 +106,11 @@ pub typed_on : (c : Checker) (f : Faults) (ts : List Names) (k : Kind) (e : PExp
     ((blocks : List Block) (a : Surroundings) → Sees blocks ts a → f.first ≡ noted_along blocks (noted_all c.faults.first (mistyped k e a)) (sites e a)) → IsTyped c f k e
 typed_on c f ts k e p h = λ blocks a sees. let P : List Names → Type 0 = λ xs. Sees blocks xs a in h blocks a (subst P (sym p) sees)
 
+pub counted_on : (c : Checker) (f : Faults) (ts : List Names) (v : Named) (x s l : PExpr) → ts ≡ c.known.items →
+    ((blocks : List Block) (a : Surroundings) (t : PStmt) (listed : Bool) → Sees blocks ts a →
+    f.first ≡ noted_along blocks (noted_at blocks c.faults.first (for_site v x s l t listed a)) (sites x a ++ sites s a ++ sites l a)) → IsCounted c f v x s l
+counted_on c f ts v x s l p h = λ blocks a t listed sees. let P : List Names → Type 0 = λ xs. Sees blocks xs a in h blocks a t listed (subst P (sym p) sees)
+
 pub stmt_as : (c d : Checker) (s : Stmt) (p : PStmt) (begin : Begin) (listed : Bool) → stmt s ≡ p → WalksStmt c d p begin listed → WalksStmt c d (stmt s) begin listed
 stmt_as c d s p begin listed e w = let P : PStmt → Type 0 = λ x. WalksStmt c d x begin listed in subst P (sym e) w
 
@@ -114,89 +118,93 @@ pub inner_as : (c d : Checker) (s : Stmt) (x : Box Stmt Global) (begin : Begin) 
     WalksStmt c d (stmt x.value) begin listed
 inner_as c d s x begin listed e w = let P : Stmt → Type 0 = λ y. WalksStmt c d (stmt y) begin listed in subst P e w
 
+-- after a change of the faults only
+pub after_faults : (c d e : Checker) (s : PStmt) (begin : Begin) (listed : Bool) → d ≡ record c { faults = d.faults } → WalksStmt d e s begin listed →
+    WalksStmt (record c { faults = d.faults }) e s begin listed
+after_faults c d e s begin listed r w = let P : Checker → Type 0 = λ x. WalksStmt x e s begin listed in subst P r w
+
 -- ---- statements
 
-pub label_arm : (s : Stmt) (n : Named) (x : Box Stmt Global) (y : Stmt) (c d e : Checker) (begin : Begin) (listed : Bool) → s ≡ shapes.Label n x → y ≡ x.value →
-    ((t : PStmt) → Walks c d no_blocks (λ blocks a. label_site n t listed a ∷ [])) → WalksStmt d e (stmt y) of_statement listed → WalksStmt c e (stmt s) begin listed
-label_arm s n x y c d e begin listed is inner h w =
-    stmt_as c e s (tree.label n (stmt x.value)) begin listed (ap stmt is ∙ label_is n x)
-    (label_walks c d e n (stmt x.value) begin listed (h (stmt x.value)) (inner_as d e y x of_statement listed inner w))
+pub label_arm : (s : Stmt) (n : Named) (x : Box Stmt Global) (y : Stmt) (c d : Checker) (begin : Begin) (listed : Bool) → s ≡ shapes.Label n x → y ≡ x.value →
+    WalksStmt c d (tree.label n (stmt y)) begin listed → WalksStmt c d (stmt s) begin listed
+label_arm s n x y c d begin listed is inner w =
+    stmt_as c d s (tree.label n (stmt y)) begin listed (ap stmt is ∙ label_is n x ∙ ap (λ (z : Stmt). tree.label n (stmt z)) (sym inner)) w
 
 opens_alike : (opened : Bool) (p q r : Place) → Opens opened p q → r.block ≡ q.block → r.around.items ≡ q.around.items → Opens opened p r
 opens_alike true p q r h b o = o ∙ h
 opens_alike false p q r h b o = (b ∙ h.0, o ∙ h.1)
 
-pub block_arm : (s : Stmt) (b : Body) (c d e g : Checker) (opened : Bool) (begin : Begin) (listed : Bool) → s ≡ shapes.Block b →
+pub block_ends : (b : Body) (c d e g : Checker) (opened : Bool) (begin : Begin) (listed : Bool) →
     d ≡ record c { place = d.place } → Opens opened c.place d.place → Enters c.place d.place (body b) begin → WalksBody d e (body b) → g ≡ record e { place = g.place } →
-    ((before : Place) → Opens opened before e.place → (g.place.block ≡ before.block) × (g.place.around.items ≡ before.around.items)) → WalksStmt c g (stmt s) begin listed
-block_arm s b c d e g opened begin listed is r o en w u ends =
+    ((before : Place) → Opens opened before e.place → (g.place.block ≡ before.block) × (g.place.around.items ≡ before.around.items)) →
+    WalksStmt c g (tree.block (body b)) begin listed
+block_ends b c d e g opened begin listed r o en w u ends =
     let ended = ends c.place (opens_alike opened c.place d.place e.place o w.stays.block w.stays.outer) in
     let P : Checker → Type 0 = λ x. WalksBody x e (body b) in
-    let Q : Checker → Type 0 = λ x. WalksStmt c x (stmt s) begin listed in
-    subst Q (sym u)
-    (stmt_as c (record e { place = g.place }) s (tree.block (body b)) begin listed (ap stmt is ∙ block_is b)
-    (block_walks c d.place e g.place (body b) begin listed en (subst P r w) ended.0 ended.1))
+    let Q : Checker → Type 0 = λ x. WalksStmt c x (tree.block (body b)) begin listed in
+    subst Q (sym u) (block_walks c d.place e g.place (body b) begin listed en (subst P r w) ended.0 ended.1)
 
-pub if_then_arm : (s : Stmt) (e : Expr) (x : Box Stmt Global) (o : Option (Box Stmt Global)) (y : Stmt) (c d : Checker) (f : Faults) (ts : List Names) (begin : Begin) (listed : Bool) →
-    s ≡ shapes.If e x o → o ≡ None → y ≡ x.value → ts ≡ c.known.items →
-    ((blocks : List Block) (a : Surroundings) → Sees blocks ts a → f.first ≡ noted_along blocks (noted_all c.faults.first (mistyped kinds.Truth (expr e) a)) (sites (expr e) a)) →
-    WalksStmt (record c { faults = f }) d (stmt y) of_statement false → WalksStmt c d (stmt s) begin listed
-if_then_arm s e x o y c d f ts begin listed is none inner k h w =
+pub block_arm : (s : Stmt) (b : Body) (c d : Checker) (begin : Begin) (listed : Bool) → s ≡ shapes.Block b → WalksStmt c d (tree.block (body b)) begin listed →
+    WalksStmt c d (stmt s) begin listed
+block_arm s b c d begin listed is w = stmt_as c d s (tree.block (body b)) begin listed (ap stmt is ∙ block_is b) w
+
+pub if_then_arm : (s : Stmt) (e : Expr) (x : Box Stmt Global) (o : Option (Box Stmt Global)) (y : Stmt) (c d : Checker) (begin : Begin) (listed : Bool) →
+    s ≡ shapes.If e x o → o ≡ None → y ≡ x.value → WalksGuarded c d kinds.Truth (expr e) (stmt y) → WalksStmt c d (stmt s) begin listed
+if_then_arm s e x o y c d begin listed is none inner g =
     stmt_as c d s (tree.if_then (expr e) (stmt x.value)) begin listed (ap stmt (is ∙ ap (shapes.If e x) none) ∙ if_then_is e x)
-    (if_then_walks c d f (expr e) (stmt x.value) begin listed (typed_on c f ts kinds.Truth (expr e) k h) (inner_as (record c { faults = f }) d y x of_statement false inner w))
+    (if_then_walks c d g.faults (expr e) (stmt x.value) begin listed g.typed (inner_as (record c { faults = g.faults }) d y x of_statement false inner g.walks))
 
-pub if_else_arm : (s : Stmt) (e : Expr) (x : Box Stmt Global) (o : Option (Box Stmt Global)) (y : Box Stmt Global) (v w : Stmt) (c d g : Checker) (f : Faults) (ts : List Names)
-    (begin : Begin) (listed : Bool) → s ≡ shapes.If e x o → o ≡ Some y → v ≡ x.value → w ≡ y.value → ts ≡ c.known.items →
-    ((blocks : List Block) (a : Surroundings) → Sees blocks ts a → f.first ≡ noted_along blocks (noted_all c.faults.first (mistyped kinds.Truth (expr e) a)) (sites (expr e) a)) →
-    WalksStmt (record c { faults = f }) d (stmt v) of_statement false → WalksStmt d g (stmt w) of_statement false → WalksStmt c g (stmt s) begin listed
-if_else_arm s e x o y v w c d g f ts begin listed is some first second k h m n =
-    stmt_as c g s (tree.if_else (expr e) (stmt x.value) (stmt y.value)) begin listed (ap stmt (is ∙ ap (shapes.If e x) some) ∙ if_else_is e x y)
-    (if_else_walks c d g f (expr e) (stmt x.value) (stmt y.value) begin listed (typed_on c f ts kinds.Truth (expr e) k h)
-    (inner_as (record c { faults = f }) d v x of_statement false first m) (inner_as d g w y of_statement false second n))
+pub if_else_arm : (s : Stmt) (e : Expr) (x : Box Stmt Global) (o : Option (Box Stmt Global)) (y : Box Stmt Global) (v w : Stmt) (c d f : Checker)
+    (begin : Begin) (listed : Bool) → s ≡ shapes.If e x o → o ≡ Some y → v ≡ x.value → w ≡ y.value → WalksGuarded c d kinds.Truth (expr e) (stmt v) →
+    WalksStmt d f (stmt w) of_statement false → WalksStmt c f (stmt s) begin listed
+if_else_arm s e x o y v w c d f begin listed is some first second g n =
+    stmt_as c f s (tree.if_else (expr e) (stmt x.value) (stmt y.value)) begin listed (ap stmt (is ∙ ap (shapes.If e x) some) ∙ if_else_is e x y)
+    (if_else_walks c d f g.faults (expr e) (stmt x.value) (stmt y.value) begin listed g.typed
+    (inner_as (record c { faults = g.faults }) d v x of_statement false first g.walks) (inner_as d f w y of_statement false second n))
 
-pub while_arm : (s : Stmt) (e : Expr) (x : Box Stmt Global) (y : Stmt) (c d : Checker) (f : Faults) (ts : List Names) (begin : Begin) (listed : Bool) →
-    s ≡ shapes.While e x → y ≡ x.value → ts ≡ c.known.items →
-    ((blocks : List Block) (a : Surroundings) → Sees blocks ts a → f.first ≡ noted_along blocks (noted_all c.faults.first (mistyped kinds.Truth (expr e) a)) (sites (expr e) a)) →
-    WalksStmt (record c { faults = f }) d (stmt y) of_statement false → WalksStmt c d (stmt s) begin listed
-while_arm s e x y c d f ts begin listed is inner k h w =
+pub while_arm : (s : Stmt) (e : Expr) (x : Box Stmt Global) (y : Stmt) (c d : Checker) (begin : Begin) (listed : Bool) →
+    s ≡ shapes.While e x → y ≡ x.value → WalksGuarded c d kinds.Truth (expr e) (stmt y) → WalksStmt c d (stmt s) begin listed
+while_arm s e x y c d begin listed is inner g =
     stmt_as c d s (tree.while (expr e) (stmt x.value)) begin listed (ap stmt is ∙ while_is e x)
-    (while_walks c d f (expr e) (stmt x.value) begin listed (typed_on c f ts kinds.Truth (expr e) k h) (inner_as (record c { faults = f }) d y x of_statement false inner w))
+    (while_walks c d g.faults (expr e) (stmt x.value) begin listed g.typed (inner_as (record c { faults = g.faults }) d y x of_statement false inner g.walks))
 
-pub thru_arm : (s : Stmt) (e : Expr) (x : Box Stmt Global) (y : Stmt) (c d : Checker) (f : Faults) (ts : List Names) (begin : Begin) (listed : Bool) →
-    s ≡ shapes.Thru e x → y ≡ x.value → ts ≡ c.known.items →
-    ((blocks : List Block) (a : Surroundings) → Sees blocks ts a → f.first ≡ noted_along blocks (noted_all c.faults.first (mistyped kinds.Number (expr e) a)) (sites (expr e) a)) →
-    WalksStmt (record c { faults = f }) d (stmt y) of_statement false → WalksStmt c d (stmt s) begin listed
-thru_arm s e x y c d f ts begin listed is inner k h w =
+pub thru_arm : (s : Stmt) (e : Expr) (x : Box Stmt Global) (y : Stmt) (c d : Checker) (begin : Begin) (listed : Bool) →
+    s ≡ shapes.Thru e x → y ≡ x.value → WalksGuarded c d kinds.Number (expr e) (stmt y) → WalksStmt c d (stmt s) begin listed
+thru_arm s e x y c d begin listed is inner g =
     stmt_as c d s (tree.thru (expr e) (stmt x.value)) begin listed (ap stmt is ∙ thru_is e x)
-    (thru_walks c d f (expr e) (stmt x.value) begin listed (typed_on c f ts kinds.Number (expr e) k h) (inner_as (record c { faults = f }) d y x of_statement false inner w))
+    (thru_walks c d g.faults (expr e) (stmt x.value) begin listed g.typed (inner_as (record c { faults = g.faults }) d y x of_statement false inner g.walks))
 
-pub until_arm : (s : Stmt) (x : Box Stmt Global) (e : Expr) (y : Stmt) (c d : Checker) (f : Faults) (ts : List Names) (begin : Begin) (listed : Bool) →
-    s ≡ shapes.Until x e → y ≡ x.value → ts ≡ d.known.items → WalksStmt c d (stmt y) of_statement false →
-    ((blocks : List Block) (a : Surroundings) → Sees blocks ts a → f.first ≡ noted_along blocks (noted_all d.faults.first (mistyped kinds.Truth (expr e) a)) (sites (expr e) a)) →
-    WalksStmt c (record d { faults = f }) (stmt s) begin listed
-until_arm s x e y c d f ts begin listed is inner k w h =
-    stmt_as c (record d { faults = f }) s (tree.until (stmt x.value) (expr e)) begin listed (ap stmt is ∙ until_is x e)
-    (until_walks c d f (stmt x.value) (expr e) begin listed (inner_as c d y x of_statement false inner w) (typed_on d f ts kinds.Truth (expr e) k h))
+pub until_ends : (s : PStmt) (e : PExpr) (c d f : Checker) (begin : Begin) (listed : Bool) → WalksStmt c d s of_statement false → f ≡ record d { faults = f.faults } →
+    IsTyped d f.faults kinds.Truth e → WalksStmt c f (tree.until s e) begin listed
+until_ends s e c d f begin listed w r t =
+    let P : Checker → Type 0 = λ x. WalksStmt c x (tree.until s e) begin listed in subst P (sym r) (until_walks c d f.faults s e begin listed w t)
 
-pub for_arm : (s : Stmt) (v : Named) (a' b' l : Expr) (x : Box Stmt Global) (y : Stmt) (c d : Checker) (f : Faults) (ts : List Names) (begin : Begin) (listed : Bool) →
-    s ≡ shapes.For v a' b' l x → y ≡ x.value → ts ≡ c.known.items →
-    ((blocks : List Block) (a : Surroundings) (s' : PStmt) (listed' : Bool) → Sees blocks ts a →
-    f.first ≡ noted_along blocks (noted_at blocks c.faults.first (for_site v (expr a') (expr b') (expr l) s' listed' a)) (sites (expr a') a ++ sites (expr b') a ++ sites (expr l) a)) →
-    WalksStmt (record c { faults = f }) d (stmt y) of_statement false → WalksStmt c d (stmt s) begin listed
-for_arm s v a' b' l x y c d f ts begin listed is inner k h w =
-    stmt_as c d s (tree.for v (expr a') (expr b') (expr l) (stmt x.value)) begin listed (ap stmt is ∙ for_is v a' b' l x)
-    (for_walks c d f v (expr a') (expr b') (expr l) (stmt x.value) begin listed
-    (λ blocks a s' listed' sees. let P : List Names → Type 0 = λ xs. Sees blocks xs a in h blocks a s' listed' (subst P (sym k) sees))
-    (inner_as (record c { faults = f }) d y x of_statement false inner w))
+pub until_arm : (s : Stmt) (x : Box Stmt Global) (e : Expr) (y : Stmt) (c d : Checker) (begin : Begin) (listed : Bool) →
+    s ≡ shapes.Until x e → y ≡ x.value → WalksStmt c d (tree.until (stmt y) (expr e)) begin listed → WalksStmt c d (stmt s) begin listed
+until_arm s x e y c d begin listed is inner w =
+    stmt_as c d s (tree.until (stmt y) (expr e)) begin listed
+    (ap stmt is ∙ until_is x e ∙ ap (λ (z : Stmt). tree.until (stmt z) (expr e)) (sym inner)) w
+
+pub for_ends : (v : Named) (x s l : PExpr) (b : PStmt) (c d e : Checker) (begin : Begin) (listed : Bool) → d ≡ record c { faults = d.faults } →
+    IsCounted c d.faults v x s l → WalksStmt d e b of_statement false → WalksStmt c e (tree.for v x s l b) begin listed
+for_ends v x s l b c d e begin listed r h w = for_walks c e d.faults v x s l b begin listed h (after_faults c d e b of_statement false r w)
+
+pub for_arm : (s : Stmt) (v : Named) (a' b' l : Expr) (x : Box Stmt Global) (y : Stmt) (c d : Checker) (begin : Begin) (listed : Bool) →
+    s ≡ shapes.For v a' b' l x → y ≡ x.value → WalksStmt c d (tree.for v (expr a') (expr b') (expr l) (stmt y)) begin listed → WalksStmt c d (stmt s) begin listed
+for_arm s v a' b' l x y c d begin listed is inner w =
+    stmt_as c d s (tree.for v (expr a') (expr b') (expr l) (stmt y)) begin listed
+    (ap stmt is ∙ for_is v a' b' l x ∙ ap (λ (z : Stmt). tree.for v (expr a') (expr b') (expr l) (stmt z)) (sym inner)) w
 
 -- the rest of the cases was walked after the number
-pub case_arm : (s : Stmt) (e : Expr) (ss us : List Stmt) (c d : Checker) (f : Faults) (ts : List Names) (begin : Begin) (listed : Bool) →
-    s ≡ shapes.Case e ss → us ≡ ss → ts ≡ c.known.items →
-    ((blocks : List Block) (a : Surroundings) → Sees blocks ts a → f.first ≡ noted_along blocks (noted_all c.faults.first (mistyped kinds.Number (expr e) a)) (sites (expr e) a)) →
-    WalksStmts (record c { faults = f }) d (stmts us) false → WalksStmt c d (stmt s) begin listed
-case_arm s e ss us c d f ts begin listed is same k h w =
-    stmt_as c d s (tree.case (expr e) (stmts us)) begin listed (ap stmt is ∙ case_is e ss ∙ ap (λ (xs : List Stmt). tree.case (expr e) (stmts xs)) (sym same))
-    (case_walks c d f (expr e) (stmts us) begin listed (typed_on c f ts kinds.Number (expr e) k h) w)
+pub case_ends : (e : PExpr) (ss : PStmts) (c d f : Checker) (begin : Begin) (listed : Bool) → d ≡ record c { faults = d.faults } → IsTyped c d.faults kinds.Number e →
+    WalksStmts d f ss false → WalksStmt c f (tree.case e ss) begin listed
+case_ends e ss c d f begin listed r t w =
+    let P : Checker → Type 0 = λ x. WalksStmts x f ss false in case_walks c f d.faults e ss begin listed t (subst P r w)
+
+pub case_arm : (s : Stmt) (e : Expr) (ss us : List Stmt) (c d : Checker) (begin : Begin) (listed : Bool) →
+    s ≡ shapes.Case e ss → us ≡ ss → WalksStmt c d (tree.case (expr e) (stmts us)) begin listed → WalksStmt c d (stmt s) begin listed
+case_arm s e ss us c d begin listed is same w =
+    stmt_as c d s (tree.case (expr e) (stmts us)) begin listed (ap stmt is ∙ case_is e ss ∙ ap (λ (xs : List Stmt). tree.case (expr e) (stmts xs)) (sym same)) w
 
 -- ---- lists of statements
 
@@ -319,26 +327,33 @@ tasks_arm x ns ms c d around later is e r m h =
     decl_as c d around x (tree.tasks ns) later (ap decl is ∙ tasks_is ns)
     (tasks_walk c d around ns later r (names_as c d around sort.event class.task ms ns e (m around sort.event refl h)))
 
-pub labels_arm : (x : Decl) (ns ms ls : List Named) (c d e : Checker) (around : List Names) (later : PDecls) → x ≡ declared.Labels ns → ms ≡ ns → ls ≡ ns →
-    d ≡ record c { labels = d.labels } → d.labels.items ≡ c.labels.items ++ map (λ (n : Named). n.spot) ls → e ≡ record d { known = e.known } → Made d e class.label ms →
-    InBody c.known.items around → WalksDecl c e around (decl x) later
-labels_arm x ns ms ls c d e around later is p q r l k m h =
+pub labels_end : (ns : List Named) (c d e : Checker) (around : List Names) (later : PDecls) →
+    d ≡ record c { labels = d.labels } → d.labels.items ≡ c.labels.items ++ map (λ (n : Named). n.spot) ns → e ≡ record d { known = e.known } → Made d e class.label ns →
+    InBody c.known.items around → WalksDecl c e around (tree.labels ns) later
+labels_end ns c d e around later r l k m h =
     let P : Checker → Type 0 = λ y. InBody y.known.items around in
-    decl_as c e around x (tree.labels ns) later (ap decl is ∙ labels_is ns)
-    (labels_walk c d e around ns later r (l ∙ ap (λ (xs : List Named). c.labels.items ++ map (λ (n : Named). n.spot) xs) q) k
-    (names_as d e around sort.label class.label ms ns p (m around sort.label refl (subst P (sym r) h))))
+    labels_walk c d e around ns later r l k (m around sort.label refl (subst P (sym r) h))
 
-pub arrays_arm : (x : Decl) (kind : Kind) (ns ms : List Named) (ps qs : List Pair) (count : ℕ) (c d e : Checker) (around : List Names) (later : PDecls) →
-    x ≡ declared.Arrays kind ns ps → ms ≡ ns → qs ≡ ps → count ≡ length ps → d ≡ record c { faults = d.faults } →
-    ((over : List Names) (blocks : List Block) (a : Surroundings) → InBody c.known.items over → Sees blocks over a → d.faults.first ≡ noted_along blocks c.faults.first (sites_in_pairs (pairs qs) a)) →
-    e ≡ record d { known = e.known } → Made d e (class.array kind count) ms → InBody c.known.items around → WalksDecl c e around (decl x) later
-arrays_arm x kind ns ms ps qs count c d e around later is p q n r b k m h =
+pub labels_arm : (x : Decl) (ns ms : List Named) (c d : Checker) (around : List Names) (later : PDecls) → x ≡ declared.Labels ns → ms ≡ ns →
+    WalksDecl c d around (tree.labels ms) later → WalksDecl c d around (decl x) later
+labels_arm x ns ms c d around later is e w =
+    decl_as c d around x (tree.labels ms) later (ap decl is ∙ labels_is ns ∙ ap (λ (xs : List Named). tree.labels xs) (sym e)) w
+
+pub arrays_end : (kind : Kind) (ns : List Named) (ps : List Pair) (c d e : Checker) (around : List Names) (later : PDecls) → d ≡ record c { faults = d.faults } →
+    ((over : List Names) (blocks : List Block) (a : Surroundings) → InBody c.known.items over → Sees blocks over a → d.faults.first ≡ noted_along blocks c.faults.first (sites_in_pairs (pairs ps) a)) →
+    e ≡ record d { known = e.known } → Made d e (class.array kind (length ps)) ns → InBody c.known.items around → WalksDecl c e around (tree.arrays kind ns (pairs ps)) later
+arrays_end kind ns ps c d e around later r b k m h =
     let P : Checker → Type 0 = λ y. InBody y.known.items around in
     let Q : ℕ → Type 0 = λ i. MakesKnown d e around (names_made sort.array (class.array kind i) ns) in
-    decl_as c e around x (tree.arrays kind ns (pairs ps)) later (ap decl is ∙ arrays_is kind ns ps)
-    (arrays_walk c d e around kind ns (pairs ps) later r
-    (λ blocks a sees. b around blocks a h sees ∙ ap (λ (xs : List Pair). noted_along blocks c.faults.first (sites_in_pairs (pairs xs) a)) q) k
-    (subst Q (n ∙ sym (length-map ps pair)) (names_as d e around sort.array (class.array kind count) ms ns p (m around sort.array refl (subst P (sym r) h)))))
+    arrays_walk c d e around kind ns (pairs ps) later r (λ blocks a sees. b around blocks a h sees) k
+    (subst Q (sym (length-map ps pair)) (m around sort.array refl (subst P (sym r) h)))
+
+pub arrays_arm : (x : Decl) (kind : Kind) (ns ms : List Named) (ps qs : List Pair) (c d : Checker) (around : List Names) (later : PDecls) →
+    x ≡ declared.Arrays kind ns ps → ms ≡ ns → qs ≡ ps → WalksDecl c d around (tree.arrays kind ms (pairs qs)) later → WalksDecl c d around (decl x) later
+arrays_arm x kind ns ms ps qs c d around later is p q w =
+    decl_as c d around x (tree.arrays kind ms (pairs qs)) later
+    (ap decl is ∙ arrays_is kind ns ps ∙ ap (λ (xs : List Named). tree.arrays kind xs (pairs ps)) (sym p)
+    ∙ ap (λ (xs : List Pair). tree.arrays kind ms (pairs xs)) (sym q)) w
 
 pub forward_arm : (x : Decl) (h : Heading) (o : Option Heading) (c d : Checker) (around : List Names) (later : PDecls) → x ≡ declared.Forward h →
     d ≡ record c { known = d.known; faults = d.faults } → body_for (decl x) later ≡ o → MakesKnown c d around (λ blocks a. declare_procedure blocks (heading_or h o) a) →
@@ -349,19 +364,22 @@ forward_arm x h o c d around later is r e m n =
     decl_as c d around x (tree.forward h) later (ap decl is ∙ forward_is h)
     (forward_walks c d around h o later r announced m (λ blocks a. n blocks a later announced))
 
-pub procedure_arm : (x : Decl) (h : Heading) (s : Box Stmt Global) (y : Stmt) (c d e f g : Checker) (around : List Names) (later : PDecls) → x ≡ declared.Procedure h s → y ≡ s.value →
+pub procedure_ends : (h : Heading) (s : PStmt) (c d e f g : Checker) (around : List Names) (later : PDecls) →
     d ≡ record c { known = d.known; faults = d.faults } → MakesKnown c d around (λ blocks a. declare_procedure blocks h a) →
     d.faults.first ≡ noted_all (noted_all c.faults.first (missing h.specs h.params)) (referring h.specs h.values) →
-    e ≡ record d { known = e.known; place = e.place } → EntersProcedure d e h → WalksStmt e f (stmt y) of_procedure false →
+    e ≡ record d { known = e.known; place = e.place } → EntersProcedure d e h → WalksStmt e f s of_procedure false →
     g ≡ record f { known = g.known; place = g.place } →
     ((over : List Names) (innermost : Names) → f.known.items ≡ over ++ innermost ∷ [] → g.known.items ≡ over) →
     ((before : Place) → f.place.around.items ≡ before.around.items ++ before.block ∷ [] → (g.place.block ≡ before.block) × (g.place.around.items ≡ before.around.items)) →
-    WalksDecl c g around (decl x) later
-procedure_arm x h s y c d e f g around later is inner r m n t en w u k p =
+    WalksDecl c g around (tree.procedure h s) later
+procedure_ends h s c d e f g around later r m n t en w u k p =
     let placed = p d.place (w.stays.outer ∙ en.outer) in
-    decl_as c g around x (tree.procedure h (stmt s.value)) later (ap decl is ∙ procedure_is h s)
-    (procedure_walks c d e f g around h (stmt s.value) later r m n t en (inner_as e f y s of_procedure false inner w) u
-    (k d.known.items en.parameters (w.stays.known ∙ en.known)) placed.0 placed.1)
+    procedure_walks c d e f g around h s later r m n t en w u (k d.known.items en.parameters (w.stays.known ∙ en.known)) placed.0 placed.1
+
+pub procedure_arm : (x : Decl) (h : Heading) (s : Box Stmt Global) (y : Stmt) (c d : Checker) (around : List Names) (later : PDecls) → x ≡ declared.Procedure h s → y ≡ s.value →
+    WalksDecl c d around (tree.procedure h (stmt y)) later → WalksDecl c d around (decl x) later
+procedure_arm x h s y c d around later is inner w =
+    decl_as c d around x (tree.procedure h (stmt y)) later (ap decl is ∙ procedure_is h s ∙ ap (λ (z : Stmt). tree.procedure h (stmt z)) (sym inner)) w
 
 -- ---- statements without statements in them
 

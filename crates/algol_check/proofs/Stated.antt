@@ -8,7 +8,6 @@ use Rattle.std.specs.declared.alloc.Global.{Global}
 use Rattle.algol_tree.specs.declared.token.Spot.{Spot}
 use Rattle.algol_tree.specs.declared.refusal.Code.TheVariants as codes
 use Rattle.algol_tree.specs.declared.refusal.Fault.{Fault}
-use Rattle.algol_tree.specs.declared.tree.Kind.{Kind}
 use Rattle.algol_tree.specs.declared.tree.Kind.TheVariants as kinds
 use Rattle.algol_tree.specs.declared.tree.Named.{Named}
 use Rattle.algol_tree.specs.declared.tree.EventAct.{EventAct}
@@ -38,7 +37,7 @@ use Rattle.algol_sites.proofs.Notes.{noted_along-append}
 use Rattle.algol_sites.proofs.Statements.{unfit_alike}
 use Rattle.algol_sites.proofs.Whole.{noted_later}
 use Rattle.algol_check.specs.declared.checker.Checker.{Checker}
-use Rattle.algol_check.specs.Walking.{IsAt, Noted, Stays, Walks, WalksBody, WalksStmt, WalksStmts, no_blocks, stmt_sites}
+use Rattle.algol_check.specs.Walking.{IsAt, IsTyped, Noted, Stays, Walks, WalksBody, WalksStmt, WalksStmts, no_blocks, stmt_sites}
 use Rattle.algol_check.specs.Declaring.{Enters}
 use Rattle.algol_check.proofs.Silent.{IsSilent, silent_both, list_silent, actuals_silent, sites_silent}
 use Rattle.algol_check.proofs.Walked.{found_alike, found_both, stays_at, walks_both, walks_none, walks_silent}
@@ -133,11 +132,6 @@ label_kept c f v ts n listed more s e p q h =
     }
 
 -- ---- statements with statements in them
-
--- an expression of which a type is wanted is noted
-abbrev pub IsTyped : Checker → Faults → Kind → PExpr → Type 0
-IsTyped c f k e =
-    (blocks : List Block) (a : Surroundings) → Sees blocks c.known.items a → f.first ≡ noted_along blocks (noted_all c.faults.first (mistyped k e a)) (sites e a)
 
 led : (c d : Checker) (f : Faults) (inner : List Spot → List Block) (own : Surroundings → Site) (ts : Surroundings → List Site) (ys : List Block → Surroundings → List Site) →
     ((a : Surroundings) → IsQuiet (own a)) → ((a : Surroundings) → IsSilent (ts a)) →

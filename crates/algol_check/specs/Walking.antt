@@ -1,16 +1,20 @@
 -- What a walk notes from one state of the checker to another.
-use Rattle.std.specs.Prelude.{◌≡◌, Bool, List, [], ◌∷◌, ◌++◌, map}
+use Rattle.std.specs.Prelude.{◌≡◌, Bool, false, List, [], ◌∷◌, ◌++◌, map}
 use Rattle.std.specs.List.{flat_map}
 use Rattle.algol_tree.specs.declared.token.Spot.{Spot}
-use Rattle.algol_tree.specs.Plain.{PStmt, PStmts, PBody}
+use Rattle.algol_tree.specs.declared.tree.Kind.{Kind}
+use Rattle.algol_tree.specs.declared.tree.Named.{Named}
+use Rattle.algol_tree.specs.Plain.{PExpr, PStmt, PStmts, PBody}
 use Rattle.algol_tree.specs.Blocks as blocks'
 use Rattle.algol_tree.specs.Blocks.{Block, blocks_of, blocks_in_stmts, blocks_in_body}
 use Rattle.algol_tree.specs.Surroundings.{Surroundings}
-use Rattle.algol_tree.specs.Sites.{Site, here_stmt, inside_stmt, sites_in_stmts, sites_in_body}
+use Rattle.algol_tree.specs.Sites.{Site, here_stmt, inside_stmt, sites, sites_in_stmts, sites_in_body}
+use Rattle.algol_tree.specs.Accepted.{noted_all}
+use Rattle.algol_rules.specs.declared.fault.Faults.{Faults}
 use Rattle.algol_sites.specs.Labelling.{standing_as, standings_at, labels_at}
-use Rattle.algol_sites.specs.Noting.{noted_along}
+use Rattle.algol_sites.specs.Noting.{mistyped, noted_along, noted_at}
 use Rattle.algol_sites.specs.Placing.{AreFound, IsPlaced, outer_of}
-use Rattle.algol_sites.specs.Seeing.{Sees}
+use Rattle.algol_sites.specs.Seeing.{Sees, for_site}
 use Rattle.algol_check.specs.declared.checker.Checker.{Checker}
 use Rattle.algol_check.specs.declared.checker.Begin.{Begin}
 use Rattle.algol_check.specs.declared.checker.Begin.TheVariants as begins
@@ -58,3 +62,22 @@ WalksStmts old new ss listed = Walks old new (blocks_in_stmts ss) (λ blocks a. 
 
 abbrev pub WalksBody : Checker → Checker → PBody → Type 0
 WalksBody old new b = Walks old new (blocks_in_body b) (λ blocks a. sites_in_body blocks b a)
+
+-- ---- parts of statements
+
+-- an expression of which this type is wanted was noted
+abbrev pub IsTyped : Checker → Faults → Kind → PExpr → Type 0
+IsTyped c f k e =
+    (blocks : List Block) (a : Surroundings) → Sees blocks c.known.items a → f.first ≡ noted_along blocks (noted_all c.faults.first (mistyped k e a)) (sites e a)
+
+-- what stands before the statement of FOR was noted
+abbrev pub IsCounted : Checker → Faults → Named → PExpr → PExpr → PExpr → Type 0
+IsCounted c f v x s l =
+    (blocks : List Block) (a : Surroundings) (t : PStmt) (listed : Bool) → Sees blocks c.known.items a →
+    f.first ≡ noted_along blocks (noted_at blocks c.faults.first (for_site v x s l t listed a)) (sites x a ++ sites s a ++ sites l a)
+
+-- A walk over a statement, after an expression of which this type is wanted.
+pub record WalksGuarded (old new : Checker) (k : Kind) (e : PExpr) (s : PStmt) : Type 0 where
+  pub faults : Faults
+  pub typed : IsTyped old faults k e
+  pub walks : WalksStmt (record old { faults = faults }) new s blocks'.of_statement false

@@ -14,15 +14,15 @@ ghost use Rattle.algol_sites.specs.declared.place.Place.{Place};
 ghost use Rattle.algol_sites.specs.Labelling.{bad_in, label_site};
 ghost use Rattle.algol_sites.specs.Placing.{IsFound, IsPlaced};
 ghost use Rattle.algol_sites.specs.Seen.{HaveFormals};
-ghost use Rattle.algol_check.specs.Walking.{Walks, WalksStmt, begin_as, no_blocks};
+ghost use Rattle.algol_check.specs.Walking.{IsCounted, IsTyped, Walks, WalksStmt, begin_as, no_blocks};
 ghost use Rattle.algol_check.specs.Declaring.{Enters, Opens, begins, decls_in};
 
 use algol_rules::Faults;
 use algol_sites::{
-    Names, Place, Standing, Wanted, assign, call, check_labels, event, go_to, process, standing_at,
-    want_name, write,
+    Names, Place, Standing, Wanted, assign, call, check_labels, counting, event, go_to, process,
+    standing_at, typed, want_name, write,
 };
-use algol_tree::{Body, Call, Code, EventName, Expr, Named, PhraseText, Spot, Variable};
+use algol_tree::{Body, Call, Code, EventName, Expr, Kind, Named, PhraseText, Spot, Variable};
 use std::alloc::{AllocError, Global};
 
 /// Whose a BEGIN is. The declarations of a procedure's body belong to the procedure's own block.
@@ -163,6 +163,26 @@ impl<'p> Checker<'p> {
             items,
             &mut self.faults,
         );
+    }
+
+    // ---- parts of statements
+
+    /// An expression of which this type is wanted.
+    pub fn typed(&mut self, kind: Kind, e: &Expr)
+        requires { HaveFormals self.old.known.items }
+        ensures typed { IsTyped self.old self.new.faults kind (expr e.now) }
+        ensures rest { self.new ≡ record self.old { faults = self.new.faults } }
+    {
+        typed(self.known.as_slice(), kind, e, &mut self.faults);
+    }
+
+    /// What stands before the statement of FOR.
+    pub fn counting(&mut self, v: &Named, x: &Expr, step: &Expr, last: &Expr)
+        requires { HaveFormals self.old.known.items }
+        ensures counted { IsCounted self.old self.new.faults v.now (expr x.now) (expr step.now) (expr last.now) }
+        ensures rest { self.new ≡ record self.old { faults = self.new.faults } }
+    {
+        counting(self.known.as_slice(), v, x, step, last, &mut self.faults);
     }
 
     // ---- blocks

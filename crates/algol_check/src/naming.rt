@@ -16,14 +16,15 @@ ghost use Rattle.algol_sites.specs.Headings.{Specifies, forward_site, missing, r
 ghost use Rattle.algol_sites.specs.Noting.{noted_along, noted_at};
 ghost use Rattle.algol_sites.specs.Seeing.{Sees};
 ghost use Rattle.algol_sites.specs.Seen.{class_seen};
-ghost use Rattle.algol_check.specs.Declaring.{EntersProcedure, InBody, MakesKnown};
+ghost use Rattle.algol_tree.specs.Plain as tree;
+ghost use Rattle.algol_check.specs.Declaring.{EntersProcedure, InBody, MakesKnown, WalksDecl};
 
 use crate::checker::Checker;
 use algol_sites::{
     Class, Names, Specified, bounds, check_forward, check_heading, declare, declare_parameters,
     declare_procedure,
 };
-use algol_tree::{Heading, Named, Pair};
+use algol_tree::{Heading, Kind, Named, Pair};
 use std::alloc::AllocError;
 
 impl<'p> Checker<'p> {
@@ -78,6 +79,28 @@ impl<'p> Checker<'p> {
             None => {}
             Some((_, around)) => bounds(around, pairs, &mut self.faults),
         }
+    }
+
+    /// Labels: their names, and where they are declared.
+    pub fn label_names(&mut self, names: &'p [Named]) -> Result<(), AllocError>
+        ensures { OnOk result ((around : List Names) (later : PDecls) → InBody self.old.known.items around → WalksDecl self.old self.new around (tree.labels names.now) later) }
+    {
+        self.keep_labels(names)?;
+        self.names(names, Class::Label)
+    }
+
+    /// Arrays: their bounds, and their names.
+    pub fn array_names(
+        &mut self,
+        kind: Kind,
+        names: &'p [Named],
+        pairs: &[Pair],
+    ) -> Result<(), AllocError>
+        requires { (around : List Names) × InBody self.old.known.items around }
+        ensures { OnOk result ((around : List Names) (later : PDecls) → InBody self.old.known.items around → WalksDecl self.old self.new around (tree.arrays kind names.now (image.pairs pairs.now)) later) }
+    {
+        self.bounds(pairs);
+        self.names(names, Class::Array(kind, pairs.len()))
     }
 
     /// FORWARD: its procedure is known by the heading with the body, where there is one.

@@ -1,25 +1,27 @@
 //! The walk over a tree, in the order of the text.
 
-ghost use Rattle.std.specs.Prelude.{◌≡◌, [], List, Err, Some, OnOk, IfOk, option_copied};
+ghost use Rattle.std.specs.Prelude.{◌≡◌, [], Bool, List, Err, Some, OnOk, IfOk, option_copied};
 ghost use Rattle.algol_tree.specs.declared.token.Spot.{Spot};
 ghost use Rattle.algol_tree.specs.declared.refusal.Code.{Code};
 ghost use Rattle.algol_tree.specs.declared.refusal.Refusal.TheVariants.{At};
 ghost use Rattle.algol_tree.specs.Accepted.{check_faults, first_fault};
 ghost use Rattle.algol_tree.specs.Ascending.{IsInOrder};
-ghost use Rattle.algol_tree.specs.Image.{body, decl, program, stmt, stmts};
+ghost use Rattle.algol_tree.specs.Blocks as blocks;
+ghost use Rattle.algol_tree.specs.Image.{body, decl, expr, program, stmt, stmts};
+ghost use Rattle.algol_tree.specs.Plain as tree;
 ghost use Rattle.algol_tree.specs.Plain.{PDecls};
 ghost use Rattle.algol_tree.specs.Sites.{has_decls};
 ghost use Rattle.algol_sites.specs.declared.known.Names.{Names};
 ghost use Rattle.algol_sites.specs.Seen.{HaveFormals};
 ghost use Rattle.algol_check.specs.Announced.{body_for};
 ghost use Rattle.algol_check.specs.Declaring.{InBody, WalksDecl, decls_in};
-ghost use Rattle.algol_check.specs.Walking.{WalksBody, WalksStmt, WalksStmts, begin_as};
+ghost use Rattle.algol_check.specs.Walking.{WalksBody, WalksGuarded, WalksStmt, WalksStmts, begin_as};
 
 use crate::announced::{announced, body_at};
 use crate::checker::{Begin, Checker, has_declarations};
 use algol_rules::{boxed_stmt, decls_in, exprs_in, stmts_in};
-use algol_sites::{Class, Names, Specified, counting, typed};
-use algol_tree::{Body, Decl, Heading, Kind, Program, Refusal, Stmt};
+use algol_sites::{Class, Names, Specified};
+use algol_tree::{Body, Decl, Expr, Heading, Kind, Named, Program, Refusal, Stmt};
 use std::alloc::{AllocError, Global};
 
 impl<'p> Checker<'p> {
@@ -31,10 +33,7 @@ impl<'p> Checker<'p> {
     {
         match s {
             Stmt::Empty => Ok(()),
-            Stmt::Label(n, s) => {
-                self.label(n, listed)?;
-                self.stmt(boxed_stmt(s), Begin::OfStatement, listed)
-            }
+            Stmt::Label(n, s) => self.labelled(n, boxed_stmt(s), listed),
             Stmt::Assign(v, e) => {
                 self.assign(v, e);
                 Ok(())
@@ -47,41 +46,19 @@ impl<'p> Checker<'p> {
                 self.go_to(n);
                 Ok(())
             }
-            Stmt::Block(b) => {
-                let opened = self.begin(b, begin)?;
-                self.body(b)?;
-                self.end(opened);
-                Ok(())
-            }
+            Stmt::Block(b) => self.block(b, begin),
             Stmt::If(c, x, other) => {
-                typed(self.known.as_slice(), Kind::Truth, c, &mut self.faults);
-                self.stmt(boxed_stmt(x), Begin::OfStatement, false)?;
+                self.guarded(Kind::Truth, boxed_stmt(x), c)?;
                 match other {
                     None => Ok(()),
                     Some(y) => self.stmt(boxed_stmt(y), Begin::OfStatement, false),
                 }
             }
-            Stmt::While(c, b) => {
-                typed(self.known.as_slice(), Kind::Truth, c, &mut self.faults);
-                self.stmt(boxed_stmt(b), Begin::OfStatement, false)
-            }
-            Stmt::Until(b, c) => {
-                self.stmt(boxed_stmt(b), Begin::OfStatement, false)?;
-                typed(self.known.as_slice(), Kind::Truth, c, &mut self.faults);
-                Ok(())
-            }
-            Stmt::For(v, x, step, last, b) => {
-                counting(self.known.as_slice(), v, x, step, last, &mut self.faults);
-                self.stmt(boxed_stmt(b), Begin::OfStatement, false)
-            }
-            Stmt::Thru(e, b) => {
-                typed(self.known.as_slice(), Kind::Number, e, &mut self.faults);
-                self.stmt(boxed_stmt(b), Begin::OfStatement, false)
-            }
-            Stmt::Case(e, ss) => {
-                typed(self.known.as_slice(), Kind::Number, e, &mut self.faults);
-                self.stmts(stmts_in(ss), false)
-            }
+            Stmt::While(c, b) => self.guarded(Kind::Truth, boxed_stmt(b), c),
+            Stmt::Until(b, c) => self.until(boxed_stmt(b), c),
+            Stmt::For(v, x, step, last, b) => self.counted(boxed_stmt(b), v, x, step, last),
+            Stmt::Thru(e, b) => self.guarded(Kind::Number, boxed_stmt(b), e),
+            Stmt::Case(e, ss) => self.case(stmts_in(ss), e),
             Stmt::Process(c, task) => {
                 self.process(c, task);
                 Ok(())
@@ -95,6 +72,73 @@ impl<'p> Checker<'p> {
                 Ok(())
             }
         }
+    }
+
+    /// A statement after a label.
+    #[cycle(statements)]
+    fn labelled(&mut self, n: &'p Named, s: &'p Stmt, listed: bool) -> Result<(), AllocError>
+        requires { HaveFormals self.old.known.items }
+        ensures { OnOk result ((begin : blocks.Begin) → WalksStmt self.old self.new (tree.label n.now (stmt s.now)) begin listed) }
+    {
+        self.label(n, listed)?;
+        self.stmt(s, Begin::OfStatement, listed)
+    }
+
+    /// A BEGIN that is a statement.
+    #[cycle(statements)]
+    fn block(&mut self, b: &'p Body, begin: Begin) -> Result<(), AllocError>
+        requires { HaveFormals self.old.known.items }
+        ensures { OnOk result ((listed : Bool) → WalksStmt self.old self.new (tree.block (body b.now)) (begin_as begin) listed) }
+    {
+        let opened = self.begin(b, begin)?;
+        self.body(b)?;
+        self.end(opened);
+        Ok(())
+    }
+
+    /// A statement after its condition or its count.
+    #[cycle(statements)]
+    fn guarded(&mut self, kind: Kind, s: &'p Stmt, e: &'p Expr) -> Result<(), AllocError>
+        requires { HaveFormals self.old.known.items }
+        ensures { OnOk result (WalksGuarded self.old self.new kind (expr e.now) (stmt s.now)) }
+    {
+        self.typed(kind, e);
+        self.stmt(s, Begin::OfStatement, false)
+    }
+
+    #[cycle(statements)]
+    fn until(&mut self, s: &'p Stmt, e: &'p Expr) -> Result<(), AllocError>
+        requires { HaveFormals self.old.known.items }
+        ensures { OnOk result ((begin : blocks.Begin) (listed : Bool) → WalksStmt self.old self.new (tree.until (stmt s.now) (expr e.now)) begin listed) }
+    {
+        self.stmt(s, Begin::OfStatement, false)?;
+        self.typed(Kind::Truth, e);
+        Ok(())
+    }
+
+    #[cycle(statements)]
+    fn counted(
+        &mut self,
+        s: &'p Stmt,
+        v: &'p Named,
+        x: &'p Expr,
+        step: &'p Expr,
+        last: &'p Expr,
+    ) -> Result<(), AllocError>
+        requires { HaveFormals self.old.known.items }
+        ensures { OnOk result ((begin : blocks.Begin) (listed : Bool) → WalksStmt self.old self.new (tree.for v.now (expr x.now) (expr step.now) (expr last.now) (stmt s.now)) begin listed) }
+    {
+        self.counting(v, x, step, last);
+        self.stmt(s, Begin::OfStatement, false)
+    }
+
+    #[cycle(statements)]
+    fn case(&mut self, ss: &'p [Stmt], e: &'p Expr) -> Result<(), AllocError>
+        requires { HaveFormals self.old.known.items }
+        ensures { OnOk result ((begin : blocks.Begin) (listed : Bool) → WalksStmt self.old self.new (tree.case (expr e.now) (stmts ss.now)) begin listed) }
+    {
+        self.typed(Kind::Number, e);
+        self.stmts(ss, false)
     }
 
     /// Statements, which are the list of statements of their block or are not.
@@ -146,27 +190,25 @@ impl<'p> Checker<'p> {
             Decl::Files(ns) => self.names(ns.items(), Class::File),
             Decl::Events(ns) => self.names(ns.items(), Class::Event),
             Decl::Tasks(ns) => self.names(ns.items(), Class::Task),
-            Decl::Labels(ns) => {
-                self.keep_labels(ns.items())?;
-                self.names(ns.items(), Class::Label)
-            }
-            Decl::Arrays(kind, ns, pairs) => {
-                self.bounds(pairs.items());
-                self.names(
-                    ns.items(),
-                    Class::Array(*kind, pairs.items().as_slice().len()),
-                )
-            }
+            Decl::Labels(ns) => self.label_names(ns.items()),
+            Decl::Arrays(kind, ns, pairs) => self.array_names(*kind, ns.items(), pairs.items()),
             Decl::Forward(h) => self.forward(h, body),
-            Decl::Procedure(h, s) => {
-                let specified = Specified::of(self.alloc, h)?;
-                self.heading(h, &specified)?;
-                self.enter(h, &specified)?;
-                self.stmt(boxed_stmt(s), Begin::OfProcedure, false)?;
-                self.leave();
-                Ok(())
-            }
+            Decl::Procedure(h, s) => self.procedure_body(h, boxed_stmt(s)),
         }
+    }
+
+    /// A heading with its body.
+    #[cycle(statements)]
+    fn procedure_body(&mut self, h: &'p Heading, s: &'p Stmt) -> Result<(), AllocError>
+        requires { (around : List Names) × InBody self.old.known.items around }
+        ensures { OnOk result ((around : List Names) (later : PDecls) → InBody self.old.known.items around → WalksDecl self.old self.new around (tree.procedure h.now (stmt s.now)) later) }
+    {
+        let specified = Specified::of(self.alloc, h)?;
+        self.heading(h, &specified)?;
+        self.enter(h, &specified)?;
+        self.stmt(s, Begin::OfProcedure, false)?;
+        self.leave();
+        Ok(())
     }
 }
 

@@ -1,34 +1,30 @@
-use Rattle.std.proofs.Common.{rules, ◌∙◌, ◌+◌, drop, ap, false, length, refl}
+use Rattle.std.proofs.Common.{rules, ◌∙◌, ◌+◌, drop, ap, false, refl}
 use Rattle.std.specs.Prelude.{option_copied}
 use Rattle.algol_tree.specs.declared.tree.Body as bodies'
 use Rattle.algol_tree.specs.declared.tree.Decl as decls'
 use Rattle.algol_tree.specs.declared.tree.Stmt as stmts'
-use Rattle.algol_tree.specs.Image.{body, decls}
+use Rattle.algol_tree.specs.Blocks.{of_statement}
+use Rattle.algol_tree.specs.Image.{body, decls, expr, stmt, stmts}
 use Rattle.algol_tree.specs.Plain as tree
 use Rattle.algol_check.specs.declared.checker.Checker.{Checker}
 use Rattle.algol_tree.specs.Sites.{has_decls}
 use Rattle.algol_check.specs.Declaring.{decls_in}
 use Rattle.algol_check.specs.Walking.{begin_as}
-use Rattle.algol_check.proofs.Arms.{announced_here, arrays_arm, assign_arm, begins_in, block_arm, body_arm, call_arm, case_arm, decls_less, decls_remain, empty_arm, event_arm, events_arm, files_arm, for_arm, forward_arm, go_to_arm, if_else_arm, if_then_arm, label_arm, labels_arm, on_both, on_ok, stmts_as, procedure_arm, process_arm, remains_all, remains_less, remains_none, simple_arm, tasks_arm, thru_arm, until_arm, while_arm, write_arm}
-use Rattle.algol_check.proofs.Stated.{formals_kept, formals_stay}
+use Rattle.algol_check.proofs.Arms.{after_faults, announced_here, arrays_arm, assign_arm, begins_in, block_arm, block_ends, body_arm, call_arm, case_arm, case_ends, decls_less, decls_remain, empty_arm, event_arm, events_arm, files_arm, for_arm, for_ends, forward_arm, go_to_arm, if_else_arm, if_then_arm, label_arm, labels_arm, on_both, on_ok, stmts_as, procedure_arm, procedure_ends, process_arm, remains_all, remains_less, remains_none, simple_arm, tasks_arm, thru_arm, until_arm, until_ends, while_arm, write_arm}
+use Rattle.algol_check.proofs.Stated.{formals_kept, formals_stay, label_walks}
 use Rattle.algol_check.proofs.checker.Checker.+statements.Goals as goal
 
 pub stmt-returns-in-Empty : goal.stmt-returns-in-Empty
 stmt-returns-in-Empty t c =
     empty_arm c.args.s.now c.args.self.now (begin_as c.args.begin) c.args.listed c.in-Empty.is
 
-pub stmt-stmt-requires : goal.stmt-stmt-requires
-stmt-stmt-requires t c =
-    let h = formals_stay c.args.self.now c.label.new.self (c.in_ok-label-in-Label.ensures tree.empty).stays c.requires in
-    search (rules, stmts'.the_lemmas, decls'.the_lemmas, bodies'.the_lemmas, h)
-
-pub stmt-returns-in_ok-label-in-Label : goal.stmt-returns-in_ok-label-in-Label
-stmt-returns-in_ok-label-in-Label t c =
-    on_ok c.stmt.result
+pub stmt-returns-in-Label : goal.stmt-returns-in-Label
+stmt-returns-in-Label t c =
+    on_ok c.labelled.result
     (λ went.
-    label_arm c.args.s.now c.in-Label.n c.in-Label.s c.boxed_stmt.result.now c.args.self.now c.label.new.self c.stmt.new.self (begin_as c.args.begin) c.args.listed c.in-Label.is
-    c.boxed_stmt.ensures c.in_ok-label-in-Label.ensures went)
-    c.stmt.ensures
+    label_arm c.args.s.now c.in-Label.n c.in-Label.s c.boxed_stmt.result.now c.args.self.now c.labelled.new.self (begin_as c.args.begin) c.args.listed c.in-Label.is
+    c.boxed_stmt.ensures (went (begin_as c.args.begin)))
+    c.labelled.ensures
 
 pub stmt-returns-in-Assign : goal.stmt-returns-in-Assign
 stmt-returns-in-Assign t c =
@@ -61,75 +57,146 @@ stmt-returns-in-Write t c =
     (begin_as c.args.begin) c.args.listed c.in-Write.is (c.deref.ensures.value ∙ c.items.ensures) c.exprs_in.ensures
     (c.write.ensures (begin_as c.args.begin) c.args.listed)
 
-pub stmt-body-requires : goal.stmt-body-requires
-stmt-body-requires t c =
-    let h = formals_kept c.args.self.now.known.items c.begin.new.self.known.items (ap (λ (x : Checker). x.known.items) c.begin.ensures.rest) c.requires in
-    search (rules, stmts'.the_lemmas, decls'.the_lemmas, bodies'.the_lemmas, h)
-
-pub stmt-returns-in_ok-body-in-Block : goal.stmt-returns-in_ok-body-in-Block
-stmt-returns-in_ok-body-in-Block t c =
-    block_arm c.args.s.now c.in-Block.b c.args.self.now c.begin.new.self c.body.new.self c.end.new.self c.in_ok-opened-in-Block.opened (begin_as c.args.begin) c.args.listed c.in-Block.is
-    c.begin.ensures.rest c.in_ok-opened-in-Block.ensures.opens c.in_ok-opened-in-Block.ensures.enters c.in_ok-body-in-Block.ensures c.end.ensures.rest c.end.ensures.ends
+pub stmt-returns-in-Block : goal.stmt-returns-in-Block
+stmt-returns-in-Block t c =
+    on_ok c.block.result
+    (λ went. block_arm c.args.s.now c.in-Block.b c.args.self.now c.block.new.self (begin_as c.args.begin) c.args.listed c.in-Block.is (went c.args.listed))
+    c.block.ensures
 
 pub stmt-returns-in-None : goal.stmt-returns-in-None
 stmt-returns-in-None t c =
-    if_then_arm c.args.s.now c.in-If.c c.in-If.x c.in-If.other c.boxed_stmt-in-If.result.now c.args.self.now c.stmt-in-If.new.self c.typed.new.faults c.as_slice.result.now (begin_as c.args.begin) c.args.listed
-    c.in-If.is c.in-None.is c.boxed_stmt-in-If.ensures c.as_slice.ensures.value c.typed.ensures c.in_ok-stmt-in-If.ensures
+    if_then_arm c.args.s.now c.in-If.c c.in-If.x c.in-If.other c.boxed_stmt-in-If.result.now c.args.self.now c.guarded.new.self (begin_as c.args.begin) c.args.listed
+    c.in-If.is c.in-None.is c.boxed_stmt-in-If.ensures c.in_ok-guarded-in-If.ensures
 
 pub stmt-returns-in-Some : goal.stmt-returns-in-Some
 stmt-returns-in-Some t c =
-    on_ok c.stmt-in-Some.result
+    on_ok c.stmt.result
     (λ went.
-    if_else_arm c.args.s.now c.in-If.c c.in-If.x c.in-If.other c.in-Some.y c.boxed_stmt-in-If.result.now c.boxed_stmt-in-Some.result.now c.args.self.now c.stmt-in-If.new.self
-    c.stmt-in-Some.new.self c.typed.new.faults c.as_slice.result.now (begin_as c.args.begin) c.args.listed c.in-If.is c.in-Some.is c.boxed_stmt-in-If.ensures c.boxed_stmt-in-Some.ensures c.as_slice.ensures.value
-    c.typed.ensures c.in_ok-stmt-in-If.ensures went)
-    c.stmt-in-Some.ensures
+    if_else_arm c.args.s.now c.in-If.c c.in-If.x c.in-If.other c.in-Some.y c.boxed_stmt-in-If.result.now c.boxed_stmt-in-Some.result.now c.args.self.now c.guarded.new.self
+    c.stmt.new.self (begin_as c.args.begin) c.args.listed c.in-If.is c.in-Some.is c.boxed_stmt-in-If.ensures c.boxed_stmt-in-Some.ensures
+    c.in_ok-guarded-in-If.ensures went)
+    c.stmt.ensures
 
-pub stmt-stmt-requires-in-Some : goal.stmt-stmt-requires-in-Some
-stmt-stmt-requires-in-Some t c =
-    let h = formals_stay (record c.args.self.now { faults = c.typed.new.faults }) c.stmt-in-If.new.self c.in_ok-stmt-in-If.ensures.stays c.requires in
+pub stmt-stmt-requires : goal.stmt-stmt-requires
+stmt-stmt-requires t c =
+    let g = c.in_ok-guarded-in-If.ensures in
+    let h = formals_stay (record c.args.self.now { faults = g.faults }) c.guarded.new.self g.walks.stays c.requires in
     search (rules, stmts'.the_lemmas, decls'.the_lemmas, bodies'.the_lemmas, h)
 
 pub stmt-returns-in-While : goal.stmt-returns-in-While
 stmt-returns-in-While t c =
-    on_ok c.stmt-in-While.result
+    on_ok c.guarded-in-While.result
     (λ went.
-    while_arm c.args.s.now c.in-While.c c.in-While.b c.boxed_stmt-in-While.result.now c.args.self.now c.stmt-in-While.new.self c.typed-in-While.new.faults c.as_slice-in-While.result.now
-    (begin_as c.args.begin) c.args.listed c.in-While.is c.boxed_stmt-in-While.ensures c.as_slice-in-While.ensures.value c.typed-in-While.ensures went)
-    c.stmt-in-While.ensures
+    while_arm c.args.s.now c.in-While.c c.in-While.b c.boxed_stmt-in-While.result.now c.args.self.now c.guarded-in-While.new.self (begin_as c.args.begin) c.args.listed
+    c.in-While.is c.boxed_stmt-in-While.ensures went)
+    c.guarded-in-While.ensures
 
 pub stmt-returns-in-Thru : goal.stmt-returns-in-Thru
 stmt-returns-in-Thru t c =
-    on_ok c.stmt-in-Thru.result
+    on_ok c.guarded-in-Thru.result
     (λ went.
-    thru_arm c.args.s.now c.in-Thru.e c.in-Thru.b c.boxed_stmt-in-Thru.result.now c.args.self.now c.stmt-in-Thru.new.self c.typed-in-Thru.new.faults c.as_slice-in-Thru.result.now
-    (begin_as c.args.begin) c.args.listed c.in-Thru.is c.boxed_stmt-in-Thru.ensures c.as_slice-in-Thru.ensures.value c.typed-in-Thru.ensures went)
-    c.stmt-in-Thru.ensures
+    thru_arm c.args.s.now c.in-Thru.e c.in-Thru.b c.boxed_stmt-in-Thru.result.now c.args.self.now c.guarded-in-Thru.new.self (begin_as c.args.begin) c.args.listed
+    c.in-Thru.is c.boxed_stmt-in-Thru.ensures went)
+    c.guarded-in-Thru.ensures
 
-pub stmt-typed-requires-in-Until : goal.stmt-typed-requires-in-Until
-stmt-typed-requires-in-Until t c =
-    formals_kept c.stmt-in-Until.new.self.known.items c.as_slice-in-Until.result.now c.as_slice-in-Until.ensures.value
-    (formals_stay c.args.self.now c.stmt-in-Until.new.self c.in_ok-stmt-in-Until.ensures.stays c.requires)
-
-pub stmt-returns-in_ok-stmt-in-Until : goal.stmt-returns-in_ok-stmt-in-Until
-stmt-returns-in_ok-stmt-in-Until t c =
-    until_arm c.args.s.now c.in-Until.b c.in-Until.c c.boxed_stmt-in-Until.result.now c.args.self.now c.stmt-in-Until.new.self c.typed-in-Until.new.faults c.as_slice-in-Until.result.now
-    (begin_as c.args.begin) c.args.listed c.in-Until.is c.boxed_stmt-in-Until.ensures c.as_slice-in-Until.ensures.value c.in_ok-stmt-in-Until.ensures c.typed-in-Until.ensures
+pub stmt-returns-in-Until : goal.stmt-returns-in-Until
+stmt-returns-in-Until t c =
+    on_ok c.until.result
+    (λ went.
+    until_arm c.args.s.now c.in-Until.b c.in-Until.c c.boxed_stmt-in-Until.result.now c.args.self.now c.until.new.self (begin_as c.args.begin) c.args.listed
+    c.in-Until.is c.boxed_stmt-in-Until.ensures (went (begin_as c.args.begin) c.args.listed))
+    c.until.ensures
 
 pub stmt-returns-in-For : goal.stmt-returns-in-For
 stmt-returns-in-For t c =
-    on_ok c.stmt-in-For.result
+    on_ok c.counted.result
     (λ went.
-    for_arm c.args.s.now c.in-For.v c.in-For.x c.in-For.step c.in-For.last c.in-For.b c.boxed_stmt-in-For.result.now c.args.self.now c.stmt-in-For.new.self c.counting.new.faults
-    c.as_slice-in-For.result.now (begin_as c.args.begin) c.args.listed c.in-For.is c.boxed_stmt-in-For.ensures c.as_slice-in-For.ensures.value c.counting.ensures went)
-    c.stmt-in-For.ensures
+    for_arm c.args.s.now c.in-For.v c.in-For.x c.in-For.step c.in-For.last c.in-For.b c.boxed_stmt-in-For.result.now c.args.self.now c.counted.new.self
+    (begin_as c.args.begin) c.args.listed c.in-For.is c.boxed_stmt-in-For.ensures (went (begin_as c.args.begin) c.args.listed))
+    c.counted.ensures
 
 pub stmt-returns-in-Case : goal.stmt-returns-in-Case
 stmt-returns-in-Case t c =
-    on_ok c.stmts.result
+    on_ok c.case.result
     (λ went.
-    case_arm c.args.s.now c.in-Case.e c.in-Case.ss c.stmts_in.result.now c.args.self.now c.stmts.new.self c.typed-in-Case.new.faults c.as_slice-in-Case.result.now (begin_as c.args.begin) c.args.listed
-    c.in-Case.is c.stmts_in.ensures c.as_slice-in-Case.ensures.value c.typed-in-Case.ensures went)
+    case_arm c.args.s.now c.in-Case.e c.in-Case.ss c.stmts_in.result.now c.args.self.now c.case.new.self (begin_as c.args.begin) c.args.listed
+    c.in-Case.is c.stmts_in.ensures (went (begin_as c.args.begin) c.args.listed))
+    c.case.ensures
+
+-- ---- statements with statements in them
+
+pub labelled-stmt-requires : goal.labelled-stmt-requires
+labelled-stmt-requires t c =
+    let h = formals_stay c.args.self.now c.label.new.self (c.in_ok-label.ensures tree.empty).stays c.requires in
+    search (rules, stmts'.the_lemmas, decls'.the_lemmas, bodies'.the_lemmas, h)
+
+pub labelled-returns : goal.labelled-returns
+labelled-returns t c =
+    on_ok c.stmt.result
+    (λ went begin.
+    label_walks c.args.self.now c.label.new.self c.stmt.new.self c.args.n.now (stmt c.args.s.now) begin c.args.listed
+    (c.in_ok-label.ensures (stmt c.args.s.now)) went)
+    c.stmt.ensures
+
+pub block-body-requires : goal.block-body-requires
+block-body-requires t c =
+    let h = formals_kept c.args.self.now.known.items c.begin.new.self.known.items (ap (λ (x : Checker). x.known.items) c.begin.ensures.rest) c.requires in
+    search (rules, stmts'.the_lemmas, decls'.the_lemmas, bodies'.the_lemmas, h)
+
+pub block-returns : goal.block-returns
+block-returns t c =
+    λ listed.
+    block_ends c.args.b.now c.args.self.now c.begin.new.self c.body.new.self c.end.new.self c.in_ok-opened.opened (begin_as c.args.begin) listed
+    c.begin.ensures.rest c.in_ok-opened.ensures.opens c.in_ok-opened.ensures.enters c.in_ok-body.ensures c.end.ensures.rest c.end.ensures.ends
+
+pub guarded-stmt-requires : goal.guarded-stmt-requires
+guarded-stmt-requires t c =
+    let h = formals_kept c.args.self.now.known.items c.typed.new.self.known.items (ap (λ (x : Checker). x.known.items) c.typed.ensures.rest) c.requires in
+    search (rules, stmts'.the_lemmas, decls'.the_lemmas, bodies'.the_lemmas, h)
+
+pub guarded-returns : goal.guarded-returns
+guarded-returns t c =
+    on_ok c.stmt.result
+    (λ went.
+    record {
+      faults = c.typed.new.self.faults;
+      typed = c.typed.ensures.typed;
+      walks = after_faults c.args.self.now c.typed.new.self c.stmt.new.self (stmt c.args.s.now) of_statement false c.typed.ensures.rest went;
+    })
+    c.stmt.ensures
+
+pub until-typed-requires : goal.until-typed-requires
+until-typed-requires t c = formals_stay c.args.self.now c.stmt.new.self c.in_ok-stmt.ensures.stays c.requires
+
+pub until-returns : goal.until-returns
+until-returns t c =
+    λ begin listed.
+    until_ends (stmt c.args.s.now) (expr c.args.e.now) c.args.self.now c.stmt.new.self c.typed.new.self begin listed c.in_ok-stmt.ensures c.typed.ensures.rest
+    c.typed.ensures.typed
+
+pub counted-stmt-requires : goal.counted-stmt-requires
+counted-stmt-requires t c =
+    let h = formals_kept c.args.self.now.known.items c.counting.new.self.known.items (ap (λ (x : Checker). x.known.items) c.counting.ensures.rest) c.requires in
+    search (rules, stmts'.the_lemmas, decls'.the_lemmas, bodies'.the_lemmas, h)
+
+pub counted-returns : goal.counted-returns
+counted-returns t c =
+    on_ok c.stmt.result
+    (λ went begin listed.
+    for_ends c.args.v.now (expr c.args.x.now) (expr c.args.step.now) (expr c.args.last.now) (stmt c.args.s.now) c.args.self.now c.counting.new.self c.stmt.new.self
+    begin listed c.counting.ensures.rest c.counting.ensures.counted went)
+    c.stmt.ensures
+
+pub case-stmts-requires : goal.case-stmts-requires
+case-stmts-requires t c =
+    let h = formals_kept c.args.self.now.known.items c.typed.new.self.known.items (ap (λ (x : Checker). x.known.items) c.typed.ensures.rest) c.requires in
+    search (rules, stmts'.the_lemmas, decls'.the_lemmas, bodies'.the_lemmas, h)
+
+pub case-returns : goal.case-returns
+case-returns t c =
+    on_ok c.stmts.result
+    (λ went begin listed.
+    case_ends (expr c.args.e.now) (stmts c.args.ss.now) c.args.self.now c.typed.new.self c.stmts.new.self begin listed c.typed.ensures.rest c.typed.ensures.typed went)
     c.stmts.ensures
 
 pub stmts-statements-init : goal.stmts-statements-init
@@ -186,26 +253,24 @@ decl-returns-in-Tasks t c =
     (c.deref-in-Tasks.ensures.value ∙ c.items-in-Tasks.ensures) c.names-in-Tasks.ensures.rest went h)
     c.names-in-Tasks.ensures.made
 
-pub decl-returns-in_ok-keep_labels-in-Labels : goal.decl-returns-in_ok-keep_labels-in-Labels
-decl-returns-in_ok-keep_labels-in-Labels t c =
-    on_ok c.names-in-Labels.result
+pub decl-returns-in-Labels : goal.decl-returns-in-Labels
+decl-returns-in-Labels t c =
+    on_ok c.label_names.result
     (λ went.
     λ around later e h.
-    labels_arm c.args.d.now c.in-Labels.ns c.deref-in-Labels-2.result.now c.deref-in-Labels.result.now c.args.self.now c.keep_labels.new.self c.names-in-Labels.new.self around later
-    c.in-Labels.is (c.deref-in-Labels-2.ensures.value ∙ c.items-in-Labels-2.ensures) (c.deref-in-Labels.ensures.value ∙ c.items-in-Labels.ensures) c.keep_labels.ensures.rest
-    c.in_ok-keep_labels-in-Labels.ensures.labels c.names-in-Labels.ensures.rest went h)
-    c.names-in-Labels.ensures.made
+    labels_arm c.args.d.now c.in-Labels.ns c.deref-in-Labels.result.now c.args.self.now c.label_names.new.self around later c.in-Labels.is
+    (c.deref-in-Labels.ensures.value ∙ c.items-in-Labels.ensures) (went around later h))
+    c.label_names.ensures
 
 pub decl-returns-in-Arrays : goal.decl-returns-in-Arrays
 decl-returns-in-Arrays t c =
-    on_ok c.names-in-Arrays.result
+    on_ok c.array_names.result
     (λ went.
     λ around later e h.
-    arrays_arm c.args.d.now c.in-Arrays.kind c.in-Arrays.ns c.deref-in-Arrays-2.result.now c.in-Arrays.pairs c.deref-in-Arrays.result.now (length c.as_slice.result.now) c.args.self.now c.bounds.new.self
-    c.names-in-Arrays.new.self around later c.in-Arrays.is (c.deref-in-Arrays-2.ensures.value ∙ c.items-in-Arrays-2.ensures) (c.deref-in-Arrays.ensures.value ∙ c.items-in-Arrays.ensures)
-    (ap length (c.as_slice.ensures.value ∙ c.items-in-Arrays-3.ensures)) c.bounds.ensures.rest c.bounds.ensures.faults c.names-in-Arrays.ensures.rest
-    went h)
-    c.names-in-Arrays.ensures.made
+    arrays_arm c.args.d.now c.in-Arrays.kind c.in-Arrays.ns c.deref-in-Arrays.result.now c.in-Arrays.pairs c.deref-in-Arrays-2.result.now c.args.self.now
+    c.array_names.new.self around later c.in-Arrays.is (c.deref-in-Arrays.ensures.value ∙ c.items-in-Arrays.ensures)
+    (c.deref-in-Arrays-2.ensures.value ∙ c.items-in-Arrays-2.ensures) (went around later h))
+    c.array_names.ensures
 
 pub decl-returns-in-Forward : goal.decl-returns-in-Forward
 decl-returns-in-Forward t c =
@@ -215,17 +280,26 @@ decl-returns-in-Forward t c =
     (made around h) faults)
     c.forward.ensures.made c.forward.ensures.faults
 
-pub decl-returns-in_ok-stmt-in-Procedure : goal.decl-returns-in_ok-stmt-in-Procedure
-decl-returns-in_ok-stmt-in-Procedure t c =
+pub decl-returns-in-Procedure : goal.decl-returns-in-Procedure
+decl-returns-in-Procedure t c =
+    on_ok c.procedure_body.result
+    (λ went.
     λ around later e h.
-    procedure_arm c.args.d.now c.in-Procedure.h c.in-Procedure.s c.boxed_stmt.result.now c.args.self.now c.heading.new.self c.enter.new.self c.stmt.new.self c.leave.new.self around
-    later c.in-Procedure.is c.boxed_stmt.ensures c.heading.ensures.rest (c.in_ok-heading-in-Procedure.ensures.made around h) c.in_ok-heading-in-Procedure.ensures.faults
-    c.enter.ensures.rest c.in_ok-enter-in-Procedure.ensures.enters c.in_ok-stmt-in-Procedure.ensures c.leave.ensures.rest c.leave.ensures.known c.leave.ensures.place
+    procedure_arm c.args.d.now c.in-Procedure.h c.in-Procedure.s c.boxed_stmt.result.now c.args.self.now c.procedure_body.new.self around later c.in-Procedure.is
+    c.boxed_stmt.ensures (went around later h))
+    c.procedure_body.ensures
 
-pub decl-stmt-requires : goal.decl-stmt-requires
-decl-stmt-requires t c =
-    let h = c.in_ok-enter-in-Procedure.ensures.enters.formals (c.in_ok-heading-in-Procedure.ensures.made c.requires.0 c.requires.1).in_body.formals in
+pub procedure_body-stmt-requires : goal.procedure_body-stmt-requires
+procedure_body-stmt-requires t c =
+    let h = c.in_ok-enter.ensures.enters.formals (c.in_ok-heading.ensures.made c.requires.0 c.requires.1).in_body.formals in
     search (rules, stmts'.the_lemmas, decls'.the_lemmas, bodies'.the_lemmas, h)
+
+pub procedure_body-returns : goal.procedure_body-returns
+procedure_body-returns t c =
+    λ around later h.
+    procedure_ends c.args.h.now (stmt c.args.s.now) c.args.self.now c.heading.new.self c.enter.new.self c.stmt.new.self c.leave.new.self around later
+    c.heading.ensures.rest (c.in_ok-heading.ensures.made around h) c.in_ok-heading.ensures.faults c.enter.ensures.rest c.in_ok-enter.ensures.enters
+    c.in_ok-stmt.ensures c.leave.ensures.rest c.leave.ensures.known c.leave.ensures.place
 
 pub body-declarations-init : goal.body-declarations-init
 body-declarations-init t c =
