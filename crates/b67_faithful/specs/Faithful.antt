@@ -15,6 +15,7 @@ use Rattle.b67_listing.specs.Listings.{IsListable}
 use Rattle.b67_faithful.specs.Agreement.{Agrees}
 use Rattle.b67_letters.specs.Entries.{all_released, all_started}
 use Rattle.b67_faithful.specs.Correspondence.{operator_actions, source_actions, source_released, source_started}
+use Rattle.b67_faithful.specs.Lines.{formats_for, lines_of}
 
 -- after entries of the schedule the process of the next one comes to the stack limit before its next action is done
 pub record ComesToLimit (code : Code) (schedule : List ℕ) : Type 0 where
