@@ -9,6 +9,7 @@ use algol_scope::Scopes;
 use algol_tree::Program;
 
 /// The program of an accepted source, with its scopes.
+#[derive(Drop)]
 pub struct Checked {
     pub program: Program,
     pub scopes: Scopes,
@@ -16,14 +17,4 @@ pub struct Checked {
     pub ghost accepted: { ∥ ((bytes : List ℕ) × Source bytes (plain program)) ∥₁ },
     /// The scopes are this program's.
     pub ghost scoped: { AreOf (plain program) scopes },
-}
-
-/// It is let go by a call, so that the proofs of the crates above do not go through its parts.
-impl Drop for Checked {
-    fn drop(self) {
-        let Checked {
-            program: _program,
-            scopes: _scopes,
-        } = self;
-    }
 }

@@ -25,13 +25,25 @@ pub struct NamedCell<'p> {
 
 /// An instance of a block: the block, the instance around it by the text, or 0 where there is none, the process
 /// in whose stack it stands, and its cells.
-#[derive(Drop)]
 pub struct Instance<'p> {
     pub block: usize,
     pub parent: usize,
     pub process: usize,
     pub cells: List<NamedCell<'p>>,
     pub left: bool,
+}
+
+/// An instance is let go by a call, so that the proofs of the crates above do not go through its parts.
+impl<'p> Drop for Instance<'p> {
+    fn drop(self) {
+        let Instance {
+            block: _,
+            parent: _,
+            process: _,
+            cells: _cells,
+            left: _,
+        } = self;
+    }
 }
 
 /// The cell of a number 0.

@@ -36,12 +36,23 @@ pub enum State<'p> {
 }
 
 /// A process: its parts with the innermost newest, the instance on whose life it depends, and its task.
-#[derive(Drop)]
 pub struct Process<'p> {
     pub todo: Stack<Part<'p>>,
     pub critical: Option<usize>,
     pub task: Option<Reference<'p>>,
     pub state: State<'p>,
+}
+
+/// A process is let go by a call, so that the proofs of the crates above do not go through its parts.
+impl<'p> Drop for Process<'p> {
+    fn drop(self) {
+        let Process {
+            todo: _todo,
+            critical: _,
+            task: _,
+            state: _,
+        } = self;
+    }
 }
 
 /// The fault that ended a run, and the process in which it came.
@@ -53,11 +64,23 @@ pub struct WorldFault {
 
 /// The world of a run: instances and processes, numbered from 1, the lines written, and the fault that ended it,
 /// beside the scopes of the tree that is run.
-#[derive(Drop)]
 pub struct World<'p> {
     pub scopes: Scopes<'p>,
     pub instances: Instances<'p>,
     pub processes: List<Process<'p>>,
     pub output: List<Line>,
     pub fault: Option<WorldFault>,
+}
+
+/// A world is let go by a call, so that the proofs of the crates above do not go through its parts.
+impl<'p> Drop for World<'p> {
+    fn drop(self) {
+        let World {
+            scopes: _scopes,
+            instances: _instances,
+            processes: _processes,
+            output: _output,
+            fault: _,
+        } = self;
+    }
 }
