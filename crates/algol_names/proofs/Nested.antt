@@ -23,7 +23,7 @@ use Rattle.algol_rest.specs.SeenScope.{used}
 use Rattle.algol_rest.specs.declared.scope.Use.{Use}
 use Rattle.algol_names.specs.declared.known.Seen.TheVariants as seens
 use Rattle.algol_names.specs.declared.known.Around.{Around}
-use Rattle.algol_names.specs.Seeing.{Sees, Adds, Kept, expr_uses, stmt_uses, stmts_uses, begin_uses, for_uses}
+use Rattle.algol_names.specs.Seeing.{Sees, Adds, Kept, expr_uses, stmt_uses, stmts_uses, begin_uses, for_uses, guarded_uses}
 use Rattle.algol_names.proofs.Walking.{adds_none, adds_then, adds_as}
 use Rattle.algol_names.proofs.Stating.{kept_self, kept_then, kept_adds, kept_sees, label_uses, then_uses, else_uses, while_uses, until_uses, thru_uses, case_uses, counting_uses, more_uses}
 
@@ -138,69 +138,85 @@ module _ (k : Around) (blocks : List Block) (begin : Begin) where
   abbrev never : Bool → Bool
   never listed = false
 
-  pub label_adds : (us vs ws : List Use) (s : Stmt) (n : Named) (b : Boxed) (x : Stmt) → s ≡ shapes.Label n b → x ≡ b.value → One k us vs (λ a. scoping.used a n) →
-      Whole k blocks vs ws (stmt x) of_statement → Whole k blocks us ws (stmt s) begin
-  label_adds us vs ws s n b x h i v w =
-      as_stmt us ws (stmt s) (tree.label n (stmt x)) (ap stmt h ∙ of_label n b ∙ ap (λ z. tree.label n (stmt z)) (sym i))
-      (before_stmt us vs ws (λ a. scoping.used a n) (tree.label n (stmt x)) (stmt x) (λ listed. listed) (λ listed a. label_uses blocks n (stmt x) begin listed a) v w)
+  pub label_ends : (us vs ws : List Use) (n : Named) (x : PStmt) → One k us vs (λ a. scoping.used a n) → Whole k blocks vs ws x of_statement →
+      Whole k blocks us ws (tree.label n x) begin
+  label_ends us vs ws n x v w =
+      before_stmt us vs ws (λ a. scoping.used a n) (tree.label n x) x (λ listed. listed) (λ listed a. label_uses blocks n x begin listed a) v w
+
+  pub label_whole : (us ws : List Use) (s : Stmt) (n : Named) (b : Boxed) (x : Stmt) → s ≡ shapes.Label n b → x ≡ b.value →
+      Whole k blocks us ws (tree.label n (stmt x)) begin → Whole k blocks us ws (stmt s) begin
+  label_whole us ws s n b x h i w = as_stmt us ws (stmt s) (tree.label n (stmt x)) (ap stmt h ∙ of_label n b ∙ ap (λ z. tree.label n (stmt z)) (sym i)) w
 
   pub block_whole : (us vs : List Use) (s : Stmt) (b : Body) → s ≡ shapes.Block b → One k us vs (begin_uses blocks (body b) begin) → Whole k blocks us vs (stmt s) begin
   block_whole us vs s b h v =
       as_stmt us vs (stmt s) (tree.block (body b)) (ap stmt h ∙ of_block b) (λ listed. record { adds = λ a e. v.adds a e })
 
-  pub then_adds : (us vs ws : List Use) (s : Stmt) (c : Expr) (b : Boxed) (o : Option Boxed) (x : Stmt) → s ≡ shapes.If c b o → o ≡ None → x ≡ b.value →
-      One k us vs (expr_uses (expr c)) → Whole k blocks vs ws (stmt x) of_statement → Whole k blocks us ws (stmt s) begin
-  then_adds us vs ws s c b o x h j i v w =
+  pub then_whole : (us ws : List Use) (s : Stmt) (c : Expr) (b : Boxed) (o : Option Boxed) (x : Stmt) → s ≡ shapes.If c b o → o ≡ None → x ≡ b.value →
+      One k us ws (guarded_uses blocks (expr c) (stmt x)) → Whole k blocks us ws (stmt s) begin
+  then_whole us ws s c b o x h j i g =
       as_stmt us ws (stmt s) (tree.if_then (expr c) (stmt x))
       (ap stmt h ∙ ap (λ z. stmt (shapes.If c b z)) j ∙ of_then c b ∙ ap (λ z. tree.if_then (expr c) (stmt z)) (sym i))
-      (before_stmt us vs ws (expr_uses (expr c)) (tree.if_then (expr c) (stmt x)) (stmt x) never (λ listed a. then_uses blocks (expr c) (stmt x) begin listed a) v w)
+      (λ listed.
+      adds_as k seens.All us ws (guarded_uses blocks (expr c) (stmt x)) (stmt_uses blocks (tree.if_then (expr c) (stmt x)) begin listed)
+      (λ a. sym (then_uses blocks (expr c) (stmt x) begin listed a)) g)
 
-  pub else_adds : (m : Around) (us vs ws xs : List Use) (s : Stmt) (c : Expr) (b d : Boxed) (o : Option Boxed) (x y : Stmt) → s ≡ shapes.If c b o → o ≡ Some d →
-      x ≡ b.value → y ≡ d.value → Kept k m → One k us vs (expr_uses (expr c)) → Whole k blocks vs ws (stmt x) of_statement →
-      Whole m blocks ws xs (stmt y) of_statement → Whole k blocks us xs (stmt s) begin
-  else_adds m us vs ws xs s c b d o x y h j i l kept v w t =
-      as_stmt us xs (stmt s) (tree.if_else (expr c) (stmt x) (stmt y))
+  pub else_ends : (m : Around) (us vs ws : List Use) (c : PExpr) (x y : PStmt) → Kept k m → One k us vs (guarded_uses blocks c x) →
+      Whole m blocks vs ws y of_statement → Whole k blocks us ws (tree.if_else c x y) begin
+  else_ends m us vs ws c x y kept g t = λ listed.
+      adds_as k seens.All us ws (λ a. guarded_uses blocks c x a ++ stmt_uses blocks y of_statement false a) (stmt_uses blocks (tree.if_else c x y) begin listed)
+      (λ a.
+      append_assoc (expr_uses c a) (stmt_uses blocks x of_statement false a) (stmt_uses blocks y of_statement false a)
+      ∙ sym (else_uses blocks c x y begin listed a))
+      (adds_then k seens.All us vs ws (guarded_uses blocks c x) (stmt_uses blocks y of_statement false) g
+      (kept_adds k m seens.All vs ws (stmt_uses blocks y of_statement false) kept (t false)))
+
+  pub else_whole : (us ws : List Use) (s : Stmt) (c : Expr) (b d : Boxed) (o : Option Boxed) (x y : Stmt) → s ≡ shapes.If c b o → o ≡ Some d →
+      x ≡ b.value → y ≡ d.value → Whole k blocks us ws (tree.if_else (expr c) (stmt x) (stmt y)) begin → Whole k blocks us ws (stmt s) begin
+  else_whole us ws s c b d o x y h j i l w =
+      as_stmt us ws (stmt s) (tree.if_else (expr c) (stmt x) (stmt y))
       (ap stmt h ∙ ap (λ z. stmt (shapes.If c b z)) j ∙ of_else c b d ∙ ap (λ z. tree.if_else (expr c) (stmt z) (stmt d.value)) (sym i)
       ∙ ap (λ z. tree.if_else (expr c) (stmt x) (stmt z)) (sym l))
-      (λ listed.
-      adds_as k seens.All us xs
-      (λ a. expr_uses (expr c) a ++ (stmt_uses blocks (stmt x) of_statement false a ++ stmt_uses blocks (stmt y) of_statement false a))
-      (stmt_uses blocks (tree.if_else (expr c) (stmt x) (stmt y)) begin listed) (λ a. sym (else_uses blocks (expr c) (stmt x) (stmt y) begin listed a))
-      (adds_then k seens.All us vs xs (expr_uses (expr c))
-      (λ a. stmt_uses blocks (stmt x) of_statement false a ++ stmt_uses blocks (stmt y) of_statement false a) v
-      (adds_then k seens.All vs ws xs (stmt_uses blocks (stmt x) of_statement false) (stmt_uses blocks (stmt y) of_statement false) (w false)
-      (kept_adds k m seens.All ws xs (stmt_uses blocks (stmt y) of_statement false) kept (t false)))))
+      w
 
-  pub while_adds : (us vs ws : List Use) (s : Stmt) (c : Expr) (b : Boxed) (x : Stmt) → s ≡ shapes.While c b → x ≡ b.value → One k us vs (expr_uses (expr c)) →
-      Whole k blocks vs ws (stmt x) of_statement → Whole k blocks us ws (stmt s) begin
-  while_adds us vs ws s c b x h i v w =
+  pub while_whole : (us ws : List Use) (s : Stmt) (c : Expr) (b : Boxed) (x : Stmt) → s ≡ shapes.While c b → x ≡ b.value →
+      One k us ws (guarded_uses blocks (expr c) (stmt x)) → Whole k blocks us ws (stmt s) begin
+  while_whole us ws s c b x h i g =
       as_stmt us ws (stmt s) (tree.while (expr c) (stmt x)) (ap stmt h ∙ of_while c b ∙ ap (λ z. tree.while (expr c) (stmt z)) (sym i))
-      (before_stmt us vs ws (expr_uses (expr c)) (tree.while (expr c) (stmt x)) (stmt x) never (λ listed a. while_uses blocks (expr c) (stmt x) begin listed a) v w)
+      (λ listed.
+      adds_as k seens.All us ws (guarded_uses blocks (expr c) (stmt x)) (stmt_uses blocks (tree.while (expr c) (stmt x)) begin listed)
+      (λ a. sym (while_uses blocks (expr c) (stmt x) begin listed a)) g)
 
-  pub thru_adds : (us vs ws : List Use) (s : Stmt) (c : Expr) (b : Boxed) (x : Stmt) → s ≡ shapes.Thru c b → x ≡ b.value → One k us vs (expr_uses (expr c)) →
-      Whole k blocks vs ws (stmt x) of_statement → Whole k blocks us ws (stmt s) begin
-  thru_adds us vs ws s c b x h i v w =
+  pub thru_whole : (us ws : List Use) (s : Stmt) (c : Expr) (b : Boxed) (x : Stmt) → s ≡ shapes.Thru c b → x ≡ b.value →
+      One k us ws (guarded_uses blocks (expr c) (stmt x)) → Whole k blocks us ws (stmt s) begin
+  thru_whole us ws s c b x h i g =
       as_stmt us ws (stmt s) (tree.thru (expr c) (stmt x)) (ap stmt h ∙ of_thru c b ∙ ap (λ z. tree.thru (expr c) (stmt z)) (sym i))
-      (before_stmt us vs ws (expr_uses (expr c)) (tree.thru (expr c) (stmt x)) (stmt x) never (λ listed a. thru_uses blocks (expr c) (stmt x) begin listed a) v w)
-
-  pub case_adds : (us vs ws : List Use) (s : Stmt) (c : Expr) (ss xs : List Stmt) → s ≡ shapes.Case c ss → xs ≡ ss → One k us vs (expr_uses (expr c)) →
-      ((listed : Bool) → One k vs ws (stmts_uses blocks (stmts xs) listed)) → Whole k blocks us ws (stmt s) begin
-  case_adds us vs ws s c ss xs h i v w =
-      as_stmt us ws (stmt s) (tree.case (expr c) (stmts xs)) (ap stmt h ∙ of_case c ss ∙ ap (λ z. tree.case (expr c) (stmts z)) (sym i))
       (λ listed.
-      adds_as k seens.All us ws (λ a. expr_uses (expr c) a ++ stmts_uses blocks (stmts xs) false a) (stmt_uses blocks (tree.case (expr c) (stmts xs)) begin listed)
-      (λ a. sym (case_uses blocks (expr c) (stmts xs) begin listed a))
-      (adds_then k seens.All us vs ws (expr_uses (expr c)) (stmts_uses blocks (stmts xs) false) v (w false)))
+      adds_as k seens.All us ws (guarded_uses blocks (expr c) (stmt x)) (stmt_uses blocks (tree.thru (expr c) (stmt x)) begin listed)
+      (λ a. sym (thru_uses blocks (expr c) (stmt x) begin listed a)) g)
 
-  pub until_adds : (m : Around) (us vs ws : List Use) (s : Stmt) (b : Boxed) (c : Expr) (x : Stmt) → s ≡ shapes.Until b c → x ≡ b.value → Kept k m →
-      Whole k blocks us vs (stmt x) of_statement → One m vs ws (expr_uses (expr c)) → Whole k blocks us ws (stmt s) begin
-  until_adds m us vs ws s b c x h i kept v w =
-      as_stmt us ws (stmt s) (tree.until (stmt x) (expr c)) (ap stmt h ∙ of_until b c ∙ ap (λ z. tree.until (stmt z) (expr c)) (sym i))
-      (λ listed.
-      adds_as k seens.All us ws (λ a. stmt_uses blocks (stmt x) of_statement false a ++ expr_uses (expr c) a)
-      (stmt_uses blocks (tree.until (stmt x) (expr c)) begin listed) (λ a. sym (until_uses blocks (stmt x) (expr c) begin listed a))
-      (adds_then k seens.All us vs ws (stmt_uses blocks (stmt x) of_statement false) (expr_uses (expr c)) (v false)
-      (kept_adds k m seens.All vs ws (expr_uses (expr c)) kept w)))
+  pub case_ends : (us vs ws : List Use) (c : PExpr) (ss : PStmts) → One k us vs (expr_uses c) → ((listed : Bool) → One k vs ws (stmts_uses blocks ss listed)) →
+      Whole k blocks us ws (tree.case c ss) begin
+  case_ends us vs ws c ss v w = λ listed.
+      adds_as k seens.All us ws (λ a. expr_uses c a ++ stmts_uses blocks ss false a) (stmt_uses blocks (tree.case c ss) begin listed)
+      (λ a. sym (case_uses blocks c ss begin listed a))
+      (adds_then k seens.All us vs ws (expr_uses c) (stmts_uses blocks ss false) v (w false))
+
+  pub case_whole : (us ws : List Use) (s : Stmt) (c : Expr) (ss xs : List Stmt) → s ≡ shapes.Case c ss → xs ≡ ss →
+      Whole k blocks us ws (tree.case (expr c) (stmts xs)) begin → Whole k blocks us ws (stmt s) begin
+  case_whole us ws s c ss xs h i w =
+      as_stmt us ws (stmt s) (tree.case (expr c) (stmts xs)) (ap stmt h ∙ of_case c ss ∙ ap (λ z. tree.case (expr c) (stmts z)) (sym i)) w
+
+  pub until_ends : (m : Around) (us vs ws : List Use) (x : PStmt) (c : PExpr) → Kept k m → Whole k blocks us vs x of_statement → One m vs ws (expr_uses c) →
+      Whole k blocks us ws (tree.until x c) begin
+  until_ends m us vs ws x c kept v w = λ listed.
+      adds_as k seens.All us ws (λ a. stmt_uses blocks x of_statement false a ++ expr_uses c a) (stmt_uses blocks (tree.until x c) begin listed)
+      (λ a. sym (until_uses blocks x c begin listed a))
+      (adds_then k seens.All us vs ws (stmt_uses blocks x of_statement false) (expr_uses c) (v false) (kept_adds k m seens.All vs ws (expr_uses c) kept w))
+
+  pub until_whole : (us ws : List Use) (s : Stmt) (b : Boxed) (c : Expr) (x : Stmt) → s ≡ shapes.Until b c → x ≡ b.value →
+      Whole k blocks us ws (tree.until (stmt x) (expr c)) begin → Whole k blocks us ws (stmt s) begin
+  until_whole us ws s b c x h i w =
+      as_stmt us ws (stmt s) (tree.until (stmt x) (expr c)) (ap stmt h ∙ of_until b c ∙ ap (λ z. tree.until (stmt z) (expr c)) (sym i)) w
 
   pub counting_adds : (us vs ws : List Use) (s : Stmt) (n : Named) (e f g : Expr) (b : Boxed) (x : Stmt) → s ≡ shapes.For n e f g b → x ≡ b.value →
       One k us vs (for_uses n (expr e) (expr f) (expr g)) → Whole k blocks vs ws (stmt x) of_statement → Whole k blocks us ws (stmt s) begin

@@ -4,7 +4,7 @@ use Rattle.std.specs.List.{flat_map}
 use Rattle.algol_tree.specs.Plain.{PExpr, PExprs, PPair, PStmt, PStmts, PDecl, PDecls, PBody}
 use Rattle.algol_tree.specs.declared.tree.Heading.{Heading}
 use Rattle.algol_tree.specs.declared.tree.Named.{Named}
-use Rattle.algol_tree.specs.Blocks.{Block, Begin, of_procedure}
+use Rattle.algol_tree.specs.Blocks.{Block, Begin, of_procedure, of_statement}
 use Rattle.algol_tree.specs.Sorts.{Declared, look_up}
 use Rattle.algol_tree.specs.Scopes as scoping
 use Rattle.algol_tree.specs.Scopes.{uses_at}
@@ -80,6 +80,10 @@ stmt_uses blocks s begin listed a = flat_map uses_at (here_stmt s listed a ∷ i
 abbrev pub task_uses : Option Named → Surroundings → List scoping.Use
 task_uses None a = []
 task_uses (Some n) a = scoping.used a n
+
+-- a statement after its condition or its count
+abbrev pub guarded_uses : List Block → PExpr → PStmt → Surroundings → List scoping.Use
+guarded_uses blocks c s a = expr_uses c a ++ stmt_uses blocks s of_statement false a
 
 -- what stands before the statement of FOR
 abbrev pub for_uses : Named → PExpr → PExpr → PExpr → Surroundings → List scoping.Use

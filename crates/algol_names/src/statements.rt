@@ -1,12 +1,14 @@
 //! The uses of names in statements and declarations, in the order of the text.
 
 ghost use Rattle.std.specs.Prelude.{◌≡◌, Bool, map, OnOk, IfOk};
-ghost use Rattle.algol_tree.specs.Image.{stmt, stmts, decl, decls, body};
+ghost use Rattle.algol_tree.specs.Blocks as plain;
+ghost use Rattle.algol_tree.specs.Image.{expr, stmt, stmts, decl, decls, body};
+ghost use Rattle.algol_tree.specs.Plain as tree;
 ghost use Rattle.algol_tree.specs.Surroundings.{outermost};
 ghost use Rattle.algol_rest.specs.SeenScope.{used};
 ghost use Rattle.algol_names.specs.declared.known.Seen.TheVariants as seens;
 ghost use Rattle.algol_names.specs.Blocks as seen;
-ghost use Rattle.algol_names.specs.Seeing.{Adds, AddsDecl, AddsDecls, Kept, Stays, stmt_uses, stmts_uses, begin_uses, body_uses, procedure_uses};
+ghost use Rattle.algol_names.specs.Seeing.{Adds, AddsDecl, AddsDecls, Kept, Stays, stmt_uses, stmts_uses, guarded_uses, begin_uses, body_uses, procedure_uses};
 
 use crate::blocks::{Begin, is_block};
 use crate::declaring::{declare, declare_parameters, nth_number, numbers_of};
@@ -18,7 +20,7 @@ use crate::simple::{
 use crate::uses::{add, add_in_expr, add_in_pairs};
 use algol_rest::{Blocks, Use};
 use algol_rules::{boxed_stmt, decls_in, exprs_in, stmts_in};
-use algol_tree::{Body, Decl, Heading, Stmt};
+use algol_tree::{Body, Decl, Expr, Heading, Named, Stmt};
 use std::alloc::{AllocError, Global};
 
 /// The uses in a statement, after others.
@@ -36,31 +38,13 @@ fn add_in_stmt<'p>(
 {
     match s {
         Stmt::Empty => Ok(()),
-        Stmt::Label(n, s) => {
-            add(uses, n, around, Seen::All)?;
-            add_in_stmt(
-                uses,
-                alloc,
-                blocks,
-                boxed_stmt(s),
-                Begin::OfStatement,
-                around,
-            )
-        }
+        Stmt::Label(n, s) => add_in_labelled(uses, alloc, blocks, n, boxed_stmt(s), around),
         Stmt::Assign(v, e) => add_in_assignment(uses, v, e, around),
         Stmt::Call(c) => add_in_call(uses, c, around),
         Stmt::GoTo(n) => add_in_go_to(uses, n, around),
         Stmt::Block(b) => add_in_begin(uses, alloc, blocks, b, begin, around),
         Stmt::If(c, a, b) => {
-            add_in_expr(uses, c, around, Seen::All)?;
-            add_in_stmt(
-                uses,
-                alloc,
-                blocks,
-                boxed_stmt(a),
-                Begin::OfStatement,
-                around,
-            )?;
+            add_in_guarded(uses, alloc, blocks, boxed_stmt(a), c, around)?;
             match b {
                 None => Ok(()),
                 Some(b) => add_in_stmt(
@@ -73,28 +57,8 @@ fn add_in_stmt<'p>(
                 ),
             }
         }
-        Stmt::While(c, b) => {
-            add_in_expr(uses, c, around, Seen::All)?;
-            add_in_stmt(
-                uses,
-                alloc,
-                blocks,
-                boxed_stmt(b),
-                Begin::OfStatement,
-                around,
-            )
-        }
-        Stmt::Until(b, c) => {
-            add_in_stmt(
-                uses,
-                alloc,
-                blocks,
-                boxed_stmt(b),
-                Begin::OfStatement,
-                around,
-            )?;
-            add_in_expr(uses, c, around, Seen::All)
-        }
+        Stmt::While(c, b) => add_in_guarded(uses, alloc, blocks, boxed_stmt(b), c, around),
+        Stmt::Until(b, c) => add_in_until(uses, alloc, blocks, boxed_stmt(b), c, around),
         Stmt::For(v, x, s, l, b) => {
             add_in_for(uses, v, x, s, l, around)?;
             add_in_stmt(
@@ -106,25 +70,80 @@ fn add_in_stmt<'p>(
                 around,
             )
         }
-        Stmt::Thru(n, b) => {
-            add_in_expr(uses, n, around, Seen::All)?;
-            add_in_stmt(
-                uses,
-                alloc,
-                blocks,
-                boxed_stmt(b),
-                Begin::OfStatement,
-                around,
-            )
-        }
-        Stmt::Case(e, ss) => {
-            add_in_expr(uses, e, around, Seen::All)?;
-            add_in_stmts(uses, alloc, blocks, stmts_in(ss), around)
-        }
+        Stmt::Thru(n, b) => add_in_guarded(uses, alloc, blocks, boxed_stmt(b), n, around),
+        Stmt::Case(e, ss) => add_in_case(uses, alloc, blocks, stmts_in(ss), e, around),
         Stmt::Process(c, task) => add_in_process(uses, c, task, around),
         Stmt::Event(_, e) => add_in_event(uses, e, around),
         Stmt::Write(n, _, _, es) => add_in_write(uses, n, exprs_in(es), around),
     }
+}
+
+/// The uses in a statement with a label, after others.
+#[cycle(statements)]
+fn add_in_labelled<'p>(
+    uses: &mut Vec<Use<'p>>,
+    alloc: Global,
+    blocks: &Blocks<'p>,
+    n: &'p Named,
+    s: &'p Stmt,
+    around: &mut Around<'p>,
+) -> Result<(), AllocError>
+    ensures adds { OnOk result ((begin : plain.Begin) (listed : Bool) → Adds around.old seens.All uses.old.items uses.new.items (stmt_uses (seen.blocks_in blocks.now) (tree.label n.now (stmt s.now)) begin listed)) }
+    ensures kept { OnOk result (Kept around.old around.new) }
+{
+    add(uses, n, around, Seen::All)?;
+    add_in_stmt(uses, alloc, blocks, s, Begin::OfStatement, around)
+}
+
+/// The uses in a statement after its condition or its count, after others.
+#[cycle(statements)]
+fn add_in_guarded<'p>(
+    uses: &mut Vec<Use<'p>>,
+    alloc: Global,
+    blocks: &Blocks<'p>,
+    s: &'p Stmt,
+    c: &'p Expr,
+    around: &mut Around<'p>,
+) -> Result<(), AllocError>
+    ensures adds { OnOk result (Adds around.old seens.All uses.old.items uses.new.items (guarded_uses (seen.blocks_in blocks.now) (expr c.now) (stmt s.now))) }
+    ensures kept { OnOk result (Kept around.old around.new) }
+{
+    add_in_expr(uses, c, around, Seen::All)?;
+    add_in_stmt(uses, alloc, blocks, s, Begin::OfStatement, around)
+}
+
+/// The uses in DO .. UNTIL, after others.
+#[cycle(statements)]
+fn add_in_until<'p>(
+    uses: &mut Vec<Use<'p>>,
+    alloc: Global,
+    blocks: &Blocks<'p>,
+    s: &'p Stmt,
+    c: &'p Expr,
+    around: &mut Around<'p>,
+) -> Result<(), AllocError>
+    ensures adds { OnOk result ((begin : plain.Begin) (listed : Bool) → Adds around.old seens.All uses.old.items uses.new.items (stmt_uses (seen.blocks_in blocks.now) (tree.until (stmt s.now) (expr c.now)) begin listed)) }
+    ensures kept { OnOk result (Kept around.old around.new) }
+{
+    add_in_stmt(uses, alloc, blocks, s, Begin::OfStatement, around)?;
+    add_in_expr(uses, c, around, Seen::All)
+}
+
+/// The uses in CASE, after others.
+#[cycle(statements)]
+fn add_in_case<'p>(
+    uses: &mut Vec<Use<'p>>,
+    alloc: Global,
+    blocks: &Blocks<'p>,
+    ss: &'p [Stmt],
+    e: &'p Expr,
+    around: &mut Around<'p>,
+) -> Result<(), AllocError>
+    ensures adds { OnOk result ((begin : plain.Begin) (listed : Bool) → Adds around.old seens.All uses.old.items uses.new.items (stmt_uses (seen.blocks_in blocks.now) (tree.case (expr e.now) (stmts ss.now)) begin listed)) }
+    ensures kept { OnOk result (Kept around.old around.new) }
+{
+    add_in_expr(uses, e, around, Seen::All)?;
+    add_in_stmts(uses, alloc, blocks, ss, around)
 }
 
 /// The uses in statements, after others.

@@ -1,12 +1,15 @@
-use Rattle.std.proofs.Common.{◌∙◌, sym, ap, drop, get_or}
+use Rattle.std.proofs.Common.{◌∙◌, sym, ap, drop, false, get_or}
 use Rattle.std.proofs.lemmas.List.{drop_all}
 use Rattle.algol_tree.specs.Image.{stmt, stmts, decls, expr, variable, call}
 use Rattle.algol_tree.specs.Plain as tree
 use Rattle.algol_names.specs.Blocks as seen
 use Rattle.algol_names.specs.Blocks.{blocks_in}
-use Rattle.algol_names.proofs.Walking.{on_ok, always}
-use Rattle.algol_names.proofs.Stating.{kept_self}
-use Rattle.algol_names.proofs.Nested.{simple_whole, empty_whole, of_assign, of_call, of_go_to, of_process, of_event, write_whole, label_adds, block_whole, then_adds, else_adds, while_adds, until_adds, counting_adds, thru_adds, case_adds, led_self, led_item, led_end}
+use Rattle.algol_tree.specs.Blocks.{of_statement}
+use Rattle.algol_names.specs.declared.known.Seen.TheVariants as seens
+use Rattle.algol_names.specs.Seeing.{expr_uses, stmt_uses}
+use Rattle.algol_names.proofs.Walking.{adds_then, on_ok, always}
+use Rattle.algol_names.proofs.Stating.{kept_self, kept_then}
+use Rattle.algol_names.proofs.Nested.{simple_whole, empty_whole, of_assign, of_call, of_go_to, of_process, of_event, write_whole, label_ends, label_whole, block_whole, then_whole, else_ends, else_whole, while_whole, until_ends, until_whole, counting_adds, thru_whole, case_ends, case_whole, led_self, led_item, led_end}
 use Rattle.algol_names.proofs.Bodies.{body_walked, closed, block_adds, compound_adds, left, procedure_adds, going_self, going_item, going_end, number_in}
 use Rattle.algol_names.proofs.Declarations.{simple_adds, files_adds, events_adds, tasks_adds, labels_adds, forward_adds, arrays_adds, procedure_decl}
 use Rattle.algol_names.proofs.statements.+statements.Goals as goal
@@ -20,14 +23,13 @@ add_in_stmt-returns-in-Empty-clause-adds t c =
 pub add_in_stmt-returns-in-Empty-clause-kept : goal.add_in_stmt-returns-in-Empty-clause-kept
 add_in_stmt-returns-in-Empty-clause-kept t c = kept_self c.args.around.now
 
-pub add_in_stmt-returns-in_ok-add-in-Label-clause-adds : goal.add_in_stmt-returns-in_ok-add-in-Label-clause-adds
-add_in_stmt-returns-in_ok-add-in-Label-clause-adds t c =
-    on_ok c.add_in_stmt.result
+pub add_in_stmt-returns-in-Label-clause-adds : goal.add_in_stmt-returns-in-Label-clause-adds
+add_in_stmt-returns-in-Label-clause-adds t c =
+    on_ok c.add_in_labelled.result
     (λ h.
-    label_adds c.args.around.now (blocks_in c.args.blocks.now) (seen.begin c.args.begin) c.args.uses.now.items c.add.new.uses.items
-    c.add_in_stmt.new.uses.items c.args.s.now c.in-Label.n c.in-Label.s c.boxed_stmt.result.now c.in-Label.is c.boxed_stmt.ensures
-    c.in_ok-add-in-Label.ensures h)
-    c.add_in_stmt.ensures.adds
+    label_whole c.args.around.now (blocks_in c.args.blocks.now) (seen.begin c.args.begin) c.args.uses.now.items c.add_in_labelled.new.uses.items
+    c.args.s.now c.in-Label.n c.in-Label.s c.boxed_stmt.result.now c.in-Label.is c.boxed_stmt.ensures (h (seen.begin c.args.begin)))
+    c.add_in_labelled.ensures.adds
 
 pub add_in_stmt-returns-in-Assign-clause-adds : goal.add_in_stmt-returns-in-Assign-clause-adds
 add_in_stmt-returns-in-Assign-clause-adds t c =
@@ -78,37 +80,40 @@ add_in_stmt-returns-in-Block-clause-adds t c =
 
 pub add_in_stmt-returns-in-None-clause-adds : goal.add_in_stmt-returns-in-None-clause-adds
 add_in_stmt-returns-in-None-clause-adds t c =
-    then_adds c.args.around.now (blocks_in c.args.blocks.now) (seen.begin c.args.begin) c.args.uses.now.items c.add_in_expr.new.uses.items
-    c.add_in_stmt-in-If.new.uses.items c.args.s.now _ _ _ c.boxed_stmt-in-If.result.now c.in-If.is c.in-None.is c.boxed_stmt-in-If.ensures c.in_ok-add_in_expr-in-If.ensures
-    c.in_ok-add_in_stmt-in-If.ensures.adds
+    then_whole c.args.around.now (blocks_in c.args.blocks.now) (seen.begin c.args.begin) c.args.uses.now.items c.add_in_guarded.new.uses.items c.args.s.now _ _ _ c.boxed_stmt-in-If.result.now
+    c.in-If.is c.in-None.is c.boxed_stmt-in-If.ensures c.in_ok-add_in_guarded-in-If.ensures.adds
 
 pub add_in_stmt-returns-in-Some-clause-adds : goal.add_in_stmt-returns-in-Some-clause-adds
 add_in_stmt-returns-in-Some-clause-adds t c =
-    on_ok c.add_in_stmt-in-Some.result
+    on_ok c.add_in_stmt.result
     (λ h.
-    else_adds c.args.around.now (blocks_in c.args.blocks.now) (seen.begin c.args.begin) c.add_in_stmt-in-If.new.around c.args.uses.now.items
-    c.add_in_expr.new.uses.items c.add_in_stmt-in-If.new.uses.items c.add_in_stmt-in-Some.new.uses.items c.args.s.now _ _ _ _ c.boxed_stmt-in-If.result.now
-    c.boxed_stmt-in-Some.result.now c.in-If.is c.in-Some.is c.boxed_stmt-in-If.ensures c.boxed_stmt-in-Some.ensures c.in_ok-add_in_stmt-in-If.ensures.kept
-    c.in_ok-add_in_expr-in-If.ensures c.in_ok-add_in_stmt-in-If.ensures.adds h)
-    c.add_in_stmt-in-Some.ensures.adds
+    else_whole c.args.around.now (blocks_in c.args.blocks.now) (seen.begin c.args.begin) c.args.uses.now.items c.add_in_stmt.new.uses.items c.args.s.now _ _ _ _ c.boxed_stmt-in-If.result.now
+    c.boxed_stmt-in-Some.result.now c.in-If.is c.in-Some.is c.boxed_stmt-in-If.ensures c.boxed_stmt-in-Some.ensures
+    (else_ends c.args.around.now (blocks_in c.args.blocks.now) (seen.begin c.args.begin) c.add_in_guarded.new.around c.args.uses.now.items c.add_in_guarded.new.uses.items
+    c.add_in_stmt.new.uses.items (expr c.in-If.c) (stmt c.boxed_stmt-in-If.result.now) (stmt c.boxed_stmt-in-Some.result.now)
+    c.in_ok-add_in_guarded-in-If.ensures.kept c.in_ok-add_in_guarded-in-If.ensures.adds h))
+    c.add_in_stmt.ensures.adds
 
-pub add_in_stmt-returns-in_ok-add_in_expr-in-While-clause-adds : goal.add_in_stmt-returns-in_ok-add_in_expr-in-While-clause-adds
-add_in_stmt-returns-in_ok-add_in_expr-in-While-clause-adds t c =
-    on_ok c.add_in_stmt-in-While.result
-    (λ h.
-    while_adds c.args.around.now (blocks_in c.args.blocks.now) (seen.begin c.args.begin) c.args.uses.now.items c.add_in_expr-in-While.new.uses.items
-    c.add_in_stmt-in-While.new.uses.items c.args.s.now c.in-While.c c.in-While.b c.boxed_stmt-in-While.result.now c.in-While.is c.boxed_stmt-in-While.ensures
-    c.in_ok-add_in_expr-in-While.ensures h)
-    c.add_in_stmt-in-While.ensures.adds
+pub add_in_stmt-returns-in-Some-clause-kept : goal.add_in_stmt-returns-in-Some-clause-kept
+add_in_stmt-returns-in-Some-clause-kept t c =
+    on_ok c.add_in_stmt.result (kept_then c.args.around.now c.add_in_guarded.new.around c.add_in_stmt.new.around c.in_ok-add_in_guarded-in-If.ensures.kept)
+    c.add_in_stmt.ensures.kept
 
-pub add_in_stmt-returns-in_ok-add_in_expr-in-Thru-clause-adds : goal.add_in_stmt-returns-in_ok-add_in_expr-in-Thru-clause-adds
-add_in_stmt-returns-in_ok-add_in_expr-in-Thru-clause-adds t c =
-    on_ok c.add_in_stmt-in-Thru.result
+pub add_in_stmt-returns-in-While-clause-adds : goal.add_in_stmt-returns-in-While-clause-adds
+add_in_stmt-returns-in-While-clause-adds t c =
+    on_ok c.add_in_guarded-in-While.result
     (λ h.
-    thru_adds c.args.around.now (blocks_in c.args.blocks.now) (seen.begin c.args.begin) c.args.uses.now.items c.add_in_expr-in-Thru.new.uses.items
-    c.add_in_stmt-in-Thru.new.uses.items c.args.s.now c.in-Thru.n c.in-Thru.b c.boxed_stmt-in-Thru.result.now c.in-Thru.is c.boxed_stmt-in-Thru.ensures
-    c.in_ok-add_in_expr-in-Thru.ensures h)
-    c.add_in_stmt-in-Thru.ensures.adds
+    while_whole c.args.around.now (blocks_in c.args.blocks.now) (seen.begin c.args.begin) c.args.uses.now.items c.add_in_guarded-in-While.new.uses.items c.args.s.now c.in-While.c c.in-While.b
+    c.boxed_stmt-in-While.result.now c.in-While.is c.boxed_stmt-in-While.ensures h)
+    c.add_in_guarded-in-While.ensures.adds
+
+pub add_in_stmt-returns-in-Thru-clause-adds : goal.add_in_stmt-returns-in-Thru-clause-adds
+add_in_stmt-returns-in-Thru-clause-adds t c =
+    on_ok c.add_in_guarded-in-Thru.result
+    (λ h.
+    thru_whole c.args.around.now (blocks_in c.args.blocks.now) (seen.begin c.args.begin) c.args.uses.now.items c.add_in_guarded-in-Thru.new.uses.items c.args.s.now c.in-Thru.n c.in-Thru.b
+    c.boxed_stmt-in-Thru.result.now c.in-Thru.is c.boxed_stmt-in-Thru.ensures h)
+    c.add_in_guarded-in-Thru.ensures.adds
 
 pub add_in_stmt-returns-in_ok-add_in_for-in-For-clause-adds : goal.add_in_stmt-returns-in_ok-add_in_for-in-For-clause-adds
 add_in_stmt-returns-in_ok-add_in_for-in-For-clause-adds t c =
@@ -119,26 +124,21 @@ add_in_stmt-returns-in_ok-add_in_for-in-For-clause-adds t c =
     c.in_ok-add_in_for-in-For.ensures h)
     c.add_in_stmt-in-For.ensures.adds
 
-pub add_in_stmt-returns-in_ok-add_in_expr-in-Case-clause-adds : goal.add_in_stmt-returns-in_ok-add_in_expr-in-Case-clause-adds
-add_in_stmt-returns-in_ok-add_in_expr-in-Case-clause-adds t c =
-    on_ok c.add_in_stmts.result
+pub add_in_stmt-returns-in-Case-clause-adds : goal.add_in_stmt-returns-in-Case-clause-adds
+add_in_stmt-returns-in-Case-clause-adds t c =
+    on_ok c.add_in_case.result
     (λ h.
-    case_adds c.args.around.now (blocks_in c.args.blocks.now) (seen.begin c.args.begin) c.args.uses.now.items c.add_in_expr-in-Case.new.uses.items
-    c.add_in_stmts.new.uses.items c.args.s.now c.in-Case.e c.in-Case.ss c.stmts_in.result.now c.in-Case.is c.stmts_in.ensures
-    c.in_ok-add_in_expr-in-Case.ensures h)
-    c.add_in_stmts.ensures.adds
+    case_whole c.args.around.now (blocks_in c.args.blocks.now) (seen.begin c.args.begin) c.args.uses.now.items c.add_in_case.new.uses.items c.args.s.now c.in-Case.e c.in-Case.ss c.stmts_in.result.now
+    c.in-Case.is c.stmts_in.ensures (h (seen.begin c.args.begin)))
+    c.add_in_case.ensures.adds
 
-pub add_in_stmt-returns-in_ok-add_in_stmt-in-Until-clause-adds : goal.add_in_stmt-returns-in_ok-add_in_stmt-in-Until-clause-adds
-add_in_stmt-returns-in_ok-add_in_stmt-in-Until-clause-adds t c =
-    on_ok c.add_in_expr-in-Until.result
+pub add_in_stmt-returns-in-Until-clause-adds : goal.add_in_stmt-returns-in-Until-clause-adds
+add_in_stmt-returns-in-Until-clause-adds t c =
+    on_ok c.add_in_until.result
     (λ h.
-    until_adds c.args.around.now (blocks_in c.args.blocks.now) (seen.begin c.args.begin) c.add_in_stmt-in-Until.new.around c.args.uses.now.items
-    c.add_in_stmt-in-Until.new.uses.items c.add_in_expr-in-Until.new.uses.items c.args.s.now c.in-Until.b c.in-Until.c c.boxed_stmt-in-Until.result.now c.in-Until.is
-    c.boxed_stmt-in-Until.ensures c.in_ok-add_in_stmt-in-Until.ensures.kept c.in_ok-add_in_stmt-in-Until.ensures.adds h)
-    c.add_in_expr-in-Until.ensures
-
-pub add_in_stmt-returns-in_ok-add_in_stmt-in-Until-clause-kept : goal.add_in_stmt-returns-in_ok-add_in_stmt-in-Until-clause-kept
-add_in_stmt-returns-in_ok-add_in_stmt-in-Until-clause-kept t c = always c.add_in_expr-in-Until.result c.in_ok-add_in_stmt-in-Until.ensures.kept
+    until_whole c.args.around.now (blocks_in c.args.blocks.now) (seen.begin c.args.begin) c.args.uses.now.items c.add_in_until.new.uses.items c.args.s.now c.in-Until.b c.in-Until.c
+    c.boxed_stmt-in-Until.result.now c.in-Until.is c.boxed_stmt-in-Until.ensures (h (seen.begin c.args.begin)))
+    c.add_in_until.ensures.adds
 
 pub add_in_stmt-returns-in-Process-clause-adds : goal.add_in_stmt-returns-in-Process-clause-adds
 add_in_stmt-returns-in-Process-clause-adds t c =
@@ -179,6 +179,43 @@ add_in_stmt-returns-in-Write-clause-adds t c =
 
 pub add_in_stmt-returns-in-Write-clause-kept : goal.add_in_stmt-returns-in-Write-clause-kept
 add_in_stmt-returns-in-Write-clause-kept t c = always c.add_in_write.result (kept_self c.args.around.now)
+
+-- ---- statements with statements in them
+
+pub add_in_labelled-returns-clause-adds : goal.add_in_labelled-returns-clause-adds
+add_in_labelled-returns-clause-adds t c =
+    on_ok c.add_in_stmt.result
+    (λ h begin.
+    label_ends c.args.around.now (blocks_in c.args.blocks.now) begin c.args.uses.now.items c.add.new.uses.items c.add_in_stmt.new.uses.items c.args.n.now (stmt c.args.s.now)
+    c.in_ok-add.ensures h)
+    c.add_in_stmt.ensures.adds
+
+pub add_in_guarded-returns-clause-adds : goal.add_in_guarded-returns-clause-adds
+add_in_guarded-returns-clause-adds t c =
+    on_ok c.add_in_stmt.result
+    (λ h.
+    adds_then c.args.around.now seens.All c.args.uses.now.items c.add_in_expr.new.uses.items c.add_in_stmt.new.uses.items (expr_uses (expr c.args.c.now))
+    (stmt_uses (blocks_in c.args.blocks.now) (stmt c.args.s.now) of_statement false) c.in_ok-add_in_expr.ensures (h false))
+    c.add_in_stmt.ensures.adds
+
+pub add_in_until-returns-clause-adds : goal.add_in_until-returns-clause-adds
+add_in_until-returns-clause-adds t c =
+    on_ok c.add_in_expr.result
+    (λ h begin.
+    until_ends c.args.around.now (blocks_in c.args.blocks.now) begin c.add_in_stmt.new.around c.args.uses.now.items c.add_in_stmt.new.uses.items c.add_in_expr.new.uses.items
+    (stmt c.args.s.now) (expr c.args.c.now) c.in_ok-add_in_stmt.ensures.kept c.in_ok-add_in_stmt.ensures.adds h)
+    c.add_in_expr.ensures
+
+pub add_in_until-returns-clause-kept : goal.add_in_until-returns-clause-kept
+add_in_until-returns-clause-kept t c = always c.add_in_expr.result c.in_ok-add_in_stmt.ensures.kept
+
+pub add_in_case-returns-clause-adds : goal.add_in_case-returns-clause-adds
+add_in_case-returns-clause-adds t c =
+    on_ok c.add_in_stmts.result
+    (λ h begin.
+    case_ends c.args.around.now (blocks_in c.args.blocks.now) begin c.args.uses.now.items c.add_in_expr.new.uses.items c.add_in_stmts.new.uses.items (expr c.args.e.now)
+    (stmts c.args.ss.now) c.in_ok-add_in_expr.ensures h)
+    c.add_in_stmts.ensures.adds
 
 -- ---- statements one after the other
 
