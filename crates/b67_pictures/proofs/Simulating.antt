@@ -33,7 +33,7 @@ use Rattle.b67_letters.specs.Laws.{may_release}
 use Rattle.b67_letters.proofs.Mute.{few_operators_release}
 use Rattle.b67_faithful.specs.Correspondence.{action_of, as_action, operator_action}
 use Rattle.b67_faithful.proofs.Choices.{is_releasing, ReleasesNone}
-use Rattle.b67_faithful.specs.Faithful.{HasSegments, IsShort, Faithful}
+use Rattle.b67_faithful.specs.Faithful.{HasFormats, HasSegments, IsShort, Faithful}
 use Rattle.b67_faithful.specs.Weight.{weight}
 use Rattle.b67_faithful.specs.Simulation.{AreFew, Acted, Comes, acts, stops, Simulates}
 use Rattle.b67_faithful.proofs.Contradictions.{true_false, some_same, gives_same, faults_same, gives_faults}
