@@ -15,12 +15,12 @@ use Rattle.algol_tree.specs.Surroundings.{Surroundings, announced, declare_proce
 use Rattle.algol_tree.specs.Sites as site
 use Rattle.algol_tree.specs.Sites.{Part, Site}
 use Rattle.algol_tree.specs.Scopes.{names_in}
-use Rattle.algol_tree.specs.Couples.{known_in_heading, known_in_part, known_names}
+use Rattle.algol_tree.specs.Couples.{known_in_heading, known_in_part, known_names, known_there}
 use Rattle.algol_tree.specs.Names.{if_so, is_no_parameter, places_if, specified, unknown_in_heading, unknown_in_part}
 use Rattle.algol_tree.specs.Accepted.{scope_faults, sites_of}
 use Rattle.algol_tree.specs.Ascending.{IsInOrder}
 use Rattle.algol_front_laws.specs.Couples.{cells_in}
-use Rattle.algol_front_laws.specs.Declarations.{EachHasOne, HasOne, NameAt, names_at, names_from, names_in_part}
+use Rattle.algol_front_laws.specs.Declarations.{EachHasOne, HasOne, NameAt, names_at, names_from, names_in_part, names_of}
 use Rattle.algol_front_laws.proofs.Lists.{all-append, all-both, all-left, all-right, all-weaker, none-left, none-right, of-contained, of-each}
 use Rattle.algol_front_laws.proofs.Known.{Finds, finds, name-itself}
 use Rattle.algol_front_laws.proofs.Walk.{Behind, HoldsAt}
@@ -47,9 +47,15 @@ module _ (p : PProgram) where
   abbrev AreKnown : Surroundings → List Named → Type 0
   AreKnown a ns = AllByRecursion (λ (n : Named). is_some (declared_as a n) ≡ true) ns
 
-  one-of : (a : Surroundings) (n : Named) → ReadyIn p a → Finds a.known n.name → IsFound a n → HasOne p a n
+  -- the name means one declaration, which is found under its place
+  pub record IsOne (a : Surroundings) (n : Named) : Type 0 where
+    pub one : HasOne p a n
+    pub there : known_there (names_known p) n.spot ≡ Some one.declared
+
+  one-of : (a : Surroundings) (n : Named) → ReadyIn p a → Finds a.known n.name → IsFound a n → IsOne a n
   one-of a n r f k =
       let d : Declared = f.declared in
+      let one : HasOne p a n =
       record {
         declared = d;
         found = f.found;
@@ -70,10 +76,11 @@ module _ (p : PProgram) where
             λ takes.
             let its = of-contained (HasCell (blocks_of_program p) (cells_in p)) a.known d r.cells f.known takes in
             coupled (blocks_of_program p) (sites_of p) (record { block = d.block; spot = d.spot; content = its.0 }) its.1;
-      }
+      } in
+      record { one = one; there = k d f.found }
 
   abbrev HaveOne : List NameAt → Type 0
-  HaveOne ns = AllByRecursion (λ (n : NameAt). HasOne p n.around n.name) ns
+  HaveOne ns = AllByRecursion (λ (n : NameAt). IsOne n.around n.name) ns
 
   names-have-one : (a : Surroundings) → ReadyIn p a → (ns : List Named) → AreKnown a ns → AreFound a ns → HaveOne (names_from a ns)
   names-have-one a r [] h k = tt
@@ -212,7 +219,7 @@ module _ (p : PProgram) where
   of-decl (tree.procedure h s) later a r u k =
       let b : Surroundings = knowing (blocks_of_program p) (tree.procedure h s) later a in
       let i : Surroundings = inside_procedure (blocks_of_program p) h b in
-      all-append (λ (n : NameAt). HasOne p n.around n.name) (names_from b (h.name ∷ [])) (names_from i (h.params ++ h.values ++ specified h))
+      all-append (λ (n : NameAt). IsOne n.around n.name) (names_from b (h.name ∷ [])) (names_from i (h.params ++ h.values ++ specified h))
       (of-forward h h a refl r.0 (all-left (IsThere (names_known p)) (known_names b (h.name ∷ [])) (known_in_heading h i) k))
       (of-heading h b r.1 u (all-right (IsThere (names_known p)) (known_names b (h.name ∷ [])) (known_in_heading h i) k))
 
@@ -231,9 +238,13 @@ module _ (p : PProgram) where
   of-part (site.statement s listed) a r b u k = in-use a r (names_in (site.statement s listed)) u k
   of-part (site.declaration d later) a r b u k = of-decl d later a b u k
 
-  pub each-has-one : scope_faults p ≡ [] → IsInOrder p → EachHasOne p
-  each-has-one h o =
+  pub each-is-one : scope_faults p ≡ [] → IsInOrder p → AllByRecursion (λ (n : NameAt). IsOne n.around n.name) (names_of p)
+  each-is-one h o =
       let blocks = blocks_of_program p in
-      of-each (λ (n : NameAt). HasOne p n.around n.name) (names_at blocks) (sites_of p)
+      of-each (λ (n : NameAt). IsOne n.around n.name) (names_at blocks) (sites_of p)
       (all-both (HoldsAt blocks (ReadyIn p)) (PassesIn p) (λ (x : Site). HaveOne (names_at blocks x))
       (λ x r q. of-part x.part x.around r.around r.behind q.known q.its_names) (sites_of p) (all-ready p h o) (all-pass p h o))
+
+  pub each-has-one : scope_faults p ≡ [] → IsInOrder p → EachHasOne p
+  each-has-one h o =
+      all-weaker (λ (n : NameAt). IsOne n.around n.name) (λ (n : NameAt). HasOne p n.around n.name) (λ n w. w.one) (names_of p) (each-is-one h o)

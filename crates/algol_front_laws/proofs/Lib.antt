@@ -16,6 +16,7 @@ mod Ready
 mod Declarations
 mod Uses
 mod Sources
+mod Meanings
 mod Spelled
 mod Fronts
 mod Lexed

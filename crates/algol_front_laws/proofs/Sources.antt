@@ -86,7 +86,7 @@ sites-once p (x ∷ xs) h k = (
   sites-once p xs h.1 k.1,
 )
 
-source-in-order : (bytes : List ℕ) (tree : PProgram) → Source bytes tree → IsInOrder tree
+pub source-in-order : (bytes : List ℕ) (tree : PProgram) → Source bytes tree → IsInOrder tree
 source-in-order bytes tree s = in_order s.tokens tree (tokens_ascend bytes s.tokens s.lexes) s.reads
 
 pub none_twice : (bytes : List ℕ) (tree : PProgram) → Source bytes tree → AllByRecursion (λ (x : Site). EachOnce x.around) (sites_of tree)

@@ -3,6 +3,7 @@
 
 ghost use Rattle.algol_front_laws.specs.Phases.{RefusalsTellTheirPart, AnswersTellTheirPart};
 ghost use Rattle.algol_front_laws.specs.Declarations.{EachNameHasOne, NoneTwice};
+ghost use Rattle.algol_front_laws.specs.Meanings.{EachNameIsTold};
 ghost use Rattle.algol_front_laws.specs.Uses.{EachUseIsLookedUp};
 ghost use Rattle.algol_front_laws.specs.Couples.{EachCellHasOne};
 ghost use Rattle.algol_front_laws.specs.OneAnswer.{EachTextHasOneAnswer};
@@ -24,6 +25,12 @@ pub fn each_name_has_one_declaration()
     ensures blocks { NoneTwice }
     // A run of the meaning looks up a use of that declaration.
     ensures uses { EachUseIsLookedUp }
+{}
+
+/// Law: of each name in an accepted source `declaration` of its scopes tells the one declaration that the name means: where it stands, the
+/// number and the level of its block, and what it is declared as.
+pub fn scopes_tell_what_names_mean()
+    ensures { EachNameIsTold }
 {}
 
 /// Law: in an accepted source each cell has a couple, which no other cell of its block has. The scopes hold that of an actual under

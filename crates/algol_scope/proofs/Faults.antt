@@ -22,31 +22,32 @@ use Rattle.algol_tree.specs.Counts.{heading_tokens, stmt_tokens}
 use Rattle.algol_tree.specs.Names.{if_so, is_announced_by, is_one_of, names_here, result_names, result_names_of, twice_in_heading, unknown_in_heading}
 use Rattle.algol_tree.specs.Accepted.{broken, noted_all}
 use Rattle.algol_rules.proofs.Order.{noted_all-append}
-use Rattle.algol_scope.specs.declared.known.Class.TheVariants as class
-use Rattle.algol_scope.specs.declared.known.Entry.{Entry}
-use Rattle.algol_scope.specs.declared.known.Seen.TheVariants as seens
-use Rattle.algol_scope.specs.declared.around.Around.{Around}
-use Rattle.algol_scope.specs.declared.around.Procedure.{Procedure}
+use Rattle.algol_known.specs.declared.known.Entry.{Entry}
+use Rattle.algol_known.specs.declared.known.Seen.TheVariants as seens
+use Rattle.algol_known.specs.declared.around.Around.{Around}
+use Rattle.algol_known.specs.declared.around.Procedure.{Procedure}
 use Rattle.algol_scope.specs.declared.declaration.Ahead.{Ahead}
-use Rattle.algol_scope.specs.declared.findings.Content.TheVariants as content
+use Rattle.algol_frames.specs.declared.found.Content.TheVariants as content
 use Rattle.algol_scope.specs.declared.findings.Findings.{Findings}
 use Rattle.algol_scope.specs.declared.resolver.Resolver.{Resolver}
-use Rattle.algol_scope.specs.Naming.{IsBare, has_name, is_typed}
-use Rattle.algol_scope.specs.Looking.{is_announced, level_within, looked_up, modes_in, open_blocks}
-use Rattle.algol_scope.specs.Seeing.{Declares, IsClass, IsFound, Opens, Sees, begun, mode_of}
+use Rattle.algol_known.specs.Naming.{IsBare, has_name, is_typed}
+use Rattle.algol_known.specs.Looking.{is_announced, level_within, looked_up, modes_in, open_blocks, procedure_class}
+use Rattle.algol_known.specs.Seeing.{Declares, IsClass, IsFound, Opens, Sees, begun, mode_of}
 use Rattle.algol_scope.specs.Noting.{Adds, Knows, long_segment}
 use Rattle.algol_scope.specs.Stating.{AreBefore, Settles, block_of}
-use Rattle.algol_scope.specs.Declaring.{Admits, IsAhead, IsOf, Makes, Starts, Widens, cell_of_procedure, cells_here, declared_so, declaring, faults_of_decl, known_so, no_cells, no_faults, no_uses, nothing_so, parameters_so, procedure_so, result_in, twice_among}
-use Rattle.algol_scope.proofs.Headings.{noted-broken}
-use Rattle.algol_scope.proofs.Making.{AreOf, before-append, has-told, level-here, makes-adds, makes-as, makes-knows, makes-then, makes-widens, widens-one}
+use Rattle.algol_scope.specs.Declaring.{IsAhead, IsOf, Makes, Starts, cell_of_procedure, cells_here, declared_so, faults_of_decl, known_so, no_cells, no_faults, no_uses, nothing_so, procedure_so, result_in, twice_among}
+use Rattle.algol_known.specs.Widening.{Admits, Widens, declaring, parameters_so}
+use Rattle.algol_frames.proofs.Noting.{noted-broken}
+use Rattle.algol_scope.proofs.Making.{AreOf, before-append, has-told, makes-adds, makes-as, makes-knows, makes-then, makes-widens}
+use Rattle.algol_known.proofs.Widening.{level-here, widens-one}
 use Rattle.algol_scope.proofs.Names.{cell-at}
 use Rattle.algol_scope.proofs.Opening.{begun_as, level-open, settles-open}
 use Rattle.algol_scope.proofs.Procedures as procedure
 use Rattle.algol_scope.proofs.Procedures.{declares-forward}
 use Rattle.algol_scope.proofs.Visiting.{keeps-same, settles-kept}
 use Rattle.std.proofs.lemmas.Slice.Eq.{bytes_eq-Decides}
-use Rattle.algol_scope.proofs.Declaring.{same}
-use Rattle.algol_scope.specs.declared.known.Class.{Class}
+use Rattle.algol_known.proofs.Declaring.{same}
+use Rattle.algol_known.specs.declared.known.Class.{Class}
 
 pub or_none : {X : Type 0} (b : Bool) (o : Option X) → o ≡ None → b ≡ (b || is_some o)
 or_none true o h = refl
@@ -112,7 +113,7 @@ makes-cells old one new sort c ns items held same m h around blocks =
 
 pub makes-heading : (old one new : Resolver) (h : Heading) (n : Named) (x : Ahead) (name : List ℕ) (entry : Entry) → IsOf old.around.procedures.items x h →
     h.name.name ≡ n.name → name ≡ n.name →
-    entry ≡ record { spot = x.spot; block = old.around.innermost.block; level = level_within old.around; class = class.Procedure x.procedure } →
+    entry ≡ record { spot = x.spot; block = old.around.innermost.block; level = level_within old.around; class = procedure_class x.procedure } →
     Declares old.around one.around name entry → one.around.outer ≡ old.around.outer → one.around.procedures ≡ old.around.procedures →
     one.around.innermost.typed ≡ old.around.innermost.typed →
     ((a : Surroundings) → Sees old.around seens.BeforeDeclarations a → Sees one.around seens.BeforeDeclarations a) → one.findings ≡ old.findings →
@@ -141,6 +142,7 @@ makes-heading old one new h n x name entry of same called e d o p t before f b k
       class =
           (let P : Class → Type 0 = λ z. IsClass old.around.procedures.items z (classes.procedure h) in
           subst P (sym (ap (λ (z : Entry). z.class) e)) of.class);
+      sort = ap (λ (z : Entry). z.class.sort) e;
     }))
     (λ blocks a. (refl, tt)) f b)
     (makes-knows one new (λ a. known_names a (n ∷ [])) k around blocks)
@@ -286,10 +288,10 @@ procedure-made old one two new h s later x block of m make b around blocks f u c
     (cell-at two.findings new.findings two.around.innermost.block block cells.procedure content.Procedure h.name refl b f u c)))))
 
 pub modes_open : (k m : Around) (procedure : ℕ) (h : Heading) → m.procedures ≡ k.procedures →
-    modes_in k.procedures.items (class.Procedure procedure) ≡ map mode_of (formals_of h) →
-    modes_in m.procedures.items (class.Procedure procedure) ≡ map mode_of (formals_of h)
+    modes_in k.procedures.items (procedure_class procedure) ≡ map mode_of (formals_of h) →
+    modes_in m.procedures.items (procedure_class procedure) ≡ map mode_of (formals_of h)
 modes_open k m procedure h e modes =
-    (let same : m.procedures.items ≡ k.procedures.items = cc in ap (λ z. modes_in z (class.Procedure procedure)) same) ∙ modes
+    (let same : m.procedures.items ≡ k.procedures.items = cc in ap (λ z. modes_in z (procedure_class procedure)) same) ∙ modes
 
 of-parameters : (block depth : ℕ) (h : Heading) (ns : List Named) → AreOf block (declared_parameters block depth (record h { params = ns }))
 of-parameters block depth h [] = tt

@@ -22,8 +22,8 @@ use Rattle.algol_tree.specs.Cells.{cells_at, cells_of, level_of}
 use Rattle.algol_tree.specs.Names.{cells_beyond, deep_actuals, deep_blocks, declared_twice, if_so, is_too_deep, long_segments, place_beyond, procedures, procedures_beyond, program_segment, segments_of_part, unknown_names}
 use Rattle.algol_tree.specs.Accepted.{broken, noted_all, scope_faults, first_fault, sites_of}
 use Rattle.algol_rules.proofs.Order.{IsRule, AreRules, noted_all-append, noted_all-swap}
-use Rattle.algol_scope.specs.declared.findings.Cell.{Cell}
-use Rattle.algol_scope.specs.Framing.{beyond_from, cells_in, deep_place, places_of, procedure_place, those_in}
+use Rattle.algol_frames.specs.declared.found.Cell.{Cell}
+use Rattle.algol_frames.specs.Framing.{beyond_from, cells_in, deep_place, places_of, procedure_place, those_in}
 use Rattle.algol_scope.specs.Finding.{limit_faults}
 use Rattle.algol_scope.specs.Noting.{cell_of, faults_at, long_at, long_segment}
 use Rattle.algol_scope.specs.Stating.{AreNumbered, block_of}

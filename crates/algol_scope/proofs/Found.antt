@@ -23,18 +23,18 @@ use Rattle.algol_tree.specs.Ascending.{IsInOrder}
 use Rattle.algol_tree.specs.Accepted.{broken, first_fault, noted_all, scope_faults, sites_of}
 use Rattle.algol_rules.proofs.Order.{first-none, noted_all-append}
 use Rattle.algol_rules.specs.Refusing.{refusing}
-use Rattle.algol_scope.specs.declared.known.Seen.TheVariants as seens
-use Rattle.algol_scope.specs.declared.around.Around.{Around}
-use Rattle.algol_scope.specs.declared.findings.Cell.{Cell}
+use Rattle.algol_known.specs.declared.known.Seen.TheVariants as seens
+use Rattle.algol_known.specs.declared.around.Around.{Around}
+use Rattle.algol_frames.specs.declared.found.Cell.{Cell}
 use Rattle.algol_scope.specs.declared.findings.Findings.{Findings}
-use Rattle.algol_scope.specs.declared.resolver.Block as begun
+use Rattle.algol_frames.specs.declared.found.Block as begun
 use Rattle.algol_scope.specs.declared.resolver.Resolver.{Resolver}
-use Rattle.algol_scope.specs.Naming.{is_typed}
-use Rattle.algol_scope.specs.Seeing as seeing
-use Rattle.algol_scope.specs.Seeing.{Sees}
-use Rattle.algol_scope.specs.Looking.{level_within}
+use Rattle.algol_known.specs.Naming.{is_typed}
+use Rattle.algol_known.specs.Seeing as seeing
+use Rattle.algol_known.specs.Seeing.{Sees}
+use Rattle.algol_known.specs.Looking.{level_within}
 use Rattle.algol_scope.specs.Noting.{Finds, cell_of, faults_at, long_segment, use_of}
-use Rattle.algol_scope.specs.Framing.{beyond_from, cells_in, deep_place, procedure_place, those_in}
+use Rattle.algol_frames.specs.Framing.{beyond_from, cells_in, deep_place, procedure_place, those_in}
 use Rattle.algol_scope.specs.Finding.{Holds, IsNew, limit_faults}
 use Rattle.algol_scope.specs.Resolved.{IsRefused}
 use Rattle.algol_scope.specs.Stating.{AreNumbered, Fills, Settles, block_of}

@@ -5,45 +5,19 @@ use Rattle.std.specs.Bool.{◌==◌}
 use Rattle.std.specs.List.{flat_map}
 use Rattle.std.specs.Borrow.{Bor}
 use Rattle.std.specs.Str.{bytes_eq}
-use Rattle.std.proofs.lemmas.List.{map-append}
 use Rattle.std.proofs.lemmas.Grind.{flat_map-append}
-use Rattle.algol_tree.specs.declared.token.Spot.{Spot}
 use Rattle.algol_tree.specs.declared.tree.Heading.{Heading}
 use Rattle.algol_tree.specs.declared.tree.Named.{Named}
 use Rattle.algol_tree.specs.declared.tree.Spec.{Spec}
-use Rattle.algol_tree.specs.declared.refusal.Code.{Code}
 use Rattle.algol_tree.specs.declared.refusal.Code.TheVariants as codes
 use Rattle.algol_tree.specs.declared.refusal.Fault.{Fault}
 use Rattle.algol_tree.specs.Sorts.{is_named_in, same_name}
 use Rattle.algol_tree.specs.Names.{if_so, is_no_parameter, is_one_of, names_of_spec, places_if, repeated}
 use Rattle.algol_tree.specs.Accepted.{broken, noted_all}
-use Rattle.algol_rules.proofs.Order.{noted_all-append}
-use Rattle.algol_scope.specs.Naming.{Table, IsBare, entry_in, has_name, is_typed, or_else}
-use Rattle.algol_scope.specs.Passing.{kept}
-use Rattle.algol_scope.proofs.Declaring.{same}
-
--- ---- places that are noted
-
-pub broken-append : (code : Code) (xs ys : List Spot) → broken code (xs ++ ys) ≡ broken code xs ++ broken code ys
-broken-append code xs ys = map-append (λ (spot : Spot). record { spot = spot; code = code }) xs ys
-
-pub noted-broken : (first : Option Fault) (code : Code) (xs ys : List Spot) →
-    noted_all first (broken code (xs ++ ys)) ≡ noted_all (noted_all first (broken code xs)) (broken code ys)
-noted-broken first code xs ys = ap (noted_all first) (broken-append code xs ys) ∙ noted_all-append first (broken code xs) (broken code ys)
-
--- one more item of a list of which each has places
-pub note-item : {A : Type 0} (code : Code) (f : A → List Spot) (xs : List A) (i : ℕ) (x : A) (now new all : Option Fault) → i < length xs → x ≡ get_or xs i x →
-    new ≡ noted_all now (broken code (f x)) → noted_all now (broken code (flat_map f (drop i xs))) ≡ all →
-    noted_all new (broken code (flat_map f (drop (i + 1) xs))) ≡ all
-note-item code f xs i x now new all h same k inv =
-    rw add-one
-    (let at : drop i xs ≡ x ∷ drop (suc i) xs = drop-cons xs i x h ∙ ap (λ z. z ∷ drop (suc i) xs) (sym same) in
-    ap (λ z. noted_all z (broken code (flat_map f (drop (suc i) xs)))) k ∙ sym (noted-broken now code (f x) (flat_map f (drop (suc i) xs)))
-    ∙ ap (λ z. noted_all now (broken code (flat_map f z))) (sym at) ∙ inv)
-
-pub note-end : {A : Type 0} (code : Code) (f : A → List Spot) (xs : List A) (now all : Option Fault) → xs ≡ [] →
-    noted_all now (broken code (flat_map f xs)) ≡ all → now ≡ all
-note-end code f xs now all h inv = sym (ap (λ z. noted_all now (broken code (flat_map f z))) h) ∙ inv
+use Rattle.algol_frames.proofs.Noting.{noted-broken}
+use Rattle.algol_known.specs.Naming.{Table, IsBare, entry_in, has_name, is_typed, or_else}
+use Rattle.algol_known.specs.Passing.{kept}
+use Rattle.algol_known.proofs.Declaring.{same}
 
 places-append : (test : Named → Bool) (xs ys : List Named) → places_if test (xs ++ ys) ≡ places_if test xs ++ places_if test ys
 places-append test xs ys = flat_map-append (λ (n : Named). if_so (test n) n.spot) xs ys

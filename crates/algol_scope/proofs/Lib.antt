@@ -1,8 +1,4 @@
-pub mod Tables
-pub mod Plain
 pub mod Walking
-pub mod Declaring
-pub mod Formals
 pub mod Visiting
 pub mod Bodies
 pub mod Opening
@@ -19,6 +15,5 @@ pub mod Found
 pub mod Processes
 pub mod Placed
 pub mod Founded
-pub mod Frames
 pub mod Located
 pub mod Scoped

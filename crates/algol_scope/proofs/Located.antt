@@ -17,15 +17,16 @@ use Rattle.algol_tree.specs.Cells.{Cell, Content, cells_at, cells_of, content_nu
 use Rattle.algol_tree.specs.Couples as couples
 use Rattle.algol_tree.specs.Couples.{Known, Located, couple_of_cells, known_there, level_if}
 use Rattle.algol_tree.specs.Names.{deep_blocks}
-use Rattle.algol_scope.specs.declared.findings.Cell as finding
-use Rattle.algol_scope.specs.declared.findings.Content.TheVariants as content
-use Rattle.algol_scope.specs.declared.resolver.Block as begun
-use Rattle.algol_scope.specs.declared.scopes.Couple.{Couple}
-use Rattle.algol_scope.specs.Framing.{cells_in, those_in}
+use Rattle.algol_sorts.specs.Sorts.{sort_of}
+use Rattle.algol_frames.specs.declared.found.Cell as finding
+use Rattle.algol_frames.specs.declared.found.Content.TheVariants as content
+use Rattle.algol_frames.specs.declared.found.Block as begun
+use Rattle.algol_frames.specs.declared.scopes.Couple.{Couple}
+use Rattle.algol_frames.specs.Framing.{cells_in, those_in}
 use Rattle.algol_scope.specs.Noting.{cell_of, content_of, use_of}
 use Rattle.algol_scope.specs.Stating.{AreNumbered, block_of}
-use Rattle.algol_scope.specs.Resolved.{couple, located}
-use Rattle.algol_scope.specs.Laying.{actual_from, couple_by, couple_from, declared_from, is_of, laid_in, laid_out, levels_of, rank, result_from, those_holding}
+use Rattle.algol_scope.specs.Resolved.{couple, located, meaning, meant}
+use Rattle.algol_frames.specs.Laying.{actual_from, couple_by, couple_from, declared_by, declared_from, is_of, laid_in, laid_out, levels_of, rank, result_from, those_holding}
 use Rattle.algol_scope.proofs.FirstFault.{those_told}
 use Rattle.algol_scope.proofs.Placed.{Each}
 use Rattle.algol_scope.proofs.Founded.{AreKnownAt, at-number, no-cells, not-deep, not-deep-at}
@@ -78,6 +79,19 @@ couple-told level index (c ∷ cs) spot = decide (same_spot c.spot spot) (couple
     decide true h = refl
     decide false h = h
 
+-- ---- what names mean
+
+pub meanings-told : (there : ℕ → Spot → Option Couple) (ks : List Known) (spot : Spot) →
+    meaning (declared_from there (map use_of ks) spot) ≡ meant (known_there ks spot)
+meanings-told there [] spot = refl
+meanings-told there (k ∷ ks) spot = decide (same_spot k.spot spot) (meanings-told there ks spot)
+  where
+    decide : (b : Bool) → meaning (declared_from there (map use_of ks) spot) ≡ meant (known_there ks spot) →
+        meaning (if b then Some (declared_by there (use_of k)) else declared_from there (map use_of ks) spot) ≡
+        meant (if b then Some k.declared else known_there ks spot)
+    decide true h = refl
+    decide false h = h
+
 -- ---- couples
 
 fits : (n : ℕ) → n ≤ 31 → min n 255 ≡ n
@@ -112,7 +126,7 @@ module _ (blocks : List Block) (ss : List Site) (table : BTreeMap ℕ (Vec findi
   -- ---- declarations
 
   one-declared : (d : Declared) → level_at d.depth ≤ 31 →
-      located (Some (record { spot = d.spot; level = min (level_at d.depth) 255; couple = there d.block d.spot })) ≡ couples.located blocks ss (Some d)
+      located (Some (record { spot = d.spot; block = d.block; level = min (level_at d.depth) 255; sort = sort_of d; couple = there d.block d.spot })) ≡ couples.located blocks ss (Some d)
   one-declared d h =
       let L : ℕ → Option cells.Couple → Option Located = λ z c. Some (record { spot = d.spot; level = z; couple = c }) in
       ap (λ z. L z (couple (there d.block d.spot))) (fits (level_at d.depth) h) ∙ ap (L (level_at d.depth)) (there-told d.block d.spot)
@@ -125,7 +139,14 @@ module _ (blocks : List Block) (ss : List Site) (table : BTreeMap ℕ (Vec findi
       decide : (b : Bool) → located (declared_from there (map use_of ks) spot) ≡ couples.located blocks ss (known_there ks spot) →
           located
           (if b
-          then Some (record { spot = k.declared.spot; level = min (level_at k.declared.depth) 255; couple = there k.declared.block k.declared.spot })
+          then Some
+          (record {
+            spot = k.declared.spot;
+            block = k.declared.block;
+            level = min (level_at k.declared.depth) 255;
+            sort = sort_of k.declared;
+            couple = there k.declared.block k.declared.spot;
+          })
           else declared_from there (map use_of ks) spot)
           ≡ couples.located blocks ss (if b then Some k.declared else known_there ks spot)
       decide true e = one-declared k.declared (not-deep-at blocks k.declared.block k.declared.depth deep h.0)

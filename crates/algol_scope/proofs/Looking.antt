@@ -13,12 +13,12 @@ use Rattle.algol_tree.specs.Plain.{PDecl, PDecls, PStmt}
 use Rattle.algol_tree.specs.Image.{decl, decls}
 use Rattle.algol_tree.specs.Sorts.{same_name}
 use Rattle.algol_tree.specs.Surroundings.{body_of, heading_or}
-use Rattle.algol_scope.specs.declared.around.Procedure.{Procedure}
+use Rattle.algol_known.specs.declared.around.Procedure.{Procedure}
 use Rattle.algol_scope.specs.declared.declaration.Ahead.{Ahead}
-use Rattle.algol_scope.specs.Naming.{under}
-use Rattle.algol_scope.specs.Seeing.{Extends}
+use Rattle.algol_known.specs.Naming.{under}
+use Rattle.algol_known.specs.Seeing.{Extends}
 use Rattle.algol_scope.specs.Declaring.{AreAhead, HasBodies, IsAhead, IsBody, IsOf}
-use Rattle.algol_scope.proofs.Declaring.{same}
+use Rattle.algol_known.proofs.Declaring.{same}
 use Rattle.algol_scope.proofs.Visiting.{extends-none, extends-then}
 use Rattle.algol_scope.proofs.Procedures.{ahead-extends, of-extends}
 

@@ -1,6 +1,6 @@
 -- Declarations, one step after the other.
 use Rattle.std.proofs.Common.{◌≡◌, ℕ, ◌+◌, ◌<◌, Bool, true, false, List, [], ◌∷◌, ◌++◌, map, length, Option, Some, None, refl, ap, sym, ◌∙◌, subst, append-nil}
-use Rattle.std.specs.Prelude.{min, is_some, ◌||◌, if◌then◌else◌}
+use Rattle.std.specs.Prelude.{is_some, ◌||◌, if◌then◌else◌}
 use Rattle.algol_tree.specs.declared.token.Spot.{Spot}
 use Rattle.algol_tree.specs.declared.refusal.Fault.{Fault}
 use Rattle.algol_tree.specs.Plain.{PDecl, PDecls, PPair}
@@ -9,22 +9,20 @@ use Rattle.algol_tree.specs.Blocks.{Block, block_numbered}
 use Rattle.algol_tree.specs.Surroundings.{Surroundings}
 use Rattle.algol_tree.specs.Sites.{Site, sites_in_pairs}
 use Rattle.algol_tree.specs.Cells as cells
-use Rattle.algol_tree.specs.Cells.{cells_at, level_at}
+use Rattle.algol_tree.specs.Cells.{cells_at}
 use Rattle.algol_tree.specs.Couples.{Known, known_at}
 use Rattle.algol_tree.specs.Names.{is_one_of, names_here, result_names_of}
-use Rattle.algol_scope.specs.declared.known.Entry.{Entry}
-use Rattle.algol_scope.specs.declared.known.Seen.{Seen}
-use Rattle.algol_scope.specs.declared.known.Seen.TheVariants as seens
-use Rattle.algol_scope.specs.declared.around.Around.{Around}
-use Rattle.algol_scope.specs.declared.around.Procedure.{Procedure}
+use Rattle.algol_known.specs.declared.known.Entry.{Entry}
+use Rattle.algol_known.specs.declared.known.Seen.TheVariants as seens
+use Rattle.algol_known.specs.declared.around.Procedure.{Procedure}
 use Rattle.algol_scope.specs.declared.findings.Findings.{Findings}
 use Rattle.algol_scope.specs.declared.resolver.Resolver.{Resolver}
-use Rattle.algol_scope.specs.Naming.{has_name, is_typed, seen_under}
-use Rattle.algol_scope.specs.Looking.{level_within}
-use Rattle.algol_scope.specs.Seeing.{Sees, Declares, Extends, IsEntry, IsFound, own}
+use Rattle.algol_known.specs.Naming.{has_name, is_typed, seen_under}
+use Rattle.algol_known.specs.Seeing.{Extends, IsFound, own}
 use Rattle.algol_scope.specs.Noting.{Adds, Knows, Walks, faults_at}
 use Rattle.algol_scope.specs.Stating.{AreBefore, Settles, Enters, no_blocks}
-use Rattle.algol_scope.specs.Declaring.{Makes, Widens, decl_site, no_cells, no_faults, no_uses, nothing_so}
+use Rattle.algol_scope.specs.Declaring.{Makes, decl_site, no_cells, no_faults, no_uses, nothing_so}
+use Rattle.algol_known.specs.Widening.{Widens}
 use Rattle.algol_scope.proofs.Walking.{adds-then, adds-as, adds-none}
 use Rattle.algol_scope.proofs.Visiting.{comes-then, extends-none, extends-then, keeps-same, numbered-left, numbered-right, settles-kept}
 
@@ -128,36 +126,6 @@ makes-widens old new made w o f same =
             typed = λ q. ap (λ z. is_typed z q) (w blocks).typed ∙ s.typed q;
           };
     }
-
-pub widens-then : (k l m : Around) (f g : Surroundings → Surroundings) → Widens k l f → Widens l m g → Widens k m (λ a. g (f a))
-widens-then k l m f g x y =
-    record {
-      outer = y.outer ∙ x.outer;
-      procedures = y.procedures ∙ x.procedures;
-      typed = y.typed ∙ x.typed;
-      before = λ a s. y.before a (x.before a s);
-      sees = λ a s. y.sees (f a) (x.sees a s);
-      holds = λ a s h. y.holds (f a) (x.sees a s) (x.holds a s h);
-    }
-
--- one more declaration
-pub widens-one : (k m : Around) (name : List ℕ) (entry : Entry) (d : Surroundings → Declared) → Declares k m name entry → m.outer ≡ k.outer →
-    m.procedures ≡ k.procedures → m.innermost.typed ≡ k.innermost.typed →
-    ((a : Surroundings) → Sees k seens.BeforeDeclarations a → Sees m seens.BeforeDeclarations a) → ((a : Surroundings) → (d a).name ≡ name) →
-    ((a : Surroundings) → (d a).block ≡ a.block) → ((a : Surroundings) → Sees k seens.All a → IsEntry k.procedures.items entry (d a)) →
-    Widens k m (λ a. record a { known = d a ∷ a.known })
-widens-one k m name entry d declares o p t before named in_block is =
-    record {
-      outer = o;
-      procedures = p;
-      typed = t;
-      before = before;
-      sees = λ a s. declares.sees a (d a) s (named a) (is a s);
-      holds = λ a s h. declares.holds a (d a) h (named a) (in_block a) (is a s);
-    }
-
-pub level-here : (k : Around) (seen : Seen) (a : Surroundings) → Sees k seen a → level_within k ≡ min (level_at a.depth) 255
-level-here k seen a s = ap (λ z. min (z + 2) 255) s.depth
 
 -- ---- which names the block has
 

@@ -14,18 +14,18 @@ use Rattle.algol_tree.specs.Blocks.{Block, number_at, block_numbered, blocks_in_
 use Rattle.algol_tree.specs.Surroundings.{Surroundings, knowing_all}
 use Rattle.algol_tree.specs.Sites.{Site, has_decls, sites_in_body, sites_in_decls, sites_in_stmts}
 use Rattle.algol_tree.specs.Names.{is_one_of, result_names_of}
-use Rattle.algol_scope.specs.declared.known.Seen.TheVariants as seens
-use Rattle.algol_scope.specs.declared.around.Around.{Around}
+use Rattle.algol_known.specs.declared.known.Seen.TheVariants as seens
+use Rattle.algol_known.specs.declared.around.Around.{Around}
 use Rattle.algol_scope.specs.declared.findings.Findings.{Findings}
-use Rattle.algol_scope.specs.declared.known.Names.{Names}
+use Rattle.algol_known.specs.declared.known.Names.{Names}
 use Rattle.algol_scope.specs.Noting.{Finds}
 use Rattle.algol_scope.proofs.Walking.{adds-none}
-use Rattle.algol_scope.specs.declared.around.Procedure.{Procedure}
-use Rattle.algol_scope.specs.declared.resolver.Block as begun_block
+use Rattle.algol_known.specs.declared.around.Procedure.{Procedure}
+use Rattle.algol_frames.specs.declared.found.Block as begun_block
 use Rattle.algol_scope.specs.declared.resolver.Resolver.{Resolver}
-use Rattle.algol_scope.specs.Naming.{is_typed}
-use Rattle.algol_scope.specs.Looking.{level_within}
-use Rattle.algol_scope.specs.Seeing.{Opens, Extends, begun}
+use Rattle.algol_known.specs.Naming.{is_typed}
+use Rattle.algol_known.specs.Looking.{level_within}
+use Rattle.algol_known.specs.Seeing.{Opens, Extends, begun}
 use Rattle.algol_scope.specs.Stating.{AreBefore, Stands, Settles, Comes, Visits, Enters, Fills, block_of, stmt_parts, stmt_blocks}
 use Rattle.algol_scope.proofs.Bodies.{body_is}
 use Rattle.algol_scope.proofs.Visiting.{before-more, comes-then, extends-then, numbered-left, numbered-right, visits-as}

@@ -21,20 +21,21 @@ use Rattle.algol_tree.specs.Sites.{Site, here_stmt, inside_stmt, sites_in_body, 
 use Rattle.algol_tree.specs.Cells as cells
 use Rattle.algol_tree.specs.Cells.{cells_at, cells_for, result_cells}
 use Rattle.algol_tree.specs.Couples.{known_at, known_in_heading, known_names}
-use Rattle.algol_scope.specs.declared.known.Class.{Class}
-use Rattle.algol_scope.specs.declared.known.Class.TheVariants as class
-use Rattle.algol_scope.specs.declared.around.Procedure.{Procedure}
+use Rattle.algol_sorts.specs.declared.sort.Sort as said
+use Rattle.algol_sorts.specs.declared.sort.Sort.TheVariants as so
+use Rattle.algol_known.specs.declared.around.Procedure.{Procedure}
 use Rattle.algol_scope.specs.declared.declaration.Ahead.{Ahead}
 use Rattle.algol_scope.specs.declared.resolver.Resolver.{Resolver}
-use Rattle.algol_scope.specs.Looking.{modes_in}
-use Rattle.algol_scope.specs.Seeing.{Extends, Keeps, mode_of}
+use Rattle.algol_known.specs.Looking.{modes_in, procedure_class}
+use Rattle.algol_known.specs.Seeing.{Extends, Keeps, mode_of}
 use Rattle.algol_scope.specs.Noting.{Finds, Walks, content_of, faults_at}
-use Rattle.algol_scope.specs.declared.findings.Content.{Content}
+use Rattle.algol_frames.specs.declared.found.Content.{Content}
 use Rattle.algol_scope.specs.declared.findings.Findings.{Findings}
-use Rattle.algol_scope.specs.declared.findings.Content.TheVariants as content
-use Rattle.algol_scope.specs.declared.known.Seen.TheVariants as seens
+use Rattle.algol_frames.specs.declared.found.Content.TheVariants as content
+use Rattle.algol_known.specs.declared.known.Seen.TheVariants as seens
 use Rattle.algol_scope.specs.Stating.{AreNumbered, Enters, Fills, Settles, Visits, block_of, no_blocks, stmt_blocks, stmt_parts}
-use Rattle.algol_scope.specs.Declaring.{AreAhead, IsAhead, IsOf, Makes, StandsFor, Starts, cell_of_procedure, cells_here, decl_parts, decl_site, declared_so, faults_of_decl, known_so, no_cells, no_faults, no_uses, nothing_so, procedure_so, twice_among}
+use Rattle.algol_scope.specs.Declaring.{AreAhead, IsAhead, IsOf, Makes, Starts, cell_of_procedure, cells_here, decl_parts, decl_site, declared_so, faults_of_decl, known_so, no_cells, no_faults, no_uses, nothing_so, procedure_so, twice_among}
+use Rattle.algol_known.specs.Widening.{StandsFor}
 use Rattle.algol_scope.proofs.Walking.{added, adds-as, adds-none, adds-then, again}
 use Rattle.algol_scope.proofs.Visiting.{class-extends, numbered-right, settles-kept}
 use Rattle.algol_scope.proofs.Bodies.{block_is, is_block}
@@ -44,7 +45,7 @@ use Rattle.algol_scope.proofs.Making.{enters-bounds, enters-made, enters-none, e
 -- ---- what stands ahead, with more procedures
 
 pub of-extends : (ps qs : List Procedure) (x : Ahead) (h : Heading) → Extends ps qs → IsOf ps x h → IsOf qs x h
-of-extends ps qs x h e i = record { class = class-extends ps qs (class.Procedure x.procedure) (classes.procedure h) e i.class; spot = i.spot }
+of-extends ps qs x h e i = record { class = class-extends ps qs (procedure_class x.procedure) (classes.procedure h) e i.class; spot = i.spot }
 
 is_ahead-extends : (ps qs : List Procedure) (d : PDecl) (later : PDecls) (x : Ahead) → Extends ps qs → IsAhead ps d later x → IsAhead qs d later x
 is_ahead-extends ps qs (tree.simple kind ns) later x e i = tt
@@ -138,59 +139,62 @@ through-end old now all rest left h l =
 abbrev pub Declares : Resolver → Resolver → PDecl → PDecls → Type 0
 Declares old new d later = Enters old new (decl_parts d later) (blocks_in_decl d) (λ blocks. knowing blocks d later)
 
-abbrev pub Cells : Resolver → Resolver → List Named → Class → Content → Type 0
-Cells old new ns class content =
-    (sort : Sort) (c : classes.Class) (held : cells.Content) → StandsFor class c → content_of held ≡ content →
+abbrev pub Cells : Resolver → Resolver → List Named → said.Sort → Content → Type 0
+Cells old new ns its content =
+    (sort : Sort) (c : classes.Class) (held : cells.Content) → StandsFor its sort c → content_of held ≡ content →
     Makes old new (twice_among ns) (cells_here held ns) (known_so (declared_so sort c ns) ns) (declared_so sort c ns)
 
-abbrev pub Bare : Resolver → Resolver → List Named → Class → Type 0
-Bare old new ns class =
-    (sort : Sort) (c : classes.Class) → StandsFor class c →
+abbrev pub Bare : Resolver → Resolver → List Named → said.Sort → Type 0
+Bare old new ns its =
+    (sort : Sort) (c : classes.Class) → StandsFor its sort c →
     Makes old new (twice_among ns) no_cells (known_so (declared_so sort c ns) ns) (declared_so sort c ns)
 
-pub declares-simple : (old new : Resolver) (kind : Kind) (ns : List Named) (later : PDecls) → Cells old new ns class.Simple content.Variable →
+pub declares-simple : (old new : Resolver) (kind : Kind) (ns : List Named) (later : PDecls) → Cells old new ns (so.Variable kind) content.Variable →
     Declares old new (tree.simple kind ns) later
 declares-simple old new kind ns later m =
     enters-made old new (tree.simple kind ns) later (twice_among ns) (cells_here cells.variable ns)
     (known_so (declared_so sort.variable (classes.simple kind) ns) ns) (declared_so sort.variable (classes.simple kind) ns)
     (λ blocks a. sym (append-nil (twice_among ns blocks a))) (λ blocks a. refl) (λ blocks a. refl)
-    (m sort.variable (classes.simple kind) cells.variable (λ ps. record { simple = refl; modes = refl; within = tt }) refl)
+    (m sort.variable (classes.simple kind) cells.variable ((λ ps. record { simple = refl; modes = refl; within = tt }), refl) refl)
 
-pub declares-files : (old new : Resolver) (ns : List Named) (later : PDecls) → Bare old new ns class.Other → Declares old new (tree.files ns) later
+pub declares-files : (old new : Resolver) (ns : List Named) (later : PDecls) → Bare old new ns so.File → Declares old new (tree.files ns) later
 declares-files old new ns later m =
     enters-made old new (tree.files ns) later (twice_among ns) no_cells (known_so (declared_so sort.file classes.file ns) ns)
     (declared_so sort.file classes.file ns) (λ blocks a. sym (append-nil (twice_among ns blocks a))) (λ blocks a. refl) (λ blocks a. refl)
-    (m sort.file classes.file (λ ps. record { simple = refl; modes = refl; within = tt }))
+    (m sort.file classes.file ((λ ps. record { simple = refl; modes = refl; within = tt }), refl))
 
-pub declares-labels : (old new : Resolver) (ns : List Named) (later : PDecls) → Bare old new ns class.Other → Declares old new (tree.labels ns) later
+pub declares-labels : (old new : Resolver) (ns : List Named) (later : PDecls) → Bare old new ns so.Label → Declares old new (tree.labels ns) later
 declares-labels old new ns later m =
     enters-made old new (tree.labels ns) later (twice_among ns) no_cells (known_so (declared_so sort.label classes.label ns) ns)
     (declared_so sort.label classes.label ns) (λ blocks a. sym (append-nil (twice_among ns blocks a))) (λ blocks a. refl) (λ blocks a. refl)
-    (m sort.label classes.label (λ ps. record { simple = refl; modes = refl; within = tt }))
+    (m sort.label classes.label ((λ ps. record { simple = refl; modes = refl; within = tt }), refl))
 
-pub declares-events : (old new : Resolver) (ns : List Named) (later : PDecls) → Cells old new ns class.Other content.Made →
+pub declares-events : (old new : Resolver) (ns : List Named) (later : PDecls) → Cells old new ns so.Event content.Made →
     Declares old new (tree.events ns) later
 declares-events old new ns later m =
     enters-made old new (tree.events ns) later (twice_among ns) (cells_here cells.made ns) (known_so (declared_so sort.event classes.event ns) ns)
     (declared_so sort.event classes.event ns) (λ blocks a. sym (append-nil (twice_among ns blocks a))) (λ blocks a. refl) (λ blocks a. refl)
-    (m sort.event classes.event cells.made (λ ps. record { simple = refl; modes = refl; within = tt }) refl)
+    (m sort.event classes.event cells.made ((λ ps. record { simple = refl; modes = refl; within = tt }), refl) refl)
 
-pub declares-tasks : (old new : Resolver) (ns : List Named) (later : PDecls) → Cells old new ns class.Other content.Made → Declares old new (tree.tasks ns) later
+pub declares-tasks : (old new : Resolver) (ns : List Named) (later : PDecls) → Cells old new ns so.Task content.Made → Declares old new (tree.tasks ns) later
 declares-tasks old new ns later m =
     enters-made old new (tree.tasks ns) later (twice_among ns) (cells_here cells.made ns) (known_so (declared_so sort.event classes.task ns) ns)
     (declared_so sort.event classes.task ns) (λ blocks a. sym (append-nil (twice_among ns blocks a))) (λ blocks a. refl) (λ blocks a. refl)
-    (m sort.event classes.task cells.made (λ ps. record { simple = refl; modes = refl; within = tt }) refl)
+    (m sort.event classes.task cells.made ((λ ps. record { simple = refl; modes = refl; within = tt }), refl) refl)
 
-pub declares-arrays : (old mid new : Resolver) (kind : Kind) (ns : List Named) (ps : List PPair) (later : PDecls) → Cells old mid ns class.Other content.Made →
+pub declares-arrays : (old mid new : Resolver) (kind : Kind) (ns : List Named) (ps : List PPair) (count : ℕ) (later : PDecls) → count ≡ length ps →
+    Cells old mid ns (so.Array kind count) content.Made →
     Walks mid.around seens.BeforeDeclarations mid.findings new.findings (sites_in_pairs ps) → new.around ≡ mid.around → new.blocks ≡ mid.blocks →
     Declares old new (tree.arrays kind ns ps) later
-declares-arrays old mid new kind ns ps later m w around same =
+declares-arrays old mid new kind ns ps count later counted m w around same =
     let c : classes.Class = classes.array kind (length ps) in
+    let P : ℕ → Type 0 = λ z. Cells old mid ns (so.Array kind z) content.Made in
+    let its : P (length ps) = subst P counted m in
     enters-then old mid new (λ blocks a first. decl_site (tree.arrays kind ns ps) later a ∷ [])
     (λ blocks a first. sites_in_pairs ps (record a { known = first })) no_blocks no_blocks (declared_so sort.array c ns) nothing_so
     (enters-made old mid (tree.arrays kind ns ps) later (twice_among ns) (cells_here cells.made ns) (known_so (declared_so sort.array c ns) ns)
     (declared_so sort.array c ns) (λ blocks a. sym (append-nil (twice_among ns blocks a))) (λ blocks a. refl) (λ blocks a. refl)
-    (m sort.array c cells.made (λ qs. record { simple = refl; modes = refl; within = tt }) refl))
+    (its sort.array c cells.made ((λ qs. record { simple = refl; modes = refl; within = tt }), refl) refl))
     (enters-bounds mid new ps w around same)
 
 pub declares-forward : (old mid new : Resolver) (h : Heading) (later : PDecls) →
@@ -216,9 +220,9 @@ same_length : (old one : Resolver) → one.blocks ≡ old.blocks → length one.
 same_length old one h = let e : one.blocks.items ≡ old.blocks.items = cc in ap (λ z. length z) e
 
 pub modes_known : (old one : Resolver) (h : Heading) (x : Ahead) → one.around.procedures ≡ old.around.procedures → IsOf old.around.procedures.items x h →
-    modes_in one.around.procedures.items (class.Procedure x.procedure) ≡ map mode_of (formals_of h)
+    modes_in one.around.procedures.items (procedure_class x.procedure) ≡ map mode_of (formals_of h)
 modes_known old one h x e of =
-    (let same : one.around.procedures.items ≡ old.around.procedures.items = cc in ap (λ z. modes_in z (class.Procedure x.procedure)) same)
+    (let same : one.around.procedures.items ≡ old.around.procedures.items = cc in ap (λ z. modes_in z (procedure_class x.procedure)) same)
     ∙ of.class.modes
 
 module _ (old one two ful new : Resolver) (h : Heading) (s : PStmt) (later : PDecls)

@@ -1,11 +1,10 @@
 -- The scopes that are laid out are those of the program.
-use Rattle.std.proofs.Common.{◌≡◌, ℕ, ◌+◌, ◌<◌, ◌≤◌, Bool, List, [], ◌∷◌, ◌++◌, map, length, Option, Some, None, refl, ap, ◌∙◌, subst, arith, slice_get}
-use Rattle.std.specs.Prelude.{◌&&◌, if◌then◌else◌, Result, Ok, Err, IfOk}
-use Rattle.std.specs.Option.{option_or}
+use Rattle.std.proofs.Common.{◌≡◌, ℕ, ◌+◌, ◌<◌, ◌≤◌, List, [], ◌∷◌, ◌++◌, map, length, Option, Some, None, refl, ap, ◌∙◌, subst, arith, slice_get}
+use Rattle.std.specs.Prelude.{Result, Ok, Err, IfOk}
 use Rattle.std.specs.List.{flat_map}
 use Rattle.std.specs.declared.alloc.Global.{Global}
 use Rattle.std.specs.declared.vec.Vec.{Vec}
-use Rattle.std.specs.BTreeMap.{BTreeMap, get}
+use Rattle.std.specs.BTreeMap.{BTreeMap}
 use Rattle.std.proofs.lemmas.List.{length-map}
 use Rattle.algol_tree.specs.declared.TheConstants.{MOST_BLOCK_CELLS}
 use Rattle.algol_tree.specs.declared.token.Spot.{Spot}
@@ -13,77 +12,40 @@ use Rattle.algol_tree.specs.declared.refusal.Code.{Code}
 use Rattle.algol_tree.specs.declared.refusal.Code.TheVariants as codes
 use Rattle.algol_tree.specs.declared.refusal.Fault.{Fault}
 use Rattle.algol_tree.specs.declared.refusal.Refusal.{Refusal}
-use Rattle.algol_tree.specs.contracts.token.SpotOrd.TheImpl.{ghosts}
 use Rattle.algol_tree.specs.Plain.{PProgram}
 use Rattle.algol_tree.specs.Blocks as rules
-use Rattle.algol_tree.specs.Blocks.{blocks_of_program, same_spot}
+use Rattle.algol_tree.specs.Blocks.{blocks_of_program}
 use Rattle.algol_tree.specs.Cells.{cells_at, cells_of}
 use Rattle.algol_tree.specs.Couples.{declaration_at, result_at, actual_at, level_of_block, known_at}
 use Rattle.algol_tree.specs.Names.{cells_beyond, deep_actuals, deep_blocks, declared_twice, long_segments, procedures_beyond, unknown_names}
 use Rattle.algol_tree.specs.Ascending.{IsInOrder}
 use Rattle.algol_tree.specs.Accepted.{broken, scope_faults, sites_of}
-use Rattle.algol_scope.specs.declared.findings.Cell.{Cell}
-use Rattle.algol_scope.specs.declared.findings.Content.TheVariants as content
-use Rattle.algol_scope.specs.declared.findings.Use.{Use}
-use Rattle.algol_scope.specs.declared.resolver.Block.{Block}
+use Rattle.algol_frames.specs.declared.found.Cell.{Cell}
+use Rattle.algol_frames.specs.declared.found.Use.{Use}
+use Rattle.algol_frames.specs.declared.found.Block.{Block}
 use Rattle.algol_scope.specs.declared.resolver.Resolver.{Resolver}
-use Rattle.algol_scope.specs.declared.scopes.Couple.{Couple}
-use Rattle.algol_scope.specs.declared.scopes.Scopes.{Scopes}
-use Rattle.algol_scope.specs.Framing.{cells_in, those_in}
+use Rattle.algol_frames.specs.declared.scopes.Scopes.{Scopes}
+use Rattle.algol_frames.specs.Framing.{cells_in, those_in}
 use Rattle.algol_scope.specs.Finding.{Holds}
 use Rattle.algol_scope.specs.Noting.{cell_of, use_of}
 use Rattle.algol_scope.specs.Stating.{block_of}
-use Rattle.algol_scope.specs.Resolved.{AreOf, couple, located}
-use Rattle.algol_scope.specs.Laying.{AreLaid, actual_from, declared_from, framed_in, is_of, laid_in, levels_of, result_from}
+use Rattle.algol_scope.specs.Resolved.{AreOf, couple, located, meaning, meaning_at}
+use Rattle.algol_frames.specs.Laying.{AreLaid, laid_in}
 use Rattle.algol_scope.proofs.FirstFault.{those_told}
 use Rattle.algol_scope.proofs.Numbering.{in-order}
 use Rattle.algol_scope.proofs.Placed.{placed}
 use Rattle.algol_scope.proofs.Founded.{few-cells, known-at, no-longer, none-left, none-right}
-use Rattle.algol_scope.proofs.Located.{actuals-told, declared-told, levels-told, results-told}
+use Rattle.algol_scope.proofs.Located.{actuals-told, declared-told, levels-told, meanings-told, results-told}
 
--- ---- what is found in frames is what they were laid out from
+-- ---- the same in other words
 
-module _ (f g : ℕ → Spot → Option Couple) (same : (q : ℕ) (spot : Spot) → f q spot ≡ g q spot) where
-  declared-alike : (us : List Use) (spot : Spot) → declared_from f us spot ≡ declared_from g us spot
-  declared-alike [] spot = refl
-  declared-alike (u ∷ us) spot =
-      ap (λ z. if same_spot u.spot spot then Some (record { spot = u.declared; level = u.level; couple = z }) else declared_from f us spot)
-      (same u.block u.declared)
-      ∙ ap (λ z. if same_spot u.spot spot then Some (record { spot = u.declared; level = u.level; couple = g u.block u.declared }) else z)
-      (declared-alike us spot)
-
-  actual-alike : (cs : List Cell) (spot : Spot) → actual_from f cs spot ≡ actual_from g cs spot
-  actual-alike [] spot = refl
-  actual-alike (c ∷ cs) spot =
-      let is : Bool = is_of content.Actual c && same_spot c.spot spot in
-      ap (λ z. option_or (if is then z else None) (actual_from f cs spot)) (same c.block c.spot)
-      ∙ ap (λ z. option_or (if is then g c.block c.spot else None) z) (actual-alike cs spot)
-
-  result-alike : (n : ℕ) (bs : List Block) (spot : Spot) → result_from f n bs spot ≡ result_from g n bs spot
-  result-alike n [] spot = refl
-  result-alike n (b ∷ bs) spot =
-      ap (λ z. option_or (if same_spot b.spot spot then z else None) (result_from f (n + 1) bs spot)) (same n b.spot)
-      ∙ ap (λ z. option_or (if same_spot b.spot spot then g n b.spot else None) z) (result-alike (n + 1) bs spot)
-
-pub laid : (blocks items : List Block) → blocks ≡ items → (table : BTreeMap ℕ (Vec Cell Global)) (cs cells : List Cell) → cs ≡ cells →
-    (us uses : List Use) → us ≡ uses → (frames held : List (BTreeMap Spot Couple)) → frames ≡ held →
-    ((q : ℕ) (spot : Spot) → framed_in held q spot ≡ laid_in blocks table q spot) → (s : Scopes) →
-    ((q : Spot) → get ghosts.cmp s.declared q ≡ declared_from (framed_in frames) us q) →
-    ((q : Spot) → get ghosts.cmp s.results q ≡ result_from (framed_in frames) 0 blocks q) →
-    ((q : Spot) → get ghosts.cmp s.actuals q ≡ actual_from (framed_in frames) cs q) → s.levels.items ≡ levels_of blocks → AreLaid items table cells uses s
-laid blocks items b table cs cells c us uses u frames held f framed s declared results actuals levels =
-    let there : (q : ℕ) (spot : Spot) → framed_in frames q spot ≡ laid_in blocks table q spot = λ q spot. ap (λ z. framed_in z q spot) f ∙ framed q spot in
+pub laid-as : (blocks items : List Block) → blocks ≡ items → (table : BTreeMap ℕ (Vec Cell Global)) (cs cells : List Cell) → cs ≡ cells →
+    (us uses : List Use) → us ≡ uses → (s : Scopes) → AreLaid blocks table cs us s → AreLaid items table cells uses s
+laid-as blocks items b table cs cells c us uses u s l =
     let P : List Block → Type 0 = λ z. AreLaid z table cells uses s in
     let Q : List Cell → Type 0 = λ z. AreLaid blocks table z uses s in
     let R : List Use → Type 0 = λ z. AreLaid blocks table cs z s in
-    let all : AreLaid blocks table cs us s =
-    record {
-      declarations = λ spot. declared spot ∙ declared-alike (framed_in frames) (laid_in blocks table) there us spot;
-      results = λ spot. results spot ∙ result-alike (framed_in frames) (laid_in blocks table) there 0 blocks spot;
-      actuals = λ spot. actuals spot ∙ actual-alike (framed_in frames) (laid_in blocks table) there cs spot;
-      levels = levels;
-    } in
-    subst P b (subst Q c (subst R u all))
+    subst P b (subst Q c (subst R u l))
 
 -- ---- no limit is passed
 
@@ -127,7 +89,7 @@ module _ (p : PProgram) (order : IsInOrder p) (faultless : scope_faults p ≡ []
   are-of : (s : Scopes) →
       AreLaid (map block_of blocks) table (map cell_of (flat_map (cells_at blocks) (sites_of p))) (map use_of (flat_map (known_at blocks) (sites_of p))) s →
       AreOf p s
-  unfolding declaration_at result_at actual_at level_of_block
+  unfolding declaration_at meaning_at result_at actual_at level_of_block
   are-of s l =
       let deep = (within p faultless).0 in
       let each = placed p order in
@@ -138,6 +100,10 @@ module _ (p : PProgram) (order : IsInOrder p) (faultless : scope_faults p ≡ []
             λ spot.
             ap located (l.declarations spot)
             ∙ declared-told blocks (sites_of p) table told deep each numbered (flat_map (known_at blocks) (sites_of p)) spot (known-at blocks (sites_of p) each);
+        meanings =
+            λ spot.
+            ap meaning (l.declarations spot)
+            ∙ meanings-told (laid_in (map block_of blocks) table) (flat_map (known_at blocks) (sites_of p)) spot;
         results = λ spot. ap couple (l.results spot) ∙ results-told blocks (sites_of p) table told deep each numbered spot;
         actuals = λ spot. ap couple (l.actuals spot) ∙ actuals-told blocks (sites_of p) table told deep each numbered spot;
         levels = λ q. ap (λ z. slice_get z q) l.levels ∙ levels-told blocks (sites_of p) table told deep each numbered q;

@@ -29,7 +29,7 @@ use Rattle.algol_tree.specs.Accepted.{broken}
 use Rattle.algol_scope.specs.declared.resolver.Resolver.{Resolver}
 use Rattle.algol_scope.specs.Noting.{at_name, faults_at, process_parts}
 use Rattle.algol_scope.specs.Stating.{Visits, no_blocks, stmt_parts, stmt_blocks}
-use Rattle.algol_scope.proofs.Plain.{call_is, variable_is}
+use Rattle.algol_known.proofs.Plain.{call_is, variable_is}
 use Rattle.algol_scope.proofs.Visiting.{visits-then, visits-as, visits-none}
 
 -- ---- statements with no statement in them

@@ -10,18 +10,19 @@ use Rattle.algol_tree.specs.Surroundings.{Surroundings}
 use Rattle.algol_tree.specs.Sites.{Site}
 use Rattle.algol_tree.specs.Cells.{cells_at}
 use Rattle.algol_tree.specs.Couples.{known_at}
-use Rattle.algol_scope.specs.declared.known.Class.{Class}
-use Rattle.algol_scope.specs.declared.known.Class.TheVariants as class
-use Rattle.algol_scope.specs.declared.known.Entry.{Entry}
-use Rattle.algol_scope.specs.declared.known.Names.{Names}
-use Rattle.algol_scope.specs.declared.known.Seen.{Seen}
-use Rattle.algol_scope.specs.declared.known.Seen.TheVariants as seens
-use Rattle.algol_scope.specs.declared.around.Around.{Around}
-use Rattle.algol_scope.specs.declared.around.Procedure.{Procedure}
+use Rattle.algol_sorts.specs.declared.sort.Sort.{Sort}
+use Rattle.algol_sorts.specs.declared.sort.Sort.TheVariants as sort
+use Rattle.algol_known.specs.declared.known.Class.{Class}
+use Rattle.algol_known.specs.declared.known.Entry.{Entry}
+use Rattle.algol_known.specs.declared.known.Names.{Names}
+use Rattle.algol_known.specs.declared.known.Seen.{Seen}
+use Rattle.algol_known.specs.declared.known.Seen.TheVariants as seens
+use Rattle.algol_known.specs.declared.around.Around.{Around}
+use Rattle.algol_known.specs.declared.around.Procedure.{Procedure}
 use Rattle.algol_scope.specs.declared.resolver.Resolver.{Resolver}
-use Rattle.algol_scope.specs.Naming.{seen_under, is_typed}
-use Rattle.algol_scope.specs.Looking.{looked_up, open_blocks, modes_of}
-use Rattle.algol_scope.specs.Seeing.{Sees, Holds, Keeps, Extends, IsClass, IsEntry, IsFound, own}
+use Rattle.algol_known.specs.Naming.{seen_under, is_typed}
+use Rattle.algol_known.specs.Looking.{looked_up, open_blocks, modes_in, modes_of}
+use Rattle.algol_known.specs.Seeing.{Sees, Holds, Keeps, Extends, IsClass, IsEntry, IsFound, IsNumber, own}
 use Rattle.algol_scope.specs.Noting.{Walks, faults_at}
 use Rattle.algol_scope.specs.Stating.{AreBefore, AreNumbered, Stands, Settles, Comes, Visits, block_of, no_blocks}
 use Rattle.algol_scope.proofs.Walking.{added, finds-then, again, adds-none}
@@ -45,13 +46,23 @@ extends-then ps qs rs x y =
     }
 
 pub class-extends : (ps qs : List Procedure) (c : Class) (d : classes.Class) → Extends ps qs → IsClass ps c d → IsClass qs c d
-class-extends ps qs class.Simple d x i = record { simple = i.simple; modes = i.modes; within = tt }
-class-extends ps qs class.Other d x i = record { simple = i.simple; modes = i.modes; within = tt }
-class-extends ps qs (class.Procedure n) d x i =
-    record { simple = i.simple; modes = ap modes_of (x.same n i.within) ∙ i.modes; within = less-le n (length ps) (length qs) i.within x.longer }
+class-extends ps qs c d x i =
+    record {
+      simple = i.simple;
+      modes = same-modes c.sort c.procedure i.within ∙ i.modes;
+      within = still c.sort c.procedure i.within;
+    }
+  where
+    same-modes : (s : Sort) (n : ℕ) → IsNumber ps s n → modes_in qs (record { sort = s; procedure = n }) ≡ modes_in ps (record { sort = s; procedure = n })
+    same-modes sort.Procedure n w = ap modes_of (x.same n w)
+    same-modes _ n w = refl
+
+    still : (s : Sort) (n : ℕ) → IsNumber ps s n → IsNumber qs s n
+    still sort.Procedure n w = less-le n (length ps) (length qs) w x.longer
+    still _ n w = tt
 
 pub entry-extends : (ps qs : List Procedure) (e : Entry) (d : Declared) → Extends ps qs → IsEntry ps e d → IsEntry qs e d
-entry-extends ps qs e d x i = record { spot = i.spot; block = i.block; level = i.level; class = class-extends ps qs e.class d.class x i.class }
+entry-extends ps qs e d x i = record { spot = i.spot; block = i.block; level = i.level; class = class-extends ps qs e.class d.class x i.class; sort = i.sort }
 
 found-extends : (ps qs : List Procedure) (e : Option Entry) (d : Option Declared) → Extends ps qs → IsFound ps e d → IsFound qs e d
 found-extends ps qs None None x i = tt

@@ -27,12 +27,12 @@ use Rattle.algol_tree.specs.Cells.{cells_at}
 use Rattle.algol_tree.specs.Couples.{Known, known_at}
 use Rattle.algol_tree.specs.Accepted.{noted_all}
 use Rattle.algol_rules.proofs.Order.{noted_all-append}
-use Rattle.algol_scope.specs.declared.known.Seen.{Seen}
-use Rattle.algol_scope.specs.declared.known.Seen.TheVariants as seens
-use Rattle.algol_scope.specs.declared.formal.Mode.{Mode}
-use Rattle.algol_scope.specs.declared.around.Around.{Around}
+use Rattle.algol_known.specs.declared.known.Seen.{Seen}
+use Rattle.algol_known.specs.declared.known.Seen.TheVariants as seens
+use Rattle.algol_sorts.specs.declared.sort.Sort.{Sort}
+use Rattle.algol_known.specs.declared.around.Around.{Around}
 use Rattle.algol_scope.specs.declared.findings.Findings.{Findings}
-use Rattle.algol_scope.specs.Seeing.{Sees, mode_of, mode_given}
+use Rattle.algol_known.specs.Seeing.{Sees, mode_of, mode_given}
 use Rattle.algol_scope.specs.Noting.{Adds, Finds, Walks, Passes, at_name, faults_at, cell_of, task_parts, use_of}
 
 -- ---- parts one after another
@@ -170,7 +170,7 @@ others-drop zero (f ∷ fs) = refl
 others-drop (suc i) [] = refl
 others-drop (suc i) (f ∷ fs) = others-drop i fs
 
-mode-at : (fs : List Formal) (modes : List Mode) (i : ℕ) → modes ≡ map mode_of fs → slice_get modes i ≡ mode_given (first (drop i fs))
+mode-at : (fs : List Formal) (modes : List Sort) (i : ℕ) → modes ≡ map mode_of fs → slice_get modes i ≡ mode_given (first (drop i fs))
 mode-at fs modes i h = ap (λ z. slice_get z i) h ∙ given fs i
   where
     given : (fs : List Formal) (i : ℕ) → slice_get (map mode_of fs) i ≡ mode_given (first (drop i fs))
@@ -222,17 +222,17 @@ actual-cells blocks (tree.variable (tree.subscripted n tree.none)) es (f ∷ fs)
 actual-cells blocks _ es [] a = refl
 actual-cells blocks _ es (f ∷ fs) a = refl
 
-pub copied-get : (xs : List Mode) (i : ℕ) (r : Option (Bor Mode)) → MatchOption r (length xs ≤ i) (λ x. i < length xs) →
+pub copied-get : (xs : List Sort) (i : ℕ) (r : Option (Bor Sort)) → MatchOption r (length xs ≤ i) (λ x. i < length xs) →
     IfSome r (λ x. x.now ≡ get_or xs i x.now) → option_copied r ≡ slice_get xs i
 copied-get xs i None m f = sym (slice_get_past xs i m)
 copied-get xs i (Some x) m f = ap (λ z. Some z) f ∙ sym (slice_get-get_or xs i x.now m)
 
-pub get-within : (xs : List Mode) (i : ℕ) (r : Option (Bor Mode)) (P : Bor Mode → Type 0) →
+pub get-within : (xs : List Sort) (i : ℕ) (r : Option (Bor Sort)) (P : Bor Sort → Type 0) →
     MatchOption r (length xs ≤ i) (λ x. (i < length xs) × P x) → MatchOption r (length xs ≤ i) (λ x. i < length xs)
 get-within xs i None P m = m
 get-within xs i (Some x) P m = m.0
 
-pub record Passing (k : Around) (seen : Seen) (old now : Findings) (modes : List Mode) (es : PExprs) (i : ℕ) (rest : PExprs) : Type 0 where
+pub record Passing (k : Around) (seen : Seen) (old now : Findings) (modes : List Sort) (es : PExprs) (i : ℕ) (rest : PExprs) : Type 0 where
   pub leads : (blocks : List Block) (a : Surroundings) (fs : List Formal) → Sees k seen a → modes ≡ map mode_of fs →
       Leads blocks old (inside_actuals es fs a) now (inside_actuals rest (drop i fs) a)
 
@@ -251,7 +251,7 @@ leads-split blocks old now all e es fs a l =
     (again blocks now new (one_by_one e es fs a) (inside_actuals (tree.more e es) fs a) (sym (actual-faults blocks e es fs a)) (sym (actual-cells blocks e es fs a))
     (sym (actual-known blocks e es fs a)) f)
 
-pub passing-item : (k : Around) (seen : Seen) (old now mid new : Findings) (modes : List Mode) (all : PExprs) (es : List Expr) (i : ℕ) (e : Expr) (mode : Option Mode) →
+pub passing-item : (k : Around) (seen : Seen) (old now mid new : Findings) (modes : List Sort) (all : PExprs) (es : List Expr) (i : ℕ) (e : Expr) (mode : Option Sort) →
     i < length es → e ≡ get_or es i e → mode ≡ slice_get modes i → Passing k seen old now modes all i (exprs (drop i es)) →
     ((blocks : List Block) (a : Surroundings) (f : Option Formal) → Sees k seen a → mode ≡ mode_given f →
     Finds blocks now (record { part = site.actual (expr e) f; around = a } ∷ []) mid) →
@@ -278,7 +278,7 @@ passing-item k seen old now mid new modes all es i e mode h same m l f w =
           subst Q (others-drop i fs) walked;
     })
 
-pub passing-end : (k : Around) (seen : Seen) (old now : Findings) (modes : List Mode) (all : PExprs) (i : ℕ) (es : List Expr) → es ≡ [] →
+pub passing-end : (k : Around) (seen : Seen) (old now : Findings) (modes : List Sort) (all : PExprs) (i : ℕ) (es : List Expr) → es ≡ [] →
     Passing k seen old now modes all i (exprs es) → Passes k seen old now modes all
 passing-end k seen old now modes all i es h l =
     record {
@@ -329,7 +329,7 @@ walks-if k seen old one two new x y z spot u v w =
           blocks a s);
     }
 
-pub walks-call : (k : Around) (seen : Seen) (old mid new : Findings) (n : Named) (modes : List Mode) (es : PExprs) →
+pub walks-call : (k : Around) (seen : Seen) (old mid new : Findings) (n : Named) (modes : List Sort) (es : PExprs) →
     Walks k seen old mid (λ a. at_name n a ∷ []) → ((a : Surroundings) → Sees k seen a → modes ≡ map mode_of (formals_at a n)) →
     Passes k seen mid new modes es → Walks k seen old new (λ a. at_name n a ∷ inside_actuals es (formals_at a n) a)
 walks-call k seen old mid new n modes es v m w =

@@ -10,7 +10,7 @@ use Rattle.algol_tree.specs.declared.refusal.Fault.{Fault}
 use Rattle.algol_tree.specs.Plain as tree
 use Rattle.algol_tree.specs.Plain.{PStmt, PDecl, PDecls}
 use Rattle.algol_tree.specs.Classes as classes
-use Rattle.algol_tree.specs.Sorts.{Declared, Sort, declare, declared_parameters}
+use Rattle.algol_tree.specs.Sorts.{Declared, Sort}
 use Rattle.algol_tree.specs.Blocks as rules
 use Rattle.algol_tree.specs.Blocks.{number_at, block_numbered, procedure_block}
 use Rattle.algol_tree.specs.Surroundings.{Surroundings, announced, body_of, declare_procedure, knowing, inside_procedure}
@@ -21,16 +21,13 @@ use Rattle.algol_tree.specs.Cells.{cells_for, result_cells}
 use Rattle.algol_tree.specs.Couples.{Known, known_names, known_in_heading}
 use Rattle.algol_tree.specs.Names.{twice_here}
 use Rattle.algol_tree.specs.Accepted.{broken}
-use Rattle.algol_scope.specs.declared.known.Class.{Class}
-use Rattle.algol_scope.specs.declared.known.Class.TheVariants as class
-use Rattle.algol_scope.specs.declared.known.Seen.{Seen}
-use Rattle.algol_scope.specs.declared.known.Seen.TheVariants as seens
-use Rattle.algol_scope.specs.declared.around.Around.{Around}
-use Rattle.algol_scope.specs.declared.around.Procedure.{Procedure}
+use Rattle.algol_known.specs.declared.around.Procedure.{Procedure}
 use Rattle.algol_scope.specs.declared.declaration.Ahead.{Ahead}
 use Rattle.algol_scope.specs.declared.resolver.Resolver.{Resolver}
-use Rattle.algol_scope.specs.Seeing.{IsClass, Sees, Holds}
-use Rattle.algol_scope.specs.Naming.{IsBare, under}
+use Rattle.algol_known.specs.Looking.{procedure_class}
+use Rattle.algol_known.specs.Seeing.{IsClass}
+use Rattle.algol_known.specs.Widening.{declaring}
+use Rattle.algol_known.specs.Naming.{under}
 use Rattle.algol_scope.specs.Noting.{Adds, faults_at}
 use Rattle.algol_scope.specs.Stating.{Settles, block_of}
 
@@ -38,7 +35,7 @@ use Rattle.algol_scope.specs.Stating.{Settles, block_of}
 
 -- the procedure is that of this heading with its body
 pub record IsOf (ps : List Procedure) (x : Ahead) (h : Heading) : Type 0 where
-  pub class : IsClass ps (class.Procedure x.procedure) (classes.procedure h)
+  pub class : IsClass ps (procedure_class x.procedure) (classes.procedure h)
   pub spot : x.spot ≡ h.name.spot
 
 -- what is found ahead of a declaration is that of the procedure which it declares
@@ -53,10 +50,6 @@ AreAhead ps (tree.decls d ds) (x ∷ xs) = IsAhead ps d ds x × AreAhead ps ds x
 AreAhead ps _ _ = ⊥
 
 -- ---- names
-
--- the place after a declaration of these names
-abbrev pub declaring : Sort → classes.Class → List Named → Surroundings → Surroundings
-declaring sort c ns a = record a { known = declare a.block a.depth sort c ns ++ a.known }
 
 -- The innermost block declares more, of which this is found, and after which the surroundings are these.
 pub record Makes (old new : Resolver) (faults : List rules.Block → Surroundings → List Fault) (cs : List rules.Block → Surroundings → List cells.Cell)
@@ -92,37 +85,12 @@ declared_so sort c ns blocks a = declaring sort c ns a
 abbrev pub procedure_so : Heading → List rules.Block → Surroundings → Surroundings
 procedure_so h blocks a = record a { known = declare_procedure blocks h a ++ a.known }
 
-abbrev pub parameters_so : Heading → Surroundings → Surroundings
-parameters_so h a = record a { known = declared_parameters a.block a.depth h ++ a.known }
-
 abbrev pub nothing_so : List rules.Block → Surroundings → Surroundings
 nothing_so blocks a = a
 
 -- the names as they are known after declarations
 abbrev pub known_so : (List rules.Block → Surroundings → Surroundings) → List Named → List rules.Block → Surroundings → List Known
 known_so after ns blocks a = known_names (after blocks a) ns
-
--- what the class of a name that is no procedure stands for
-abbrev pub StandsFor : Class → classes.Class → Type 0
-StandsFor class c = (ps : List Procedure) → IsClass ps class c
-
--- The innermost block declares more names, after which the surroundings are these.
-pub record Widens (old new : Around) (after : Surroundings → Surroundings) : Type 0 where
-  pub outer : new.outer ≡ old.outer
-  pub procedures : new.procedures ≡ old.procedures
-  pub typed : new.innermost.typed ≡ old.innermost.typed
-  pub before : (a : Surroundings) → Sees old seens.BeforeDeclarations a → Sees new seens.BeforeDeclarations a
-  pub sees : (a : Surroundings) → Sees old seens.All a → Sees new seens.All (after a)
-  pub holds : (a : Surroundings) → Sees old seens.All a → Holds old a → Holds new (after a)
-
--- The innermost block, which declares nothing yet, has parameters, after which the surroundings are these.
-pub record Admits (old new : Around) (after : Surroundings → Surroundings) : Type 0 where
-  pub outer : new.outer ≡ old.outer
-  pub procedures : new.procedures ≡ old.procedures
-  pub typed : new.innermost.typed ≡ old.innermost.typed
-  pub declared : new.innermost.declared ≡ old.innermost.declared
-  pub sees : (sees : Seen) (a : Surroundings) → IsBare old.innermost.declared → Sees old seens.All a → Sees old sees a → Sees new sees (after a)
-  pub holds : (a : Surroundings) → IsBare old.innermost.declared → Sees old seens.All a → Holds old a → Holds new (after a)
 
 -- ---- bodies that stand ahead
 

@@ -14,13 +14,13 @@ use Rattle.algol_tree.specs.Couples.{known_at}
 use Rattle.algol_tree.specs.Names.{place_beyond, program_segment}
 use Rattle.algol_tree.specs.Accepted.{broken, noted_all, sites_of}
 use Rattle.algol_tree.specs.Surroundings.{outermost}
-use Rattle.algol_scope.specs.declared.known.Seen.{Seen}
-use Rattle.algol_scope.specs.Seeing as names
-use Rattle.algol_scope.specs.Seeing.{Sees}
-use Rattle.algol_scope.specs.declared.findings.Cell.{Cell}
-use Rattle.algol_scope.specs.declared.resolver.Block.{Block}
+use Rattle.algol_known.specs.declared.known.Seen.{Seen}
+use Rattle.algol_known.specs.Seeing as names
+use Rattle.algol_known.specs.Seeing.{Sees}
+use Rattle.algol_frames.specs.declared.found.Cell.{Cell}
+use Rattle.algol_frames.specs.declared.found.Block.{Block}
 use Rattle.algol_scope.specs.declared.resolver.Resolver.{Resolver}
-use Rattle.algol_scope.specs.Framing.{beyond_from, deep_place, procedure_place}
+use Rattle.algol_frames.specs.Framing.{beyond_from, deep_place, procedure_place}
 use Rattle.algol_scope.specs.Noting.{cell_of, faults_at, long_segment, use_of}
 use Rattle.algol_scope.specs.Stating.{block_of}
 

@@ -1,11 +1,5 @@
-pub mod Naming
 pub mod Resolved
-pub mod Looking
-pub mod Passing
-pub mod Seeing
 pub mod Noting
 pub mod Stating
 pub mod Declaring
-pub mod Framing
 pub mod Finding
-pub mod Laying

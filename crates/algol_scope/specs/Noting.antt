@@ -17,16 +17,17 @@ use Rattle.algol_tree.specs.Cells.{cells_at, level_at}
 use Rattle.algol_tree.specs.Couples.{Known, known_at}
 use Rattle.algol_tree.specs.Names.{Segment, if_so, unknown_names, declared_twice, deep_actuals, segments_of_part}
 use Rattle.algol_tree.specs.Accepted.{broken, noted_all}
-use Rattle.algol_scope.specs.declared.known.Seen.{Seen}
-use Rattle.algol_scope.specs.declared.known.Seen.TheVariants as seens
-use Rattle.algol_scope.specs.declared.formal.Mode.{Mode}
-use Rattle.algol_scope.specs.declared.around.Around.{Around}
-use Rattle.algol_scope.specs.declared.findings.Content.{Content}
-use Rattle.algol_scope.specs.declared.findings.Content.TheVariants as content
-use Rattle.algol_scope.specs.declared.findings.Cell.{Cell}
-use Rattle.algol_scope.specs.declared.findings.Use.{Use}
+use Rattle.algol_sorts.specs.declared.sort.Sort.{Sort}
+use Rattle.algol_sorts.specs.Sorts.{sort_of}
+use Rattle.algol_known.specs.declared.known.Seen.{Seen}
+use Rattle.algol_known.specs.declared.known.Seen.TheVariants as seens
+use Rattle.algol_known.specs.declared.around.Around.{Around}
+use Rattle.algol_frames.specs.declared.found.Content.{Content}
+use Rattle.algol_frames.specs.declared.found.Content.TheVariants as content
+use Rattle.algol_frames.specs.declared.found.Cell.{Cell}
+use Rattle.algol_frames.specs.declared.found.Use.{Use}
 use Rattle.algol_scope.specs.declared.findings.Findings.{Findings}
-use Rattle.algol_scope.specs.Seeing.{Sees, mode_of}
+use Rattle.algol_known.specs.Seeing.{Sees, mode_of}
 
 abbrev pub long_segment : Segment → List Spot
 long_segment s = if_so (nat_lt MOST_SEGMENT_TOKENS s.tokens) s.spot
@@ -53,7 +54,7 @@ abbrev pub cell_of : cells.Cell → Cell
 cell_of c = record { block = c.block; spot = c.spot; content = content_of c.content }
 
 abbrev pub use_of : Known → Use
-use_of k = record { spot = k.spot; declared = k.declared.spot; block = k.declared.block; level = min (level_at k.declared.depth) 255 }
+use_of k = record { spot = k.spot; declared = k.declared.spot; block = k.declared.block; level = min (level_at k.declared.depth) 255; sort = sort_of k.declared }
 
 -- These faults are noted, and these cells and names are added.
 pub record Adds (old : Findings) (fs : List Fault) (cs : List cells.Cell) (us : List Known) (new : Findings) : Type 0 where
@@ -70,8 +71,8 @@ Finds blocks old parts new =
 pub record Walks (k : Around) (seen : Seen) (old new : Findings) (parts : Surroundings → List Site) : Type 0 where
   pub finds : (blocks : List Block) (a : Surroundings) → Sees k seen a → Finds blocks old (parts a) new
 
--- The same of actuals, for parameters that take them so.
-pub record Passes (k : Around) (seen : Seen) (old new : Findings) (modes : List Mode) (es : PExprs) : Type 0 where
+-- The same of actuals, for such parameters.
+pub record Passes (k : Around) (seen : Seen) (old new : Findings) (modes : List Sort) (es : PExprs) : Type 0 where
   pub finds : (blocks : List Block) (a : Surroundings) (fs : List Formal) → Sees k seen a → modes ≡ map mode_of fs →
       Finds blocks old (inside_actuals es fs a) new
 

@@ -1,18 +1,22 @@
 -- What resolving a tree comes to.
-use Rattle.std.specs.Prelude.{◌≡◌, ℕ, Option, Some, None, [], slice_get}
+use Rattle.std.specs.Prelude.{◌≡◌, ℕ, Option, Some, None, []}
+use Rattle.std.specs.List.{flat_map}
 use Rattle.algol_tree.specs.declared.token.Spot.{Spot}
 use Rattle.algol_tree.specs.declared.refusal.Refusal.{Refusal}
 use Rattle.algol_tree.specs.declared.refusal.Refusal.TheVariants as refusals
 use Rattle.algol_tree.specs.Plain.{PProgram}
+use Rattle.algol_tree.specs.Sorts as sorts
+use Rattle.algol_tree.specs.Blocks.{blocks_of_program}
 use Rattle.algol_tree.specs.Cells as cells
 use Rattle.algol_tree.specs.Couples as couples
-use Rattle.algol_tree.specs.Couples.{declaration_at, result_at, actual_at, level_of_block}
-use Rattle.algol_tree.specs.Accepted.{scope_faults, first_fault}
-use Rattle.algol_scope.specs.declared.scopes.Couple.{Couple}
-use Rattle.algol_scope.specs.declared.scopes.Declared.{Declared}
-use Rattle.algol_scope.specs.declared.scopes.Scopes.{Scopes}
-use Rattle.algol_tree.specs.contracts.token.SpotOrd.TheImpl.{ghosts}
-use Rattle.std.specs.BTreeMap.{get}
+use Rattle.algol_tree.specs.Couples.{declaration_at, result_at, actual_at, level_of_block, known_at, known_there}
+use Rattle.algol_tree.specs.Accepted.{scope_faults, first_fault, sites_of}
+use Rattle.algol_sorts.specs.declared.sort.Sort.{Sort}
+use Rattle.algol_sorts.specs.Sorts.{sort_of}
+use Rattle.algol_frames.specs.declared.scopes.Couple.{Couple}
+use Rattle.algol_frames.specs.declared.scopes.Declared.{Declared}
+use Rattle.algol_frames.specs.declared.scopes.Scopes.{Scopes}
+pub use Rattle.algol_frames.specs.Answers.{declaration_of, actual_of, result_of, level_in}
 
 abbrev pub couple : Option Couple → Option cells.Couple
 couple None = None
@@ -22,29 +26,33 @@ abbrev pub located : Option Declared → Option couples.Located
 located None = None
 located (Some d) = Some (record { spot = d.spot; level = d.level; couple = couple d.couple })
 
+-- What a name means, beside where its declaration lies: the number of the block that declares it, and what it is declared as.
+pub record Meaning : Type 0 where
+  pub block : ℕ
+  pub sort : Sort
+
+abbrev pub meaning : Option Declared → Option Meaning
+meaning None = None
+meaning (Some d) = Some (record { block = d.block; sort = d.sort })
+
+abbrev pub meant : Option sorts.Declared → Option Meaning
+meant None = None
+meant (Some d) = Some (record { block = d.block; sort = sort_of d })
+
+-- what the name that is used or declared there means
+unfoldable pub meaning_at : PProgram → Spot → Option Meaning
+meaning_at p spot = meant (known_there (flat_map (known_at (blocks_of_program p)) (sites_of p)) spot)
+
 -- The tree is refused by the first rule of names and limits that it breaks.
 abbrev pub IsRefused : PProgram → Refusal → Type 0
 IsRefused p (refusals.At spot code) = first_fault (scope_faults p) ≡ Some (record { spot = spot; code = code })
 IsRefused p refusals.NoMemory = Unit {0}
 
--- ---- what is found in the scopes
-
-abbrev pub declaration_of : Scopes → Spot → Option Declared
-declaration_of s spot = get ghosts.cmp s.declared spot
-
-abbrev pub actual_of : Scopes → Spot → Option Couple
-actual_of s spot = get ghosts.cmp s.actuals spot
-
-abbrev pub result_of : Scopes → Spot → Option Couple
-result_of s spot = get ghosts.cmp s.results spot
-
-abbrev pub level_in : Scopes → ℕ → Option ℕ
-level_in s block = slice_get s.levels.items block
-
 -- The tree breaks no rule of names and limits, and these are its scopes.
 pub record AreOf (p : PProgram) (s : Scopes) : Type 0 where
   pub unbroken : scope_faults p ≡ []
   pub declarations : (spot : Spot) → located (declaration_of s spot) ≡ declaration_at p spot
+  pub meanings : (spot : Spot) → meaning (declaration_of s spot) ≡ meaning_at p spot
   pub results : (spot : Spot) → couple (result_of s spot) ≡ result_at p spot
   pub actuals : (spot : Spot) → couple (actual_of s spot) ≡ actual_at p spot
   pub levels : (block : ℕ) → level_in s block ≡ level_of_block p block

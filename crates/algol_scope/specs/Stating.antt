@@ -9,11 +9,11 @@ use Rattle.algol_tree.specs.Surroundings.{Surroundings}
 use Rattle.algol_tree.specs.Sites.{Site, here_stmt, inside_stmt}
 use Rattle.algol_tree.specs.Cells.{level_of}
 use Rattle.algol_tree.specs.Names.{is_one_of, result_names_of}
-use Rattle.algol_scope.specs.declared.known.Seen.TheVariants as seens
-use Rattle.algol_scope.specs.declared.resolver.Block.{Block}
+use Rattle.algol_known.specs.declared.known.Seen.TheVariants as seens
+use Rattle.algol_frames.specs.declared.found.Block.{Block}
 use Rattle.algol_scope.specs.declared.resolver.Resolver.{Resolver}
-use Rattle.algol_scope.specs.Naming.{is_typed}
-use Rattle.algol_scope.specs.Seeing.{Sees, Holds, Keeps, Extends}
+use Rattle.algol_known.specs.Naming.{is_typed}
+use Rattle.algol_known.specs.Seeing.{Sees, Holds, Keeps, Extends}
 use Rattle.algol_scope.specs.Noting.{Finds}
 
 -- the blocks of these declarations have lower numbers

@@ -3,11 +3,11 @@
 ghost use Rattle.std.specs.Prelude.{◌≡◌, ℕ, ◌+◌, ◌&&◌, Some, None, IfOk, OnOk, List, [], ◌∷◌, ◌++◌, length, map, is_some, not, reverse};
 ghost use Rattle.algol_tree.specs.declared.refusal.Code.TheVariants as codes;
 ghost use Rattle.algol_tree.specs.declared.tree.Heading.{Heading};
-ghost use Rattle.algol_tree.specs.declared.tree.Kind.{Kind};
 ghost use Rattle.algol_tree.specs.Plain as tree;
 ghost use Rattle.algol_tree.specs.Plain.{PDecls};
 ghost use Rattle.algol_tree.specs.Classes as classes;
-ghost use Rattle.algol_tree.specs.Sorts.{Sort, formals_of};
+ghost use Rattle.algol_tree.specs.Sorts as plain;
+ghost use Rattle.algol_tree.specs.Sorts.{formals_of};
 ghost use Rattle.algol_tree.specs.Image as image;
 ghost use Rattle.algol_tree.specs.Image.{decl, decls, stmt};
 ghost use Rattle.algol_tree.specs.Surroundings.{Surroundings, body_of, knowing};
@@ -16,28 +16,26 @@ ghost use Rattle.algol_tree.specs.Cells.{cells_for};
 ghost use Rattle.algol_tree.specs.Couples.{known_in_heading, known_names};
 ghost use Rattle.algol_tree.specs.Names.{if_so};
 ghost use Rattle.algol_tree.specs.Accepted.{broken, noted_all};
-ghost use Rattle.algol_scope.specs.declared.known.Class.TheVariants as class;
-ghost use Rattle.algol_scope.specs.declared.known.Seen.TheVariants as seens;
+ghost use Rattle.algol_known.specs.declared.known.Seen.TheVariants as seens;
 ghost use Rattle.algol_tree.specs.Counts.{heading_tokens, stmt_tokens};
-ghost use Rattle.algol_scope.specs.Declaring.{result_in, Admits, AreAhead, HasBodies, IsAhead, IsOf, Makes, StandsFor, Starts, Widens, cell_of_procedure, cells_here, decl_parts, declared_so, declaring, faults_of_decl, known_so, no_cells, no_faults, no_uses, nothing_so, parameters_so, procedure_so, twice_among};
-ghost use Rattle.algol_scope.specs.Looking.{is_announced, looked_up, modes_in, open_blocks};
-ghost use Rattle.algol_scope.specs.Naming.{has_name, under};
+ghost use Rattle.algol_scope.specs.Declaring.{result_in, AreAhead, HasBodies, IsAhead, IsOf, Makes, Starts, cell_of_procedure, cells_here, decl_parts, declared_so, faults_of_decl, known_so, no_cells, no_faults, no_uses, nothing_so, procedure_so, twice_among};
+ghost use Rattle.algol_known.specs.Widening.{Admits, StandsFor, Widens, declaring, parameters_so};
+ghost use Rattle.algol_known.specs.Looking.{is_announced, looked_up, modes_in, open_blocks, procedure_class};
+ghost use Rattle.algol_known.specs.Naming.{has_name, under};
 ghost use Rattle.std.specs.Map.{update};
 ghost use Rattle.std.specs.Str.{bytes_eq};
 ghost use Rattle.algol_scope.specs.Noting.{Adds, Knows, content_of, long_segment};
-ghost use Rattle.algol_scope.specs.Seeing.{Extends, IsClass, Sees, mode_of};
+ghost use Rattle.algol_known.specs.Seeing.{Extends, IsClass, Sees, mode_of};
 ghost use Rattle.algol_scope.specs.Stating.{Enters, no_blocks};
 
-use crate::around::Around;
-use crate::findings::{Cell, Content, Findings};
-use crate::formal::{modes, no_names};
-use crate::heading::{
-    is_named, note_if, note_repeated, result_name, twice_in_heading, unknown_in_heading,
-};
-use crate::known::{Class, Entry};
+use crate::findings::Findings;
+use crate::heading::{is_named, note_repeated, result_name, twice_in_heading, unknown_in_heading};
 use crate::resolver::Resolver;
+use algol_frames::{Cell, Content, note_if};
+use algol_known::{Around, Class, modes, no_names};
 use algol_rules::{names_of, procedure_tokens};
-use algol_tree::{Code, Decl, Heading, List, MOST_SEGMENT_TOKENS, Named, Pair, Spot, Stmt};
+use algol_sorts::Sort;
+use algol_tree::{Code, Decl, Heading, Kind, List, MOST_SEGMENT_TOKENS, Named, Pair, Spot, Stmt};
 use std::alloc::{AllocError, Global};
 use std::collections::BTreeMap;
 
@@ -89,32 +87,6 @@ fn no_procedure() -> Ahead {
         procedure: 0,
         spot: Spot { line: 0, column: 0 },
         has_body: false,
-    }
-}
-
-impl<'p> Around<'p> {
-    /// The innermost block declares these names, of which the first counts where two are the same.
-    fn declare_all(&mut self, ns: &'p [Named], class: Class) -> Result<(), AllocError>
-        ensures { OnOk result ((sort : Sort) (c : classes.Class) → StandsFor class c → Widens self.old self.new (declaring sort c ns.now)) }
-    {
-        'names: for at in (0..ns.len()).rev() {
-            let entry = self.entry(ns[at].spot, class);
-            self.declare(ns[at].name.bytes(), entry)?;
-        }
-        Ok(())
-    }
-
-    /// The innermost block, which declares nothing yet, is that of the procedure with this number, which has this heading.
-    fn declare_parameters(&mut self, h: &'p Heading, procedure: usize) -> Result<(), AllocError>
-        ensures { OnOk result (modes_in self.old.procedures.items (class.Procedure procedure) ≡ map mode_of (formals_of h.now) → Admits self.old self.new (parameters_so h.now)) }
-    {
-        let ns = h.params.items().as_slice();
-        'parameters: for at in (0..ns.len()).rev() {
-            let class = self.class_of_parameter(procedure, at);
-            let entry = self.entry(ns[at].spot, class);
-            self.declare_parameter(ns[at].name.bytes(), entry)?;
-        }
-        Ok(())
     }
 }
 
@@ -189,7 +161,7 @@ impl<'p> Resolver<'p> {
 
     fn add_procedure(&mut self, heading: &'p Heading) -> Result<usize, AllocError>
         ensures more { OnOk result (Extends self.old.around.procedures.items self.new.around.procedures.items) }
-        ensures class { IfOk result (λ number. IsClass self.new.around.procedures.items (class.Procedure number) (classes.procedure heading.now)) }
+        ensures class { IfOk result (λ number. IsClass self.new.around.procedures.items (procedure_class number) (classes.procedure heading.now)) }
         ensures innermost { self.new.around.innermost ≡ self.old.around.innermost }
         ensures outer { self.new.around.outer ≡ self.old.around.outer }
         ensures findings { self.new.findings ≡ self.old.findings }
@@ -291,69 +263,70 @@ impl<'p> Resolver<'p> {
     }
 
     /// The innermost block declares the names, without cells.
-    fn names(&mut self, ns: &'p List<Named>, class: Class) -> Result<(), AllocError>
-        ensures { OnOk result ((sort : Sort) (c : classes.Class) → StandsFor class c → Makes self.old self.new (twice_among ns.now) no_cells (known_so (declared_so sort c ns.now) ns.now) (declared_so sort c ns.now)) }
+    fn names(&mut self, ns: &'p List<Named>, sort: Sort) -> Result<(), AllocError>
+        ensures { OnOk result ((s : plain.Sort) (c : classes.Class) → StandsFor sort s c → Makes self.old self.new (twice_among ns.now) no_cells (known_so (declared_so s c ns.now) ns.now) (declared_so s c ns.now)) }
     {
         let ns = ns.items().as_slice();
         self.note_here(ns)?;
-        self.around.declare_all(ns, class)?;
+        self.around.declare_all(ns, sort)?;
         self.findings.known_all(ns, &self.around)
     }
 
     /// The innermost block declares the names, each with a cell.
-    fn cells(
-        &mut self,
-        ns: &'p List<Named>,
-        class: Class,
-        content: Content,
-    ) -> Result<(), AllocError>
-        ensures { OnOk result ((sort : Sort) (c : classes.Class) (held : cells.Content) → StandsFor class c → content_of held ≡ content → Makes self.old self.new (twice_among ns.now) (cells_here held ns.now) (known_so (declared_so sort c ns.now) ns.now) (declared_so sort c ns.now)) }
+    fn cells(&mut self, ns: &'p List<Named>, sort: Sort, content: Content) -> Result<(), AllocError>
+        ensures { OnOk result ((s : plain.Sort) (c : classes.Class) (held : cells.Content) → StandsFor sort s c → content_of held ≡ content → Makes self.old self.new (twice_among ns.now) (cells_here held ns.now) (known_so (declared_so s c ns.now) ns.now) (declared_so s c ns.now)) }
     {
-        self.names(ns, class)?;
+        self.names(ns, sort)?;
         self.findings
             .cells_at(ns.items().as_slice(), content, &self.around)
     }
 
     /// Simple variables.
-    pub fn simple(&mut self, ns: &'p List<Named>) -> Result<(), AllocError>
-        ensures { OnOk result ((kind : Kind) (later : PDecls) → Enters self.old self.new (decl_parts (tree.simple kind ns.now) later) no_blocks (λ blocks. knowing blocks (tree.simple kind ns.now) later)) }
+    pub fn simple(&mut self, kind: Kind, ns: &'p List<Named>) -> Result<(), AllocError>
+        ensures { OnOk result ((later : PDecls) → Enters self.old self.new (decl_parts (tree.simple kind ns.now) later) no_blocks (λ blocks. knowing blocks (tree.simple kind ns.now) later)) }
     {
-        self.cells(ns, Class::Simple, Content::Variable)
+        self.cells(ns, Sort::Variable(kind), Content::Variable)
     }
 
     /// Files.
     pub fn files(&mut self, ns: &'p List<Named>) -> Result<(), AllocError>
         ensures { OnOk result ((later : PDecls) → Enters self.old self.new (decl_parts (tree.files ns.now) later) no_blocks (λ blocks. knowing blocks (tree.files ns.now) later)) }
     {
-        self.names(ns, Class::Other)
+        self.names(ns, Sort::File)
     }
 
     /// Events.
     pub fn events(&mut self, ns: &'p List<Named>) -> Result<(), AllocError>
         ensures { OnOk result ((later : PDecls) → Enters self.old self.new (decl_parts (tree.events ns.now) later) no_blocks (λ blocks. knowing blocks (tree.events ns.now) later)) }
     {
-        self.cells(ns, Class::Other, Content::Made)
+        self.cells(ns, Sort::Event, Content::Made)
     }
 
     /// Tasks.
     pub fn tasks(&mut self, ns: &'p List<Named>) -> Result<(), AllocError>
         ensures { OnOk result ((later : PDecls) → Enters self.old self.new (decl_parts (tree.tasks ns.now) later) no_blocks (λ blocks. knowing blocks (tree.tasks ns.now) later)) }
     {
-        self.cells(ns, Class::Other, Content::Made)
+        self.cells(ns, Sort::Task, Content::Made)
     }
 
     /// Labels.
     pub fn labels(&mut self, ns: &'p List<Named>) -> Result<(), AllocError>
         ensures { OnOk result ((later : PDecls) → Enters self.old self.new (decl_parts (tree.labels ns.now) later) no_blocks (λ blocks. knowing blocks (tree.labels ns.now) later)) }
     {
-        self.names(ns, Class::Other)
+        self.names(ns, Sort::Label)
     }
 
     /// Arrays, and their bounds.
-    pub fn arrays(&mut self, ns: &'p List<Named>, pairs: &List<Pair>) -> Result<(), AllocError>
-        ensures { OnOk result ((kind : Kind) (later : PDecls) → Enters self.old self.new (decl_parts (tree.arrays kind ns.now (image.pairs pairs.now)) later) no_blocks (λ blocks. knowing blocks (tree.arrays kind ns.now (image.pairs pairs.now)) later)) }
+    pub fn arrays(
+        &mut self,
+        kind: Kind,
+        ns: &'p List<Named>,
+        pairs: &List<Pair>,
+    ) -> Result<(), AllocError>
+        ensures { OnOk result ((later : PDecls) → Enters self.old self.new (decl_parts (tree.arrays kind ns.now (image.pairs pairs.now)) later) no_blocks (λ blocks. knowing blocks (tree.arrays kind ns.now (image.pairs pairs.now)) later)) }
     {
-        self.cells(ns, Class::Other, Content::Made)?;
+        let subscripts = pairs.items().as_slice().len();
+        self.cells(ns, Sort::Array(kind, subscripts), Content::Made)?;
         self.findings.bounds(pairs, &self.around)
     }
 
@@ -361,9 +334,11 @@ impl<'p> Resolver<'p> {
     fn declare_heading(&mut self, n: &'p Named, ahead: Ahead) -> Result<(), AllocError>
         ensures { OnOk result ((h : Heading) → IsOf self.old.around.procedures.items ahead h → h.name.name ≡ n.now.name → Makes self.old self.new no_faults no_cells (known_so (procedure_so h) (n.now ∷ [])) (procedure_so h)) }
     {
-        let entry = self
-            .around
-            .entry(ahead.spot, Class::Procedure(ahead.procedure));
+        let class = Class {
+            sort: Sort::Procedure,
+            procedure: ahead.procedure,
+        };
+        let entry = self.around.entry(ahead.spot, class);
         self.around.declare(n.name.bytes(), entry)?;
         self.findings.known(n, &self.around)
     }
@@ -466,7 +441,7 @@ impl<'p> Resolver<'p> {
 
     /// The block of a procedure begins, with its result and its parameters.
     pub fn begin_procedure(&mut self, h: &'p Heading, ahead: Ahead) -> Result<(), AllocError>
-        ensures { OnOk result (modes_in self.old.around.procedures.items (class.Procedure ahead.procedure) ≡ map mode_of (formals_of h.now) → Starts self.old self.new h.now) }
+        ensures { OnOk result (modes_in self.old.around.procedures.items (procedure_class ahead.procedure) ≡ map mode_of (formals_of h.now) → Starts self.old self.new h.now) }
     {
         self.open(h.name.spot, result_name(h), is_named(h))?;
         self.around.declare_parameters(h, ahead.procedure)?;

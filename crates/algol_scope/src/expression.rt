@@ -7,29 +7,30 @@ ghost use Rattle.algol_tree.specs.Surroundings.{Surroundings, class_of, formals_
 ghost use Rattle.algol_tree.specs.Sites.{sites, inside_list, inside_actuals, sites_in_pairs, actual};
 ghost use Rattle.algol_tree.specs.Cells as cells;
 ghost use Rattle.algol_tree.specs.Image.{expr, exprs, pairs};
-ghost use Rattle.algol_scope.specs.declared.known.Seen.{Seen};
-ghost use Rattle.algol_scope.specs.declared.known.Seen.TheVariants as seens;
-ghost use Rattle.algol_scope.specs.Seeing.{Sees, IsClass, mode_given};
+ghost use Rattle.algol_known.specs.declared.known.Seen.{Seen};
+ghost use Rattle.algol_known.specs.declared.known.Seen.TheVariants as seens;
+ghost use Rattle.algol_known.specs.Seeing.{Sees, IsClass, mode_given};
 ghost use Rattle.algol_scope.specs.Noting.{Finds, Knows, Walks, Passes, at_name, process_parts, task_parts};
 ghost use Rattle.algol_tree.specs.Couples.{known_names};
 
-use crate::around::Around;
-use crate::findings::{Cell, Content, Findings, Use};
-use crate::formal::Mode;
-use crate::known::{Class, Entry, Seen};
+use crate::findings::Findings;
+use algol_frames::{Cell, Content, Use};
+use algol_known::{Around, Class, Entry, Seen};
 use algol_rules::{boxed_expr, first_spot};
+use algol_sorts::Sort;
 use algol_tree::{Call, Code, Expr, List, MOST_LEVEL, Named, Pair, Spot, Variable};
 use std::alloc::AllocError;
 
 /// A name that stands there and means this declaration.
 fn use_by(spot: Spot, entry: Entry) -> Use
-    ensures { result ≡ record { spot = spot; declared = entry.spot; block = entry.block; level = entry.level } }
+    ensures { result ≡ record { spot = spot; declared = entry.spot; block = entry.block; level = entry.level; sort = entry.class.sort } }
 {
     Use {
         spot,
         declared: entry.spot,
         block: entry.block,
         level: entry.level,
+        sort: entry.class.sort,
     }
 }
 
@@ -42,7 +43,10 @@ impl Findings {
         match around.find(n.name.bytes(), seen) {
             None => {
                 self.faults.note(n.spot, Code::UnknownName);
-                Ok(Class::Other)
+                Ok(Class {
+                    sort: Sort::Unspecified,
+                    procedure: 0,
+                })
             }
             Some(entry) => {
                 self.uses.push(use_by(n.spot, entry))?;
@@ -61,11 +65,11 @@ impl Findings {
         Ok(())
     }
 
-    /// An actual that is given so: where it has a cell, its code is one level deeper than where it stands.
+    /// An actual for such a parameter: where it has a cell, its code is one level deeper than where it stands.
     fn actual(
         &mut self,
         e: &Expr,
-        mode: Option<Mode>,
+        mode: Option<Sort>,
         around: &Around,
         seen: Seen,
     ) -> Result<(), AllocError>
@@ -90,7 +94,7 @@ impl Findings {
     fn actuals(
         &mut self,
         es: &List<Expr>,
-        modes: &[Mode],
+        modes: &[Sort],
         around: &Around,
         seen: Seen,
     ) -> Result<(), AllocError>

@@ -6,23 +6,14 @@ ghost use Rattle.algol_tree.specs.declared.tree.Heading.{Heading};
 ghost use Rattle.algol_tree.specs.Sorts.{is_named_in, same_name};
 ghost use Rattle.algol_tree.specs.Names.{if_so, is_no_parameter, is_one_of, places_if, repeated, result_names, specified, twice_in_heading, unknown_in_heading};
 ghost use Rattle.algol_tree.specs.Accepted.{broken, noted_all};
-ghost use Rattle.algol_scope.specs.Naming.{has_name, is_typed, under};
-ghost use Rattle.algol_scope.specs.Passing.{kept, said};
+ghost use Rattle.algol_known.specs.Naming.{has_name, is_typed, under};
+ghost use Rattle.algol_known.specs.Passing.{kept, said};
 
-use crate::formal::{Said, is_said, named_in, no_names, say};
-use crate::known::Names;
+use algol_frames::note_if;
+use algol_known::{Names, Said, is_said, named_in, no_names, say};
 use algol_rules::{Faults, names_of};
 use algol_tree::{Code, Heading, Named, Spot};
 use std::alloc::{AllocError, Global};
-
-/// Notes a fault there where the rule is broken.
-pub fn note_if(is_broken: bool, spot: Spot, code: Code, faults: &mut Faults)
-    ensures { faults.new.first ≡ noted_all faults.old.first (broken code (if_so is_broken spot)) }
-{
-    if is_broken {
-        faults.note(spot, code);
-    }
-}
 
 /// The name of a typed procedure, which its result has.
 pub fn result_name(h: &Heading) -> Option<&[u8]>

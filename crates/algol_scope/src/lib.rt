@@ -5,19 +5,13 @@
 //! maps, so that the whole takes time linear in the text but for a logarithm.
 #![tactic(auto)]
 
-mod around;
 mod declaration;
 mod expression;
 mod findings;
-mod formal;
 mod heading;
-mod known;
-mod layout;
-mod limits;
 mod resolver;
-mod scopes;
 mod walk;
 mod whole;
 
-pub use scopes::{Couple, Declared, Scopes};
+pub use algol_frames::{Couple, Declared, Scopes};
 pub use whole::resolve;

@@ -9,25 +9,16 @@ ghost use Rattle.algol_tree.specs.Image.{call, expr, exprs, variable};
 ghost use Rattle.algol_tree.specs.Surroundings.{formals_at};
 ghost use Rattle.algol_tree.specs.Sites.{here_stmt, inside_list, inside_actuals, sites};
 ghost use Rattle.algol_scope.specs.Finding.{IsNew};
-ghost use Rattle.algol_scope.specs.Looking.{level_within};
+ghost use Rattle.algol_known.specs.Looking.{level_within};
 ghost use Rattle.algol_scope.specs.Noting.{at_name};
-ghost use Rattle.algol_scope.specs.Seeing.{Opens};
+ghost use Rattle.algol_known.specs.Seeing.{Opens};
 ghost use Rattle.algol_scope.specs.Stating.{Visits, no_blocks, stmt_parts};
 
-use crate::around::Around;
 use crate::findings::Findings;
-use crate::known::Seen;
+use algol_frames::Block;
+use algol_known::{Around, Seen};
 use algol_tree::{Call, Expr, List, Named, Spot, Variable};
 use std::alloc::{AllocError, Global};
-
-/// A block: where it stands, its level, or the greatest number of a byte where that is beyond it, and whether it is a
-/// procedure's.
-#[derive(Clone, Copy)]
-pub struct Block {
-    pub spot: Spot,
-    pub level: u8,
-    pub is_procedure: bool,
-}
 
 /// What is known around the place that the walk has come to, and what is found before it: also the blocks, in the order of
 /// the text.

@@ -144,12 +144,12 @@ impl<'p> Resolver<'p> {
         ensures { OnOk result ((later : PDecls) → IsAhead self.old.around.procedures.items (decl d.now) later ahead → Enters self.old self.new (decl_parts (decl d.now) later) (blocks_in_decl (decl d.now)) (λ blocks. knowing blocks (decl d.now) later)) }
     {
         match d {
-            Decl::Simple(_, ns) => self.simple(ns),
+            Decl::Simple(kind, ns) => self.simple(*kind, ns),
             Decl::Files(ns) => self.files(ns),
             Decl::Events(ns) => self.events(ns),
             Decl::Tasks(ns) => self.tasks(ns),
             Decl::Labels(ns) => self.labels(ns),
-            Decl::Arrays(_, ns, pairs) => self.arrays(ns, pairs),
+            Decl::Arrays(kind, ns, pairs) => self.arrays(*kind, ns, pairs),
             Decl::Forward(h) => self.forward(h, ahead),
             Decl::Procedure(h, s) => self.procedure(h, boxed_stmt(s), ahead),
         }

@@ -9,16 +9,15 @@ ghost use Rattle.algol_tree.specs.declared.TheConstants.{MOST_BLOCK_CELLS};
 ghost use Rattle.algol_tree.specs.declared.refusal.Code.TheVariants as codes;
 ghost use Rattle.algol_tree.specs.declared.refusal.Refusal.TheVariants as refusals;
 ghost use Rattle.algol_scope.specs.Finding.{Holds, IsNew, limit_faults};
-ghost use Rattle.algol_scope.specs.Framing.{cells_in};
-ghost use Rattle.algol_scope.specs.Laying.{AreLaid};
+ghost use Rattle.algol_frames.specs.Framing.{cells_in};
+ghost use Rattle.algol_frames.specs.Laying.{AreLaid};
 ghost use Rattle.algol_scope.specs.Noting.{long_segment};
 ghost use Rattle.algol_scope.specs.Resolved.{AreOf, IsRefused};
 
-use crate::heading::note_if;
-use crate::layout::{actuals, declared, frames_of, levels, results};
-use crate::limits::{Cells, by_block, note_cells, note_levels, note_procedures};
 use crate::resolver::Resolver;
-use crate::scopes::Scopes;
+use algol_frames::{
+    Cells, Scopes, by_block, note_cells, note_if, note_levels, note_procedures, scopes_laid,
+};
 use algol_rules::{Faults, program_tokens};
 use algol_tree::{Code, MOST_SEGMENT_TOKENS, Program, Refusal};
 use b67_list::discard;
@@ -122,12 +121,6 @@ fn scopes_of(alloc: Global, found: &Resolver, cells: &Cells) -> Result<Scopes, R
     let blocks = found.blocks.as_slice();
     let uses = found.findings.uses.as_slice();
     let all_cells = found.findings.cells.as_slice();
-    let framed = frames_of(alloc, blocks, cells)?;
-    let frames = framed.as_slice();
-    Ok(Scopes {
-        declared: declared(alloc, frames, uses)?,
-        actuals: actuals(alloc, frames, all_cells)?,
-        results: results(alloc, frames, blocks)?,
-        levels: levels(alloc, blocks)?,
-    })
+    let scopes = scopes_laid(alloc, blocks, cells, all_cells, uses)?;
+    Ok(scopes)
 }

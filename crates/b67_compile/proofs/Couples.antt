@@ -8,8 +8,8 @@ use Rattle.algol_tree.specs.Couples.{Located, declaration_at, result_at}
 use Rattle.algol_tree.specs.Plain.{PProgram}
 use Rattle.algol_tree.specs.Scopes.{scopes_of}
 use Rattle.algol_paths.specs.Arrays.{lows_at}
-use Rattle.algol_scope.specs.declared.scopes.Couple as found
-use Rattle.algol_scope.specs.declared.scopes.Declared.{Declared}
+use Rattle.algol_frames.specs.declared.scopes.Couple as found
+use Rattle.algol_frames.specs.declared.scopes.Declared.{Declared}
 use Rattle.algol_scope.specs.Resolved.{couple, located, declaration_of, result_of, AreOf}
 use Rattle.b67_ops.specs.declared.Couple.{Couple}
 use Rattle.b67_emitter.specs.declared.names.Names.{Names}

@@ -20,7 +20,7 @@ use Rattle.algol_tree.specs.Sites.{Site}
 use Rattle.algol_tree.specs.Sorts.{Parameter}
 use Rattle.algol_paths.specs.Arrays.{arrays_of, lows_at}
 use Rattle.algol_paths.specs.Segments.{is_procedure, segment_of}
-use Rattle.algol_scope.specs.declared.scopes.Scopes as table
+use Rattle.algol_frames.specs.declared.scopes.Scopes as table
 use Rattle.algol_scope.specs.Resolved.{AreOf}
 use Rattle.algol_scope.proofs.Bodies.{body_is}
 use Rattle.b67_ops.specs.declared.TheConstants.{MOST_LEVEL, OUTER_LEVEL}

@@ -10,10 +10,10 @@ use Rattle.algol_tree.specs.Plain as tree
 use Rattle.algol_tree.specs.Plain.{PExpr, PExprs, PCall, PVariable}
 use Rattle.algol_tree.specs.Blocks.{block_numbered}
 use Rattle.algol_tree.specs.Scopes.{Scopes}
-use Rattle.algol_scope.specs.declared.scopes.Couple as found
-use Rattle.algol_scope.specs.declared.scopes.Declared.{Declared}
+use Rattle.algol_frames.specs.declared.scopes.Couple as found
+use Rattle.algol_frames.specs.declared.scopes.Declared.{Declared}
 use Rattle.algol_scope.specs.Resolved.{declaration_of, result_of}
-use Rattle.algol_scope.specs.declared.scopes.Scopes as table
+use Rattle.algol_frames.specs.declared.scopes.Scopes as table
 use Rattle.algol_meaning.specs.Settle.{sorts_of}
 use Rattle.algol_paths.specs.Arrays as arrays
 use Rattle.algol_paths.specs.Arrays.{Shape}

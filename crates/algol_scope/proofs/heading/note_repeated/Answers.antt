@@ -2,9 +2,9 @@ use Rattle.std.proofs.Common.{◌∙◌, ap, drop, refl, true}
 use Rattle.std.specs.Str.{bytes_eq}
 use Rattle.std.proofs.lemmas.List.{drop_all}
 use Rattle.algol_tree.specs.Sorts.{is_named_in}
-use Rattle.algol_scope.specs.Naming.{has_name, under}
-use Rattle.algol_scope.specs.Passing.{kept}
-use Rattle.algol_scope.proofs.Formals.{say-step}
+use Rattle.algol_known.specs.Naming.{has_name, under}
+use Rattle.algol_known.specs.Passing.{kept}
+use Rattle.algol_known.proofs.Formals.{say-step}
 use Rattle.algol_scope.proofs.Headings.{repeats-start, repeats-item, repeats-end}
 use Rattle.algol_scope.proofs.heading.note_repeated.Goals as goal
 

@@ -4,8 +4,8 @@ use Rattle.algol_tree.specs.declared.refusal.Code.TheVariants as codes
 use Rattle.algol_tree.specs.Sorts.{is_named_in}
 use Rattle.algol_tree.specs.Names.{is_one_of, repeated}
 use Rattle.algol_tree.specs.Accepted.{broken, noted_all}
-use Rattle.algol_scope.specs.Naming.{has_name, under}
-use Rattle.algol_scope.specs.Passing.{kept}
+use Rattle.algol_known.specs.Naming.{has_name, under}
+use Rattle.algol_known.specs.Passing.{kept}
 use Rattle.algol_scope.proofs.Headings.{Repeats}
 use Rattle.algol_scope.proofs.heading.note_repeated.Given as goal
 

@@ -3,7 +3,8 @@ use Rattle.std.proofs.lemmas.List.{drop_all}
 use Rattle.algol_tree.specs.declared.refusal.Code.TheVariants as codes
 use Rattle.algol_tree.specs.declared.tree.Named.{Named}
 use Rattle.algol_tree.specs.Names.{if_so, is_no_parameter}
-use Rattle.algol_scope.proofs.Headings.{note-item, note-end, unknown-one}
+use Rattle.algol_frames.proofs.Noting.{note-item, note-end}
+use Rattle.algol_scope.proofs.Headings.{unknown-one}
 use Rattle.algol_scope.proofs.heading.note_unknown.Goals as goal
 
 pub names-preserved : goal.names-preserved

@@ -4,8 +4,8 @@ use Rattle.algol_tree.specs.declared.tree.Heading.{Heading}
 use Rattle.algol_tree.specs.Sorts.{is_named_in}
 use Rattle.algol_tree.specs.Names.{is_no_parameter, places_if}
 use Rattle.algol_tree.specs.Accepted.{broken, noted_all}
-use Rattle.algol_scope.specs.Naming.{under}
-use Rattle.algol_scope.specs.Passing.{said}
+use Rattle.algol_known.specs.Naming.{under}
+use Rattle.algol_known.specs.Passing.{said}
 use Rattle.algol_scope.proofs.heading.note_unknown.Given as goal
 
 abbrev pub invariant-names : goal.invariant-names

@@ -4,7 +4,8 @@ use Rattle.algol_tree.specs.declared.refusal.Code.TheVariants as codes
 use Rattle.algol_tree.specs.declared.tree.Spec.{Spec}
 use Rattle.algol_tree.specs.Names.{is_no_parameter, names_of_spec, places_if}
 use Rattle.algol_tree.specs.Accepted.{broken, noted_all}
-use Rattle.algol_scope.proofs.Headings.{note-item, note-end, places-specs}
+use Rattle.algol_frames.proofs.Noting.{note-item, note-end}
+use Rattle.algol_scope.proofs.Headings.{places-specs}
 use Rattle.algol_scope.proofs.heading.note_unspecified.Goals as goal
 
 pub specs-preserved : goal.specs-preserved

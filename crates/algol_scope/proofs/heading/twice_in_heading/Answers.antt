@@ -3,7 +3,7 @@ use Rattle.algol_tree.specs.declared.refusal.Code.TheVariants as codes
 use Rattle.algol_tree.specs.Names.{repeated, result_names, specified}
 use Rattle.algol_tree.specs.Accepted.{broken, noted_all}
 use Rattle.algol_scope.proofs.Walking.{on_ok}
-use Rattle.algol_scope.proofs.Headings.{noted-broken}
+use Rattle.algol_frames.proofs.Noting.{noted-broken}
 use Rattle.algol_scope.proofs.heading.twice_in_heading.Goals as goal
 
 pub returns : goal.returns

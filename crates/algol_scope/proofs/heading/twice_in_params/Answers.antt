@@ -2,7 +2,7 @@ use Rattle.std.proofs.Common.{ap, sym, ◌∙◌}
 use Rattle.algol_tree.specs.declared.refusal.Code.TheVariants as codes
 use Rattle.algol_tree.specs.Names.{repeated, result_names}
 use Rattle.algol_tree.specs.Accepted.{broken, noted_all}
-use Rattle.algol_scope.specs.Naming.{is_typed, under}
+use Rattle.algol_known.specs.Naming.{is_typed, under}
 use Rattle.algol_scope.proofs.Walking.{on_ok}
 use Rattle.algol_scope.proofs.Headings.{bare-has}
 use Rattle.algol_scope.proofs.heading.twice_in_params.Goals as goal

@@ -2,7 +2,7 @@ use Rattle.std.proofs.Common.{ap, sym, ◌∙◌, drop}
 use Rattle.std.specs.List.{flat_map}
 use Rattle.std.proofs.lemmas.List.{drop_all}
 use Rattle.algol_tree.specs.Names.{names_of_spec}
-use Rattle.algol_scope.specs.Naming.{has_name, is_typed, under}
+use Rattle.algol_known.specs.Naming.{has_name, is_typed, under}
 use Rattle.algol_scope.proofs.Headings.{bare-has, repeats-specs, repeats-spec, repeats-end}
 use Rattle.algol_scope.proofs.heading.twice_in_specs.Goals as goal
 

@@ -3,7 +3,7 @@ use Rattle.std.specs.List.{flat_map}
 use Rattle.algol_tree.specs.declared.refusal.Code.TheVariants as codes
 use Rattle.algol_tree.specs.Names.{names_of_spec, repeated}
 use Rattle.algol_tree.specs.Accepted.{broken, noted_all}
-use Rattle.algol_scope.specs.Naming.{has_name, under}
+use Rattle.algol_known.specs.Naming.{has_name, under}
 use Rattle.algol_scope.proofs.Headings.{Repeats}
 use Rattle.algol_scope.proofs.heading.twice_in_specs.Given as goal
 

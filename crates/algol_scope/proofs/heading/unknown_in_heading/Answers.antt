@@ -3,7 +3,7 @@ use Rattle.algol_tree.specs.declared.refusal.Code.TheVariants as codes
 use Rattle.algol_tree.specs.Sorts.{is_named_in}
 use Rattle.algol_tree.specs.Names.{is_no_parameter, places_if, specified}
 use Rattle.algol_tree.specs.Accepted.{broken, noted_all}
-use Rattle.algol_scope.proofs.Headings.{noted-broken}
+use Rattle.algol_frames.proofs.Noting.{noted-broken}
 use Rattle.algol_scope.proofs.heading.unknown_in_heading.Goals as goal
 
 pub note_unspecified-requires : goal.note_unspecified-requires

@@ -1,6 +1,6 @@
 use Rattle.std.proofs.Common.{◌∙◌, ap}
 use Rattle.algol_tree.specs.Image as image
-use Rattle.algol_scope.specs.Framing.{those_in}
+use Rattle.algol_frames.specs.Framing.{those_in}
 use Rattle.algol_scope.proofs.Found.{first-told, no_refusal, refused-first, unrefused}
 use Rattle.algol_scope.proofs.Scoped.{are-all, few}
 use Rattle.algol_scope.proofs.whole.scopes_found.Goals as goal

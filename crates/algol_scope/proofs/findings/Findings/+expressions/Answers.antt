@@ -3,7 +3,7 @@ use Rattle.std.proofs.lemmas.List.{drop_all}
 use Rattle.algol_tree.specs.Image.{exprs}
 use Rattle.algol_tree.specs.Sites.{inside_list}
 use Rattle.algol_scope.specs.Noting.{at_name}
-use Rattle.algol_scope.proofs.Plain.{expr_happened, expr_two, expr_if}
+use Rattle.algol_known.proofs.Plain.{expr_happened, expr_two, expr_if}
 use Rattle.algol_scope.proofs.Walking.{follows-item, follows-end, passing-item, passing-end, walks-then, walks-happened, walks-two, walks-if, walks-call, walks-of, on_ok, copied-get, get-within}
 use Rattle.algol_scope.proofs.findings.Findings.+expressions.Goals as goal
 

@@ -1,7 +1,7 @@
 use Rattle.std.proofs.lemmas.List.{drop_all}
 use Rattle.algol_tree.specs.Sites.{sites_in_pairs}
 use Rattle.algol_tree.specs.Image.{pairs}
-use Rattle.algol_scope.specs.declared.known.Seen.TheVariants as seens
+use Rattle.algol_known.specs.declared.known.Seen.TheVariants as seens
 use Rattle.algol_scope.proofs.Walking.{follows-bound, bounds-end}
 use Rattle.algol_scope.proofs.findings.Findings.bounds.Goals as goal
 

@@ -1,7 +1,7 @@
 use Rattle.std.proofs.Common.{drop}
 use Rattle.algol_tree.specs.Sites.{sites_in_pairs}
 use Rattle.algol_tree.specs.Image.{pairs}
-use Rattle.algol_scope.specs.declared.known.Seen.TheVariants as seens
+use Rattle.algol_known.specs.declared.known.Seen.TheVariants as seens
 use Rattle.algol_scope.proofs.Walking.{Follows}
 use Rattle.algol_scope.proofs.findings.Findings.bounds.Given as goal
 

@@ -1,8 +1,8 @@
 use Rattle.std.proofs.Common.{[], drop}
 use Rattle.algol_tree.specs.Surroundings.{Surroundings}
 use Rattle.algol_tree.specs.Couples.{known_names}
-use Rattle.algol_scope.specs.declared.known.Seen.TheVariants as seens
-use Rattle.algol_scope.specs.Seeing.{Sees}
+use Rattle.algol_known.specs.declared.known.Seen.TheVariants as seens
+use Rattle.algol_known.specs.Seeing.{Sees}
 use Rattle.algol_scope.proofs.Names.{Adding}
 use Rattle.algol_scope.proofs.findings.Findings.known_all.Given as goal
 

@@ -3,8 +3,8 @@ use Rattle.std.specs.List.{flat_map}
 use Rattle.algol_tree.specs.Surroundings.{Surroundings}
 use Rattle.algol_tree.specs.Couples.{known_in_heading, known_names}
 use Rattle.algol_tree.specs.Names.{names_of_spec}
-use Rattle.algol_scope.specs.declared.known.Seen.TheVariants as seens
-use Rattle.algol_scope.specs.Seeing.{Sees}
+use Rattle.algol_known.specs.declared.known.Seen.TheVariants as seens
+use Rattle.algol_known.specs.Seeing.{Sees}
 use Rattle.algol_scope.proofs.Names.{Adding}
 use Rattle.algol_scope.proofs.findings.Findings.known_in_heading.Given as goal
 

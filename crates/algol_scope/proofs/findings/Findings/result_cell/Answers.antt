@@ -1,6 +1,6 @@
 use Rattle.std.proofs.Common.{refl, sym, ◌∙◌}
 use Rattle.algol_tree.specs.Cells as cells
-use Rattle.algol_scope.specs.declared.findings.Content.TheVariants as content
+use Rattle.algol_frames.specs.declared.found.Content.TheVariants as content
 use Rattle.algol_scope.proofs.Names.{cell-at, result-none, result-some}
 use Rattle.algol_scope.proofs.findings.Findings.result_cell.Goals as goal
 

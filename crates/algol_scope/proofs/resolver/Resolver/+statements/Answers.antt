@@ -194,7 +194,7 @@ stmt-returns-in-Write t c =
 pub decl-returns-in-Simple : goal.decl-returns-in-Simple
 decl-returns-in-Simple t c =
     on_ok c.simple.result
-    (λ h. declares-of c.args.self.now c.simple.new.self c.args.d.now _ c.args.ahead (simple_is c.args.d.now _ _ c.in-Simple.is) (λ later ahead. h _ later))
+    (λ h. declares-of c.args.self.now c.simple.new.self c.args.d.now _ c.args.ahead (simple_is c.args.d.now _ _ c.in-Simple.is) (λ later ahead. h later))
     c.simple.ensures
 
 pub decl-returns-in-Files : goal.decl-returns-in-Files
@@ -224,7 +224,7 @@ decl-returns-in-Labels t c =
 pub decl-returns-in-Arrays : goal.decl-returns-in-Arrays
 decl-returns-in-Arrays t c =
     on_ok c.arrays.result
-    (λ h. declares-of c.args.self.now c.arrays.new.self c.args.d.now _ c.args.ahead (arrays_is c.args.d.now _ _ _ c.in-Arrays.is) (λ later ahead. h _ later))
+    (λ h. declares-of c.args.self.now c.arrays.new.self c.args.d.now _ c.args.ahead (arrays_is c.args.d.now _ _ _ c.in-Arrays.is) (λ later ahead. h later))
     c.arrays.ensures
 
 pub decl-returns-in-Forward : goal.decl-returns-in-Forward

@@ -1,5 +1,5 @@
 use Rattle.std.proofs.Common.{sym, ◌∙◌, ap}
-use Rattle.algol_scope.specs.Naming.{under}
+use Rattle.algol_known.specs.Naming.{under}
 use Rattle.algol_scope.proofs.Walking.{if_ok}
 use Rattle.algol_scope.proofs.Looking.{ahead-found, ahead-missing}
 use Rattle.algol_scope.proofs.resolver.Resolver.announced.Goals as goal

@@ -5,7 +5,7 @@ use Rattle.algol_scope.proofs.Walking.{on_ok}
 use Rattle.algol_scope.proofs.Making.{has-told}
 use Rattle.algol_scope.proofs.Faults.{makes-notes, or_none}
 use Rattle.algol_scope.specs.Declaring.{twice_among}
-use Rattle.algol_scope.specs.Naming.{has_name, under}
+use Rattle.algol_known.specs.Naming.{has_name, under}
 use Rattle.algol_scope.proofs.resolver.Resolver.note_here.Goals as goal
 
 pub returns : goal.returns

@@ -1,0 +1,55 @@
+-- What is found in frames is what they were laid out from.
+use Rattle.std.proofs.Common.{◌≡◌, ℕ, ◌+◌, Bool, List, [], ◌∷◌, Option, Some, None, refl, ap, ◌∙◌}
+use Rattle.std.specs.Prelude.{◌&&◌, if◌then◌else◌}
+use Rattle.std.specs.Option.{option_or}
+use Rattle.std.specs.declared.alloc.Global.{Global}
+use Rattle.std.specs.declared.vec.Vec.{Vec}
+use Rattle.std.specs.BTreeMap.{BTreeMap, get}
+use Rattle.algol_tree.specs.declared.token.Spot.{Spot}
+use Rattle.algol_tree.specs.contracts.token.SpotOrd.TheImpl.{ghosts}
+use Rattle.algol_tree.specs.Blocks.{same_spot}
+use Rattle.algol_frames.specs.declared.found.Block.{Block}
+use Rattle.algol_frames.specs.declared.found.Cell.{Cell}
+use Rattle.algol_frames.specs.declared.found.Content.TheVariants as content
+use Rattle.algol_frames.specs.declared.found.Use.{Use}
+use Rattle.algol_frames.specs.declared.scopes.Couple.{Couple}
+use Rattle.algol_frames.specs.declared.scopes.Scopes.{Scopes}
+use Rattle.algol_frames.specs.Laying.{AreLaid, actual_from, declared_by, declared_from, framed_in, is_of, laid_in, levels_of, result_from}
+
+module _ (f g : ℕ → Spot → Option Couple) (same : (q : ℕ) (spot : Spot) → f q spot ≡ g q spot) where
+  declared-alike : (us : List Use) (spot : Spot) → declared_from f us spot ≡ declared_from g us spot
+  declared-alike [] spot = refl
+  declared-alike (u ∷ us) spot =
+      ap
+      (λ z.
+      if same_spot u.spot spot then Some (record { spot = u.declared; block = u.block; level = u.level; sort = u.sort; couple = z }) else declared_from f us spot)
+      (same u.block u.declared)
+      ∙ ap (λ z. if same_spot u.spot spot then Some (declared_by g u) else z)
+      (declared-alike us spot)
+
+  actual-alike : (cs : List Cell) (spot : Spot) → actual_from f cs spot ≡ actual_from g cs spot
+  actual-alike [] spot = refl
+  actual-alike (c ∷ cs) spot =
+      let is : Bool = is_of content.Actual c && same_spot c.spot spot in
+      ap (λ z. option_or (if is then z else None) (actual_from f cs spot)) (same c.block c.spot)
+      ∙ ap (λ z. option_or (if is then g c.block c.spot else None) z) (actual-alike cs spot)
+
+  result-alike : (n : ℕ) (bs : List Block) (spot : Spot) → result_from f n bs spot ≡ result_from g n bs spot
+  result-alike n [] spot = refl
+  result-alike n (b ∷ bs) spot =
+      ap (λ z. option_or (if same_spot b.spot spot then z else None) (result_from f (n + 1) bs spot)) (same n b.spot)
+      ∙ ap (λ z. option_or (if same_spot b.spot spot then g n b.spot else None) z) (result-alike (n + 1) bs spot)
+
+pub laid : (blocks : List Block) (table : BTreeMap ℕ (Vec Cell Global)) (cells : List Cell) (uses : List Use) (frames held : List (BTreeMap Spot Couple)) →
+    frames ≡ held → ((q : ℕ) (spot : Spot) → framed_in held q spot ≡ laid_in blocks table q spot) → (s : Scopes) →
+    ((q : Spot) → get ghosts.cmp s.declared q ≡ declared_from (framed_in frames) uses q) →
+    ((q : Spot) → get ghosts.cmp s.results q ≡ result_from (framed_in frames) 0 blocks q) →
+    ((q : Spot) → get ghosts.cmp s.actuals q ≡ actual_from (framed_in frames) cells q) → s.levels.items ≡ levels_of blocks → AreLaid blocks table cells uses s
+laid blocks table cells uses frames held f framed s declared results actuals levels =
+    let there : (q : ℕ) (spot : Spot) → framed_in frames q spot ≡ laid_in blocks table q spot = λ q spot. ap (λ z. framed_in z q spot) f ∙ framed q spot in
+    record {
+      declarations = λ spot. declared spot ∙ declared-alike (framed_in frames) (laid_in blocks table) there uses spot;
+      results = λ spot. results spot ∙ result-alike (framed_in frames) (laid_in blocks table) there 0 blocks spot;
+      actuals = λ spot. actuals spot ∙ actual-alike (framed_in frames) (laid_in blocks table) there cells spot;
+      levels = levels;
+    }

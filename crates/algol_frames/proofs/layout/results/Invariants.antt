@@ -1,0 +1,12 @@
+use Rattle.std.proofs.Common.{◌≡◌, drop}
+use Rattle.std.specs.Option.{option_or}
+use Rattle.std.specs.BTreeMap.{get}
+use Rattle.algol_tree.specs.declared.token.Spot.{Spot}
+use Rattle.algol_tree.specs.contracts.token.SpotOrd.TheImpl.{ghosts}
+use Rattle.algol_frames.specs.Laying.{framed_in, result_from}
+use Rattle.algol_frames.proofs.layout.results.Given as goal
+
+abbrev pub invariant-each : goal.invariant-each
+invariant-each l =
+    (q : Spot) → option_or (get ghosts.cmp l.results q) (result_from (framed_in l.frames) l.at (drop l.at l.blocks) q) ≡
+    result_from (framed_in l.frames) 0 l.blocks q

@@ -1,0 +1,20 @@
+-- What the scopes answer.
+use Rattle.std.specs.Prelude.{ℕ, Option, slice_get}
+use Rattle.std.specs.BTreeMap.{get}
+use Rattle.algol_tree.specs.declared.token.Spot.{Spot}
+use Rattle.algol_tree.specs.contracts.token.SpotOrd.TheImpl.{ghosts}
+use Rattle.algol_frames.specs.declared.scopes.Couple.{Couple}
+use Rattle.algol_frames.specs.declared.scopes.Declared.{Declared}
+use Rattle.algol_frames.specs.declared.scopes.Scopes.{Scopes}
+
+abbrev pub declaration_of : Scopes → Spot → Option Declared
+declaration_of s spot = get ghosts.cmp s.declared spot
+
+abbrev pub actual_of : Scopes → Spot → Option Couple
+actual_of s spot = get ghosts.cmp s.actuals spot
+
+abbrev pub result_of : Scopes → Spot → Option Couple
+result_of s spot = get ghosts.cmp s.results spot
+
+abbrev pub level_in : Scopes → ℕ → Option ℕ
+level_in s block = slice_get s.levels.items block

@@ -1,0 +1,5 @@
+pub mod Naming
+pub mod Looking
+pub mod Passing
+pub mod Seeing
+pub mod Widening

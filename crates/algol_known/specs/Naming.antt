@@ -1,0 +1,47 @@
+-- The names that a block makes known, as tables of them.
+use Rattle.std.specs.Prelude.{◌≡◌, ℕ, Bool, false, ◌||◌, is_some, List, Option, Some, None}
+use Rattle.std.specs.Borrow.{Bor}
+use Rattle.std.specs.Ordering.{nat_cmp}
+use Rattle.std.specs.Cmp.Lexicographic.{slice_cmp}
+use Rattle.std.specs.BTreeMap.{BTreeMap, get_by}
+use Rattle.std.specs.Map.{update}
+use Rattle.std.specs.Str.{bytes_eq}
+use Rattle.algol_known.specs.declared.known.Entry.{Entry}
+use Rattle.algol_known.specs.declared.known.Seen.{Seen}
+use Rattle.algol_known.specs.declared.known.Seen.TheVariants as seen
+
+-- what a table has under a name
+abbrev pub under : {X : Type 0} → BTreeMap (Bor (List ℕ)) X → List ℕ → Option X
+under table name = get_by (λ k. slice_cmp nat_cmp name k.now) table
+
+-- declarations by their names
+abbrev pub Table : Type 0
+Table = BTreeMap (Bor (List ℕ)) Entry
+
+abbrev pub entry_in : Table → List ℕ → Option Entry
+entry_in table name = get_by (λ k. slice_cmp nat_cmp name k.now) table
+
+-- a table with no name
+abbrev pub IsBare : Table → Type 0
+IsBare table = (name : List ℕ) → entry_in table name ≡ None
+
+-- the second table has this entry for the name, and for each other name what the first has
+abbrev pub Puts : Table → Table → List ℕ → Entry → Type 0
+Puts old new name entry = (q : List ℕ) → entry_in new q ≡ update bytes_eq (entry_in old) name (Some entry) q
+
+abbrev pub or_else : Option Entry → Option Entry → Option Entry
+or_else None other = other
+or_else (Some entry) other = Some entry
+
+-- what is seen under a name: of the declarations, where they are seen, and else of the parameters
+abbrev pub seen_under : Table → Table → Seen → List ℕ → Option Entry
+seen_under declared parameters seen.All name = or_else (entry_in declared name) (entry_in parameters name)
+seen_under declared parameters seen.BeforeDeclarations name = entry_in parameters name
+
+abbrev pub is_typed : Option (Bor (List ℕ)) → List ℕ → Bool
+is_typed None name = false
+is_typed (Some typed) name = bytes_eq typed.now name
+
+-- whether a block has the name: of its result, or declared in it
+abbrev pub has_name : Option (Bor (List ℕ)) → Table → Table → List ℕ → Bool
+has_name typed declared parameters name = is_typed typed name || is_some (seen_under declared parameters seen.All name)

@@ -1,8 +1,0 @@
-use Rattle.std.proofs.Common.{drop}
-use Rattle.algol_tree.specs.Classes as classes
-use Rattle.algol_tree.specs.Sorts.{Sort}
-use Rattle.algol_scope.specs.Declaring.{StandsFor, Widens, declaring}
-use Rattle.algol_scope.proofs.around.Around.declare_all.Given as goal
-
-abbrev pub invariant-names : goal.invariant-names
-invariant-names l = (sort : Sort) (c : classes.Class) → StandsFor l.class c → Widens l.fn.self l.self (declaring sort c (drop l.at l.ns))

@@ -1,6 +1,0 @@
-use Rattle.std.proofs.Common.{◌≡◌, ◌++◌, map, drop}
-use Rattle.algol_scope.proofs.Formals.{mode_in}
-use Rattle.algol_scope.proofs.formal.modes_by.Given as goal
-
-abbrev pub invariant-params : goal.invariant-params
-invariant-params l = l.found.items ++ map (mode_in l.fn.heading) (drop l.n-index l.n-items) ≡ map (mode_in l.fn.heading) l.fn.heading.params

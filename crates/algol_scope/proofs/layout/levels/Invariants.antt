@@ -1,6 +1,0 @@
-use Rattle.std.proofs.Common.{◌≡◌, ◌++◌, drop}
-use Rattle.algol_scope.specs.Laying.{levels_of}
-use Rattle.algol_scope.proofs.layout.levels.Given as goal
-
-abbrev pub invariant-each : goal.invariant-each
-invariant-each l = l.levels.items ++ levels_of (drop l.block-index l.blocks) ≡ levels_of l.blocks

@@ -1,6 +1,0 @@
-use Rattle.std.proofs.Common.{◌≡◌, ℕ, ◌++◌, drop}
-use Rattle.algol_scope.specs.Framing.{cells_in, those_in}
-use Rattle.algol_scope.proofs.limits.by_block.Given as goal
-
-abbrev pub invariant-cells : goal.invariant-cells
-invariant-cells l = (q : ℕ) → cells_in l.table q ++ those_in (drop l.cell-index l.cells) q ≡ those_in l.fn.cells q
