@@ -16,7 +16,7 @@ use Rattle.algol_rest.specs.declared.cell.Reference.{Reference}
 use Rattle.algol_world.specs.Going as going
 use Rattle.algol_world.specs.Leaving.{is_nil}
 use Rattle.algol_world.proofs.Releasing.{able_stays, caused_stays}
-use Rattle.algol_step.specs.declared.effect.Effect.TheVariants as effects
+use Rattle.algol_effect.specs.declared.effect.Effect.TheVariants as effects
 use Rattle.algol_perform.specs.Performing.{performed, performed_by}
 
 -- a process with parts is one of the world's

@@ -24,7 +24,7 @@ use Rattle.algol_world.specs.SeenInstance.{named_cells}
 use Rattle.algol_world.specs.declared.action.Action.{Action}
 use Rattle.algol_world.specs.declared.instance.NamedCell.{NamedCell}
 use Rattle.algol_world.specs.declared.world.Part as code
-use Rattle.algol_step.specs.declared.effect.Effect.TheVariants as effects
+use Rattle.algol_effect.specs.declared.effect.Effect.TheVariants as effects
 use Rattle.algol_perform.specs.Going.{instance_in}
 use Rattle.algol_perform.specs.Performing.{performed, performed_by}
 

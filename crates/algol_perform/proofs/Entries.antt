@@ -11,7 +11,7 @@ use Rattle.algol_rest.specs.SeenExpression as seen
 use Rattle.algol_rest.specs.declared.cell.Cell.{Cell}
 use Rattle.algol_world.specs.Going.{chosen, opening, resumed}
 use Rattle.algol_world.specs.Leaving.{is_nil}
-use Rattle.algol_step.specs.declared.effect.Effect.TheVariants as effects
+use Rattle.algol_effect.specs.declared.effect.Effect.TheVariants as effects
 use Rattle.algol_perform.specs.Going.{instance_in}
 use Rattle.algol_perform.specs.Making.{with_instance_of, part_of}
 use Rattle.algol_perform.specs.Performing.{performed, performed_by}

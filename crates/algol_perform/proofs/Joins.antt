@@ -6,7 +6,7 @@ use Rattle.algol_tree.specs.declared.tree.Named.{Named}
 use Rattle.algol_meaning.specs.World.{World, Part, process_at}
 use Rattle.algol_meaning.specs.Actions as actions
 use Rattle.algol_world.specs.Going.{chosen}
-use Rattle.algol_step.specs.declared.effect.Effect.TheVariants as effects
+use Rattle.algol_effect.specs.declared.effect.Effect.TheVariants as effects
 use Rattle.algol_perform.specs.Going.{going_by, going_to, making_by, making}
 use Rattle.algol_perform.specs.Performing.{performed, performed_by}
 

@@ -15,7 +15,7 @@ use Rattle.algol_rest.specs.declared.cell.Reference.{Reference}
 use Rattle.algol_world.specs.SeenWorld as views
 use Rattle.algol_world.specs.Going.{going, resumed}
 use Rattle.algol_world.specs.Leaving.{is_nil}
-use Rattle.algol_step.specs.declared.effect.Effect.TheVariants as effects
+use Rattle.algol_effect.specs.declared.effect.Effect.TheVariants as effects
 use Rattle.algol_perform.specs.Making.{with_instance_of, part_of, with_process_of}
 use Rattle.algol_perform.specs.Performing.{performed, performed_by}
 use Rattle.algol_perform.proofs.Acts.{one_of_these}

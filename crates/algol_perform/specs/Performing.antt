@@ -6,8 +6,8 @@ use Rattle.algol_meaning.specs.Actions as actions
 use Rattle.algol_meaning.specs.Choice.{Choice}
 use Rattle.algol_world.specs.Going.{chosen}
 use Rattle.algol_world.specs.Leaving.{is_nil}
-use Rattle.algol_step.specs.Effects.{choice_by}
-use Rattle.algol_step.specs.declared.effect.Effect.{Effect}
+use Rattle.algol_effect.specs.Effects.{choice_by}
+use Rattle.algol_effect.specs.declared.effect.Effect.{Effect}
 
 module _ (sc : Scopes) (w : World) (p : ℕ) where
   -- a process without parts has no choice

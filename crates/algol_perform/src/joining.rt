@@ -15,7 +15,7 @@ use crate::performing::{
     perform_line, perform_store, perform_store_element,
 };
 use crate::starting::perform_start;
-use algol_step::Effect;
+use algol_effect::Effect;
 use algol_world::{Acted, Action, World};
 use std::alloc::{AllocError, Global};
 

@@ -13,7 +13,7 @@ ghost use Rattle.algol_world.specs.SeenWorld as views;
 ghost use Rattle.algol_world.specs.SeenWorld.{world_of, process_of};
 ghost use Rattle.algol_world.specs.SeenActed.{acted_choice};
 ghost use Rattle.algol_world.specs.Leaving.{is_nil};
-ghost use Rattle.algol_step.specs.declared.effect.Effect.TheVariants as effects;
+ghost use Rattle.algol_effect.specs.declared.effect.Effect.TheVariants as effects;
 ghost use Rattle.algol_perform.specs.Making.{with_instance_of, part_of, with_process_of};
 ghost use Rattle.algol_perform.specs.Performing.{performed};
 

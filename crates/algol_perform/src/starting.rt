@@ -10,7 +10,7 @@ ghost use Rattle.algol_world.specs.SeenWorld as views;
 ghost use Rattle.algol_world.specs.SeenWorld.{world_of, process_of};
 ghost use Rattle.algol_world.specs.SeenActed.{acted_choice};
 ghost use Rattle.algol_world.specs.Leaving.{is_nil};
-ghost use Rattle.algol_step.specs.declared.effect.Effect.TheVariants as effects;
+ghost use Rattle.algol_effect.specs.declared.effect.Effect.TheVariants as effects;
 ghost use Rattle.algol_perform.specs.Path as path;
 ghost use Rattle.algol_perform.specs.Performing.{performed};
 

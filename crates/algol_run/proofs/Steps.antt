@@ -9,8 +9,8 @@ use Rattle.algol_meaning.specs.Choice.{choice, choice_in, choice_of}
 use Rattle.algol_meaning.specs.Run.{End, some_able, some_lives, all_waiting, end_by, end_of, finished}
 use Rattle.algol_world.specs.Going.{chosen}
 use Rattle.algol_world.specs.Leaving.{is_nil}
-use Rattle.algol_step.specs.Effects.{outer_of, choice_by}
-use Rattle.algol_step.specs.declared.effect.Effect.{Effect}
+use Rattle.algol_effect.specs.Effects.{outer_of, choice_by}
+use Rattle.algol_effect.specs.declared.effect.Effect.{Effect}
 use Rattle.algol_perform.specs.Performing.{performed, performed_by}
 use Rattle.algol_run.specs.SeenEnd.{seen_end}
 use Rattle.algol_run.specs.Stepping.{ended, not_able, went, step_by, step_of, is_kept, is_over}

@@ -7,11 +7,11 @@ ghost use Rattle.algol_meaning.specs.Asks as asks;
 ghost use Rattle.algol_rest.specs.SeenScope.{scoped};
 ghost use Rattle.algol_rest.specs.SeenExpression as seen;
 ghost use Rattle.algol_world.specs.SeenWorld.{task, world_of};
-ghost use Rattle.algol_step.specs.Effects.{asked_choice, effect_choice, given_cell_in, given_cells_in, task_in};
+ghost use Rattle.algol_effect.specs.Effects.{asked_choice, effect_choice, given_cell_in, given_cells_in, task_in};
 
 use crate::copying::copy_cell;
 use crate::deciding::here;
-use crate::effect::Effect;
+use algol_effect::Effect;
 use algol_meaning::MOST_STARTED;
 use algol_rest::{Cell, Given, Reference};
 use algol_tree::Named;

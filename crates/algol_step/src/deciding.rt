@@ -8,9 +8,9 @@ ghost use Rattle.algol_rest.specs.SeenValue.{value};
 ghost use Rattle.algol_rest.specs.SeenExpression.{reference};
 ghost use Rattle.algol_world.specs.SeenInstance.{cell_or_none};
 ghost use Rattle.algol_world.specs.SeenWorld.{world_of};
-ghost use Rattle.algol_step.specs.Effects.{asked_choice, effect_choice, here_in};
+ghost use Rattle.algol_effect.specs.Effects.{asked_choice, effect_choice, here_in};
 
-use crate::effect::Effect;
+use algol_effect::Effect;
 use algol_rest::{Answer, Cell, Reference, Rest, Value};
 use algol_tree::{Line, Named, Whole};
 use algol_world::{Action, Part, Purpose, World, ancestor, cell_at};

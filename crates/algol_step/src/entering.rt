@@ -5,9 +5,9 @@ ghost use Rattle.algol_meaning.specs.Asks as asks;
 ghost use Rattle.algol_meaning.specs.Choice as choices;
 ghost use Rattle.algol_meaning.specs.SeenTree.{stmts, body};
 ghost use Rattle.algol_rest.specs.SeenValue.{value};
-ghost use Rattle.algol_step.specs.Effects.{asked_choice, effect_choice};
+ghost use Rattle.algol_effect.specs.Effects.{asked_choice, effect_choice};
 
-use crate::effect::Effect;
+use algol_effect::Effect;
 use algol_rest::{Answer, Value, whole_of};
 use algol_tree::{Body, Stmt};
 use algol_world::{Action, Part, World};

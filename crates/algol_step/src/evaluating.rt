@@ -8,12 +8,12 @@ ghost use Rattle.algol_meaning.specs.SeenTree.{expr};
 ghost use Rattle.algol_rest.specs.SeenValue.{value};
 ghost use Rattle.algol_rest.specs.SeenExpression.{reference};
 ghost use Rattle.algol_world.specs.SeenWorld.{world_of};
-ghost use Rattle.algol_step.specs.Effects.{asked_choice, effect_choice};
+ghost use Rattle.algol_effect.specs.Effects.{asked_choice, effect_choice};
 
 use crate::copying::copy_cell;
 use crate::deciding::here;
-use crate::effect::Effect;
 use crate::lists::{copied, has_items};
+use algol_effect::Effect;
 use algol_rest::{Answer, Cell, Place, Reference, Rest, Value, append, whole_of};
 use algol_tree::{Expr, List, Named};
 use algol_world::{

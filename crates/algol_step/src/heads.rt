@@ -4,11 +4,10 @@ ghost use Rattle.std.specs.Prelude.{◌≡◌, IfOk};
 ghost use Rattle.algol_meaning.specs.Asks as asks;
 ghost use Rattle.algol_rest.specs.SeenScope.{scoped};
 ghost use Rattle.algol_rest.specs.SeenRest.{rest, asked};
-ghost use Rattle.algol_step.specs.Effects.{asked_choice, effect_choice};
+ghost use Rattle.algol_effect.specs.Effects.{asked_choice, effect_choice};
 
 use crate::calling::{decide_enter, decide_start};
 use crate::deciding::{decide_read, decide_read_result};
-use crate::effect::Effect;
 use crate::entering::{decide_enter_block, decide_select};
 use crate::evaluating::{
     decide_happened, decide_index, decide_pass, decide_read_element, decide_resolve,
@@ -20,6 +19,7 @@ use crate::stating::{
     decide_leaving, decide_store, decide_turn,
 };
 use crate::writing::decide_line;
+use algol_effect::Effect;
 use algol_rest::{Ask, Given, Place, Value};
 use algol_tree::{Body, Line, Named, Pair, PhraseText, Stmt};
 use algol_world::{Part, World};

@@ -4,7 +4,6 @@
 mod calling;
 mod copying;
 mod deciding;
-mod effect;
 mod entering;
 mod evaluating;
 mod heads;
@@ -15,7 +14,6 @@ mod writing;
 
 pub use calling::{decide_enter, decide_start};
 pub use deciding::{decide_read, decide_read_result};
-pub use effect::Effect;
 pub use entering::{decide_enter_block, decide_select};
 pub use evaluating::{
     decide_happened, decide_index, decide_pass, decide_read_element, decide_resolve,

@@ -8,10 +8,10 @@ ghost use Rattle.algol_meaning.specs.SeenTree as trees;
 ghost use Rattle.algol_rest.specs.SeenValue.{value};
 ghost use Rattle.algol_rest.specs.SeenExpression as seen;
 ghost use Rattle.algol_world.specs.SeenInstance.{named_cells};
-ghost use Rattle.algol_step.specs.Effects.{asked_choice, effect_choice};
+ghost use Rattle.algol_effect.specs.Effects.{asked_choice, effect_choice};
 
-use crate::effect::Effect;
 use crate::lists::copied;
+use algol_effect::Effect;
 use algol_meaning::MOST_ELEMENTS;
 use algol_rest::{ArrayCell, Bounds, Cell, Value, whole_of};
 use algol_tree::{Kind, List, Named, Pair, Whole};

@@ -5,12 +5,12 @@ ghost use Rattle.algol_meaning.specs.Asks as asks;
 ghost use Rattle.algol_meaning.specs.Rest as rest;
 ghost use Rattle.algol_rest.specs.SeenValue.{value};
 ghost use Rattle.algol_rest.specs.SeenExpression as seen;
-ghost use Rattle.algol_step.specs.Effects.{asked_choice, effect_choice};
+ghost use Rattle.algol_effect.specs.Effects.{asked_choice, effect_choice};
 
 use crate::deciding::here;
-use crate::effect::Effect;
 use crate::evaluating::followed;
 use crate::lists::copied;
+use algol_effect::Effect;
 use algol_rest::{Answer, Place, Value};
 use algol_tree::{EventAct, Named};
 use algol_world::{Action, Part, World};

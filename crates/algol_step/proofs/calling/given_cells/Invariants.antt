@@ -1,6 +1,6 @@
 use Rattle.std.proofs.Common.{◌≡◌, ◌++◌, drop, map}
 use Rattle.algol_rest.specs.SeenExpression as seen
-use Rattle.algol_step.specs.Effects.{given_cells_in}
+use Rattle.algol_effect.specs.Effects.{given_cells_in}
 use Rattle.algol_step.proofs.calling.given_cells.Given as goal
 
 abbrev pub invariant-giving : goal.invariant-giving

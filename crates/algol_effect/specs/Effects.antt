@@ -21,8 +21,8 @@ use Rattle.algol_world.specs.SeenWorld as views
 use Rattle.algol_world.specs.SeenWorld.{world_of, process_of}
 use Rattle.algol_world.specs.declared.world.World.{World}
 use Rattle.algol_world.specs.declared.world.Part.{Part}
-use Rattle.algol_step.specs.declared.effect.Effect.{Effect}
-use Rattle.algol_step.specs.declared.effect.Effect.TheVariants as effects
+use Rattle.algol_effect.specs.declared.effect.Effect.{Effect}
+use Rattle.algol_effect.specs.declared.effect.Effect.TheVariants as effects
 
 -- what a name means in an instance
 abbrev pub here_in : Scopes → world.World → ℕ → Named → plain.Reference
