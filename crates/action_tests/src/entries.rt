@@ -26,7 +26,8 @@ fn turn<C: Core>(
 ) -> Option<Performed> {
     let first = entry(machine, process, most)?;
     for _ in 1..times {
-        if entry(machine, process, most)? != first {
+        let next = entry(machine, process, most)?;
+        if next.plain != first.plain || next.done != first.done {
             return None;
         }
     }
