@@ -8,7 +8,7 @@ use Rattle.algol_meaning.specs.World.{cell_at, Part, Process, World}
 use Rattle.algol_meaning.specs.Critical.{is_evaluation, own_instances}
 use Rattle.algol_paths.specs.Arrays.{all_to_make}
 use Rattle.algol_standing.specs.Skeleton.{Evaluation, IsEvaluated, IsIn}
-use Rattle.algol_standing.specs.Worlds.{held_by, stack_of, IsStanding, IsOnPath, IsAmong, AreListed, IsWhole, ProcessOk, IsOk}
+use Rattle.algol_standing.specs.Worlds.{held_by, stack_of, IsStanding, IsOnPath, IsAmong, AreListed, IsWhole, ProcessOk, IsSound}
 use Rattle.algol_standing.proofs.Pairs.{AllPairs, numbered_back, numbered_forth, pairs_map, stack_forth}
 use Rattle.algol_standing.proofs.Alike.{InstanceAlike, ProcessAlike, alike_ok}
 use Rattle.algol_standing.proofs.Unmoved.{Unmoved, unmoved_alike, unmoved_ok}
@@ -28,7 +28,7 @@ AreStillMade before after = (x : Part) → IsAmong before x → is_evaluation x.
 pub still_self : (parts : List Part) (x : Part) → IsAmong parts x → is_evaluation x.purpose ≡ false → all_to_make x.rest ≡ [] → IsStillMade parts x
 still_self parts x n o m = record { part = x; among = n; owns = o; instance_is = refl; made = m }
 
-module _ (sc : Scopes) (w : World) (ok : IsOk sc IsWhole w) (p : ℕ) (q : Process) (is : numbered w.processes p ≡ Some q) (after : Process) (alike : ProcessAlike q after)
+module _ (sc : Scopes) (w : World) (ok : IsSound sc IsWhole w) (p : ℕ) (q : Process) (is : numbered w.processes p ≡ Some q) (after : Process) (alike : ProcessAlike q after)
     (okay : ProcessOk sc IsWhole w after)
     (held : (e : Evaluation) → IsEvaluated (held_by after.todo) e → IsIn (own_instances after.todo) e.over × IsOnPath w e.over e.within)
     (still : AreStillMade q.todo after.todo) where
@@ -100,6 +100,6 @@ module _ (sc : Scopes) (w : World) (ok : IsOk sc IsWhole w) (p : ℕ) (q : Proce
         by : (x : Process) × (numbered w.processes k ≡ Some x) × Moved x y → IsIn (own_instances y.todo) e.over × IsOnPath w e.over e.within
         by m = which m.0 m.1 m.2
 
-    pub acted_ok : ((r : Reference) (e : EventCell) → IsStanding w r.instance → cell_at v r ≡ event e → AreListed v r e) → IsOk sc IsWhole v
+    pub acted_ok : ((r : Reference) (e : EventCell) → IsStanding w r.instance → cell_at v r ≡ event e → AreListed v r e) → IsSound sc IsWhole v
     acted_ok listed =
         alike_ok w v instances (pairs_map Moved ProcessAlike moved_alike w.processes v.processes processes) sc IsWhole kept ok each holds listed

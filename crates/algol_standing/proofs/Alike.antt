@@ -11,7 +11,7 @@ use Rattle.algol_paths.specs.Blocks.{IsSeen, IsSeenAround}
 use Rattle.algol_paths.specs.Texts.{InExpr, InRest}
 use Rattle.algol_paths.specs.Laws.{KeepsToText}
 use Rattle.algol_standing.specs.Skeleton.{Evaluation, IsEvaluated, Stack, Home, IsIn, NextIn, Owned, SkeletonOk}
-use Rattle.algol_standing.specs.Worlds.{home_of, held_by, stack_of, skeleton, IsStanding, IsOnPath, IsOwn, IsPlaced, outermost, inside, AreListed, IsNameAmong, IsNoBlock, KeepsActual, PartOk, ProcessOk, InstanceOk, IsOk}
+use Rattle.algol_standing.specs.Worlds.{home_of, held_by, stack_of, skeleton, IsStanding, IsOnPath, IsOwn, IsPlaced, outermost, inside, AreListed, IsNameAmong, IsNoBlock, KeepsActual, PartOk, ProcessOk, InstanceOk, IsSound}
 use Rattle.algol_standing.proofs.Growth.{Grows, stands_up, path_up}
 use Rattle.algol_standing.proofs.Pairs.{map_back, map_forth, map_length, AllPairs, numbered_back, numbered_forth, pairs_length, stack_back}
 
@@ -209,8 +209,8 @@ module _ (w v : World) (instances : AllPairs InstanceAlike w.instances v.instanc
           actuals = λ n st m. actual_too n (k.actuals n (stood i st) (f.names n m));
         }
 
-    pub alike_ok : IsOk sc Whole w → ((k : ℕ) (q : Process) → numbered v.processes k ≡ Some q → ProcessOk sc Whole w q) → HoldsOnPath →
-        ((r : Reference) (e : EventCell) → IsStanding w r.instance → cell_at v r ≡ event e → AreListed v r e) → IsOk sc Whole v
+    pub alike_ok : IsSound sc Whole w → ((k : ℕ) (q : Process) → numbered v.processes k ≡ Some q → ProcessOk sc Whole w q) → HoldsOnPath →
+        ((r : Reference) (e : EventCell) → IsStanding w r.instance → cell_at v r ≡ event e → AreListed v r e) → IsSound sc Whole v
     alike_ok ok each held listed =
         record {
           skeleton_ok = skeleton_alike ok.skeleton_ok held;

@@ -5,10 +5,10 @@ use Rattle.algol_tree.specs.Plain as tree
 use Rattle.algol_tree.specs.Plain.{PExpr, PExprs, PBody}
 use Rattle.algol_meaning.specs.Value.{Cell}
 use Rattle.algol_meaning.specs.Rest as rests
-use Rattle.algol_meaning.specs.Rest.{Given, Hole, Actuals, Aim, Rest, Answer, place, entered}
+use Rattle.algol_meaning.specs.Rest.{Place, Given, Hole, Actuals, Aim, Rest, Answer, place, entered}
 use Rattle.algol_meaning.specs.Asks as asks
 use Rattle.algol_meaning.specs.Asks.{Ask, ask_hole, ask_actuals, ask_aim, ask}
-use Rattle.algol_paths.specs.Texts.{InExpr, InExprs, InName, InGivens, InHole, InActuals, InAim, InRest}
+use Rattle.algol_paths.specs.Texts.{InExpr, InExprs, InName, InPlace, InGivens, InHole, InActuals, InAim, InRest}
 use Rattle.algol_paths.specs.Arrays.{all_to_make}
 use Rattle.algol_standing.specs.Worlds.{held_in_place, held_in_givens, held_in_hole, held_in_actuals, held_in_aim, held_in_rest, IsNoBlock}
 use Rattle.algol_standing.proofs.Holding.{AreAll, all_back}
@@ -21,6 +21,7 @@ Sees P Q (asks.asks_happened n) = P n
 Sees P Q (asks.enters n gs) = P n × InGivens P gs
 Sees P Q (asks.passes n) = P n
 Sees P Q (asks.resolves n) = P n
+Sees P Q (asks.stores p v) = InPlace P p
 Sees P Q (asks.goes_to n) = P n
 Sees P Q (asks.enters_block b) = Q b
 Sees P Q (asks.starts n gs task) = P n × InGivens P gs × InName P task
@@ -69,6 +70,11 @@ module _ (P R : Named → Type 0) (f : (n : Named) → R n → P n) where
   name_more None i = tt
   name_more (Some n) i = f n i
 
+  place_more : (p : Place) → InPlace R p → InPlace P p
+  place_more (rests.own n) i = f n i
+  place_more (rests.there r) i = tt
+  place_more (rests.element_of r ks) i = tt
+
   module _ (Q : PBody → Type 0) where
     sees_more : (x : Ask) → Sees R Q x → Sees P Q x
     sees_more (asks.reads n) i = f n i
@@ -78,6 +84,7 @@ module _ (P R : Named → Type 0) (f : (n : Named) → R n → P n) where
     sees_more (asks.enters n gs) i = (f n i.0, givens_more gs i.1)
     sees_more (asks.passes n) i = f n i
     sees_more (asks.resolves n) i = f n i
+    sees_more (asks.stores p v) i = place_more p i
     sees_more (asks.goes_to n) i = f n i
     sees_more (asks.enters_block b) i = i
     sees_more (asks.starts n gs task) i = (f n i.0, givens_more gs i.1, name_more task i.2)
@@ -118,7 +125,7 @@ module _ (P : Named → Type 0) (Q : PBody → Type 0) (R : Named → Type 0) (f
   rest_sees (rests.reading name) i = tt
   rest_sees (rests.giving v) i = tt
   rest_sees (rests.giving_place p) i = tt
-  rest_sees (rests.store p v k) i = tt
+  rest_sees (rests.store p v k) i = i.0
   rest_sees (rests.select v ss k) i = tt
   rest_sees (rests.turning k) i = tt
   rest_sees (rests.going n) i = i
@@ -160,6 +167,7 @@ module _ (P : Named → Type 0) (Q : PBody → Type 0) (R : Named → Type 0) wh
 abbrev pub AskHolds : (Cell → Type 0) → Ask → Type 0
 AskHolds C (asks.enters n gs) = AreAll C (held_in_givens gs)
 AskHolds C (asks.starts n gs task) = AreAll C (held_in_givens gs)
+AskHolds C (asks.stores p v) = AreAll C (held_in_place p)
 AskHolds C _ = Unit {0}
 
 module _ (C : Cell → Type 0) where
@@ -193,6 +201,7 @@ module _ (C : Cell → Type 0) where
   pub rest_asks : (r : Rest) → AreAll C (held_in_rest r) → AskHolds C (ask r)
   rest_asks (rests.entering n gs k) i = i
   rest_asks (rests.starting n gs task k) i = i
+  rest_asks (rests.store p v k) i = i
   rest_asks (rests.evaluating h) i = hole_asks h i
   rest_asks (rests.locating x) i = aim_asks x i
   rest_asks (rests.aiming x e k) i = aim_asks x i

@@ -14,9 +14,10 @@ use Rattle.algol_meaning.specs.Choice.{home, given_cells, entered_procedure, ent
 use Rattle.algol_laws.proofs.Standing.{opens_plain}
 use Rattle.algol_paths.specs.Blocks.{IsSeen, IsSeenAround, IsInner}
 use Rattle.algol_paths.specs.Texts.{InGivens}
-use Rattle.algol_standing.specs.Worlds.{held_in_givens, newest_own, skeleton, IsStanding, IsOnPath, IsNoBlock, IsWhole, IsOk}
-use Rattle.algol_standing.specs.Laws.{AreTexts}
-use Rattle.algol_standing.specs.Calls.{IsCallee, PassNoEvents}
+use Rattle.algol_calls.specs.Fits.{IsCallee}
+use Rattle.algol_standing.specs.Worlds.{held_in_givens, newest_own, skeleton, IsStanding, IsOnPath, IsNoBlock, IsWhole, IsSound}
+use Rattle.algol_standing.specs.Laws.{KeepToTexts}
+use Rattle.algol_standing.proofs.Calls.{PassNoEvents}
 use Rattle.algol_standing.proofs.Lists.{none_some}
 use Rattle.algol_standing.proofs.Standing.{stands_path}
 use Rattle.algol_standing.proofs.Holding.{AreAll}
@@ -26,12 +27,12 @@ use Rattle.algol_standing.proofs.Inside.{Opens}
 use Rattle.algol_standing.proofs.Given.{narrow_here, callee_whole, cells_held, cells_no_events, Held}
 use Rattle.algol_standing.proofs.Entered.{entered_ok}
 
-module _ (sc : Scopes) (w : World) (ok : IsOk sc IsWhole w) where
+module _ (sc : Scopes) (w : World) (ok : IsSound sc IsWhole w) where
   pub some_number : (i : ℕ) → IsStanding w i → 1 ≤ i
   some_number zero st = let x = there sc IsWhole w ok zero st in none_some x.1
   some_number (suc i) st = omega arith
 
-module _ (sc : Scopes) (texts : AreTexts sc) (w : World) (ok : IsOk sc IsWhole w) (p : ℕ) (q : Process) (part : Part) (outer : List Part) (is : numbered w.processes p ≡ Some q)
+module _ (sc : Scopes) (texts : KeepToTexts sc) (w : World) (ok : IsSound sc IsWhole w) (p : ℕ) (q : Process) (part : Part) (outer : List Part) (is : numbered w.processes p ≡ Some q)
     (todo : q.todo ≡ part ∷ outer) (able_is : q.state ≡ able) where
   abbrev j : ℕ
   j = (instance_at w part.instance).block
@@ -83,7 +84,7 @@ module _ (sc : Scopes) (texts : AreTexts sc) (w : World) (ok : IsOk sc IsWhole w
       (rest_asks (Held sc w ok p q part outer is todo) part.rest (held_ok sc IsWhole w ok p q part outer is todo))
 
   pub procedure_enters : (n : Named) (gs : List Given) → ask part.rest ≡ asks.enters n gs → IsCallee sc n → PassNoEvents gs →
-      IsOk sc IsWhole (entered_procedure sc w p q part outer (block_of ((use_of sc n).sort)) (home sc w p q part outer n) (given_cells sc w p q part outer gs)).world
+      IsSound sc IsWhole (entered_procedure sc w p q part outer (block_of ((use_of sc n).sort)) (home sc w p q part outer n) (given_cells sc w p q part outer gs)).world
   procedure_enters n gs e callee plain =
       let s = seen_head (asks.enters n gs) e in
       let narrow = narrow_head (asks.enters n gs) e in
@@ -92,7 +93,7 @@ module _ (sc : Scopes) (texts : AreTexts sc) (w : World) (ok : IsOk sc IsWhole w
       (call_whole n gs callee plain s.0 s.1 narrow) (call_held n gs callee plain s.0 s.1 narrow (held_head (asks.enters n gs) e))
       (cells_no_events sc w ok p q part outer is todo gs plain) (subst (λ x. Opens x) (sym e) tt) (ap opens_plain e)
 
-  pub block_enters : (b : PBody) → ask part.rest ≡ asks.enters_block b → IsOk sc IsWhole (entered_block sc w p q part outer (number_at sc.blocks (spot_of b))).world
+  pub block_enters : (b : PBody) → ask part.rest ≡ asks.enters_block b → IsSound sc IsWhole (entered_block sc w p q part outer (number_at sc.blocks (spot_of b))).world
   block_enters b e =
       let s = seen_head (asks.enters_block b) e in
       entered_ok sc texts w ok p q part outer is todo able_is (number_at sc.blocks (spot_of b)) part.instance [] block refl s.known s.around_is

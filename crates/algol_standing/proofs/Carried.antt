@@ -11,7 +11,7 @@ use Rattle.algol_paths.specs.Blocks.{IsSeen, IsSeenAround}
 use Rattle.algol_paths.specs.Texts.{InExpr, InRest}
 use Rattle.algol_paths.specs.Laws.{KeepsToText}
 use Rattle.algol_standing.specs.Skeleton.{IsIn, SkeletonOk}
-use Rattle.algol_standing.specs.Worlds.{parent_in, referred_in_cells, home_of, held_in_rest, newest_own, stack_of, skeleton, IsStanding, IsOnPath, IsAmong, IsPlaced, outermost, inside, IsAwaited, IsNameIn, IsNameAmong, IsNameHeld, IsNoBlock, HasHead, IsWhole, KeepsActual, PartOk, ProcessOk, InstanceOk, IsOk}
+use Rattle.algol_standing.specs.Worlds.{parent_in, referred_in_cells, home_of, held_in_rest, newest_own, stack_of, skeleton, IsStanding, IsOnPath, IsAmong, IsPlaced, outermost, inside, IsAwaited, IsNameIn, IsNameAmong, IsNameHeld, IsNoBlock, HasHead, IsWhole, KeepsActual, PartOk, ProcessOk, InstanceOk, IsSound}
 use Rattle.algol_standing.proofs.Standing.{stands_path, stands_small}
 use Rattle.algol_standing.proofs.Pairs.{home_forth, stack_forth}
 use Rattle.algol_standing.proofs.Seen.{in_front, in_back, parent_among}
@@ -43,7 +43,7 @@ awaited_lives (waits_for t) r n = refl
 awaited_lives (procures t) r n = refl
 awaited_lives ended r n = absurd n
 
-module _ (sc : Scopes) (w v : World) (ok : IsOk sc IsWhole w) (after : SkeletonOk (skeleton v))
+module _ (sc : Scopes) (w v : World) (ok : IsSound sc IsWhole w) (after : SkeletonOk (skeleton v))
     (paths : (a b : ℕ) → IsStanding w a → IsStanding v a → IsOnPath w a b → IsOnPath v a b)
     (blocks : (i : ℕ) → i < length (skeleton w).homes → (instance_at v i).block ≡ (instance_at w i).block) (whole : (i : ℕ) → IsStanding v i → IsWhole w i → IsWhole v i) where
   abbrev pub InBoth : ℕ → Type 0

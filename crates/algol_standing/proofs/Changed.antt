@@ -8,7 +8,7 @@ use Rattle.algol_meaning.specs.World.{NamedCell, Instance, or_no_instance, insta
 use Rattle.algol_meaning.specs.Critical.{referred_in}
 use Rattle.algol_standing.specs.Skeleton.{IsIn}
 use Rattle.algol_standing.specs.Worlds.{parent_in, referred_in_cells, IsNameIn, IsNameAmong, AreListed}
-use Rattle.algol_standing.specs.Calls.{IsNoEvent}
+use Rattle.algol_standing.proofs.Calls.{IsNoEvent}
 use Rattle.algol_standing.proofs.Seen.{in_front, in_back, in_either}
 use Rattle.algol_standing.proofs.Pairs.{AllPairs, pairs_set, set_or}
 use Rattle.algol_standing.proofs.Alike.{InstanceAlike, instance_self}

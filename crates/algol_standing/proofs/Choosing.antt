@@ -20,10 +20,10 @@ use Rattle.algol_meaning.specs.Asks as asks
 use Rattle.algol_meaning.specs.Asks.{Ask, nothing, ask, resume}
 use Rattle.algol_meaning.specs.Choice.{Choice, choice, choice_in, choice_of, nth_exists, goes, fails, home, here, given_cells, task_of, starts}
 use Rattle.algol_meaning.specs.Run.{End, end_of, goes_on, may_go}
-use Rattle.algol_standing.specs.Worlds.{newest_own, HasHead, IsWhole, IsOk}
+use Rattle.algol_standing.specs.Worlds.{newest_own, HasHead, IsWhole, IsSound}
 use Rattle.algol_paths.specs.Blocks.{IsSeen, IsInner}
-use Rattle.algol_standing.specs.Laws.{AreTexts}
-use Rattle.algol_standing.specs.Calls.{CallFits, HeadFits}
+use Rattle.algol_standing.specs.Laws.{KeepToTexts}
+use Rattle.algol_standing.proofs.Calls.{CallFits, HeadFits}
 use Rattle.algol_standing.proofs.Alike.{instance_self, InstanceAlike}
 use Rattle.algol_standing.proofs.Pairs.{pairs_self}
 use Rattle.algol_standing.proofs.Seen.{CellOk, cell_here}
@@ -36,7 +36,7 @@ use Rattle.algol_standing.proofs.Calling.{procedure_enters, block_enters}
 use Rattle.algol_standing.proofs.Starting.{process_starts}
 use Rattle.algol_standing.proofs.Quiet.{Keeps, either, fails_keeps, at_followed, sees, suited, value_goes, done_goes, same_goes, goes_ok, read_keeps, resolved_keeps, indexed_keeps, element_keeps, stored_keeps, arrays_keep, event_keeps}
 
-module _ (sc : Scopes) (texts : AreTexts sc) (w : World) (ok : IsOk sc IsWhole w) (p : ℕ) (q : Process) (part : Part) (outer : List Part) (is : numbered w.processes p ≡ Some q)
+module _ (sc : Scopes) (texts : KeepToTexts sc) (w : World) (ok : IsSound sc IsWhole w) (p : ℕ) (q : Process) (part : Part) (outer : List Part) (is : numbered w.processes p ≡ Some q)
     (todo : q.todo ≡ part ∷ outer) (able_is : q.state ≡ able) where
   abbrev KeepsHere : Choice → Type 0
   KeepsHere = Keeps sc (heads_act sc) w ok p q part outer is todo able_is
@@ -105,13 +105,13 @@ module _ (sc : Scopes) (texts : AreTexts sc) (w : World) (ok : IsOk sc IsWhole w
 
 -- ---- a choice of a process that may go
 
-able_by : (s : State) → is_able s ≡ true → s ≡ able
+pub able_by : (s : State) → is_able s ≡ true → s ≡ able
 able_by able e = refl
 able_by (waits_for r) e = cc
 able_by (procures r) e = cc
 able_by ended e = cc
 
-found : (o : Option Process) → is_able ((or_no_process o).state) ≡ true → o ≡ Some (or_no_process o)
+pub found : (o : Option Process) → is_able ((or_no_process o).state) ≡ true → o ≡ Some (or_no_process o)
 found None e = cc
 found (Some q) e = refl
 
@@ -123,10 +123,10 @@ pub may_go_able : (w : World) (p : ℕ) → may_go w p ≡ true → is_able ((pr
 unfolding may_go
 may_go_able w p e = goes_able (end_of w) (is_able ((process_at w p).state)) e
 
-pub action_keeps : (sc : Scopes) → AreTexts sc → (w : World) (p : ℕ) → IsOk sc IsWhole w → may_go w p ≡ true → HeadFits sc ((process_at w p).todo) → IsOk sc IsWhole ((choice sc w p).world)
+pub action_keeps : (sc : Scopes) → KeepToTexts sc → (w : World) (p : ℕ) → IsSound sc IsWhole w → may_go w p ≡ true → HeadFits sc ((process_at w p).todo) → IsSound sc IsWhole ((choice sc w p).world)
 unfolding choice
 action_keeps sc texts w p ok goes fits =
-    subst (λ ps. IsOk sc IsWhole ((choice_in sc w p q ps).world)) (sym head.is)
+    subst (λ ps. IsSound sc IsWhole ((choice_in sc w p q ps).world)) (sym head.is)
     (choice_keeps sc texts w ok p q head.part head.outer is head.is able_is (ask head.part.rest) refl (subst (λ ps. HeadFits sc ps) head.is fits))
   where
     q : Process

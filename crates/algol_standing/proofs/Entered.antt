@@ -15,9 +15,9 @@ use Rattle.algol_paths.specs.Blocks.{IsSeen, IsSeenAround, IsInner}
 use Rattle.algol_paths.specs.Laws.{KeepsToText}
 use Rattle.algol_paths.proofs.Statements.{declared_keeps}
 use Rattle.algol_standing.specs.Skeleton.{IsIn, SkeletonOk}
-use Rattle.algol_standing.specs.Worlds.{held_in_rest, newest_own, stack_of, skeleton, IsStanding, IsOnPath, IsOwn, IsAmong, IsAwaited, inside, AreListed, GivesNoOwn, IsWhole, PartOk, ProcessOk, InstanceOk, IsOk}
-use Rattle.algol_standing.specs.Laws.{AreTexts}
-use Rattle.algol_standing.specs.Calls.{IsNoEvent}
+use Rattle.algol_standing.specs.Worlds.{held_in_rest, newest_own, stack_of, skeleton, IsStanding, IsOnPath, IsOwn, IsAmong, IsAwaited, inside, AreListed, GivesNoOwn, IsWhole, PartOk, ProcessOk, InstanceOk, IsSound}
+use Rattle.algol_standing.specs.Laws.{KeepToTexts}
+use Rattle.algol_standing.proofs.Calls.{IsNoEvent}
 use Rattle.algol_standing.proofs.Lists.{false_true}
 use Rattle.algol_standing.proofs.Standing.{stands_path, stands_small}
 use Rattle.algol_standing.proofs.Holding.{AreAll, items_hold}
@@ -34,7 +34,7 @@ use Rattle.algol_standing.proofs.Carried.{name_held, part_kept, actual_kept, unm
 use Rattle.algol_standing.proofs.Evaluating.{no_place_awaited}
 use Rattle.algol_standing.proofs.Entering as stacked
 
-module _ (sc : Scopes) (texts : AreTexts sc) (w : World) (ok : IsOk sc IsWhole w) (p : ℕ) (q : Process) (part : Part) (outer : List Part) (is : numbered w.processes p ≡ Some q)
+module _ (sc : Scopes) (texts : KeepToTexts sc) (w : World) (ok : IsSound sc IsWhole w) (p : ℕ) (q : Process) (part : Part) (outer : List Part) (is : numbered w.processes p ≡ Some q)
     (todo : q.todo ≡ part ∷ outer) (able_is : q.state ≡ able) (j parent : ℕ) (cells : List Cell) (purpose : Purpose) (owns : is_evaluation purpose ≡ false) (known : j < length sc.blocks)
     (around_is : around sc.blocks j ≡ (instance_at w parent).block ∷ around sc.blocks ((instance_at w parent).block)) (parent_some : 1 ≤ parent)
     (parent_path : IsOnPath w (newest_own (part ∷ outer)) parent) (parent_whole : IsWhole w parent) (cells_held : AreAll (CellOk sc IsWhole w ok (newest_own (part ∷ outer))) cells)
@@ -256,7 +256,7 @@ module _ (sc : Scopes) (texts : AreTexts sc) (w : World) (ok : IsOk sc IsWhole w
           absurd (fresh_no_event (block_numbered sc.blocks j) cells no_events r.name e
           (ap (λ o. cell_in ((or_no_instance o).cells) r.name) (sym new_at) ∙ (ap (λ i. cell_in ((instance_at v i).cells) r.name) (sym g) ∙ f)))
 
-  pub entered_ok : IsOk sc IsWhole (opens sc w p q part outer (with_new_instance sc w p q part outer j parent p cells) inner).world
+  pub entered_ok : IsSound sc IsWhole (opens sc w p q part outer (with_new_instance sc w p q part outer j parent p cells) inner).world
   entered_ok =
       record {
         skeleton_ok = v_ok;

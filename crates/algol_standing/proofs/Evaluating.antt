@@ -21,7 +21,7 @@ use Rattle.algol_paths.specs.Blocks.{IsSeen, IsSeenAround, IsInner}
 use Rattle.algol_paths.specs.Texts.{InExpr, InRest}
 use Rattle.algol_paths.proofs.Expressions.{InHalf, InHalfPlace, settle_in, settle_place_in}
 use Rattle.algol_standing.specs.Skeleton.{Evaluation, IsEvaluated, IsIn}
-use Rattle.algol_standing.specs.Worlds.{held_in_rest, newest_own, held_by, IsOnPath, IsOwn, IsAmong, IsAwaited, IsNoBlock, GivesNoOwn, GivesPlace, WaitsForPlace, AreGiven, IsWhole, KeepsActual, PartOk, ProcessOk, IsOk}
+use Rattle.algol_standing.specs.Worlds.{held_in_rest, newest_own, held_by, IsOnPath, IsOwn, IsAmong, IsAwaited, IsNoBlock, GivesNoOwn, GivesPlace, WaitsForPlace, AreGiven, IsWhole, KeepsActual, PartOk, ProcessOk, IsSound}
 use Rattle.algol_standing.proofs.Lists.{false_true, some_same}
 use Rattle.algol_standing.proofs.Holding.{HalfHolds, RestHolds, settle_holds, evaluated_holds}
 use Rattle.algol_standing.proofs.Pairs.{pairs_self, pairs_then_set}
@@ -72,7 +72,7 @@ subscripted_acts sc (tree.variable v) s =
     acting (ask (located_of (settle_place sc v))) (located_acts (settle_place sc v) (place_acts sc v))
 subscripted_acts sc _ s = false_true s
 
-module _ (sc : Scopes) (w : World) (ok : IsOk sc IsWhole w) (p : ℕ) (q : Process) (part : Part) (outer : List Part) (is : numbered w.processes p ≡ Some q) (todo : q.todo ≡ part ∷ outer)
+module _ (sc : Scopes) (w : World) (ok : IsSound sc IsWhole w) (p : ℕ) (q : Process) (part : Part) (outer : List Part) (is : numbered w.processes p ≡ Some q) (todo : q.todo ≡ part ∷ outer)
     (able_is : q.state ≡ able) (c : NameCell) (held : CellOk sc IsWhole w ok (newest_own (part ∷ outer)) (named c)) where
   fine : Fine sc w (part ∷ outer)
   fine = subst (λ ps. Fine sc w ps) todo (fine_of sc w ok p q is)
@@ -184,14 +184,14 @@ module _ (sc : Scopes) (w : World) (ok : IsOk sc IsWhole w) (p : ℕ) (q : Proce
     abbrev MovedHere : Process → Process → Type 0
     MovedHere = Moved sc w ok p q is after alike process_then on_path still
 
-    evaluation_ok : IsOk sc IsWhole (opens sc w p q part outer w inner).world
+    evaluation_ok : IsSound sc IsWhole (opens sc w p q part outer w inner).world
     evaluation_ok =
         acted_ok sc w ok p q is after alike process_then on_path still (with_process w p after) (pairs_self InstanceAlike instance_self w.instances)
         (pairs_then_set Unmoved MovedHere (λ x y f. ◌⊎◌.inr f) w.processes w.processes p after (pairs_self Unmoved unmoved_self w.processes) (λ x e. ◌⊎◌.inl (some_same e is, refl)))
         (λ t e st f. listed_still w (with_process w p after) p q after is able_is refl t e (ok.listed t e st f))
 
   pub read_enters : (n : Named) → ask part.rest ≡ asks.reads n →
-      IsOk sc IsWhole (opens sc w p q part outer w (record { instance = c.instance; purpose = name_read; rest = evaluated_of (settle sc c.actual) })).world
+      IsSound sc IsWhole (opens sc w p q part outer w (record { instance = c.instance; purpose = name_read; rest = evaluated_of (settle sc c.actual) })).world
   read_enters n e =
       evaluation_ok name_read (evaluated_of (settle sc c.actual)) refl (λ P Q R i. evaluated_text P Q R (settle sc c.actual) (settle_in P sc c.actual i))
       (evaluated_holds (Held sc w ok part outer fine) (plain_held sc w ok part outer fine) true (settle sc c.actual)
@@ -200,7 +200,7 @@ module _ (sc : Scopes) (w : World) (ok : IsOk sc IsWhole w) (p : ℕ) (q : Proce
       (λ f. absurd (no_place_awaited sc part.rest (ap opens_plain e) f))
 
   pub place_enters : (n : Named) → ask part.rest ≡ asks.resolves n → is_subscripted c.actual ≡ true →
-      IsOk sc IsWhole (opens sc w p q part outer w (record { instance = c.instance; purpose = name_place; rest = located_of (settle_actual_place sc c.actual) })).world
+      IsSound sc IsWhole (opens sc w p q part outer w (record { instance = c.instance; purpose = name_place; rest = located_of (settle_actual_place sc c.actual) })).world
   place_enters n e s =
       evaluation_ok name_place (located_of (settle_actual_place sc c.actual)) refl (λ P Q R i. subscripted_text P Q R sc c.actual s i)
       (subscripted_holds (Held sc w ok part outer fine) (plain_held sc w ok part outer fine) sc c.actual s).0 (subscripted_acts sc c.actual s) (subst (λ x. Opens x) (sym e) tt)

@@ -13,7 +13,7 @@ use Rattle.algol_meaning.specs.Actions as actions
 use Rattle.algol_meaning.specs.Asks.{nothing, ask, resume}
 use Rattle.algol_meaning.specs.Choice.{Choice, goes, goes_releasing, stops, acted}
 use Rattle.algol_laws.proofs.Cells.{numbered_set}
-use Rattle.algol_standing.specs.Worlds.{newest_own, skeleton, IsOnPath, IsStanding, IsListed, AreOnce, AreListed, IsAwaited, IsWhole, IsOk}
+use Rattle.algol_standing.specs.Worlds.{newest_own, skeleton, IsOnPath, IsStanding, IsListed, AreOnce, AreListed, IsAwaited, IsWhole, IsSound}
 use Rattle.algol_standing.proofs.Lists.{some_same}
 use Rattle.algol_standing.proofs.Standing.{stands_path}
 use Rattle.algol_standing.proofs.Pairs.{AllPairs, numbered_forth, pairs_self, pairs_then_set}
@@ -50,7 +50,7 @@ once_more (x ∷ xs) p o n = (λ m. by (listed_either xs p x m), once_more xs p 
     by (◌⊎◌.inl m) = o.0 m
     by (◌⊎◌.inr e) = n (◌⊎◌.inl (sym e))
 
-module _ (sc : Scopes) (heads_act : (r : Rest) (a : Answer) → Suits (ask r) a → ask (resume sc r a) ≡ nothing → ⊥) (w : World) (ok : IsOk sc IsWhole w) (p : ℕ) (q : Process) (part : Part) (outer : List Part)
+module _ (sc : Scopes) (heads_act : (r : Rest) (a : Answer) → Suits (ask r) a → ask (resume sc r a) ≡ nothing → ⊥) (w : World) (ok : IsSound sc IsWhole w) (p : ℕ) (q : Process) (part : Part) (outer : List Part)
     (is : numbered w.processes p ≡ Some q) (todo : q.todo ≡ part ∷ outer) (able_is : q.state ≡ able) (suits : Suits (ask part.rest) done)
     (r : Reference) (path : IsOnPath w (newest_own (part ∷ outer)) r.instance) where
   acts : ask (resume sc part.rest done) ≡ nothing → ⊥
@@ -86,7 +86,7 @@ module _ (sc : Scopes) (heads_act : (r : Rest) (a : Answer) → Suits (ask r) a 
         (able_unmoved w (set_event w r e) ps (pairs_self Unmoved unmoved_self w.processes) (λ k n. waits_live w r k (freed k n)))
         (λ x f. ◌⊎◌.inl (some_same f is, refl))
 
-    happened_ok : AreListed after r e → IsOk sc IsWhole after
+    happened_ok : AreListed after r e → IsSound sc IsWhole after
     happened_ok l =
         let y = there sc IsWhole w ok r.instance stands in
         resumed_ok sc w ok p q part outer is todo (ap lives able_is) done tt tt acts s lives_on awaits after instances processes
@@ -114,14 +114,14 @@ module _ (sc : Scopes) (heads_act : (r : Rest) (a : Answer) → Suits (ask r) a 
     now_waits : (k : ℕ) (t : State) → (process_at w k).state ≡ t → (t ≡ able → ⊥) → (IsListed ps k → ⊥) → (process_at now k).state ≡ t
     now_waits k t f other n = stays q.state (ap lives able_is) awaits_none e ps freed k t f other n
 
-    now_ok : AreListed now r e → IsOk sc IsWhole now
+    now_ok : AreListed now r e → IsSound sc IsWhole now
     now_ok l = happened_ok q.state (ap lives able_is) awaits_none e ps freed l
 
   freed_none : (k : ℕ) → IsListed [] k → WaitsAt w r k
   freed_none k n = absurd n
 
   -- nobody is released, and the lists stay
-  same_lists : (e : EventCell) → e.waiters ≡ (event_at w r).waiters → e.procurers ≡ (event_at w r).procurers → IsOk sc IsWhole (now e [] freed_none)
+  same_lists : (e : EventCell) → e.waiters ≡ (event_at w r).waiters → e.procurers ≡ (event_at w r).procurers → IsSound sc IsWhole (now e [] freed_none)
   same_lists e f g =
       now_ok e [] freed_none
       (record {
@@ -130,7 +130,7 @@ module _ (sc : Scopes) (heads_act : (r : Rest) (a : Answer) → Suits (ask r) a 
         once = subst (λ xs. AreOnce xs) (sym g) listed.once;
       })
 
-  caused_ok : IsOk sc IsWhole (goes_releasing sc w p q part outer actions.Cause (caused w r)).world
+  caused_ok : IsSound sc IsWhole (goes_releasing sc w p q part outer actions.Cause (caused w r)).world
   caused_ok =
       now_ok e (event_at w r).waiters free
       (record {
@@ -147,7 +147,7 @@ module _ (sc : Scopes) (heads_act : (r : Rest) (a : Answer) → Suits (ask r) a 
       free : (k : ℕ) → IsListed (event_at w r).waiters k → WaitsAt w r k
       free k n = ◌⊎◌.inl (listed.waiters k n)
 
-  liberated_ok : (xs : List ℕ) → (event_at w r).procurers ≡ xs → IsOk sc IsWhole (goes_releasing sc w p q part outer actions.Liberate (liberated_by w r (event_at w r) xs)).world
+  liberated_ok : (xs : List ℕ) → (event_at w r).procurers ≡ xs → IsSound sc IsWhole (goes_releasing sc w p q part outer actions.Liberate (liberated_by w r (event_at w r) xs)).world
   liberated_ok [] f = same_lists (record (event_at w r) { available = true }) refl refl
   liberated_ok (x ∷ xs) f =
       now_ok e (x ∷ []) free
@@ -189,7 +189,7 @@ module _ (sc : Scopes) (heads_act : (r : Rest) (a : Answer) → Suits (ask r) a 
   awaits_procuring : (t : Reference) → IsAwaited (procures r) t → IsOnPath w (newest_own (part ∷ outer)) t.instance
   awaits_procuring t f = subst (λ (u : Reference). IsOnPath w (newest_own (part ∷ outer)) u.instance) f path
 
-  stops_waiting : IsOk sc IsWhole (stops sc w p q part outer actions.Wait (with_waiter w r p) (waits_for r)).world
+  stops_waiting : IsSound sc IsWhole (stops sc w p q part outer actions.Wait (with_waiter w r p) (waits_for r)).world
   stops_waiting =
       happened_ok (waits_for r) refl awaits_for e [] freed_none
       (record {
@@ -206,7 +206,7 @@ module _ (sc : Scopes) (heads_act : (r : Rest) (a : Answer) → Suits (ask r) a 
       by k (◌⊎◌.inr g) =
           ap (λ j. (process_at (after (waits_for r) refl awaits_for e [] freed_none) j).state) (sym g) ∙ acts_now (waits_for r) refl awaits_for e [] freed_none
 
-  stops_procuring : IsOk sc IsWhole (stops sc w p q part outer actions.Procure (with_procurer w r p) (procures r)).world
+  stops_procuring : IsSound sc IsWhole (stops sc w p q part outer actions.Procure (with_procurer w r p) (procures r)).world
   stops_procuring =
       happened_ok (procures r) refl awaits_procuring e [] freed_none
       (record {
@@ -225,11 +225,11 @@ module _ (sc : Scopes) (heads_act : (r : Rest) (a : Answer) → Suits (ask r) a 
 
   -- ---- by the action
 
-  either_ok : (b : Bool) (c d : Choice) → IsOk sc IsWhole c.world → IsOk sc IsWhole d.world → IsOk sc IsWhole (if b then c else d).world
+  either_ok : (b : Bool) (c d : Choice) → IsSound sc IsWhole c.world → IsSound sc IsWhole d.world → IsSound sc IsWhole (if b then c else d).world
   either_ok true c d f g = f
   either_ok false c d f g = g
 
-  pub event_acted : (x : EventAct) → IsOk sc IsWhole (acted sc w p q part outer x r).world
+  pub event_acted : (x : EventAct) → IsSound sc IsWhole (acted sc w p q part outer x r).world
   event_acted act.Cause = caused_ok
   event_acted act.Reset = same_lists (record (event_at w r) { happened = false }) refl refl
   event_acted act.Wait =

@@ -6,7 +6,7 @@ use Rattle.algol_tree.specs.Scopes.{Scopes}
 use Rattle.algol_meaning.specs.World.{Part, Process, World}
 use Rattle.algol_meaning.specs.Critical.{is_evaluation, own_instances, referred_by}
 use Rattle.algol_standing.specs.Skeleton.{Evaluation, IsEvaluated, Home, IsIn, SkeletonOk}
-use Rattle.algol_standing.specs.Worlds.{held_in_rest, newest_own, held_by, stack_of, skeleton, IsStanding, IsOnPath, IsAmong, AreGiven, IsWhole, PartOk, IsOk}
+use Rattle.algol_standing.specs.Worlds.{held_in_rest, newest_own, held_by, stack_of, skeleton, IsStanding, IsOnPath, IsAmong, AreGiven, IsWhole, PartOk, IsSound}
 use Rattle.algol_standing.proofs.Lists.{none_some, some_same}
 use Rattle.algol_standing.proofs.Standing.{stands_path, home_stands}
 use Rattle.algol_standing.proofs.Pairs.{stack_forth}
@@ -138,7 +138,7 @@ module _ (sc : Scopes) (w : World) where
   fine_back [] parts f = f
   fine_back (x ∷ newer) parts f = fine_back newer parts (fine_tail x (newer ++ parts) f)
 
-  pub fine_of : IsOk sc IsWhole w → (p : ℕ) (q : Process) → numbered w.processes p ≡ Some q → Fine q.todo
+  pub fine_of : IsSound sc IsWhole w → (p : ℕ) (q : Process) → numbered w.processes p ≡ Some q → Fine q.todo
   fine_of ok p q e =
       record {
         each = (ok.processes p q e).parts;

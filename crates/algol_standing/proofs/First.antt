@@ -15,7 +15,7 @@ use Rattle.algol_meaning.specs.Run.{start}
 use Rattle.algol_paths.specs.Blocks.{IsSeen, IsSeenAround, IsInner}
 use Rattle.algol_paths.proofs.Statements.{declared_keeps}
 use Rattle.algol_standing.specs.Skeleton.{Evaluation, IsEvaluated, Stack, Home, IsIn, Owned, here, SkeletonOk}
-use Rattle.algol_standing.specs.Worlds.{home_of, held_in_rest, held_by, stack_of, skeleton, IsStanding, IsOnPath, IsOwn, IsAmong, outermost, IsWhole, PartOk, ProcessOk, InstanceOk, IsOk}
+use Rattle.algol_standing.specs.Worlds.{home_of, held_in_rest, held_by, stack_of, skeleton, IsStanding, IsOnPath, IsOwn, IsAmong, outermost, IsWhole, PartOk, ProcessOk, InstanceOk, IsSound}
 use Rattle.algol_standing.specs.Laws.{HasOuterBlock}
 use Rattle.algol_standing.proofs.Lists.{none_some}
 use Rattle.algol_standing.proofs.Holding.{AreAll, items_hold}
@@ -131,7 +131,7 @@ module _ (sc : Scopes) (o : HasOuterBlock sc) (acts : ask (settle_items sc (item
   no_event (suc zero) name e f = fresh_no_event (block_numbered sc.blocks 0) [] tt name e f
   no_event (suc (suc k)) name e f = cc
 
-  first_ok : IsOk sc IsWhole first
+  first_ok : IsSound sc IsWhole first
   first_ok =
       record {
         skeleton_ok = skeleton_first;
@@ -144,6 +144,6 @@ module _ (sc : Scopes) (o : HasOuterBlock sc) (acts : ask (settle_items sc (item
         listed = λ r e st f. absurd (no_event r.instance r.name e f);
       }
 
-pub first_world : (sc : Scopes) → HasOuterBlock sc → (ask (settle_items sc (items_of (block_numbered sc.blocks 0))) ≡ nothing → ⊥) → IsOk sc IsWhole (start sc)
+pub first_world : (sc : Scopes) → HasOuterBlock sc → (ask (settle_items sc (items_of (block_numbered sc.blocks 0))) ≡ nothing → ⊥) → IsSound sc IsWhole (start sc)
 unfolding start
 first_world sc o acts = first_ok sc o acts

@@ -12,7 +12,7 @@ use Rattle.algol_meaning.specs.Critical.{referred_in, referred_by}
 use Rattle.algol_meaning.specs.Instances.{parameter_cells, initial_cells, result_cells, variable_cells, fresh_cells}
 use Rattle.algol_standing.specs.Skeleton.{IsIn}
 use Rattle.algol_standing.specs.Worlds.{parent_in, referred_in_cells, IsNameAmong, IsNameHeld}
-use Rattle.algol_standing.specs.Calls.{IsNoEvent}
+use Rattle.algol_standing.proofs.Calls.{IsNoEvent}
 use Rattle.algol_standing.proofs.Holding.{AreAll}
 use Rattle.algol_standing.proofs.Seen.{in_front, in_back, in_either}
 use Rattle.algol_standing.proofs.Changed.{IsPlain, ArePlain, refs_more, names_more, AreNoEvents, event_more}

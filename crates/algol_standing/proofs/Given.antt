@@ -16,16 +16,17 @@ use Rattle.algol_meaning.specs.Choice.{home, here, given_cells}
 use Rattle.algol_paths.specs.Blocks.{IsSeen, IsSeenAround, IsInner}
 use Rattle.algol_paths.specs.Texts.{InExpr, InGivens, InRest}
 use Rattle.algol_paths.specs.Arrays.{all_to_make}
+use Rattle.algol_calls.specs.Fits.{IsCallee}
 use Rattle.algol_standing.specs.Skeleton.{IsIn}
-use Rattle.algol_standing.specs.Worlds.{held_in_givens, newest_own, skeleton, IsStanding, IsOnPath, IsPlaced, outermost, inside, IsAmong, IsNoBlock, IsWhole, KeepsActual, PartOk, IsOk}
-use Rattle.algol_standing.specs.Calls.{IsNoEvent, IsCallee, PassNoEvents}
+use Rattle.algol_standing.specs.Worlds.{held_in_givens, newest_own, skeleton, IsStanding, IsOnPath, IsPlaced, outermost, inside, IsAmong, IsNoBlock, IsWhole, KeepsActual, PartOk, IsSound}
+use Rattle.algol_standing.proofs.Calls.{IsNoEvent, PassNoEvents}
 use Rattle.algol_standing.proofs.Lists.{false_true, none_some}
 use Rattle.algol_standing.proofs.Standing.{stands_path}
 use Rattle.algol_standing.proofs.Holding.{AreAll}
 use Rattle.algol_standing.proofs.Seen.{CellOk, there, instance_is, parent_path, part_ok, part_path, part_stands, home_path}
 use Rattle.algol_standing.proofs.Asking.{Sees, rest_sees, bound_sees}
 
-module _ (sc : Scopes) (w : World) (ok : IsOk sc IsWhole w) where
+module _ (sc : Scopes) (w : World) (ok : IsSound sc IsWhole w) where
   up_one : (up i b : ℕ) → IsStanding w i → slice_get (around sc.blocks ((instance_at w i).block)) up ≡ Some b →
       ((j : ℕ) → IsStanding w j → IsWhole w j → slice_get ((instance_at w j).block ∷ around sc.blocks ((instance_at w j).block)) up ≡ Some b → IsWhole w (ancestor w up j)) →
       IsWhole w (ancestor w (suc up) i)

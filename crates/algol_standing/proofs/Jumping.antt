@@ -21,8 +21,8 @@ use Rattle.algol_paths.specs.Laws.{KeepsToText, ItemsKeepToText}
 use Rattle.algol_paths.proofs.Statements.{declared_keeps}
 use Rattle.algol_paths.proofs.Jumps.{jumps_keep_to_their_text}
 use Rattle.algol_standing.specs.Skeleton.{IsIn}
-use Rattle.algol_standing.specs.Worlds.{held_in_rest, newest_own, IsOwn, IsAmong, IsAwaited, GivesNoOwn, GivesPlace, HasHead, IsWhole, PartOk, IsOk}
-use Rattle.algol_standing.specs.Laws.{AreTexts}
+use Rattle.algol_standing.specs.Worlds.{held_in_rest, newest_own, IsOwn, IsAmong, IsAwaited, GivesNoOwn, GivesPlace, HasHead, IsWhole, PartOk, IsSound}
+use Rattle.algol_standing.specs.Laws.{KeepToTexts}
 use Rattle.algol_standing.proofs.Lists.{false_true}
 use Rattle.algol_standing.proofs.Holding.{RestHolds, items_hold}
 use Rattle.algol_standing.proofs.Seen.{all_names, there, instance_is}
@@ -35,7 +35,7 @@ use Rattle.algol_standing.proofs.Leaving.{left_ok}
 
 -- ---- the cut
 
-cut_all : (newer parts : List Part) (i : ℕ) → newer ++ parts ≡ (cut_at newer parts i).newer ++ (cut_at newer parts i).from
+pub cut_all : (newer parts : List Part) (i : ℕ) → newer ++ parts ≡ (cut_at newer parts i).newer ++ (cut_at newer parts i).from
 cut_all newer [] i = refl
 cut_all newer (part ∷ parts) i = by (is_part_of part i) (sym (append_assoc newer (part ∷ []) parts) ∙ cut_all (newer ++ part ∷ []) parts i)
   where
@@ -46,7 +46,7 @@ cut_all newer (part ∷ parts) i = by (is_part_of part i) (sym (append_assoc new
     by true e = refl
     by false e = e
 
-cut_target : (newer parts : List Part) (i : ℕ) (target : Part) (rest : List Part) → (cut_at newer parts i).from ≡ target ∷ rest → is_part_of target i ≡ true
+pub cut_target : (newer parts : List Part) (i : ℕ) (target : Part) (rest : List Part) → (cut_at newer parts i).from ≡ target ∷ rest → is_part_of target i ≡ true
 cut_target newer [] i target rest e = cc
 cut_target newer (part ∷ parts) i target rest e = by (is_part_of part i) refl (λ f. cut_target (newer ++ part ∷ []) parts i target rest f) e
   where
@@ -55,7 +55,7 @@ cut_target newer (part ∷ parts) i target rest e = by (is_part_of part i) refl 
     by true f g h = let same : part ≡ target = cc in subst (λ (x : Part). is_part_of x i ≡ true) same f
     by false f g h = g h
 
-target_is : (x : Part) (i : ℕ) → is_part_of x i ≡ true → (is_evaluation x.purpose ≡ false) × (x.instance ≡ i)
+pub target_is : (x : Part) (i : ℕ) → is_part_of x i ≡ true → (is_evaluation x.purpose ≡ false) × (x.instance ≡ i)
 target_is x i e = by (is_evaluation x.purpose) refl e
   where
     by : (b : Bool) → is_evaluation x.purpose ≡ b → (if b then false else x.instance == i) ≡ true → (is_evaluation x.purpose ≡ false) × (x.instance ≡ i)
@@ -113,7 +113,7 @@ behind xs y ys head x n = head.wait x (by xs head.part head.outer head.is)
     by [] b bs e = subst (λ ps. IsAmong ps x) (tail y b ys bs e) n
     by (z ∷ zs) b bs e = subst (λ ps. IsAmong ps x) (tail z b (zs ++ y ∷ ys) bs e) (back zs)
 
-module _ (sc : Scopes) (texts : AreTexts sc) (w : World) (ok : IsOk sc IsWhole w) (p : ℕ) (q : Process) (part : Part) (outer : List Part) (is : numbered w.processes p ≡ Some q)
+module _ (sc : Scopes) (texts : KeepToTexts sc) (w : World) (ok : IsSound sc IsWhole w) (p : ℕ) (q : Process) (part : Part) (outer : List Part) (is : numbered w.processes p ≡ Some q)
     (todo : q.todo ≡ part ∷ outer) (able_is : q.state ≡ able) (n : Named) (i : ℕ) where
   module _ (newer : List Part) (target : Part) (parts : List Part) (all_is : q.todo ≡ newer ++ target ∷ parts) (target_of : is_part_of target i ≡ true)
       (none : some_depends_on_any w.processes (own_instances newer) ≡ false) where
@@ -197,7 +197,7 @@ module _ (sc : Scopes) (texts : AreTexts sc) (w : World) (ok : IsOk sc IsWhole w
         same : IsOwn (there_on ∷ parts) k → IsOwn (target ∷ parts) k
         same l = l
 
-    gone_ok : IsOk sc IsWhole (gone sc w p q part outer (own_instances newer) (block_numbered sc.blocks j) n (target ∷ parts)).world
+    gone_ok : IsSound sc IsWhole (gone sc w p q part outer (own_instances newer) (block_numbered sc.blocks j) n (target ∷ parts)).world
     gone_ok =
         left_ok sc w ok p q is able_is (own_instances newer) (there_on ∷ parts) q.state (ap own_instances all_is ∙ own_both newer (target ∷ parts))
         (changed_fine sc w ok target parts fine r part_then holds_none no_place_before) (λ l. head_then) (λ t m. subst (λ s. IsAwaited s t) able_is m) owned still none
@@ -209,21 +209,21 @@ module _ (sc : Scopes) (texts : AreTexts sc) (w : World) (ok : IsOk sc IsWhole w
   cut = cut_at [] (part ∷ outer) i
 
   by_parts : (parts : List Part) → cut.from ≡ parts → some_depends_on_any w.processes (own_instances cut.newer) ≡ false →
-      IsOk sc IsWhole (gone sc w p q part outer (own_instances cut.newer) (block_numbered sc.blocks ((instance_at w i).block)) n parts).world
+      IsSound sc IsWhole (gone sc w p q part outer (own_instances cut.newer) (block_numbered sc.blocks ((instance_at w i).block)) n parts).world
   by_parts [] e none = ok
   by_parts (target ∷ parts) e none =
       gone_ok cut.newer target parts (todo ∙ (cut_all [] (part ∷ outer) i ∙ ap (λ ps. cut.newer ++ ps) e)) (cut_target [] (part ∷ outer) i target parts e) none
 
   by_dependants : (b : Bool) → some_depends_on_any w.processes (own_instances cut.newer) ≡ b →
-      IsOk sc IsWhole
+      IsSound sc IsWhole
       (if b then fails sc w p q part outer fault.CriticalBlockExit
       else gone sc w p q part outer (own_instances cut.newer) (block_numbered sc.blocks ((instance_at w i).block)) n cut.from).world
   by_dependants true e = same_ok sc w (fails sc w p q part outer fault.CriticalBlockExit).world ok refl refl
   by_dependants false e = by_parts cut.from refl e
 
-  by_process : (b : Bool) → IsOk sc IsWhole (if b then gone_to sc w p q part outer n i cut else fails sc w p q part outer fault.BadGoTo).world
+  by_process : (b : Bool) → IsSound sc IsWhole (if b then gone_to sc w p q part outer n i cut else fails sc w p q part outer fault.BadGoTo).world
   by_process true = by_dependants (some_depends_on_any w.processes (own_instances cut.newer)) refl
   by_process false = same_ok sc w (fails sc w p q part outer fault.BadGoTo).world ok refl refl
 
-  pub jump_keeps : IsOk sc IsWhole (goes_to sc w p q part outer n i).world
+  pub jump_keeps : IsSound sc IsWhole (goes_to sc w p q part outer n i).world
   jump_keeps = by_process ((instance_at w i).process == p)

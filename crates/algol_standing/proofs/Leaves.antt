@@ -17,7 +17,7 @@ use Rattle.algol_laws.proofs.Cells.{numbered_set}
 use Rattle.algol_laws.proofs.Heads.{resume_acts}
 use Rattle.algol_paths.specs.Arrays.{all_to_make}
 use Rattle.algol_standing.specs.Skeleton.{IsIn}
-use Rattle.algol_standing.specs.Worlds.{held_in_answer, newest_own, stack_of, IsStanding, IsOwn, IsAmong, IsListed, AreListed, IsAwaited, GivesNoOwn, HasHead, IsWhole, IsOk}
+use Rattle.algol_standing.specs.Worlds.{held_in_answer, newest_own, stack_of, IsStanding, IsOwn, IsAmong, IsListed, AreListed, IsAwaited, GivesNoOwn, HasHead, IsWhole, IsSound}
 use Rattle.algol_standing.proofs.Lists.{false_true}
 use Rattle.algol_standing.proofs.Holding.{AreAll, IsForeign}
 use Rattle.algol_standing.proofs.Pairs.{AllPairs, pairs_self, pairs_map, pairs_set_both, stack_forth}
@@ -37,7 +37,7 @@ use Rattle.algol_standing.proofs.Stacks.{leave_same, leave_forth}
 use Rattle.algol_standing.proofs.LeavesWith.{leaves_foreign, leaves_held, leaves_answer, leaves_place, leaves_nothing, waits}
 use Rattle.algol_standing.proofs.Leaving.{stood, left_ok}
 
-module _ (sc : Scopes) (w : World) (ok : IsOk sc IsWhole w) (p : ℕ) (q : Process) (part : Part) (outer : List Part) (is : numbered w.processes p ≡ Some q) (todo : q.todo ≡ part ∷ outer)
+module _ (sc : Scopes) (w : World) (ok : IsSound sc IsWhole w) (p : ℕ) (q : Process) (part : Part) (outer : List Part) (is : numbered w.processes p ≡ Some q) (todo : q.todo ≡ part ∷ outer)
     (able_is : q.state ≡ able) (a : Answer) (asks_it : ask part.rest ≡ asks.leaves a) where
   fine : Fine sc w (part ∷ outer)
   fine = subst (λ ps. Fine sc w ps) todo (fine_of sc w ok p q is)
@@ -98,14 +98,14 @@ module _ (sc : Scopes) (w : World) (ok : IsOk sc IsWhole w) (p : ℕ) (q : Proce
         same : IsOwn (answered sc w ok next parts fine_next a foreign brings ∷ parts) i → IsOwn (next ∷ parts) i
         same m = m
 
-    goes_on : IsOk sc IsWhole (left_with sc w p q part outer (leave w newer) a (next ∷ parts)).world
+    goes_on : IsSound sc IsWhole (left_with sc w p q part outer (leave w newer) a (next ∷ parts)).world
     goes_on =
         left_ok sc w ok p q is able_is newer (answered sc w ok next parts fine_next a foreign brings ∷ parts) q.state (ap own_instances both ∙ own_is)
         (answered_fine sc w ok next parts fine_next a foreign brings) (λ l. head_then) not_awaited owned still_then none (◌⊎◌.inl (ap lives able_is))
 
   -- ---- an evaluation
 
-  evaluation_left : is_evaluation part.purpose ≡ true → (parts : List Part) → outer ≡ parts → IsOk sc IsWhole (left_with sc w p q part outer w a parts).world
+  evaluation_left : is_evaluation part.purpose ≡ true → (parts : List Part) → outer ≡ parts → IsSound sc IsWhole (left_with sc w p q part outer w a parts).world
   evaluation_left e [] below = ok
   evaluation_left e (next ∷ parts) below = goes_on next parts below [] (ap (λ b. if b then own_instances (next ∷ parts) else part.instance ∷ own_instances (next ∷ parts)) e) out refl brings
     where
@@ -129,7 +129,7 @@ module _ (sc : Scopes) (w : World) (ok : IsOk sc IsWhole w) (p : ℕ) (q : Proce
     none : some_depends_on_any w.processes (part.instance ∷ []) ≡ false
     none = ap (λ b. b || false) free
 
-    instance_left : (next : Part) (parts : List Part) → outer ≡ next ∷ parts → IsOk sc IsWhole (left_with sc w p q part outer (leave w (part.instance ∷ [])) a (next ∷ parts)).world
+    instance_left : (next : Part) (parts : List Part) → outer ≡ next ∷ parts → IsSound sc IsWhole (left_with sc w p q part outer (leave w (part.instance ∷ [])) a (next ∷ parts)).world
     instance_left next parts below =
         goes_on next parts below (part.instance ∷ []) (own_first (next ∷ parts)) (λ e. ◌⊎◌.inl refl) none
         (leaves_nothing (CellOk sc IsWhole w ok (newest_own (next ∷ parts))) part.rest a asks_it
@@ -172,7 +172,7 @@ module _ (sc : Scopes) (w : World) (ok : IsOk sc IsWhole w) (p : ℕ) (q : Proce
       own_only : own_instances q.todo ≡ (part.instance ∷ []) ++ own_instances []
       own_only = ap own_instances only ∙ own_first []
 
-      closed_ok : IsOk sc IsWhole closed
+      closed_ok : IsSound sc IsWhole closed
       closed_ok =
           left_ok sc w ok p q is able_is (part.instance ∷ []) [] ended own_only none_fine dead never owned_none all_left none (◌⊎◌.inr (part.instance, refl, refl, refl))
 
@@ -229,7 +229,7 @@ module _ (sc : Scopes) (w : World) (ok : IsOk sc IsWhole w) (p : ℕ) (q : Proce
         at_p : numbered closed.processes p ≡ Some over
         at_p = numbered_set before.processes p q over is
 
-        task_caused : IsOk sc IsWhole v
+        task_caused : IsSound sc IsWhole v
         task_caused =
             let x = there sc IsWhole w ok r.instance stands in
             let y = leave_forth w (part.instance ∷ []) r.instance x.0 x.1 in
@@ -238,24 +238,24 @@ module _ (sc : Scopes) (w : World) (ok : IsOk sc IsWhole w) (p : ℕ) (q : Proce
             (pairs_map Unmoved (λ x z. ((x ≡ over) × (z ≡ over)) ⊎ Unmoved x z) (λ x z f. ◌⊎◌.inr f) closed.processes v.processes processes)
             (λ s d st f. listed_then before p q over is able_is r happens (event_at before r).waiters free_now y.0 y.1 here s d (listed_before s d (closed_stood s.instance st)) f)
 
-      ends : (o : Option Reference) → q.task ≡ o → IsOk sc IsWhole (ended_releasing sc w p q part outer (caused_by_end before o)).world
+      ends : (o : Option Reference) → q.task ≡ o → IsSound sc IsWhole (ended_releasing sc w p q part outer (caused_by_end before o)).world
       ends None e = closed_ok
       ends (Some r) e = task_caused r e
 
-    by_parts : (parts : List Part) → outer ≡ parts → IsOk sc IsWhole (left_or_ended sc w p q part outer a parts).world
+    by_parts : (parts : List Part) → outer ≡ parts → IsSound sc IsWhole (left_or_ended sc w p q part outer a parts).world
     by_parts [] last = ends last q.task refl
     by_parts (next ∷ parts) below = instance_left next parts below
 
-  pub left_keeps : IsOk sc IsWhole (left sc w p q part outer a).world
+  pub left_keeps : IsSound sc IsWhole (left sc w p q part outer a).world
   left_keeps = by (is_evaluation part.purpose) refl
     where
       owns_it : is_evaluation part.purpose ≡ false → (b : Bool) → some_depends w.processes part.instance ≡ b →
-          IsOk sc IsWhole (if b then fails sc w p q part outer fault.CriticalBlockExit else left_or_ended sc w p q part outer a outer).world
+          IsSound sc IsWhole (if b then fails sc w p q part outer fault.CriticalBlockExit else left_or_ended sc w p q part outer a outer).world
       owns_it o true f = same_ok sc w (fails sc w p q part outer fault.CriticalBlockExit).world ok refl refl
       owns_it o false f = by_parts o f outer refl
 
       by : (b : Bool) → is_evaluation part.purpose ≡ b →
-          IsOk sc IsWhole
+          IsSound sc IsWhole
           (if b then left_with sc w p q part outer w a outer
           else if some_depends w.processes part.instance then fails sc w p q part outer fault.CriticalBlockExit
           else left_or_ended sc w p q part outer a outer).world

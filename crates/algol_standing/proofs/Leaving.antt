@@ -10,7 +10,7 @@ use Rattle.algol_meaning.specs.Instances.{leave}
 use Rattle.algol_laws.proofs.Cells.{numbered_set, numbered_other, itself}
 use Rattle.algol_paths.specs.Arrays.{all_to_make}
 use Rattle.algol_standing.specs.Skeleton.{Stack, Skeleton, IsIn, Stands, OnPath, SkeletonOk, AreFree}
-use Rattle.algol_standing.specs.Worlds.{held_by, stack_of, skeleton, IsStanding, IsOnPath, IsOwn, IsAmong, IsAwaited, HasHead, IsWhole, ProcessOk, InstanceOk, IsOk}
+use Rattle.algol_standing.specs.Worlds.{held_by, stack_of, skeleton, IsStanding, IsOnPath, IsOwn, IsAmong, IsAwaited, HasHead, IsWhole, ProcessOk, InstanceOk, IsSound}
 use Rattle.algol_standing.proofs.Lists.{some_same, same_or_other}
 use Rattle.algol_standing.proofs.Pairs.{stack_forth, stack_back}
 use Rattle.algol_standing.proofs.Changed.{listed_still}
@@ -56,7 +56,7 @@ free_of w is none i n k y e live c = by (stack_back w k y e)
 abbrev pub GoesOrEnds : List ℕ → List Part → State → Type 0
 GoesOrEnds newer parts s = (lives s ≡ true) ⊎ ((i : ℕ) × (newer ≡ i ∷ []) × (own_instances parts ≡ []) × (lives s ≡ false))
 
-module _ (sc : Scopes) (w : World) (ok : IsOk sc IsWhole w) (p : ℕ) (q : Process) (is : numbered w.processes p ≡ Some q) (able_is : q.state ≡ able) (newer : List ℕ) (parts : List Part) (s : State)
+module _ (sc : Scopes) (w : World) (ok : IsSound sc IsWhole w) (p : ℕ) (q : Process) (is : numbered w.processes p ≡ Some q) (able_is : q.state ≡ able) (newer : List ℕ) (parts : List Part) (s : State)
     (own_is : own_instances q.todo ≡ newer ++ own_instances parts) (fine : Fine sc w parts) (heads : lives s ≡ true → HasHead parts) (awaits_none : (r : Reference) → IsAwaited s r → ⊥)
     (owned : (i : ℕ) → IsOwn parts i → IsOwn q.todo i)
     (still : (x : Part) → IsAmong q.todo x → is_evaluation x.purpose ≡ false → all_to_make x.rest ≡ [] → IsIn newer x.instance ⊎ IsStillMade parts x)
@@ -231,7 +231,7 @@ module _ (sc : Scopes) (w : World) (ok : IsOk sc IsWhole w) (p : ℕ) (q : Proce
   cells_same : (r : Reference) → cell_at left_world r ≡ cell_at w r
   cells_same r = leave_same (λ (x : Instance). cell_in x.cells r.name) (λ x. refl) w newer r.instance
 
-  pub left_ok : IsOk sc IsWhole left_world
+  pub left_ok : IsSound sc IsWhole left_world
   left_ok =
       record {
         skeleton_ok = after;

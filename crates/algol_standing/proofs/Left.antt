@@ -5,7 +5,7 @@ use Rattle.algol_tree.specs.Scopes.{Scopes}
 use Rattle.algol_meaning.specs.Value.{Reference}
 use Rattle.algol_meaning.specs.World.{Instance, instance_at, Process, lives, World}
 use Rattle.algol_standing.specs.Skeleton.{IsIn}
-use Rattle.algol_standing.specs.Worlds.{parent_in, referred_in_cells, home_of, stack_of, skeleton, IsStanding, IsWhole, IsOk}
+use Rattle.algol_standing.specs.Worlds.{parent_in, referred_in_cells, home_of, stack_of, skeleton, IsStanding, IsWhole, IsSound}
 use Rattle.algol_standing.specs.Laws.{WhatIsReferredToStands, ReferencesLieOnPaths}
 use Rattle.algol_standing.proofs.Lists.{none_some}
 use Rattle.algol_standing.proofs.Standing.{stands_path}
@@ -13,7 +13,7 @@ use Rattle.algol_standing.proofs.Pairs.{stack_forth, home_forth}
 use Rattle.algol_standing.proofs.Seen.{in_back, there, instance_is}
 use Rattle.algol_standing.proofs.Fine.{held_among, part_stands_in}
 
-module _ (sc : Scopes) (Whole : World → ℕ → Type 0) (w : World) (ok : IsOk sc Whole w) where
+module _ (sc : Scopes) (Whole : World → ℕ → Type 0) (w : World) (ok : IsSound sc Whole w) where
   in_use : (i : ℕ) → IsStanding w i → (instance_at w i).left ≡ false
   in_use i st = let x = there sc Whole w ok i st in ap (λ (y : Instance). y.left) (instance_is sc Whole w ok i x.0 x.1) ∙ (ok.instances i x.0 x.1).left.1 st
 
@@ -38,19 +38,19 @@ module _ (sc : Scopes) (Whole : World → ℕ → Type 0) (w : World) (ok : IsOk
 
 pub what_is_referred_to_stands : WhatIsReferredToStands
 what_is_referred_to_stands = record {
-  parents = λ sc w i x ok e f h. refers sc IsWhole w ok i x.parent x e f (is_parent sc IsWhole w ok x.parent (referred_in_cells x.cells) h);
-  cells = λ sc w i r x ok e f n. refers sc IsWhole w ok i r x e f (in_back (parent_in x.parent) (referred_in_cells x.cells) r n);
-  criticals = λ sc w p c q ok e live f. in_use sc IsWhole w ok c (critical sc IsWhole w ok p c q e live f);
-  tasks = λ sc w p q r ok e live f. in_use sc IsWhole w ok r.instance (task sc IsWhole w ok p q r e live f);
-  parts = λ sc w p q x i ok e n m. in_use sc IsWhole w ok i (part_stands_in w ok.skeleton_ok p q x i e n m);
+  parents = λ sc w i x ok e f h. refers sc IsWhole w ok.sound i x.parent x e f (is_parent sc IsWhole w ok.sound x.parent (referred_in_cells x.cells) h);
+  cells = λ sc w i r x ok e f n. refers sc IsWhole w ok.sound i r x e f (in_back (parent_in x.parent) (referred_in_cells x.cells) r n);
+  criticals = λ sc w p c q ok e live f. in_use sc IsWhole w ok.sound c (critical sc IsWhole w ok.sound p c q e live f);
+  tasks = λ sc w p q r ok e live f. in_use sc IsWhole w ok.sound r.instance (task sc IsWhole w ok.sound p q r e live f);
+  parts = λ sc w p q x i ok e n m. in_use sc IsWhole w ok.sound i (part_stands_in w ok.sound.skeleton_ok p q x i e n m);
 }
 
 pub references_lie_on_paths : ReferencesLieOnPaths
 references_lie_on_paths = record {
-  instances = λ sc w i r x ok e f n. ok.skeleton_ok.refers i (home_of x) r ((ok.instances i x e).left.0 f) (home_forth w i x e) n;
+  instances = λ sc w i r x ok e f n. ok.sound.skeleton_ok.refers i (home_of x) r ((ok.sound.instances i x e).left.0 f) (home_forth w i x e) n;
   parts = λ sc w p q x i ok e n m.
       let o = held_among q.todo x i n m in
-      let f = ok.skeleton_ok.evaluates p (stack_of q) (record { over = o.0; within = i }) (stack_forth w p q e) o.1 in
+      let f = ok.sound.skeleton_ok.evaluates p (stack_of q) (record { over = o.0; within = i }) (stack_forth w p q e) o.1 in
       (o.0, f.0, f.1);
-  tasks = λ sc w p c q r ok e live f g. ok.tasks p c q r e live f g;
+  tasks = λ sc w p c q r ok e live f g. ok.sound.tasks p c q r e live f g;
 }

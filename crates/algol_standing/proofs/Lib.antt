@@ -42,3 +42,12 @@ pub mod Starting
 pub mod Choosing
 pub mod First
 pub mod Worlds
+pub mod FitCells
+pub mod FitWorlds
+pub mod FitNames
+pub mod FitActing
+pub mod FitEntering
+pub mod FitLeaving
+pub mod FitChoosing
+pub mod FitLaws
+pub mod Calls

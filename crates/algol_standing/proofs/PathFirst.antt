@@ -7,7 +7,7 @@ use Rattle.algol_meaning.specs.World.{Instance, or_no_instance, instance_at, Par
 use Rattle.algol_meaning.specs.Critical.{is_this, is_evaluation, own_instances, NumberedInstance, newest_first, is_one_of, first_on_path}
 use Rattle.algol_laws.proofs.Cells.{itself, same_number}
 use Rattle.algol_standing.specs.Skeleton.{Stack, Home, IsIn, NextIn, FirstOf, this, further}
-use Rattle.algol_standing.specs.Worlds.{home_of, newest_own, stack_of, skeleton, IsStanding, IsOwn, IsWhole, IsOk}
+use Rattle.algol_standing.specs.Worlds.{home_of, newest_own, stack_of, skeleton, IsStanding, IsOwn, IsWhole, IsSound}
 use Rattle.algol_standing.proofs.Lists.{none_some, some_same, get-seam, same_or_other}
 use Rattle.algol_standing.proofs.Standing.{home_stands, stands_small, lives as stack_lives}
 use Rattle.algol_standing.proofs.Shrink.{next_in}
@@ -46,7 +46,7 @@ newest_down w (x ∷ xs) front e =
     here : record { number = suc (length front); of = x } ∷ down_from w (length front) ≡ down_from w (length (front ++ x ∷ []))
     here = ap (λ z. record { number = suc (length front); of = z } ∷ down_from w (length front)) (sym at) ∙ ap (λ k. down_from w k) number_is
 
-module _ (sc : Scopes) (w : World) (ok : IsOk sc IsWhole w) where
+module _ (sc : Scopes) (w : World) (ok : IsSound sc IsWhole w) where
   -- it stands in the stack of the process, or is its critical instance
   abbrev IsOn : Process → ℕ → Type 0
   IsOn q m = IsIn (own_instances q.todo) m ⊎ (q.critical ≡ Some m)

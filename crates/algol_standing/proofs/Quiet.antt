@@ -21,8 +21,8 @@ use Rattle.algol_meaning.specs.Asks.{Ask, nothing, ask, resume, located_of}
 use Rattle.algol_meaning.specs.Choice.{Choice, is_subscripted, goes, opens, fails, home, here, read_of, resolved_of, indexed_at, element_read_at, stored, made_arrays, made_event}
 use Rattle.algol_paths.specs.Blocks.{IsSeen, IsSeenAround, IsInner}
 use Rattle.algol_standing.specs.Skeleton.{IsIn}
-use Rattle.algol_standing.specs.Worlds.{held_in_answer, newest_own, stack_of, IsStanding, IsOnPath, IsAwaited, AreListed, IsWhole, IsOk}
-use Rattle.algol_standing.specs.Calls.{IsNoEvent}
+use Rattle.algol_standing.specs.Worlds.{held_in_answer, newest_own, stack_of, IsStanding, IsOnPath, IsAwaited, AreListed, IsWhole, IsSound}
+use Rattle.algol_standing.proofs.Calls.{IsNoEvent}
 use Rattle.algol_standing.proofs.Lists.{some_same}
 use Rattle.algol_standing.proofs.Holding.{AreAll, IsForeign}
 use Rattle.algol_standing.proofs.Pairs.{AllPairs, pairs_self, pairs_then_set, stack_forth}
@@ -53,7 +53,7 @@ arrays_no_events kind bs [] = tt
 arrays_no_events kind bs (n ∷ ns) = (new_no_event kind bs, arrays_no_events kind bs ns)
 
 -- nothing of instances and processes changes
-pub same_ok : (sc : Scopes) (w v : World) → IsOk sc IsWhole w → v.instances ≡ w.instances → v.processes ≡ w.processes → IsOk sc IsWhole v
+pub same_ok : (sc : Scopes) (w v : World) → IsSound sc IsWhole w → v.instances ≡ w.instances → v.processes ≡ w.processes → IsSound sc IsWhole v
 same_ok sc w v ok e f =
     alike_ok w v (subst (λ xs. AllPairs InstanceAlike w.instances xs) (sym e) (pairs_self InstanceAlike instance_self w.instances))
     (subst (λ xs. AllPairs ProcessAlike w.processes xs) (sym f) (pairs_self ProcessAlike process_self w.processes)) sc IsWhole
@@ -69,7 +69,7 @@ same_ok sc w v ok e f =
     listed r x l = subst (λ qs. AreListed (record w { instances = v.instances; processes = qs; output = v.output; fault = v.fault }) r x) (sym f)
         (record { waiters = l.waiters; procurers = l.procurers; once = l.once })
 
-module _ (sc : Scopes) (heads_act : (r : Rest) (a : Answer) → Suits (ask r) a → ask (resume sc r a) ≡ nothing → ⊥) (w : World) (ok : IsOk sc IsWhole w) (p : ℕ) (q : Process) (part : Part) (outer : List Part)
+module _ (sc : Scopes) (heads_act : (r : Rest) (a : Answer) → Suits (ask r) a → ask (resume sc r a) ≡ nothing → ⊥) (w : World) (ok : IsSound sc IsWhole w) (p : ℕ) (q : Process) (part : Part) (outer : List Part)
     (is : numbered w.processes p ≡ Some q) (todo : q.todo ≡ part ∷ outer) (able_is : q.state ≡ able) where
   abbrev Held : Cell → Type 0
   Held = CellOk sc IsWhole w ok (newest_own (part ∷ outer))
@@ -100,7 +100,7 @@ module _ (sc : Scopes) (heads_act : (r : Rest) (a : Answer) → Suits (ask r) a 
         (pairs_then_set Unmoved MovedHere (λ x y f. ◌⊎◌.inr f) w.processes w.processes p moved (pairs_self Unmoved unmoved_self w.processes)
         (λ x e. ◌⊎◌.inl (some_same e is, refl)))
 
-    pub goes_ok : IsOk sc IsWhole (with_process after p moved)
+    pub goes_ok : IsSound sc IsWhole (with_process after p moved)
     goes_ok =
         resumed_ok sc w ok p q part outer is todo live a foreign brings acts q.state live waits_not (with_process after p moved) instances processes
         (λ r e st f. listed_still w (with_process after p moved) p q moved is able_is (ap (λ qs. set_numbered qs p moved) same) r e (ok.listed r e st (events r e f)))
@@ -116,7 +116,7 @@ module _ (sc : Scopes) (heads_act : (r : Rest) (a : Answer) → Suits (ask r) a 
     abbrev moved_then : Process
     moved_then = resumed sc w ok p q part outer is todo live done tt tt acts_then q.state live waits_not
 
-    pub event_goes : IsOk sc IsWhole (with_process made p moved_then)
+    pub event_goes : IsSound sc IsWhole (with_process made p moved_then)
     event_goes =
         resumed_ok sc w ok p q part outer is todo live done tt tt acts_then q.state live waits_not (with_process made p moved_then)
         (add_alike w part.instance (record { name = name; cell = event new_event } ∷ []) ((λ i n. absurd n, λ m n. absurd n), tt))
@@ -130,13 +130,13 @@ module _ (sc : Scopes) (heads_act : (r : Rest) (a : Answer) → Suits (ask r) a 
             subst (λ d. AreListed (with_process made p moved_then) r d) (sym g) (record { waiters = λ k n. absurd n; procurers = λ k n. absurd n; once = tt })
 
   -- .. where no cell changes
-  pub same_goes : (a : Answer) → IsForeign a → AreAll Held (held_in_answer a) → Suits (ask part.rest) a → IsOk sc IsWhole (with_process w p (record q { todo = record part { rest = resume sc part.rest a } ∷ outer }))
+  pub same_goes : (a : Answer) → IsForeign a → AreAll Held (held_in_answer a) → Suits (ask part.rest) a → IsSound sc IsWhole (with_process w p (record q { todo = record part { rest = resume sc part.rest a } ∷ outer }))
   same_goes a f b s = goes_ok a f b s w (pairs_self InstanceAlike instance_self w.instances) refl (λ r e g. g)
 
   -- ---- choices
 
   abbrev pub Keeps : Choice → Type 0
-  Keeps c = IsOk sc IsWhole c.world
+  Keeps c = IsSound sc IsWhole c.world
 
   pub either : (b : Bool) (c d : Choice) → Keeps c → Keeps d → Keeps (if b then c else d)
   either true c d f g = f
@@ -221,7 +221,7 @@ module _ (sc : Scopes) (heads_act : (r : Rest) (a : Answer) → Suits (ask r) a 
   element_keeps n ks v e a (Some k) = value_goes (asks.reads_element n ks v) e actions.ElementRead (element_at a (ks ++ k ∷ [])) tt
 
   module _ (x : Place) (v : Value) (e : ask part.rest ≡ asks.stores x v) where
-    set_goes : (r : Reference) (c : Cell) → IsPlain c → IsNoEvent c → IsOk sc IsWhole (with_process (set_cell w r c) p (record q { todo = record part { rest = resume sc part.rest done } ∷ outer }))
+    set_goes : (r : Reference) (c : Cell) → IsPlain c → IsNoEvent c → IsSound sc IsWhole (with_process (set_cell w r c) p (record q { todo = record part { rest = resume sc part.rest done } ∷ outer }))
     set_goes r c plain without = goes_ok done tt tt (suited (asks.stores x v) e done tt) (set_cell w r c) (set_alike w r c plain) refl (set_event_before w r c without)
 
   pub stored_keeps : (x : Place) (v : Value) → ask part.rest ≡ asks.stores x v → Keeps (stored sc w p q part outer x v)

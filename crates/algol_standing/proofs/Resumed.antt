@@ -17,7 +17,7 @@ use Rattle.algol_paths.specs.Arrays.{Made, made_in, to_come, all_to_make, all_le
 use Rattle.algol_paths.proofs.Rests.{resumed_keeps}
 use Rattle.algol_paths.proofs.Making.{all_is_made_in_order}
 use Rattle.algol_standing.specs.Skeleton.{Evaluation, IsEvaluated, IsIn}
-use Rattle.algol_standing.specs.Worlds.{held_in_rest, held_in_answer, newest_own, held_by, IsStanding, IsOnPath, IsOwn, IsAmong, AreListed, IsAwaited, IsNoBlock, GivesNoOwn, GivesPlace, AreGiven, HasHead, IsWhole, PartOk, ProcessOk, IsOk}
+use Rattle.algol_standing.specs.Worlds.{held_in_rest, held_in_answer, newest_own, held_by, IsStanding, IsOnPath, IsOwn, IsAmong, AreListed, IsAwaited, IsNoBlock, GivesNoOwn, GivesPlace, AreGiven, HasHead, IsWhole, PartOk, ProcessOk, IsSound}
 use Rattle.algol_standing.proofs.Holding.{AreAll, IsForeign, RestHolds, PlaceGivable, put_place_givable, resumed_holds}
 use Rattle.algol_standing.proofs.Pairs.{AllPairs}
 use Rattle.algol_standing.proofs.Alike.{InstanceAlike, ProcessAlike}
@@ -71,7 +71,7 @@ no_own part (next ∷ parts) g = g.0
 
 -- ---- parts
 
-module _ (sc : Scopes) (w : World) (ok : IsOk sc IsWhole w) (part : Part) (outer : List Part) (fine : Fine sc w (part ∷ outer)) where
+module _ (sc : Scopes) (w : World) (ok : IsSound sc IsWhole w) (part : Part) (outer : List Part) (fine : Fine sc w (part ∷ outer)) where
   abbrev pub top : ℕ
   top = newest_own (part ∷ outer)
 
@@ -169,7 +169,7 @@ module _ (sc : Scopes) (w : World) (ok : IsOk sc IsWhole w) (part : Part) (outer
 
 -- ---- the process
 
-module _ (sc : Scopes) (w : World) (ok : IsOk sc IsWhole w) (p : ℕ) (q : Process) (part : Part) (outer : List Part) (is : numbered w.processes p ≡ Some q) (todo : q.todo ≡ part ∷ outer)
+module _ (sc : Scopes) (w : World) (ok : IsSound sc IsWhole w) (p : ℕ) (q : Process) (part : Part) (outer : List Part) (is : numbered w.processes p ≡ Some q) (todo : q.todo ≡ part ∷ outer)
     (live : lives q.state ≡ true) (a : Answer) (foreign : IsForeign a) (brings : AreAll (CellOk sc IsWhole w ok (newest_own (part ∷ outer))) (held_in_answer a))
     (acts : ask (resume sc part.rest a) ≡ nothing → ⊥) (s : State) (lives_on : lives s ≡ true) (awaits : (r : Reference) → IsAwaited s r → IsOnPath w (newest_own (part ∷ outer)) r.instance) where
   fine_here : Fine sc w (part ∷ outer)
@@ -212,5 +212,5 @@ module _ (sc : Scopes) (w : World) (ok : IsOk sc IsWhole w) (p : ℕ) (q : Proce
   Moved x y = ((x ≡ q) × (y ≡ resumed)) ⊎ Unmoved x y
 
   pub resumed_ok : (v : World) → AllPairs InstanceAlike w.instances v.instances → AllPairs Moved w.processes v.processes →
-      ((r : Reference) (e : EventCell) → IsStanding w r.instance → cell_at v r ≡ event e → AreListed v r e) → IsOk sc IsWhole v
+      ((r : Reference) (e : EventCell) → IsStanding w r.instance → cell_at v r ≡ event e → AreListed v r e) → IsSound sc IsWhole v
   resumed_ok v instances processes listed = acted_ok sc w ok p q is resumed alike_then process_then fine_then.holds still_then v instances processes listed

@@ -11,7 +11,7 @@ use Rattle.algol_meaning.specs.World.{NamedCell, Instance, or_no_instance, insta
 use Rattle.algol_meaning.specs.Critical.{own_instances, referred_in, referred_by}
 use Rattle.algol_paths.specs.Blocks.{IsSeen}
 use Rattle.algol_standing.specs.Skeleton.{Evaluation, IsEvaluated, Home, IsIn, here}
-use Rattle.algol_standing.specs.Worlds.{parent_in, referred_in_cells, home_of, held_in_rest, newest_own, held_by, stack_of, skeleton, IsStanding, IsOnPath, IsAmong, IsPlaced, outermost, inside, IsNameIn, IsNameAmong, IsNameHeld, KeepsActual, PartOk, IsOk}
+use Rattle.algol_standing.specs.Worlds.{parent_in, referred_in_cells, home_of, held_in_rest, newest_own, held_by, stack_of, skeleton, IsStanding, IsOnPath, IsAmong, IsPlaced, outermost, inside, IsNameIn, IsNameAmong, IsNameHeld, KeepsActual, PartOk, IsSound}
 use Rattle.algol_standing.proofs.Lists.{none_some, some_same}
 use Rattle.algol_standing.proofs.Standing.{stands_path, path_on, home_stands}
 use Rattle.algol_standing.proofs.Holding.{AreAll}
@@ -80,7 +80,7 @@ read_names (c ∷ cells) name m n = by (same_name c.name name) (λ k. read_names
     by true f k = ◌⊎◌.inl k
     by false f k = ◌⊎◌.inr (f k)
 
-module _ (sc : Scopes) (Whole : World → ℕ → Type 0) (w : World) (ok : IsOk sc Whole w) where
+module _ (sc : Scopes) (Whole : World → ℕ → Type 0) (w : World) (ok : IsSound sc Whole w) where
   -- what is held above an instance: what it refers to lies on the path, and the actuals of its names stand in their texts
   abbrev pub CellOk : ℕ → Cell → Type 0
   CellOk top c = ((i : ℕ) → IsIn (referred_in c) i → IsOnPath w top i) × ((m : NameCell) → IsNameIn c m → KeepsActual sc Whole w m)

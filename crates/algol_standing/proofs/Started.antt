@@ -12,9 +12,9 @@ use Rattle.algol_meaning.specs.Critical.{own_instances, newest_first, first_on_p
 use Rattle.algol_meaning.specs.Instances.{fresh_cells}
 use Rattle.algol_meaning.specs.Choice.{with_new_instance, new_part, with_started, next_process}
 use Rattle.algol_standing.specs.Skeleton.{Evaluation, IsEvaluated, Stack, Skeleton, IsIn, Stands, OnPath, here, FirstOf, SkeletonOk, started as with_base, evaluated}
-use Rattle.algol_standing.specs.Worlds.{parent_in, referred_in_cells, home_of, held_in_rest, newest_own, held_by, stack_of, skeleton, IsStanding, IsOnPath, IsWhole, IsOk}
-use Rattle.algol_standing.specs.Laws.{AreTexts}
-use Rattle.algol_standing.specs.Calls.{IsNoEvent}
+use Rattle.algol_standing.specs.Worlds.{parent_in, referred_in_cells, home_of, held_in_rest, newest_own, held_by, stack_of, skeleton, IsStanding, IsOnPath, IsWhole, IsSound}
+use Rattle.algol_standing.specs.Laws.{KeepToTexts}
+use Rattle.algol_standing.proofs.Calls.{IsNoEvent}
 use Rattle.algol_standing.proofs.Lists.{get-seam}
 use Rattle.algol_standing.proofs.Standing.{stands_path}
 use Rattle.algol_standing.proofs.Growth.{stands_up, path_up, start_ok, start_grows}
@@ -32,7 +32,7 @@ set_last : {A : Type 0} (xs : List A) (y z : A) → slice_set (xs ++ y ∷ []) (
 set_last [] y z = refl
 set_last (x ∷ xs) y z = ap (λ ys. x ∷ ys) (set_last xs y z)
 
-module _ (sc : Scopes) (texts : AreTexts sc) (w : World) (ok : IsOk sc IsWhole w) (p : ℕ) (q : Process) (part : Part) (outer : List Part) (is : numbered w.processes p ≡ Some q)
+module _ (sc : Scopes) (texts : KeepToTexts sc) (w : World) (ok : IsSound sc IsWhole w) (p : ℕ) (q : Process) (part : Part) (outer : List Part) (is : numbered w.processes p ≡ Some q)
     (todo : q.todo ≡ part ∷ outer) (able_is : q.state ≡ able) (j parent : ℕ) (cells : List Cell) (task : Option Reference) (known : j < length sc.blocks)
     (around_is : around sc.blocks j ≡ (instance_at w parent).block ∷ around sc.blocks ((instance_at w parent).block)) (parent_some : 1 ≤ parent)
     (parent_path : IsOnPath w (newest_own (part ∷ outer)) parent) (parent_whole : IsWhole w parent) (cells_held : AreAll (CellOk sc IsWhole w ok (newest_own (part ∷ outer))) cells)

@@ -12,10 +12,11 @@ use Rattle.algol_meaning.specs.Asks.{ask}
 use Rattle.algol_meaning.specs.Choice.{home, given_cells, with_new_instance, with_started, next_process, task_of, starts}
 use Rattle.algol_paths.specs.Blocks.{IsSeen, IsSeenAround, IsInner}
 use Rattle.algol_paths.specs.Texts.{InName, InGivens}
+use Rattle.algol_calls.specs.Fits.{IsCallee}
 use Rattle.algol_standing.specs.Skeleton.{IsIn}
-use Rattle.algol_standing.specs.Worlds.{newest_own, IsOnPath, IsNoBlock, IsWhole, IsOk}
-use Rattle.algol_standing.specs.Laws.{AreTexts}
-use Rattle.algol_standing.specs.Calls.{IsCallee, PassNoEvents}
+use Rattle.algol_standing.specs.Worlds.{newest_own, IsOnPath, IsNoBlock, IsWhole, IsSound}
+use Rattle.algol_standing.specs.Laws.{KeepToTexts}
+use Rattle.algol_standing.proofs.Calls.{PassNoEvents}
 use Rattle.algol_standing.proofs.Seen.{home_path}
 use Rattle.algol_standing.proofs.Asking.{Sees, Suits}
 use Rattle.algol_standing.proofs.Acting.{heads_act}
@@ -24,7 +25,7 @@ use Rattle.algol_standing.proofs.Given.{cells_no_events}
 use Rattle.algol_standing.proofs.Calling.{seen_head, narrow_head, held_head, call_path, call_some, call_around, call_whole, call_held}
 use Rattle.algol_standing.proofs.Begun.{started_ok, starter_before}
 
-module _ (sc : Scopes) (texts : AreTexts sc) (w : World) (ok : IsOk sc IsWhole w) (p : ℕ) (q : Process) (part : Part) (outer : List Part) (is : numbered w.processes p ≡ Some q)
+module _ (sc : Scopes) (texts : KeepToTexts sc) (w : World) (ok : IsSound sc IsWhole w) (p : ℕ) (q : Process) (part : Part) (outer : List Part) (is : numbered w.processes p ≡ Some q)
     (todo : q.todo ≡ part ∷ outer) (able_is : q.state ≡ able) (n : Named) (gs : List Given) (task : Option Named) (e : ask part.rest ≡ asks.starts n gs task) (callee : IsCallee sc n)
     (plain : PassNoEvents gs) where
   abbrev j : ℕ
@@ -56,7 +57,7 @@ module _ (sc : Scopes) (texts : AreTexts sc) (w : World) (ok : IsOk sc IsWhole w
       with_started sc w p q part outer (with_new_instance sc w p q part outer block_is parent (next_process sc w p q part outer) (given_cells sc w p q part outer gs)) block_is
       (given_cells sc w p q part outer gs) (task_of sc w p q part outer task) parent
 
-  started_here : IsOk sc IsWhole started
+  started_here : IsSound sc IsWhole started
   started_here =
       started_ok sc texts w ok p q part outer is todo able_is block_is parent (given_cells sc w p q part outer gs) (task_of sc w p q part outer task) callee.known
       (call_around sc texts w ok p q part outer is todo able_is n gs callee plain seen.0 seen.1 narrow) (call_some sc texts w ok p q part outer is todo able_is n gs callee plain seen.0 seen.1 narrow)
@@ -72,5 +73,5 @@ module _ (sc : Scopes) (texts : AreTexts sc) (w : World) (ok : IsOk sc IsWhole w
       (call_held sc texts w ok p q part outer is todo able_is n gs callee plain seen.0 seen.1 narrow (held_head sc texts w ok p q part outer is todo able_is (asks.starts n gs task) e))
       (cells_no_events sc w ok p q part outer is todo gs plain) (task_path task seen.2)
 
-  pub process_starts : IsOk sc IsWhole (starts sc w p q part outer block_is parent (given_cells sc w p q part outer gs) (task_of sc w p q part outer task)).world
+  pub process_starts : IsSound sc IsWhole (starts sc w p q part outer block_is parent (given_cells sc w p q part outer gs) (task_of sc w p q part outer task)).world
   process_starts = same_goes sc (heads_act sc) started started_here p q part outer is_there todo able_is done tt tt (subst (λ x. Suits x done) (sym e) tt)

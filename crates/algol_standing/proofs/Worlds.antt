@@ -5,9 +5,11 @@ use Rattle.algol_standing.specs.Laws.{FirstWorldStands, ChoicesKeepWorlds}
 use Rattle.algol_standing.proofs.First.{first_world}
 use Rattle.algol_standing.proofs.Choosing.{action_keeps}
 use Rattle.algol_standing.proofs.Acting.{first_acts}
+use Rattle.algol_standing.proofs.FitLaws.{head_fits, action_fits, start_fits}
 
 pub first_world_stands : FirstWorldStands
-first_world_stands sc o = first_world sc o (first_acts sc (items_of (block_numbered sc.blocks 0)))
+first_world_stands sc o = record { sound = first_world sc o (first_acts sc (items_of (block_numbered sc.blocks 0))); fits = start_fits sc o.fit o.parameterless }
 
 pub choices_keep_worlds : ChoicesKeepWorlds
-choices_keep_worlds sc w p texts ok goes fits = action_keeps sc texts w p ok goes fits
+choices_keep_worlds sc w p texts ok goes =
+    record { sound = action_keeps sc texts.keep w p ok.sound goes (head_fits sc w p ok.sound ok.fits goes); fits = action_fits sc w p ok.sound ok.fits goes texts.fit }

@@ -4,14 +4,15 @@ use Rattle.b67_list.specs.Numbered.{numbered}
 use Rattle.algol_tree.specs.Blocks.{block_numbered, around}
 use Rattle.algol_tree.specs.Scopes.{Scopes}
 use Rattle.algol_meaning.specs.Value.{Reference}
-use Rattle.algol_meaning.specs.World.{Instance, instance_at, Part, Process, process_at, lives, World}
+use Rattle.algol_meaning.specs.World.{Instance, instance_at, Part, Process, lives, World}
 use Rattle.algol_meaning.specs.Critical.{own_instances, referred_by}
 use Rattle.algol_meaning.specs.Statements.{items_of}
 use Rattle.algol_meaning.specs.Choice.{choice}
 use Rattle.algol_meaning.specs.Run.{start, may_go}
 use Rattle.algol_paths.specs.Laws.{ItemsKeepToText}
-use Rattle.algol_standing.specs.Worlds.{referred_in_cells, home_of, held_in_rest, IsOnPath, IsAmong, IsWhole, IsOk}
-use Rattle.algol_standing.specs.Calls.{HeadFits}
+use Rattle.algol_calls.specs.Fits.{ItemsFit, CallsFitInTexts}
+use Rattle.algol_standing.specs.Worlds.{referred_in_cells, home_of, held_in_rest, IsOnPath, IsAmong, IsWhole}
+use Rattle.algol_standing.specs.Fitting.{IsOk}
 use Rattle.algol_standing.specs.Skeleton.{Evaluation, IsEvaluated, Stack, Skeleton, IsIn, Stands, OnPath, FirstOf, SkeletonOk, AreFree, AreIdle, entered, started, left, evaluated}
 
 -- all of these lie on the path from that instance
@@ -71,19 +72,25 @@ pub record ReferencesLieOnPaths : Type 0 where
       q.task ≡ Some r → IsOnPath w c r.instance
 
 -- The items of each block keep to its text.
-abbrev pub AreTexts : Scopes → Type 0
-AreTexts sc = (j : ℕ) → j < length sc.blocks → ItemsKeepToText sc j (items_of (block_numbered sc.blocks j))
+abbrev pub KeepToTexts : Scopes → Type 0
+KeepToTexts sc = (j : ℕ) → j < length sc.blocks → ItemsKeepToText sc j (items_of (block_numbered sc.blocks j))
 
--- An action keeps what worlds are, whichever it is and of whichever process; where it enters or starts a procedure, what it calls fits.
+-- .. and each of their calls names a procedure and has an actual that fits for each parameter.
+pub record AreTexts (sc : Scopes) : Type 0 where
+  pub keep : KeepToTexts sc
+  pub fit : CallsFitInTexts sc
+
+-- An action keeps what worlds are, whichever it is and of whichever process.
 abbrev pub ChoicesKeepWorlds : Type 0
-ChoicesKeepWorlds =
-    (sc : Scopes) (w : World) (p : ℕ) → AreTexts sc → IsOk sc IsWhole w → may_go w p ≡ true → HeadFits sc ((process_at w p).todo) → IsOk sc IsWhole ((choice sc w p).world)
+ChoicesKeepWorlds = (sc : Scopes) (w : World) (p : ℕ) → AreTexts sc → IsOk sc IsWhole w → may_go w p ≡ true → IsOk sc IsWhole ((choice sc w p).world)
 
--- The outer block comes first, nothing is around it, and its items keep to its text.
+-- The outer block comes first, nothing is around it, it has no parameters, its items keep to its text, and their calls fit.
 pub record HasOuterBlock (sc : Scopes) : Type 0 where
   pub known : 0 < length sc.blocks
   pub outermost : around sc.blocks 0 ≡ []
+  pub parameterless : (block_numbered sc.blocks 0).parameters ≡ []
   pub text : ItemsKeepToText sc 0 (items_of (block_numbered sc.blocks 0))
+  pub fit : ItemsFit sc (items_of (block_numbered sc.blocks 0))
 
 abbrev pub FirstWorldStands : Type 0
 FirstWorldStands = (sc : Scopes) → HasOuterBlock sc → IsOk sc IsWhole (start sc)

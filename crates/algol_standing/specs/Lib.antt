@@ -1,4 +1,4 @@
 pub mod Skeleton
 pub mod Worlds
-pub mod Calls
+pub mod Fitting
 pub mod Laws

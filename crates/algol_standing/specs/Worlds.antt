@@ -268,7 +268,7 @@ module _ (sc : Scopes) (Whole : World → ℕ → Type 0) (w : World) where
     pub whole : IsStanding w i → 1 ≤ x.parent → Whole w x.parent
     pub actuals : (n : NameCell) → IsStanding w i → IsNameAmong x.cells n → KeepsActual n
 
-  pub record IsOk : Type 0 where
+  pub record IsSound : Type 0 where
     -- what is referred to lies on the path; the newest stands first; a live process's critical instance stands
     pub skeleton_ok : SkeletonOk (skeleton w)
     pub instances : (i : ℕ) (x : Instance) → numbered w.instances i ≡ Some x → InstanceOk i x

@@ -28,13 +28,13 @@ pub fn references_lie_on_paths()
     ensures { ReferencesLieOnPaths }
 {}
 
-/// Law: the first world of a source is as worlds are, where its outer block comes first and keeps to its text.
+/// Law: the first world of a source is as worlds are, where its outer block comes first, keeps to its text, and its calls fit.
 pub fn first_world_stands()
     ensures { FirstWorldStands }
 {}
 
-/// Law: each action of each process keeps what worlds are, where the items of each block keep to its text. Where the action enters or starts a
-/// procedure, the name that is called has to be one of a procedure, and no event may be passed on but by a Reference to it.
+/// Law: each action of each process keeps what worlds are, where the items of each block keep to its text and their calls fit: what they call is a
+/// procedure, and an event is given only by its name.
 pub fn choices_keep_worlds()
     ensures { ChoicesKeepWorlds }
 {}

@@ -1,0 +1,4 @@
+pub mod Sorts
+pub mod Expressions
+pub mod Statements
+pub mod Rests

@@ -1,0 +1,295 @@
+-- What a text calls and gives: each call names a procedure and has an actual that fits for each parameter, and what is stored to, acted on
+-- and referred to is no cell that a parameter has of its own to lead elsewhere.
+use Rattle.std.specs.Prelude.{◌≡◌, ℕ, ◌<◌, if◌then◌else◌, Bool, true, false, List, [], ◌∷◌, length, Option, Some, None}
+use Rattle.algol_tree.specs.declared.tree.Named.{Named}
+use Rattle.algol_tree.specs.Plain as tree
+use Rattle.algol_tree.specs.Plain.{PExpr, PExprs, PPair, PStmt, PStmts}
+use Rattle.algol_tree.specs.Blocks.{block_numbered, around}
+use Rattle.algol_tree.specs.Sorts.{Sort, variable, is_formal, is_by_name, is_variable, procedure_in, Parameter, same_name}
+use Rattle.algol_tree.specs.Scopes.{Scopes, use_of}
+use Rattle.algol_meaning.specs.Value.{Cell, named, reference}
+use Rattle.algol_meaning.specs.Rest.{Place, own, Given, valued, passed, refers, names, Hole, index, enter, subscript, argument, left, right, negated, inverted, condition, Actuals, pass, in_value, Aim, resolve, place_index, inside_place, place_subscript, Loop, Item, run, turn, count, check, test, result, make_arrays, make_event, Rest, over, reading, giving, giving_place, store, select, turning, going, entering_block, entering, starting, acting, line, arrays, event, within, dropping, evaluating, locating, aiming, storing, choosing, looping, checking, counting, differing, stepping, selecting, calling, preparing, writing, bounding, Answer, cell, place}
+use Rattle.algol_meaning.specs.Settle.{name_alone, sorts_of, block_of, callee, sort_at}
+use Rattle.algol_meaning.specs.Statements.{alone, items_of}
+use Rattle.algol_meaning.specs.Asks as asks
+use Rattle.algol_meaning.specs.Asks.{Ask}
+
+-- ---- cells of parameters
+
+-- the cell leads elsewhere: it is a Reference or, of a parameter by name, a Name
+abbrev pub IsLink : (by_name : Bool) → Cell → Type 0
+IsLink by_name (reference r) = Unit {0}
+IsLink by_name (named n) = by_name ≡ true
+IsLink by_name _ = ⊥
+
+-- the own cell of a parameter of this sort: where that stands for something else, the cell leads there
+abbrev pub CellFits : Sort → Cell → Type 0
+CellFits s c = is_formal s ≡ true → IsLink (is_by_name s) c
+
+-- the sort of the first parameter with this name; that of a variable where there is none
+abbrev pub parameter_sort : List Parameter → List ℕ → Sort
+parameter_sort [] name = variable
+parameter_sort (p ∷ ps) name = if same_name p.name name then p.sort else parameter_sort ps name
+
+abbrev pub IsByValue : Sort → Type 0
+IsByValue s = is_formal s ≡ false
+
+-- F holds of the first of these, and the others are those after it
+abbrev pub NextThen : (Sort → Type 0) → List Sort → List Sort → Type 0
+NextThen F after [] = ⊥
+NextThen F after (s ∷ sorts) = F s × (sorts ≡ after)
+
+module _ (sc : Scopes) where
+  -- ---- names
+
+  -- the sort of the name as that of a parameter of the block that declares it
+  abbrev pub own_sort : Named → Sort
+  own_sort n = parameter_sort ((block_numbered sc.blocks ((use_of sc n).block)).parameters) n.name
+
+  -- the name stands for something else as that parameter does
+  pub record IsTold (n : Named) : Type 0 where
+    pub formal : is_formal (own_sort n) ≡ is_formal (sort_at sc n)
+    pub by_name : is_by_name (own_sort n) ≡ is_by_name (sort_at sc n)
+
+  -- .. and it stands for nothing else
+  pub record IsSettled (n : Named) : Type 0 where
+    pub told : IsTold n
+    pub no_formal : is_formal (sort_at sc n) ≡ false
+
+  -- .. and it stands for no expression
+  pub record Leads (n : Named) : Type 0 where
+    pub told : IsTold n
+    pub not_by_name : is_by_name (sort_at sc n) ≡ false
+
+  -- the name is that of a procedure, whose block stands in the text of the block that declares it
+  pub record IsCallee (n : Named) : Type 0 where
+    pub known : block_of (sort_at sc n) < length sc.blocks
+    pub around_is : around sc.blocks (block_of (sort_at sc n)) ≡ (use_of sc n).block ∷ around sc.blocks ((use_of sc n).block)
+    pub no_variable : is_variable (sort_at sc n) ≡ false
+    pub no_formal : is_formal (sort_at sc n) ≡ false
+
+  -- the sorts of the parameters of what is called
+  abbrev pub wanted : Named → List Sort
+  wanted n = sorts_of ((callee sc n).parameters)
+
+  -- a procedure's name by itself is a call without actuals
+  abbrev pub AloneFits : Option ℕ → Named → Type 0
+  AloneFits (Some block) n = IsCallee n × (wanted n ≡ [])
+  AloneFits None n = IsTold n
+
+  -- the name of something that is no procedure and stands for no expression
+  abbrev pub IsNameOfIt : Option Named → Type 0
+  IsNameOfIt None = ⊥
+  IsNameOfIt (Some n) = (procedure_in (sort_at sc n) ≡ None) × (is_by_name (sort_at sc n) ≡ false)
+
+  -- for a parameter that stands for an event or an array there is the name of one
+  abbrev pub StandsFor : Sort → PExpr → Type 0
+  StandsFor s e = is_formal s ≡ true → is_by_name s ≡ false → IsNameOfIt (name_alone e)
+
+  -- ---- expressions
+
+  abbrev mutual
+    pub ExprFits : PExpr → Type 0
+    ExprFits (tree.variable (tree.subscripted n tree.none)) = AloneFits (procedure_in (sort_at sc n)) n
+    ExprFits (tree.variable (tree.subscripted n (tree.more e es))) = Leads n × ExprFits e × ExprsFit es
+    ExprFits (tree.call (tree.called n es)) = IsCallee n × ActualsFit es (wanted n)
+    ExprFits (tree.paren e spot) = ExprFits e
+    ExprFits (tree.plus e spot) = ExprFits e
+    ExprFits (tree.neg e spot) = ExprFits e
+    ExprFits (tree.not e spot) = ExprFits e
+    ExprFits (tree.two op x y) = ExprFits x × ExprFits y
+    ExprFits (tree.if c x y spot) = ExprFits c × ExprFits x × ExprFits y
+    ExprFits _ = Unit {0}
+
+    pub ExprsFit : PExprs → Type 0
+    ExprsFit tree.none = Unit {0}
+    ExprsFit (tree.more e es) = ExprFits e × ExprsFit es
+
+    -- there is one for each parameter
+    pub ActualsFit : PExprs → List Sort → Type 0
+    ActualsFit tree.none [] = Unit {0}
+    ActualsFit tree.none (s ∷ sorts) = ⊥
+    ActualsFit (tree.more e es) [] = ⊥
+    ActualsFit (tree.more e es) (s ∷ sorts) = StandsFor s e × ExprFits e × ActualsFit es sorts
+
+  abbrev pub PairsFit : List PPair → Type 0
+  PairsFit [] = Unit {0}
+  PairsFit (p ∷ ps) = ExprFits p.high × PairsFit ps
+
+  -- ---- what is given
+
+  -- by itself
+  abbrev pub GivenRight : Given → Type 0
+  GivenRight (valued v) = Unit {0}
+  GivenRight (passed c) = IsLink true c
+  GivenRight (refers n) = IsSettled n
+  GivenRight (names e) = ExprFits e
+
+  -- the cell that is given leads elsewhere
+  abbrev pub GivenLinks : (by_name : Bool) → Given → Type 0
+  GivenLinks by_name (valued v) = ⊥
+  GivenLinks by_name (passed c) = IsLink by_name c
+  GivenLinks by_name (refers n) = Unit {0}
+  GivenLinks by_name (names e) = by_name ≡ true
+
+  abbrev pub GivenFits : Sort → Given → Type 0
+  GivenFits s g = GivenRight g × (is_formal s ≡ true → GivenLinks (is_by_name s) g)
+
+  -- these are given for the first of the sorts, and X holds of the sorts after them
+  abbrev pub GivenThen : (List Sort → Type 0) → List Given → List Sort → Type 0
+  GivenThen X [] sorts = X sorts
+  GivenThen X (g ∷ gs) [] = ⊥
+  GivenThen X (g ∷ gs) (s ∷ sorts) = GivenFits s g × GivenThen X gs sorts
+
+  -- there is one for each
+  abbrev pub GivensFit : List Given → List Sort → Type 0
+  GivensFit gs sorts = GivenThen (λ after. after ≡ []) gs sorts
+
+  -- the parameter's own cell is passed on for one of this sort
+  pub record PassFits (n : Named) (s : Sort) : Type 0 where
+    pub told : IsTold n
+    pub formal : is_formal (sort_at sc n) ≡ true
+    pub links : is_formal s ≡ true → is_by_name s ≡ false → is_by_name (sort_at sc n) ≡ false
+
+  -- ---- what is evaluated up to its head
+
+  abbrev mutual
+    pub HoleFits : Hole → Type 0
+    HoleFits (index n ks v e es) = Leads n × ExprFits e × ExprsFit es
+    HoleFits (enter n gs) = IsCallee n × GivensFit gs (wanted n)
+    HoleFits (subscript n ks h es) = Leads n × HoleFits h × ExprsFit es
+    HoleFits (argument n x) = IsCallee n × ActualsLeft x (wanted n)
+    HoleFits (left op h b) = HoleFits h × ExprFits b
+    HoleFits (right op v h) = HoleFits h
+    HoleFits (negated h) = HoleFits h
+    HoleFits (inverted h) = HoleFits h
+    HoleFits (condition h x y) = HoleFits h × ExprFits x × ExprFits y
+    HoleFits _ = Unit {0}
+
+    -- those that are given fit, and those after the head
+    pub ActualsLeft : Actuals → List Sort → Type 0
+    ActualsLeft (pass gs n sorts es) all = GivenThen (NextThen (PassFits n) sorts) gs all × ActualsFit es sorts
+    ActualsLeft (in_value gs h sorts es) all = GivenThen (NextThen IsByValue sorts) gs all × HoleFits h × ActualsFit es sorts
+
+  abbrev pub PlaceFits : Place → Type 0
+  PlaceFits (own n) = IsSettled n
+  PlaceFits _ = Unit {0}
+
+  abbrev pub AimFits : Aim → Type 0
+  AimFits (resolve n) = IsTold n × (is_by_name (sort_at sc n) ≡ true)
+  AimFits (place_index n ks v es) = Leads n × ExprsFit es
+  AimFits inside_place = Unit {0}
+  AimFits (place_subscript n ks h es) = Leads n × HoleFits h × ExprsFit es
+
+  -- ---- statements
+
+  -- a left side; by itself only the name of a parameter by name stands for something else
+  abbrev pub LeftFits : Named → PExprs → Type 0
+  LeftFits n tree.none = IsTold n × (is_formal (sort_at sc n) ≡ is_by_name (sort_at sc n))
+  LeftFits n (tree.more e es) = Leads n × ExprFits e × ExprsFit es
+
+  abbrev pub ControlFits : Named → Type 0
+  ControlFits v = LeftFits v tree.none × ExprFits (alone v)
+
+  abbrev pub TaskFits : Option Named → Type 0
+  TaskFits None = Unit {0}
+  TaskFits (Some n) = IsSettled n
+
+  abbrev mutual
+    pub StmtFits : PStmt → Type 0
+    StmtFits (tree.label n s) = StmtFits s
+    StmtFits (tree.assign (tree.subscripted n es) e) = LeftFits n es × ExprFits e
+    StmtFits (tree.call_of (tree.called n es)) = IsCallee n × ActualsFit es (wanted n)
+    StmtFits (tree.block (tree.body spot tree.no_decls ss)) = StmtsFit ss
+    StmtFits (tree.if_then c x) = ExprFits c × StmtFits x
+    StmtFits (tree.if_else c x y) = ExprFits c × StmtFits x × StmtFits y
+    StmtFits (tree.while c b) = ExprFits c × StmtFits b
+    StmtFits (tree.until b c) = StmtFits b × ExprFits c
+    StmtFits (tree.for v a s l b) = ControlFits v × ExprFits a × ExprFits s × ExprFits l × StmtFits b
+    StmtFits (tree.thru e b) = ExprFits e × StmtFits b
+    StmtFits (tree.case e ss) = ExprFits e × StmtsFit ss
+    StmtFits (tree.process (tree.called n es) task) = IsCallee n × ActualsFit es (wanted n) × TaskFits task
+    StmtFits (tree.event act e) = Leads e.name
+    StmtFits (tree.write n spot phrases es) = ExprsFit es
+    StmtFits _ = Unit {0}
+
+    pub StmtsFit : PStmts → Type 0
+    StmtsFit tree.no_stmts = Unit {0}
+    StmtsFit (tree.stmts s ss) = StmtFits s × StmtsFit ss
+
+  abbrev pub LoopFits : Loop → Type 0
+  LoopFits loop = ControlFits loop.control × ExprFits loop.step × ExprFits loop.last × StmtFits loop.body
+
+  -- ---- what is still to be done
+
+  abbrev pub ItemFits : Item → Type 0
+  ItemFits (run s) = StmtFits s
+  ItemFits turn = Unit {0}
+  ItemFits (count n b) = StmtFits b
+  ItemFits (check b c) = StmtFits b × ExprFits c
+  ItemFits (test loop) = LoopFits loop
+  ItemFits (result name) = Unit {0}
+  ItemFits (make_arrays kind ns pairs) = PairsFit pairs
+  ItemFits (make_event n) = Unit {0}
+
+  abbrev pub ItemsFit : List Item → Type 0
+  ItemsFit [] = Unit {0}
+  ItemsFit (item ∷ k) = ItemFits item × ItemsFit k
+
+  abbrev pub RestFits : Rest → Type 0
+  RestFits over = Unit {0}
+  RestFits (reading name) = Unit {0}
+  RestFits (giving v) = Unit {0}
+  RestFits (giving_place p) = PlaceFits p
+  RestFits (store p v k) = PlaceFits p × ItemsFit k
+  RestFits (select v ss k) = StmtsFit ss × ItemsFit k
+  RestFits (turning k) = ItemsFit k
+  RestFits (going n) = Unit {0}
+  RestFits (entering_block b k) = ItemsFit k
+  RestFits (entering n gs k) = IsCallee n × GivensFit gs (wanted n) × ItemsFit k
+  RestFits (starting n gs task k) = IsCallee n × GivensFit gs (wanted n) × TaskFits task × ItemsFit k
+  RestFits (acting act n k) = Leads n × ItemsFit k
+  RestFits (line phrases vs k) = ItemsFit k
+  RestFits (arrays kind ns pairs vs k) = ItemsFit k
+  RestFits (event n k) = ItemsFit k
+  RestFits (within k) = ItemsFit k
+  RestFits (dropping k) = ItemsFit k
+  RestFits (evaluating h) = HoleFits h
+  RestFits (locating x) = AimFits x
+  RestFits (aiming x e k) = AimFits x × ExprFits e × ItemsFit k
+  RestFits (storing p h k) = PlaceFits p × HoleFits h × ItemsFit k
+  RestFits (choosing h x y k) = HoleFits h × StmtFits x × StmtFits y × ItemsFit k
+  RestFits (looping h c b k) = HoleFits h × ExprFits c × StmtFits b × ItemsFit k
+  RestFits (checking h b c k) = HoleFits h × StmtFits b × ExprFits c × ItemsFit k
+  RestFits (counting h b k) = HoleFits h × StmtFits b × ItemsFit k
+  RestFits (differing h loop k) = HoleFits h × LoopFits loop × ItemsFit k
+  RestFits (stepping d h loop k) = HoleFits h × LoopFits loop × ItemsFit k
+  RestFits (selecting h ss k) = HoleFits h × StmtsFit ss × ItemsFit k
+  RestFits (calling n x k) = IsCallee n × ActualsLeft x (wanted n) × ItemsFit k
+  RestFits (preparing n x task k) = IsCallee n × ActualsLeft x (wanted n) × TaskFits task × ItemsFit k
+  RestFits (writing phrases vs h es k) = HoleFits h × ExprsFit es × ItemsFit k
+  RestFits (bounding kind ns pairs vs h ps k) = HoleFits h × PairsFit ps × ItemsFit k
+
+  -- in the text of each block
+  abbrev pub CallsFitInTexts : Type 0
+  CallsFitInTexts = (j : ℕ) → j < length sc.blocks → ItemsFit (items_of (block_numbered sc.blocks j))
+
+  -- ---- what a head asks for, and what answers it
+
+  abbrev pub AskFits : Ask → Type 0
+  AskFits (asks.enters n gs) = IsCallee n × GivensFit gs (wanted n)
+  AskFits (asks.starts n gs task) = IsCallee n × GivensFit gs (wanted n) × TaskFits task
+  AskFits (asks.indexes n ks v) = Leads n
+  AskFits (asks.passes n) = IsTold n × (is_formal (sort_at sc n) ≡ true)
+  AskFits (asks.resolves n) = IsTold n × (is_by_name (sort_at sc n) ≡ true)
+  AskFits (asks.stores p v) = PlaceFits p
+  AskFits (asks.acts act n) = Leads n
+  AskFits (asks.leaves (place p)) = PlaceFits p
+  AskFits _ = Unit {0}
+
+  -- a Pass is answered by a cell that leads where the parameter does
+  abbrev pub AnswerFits : Ask → Answer → Type 0
+  AnswerFits (asks.passes n) (cell c) = IsLink (is_by_name (sort_at sc n)) c
+  AnswerFits (asks.passes n) _ = ⊥
+  AnswerFits _ (place p) = PlaceFits p
+  AnswerFits _ _ = Unit {0}

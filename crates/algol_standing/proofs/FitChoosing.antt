@@ -1,0 +1,238 @@
+-- Each choice keeps calls fitting.
+use Rattle.std.proofs.Common.{◌≡◌, ℕ, List, [], ◌∷◌, ◌++◌, length, Option, Some, None, Bool, true, false, refl, subst}
+use Rattle.std.specs.Prelude.{if◌then◌else◌, nat_lt}
+use Rattle.b67_list.specs.Numbered.{numbered}
+use Rattle.b67_num.specs.declared.FaultKind.TheVariants as fault
+use Rattle.b67_num.specs.Whole.{fault_of}
+use Rattle.algol_tree.specs.declared.tree.Kind.{Kind}
+use Rattle.algol_tree.specs.declared.tree.EventAct.{EventAct}
+use Rattle.algol_tree.specs.declared.tree.EventAct.TheVariants as act
+use Rattle.algol_tree.specs.declared.tree.Named.{Named}
+use Rattle.algol_tree.specs.Plain.{PPair}
+use Rattle.algol_tree.specs.Sorts.{is_by_name}
+use Rattle.algol_tree.specs.Scopes.{Scopes, use_of}
+use Rattle.algol_meaning.specs.declared.TheConstants.{MOST_STARTED}
+use Rattle.algol_meaning.specs.Value.{Value, truth, whole_of, Reference, EventCell, Bounds, ArrayCell, Cell, simple, event, array, named, reference}
+use Rattle.algol_meaning.specs.Rest.{Place, own, there, element_of, Answer, done, value, cell, place}
+use Rattle.algol_meaning.specs.Settle.{block_of, sort_at, settle_actual_place}
+use Rattle.algol_meaning.specs.World.{instance_at, cell_in, cell_at, set_cell, add_cells, followed, value_in, array_in, name_place, Part, Process, State, able, waits_for, procures, set_all_able, with_process, World}
+use Rattle.algol_meaning.specs.Arrays.{subscript_place, element_at, with_element, new_array, new_arrays, has_wrong_size, has_no_room, bounds_of}
+use Rattle.algol_meaning.specs.Events.{event_at, new_event, set_event, liberated_by}
+use Rattle.algol_meaning.specs.Lines.{line_of}
+use Rattle.algol_meaning.specs.Actions as actions
+use Rattle.algol_meaning.specs.Actions.{Action}
+use Rattle.algol_meaning.specs.Asks as asks
+use Rattle.algol_meaning.specs.Asks.{Ask, ask, resume, located_of}
+use Rattle.algol_meaning.specs.Choice.{Choice, choice_of, is_subscripted, nth_exists, goes, goes_releasing, stops, opens, fails, home, here, read_of, resolved_of, indexed_at, element_read_at, stored, made_arrays, acted, given_cells, task_of, starts}
+use Rattle.algol_paths.specs.Blocks.{IsSeenAround, IsInner}
+use Rattle.algol_calls.specs.Fits.{CallsFitInTexts, IsLink, AskFits, AnswerFits}
+use Rattle.algol_calls.proofs.Sorts.{by_name_formal}
+use Rattle.algol_standing.specs.Worlds.{held_in_rest, held_in_answer, IsWhole, IsSound}
+use Rattle.algol_standing.specs.Fitting.{IsPlainAt, LeadsRight, AllLeadRight, WorldFits}
+use Rattle.algol_standing.proofs.Holding.{IsForeign}
+use Rattle.algol_standing.proofs.Seen.{part_ok}
+use Rattle.algol_standing.proofs.Asking.{Sees, AskHolds, rest_sees, rest_asks}
+use Rattle.algol_standing.proofs.FitCells.{finds_none, finds_first}
+use Rattle.algol_standing.proofs.FitWorlds.{Extends, extends_self, right_all, set_cell_fits, set_cell_extends, add_cells_fits, add_cells_extends}
+use Rattle.algol_standing.proofs.FitNames.{Seen, plain_here, link_here, right_here, followed_here}
+use Rattle.algol_standing.proofs.FitActing.{simple_right, same_fits, here_fits, asked, goes_fits, stays_fits, KeepsFit, either_fit, fails_fit}
+use Rattle.algol_standing.proofs.FitEntering.{procedure_fits, start_fits, block_fits, read_fits, place_fits}
+use Rattle.algol_standing.proofs.FitLeaving.{event_fits, leaves_fit, jump_fits}
+
+module _ (sc : Scopes) (texts : CallsFitInTexts sc) (w : World) (ok : IsSound sc IsWhole w) (fits : WorldFits sc w) (p : ℕ) (q : Process) (part : Part) (outer : List Part)
+    (is : numbered w.processes p ≡ Some q) (todo : q.todo ≡ part ∷ outer) (able_is : q.state ≡ able) where
+  abbrev Keeps : Choice → Type 0
+  Keeps = KeepsFit sc w ok fits p q part outer is todo
+
+  abbrev SeenHere : Named → Type 0
+  SeenHere = Seen sc w ok fits p q part outer is todo
+
+  abbrev at_name : Named → Reference
+  at_name n = here sc w p q part outer n
+
+  one_of : (b : Bool) (c d : Choice) → Keeps c → Keeps d → Keeps (if b then c else d)
+  one_of = either_fit sc w ok fits p q part outer is todo
+
+  abbrev j : ℕ
+  j = (instance_at w part.instance).block
+
+  module _ (x : Ask) (e : ask part.rest ≡ x) where
+    wanted_of : AskFits sc x
+    wanted_of = asked sc w ok fits p q part outer is todo x e
+
+    seen_of : Sees SeenHere (IsInner sc j) x
+    seen_of =
+        subst (λ y. Sees SeenHere (IsInner sc j) y) e
+        (rest_sees SeenHere (IsInner sc j) (IsSeenAround sc j) (λ n s. s.0) part.rest (part_ok sc IsWhole w ok p q part outer is todo).text)
+
+    held_of : AskHolds (LeadsRight sc w) x
+    held_of =
+        subst (λ y. AskHolds (LeadsRight sc w) y) e
+        (rest_asks (LeadsRight sc w) part.rest (right_all sc w (held_in_rest part.rest) (here_fits sc w ok fits p q part outer is todo).holds))
+
+    stays : (a : Answer) → AnswerFits sc x a → AllLeadRight sc w (held_in_answer a) → IsForeign a →
+        WorldFits sc (with_process w p (record q { todo = record part { rest = resume sc part.rest a } ∷ outer }))
+    stays a f b g = stays_fits sc w ok fits p q part outer is todo x e a f b g
+
+    -- nothing is answered, and the world is another
+    goes_in : AnswerFits sc x done → (v : World) → Extends w v → WorldFits sc v → (s : State) →
+        WorldFits sc (with_process v p (record q { todo = record part { rest = resume sc part.rest done } ∷ outer; state = s }))
+    goes_in f v more h s = goes_fits sc w ok fits p q part outer is todo x e done f tt tt v more h s
+
+  -- ---- reads and places
+
+  read_kept : (n : Named) → ask part.rest ≡ asks.reads n → (c : Cell) → LeadsRight sc w c → Keeps (read_of sc w p q part outer c)
+  read_kept n e (named c) h = read_fits sc texts w ok fits p q part outer is todo c n e h
+  read_kept n e (reference r) h = stays (asks.reads n) e (value (value_in (cell_at w r))) tt tt tt
+  read_kept n e (simple v) h = stays (asks.reads n) e (value v) tt tt tt
+  read_kept n e (event d) h = stays (asks.reads n) e (value (value_in (event d))) tt tt tt
+  read_kept n e (array a) h = stays (asks.reads n) e (value (value_in (array a))) tt tt tt
+
+  resolved_kept : (n : Named) → ask part.rest ≡ asks.resolves n → (b : Bool) (c : Cell) → IsLink b c → LeadsRight sc w c → Keeps (resolved_of sc w p q part outer n c)
+  resolved_kept n e b (named c) i h = by (is_subscripted c.actual) refl
+    where
+      by : (d : Bool) → is_subscripted c.actual ≡ d →
+          Keeps
+          (if d then opens sc w p q part outer w (record { instance = c.instance; purpose = name_place; rest = located_of (settle_actual_place sc c.actual) })
+          else fails sc w p q part outer fault.NotAVariable)
+      by true f = place_fits sc texts w ok fits p q part outer is todo c n e f h
+      by false f = fails_fit sc w ok fits p q part outer is todo fault.NotAVariable
+  resolved_kept n e b (reference r) i h = stays (asks.resolves n) e (place (there r)) tt (h, tt) tt
+  resolved_kept n e b (simple v) i h = absurd i
+  resolved_kept n e b (event d) i h = absurd i
+  resolved_kept n e b (array a) i h = absurd i
+
+  indexed_kept : (n : Named) (ks : List ℕ) (v : Value) → ask part.rest ≡ asks.indexes n ks v → (r : Reference) → IsPlainAt sc w r → (o : Option ℕ) →
+      Keeps (indexed_at sc w p q part outer r ks o)
+  indexed_kept n ks v e r h None = fails_fit sc w ok fits p q part outer is todo fault.InvalidIndex
+  indexed_kept n ks v e r h (Some k) = stays (asks.indexes n ks v) e (place (element_of r (ks ++ k ∷ []))) tt (h, tt) tt
+
+  element_kept : (n : Named) (ks : List ℕ) (v : Value) → ask part.rest ≡ asks.reads_element n ks v → (a : ArrayCell) (o : Option ℕ) → Keeps (element_read_at sc w p q part outer a ks o)
+  element_kept n ks v e a None = fails_fit sc w ok fits p q part outer is todo fault.InvalidIndex
+  element_kept n ks v e a (Some k) = stays (asks.reads_element n ks v) e (value (element_at a (ks ++ k ∷ []))) tt tt tt
+
+  -- ---- stores
+
+  module _ (x : Place) (v : Value) (e : ask part.rest ≡ asks.stores x v) where
+    set_kept : (r : Reference) (c : Cell) → IsPlainAt sc w r → LeadsRight sc w c →
+        WorldFits sc (with_process (set_cell w r c) p (record q { todo = record part { rest = resume sc part.rest done } ∷ outer }))
+    set_kept r c plain right =
+        goes_in (asks.stores x v) e tt (set_cell w r c) (set_cell_extends sc w fits r c plain right) (set_cell_fits sc w fits r c plain right) q.state
+
+  stored_kept : (x : Place) (v : Value) (e : ask part.rest ≡ asks.stores x v) → Keeps (stored sc w p q part outer x v)
+  stored_kept (own n) v e =
+      set_kept (own n) v e (at_name n) (simple v) (plain_here sc w ok fits p q part outer is todo n (seen_of (asks.stores (own n) v) e) (wanted_of (asks.stores (own n) v) e)) tt
+  stored_kept (there r) v e = set_kept (there r) v e r (simple v) (held_of (asks.stores (there r) v) e).0 tt
+  stored_kept (element_of r ks) v e =
+      set_kept (element_of r ks) v e r (array (with_element (array_in (cell_at w r)) ks v)) (held_of (asks.stores (element_of r ks) v) e).0 tt
+
+  -- ---- events
+
+  module _ (x : EventAct) (n : Named) (e : ask part.rest ≡ asks.acts x n) (r : Reference) (plain : IsPlainAt sc w r) where
+    changed : (d : EventCell) (ps : List ℕ) (s : State) →
+        WorldFits sc (with_process (set_all_able (set_event w r d) ps) p (record q { todo = record part { rest = resume sc part.rest done } ∷ outer; state = s }))
+    changed d ps s =
+        let h = event_fits sc w r d ps fits plain in
+        goes_in (asks.acts x n) e tt (set_all_able (set_event w r d) ps) h.1 h.0 s
+
+    unchanged : WorldFits sc (with_process w p (record q { todo = record part { rest = resume sc part.rest done } ∷ outer }))
+    unchanged = stays (asks.acts x n) e done tt tt tt
+
+  acted_kept : (x : EventAct) (n : Named) → ask part.rest ≡ asks.acts x n → (r : Reference) → IsPlainAt sc w r → Keeps (acted sc w p q part outer x r)
+  acted_kept act.Cause n e r h = changed act.Cause n e r h (record (event_at w r) { happened = true; waiters = [] }) ((event_at w r).waiters) q.state
+  acted_kept act.Reset n e r h = changed act.Reset n e r h (record (event_at w r) { happened = false }) [] q.state
+  acted_kept act.Wait n e r h =
+      one_of ((event_at w r).happened) (goes sc w p q part outer actions.Wait w done)
+      (stops sc w p q part outer actions.Wait (set_event w r (record (event_at w r) { waiters = (event_at w r).waiters ++ p ∷ [] })) (waits_for r)) (unchanged act.Wait n e r h)
+      (changed act.Wait n e r h (record (event_at w r) { waiters = (event_at w r).waiters ++ p ∷ [] }) [] (waits_for r))
+  acted_kept act.Procure n e r h = by ((event_at w r).available)
+    where
+      by : (b : Bool) →
+          Keeps
+          (if b then goes sc w p q part outer actions.Procure (set_event w r (record (event_at w r) { available = false })) done
+          else stops sc w p q part outer actions.Procure (set_event w r (record (event_at w r) { procurers = (event_at w r).procurers ++ p ∷ [] })) (procures r))
+      by true = changed act.Procure n e r h (record (event_at w r) { available = false }) [] q.state
+      by false = changed act.Procure n e r h (record (event_at w r) { procurers = (event_at w r).procurers ++ p ∷ [] }) [] (procures r)
+  acted_kept act.Liberate n e r h = by ((event_at w r).procurers)
+    where
+      by : (ps : List ℕ) → Keeps (goes_releasing sc w p q part outer actions.Liberate (liberated_by w r (event_at w r) ps))
+      by [] = changed act.Liberate n e r h (record (event_at w r) { available = true }) [] q.state
+      by (k ∷ ps) = changed act.Liberate n e r h (record (event_at w r) { procurers = ps }) (k ∷ []) q.state
+
+  -- ---- arrays and events that are made
+
+  arrays_right : (kind : Kind) (bs : List Bounds) (ns : List Named) (m : List ℕ) → LeadsRight sc w (cell_in (new_arrays kind bs ns) m)
+  arrays_right kind bs [] = finds_none (LeadsRight sc w) (simple_right sc w)
+  arrays_right kind bs (n ∷ ns) =
+      finds_first (LeadsRight sc w) (simple_right sc w) (record { name = n.name; cell = new_array kind bs }) (new_arrays kind bs ns) tt (arrays_right kind bs ns)
+
+  arrays_kept : (kind : Kind) (ns : List Named) (pairs : List PPair) (vs : List Value) → ask part.rest ≡ asks.makes_arrays kind ns pairs vs → (bs : List Bounds) →
+      Keeps (made_arrays sc w p q part outer kind ns bs)
+  arrays_kept kind ns pairs vs e bs = by (has_wrong_size bs) (has_no_room w bs ns)
+    where
+      by : (b c : Bool) →
+          Keeps
+          (if b then fails sc w p q part outer fault.ArraySize
+          else if c then fails sc w p q part outer fault.CoreFull
+          else goes sc w p q part outer actions.MakeArrays (add_cells w part.instance (new_arrays kind bs ns)) done)
+      by true c = fails_fit sc w ok fits p q part outer is todo fault.ArraySize
+      by false true = fails_fit sc w ok fits p q part outer is todo fault.CoreFull
+      by false false =
+          goes_in (asks.makes_arrays kind ns pairs vs) e tt (add_cells w part.instance (new_arrays kind bs ns))
+          (add_cells_extends sc w fits part.instance (new_arrays kind bs ns) (arrays_right kind bs ns))
+          (add_cells_fits sc w fits part.instance (new_arrays kind bs ns) (arrays_right kind bs ns)) q.state
+
+  -- ---- by what the head asks for
+
+  pub choice_kept : (x : Ask) → ask part.rest ≡ x → Keeps (choice_of sc w p q part outer x)
+  choice_kept asks.nothing e = fits
+  choice_kept (asks.reads n) e = read_kept n e (cell_at w (at_name n)) (right_here sc w ok fits p q part outer is todo n (seen_of (asks.reads n) e))
+  choice_kept (asks.reads_element n ks v) e =
+      element_kept n ks v e (array_in (cell_at w (followed w (at_name n)))) (subscript_place ((use_of sc n).sort) (array_in (cell_at w (followed w (at_name n)))) ks (whole_of v))
+  choice_kept (asks.indexes n ks v) e =
+      indexed_kept n ks v e (followed w (at_name n)) (followed_here sc w ok fits p q part outer is todo n (seen_of (asks.indexes n ks v) e) (wanted_of (asks.indexes n ks v) e))
+      (subscript_place ((use_of sc n).sort) (array_in (cell_at w (followed w (at_name n)))) ks (whole_of v))
+  choice_kept (asks.asks_happened n) e = stays (asks.asks_happened n) e (value (truth ((event_at w (followed w (at_name n))).happened))) tt tt tt
+  choice_kept (asks.fails f) e = fails_fit sc w ok fits p q part outer is todo (fault_of f)
+  choice_kept (asks.enters n gs) e =
+      let x = wanted_of (asks.enters n gs) e in
+      procedure_fits sc texts w ok fits p q part outer is todo n gs x.0 x.1 (seen_of (asks.enters n gs) e).1 (held_of (asks.enters n gs) e) e
+  choice_kept (asks.passes n) e =
+      let x = wanted_of (asks.passes n) e in
+      let s = seen_of (asks.passes n) e in
+      stays (asks.passes n) e (cell (cell_at w (at_name n))) (link_here sc w ok fits p q part outer is todo n s x.0 x.1)
+      (right_here sc w ok fits p q part outer is todo n s, tt) tt
+  choice_kept (asks.resolves n) e =
+      let x = wanted_of (asks.resolves n) e in
+      let s = seen_of (asks.resolves n) e in
+      resolved_kept n e (is_by_name (sort_at sc n)) (cell_at w (at_name n)) (link_here sc w ok fits p q part outer is todo n s x.0 (by_name_formal (sort_at sc n) x.1))
+      (right_here sc w ok fits p q part outer is todo n s)
+  choice_kept (asks.reads_result name) e = stays (asks.reads_result name) e (value (value_in (cell_at w (record { instance = part.instance; name = name })))) tt tt tt
+  choice_kept (asks.leaves a) e = leaves_fit sc texts w ok fits p q part outer is todo able_is a e
+  choice_kept (asks.stores x v) e = stored_kept x v e
+  choice_kept (asks.selects v ss) e =
+      one_of (nth_exists (whole_of v) ss) (goes sc w p q part outer actions.Select w done) (fails sc w p q part outer fault.CaseIndex) (stays (asks.selects v ss) e done tt tt tt)
+      (fails_fit sc w ok fits p q part outer is todo fault.CaseIndex)
+  choice_kept asks.turns e = stays asks.turns e done tt tt tt
+  choice_kept (asks.goes_to n) e = jump_fits sc texts w ok fits p q part outer is todo able_is n (home sc w p q part outer n)
+  choice_kept (asks.enters_block b) e =
+      let s = seen_of (asks.enters_block b) e in
+      block_fits sc texts w ok fits p q part outer is todo b e s.known s.parameters
+  choice_kept (asks.starts n gs task) e =
+      let x = wanted_of (asks.starts n gs task) e in
+      let s = seen_of (asks.starts n gs task) e in
+      one_of (nat_lt MOST_STARTED (length w.processes)) (fails sc w p q part outer fault.ProcessLimit)
+      (starts sc w p q part outer (block_of ((use_of sc n).sort)) (home sc w p q part outer n) (given_cells sc w p q part outer gs) (task_of sc w p q part outer task))
+      (fails_fit sc w ok fits p q part outer is todo fault.ProcessLimit)
+      (start_fits sc texts w ok fits p q part outer is todo n gs x.0 x.1 s.1 (held_of (asks.starts n gs task) e) task x.2 s.2 e)
+  choice_kept (asks.acts x n) e =
+      acted_kept x n e (followed w (at_name n)) (followed_here sc w ok fits p q part outer is todo n (seen_of (asks.acts x n) e) (wanted_of (asks.acts x n) e))
+  choice_kept (asks.writes phrases vs) e =
+      goes_in (asks.writes phrases vs) e tt (record w { output = w.output ++ line_of phrases vs ∷ [] }) (extends_self w (record w { output = w.output ++ line_of phrases vs ∷ [] }) refl)
+      (same_fits sc w (record w { output = w.output ++ line_of phrases vs ∷ [] }) fits refl refl) q.state
+  choice_kept (asks.makes_arrays kind ns pairs vs) e = arrays_kept kind ns pairs vs e (bounds_of pairs vs)
+  choice_kept (asks.makes_event n) e =
+      let right = finds_first (LeadsRight sc w) (simple_right sc w) (record { name = n.name; cell = event new_event }) [] tt (finds_none (LeadsRight sc w) (simple_right sc w)) in
+      goes_in (asks.makes_event n) e tt (add_cells w part.instance (record { name = n.name; cell = event new_event } ∷ []))
+      (add_cells_extends sc w fits part.instance (record { name = n.name; cell = event new_event } ∷ []) right)
+      (add_cells_fits sc w fits part.instance (record { name = n.name; cell = event new_event } ∷ []) right) q.state

@@ -1,0 +1,9 @@
+pub mod Tables
+pub mod Lines
+pub mod Widths
+pub mod Levels
+pub mod One
+pub mod Segments
+pub mod Gathering
+pub mod Taking
+pub mod Whole
