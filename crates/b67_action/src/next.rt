@@ -4,9 +4,9 @@ ghost use Rattle.b67_list.specs.Numbered.{numbered};
 ghost use Rattle.b67_segment.specs.Decoded.{AreDecoded};
 ghost use Rattle.b67_table.specs.Image.{is_able};
 ghost use Rattle.b67_table.specs.Valid.{IsValid};
+ghost use Rattle.b67_letters.specs.Releases.{releases};
 ghost use Rattle.b67_reach.specs.Images.{image_of};
 ghost use Rattle.b67_action.specs.Able.{AbleAfter};
-ghost use Rattle.b67_action.specs.Acting.{NextReleases};
 ghost use Rattle.b67_action.specs.Done.{is_performed, Came, HasRoom};
 
 use crate::acting::perform;
@@ -38,7 +38,7 @@ pub fn action<C: Core>(
     requires room { HasRoom kernel.old parts.old }
     requires table { IfSome (numbered parts.old.regs.items process) (λ r. IfSome table (λ t. AreDecoded parts.old.code r.segment r.ll t.now)) }
     ensures came { Came parts.old.code (image_of (C.Core.stacks core.old) (C.Core.rows core.old) kernel.old.events parts.old) process result (image_of (C.Core.stacks core.new) (C.Core.rows core.new) kernel.new.events parts.new) }
-    ensures woken { is_performed result ≡ true → NextReleases parts.old.code (image_of (C.Core.stacks core.old) (C.Core.rows core.old) kernel.old.events parts.old) process parts.new.woken.processes.items }
+    ensures woken { is_performed result ≡ true → parts.new.woken.processes.items ≡ releases parts.old.code (image_of (C.Core.stacks core.old) (C.Core.rows core.old) kernel.old.events parts.old) process }
     ensures able { is_performed result ≡ true → AbleAfter (image_of (C.Core.stacks core.old) (C.Core.rows core.old) kernel.old.events parts.old) (image_of (C.Core.stacks core.new) (C.Core.rows core.new) kernel.new.events parts.new) process parts.new.woken.processes.items }
     ensures valid { IsValid parts.old.code (image_of (C.Core.stacks core.new) (C.Core.rows core.new) kernel.new.events parts.new) }
     ensures room { HasRoom kernel.new parts.new }

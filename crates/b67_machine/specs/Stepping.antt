@@ -9,7 +9,7 @@ use Rattle.b67_table.specs.Valid.{IsValid}
 use Rattle.b67_action.specs.declared.done.Done.{Done}
 use Rattle.b67_action.specs.declared.done.Done.TheVariants.{Went, Waits, Ended, Fault, Interrupt, StackLimit, NoMemory}
 use Rattle.b67_action.specs.Able.{AbleAfter}
-use Rattle.b67_action.specs.Acting.{NextReleases}
+use Rattle.b67_letters.specs.Releases.{releases, started_between, starts}
 use Rattle.b67_action.specs.Done.{Came, is_performed}
 use Rattle.b67_machine.specs.declared.Failure.{Failure}
 use Rattle.b67_machine.specs.declared.entry.Performed.{Performed}
@@ -45,10 +45,15 @@ abbrev pub lacks : Done → Bool
 lacks NoMemory = true
 lacks done = false
 
--- the processes that the next operator of a process releases, and none where it is not performed
-abbrev pub Releases : Bool → Code → Image → ℕ → List ℕ → Type 0
-Releases true code img p released = NextReleases code img p released
-Releases false code img p released = released ≡ []
+-- the processes that the next operator of a process releases, in their order, and none where it is not performed
+abbrev pub released_where : Bool → Code → Image → ℕ → List ℕ
+released_where true code img p = releases code img p
+released_where false code img p = []
+
+-- the process that it starts, where it starts one
+abbrev pub started_where : Bool → Code → Image → ℕ → Option ℕ
+started_where true code img p = starts code img p
+started_where false code img p = None
 
 -- the next operator of a process came to this
 pub record Acts (old : Kept) (p : ℕ) (done : Done) (new : Kept) : Type 0 where
@@ -56,7 +61,8 @@ pub record Acts (old : Kept) (p : ℕ) (done : Done) (new : Kept) : Type 0 where
   pub came : Came old.code old.image p done acted
   pub image : new.image ≡ image_after p done acted
   pub counts : Counts old.counts p (operators_in done) new.counts
-  pub released : Releases (is_performed done) old.code old.image p new.released
+  pub released : new.released ≡ released_where (is_performed done) old.code old.image p
+  pub started : started_between old.image.started new.image.started ≡ started_where (is_performed done) old.code old.image p
   -- who is able, where the operator is counted
   pub able : operators_in done ≡ 1 → AbleAfter old.image new.image p new.released
   pub limit : new.limit ≡ limit_of p done

@@ -5,12 +5,13 @@ use Rattle.b67_private.proofs.Stepping.{held_operand}
 use Rattle.b67_intrinsics.specs.declared.hindrance.Hindrance.{Hindrance}
 use Rattle.b67_reach.specs.Images.{image_of}
 use Rattle.b67_action.specs.declared.done.Done.{Done}
-use Rattle.b67_action.specs.Acting.{row_effect, RowReleases}
+use Rattle.b67_action.specs.Acting.{row_effect, RowReleases, NextReleases}
 use Rattle.b67_action.specs.Done.{Came, is_performed}
 use Rattle.b67_action.proofs.Coming.{table_row, table_bad, operator_is, not_performed, makes_next, came_on, came_not, state_after}
 use Rattle.b67_action.proofs.Kept.{stays_valid}
 use Rattle.b67_action.proofs.MakeAble.{performed_able}
 use Rattle.b67_action.proofs.Ready.{acting, level_known, part_known, state_at}
+use Rattle.b67_action.proofs.Released.{performed_releases}
 use Rattle.b67_action.proofs.next.action.Goals as goal
 
 pub next_operator-requires-clause-level : goal.next_operator-requires-clause-level
@@ -114,9 +115,11 @@ returns-in-Err-clause-valid g c =
 pub returns-in-Ok-clause-woken : goal.returns-in-Ok-clause-woken
 returns-in-Ok-clause-woken g c = λ performed.
     let old = image_of (g.C.Core.stacks c.args.core.now) (g.C.Core.rows c.args.core.now) c.args.kernel.now.events c.args.parts.now in
+    let new = image_of (g.C.Core.stacks c.perform-answer.new.core) (g.C.Core.rows c.perform-answer.new.core) c.perform-answer.new.kernel.events c.perform-answer.new.parts in
+    let released = c.perform-answer.new.parts.woken.processes.items in
     let r = c.registers-regs.result.now in
     let here : found c.args.parts.now.code r.segment r.ll r.place ≡ Some (c.in-Some.op, c.in-Some.next) = sym c.next_operator.ensures.value ∙ c.in-Some.is in
-    record {
+    let row : NextReleases c.args.parts.now.code old c.args.process released = record {
       regs = r;
       has = c.registers-regs.ensures;
       op = c.in-Some.op;
@@ -124,9 +127,10 @@ returns-in-Ok-clause-woken g c = λ performed.
       stands = operator_is c.args.parts.now.code old c.args.process r c.requires.able c.registers-regs.ensures (c.in-Some.op, c.in-Some.next) here;
       row = c.row_of-row.result;
       is = c.row_of-row.ensures.row;
-      releases = subst (λ (before : List ℕ). RowReleases c.row_of-row.result old (numbered c.args.parts.now.regs.items c.args.process) before c.perform-answer.new.parts.woken.processes.items)
+      releases = subst (λ (before : List ℕ). RowReleases c.row_of-row.result old (numbered c.args.parts.now.regs.items c.args.process) before released)
           c.clear.ensures.items c.in-Ok.ensures.woken;
-    }
+    } in
+    performed_releases c.args.parts.now.code old new c.args.process released c.went.result (returns-in-Ok-clause-came g c) performed row
 
 pub returns-in-Err-clause-woken : goal.returns-in-Err-clause-woken
 returns-in-Err-clause-woken g c = λ performed.
@@ -134,11 +138,23 @@ returns-in-Err-clause-woken g c = λ performed.
 
 pub returns-in-Ok-clause-able : goal.returns-in-Ok-clause-able
 returns-in-Ok-clause-able g c = λ performed.
-    performed_able c.args.parts.now.code
-    (image_of (g.C.Core.stacks c.args.core.now) (g.C.Core.rows c.args.core.now) c.args.kernel.now.events c.args.parts.now)
-    (image_of (g.C.Core.stacks c.perform-answer.new.core) (g.C.Core.rows c.perform-answer.new.core) c.perform-answer.new.kernel.events c.perform-answer.new.parts)
-    c.args.process c.perform-answer.new.parts.woken.processes.items c.went.result c.requires.valid c.requires.able (returns-in-Ok-clause-came g c) performed
-    (returns-in-Ok-clause-woken g c performed)
+    let old = image_of (g.C.Core.stacks c.args.core.now) (g.C.Core.rows c.args.core.now) c.args.kernel.now.events c.args.parts.now in
+    let new = image_of (g.C.Core.stacks c.perform-answer.new.core) (g.C.Core.rows c.perform-answer.new.core) c.perform-answer.new.kernel.events c.perform-answer.new.parts in
+    let released = c.perform-answer.new.parts.woken.processes.items in
+    let r = c.registers-regs.result.now in
+    let here : found c.args.parts.now.code r.segment r.ll r.place ≡ Some (c.in-Some.op, c.in-Some.next) = sym c.next_operator.ensures.value ∙ c.in-Some.is in
+    let row : NextReleases c.args.parts.now.code old c.args.process released = record {
+      regs = r;
+      has = c.registers-regs.ensures;
+      op = c.in-Some.op;
+      next = c.in-Some.next;
+      stands = operator_is c.args.parts.now.code old c.args.process r c.requires.able c.registers-regs.ensures (c.in-Some.op, c.in-Some.next) here;
+      row = c.row_of-row.result;
+      is = c.row_of-row.ensures.row;
+      releases = subst (λ (before : List ℕ). RowReleases c.row_of-row.result old (numbered c.args.parts.now.regs.items c.args.process) before released)
+          c.clear.ensures.items c.in-Ok.ensures.woken;
+    } in
+    performed_able c.args.parts.now.code old new c.args.process released c.went.result c.requires.valid c.requires.able (returns-in-Ok-clause-came g c) performed row
 
 pub returns-in-Err-clause-able : goal.returns-in-Err-clause-able
 returns-in-Err-clause-able g c = λ performed.

@@ -17,7 +17,7 @@ use Rattle.b67_machine.specs.Kept.{Kept, Counts}
 use Rattle.b67_machine.specs.Machines.{with_failure}
 use Rattle.b67_machine.specs.Stepping.{StepsBy}
 use Rattle.b67_machine.proofs.Ends.{goes_on}
-use Rattle.b67_machine.proofs.Failures.{none_kept, valid_with, releases, acts_by}
+use Rattle.b67_machine.proofs.Failures.{none_kept, valid_with, released_so, acts_by}
 use Rattle.b67_machine.proofs.Plainly.{live_of}
 use Rattle.b67_machine.proofs.Machine.step.Goals as goal
 
@@ -74,7 +74,7 @@ returns-clause-steps g c =
     (ap (λ (f : Option Failure). with_failure acted f) c.failure_of-self-inside.ensures)
     (subst (λ (n : ℕ). Counts old.counts c.args.process n c.count.new.counts.items) c.operators_in.ensures
     (subst (λ (k : Kept). Counts k.counts c.args.process c.operators_in.result c.count.new.counts.items) c.self.view_is c.count.ensures.counts))
-    (releases (is_performed done) c.self.inside.parts.code base c.args.process c.action-done.new.parts.woken.processes.items c.settle.new.released.items
+    (released_so (is_performed done) c.self.inside.parts.code base c.args.process c.action-done.new.parts.woken.processes.items c.settle.new.released.items
     c.action-done.ensures.woken c.settle.ensures.kept c.settle.ensures.none)
     (λ e. subst (AbleAfter base acted c.args.process) (sym (c.settle.ensures.kept e)) (c.action-done.ensures.able e))
     c.limit_of-self-inside.ensures c.lacks-self-inside.ensures c.action-done.ensures.code)
