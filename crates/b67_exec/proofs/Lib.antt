@@ -1,4 +1,6 @@
 pub mod Times
+pub mod Waiting
+pub mod Releases
 pub mod Releasing
 pub mod Queues
 pub mod Turning

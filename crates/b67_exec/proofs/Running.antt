@@ -1,12 +1,10 @@
 -- A run by turns, turn by turn.
-use Rattle.std.proofs.Common.{◌≡◌, refl, sym, ap, subst, ◌∙◌, inr, ℕ, zero, suc, ◌+◌, ◌≤◌, ◌<◌, ◌==◌, Bool, true, false, List, [], ◌∷◌, length, Option, Some, None, Result, Ok, Err, arith}
+use Rattle.std.proofs.Common.{◌≡◌, refl, sym, ap, subst, ◌∙◌, ℕ, zero, suc, ◌+◌, ◌≤◌, ◌<◌, false, List, [], ◌∷◌, length, Option, Some, None, arith}
 use Rattle.std.proofs.Math.Decide.{ℕ_discrete}
 use Rattle.b67_segment.specs.declared.code.Code.{Code}
-use Rattle.b67_table.specs.Beginning.{first_image}
 use Rattle.b67_table.specs.Ending.{ImageEnd, finished, faulted, all_waiting, image_end}
 use Rattle.b67_table.specs.Image.{Image}
-use Rattle.b67_table.specs.Table.{table}
-use Rattle.b67_action.specs.Able.{times, one_if}
+use Rattle.b67_action.specs.Able.{times}
 use Rattle.b67_machine.specs.declared.reads.End.{End}
 use Rattle.b67_machine.specs.Beginning.{IsFresh}
 use Rattle.b67_machine.specs.Kept.{Kept, Counts, counted}
@@ -14,8 +12,8 @@ use Rattle.b67_machine.specs.Reads.{shown, limit_end, end_by, machine_end}
 use Rattle.b67_machine.proofs.Ends.{goes_on}
 use Rattle.b67_exec.specs.declared.Stopped.{Stopped}
 use Rattle.b67_exec.specs.declared.Stopped.TheVariants as stopped
-use Rattle.b67_exec.specs.Exec.{FrontStops, FrontMakes, IsCause, CountsAre, ExecRun, ExecLacks, Lacks, stop_of, told}
-use Rattle.b67_exec.specs.Turns.{Turns, Turn, goes, stops, turn, turn_by, turn_in, turn_unless, stopped_by, Ran, ran, spent_unless, go_on, exec_from, exec_run, first_turns}
+use Rattle.b67_exec.specs.Exec.{FrontStops, FrontMakes, IsCause, CountsAre, ExecRun, ExecLacks, stop_of, told}
+use Rattle.b67_exec.specs.Turns.{Turns, goes, stops, turn, turn_by, turn_in, turn_unless, stopped_by, ran, spent_unless, go_on, exec_from, exec_run, first_turns}
 use Rattle.b67_exec.specs.Turning.{IsQueue, IsListed, turns_at, TurnGoes, TurnStops, TurnLacks}
 use Rattle.b67_exec.proofs.Queues.{first_queue, listed_first}
 use Rattle.b67_exec.proofs.Times.{here, elsewhere, times_most}

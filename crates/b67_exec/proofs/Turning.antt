@@ -1,7 +1,6 @@
 -- What a turn does, by what the operator came to.
-use Rattle.std.proofs.Common.{◌≡◌, refl, sym, ap, subst, ◌∙◌, ℕ, ◌+◌, ◌≤◌, Bool, true, false, List, [], ◌∷◌, ◌++◌, length, length-append, Option, Some, None, Result, Ok, Err, arith}
+use Rattle.std.proofs.Common.{◌≡◌, refl, sym, ap, subst, ◌∙◌, ℕ, ◌+◌, ◌≤◌, Bool, false, List, ◌∷◌, ◌++◌, length, length-append, Option, Some, None, Ok, arith}
 use Rattle.std.proofs.Math.Decide.{ℕ_discrete}
-use Rattle.b67_list.specs.Numbered.{numbered}
 use Rattle.b67_segment.specs.declared.code.Code.{Code}
 use Rattle.b67_table.specs.declared.InterruptKind.{InterruptKind}
 use Rattle.b67_table.specs.Ending.{ImageEnd, image_end, failed}
@@ -12,12 +11,11 @@ use Rattle.b67_table.specs.Valid.{IsValid}
 use Rattle.b67_intrinsics.specs.Called.{IsLeft}
 use Rattle.b67_action.specs.declared.done.Done.{Done}
 use Rattle.b67_action.specs.declared.done.Done.TheVariants.{Went, Waits, Ended, Fault, Interrupt, StackLimit, NoMemory}
-use Rattle.b67_action.specs.Able.{able_in, newly, AbleAfter}
+use Rattle.b67_action.specs.Able.{able_in, newly}
 use Rattle.b67_action.specs.Done.{Came, is_performed}
 use Rattle.b67_machine.specs.Kept.{Kept, Counts, counted}
 use Rattle.b67_machine.specs.Reads.{machine_end, end_by}
 use Rattle.b67_machine.specs.Stepping.{image_after, operators_in, limit_of, lacks, Acts, Steps, StepsBy}
-use Rattle.b67_machine.proofs.Ends.{goes_on}
 use Rattle.b67_exec.specs.declared.Stopped.{Stopped}
 use Rattle.b67_exec.specs.declared.Stopped.TheVariants as stopped
 use Rattle.b67_exec.specs.Exec.{told}
@@ -69,7 +67,7 @@ module _ (old new : Kept) (p : ℕ) (others : List ℕ) (done : Done) (acts : Ac
   released_is : released old.image new.image ≡ new.released
   released_is =
       released_are old.image new.image p new.released listed (front_able old.image new.image p others new.released is) (acts.able one)
-      (within_by old.image new.released (is_performed done) old.code p acts.released)
+      (within_by old.code old.image p (is_performed done) new.released acts.released)
 
   abbrev pub rear : List ℕ
   rear = others ++ (new.released ++ newly old.image.started new.image.started ++ if_able (able_in new.image p) p)

@@ -1,6 +1,5 @@
 -- The run of a code by turns, for any code: a turn takes the process at the front of a queue and performs its next operator.
 use Rattle.std.specs.Prelude.{ℕ, zero, suc, ◌+◌, if◌then◌else◌, Bool, List, [], ◌∷◌, ◌++◌, filter, flat_map, Option, Some, None}
-use Rattle.b67_num.specs.declared.FaultKind.{FaultKind}
 use Rattle.b67_segment.specs.declared.code.Code.{Code}
 use Rattle.b67_events.specs.Events.{Event}
 use Rattle.b67_table.specs.Outcome.{Outcome, gives, faults, interrupts, limit}
