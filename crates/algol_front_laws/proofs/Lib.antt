@@ -1,4 +1,4 @@
-mod Lists
+pub mod Lists
 mod Phases
 mod Known
 mod Walk
@@ -14,8 +14,8 @@ mod Alone
 mod Frames
 mod Ready
 mod Declarations
-mod Uses
-mod Sources
+pub mod Uses
+pub mod Sources
 mod Meanings
 mod Spelled
 mod Fronts

@@ -1,5 +1,5 @@
 -- What the scopes tell of a name is the declaration that it means.
-use Rattle.std.proofs.Common.{◌≡◌, ℕ, List, Option, Some, None, refl, ap, sym, ◌∙◌}
+use Rattle.std.proofs.Common.{◌≡◌, ℕ, List, Option, Some, None, refl, ap, ◌∙◌}
 use Rattle.std.specs.List.{AllByRecursion}
 use Rattle.algol_tree.specs.declared.token.Spot.{Spot}
 use Rattle.algol_tree.specs.declared.tree.Named.{Named}
@@ -8,7 +8,7 @@ use Rattle.algol_tree.specs.Sorts.{Declared}
 use Rattle.algol_tree.specs.Blocks.{blocks_of_program}
 use Rattle.algol_tree.specs.Surroundings.{Surroundings}
 use Rattle.algol_tree.specs.Cells.{couple_in, level_at}
-use Rattle.algol_tree.specs.Couples.{Located, declaration_at, known_there}
+use Rattle.algol_tree.specs.Couples.{Located, known_there}
 use Rattle.algol_tree.specs.Accepted.{sites_of}
 use Rattle.algol_tree.specs.First.{Source}
 use Rattle.algol_sorts.specs.Sorts.{sort_of}

@@ -12,7 +12,7 @@ use Rattle.algol_tree.specs.Sites.{Part, Site}
 use Rattle.algol_tree.specs.Scopes.{names_in}
 use Rattle.algol_tree.specs.Cells.{Cell, level_at}
 use Rattle.algol_tree.specs.Couples.{level_if}
-use Rattle.algol_tree.specs.Accepted.{sites_of}
+use Rattle.algol_tree.specs.Accepted.{scope_faults, sites_of}
 use Rattle.algol_tree.specs.Ascending.{IsInOrder}
 use Rattle.algol_tree.specs.First.{Source}
 use Rattle.algol_lexer.proofs.LexOrder.{tokens_ascend}
@@ -89,10 +89,11 @@ sites-once p (x ∷ xs) h k = (
 pub source-in-order : (bytes : List ℕ) (tree : PProgram) → Source bytes tree → IsInOrder tree
 source-in-order bytes tree s = in_order s.tokens tree (tokens_ascend bytes s.tokens s.lexes) s.reads
 
+pub each-site-once : (p : PProgram) → scope_faults p ≡ [] → IsInOrder p → AllByRecursion (λ (x : Site). EachOnce x.around) (sites_of p)
+each-site-once p scoped order = sites-once p (sites_of p) (all-ready p scoped order) (placed.placed p order)
+
 pub none_twice : (bytes : List ℕ) (tree : PProgram) → Source bytes tree → AllByRecursion (λ (x : Site). EachOnce x.around) (sites_of tree)
-none_twice bytes tree s =
-    let order = source-in-order bytes tree s in
-    sites-once tree (sites_of tree) (all-ready tree s.accepted.scoped order) (placed.placed tree order)
+none_twice bytes tree s = each-site-once tree s.accepted.scoped (source-in-order bytes tree s)
 
 pub names_have_one : (bytes : List ℕ) (tree : PProgram) → Source bytes tree → EachHasOne tree
 names_have_one bytes tree s = each-has-one tree s.accepted.scoped (source-in-order bytes tree s)

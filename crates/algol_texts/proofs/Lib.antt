@@ -1,0 +1,11 @@
+pub mod Parameters
+pub mod Good
+pub mod Callees
+pub mod Around
+pub mod Uses
+pub mod Expressions
+pub mod Bounds
+pub mod Items
+pub mod Lefts
+pub mod Statements
+pub mod Programs
