@@ -37,20 +37,23 @@ module _ (sc : Scopes) (Whole : World → ℕ → Type 0) (w : World) (ok : IsSo
       stands_path (skeleton w) ok.skeleton_ok c.0 r.instance (critical (suc (suc p)) c.0 q e live c.1) (ok.tasks (suc (suc p)) c.0 q r e live c.1 f)
 
 pub what_is_referred_to_stands : WhatIsReferredToStands
-what_is_referred_to_stands = record {
-  parents = λ sc w i x ok e f h. refers sc IsWhole w ok.sound i x.parent x e f (is_parent sc IsWhole w ok.sound x.parent (referred_in_cells x.cells) h);
-  cells = λ sc w i r x ok e f n. refers sc IsWhole w ok.sound i r x e f (in_back (parent_in x.parent) (referred_in_cells x.cells) r n);
-  criticals = λ sc w p c q ok e live f. in_use sc IsWhole w ok.sound c (critical sc IsWhole w ok.sound p c q e live f);
-  tasks = λ sc w p q r ok e live f. in_use sc IsWhole w ok.sound r.instance (task sc IsWhole w ok.sound p q r e live f);
-  parts = λ sc w p q x i ok e n m. in_use sc IsWhole w ok.sound i (part_stands_in w ok.sound.skeleton_ok p q x i e n m);
-}
+what_is_referred_to_stands sc w ok =
+    record {
+      parents = λ i x e f h. refers sc IsWhole w ok.sound i x.parent x e f (is_parent sc IsWhole w ok.sound x.parent (referred_in_cells x.cells) h);
+      cells = λ i r x e f n. refers sc IsWhole w ok.sound i r x e f (in_back (parent_in x.parent) (referred_in_cells x.cells) r n);
+      criticals = λ p c q e live f. in_use sc IsWhole w ok.sound c (critical sc IsWhole w ok.sound p c q e live f);
+      tasks = λ p q r e live f. in_use sc IsWhole w ok.sound r.instance (task sc IsWhole w ok.sound p q r e live f);
+      parts = λ p q x i e n m. in_use sc IsWhole w ok.sound i (part_stands_in w ok.sound.skeleton_ok p q x i e n m);
+    }
 
 pub references_lie_on_paths : ReferencesLieOnPaths
-references_lie_on_paths = record {
-  instances = λ sc w i r x ok e f n. ok.sound.skeleton_ok.refers i (home_of x) r ((ok.sound.instances i x e).left.0 f) (home_forth w i x e) n;
-  parts = λ sc w p q x i ok e n m.
-      let o = held_among q.todo x i n m in
-      let f = ok.sound.skeleton_ok.evaluates p (stack_of q) (record { over = o.0; within = i }) (stack_forth w p q e) o.1 in
-      (o.0, f.0, f.1);
-  tasks = λ sc w p c q r ok e live f g. ok.sound.tasks p c q r e live f g;
-}
+references_lie_on_paths sc w ok =
+    record {
+      instances = λ i r x e f n. ok.sound.skeleton_ok.refers i (home_of x) r ((ok.sound.instances i x e).left.0 f) (home_forth w i x e) n;
+      parts =
+          λ p q x i e n m.
+          let o = held_among q.todo x i n m in
+          let f = ok.sound.skeleton_ok.evaluates p (stack_of q) (record { over = o.0; within = i }) (stack_forth w p q e) o.1 in
+          (o.0, f.0, f.1);
+      tasks = λ p c q r e live f g. ok.sound.tasks p c q r e live f g;
+    }

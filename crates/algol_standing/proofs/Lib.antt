@@ -51,3 +51,4 @@ pub mod FitLeaving
 pub mod FitChoosing
 pub mod FitLaws
 pub mod Calls
+pub mod Sources

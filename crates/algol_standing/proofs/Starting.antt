@@ -15,7 +15,7 @@ use Rattle.algol_paths.specs.Texts.{InName, InGivens}
 use Rattle.algol_calls.specs.Fits.{IsCallee}
 use Rattle.algol_standing.specs.Skeleton.{IsIn}
 use Rattle.algol_standing.specs.Worlds.{newest_own, IsOnPath, IsNoBlock, IsWhole, IsSound}
-use Rattle.algol_standing.specs.Laws.{KeepToTexts}
+use Rattle.algol_texts.specs.Texts.{KeepToTexts}
 use Rattle.algol_standing.proofs.Calls.{PassNoEvents}
 use Rattle.algol_standing.proofs.Seen.{home_path}
 use Rattle.algol_standing.proofs.Asking.{Sees, Suits}

@@ -1,16 +1,17 @@
 -- The laws of skeletons and of worlds: each change that an action makes keeps them, and what is referred to stands.
-use Rattle.std.specs.Prelude.{◌≡◌, ℕ, ◌<◌, ◌≤◌, Bool, true, false, List, [], ◌∷◌, ◌++◌, length, Some, slice_get}
+use Rattle.std.specs.Prelude.{◌≡◌, ℕ, ◌≤◌, Bool, true, false, List, [], ◌∷◌, ◌++◌, Some, slice_get}
 use Rattle.b67_list.specs.Numbered.{numbered}
-use Rattle.algol_tree.specs.Blocks.{block_numbered, around}
-use Rattle.algol_tree.specs.Scopes.{Scopes}
+use Rattle.algol_tree.specs.Accepted.{Accepted}
+use Rattle.algol_tree.specs.Ascending.{IsInOrder}
+use Rattle.algol_tree.specs.First.{Source}
+use Rattle.algol_tree.specs.Plain.{PProgram}
+use Rattle.algol_tree.specs.Scopes.{Scopes, scopes_of}
 use Rattle.algol_meaning.specs.Value.{Reference}
 use Rattle.algol_meaning.specs.World.{Instance, instance_at, Part, Process, lives, World}
 use Rattle.algol_meaning.specs.Critical.{own_instances, referred_by}
-use Rattle.algol_meaning.specs.Statements.{items_of}
 use Rattle.algol_meaning.specs.Choice.{choice}
-use Rattle.algol_meaning.specs.Run.{start, may_go}
-use Rattle.algol_paths.specs.Laws.{ItemsKeepToText}
-use Rattle.algol_calls.specs.Fits.{ItemsFit, CallsFitInTexts}
+use Rattle.algol_meaning.specs.Run.{start, may_go, run}
+use Rattle.algol_texts.specs.Texts.{AreTexts, HasOuterBlock}
 use Rattle.algol_standing.specs.Worlds.{referred_in_cells, home_of, held_in_rest, IsOnPath, IsAmong, IsWhole}
 use Rattle.algol_standing.specs.Fitting.{IsOk}
 use Rattle.algol_standing.specs.Skeleton.{Evaluation, IsEvaluated, Stack, Skeleton, IsIn, Stands, OnPath, FirstOf, SkeletonOk, AreFree, AreIdle, entered, started, left, evaluated}
@@ -42,55 +43,55 @@ pub record PathsStand : Type 0 where
   pub first : (s : Skeleton) (refs : List ℕ) (i x : ℕ) → SkeletonOk s → IsIn refs x → OnPath s i x → (c : ℕ) × FirstOf s refs i c
   pub leads : (s : Skeleton) (refs : List ℕ) (i c x : ℕ) → SkeletonOk s → FirstOf s refs i c → IsIn refs x → OnPath s i x → OnPath s c x
 
--- Of a world that is as worlds are, nothing that is in use names an instance that was left.
-pub record WhatIsReferredToStands : Type 0 where
+-- Nothing that is in use names an instance that was left.
+pub record NoneIsLeft (w : World) : Type 0 where
   -- the parent of an instance
-  pub parents : (sc : Scopes) (w : World) (i : ℕ) (x : Instance) → IsOk sc IsWhole w → numbered w.instances i ≡ Some x → x.left ≡ false → 1 ≤ x.parent →
-      (instance_at w x.parent).left ≡ false
+  pub parents : (i : ℕ) (x : Instance) → numbered w.instances i ≡ Some x → x.left ≡ false → 1 ≤ x.parent → (instance_at w x.parent).left ≡ false
   -- the instances of its References and Names
-  pub cells : (sc : Scopes) (w : World) (i r : ℕ) (x : Instance) → IsOk sc IsWhole w → numbered w.instances i ≡ Some x → x.left ≡ false →
-      IsIn (referred_in_cells x.cells) r → (instance_at w r).left ≡ false
+  pub cells : (i r : ℕ) (x : Instance) → numbered w.instances i ≡ Some x → x.left ≡ false → IsIn (referred_in_cells x.cells) r → (instance_at w r).left ≡ false
   -- the critical instance and the task of a live process
-  pub criticals : (sc : Scopes) (w : World) (p c : ℕ) (q : Process) → IsOk sc IsWhole w → numbered w.processes p ≡ Some q → lives q.state ≡ true →
-      q.critical ≡ Some c → (instance_at w c).left ≡ false
-  pub tasks : (sc : Scopes) (w : World) (p : ℕ) (q : Process) (r : Reference) → IsOk sc IsWhole w → numbered w.processes p ≡ Some q → lives q.state ≡ true →
-      q.task ≡ Some r → (instance_at w r.instance).left ≡ false
+  pub criticals : (p c : ℕ) (q : Process) → numbered w.processes p ≡ Some q → lives q.state ≡ true → q.critical ≡ Some c → (instance_at w c).left ≡ false
+  pub tasks : (p : ℕ) (q : Process) (r : Reference) → numbered w.processes p ≡ Some q → lives q.state ≡ true → q.task ≡ Some r →
+      (instance_at w r.instance).left ≡ false
   -- the instance of a part, and those of the places and cells that it holds
-  pub parts : (sc : Scopes) (w : World) (p : ℕ) (q : Process) (x : Part) (i : ℕ) → IsOk sc IsWhole w → numbered w.processes p ≡ Some q → IsAmong q.todo x →
+  pub parts : (p : ℕ) (q : Process) (x : Part) (i : ℕ) → numbered w.processes p ≡ Some q → IsAmong q.todo x →
       IsIn (x.instance ∷ referred_by (held_in_rest x.rest)) i → (instance_at w i).left ≡ false
 
+abbrev pub WhatIsReferredToStands : Type 0
+WhatIsReferredToStands = (sc : Scopes) (w : World) → IsOk sc IsWhole w → NoneIsLeft w
+
 -- All that is referred to lies on the path from what refers to it.
-pub record ReferencesLieOnPaths : Type 0 where
+pub record AllLieOnPaths (w : World) : Type 0 where
   -- by an instance: its parent, and the instances of its References and Names
-  pub instances : (sc : Scopes) (w : World) (i r : ℕ) (x : Instance) → IsOk sc IsWhole w → numbered w.instances i ≡ Some x → x.left ≡ false → IsIn (home_of x).refs r →
-      IsOnPath w i r
+  pub instances : (i r : ℕ) (x : Instance) → numbered w.instances i ≡ Some x → x.left ≡ false → IsIn (home_of x).refs r → IsOnPath w i r
   -- by an open part: its instance, and those of the places and cells that it holds, from an instance of its process
-  pub parts : (sc : Scopes) (w : World) (p : ℕ) (q : Process) (x : Part) (i : ℕ) → IsOk sc IsWhole w → numbered w.processes p ≡ Some q → IsAmong q.todo x →
+  pub parts : (p : ℕ) (q : Process) (x : Part) (i : ℕ) → numbered w.processes p ≡ Some q → IsAmong q.todo x →
       IsIn (x.instance ∷ referred_by (held_in_rest x.rest)) i → (top : ℕ) × IsIn (own_instances q.todo) top × IsOnPath w top i
   -- by a live process: its task, from its critical instance
-  pub tasks : (sc : Scopes) (w : World) (p c : ℕ) (q : Process) (r : Reference) → IsOk sc IsWhole w → numbered w.processes p ≡ Some q → lives q.state ≡ true → q.critical ≡ Some c →
-      q.task ≡ Some r → IsOnPath w c r.instance
+  pub tasks : (p c : ℕ) (q : Process) (r : Reference) → numbered w.processes p ≡ Some q → lives q.state ≡ true → q.critical ≡ Some c → q.task ≡ Some r →
+      IsOnPath w c r.instance
 
--- The items of each block keep to its text.
-abbrev pub KeepToTexts : Scopes → Type 0
-KeepToTexts sc = (j : ℕ) → j < length sc.blocks → ItemsKeepToText sc j (items_of (block_numbered sc.blocks j))
-
--- .. and each of their calls names a procedure and has an actual that fits for each parameter.
-pub record AreTexts (sc : Scopes) : Type 0 where
-  pub keep : KeepToTexts sc
-  pub fit : CallsFitInTexts sc
+abbrev pub ReferencesLieOnPaths : Type 0
+ReferencesLieOnPaths = (sc : Scopes) (w : World) → IsOk sc IsWhole w → AllLieOnPaths w
 
 -- An action keeps what worlds are, whichever it is and of whichever process.
 abbrev pub ChoicesKeepWorlds : Type 0
 ChoicesKeepWorlds = (sc : Scopes) (w : World) (p : ℕ) → AreTexts sc → IsOk sc IsWhole w → may_go w p ≡ true → IsOk sc IsWhole ((choice sc w p).world)
 
--- The outer block comes first, nothing is around it, it has no parameters, its items keep to its text, and their calls fit.
-pub record HasOuterBlock (sc : Scopes) : Type 0 where
-  pub known : 0 < length sc.blocks
-  pub outermost : around sc.blocks 0 ≡ []
-  pub parameterless : (block_numbered sc.blocks 0).parameters ≡ []
-  pub text : ItemsKeepToText sc 0 (items_of (block_numbered sc.blocks 0))
-  pub fit : ItemsFit sc (items_of (block_numbered sc.blocks 0))
-
 abbrev pub FirstWorldStands : Type 0
 FirstWorldStands = (sc : Scopes) → HasOuterBlock sc → IsOk sc IsWhole (start sc)
+
+-- ---- accepted sources
+
+-- The world is as worlds are: nothing that is in use names an instance that was left, and all that is referred to lies on its path.
+pub record WorldStands (p : PProgram) (w : World) : Type 0 where
+  pub ok : IsOk (scopes_of p) IsWhole w
+  pub none_left : NoneIsLeft w
+  pub on_paths : AllLieOnPaths w
+
+-- so it is with each that a run comes to, whatever its schedule
+abbrev pub WorldsOfAcceptedStand : Type 0
+WorldsOfAcceptedStand = (p : PProgram) (h : List ℕ) (w : World) → Accepted p → IsInOrder p → run p h ≡ Some w → WorldStands p w
+
+abbrev pub WorldsOfSourcesStand : Type 0
+WorldsOfSourcesStand = (bytes : List ℕ) (p : PProgram) (h : List ℕ) (w : World) → Source bytes p → run p h ≡ Some w → WorldStands p w
