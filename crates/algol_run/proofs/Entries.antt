@@ -2,28 +2,31 @@
 use Rattle.std.proofs.Common.{arith, ◌≡◌, refl, ℕ, suc, ◌+◌, ◌<◌, ◌++◌, Bool, true, false, if◌then◌else◌, List, [], ◌∷◌, length, take, get_or, ap, sym, ◌∙◌, Option, Some, None, slice_get}
 use Rattle.std.proofs.lemmas.Option.{slice_get-get_or}
 use Rattle.algol_tree.specs.Scopes.{Scopes}
-use Rattle.algol_meaning.specs.World.{World, is_able, process_at}
-use Rattle.algol_meaning.specs.Choice.{choice}
-use Rattle.algol_meaning.specs.Run.{End, end_of, goes_on, may_go, after_entry, run_from}
+use Rattle.algol_meaning.specs.World.{World}
+use Rattle.algol_meaning.specs.Choice.{Choice, choice}
+use Rattle.algol_meaning.specs.Run.{End, end_of, may_go, after_entry, run_from}
 use Rattle.algol_rest.specs.SeenScope.{scoped}
 use Rattle.algol_rest.specs.declared.scope.Scopes as code
 use Rattle.algol_perform.proofs.Newer.{take_more}
-use Rattle.algol_run.specs.Stepping.{Step, ended, not_able, went, step_by, step_of}
+use Rattle.algol_run.specs.Stepping.{Step, ended, not_able, went, chosen_by, step_by, step_of}
 
 -- the world after a step that goes
 abbrev pub entered : Step → Option World
-entered ended = None
 entered not_able = None
 entered (went c) = Some c.world
+entered (ended c) = Some c.world
 
 entry_is : (sc : Scopes) (w : World) (p : ℕ) → after_entry sc w p ≡ entered (step_of sc w p)
-unfolding after_entry may_go
-entry_is sc w p = by (end_of w) (is_able ((process_at w p).state))
+unfolding after_entry
+entry_is sc w p = by (may_go w p) (choice sc w p)
   where
-    by : (e : Option End) (able : Bool) → (if goes_on e able then Some ((choice sc w p).world) else None) ≡ entered (step_by e able (choice sc w p))
-    by None true = refl
-    by None false = refl
-    by (Some e) able = refl
+    chosen : (e : Option End) (c : Choice) → Some c.world ≡ entered (chosen_by e c)
+    chosen None c = refl
+    chosen (Some e) c = refl
+
+    by : (may : Bool) (c : Choice) → (if may then Some c.world else None) ≡ entered (step_by may c)
+    by true c = chosen (end_of c.world) c
+    by false c = refl
 
 run_none : (sc : Scopes) (o : Option World) → run_from sc [] o ≡ o
 run_none sc None = refl

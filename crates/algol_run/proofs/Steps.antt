@@ -1,21 +1,18 @@
--- A process that is able goes where process 1 lives and no fault is kept; where it does not go, it is not able or the world has an end.
+-- A process that is able goes where process 1 lives and no fault is kept; what it leaves has an end or goes on.
 use Rattle.std.proofs.Common.{◌≡◌, refl, ℕ, zero, suc, ◌&&◌, ◌||◌, not, if◌then◌else◌, Bool, true, false, List, [], ◌∷◌, ap, sym, ◌∙◌, Option, Some, None, slice_get}
 use Rattle.algol_tree.specs.Scopes.{Scopes}
 use Rattle.algol_meaning.specs.World as world
 use Rattle.algol_meaning.specs.World.{World, WorldFault, State, Process, Part, is_able, lives, process_at, or_no_process}
 use Rattle.algol_meaning.specs.Asks.{ask}
 use Rattle.algol_meaning.specs.Actions as actions
-use Rattle.algol_meaning.specs.Choice.{choice, choice_in, choice_of}
-use Rattle.algol_meaning.specs.Run.{End, some_able, some_lives, all_waiting, end_by, end_of, finished}
+use Rattle.algol_meaning.specs.Choice.{Choice, choice, choice_in, choice_of}
+use Rattle.algol_meaning.specs.Run.{End, some_able, some_lives, all_waiting, end_by, end_of, finished, goes_on, may_go}
 use Rattle.algol_world.specs.Going.{chosen}
 use Rattle.algol_world.specs.Leaving.{is_nil}
 use Rattle.algol_effect.specs.Effects.{outer_of, choice_by}
 use Rattle.algol_effect.specs.declared.effect.Effect.{Effect}
 use Rattle.algol_perform.specs.Performing.{performed, performed_by}
-use Rattle.algol_run.specs.SeenEnd.{seen_end}
-use Rattle.algol_run.specs.Stepping.{ended, not_able, went, step_by, step_of, is_kept, is_over}
-use Rattle.algol_run.specs.declared.ending.End as code
-use Rattle.algol_run.specs.declared.ending.End.TheVariants as ends
+use Rattle.algol_run.specs.Stepping.{ended, not_able, went, chosen_by, step_by, step_of, is_kept, is_over}
 
 -- ---- a process that is able is one of some
 
@@ -71,31 +68,76 @@ has_end w over = by (lives ((process_at w 1).state)) w.fault over
     by true (Some f) e = refl
     by true None e = cc
 
+-- ---- what ends a world
+
+waiting_kept : (waits : Bool) → is_kept (if waits then Some all_waiting else None) ≡ waits
+waiting_kept true = refl
+waiting_kept false = refl
+
+pub ends_over : (w : World) → is_over w ≡ true → true ≡ is_kept (end_of w)
+ends_over w over = sym (has_end w over)
+
+pub ends_able : (w : World) (p : ℕ) → is_able ((process_at w p).state) ≡ true → is_over w ≡ false → false ≡ is_kept (end_of w)
+ends_able w p able over = sym (ap (λ (o : Option End). is_kept o) (no_end w p able over))
+
+pub ends_waiting : (w : World) → is_over w ≡ false → (some_lives w.processes && not (some_able w.processes)) ≡ is_kept (end_of w)
+unfolding end_of
+ends_waiting w over = by (lives ((process_at w 1).state)) w.fault over
+  where
+    by :
+        (living : Bool) (kept : Option WorldFault) → (not living || is_kept kept) ≡ false
+        → (some_lives w.processes && not (some_able w.processes)) ≡ is_kept (if living then end_by kept w.processes else Some finished)
+    by false kept e = cc
+    by true (Some f) e = cc
+    by true None e = sym (waiting_kept (some_lives w.processes && not (some_able w.processes)))
+
 -- ---- steps
 
+-- a process may go where it is able, process 1 lives and no fault is kept
+may_so : (w : World) (p : ℕ) → (is_able ((process_at w p).state) && not (is_over w)) ≡ may_go w p
+unfolding may_go
+may_so w p = by (is_able ((process_at w p).state)) (is_over w) (no_end w p) (has_end w)
+  where
+    over : (o : Option End) (able : Bool) → is_kept o ≡ true → false ≡ goes_on o able
+    over (Some e) able k = refl
+    over None able k = cc
+
+    none : (o : Option End) (able : Bool) → o ≡ None → able ≡ goes_on o able
+    none (Some e) able k = cc
+    none None able k = refl
+
+    unable : (o : Option End) → false ≡ goes_on o false
+    unable None = refl
+    unable (Some e) = refl
+
+    by :
+        (able past : Bool) → (able ≡ true → past ≡ false → end_of w ≡ None) → (past ≡ true → is_kept (end_of w) ≡ true)
+        → (able && not past) ≡ goes_on (end_of w) able
+    by false past f h = unable (end_of w)
+    by true true f h = over (end_of w) true (h refl)
+    by true false f h = none (end_of w) true (f refl refl)
+
 module _ (sc : Scopes) (w : World) (p : ℕ) where
-  pub goes_so : (is_able ((process_at w p).state) && not (is_over w)) ≡ true → went (choice sc w p) ≡ step_of sc w p
-  goes_so goes = by (is_able ((process_at w p).state)) (is_over w) (no_end w p) goes
-    where
-      by :
-          (able over : Bool) → (able ≡ true → over ≡ false → end_of w ≡ None) → (able && not over) ≡ true
-          → went (choice sc w p) ≡ step_by (end_of w) able (choice sc w p)
-      by false over h e = cc
-      by true true h e = cc
-      by true false h e = rw (h refl refl) refl
+  pub stays_so : (is_able ((process_at w p).state) && not (is_over w)) ≡ false → not_able ≡ step_of sc w p
+  stays_so stays = sym (ap (λ (may : Bool). step_by may (choice sc w p)) (sym (may_so w p) ∙ stays))
 
-  pub ends_so : (e : code.End) → seen_end (Some e) ≡ end_of w → ended ≡ step_of sc w p
-  ends_so ends.Finished e = rw (← e) refl
-  ends_so (ends.Fault kind process) e = rw (← e) refl
-  ends_so ends.AllWaiting e = rw (← e) refl
+  module _ (c : Choice) (same : c ≡ choice sc w p) (goes : (is_able ((process_at w p).state) && not (is_over w)) ≡ true) where
+    gone : step_by true c ≡ step_of sc w p
+    gone = ap (step_by true) same ∙ sym (ap (λ (may : Bool). step_by may (choice sc w p)) (sym (may_so w p) ∙ goes))
 
-  pub stays_so : None ≡ end_of w → (is_able ((process_at w p).state) && not (is_over w)) ≡ false → not_able ≡ step_of sc w p
-  stays_so e stays = rw (← e) (by (is_able ((process_at w p).state)) (is_over w) (has_end w) stays)
-    where
-      by : (able over : Bool) → (over ≡ true → is_kept (end_of w) ≡ true) → (able && not over) ≡ false → not_able ≡ step_by None able (choice sc w p)
-      by false over h s = refl
-      by true false h s = cc
-      by true true h s = let kept : true ≡ false = sym (h refl) ∙ ap (λ (o : Option End). is_kept o) (sym e) in cc
+    pub ends_so : true ≡ is_kept (end_of c.world) → ended c ≡ step_of sc w p
+    ends_so kept = by (end_of c.world) kept ∙ gone
+      where
+        by : (o : Option End) → true ≡ is_kept o → ended c ≡ chosen_by o c
+        by (Some e) k = refl
+        by None k = cc
+
+    pub goes_so : false ≡ is_kept (end_of c.world) → went c ≡ step_of sc w p
+    goes_so lives = by (end_of c.world) lives ∙ gone
+      where
+        by : (o : Option End) → false ≡ is_kept o → went c ≡ chosen_by o c
+        by (Some e) k = cc
+        by None k = refl
 
 -- ---- the action of a process
 
@@ -131,6 +173,8 @@ module _ (sc : Scopes) (w : World) (p : ℕ) where
           ∙ sym same
           ∙ ap (λ (z : Part). choice_of sc w p (process_at w p) z outer (ask z.rest)) is
 
-pub ruleset step_laws = (goes_so, goes_able, ends_so, stays_so)
+pub ruleset step_laws = (goes_able, stays_so)
+
+pub ruleset end_laws = (ends_over, ends_able, ends_waiting)
 
 pub ruleset act_laws = (stuck_so, acts_so, has_part)

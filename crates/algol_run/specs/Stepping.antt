@@ -1,36 +1,41 @@
--- What comes of a step: the world has an end, or else the process is not able, or else it goes as the meaning chooses.
-use Rattle.std.specs.Prelude.{ℕ, ◌||◌, not, Bool, true, false, Option, Some, None}
+-- What comes of a step: the process may not go, or it goes as the meaning chooses, and the world has an end then or goes on.
+use Rattle.std.specs.Prelude.{ℕ, ◌||◌, not, if◌then◌else◌, Bool, true, false, Option, Some, None}
 use Rattle.algol_tree.specs.Scopes.{Scopes}
-use Rattle.algol_meaning.specs.World.{World, is_able, lives, process_at}
+use Rattle.algol_meaning.specs.World.{World, lives, process_at}
 use Rattle.algol_meaning.specs.Choice.{Choice, choice}
-use Rattle.algol_meaning.specs.Run.{End, end_of}
+use Rattle.algol_meaning.specs.Run.{End, end_of, may_go}
 use Rattle.algol_world.specs.SeenActed.{acted_choice}
 use Rattle.algol_run.specs.declared.stepping.Stepped.{Stepped}
 use Rattle.algol_run.specs.declared.stepping.Stepped.TheVariants as stepped
 
 pub data Step : Type 0 where
-  ended : Step
+  -- the process is not able, or the world had an end
   not_able : Step
+  -- the choice was done, and the world goes on
   went : Choice → Step
+  -- the choice was done, and the world has an end
+  ended : Choice → Step
 
-abbrev pub step_by : Option End → Bool → Choice → Step
-step_by (Some e) able c = ended
-step_by None false c = not_able
-step_by None true c = went c
+abbrev pub chosen_by : Option End → Choice → Step
+chosen_by None c = went c
+chosen_by (Some e) c = ended c
+
+abbrev pub step_by : Bool → Choice → Step
+step_by may c = if may then chosen_by (end_of c.world) c else not_able
 
 abbrev pub step_of : Scopes → World → ℕ → Step
-step_of sc w p = step_by (end_of w) (is_able ((process_at w p).state)) (choice sc w p)
+step_of sc w p = step_by (may_go w p) (choice sc w p)
 
 -- what the code tells of a step, after which the world is that
 abbrev pub told : Stepped → World → Step
-told stepped.Ended after = ended
 told stepped.NotAble after = not_able
 told (stepped.Went a) after = went (acted_choice a after)
+told (stepped.Ended a) after = ended (acted_choice a after)
 
 abbrev pub is_going : Stepped → Bool
 is_going (stepped.Went a) = true
+is_going (stepped.Ended a) = true
 is_going stepped.NotAble = false
-is_going stepped.Ended = false
 
 abbrev pub is_kept : {A : Type 0} → Option A → Bool
 is_kept None = false

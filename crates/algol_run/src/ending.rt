@@ -5,7 +5,7 @@ ghost use Rattle.algol_meaning.specs.World as plain;
 ghost use Rattle.algol_meaning.specs.Run as runs;
 ghost use Rattle.algol_world.specs.SeenWorld.{world_of, process_of, state};
 ghost use Rattle.algol_run.specs.SeenEnd.{seen_end};
-ghost use Rattle.algol_run.specs.Stepping.{is_over};
+ghost use Rattle.algol_run.specs.Stepping.{is_kept, is_over};
 
 use algol_world::{Process, State, World};
 use b67_num::FaultKind;
@@ -94,6 +94,20 @@ fn some_lives(world: &World<'_>) -> bool
         }
     }
     false
+}
+
+/// Tests that a world has an end, beside a process of it: only where that is not able, each process is looked at.
+#[tactic(auto, using(crate::proofs::Steps::end_laws))]
+pub fn has_end(world: &World<'_>, process: usize) -> bool
+    ensures { result ≡ is_kept (runs.end_of (world_of world.now)) }
+{
+    if is_finished(world) {
+        return true;
+    }
+    if is_able(world, process) {
+        return false;
+    }
+    some_lives(world) && !some_able(world)
 }
 
 /// The end of a world, none where it has not ended. It looks at each process.

@@ -27,9 +27,8 @@ pub fn follow<'p>(
     let mut went = 0;
     'going: for process in schedule {
         match step(world, alloc, *process)? {
-            Stepped::Went(_) => went += 1,
+            Stepped::Went(_) | Stepped::Ended(_) => went += 1,
             Stepped::NotAble => return Ok(went),
-            Stepped::Ended => return Ok(went),
         }
     }
     Ok(went)

@@ -8,7 +8,7 @@ ghost use Rattle.algol_world.specs.SeenWorld.{world_of, process_of};
 ghost use Rattle.algol_world.specs.SeenActed.{acted_choice};
 ghost use Rattle.algol_run.specs.Stepping.{told, step_of, is_going, is_over};
 
-use crate::ending::{end_of, is_able, is_finished};
+use crate::ending::{has_end, is_able, is_finished};
 use algol_perform::{part_under, perform};
 use algol_step::decide_part;
 use algol_world::{Acted, Action, World};
@@ -19,10 +19,10 @@ use std::alloc::{AllocError, Global};
 pub enum Stepped {
     /// The process went: its action, the processes that it released and the one that it started.
     Went(Acted),
-    /// The process is not able, or there is none of its number.
+    /// The process is not able, or there is none of its number, or the world had an end.
     NotAble,
-    /// The world has an end.
-    Ended,
+    /// The process went, and the world has an end.
+    Ended(Acted),
 }
 
 /// Tests that a process goes: it is able, process 1 lives and no fault is kept.
@@ -46,7 +46,7 @@ fn act<'p>(world: &mut World<'p>, alloc: Global, process: usize) -> Result<Acted
     perform(world, alloc, process, effect)
 }
 
-/// One step of a process. It costs what its action costs; only where the process is not able, each process is looked at.
+/// One step of a process. It costs what its action costs; only where the process waits after it, or has ended, each process is looked at.
 ///
 /// # Errors
 ///
@@ -57,12 +57,13 @@ pub fn step<'p>(world: &mut World<'p>, alloc: Global, process: usize) -> Result<
     ensures still { IfOk result (λ s. is_going s ≡ false → world.new ≡ world.old) }
     ensures same { world.new.scopes ≡ world.old.scopes }
 {
-    if goes(world, process) {
-        let acted = act(world, alloc, process)?;
-        return Ok(Stepped::Went(acted));
+    if !goes(world, process) {
+        return Ok(Stepped::NotAble);
     }
-    match end_of(world) {
-        Some(_) => Ok(Stepped::Ended),
-        None => Ok(Stepped::NotAble),
+    let acted = act(world, alloc, process)?;
+    if has_end(world, process) {
+        Ok(Stepped::Ended(acted))
+    } else {
+        Ok(Stepped::Went(acted))
     }
 }

@@ -15,21 +15,30 @@ fn first<'p>(alloc: Global, program: &'p Program) -> Result<World<'p>, AllocErro
     start(alloc, scopes)
 }
 
-/// The letter of an action, `-` where the process is not able, and `.` where the world has an end.
-fn letter(stepped: &Stepped) -> u8 {
+/// Appends the letter of an action, a point after it where the world has an end; and `-` where the process is not able, or the world had an
+/// end.
+fn push_letter(text: &mut Vec<u8>, stepped: &Stepped) -> Result<(), AllocError> {
     match stepped {
-        Stepped::Went(acted) => acted.action.letter(),
-        Stepped::NotAble => b'-',
-        Stepped::Ended => b'.',
+        Stepped::Went(acted) => text.push(acted.action.letter()),
+        Stepped::NotAble => text.push(b'-'),
+        Stepped::Ended(acted) => {
+            text.push(acted.action.letter())?;
+            text.push(b'.')
+        }
     }
 }
 
-/// The letter of a process's step.
-fn letter_of(world: &mut World<'_>, alloc: Global, process: usize) -> Result<u8, AllocError> {
+/// Appends what comes of a process's step.
+fn push_step(
+    text: &mut Vec<u8>,
+    world: &mut World<'_>,
+    alloc: Global,
+    process: usize,
+) -> Result<(), AllocError> {
     let stepped = step(world, alloc, process)?;
-    let letter = letter(&stepped);
+    let pushed = push_letter(text, &stepped);
     discard(stepped);
-    Ok(letter)
+    pushed
 }
 
 /// The words of a fault.
@@ -69,8 +78,7 @@ fn push_steps(
     entries: &[usize],
 ) -> Result<(), AllocError> {
     for process in entries {
-        let letter = letter_of(world, alloc, *process)?;
-        text.push(letter)?;
+        push_step(text, world, alloc, *process)?;
     }
     push_number(text, b"\nOUTPUT ", world.output.items().len())?;
     text.extend_from_slice(b"\n")?;

@@ -1,7 +1,10 @@
-use Rattle.std.proofs.Common.{arith, ◌+◌, ℕ, ap, ◌∙◌}
+use Rattle.std.proofs.Common.{arith, ◌≡◌, ◌⊎◌, inl, inr, ◌+◌, ℕ, Some, ap, ◌∙◌}
+use Rattle.algol_meaning.specs.World.{World}
 use Rattle.algol_world.specs.SeenWorld.{world_of}
 use Rattle.algol_run.specs.Stepping.{told}
+use Rattle.algol_world.specs.declared.acted.Acted.{Acted}
 use Rattle.algol_run.specs.declared.stepping.Stepped.{Stepped}
+use Rattle.algol_run.specs.declared.stepping.Stepped.TheVariants.{Went, Ended}
 use Rattle.algol_run.proofs.Entries.{entered, entry_more}
 use Rattle.algol_run.proofs.following.follow.Goals as goal
 
@@ -13,13 +16,10 @@ returns-in-NotAble-clause-most c = λ less.
     c.in_ok-step.ensures.stepped
     ∙ ap (λ (s : Stepped). entered (told s u)) c.in-NotAble.is
 
-pub returns-in-Ended-clause-most : goal.returns-in-Ended-clause-most
-returns-in-Ended-clause-most c = λ less.
-    let u = world_of c.step.new.world in
-    entry_more c.args.world.now.scopes c.going.world.scopes c.args.schedule.now c.going.went c.going.process-index (world_of c.args.world.now)
-    (world_of c.going.world) (told c.in_ok-step.field-0 u) c.going.invariant.3 c.going.invariant.1 c.going-test.true c.going.invariant.0
-    c.in_ok-step.ensures.stepped
-    ∙ ap (λ (s : Stepped). entered (told s u)) c.in-Ended.is
+-- a step that goes is told with the world after it, whether that has an end or not
+gone_on : (s : Stepped) (u : World) → ((a : Acted) × (s ≡ Went a)) ⊎ ((a : Acted) × (s ≡ Ended a)) → entered (told s u) ≡ Some u
+gone_on s u (inl (a, is)) = ap (λ (s : Stepped). entered (told s u)) is
+gone_on s u (inr (a, is)) = ap (λ (s : Stepped). entered (told s u)) is
 
 pub going-preserved : goal.going-preserved
 going-preserved c =
@@ -28,7 +28,7 @@ going-preserved c =
     let less = c.going-test.true in (
       entry_more c.args.world.now.scopes c.going.world.scopes c.args.schedule.now c.going.went c.going.process-index (world_of c.args.world.now)
           (world_of c.going.world) (told c.in_ok-step.field-0 u) c.going.invariant.3 at less c.going.invariant.0 c.in_ok-step.ensures.stepped
-          ∙ ap (λ (s : Stepped). entered (told s u)) c.in-Went.is,
+          ∙ gone_on c.in_ok-step.field-0 u c.in-Went.is,
       ap (λ (n : ℕ). n + 1) at,
       omega (arith, at, less),
       c.step.ensures.same ∙ c.going.invariant.3,
