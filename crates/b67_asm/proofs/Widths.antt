@@ -1,5 +1,5 @@
 -- How many syllables an operator has, and which operators can stand at a level.
-use Rattle.std.proofs.Common.{◌≡◌, ℕ, ◌+◌, ◌^◌, ◌<◌, ◌≤◌, Bool, true, false, List, [], ◌∷◌, ◌++◌, length, replicate, Option, Some, None, Result, Ok, Err, refl, sym, ap, ◌∙◌, inl, inr, arith, length-append}
+use Rattle.std.proofs.Common.{◌≡◌, ℕ, ◌+◌, ◌^◌, true, List, [], ◌∷◌, ◌++◌, length, replicate, Option, Some, None, Result, Ok, Err, refl, sym, ap, ◌∙◌, inl, inr, arith, length-append}
 use Rattle.std.specs.Prelude.{nat_le, nat_lt}
 use Rattle.std.specs.Int.{bytes_high_first}
 use Rattle.std.proofs.lemmas.Bool.{and_parts, cases_Bool, cond-true, cond-false, ltb-true, leb-true}
@@ -10,7 +10,7 @@ use Rattle.b67_ops.specs.declared.Operator.{Operator as Op}
 use Rattle.b67_ops.specs.declared.Operator.TheVariants as ops
 use Rattle.b67_ops.specs.declared.table.OperatorKind.TheVariants as kinds
 use Rattle.b67_ops.specs.Spelling.{filling, kind_of, spelling, index_bits, IsSeen, Fits}
-use Rattle.b67_segment.specs.Operators.{Placed, size, width}
+use Rattle.b67_segment.specs.Operators.{Placed, size}
 use Rattle.b67_segment.proofs.Among.{size-append}
 use Rattle.b67_asm_text.specs.declared.item.Written.{Written}
 use Rattle.b67_asm_text.specs.declared.item.Written.TheVariants.{Whole, ToLabel, TooGreat}

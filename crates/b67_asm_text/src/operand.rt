@@ -2,13 +2,14 @@
 
 ghost use Rattle.std.specs.Prelude.{◌≡◌, ◌≤◌, ◌^◌, ◌<◌, length, not, IfOk};
 ghost use Rattle.std.specs.List.{prefix_len};
+ghost use Rattle.b67_ops.specs.declared.table.OperatorKind.TheVariants as kinds;
 ghost use Rattle.b67_asm_text.specs.Operands.{IsBelow, couple_in, couple_of, number_below, operator_in, past_comma, comma_place, to_label, written_in};
 
 use crate::item::Written;
 use crate::name::is_name;
 use crate::number::{number_in, word_in};
 use b67_list::Line;
-use b67_ops::{Couple, MOST_LEVEL, Operator, OperatorKind};
+use b67_ops::{BranchKind, Couple, MOST_LEVEL, Operator, OperatorKind};
 use std::alloc::{AllocError, Global};
 
 /// The most bits of a couple's index.
@@ -49,29 +50,64 @@ fn operator_in(kind: OperatorKind, text: &[u8]) -> Option<Option<Operator>>
     ensures { result ≡ operator_in kind text.now }
 {
     match kind {
-        OperatorKind::Valc => match couple_in(text)? {
-            Some(couple) => Some(Some(Operator::Valc(couple))),
-            None => Some(None),
-        },
-        OperatorKind::Namc => match couple_in(text)? {
-            Some(couple) => Some(Some(Operator::Namc(couple))),
-            None => Some(None),
-        },
-        OperatorKind::Lt8 => match number_below(text, 1 << 8)? {
-            Some(number) => Some(Some(Operator::Lt8(number as u8))),
-            None => Some(None),
-        },
-        OperatorKind::Lt16 => match number_below(text, 1 << 16)? {
-            Some(number) => Some(Some(Operator::Lt16(number as u16))),
-            None => Some(None),
-        },
+        OperatorKind::Valc => valc_in(text),
+        OperatorKind::Namc => namc_in(text),
+        OperatorKind::Lt8 => lt8_in(text),
+        OperatorKind::Lt16 => lt16_in(text),
         OperatorKind::Lt48 => Some(Some(Operator::Lt48(word_in(text)?))),
         OperatorKind::Mpcw => Some(Some(Operator::Mpcw(word_in(text)?))),
-        OperatorKind::Branch(branch) => match number_below(text, 1 << 16)? {
-            Some(place) => Some(Some(Operator::Branch(branch, place as u16))),
-            None => Some(None),
-        },
+        OperatorKind::Branch(branch) => branch_in(branch, text),
         OperatorKind::Plain(_) => None,
+    }
+}
+
+/// VALC with its couple.
+fn valc_in(text: &[u8]) -> Option<Option<Operator>>
+    ensures { result ≡ operator_in kinds.Valc text.now }
+{
+    match couple_in(text)? {
+        Some(couple) => Some(Some(Operator::Valc(couple))),
+        None => Some(None),
+    }
+}
+
+/// NAMC with its couple.
+fn namc_in(text: &[u8]) -> Option<Option<Operator>>
+    ensures { result ≡ operator_in kinds.Namc text.now }
+{
+    match couple_in(text)? {
+        Some(couple) => Some(Some(Operator::Namc(couple))),
+        None => Some(None),
+    }
+}
+
+/// LT8 with its number.
+fn lt8_in(text: &[u8]) -> Option<Option<Operator>>
+    ensures { result ≡ operator_in kinds.Lt8 text.now }
+{
+    match number_below(text, 1 << 8)? {
+        Some(number) => Some(Some(Operator::Lt8(number as u8))),
+        None => Some(None),
+    }
+}
+
+/// LT16 with its number.
+fn lt16_in(text: &[u8]) -> Option<Option<Operator>>
+    ensures { result ≡ operator_in kinds.Lt16 text.now }
+{
+    match number_below(text, 1 << 16)? {
+        Some(number) => Some(Some(Operator::Lt16(number as u16))),
+        None => Some(None),
+    }
+}
+
+/// A branch with its place.
+fn branch_in(kind: BranchKind, text: &[u8]) -> Option<Option<Operator>>
+    ensures { result ≡ operator_in (kinds.Branch kind) text.now }
+{
+    match number_below(text, 1 << 16)? {
+        Some(place) => Some(Some(Operator::Branch(kind, place as u16))),
+        None => Some(None),
     }
 }
 

@@ -30,6 +30,14 @@ fn record_length(text: &[u8]) -> usize
     text.iter().take_while(|byte| **byte != b'\n').count()
 }
 
+/// Appends an item.
+fn push<T: Drop>(items: &mut Vec<T>, item: T) -> Result<(), AllocError>
+    ensures { OnOk result (items.new.items ≡ items.old.items ++ item ∷ []) }
+{
+    items.push(item)?;
+    Ok(())
+}
+
 /// Appends what a record is, and the format where it is one.
 #[tactic(auto, unfolding(crate::specs::Items::reading, crate::specs::Items::format_of))]
 fn read_record(
@@ -44,19 +52,17 @@ fn read_record(
 {
     let code = unblanked(code_part(bytes));
     if code.is_empty() {
-        text.lines.push(Reading::Blank)?;
-        return Ok(());
+        return push(&mut text.lines, Reading::Blank);
     }
     match phrases_in(alloc, code)? {
         Some(phrases) => {
             let fits = are_in_range(phrases.as_slice());
             let phrases = List::of(phrases);
-            text.formats.push(Format { phrases })?;
-            text.lines.push(Reading::Format { fits })?;
+            push(&mut text.formats, Format { phrases })?;
+            push(&mut text.lines, Reading::Format { fits })
         }
-        None => text.lines.push(item_in(alloc, kinds, code)?)?,
+        None => push(&mut text.lines, item_in(alloc, kinds, code)?),
     }
-    Ok(())
 }
 
 /// What the records of a text are, and its formats.

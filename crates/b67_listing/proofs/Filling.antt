@@ -76,35 +76,32 @@ pass bytes at passed level marks first more false e filled marked within =
     let long : length (drop passed marks) ≡ 1 + length (marks_of first.level more) = ap length list ∙ omega arith in
     rw one record { level = refl; left = rest; within = omega (arith, length-drop passed marks) }
 
--- these operators are listed and the others are not, and so many marks are passed
-pub record Progress (segment : Segment) (bytes : List ℕ) (at passed level : ℕ) (old new : List (List ℕ)) : Type 0 where
-  pub listed : List Placed
+-- these operators are passed and others are left, and so many marks are passed
+pub record Progress (segment : Segment) (bytes : List ℕ) (at passed level : ℕ) (before : List Placed) : Type 0 where
   pub left : List Placed
   pub are_bytes : bytes ≡ syllables segment.words
-  pub segment_is : IsSegment segment (listed ++ left)
+  pub segment_is : IsSegment segment (before ++ left)
   pub filled : StandInOrder bytes at left
   pub marked : drop passed segment.marks ≡ marks_of level left
   pub within : passed ≤ length segment.marks
-  pub added : new ≡ old ++ map operator_line listed
 
 -- before the first operator
-pub starts : (segment : Segment) (bytes : List ℕ) (lines : List (List ℕ)) → HasOperators segment → bytes ≡ syllables segment.words → Progress segment bytes 0 0 0 lines lines
-starts segment bytes lines has are = record {
-  listed = [];
+pub begins : (segment : Segment) (bytes : List ℕ) → HasOperators segment → bytes ≡ syllables segment.words → Progress segment bytes 0 0 0 []
+begins segment bytes has are = record {
   left = has.0;
   are_bytes = are;
   segment_is = has.1;
   filled = rw are (has.1.filled);
   marked = has.1.marked;
   within = omega arith;
-  added = sym (append-nil lines);
 }
 
 -- the operator at a place is passed
-pub record Turn (segment : Segment) (bytes : List ℕ) (at : ℕ) (old new : List (List ℕ)) (found : ℕ × ℕ) : Type 0 where
+pub record Passes (segment : Segment) (bytes : List ℕ) (at : ℕ) (before : List Placed) (found : ℕ × ℕ) : Type 0 where
   pub most : found.0 ≤ MOST_LEVEL
   pub stands : HasOperator bytes at found.0
-  pub goes_on : (next : ℕ) (after : List (List ℕ)) → AddsOperator bytes at found.0 new after next → Progress segment bytes next found.1 found.0 old after
+  pub goes_on : (operator : Operator) (next : ℕ) → Stands bytes at found.0 operator next →
+      Progress segment bytes next found.1 found.0 (before ++ record { place = at; level = found.0; operator = operator } ∷ [])
 
 -- an operator that stands at the same place and level
 same_placed : (first : Placed) (at level : ℕ) (operator : Operator) → first.place ≡ at → level ≡ first.level → first.operator ≡ operator →
@@ -114,10 +111,10 @@ same_placed first at level operator place same op =
     ∙ ap (λ k. let p : Placed = record { place = first.place; level = k; operator = operator } in p) same
     ∙ ap (λ o. let p : Placed = record { place = first.place; level = first.level; operator = o } in p) (sym op)
 
-turn_of : (segment : Segment) (bytes : List ℕ) (at passed level : ℕ) (old new : List (List ℕ)) (p : Progress segment bytes at passed level old new) (left : List Placed) → p.left ≡ left → at < length bytes →
-    Turn segment bytes at old new (passed_mark (drop passed segment.marks) passed at level)
-turn_of segment bytes at passed level old new p [] is inside = let filled = rw is at p.filled in absurd (omega arith)
-turn_of segment bytes at passed level old new p (first ∷ more) is inside =
+passes_of : (segment : Segment) (bytes : List ℕ) (at passed level : ℕ) (before : List Placed) (p : Progress segment bytes at passed level before) (left : List Placed) → p.left ≡ left → at < length bytes →
+    Passes segment bytes at before (passed_mark (drop passed segment.marks) passed at level)
+passes_of segment bytes at passed level before p [] is inside = let filled = rw is at p.filled in absurd (omega arith)
+passes_of segment bytes at passed level before p (first ∷ more) is inside =
     let filled = rw is at p.filled in
     let marked = rw is at p.marked in
     let segment_is = rw is at p.segment_is in
@@ -126,39 +123,75 @@ turn_of segment bytes at passed level old new p (first ∷ more) is inside =
     record {
       most = rw (went.level) (filled.2);
       stands = (first.operator, filled.3.0, rw (went.level) (filled.3.1));
-      goes_on = λ next after adds.
-          let stands : Stands bytes at first.level adds.operator next = rw (went.level) at adds.stands in
+      goes_on = λ operator next there.
+          let stands : Stands bytes at first.level operator next = rw (went.level) at there in
           let one = Stands-unique filled.2 filled.3.1 stands in
-          let same = same_placed first at found.0 adds.operator filled.0 went.level one.0 in
+          let same = same_placed first at found.0 operator filled.0 went.level one.0 in
           record {
-            listed = p.listed ++ first ∷ [];
             left = more;
             are_bytes = p.are_bytes;
-            segment_is = rw (append_assoc p.listed (first ∷ []) more) segment_is;
+            segment_is =
+                subst (λ (o : Placed). IsSegment segment ((before ++ o ∷ []) ++ more)) (sym same)
+                (rw (append_assoc before (first ∷ []) more) segment_is);
             filled = subst (λ k. StandInOrder bytes k more) one.1 filled.3.2;
             marked = went.left ∙ ap (λ l. marks_of l more) (sym went.level);
             within = went.within;
-            added = adds.added ∙ ap (λ (o : Placed). new ++ operator_line o ∷ []) same ∙ ap (λ ls. ls ++ operator_line first ∷ []) p.added
-                ∙ append_assoc old (map operator_line p.listed) (operator_line first ∷ []) ∙ ap (λ ls. old ++ ls) (sym (map-append operator_line p.listed (first ∷ [])));
           };
     }
 
-pub turn : (segment : Segment) (bytes : List ℕ) (at passed level : ℕ) (old new : List (List ℕ)) (found : ℕ × ℕ) → Progress segment bytes at passed level old new → at < length bytes →
-    found ≡ passed_mark (drop passed segment.marks) passed at level → Turn segment bytes at old new found
-turn segment bytes at passed level old new found p inside is = rw is (turn_of segment bytes at passed level old new p p.left refl inside)
+pub passes : (segment : Segment) (bytes : List ℕ) (at passed level : ℕ) (before : List Placed) (found : ℕ × ℕ) → Progress segment bytes at passed level before → at < length bytes →
+    found ≡ passed_mark (drop passed segment.marks) passed at level → Passes segment bytes at before found
+passes segment bytes at passed level before found p inside is = rw is (passes_of segment bytes at passed level before p p.left refl inside)
 
 -- after the last operator
-ended_of : (segment : Segment) (bytes : List ℕ) (at passed level number : ℕ) (lines old new : List (List ℕ)) (p : Progress segment bytes at passed level old new) (left : List Placed) → p.left ≡ left →
-    length bytes ≤ at → old ≡ lines ++ segment_line number (length segment.words) ∷ [] → AddsSegment number segment lines new
-ended_of segment bytes at passed level number lines old new p [] is outside head =
-    record {
-      operators = p.listed;
-      segment_is = rw (append-nil p.listed) at (rw is at p.segment_is);
-      added = p.added ∙ ap (λ ls. ls ++ map operator_line p.listed) head ∙ append_assoc lines (segment_line number (length segment.words) ∷ []) (map operator_line p.listed);
-    }
-ended_of segment bytes at passed level number lines old new p (first ∷ more) is outside head =
+passed_of : (segment : Segment) (bytes : List ℕ) (at passed level : ℕ) (before : List Placed) (p : Progress segment bytes at passed level before) (left : List Placed) → p.left ≡ left → length bytes ≤ at →
+    IsSegment segment before
+passed_of segment bytes at passed level before p [] is outside = rw (append-nil before) at (rw is at p.segment_is)
+passed_of segment bytes at passed level before p (first ∷ more) is outside =
     let filled = rw is at p.filled in let within = Stands-within filled.3.1 in absurd (omega arith)
 
-pub ended : (segment : Segment) (bytes : List ℕ) (at passed level number : ℕ) (lines old new : List (List ℕ)) → Progress segment bytes at passed level old new → length bytes ≤ at →
+pub all_passed : (segment : Segment) (bytes : List ℕ) (at passed level : ℕ) (before : List Placed) → Progress segment bytes at passed level before → length bytes ≤ at → IsSegment segment before
+all_passed segment bytes at passed level before p outside = passed_of segment bytes at passed level before p p.left refl outside
+
+-- ---- as far as they are listed
+
+pub record Listed (segment : Segment) (bytes : List ℕ) (at passed level : ℕ) (old new : List (List ℕ)) : Type 0 where
+  pub before : List Placed
+  pub progress : Progress segment bytes at passed level before
+  pub added : new ≡ old ++ map operator_line before
+
+pub starts : (segment : Segment) (bytes : List ℕ) (lines : List (List ℕ)) → HasOperators segment → bytes ≡ syllables segment.words → Listed segment bytes 0 0 0 lines lines
+starts segment bytes lines has are = record { before = []; progress = begins segment bytes has are; added = sym (append-nil lines) }
+
+-- the line of the operator at a place is added
+pub record Turn (segment : Segment) (bytes : List ℕ) (at : ℕ) (old new : List (List ℕ)) (found : ℕ × ℕ) : Type 0 where
+  pub most : found.0 ≤ MOST_LEVEL
+  pub stands : HasOperator bytes at found.0
+  pub goes_on : (next : ℕ) (after : List (List ℕ)) → AddsOperator bytes at found.0 new after next → Listed segment bytes next found.1 found.0 old after
+
+pub turn : (segment : Segment) (bytes : List ℕ) (at passed level : ℕ) (old new : List (List ℕ)) (found : ℕ × ℕ) → Listed segment bytes at passed level old new → at < length bytes →
+    found ≡ passed_mark (drop passed segment.marks) passed at level → Turn segment bytes at old new found
+turn segment bytes at passed level old new found listed inside is =
+    let went = passes segment bytes at passed level listed.before found listed.progress inside is in
+    record {
+      most = went.most;
+      stands = went.stands;
+      goes_on = λ next after adds.
+          let placed : Placed = record { place = at; level = found.0; operator = adds.operator } in
+          record {
+            before = listed.before ++ placed ∷ [];
+            progress = went.goes_on adds.operator next adds.stands;
+            added = adds.added ∙ ap (λ ls. ls ++ operator_line placed ∷ []) listed.added
+                ∙ append_assoc old (map operator_line listed.before) (operator_line placed ∷ []) ∙ ap (λ ls. old ++ ls) (sym (map-append operator_line listed.before (placed ∷ [])));
+          };
+    }
+
+-- after the last operator
+pub ended : (segment : Segment) (bytes : List ℕ) (at passed level number : ℕ) (lines old new : List (List ℕ)) → Listed segment bytes at passed level old new → length bytes ≤ at →
     old ≡ lines ++ segment_line number (length segment.words) ∷ [] → AddsSegment number segment lines new
-ended segment bytes at passed level number lines old new p outside head = ended_of segment bytes at passed level number lines old new p p.left refl outside head
+ended segment bytes at passed level number lines old new listed outside head =
+    record {
+      operators = listed.before;
+      segment_is = all_passed segment bytes at passed level listed.before listed.progress outside;
+      added = listed.added ∙ ap (λ ls. ls ++ map operator_line listed.before) head ∙ append_assoc lines (segment_line number (length segment.words) ∷ []) (map operator_line listed.before);
+    }

@@ -21,7 +21,7 @@ pub fn format_line(alloc: Global, number: usize, format: &Format) -> Result<Line
 }
 
 /// Appends phrases, with commas between them.
-fn push_phrases(text: &mut Vec<u8>, phrases: &List<Phrase>) -> Result<(), AllocError>
+pub fn push_phrases(text: &mut Vec<u8>, phrases: &List<Phrase>) -> Result<(), AllocError>
     ensures { OnOk result (text.new.items ≡ text.old.items ++ phrases_text phrases.now) }
 {
     let Some((first, rest)) = phrases.items().split_first() else {

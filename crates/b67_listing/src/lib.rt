@@ -17,6 +17,9 @@ ghost use Rattle.b67_listing.specs.Listings.{IsListable, AreListable, AddsSegmen
 
 use crate::format::format_line;
 use crate::segment::push_segment;
+pub use format::push_phrases;
+pub use operator::push_operator;
+pub use segment::{pass_mark, syllables};
 use b67_list::{Line, List};
 use b67_segment::{Code, Format, Segment};
 use std::alloc::{AllocError, Global};

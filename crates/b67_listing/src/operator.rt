@@ -57,7 +57,7 @@ fn push_place(text: &mut Vec<u8>, place: usize, level: u8) -> Result<(), AllocEr
 }
 
 /// Appends the name of an operator, and its operand if it has one.
-fn push_operator(text: &mut Vec<u8>, operator: &Operator) -> Result<(), AllocError>
+pub fn push_operator(text: &mut Vec<u8>, operator: &Operator) -> Result<(), AllocError>
     ensures { OnOk result (text.new.items ≡ text.old.items ++ operator_text operator.now) }
 {
     push_words(text, operator.kind().name().as_bytes())?;

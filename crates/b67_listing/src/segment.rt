@@ -53,7 +53,7 @@ fn push_operator(
 
 /// The level at a place and how many marks have been passed there, where so many were passed before it and `level` is
 /// the level before it.
-fn pass_mark(marks: &[Mark], passed: usize, at: usize, level: u8) -> (u8, usize)
+pub fn pass_mark(marks: &[Mark], passed: usize, at: usize, level: u8) -> (u8, usize)
     requires { passed ≤ length marks.now }
     ensures { result ≡ passed_mark (drop passed marks.now) passed at level }
 {
@@ -74,7 +74,7 @@ fn segment_line(alloc: Global, number: usize, words: usize) -> Result<Line, Allo
 }
 
 /// The syllables of words, six a word, the first one highest.
-fn syllables(alloc: Global, words: &[u64]) -> Result<Vec<u8>, AllocError>
+pub fn syllables(alloc: Global, words: &[u64]) -> Result<Vec<u8>, AllocError>
     ensures { IfOk result (λ bytes. bytes.items ≡ syllables words.now) }
 {
     let mut bytes = Vec::new(alloc);

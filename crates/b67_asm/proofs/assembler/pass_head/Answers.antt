@@ -1,4 +1,4 @@
-use Rattle.std.proofs.Common.{sym, ◌∙◌, ap, arith}
+use Rattle.std.proofs.Common.{sym, ◌∙◌, arith}
 use Rattle.b67_asm.proofs.Segments.{at_end, at_segment, has_passed, head_broken, head_more, segments_more}
 use Rattle.b67_asm.proofs.assembler.pass_head.Goals as goal
 

@@ -1,4 +1,3 @@
-use Rattle.std.proofs.Common.{sym, ◌∙◌}
 use Rattle.b67_asm.proofs.Gathering.{gathers_label, gathers_nothing, gathers_operator}
 use Rattle.b67_asm.proofs.label.gather.Goals as goal
 

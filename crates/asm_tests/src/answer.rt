@@ -1,0 +1,91 @@
+//! The answer to a case.
+
+use b67_asm::{NotAssembled, Refusal, Rule, assemble};
+use b67_list::push_number;
+use b67_segment::{Code, Format, Phrase, Segment};
+use case_sheet::Case;
+use std::alloc::{AllocError, Global};
+
+/// The most bytes of a text.
+const MOST_BYTES: usize = 262_144;
+
+/// The number of a rule.
+fn number_of(rule: Rule) -> u8 {
+    match rule {
+        Rule::BadLine => 1,
+        Rule::UnknownLabel => 2,
+        Rule::DoubleLabel => 3,
+        Rule::Range => 4,
+        Rule::SegmentTooLong => 5,
+        Rule::NoSegment => 6,
+        Rule::EmptySegment => 7,
+    }
+}
+
+fn push_segment(told: &mut Vec<u8>, segment: &Segment) -> Result<(), AllocError> {
+    push_number(told, b"SEGMENT ", segment.words.items().len())?;
+    told.extend_from_slice(b"\n")?;
+    for word in segment.words.items() {
+        push_number(told, b"", *word)?;
+        told.extend_from_slice(b"\n")?;
+    }
+    for mark in segment.marks.items() {
+        push_number(told, b"MARK ", mark.place)?;
+        push_number(told, b" ", mark.level)?;
+        told.extend_from_slice(b"\n")?;
+    }
+    Ok(())
+}
+
+fn push_phrase(told: &mut Vec<u8>, phrase: &Phrase) -> Result<(), AllocError> {
+    match phrase {
+        Phrase::Text(text) => {
+            told.extend_from_slice(b"TEXT ")?;
+            told.extend_from_slice(text.bytes())?;
+        }
+        Phrase::Number(width) => push_number(told, b"NUMBER ", *width)?,
+        Phrase::Blanks(width) => push_number(told, b"BLANKS ", *width)?,
+    }
+    told.extend_from_slice(b"\n")
+}
+
+fn push_format(told: &mut Vec<u8>, format: &Format) -> Result<(), AllocError> {
+    push_number(told, b"FORMAT ", format.phrases.items().len())?;
+    told.extend_from_slice(b"\n")?;
+    for phrase in format.phrases.items() {
+        push_phrase(told, phrase)?;
+    }
+    Ok(())
+}
+
+fn push_code(told: &mut Vec<u8>, code: &Code) -> Result<(), AllocError> {
+    for segment in code.segments.items() {
+        push_segment(told, segment)?;
+    }
+    for format in code.formats.items() {
+        push_format(told, format)?;
+    }
+    Ok(())
+}
+
+fn push_refusal(told: &mut Vec<u8>, refusal: Refusal) -> Result<(), AllocError> {
+    push_number(told, b"REFUSED A", number_of(refusal.rule))?;
+    push_number(told, b" ", refusal.line)?;
+    told.extend_from_slice(b"\n")
+}
+
+/// The answer to a case.
+pub(crate) fn answered(alloc: Global, case: &Case) -> Result<Vec<u8>, AllocError> {
+    let mut told = Vec::new(alloc);
+    let text = case.input.as_slice();
+    if text.len() > MOST_BYTES {
+        told.extend_from_slice(b"TOO LONG\n")?;
+        return Ok(told);
+    }
+    match assemble(alloc, text) {
+        Ok(code) => push_code(&mut told, &code)?,
+        Err(NotAssembled::Refused(refusal)) => push_refusal(&mut told, refusal)?,
+        Err(NotAssembled::NoMemory) => return Err(AllocError),
+    }
+    Ok(told)
+}
