@@ -1,5 +1,5 @@
 -- The operators, gathered by their codes.
-use Rattle.std.proofs.Common.{◌≡◌, ℕ, ◌+◌, List, [], ◌++◌, refl, sym, ap, ◌∙◌, add-one}
+use Rattle.std.proofs.Common.{◌≡◌, ℕ, ◌+◌, List, [], ◌++◌, ap, ◌∙◌, add-one}
 use Rattle.std.specs.Prelude.{option_to_list}
 use Rattle.b67_ops.specs.declared.table.OperatorKind.{OperatorKind}
 use Rattle.b67_ops.specs.Codes.{kind_with}

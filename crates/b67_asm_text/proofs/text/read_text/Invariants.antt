@@ -1,4 +1,4 @@
-use Rattle.std.proofs.Common.{◌≡◌, ◌++◌, ◌≤◌, length, map}
+use Rattle.std.proofs.Common.{◌≡◌, ◌++◌, length, map}
 use Rattle.std.specs.List.{flat_map, position_or_len}
 use Rattle.b67_asm_text.specs.Items.{format_of, formats, reading, readings}
 use Rattle.b67_asm_text.specs.Records.{is_line_feed, records}
