@@ -1,3 +1,4 @@
 pub mod Numbers
 pub mod Filling
 pub mod Segments
+pub mod Spelled

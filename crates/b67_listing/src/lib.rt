@@ -17,11 +17,11 @@ ghost use Rattle.b67_listing.specs.Listings.{IsListable, AreListable, AddsSegmen
 
 use crate::format::format_line;
 use crate::segment::push_segment;
+use b67_list::{Line, List};
+use b67_segment::{Code, Format, Segment};
 pub use format::push_phrases;
 pub use operator::push_operator;
 pub use segment::{pass_mark, syllables};
-use b67_list::{Line, List};
-use b67_segment::{Code, Format, Segment};
 use std::alloc::{AllocError, Global};
 
 /// The listing of the code. The code's operators fill its segments, each stands at its mark's level, from `OUTER_LEVEL` to `MOST_LEVEL`, and

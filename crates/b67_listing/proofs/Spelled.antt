@@ -1,0 +1,69 @@
+-- A segment that spells operators can be listed.
+use Rattle.std.proofs.Common.{arith, ◌≡◌, ℕ, ◌+◌, ◌≤◌, ◌==◌, nat_eq, false, List, [], ◌∷◌, ◌++◌, length, refl, sym, ap, ◌∙◌, subst, append_assoc, append-nil, length-append, if◌then◌else◌}
+use Rattle.std.proofs.lemmas.Bool.{ne_eqb}
+use Rattle.std.proofs.lemmas.Bool.Decides.{nat_tests}
+use Rattle.std.specs.Prelude.{Some, None}
+use Rattle.b67_ops.specs.Spelling.{spelling, Stands}
+use Rattle.b67_ops.proofs.Laws.{Stands-appended, Stands-kept, Stands-within}
+use Rattle.b67_segment.specs.declared.TheConstants.{MOST_SEGMENT_WORDS}
+use Rattle.b67_segment.specs.declared.code.Mark.{Mark}
+use Rattle.b67_segment.specs.declared.code.Segment.{Segment}
+use Rattle.b67_segment.specs.Operators as building
+use Rattle.b67_segment.specs.Syllables.{syllables, Spells}
+use Rattle.b67_segment.proofs.Fetches.{length-syllables}
+use Rattle.b67_listing.specs.Operators.{Placed}
+use Rattle.b67_listing.specs.Listings.{StandInOrder, marks_of, IsSegment, HasOperators}
+
+-- the operators with their places, from this one on
+abbrev places : ℕ → List building.Placed → List Placed
+places at [] = []
+places at (p ∷ ps) = record { place = at; level = p.level; operator = p.operator } ∷ places (at + length (spelling at p.level p.operator)) ps
+
+in_order : (bytes front : List ℕ) (ps : List building.Placed) → building.AreFit ps → bytes ≡ front ++ building.text (length front) ps → StandInOrder bytes (length front) (places (length front) ps)
+in_order bytes front [] fit whole = ap length (sym (whole ∙ append-nil front))
+in_order bytes front (p ∷ ps) fit whole =
+    let at = length front in
+    let sp = spelling at p.level p.operator in
+    let rest = building.text (at + length sp) ps in
+    let joined : bytes ≡ (front ++ sp) ++ rest = whole ∙ sym (append_assoc front sp rest) in
+    let place : length (front ++ sp) ≡ at + length sp = length-append front sp in
+    let kept : Stands ((front ++ sp) ++ rest) at p.level p.operator (at + length sp) = Stands-kept rest (Stands-appended front p.level p.operator fit.0.fits) in
+    let stands : Stands bytes at p.level p.operator (at + length sp) = subst (λ xs. Stands xs at p.level p.operator (at + length sp)) (sym joined) kept in
+    let later : StandInOrder bytes (length (front ++ sp)) (places (length (front ++ sp)) ps) =
+    in_order bytes (front ++ sp) ps fit.1 (joined ∙ ap (λ k. (front ++ sp) ++ building.text k ps) (sym place)) in
+    (refl, fit.0.outer, fit.0.known, (at + length sp, stands, subst (λ k. StandInOrder bytes k (places k ps)) place later))
+
+same_test : (m n : ℕ) → nat_eq m n ≡ (n == m)
+same_test m n = grind (arith, nat_tests)
+
+-- the marks of the operators are those of the listing
+same_marks : (at before : ℕ) (ps : List building.Placed) → building.marks_after at (Some before) ps ≡ marks_of before (places at ps)
+same_marks at before [] = refl
+same_marks at before (p ∷ ps) =
+    let mark : Mark = record { place = at; level = p.level } in
+    let later = at + length (spelling at p.level p.operator) in
+    let others = building.marks_after later (Some p.level) ps in
+    ap (λ b. if b then others else mark ∷ others) (same_test before p.level)
+    ∙ ap (λ ms. if p.level == before then ms else mark ∷ ms) (same_marks later p.level ps)
+
+first_marks : (ps : List building.Placed) → building.AreFit ps → building.marks_after 0 None ps ≡ marks_of 0 (places 0 ps)
+first_marks [] fit = refl
+first_marks (p ∷ ps) fit =
+    let mark : Mark = record { place = 0; level = p.level } in
+    let later = 0 + length (spelling 0 p.level p.operator) in
+    let above : (p.level == 0) ≡ false = ne_eqb p.level 0 (λ e. omega (arith, e, fit.0.outer)) in
+    ap (λ ms. mark ∷ ms) (same_marks later p.level ps)
+    ∙ sym (ap (λ b. if b then marks_of p.level (places later ps) else mark ∷ marks_of p.level (places later ps)) above)
+
+pub spelled_segment : (segment : Segment) (ps : List building.Placed) → Spells ps segment → 1 ≤ length ps → length segment.words ≤ MOST_SEGMENT_WORDS → HasOperators segment
+spelled_segment segment [] spells some few = absurd (omega arith)
+spelled_segment segment (p ∷ ps) spells some few =
+    let filled = in_order (syllables segment.words) [] (p ∷ ps) spells.fit spells.code in
+    let is : IsSegment segment (places 0 (p ∷ ps)) = record {
+      some = omega (arith, length-syllables segment.words, Stands-within filled.3.1);
+      few = few;
+      words = spells.small;
+      filled = filled;
+      marked = spells.marks ∙ first_marks (p ∷ ps) spells.fit;
+    } in
+    (places 0 (p ∷ ps), is)
