@@ -7,3 +7,6 @@ pub mod Segments
 pub mod Gathering
 pub mod Taking
 pub mod Whole
+pub mod Unbroken
+pub mod Formats
+pub mod Writable

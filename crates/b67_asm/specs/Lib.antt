@@ -1,4 +1,5 @@
 pub mod Labels
 pub mod Rules
 pub mod Assembling
+pub mod Writable
 pub mod Steps

@@ -1,8 +1,11 @@
 //! A code from the lines of a text.
 
 ghost use Rattle.std.specs.Prelude.{◌≡◌, ◌+◌, ◌-◌, ◌^◌, ◌<◌, ◌≤◌, length, drop, IfOk, IfErr};
+ghost use Rattle.std.specs.List.{All};
+ghost use Rattle.b67_segment.specs.declared.TheConstants.{MOST_SEGMENT_WORDS};
 ghost use Rattle.b67_asm.specs.Assembling.{Assembles, IsFirst, Refuses};
 ghost use Rattle.b67_asm.specs.Rules.{first_before, first_broken, first_in, first_line, has_segment, nowhere};
+ghost use Rattle.b67_asm.specs.Writable.{IsWritable};
 ghost use Rattle.b67_asm.specs.Steps.{AtSegment, HasAll, HasPassed, HasRest, HaveBlockLevels};
 
 use crate::label::is_segment;
@@ -94,10 +97,13 @@ fn read_lines(alloc: Global, lines: &[Reading]) -> Result<Vec<Segment>, NotAssem
     read_segments(alloc, lines, from)
 }
 
-/// The code of a text. Where a line breaks a rule, the refusal has the first such line, and the lowest rule that it breaks.
+/// The code of a text, which can be listed and run. Where a line breaks a rule, the refusal has the first such line, and the lowest rule
+/// that it breaks.
 pub fn assemble(alloc: Global, bytes: &[u8]) -> Result<Code, NotAssembled>
     requires { length bytes.now < 2 ^ 32 - 1 }
     ensures assembled { IfOk result (Assembles bytes.now) }
+    ensures writable { IfOk result IsWritable }
+    ensures short { IfOk result (λ code. All (λ segment. length segment.words ≤ MOST_SEGMENT_WORDS) code.segments) }
     ensures refused { IfErr result (λ e. Refuses e bytes.now) }
 {
     let text = read_text(alloc, bytes)?;

@@ -15,6 +15,7 @@ ghost use Rattle.std.specs.Prelude.{◌≡◌, ℕ, List};
 ghost use Rattle.b67_segment.specs.declared.code.Code.{Code};
 ghost use Rattle.b67_asm.specs.declared.refusal.Refusal.{Refusal};
 ghost use Rattle.b67_asm.specs.Assembling.{Assembles, IsRefusedText};
+ghost use Rattle.b67_asm.specs.Writable.{IsWritable};
 
 pub use assembler::assemble;
 pub use refusal::{NotAssembled, Refusal, Rule};
@@ -24,4 +25,9 @@ pub fn texts_have_one_code()
     ensures one { (bytes : List ℕ) (code other : Code) → Assembles bytes code → Assembles bytes other → code ≡ other }
     ensures apart { (bytes : List ℕ) (code : Code) (refusal : Refusal) → Assembles bytes code → IsRefusedText bytes refusal → ⊥ }
     ensures refused { (bytes : List ℕ) (refusal other : Refusal) → IsRefusedText bytes refusal → IsRefusedText bytes other → refusal ≡ other }
+{}
+
+/// The code of a text can be listed, has a segment, and its formats have phrases that fit a line.
+pub fn codes_of_texts_can_be_written()
+    ensures { (bytes : List ℕ) (code : Code) → Assembles bytes code → IsWritable code }
 {}
