@@ -1,49 +1,53 @@
--- A text that is written for a code, read back line by line.
-use Rattle.std.proofs.Common.{◌≡◌, ◌≢◌, ℕ, ◌+◌, ◌*◌, ◌≤◌, Bool, true, false, eqb, cond, List, [], ◌∷◌, ◌++◌, length, map, Option, Some, None, Result, Ok, Err, refl, sym, ap, subst, arith, ◌∙◌, append_assoc, length-append}
-use Rattle.std.specs.Prelude.{nat_lt}
-use Rattle.std.specs.List.{All, slice_split, onto_first}
-use Rattle.std.proofs.lemmas.Bool.{cond-true, cond-false, cond_both, eqb-true, le-ltb, ne_eqb}
-use Rattle.std.proofs.lemmas.List.Elements.{All-tail}
-use Rattle.b67_ops.specs.declared.Operator.{Operator as Op}
-use Rattle.b67_ops.specs.Spelling.{spelling}
-use Rattle.b67_segment.specs.declared.TheConstants.{MOST_SEGMENT_SYLLABLES}
-use Rattle.b67_segment.specs.Operators as building
-use Rattle.b67_listing.specs.Operators.{Placed}
-use Rattle.b67_listing_reader.specs.Reading.{AreInOrder, unplaced, width}
-use Rattle.b67_listing_reader.proofs.Orders.{order-grows}
+-- The lines that are written for a code, read back as records of a text.
+use Rattle.std.proofs.Common.{◌≡◌, ℕ, ◌+◌, ◌==◌, eqb, true, cond, List, [], ◌∷◌, ◌++◌, map, codes, refl, sym, ap, subst, ◌∙◌, inl, inr, append_assoc, append-nil}
+use Rattle.std.specs.List.{All, flat_map, onto_first}
+use Rattle.std.specs.Fmt.{decimal}
+use Rattle.std.proofs.lemmas.Bool.{and_parts, cases_Bool, cond-true, cond-false, not-true}
+use Rattle.std.proofs.lemmas.Grind.{flat_map-append}
+use Rattle.std.proofs.lemmas.List.{map-append}
+use Rattle.std.proofs.lemmas.List.Elements.{All-head, All-tail}
+use Rattle.b67_segment.specs.declared.code.Format.{Format as Form}
+use Rattle.b67_listing.specs.Operators.{Placed, operator_text}
+use Rattle.b67_listing.specs.Listings.{IsPhrase}
+use Rattle.b67_listing_reader.specs.Reading.{AreInOrder, width}
 use Rattle.b67_asm_text.specs.declared.item.Written.TheVariants.{Whole}
 use Rattle.b67_asm_text.specs.declared.item.Reading.{Reading}
-use Rattle.b67_asm_text.specs.declared.item.Reading.TheVariants.{Level, Operator}
-use Rattle.b67_asm_text.specs.Records.{is_line_feed, records}
-use Rattle.b67_asm.specs.declared.label.Standing.{Standing}
-use Rattle.b67_asm.specs.declared.refusal.Rule.{Rule}
-use Rattle.b67_asm.specs.declared.refusal.Rule.TheVariants.{SegmentTooLong}
-use Rattle.b67_asm.specs.Labels.{place_after}
-use Rattle.b67_asm.specs.Rules.{Inside, first_in, operator_broken, or_next, resolved}
-use Rattle.b67_asm.proofs.Widths.{length_spelled}
-use Rattle.b67_asm_writer.proofs.Written.{last_from}
-use Rattle.b67_asm.specs.Assembling.{operators_from, with_operator}
-use Rattle.b67_asm_writer.specs.Sources.{line_text, lines_text}
+use Rattle.b67_asm_text.specs.declared.item.Reading.TheVariants.{Blank, Segment, Level, Operator, Format}
+use Rattle.b67_asm_text.specs.Items.{format_of, formats, reading, readings}
+use Rattle.b67_asm_text.specs.Phrases.{phrases_in}
+use Rattle.b67_asm_text.specs.Records.{records}
+use Rattle.b67_asm.specs.Writable.{CanBeWritten}
+use Rattle.b67_asm_writer.specs.Sources.{format_source, level_change, lines_after, lines_text, segment_source}
+use Rattle.b67_asm_writer.proofs.Quiet.{IsReadAs, has_no_feed, is_no_feed, quiet_no_feed}
+use Rattle.b67_asm_writer.proofs.Items.{level_back, operator_back, segment_back}
+use Rattle.b67_asm_writer.proofs.Formats.{format_back, format_no_feed}
 
 -- ---- records
 
-abbrev HasNoFeed : List ℕ → Type 0
-HasNoFeed line = All (λ (byte : ℕ). byte ≢ 10) line
+-- no line has an LF
+abbrev HaveNoFeed : List (List ℕ) → Type 0
+HaveNoFeed [] = Unit {0}
+HaveNoFeed (line ∷ lines) = (has_no_feed line ≡ true) × HaveNoFeed lines
+
+both_no_feed : (xs ys : List (List ℕ)) → HaveNoFeed xs → HaveNoFeed ys → HaveNoFeed (xs ++ ys)
+both_no_feed [] ys a b = b
+both_no_feed (line ∷ xs) ys a b = (a.0, both_no_feed xs ys a.1 b)
 
 -- a line with its LF is a record
-line_back : (line rest : List ℕ) → HasNoFeed line → records (line ++ 10 ∷ rest) ≡ line ∷ records rest
+line_back : (line rest : List ℕ) → has_no_feed line ≡ true → records (line ++ 10 ∷ rest) ≡ line ∷ records rest
 line_back [] rest none = refl
 line_back (byte ∷ line) rest none =
-    cond-false (eqb byte 10) ([] ∷ records (line ++ 10 ∷ rest)) (onto_first byte (records (line ++ 10 ∷ rest))) (ne_eqb byte 10 (none 0 byte (omega arith)))
-    ∙ ap (onto_first byte) (line_back line rest (All-tail (λ (b : ℕ). b ≢ 10) byte line none))
+    let p = and_parts (is_no_feed byte) (has_no_feed line) none in
+    cond-false (byte == 10) ([] ∷ records (line ++ 10 ∷ rest)) (onto_first byte (records (line ++ 10 ∷ rest))) (not-true (byte == 10) p.0)
+    ∙ ap (onto_first byte) (line_back line rest p.1)
 
 -- lines with their LFs are records, and an empty one comes after them
-pub lines_back : (lines : List (List ℕ)) → All (λ (line : List ℕ). HasNoFeed line) lines → records (lines_text lines) ≡ lines ++ [] ∷ []
+lines_back : (lines : List (List ℕ)) → HaveNoFeed lines → records (lines_text lines) ≡ lines ++ [] ∷ []
 lines_back [] none = refl
 lines_back (line ∷ lines) none =
     ap records (append_assoc line (10 ∷ []) (lines_text lines))
-    ∙ line_back line (lines_text lines) (none 0 line (omega arith))
-    ∙ ap (λ (ls : List (List ℕ)). line ∷ ls) (lines_back lines (All-tail (λ (l : List ℕ). HasNoFeed l) line lines none))
+    ∙ line_back line (lines_text lines) none.0
+    ∙ ap (λ (ls : List (List ℕ)). line ∷ ls) (lines_back lines none.1)
 
 -- ---- operators
 
@@ -55,71 +59,130 @@ abbrev pub read_after : ℕ → List Placed → List Reading
 read_after before [] = []
 read_after before (first ∷ more) = level_read before first.level ++ (Operator (Whole first.operator) ∷ read_after first.level more)
 
--- after a level the next operator stands at its own, whether a line says so or not
-level_goes : (before level : ℕ) (rest : List Reading) (labels : List ℕ → Option Standing) → operators_from labels before (level_read before level ++ rest) ≡ operators_from labels level rest
-level_goes before level rest labels =
-    cond_both (eqb level before) [] (Level level ∷ []) (λ (ls : List Reading). operators_from labels before (ls ++ rest) ≡ operators_from labels level rest)
-    (λ e. ap (λ (k : ℕ). operators_from labels k rest) (sym (eqb-true level before e)))
-    (λ e. refl)
+-- lines are read as these items, they have no formats, and no LFs
+record AreBack (lines : List (List ℕ)) (items : List Reading) : Type 0 where
+  reads : map reading lines ≡ items
+  none : flat_map format_of lines ≡ []
+  feeds : HaveNoFeed lines
 
--- each operator can stand where it does
-Resolves : (List ℕ → Option Standing) → List Placed → Type 0
-Resolves labels [] = Unit {0}
-Resolves labels (first ∷ more) = (resolved labels first.level (Whole first.operator) ≡ Ok first.operator) × Resolves labels more
+one_back : (line : List ℕ) (item : Reading) (lines : List (List ℕ)) (items : List Reading) → IsReadAs line item → AreBack lines items → AreBack (line ∷ lines) (item ∷ items)
+one_back line item lines items own rest = record {
+  reads = ap (λ (r : Reading). r ∷ map reading lines) own.reads ∙ ap (λ (rs : List Reading). item ∷ rs) rest.reads;
+  none = ap (λ (fs : List Form). fs ++ flat_map format_of lines) own.none ∙ rest.none;
+  feeds = (quiet_no_feed line own.quiet, rest.feeds);
+}
 
--- the operators of the lines are the operators
-pub operators_back : (labels : List ℕ → Option Standing) (before : ℕ) (ps : List Placed) → Resolves labels ps → operators_from labels before (read_after before ps) ≡ unplaced ps
-operators_back labels before [] resolves = refl
-operators_back labels before (first ∷ more) resolves =
-    level_goes before first.level (Operator (Whole first.operator) ∷ read_after first.level more) labels
-    ∙ ap (λ (o : Result Op Rule). with_operator first.level o (operators_from labels first.level (read_after first.level more))) resolves.0
-    ∙ ap (λ (ps : List building.Placed). record { level = first.level; operator = first.operator } ∷ ps) (operators_back labels first.level more resolves.1)
+-- the line of a level, where there is one
+change_back : (before : ℕ) (p : Placed) (lines : List (List ℕ)) (items : List Reading) → IsReadAs (codes "LEVEL " ++ decimal p.level) (Level p.level) → AreBack lines items →
+    AreBack (level_change before p.level ++ lines) (level_read before p.level ++ items)
+change_back before p lines items own rest =
+    let line = codes "LEVEL " ++ decimal p.level in
+    let test = eqb p.level before in
+    elim (cases_Bool test) [
+      | inl same ↦
+          subst (λ (ls : List (List ℕ)). AreBack (ls ++ lines) (level_read before p.level ++ items)) (sym (cond-true test [] (line ∷ []) same))
+          (subst (λ (rs : List Reading). AreBack lines (rs ++ items)) (sym (cond-true test [] (Level p.level ∷ []) same)) rest)
+      | inr other ↦
+          subst (λ (ls : List (List ℕ)). AreBack (ls ++ lines) (level_read before p.level ++ items)) (sym (cond-false test [] (line ∷ []) other))
+          (subst (λ (rs : List Reading). AreBack (line ∷ lines) (rs ++ items)) (sym (cond-false test [] (Level p.level ∷ []) other))
+          (one_back line (Level p.level) lines items own rest))
+    ]
 
--- ---- no line breaks a rule
+after_back : (before at : ℕ) (ps : List Placed) (end : ℕ) → AreInOrder at ps end → AreBack (lines_after before ps) (read_after before ps)
+after_back before at [] end order = record { reads = refl; none = refl; feeds = tt }
+after_back before at (p ∷ ps) end order =
+    change_back before p (operator_text p.operator ∷ lines_after p.level ps) (Operator (Whole p.operator) ∷ read_after p.level ps) (level_back p.level order.0.least order.0.most)
+    (one_back (operator_text p.operator) (Operator (Whole p.operator)) (lines_after p.level ps) (read_after p.level ps) (operator_back p.level p.operator order.0.most order.0.fits)
+    (after_back p.level (at + width p) ps end order.1))
 
-abbrev stands_at : (List ℕ → Option Standing) → ℕ → ℕ → Inside
-stands_at labels level place = record { labels = labels; level = level; place = place }
+-- ---- segments
 
-module _ (labels : List ℕ → Option Standing) where
-  level_passes : (before level place line : ℕ) (rest : List Reading) →
-      first_in (stands_at labels before place) line (level_read before level ++ rest) ≡ first_in (stands_at labels level place) (line + length (level_read before level)) rest
-  level_passes before level place line rest =
-      cond_both (eqb level before) [] (Level level ∷ [])
-      (λ (ls : List Reading). first_in (stands_at labels before place) line (ls ++ rest) ≡ first_in (stands_at labels level place) (line + length ls) rest)
-      (λ e.
-      let same : line ≡ line + 0 = omega arith in
-      ap (λ (k : ℕ). first_in (stands_at labels k place) line rest) (sym (eqb-true level before e)) ∙ ap (λ (n : ℕ). first_in (stands_at labels level place) n rest) same)
-      (λ e. refl)
+abbrev pub segment_read : List Placed → List Reading
+segment_read ps = Segment ∷ read_after 0 ps
 
-  operator_passes : (level place line : ℕ) (operator : Op) (rest : List Reading) → resolved labels level (Whole operator) ≡ Ok operator →
-      place + length (spelling place level operator) ≤ MOST_SEGMENT_SYLLABLES →
-      first_in (stands_at labels level place) line (Operator (Whole operator) ∷ rest) ≡ first_in (stands_at labels level (place + length (spelling place level operator))) (line + 1) rest
-  operator_passes level place line operator rest resolves room =
-      let wide : place + length (spelling place level operator) ≡ place_after place (Whole operator) = ap (λ (k : ℕ). place + k) (length_spelled place level operator) in
-      let within : place_after place (Whole operator) ≤ MOST_SEGMENT_SYLLABLES = subst (λ (k : ℕ). k ≤ MOST_SEGMENT_SYLLABLES) wide room in
-      let none : operator_broken (place_after place (Whole operator)) (resolved labels level (Whole operator)) ≡ None =
-      ap (operator_broken (place_after place (Whole operator))) resolves
-      ∙ cond-false (nat_lt MOST_SEGMENT_SYLLABLES (place_after place (Whole operator))) (Some SegmentTooLong) None (le-ltb _ _ within) in
-      ap (λ (b : Option Rule). or_next line b (first_in (stands_at labels level (place_after place (Whole operator))) (line + 1) rest)) none
-      ∙ ap (λ (k : ℕ). first_in (stands_at labels level k) (line + 1) rest) (sym wide)
+-- operators from the start of a segment on, which end at some place
+pub record AreWhole (ps : List Placed) : Type 0 where
+  pub end : ℕ
+  pub order : AreInOrder 0 ps end
 
-  -- the lines of operators in order
-  pub first_back : (before place line : ℕ) (ps : List Placed) (end : ℕ) (rest : List Reading) → Resolves labels ps → AreInOrder place ps end → end ≤ MOST_SEGMENT_SYLLABLES →
-      first_in (stands_at labels before place) line (read_after before ps ++ rest) ≡ first_in (stands_at labels (last_from before ps) end) (line + length (read_after before ps)) rest
-  first_back before place line [] end rest resolves order room =
-      let same : line ≡ line + 0 = omega arith in
-      ap (λ (k : ℕ). first_in (stands_at labels before k) line rest) order ∙ ap (λ (n : ℕ). first_in (stands_at labels before end) n rest) same
-  first_back before place line (first ∷ more) end rest resolves order room =
-      let change = level_read before first.level in
-      let own : Reading = Operator (Whole first.operator) in
-      let after = read_after first.level more in
-      let long = length (spelling place first.level first.operator) in
-      let wide : width first ≡ long = ap (λ (k : ℕ). length (spelling k first.level first.operator)) order.0.place_is in
-      let next : AreInOrder (place + long) more end = subst (λ (k : ℕ). AreInOrder (place + k) more end) wide order.1 in
-      let grows : place + long ≤ end = order-grows (place + long) more end next in
-      let lines : line + length change + 1 + length after ≡ line + length (change ++ (own ∷ after)) = omega (arith, length-append change (own ∷ after)) in
-      ap (first_in (stands_at labels before place) line) (append_assoc change (own ∷ after) rest)
-      ∙ level_passes before first.level place line (own ∷ (after ++ rest))
-      ∙ operator_passes first.level place (line + length change) first.operator (after ++ rest) resolves.0 (omega (arith, grows, room))
-      ∙ first_back first.level (place + long) (line + length change + 1) more end rest resolves.1 next room
-      ∙ ap (λ (n : ℕ). first_in (stands_at labels (last_from first.level more) end) n rest) lines
+abbrev pub AllWhole : List (List Placed) → Type 0
+AllWhole [] = Unit {0}
+AllWhole (ps ∷ pss) = AreWhole ps × AllWhole pss
+
+append_back : (xs ys : List (List ℕ)) (rs ss : List Reading) → AreBack xs rs → AreBack ys ss → AreBack (xs ++ ys) (rs ++ ss)
+append_back xs ys rs ss a b = record {
+  reads = map-append reading xs ys ∙ ap (λ (is : List Reading). is ++ map reading ys) a.reads ∙ ap (λ (is : List Reading). rs ++ is) b.reads;
+  none = flat_map-append format_of xs ys ∙ ap (λ (fs : List Form). fs ++ flat_map format_of ys) a.none ∙ b.none;
+  feeds = both_no_feed xs ys a.feeds b.feeds;
+}
+
+segments_back : (pss : List (List Placed)) → AllWhole pss → AreBack (flat_map segment_source pss) (flat_map segment_read pss)
+segments_back [] whole = record { reads = refl; none = refl; feeds = tt }
+segments_back (ps ∷ pss) whole =
+    append_back (segment_source ps) (flat_map segment_source pss) (segment_read ps) (flat_map segment_read pss)
+    (one_back (codes "SEGMENT") Segment (lines_after 0 ps) (read_after 0 ps) segment_back (after_back 0 0 ps whole.0.end whole.0.order)) (segments_back pss whole.1)
+
+-- ---- formats
+
+abbrev pub format_read : Form → Reading
+format_read form = Format true
+
+record FormatsBack (forms : List Form) : Type 0 where
+  reads : map reading (map format_source forms) ≡ map format_read forms
+  own : flat_map format_of (map format_source forms) ≡ forms
+  feeds : HaveNoFeed (map format_source forms)
+
+formats_back : (forms : List Form) → All (λ (form : Form). All IsPhrase form.phrases) forms → All CanBeWritten forms → FormatsBack forms
+formats_back [] all can = record { reads = refl; own = refl; feeds = tt }
+formats_back (form ∷ forms) all can =
+    let P : Form → Type 0 = λ (f : Form). All IsPhrase f.phrases in
+    let phrases = All-head P form forms all in
+    let here = All-head CanBeWritten form forms can in
+    let one = format_back form phrases here in
+    let rest = formats_back forms (All-tail P form forms all) (All-tail CanBeWritten form forms can) in
+    record {
+      reads = ap (λ (r : Reading). r ∷ map reading (map format_source forms)) one.reads ∙ ap (λ (rs : List Reading). Format true ∷ rs) rest.reads;
+      own = ap (λ (fs : List Form). fs ++ flat_map format_of (map format_source forms)) one.own ∙ ap (λ (fs : List Form). form ∷ fs) rest.own;
+      feeds = (format_no_feed form phrases here, rest.feeds);
+    }
+
+-- ---- the whole text
+
+-- the items after the segments: the formats, and the empty record at the end
+abbrev pub tail_read : List Form → List Reading
+tail_read forms = map format_read forms ++ Blank ∷ []
+
+pub record IsBack (text : List ℕ) (pss : List (List Placed)) (forms : List Form) : Type 0 where
+  pub reads : readings text ≡ flat_map segment_read pss ++ tail_read forms
+  pub own : formats text ≡ forms
+
+empty_reads : reading [] ≡ Blank
+unfolding reading
+empty_reads = refl
+
+empty_none : format_of [] ≡ []
+unfolding format_of phrases_in
+empty_none = refl
+
+pub text_back : (text : List ℕ) (pss : List (List Placed)) (forms : List Form) → AllWhole pss → All (λ (form : Form). All IsPhrase form.phrases) forms → All CanBeWritten forms →
+    text ≡ lines_text (flat_map segment_source pss ++ map format_source forms) → IsBack text pss forms
+text_back text pss forms whole all can is =
+    let first = flat_map segment_source pss in
+    let second = map format_source forms in
+    let segments = segments_back pss whole in
+    let own = formats_back forms all can in
+    let recs : records text ≡ first ++ (second ++ [] ∷ []) =
+    ap records is ∙ lines_back (first ++ second) (both_no_feed first second segments.feeds own.feeds) ∙ append_assoc first second ([] ∷ []) in
+    let last : map reading (second ++ [] ∷ []) ≡ tail_read forms =
+    map-append reading second ([] ∷ []) ∙ ap (λ (rs : List Reading). rs ++ reading [] ∷ []) own.reads ∙ ap (λ (r : Reading). map format_read forms ++ r ∷ []) empty_reads in
+    let last_forms : flat_map format_of (second ++ [] ∷ []) ≡ forms =
+    flat_map-append format_of second ([] ∷ []) ∙ ap (λ (fs : List Form). fs ++ flat_map format_of ([] ∷ [])) own.own
+    ∙ ap (λ (fs : List Form). forms ++ (fs ++ [])) empty_none ∙ append-nil forms in
+    record {
+      reads =
+          ap (map reading) recs ∙ map-append reading first (second ++ [] ∷ []) ∙ ap (λ (rs : List Reading). rs ++ map reading (second ++ [] ∷ [])) segments.reads
+          ∙ ap (λ (rs : List Reading). flat_map segment_read pss ++ rs) last;
+      own =
+          ap (flat_map format_of) recs ∙ flat_map-append format_of first (second ++ [] ∷ []) ∙ ap (λ (fs : List Form). fs ++ flat_map format_of (second ++ [] ∷ [])) segments.none
+          ∙ last_forms;
+    }

@@ -1,2 +1,10 @@
 pub mod Written
+pub mod Quiet
+pub mod Numbers
+pub mod Operands
+pub mod Names
+pub mod Items
+pub mod Formats
 pub mod Back
+pub mod Unbroken
+pub mod Law

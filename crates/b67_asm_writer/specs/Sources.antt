@@ -1,6 +1,6 @@
 -- The text that is written for a code.
-use Rattle.std.specs.Prelude.{◌≡◌, ℕ, ◌≤◌, ◌==◌, if◌then◌else◌, true, List, [], ◌∷◌, ◌++◌, length, map, codes}
-use Rattle.std.specs.List.{All, flat_map}
+use Rattle.std.specs.Prelude.{◌≡◌, ℕ, ◌==◌, if◌then◌else◌, List, [], ◌∷◌, ◌++◌, map, codes}
+use Rattle.std.specs.List.{flat_map}
 use Rattle.std.specs.Fmt.{decimal}
 use Rattle.b67_ops.specs.declared.Operator.{Operator}
 use Rattle.b67_ops.specs.Spelling.{Stands}
@@ -9,19 +9,7 @@ use Rattle.b67_segment.specs.declared.code.Segment.{Segment}
 use Rattle.b67_segment.specs.declared.code.Code.{Code}
 use Rattle.b67_listing.specs.Operators.{Placed, operator_text}
 use Rattle.b67_listing.specs.Formats.{phrases_text}
-use Rattle.b67_listing.specs.Listings.{IsListable, IsSegment}
-use Rattle.b67_asm_text.specs.Phrases.{are_in_range}
-
--- a format has a phrase, and its phrases have widths above 0 and fit a line
-pub record CanBeWritten (format : Format) : Type 0 where
-  pub some : 1 ≤ length format.phrases
-  pub fits : are_in_range format.phrases ≡ true
-
--- the code can be listed, it has a segment, and its formats can be written
-pub record IsWritable (code : Code) : Type 0 where
-  pub listable : IsListable code
-  pub some : 1 ≤ length code.segments
-  pub formats : All (λ (format : Format). CanBeWritten format) code.formats
+use Rattle.b67_listing.specs.Listings.{IsSegment}
 
 -- lines, each with an LF after it
 abbrev pub line_text : List ℕ → List ℕ

@@ -6,11 +6,12 @@
 
 mod segment;
 
-ghost use Rattle.std.specs.Prelude.{◌≡◌, ◌++◌, ℕ, List, IfOk, OnOk, length, map};
+ghost use Rattle.std.specs.Prelude.{◌≡◌, ◌↔◌, ◌++◌, ℕ, List, IfOk, OnOk, map};
 ghost use Rattle.b67_segment.specs.declared.code.Code.{Code};
 ghost use Rattle.b67_listing.specs.Listings.{AreListable};
 ghost use Rattle.b67_asm.specs.Assembling.{Assembles};
-ghost use Rattle.b67_asm_writer.specs.Sources.{AddsSegments, IsSource, IsWritable, format_source, line_text, lines_text};
+ghost use Rattle.b67_asm.specs.Writable.{IsWritable};
+ghost use Rattle.b67_asm_writer.specs.Sources.{AddsSegments, IsSource, format_source, line_text, lines_text};
 
 use crate::segment::push_segment;
 use b67_list::List;
@@ -18,10 +19,12 @@ use b67_listing::push_phrases;
 use b67_segment::{Code, Format, Segment};
 use std::alloc::{AllocError, Global};
 
-/// A text that is assembled to the code. The code can be listed and has a segment, and its formats have phrases, with widths above 0, which fit a line.
+/// A text that is assembled to the code. The code can be listed and has a segment, and its formats have phrases, with widths above 0,
+/// which fit a line: these are the codes that have a text.
 pub fn source(alloc: Global, code: &Code) -> Result<Vec<u8>, AllocError>
     requires { IsWritable code.now }
-    ensures { IfOk result (λ text. IsSource code.now text.items) }
+    ensures written { IfOk result (λ text. IsSource code.now text.items) }
+    ensures assembled { IfOk result (λ text. Assembles text.items code.now) }
 {
     let mut text = Vec::new(alloc);
     push_segments(alloc, &code.segments, &mut text)?;
@@ -63,7 +66,10 @@ fn push_format(format: &Format, text: &mut Vec<u8>) -> Result<(), AllocError>
     text.extend_from_slice(b">\n")
 }
 
-/// A text that is written for a code is assembled to the code.
+/// A text that is written for a code is assembled to the code, also where the code is that of another text. The codes that can be written
+/// are those that texts have.
 pub fn sources_are_assembled()
-    ensures { (code : Code) (text : List ℕ) → IsWritable code → IsSource code text → Assembles text code }
+    ensures sources { (code : Code) (text : List ℕ) → IsWritable code → IsSource code text → Assembles text code }
+    ensures again { (bytes text : List ℕ) (code : Code) → Assembles bytes code → IsSource code text → Assembles text code }
+    ensures exactly { (code : Code) → IsWritable code ↔ ((text : List ℕ) × Assembles text code) }
 {}

@@ -48,12 +48,7 @@ fn push_level(text: &mut Vec<u8>, before: u8, level: u8) -> Result<(), AllocErro
 }
 
 /// Appends the line of the operator that stands at a place, and answers the place after it.
-fn push_line(
-    text: &mut Vec<u8>,
-    bytes: &[u8],
-    at: usize,
-    level: u8,
-) -> Result<usize, AllocError>
+fn push_line(text: &mut Vec<u8>, bytes: &[u8], at: usize, level: u8) -> Result<usize, AllocError>
     requires level { level ≤ MOST_LEVEL }
     requires stands { HasOperator bytes.now at level }
     ensures { IfOk result (AddsOperator bytes.now at level text.old.items text.new.items) }

@@ -68,7 +68,7 @@ marked : (ps : List Placed) (end : ℕ) → AreInOrder 0 ps end → building.mar
 marked ps end h = none_before 0 ps end h ∙ marks_are 0 0 ps end h
 
 -- a segment of operators is built of them
-builds : (segment : Segment) (ps : List Placed) → IsSegment segment ps → Builds (unplaced ps) (syllables segment.words) segment.marks
+pub builds : (segment : Segment) (ps : List Placed) → IsSegment segment ps → Builds (unplaced ps) (syllables segment.words) segment.marks
 builds segment ps is =
     let bytes = syllables segment.words in
     let whole = filled bytes 0 ps is.filled in
