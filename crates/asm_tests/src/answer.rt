@@ -1,6 +1,7 @@
 //! The answer to a case.
 
 use b67_asm::{NotAssembled, Refusal, Rule, assemble};
+use b67_asm_writer::source;
 use b67_list::push_number;
 use b67_segment::{Code, Format, Phrase, Segment};
 use case_sheet::Case;
@@ -83,7 +84,13 @@ pub(crate) fn answered(alloc: Global, case: &Case) -> Result<Vec<u8>, AllocError
         return Ok(told);
     }
     match assemble(alloc, text) {
-        Ok(code) => push_code(&mut told, &code)?,
+        Ok(code) => {
+            if case.words.is_empty() {
+                push_code(&mut told, &code)?;
+            } else {
+                told.extend_from_slice(source(alloc, &code)?.as_slice())?;
+            }
+        }
         Err(NotAssembled::Refused(refusal)) => push_refusal(&mut told, refusal)?,
         Err(NotAssembled::NoMemory) => return Err(AllocError),
     }

@@ -2,10 +2,10 @@
 //!
 //! The folder that it runs in has the sheet `asm.sheet`, of which `case_sheet` tells the form. The input is a text of the assembler. Of one
 //! that is assembled the answer has, for each segment, the line `SEGMENT n` with its number of words, the words, and `MARK place level` for
-//! each mark; then, for each format, the line `FORMAT n` with its number of phrases, and a line for each of these. Of another it is
-//! `REFUSED An line`.
+//! each mark; then, for each format, the line `FORMAT n` with its number of phrases, and a line for each of these. Where a case has the word
+//! `source`, it is the text that is written for the code instead. Of another text it is `REFUSED An line`.
 //!
-//! These cases are the tests of `assemble` (b67_asm) and `read_text` (b67_asm_text).
+//! These cases are the tests of `assemble` (b67_asm), `read_text` (b67_asm_text) and `source` (b67_asm_writer).
 #![tactic(auto)]
 
 mod answer;
