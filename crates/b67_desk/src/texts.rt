@@ -75,6 +75,6 @@ pub fn listing_lines(alloc: Global, lines: &List<Line>) -> Result<Vec<u8>, Alloc
     ensures { IfOk result (λ text. text.items ≡ listing_text lines.now) }
 {
     let mut text = Vec::new(alloc);
-    push_lines(&mut text, b"LISTING ", lines)?;
+    push_lines(&mut text, b"LISTING ", lines.items().as_slice())?;
     Ok(text)
 }

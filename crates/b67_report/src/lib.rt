@@ -72,8 +72,8 @@ pub fn text(alloc: Global, report: &Report) -> Result<Vec<u8>, AllocError>
     ensures { IfOk result (λ text. text.items ≡ ReportText report.now) }
 {
     let mut text = Vec::new(alloc);
-    push_lines(&mut text, b"LISTING ", &report.listing)?;
-    push_lines(&mut text, b"OUTPUT ", &report.output)?;
+    push_lines(&mut text, b"LISTING ", report.listing.items().as_slice())?;
+    push_lines(&mut text, b"OUTPUT ", report.output.items().as_slice())?;
     push_end(&mut text, &report.end)?;
     text.extend_from_slice(b"\n")?;
     push_counts(&mut text, b"OPERATORS ", &report.operators)?;
@@ -83,18 +83,18 @@ pub fn text(alloc: Global, report: &Report) -> Result<Vec<u8>, AllocError>
 }
 
 /// Appends a head line with the number of lines, and the lines.
-pub fn push_lines(text: &mut Vec<u8>, head: &[u8], lines: &List<Line>) -> Result<(), AllocError>
+pub fn push_lines(text: &mut Vec<u8>, head: &[u8], lines: &[Line]) -> Result<(), AllocError>
     ensures { OnOk result (text.new.items ≡ text.old.items ++ lines_text head.now lines.now) }
 {
-    push_head(text, head, lines.items().len())?;
-    'lines: for line in lines.items() {
+    push_head(text, head, lines.len())?;
+    'lines: for line in lines {
         push_line(text, line.bytes())?;
     }
     Ok(())
 }
 
 /// Appends a head line with how many counts there are, and a line for each of them with its number from 1.
-fn push_counts(text: &mut Vec<u8>, head: &[u8], counts: &List<u64>) -> Result<(), AllocError>
+pub fn push_counts(text: &mut Vec<u8>, head: &[u8], counts: &List<u64>) -> Result<(), AllocError>
     ensures { OnOk result (text.new.items ≡ text.old.items ++ counts_text head.now counts.now) }
 {
     push_head(text, head, counts.items().len())?;
@@ -122,7 +122,7 @@ fn push_head(text: &mut Vec<u8>, word: &[u8], count: usize) -> Result<(), AllocE
 }
 
 /// Appends the words that say how a run ended.
-fn push_end(text: &mut Vec<u8>, end: &EndWords) -> Result<(), AllocError>
+pub fn push_end(text: &mut Vec<u8>, end: &EndWords) -> Result<(), AllocError>
     ensures { OnOk result (text.new.items ≡ text.old.items ++ end_words end.now) }
 {
     match *end {
