@@ -5,13 +5,13 @@ use Rattle.std.proofs.lemmas.List.{append_assoc, append-nil}
 use Rattle.std.proofs.lemmas.Fmt.{decimal_injective}
 use Rattle.b67_words.specs.declared.TheConstants.{MOST_BUDGET, MOST_PROCESSORS}
 use Rattle.b67_words.specs.declared.Words.{Words}
-use Rattle.b67_words.specs.declared.Words.TheVariants.{Run, Replay}
+use Rattle.b67_words.specs.declared.Words.TheVariants.{Run}
 use Rattle.b67_words.specs.declared.UsageKind.{UsageKind}
 use Rattle.b67_words.specs.declared.UsageKind.TheVariants.{Missing, Unknown, BadNumber, Extra}
 use Rattle.b67_words.specs.declared.BadWords.{BadWords}
 use Rattle.b67_words.specs.declared.BadWords.TheVariants.{Usage}
 use Rattle.b67_words.specs.Grammar.{IsNumber, IsCommand, BeginCommand, Wants, command, numeral, nothing, Breaks, missing, wrong, WordsMean, meant, broken}
-use Rattle.b67_words.proofs.Commands.{IsAlone, is_check, is_list, Form, a_run, a_replay, a_word, form_of, alone_letter, run_not_alone, replay_not_alone, run_not_replay, check_not_list, begin_check}
+use Rattle.b67_words.proofs.Commands.{IsAlone, is_check, is_list, IsBudgeted, Form, a_run, a_budget, a_word, form_of, alone_letter, budget_letter, run_not_alone, budget_not_alone, budget_not_run, same_budgeted, check_not_list, begin_check}
 use Rattle.b67_words.proofs.Reading.{begins}
 use Rattle.b67_words.proofs.Numbers.{first_digit}
 
@@ -34,23 +34,28 @@ same_form words a b (a_run processors budget p n e f s m) (a_run others other q 
     let one : p ≡ q = same_number MOST_PROCESSORS processors p q (omega arith) f (subst (λ w. IsNumber MOST_PROCESSORS w q) first g) in
     let two : n ≡ k = same_number MOST_BUDGET budget n k (omega arith) s (subst (λ w. IsNumber MOST_BUDGET w k) second t) in
     m ∙ ap (λ x. Run x n) one ∙ ap (λ x. Run q x) two ∙ sym l
-same_form words a b (a_run processors budget p n e f s m) (a_replay other k also t l) =
-    let same = sym e ∙ also in run_not_replay (let word : codes "run" ≡ codes "replay" = cc in word)
+same_form words a b (a_run processors budget p n e f s m) (a_budget name other k also t is) =
+    let same = sym e ∙ also in budget_not_run name k b is (let word : name ≡ codes "run" = cc in word)
 same_form words a b (a_run processors budget p n e f s m) (a_word name also is) =
     let same = sym e ∙ also in run_not_alone name b is (let word : name ≡ codes "run" = cc in word)
-same_form words a b (a_replay budget n e s m) (a_run others other q k also g t l) =
-    let same = sym e ∙ also in run_not_replay (let word : codes "run" ≡ codes "replay" = cc in word)
-same_form words a b (a_replay budget n e s m) (a_replay other k also t l) =
+same_form words a b (a_budget name budget n e s is) (a_run others other q k also g t l) =
+    let same = sym e ∙ also in budget_not_run name n a is (let word : name ≡ codes "run" = cc in word)
+same_form words a b (a_budget name budget n e s is) (a_budget word other k also t too) =
     let same = sym e ∙ also in
     let first : other ≡ budget = cc in
     let one : n ≡ k = same_number MOST_BUDGET budget n k (omega arith) s (subst (λ w. IsNumber MOST_BUDGET w k) first t) in
-    m ∙ ap (λ x. Replay x) one ∙ sym l
-same_form words a b (a_replay budget n e s m) (a_word name also is) =
-    let same = sym e ∙ also in replay_not_alone name b is (let word : name ≡ codes "replay" = cc in word)
+    let named : word ≡ name = cc in
+    same_budgeted name n k a b one is (subst (λ w. IsBudgeted w k b) named too)
+same_form words a b (a_budget name budget n e s is) (a_word other also too) =
+    let same = sym e ∙ also in
+    let named : other ≡ name = cc in
+    budget_not_alone name n a b is (subst (λ w. IsAlone w b) named too)
 same_form words a b (a_word name e is) (a_run others other q k also g t l) =
     let same = sym e ∙ also in run_not_alone name a is (let word : name ≡ codes "run" = cc in word)
-same_form words a b (a_word name e is) (a_replay other k also t l) =
-    let same = sym e ∙ also in replay_not_alone name a is (let word : name ≡ codes "replay" = cc in word)
+same_form words a b (a_word name e is) (a_budget other budget k also t too) =
+    let same = sym e ∙ also in
+    let named : name ≡ other = cc in
+    budget_not_alone other k b a too (subst (λ w. IsAlone w a) named is)
 same_form words a b (a_word name e is) (a_word other also too) =
     let same = sym e ∙ also in same_alone name other a b (let word : name ≡ other = cc in word) is too
 
@@ -63,9 +68,10 @@ number_form word rest meaning low (a_run processors budget p b e f s m) =
     let same : word ≡ codes "run" = cc in
     let high : get_or word 0 0 ≡ 114 = rw same refl in
     absurd (omega arith)
-number_form word rest meaning low (a_replay budget b e s m) =
-    let same : word ≡ codes "replay" = cc in
-    let high : get_or word 0 0 ≡ 114 = rw same refl in
+number_form word rest meaning low (a_budget name budget b e s is) =
+    let same : word ≡ name = cc in
+    let first : get_or word 0 0 ≡ get_or name 0 0 = ap (λ (w : List ℕ). get_or w 0 0) same in
+    let high = budget_letter name b meaning is in
     absurd (omega arith)
 number_form word rest meaning low (a_word name e is) =
     let same : word ≡ name = cc in

@@ -1,5 +1,5 @@
 -- Words that are read one by one, and the first that breaks the grammar.
-use Rattle.std.proofs.Common.{◌≡◌, ◌≢◌, ℕ, ◌+◌, ◌≤◌, ◌<◌, List, [], ◌∷◌, ◌++◌, length, take, drop, map, Some, None, Ok, Err, sym, ap, ◌∙◌, subst, arith}
+use Rattle.std.proofs.Common.{◌≡◌, ◌≢◌, ℕ, ◌+◌, ◌≤◌, ◌<◌, List, [], ◌∷◌, ◌++◌, length, take, drop, map, Some, None, Ok, Err, refl, sym, ap, ◌∙◌, subst, arith}
 use Rattle.std.specs.Prelude.{slice_get, codes}
 use Rattle.std.proofs.lemmas.List.{append_assoc, append-nil, length-append, take-append-drop, length-take-le}
 use Rattle.std.proofs.lemmas.Option.{get_or_from_slice_get, slice_get_within}
@@ -7,12 +7,12 @@ use Rattle.std.proofs.Math.Seq.{get_or-append_seam, take-append_seam, take-lengt
 use Rattle.b67_words.specs.declared.TheConstants.{MOST_BUDGET, MOST_PROCESSORS}
 use Rattle.b67_words.specs.declared.Words.{Words}
 use Rattle.b67_words.specs.declared.Words.TheVariants as commands
-use Rattle.b67_words.specs.declared.Words.TheVariants.{Run, Check, Replay}
+use Rattle.b67_words.specs.declared.Words.TheVariants.{Run, Check, Replay, Exec}
 use Rattle.b67_words.specs.declared.BadWords.{BadWords}
 use Rattle.b67_words.specs.declared.BadWords.TheVariants.{Usage}
 use Rattle.b67_words.specs.declared.UsageKind.TheVariants.{Missing, Unknown, BadNumber, BadRule, Extra}
-use Rattle.b67_words.specs.Grammar.{IsNumber, IsCommand, BeginCommand, IsWhole, BeginWhole, command, numeral, nothing, missing, wrong, WordsMean, meant, broken, IsNumberOrNone, NumberStandsAt}
-use Rattle.b67_words.proofs.Commands.{Form, a_run, a_replay, a_word, IsAlone, is_check, is_list, form_of, begin_nothing, begin_run, one, after_run, after_replay, whole_run, whole_replay, whole_check, whole_list}
+use Rattle.b67_words.specs.Grammar.{IsNumber, IsCommand, replay, exec, BeginCommand, IsWhole, BeginWhole, command, numeral, nothing, missing, wrong, WordsMean, meant, broken, IsNumberOrNone, NumberStandsAt}
+use Rattle.b67_words.proofs.Commands.{Form, a_run, a_budget, a_word, IsAlone, is_check, is_list, IsBudgeted, is_replay, is_exec, form_of, begin_nothing, begin_run, one, after_run, after_name, whole_run, whole_budget, whole_check, whole_list}
 
 -- the words begin with these
 abbrev pub GoOn : List (List ℕ) → List (List ℕ) → Type 0
@@ -96,14 +96,6 @@ awaits_budget processors p f = record {
       (words.b, subst (λ w. IsNumber MOST_BUDGET w words.b) same words.second);
 }
 
-awaits_replay : Awaits (codes "replay" ∷ []) MOST_BUDGET
-awaits_replay = record {
-  unfinished = λ m is. let e = (after_replay [] m is).are in cc;
-  begun = ([], Replay 1, (whole_replay (codes "1") 1 (one MOST_BUDGET (omega arith))).is);
-  only = λ word (more, m, is). let words = after_replay (word ∷ more) m is in let e = words.are in let same : words.budget ≡ word = cc in
-      (words.b, subst (λ w. IsNumber MOST_BUDGET w words.b) same words.first);
-}
-
 -- the words go on from their first
 starts : (word : List ℕ) (words : List (List ℕ)) → slice_get words 0 ≡ Some word → GoOn (word ∷ []) words
 starts word [] h = let e : None ≡ Some word = h in cc
@@ -119,10 +111,6 @@ run_second_broken words p bad h f n =
     let first = number_read (codes "run" ∷ []) words MOST_PROCESSORS p (starts (codes "run") words h) f in
     number_broken (codes "run" ∷ first.word ∷ []) words MOST_BUDGET bad (awaits_budget first.word p first.is) first.on n
 
-pub replay_broken : (words : List (List ℕ)) (bad : BadWords) → slice_get words 0 ≡ Some (codes "replay") → NumberStandsAt words 1 MOST_BUDGET (Err bad) →
-    WordsMean words (Err bad)
-replay_broken words bad h n = number_broken (codes "replay" ∷ []) words MOST_BUDGET bad awaits_replay (starts (codes "replay") words h) n
-
 begin_whole : (front words : List (List ℕ)) (meaning : Words) → GoOn front words → IsWhole front meaning → BeginWhole words (length front) meaning
 begin_whole front words meaning (rest, e) is =
     let sum = length-append front rest in
@@ -136,11 +124,41 @@ begin_run_whole words p b h f s =
     let second = number_read (codes "run" ∷ first.word ∷ []) words MOST_BUDGET b first.on s in
     begin_whole (codes "run" ∷ first.word ∷ second.word ∷ []) words (Run p b) second.on (whole_run first.word second.word p b first.is second.is)
 
+-- a command of a name and a budget
+module _ (name : List ℕ) (meaning : ℕ → Words) (named : (b : ℕ) → IsBudgeted name b (meaning b))
+    (command_of : (budget : List ℕ) (b : ℕ) → IsNumber MOST_BUDGET budget b → IsCommand (name ∷ budget ∷ []) (meaning b)) where
+  awaits_name : Awaits (name ∷ []) MOST_BUDGET
+  awaits_name = record {
+    unfinished = λ m is. let e = (after_name name 1 (meaning 1) (named 1) [] m is).are in cc;
+    begun = ([], meaning 1, command_of (codes "1") 1 (one MOST_BUDGET (omega arith)));
+    only = λ word (more, m, is). let words = after_name name 1 (meaning 1) (named 1) (word ∷ more) m is in let e = words.are in let same : words.budget ≡ word = cc in
+        (words.b, subst (λ w. IsNumber MOST_BUDGET w words.b) same words.first);
+  }
+
+  budget_broken : (words : List (List ℕ)) (bad : BadWords) → slice_get words 0 ≡ Some name → NumberStandsAt words 1 MOST_BUDGET (Err bad) → WordsMean words (Err bad)
+  budget_broken words bad h n = number_broken (name ∷ []) words MOST_BUDGET bad awaits_name (starts name words h) n
+
+  begin_budget_whole : (words : List (List ℕ)) (b : ℕ) → slice_get words 0 ≡ Some name → NumberStandsAt words 1 MOST_BUDGET (Ok b) → BeginWhole words 2 (meaning b)
+  begin_budget_whole words b h f =
+      let first = number_read (name ∷ []) words MOST_BUDGET b (starts name words h) f in
+      begin_whole (name ∷ first.word ∷ []) words (meaning b) first.on
+      (whole_budget name first.word b (meaning b) (named b) (command_of first.word b first.is))
+
+pub replay_broken : (words : List (List ℕ)) (bad : BadWords) → slice_get words 0 ≡ Some (codes "replay") → NumberStandsAt words 1 MOST_BUDGET (Err bad) →
+    WordsMean words (Err bad)
+replay_broken = budget_broken (codes "replay") (λ b. Replay b) (λ b. is_replay refl refl) replay
+
+pub exec_broken : (words : List (List ℕ)) (bad : BadWords) → slice_get words 0 ≡ Some (codes "exec") → NumberStandsAt words 1 MOST_BUDGET (Err bad) →
+    WordsMean words (Err bad)
+exec_broken = budget_broken (codes "exec") (λ b. Exec b) (λ b. is_exec refl refl) exec
+
 pub begin_replay_whole : (words : List (List ℕ)) (b : ℕ) → slice_get words 0 ≡ Some (codes "replay") → NumberStandsAt words 1 MOST_BUDGET (Ok b) →
     BeginWhole words 2 (Replay b)
-begin_replay_whole words b h f =
-    let first = number_read (codes "replay" ∷ []) words MOST_BUDGET b (starts (codes "replay") words h) f in
-    begin_whole (codes "replay" ∷ first.word ∷ []) words (Replay b) first.on (whole_replay first.word b first.is)
+begin_replay_whole = begin_budget_whole (codes "replay") (λ b. Replay b) (λ b. is_replay refl refl) replay
+
+pub begin_exec_whole : (words : List (List ℕ)) (b : ℕ) → slice_get words 0 ≡ Some (codes "exec") → NumberStandsAt words 1 MOST_BUDGET (Ok b) →
+    BeginWhole words 2 (Exec b)
+begin_exec_whole = begin_budget_whole (codes "exec") (λ b. Exec b) (λ b. is_exec refl refl) exec
 
 pub begin_check_whole : (words : List (List ℕ)) → slice_get words 0 ≡ Some (codes "check") → BeginWhole words 1 Check
 begin_check_whole words h = begin_whole (codes "check" ∷ []) words Check (starts (codes "check") words h) whole_check
@@ -178,14 +196,19 @@ pub record NamesNone (word : List ℕ) : Type 0 where
   pub not_check : word ≢ codes "check"
   pub not_list : word ≢ codes "list"
   pub not_replay : word ≢ codes "replay"
+  pub not_exec : word ≢ codes "exec"
 
 not_alone : (word : List ℕ) (meaning : Words) → NamesNone word → IsAlone word meaning → ⊥
 not_alone word meaning none (is_check e m) = none.not_check e
 not_alone word meaning none (is_list e m) = none.not_list e
 
+not_budgeted : (word : List ℕ) (b : ℕ) (meaning : Words) → NamesNone word → IsBudgeted word b meaning → ⊥
+not_budgeted word b meaning none (is_replay e m) = none.not_replay e
+not_budgeted word b meaning none (is_exec e m) = none.not_exec e
+
 no_command : (word : List ℕ) (rest : List (List ℕ)) (meaning : Words) → NamesNone word → Form (word ∷ rest) meaning → ⊥
 no_command word rest meaning none (a_run processors budget p b e f s m) = none.not_run cc
-no_command word rest meaning none (a_replay budget b e s m) = none.not_replay cc
+no_command word rest meaning none (a_budget name budget b e s is) = let same : name ≡ word = cc in not_budgeted word b meaning none (subst (λ w. IsBudgeted w b meaning) same is)
 no_command word rest meaning none (a_word name e is) = let same : name ≡ word = cc in not_alone word meaning none (subst (λ w. IsAlone w meaning) same is)
 
 unknown_given : (word : List ℕ) (rest : List (List ℕ)) → NamesNone word → WordsMean (word ∷ rest) (Err (Usage 1 Unknown))
@@ -194,7 +217,7 @@ unknown_given word rest none =
 
 no_words : (meaning : Words) → Form [] meaning → ⊥
 no_words meaning (a_run processors budget p b e f s m) = cc
-no_words meaning (a_replay budget b e s m) = cc
+no_words meaning (a_budget name budget b e s is) = cc
 no_words meaning (a_word name e is) = cc
 
 none_given : WordsMean [] (Err (Usage 1 Missing))

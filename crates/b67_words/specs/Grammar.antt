@@ -4,7 +4,7 @@ use Rattle.std.specs.Fmt.{decimal}
 use Rattle.b67_words.specs.declared.TheConstants.{MOST_BUDGET, MOST_PROCESSORS}
 use Rattle.b67_words.specs.declared.Words.{Words}
 use Rattle.b67_words.specs.declared.Words.TheVariants as commands
-use Rattle.b67_words.specs.declared.Words.TheVariants.{Run, Check, Replay}
+use Rattle.b67_words.specs.declared.Words.TheVariants.{Run, Check, Replay, Exec}
 use Rattle.b67_words.specs.declared.UsageKind.{UsageKind}
 use Rattle.b67_words.specs.declared.UsageKind.TheVariants.{Missing, Unknown, BadNumber, Extra}
 use Rattle.b67_words.specs.declared.BadWords.{BadWords}
@@ -23,6 +23,7 @@ pub data IsCommand : List (List ℕ) → Words → Type 0 where
   check : IsCommand (codes "check" ∷ []) Check
   list : IsCommand (codes "list" ∷ []) commands.List
   replay : (budget : List ℕ) (b : ℕ) → IsNumber MOST_BUDGET budget b → IsCommand (codes "replay" ∷ budget ∷ []) (Replay b)
+  exec : (budget : List ℕ) (b : ℕ) → IsNumber MOST_BUDGET budget b → IsCommand (codes "exec" ∷ budget ∷ []) (Exec b)
 
 -- some command begins with these words
 abbrev pub BeginCommand : List (List ℕ) → Type 0

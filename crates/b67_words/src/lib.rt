@@ -30,6 +30,8 @@ pub enum Words {
     /// `replay B`: run the source under the schedule of the input, with a budget of B operators, from 1 to
     /// [`MOST_BUDGET`].
     Replay { budget: u64 },
+    /// `exec B`: run the code that the input assembles to by turns, with a budget of B operators, from 1 to [`MOST_BUDGET`].
+    Exec { budget: u64 },
 }
 
 /// What is wrong with the first word that breaks the grammar.
@@ -75,6 +77,7 @@ pub fn read_words(words: &[String]) -> Result<Words, BadWords>
         "check" => whole(words, 1, Words::Check),
         "list" => whole(words, 1, Words::List),
         "replay" => read_replay(words),
+        "exec" => read_exec(words),
         _ => Err(BadWords::Usage {
             word: 1,
             kind: UsageKind::Unknown,
@@ -103,6 +106,15 @@ fn read_replay(words: &[String]) -> Result<Words, BadWords>
 {
     let budget = number_at(words, 1, MOST_BUDGET)?;
     whole(words, 2, Words::Replay { budget })
+}
+
+/// `exec B`, where the first word is `exec`.
+fn read_exec(words: &[String]) -> Result<Words, BadWords>
+    requires { slice_get (map string_bytes words.now) 0 ≡ Some (codes "exec") }
+    ensures { WordsMean (map string_bytes words.now) result }
+{
+    let budget = number_at(words, 1, MOST_BUDGET)?;
+    whole(words, 2, Words::Exec { budget })
 }
 
 /// The command that so many of the first words are, if no other word follows them.
