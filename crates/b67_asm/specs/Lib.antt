@@ -3,3 +3,4 @@ pub mod Rules
 pub mod Assembling
 pub mod Writable
 pub mod Steps
+pub mod Codes

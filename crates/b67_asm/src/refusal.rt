@@ -2,6 +2,7 @@
 
 ghost use Rattle.std.specs.Prelude.{◌≡◌};
 ghost use Rattle.b67_asm.specs.declared.refusal.NotAssembled.TheVariants.{Refused, NoMemory};
+ghost use Rattle.b67_asm.specs.Codes.{number_of};
 
 use std::alloc::{AllocError, AllocFailed};
 
@@ -23,6 +24,23 @@ pub enum Rule {
     NoSegment,
     /// It is a SEGMENT without operators.
     EmptySegment,
+}
+
+impl Rule {
+    /// The number of the rule. Of the rules that a line breaks the one with the lowest number is told.
+    pub fn number(self) -> u8
+        ensures { result ≡ number_of self }
+    {
+        match self {
+            Rule::BadLine => 1,
+            Rule::UnknownLabel => 2,
+            Rule::DoubleLabel => 3,
+            Rule::Range => 4,
+            Rule::SegmentTooLong => 5,
+            Rule::NoSegment => 6,
+            Rule::EmptySegment => 7,
+        }
+    }
 }
 
 /// The first line that breaks a rule, counted from 1, and the lowest rule that it breaks.
