@@ -1,20 +1,20 @@
 -- From what a part of the top call found to the answer.
-use Rattle.std.proofs.Common.{◌≡◌, ℕ, ◌<◌, ◌≤◌, List, length, Option, Some, Result, Ok, Err, refl, sym, subst}
+use Rattle.std.proofs.Common.{◌≡◌, ◌⊎◌, inl, inr, ℕ, ◌<◌, ◌≤◌, List, length, Option, Some, Result, Ok, Err, refl, sym, subst}
 use Rattle.std.specs.Prelude.{◌≢◌, IfSome, IfOk}
 use Rattle.std.specs.declared.alloc.AllocError.{AllocError}
 use Rattle.std.specs.Io.KnownBytes.{IsAtEnd}
 use Rattle.algol_tree.specs.declared.TheConstants.{MOST_SOURCE_BYTES}
 use Rattle.algol_tree.specs.declared.token.Spot.{Spot}
-use Rattle.algol_tree.specs.declared.refusal.Code.{Code as RefusalCode}
+use Rattle.algol_tree.specs.declared.refusal.Code.{Code as SourceCode}
 use Rattle.algol_tree.specs.Plain.{PProgram}
 use Rattle.algol_tree.specs.First.{Source, First}
 use Rattle.b67_fitting.specs.Built.{IsBuilt}
-use Rattle.algol_tree.specs.declared.refusal.Code.TheVariants as refusals
+use Rattle.algol_tree.specs.declared.refusal.Code.TheVariants.{Unbuilt}
 use Rattle.b67_io.specs.Faults.{Rose}
 use Rattle.b67_io.specs.Writing.{WroteFront}
 use Rattle.b67_io.specs.declared.writing.WriteAll.{WriteAll}
 use Rattle.b67_io.specs.declared.writing.WriteAll.TheVariants as writes
-use Rattle.b67_words.specs.Grammar.{WordsMean, run as run_command, check as check_command, list as list_command, replay as replay_command, meant}
+use Rattle.b67_words.specs.Grammar.{WordsMean, run as run_command, check as check_command, list as list_command, replay as replay_command, exec as exec_command, meant}
 use Rattle.b67_words.specs.declared.Words.{Words}
 use Rattle.b67_words.specs.declared.Words.TheVariants as commands
 use Rattle.b67_words.specs.declared.BadWords.{BadWords}
@@ -26,12 +26,13 @@ use Rattle.b67_listing.specs.Listings.{ListingText}
 use Rattle.b67_segment.specs.declared.code.Code.{Code}
 use Rattle.b67_faithful.specs.Faithful.{Faithful}
 use Rattle.b67_explain.specs.Explaining.{ExplainsRun, ExplainsReplay}
+use Rattle.b67_desk.specs.declared.status.Code.TheVariants.{OfSource}
 use Rattle.b67_desk.specs.declared.status.Status.{Status}
 use Rattle.b67_desk.specs.declared.status.Status.TheVariants as status
 use Rattle.b67_desk.specs.declared.desk.Answer.{Answer}
 use Rattle.b67_desk.specs.declared.desk.Unanswered.{Unanswered}
 use Rattle.b67_desk.specs.declared.desk.Unanswered.TheVariants as why
-use Rattle.b67_desk.specs.Answers.{usage_text, refused_text, bad_schedule_text, listing_text, at_start, Runs, ran, Lists, listed, IsBadSchedule, AreGiven, Replays, bad_schedule, replayed, SaysAccepted, IsBuiltFor, BuiltOr, unbuilt, built, AnswersBuilt, AnswersTree, IsRefusedAt, RefusedOr, refused, accepted, IsDivided, AnswersBytes, long_part, divided, most_bytes, AnswersSource, too_long, too_long_text, read, Reading, Untouched, Answers, usage, answered, Writing, HasAnswer, write_fault}
+use Rattle.b67_desk.specs.Answers.{usage_text, refused_text, bad_schedule_text, listing_text, at_start, Runs, ran, Lists, listed, IsBadSchedule, AreGiven, Replays, bad_schedule, replayed, SaysAccepted, IsBuiltFor, BuiltOr, unbuilt, built, AnswersBuilt, AnswersTree, IsRefusedAt, RefusedOr, refused, accepted, IsDivided, AnswersBytes, IsOfSource, AnswersInput, long_part, divided, most_bytes, AnswersSource, too_long, too_long_text, read, Reading, Untouched, Answers, usage, answered, Writing, HasAnswer, write_fault}
 use Rattle.b67_desk.specs.Calls.{InRange, SourceAnswered, CallAnswered, IsUsage, IsRefusal, IsReportAnswer, IsBadAt, IsTooLong}
 
 -- a report is the answer to a run, and to a replay
@@ -79,12 +80,12 @@ listed_is tree code lines text faithful are is = subst (λ (t : List ℕ). Lists
 
 -- a source that is not built for a command, and one that is
 module _ (command : Words) (tree : PProgram) (Its : List ℕ → Status → Type 0) where
-  unbuilt_is : (a : Answer) → (IsBuiltFor command tree → ⊥) → IsRefusal at_start refusals.Unbuilt a → BuiltOr command tree Its a.text.items a.status
+  unbuilt_is : (a : Answer) → (IsBuiltFor command tree → ⊥) → IsRefusal at_start (OfSource Unbuilt) a → BuiltOr command tree Its a.text.items a.status
   unbuilt_is a none is =
       subst (λ (t : List ℕ). BuiltOr command tree Its t a.status) (sym is.text)
-      (subst (λ (s : Status). BuiltOr command tree Its (refused_text at_start refusals.Unbuilt) s) (sym is.status) (unbuilt none))
+      (subst (λ (s : Status). BuiltOr command tree Its (refused_text at_start (OfSource Unbuilt)) s) (sym is.status) (unbuilt none))
 
-  pub unbuilt_answered : (result : Result Answer AllocError) → (IsBuiltFor command tree → ⊥) → IfOk result (IsRefusal at_start refusals.Unbuilt) →
+  pub unbuilt_answered : (result : Result Answer AllocError) → (IsBuiltFor command tree → ⊥) → IfOk result (IsRefusal at_start (OfSource Unbuilt)) →
       IfOk result (λ a. BuiltOr command tree Its a.text.items a.status)
   unbuilt_answered (Ok a) none is = unbuilt_is a none is
   unbuilt_answered (Err e) none is = is
@@ -100,12 +101,13 @@ for_one (commands.Run processors budget) tree other is = is
 for_one commands.Check tree other is = absurd (other refl)
 for_one commands.List tree other is = is
 for_one (commands.Replay budget) tree other is = is
+for_one (commands.Exec budget) tree other is = absurd is
 
 module _ (command : Words) (schedule : Option (List ℕ)) (input : ℕ) (tree : PProgram) (result : Result Answer AllocError) where
   Told : Words → Type 0
   Told w = IfOk result (λ a. AnswersTree w schedule input tree a.text.items a.status)
 
-  pub unbuilt_tree : command ≢ commands.Check → (IsBuilt tree → ⊥) → IfOk result (IsRefusal at_start refusals.Unbuilt) →
+  pub unbuilt_tree : command ≢ commands.Check → (IsBuilt tree → ⊥) → IfOk result (IsRefusal at_start (OfSource Unbuilt)) →
       IfOk result (λ a. AnswersTree command schedule input tree a.text.items a.status)
   unbuilt_tree other none is =
       unbuilt_answered command tree (AnswersBuilt command schedule input tree) result (λ fits. none (for_one command tree other fits)) is
@@ -133,13 +135,13 @@ module _ (command : Words) (schedule : Option (List ℕ)) (input : ℕ) (tree : 
 
 -- a text that is refused, and one that is accepted
 module _ (bytes : List ℕ) (Its : PProgram → List ℕ → Status → Type 0) where
-  refused_is : (place : Spot) (code : RefusalCode) (a : Answer) → IsRefusedAt bytes place code → IsRefusal place code a → RefusedOr bytes Its a.text.items a.status
+  refused_is : (place : Spot) (code : SourceCode) (a : Answer) → IsRefusedAt bytes place code → IsRefusal place (OfSource code) a → RefusedOr bytes Its a.text.items a.status
   refused_is place code a at is =
       subst (λ (t : List ℕ). RefusedOr bytes Its t a.status) (sym is.text)
-      (subst (λ (s : Status). RefusedOr bytes Its (refused_text place code) s) (sym is.status) (refused place code at))
+      (subst (λ (s : Status). RefusedOr bytes Its (refused_text place (OfSource code)) s) (sym is.status) (refused place code at))
 
-  pub refused_answered : (place : Spot) (code : RefusalCode) (result : Result Answer AllocError) → First bytes place code → ((tree : PProgram) → Source bytes tree → ⊥) →
-      IfOk result (IsRefusal place code) → IfOk result (λ a. RefusedOr bytes Its a.text.items a.status)
+  pub refused_answered : (place : Spot) (code : SourceCode) (result : Result Answer AllocError) → First bytes place code → ((tree : PProgram) → Source bytes tree → ⊥) →
+      IfOk result (IsRefusal place (OfSource code)) → IfOk result (λ a. RefusedOr bytes Its a.text.items a.status)
   refused_answered place code (Ok a) first none is = refused_is place code a (record { first = first; none = none }) is
   refused_answered place code (Err e) first none is = is
 
@@ -153,6 +155,7 @@ in_range words command (meant ws meaning (run_command first second p b f s)) = (
 in_range words command (meant ws meaning check_command) = tt
 in_range words command (meant ws meaning list_command) = tt
 in_range words command (meant ws meaning (replay_command first b f)) = (f.least, f.greatest)
+in_range words command (meant ws meaning (exec_command first b f)) = (f.least, f.greatest)
 
 pub command_answered : (words : List (List ℕ)) (r : Reading) (command : Words) (result : Result Answer Unanswered) → WordsMean words (Ok command) →
     SourceAnswered command r result → CallAnswered words r result
@@ -171,9 +174,9 @@ pub not_written : (words : List (List ℕ)) (r : Reading) (w : Writing) (text : 
     HasAnswer words r w status.WriteFault
 not_written words r w text s (writes.Failed count) a front rose = write_fault text s count a front.0 front.1 rose
 
-pub read_is : (command : Words) (left left_after : Option (List ℕ)) (items bytes text : List ℕ) (s : Status) → bytes ≡ items → length items ≤ most_bytes command → IfSome left (λ all. items ≡ all) → IsAtEnd left_after → AnswersBytes command bytes text s →
+pub read_is : (command : Words) (left left_after : Option (List ℕ)) (items bytes text : List ℕ) (s : Status) → bytes ≡ items → length items ≤ most_bytes command → IfSome left (λ all. items ≡ all) → IsAtEnd left_after → AnswersInput command bytes text s →
     AnswersSource command left left_after text s
-read_is command left left_after items bytes text s is small all end a = read items text s small all end (subst (λ (b : List ℕ). AnswersBytes command b text s) is a)
+read_is command left left_after items bytes text s is small all end a = read items text s small all end (subst (λ (b : List ℕ). AnswersInput command b text s) is a)
 
 pub too_long_is : (command : Words) (most : ℕ) (left left_after : Option (List ℕ)) (a : Answer) → most ≡ most_bytes command → IfSome left (λ bytes. most < length bytes) → IsTooLong a →
     AnswersSource command left left_after a.text.items a.status
@@ -195,3 +198,21 @@ pub divided_is : (command : Words) (bytes source : List ℕ) (schedule : Option 
     IfOk result (λ a. AnswersBytes command bytes a.text.items a.status)
 divided_is command bytes source schedule (Ok a) parts small is = divided source schedule a.text.items a.status parts small is
 divided_is command bytes source schedule (Err e) parts small is = is
+
+-- the commands whose input is a source
+pub of_source : (command : Words) →
+    ((p : ℕ) × (b : ℕ) × (command ≡ commands.Run p b)) ⊎ ((command ≡ commands.Check) ⊎ ((command ≡ commands.List) ⊎ ((b : ℕ) × (command ≡ commands.Replay b)))) →
+    IsOfSource command
+of_source command (inl (p, b, is)) = subst IsOfSource (sym is) tt
+of_source command (inr (inl is)) = subst IsOfSource (sym is) tt
+of_source command (inr (inr (inl is))) = subst IsOfSource (sym is) tt
+of_source command (inr (inr (inr (b, is)))) = subst IsOfSource (sym is) tt
+
+-- the bytes of a source
+pub source_is : (command : Words) (bytes : List ℕ) (result : Result Answer AllocError) → IsOfSource command → IfOk result (λ a. AnswersBytes command bytes a.text.items a.status) →
+    IfOk result (λ a. AnswersInput command bytes a.text.items a.status)
+source_is (commands.Run processors budget) bytes result of is = is
+source_is commands.Check bytes result of is = is
+source_is commands.List bytes result of is = is
+source_is (commands.Replay budget) bytes result of is = is
+source_is (commands.Exec budget) bytes result of is = absurd of

@@ -4,14 +4,14 @@ use Rattle.std.specs.Fmt.{decimal}
 use Rattle.std.specs.Io.KnownBytes.{Appends, IsAtEnd}
 use Rattle.algol_tree.specs.declared.TheConstants.{MOST_SOURCE_BYTES}
 use Rattle.algol_tree.specs.declared.token.Spot.{Spot}
-use Rattle.algol_tree.specs.declared.refusal.Code.{Code as RefusalCode}
-use Rattle.algol_tree.specs.declared.refusal.Code.TheVariants as refusals
+use Rattle.algol_tree.specs.declared.refusal.Code.{Code as SourceCode}
+use Rattle.algol_tree.specs.declared.refusal.Code.TheVariants.{Unbuilt}
 use Rattle.algol_tree.specs.Codes.{rule_letter, rule_number}
 use Rattle.algol_tree.specs.Plain.{PProgram}
 use Rattle.algol_tree.specs.First.{Source, First}
 use Rattle.b67_io.specs.Faults.{Rose}
 use Rattle.b67_words.specs.declared.Words.{Words}
-use Rattle.b67_words.specs.declared.Words.TheVariants.{Run, Check, Replay}
+use Rattle.b67_words.specs.declared.Words.TheVariants.{Run, Check, Replay, Exec}
 use Rattle.b67_words.specs.declared.Words.TheVariants.{List as ListCode}
 use Rattle.b67_words.specs.declared.BadWords.TheVariants as bad
 use Rattle.b67_words.specs.declared.UsageKind.{UsageKind}
@@ -31,6 +31,15 @@ use Rattle.b67_fitting.specs.Built.{IsBuilt}
 use Rattle.b67_parts.specs.declared.TheConstants.{MOST_INPUT_BYTES}
 use Rattle.b67_parts.specs.Parts.{Parts}
 use Rattle.b67_explain.specs.Explaining.{ExplainsRun, ExplainsReplay}
+use Rattle.b67_asm.specs.declared.refusal.Refusal.{Refusal}
+use Rattle.b67_asm.specs.Codes.{number_of}
+use Rattle.b67_asm.specs.Assembling.{Assembles, IsRefusedText}
+use Rattle.b67_exec.specs.declared.Stopped.{Stopped}
+use Rattle.b67_exec.specs.declared.Stopped.TheVariants as stopped
+use Rattle.b67_exec.specs.Turns.{exec_run}
+use Rattle.b67_exec_report.specs.Texts.{exec_text}
+use Rattle.b67_desk.specs.declared.status.Code.{Code as RefusalCode}
+use Rattle.b67_desk.specs.declared.status.Code.TheVariants.{OfSource, OfText}
 use Rattle.b67_desk.specs.declared.status.Status.{Status}
 use Rattle.b67_desk.specs.declared.status.Status.TheVariants as status
 
@@ -48,7 +57,8 @@ usage_text word kind = line_text (codes "USAGE " ++ decimal word ++ codes " " ++
 
 -- the letter and the number of a refusal
 abbrev pub code_words : RefusalCode → List ℕ
-code_words code = rule_letter code ∷ decimal (rule_number code)
+code_words (OfSource code) = rule_letter code ∷ decimal (rule_number code)
+code_words (OfText rule) = codes "A" ++ decimal (number_of rule)
 
 abbrev pub refused_text : Spot → RefusalCode → List ℕ
 refused_text place code = line_text (codes "REFUSED " ++ code_words code ++ codes " " ++ decimal place.line ++ codes ":" ++ decimal place.column)
@@ -115,11 +125,13 @@ IsBuiltFor (Run processors budget) tree = IsBuilt tree
 IsBuiltFor Check tree = Unit {0}
 IsBuiltFor ListCode tree = IsBuilt tree
 IsBuiltFor (Replay budget) tree = IsBuilt tree
+IsBuiltFor (Exec budget) tree = ⊥
 
 -- What a source with this tree is answered by under that command: a refusal at 1:1 exactly where the tree is not built for it, else what
 -- answers a built one.
 pub data BuiltOr (command : Words) (tree : PProgram) (AnswersIt : List ℕ → Status → Type 0) : List ℕ → Status → Type 0 where
-  unbuilt : (IsBuiltFor command tree → ⊥) → BuiltOr command tree AnswersIt (refused_text at_start refusals.Unbuilt) (status.Refused at_start refusals.Unbuilt)
+  unbuilt : (IsBuiltFor command tree → ⊥) →
+      BuiltOr command tree AnswersIt (refused_text at_start (OfSource Unbuilt)) (status.Refused at_start (OfSource Unbuilt))
   built : (text : List ℕ) (s : Status) → IsBuiltFor command tree → AnswersIt text s → BuiltOr command tree AnswersIt text s
 
 -- what a source whose tree is built for that command is answered by, with the schedule text beside it and the bytes of both
@@ -128,6 +140,7 @@ AnswersBuilt (Run processors budget) schedule input tree = Runs processors budge
 AnswersBuilt Check schedule input tree = SaysAccepted
 AnswersBuilt ListCode schedule input tree = Lists tree
 AnswersBuilt (Replay budget) schedule input tree = Replays budget schedule input tree
+AnswersBuilt (Exec budget) schedule input tree = λ text s. ⊥
 
 -- what a source with this tree is answered by under that command
 abbrev pub AnswersTree : Words → Option (List ℕ) → ℕ → PProgram → List ℕ → Status → Type 0
@@ -139,13 +152,14 @@ pub record IsSourceOf (bytes : List ℕ) (tree : PProgram) : Type 0 where
   pub only : (other : PProgram) → Source bytes other → other ≡ tree
 
 -- The bytes are no source, and this is the first place that breaks a rule, and the rule.
-pub record IsRefusedAt (bytes : List ℕ) (place : Spot) (code : RefusalCode) : Type 0 where
+pub record IsRefusedAt (bytes : List ℕ) (place : Spot) (code : SourceCode) : Type 0 where
   pub first : First bytes place code
   pub none : (tree : PProgram) → Source bytes tree → ⊥
 
 -- What these bytes are answered by: a refusal exactly where they are no source, else what answers the source.
 pub data RefusedOr (bytes : List ℕ) (AnswersIts : PProgram → List ℕ → Status → Type 0) : List ℕ → Status → Type 0 where
-  refused : (place : Spot) (code : RefusalCode) → IsRefusedAt bytes place code → RefusedOr bytes AnswersIts (refused_text place code) (status.Refused place code)
+  refused : (place : Spot) (code : SourceCode) → IsRefusedAt bytes place code →
+      RefusedOr bytes AnswersIts (refused_text place (OfSource code)) (status.Refused place (OfSource code))
   accepted : (tree : PProgram) (text : List ℕ) (s : Status) → IsSourceOf bytes tree → AnswersIts tree text s → RefusedOr bytes AnswersIts text s
 
 -- the source in the bytes that are read, and the schedule text after it: under `replay` those of its two parts, else all is the source
@@ -160,6 +174,38 @@ pub data AnswersBytes (command : Words) (bytes : List ℕ) : List ℕ → Status
   divided : (source : List ℕ) (schedule : Option (List ℕ)) (text : List ℕ) (s : Status) → IsDivided command bytes source schedule →
       length source ≤ MOST_SOURCE_BYTES → RefusedOr source (AnswersTree command schedule (length bytes)) text s → AnswersBytes command bytes text s
 
+-- ---- a text of code
+
+-- the status under which a run by turns is told
+abbrev pub status_by : Stopped → Status
+status_by stopped.Finished = status.Finished
+status_by (stopped.Fault kind process) = status.Fault kind process
+status_by stopped.AllWaiting = status.AllWaiting
+status_by (stopped.Interrupt kind process) = status.Interrupt kind process
+status_by (stopped.StackLimit process words) = status.StackLimit process words
+status_by stopped.BudgetSpent = status.BudgetSpent
+
+-- the start of a line
+abbrev pub line_start : ℕ → Spot
+line_start line = record { line = line; column = 1 }
+
+-- `exec`: a refusal exactly where the text has no code, at the first line that breaks a rule; else the text of the run of its code by
+-- turns under that budget.
+pub data Execs (budget : ℕ) (bytes : List ℕ) : List ℕ → Status → Type 0 where
+  unassembled : (refusal : Refusal) → IsRefusedText bytes refusal →
+      Execs budget bytes (refused_text (line_start refusal.line) (OfText refusal.rule)) (status.Refused (line_start refusal.line) (OfText refusal.rule))
+  executed : (code : Code) → Assembles bytes code → Execs budget bytes (exec_text code budget) (status_by (exec_run code budget).why)
+
+-- the commands whose input is a source
+abbrev pub IsOfSource : Words → Type 0
+IsOfSource (Exec budget) = ⊥
+IsOfSource command = Unit {0}
+
+-- what the bytes that are read under a command are answered by
+abbrev pub AnswersInput : Words → List ℕ → List ℕ → Status → Type 0
+AnswersInput (Exec budget) bytes = Execs budget bytes
+AnswersInput command bytes = AnswersBytes command bytes
+
 -- how many bytes are read under that command
 abbrev pub most_bytes : Words → ℕ
 most_bytes (Replay budget) = MOST_INPUT_BYTES
@@ -170,7 +216,7 @@ most_bytes _ = MOST_SOURCE_BYTES
 pub data AnswersSource (command : Words) (left left_after : Option (List ℕ)) : List ℕ → Status → Type 0 where
   too_long : IfSome left (λ bytes. most_bytes command < length bytes) → AnswersSource command left left_after too_long_text status.TooLong
   read : (bytes text : List ℕ) (s : Status) → length bytes ≤ most_bytes command → IfSome left (λ all. bytes ≡ all) → IsAtEnd left_after →
-      AnswersBytes command bytes text s → AnswersSource command left left_after text s
+      AnswersInput command bytes text s → AnswersSource command left left_after text s
 
 -- ---- a call
 

@@ -6,16 +6,16 @@ use Rattle.b67_desk.specs.declared.desk.Unanswered.{Unanswered}
 use Rattle.b67_desk.specs.declared.desk.Unanswered.TheVariants as why
 use Rattle.b67_words.specs.declared.TheConstants.{MOST_BUDGET}
 use Rattle.b67_words.specs.declared.Words.{Words}
-use Rattle.b67_words.specs.declared.Words.TheVariants.{Run, Check, Replay}
+use Rattle.b67_words.specs.declared.Words.TheVariants.{Run, Check, Replay, Exec}
 use Rattle.b67_words.specs.declared.Words.TheVariants.{List as ListCode}
 use Rattle.b67_words.specs.declared.BadWords.{BadWords}
 use Rattle.b67_words.specs.declared.BadWords.TheVariants as broken
 use Rattle.b67_words.specs.declared.UsageKind.{UsageKind}
+use Rattle.b67_desk.specs.declared.status.Code.{Code as RefusalCode}
 use Rattle.b67_desk.specs.declared.status.Status.TheVariants as statuses
 use Rattle.b67_report.specs.declared.Report.{Report}
 use Rattle.b67_report.specs.Texts.{ReportText}
 use Rattle.algol_tree.specs.declared.token.Spot.{Spot}
-use Rattle.algol_tree.specs.declared.refusal.Code.{Code as RefusalCode}
 use Rattle.b67_desk.specs.Answers.{usage_text, refused_text, too_long_text, bad_schedule_text, status_of, AnswersSource, Answers, Reading, Unreadable}
 
 -- the source is answered, or it failed, or memory ran out
@@ -36,7 +36,7 @@ IsUsage bad (Ok a) = (word : ℕ) × (kind : UsageKind) × (bad ≡ broken.Usage
 IsUsage bad (Err why.ReadFault) = ⊥
 IsUsage bad (Err why.NoMemory) = Unit {0}
 
--- the refusal of a source at a place
+-- the refusal of a text at a place
 pub record IsRefusal (place : Spot) (code : RefusalCode) (a : Answer) : Type 0 where
   pub text : a.text.items ≡ refused_text place code
   pub status : a.status ≡ statuses.Refused place code
@@ -47,6 +47,7 @@ InRange (Run processors budget) = (1 ≤ processors) × (1 ≤ budget) × (budge
 InRange Check = Unit {0}
 InRange ListCode = Unit {0}
 InRange (Replay budget) = (1 ≤ budget) × (budget ≤ MOST_BUDGET)
+InRange (Exec budget) = (1 ≤ budget) × (budget ≤ MOST_BUDGET)
 
 -- the refusal of a text that is too long
 pub record IsTooLong (a : Answer) : Type 0 where

@@ -3,7 +3,7 @@ use Rattle.std.specs.Prelude.{ℕ}
 use Rattle.b67_desk.specs.declared.status.Status.{Status}
 use Rattle.b67_desk.specs.declared.status.Status.TheVariants as status
 
--- the place of the variant, from 0
+-- one for each way to end
 abbrev pub exit_status : Status → ℕ
 exit_status status.Finished = 0
 exit_status (status.Refused place code) = 1
@@ -19,3 +19,4 @@ exit_status status.TooLong = 10
 exit_status (status.Illegal entry) = 11
 exit_status status.ScheduleEnded = 12
 exit_status (status.BadSchedule byte) = 13
+exit_status (status.Interrupt kind process) = 15

@@ -1,12 +1,13 @@
 //! The top call.
 
-ghost use Rattle.std.specs.Prelude.{◌≡◌, IfOk, map, string_bytes, option_copied};
-ghost use Rattle.b67_desk.specs.Answers.{AnswersBytes, HasAnswer, IsDivided, most_bytes};
+ghost use Rattle.std.specs.Prelude.{◌≡◌, ◌≤◌, IfOk, length, map, string_bytes, option_copied};
+ghost use Rattle.b67_desk.specs.Answers.{AnswersBytes, AnswersInput, HasAnswer, IsDivided, IsOfSource, most_bytes};
 ghost use Rattle.b67_desk.specs.Calls.{InRange, SourceAnswered, CallAnswered, IsTooLong, IsUsage};
 
-use crate::status::Status;
+use crate::exec::answer_exec;
+use crate::status::{Code, Status};
 use crate::texts::{too_long_line, usage_line};
-use crate::tree::{answer_tree, refuse_source};
+use crate::tree::{answer_tree, refuse};
 use algol_front::front;
 use algol_tree::{MOST_SOURCE_BYTES, Refusal};
 use b67_io::{ReadAll, Sink, Source, WriteAll, read_all, write_all};
@@ -34,7 +35,7 @@ fn divided(command: Words, bytes: &[u8]) -> (&[u8], Option<&[u8]>)
 {
     match command {
         Words::Replay { .. } => parts(bytes),
-        Words::Run { .. } | Words::Check | Words::List => (bytes, None),
+        Words::Run { .. } | Words::Check | Words::List | Words::Exec { .. } => (bytes, None),
     }
 }
 
@@ -48,9 +49,10 @@ fn refuse_length(alloc: Global) -> Result<Answer, AllocError>
     })
 }
 
-/// The answer to the bytes that were read under a command.
+/// The answer to the bytes of a source that were read under a command.
 fn answer_bytes(alloc: Global, command: Words, bytes: &[u8]) -> Result<Answer, AllocError>
-    requires { InRange command }
+    requires range { InRange command }
+    requires source { IsOfSource command }
     ensures { IfOk result (λ answer. AnswersBytes command bytes.now answer.text.items answer.status) }
 {
     let (source, schedule) = divided(command, bytes);
@@ -59,8 +61,22 @@ fn answer_bytes(alloc: Global, command: Words, bytes: &[u8]) -> Result<Answer, A
     }
     match front(alloc, source) {
         Ok(checked) => answer_tree(alloc, command, schedule, bytes.len(), &checked),
-        Err(Refusal::At { spot, code }) => refuse_source(alloc, spot, code),
+        Err(Refusal::At { spot, code }) => refuse(alloc, spot, Code::OfSource(code)),
         Err(Refusal::NoMemory) => Err(AllocError),
+    }
+}
+
+/// The answer to the bytes that were read under a command.
+fn answer_input(alloc: Global, command: Words, bytes: &[u8]) -> Result<Answer, AllocError>
+    requires range { InRange command }
+    requires few { length bytes.now ≤ most_bytes command }
+    ensures { IfOk result (λ answer. AnswersInput command bytes.now answer.text.items answer.status) }
+{
+    match command {
+        Words::Exec { budget } => answer_exec(alloc, budget, bytes),
+        Words::Run { .. } | Words::Check | Words::List | Words::Replay { .. } => {
+            answer_bytes(alloc, command, bytes)
+        }
     }
 }
 
@@ -70,7 +86,7 @@ fn most_bytes(command: Words) -> usize
 {
     match command {
         Words::Replay { .. } => MOST_INPUT_BYTES,
-        Words::Run { .. } | Words::Check | Words::List => MOST_SOURCE_BYTES,
+        Words::Run { .. } | Words::Check | Words::List | Words::Exec { .. } => MOST_SOURCE_BYTES,
     }
 }
 
@@ -89,7 +105,7 @@ fn answer_source<S: Source>(
     }) result }
 {
     match read_all(alloc, source, most_bytes(command)) {
-        Ok(bytes) => match answer_bytes(alloc, command, bytes.as_slice()) {
+        Ok(bytes) => match answer_input(alloc, command, bytes.as_slice()) {
             Ok(answer) => Ok(answer),
             Err(_) => Err(Unanswered::NoMemory),
         },
@@ -147,16 +163,17 @@ fn answer_call<S: Source>(
 /// The top call: reads the words of a command and a source, does what they ask for in the caller as processor 1, and
 /// writes the answer.
 ///
-/// `words` are the words after the program's name; today the commands are `run 1 B` and `replay B` with a budget B of 1 to
+/// `words` are the words after the program's name; today the commands are `run 1 B`, `replay B` and `exec B` with a budget B of 1 to
 /// [`MOST_BUDGET`](b67_words::MOST_BUDGET) operators, `check`, and `list`. `source` gives the bytes of an ALGOL source, at most
 /// [`MOST_SOURCE_BYTES`] of them, and is read to its end. Under `replay` it gives at most [`MOST_INPUT_BYTES`]: after the source a
-/// record that is exactly `%%SCHEDULE`, and after that the text of the schedule to be followed. `sink` gets the answer whole: the
-/// report of the run, the listing of the code, the word ACCEPTED, or one line of refusal. It returns on every input.
+/// record that is exactly `%%SCHEDULE`, and after that the text of the schedule to be followed. Under `exec` it gives a text of code
+/// in place of a source. `sink` gets the answer whole: the report of the run, the listing of the code, the word ACCEPTED, what a
+/// run by turns says, or one line of refusal. It returns on every input.
 ///
 /// The first of these that holds is the answer. `Usage` comes exactly where the words break the grammar, names the first word
 /// that does, and nothing is read. `ReadFault` comes only where the source's count of faults rose, and nothing is written.
 /// `TooLong` comes exactly where there are too many bytes, or too many of the source part. `Refused` comes exactly where the
-/// source is not accepted, with the first place that breaks a rule and the rule's code, and on all commands but `check` also
+/// source is not accepted, with the first place that breaks a rule and the rule's code, and on `run`, `list` and `replay` also
 /// exactly where it is one that is not built, at 1:1 with `Unbuilt`: all are built that declare only simple variables, files,
 /// arrays and procedures whose parameters are simple and by value, or arrays, in whatever block, and start no process.
 /// `BadSchedule` comes on `replay` exactly where there is no such record, at the length of the input, or where the schedule text
@@ -164,6 +181,10 @@ fn answer_call<S: Source>(
 /// `replay` are reported: `Finished`, `Fault` or `AllWaiting` where the run has that end, and on `replay` no entry is left;
 /// `BudgetSpent` where the operators came to the budget first, and `StackLimit` where a stack would have too many words; and on
 /// `replay` `Illegal` where the next entry can not be performed, and `ScheduleEnded` where none is left and the run goes on.
+/// On `exec` `Refused` comes exactly where the text has no code, at the start of the first line that breaks a rule, with the code of the
+/// lowest rule that it breaks. Else the run of its code by turns is told: `Finished`, `Fault` or `AllWaiting` where it comes to that end,
+/// `Interrupt` and `StackLimit` exactly where the next operator of the process whose turn it is comes to that, and `BudgetSpent` where as
+/// many operators were performed as the budget has, and nothing else stopped it.
 /// `WriteFault` comes only where the sink's count of faults rose, and what was written is a front of the answer. `NoMemory` may
 /// come instead of any of them, and then nothing is written.
 ///

@@ -2,10 +2,20 @@
 #![tactic(auto)]
 
 mod desk;
+mod exec;
 mod running;
 mod status;
 mod texts;
 mod tree;
 
+ghost use Rattle.std.specs.Prelude.{◌≡◌, ℕ, List};
+ghost use Rattle.b67_desk.specs.declared.status.Status.{Status};
+ghost use Rattle.b67_desk.specs.Answers.{Execs};
+
 pub use desk::desk_alone;
-pub use status::Status;
+pub use status::{Code, Status};
+
+/// Law: a text of code has one answer under a budget: what is printed, and the status.
+pub fn texts_of_code_have_one_answer()
+    ensures { (budget : ℕ) (bytes one other : List ℕ) (s t : Status) → Execs budget bytes one s → Execs budget bytes other t → (one ≡ other) × (s ≡ t) }
+{}

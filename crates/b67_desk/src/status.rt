@@ -3,17 +3,26 @@
 ghost use Rattle.std.specs.Prelude.{◌≡◌};
 ghost use Rattle.b67_desk.specs.Exits.{exit_status};
 
-use algol_tree::{Code as RefusalCode, Spot};
+use algol_tree::{Code as SourceCode, Spot};
+use b67_asm::Rule;
 use b67_num::FaultKind;
+use b67_table::InterruptKind;
 use b67_words::UsageKind;
 
-/// How a call of the desk ended. The exit status of the program is the variant's place, from 0.
+/// Why a text is refused: a source by a rule of its language, or a text of code by one of the assembler's.
+#[derive(Clone, Copy)]
+pub enum Code {
+    OfSource(SourceCode),
+    OfText(Rule),
+}
+
+/// How a call of the desk ended.
 #[derive(Clone, Copy)]
 pub enum Status {
     /// The run came to the end of process 1.
     Finished,
-    /// The source is refused: the place and the reason.
-    Refused { place: Spot, code: RefusalCode },
+    /// The source, or the text of code, is refused: the place and the reason.
+    Refused { place: Spot, code: Code },
     /// The words are no command: the first word that breaks the grammar, counted from 1, and what is wrong with it.
     Usage { word: u32, kind: UsageKind },
     /// A process came to a fault.
@@ -38,10 +47,12 @@ pub enum Status {
     ScheduleEnded,
     /// The schedule text is no schedule from this byte on.
     BadSchedule { byte: u64 },
+    /// The next operator of a process can not be performed.
+    Interrupt { kind: InterruptKind, process: u32 },
 }
 
 impl Status {
-    /// The exit status of the program: the variant's place, from 0.
+    /// The exit status of the program.
     pub fn exit_status(self) -> u8
         ensures { result ≡ exit_status self }
     {
@@ -60,6 +71,7 @@ impl Status {
             Status::Illegal { .. } => 11,
             Status::ScheduleEnded => 12,
             Status::BadSchedule { .. } => 13,
+            Status::Interrupt { .. } => 15,
         }
     }
 }

@@ -1,9 +1,10 @@
 //! The lines of the answers that are no report.
 
-ghost use Rattle.std.specs.Prelude.{◌≡◌, IfOk};
-ghost use Rattle.b67_desk.specs.Answers.{usage_words, usage_text, refused_text, accepted_text, too_long_text, bad_schedule_text, listing_text};
+ghost use Rattle.std.specs.Prelude.{◌≡◌, ◌++◌, IfOk, OnOk};
+ghost use Rattle.b67_desk.specs.Answers.{usage_words, usage_text, code_words, refused_text, accepted_text, too_long_text, bad_schedule_text, listing_text};
 
-use algol_tree::{Code as RefusalCode, Spot, rule_letter, rule_number};
+use crate::status::Code;
+use algol_tree::{Spot, rule_letter, rule_number};
 use b67_list::{Line, List, push_number};
 use b67_report::push_lines;
 use b67_words::UsageKind;
@@ -34,12 +35,22 @@ pub fn usage_line(alloc: Global, word: u32, kind: UsageKind) -> Result<Vec<u8>, 
     Ok(text)
 }
 
-/// The line of a source that is refused at a place.
-pub fn refused_line(alloc: Global, place: Spot, code: RefusalCode) -> Result<Vec<u8>, AllocError>
+/// Appends the letter and the number of a refusal.
+fn push_code(text: &mut Vec<u8>, code: Code) -> Result<(), AllocError>
+    ensures { OnOk result (text.new.items ≡ text.old.items ++ code_words code) }
+{
+    match code {
+        Code::OfSource(code) => push_number(text, &[rule_letter(code)], rule_number(code)),
+        Code::OfText(rule) => push_number(text, b"A", rule.number()),
+    }
+}
+
+/// The line of a text that is refused at a place.
+pub fn refused_line(alloc: Global, place: Spot, code: Code) -> Result<Vec<u8>, AllocError>
     ensures { IfOk result (λ text. text.items ≡ refused_text place code) }
 {
     let mut text = Vec::from_slice(alloc, b"REFUSED ")?;
-    push_number(&mut text, &[rule_letter(code)], rule_number(code))?;
+    push_code(&mut text, code)?;
     push_number(&mut text, b" ", place.line)?;
     push_number(&mut text, b":", place.column)?;
     text.extend_from_slice(b"\n")?;

@@ -4,15 +4,15 @@ ghost use Rattle.std.specs.Prelude.{◌≡◌, ◌≤◌, IfOk, option_copied};
 ghost use Rattle.algol_tree.specs.Image.{program as plain};
 ghost use Rattle.b67_words.specs.declared.TheConstants.{MOST_BUDGET};
 ghost use Rattle.b67_fitting.specs.Built.{IsBuilt};
-ghost use Rattle.b67_desk.specs.Answers.{AnswersTree, SaysAccepted, Runs, Lists, Replays, status_of};
+ghost use Rattle.b67_desk.specs.Answers.{AnswersTree, IsOfSource, SaysAccepted, Runs, Lists, Replays, status_of};
 ghost use Rattle.b67_desk.specs.Calls.{InRange, IsRefusal, IsBadAt, IsReportAnswer};
 
 use crate::desk::Answer;
 use crate::running::{replay_report, run_report};
-use crate::status::Status;
+use crate::status::{Code, Status};
 use crate::texts::{accepted_line, bad_schedule_line, listing_lines, refused_line};
 use algol_front::Checked;
-use algol_tree::{Code as RefusalCode, Spot};
+use algol_tree::{Code as SourceCode, Spot};
 use b67_compile::{compile, is_built};
 use b67_listing::listing;
 use b67_report::{EndWords, Report, text as report_text};
@@ -35,8 +35,8 @@ fn status_of(end: EndWords) -> Status
     }
 }
 
-/// The refusal of a source at a place.
-pub fn refuse_source(alloc: Global, place: Spot, code: RefusalCode) -> Result<Answer, AllocError>
+/// The refusal of a text at a place.
+pub fn refuse(alloc: Global, place: Spot, code: Code) -> Result<Answer, AllocError>
     ensures { IfOk result (IsRefusal place code) }
 {
     Ok(Answer {
@@ -138,6 +138,7 @@ pub fn answer_tree(
     checked: &Checked,
 ) -> Result<Answer, AllocError>
     requires range { InRange command }
+    requires source { IsOfSource command }
     ensures { IfOk result (λ answer. AnswersTree command (option_copied schedule.entry) input (plain checked.now.program) answer.text.items answer.status) }
 {
     if let Words::Check = command {
@@ -145,12 +146,13 @@ pub fn answer_tree(
     }
     if !is_built(&checked.program) {
         let start = Spot { line: 1, column: 1 };
-        return refuse_source(alloc, start, RefusalCode::Unbuilt);
+        return refuse(alloc, start, Code::OfSource(SourceCode::Unbuilt));
     }
     match command {
         Words::Run { processors, budget } => answer_run(alloc, processors, budget, checked),
         Words::Check => accept_source(alloc),
         Words::List => answer_list(alloc, checked),
         Words::Replay { budget } => answer_replay(alloc, budget, schedule, input, checked),
+        Words::Exec { .. } => unreachable!(),
     }
 }

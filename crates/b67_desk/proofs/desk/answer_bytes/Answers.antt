@@ -27,7 +27,7 @@ returns-in-Err-At c =
     let source = c.divided.result.0.now in
     let schedule = option_copied c.divided.result.1 in
     let small : length source ≤ MOST_SOURCE_BYTES = omega (arith, c.if-source-gt-MOST_SOURCE_BYTES.false) in
-    divided_is c.args.command bytes source schedule c.refuse_source.result c.divided.ensures small
-    (refused_answered source (AnswersTree c.args.command schedule (length bytes)) c.in-Err-At.spot c.in-Err-At.code c.refuse_source.result
+    divided_is c.args.command bytes source schedule c.refuse.result c.divided.ensures small
+    (refused_answered source (AnswersTree c.args.command schedule (length bytes)) c.in-Err-At.spot c.in-Err-At.code c.refuse.result
     (rw c.in-Err-At.field-0-is at c.in-Err-At.ensures.refused) (rw c.in-Err-At.field-0-is at c.in-Err-At.ensures.none)
-    (rw (c.in-Err-At.spot-is, c.in-Err-At.code-is) at c.refuse_source.ensures))
+    (rw (c.in-Err-At.spot-is, c.in-Err-At.code-is) at c.refuse.ensures))

@@ -11,9 +11,9 @@ returns-in-Check c =
 
 pub returns-then-not-is_built : goal.returns-then-not-is_built
 returns-then-not-is_built c =
-    unbuilt_tree c.args.command (option_copied c.args.schedule) c.args.input (plain c.args.checked.now.program) c.refuse_source.result c.in_default.not-Check
+    unbuilt_tree c.args.command (option_copied c.args.schedule) c.args.input (plain c.args.checked.now.program) c.refuse.result c.in_default.not-Check
     (λ (fits : IsBuilt (plain c.args.checked.now.program)). let both : true ≡ false = sym (c.is_built.ensures.1 fits) ∙ c.if-not-is_built.true in cc)
-    c.refuse_source.ensures
+    c.refuse.ensures
 
 pub returns-in-Run : goal.returns-in-Run
 returns-in-Run c =
