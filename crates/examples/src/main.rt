@@ -1,7 +1,8 @@
 //! Answers the examples and the cases of sheets by the top call, and compares each answer with what is expected.
 //!
 //! The folder that it runs in has them. The file `examples` has a line for each example NAME: beside its source `NAME.alg`
-//! stands its report `NAME.report`, that of `run 1 100000`. The file `sheets` has a line for each sheet of cases, of which
+//! stands its report `NAME.report`, that of `run 1 100000`. The file `codes` has a line for each text of code NAME: beside
+//! `NAME.asm` stands in `NAME.report` what `exec 1000` prints of it. The file `sheets` has a line for each sheet of cases, of which
 //! `case_sheet` tells the form. The setting of a case may say `read N fails` or `write N fails`, where the calls are counted
 //! from 0, or `room N`, the number of bytes for which the sink has room. Each source is read at most 7 bytes at a time.
 //!
@@ -20,6 +21,9 @@ use std::{fs, io};
 /// The words under which the examples have their reports.
 const EXAMPLE: &str = "==== example: run 1 100000\n---- 0\n";
 
+/// The words under which the texts of code are run.
+const CODE: &str = "==== code: exec 1000\n---- 0\n";
+
 /// Prints whether an answer is the expected one, and the answer where it is another.
 fn say(rt: &HostRuntime, name: &str, is_met: bool, told: &Told) -> io::Result<()> {
     if is_met {
@@ -32,9 +36,9 @@ fn say(rt: &HostRuntime, name: &str, is_met: bool, told: &Told) -> io::Result<()
     Ok(())
 }
 
-/// Answers an example.
-fn tell_example(rt: &HostRuntime, words: &[String], name: &str) -> io::Result<()> {
-    let source = fs::read(rt, format!(in rt.alloc(); "{name}.alg")?)?;
+/// Answers an example, whose text stands in the file of this ending.
+fn tell_example(rt: &HostRuntime, words: &[String], name: &str, ending: &str) -> io::Result<()> {
+    let source = fs::read(rt, format!(in rt.alloc(); "{name}.{ending}")?)?;
     let report = fs::read(rt, format!(in rt.alloc(); "{name}.report")?)?;
     let told = answered(rt.alloc(), words, source, Outside::whole(rt.alloc()))?;
     let is_met = told.bytes.as_slice() == report.as_slice();
@@ -51,13 +55,13 @@ fn tell_case(rt: &HostRuntime, sheet: &str, case: &Case) -> io::Result<()> {
     say(rt, name.as_str(), is_met, &told)
 }
 
-/// Answers the examples.
-fn tell_examples(rt: &HostRuntime) -> io::Result<()> {
-    let names = fs::read_to_string(rt, "examples")?;
-    let cases = cases_of(rt.alloc(), EXAMPLE)?;
+/// Answers the examples that this file names, under the words of a case without an input.
+fn tell_examples(rt: &HostRuntime, file: &str, call: &str, ending: &str) -> io::Result<()> {
+    let names = fs::read_to_string(rt, file)?;
+    let cases = cases_of(rt.alloc(), call)?;
     for case in &cases {
         for name in names.lines() {
-            tell_example(rt, case.words.as_slice(), name)?;
+            tell_example(rt, case.words.as_slice(), name, ending)?;
         }
     }
     Ok(())
@@ -77,6 +81,7 @@ fn tell_sheets(rt: &HostRuntime) -> io::Result<()> {
 }
 
 fn main(rt: HostRuntime) -> io::Result<()> {
-    tell_examples(&rt)?;
+    tell_examples(&rt, "examples", EXAMPLE, "alg")?;
+    tell_examples(&rt, "codes", CODE, "asm")?;
     tell_sheets(&rt)
 }
