@@ -1,10 +1,11 @@
 //! Answers the examples and the cases of sheets by the top call, and compares each answer with what is expected.
 //!
-//! The folder that it runs in has them. The file `examples` has a line for each example NAME: beside its source `NAME.alg`
-//! stands its report `NAME.report`, that of `run 1 100000`. The file `codes` has a line for each text of code NAME: beside
-//! `NAME.asm` stands in `NAME.report` what `exec 1000` prints of it. The file `sheets` has a line for each sheet of cases, of which
-//! `case_sheet` tells the form. The setting of a case may say `read N fails` or `write N fails`, where the calls are counted
-//! from 0, or `room N`, the number of bytes for which the sink has room. Each source is read at most 7 bytes at a time.
+//! The folder that it runs in has them. The file `examples` has a line for each example: its name NAME, and its exit status where
+//! that is not 0. Beside its source `NAME.alg` stands its report `NAME.report`, that of `run 1 100000`. The file `codes` has the same
+//! for each text of code: beside `NAME.asm` stands in `NAME.report` what `exec 1000` prints of it. The file `sheets` has a line for
+//! each sheet of cases, of which `case_sheet` tells the form. The setting of a case may say `read N fails` or `write N fails`, where
+//! the calls are counted from 0, or `room N`, the number of bytes for which the sink has room. Each source is read at most 7 bytes at
+//! a time.
 //!
 //! These cases are the tests of `b67_desk` and, through it, of what it calls: the front end, the compiler, the listing, the
 //! machine from its first image to its end, the schedules and the reports.
@@ -36,12 +37,21 @@ fn say(rt: &HostRuntime, name: &str, is_met: bool, told: &Told) -> io::Result<()
     Ok(())
 }
 
+/// The name of an example and its exit status, which is 0 where none stands after the name.
+fn headed(line: &str) -> (&str, Option<u8>) {
+    match line.split_once(' ') {
+        Some((name, status)) => (name, status.parse().ok()),
+        None => (line, Some(0)),
+    }
+}
+
 /// Answers an example, whose text stands in the file of this ending.
-fn tell_example(rt: &HostRuntime, words: &[String], name: &str, ending: &str) -> io::Result<()> {
+fn tell_example(rt: &HostRuntime, words: &[String], line: &str, ending: &str) -> io::Result<()> {
+    let (name, status) = headed(line);
     let source = fs::read(rt, format!(in rt.alloc(); "{name}.{ending}")?)?;
     let report = fs::read(rt, format!(in rt.alloc(); "{name}.report")?)?;
     let told = answered(rt.alloc(), words, source, Outside::whole(rt.alloc()))?;
-    let is_met = told.bytes.as_slice() == report.as_slice();
+    let is_met = told.bytes.as_slice() == report.as_slice() && status == Some(told.status);
     say(rt, name, is_met, &told)
 }
 
@@ -60,8 +70,8 @@ fn tell_examples(rt: &HostRuntime, file: &str, call: &str, ending: &str) -> io::
     let names = fs::read_to_string(rt, file)?;
     let cases = cases_of(rt.alloc(), call)?;
     for case in &cases {
-        for name in names.lines() {
-            tell_example(rt, case.words.as_slice(), name, ending)?;
+        for line in names.lines() {
+            tell_example(rt, case.words.as_slice(), line, ending)?;
         }
     }
     Ok(())
