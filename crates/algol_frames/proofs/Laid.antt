@@ -14,7 +14,7 @@ use Rattle.algol_frames.specs.declared.found.Content.TheVariants as content
 use Rattle.algol_frames.specs.declared.found.Use.{Use}
 use Rattle.algol_frames.specs.declared.scopes.Couple.{Couple}
 use Rattle.algol_frames.specs.declared.scopes.Scopes.{Scopes}
-use Rattle.algol_frames.specs.Laying.{AreLaid, actual_from, declared_by, declared_from, framed_in, is_of, laid_in, levels_of, result_from}
+use Rattle.algol_frames.specs.Laying.{AreLaid, actual_from, declared_by, declared_from, framed_in, is_of, laid_in, levels_of, number_from, parameters_from, result_from}
 
 module _ (f g : ℕ → Spot → Option Couple) (same : (q : ℕ) (spot : Spot) → f q spot ≡ g q spot) where
   declared-alike : (us : List Use) (spot : Spot) → declared_from f us spot ≡ declared_from g us spot
@@ -44,12 +44,16 @@ pub laid : (blocks : List Block) (table : BTreeMap ℕ (Vec Cell Global)) (cells
     frames ≡ held → ((q : ℕ) (spot : Spot) → framed_in held q spot ≡ laid_in blocks table q spot) → (s : Scopes) →
     ((q : Spot) → get ghosts.cmp s.declared q ≡ declared_from (framed_in frames) uses q) →
     ((q : Spot) → get ghosts.cmp s.results q ≡ result_from (framed_in frames) 0 blocks q) →
-    ((q : Spot) → get ghosts.cmp s.actuals q ≡ actual_from (framed_in frames) cells q) → s.levels.items ≡ levels_of blocks → AreLaid blocks table cells uses s
-laid blocks table cells uses frames held f framed s declared results actuals levels =
+    ((q : Spot) → get ghosts.cmp s.actuals q ≡ actual_from (framed_in frames) cells q) → s.levels.items ≡ levels_of blocks →
+    ((q : Spot) → get ghosts.cmp s.parameters q ≡ parameters_from uses q) → ((q : Spot) → get ghosts.cmp s.numbers q ≡ number_from 0 blocks q) →
+    AreLaid blocks table cells uses s
+laid blocks table cells uses frames held f framed s declared results actuals levels parameters numbers =
     let there : (q : ℕ) (spot : Spot) → framed_in frames q spot ≡ laid_in blocks table q spot = λ q spot. ap (λ z. framed_in z q spot) f ∙ framed q spot in
     record {
       declarations = λ spot. declared spot ∙ declared-alike (framed_in frames) (laid_in blocks table) there uses spot;
       results = λ spot. results spot ∙ result-alike (framed_in frames) (laid_in blocks table) there 0 blocks spot;
       actuals = λ spot. actuals spot ∙ actual-alike (framed_in frames) (laid_in blocks table) there cells spot;
       levels = levels;
+      parameters = parameters;
+      numbers = numbers;
     }

@@ -1,8 +1,9 @@
 -- What the scopes answer.
-use Rattle.std.specs.Prelude.{ℕ, Option, slice_get}
+use Rattle.std.specs.Prelude.{ℕ, List, Option, slice_get}
 use Rattle.std.specs.BTreeMap.{get}
 use Rattle.algol_tree.specs.declared.token.Spot.{Spot}
 use Rattle.algol_tree.specs.contracts.token.SpotOrd.TheImpl.{ghosts}
+use Rattle.algol_sorts.specs.declared.sort.Sort.{Sort}
 use Rattle.algol_frames.specs.declared.scopes.Couple.{Couple}
 use Rattle.algol_frames.specs.declared.scopes.Declared.{Declared}
 use Rattle.algol_frames.specs.declared.scopes.Scopes.{Scopes}
@@ -18,3 +19,9 @@ result_of s spot = get ghosts.cmp s.results spot
 
 abbrev pub level_in : Scopes → ℕ → Option ℕ
 level_in s block = slice_get s.levels.items block
+
+abbrev pub parameters_of : Scopes → Spot → Option (List Sort)
+parameters_of s spot = get ghosts.cmp s.parameters spot
+
+abbrev pub number_of : Scopes → Spot → Option ℕ
+number_of s spot = get ghosts.cmp s.numbers spot

@@ -7,6 +7,7 @@ use Rattle.std.specs.BTreeMap.{BTreeMap, get}
 use Rattle.algol_tree.specs.declared.token.Spot.{Spot}
 use Rattle.algol_tree.specs.contracts.token.SpotOrd.TheImpl.{ghosts}
 use Rattle.algol_tree.specs.Blocks.{same_spot}
+use Rattle.algol_sorts.specs.declared.sort.Sort.{Sort}
 use Rattle.algol_frames.specs.declared.found.Cell.{Cell}
 use Rattle.algol_frames.specs.declared.found.Content.{Content}
 use Rattle.algol_frames.specs.declared.found.Content.TheVariants as content
@@ -16,7 +17,7 @@ use Rattle.algol_frames.specs.declared.scopes.Couple.{Couple}
 use Rattle.algol_frames.specs.declared.scopes.Declared.{Declared}
 use Rattle.algol_frames.specs.declared.scopes.Scopes.{Scopes}
 use Rattle.algol_frames.specs.Framing.{cells_in}
-use Rattle.algol_frames.specs.Answers.{declaration_of, actual_of, result_of}
+use Rattle.algol_frames.specs.Answers.{declaration_of, actual_of, number_of, parameters_of, result_of}
 
 -- ---- the cells of a block in the order in which they lie
 
@@ -90,6 +91,16 @@ abbrev pub result_from : (ℕ → Spot → Option Couple) → ℕ → List Block
 result_from there n [] spot = None
 result_from there n (b ∷ bs) spot = option_or (if same_spot b.spot spot then there n b.spot else None) (result_from there (n + 1) bs spot)
 
+-- what is told of the parameters of the procedure that is declared there
+abbrev pub parameters_from : List Use → Spot → Option (List Sort)
+parameters_from [] spot = None
+parameters_from (u ∷ us) spot = option_or (if same_spot u.spot spot then u.parameters else None) (parameters_from us spot)
+
+-- the blocks have the numbers from n on
+abbrev pub number_from : ℕ → List Block → Spot → Option ℕ
+number_from n [] spot = None
+number_from n (b ∷ bs) spot = option_or (if same_spot b.spot spot then Some n else None) (number_from (n + 1) bs spot)
+
 abbrev pub levels_of : List Block → List ℕ
 levels_of blocks = map (λ (b : Block). b.level) blocks
 
@@ -99,3 +110,5 @@ pub record AreLaid (blocks : List Block) (table : BTreeMap ℕ (Vec Cell Global)
   pub results : (spot : Spot) → result_of s spot ≡ result_from (laid_in blocks table) 0 blocks spot
   pub actuals : (spot : Spot) → actual_of s spot ≡ actual_from (laid_in blocks table) cells spot
   pub levels : s.levels.items ≡ levels_of blocks
+  pub parameters : (spot : Spot) → parameters_of s spot ≡ parameters_from uses spot
+  pub numbers : (spot : Spot) → number_of s spot ≡ number_from 0 blocks spot

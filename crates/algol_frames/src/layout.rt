@@ -7,12 +7,13 @@ ghost use Rattle.algol_tree.specs.declared.TheConstants.{MOST_BLOCK_CELLS};
 ghost use Rattle.algol_tree.specs.declared.token.Spot as token;
 ghost use Rattle.algol_tree.specs.contracts.token.SpotOrd.TheImpl.{ghosts};
 ghost use Rattle.algol_frames.specs.Framing.{cells_in};
-ghost use Rattle.algol_frames.specs.Laying.{Adds, AreLaid, actual_from, couple_from, declared_from, framed_in, laid_in, laid_out, levels_of, result_from, those_holding};
+ghost use Rattle.algol_frames.specs.Laying.{Adds, AreLaid, actual_from, couple_from, declared_from, framed_in, laid_in, laid_out, levels_of, number_from, parameters_from, result_from, those_holding};
 
 use crate::found::{Block, Cell, Content, Use};
 use crate::limits::{Cells, cells_of};
 use crate::scopes::{Couple, Declared, Scopes};
-use algol_tree::Spot;
+use algol_sorts::Sort;
+use algol_tree::{List, Spot};
 use std::alloc::{AllocError, Global};
 use std::collections::BTreeMap;
 
@@ -173,6 +174,77 @@ fn results(
     Ok(results)
 }
 
+/// The list stands under the place, unless one stands there already.
+fn add_list(
+    table: &mut BTreeMap<Spot, List<Sort>>,
+    spot: Spot,
+    list: List<Sort>,
+) -> Result<(), AllocError>
+    ensures { OnOk result (Adds table.old table.new spot (Some list)) }
+{
+    if !table.contains_key(&spot) {
+        table.insert(spot, list)?;
+    }
+    Ok(())
+}
+
+/// The same list.
+fn copied(list: &List<Sort>) -> Result<List<Sort>, AllocError>
+    ensures { IfOk result (λ copy. copy ≡ list.now) }
+{
+    Ok(List::of(list.items().clone()?))
+}
+
+/// The same of a list that may be missing.
+fn add_told(
+    table: &mut BTreeMap<Spot, List<Sort>>,
+    spot: Spot,
+    list: &Option<List<Sort>>,
+) -> Result<(), AllocError>
+    ensures { OnOk result (Adds table.old table.new spot list.now) }
+{
+    match list {
+        None => Ok(()),
+        Some(list) => add_list(table, spot, copied(list)?),
+    }
+}
+
+/// What the parameters of procedures are declared as, by the places of the names of these.
+fn parameters(alloc: Global, uses: &[Use]) -> Result<BTreeMap<Spot, List<Sort>>, AllocError>
+    ensures { IfOk result (λ table. (q : token.Spot) → get ghosts.cmp table q ≡ parameters_from uses.now q) }
+{
+    let mut parameters = BTreeMap::new(alloc);
+    'uses: for found in uses {
+        add_told(&mut parameters, found.spot, &found.parameters)?;
+    }
+    Ok(parameters)
+}
+
+/// The number stands under the place, unless one stands there already.
+fn add_number(
+    table: &mut BTreeMap<Spot, usize>,
+    spot: Spot,
+    number: usize,
+) -> Result<(), AllocError>
+    ensures { OnOk result (Adds table.old table.new spot (Some number)) }
+{
+    if !table.contains_key(&spot) {
+        table.insert(spot, number)?;
+    }
+    Ok(())
+}
+
+/// The numbers of the blocks, by the places where these begin.
+fn numbers(alloc: Global, blocks: &[Block]) -> Result<BTreeMap<Spot, usize>, AllocError>
+    ensures { IfOk result (λ table. (q : token.Spot) → get ghosts.cmp table q ≡ number_from 0 blocks.now q) }
+{
+    let mut numbers = BTreeMap::new(alloc);
+    'each: for at in 0..blocks.len() {
+        add_number(&mut numbers, blocks[at].spot, at)?;
+    }
+    Ok(numbers)
+}
+
 /// The levels of the blocks.
 fn levels(alloc: Global, blocks: &[Block]) -> Result<Vec<u8>, AllocError>
     ensures { IfOk result (λ levels. levels.items ≡ levels_of blocks.now) }
@@ -202,5 +274,7 @@ pub fn scopes_laid(
         actuals: actuals(alloc, frames, cells)?,
         results: results(alloc, frames, blocks)?,
         levels: levels(alloc, blocks)?,
+        parameters: parameters(alloc, uses)?,
+        numbers: numbers(alloc, blocks)?,
     })
 }

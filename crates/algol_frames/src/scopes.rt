@@ -1,10 +1,10 @@
 //! What the scopes of a tree say of a place in the text.
 
 ghost use Rattle.std.specs.Prelude.{◌≡◌, option_copied};
-ghost use Rattle.algol_frames.specs.Answers.{declaration_of, actual_of, result_of, level_in};
+ghost use Rattle.algol_frames.specs.Answers.{declaration_of, actual_of, result_of, level_in, number_of, parameters_of};
 
 use algol_sorts::Sort;
-use algol_tree::Spot;
+use algol_tree::{List, Spot};
 use std::collections::BTreeMap;
 
 /// Where a cell lies: the level of its block, and its index in the frame, from 2 on.
@@ -25,13 +25,16 @@ pub struct Declared {
     pub couple: Option<Couple>,
 }
 
-/// The declaration of each name, by the place of the name, and where the cells lie.
+/// The declaration of each name, by the place of the name, and where the cells lie; the parameters of procedures, and the numbers of
+/// blocks.
 #[derive(Drop)]
 pub struct Scopes {
     pub(crate) declared: BTreeMap<Spot, Declared>,
     pub(crate) actuals: BTreeMap<Spot, Couple>,
     pub(crate) results: BTreeMap<Spot, Couple>,
     pub(crate) levels: Vec<u8>,
+    pub(crate) parameters: BTreeMap<Spot, List<Sort>>,
+    pub(crate) numbers: BTreeMap<Spot, usize>,
 }
 
 impl Scopes {
@@ -61,5 +64,19 @@ impl Scopes {
         ensures { result ≡ level_in self.now block }
     {
         self.levels.get(block as usize).copied()
+    }
+
+    /// What the parameters of the procedure are declared as whose declaration stands there, in their order.
+    pub fn parameters(&self, spot: Spot) -> Option<&List<Sort>>
+        ensures { option_copied result ≡ parameters_of self.now spot }
+    {
+        self.parameters.get(&spot)
+    }
+
+    /// The number of the block that begins there, a procedure's at its name.
+    pub fn number(&self, spot: Spot) -> Option<usize>
+        ensures { result ≡ number_of self.now spot }
+    {
+        self.numbers.get(&spot).copied()
     }
 }

@@ -1,6 +1,7 @@
 -- What is known around a place, as the walk over a tree keeps it.
 use Rattle.std.specs.Prelude.{ℕ, ◌+◌, ◌==◌, ◌&&◌, min, Bool, false, List, [], ◌∷◌, length, reverse, slice_get, Option, Some, None}
 use Rattle.algol_tree.specs.declared.token.Spot.{Spot}
+use Rattle.algol_tree.specs.declared.tree.Kind.{Kind}
 use Rattle.algol_sorts.specs.declared.sort.Sort.{Sort}
 use Rattle.algol_sorts.specs.declared.sort.Sort.TheVariants as sort
 use Rattle.algol_tree.specs.Blocks.{same_spot}
@@ -25,20 +26,35 @@ abbrev pub modes_of : Option Procedure → List Sort
 modes_of None = []
 modes_of (Some p) = p.modes.items
 
--- the class of what is no procedure, and of the procedure with this number
+-- the class of what is no procedure, and of the procedure with this number and a result of this type
 abbrev pub plain_class : Sort → Class
 plain_class s = record { sort = s; procedure = 0 }
 
+abbrev pub typed_class : Option Kind → ℕ → Class
+typed_class kind number = record { sort = sort.Procedure kind; procedure = number }
+
 abbrev pub procedure_class : ℕ → Class
-procedure_class number = record { sort = sort.Procedure; procedure = number }
+procedure_class number = typed_class None number
 
 abbrev modes_by : List Procedure → Sort → ℕ → List Sort
-modes_by ps sort.Procedure number = modes_of (slice_get ps number)
+modes_by ps (sort.Procedure kind) number = modes_of (slice_get ps number)
 modes_by ps _ number = []
 
 -- what the parameters of what is declared so are declared as
 abbrev pub modes_in : List Procedure → Class → List Sort
 modes_in ps c = modes_by ps c.sort c.procedure
+
+abbrev pub told_of : Option Procedure → Option (List Sort)
+told_of None = None
+told_of (Some p) = Some p.modes.items
+
+abbrev told_by : List Procedure → Sort → ℕ → Option (List Sort)
+told_by ps (sort.Procedure kind) number = told_of (slice_get ps number)
+told_by ps _ number = None
+
+-- the same where it is a procedure
+abbrev pub parameters_in : List Procedure → Class → Option (List Sort)
+parameters_in ps c = told_by ps c.sort c.procedure
 
 -- the level of the innermost block, as far as a byte can say it
 abbrev pub level_within : Around → ℕ

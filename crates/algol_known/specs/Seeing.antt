@@ -36,7 +36,7 @@ is_simple c = sorts.is_simple c.sort
 
 -- a procedure is one of those that there are
 abbrev pub IsNumber : List Procedure → Sort → ℕ → Type 0
-IsNumber ps sort.Procedure number = number < length ps
+IsNumber ps (sort.Procedure kind) number = number < length ps
 IsNumber ps _ number = Unit {0}
 
 -- The class stands for the definitions' class, as far as names and limits look at it.

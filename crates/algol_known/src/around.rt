@@ -12,13 +12,13 @@ ghost use Rattle.algol_tree.specs.Surroundings.{Surroundings, outermost};
 ghost use Rattle.algol_known.specs.declared.known.Seen.{Seen};
 ghost use Rattle.algol_known.specs.declared.known.Seen.TheVariants as seens;
 ghost use Rattle.algol_known.specs.declared.known.Names.{Names};
-ghost use Rattle.algol_known.specs.Looking.{looked_up, open_blocks, modes_in, level_within, is_announced, class_for, procedure_class};
+ghost use Rattle.algol_known.specs.Looking.{looked_up, open_blocks, modes_in, parameters_in, level_within, is_announced, class_for, procedure_class};
 ghost use Rattle.algol_known.specs.Widening.{Admits, StandsFor, Widens, declaring, parameters_so};
 ghost use Rattle.algol_known.specs.Seeing.{Sees, Holds, Declares, Introduces, Extends, Opens, IsClass, mode_of, mode_given, name_parameter};
 
 use crate::known::{Class, Entry, Names, Seen};
 use algol_sorts::Sort;
-use algol_tree::{Expr, Heading, Named, Spot};
+use algol_tree::{Expr, Heading, List, Named, Spot};
 use std::alloc::{AllocError, Global};
 use std::mem;
 
@@ -29,6 +29,15 @@ const OUTER_LEVEL: u8 = b67_limits::OUTER_LEVEL;
 #[derive(Drop)]
 pub struct Procedure {
     pub modes: Vec<Sort>,
+}
+
+impl Procedure {
+    /// What its parameters are declared as, as a list.
+    fn told(&self) -> Result<List<Sort>, AllocError>
+        ensures { IfOk result (λ told. told ≡ self.now.modes.items) }
+    {
+        Ok(List::of(self.modes.clone()?))
+    }
 }
 
 /// The names of the innermost open block, those of the blocks around it, the innermost last, and the procedures so far, by
@@ -180,11 +189,24 @@ impl<'p> Around<'p> {
         ensures { result.now ≡ modes_in self.now.procedures.items class }
     {
         match class.sort {
-            Sort::Procedure => match self.procedures.get(class.procedure) {
+            Sort::Procedure(_) => match self.procedures.get(class.procedure) {
                 None => &[],
                 Some(procedure) => procedure.modes.as_slice(),
             },
             _ => &[],
+        }
+    }
+
+    /// The same where it is a procedure.
+    pub fn parameters(&self, class: Class) -> Result<Option<List<Sort>>, AllocError>
+        ensures { IfOk result (λ told. told ≡ parameters_in self.now.procedures.items class) }
+    {
+        match class.sort {
+            Sort::Procedure(_) => match self.procedures.get(class.procedure) {
+                None => Ok(None),
+                Some(procedure) => Ok(Some(procedure.told()?)),
+            },
+            _ => Ok(None),
         }
     }
 
@@ -203,7 +225,7 @@ impl<'p> Around<'p> {
         ensures { result ≡ class_for (slice_get (modes_in self.now.procedures.items (procedure_class procedure)) at) }
     {
         let class = Class {
-            sort: Sort::Procedure,
+            sort: Sort::Procedure(None),
             procedure,
         };
         match self.modes(class).get(at) {

@@ -12,6 +12,7 @@ use Rattle.algol_tree.specs.Plain as tree
 use Rattle.algol_tree.specs.Plain.{PDecl, PDecls, PStmt}
 use Rattle.algol_tree.specs.Classes as classes
 use Rattle.algol_tree.specs.Sorts as sort
+use Rattle.algol_sorts.specs.declared.sort.Sort.TheVariants as so
 use Rattle.algol_tree.specs.Sorts.{Declared, Sort, declare, declared_parameters, formals_of, look_up, same_name}
 use Rattle.algol_tree.specs.Blocks.{Block, block_numbered, number_at, procedure_block, same_spot}
 use Rattle.algol_tree.specs.Surroundings.{Surroundings, announced, body_of, heading_or, inside_procedure}
@@ -31,7 +32,7 @@ use Rattle.algol_frames.specs.declared.found.Content.TheVariants as content
 use Rattle.algol_scope.specs.declared.findings.Findings.{Findings}
 use Rattle.algol_scope.specs.declared.resolver.Resolver.{Resolver}
 use Rattle.algol_known.specs.Naming.{IsBare, has_name, is_typed}
-use Rattle.algol_known.specs.Looking.{is_announced, level_within, looked_up, modes_in, open_blocks, procedure_class}
+use Rattle.algol_known.specs.Looking.{is_announced, level_within, looked_up, modes_in, open_blocks, procedure_class, typed_class}
 use Rattle.algol_known.specs.Seeing.{Declares, IsClass, IsFound, Opens, Sees, begun, mode_of}
 use Rattle.algol_scope.specs.Noting.{Adds, Knows, long_segment}
 use Rattle.algol_scope.specs.Stating.{AreBefore, Settles, block_of}
@@ -113,7 +114,7 @@ makes-cells old one new sort c ns items held same m h around blocks =
 
 pub makes-heading : (old one new : Resolver) (h : Heading) (n : Named) (x : Ahead) (name : List ℕ) (entry : Entry) → IsOf old.around.procedures.items x h →
     h.name.name ≡ n.name → name ≡ n.name →
-    entry ≡ record { spot = x.spot; block = old.around.innermost.block; level = level_within old.around; class = procedure_class x.procedure } →
+    entry ≡ record { spot = x.spot; block = old.around.innermost.block; level = level_within old.around; class = typed_class x.kind x.procedure } →
     Declares old.around one.around name entry → one.around.outer ≡ old.around.outer → one.around.procedures ≡ old.around.procedures →
     one.around.innermost.typed ≡ old.around.innermost.typed →
     ((a : Surroundings) → Sees old.around seens.BeforeDeclarations a → Sees one.around seens.BeforeDeclarations a) → one.findings ≡ old.findings →
@@ -141,8 +142,10 @@ makes-heading old one new h n x name entry of same called e d o p t before f b k
       level = ap (λ (z : Entry). z.level) e ∙ level-here old.around seens.All a s;
       class =
           (let P : Class → Type 0 = λ z. IsClass old.around.procedures.items z (classes.procedure h) in
-          subst P (sym (ap (λ (z : Entry). z.class) e)) of.class);
-      sort = ap (λ (z : Entry). z.class.sort) e;
+          let its : IsClass old.around.procedures.items (typed_class x.kind x.procedure) (classes.procedure h) =
+          record { simple = of.class.simple; modes = of.class.modes; within = of.class.within } in
+          subst P (sym (ap (λ (z : Entry). z.class) e)) its);
+      sort = ap (λ (z : Entry). z.class.sort) e ∙ ap so.Procedure of.kind;
     }))
     (λ blocks a. (refl, tt)) f b)
     (makes-knows one new (λ a. known_names a (n ∷ [])) k around blocks)

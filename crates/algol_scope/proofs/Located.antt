@@ -23,10 +23,10 @@ use Rattle.algol_frames.specs.declared.found.Content.TheVariants as content
 use Rattle.algol_frames.specs.declared.found.Block as begun
 use Rattle.algol_frames.specs.declared.scopes.Couple.{Couple}
 use Rattle.algol_frames.specs.Framing.{cells_in, those_in}
-use Rattle.algol_scope.specs.Noting.{cell_of, content_of, use_of}
+use Rattle.algol_scope.specs.Noting.{cell_of, content_of, parameters_here, use_of}
 use Rattle.algol_scope.specs.Stating.{AreNumbered, block_of}
-use Rattle.algol_scope.specs.Resolved.{couple, located, meaning, meant}
-use Rattle.algol_frames.specs.Laying.{actual_from, couple_by, couple_from, declared_by, declared_from, is_of, laid_in, laid_out, levels_of, rank, result_from, those_holding}
+use Rattle.algol_scope.specs.Resolved.{couple, located, meaning, meant, number_among, parameters_among}
+use Rattle.algol_frames.specs.Laying.{actual_from, couple_by, couple_from, declared_by, declared_from, is_of, laid_in, laid_out, levels_of, number_from, parameters_from, rank, result_from, those_holding}
 use Rattle.algol_scope.proofs.FirstFault.{those_told}
 use Rattle.algol_scope.proofs.Placed.{Each}
 use Rattle.algol_scope.proofs.Founded.{AreKnownAt, at-number, no-cells, not-deep, not-deep-at}
@@ -91,6 +91,17 @@ meanings-told there (k ∷ ks) spot = decide (same_spot k.spot spot) (meanings-t
         meant (if b then Some k.declared else known_there ks spot)
     decide true h = refl
     decide false h = h
+
+-- ---- parameters, and numbers of blocks
+
+pub parameters-told : (ks : List Known) (spot : Spot) → parameters_from (map use_of ks) spot ≡ parameters_among ks spot
+parameters-told [] spot = refl
+parameters-told (k ∷ ks) spot =
+    ap (option_or (if same_spot k.spot spot then parameters_here k.spot k.declared else None)) (parameters-told ks spot)
+
+pub numbers-told : (n : ℕ) (bs : List Block) (spot : Spot) → number_from n (map block_of bs) spot ≡ number_among n bs spot
+numbers-told n [] spot = refl
+numbers-told n (b ∷ bs) spot = ap (option_or (if same_spot b.spot spot then Some n else None)) (numbers-told (n + 1) bs spot)
 
 -- ---- couples
 

@@ -45,7 +45,7 @@ use Rattle.algol_scope.proofs.Making.{enters-bounds, enters-made, enters-none, e
 -- ---- what stands ahead, with more procedures
 
 pub of-extends : (ps qs : List Procedure) (x : Ahead) (h : Heading) → Extends ps qs → IsOf ps x h → IsOf qs x h
-of-extends ps qs x h e i = record { class = class-extends ps qs (procedure_class x.procedure) (classes.procedure h) e i.class; spot = i.spot }
+of-extends ps qs x h e i = record { class = class-extends ps qs (procedure_class x.procedure) (classes.procedure h) e i.class; spot = i.spot; kind = i.kind }
 
 is_ahead-extends : (ps qs : List Procedure) (d : PDecl) (later : PDecls) (x : Ahead) → Extends ps qs → IsAhead ps d later x → IsAhead qs d later x
 is_ahead-extends ps qs (tree.simple kind ns) later x e i = tt

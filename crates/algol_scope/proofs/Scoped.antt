@@ -29,13 +29,13 @@ use Rattle.algol_frames.specs.Framing.{cells_in, those_in}
 use Rattle.algol_scope.specs.Finding.{Holds}
 use Rattle.algol_scope.specs.Noting.{cell_of, use_of}
 use Rattle.algol_scope.specs.Stating.{block_of}
-use Rattle.algol_scope.specs.Resolved.{AreOf, couple, located, meaning, meaning_at}
+use Rattle.algol_scope.specs.Resolved.{AreOf, couple, located, meaning, meaning_at, number_of_block, parameters_at}
 use Rattle.algol_frames.specs.Laying.{AreLaid, laid_in}
 use Rattle.algol_scope.proofs.FirstFault.{those_told}
 use Rattle.algol_scope.proofs.Numbering.{in-order}
 use Rattle.algol_scope.proofs.Placed.{placed}
 use Rattle.algol_scope.proofs.Founded.{few-cells, known-at, no-longer, none-left, none-right}
-use Rattle.algol_scope.proofs.Located.{actuals-told, declared-told, levels-told, meanings-told, results-told}
+use Rattle.algol_scope.proofs.Located.{actuals-told, declared-told, levels-told, meanings-told, numbers-told, parameters-told, results-told}
 
 -- ---- the same in other words
 
@@ -89,7 +89,7 @@ module _ (p : PProgram) (order : IsInOrder p) (faultless : scope_faults p ≡ []
   are-of : (s : Scopes) →
       AreLaid (map block_of blocks) table (map cell_of (flat_map (cells_at blocks) (sites_of p))) (map use_of (flat_map (known_at blocks) (sites_of p))) s →
       AreOf p s
-  unfolding declaration_at meaning_at result_at actual_at level_of_block
+  unfolding declaration_at meaning_at result_at actual_at level_of_block parameters_at number_of_block
   are-of s l =
       let deep = (within p faultless).0 in
       let each = placed p order in
@@ -107,6 +107,8 @@ module _ (p : PProgram) (order : IsInOrder p) (faultless : scope_faults p ≡ []
         results = λ spot. ap couple (l.results spot) ∙ results-told blocks (sites_of p) table told deep each numbered spot;
         actuals = λ spot. ap couple (l.actuals spot) ∙ actuals-told blocks (sites_of p) table told deep each numbered spot;
         levels = λ q. ap (λ z. slice_get z q) l.levels ∙ levels-told blocks (sites_of p) table told deep each numbered q;
+        parameters = λ spot. l.parameters spot ∙ parameters-told (flat_map (known_at blocks) (sites_of p)) spot;
+        numbers = λ spot. l.numbers spot ∙ numbers-told 0 blocks spot;
       }
 
 told-in : (r : Resolver) (p : PProgram) (table : BTreeMap ℕ (Vec Cell Global)) → Holds r p → ((q : ℕ) → cells_in table q ≡ those_in r.findings.cells.items q) →

@@ -54,11 +54,11 @@ class-extends ps qs c d x i =
     }
   where
     same-modes : (s : Sort) (n : ℕ) → IsNumber ps s n → modes_in qs (record { sort = s; procedure = n }) ≡ modes_in ps (record { sort = s; procedure = n })
-    same-modes sort.Procedure n w = ap modes_of (x.same n w)
+    same-modes (sort.Procedure k) n w = ap modes_of (x.same n w)
     same-modes _ n w = refl
 
     still : (s : Sort) (n : ℕ) → IsNumber ps s n → IsNumber qs s n
-    still sort.Procedure n w = less-le n (length ps) (length qs) w x.longer
+    still (sort.Procedure k) n w = less-le n (length ps) (length qs) w x.longer
     still _ n w = tt
 
 pub entry-extends : (ps qs : List Procedure) (e : Entry) (d : Declared) → Extends ps qs → IsEntry ps e d → IsEntry qs e d

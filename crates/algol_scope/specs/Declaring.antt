@@ -37,6 +37,7 @@ use Rattle.algol_scope.specs.Stating.{Settles, block_of}
 pub record IsOf (ps : List Procedure) (x : Ahead) (h : Heading) : Type 0 where
   pub class : IsClass ps (procedure_class x.procedure) (classes.procedure h)
   pub spot : x.spot ≡ h.name.spot
+  pub kind : x.kind ≡ h.kind
 
 -- what is found ahead of a declaration is that of the procedure which it declares
 abbrev pub IsAhead : List Procedure → PDecl → PDecls → Ahead → Type 0

@@ -1,5 +1,5 @@
 -- What the walk finds at the parts of a tree.
-use Rattle.std.specs.Prelude.{◌≡◌, List, [], ◌∷◌, ◌++◌, map, min, nat_lt, Option, Some, None}
+use Rattle.std.specs.Prelude.{◌≡◌, if◌then◌else◌, List, [], ◌∷◌, ◌++◌, map, min, nat_lt, Option, Some, None}
 use Rattle.std.specs.List.{flat_map}
 use Rattle.algol_tree.specs.declared.TheConstants.{MOST_SEGMENT_TOKENS}
 use Rattle.algol_tree.specs.declared.token.Spot.{Spot}
@@ -7,8 +7,10 @@ use Rattle.algol_tree.specs.declared.refusal.Code.TheVariants as codes
 use Rattle.algol_tree.specs.declared.refusal.Fault.{Fault}
 use Rattle.algol_tree.specs.declared.tree.Named.{Named}
 use Rattle.algol_tree.specs.Plain.{PExprs}
-use Rattle.algol_tree.specs.Classes.{Formal}
-use Rattle.algol_tree.specs.Blocks.{Block}
+use Rattle.algol_tree.specs.Classes as class
+use Rattle.algol_tree.specs.Classes.{Class, Formal}
+use Rattle.algol_tree.specs.Sorts.{Declared, formals_of}
+use Rattle.algol_tree.specs.Blocks.{Block, same_spot}
 use Rattle.algol_tree.specs.Surroundings.{Surroundings, formals_at}
 use Rattle.algol_tree.specs.Sites as site
 use Rattle.algol_tree.specs.Sites.{Site, inside_actuals}
@@ -53,8 +55,25 @@ content_of cells.made = content.Made
 abbrev pub cell_of : cells.Cell → Cell
 cell_of c = record { block = c.block; spot = c.spot; content = content_of c.content }
 
+-- what the parameters are declared as, of what is a procedure
+abbrev pub parameters_by : Class → Option (List Sort)
+parameters_by (class.procedure h) = Some (map mode_of (formals_of h))
+parameters_by _ = None
+
+-- the same where the name is that of the heading which declares it
+abbrev pub parameters_here : Spot → Declared → Option (List Sort)
+parameters_here spot d = if same_spot spot d.spot then parameters_by d.class else None
+
 abbrev pub use_of : Known → Use
-use_of k = record { spot = k.spot; declared = k.declared.spot; block = k.declared.block; level = min (level_at k.declared.depth) 255; sort = sort_of k.declared }
+use_of k =
+    record {
+      spot = k.spot;
+      declared = k.declared.spot;
+      block = k.declared.block;
+      level = min (level_at k.declared.depth) 255;
+      sort = sort_of k.declared;
+      parameters = parameters_here k.spot k.declared;
+    }
 
 -- These faults are noted, and these cells and names are added.
 pub record Adds (old : Findings) (fs : List Fault) (cs : List cells.Cell) (us : List Known) (new : Findings) : Type 0 where

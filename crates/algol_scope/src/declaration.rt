@@ -40,11 +40,12 @@ use std::alloc::{AllocError, Global};
 use std::collections::BTreeMap;
 
 /// What is found before the declarations of a body are gone through: of each, the procedure that it declares, where the
-/// heading of that with its body stands, and whether it stands there or after it.
+/// heading of that with its body stands, the type of its result, and whether it stands there or after it.
 #[derive(Clone, Copy)]
 pub struct Ahead {
     pub procedure: usize,
     pub spot: Spot,
+    pub kind: Option<Kind>,
     pub has_body: bool,
 }
 
@@ -86,6 +87,7 @@ fn no_procedure() -> Ahead {
     Ahead {
         procedure: 0,
         spot: Spot { line: 0, column: 0 },
+        kind: None,
         has_body: false,
     }
 }
@@ -184,6 +186,7 @@ impl<'p> Resolver<'p> {
         Ok(Ahead {
             procedure,
             spot: h.name.spot,
+            kind: h.kind,
             has_body,
         })
     }
@@ -335,7 +338,7 @@ impl<'p> Resolver<'p> {
         ensures { OnOk result ((h : Heading) → IsOf self.old.around.procedures.items ahead h → h.name.name ≡ n.now.name → Makes self.old self.new no_faults no_cells (known_so (procedure_so h) (n.now ∷ [])) (procedure_so h)) }
     {
         let class = Class {
-            sort: Sort::Procedure,
+            sort: Sort::Procedure(ahead.kind),
             procedure: ahead.procedure,
         };
         let entry = self.around.entry(ahead.spot, class);

@@ -9,8 +9,9 @@ ghost use Rattle.algol_tree.specs.Cells as cells;
 ghost use Rattle.algol_tree.specs.Image.{expr, exprs, pairs};
 ghost use Rattle.algol_known.specs.declared.known.Seen.{Seen};
 ghost use Rattle.algol_known.specs.declared.known.Seen.TheVariants as seens;
-ghost use Rattle.algol_known.specs.Seeing.{Sees, IsClass, mode_given};
-ghost use Rattle.algol_scope.specs.Noting.{Finds, Knows, Walks, Passes, at_name, process_parts, task_parts};
+ghost use Rattle.algol_tree.specs.Sorts.{Declared};
+ghost use Rattle.algol_known.specs.Seeing.{Sees, IsClass, IsEntry, mode_given};
+ghost use Rattle.algol_scope.specs.Noting.{Finds, Knows, Walks, Passes, at_name, parameters_here, process_parts, task_parts};
 ghost use Rattle.algol_tree.specs.Couples.{known_names};
 
 use crate::findings::Findings;
@@ -21,9 +22,24 @@ use algol_sorts::Sort;
 use algol_tree::{Call, Code, Expr, List, MOST_LEVEL, Named, Pair, Spot, Variable};
 use std::alloc::AllocError;
 
+/// What is told of parameters with a name that stands there and means this declaration: those of a procedure, with the name of the
+/// heading that declares it.
+fn parameters_told(
+    spot: Spot,
+    entry: Entry,
+    around: &Around,
+) -> Result<Option<List<Sort>>, AllocError>
+    ensures { IfOk result (λ told. (d : Declared) → IsEntry around.now.procedures.items entry d → told ≡ parameters_here spot d) }
+{
+    if spot != entry.spot {
+        return Ok(None);
+    }
+    around.parameters(entry.class)
+}
+
 /// A name that stands there and means this declaration.
-fn use_by(spot: Spot, entry: Entry) -> Use
-    ensures { result ≡ record { spot = spot; declared = entry.spot; block = entry.block; level = entry.level; sort = entry.class.sort } }
+fn use_by(spot: Spot, entry: Entry, parameters: Option<List<Sort>>) -> Use
+    ensures { result ≡ record { spot = spot; declared = entry.spot; block = entry.block; level = entry.level; sort = entry.class.sort; parameters = parameters } }
 {
     Use {
         spot,
@@ -31,6 +47,7 @@ fn use_by(spot: Spot, entry: Entry) -> Use
         block: entry.block,
         level: entry.level,
         sort: entry.class.sort,
+        parameters,
     }
 }
 
@@ -49,7 +66,8 @@ impl Findings {
                 })
             }
             Some(entry) => {
-                self.uses.push(use_by(n.spot, entry))?;
+                let parameters = parameters_told(n.spot, entry, around)?;
+                self.uses.push(use_by(n.spot, entry, parameters))?;
                 Ok(entry.class)
             }
         }
@@ -60,7 +78,8 @@ impl Findings {
         ensures { OnOk result (Knows around.now self.old self.new (λ a. known_names a (n.now ∷ []))) }
     {
         if let Some(entry) = around.find(n.name.bytes(), Seen::All) {
-            self.uses.push(use_by(n.spot, entry))?;
+            let parameters = parameters_told(n.spot, entry, around)?;
+            self.uses.push(use_by(n.spot, entry, parameters))?;
         }
         Ok(())
     }

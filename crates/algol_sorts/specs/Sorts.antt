@@ -28,7 +28,7 @@ sort_by class.event s = event_sort s
 sort_by class.task s = sort.Task
 sort_by class.label s = sort.Label
 sort_by class.file s = sort.File
-sort_by (class.procedure h) s = sort.Procedure
+sort_by (class.procedure h) s = sort.Procedure h.kind
 sort_by class.unknown s = sort.Unspecified
 
 -- what a name with this declaration is declared as

@@ -22,7 +22,8 @@ pub enum Sort {
     FormalEvent,
     Label,
     File,
-    Procedure,
+    /// A procedure, and the type of its result, where it has one.
+    Procedure(Option<Kind>),
     /// A parameter that no specification names.
     Unspecified,
 }
