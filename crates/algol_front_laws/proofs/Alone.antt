@@ -15,9 +15,9 @@ use Rattle.algol_tree.specs.Sites.{Part, Site}
 use Rattle.algol_tree.specs.Cells as cells
 use Rattle.algol_tree.specs.Cells.{Cell, Content, cells_at, cells_for, cells_of_decl, cells_of_part, first_spot, has_cell, result_cells}
 use Rattle.algol_tree.specs.Ascending.{spots_of_names}
-use Rattle.algol_front_laws.proofs.Lists.{IsIn, false-not-true, of-in}
-use Rattle.algol_front_laws.proofs.Spots.{AreApart, AreSome, IsApart, some-both, some-more, spot-itself}
-use Rattle.algol_front_laws.proofs.Apart.{spots_at, spots_in_decl, spots_in_part}
+use Rattle.algol_told.proofs.Lists.{IsIn, false-not-true, of-in}
+use Rattle.algol_told.proofs.Spots.{AreApart, AreSome, IsApart, some-both, some-more, spot-itself}
+use Rattle.algol_told.proofs.Apart.{spots_at, spots_in_decl, spots_in_part}
 use Rattle.algol_front_laws.proofs.CellSpots.{cell_spots, cells_in_decl, cells_in_part, spot_if}
 
 -- ---- the places of the cells that are results, and of the others

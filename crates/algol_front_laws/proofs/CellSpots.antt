@@ -16,7 +16,7 @@ use Rattle.algol_tree.specs.Sites.{Part, Site, actual_part, first_formal, here_s
 use Rattle.algol_tree.specs.Cells.{first_spot, has_cell}
 use Rattle.algol_tree.specs.Names.{specified}
 use Rattle.algol_tree.specs.Ascending.{IsInOrder, spots_of_body, spots_of_decl, spots_of_decls, spots_of_expr, spots_of_exprs, spots_of_heading, spots_of_names, spots_of_pairs, spots_of_stmt, spots_of_stmts, spots_of_task}
-use Rattle.algol_front_laws.proofs.Spots.{AreApart, Fits, ahead-fits, all-fit, both-fit, drop-fits, flat-fit, nil-fits, none-fits, ordered, skip-fits, take-fits}
+use Rattle.algol_told.proofs.Spots.{AreApart, Fits, ahead-fits, all-fit, both-fit, drop-fits, flat-fit, nil-fits, none-fits, ordered, skip-fits, take-fits}
 
 -- the places of the cells that a part has itself, but for a result
 abbrev pub cells_in_decl : PDecl → List Spot

@@ -18,11 +18,8 @@ use Rattle.algol_tree.specs.Cells as cells
 use Rattle.algol_tree.specs.Cells.{Cell, Content, cells_at, cells_for, result_cells}
 use Rattle.algol_tree.specs.Names.{if_so, unknown_in_heading, unknown_names}
 use Rattle.algol_front_laws.specs.Declarations.{takes_cell}
-use Rattle.algol_front_laws.proofs.Lists.{IsIn, all-append, all-right, false-not-true, none-left}
-
-pub not-unknown : (b : Bool) (spot : Spot) → if_so (not b) spot ≡ [] → b ≡ true
-not-unknown true spot h = refl
-not-unknown false spot h = absurd (let clash : spot ∷ [] ≡ [] = h in cc)
+use Rattle.algol_told.proofs.Unbroken.{not-unknown}
+use Rattle.algol_told.proofs.Lists.{IsIn, all-append, all-right, false-not-true, none-left}
 
 -- `all`: the cells of the tree
 module _ (blocks : List Block) (all : List Cell) where

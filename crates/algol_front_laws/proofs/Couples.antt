@@ -7,9 +7,9 @@ use Rattle.algol_tree.specs.Blocks.{Block, same_spot, block_numbered}
 use Rattle.algol_tree.specs.Sites.{Site}
 use Rattle.algol_tree.specs.Cells as cells
 use Rattle.algol_tree.specs.Cells.{Cell, Content, Couple, cells_at, cells_of, content_number, couple_at, couple_in, holding, index_from, layout, level_of}
-use Rattle.algol_front_laws.proofs.Lists.{IsIn, in-left, in-right}
-use Rattle.algol_front_laws.proofs.Known.{spot-is, number-told}
-use Rattle.algol_front_laws.proofs.Spots.{spot-itself}
+use Rattle.algol_told.proofs.Lists.{IsIn, in-left, in-right}
+use Rattle.algol_told.proofs.Known.{spot-is, number-told}
+use Rattle.algol_told.proofs.Spots.{spot-itself}
 
 pub in-filter : (test : Cell → Bool) (cs : List Cell) (c : Cell) → test c ≡ true → IsIn cs c → IsIn (filter test cs) c
 in-filter test [] c h i = absurd i

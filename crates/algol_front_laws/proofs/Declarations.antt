@@ -21,13 +21,14 @@ use Rattle.algol_tree.specs.Accepted.{scope_faults, sites_of}
 use Rattle.algol_tree.specs.Ascending.{IsInOrder}
 use Rattle.algol_front_laws.specs.Couples.{cells_in}
 use Rattle.algol_front_laws.specs.Declarations.{EachHasOne, HasOne, NameAt, names_at, names_from, names_in_part, names_of}
-use Rattle.algol_front_laws.proofs.Lists.{all-append, all-both, all-left, all-right, all-weaker, none-left, none-right, of-contained, of-each}
-use Rattle.algol_front_laws.proofs.Known.{Finds, finds, name-itself}
-use Rattle.algol_front_laws.proofs.Walk.{Behind, HoldsAt}
+use Rattle.algol_told.proofs.Lists.{all-append, all-both, all-left, all-right, all-weaker, none-left, none-right, of-contained, of-each}
+use Rattle.algol_told.proofs.Known.{Finds, finds, name-itself}
+use Rattle.algol_told.proofs.Walk.{Behind, HoldsAt}
 use Rattle.algol_front_laws.proofs.Tidy.{announced-named}
-use Rattle.algol_front_laws.proofs.Cells.{HasCell, not-unknown}
+use Rattle.algol_told.proofs.Unbroken.{not-unknown}
+use Rattle.algol_front_laws.proofs.Cells.{HasCell}
 use Rattle.algol_front_laws.proofs.Couples.{coupled}
-use Rattle.algol_front_laws.proofs.Places.{IsSo, IsThere, declared-there, names-so, names_known}
+use Rattle.algol_told.proofs.Places.{IsSo, IsThere, declared-there, names-so, names_known}
 use Rattle.algol_front_laws.proofs.Ready.{PassesIn, ReadyIn, all-pass, all-ready, one-there}
 
 -- ---- one declaration

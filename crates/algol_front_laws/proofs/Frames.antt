@@ -17,10 +17,10 @@ use Rattle.algol_tree.specs.Couples.{actual_at, actual_cells, couple_of_cells, r
 use Rattle.algol_tree.specs.Accepted.{sites_of}
 use Rattle.algol_tree.specs.Ascending.{IsInOrder}
 use Rattle.algol_front_laws.specs.Couples.{HasCouple, cells_in, couple_of}
-use Rattle.algol_front_laws.proofs.Lists.{IsIn, all-append, all-both, all-in, all-weaker, each-of, false-not-true, of-each, of-in}
-use Rattle.algol_front_laws.proofs.Known.{spot-is}
-use Rattle.algol_front_laws.proofs.Spots.{AreApart, some-apart, spot-itself}
-use Rattle.algol_front_laws.proofs.Apart.{names-apart, spots_at}
+use Rattle.algol_told.proofs.Lists.{IsIn, all-append, all-both, all-in, all-weaker, each-of, false-not-true, of-each, of-in}
+use Rattle.algol_told.proofs.Known.{spot-is}
+use Rattle.algol_told.proofs.Spots.{AreApart, some-apart, spot-itself}
+use Rattle.algol_told.proofs.Apart.{names-apart, spots_at}
 use Rattle.algol_front_laws.proofs.CellSpots.{cell_spots, cells-apart}
 use Rattle.algol_front_laws.proofs.Alone.{Picked, alone, is_other, is_result, others-of, results-of}
 use Rattle.algol_front_laws.proofs.Couples.{couple-tells, coupled, in-filter}

@@ -1,12 +1,5 @@
-pub mod Lists
 mod Phases
-mod Known
-mod Walk
 mod Tidy
-mod Spots
-mod Apart
-mod Places
-mod Held
 mod Cells
 mod CellSpots
 mod Couples

@@ -17,8 +17,8 @@ use Rattle.algol_frames.specs.declared.scopes.Scopes.{Scopes}
 use Rattle.algol_scope.specs.Resolved.{AreOf, Meaning, couple, declaration_of, located, meaning, meaning_at, meant}
 use Rattle.algol_front_laws.specs.Declarations.{NameAt, names_of}
 use Rattle.algol_front_laws.specs.Meanings.{IsTold}
-use Rattle.algol_front_laws.proofs.Lists.{all-weaker}
-use Rattle.algol_front_laws.proofs.Places.{names_known}
+use Rattle.algol_told.proofs.Lists.{all-weaker}
+use Rattle.algol_told.proofs.Places.{names_known}
 use Rattle.algol_front_laws.proofs.Declarations.{IsOne, each-is-one}
 use Rattle.algol_front_laws.proofs.Sources.{source-in-order}
 

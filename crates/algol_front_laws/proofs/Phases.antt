@@ -33,7 +33,7 @@ use Rattle.algol_lexer.proofs.LexReach.{not_both}
 use Rattle.algol_grammar.proofs.Refusals.{program_not_refused}
 use Rattle.algol_front.specs.Refusing.{RefusesFirst}
 use Rattle.algol_front_laws.specs.Phases.{Phase, text, grammar, names, checks, phase_of, InNames, InChecks, RefusedIn, TellsPart}
-use Rattle.algol_front_laws.proofs.Lists.{all-append}
+use Rattle.algol_told.proofs.Lists.{all-append}
 
 -- ---- the text
 

@@ -3,9 +3,6 @@ use Rattle.std.proofs.Common.{◌≡◌, ◌+◌, List, [], ◌∷◌, ◌++◌,
 use Rattle.std.specs.List.{AllByRecursion, Contains, flat_map}
 use Rattle.algol_tree.specs.declared.token.Spot.{Spot}
 use Rattle.algol_tree.specs.declared.tree.Heading.{Heading}
-use Rattle.algol_tree.specs.declared.refusal.Code.{Code}
-use Rattle.algol_tree.specs.declared.refusal.Code.TheVariants as codes
-use Rattle.algol_tree.specs.declared.refusal.Fault.{Fault}
 use Rattle.algol_tree.specs.Plain as tree
 use Rattle.algol_tree.specs.Plain.{PDecl, PDecls, PProgram, PStmt}
 use Rattle.algol_tree.specs.Sorts.{Declared}
@@ -15,48 +12,18 @@ use Rattle.algol_tree.specs.Sites as site
 use Rattle.algol_tree.specs.Sites.{Site, sites_in_decls}
 use Rattle.algol_tree.specs.Cells.{Cell, cells_at}
 use Rattle.algol_tree.specs.Couples.{Known, known_at, known_there}
-use Rattle.algol_tree.specs.Names.{cells_beyond, deep_actuals, deep_blocks, declared_twice, long_segments, procedures_beyond, unknown_names}
-use Rattle.algol_tree.specs.Accepted.{broken, scope_faults, sites_of}
+use Rattle.algol_tree.specs.Names.{declared_twice, unknown_names}
+use Rattle.algol_tree.specs.Accepted.{scope_faults, sites_of}
 use Rattle.algol_tree.specs.Ascending.{IsInOrder}
 use Rattle.algol_front_laws.specs.Couples.{cells_in}
-use Rattle.algol_front_laws.proofs.Lists.{IsIn, all-both, all-in, all-weaker, each-of, none-left, none-of, none-right, of-contained}
-use Rattle.algol_front_laws.proofs.Walk.{HoldsAt, all-hold}
+use Rattle.algol_told.proofs.Lists.{IsIn, all-both, all-in, all-weaker, each-of, none-of, of-contained}
+use Rattle.algol_told.proofs.Walk.{HoldsAt, all-hold}
 use Rattle.algol_front_laws.proofs.Tidy as tidies
 use Rattle.algol_front_laws.proofs.Tidy.{Tidy}
 use Rattle.algol_front_laws.proofs.Cells as has
-use Rattle.algol_front_laws.proofs.Held as held
-use Rattle.algol_front_laws.proofs.Places.{IsThere, each-there, names_known}
-
--- ---- what breaks no rule
-
-unbroken : (code : Code) (spots : List Spot) → broken code spots ≡ [] → spots ≡ []
-unbroken code [] h = refl
-unbroken code (s ∷ spots) h = absurd (let clash : record { spot = s; code = code } ∷ broken code spots ≡ [] = h in cc)
-
--- the first two of six lists, of which nothing comes together
-first-two : (a b c d e f : List Fault) → a ++ b ++ c ++ d ++ e ++ f ≡ [] → (a ≡ []) × (b ≡ [])
-first-two a b c d e f h =
-    let five = none-left (a ++ b ++ c ++ d ++ e) f h in
-    let two = none-left (a ++ b) c (none-left (a ++ b ++ c) d (none-left (a ++ b ++ c ++ d) e five)) in
-    (none-left a b two, none-right a b two)
-
-pub record IsNamed (p : PProgram) : Type 0 where
-  pub known : flat_map unknown_names (sites_of p) ≡ []
-  pub once : flat_map (declared_twice (blocks_of_program p)) (sites_of p) ≡ []
-
-pub named : (p : PProgram) → scope_faults p ≡ [] → IsNamed p
-unfolding scope_faults
-named p h =
-    let blocks = blocks_of_program p in
-    let ss = sites_of p in
-    let two =
-    first-two (broken codes.UnknownName (flat_map unknown_names ss)) (broken codes.DeclaredTwice (flat_map (declared_twice blocks) ss))
-    (broken codes.TooManyLevels (deep_blocks blocks ++ flat_map deep_actuals ss)) (broken codes.TooManyCells (cells_beyond blocks ss))
-    (broken codes.TooManyProcedures (procedures_beyond blocks)) (broken codes.SegmentTooLong (long_segments p ss)) h in
-    record {
-      known = unbroken codes.UnknownName (flat_map unknown_names ss) two.0;
-      once = unbroken codes.DeclaredTwice (flat_map (declared_twice blocks) ss) two.1;
-    }
+use Rattle.algol_told.proofs.Held as held
+use Rattle.algol_told.proofs.Places.{IsThere, each-there, names_known}
+use Rattle.algol_told.proofs.Unbroken.{named}
 
 -- ---- what holds of the surroundings
 

@@ -22,13 +22,13 @@ use Rattle.algol_front_laws.specs.Couples.{HasCouple, cells_in}
 use Rattle.algol_front_laws.specs.Declarations.{EachHasOne, EachOnce}
 use Rattle.algol_front_laws.specs.Uses.{IsLookedUp}
 use Rattle.algol_front_laws.proofs.Frames.{IsOutside, each-has-couple}
-use Rattle.algol_front_laws.proofs.Lists.{of-contained}
-use Rattle.algol_front_laws.proofs.Known.{alike}
+use Rattle.algol_told.proofs.Lists.{of-contained}
+use Rattle.algol_told.proofs.Known.{alike}
 use Rattle.algol_front_laws.proofs.Tidy.{Tidy}
 use Rattle.algol_front_laws.proofs.Declarations.{each-has-one}
 use Rattle.algol_front_laws.proofs.Uses.{each-looked-up}
 use Rattle.algol_front_laws.proofs.Ready.{ReadyIn, all-ready, one-there}
-use Rattle.algol_front_laws.proofs.Walk.{HoldsAt}
+use Rattle.algol_told.proofs.Walk.{HoldsAt}
 
 module _ (blocks : List Block) where
   same-depth : (d e : Declared) → placed.IsAt blocks d.block d.depth → placed.IsAt blocks e.block e.depth → d.block ≡ e.block → d.depth ≡ e.depth

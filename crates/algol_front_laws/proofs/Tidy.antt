@@ -16,9 +16,9 @@ use Rattle.algol_tree.specs.Surroundings.{Surroundings, announced, body_of, decl
 use Rattle.algol_tree.specs.Sites as site
 use Rattle.algol_tree.specs.Sites.{Site, sites_in_decls}
 use Rattle.algol_tree.specs.Names.{declared_twice, is_announced_by, is_one_of, names_here, repeated, result_names, result_names_of, specified, twice_here, twice_in_decl, twice_in_heading}
-use Rattle.algol_front_laws.proofs.Lists.{none-left, none-right, all-weaker, all-both}
-use Rattle.algol_front_laws.proofs.Known as known
-use Rattle.algol_front_laws.proofs.Known.{IsSeen, Tidied, Within, alone-fresh, among-behind, fresh-alone, name-is, put, put-names, put-within, number-told}
+use Rattle.algol_told.proofs.Lists.{none-left, none-right, all-weaker, all-both}
+use Rattle.algol_told.proofs.Known as known
+use Rattle.algol_told.proofs.Known.{IsSeen, Tidied, Within, alone-fresh, among-behind, fresh-alone, name-is, put, put-names, put-within, number-told}
 
 pub record Tidy (a : Surroundings) : Type 0 where
   pub within : AllByRecursion (Within a.block a.depth) a.known

@@ -18,10 +18,10 @@ use Rattle.algol_tree.specs.Names.{if_so, places_if, unknown_in_part}
 use Rattle.algol_tree.specs.Accepted.{scope_faults, sites_of}
 use Rattle.algol_tree.specs.Ascending.{IsInOrder, spots_of_names}
 use Rattle.algol_front_laws.specs.Uses.{IsLookedUp, use_by_name, use_in}
-use Rattle.algol_front_laws.proofs.Lists.{all-both, all-left, all-right, each-of, none-left, none-right}
-use Rattle.algol_front_laws.proofs.Spots.{AreApart, AreSome, IsApart, some-apart, some-both, spot-itself}
-use Rattle.algol_front_laws.proofs.Apart.{names-apart, spots_at, spots_in_part}
-use Rattle.algol_front_laws.proofs.Cells.{not-unknown}
+use Rattle.algol_told.proofs.Lists.{all-both, all-left, all-right, each-of, none-left, none-right}
+use Rattle.algol_told.proofs.Spots.{AreApart, AreSome, IsApart, some-apart, some-both, spot-itself}
+use Rattle.algol_told.proofs.Apart.{names-apart, spots_at, spots_in_part}
+use Rattle.algol_told.proofs.Unbroken.{not-unknown}
 use Rattle.algol_front_laws.proofs.Ready.{PassesIn, all-pass}
 
 -- ---- uses stand under the places of names

@@ -6,7 +6,7 @@ use Rattle.algol_tree.specs.declared.token.Spot.{Spot}
 use Rattle.algol_tree.specs.Blocks.{same_spot}
 use Rattle.algol_tree.specs.Accepted.{is_before}
 use Rattle.algol_tree.specs.Ascending.{Ascends}
-use Rattle.algol_front_laws.proofs.Lists.{IsIn, in-left, in-right, of-in, all-append, all-right, all-weaker}
+use Rattle.algol_told.proofs.Lists.{IsIn, in-left, in-right, of-in, all-append, all-right, all-weaker}
 
 abbrev pub IsBefore : Spot → Spot → Type 0
 IsBefore s t = is_before s t ≡ true

@@ -8,7 +8,7 @@ use Rattle.algol_tree.specs.declared.tree.Heading.{Heading}
 use Rattle.algol_tree.specs.Sorts.{Declared, same_name, look_up}
 use Rattle.algol_tree.specs.Blocks.{same_spot}
 use Rattle.algol_tree.specs.Names.{if_so, is_one_of, repeated, is_announced_by}
-use Rattle.algol_front_laws.proofs.Lists.{none-left, none-right, contains-first, contains-later, all-weaker, all-both, of-contained}
+use Rattle.algol_told.proofs.Lists.{none-left, none-right, contains-first, contains-later, all-weaker, all-both, of-contained}
 
 -- ---- the same names and places
 

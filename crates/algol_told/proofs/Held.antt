@@ -17,10 +17,10 @@ use Rattle.algol_tree.specs.Sites as site
 use Rattle.algol_tree.specs.Sites.{Site, inside_decl, sites_in_decls}
 use Rattle.algol_tree.specs.Couples.{Known, known_at, known_in_heading, known_names, known_there}
 use Rattle.algol_tree.specs.Names.{declared_twice, if_so, is_announced_by, is_one_of, names_here, repeated, result_names, result_names_of, specified, twice_here, twice_in_heading, unknown_in_heading, unknown_names}
-use Rattle.algol_front_laws.proofs.Lists.{all-append, all-both, all-left, all-right, false-not-true, none-left, none-right}
-use Rattle.algol_front_laws.proofs.Known.{name-itself, nor-first, unseen}
-use Rattle.algol_front_laws.proofs.Cells.{not-unknown}
-use Rattle.algol_front_laws.proofs.Places.{IsSo, IsThere, names-so}
+use Rattle.algol_told.proofs.Lists.{all-append, all-both, all-left, all-right, false-not-true, none-left, none-right}
+use Rattle.algol_told.proofs.Known.{name-itself, nor-first, unseen}
+use Rattle.algol_told.proofs.Unbroken.{not-unknown}
+use Rattle.algol_told.proofs.Places.{IsSo, IsThere, names-so}
 
 all-map : {X Y : Type 0} (P : Y → Type 0) (f : X → Y) (xs : List X) → AllByRecursion (λ (x : X). P (f x)) xs → AllByRecursion P (map f xs)
 all-map P f [] h = tt

@@ -18,9 +18,9 @@ use Rattle.algol_tree.specs.Names.{specified}
 use Rattle.algol_tree.specs.Couples.{Known, declaration_at, known_at, known_by, known_in_decl, known_in_heading, known_in_part, known_names, known_there, located}
 use Rattle.algol_tree.specs.Accepted.{sites_of}
 use Rattle.algol_tree.specs.Ascending.{IsInOrder, spots_of_heading, spots_of_names}
-use Rattle.algol_front_laws.proofs.Lists.{all-right}
-use Rattle.algol_front_laws.proofs.Spots.{AreApart, AreSome, IsApart, some-apart, some-both, spot-itself}
-use Rattle.algol_front_laws.proofs.Apart.{names-apart, spots_at, spots_in_decl, spots_in_part}
+use Rattle.algol_told.proofs.Lists.{all-right}
+use Rattle.algol_told.proofs.Spots.{AreApart, AreSome, IsApart, some-apart, some-both, spot-itself}
+use Rattle.algol_told.proofs.Apart.{names-apart, spots_at, spots_in_decl, spots_in_part}
 
 abbrev spots : List Known → List Spot
 spots ks = map (λ (k : Known). k.spot) ks

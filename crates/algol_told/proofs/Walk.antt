@@ -12,7 +12,7 @@ use Rattle.algol_tree.specs.Blocks.{Block, Begin, of_statement, of_procedure, nu
 use Rattle.algol_tree.specs.Surroundings.{Surroundings, formals_at, inside_begin, inside_procedure, knowing, knowing_all, outermost}
 use Rattle.algol_tree.specs.Sites as site
 use Rattle.algol_tree.specs.Sites.{Part, Site, actual_part, first_formal, here, name_part, wants_value, sites, inside_expr, inside_list, inside_actuals, sites_in_pairs, other_formals, here_stmt, inside_stmt, inside_decl, sites_in_stmts, sites_in_decls, sites_in_body, sites_by, has_decls}
-use Rattle.algol_front_laws.proofs.Lists.{all-append, all-left, all-right}
+use Rattle.algol_told.proofs.Lists.{all-append, all-left, all-right}
 
 module _ (blocks : List Block) (Holds : Surroundings → Type 0) where
   -- it holds after a declaration too, and inside a procedure

@@ -1,0 +1,10 @@
+pub mod Lists
+pub mod Known
+pub mod Unbroken
+pub mod Walk
+pub mod Spots
+pub mod Apart
+pub mod Places
+pub mod Held
+pub mod Headings
+pub mod Told
