@@ -1,22 +1,33 @@
--- Walks over the declarations of a body, and over a body.
-use Rattle.std.proofs.Common.{◌≡◌, ◌+◌, true, false, List, [], ◌∷◌, ◌++◌, None, refl, ap, sym, ◌∙◌, subst}
+-- Walks over declarations, and over a body.
+use Rattle.std.proofs.Common.{◌≡◌, ◌+◌, true, false, List, [], ◌∷◌, ◌++◌, map, reverse, None, refl, ap, sym, ◌∙◌, subst, append-nil}
+use Rattle.std.proofs.lemmas.List.{reverse-append}
+use Rattle.std.specs.List.{flat_map}
 use Rattle.algol_tree.specs.declared.token.Spot.{Spot}
+use Rattle.algol_tree.specs.declared.tree.Heading.{Heading}
+use Rattle.algol_tree.specs.declared.tree.Kind.{Kind}
+use Rattle.algol_tree.specs.declared.tree.Named.{Named}
 use Rattle.algol_tree.specs.Plain as tree
-use Rattle.algol_tree.specs.Plain.{PBody, PDecl, PDecls, PStmts}
-use Rattle.algol_tree.specs.Blocks.{Begin, of_procedure, of_statement, number_at, spot_of, Block, blocks_in_decl, blocks_in_decls, blocks_in_stmts}
-use Rattle.algol_tree.specs.Surroundings.{Surroundings, knowing, knowing_all}
+use Rattle.algol_tree.specs.Plain.{PBody, PDecl, PDecls, PPair, PStmt, PStmts}
+use Rattle.algol_tree.specs.Sorts.{Declared}
+use Rattle.algol_tree.specs.Blocks.{Begin, of_procedure, of_statement, number_at, spot_of, Block, blocks_of, blocks_in_decl, blocks_in_decls, blocks_in_stmts, procedure_block}
+use Rattle.algol_tree.specs.Surroundings.{Surroundings, inside_procedure, knowing, knowing_all}
+use Rattle.algol_tree.specs.Accepted.{noted_all}
 use Rattle.algol_tree.specs.Sites as site
-use Rattle.algol_tree.specs.Sites.{has_decls, inside_decl, sites_in_decls, sites_in_stmts}
-use Rattle.algol_sites.specs.declared.known.Names.{Names}
+use Rattle.algol_tree.specs.Sites.{Site, has_decls, inside_decl, sites_in_decls, sites_in_pairs, sites_in_stmts}
+use Rattle.algol_frames.specs.declared.scopes.Scopes.{Scopes}
+use Rattle.algol_told.specs.Telling.{TellsAll}
 use Rattle.algol_sites.specs.declared.place.Place.{Place}
-use Rattle.algol_sites.specs.Placing.{IsFound, IsPlaced, outer_of}
-use Rattle.algol_sites.specs.Seen.{HaveFormals, IsBare}
-use Rattle.algol_sites.specs.Seeing.{Sees}
+use Rattle.algol_sites.specs.Headings.{forward_site, missing, referring}
+use Rattle.algol_sites.specs.Labelling.{labels_at, standing_as, standings_at}
+use Rattle.algol_sites.specs.Noting.{noted_along, noted_at}
+use Rattle.algol_sites.specs.Placing.{AreFound, IsFound, IsPlaced, outer_of}
+use Rattle.algol_sites.proofs.Headed.{procedure_noted}
+use Rattle.algol_sites.proofs.Telling.{first_told, last_told}
 use Rattle.algol_check.specs.declared.checker.Checker.{Checker}
-use Rattle.algol_check.specs.Walking.{IsAt, Noted, WalksBody, WalksStmts}
-use Rattle.algol_check.specs.Declaring.{Enters, InBody, WalksDecl, WalksDecls, begins}
-use Rattle.algol_check.proofs.Named.{bare_formals, bare_sees, outer_opened}
-use Rattle.algol_check.proofs.Walked.{found_alike, found_both, noted_both, noted_none, outer_alike, placed_alike}
+use Rattle.algol_check.specs.Walking.{IsAt, Noted, Stays, WalksBody, WalksStmt, WalksStmts, stmt_sites}
+use Rattle.algol_check.specs.Declaring.{Enters, EntersProcedure, WalksDecl, WalksDecls, begins}
+use Rattle.algol_check.proofs.Silent.{pairs_silent}
+use Rattle.algol_check.proofs.Walked.{found_alike, found_both, noted_both, noted_none, outer_alike, placed_alike, stays_at, stays_both}
 
 known_kept : (blocks : List Block) (p : Place) (d : PDecl) (later : PDecls) (a : Surroundings) → IsPlaced blocks p a → IsPlaced blocks p (knowing blocks d later a)
 known_kept blocks p d later a h = record { number = h.number; outer = h.outer; are_blocks = h.are_blocks }
@@ -25,73 +36,163 @@ all_kept : (blocks : List Block) (p : Place) (ds : PDecls) (a : Surroundings) �
 all_kept blocks p tree.no_decls a h = h
 all_kept blocks p (tree.decls d ds) a h = all_kept blocks p ds (knowing blocks d ds a) (known_kept blocks p d ds a h)
 
--- after the declaration
-decl_at : (blocks : List Block) (c d : Checker) (around : List Names) (x : PDecl) (later : PDecls) (a : Surroundings) → WalksDecl c d around x later → IsAt blocks c a →
-    IsAt blocks d (knowing blocks x later a)
-decl_at blocks c d around x later a w at =
-    record { sees = w.sees blocks a at; placed = known_kept blocks d.place x later a (placed_alike blocks a c.place d.place w.block w.outer at.placed) }
+pub outer_opened : (p q : Place) (spot : Spot) → q.block ≡ spot → q.around.items ≡ p.around.items ++ p.block ∷ [] → outer_of q ≡ spot ∷ outer_of p
+outer_opened p q spot b o =
+    ap (λ (s : Spot). s ∷ reverse q.around.items) b ∙ ap (λ (ss : List Spot). spot ∷ reverse ss) o
+    ∙ ap (λ (ss : List Spot). spot ∷ ss) (reverse-append p.around.items (p.block ∷ []))
 
-pub decls_end : (c : Checker) (around : List Names) → InBody c.known.items around → WalksDecls c c around tree.no_decls
-decls_end c around h =
-    record { in_body = h; block = refl; outer = refl; sees = λ blocks a at. at.sees; notes = λ blocks a first at s f. noted_none blocks c }
+module _ (scopes : Scopes) where
+  -- ---- declarations
 
-pub decls_more : (c d e : Checker) (around : List Names) (x : PDecl) (later : PDecls) → WalksDecl c d around x later → WalksDecls d e around later →
-    WalksDecls c e around (tree.decls x later)
-decls_more c d e around x later h w =
-    record {
-      in_body = w.in_body;
-      block = w.block ∙ h.block;
-      outer = w.outer ∙ h.outer;
-      sees = λ blocks a at. w.sees blocks (knowing blocks x later a) (decl_at blocks c d around x later a h at);
-      notes =
-          λ blocks a first at s f.
-          let next = knowing blocks x later a in
-          let same = outer_alike c.place d.place h.block h.outer in
-          let fs = found_both blocks (blocks_in_decl x (outer_of c.place)) (blocks_in_decls later (outer_of c.place)) f in
-          noted_both blocks c d e (record { part = site.declaration x later; around = a } ∷ inside_decl blocks x next first) (sites_in_decls blocks later next first)
-          (h.notes blocks a first at s fs.0)
-          (w.notes blocks next first (decl_at blocks c d around x later a h at) (record { names = s.names })
-          (found_alike blocks (blocks_in_decls later (outer_of c.place)) (blocks_in_decls later (outer_of d.place)) (ap (blocks_in_decls later) (sym same)) fs.1));
-    }
+  abbrev declaration : PDecl → PDecls → Surroundings → Site
+  declaration d later a = record { part = site.declaration d later; around = a }
 
-pub body_begins : (ts : List Names) (t : Names) → IsBare t.entries → HaveFormals ts → InBody (ts ++ t ∷ []) ts
-body_begins ts t b h = record { innermost = t; is = refl; formals = bare_formals ts t b h; formals_around = h }
+  -- after the declaration
+  decl_at : (blocks : List Block) (c d : Checker) (x : PDecl) (later : PDecls) (a : Surroundings) → Stays c d → IsAt scopes blocks c.place a →
+      IsAt scopes blocks d.place (knowing blocks x later a)
+  decl_at blocks c d x later a s at =
+      let now = stays_at scopes blocks a c d s at in record { placed = known_kept blocks d.place x later a now.placed; numbers = now.numbers }
 
-pub body_walks : (c d e f g : Checker) (t : Names) (spot : Spot) (ds : PDecls) (ss : PStmts) → IsBare t.entries → d ≡ record c { known = d.known } →
-    d.known.items ≡ c.known.items ++ t ∷ [] → WalksDecls d e c.known.items ds → WalksStmts e f ss (has_decls ds) → g ≡ record f { known = g.known } →
-    g.known.items ≡ c.known.items → WalksBody c g (tree.body spot ds ss)
-body_walks c d e f g t spot ds ss bare r k w v u n =
-    let place_d : (blocks : List Block) (a : Surroundings) → IsPlaced blocks c.place a → IsPlaced blocks d.place a =
-    λ blocks a. placed_alike blocks a c.place d.place (ap (λ (x : Checker). x.place.block) r) (ap (λ (x : Checker). x.place.around.items) r) in
-    let block_e = w.block ∙ ap (λ (x : Checker). x.place.block) r in
-    let outer_e = w.outer ∙ ap (λ (x : Checker). x.place.around.items) r in
-    record {
-      stays =
-          record {
-            known = n;
-            block = ap (λ (x : Checker). x.place.block) u ∙ v.stays.block ∙ block_e;
-            outer = ap (λ (x : Checker). x.place.around.items) u ∙ v.stays.outer ∙ outer_e;
-          };
-      notes =
-          λ blocks a at found.
-          let P : List Names → Type 0 = λ ts. Sees blocks ts a in
-          let at_d : IsAt blocks d a = record { sees = subst P (sym k) (bare_sees blocks c.known.items t a bare at.sees); placed = place_d blocks a at.placed } in
-          let all = knowing_all blocks ds a in
-          let at_e : IsAt blocks e all =
-          record { sees = w.sees blocks a at_d; placed = all_kept blocks e.place ds a (placed_alike blocks a c.place e.place block_e outer_e at.placed) } in
-          let fs = found_both blocks (blocks_in_decls ds (outer_of c.place)) (blocks_in_stmts ss (outer_of c.place)) found in
-          let same_d = outer_alike c.place d.place (ap (λ (x : Checker). x.place.block) r) (ap (λ (x : Checker). x.place.around.items) r) in
-          let same_e = outer_alike c.place e.place block_e outer_e in
-          let before = w.notes blocks a a.known at_d (record { names = at.sees.names })
-          (found_alike blocks (blocks_in_decls ds (outer_of c.place)) (blocks_in_decls ds (outer_of d.place)) (ap (blocks_in_decls ds) (sym same_d)) fs.0) in
-          let after = v.notes blocks all at_e
-          (found_alike blocks (blocks_in_stmts ss (outer_of c.place)) (blocks_in_stmts ss (outer_of e.place)) (ap (blocks_in_stmts ss) (sym same_e)) fs.1) in
-          let both = noted_both blocks d e f (sites_in_decls blocks ds a a.known) (sites_in_stmts blocks ss (has_decls ds) all) before after in
-          let From : Checker → Type 0 = λ x. Noted blocks x f (sites_in_decls blocks ds a a.known ++ sites_in_stmts blocks ss (has_decls ds) all) in
-          let from_c = subst From r both in
-          let To : Checker → Type 0 = λ x. Noted blocks c x (sites_in_decls blocks ds a a.known ++ sites_in_stmts blocks ss (has_decls ds) all) in
-          subst To (sym u) (record { faults = from_c.faults; labels = from_c.labels; standings = from_c.standings });
-    }
+  -- at which nothing is noted
+  pub quiet_walks : (c : Checker) (d : PDecl) (later : PDecls) → ((blocks : List Block) (a : Surroundings) (first : List Declared) →
+      (noted_at blocks c.faults.first (declaration d later a) ≡ c.faults.first) ×
+      ((inside_decl blocks d (knowing blocks d later a) first ≡ []) × (labels_at (declaration d later a) ≡ []))) → WalksDecl scopes c c d later
+  quiet_walks c d later q =
+      record {
+        stays = record { block = refl; outer = refl };
+        notes =
+            λ blocks a first at t f.
+            let its = q blocks a first in
+            let P : List Site → Type 0 = λ xs. Noted blocks c c (declaration d later a ∷ xs) in
+            subst P (sym its.1.0)
+            (record {
+              faults = sym its.0;
+              labels = sym (append-nil c.labels.items) ∙ ap (λ ls. c.labels.items ++ (ls ++ [])) (sym its.1.1);
+              standings = sym (append-nil (map standing_as c.standings.items));
+            });
+      }
+
+  pub labels_walk : (c d : Checker) (ns : List Named) (later : PDecls) → d ≡ record c { labels = d.labels } →
+      d.labels.items ≡ c.labels.items ++ map (λ (n : Named). n.spot) ns → WalksDecl scopes c d (tree.labels ns) later
+  labels_walk c d ns later r l =
+      record {
+        stays = record { block = ap (λ (x : Checker). x.place.block) r; outer = ap (λ (x : Checker). x.place.around.items) r };
+        notes =
+            λ blocks a first at t f.
+            record {
+              faults = ap (λ (x : Checker). x.faults.first) r;
+              labels = l ∙ ap (λ ls. c.labels.items ++ ls) (sym (append-nil (map (λ (n : Named). n.spot) ns)));
+              standings = ap (λ (x : Checker). map standing_as x.standings.items) r ∙ sym (append-nil (map standing_as c.standings.items));
+            };
+      }
+
+  pub arrays_walk : (c d : Checker) (kind : Kind) (ns : List Named) (ps : List PPair) (later : PDecls) → d ≡ record c { faults = d.faults } →
+      ((blocks : List Block) (a : Surroundings) → TellsAll scopes (sites_in_pairs ps a) →
+      d.faults.first ≡ noted_along blocks c.faults.first (sites_in_pairs ps a)) → WalksDecl scopes c d (tree.arrays kind ns ps) later
+  arrays_walk c d kind ns ps later r h =
+      record {
+        stays = record { block = ap (λ (x : Checker). x.place.block) r; outer = ap (λ (x : Checker). x.place.around.items) r };
+        notes =
+            λ blocks a first at t f.
+            let silent = pairs_silent (record a { known = first }) ps in
+            record {
+              faults = h blocks (record a { known = first }) t.1;
+              labels =
+                  ap (λ (x : Checker). x.labels.items) r ∙ sym (append-nil c.labels.items) ∙ ap (λ ls. c.labels.items ++ ls) (sym silent.labels);
+              standings =
+                  ap (λ (x : Checker). map standing_as x.standings.items) r ∙ sym (append-nil (map standing_as c.standings.items))
+                  ∙ ap (λ ss. map standing_as c.standings.items ++ ss) (sym silent.standings);
+            };
+      }
+
+  pub forward_walks : (c d : Checker) (h : Heading) (later : PDecls) → d ≡ record c { faults = d.faults } →
+      ((blocks : List Block) (a : Surroundings) → d.faults.first ≡ noted_at blocks c.faults.first (forward_site h later a)) →
+      WalksDecl scopes c d (tree.forward h) later
+  forward_walks c d h later r n =
+      record {
+        stays = record { block = ap (λ (x : Checker). x.place.block) r; outer = ap (λ (x : Checker). x.place.around.items) r };
+        notes =
+            λ blocks a first at t f.
+            record {
+              faults = n blocks a;
+              labels = ap (λ (x : Checker). x.labels.items) r ∙ sym (append-nil c.labels.items);
+              standings = ap (λ (x : Checker). map standing_as x.standings.items) r ∙ sym (append-nil (map standing_as c.standings.items));
+            };
+      }
+
+  pub procedure_walks : (c d e f g : Checker) (h : Heading) (s : PStmt) (later : PDecls) → d ≡ record c { faults = d.faults } →
+      d.faults.first ≡ noted_all (noted_all c.faults.first (missing h.specs h.params)) (referring h.specs h.values) → e ≡ record d { place = e.place } →
+      EntersProcedure d.place e.place h → WalksStmt scopes e f s of_procedure false → g ≡ record f { place = g.place } → g.place.block ≡ d.place.block →
+      g.place.around.items ≡ d.place.around.items → WalksDecl scopes c g (tree.procedure h s) later
+  procedure_walks c d e f g h s later r n t en w u b o =
+      let block_d = ap (λ (x : Checker). x.place.block) r in
+      let outer_d = ap (λ (x : Checker). x.place.around.items) r in
+      record {
+        stays = record { block = b ∙ block_d; outer = o ∙ outer_d };
+        notes =
+            λ blocks a first at told found.
+            let now = knowing blocks (tree.procedure h s) later a in
+            let same = outer_alike c.place d.place block_d outer_d in
+            let placed = known_kept blocks d.place (tree.procedure h s) later a (placed_alike blocks a c.place d.place block_d outer_d at.placed) in
+            let F : List Spot → Type 0 = λ outer. AreFound blocks (procedure_block h s outer ∷ blocks_of s of_procedure (h.name.spot ∷ outer)) in
+            let found_d = subst F (sym same) found in
+            let at_e : IsAt scopes blocks e.place (inside_procedure blocks h now) =
+            record { placed = en.placed blocks now s placed found_d.0; numbers = at.numbers } in
+            let G : List Spot → Type 0 = λ outer. AreFound blocks (blocks_of s of_procedure outer) in
+            let parts = stmt_sites s of_procedure false blocks (inside_procedure blocks h now) in
+            let inner = w.notes blocks (inside_procedure blocks h now) at_e told.1 (subst G (sym (outer_opened d.place e.place h.name.spot en.block en.outer)) found_d.1) in
+            record {
+              faults =
+                  ap (λ (x : Checker). x.faults.first) u ∙ inner.faults
+                  ∙ ap (λ y. noted_along blocks y parts) (ap (λ (x : Checker). x.faults.first) t ∙ procedure_noted blocks a h s later c.faults.first d.faults.first n);
+              labels =
+                  ap (λ (x : Checker). x.labels.items) u ∙ inner.labels
+                  ∙ ap (λ ls. ls ++ flat_map labels_at parts) (ap (λ (x : Checker). x.labels.items) t ∙ ap (λ (x : Checker). x.labels.items) r);
+              standings =
+                  ap (λ (x : Checker). map standing_as x.standings.items) u ∙ inner.standings
+                  ∙ ap (λ ss. ss ++ flat_map standings_at parts)
+                  (ap (λ (x : Checker). map standing_as x.standings.items) t ∙ ap (λ (x : Checker). map standing_as x.standings.items) r);
+            };
+      }
+
+  pub decls_end : (c : Checker) → WalksDecls scopes c c tree.no_decls
+  decls_end c = record { stays = record { block = refl; outer = refl }; notes = λ blocks a first at t f. noted_none blocks c }
+
+  pub decls_more : (c d e : Checker) (x : PDecl) (later : PDecls) → WalksDecl scopes c d x later → WalksDecls scopes d e later →
+      WalksDecls scopes c e (tree.decls x later)
+  decls_more c d e x later h w =
+      record {
+        stays = stays_both c d e h.stays w.stays;
+        notes =
+            λ blocks a first at t f.
+            let next = knowing blocks x later a in
+            let same = outer_alike c.place d.place h.stays.block h.stays.outer in
+            let here : List Site = declaration x later a ∷ inside_decl blocks x next first in
+            let rest : List Site = sites_in_decls blocks later next first in
+            let fs = found_both blocks (blocks_in_decl x (outer_of c.place)) (blocks_in_decls later (outer_of c.place)) f in
+            noted_both blocks c d e here rest (h.notes blocks a first at (first_told scopes here rest t) fs.0)
+            (w.notes blocks next first (decl_at blocks c d x later a h.stays at) (last_told scopes here rest t)
+            (found_alike blocks (blocks_in_decls later (outer_of c.place)) (blocks_in_decls later (outer_of d.place)) (ap (blocks_in_decls later) (sym same)) fs.1));
+      }
+
+  pub body_walks : (c d e : Checker) (spot : Spot) (ds : PDecls) (ss : PStmts) → WalksDecls scopes c d ds → WalksStmts scopes d e ss (has_decls ds) →
+      WalksBody scopes c e (tree.body spot ds ss)
+  body_walks c d e spot ds ss w v =
+      record {
+        stays = stays_both c d e w.stays v.stays;
+        notes =
+            λ blocks a at t found.
+            let all = knowing_all blocks ds a in
+            let xs : List Site = sites_in_decls blocks ds a a.known in
+            let ys : List Site = sites_in_stmts blocks ss (has_decls ds) all in
+            let at_d = stays_at scopes blocks a c d w.stays at in
+            let at_all : IsAt scopes blocks d.place all = record { placed = all_kept blocks d.place ds a at_d.placed; numbers = at_d.numbers } in
+            let fs = found_both blocks (blocks_in_decls ds (outer_of c.place)) (blocks_in_stmts ss (outer_of c.place)) found in
+            let same = outer_alike c.place d.place w.stays.block w.stays.outer in
+            noted_both blocks c d e xs ys (w.notes blocks a a.known at (first_told scopes xs ys t) fs.0)
+            (v.notes blocks all at_all (last_told scopes xs ys t)
+            (found_alike blocks (blocks_in_stmts ss (outer_of c.place)) (blocks_in_stmts ss (outer_of d.place)) (ap (blocks_in_stmts ss) (sym same)) fs.1));
+      }
 
 -- ---- blocks of statements
 
@@ -113,3 +214,15 @@ pub enters_none : (p : Place) (b : PBody) (begin : Begin) → false ≡ begins b
 enters_none p b of_procedure t = record { outer = refl; placed = λ blocks a placed found. placed }
 enters_none p (tree.body at tree.no_decls ss) of_statement t = record { outer = refl; placed = λ blocks a placed found. placed }
 enters_none p (tree.body at (tree.decls d ds) ss) of_statement t = absurd (let clash : false ≡ true = t in cc)
+
+-- ---- procedures
+
+pub enters_procedure : (p q : Place) (h : Heading) → q.block ≡ h.name.spot → q.around.items ≡ p.around.items ++ p.block ∷ [] →
+    ((blocks : List Block) (x : Block) (a k : Surroundings) → IsPlaced blocks p a → IsFound blocks x → x.spot ≡ h.name.spot → x.outer ≡ outer_of p →
+    k.block ≡ number_at blocks h.name.spot → IsPlaced blocks q k) → EntersProcedure p q h
+enters_procedure p q h b o placed =
+    record {
+      block = b;
+      outer = o;
+      placed = λ blocks a s at found. placed blocks (procedure_block h s (outer_of p)) a (inside_procedure blocks h a) at found refl refl refl;
+    }

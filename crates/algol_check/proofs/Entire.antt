@@ -18,13 +18,13 @@ use Rattle.algol_tree.specs.Ascending.{IsInOrder}
 use Rattle.algol_tree.specs.Accepted.{check_faults, first_fault, noted_all}
 use Rattle.algol_rules.specs.Refusing.{refusing}
 use Rattle.algol_rules.proofs.Order.{first-none}
-use Rattle.algol_sites.specs.declared.known.Names.{Names}
+use Rattle.algol_frames.specs.declared.scopes.Scopes.{Scopes}
+use Rattle.algol_scope.specs.Resolved.{AreOf, number_of_block}
+use Rattle.algol_told.proofs.Told.{each-part-is-told}
 use Rattle.algol_sites.specs.declared.label.Standing.{Standing}
 use Rattle.algol_sites.specs.Labelling.{bad_in, labels_at, standing_as, standings_at}
 use Rattle.algol_sites.specs.Noting.{noted_along}
-use Rattle.algol_sites.specs.Placing.{AreFound, IsFound, IsPlaced, outer_of}
-use Rattle.algol_sites.specs.Seeing.{Sees}
-use Rattle.algol_sites.specs.Seen.{HaveFormals}
+use Rattle.algol_sites.specs.Placing.{AreFound, IsFound, IsPlaced, Numbers, outer_of}
 use Rattle.algol_sites.proofs.Checked.{checked}
 use Rattle.algol_check.specs.declared.checker.Checker.{Checker}
 use Rattle.algol_check.specs.Walking.{IsAt, WalksBody}
@@ -32,9 +32,8 @@ use Rattle.algol_check.proofs.Arms.{body_is}
 use Rattle.algol_check.proofs.Ordered.{itself, stand_apart}
 use Rattle.algol_check.proofs.Walked.{found_alike}
 
--- nothing is known, and nothing was noted
+-- nothing was noted
 pub record IsFresh (c : Checker) (begin : Spot) : Type 0 where
-  pub known : c.known.items ≡ []
   pub block : c.place.block ≡ begin
   pub around : c.place.around.items ≡ []
   pub placed : (blocks : List Block) (b : Block) (a : Surroundings) → IsFound blocks b → b.spot ≡ begin → b.outer ≡ [] → a.block ≡ number_at blocks begin → IsPlaced blocks c.place a
@@ -42,38 +41,41 @@ pub record IsFresh (c : Checker) (begin : Spot) : Type 0 where
   pub standings : c.standings.items ≡ []
   pub faults : c.faults.first ≡ None
 
-pub fresh_formals : (ts : List Names) → ts ≡ [] → HaveFormals ts
-fresh_formals ts e = let P : List Names → Type 0 = HaveFormals in subst P (sym e) (λ q. tt)
+numbers : (p : PProgram) (scopes : Scopes) → AreOf p scopes → Numbers scopes (blocks_of_program p)
+unfolding number_of_block
+numbers p scopes are = are.numbers
 
 fresh_outer : (c : Checker) (spot : Spot) → IsFresh c spot → outer_of c.place ≡ spot ∷ []
 fresh_outer c spot h =
     ap (λ (ss : List Spot). c.place.block ∷ reverse ss) h.around ∙ ap (λ (s : Spot). s ∷ []) h.block
 
-plain_first : (spot : Spot) (ds : PDecls) (ss : PStmts) (c d : Checker) (g : Option Fault) → IsInOrder (tree.program (tree.body spot ds ss)) → IsFresh c spot →
-    WalksBody c d (tree.body spot ds ss) → g ≡ noted_all d.faults.first (bad_in d.standings.items d.labels.items) →
-    g ≡ first_fault (check_faults (tree.program (tree.body spot ds ss)))
+plain_first : (scopes : Scopes) (spot : Spot) (ds : PDecls) (ss : PStmts) (c d : Checker) (g : Option Fault) → IsInOrder (tree.program (tree.body spot ds ss)) →
+    AreOf (tree.program (tree.body spot ds ss)) scopes → IsFresh c spot → WalksBody scopes c d (tree.body spot ds ss) →
+    g ≡ noted_all d.faults.first (bad_in d.standings.items d.labels.items) → g ≡ first_fault (check_faults (tree.program (tree.body spot ds ss)))
 unfolding blocks_of_program
-plain_first spot ds ss c d g order fresh w q =
+plain_first scopes spot ds ss c d g order are fresh w q =
     let b = tree.body spot ds ss in
     let p = tree.program b in
     let blocks = outer_block b ∷ blocks_in_body b (spot ∷ []) in
     let found : AreFound blocks blocks = stand_apart p order in
     let number : 0 ≡ number_at blocks spot = sym (ap (λ same. if same then 0 else number_at (blocks_in_body b (spot ∷ [])) spot + 1) (itself spot)) in
-    let P : List Names → Type 0 = λ ts. Sees blocks ts outermost in
-    let at : IsAt blocks c outermost =
-    record { sees = subst P (sym fresh.known) (record { names = λ q'. tt }); placed = fresh.placed blocks (outer_block b) outermost found.0 refl refl number } in
-    let n = w.notes blocks outermost at (found_alike blocks (blocks_in_body b (spot ∷ [])) (blocks_in_body b (outer_of c.place)) (ap (blocks_in_body b) (sym (fresh_outer c spot fresh))) found.1) in
+    let at : IsAt scopes blocks c.place outermost =
+    record { placed = fresh.placed blocks (outer_block b) outermost found.0 refl refl number; numbers = numbers p scopes are } in
+    let n = w.notes blocks outermost at (each-part-is-told p scopes order are)
+    (found_alike blocks (blocks_in_body b (spot ∷ [])) (blocks_in_body b (outer_of c.place)) (ap (blocks_in_body b) (sym (fresh_outer c spot fresh))) found.1) in
     let parts = sites_in_body blocks b outermost in
     checked p d.faults.first g d.standings.items d.labels.items (n.faults ∙ ap (λ f. noted_along blocks f parts) fresh.faults)
     (n.standings ∙ ap (λ (xs : List Standing). map standing_as xs ++ flat_map standings_at parts) fresh.standings)
     (n.labels ∙ ap (λ (ls : List Spot). ls ++ flat_map labels_at parts) fresh.labels) q
 
-pub first_found : (b : Body) (c d : Checker) (g : Option Fault) → IsInOrder (tree.program (body b)) → IsFresh c b.spot → WalksBody c d (body b) →
-    g ≡ noted_all d.faults.first (bad_in d.standings.items d.labels.items) → g ≡ first_fault (check_faults (tree.program (body b)))
-first_found b c d g order fresh w q =
+pub first_found : (scopes : Scopes) (b : Body) (c d : Checker) (g : Option Fault) → IsInOrder (tree.program (body b)) → AreOf (tree.program (body b)) scopes →
+    IsFresh c b.spot → WalksBody scopes c d (body b) → g ≡ noted_all d.faults.first (bad_in d.standings.items d.labels.items) →
+    g ≡ first_fault (check_faults (tree.program (body b)))
+first_found scopes b c d g order are fresh w q =
     let P : PBody → Type 0 = λ x. IsInOrder (tree.program x) in
-    let Q : PBody → Type 0 = λ x. WalksBody c d x in
-    plain_first b.spot (decls b.decls) (stmts b.stmts) c d g (subst P (body_is b) order) fresh (subst Q (body_is b) w) q
+    let Q : PBody → Type 0 = λ x. WalksBody scopes c d x in
+    let R : PBody → Type 0 = λ x. AreOf (tree.program x) scopes in
+    plain_first scopes b.spot (decls b.decls) (stmts b.stmts) c d g (subst P (body_is b) order) (subst R (body_is b) are) fresh (subst Q (body_is b) w) q
     ∙ sym (ap (λ (x : PBody). first_fault (check_faults (tree.program x))) (body_is b))
 
 -- ---- the answer

@@ -2,7 +2,6 @@ pub mod Bodies
 pub mod Silent
 pub mod Walked
 pub mod Stated
-pub mod Named
 pub mod Bodied
 pub mod Arms
 pub mod Ordered

@@ -8,11 +8,12 @@ use Rattle.algol_tree.specs.Surroundings.{Surroundings}
 use Rattle.algol_tree.specs.Sites.{Site}
 use Rattle.algol_rules.specs.declared.fault.Faults.{Faults}
 use Rattle.algol_sites.specs.declared.place.Place.{Place}
-use Rattle.algol_sites.specs.declared.known.Names.{Names}
+use Rattle.algol_frames.specs.declared.scopes.Scopes.{Scopes}
+use Rattle.algol_told.specs.Telling.{TellsAll}
 use Rattle.algol_sites.specs.Labelling.{standing_as, standings_at, labels_at}
 use Rattle.algol_sites.specs.Noting.{noted_along}
 use Rattle.algol_sites.specs.Placing.{AreBlocks, AreFound, IsPlaced, outer_of}
-use Rattle.algol_sites.specs.Seeing.{Sees}
+use Rattle.algol_sites.proofs.Telling.{first_told, last_told}
 use Rattle.algol_sites.proofs.Notes.{noted_along-append}
 use Rattle.algol_check.specs.declared.checker.Checker.{Checker}
 use Rattle.algol_check.specs.Walking.{IsAt, Noted, Stays, Walks, no_blocks}
@@ -32,17 +33,15 @@ placed_alike blocks a p q b o h =
       are_blocks = subst P (sym (outer_alike p q b o)) h.are_blocks;
     }
 
-pub at_alike : (blocks : List Block) (a : Surroundings) (c d : Checker) → d.known.items ≡ c.known.items → d.place.block ≡ c.place.block →
-    d.place.around.items ≡ c.place.around.items → IsAt blocks c a → IsAt blocks d a
-at_alike blocks a c d k b o h =
-    let P : List Names → Type 0 = λ ts. Sees blocks ts a in
-    record { sees = subst P (sym k) h.sees; placed = placed_alike blocks a c.place d.place b o h.placed }
+pub at_alike : (scopes : Scopes) (blocks : List Block) (a : Surroundings) (p q : Place) → q.block ≡ p.block → q.around.items ≡ p.around.items →
+    IsAt scopes blocks p a → IsAt scopes blocks q a
+at_alike scopes blocks a p q b o h = record { placed = placed_alike blocks a p q b o h.placed; numbers = h.numbers }
 
-pub stays_at : (blocks : List Block) (a : Surroundings) (c d : Checker) → Stays c d → IsAt blocks c a → IsAt blocks d a
-stays_at blocks a c d s h = at_alike blocks a c d s.known s.block s.outer h
+pub stays_at : (scopes : Scopes) (blocks : List Block) (a : Surroundings) (c d : Checker) → Stays c d → IsAt scopes blocks c.place a → IsAt scopes blocks d.place a
+stays_at scopes blocks a c d s h = at_alike scopes blocks a c.place d.place s.block s.outer h
 
 pub stays_both : (c d e : Checker) → Stays c d → Stays d e → Stays c e
-stays_both c d e s t = record { known = t.known ∙ s.known; block = t.block ∙ s.block; outer = t.outer ∙ s.outer }
+stays_both c d e s t = record { block = t.block ∙ s.block; outer = t.outer ∙ s.outer }
 
 -- ---- what is noted
 
@@ -82,28 +81,30 @@ found_both blocks (x ∷ xs) ys h = let k = found_both blocks xs ys h.1 in ((h.0
 pub found_alike : (blocks xs ys : List Block) → xs ≡ ys → AreFound blocks xs → AreFound blocks ys
 found_alike blocks xs ys e h = let P : List Block → Type 0 = AreFound blocks in subst P e h
 
-pub walks_none : (c : Checker) → Walks c c no_blocks (λ blocks a. [])
-walks_none c = record { stays = record { known = refl; block = refl; outer = refl }; notes = λ blocks a at f. noted_none blocks c }
+module _ (scopes : Scopes) where
+  pub walks_none : (c : Checker) → Walks scopes c c no_blocks (λ blocks a. [])
+  walks_none c = record { stays = record { block = refl; outer = refl }; notes = λ blocks a at t f. noted_none blocks c }
 
-pub walks_both : (c d e : Checker) (i j : List Spot → List Block) (xs ys : List Block → Surroundings → List Site) → Walks c d i xs → Walks d e j ys →
-    Walks c e (λ outer. i outer ++ j outer) (λ blocks a. xs blocks a ++ ys blocks a)
-walks_both c d e i j xs ys h k =
-    record {
-      stays = stays_both c d e h.stays k.stays;
-      notes =
-          λ blocks a at f.
-          let same = outer_alike c.place d.place h.stays.block h.stays.outer in
-          let fs = found_both blocks (i (outer_of c.place)) (j (outer_of c.place)) f in
-          noted_both blocks c d e (xs blocks a) (ys blocks a) (h.notes blocks a at fs.0)
-          (k.notes blocks a (stays_at blocks a c d h.stays at) (found_alike blocks (j (outer_of c.place)) (j (outer_of d.place)) (ap j (sym same)) fs.1));
-    }
+  pub walks_both : (c d e : Checker) (i j : List Spot → List Block) (xs ys : List Block → Surroundings → List Site) → Walks scopes c d i xs → Walks scopes d e j ys →
+      Walks scopes c e (λ outer. i outer ++ j outer) (λ blocks a. xs blocks a ++ ys blocks a)
+  walks_both c d e i j xs ys h k =
+      record {
+        stays = stays_both c d e h.stays k.stays;
+        notes =
+            λ blocks a at t f.
+            let same = outer_alike c.place d.place h.stays.block h.stays.outer in
+            let fs = found_both blocks (i (outer_of c.place)) (j (outer_of c.place)) f in
+            noted_both blocks c d e (xs blocks a) (ys blocks a) (h.notes blocks a at (first_told scopes (xs blocks a) (ys blocks a) t) fs.0)
+            (k.notes blocks a (stays_at scopes blocks a c d h.stays at) (last_told scopes (xs blocks a) (ys blocks a) t)
+            (found_alike blocks (j (outer_of c.place)) (j (outer_of d.place)) (ap j (sym same)) fs.1));
+      }
 
--- parts that no block begins in, at which only faults are noted
-pub walks_silent : (c : Checker) (f : Faults) (xs : List Block → Surroundings → List Site) → ((blocks : List Block) (a : Surroundings) → IsSilent (xs blocks a)) →
-    ((blocks : List Block) (a : Surroundings) → IsAt blocks c a → f.first ≡ noted_along blocks c.faults.first (xs blocks a)) →
-    Walks c (record c { faults = f }) no_blocks xs
-walks_silent c f xs s h =
-    record {
-      stays = record { known = refl; block = refl; outer = refl };
-      notes = λ blocks a at found. noted_silent blocks c f (xs blocks a) (s blocks a) (h blocks a at);
-    }
+  -- parts that no block begins in, at which only faults are noted
+  pub walks_silent : (c : Checker) (f : Faults) (xs : List Block → Surroundings → List Site) → ((blocks : List Block) (a : Surroundings) → IsSilent (xs blocks a)) →
+      ((blocks : List Block) (a : Surroundings) → IsAt scopes blocks c.place a → TellsAll scopes (xs blocks a) →
+      f.first ≡ noted_along blocks c.faults.first (xs blocks a)) → Walks scopes c (record c { faults = f }) no_blocks xs
+  walks_silent c f xs s h =
+      record {
+        stays = record { block = refl; outer = refl };
+        notes = λ blocks a at t found. noted_silent blocks c f (xs blocks a) (s blocks a) (h blocks a at t);
+      }

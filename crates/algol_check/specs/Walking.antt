@@ -13,8 +13,11 @@ use Rattle.algol_tree.specs.Accepted.{noted_all}
 use Rattle.algol_rules.specs.declared.fault.Faults.{Faults}
 use Rattle.algol_sites.specs.Labelling.{standing_as, standings_at, labels_at}
 use Rattle.algol_sites.specs.Noting.{mistyped, noted_along, noted_at}
-use Rattle.algol_sites.specs.Placing.{AreFound, IsPlaced, outer_of}
-use Rattle.algol_sites.specs.Seeing.{Sees, for_site}
+use Rattle.algol_frames.specs.declared.scopes.Scopes.{Scopes}
+use Rattle.algol_told.specs.Telling.{Tells, TellsAll}
+use Rattle.algol_sites.specs.declared.place.Place.{Place}
+use Rattle.algol_sites.specs.Placing.{AreFound, IsPlaced, Numbers, outer_of}
+use Rattle.algol_sites.specs.Seeing.{for_site}
 use Rattle.algol_check.specs.declared.checker.Checker.{Checker}
 use Rattle.algol_check.specs.declared.checker.Begin.{Begin}
 use Rattle.algol_check.specs.declared.checker.Begin.TheVariants as begins
@@ -23,14 +26,13 @@ abbrev pub begin_as : Begin → blocks'.Begin
 begin_as begins.OfStatement = blocks'.of_statement
 begin_as begins.OfProcedure = blocks'.of_procedure
 
--- what is kept stands for the surroundings of the place
-pub record IsAt (blocks : List Block) (c : Checker) (a : Surroundings) : Type 0 where
-  pub sees : Sees blocks c.known.items a
-  pub placed : IsPlaced blocks c.place a
+-- The place is in the block of these surroundings, and the scopes tell the numbers of the blocks.
+pub record IsAt (scopes : Scopes) (blocks : List Block) (place : Place) (a : Surroundings) : Type 0 where
+  pub placed : IsPlaced blocks place a
+  pub numbers : Numbers scopes blocks
 
--- the known names and the place are as they were
+-- the place is as it was
 pub record Stays (old new : Checker) : Type 0 where
-  pub known : new.known.items ≡ old.known.items
   pub block : new.place.block ≡ old.place.block
   pub outer : new.place.around.items ≡ old.place.around.items
 
@@ -40,10 +42,11 @@ pub record Noted (blocks : List Block) (old new : Checker) (parts : List Site) :
   pub labels : new.labels.items ≡ old.labels.items ++ flat_map labels_at parts
   pub standings : map standing_as new.standings.items ≡ map standing_as old.standings.items ++ flat_map standings_at parts
 
--- A walk over parts, in which blocks begin: `inner`, by the blocks around them.
-pub record Walks (old new : Checker) (inner : List Spot → List Block) (parts : List Block → Surroundings → List Site) : Type 0 where
+-- A walk over parts of whose names the scopes tell, in which blocks begin: `inner`, by the blocks around them.
+pub record Walks (scopes : Scopes) (old new : Checker) (inner : List Spot → List Block) (parts : List Block → Surroundings → List Site) : Type 0 where
   pub stays : Stays old new
-  pub notes : (blocks : List Block) (a : Surroundings) → IsAt blocks old a → AreFound blocks (inner (outer_of old.place)) → Noted blocks old new (parts blocks a)
+  pub notes : (blocks : List Block) (a : Surroundings) → IsAt scopes blocks old.place a → TellsAll scopes (parts blocks a) →
+      AreFound blocks (inner (outer_of old.place)) → Noted blocks old new (parts blocks a)
 
 -- ---- parts of a tree
 
@@ -54,30 +57,31 @@ no_blocks outer = []
 abbrev pub stmt_sites : PStmt → blocks'.Begin → Bool → List Block → Surroundings → List Site
 stmt_sites s begin listed blocks a = here_stmt s listed a ∷ inside_stmt blocks s begin listed a
 
-abbrev pub WalksStmt : Checker → Checker → PStmt → blocks'.Begin → Bool → Type 0
-WalksStmt old new s begin listed = Walks old new (blocks_of s begin) (stmt_sites s begin listed)
+abbrev pub WalksStmt : Scopes → Checker → Checker → PStmt → blocks'.Begin → Bool → Type 0
+WalksStmt scopes old new s begin listed = Walks scopes old new (blocks_of s begin) (stmt_sites s begin listed)
 
-abbrev pub WalksStmts : Checker → Checker → PStmts → Bool → Type 0
-WalksStmts old new ss listed = Walks old new (blocks_in_stmts ss) (λ blocks a. sites_in_stmts blocks ss listed a)
+abbrev pub WalksStmts : Scopes → Checker → Checker → PStmts → Bool → Type 0
+WalksStmts scopes old new ss listed = Walks scopes old new (blocks_in_stmts ss) (λ blocks a. sites_in_stmts blocks ss listed a)
 
-abbrev pub WalksBody : Checker → Checker → PBody → Type 0
-WalksBody old new b = Walks old new (blocks_in_body b) (λ blocks a. sites_in_body blocks b a)
+abbrev pub WalksBody : Scopes → Checker → Checker → PBody → Type 0
+WalksBody scopes old new b = Walks scopes old new (blocks_in_body b) (λ blocks a. sites_in_body blocks b a)
 
 -- ---- parts of statements
 
 -- an expression of which this type is wanted was noted
-abbrev pub IsTyped : Checker → Faults → Kind → PExpr → Type 0
-IsTyped c f k e =
-    (blocks : List Block) (a : Surroundings) → Sees blocks c.known.items a → f.first ≡ noted_along blocks (noted_all c.faults.first (mistyped k e a)) (sites e a)
+abbrev pub IsTyped : Scopes → Checker → Faults → Kind → PExpr → Type 0
+IsTyped scopes c f k e =
+    (blocks : List Block) (a : Surroundings) → TellsAll scopes (sites e a) →
+    f.first ≡ noted_along blocks (noted_all c.faults.first (mistyped k e a)) (sites e a)
 
 -- what stands before the statement of FOR was noted
-abbrev pub IsCounted : Checker → Faults → Named → PExpr → PExpr → PExpr → Type 0
-IsCounted c f v x s l =
-    (blocks : List Block) (a : Surroundings) (t : PStmt) (listed : Bool) → Sees blocks c.known.items a →
+abbrev pub IsCounted : Scopes → Checker → Faults → Named → PExpr → PExpr → PExpr → Type 0
+IsCounted scopes c f v x s l =
+    (blocks : List Block) (a : Surroundings) (t : PStmt) (listed : Bool) → Tells scopes a v → TellsAll scopes (sites x a ++ sites s a ++ sites l a) →
     f.first ≡ noted_along blocks (noted_at blocks c.faults.first (for_site v x s l t listed a)) (sites x a ++ sites s a ++ sites l a)
 
 -- A walk over a statement, after an expression of which this type is wanted.
-pub record WalksGuarded (old new : Checker) (k : Kind) (e : PExpr) (s : PStmt) : Type 0 where
+pub record WalksGuarded (scopes : Scopes) (old new : Checker) (k : Kind) (e : PExpr) (s : PStmt) : Type 0 where
   pub faults : Faults
-  pub typed : IsTyped old faults k e
-  pub walks : WalksStmt (record old { faults = faults }) new s blocks'.of_statement false
+  pub typed : IsTyped scopes old faults k e
+  pub walks : WalksStmt scopes (record old { faults = faults }) new s blocks'.of_statement false

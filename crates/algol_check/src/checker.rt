@@ -13,13 +13,13 @@ ghost use Rattle.algol_tree.specs.Surroundings.{Surroundings};
 ghost use Rattle.algol_sites.specs.declared.place.Place.{Place};
 ghost use Rattle.algol_sites.specs.Labelling.{bad_in, label_site};
 ghost use Rattle.algol_sites.specs.Placing.{IsFound, IsPlaced};
-ghost use Rattle.algol_sites.specs.Seen.{HaveFormals};
 ghost use Rattle.algol_check.specs.Walking.{IsCounted, IsTyped, Walks, WalksStmt, begin_as, no_blocks};
 ghost use Rattle.algol_check.specs.Declaring.{Enters, Opens, begins, decls_in};
 
+use algol_frames::Scopes;
 use algol_rules::Faults;
 use algol_sites::{
-    Names, Place, Standing, Wanted, assign, call, check_labels, counting, event, go_to, process,
+    Place, Standing, Wanted, assign, call, check_labels, counting, event, go_to, process,
     standing_at, typed, want_name, write,
 };
 use algol_tree::{Body, Call, Code, EventName, Expr, Kind, Named, PhraseText, Spot, Variable};
@@ -34,10 +34,8 @@ pub enum Begin {
 
 /// What a walk over a tree keeps.
 #[derive(Drop)]
-pub struct Checker<'p> {
+pub struct Checker {
     pub alloc: Global,
-    /// The names that are known, the innermost last: of each block its parameters, and its declarations.
-    pub known: Vec<Names<'p>>,
     pub place: Place,
     /// Where labels are declared.
     pub labels: Vec<Spot>,
@@ -62,10 +60,9 @@ fn begins_block(b: &Body, begin: Begin) -> bool
     }
 }
 
-impl<'p> Checker<'p> {
+impl Checker {
     /// The checks of a program whose BEGIN stands there.
-    pub fn new(alloc: Global, begin: Spot) -> Checker<'p>
-        ensures known { result.known.items ≡ [] }
+    pub fn new(alloc: Global, begin: Spot) -> Checker
         ensures block { result.place.block ≡ begin }
         ensures around { result.place.around.items ≡ [] }
         ensures placed { (blocks : List Block) (b : Block) (a : Surroundings) → IsFound blocks b → b.spot ≡ begin → b.outer ≡ [] → a.block ≡ number_at blocks begin → IsPlaced blocks result.place a }
@@ -75,7 +72,6 @@ impl<'p> Checker<'p> {
     {
         Checker {
             alloc,
-            known: Vec::new(alloc),
             place: Place::outermost(alloc, begin),
             labels: Vec::new(alloc),
             standings: Vec::new(alloc),
@@ -86,18 +82,17 @@ impl<'p> Checker<'p> {
     // ---- statements without statements in them
 
     /// A label before a statement, which is in the list of statements of its block or is not.
-    pub fn label(&mut self, name: &Named, listed: bool) -> Result<(), AllocError>
-        ensures { OnOk result ((s : PStmt) → Walks self.old self.new no_blocks (λ blocks a. label_site name.now s listed a ∷ [])) }
+    pub fn label(&mut self, scopes: &Scopes, name: &Named, listed: bool) -> Result<(), AllocError>
+        ensures { OnOk result ((s : PStmt) → Walks scopes.now self.old self.new no_blocks (λ blocks a. label_site name.now s listed a ∷ [])) }
     {
-        let known = self.known.as_slice();
         want_name(
-            known,
+            scopes,
             name,
             Wanted::Label,
             Code::WrongType,
             &mut self.faults,
         );
-        match standing_at(known, &self.place, name, listed) {
+        match standing_at(scopes, &self.place, name, listed) {
             None => Ok(()),
             Some(standing) => {
                 self.standings.push(standing)?;
@@ -107,82 +102,70 @@ impl<'p> Checker<'p> {
     }
 
     /// An assignment.
-    pub fn assign(&mut self, v: &Variable, value: &Expr)
-        requires { HaveFormals self.old.known.items }
-        ensures { (begin : blocks.Begin) (listed : Bool) → WalksStmt self.old self.new (tree.assign (variable v.now) (expr value.now)) begin listed }
+    pub fn assign(&mut self, scopes: &Scopes, v: &Variable, value: &Expr)
+        ensures { (begin : blocks.Begin) (listed : Bool) → WalksStmt scopes.now self.old self.new (tree.assign (variable v.now) (expr value.now)) begin listed }
     {
-        assign(
-            self.known.as_slice(),
-            &self.place,
-            v,
-            value,
-            &mut self.faults,
-        );
+        assign(scopes, &self.place, v, value, &mut self.faults);
     }
 
     /// A call that is a statement.
-    pub fn call(&mut self, c: &Call)
-        requires { HaveFormals self.old.known.items }
-        ensures { (begin : blocks.Begin) (listed : Bool) → WalksStmt self.old self.new (tree.call_of (call c.now)) begin listed }
+    pub fn call(&mut self, scopes: &Scopes, c: &Call)
+        ensures { (begin : blocks.Begin) (listed : Bool) → WalksStmt scopes.now self.old self.new (tree.call_of (call c.now)) begin listed }
     {
-        call(self.known.as_slice(), c, &mut self.faults);
+        call(scopes, c, &mut self.faults);
     }
 
     /// GO TO.
-    pub fn go_to(&mut self, name: &Named)
-        ensures { (begin : blocks.Begin) (listed : Bool) → WalksStmt self.old self.new (tree.go_to name.now) begin listed }
+    pub fn go_to(&mut self, scopes: &Scopes, name: &Named)
+        ensures { (begin : blocks.Begin) (listed : Bool) → WalksStmt scopes.now self.old self.new (tree.go_to name.now) begin listed }
     {
-        go_to(self.known.as_slice(), name, &mut self.faults);
+        go_to(scopes, name, &mut self.faults);
     }
 
     /// A statement on an event.
-    pub fn event(&mut self, e: &EventName)
-        ensures { (act : EventAct) (begin : blocks.Begin) (listed : Bool) → WalksStmt self.old self.new (tree.event act e.now) begin listed }
+    pub fn event(&mut self, scopes: &Scopes, e: &EventName)
+        ensures { (act : EventAct) (begin : blocks.Begin) (listed : Bool) → WalksStmt scopes.now self.old self.new (tree.event act e.now) begin listed }
     {
-        event(self.known.as_slice(), e, &mut self.faults);
+        event(scopes, e, &mut self.faults);
     }
 
     /// PROCESS.
-    pub fn process(&mut self, c: &Call, task: &Option<Named>)
-        requires { HaveFormals self.old.known.items }
-        ensures { (begin : blocks.Begin) (listed : Bool) → WalksStmt self.old self.new (tree.process (call c.now) task.now) begin listed }
+    pub fn process(&mut self, scopes: &Scopes, c: &Call, task: &Option<Named>)
+        ensures { (begin : blocks.Begin) (listed : Bool) → WalksStmt scopes.now self.old self.new (tree.process (call c.now) task.now) begin listed }
     {
-        process(self.known.as_slice(), c, task, &mut self.faults);
+        process(scopes, c, task, &mut self.faults);
     }
 
     /// WRITE.
-    pub fn write(&mut self, file: &Named, spot: Spot, phrases: &[PhraseText], items: &[Expr])
-        requires { HaveFormals self.old.known.items }
-        ensures { (begin : blocks.Begin) (listed : Bool) → WalksStmt self.old self.new (tree.write file.now spot phrases.now (exprs items.now)) begin listed }
+    pub fn write(
+        &mut self,
+        scopes: &Scopes,
+        file: &Named,
+        spot: Spot,
+        phrases: &[PhraseText],
+        items: &[Expr],
+    )
+        ensures { (begin : blocks.Begin) (listed : Bool) → WalksStmt scopes.now self.old self.new (tree.write file.now spot phrases.now (exprs items.now)) begin listed }
     {
-        write(
-            self.known.as_slice(),
-            file,
-            spot,
-            phrases,
-            items,
-            &mut self.faults,
-        );
+        write(scopes, file, spot, phrases, items, &mut self.faults);
     }
 
     // ---- parts of statements
 
     /// An expression of which this type is wanted.
-    pub fn typed(&mut self, kind: Kind, e: &Expr)
-        requires { HaveFormals self.old.known.items }
-        ensures typed { IsTyped self.old self.new.faults kind (expr e.now) }
+    pub fn typed(&mut self, scopes: &Scopes, kind: Kind, e: &Expr)
+        ensures typed { IsTyped scopes.now self.old self.new.faults kind (expr e.now) }
         ensures rest { self.new ≡ record self.old { faults = self.new.faults } }
     {
-        typed(self.known.as_slice(), kind, e, &mut self.faults);
+        typed(scopes, kind, e, &mut self.faults);
     }
 
     /// What stands before the statement of FOR.
-    pub fn counting(&mut self, v: &Named, x: &Expr, step: &Expr, last: &Expr)
-        requires { HaveFormals self.old.known.items }
-        ensures counted { IsCounted self.old self.new.faults v.now (expr x.now) (expr step.now) (expr last.now) }
+    pub fn counting(&mut self, scopes: &Scopes, v: &Named, x: &Expr, step: &Expr, last: &Expr)
+        ensures counted { IsCounted scopes.now self.old self.new.faults v.now (expr x.now) (expr step.now) (expr last.now) }
         ensures rest { self.new ≡ record self.old { faults = self.new.faults } }
     {
-        counting(self.known.as_slice(), v, x, step, last, &mut self.faults);
+        counting(scopes, v, x, step, last, &mut self.faults);
     }
 
     // ---- blocks

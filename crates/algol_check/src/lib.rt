@@ -5,7 +5,7 @@
 
 mod announced;
 mod checker;
-mod naming;
+mod declaring;
 mod walk;
 
 pub use walk::check;

@@ -35,6 +35,6 @@ pub fn front(alloc: Global, bytes: &[u8]) -> Result<Checked, Refusal>
     let tokens = lex(alloc, bytes)?;
     let program = read_program(alloc, tokens.as_slice())?;
     let scopes = resolve(alloc, &program)?;
-    check(alloc, &program)?;
+    check(alloc, &program, &scopes)?;
     Ok(Checked { program, scopes })
 }

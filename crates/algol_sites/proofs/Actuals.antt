@@ -1,22 +1,35 @@
 -- Expressions in lists, and actuals with their parameters, as the walk notes them.
-use Rattle.std.proofs.Common.{◌≡◌, ℕ, ◌+◌, ◌<◌, ◌≤◌, Bool, true, false, List, [], ◌∷◌, map, length, drop, get_or, Option, Some, None, refl, ap, sym, ◌∙◌, arith, drop-cons, zero, suc}
-use Rattle.std.specs.Prelude.{if◌then◌else◌, slice_get}
+use Rattle.std.proofs.Common.{◌≡◌, ℕ, ◌+◌, ◌<◌, ◌≤◌, Bool, true, false, List, [], ◌∷◌, map, length, drop, get_or, Option, Some, None, refl, ap, sym, ◌∙◌, arith, drop-cons, subst, zero, suc}
+use Rattle.std.specs.Prelude.{◌==◌, ◌&&◌, not, if◌then◌else◌, slice_get}
+use Rattle.algol_tree.specs.declared.token.Spot.{Spot}
+use Rattle.algol_tree.specs.declared.refusal.Code.TheVariants as codes
 use Rattle.algol_tree.specs.declared.refusal.Fault.{Fault}
+use Rattle.algol_tree.specs.declared.tree.Kind.{Kind}
+use Rattle.algol_tree.specs.declared.tree.Kind.TheVariants as kinds
 use Rattle.algol_tree.specs.declared.tree.Named.{Named}
 use Rattle.algol_tree.specs.declared.tree.Expr.{Expr}
 use Rattle.algol_tree.specs.Plain as tree
 use Rattle.algol_tree.specs.Plain.{PExpr, PExprs}
 use Rattle.algol_tree.specs.Image.{expr, exprs}
+use Rattle.algol_tree.specs.Accepted.{noted, noted_all}
+use Rattle.algol_tree.specs.Cells.{first_spot}
 use Rattle.algol_tree.specs.Classes as rules'
-use Rattle.algol_tree.specs.Surroundings.{Surroundings}
+use Rattle.algol_tree.specs.Classes.{Class, is_event, is_unspecified, same_kind}
+use Rattle.algol_tree.specs.Names.{if_so}
+use Rattle.algol_tree.specs.Surroundings.{Surroundings, class_of}
 use Rattle.algol_tree.specs.Sites as site
 use Rattle.algol_tree.specs.Sites.{Part, sites, inside_expr, inside_list, inside_actuals}
-use Rattle.algol_sites.specs.declared.class.Formal.{Formal}
-use Rattle.algol_sites.specs.declared.class.Formal.TheVariants as formal
-use Rattle.algol_sites.specs.Seen.{classes_of, formal_seen, formal_as, formal_for}
-use Rattle.algol_sites.specs.Noting.{noted_at, noted_in}
-use Rattle.algol_sites.specs.Expressing.{is_alone, noted_actual}
-use Rattle.algol_sites.proofs.Notes.{noted_along-append}
+use Rattle.algol_sorts.specs.declared.sort.Sort.{Sort}
+use Rattle.algol_sorts.specs.declared.sort.Sort.TheVariants as sorts
+use Rattle.algol_frames.specs.declared.scopes.Scopes.{Scopes}
+use Rattle.algol_sites.specs.declared.wanted.Wanted.{Wanted}
+use Rattle.algol_sites.specs.declared.wanted.Wanted.TheVariants as wanted
+use Rattle.algol_sites.specs.Seen.{classes_of, formal_as, formal_for, value_of}
+use Rattle.algol_sites.specs.Seeing.{TellsEach, TellsIn}
+use Rattle.algol_sites.specs.Noting.{broken, broken_if, mistyped, mistyped_for, mistyped_list, noted_at, noted_in}
+use Rattle.algol_sites.specs.Wanting.{is_met, unfit}
+use Rattle.algol_sites.specs.Expressing.{alone_in, is_alone, misplaced, misplaced_if, noted_actual, reference_of}
+use Rattle.algol_sites.proofs.Notes.{noted_all-append, noted_along-append}
 
 split : {A : Type 0} (xs : List A) (i : ℕ) (x : A) → i < length xs → x ≡ get_or xs i x → drop i xs ≡ x ∷ drop (i + 1) xs
 split xs i x h e =
@@ -99,7 +112,7 @@ abbrev others_of : List rules'.Formal → List rules'.Formal
 others_of [] = []
 others_of (f ∷ fs) = fs
 
-first_at : (gs : List Formal) (i : ℕ) → first_of (drop i (map formal_as gs)) ≡ formal_for (slice_get gs i)
+first_at : (gs : List Sort) (i : ℕ) → first_of (drop i (map formal_as gs)) ≡ formal_for (slice_get gs i)
 first_at [] zero = refl
 first_at [] (suc i) = refl
 first_at (g ∷ gs) zero = refl
@@ -111,16 +124,23 @@ others_at [] (suc i) = refl
 others_at (f ∷ fs) zero = refl
 others_at (f ∷ fs) (suc i) = others_at fs i
 
-part_noted : (e : PExpr) (o : Option Formal) (h : Option Fault) (a : Surroundings) →
+part_noted : (e : PExpr) (o : Option Sort) (h : Option Fault) (a : Surroundings) →
     noted_in (noted_at [] h (record { part = part_for e (formal_for o); around = a })) (inside_expr e a) ≡
     (if is_alone e o then h else noted_in h (sites e a))
 part_noted (tree.number z spot) o h a = refl
 part_noted (tree.truth z spot) o h a = refl
 part_noted (tree.variable (tree.subscripted n tree.none)) None h a = refl
-part_noted (tree.variable (tree.subscripted n tree.none)) (Some (formal.Simple k)) h a = refl
-part_noted (tree.variable (tree.subscripted n tree.none)) (Some (formal.Array k c)) h a = refl
-part_noted (tree.variable (tree.subscripted n tree.none)) (Some formal.Event) h a = refl
-part_noted (tree.variable (tree.subscripted n tree.none)) (Some formal.Unspecified) h a = refl
+part_noted (tree.variable (tree.subscripted n tree.none)) (Some (sorts.Variable k)) h a = refl
+part_noted (tree.variable (tree.subscripted n tree.none)) (Some (sorts.ByName k)) h a = refl
+part_noted (tree.variable (tree.subscripted n tree.none)) (Some (sorts.Array k c)) h a = refl
+part_noted (tree.variable (tree.subscripted n tree.none)) (Some (sorts.FormalArray k c)) h a = refl
+part_noted (tree.variable (tree.subscripted n tree.none)) (Some sorts.Event) h a = refl
+part_noted (tree.variable (tree.subscripted n tree.none)) (Some sorts.Task) h a = refl
+part_noted (tree.variable (tree.subscripted n tree.none)) (Some sorts.FormalEvent) h a = refl
+part_noted (tree.variable (tree.subscripted n tree.none)) (Some sorts.Label) h a = refl
+part_noted (tree.variable (tree.subscripted n tree.none)) (Some sorts.File) h a = refl
+part_noted (tree.variable (tree.subscripted n tree.none)) (Some (sorts.Procedure k)) h a = refl
+part_noted (tree.variable (tree.subscripted n tree.none)) (Some sorts.Unspecified) h a = refl
 part_noted (tree.variable (tree.subscripted n (tree.more e es))) o h a = refl
 part_noted (tree.call c) o h a = refl
 part_noted (tree.tested test e spot) o h a = refl
@@ -131,7 +151,7 @@ part_noted (tree.not e spot) o h a = refl
 part_noted (tree.two op x y) o h a = refl
 part_noted (tree.if c x y spot) o h a = refl
 
-one_more : (e : PExpr) (es : PExprs) (fs : List rules'.Formal) (o : Option Formal) (h : Option Fault) (a : Surroundings) → first_of fs ≡ formal_for o →
+one_more : (e : PExpr) (es : PExprs) (fs : List rules'.Formal) (o : Option Sort) (h : Option Fault) (a : Surroundings) → first_of fs ≡ formal_for o →
     noted_in h (inside_actuals (tree.more e es) fs a) ≡
     noted_in (if is_alone e o then noted_actual h e o a else noted_in (noted_actual h e o a) (sites e a)) (inside_actuals es (others_of fs) a)
 one_more e es fs o h a p =
@@ -139,7 +159,7 @@ one_more e es fs o h a p =
     ∙ ap (λ f. noted_in (noted_in (after h e f a) (inside_expr e a)) (inside_actuals es (others_of fs) a)) p
     ∙ ap (λ f. noted_in f (inside_actuals es (others_of fs) a)) (part_noted e o (noted_actual h e o a) a)
 
-pub actual_step : (es : List Expr) (i : ℕ) (e : Expr) (gs : List Formal) (o : Option Formal) (a : Surroundings) (f g : Option Fault) →
+pub actual_step : (es : List Expr) (i : ℕ) (e : Expr) (gs : List Sort) (o : Option Sort) (a : Surroundings) (f g : Option Fault) →
     i < length es → e ≡ get_or es i e → o ≡ slice_get gs i →
     g ≡ (if is_alone (expr e) o then noted_actual f (expr e) o a else noted_in (noted_actual f (expr e) o a) (sites (expr e) a)) →
     noted_in g (inside_actuals (exprs (drop (i + 1) es)) (drop (i + 1) (map formal_as gs)) a) ≡
@@ -159,10 +179,6 @@ valued b h v p = ap (λ c. if c then h else v) (sym p)
 pub alone : (b : Bool) (h v : Option Fault) → b ≡ true → h ≡ (if b then h else v)
 alone b h v p = ap (λ c. if c then h else v) (sym p)
 
-pub as_classes : (gs : List Formal) → classes_of (map formal_as gs) ≡ map formal_seen gs
-as_classes [] = refl
-as_classes (g ∷ gs) = ap (λ cs. formal_seen g ∷ cs) (as_classes gs)
-
 -- ---- after the last
 
 dropped : {A : Type 0} (xs : List A) (i : ℕ) → length xs ≤ i → drop i xs ≡ []
@@ -174,3 +190,121 @@ dropped (x ∷ xs) (suc i) h = dropped xs i (omega arith)
 pub none_left : (es : List Expr) (i : ℕ) (fs : List rules'.Formal) (a : Surroundings) (f : Option Fault) → length es ≤ i →
     f ≡ noted_in f (inside_actuals (exprs (drop i es)) fs a)
 none_left es i fs a f h = sym (ap (λ xs. noted_in f (inside_actuals (exprs xs) fs a)) (dropped es i h))
+
+-- ---- what an actual breaks for its parameter
+
+abbrev is_such_array : Kind → ℕ → Class → Bool
+is_such_array k subscripts (rules'.array m count) = same_kind k m && (count == subscripts)
+is_such_array k subscripts _ = false
+
+abbrev wrong_reference : (Class → Bool) → PExpr → Surroundings → List Spot
+wrong_reference test (tree.variable (tree.subscripted n tree.none)) a = if_so (not (test (class_of a n)) && not (is_unspecified (class_of a n))) n.spot
+wrong_reference test e a = first_spot e ∷ []
+
+misplaced_same : (w : Wanted) (test : Class → Bool) (e : PExpr) (f : Option Fault) (a : Surroundings) → ((c : Class) → is_met w c ≡ test c) →
+    noted_all f (misplaced w e a) ≡ noted_all f (broken codes.WrongType (wrong_reference test e a))
+misplaced_same w test (tree.variable (tree.subscripted n tree.none)) f a h =
+    ap (λ b. noted_all f (broken_if codes.WrongType (not b && not (is_unspecified (class_of a n))) n.spot)) (h (class_of a n))
+misplaced_same w test (tree.variable (tree.subscripted n (tree.more e es))) f a h = refl
+misplaced_same w test (tree.number z spot) f a h = refl
+misplaced_same w test (tree.truth z spot) f a h = refl
+misplaced_same w test (tree.call c) f a h = refl
+misplaced_same w test (tree.tested t e spot) f a h = refl
+misplaced_same w test (tree.paren e spot) f a h = refl
+misplaced_same w test (tree.plus e spot) f a h = refl
+misplaced_same w test (tree.neg e spot) f a h = refl
+misplaced_same w test (tree.not e spot) f a h = refl
+misplaced_same w test (tree.two op x y) f a h = refl
+misplaced_same w test (tree.if c x y spot) f a h = refl
+
+array_wanted : (k : Kind) (n : ℕ) (e : PExpr) (f : Option Fault) (a : Surroundings) → noted_all f (misplaced (wanted.SuchArray k n) e a) ≡
+    noted_at [] f (record { part = site.actual e (Some (record { class = rules'.array k n; by_value = false })); around = a })
+array_wanted k n e f a = misplaced_same (wanted.SuchArray k n) (is_such_array k n) e f a (λ c. refl)
+
+event_wanted : (e : PExpr) (f : Option Fault) (a : Surroundings) → noted_all f (misplaced wanted.Event e a) ≡
+    noted_at [] f (record { part = site.actual e (Some (record { class = rules'.event; by_value = false })); around = a })
+event_wanted e f a = misplaced_same wanted.Event is_event e f a (λ c. refl)
+
+wanted_by : (e : PExpr) (o : Option Sort) (f : Option Fault) (a : Surroundings) →
+    noted_all (noted_all f (mistyped_for (value_of o) e a)) (misplaced_if (reference_of o) e a) ≡ noted_actual f e o a
+wanted_by e None f a = refl
+wanted_by e (Some (sorts.Variable k)) f a = refl
+wanted_by e (Some (sorts.ByName k)) f a = refl
+wanted_by e (Some (sorts.Array k n)) f a = array_wanted k n e f a
+wanted_by e (Some (sorts.FormalArray k n)) f a = array_wanted k n e f a
+wanted_by e (Some sorts.Event) f a = event_wanted e f a
+wanted_by e (Some sorts.Task) f a = refl
+wanted_by e (Some sorts.FormalEvent) f a = event_wanted e f a
+wanted_by e (Some sorts.Label) f a = refl
+wanted_by e (Some sorts.File) f a = refl
+wanted_by e (Some (sorts.Procedure k)) f a = refl
+wanted_by e (Some sorts.Unspecified) f a = refl
+
+pub actual_wanted : (e : PExpr) (o : Option Sort) (a : Surroundings) (f g h : Option Fault) → g ≡ noted_all f (mistyped_for (value_of o) e a) →
+    h ≡ noted_all g (misplaced_if (reference_of o) e a) → h ≡ noted_actual f e o a
+actual_wanted e o a f g h p q = q ∙ ap (λ x. noted_all x (misplaced_if (reference_of o) e a)) p ∙ wanted_by e o f a
+
+-- ---- elements of a list
+
+pub each_split : (s : Scopes) (a : Surroundings) (es : List Expr) (i : ℕ) (e : Expr) → i < length es → e ≡ get_or es i e → TellsEach s a (exprs (drop i es)) →
+    TellsIn s a (expr e) × TellsEach s a (exprs (drop (i + 1) es))
+each_split s a es i e h p t = let P : List Expr → Type 0 = λ xs. TellsEach s a (exprs xs) in subst P (split es i e h p) t
+
+pub list_end : (es : List Expr) (i : ℕ) (a : Surroundings) (f g : Option Fault) → drop i es ≡ [] →
+    noted_in f (inside_list (exprs (drop i es)) a) ≡ g → f ≡ g
+list_end es i a f g e h = sym (ap (λ xs. noted_in f (inside_list (exprs xs) a)) e) ∙ h
+
+pub numbers_step : (es : List Expr) (i : ℕ) (e : Expr) (a : Surroundings) (f g : Option Fault) → i < length es → e ≡ get_or es i e →
+    g ≡ noted_all f (mistyped kinds.Number (expr e) a) →
+    noted_all g (mistyped_list (exprs (drop (i + 1) es)) a) ≡ noted_all f (mistyped_list (exprs (drop i es)) a)
+numbers_step es i e a f g h p q =
+    ap (λ o. noted_all o (mistyped_list (exprs (drop (i + 1) es)) a)) q
+    ∙ sym (noted_all-append f (mistyped kinds.Number (expr e) a) (mistyped_list (exprs (drop (i + 1) es)) a))
+    ∙ sym (ap (λ xs. noted_all f (mistyped_list (exprs xs) a)) (split es i e h p))
+
+pub numbers_end : (es : List Expr) (i : ℕ) (a : Surroundings) (f g : Option Fault) → drop i es ≡ [] →
+    noted_all f (mistyped_list (exprs (drop i es)) a) ≡ g → f ≡ g
+numbers_end es i a f g e h = sym (ap (λ xs. noted_all f (mistyped_list (exprs xs) a)) e) ∙ h
+
+none_misplaced : (w : Wanted) (e : PExpr) (a : Surroundings) (f : Option Fault) → alone_in e ≡ None →
+    noted f (record { spot = first_spot e; code = codes.WrongType }) ≡ noted_all f (misplaced w e a)
+none_misplaced w (tree.variable (tree.subscripted m tree.none)) a f e = absurd (let clash : Some m ≡ None = e in cc)
+none_misplaced w (tree.variable (tree.subscripted m (tree.more x xs))) a f e = refl
+none_misplaced w (tree.number z spot) a f e = refl
+none_misplaced w (tree.truth b spot) a f e = refl
+none_misplaced w (tree.call c) a f e = refl
+none_misplaced w (tree.tested test x spot) a f e = refl
+none_misplaced w (tree.paren x spot) a f e = refl
+none_misplaced w (tree.plus x spot) a f e = refl
+none_misplaced w (tree.neg x spot) a f e = refl
+none_misplaced w (tree.not x spot) a f e = refl
+none_misplaced w (tree.two op x y) a f e = refl
+none_misplaced w (tree.if c x y spot) a f e = refl
+
+pub misplaced_none : (w : Wanted) (e : PExpr) (a : Surroundings) (f g : Option Fault) (spot : Spot) → alone_in e ≡ None → spot ≡ first_spot e →
+    g ≡ noted f (record { spot = spot; code = codes.WrongType }) → g ≡ noted_all f (misplaced w e a)
+misplaced_none w e a f g spot n p q =
+    q ∙ ap (λ x. noted f (record { spot = x; code = codes.WrongType })) p ∙ none_misplaced w e a f n
+
+pub misplaced_some : (w : Wanted) (e : PExpr) (a : Surroundings) (n : Named) → alone_in e ≡ Some n → misplaced w e a ≡ unfit w codes.WrongType n a
+misplaced_some w (tree.variable (tree.subscripted m tree.none)) a n e = (let same : m ≡ n = cc in ap (λ x. unfit w codes.WrongType x a) same)
+misplaced_some w (tree.variable (tree.subscripted m (tree.more x xs))) a n e = absurd (let clash : None ≡ Some n = e in cc)
+misplaced_some w (tree.number z spot) a n e = absurd (let clash : None ≡ Some n = e in cc)
+misplaced_some w (tree.truth b spot) a n e = absurd (let clash : None ≡ Some n = e in cc)
+misplaced_some w (tree.call c) a n e = absurd (let clash : None ≡ Some n = e in cc)
+misplaced_some w (tree.tested test x spot) a n e = absurd (let clash : None ≡ Some n = e in cc)
+misplaced_some w (tree.paren x spot) a n e = absurd (let clash : None ≡ Some n = e in cc)
+misplaced_some w (tree.plus x spot) a n e = absurd (let clash : None ≡ Some n = e in cc)
+misplaced_some w (tree.neg x spot) a n e = absurd (let clash : None ≡ Some n = e in cc)
+misplaced_some w (tree.not x spot) a n e = absurd (let clash : None ≡ Some n = e in cc)
+misplaced_some w (tree.two op x y) a n e = absurd (let clash : None ≡ Some n = e in cc)
+misplaced_some w (tree.if c x y spot) a n e = absurd (let clash : None ≡ Some n = e in cc)
+
+-- ---- the same elements, in other words
+
+pub each_as : (s : Scopes) (a : Surroundings) (xs ys : List Expr) → xs ≡ ys → TellsEach s a (exprs ys) → TellsEach s a (exprs xs)
+each_as s a xs ys e t = let P : List Expr → Type 0 = λ zs. TellsEach s a (exprs zs) in subst P (sym e) t
+
+pub none_in : (xs ys : List Expr) → xs ≡ ys → length xs ≡ 0 → ys ≡ []
+none_in [] ys e h = sym e
+none_in (x ∷ xs) ys e h = absurd (omega (arith, h))

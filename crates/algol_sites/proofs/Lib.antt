@@ -1,9 +1,12 @@
-pub mod Tables
 pub mod Notes
+pub mod Specs
 pub mod Parts
+pub mod Seen
+pub mod Telling
+pub mod Forms
+pub mod Noted
 pub mod Actuals
 pub mod Lines
-pub mod Specs
 pub mod Places
 pub mod Sameness
 pub mod Whole
@@ -11,7 +14,6 @@ pub mod Surrounded
 pub mod Labelled
 pub mod Within
 pub mod Statements
-pub mod Declaring
 pub mod Opened
 pub mod Headed
 pub mod Stood

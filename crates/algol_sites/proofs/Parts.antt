@@ -1,7 +1,7 @@
 -- What the rules say of each form of expression, as the walk notes it.
-use Rattle.std.proofs.Common.{rules, ◌≡◌, ℕ, ◌+◌, List, [], ◌∷◌, ◌++◌, length, Option, Some, None, refl, ap, sym, ◌∙◌, arith}
+use Rattle.std.proofs.Common.{rules, ◌≡◌, ℕ, ◌+◌, Bool, true, false, List, [], ◌∷◌, ◌++◌, length, Option, Some, None, refl, ap, sym, ◌∙◌, arith}
 use Rattle.std.proofs.lemmas.List.{map-append}
-use Rattle.std.specs.Prelude.{◌&&◌, not}
+use Rattle.std.specs.Prelude.{◌&&◌, if◌then◌else◌, not}
 use Rattle.algol_tree.specs.declared.token.Spot.{Spot}
 use Rattle.algol_tree.specs.declared.refusal.Fault.{Fault}
 use Rattle.algol_tree.specs.declared.refusal.Code.TheVariants as codes
@@ -20,7 +20,7 @@ use Rattle.algol_tree.specs.declared.tree.Call as calls
 use Rattle.algol_tree.specs.Plain as tree
 use Rattle.algol_tree.specs.Plain.{PExpr, PExprs}
 use Rattle.algol_tree.specs.Image.{expr, exprs, variable}
-use Rattle.algol_tree.specs.Classes.{is_array, is_unspecified}
+use Rattle.algol_tree.specs.Classes.{Class, is_array, is_event, is_task, is_unspecified}
 use Rattle.algol_tree.specs.Cells.{first_spot}
 use Rattle.algol_tree.specs.Types.{type_of, taken_by}
 use Rattle.algol_tree.specs.Names.{if_so}
@@ -28,8 +28,8 @@ use Rattle.algol_tree.specs.Surroundings.{Surroundings, class_of, formals_at}
 use Rattle.algol_tree.specs.Sites as site
 use Rattle.algol_tree.specs.Accepted.{noted_all}
 use Rattle.algol_sites.specs.declared.wanted.Wanted.TheVariants as wanted
-use Rattle.algol_sites.specs.Noting.{broken, noted_in, mistyped, mistyped_for, mistyped_list, differs}
-use Rattle.algol_sites.specs.Wanting.{unfit}
+use Rattle.algol_sites.specs.Noting.{broken, broken_if, noted_in, mistyped, mistyped_for, mistyped_list, differs}
+use Rattle.algol_sites.specs.Wanting.{event_wanted, is_met, unfit}
 use Rattle.algol_sites.specs.Expressing.{miscounted_subscripts, noted_name, noted_element, noted_here, noted_call}
 use Rattle.algol_sites.proofs.Notes.{noted_all-append, noted_along-append}
 
@@ -94,13 +94,13 @@ pub ruleset reading = reading_none
 
 -- ---- expressions
 
-call_image : (c : Call) → expr (expressions.Call c) ≡ tree.call (tree.called c.name (exprs c.actuals))
+pub call_image : (c : Call) → expr (expressions.Call c) ≡ tree.call (tree.called c.name (exprs c.actuals))
 call_image c = search (rules, expressions.the_lemmas, calls.the_lemmas)
 
-two_image : (op : Op) (x y : Box Expr Global) → expr (expressions.Two op x y) ≡ tree.two op (expr x.value) (expr y.value)
+pub two_image : (op : Op) (x y : Box Expr Global) → expr (expressions.Two op x y) ≡ tree.two op (expr x.value) (expr y.value)
 two_image op x y = search (rules, expressions.the_lemmas)
 
-if_image : (c x y : Box Expr Global) (spot : Spot) → expr (expressions.If c x y spot) ≡ tree.if (expr c.value) (expr x.value) (expr y.value) spot
+pub if_image : (c x y : Box Expr Global) (spot : Spot) → expr (expressions.If c x y spot) ≡ tree.if (expr c.value) (expr x.value) (expr y.value) spot
 if_image c x y spot = search (rules, expressions.the_lemmas)
 
 pub broken_pair : (first : Option Fault) (xs ys : List Spot) →
@@ -149,6 +149,12 @@ if_noted e c x y spot a f0 f1 f2 f3 f4 f5 is p q r s u =
     ∙ ap (λ o. noted_in o (site.sites (expr y.value) a)) (sym (noted_along-append [] (noted_here f0 (tree.if (expr c.value) (expr x.value) (expr y.value) spot) a) (site.sites (expr c.value) a) (site.sites (expr x.value) a)))
     ∙ sym (noted_along-append [] (noted_here f0 (tree.if (expr c.value) (expr x.value) (expr y.value) spot) a) (site.sites (expr c.value) a ++ site.sites (expr x.value) a) (site.sites (expr y.value) a))
     ∙ sym (ap (λ z. noted_in f0 (site.sites z a)) (ap expr is ∙ if_image c x y spot))
+
+pub event_told : (t : Bool) (n : Named) (c : Class) →
+    broken codes.WrongType (if t then if_so (not (is_task c) && not (is_unspecified c)) n.spot else if_so (not (is_event c) && not (is_unspecified c)) n.spot) ≡
+    broken_if codes.WrongType (not (is_met (event_wanted t) c) && not (is_unspecified c)) n.spot
+event_told true n c = refl
+event_told false n c = refl
 
 -- ---- the same for what is equal
 

@@ -1,5 +1,5 @@
 -- The faults of names, of variables and of actuals, as the walk finds them.
-use Rattle.std.specs.Prelude.{◌==◌, ◌&&◌, not, Bool, true, false, ℕ, List, [], ◌∷◌, length, Option, Some}
+use Rattle.std.specs.Prelude.{◌==◌, ◌&&◌, not, Bool, false, ℕ, List, [], ◌∷◌, is_some, length, Option, Some, None}
 use Rattle.algol_tree.specs.declared.refusal.Code.TheVariants as codes
 use Rattle.algol_tree.specs.declared.refusal.Fault.{Fault}
 use Rattle.algol_tree.specs.declared.tree.Named.{Named}
@@ -12,19 +12,19 @@ use Rattle.algol_tree.specs.Surroundings.{Surroundings, class_of}
 use Rattle.algol_tree.specs.Accepted.{noted_all}
 use Rattle.algol_tree.specs.Sites as site
 use Rattle.algol_tree.specs.Sites.{Site}
-use Rattle.algol_sites.specs.declared.class.Formal.{Formal}
-use Rattle.algol_sites.specs.declared.class.Formal.TheVariants as formal
+use Rattle.algol_sorts.specs.declared.sort.Sort.{Sort}
+use Rattle.algol_sorts.specs.declared.sort.Sort.TheVariants as sort
 use Rattle.algol_sites.specs.declared.wanted.Wanted.{Wanted}
 use Rattle.algol_sites.specs.declared.wanted.Wanted.TheVariants as wanted
 use Rattle.algol_sites.specs.Noting.{broken, broken_if, noted_at, mistyped_list}
 use Rattle.algol_sites.specs.Wanting.{is_met, unfit}
-use Rattle.algol_sites.specs.Seen.{formal_for}
+use Rattle.algol_sites.specs.Seen.{class_seen, formal_for, value_of}
 
-abbrev takes_others : Class → ℕ → Bool
+abbrev pub takes_others : Class → ℕ → Bool
 takes_others (class.procedure h) count = not (length h.params == count)
 takes_others _ count = false
 
-abbrev has_others : Class → ℕ → Bool
+abbrev pub has_others : Class → ℕ → Bool
 has_others (class.array kind subscripts) count = not (subscripts == count)
 has_others _ count = false
 
@@ -56,19 +56,32 @@ abbrev pub misplaced : Wanted → PExpr → Surroundings → List Fault
 misplaced w (tree.variable (tree.subscripted n tree.none)) a = unfit w codes.WrongType n a
 misplaced w e a = broken codes.WrongType (first_spot e ∷ [])
 
+-- the name, where the expression is a name by itself
+abbrev pub alone_in : PExpr → Option Named
+alone_in (tree.variable (tree.subscripted n tree.none)) = Some n
+alone_in _ = None
+
+abbrev pub misplaced_if : Option Wanted → PExpr → Surroundings → List Fault
+misplaced_if None e a = []
+misplaced_if (Some w) e a = misplaced w e a
+
+abbrev reference_by : Class → Option Wanted
+reference_by (class.array kind subscripts) = Some (wanted.SuchArray kind subscripts)
+reference_by class.event = Some wanted.Event
+reference_by _ = None
+
+-- what is wanted of the name that has to be the actual for such a parameter
+abbrev pub reference_of : Option Sort → Option Wanted
+reference_of None = None
+reference_of (Some s) = reference_by (class_seen s)
+
 -- after what an actual breaks for its parameter
-abbrev pub noted_actual : Option Fault → PExpr → Option Formal → Surroundings → Option Fault
+abbrev pub noted_actual : Option Fault → PExpr → Option Sort → Surroundings → Option Fault
 noted_actual first e f a = noted_at [] first (record { part = site.actual e (formal_for f); around = a })
 
--- a value is wanted of the actual
-abbrev pub is_simple_formal : Option Formal → Bool
-is_simple_formal (Some (formal.Simple k)) = true
-is_simple_formal _ = false
-
 -- a name by itself that no value is wanted of
-abbrev pub is_alone : PExpr → Option Formal → Bool
-is_alone (tree.variable (tree.subscripted n tree.none)) f = not (is_simple_formal f)
-is_alone _ f = false
+abbrev pub is_alone : PExpr → Option Sort → Bool
+is_alone e f = is_some (alone_in e) && not (is_some (value_of f))
 
 -- after what a call breaks itself
 abbrev pub noted_call : Option Fault → Wanted → Named → ℕ → Surroundings → Option Fault

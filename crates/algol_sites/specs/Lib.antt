@@ -10,4 +10,3 @@ pub mod Assigning
 pub mod Placing
 pub mod Seeing
 pub mod Stating
-pub mod Declaring

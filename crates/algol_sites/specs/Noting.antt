@@ -8,10 +8,10 @@ use Rattle.algol_tree.specs.declared.tree.Kind.{Kind}
 use Rattle.algol_tree.specs.declared.tree.Kind.TheVariants as kinds
 use Rattle.algol_tree.specs.Plain as tree
 use Rattle.algol_tree.specs.Plain.{PExpr, PExprs}
-use Rattle.algol_tree.specs.Classes.{same_kind}
+use Rattle.algol_tree.specs.Classes.{Class, same_kind}
 use Rattle.algol_tree.specs.Surroundings.{Surroundings}
 use Rattle.algol_tree.specs.Cells.{first_spot}
-use Rattle.algol_tree.specs.Types.{type_of}
+use Rattle.algol_tree.specs.Types.{element_type, read_type, type_of}
 use Rattle.algol_tree.specs.Names.{if_so}
 use Rattle.algol_tree.specs.Blocks.{Block}
 use Rattle.algol_tree.specs.Sites.{Site}
@@ -51,6 +51,11 @@ noted_in first xs = noted_along [] first xs
 abbrev pub differs : Kind → Option Kind → Bool
 differs k None = false
 differs k (Some m) = not (same_kind k m)
+
+-- the type of a variable, by the class of its name and by its subscripts
+abbrev pub type_by : Class → PExprs → Option Kind
+type_by c tree.none = read_type c
+type_by c (tree.more e es) = element_type c
 
 abbrev pub mistyped : Kind → PExpr → Surroundings → List Fault
 mistyped k e a = broken_if codes.WrongType (differs k (type_of e a)) (first_spot e)

@@ -1,8 +1,11 @@
 -- Where a place stands among the blocks of a program.
-use Rattle.std.specs.Prelude.{◌≡◌, ◌<◌, List, [], ◌∷◌, map, length, reverse, slice_get, Some}
+use Rattle.std.specs.Prelude.{◌≡◌, ◌<◌, ◌==◌, ℕ, Bool, false, List, [], ◌∷◌, map, length, reverse, slice_get, Option, Some, None}
 use Rattle.algol_tree.specs.declared.token.Spot.{Spot}
 use Rattle.algol_tree.specs.Blocks.{Block, number_at, around}
 use Rattle.algol_tree.specs.Surroundings.{Surroundings}
+use Rattle.algol_frames.specs.declared.scopes.Scopes.{Scopes}
+use Rattle.algol_frames.specs.Answers.{number_of}
+use Rattle.algol_scope.specs.Resolved.{number_among}
 use Rattle.algol_sites.specs.declared.place.Place.{Place}
 
 -- the blocks that a place is in, the innermost first
@@ -34,3 +37,13 @@ AreFound blocks (b ∷ bs) = IsFound blocks b × AreFound blocks bs
 -- no two blocks begin at one place
 abbrev pub StandApart : List Block → Type 0
 StandApart blocks = AreFound blocks blocks
+
+-- ---- the numbers of blocks
+
+abbrev pub is_number : Option ℕ → ℕ → Bool
+is_number None block = false
+is_number (Some n) block = n == block
+
+-- the scopes tell the numbers of these blocks
+abbrev pub Numbers : Scopes → List Block → Type 0
+Numbers s blocks = (spot : Spot) → number_of s spot ≡ number_among 0 blocks spot

@@ -1,43 +1,51 @@
--- When what the walk keeps stands for the surroundings of a place, and what it notes there.
-use Rattle.std.specs.Prelude.{◌≡◌, ℕ, Bool, List, ◌∷◌, reverse, Option, Some, None}
+-- What is noted at a place, where the scopes tell of the names there.
+use Rattle.std.specs.Prelude.{◌≡◌, Bool, List, ◌∷◌, Option, Some, None}
 use Rattle.algol_tree.specs.declared.refusal.Fault.{Fault}
 use Rattle.algol_tree.specs.declared.tree.Named.{Named}
 use Rattle.algol_tree.specs.Plain as tree
-use Rattle.algol_tree.specs.Plain.{PExpr, PStmt}
-use Rattle.algol_tree.specs.Sorts.{Declared, look_up}
-use Rattle.algol_tree.specs.Blocks.{Block, of_statement, number_at}
+use Rattle.algol_tree.specs.Plain.{PExpr, PExprs, PStmt}
+use Rattle.algol_tree.specs.Blocks.{Block, of_statement}
 use Rattle.algol_tree.specs.Surroundings.{Surroundings}
 use Rattle.algol_tree.specs.Sites as site
 use Rattle.algol_tree.specs.Sites.{Site, inside_stmt}
+use Rattle.algol_frames.specs.declared.scopes.Scopes.{Scopes}
+use Rattle.algol_told.specs.Telling.{Tells, TellsAll}
 use Rattle.algol_sites.specs.declared.place.Place.{Place}
-use Rattle.algol_sites.specs.declared.class.Entry.{Entry}
-use Rattle.algol_sites.specs.declared.known.Names.{Names}
-use Rattle.algol_sites.specs.Seen.{class_seen, looked_up}
 use Rattle.algol_sites.specs.Placing.{IsPlaced}
 use Rattle.algol_sites.specs.Noting.{noted_along}
 
--- the entry stands for the declaration
-pub record IsEntry (blocks : List Block) (e : Entry) (d : Declared) : Type 0 where
-  pub class : class_seen e.class ≡ d.class
-  pub spot : e.spot ≡ d.spot
-  pub block : number_at blocks e.block ≡ d.block
+-- the scopes tell of each name in an expression that stands there
+module _ (s : Scopes) (a : Surroundings) where
+  abbrev mutual
+    pub TellsIn : PExpr → Type 0
+    TellsIn (tree.number z spot) = Unit {0}
+    TellsIn (tree.truth b spot) = Unit {0}
+    TellsIn (tree.variable (tree.subscripted n es)) = Tells s a n × TellsEach es
+    TellsIn (tree.call (tree.called n es)) = Tells s a n × TellsEach es
+    TellsIn (tree.tested test e spot) = Tells s a e.name
+    TellsIn (tree.paren e spot) = TellsIn e
+    TellsIn (tree.plus e spot) = TellsIn e
+    TellsIn (tree.neg e spot) = TellsIn e
+    TellsIn (tree.not e spot) = TellsIn e
+    TellsIn (tree.two op x y) = TellsIn x × TellsIn y
+    TellsIn (tree.if c x y spot) = TellsIn c × (TellsIn x × TellsIn y)
 
-abbrev pub Agree : List Block → Option Entry → Option Declared → Type 0
-Agree blocks None None = Unit {0}
-Agree blocks (Some e) (Some d) = IsEntry blocks e d
-Agree blocks _ _ = ⊥
+    pub TellsEach : PExprs → Type 0
+    TellsEach tree.none = Unit {0}
+    TellsEach (tree.more e es) = TellsIn e × TellsEach es
 
--- under each name the walk finds what the rules find
-pub record Sees (blocks : List Block) (known : List Names) (a : Surroundings) : Type 0 where
-  pub names : (name : List ℕ) → Agree blocks (looked_up (reverse known) name) (look_up a.known name)
+-- the scopes tell of the task of a process, where it has one
+abbrev pub TellsTask : Scopes → Surroundings → Option Named → Type 0
+TellsTask s a None = Unit {0}
+TellsTask s a (Some n) = Tells s a n
 
--- The walk notes what is broken at parts that stand in these surroundings.
-pub record Notes (known : List Names) (old new : Option Fault) (parts : List Block → Surroundings → List Site) : Type 0 where
-  pub notes : (blocks : List Block) (a : Surroundings) → Sees blocks known a → new ≡ noted_along blocks old (parts blocks a)
+-- What is broken at parts that stand in these surroundings is noted, where the scopes tell of the names there.
+pub record Notes (s : Scopes) (old new : Option Fault) (parts : List Block → Surroundings → List Site) : Type 0 where
+  pub notes : (blocks : List Block) (a : Surroundings) → TellsAll s (parts blocks a) → new ≡ noted_along blocks old (parts blocks a)
 
 -- The same where it makes a difference in which blocks they stand.
-pub record NotesAt (known : List Names) (place : Place) (old new : Option Fault) (parts : List Block → Surroundings → List Site) : Type 0 where
-  pub notes : (blocks : List Block) (a : Surroundings) → Sees blocks known a → IsPlaced blocks place a → new ≡ noted_along blocks old (parts blocks a)
+pub record NotesAt (s : Scopes) (place : Place) (old new : Option Fault) (parts : List Block → Surroundings → List Site) : Type 0 where
+  pub notes : (blocks : List Block) (a : Surroundings) → TellsAll s (parts blocks a) → IsPlaced blocks place a → new ≡ noted_along blocks old (parts blocks a)
 
 -- a statement, and what is in it
 abbrev pub stmt_parts : PStmt → Bool → List Block → Surroundings → List Site

@@ -1,98 +1,91 @@
--- What the tables of names say, in the words of the rules.
-use Rattle.std.specs.Prelude.{◌≡◌, ℕ, false, List, [], ◌∷◌, map, reverse, Option, Some, None}
-use Rattle.std.specs.List.{flat_map}
-use Rattle.std.specs.Borrow.{Bor}
-use Rattle.std.specs.Ordering.{nat_cmp}
-use Rattle.std.specs.Cmp.Lexicographic.{slice_cmp}
-use Rattle.std.specs.BTreeMap.{BTreeMap, get_by}
-use Rattle.std.specs.Map.{update}
-use Rattle.std.specs.Str.{bytes_eq}
+-- What the scopes tell of a name, in the words of the rules.
+use Rattle.std.specs.Prelude.{ℕ, ◌==◌, not, Bool, false, List, [], map, Option, Some, None}
+use Rattle.algol_tree.specs.declared.token.Spot.{Spot}
+use Rattle.algol_tree.specs.declared.tree.Kind.{Kind}
+use Rattle.algol_tree.specs.declared.tree.Heading.{Heading}
 use Rattle.algol_tree.specs.Classes as rules
-use Rattle.algol_tree.specs.Sorts as sort
-use Rattle.algol_tree.specs.Sorts.{Declared}
-use Rattle.algol_tree.specs.Surroundings.{Surroundings, formals_of_class}
-use Rattle.algol_sites.specs.declared.class.Formal.{Formal}
-use Rattle.algol_sites.specs.declared.class.Formal.TheVariants as formal
-use Rattle.algol_sites.specs.declared.class.Class.{Class}
-use Rattle.algol_sites.specs.declared.class.Class.TheVariants as class
-use Rattle.algol_sites.specs.declared.class.Entry.{Entry}
-use Rattle.algol_sites.specs.declared.known.Names.{Names}
+use Rattle.algol_sorts.specs.declared.sort.Sort.{Sort}
+use Rattle.algol_sorts.specs.declared.sort.Sort.TheVariants as sort
+use Rattle.algol_frames.specs.declared.scopes.Declared.{Declared}
+use Rattle.algol_frames.specs.declared.scopes.Scopes.{Scopes}
+use Rattle.algol_frames.specs.Answers.{declaration_of, parameters_of}
 
--- a class of the program, as the rules have it
-abbrev pub class_seen : Class → rules.Class
-class_seen (class.Simple kind) = rules.simple kind
-class_seen (class.Array kind subscripts) = rules.array kind subscripts
-class_seen class.Event = rules.event
-class_seen class.Task = rules.task
-class_seen class.Label = rules.label
-class_seen class.File = rules.file
-class_seen (class.Procedure h) = rules.procedure h.now
-class_seen class.Unknown = rules.unknown
+-- a heading of which only the type of the result is known
+abbrev pub headed : Option Kind → Heading
+headed kind =
+    record { kind = kind; name = record { name = []; spot = record { line = 0; column = 0 } }; params = []; values = []; specs = [] }
 
--- what a parameter is known as in its procedure
-abbrev pub formal_seen : Formal → rules.Class
-formal_seen (formal.Simple kind) = rules.simple kind
-formal_seen (formal.Array kind subscripts) = rules.array kind subscripts
-formal_seen formal.Event = rules.event
-formal_seen formal.Unspecified = rules.unknown
+-- What is declared as this, as the rules have it. Of a procedure only the type of its result is told: the rules of types and of
+-- assignments ask nothing else of it by itself.
+abbrev pub class_seen : Sort → rules.Class
+class_seen (sort.Variable kind) = rules.simple kind
+class_seen (sort.ByName kind) = rules.simple kind
+class_seen (sort.Array kind subscripts) = rules.array kind subscripts
+class_seen (sort.FormalArray kind subscripts) = rules.array kind subscripts
+class_seen sort.Event = rules.event
+class_seen sort.Task = rules.task
+class_seen sort.FormalEvent = rules.event
+class_seen sort.Label = rules.label
+class_seen sort.File = rules.file
+class_seen (sort.Procedure kind) = rules.procedure (headed kind)
+class_seen sort.Unspecified = rules.unknown
 
--- ---- tables of names
+-- ---- what is told under a place
 
-abbrev pub Table : Type 0
-Table = BTreeMap (Bor (List ℕ)) Entry
+abbrev pub sort_or : Option Declared → Sort
+sort_or None = sort.Unspecified
+sort_or (Some d) = d.sort
 
-abbrev pub entry_in : Table → List ℕ → Option Entry
-entry_in table name = get_by (λ k. slice_cmp nat_cmp name k.now) table
+abbrev pub sort_there : Scopes → Spot → Sort
+sort_there s spot = sort_or (declaration_of s spot)
 
--- a table with no name
-abbrev pub IsBare : Table → Type 0
-IsBare table = (name : List ℕ) → entry_in table name ≡ None
+abbrev pub spot_or : Spot → Option Declared → Spot
+spot_or spot None = spot
+spot_or spot (Some d) = d.spot
 
--- the second table has this entry for the name, and for each other name what the first has
-abbrev pub Puts : Table → Table → List ℕ → Entry → Type 0
-Puts old new name entry = (q : List ℕ) → entry_in new q ≡ update bytes_eq (entry_in old) name (Some entry) q
+-- where it is declared
+abbrev pub spot_there : Scopes → Spot → Spot
+spot_there s spot = spot_or spot (declaration_of s spot)
 
-abbrev pub or_else : Option Entry → Option Entry → Option Entry
-or_else None other = other
-or_else (Some entry) other = Some entry
+abbrev pub sorts_or : Option (List Sort) → List Sort
+sorts_or None = []
+sorts_or (Some sorts) = sorts
 
--- the entry of a name in tables, the innermost first
-abbrev pub looked_up : List Names → List ℕ → Option Entry
-looked_up [] name = None
-looked_up (t ∷ ts) name = or_else (entry_in t.entries name) (looked_up ts name)
+-- of a procedure these, and of all else none
+abbrev pub of_procedure : Sort → List Sort → List Sort
+of_procedure (sort.Procedure kind) sorts = sorts
+of_procedure _ sorts = []
 
--- ---- what is known there
+-- what the parameters of the procedure are declared as
+abbrev pub parameters_there : Scopes → Spot → List Sort
+parameters_there s spot = of_procedure (sort_there s spot) (sorts_or (parameters_of s (spot_there s spot)))
 
-abbrev pub declared_by : Bor (List ℕ) × Entry → Declared
-declared_by (k, e) =
-    record { name = k.now; spot = e.spot; block = 0; depth = 0; sort = sort.variable; class = class_seen e.class }
+-- ---- counts
 
-abbrev pub known_by : Names → List Declared
-known_by t = map declared_by t.entries.entries
-
--- the names that tables make known, where the innermost is the last
-abbrev pub seen : List Names → Surroundings
-seen ts = record { block = 0; depth = 0; known = flat_map known_by (reverse ts) }
+-- a procedure with so many parameters takes another number of actuals
+abbrev pub others_taken : Sort → ℕ → ℕ → Bool
+others_taken (sort.Procedure kind) parameters count = not (parameters == count)
+others_taken _ parameters count = false
 
 -- ---- parameters
 
 abbrev pub classes_of : List rules.Formal → List rules.Class
 classes_of fs = map (λ (f : rules.Formal). f.class) fs
 
--- the entry of a procedure has its parameters
-abbrev pub HasFormals : Option Entry → Type 0
-HasFormals None = Unit {0}
-HasFormals (Some e) = map formal_seen e.formals.items ≡ classes_of (formals_of_class (class_seen e.class))
-
--- each procedure that is known has its parameters
-abbrev pub HaveFormals : List Names → Type 0
-HaveFormals ts = (name : List ℕ) → HasFormals (looked_up (reverse ts) name)
-
 -- a parameter as the rules have it; whether it is by value makes no difference to them
-abbrev pub formal_as : Formal → rules.Formal
-formal_as f = record { class = formal_seen f; by_value = false }
+abbrev pub formal_as : Sort → rules.Formal
+formal_as s = record { class = class_seen s; by_value = false }
 
 -- a parameter for an actual, where there is one
-abbrev pub formal_for : Option Formal → Option rules.Formal
+abbrev pub formal_for : Option Sort → Option rules.Formal
 formal_for None = None
-formal_for (Some f) = Some (formal_as f)
+formal_for (Some s) = Some (formal_as s)
+
+abbrev value_by : rules.Class → Option Kind
+value_by (rules.simple kind) = Some kind
+value_by _ = None
+
+-- the type of the value that is wanted of an actual for it
+abbrev pub value_of : Option Sort → Option Kind
+value_of None = None
+value_of (Some s) = value_by (class_seen s)

@@ -7,13 +7,13 @@ ghost use Rattle.algol_tree.specs.Blocks.{Block, same_spot};
 ghost use Rattle.algol_tree.specs.Plain.{PStmt};
 ghost use Rattle.algol_tree.specs.Surroundings.{Surroundings};
 ghost use Rattle.algol_sites.specs.Labelling.{away, bad_at, bad_in, label_site, places_in, standings_at, standings_of, those_of};
-ghost use Rattle.algol_sites.specs.Placing.{IsPlaced};
-ghost use Rattle.algol_sites.specs.Seeing.{Sees};
+ghost use Rattle.algol_frames.specs.Answers.{number_of};
+ghost use Rattle.algol_told.specs.Telling.{Tells};
+ghost use Rattle.algol_sites.specs.Placing.{IsPlaced, Numbers, is_number};
 
-use crate::class::Entry;
-use crate::known::{Names, look_up};
 use crate::place::Place;
 use crate::wanted::note_if;
+use algol_frames::Scopes;
 use algol_rules::Faults;
 use algol_tree::{Code, Named, Spot};
 use std::alloc::{AllocError, Global};
@@ -27,23 +27,33 @@ pub struct Standing {
     pub at_home: bool,
 }
 
-/// Whether a label in that place is in the list of statements of the block that declares it.
-fn is_home(listed: bool, place: &Place, entry: &Entry) -> bool
-    ensures { result ≡ (listed && same_spot place.now.block entry.now.block) }
+/// Whether it is the number of that block.
+fn is_number(number: Option<usize>, block: usize) -> bool
+    ensures { result ≡ is_number number block }
 {
-    listed && place.block == entry.block
+    match number {
+        None => false,
+        Some(number) => number == block,
+    }
+}
+
+/// Whether a label in that place, which the block with this number declares, is in the list of statements of that block.
+fn is_home(listed: bool, scopes: &Scopes, place: &Place, block: usize) -> bool
+    ensures { result ≡ (listed && is_number (number_of scopes.now place.now.block) block) }
+{
+    listed && is_number(scopes.number(place.block), block)
 }
 
 /// A label before a statement, which is in the list of statements of its block or is not; none where its name is not declared.
-pub fn standing_at(known: &[Names], place: &Place, name: &Named, listed: bool) -> Option<Standing>
-    ensures { (blocks : List Block) (a : Surroundings) (s : PStmt) → Sees blocks known.now a → IsPlaced blocks place.now a → standings_of result ≡ standings_at (label_site name.now s listed a) }
+pub fn standing_at(scopes: &Scopes, place: &Place, name: &Named, listed: bool) -> Option<Standing>
+    ensures { (blocks : List Block) (a : Surroundings) (s : PStmt) → Tells scopes.now a name.now → Numbers scopes.now blocks → IsPlaced blocks place.now a → standings_of result ≡ standings_at (label_site name.now s listed a) }
 {
-    match look_up(known, name.name.bytes()) {
+    match scopes.declaration(name.spot) {
         None => None,
-        Some(entry) => Some(Standing {
-            declared: entry.spot,
+        Some(declared) => Some(Standing {
+            declared: declared.spot,
             spot: name.spot,
-            at_home: is_home(listed, place, entry),
+            at_home: is_home(listed, scopes, place, declared.block),
         }),
     }
 }

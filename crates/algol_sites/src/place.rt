@@ -3,11 +3,10 @@
 ghost use Rattle.std.specs.Prelude.{◌≡◌, [], ◌∷◌, ◌++◌, List, OnOk};
 ghost use Rattle.algol_tree.specs.Blocks.{Block, number_at};
 ghost use Rattle.algol_tree.specs.Surroundings.{Surroundings};
-ghost use Rattle.algol_sites.specs.Assigning.{can_take, is_within};
+ghost use Rattle.algol_sites.specs.Assigning.{is_within, takes};
 ghost use Rattle.algol_sites.specs.Placing.{IsFound, IsPlaced, outer_of};
-ghost use Rattle.algol_sites.specs.Seen.{class_seen};
 
-use crate::class::Class;
+use algol_sorts::Sort;
 use algol_tree::Spot;
 use std::alloc::{AllocError, Global};
 
@@ -59,17 +58,16 @@ impl Place {
         self.block == procedure || self.around.as_slice().contains(&procedure)
     }
 
-    /// Whether a name without subscripts can be assigned to there: a simple variable, a simple parameter, or the typed
-    /// procedure around the place. Nothing is said against a name of which nothing is known.
-    pub fn is_assignable(&self, class: Class) -> bool
-        ensures { result ≡ can_take self.now.block self.now.around.items (class_seen class.entry) }
+    /// Whether a name without subscripts that is declared so, there, can be assigned to: a simple variable, a simple parameter, or
+    /// the typed procedure around the place. Nothing is said against a name of which nothing is known.
+    pub fn is_assignable(&self, sort: Sort, declared: Spot) -> bool
+        ensures { result ≡ takes self.now.block self.now.around.items sort declared }
     {
-        match class {
-            Class::Simple(_) => true,
-            Class::Procedure(heading) => {
-                heading.kind.is_some() && self.is_inside(heading.name.spot)
-            }
-            Class::Unknown => true,
+        match sort {
+            Sort::Variable(_) => true,
+            Sort::ByName(_) => true,
+            Sort::Procedure(Some(_)) => self.is_inside(declared),
+            Sort::Unspecified => true,
             _ => false,
         }
     }

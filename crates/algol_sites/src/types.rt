@@ -3,14 +3,18 @@
 ghost use Rattle.std.specs.Prelude.{◌≡◌};
 ghost use Rattle.algol_tree.specs.Accepted.{noted_all};
 ghost use Rattle.algol_tree.specs.Image.{expr, exprs};
+ghost use Rattle.algol_tree.specs.Surroundings.{Surroundings};
 ghost use Rattle.algol_tree.specs.Types as rules;
-ghost use Rattle.algol_tree.specs.Plain as tree;
-ghost use Rattle.algol_sites.specs.Seen.{class_seen, seen};
-ghost use Rattle.algol_sites.specs.Noting.{mistyped, mistyped_for, mistyped_list};
+ghost use Rattle.algol_sites.specs.Seen.{class_seen};
+ghost use Rattle.algol_sites.specs.Seeing.{TellsEach, TellsIn};
+ghost use Rattle.algol_sites.specs.Noting.{differs, mistyped, mistyped_for, mistyped_list, broken_if, type_by};
+ghost use Rattle.algol_tree.specs.declared.refusal.Code.TheVariants as codes;
+ghost use Rattle.algol_tree.specs.Cells as cells;
 
-use crate::class::Class;
-use crate::known::{Names, class_of};
-use algol_rules::{Faults, first_spot};
+use crate::told::sort_at;
+use algol_frames::Scopes;
+use algol_rules::{Faults, boxed_expr, exprs_in, first_spot};
+use algol_sorts::Sort;
 use algol_tree::{Code, Expr, Kind, Op, Variable};
 
 /// The type of what an operator gives.
@@ -36,70 +40,72 @@ pub fn taken_by(op: Op) -> Kind
 }
 
 /// The type of a name that is read.
-pub fn read_type(class: Class) -> Option<Kind>
-    ensures { result ≡ rules.read_type (class_seen class.entry) }
+pub fn read_type(sort: Sort) -> Option<Kind>
+    ensures { result ≡ rules.read_type (class_seen sort) }
 {
-    match class {
-        Class::Simple(kind) => Some(kind),
-        Class::Procedure(heading) => heading.kind,
+    match sort {
+        Sort::Variable(kind) => Some(kind),
+        Sort::ByName(kind) => Some(kind),
+        Sort::Procedure(kind) => kind,
         _ => None,
     }
 }
 
 /// The type of an array's elements.
-pub fn element_type(class: Class) -> Option<Kind>
-    ensures { result ≡ rules.element_type (class_seen class.entry) }
+pub fn element_type(sort: Sort) -> Option<Kind>
+    ensures { result ≡ rules.element_type (class_seen sort) }
 {
-    match class {
-        Class::Array(kind, _) => Some(kind),
+    match sort {
+        Sort::Array(kind, _) => Some(kind),
+        Sort::FormalArray(kind, _) => Some(kind),
         _ => None,
     }
 }
 
 /// The type of the result of a call.
-fn result_type(class: Class) -> Option<Kind>
-    ensures { result ≡ rules.result_type (class_seen class.entry) }
+fn result_type(sort: Sort) -> Option<Kind>
+    ensures { result ≡ rules.result_type (class_seen sort) }
 {
-    match class {
-        Class::Procedure(heading) => heading.kind,
+    match sort {
+        Sort::Procedure(kind) => kind,
         _ => None,
     }
 }
 
-fn variable_type(known: &[Names], v: &Variable) -> Option<Kind>
-    ensures { result ≡ rules.type_of (tree.variable (tree.subscripted v.now.name (exprs v.now.subs))) (seen known.now) }
+/// The type of a variable whose name is declared as this.
+fn variable_type(sort: Sort, v: &Variable) -> Option<Kind>
+    ensures { result ≡ type_by (class_seen sort) (exprs v.now.subs) }
 {
-    let class = class_of(known, &v.name);
-    match v.subs.items().split_first() {
-        None => read_type(class),
-        Some(_) => element_type(class),
+    match exprs_in(&v.subs).split_first() {
+        None => read_type(sort),
+        Some(_) => element_type(sort),
     }
 }
 
 /// The type of an expression, none where a name in it is not what stands there.
-pub fn type_of(known: &[Names], e: &Expr) -> Option<Kind>
-    ensures { result ≡ rules.type_of (expr e.now) (seen known.now) }
+pub fn type_of(scopes: &Scopes, e: &Expr) -> Option<Kind>
+    ensures { (a : Surroundings) → TellsIn scopes.now a (expr e.now) → result ≡ rules.type_of (expr e.now) a }
 {
     match e {
         Expr::Number(_, _) => Some(Kind::Number),
         Expr::Truth(_, _) => Some(Kind::Truth),
-        Expr::Variable(v) => variable_type(known, v),
-        Expr::Call(c) => result_type(class_of(known, &c.name)),
+        Expr::Variable(v) => variable_type(sort_at(scopes, &v.name), v),
+        Expr::Call(c) => result_type(sort_at(scopes, &c.name)),
         Expr::Happened(_, _) => Some(Kind::Truth),
-        Expr::Paren(e, _) => type_of(known, e),
+        Expr::Paren(e, _) => type_of(scopes, boxed_expr(e)),
         Expr::Plus(_, _) => Some(Kind::Number),
         Expr::Neg(_, _) => Some(Kind::Number),
         Expr::Not(_, _) => Some(Kind::Truth),
         Expr::Two(op, _, _) => Some(given_by(*op)),
-        Expr::If(_, x, _, _) => type_of(known, x),
+        Expr::If(_, x, _, _) => type_of(scopes, boxed_expr(x)),
     }
 }
 
-/// Notes where an expression has another type than the one that is wanted.
-pub fn want(known: &[Names], kind: Kind, e: &Expr, faults: &mut Faults)
-    ensures { faults.new.first ≡ noted_all faults.old.first (mistyped kind (expr e.now) (seen known.now)) }
+/// Notes where something of a type that may be known stands where another type is wanted.
+fn want_type(kind: Kind, found: Option<Kind>, e: &Expr, faults: &mut Faults)
+    ensures { faults.new.first ≡ noted_all faults.old.first (broken_if codes.WrongType (differs kind found) (cells.first_spot (expr e.now))) }
 {
-    match type_of(known, e) {
+    match found {
         None => {}
         Some(found) => {
             if found != kind {
@@ -109,21 +115,28 @@ pub fn want(known: &[Names], kind: Kind, e: &Expr, faults: &mut Faults)
     }
 }
 
+/// Notes where an expression has another type than the one that is wanted.
+pub fn want(scopes: &Scopes, kind: Kind, e: &Expr, faults: &mut Faults)
+    ensures { (a : Surroundings) → TellsIn scopes.now a (expr e.now) → faults.new.first ≡ noted_all faults.old.first (mistyped kind (expr e.now) a) }
+{
+    want_type(kind, type_of(scopes, e), e, faults);
+}
+
 /// The same where nothing may be wanted.
-pub fn want_if(known: &[Names], kind: Option<Kind>, e: &Expr, faults: &mut Faults)
-    ensures { faults.new.first ≡ noted_all faults.old.first (mistyped_for kind (expr e.now) (seen known.now)) }
+pub fn want_if(scopes: &Scopes, kind: Option<Kind>, e: &Expr, faults: &mut Faults)
+    ensures { (a : Surroundings) → TellsIn scopes.now a (expr e.now) → faults.new.first ≡ noted_all faults.old.first (mistyped_for kind (expr e.now) a) }
 {
     match kind {
         None => {}
-        Some(kind) => want(known, kind, e, faults),
+        Some(kind) => want(scopes, kind, e, faults),
     }
 }
 
 /// Notes which of these expressions are no numbers.
-pub fn want_numbers(known: &[Names], es: &[Expr], faults: &mut Faults)
-    ensures { faults.new.first ≡ noted_all faults.old.first (mistyped_list (exprs es.now) (seen known.now)) }
+pub fn want_numbers(scopes: &Scopes, es: &[Expr], faults: &mut Faults)
+    ensures { (a : Surroundings) → TellsEach scopes.now a (exprs es.now) → faults.new.first ≡ noted_all faults.old.first (mistyped_list (exprs es.now) a) }
 {
     'expressions: for e in es {
-        want(known, Kind::Number, e, faults);
+        want(scopes, Kind::Number, e, faults);
     }
 }

@@ -1,15 +1,21 @@
 //! What a name has to be where it stands.
 
-ghost use Rattle.std.specs.Prelude.{◌≡◌};
+ghost use Rattle.std.specs.Prelude.{◌≡◌, ◌&&◌, not};
 ghost use Rattle.algol_tree.specs.Accepted.{noted_all};
+ghost use Rattle.algol_tree.specs.Classes.{is_unspecified};
+ghost use Rattle.algol_tree.specs.Surroundings.{Surroundings};
+ghost use Rattle.algol_told.specs.Telling.{Tells};
 ghost use Rattle.algol_sites.specs.Noting.{broken_if};
-ghost use Rattle.algol_sites.specs.Seen.{class_seen, seen};
+ghost use Rattle.algol_sites.specs.Seen.{class_seen};
+ghost use Rattle.algol_sites.specs.Wanting as rules;
 ghost use Rattle.algol_sites.specs.Wanting.{is_met, unfit, unfit_event};
+ghost use Rattle.algol_sites.specs.declared.wanted.Wanted.TheVariants as wants;
 
-use crate::class::Class;
-use crate::known::{Names, class_of};
+use crate::told::sort_at;
 use crate::types::read_type;
+use algol_frames::Scopes;
 use algol_rules::Faults;
+use algol_sorts::Sort;
 use algol_tree::{Code, EventName, Kind, Named, Spot};
 
 /// What a name has to be where it stands.
@@ -32,32 +38,34 @@ pub enum Wanted {
     Untyped,
 }
 
+/// Whether it is such an array.
+fn is_such_array(sort: Sort, kind: Kind, subscripts: usize) -> bool
+    ensures { result ≡ is_met (wants.SuchArray kind subscripts) (class_seen sort) }
+{
+    match sort {
+        Sort::Array(other, count) => kind == other && count == subscripts,
+        Sort::FormalArray(other, count) => kind == other && count == subscripts,
+        _ => false,
+    }
+}
+
 impl Wanted {
-    /// Whether a name of that class is what is wanted. Nothing is known of [`Class::Unknown`], and the answer is no.
-    pub fn is_met_by(self, class: Class) -> bool
-        ensures { result ≡ is_met self (class_seen class.entry) }
+    /// Whether what is declared so is what is wanted. Nothing is known of [`Sort::Unspecified`], and the answer is no.
+    pub fn is_met_by(self, sort: Sort) -> bool
+        ensures { result ≡ is_met self (class_seen sort) }
     {
         match self {
-            Wanted::Read => read_type(class).is_some(),
-            Wanted::Simple => matches!(class, Class::Simple(_)),
-            Wanted::Array => matches!(class, Class::Array(_, _)),
-            Wanted::SuchArray(kind, subscripts) => match class {
-                Class::Array(other, count) => kind == other && count == subscripts,
-                _ => false,
-            },
-            Wanted::Event => matches!(class, Class::Event),
-            Wanted::Task => matches!(class, Class::Task),
-            Wanted::Label => matches!(class, Class::Label),
-            Wanted::File => matches!(class, Class::File),
-            Wanted::Procedure => matches!(class, Class::Procedure(_)),
-            Wanted::Function => match class {
-                Class::Procedure(heading) => heading.kind.is_some(),
-                _ => false,
-            },
-            Wanted::Untyped => match class {
-                Class::Procedure(heading) => heading.kind.is_none(),
-                _ => false,
-            },
+            Wanted::Read => read_type(sort).is_some(),
+            Wanted::Simple => matches!(sort, Sort::Variable(_) | Sort::ByName(_)),
+            Wanted::Array => matches!(sort, Sort::Array(_, _) | Sort::FormalArray(_, _)),
+            Wanted::SuchArray(kind, subscripts) => is_such_array(sort, kind, subscripts),
+            Wanted::Event => matches!(sort, Sort::Event | Sort::FormalEvent),
+            Wanted::Task => matches!(sort, Sort::Task),
+            Wanted::Label => matches!(sort, Sort::Label),
+            Wanted::File => matches!(sort, Sort::File),
+            Wanted::Procedure => matches!(sort, Sort::Procedure(_)),
+            Wanted::Function => matches!(sort, Sort::Procedure(Some(_))),
+            Wanted::Untyped => matches!(sort, Sort::Procedure(None)),
         }
     }
 }
@@ -71,24 +79,41 @@ pub fn note_if(is_broken: bool, spot: Spot, code: Code, faults: &mut Faults)
     }
 }
 
-/// Notes the rule where the name is known and is not what is wanted.
-pub fn want_name(known: &[Names], name: &Named, wanted: Wanted, code: Code, faults: &mut Faults)
-    ensures { faults.new.first ≡ noted_all faults.old.first (unfit wanted code name.now (seen known.now)) }
+/// Whether something is declared, and not what is wanted.
+fn is_unfit(wanted: Wanted, sort: Sort) -> bool
+    ensures { result ≡ (not (is_met wanted (class_seen sort)) && not (is_unspecified (class_seen sort))) }
 {
-    let class = class_of(known, name);
-    if !wanted.is_met_by(class) && !matches!(class, Class::Unknown) {
-        faults.note(name.spot, code);
-    }
+    !wanted.is_met_by(sort) && !matches!(sort, Sort::Unspecified)
+}
+
+/// Notes the rule where the name is known and is not what is wanted.
+pub fn want_name(scopes: &Scopes, name: &Named, wanted: Wanted, code: Code, faults: &mut Faults)
+    ensures { (a : Surroundings) → Tells scopes.now a name.now → faults.new.first ≡ noted_all faults.old.first (unfit wanted code name.now a) }
+{
+    note_if(
+        is_unfit(wanted, sort_at(scopes, name)),
+        name.spot,
+        code,
+        faults,
+    );
+}
+
+/// What an event's name or a task's name has to be.
+fn event_wanted(is_task: bool) -> Wanted
+    ensures { result ≡ rules.event_wanted is_task }
+{
+    if is_task { Wanted::Task } else { Wanted::Event }
 }
 
 /// Notes where an event's name is none, or a task's name is no task.
-pub fn want_event(known: &[Names], event: &EventName, faults: &mut Faults)
-    ensures { faults.new.first ≡ noted_all faults.old.first (unfit_event event.now (seen known.now)) }
+pub fn want_event(scopes: &Scopes, event: &EventName, faults: &mut Faults)
+    ensures { (a : Surroundings) → Tells scopes.now a event.now.name → faults.new.first ≡ noted_all faults.old.first (unfit_event event.now a) }
 {
-    let wanted = if event.task {
-        Wanted::Task
-    } else {
-        Wanted::Event
-    };
-    want_name(known, &event.name, wanted, Code::WrongType, faults);
+    want_name(
+        scopes,
+        &event.name,
+        event_wanted(event.task),
+        Code::WrongType,
+        faults,
+    );
 }

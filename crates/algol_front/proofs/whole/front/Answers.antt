@@ -18,8 +18,8 @@ resolve-requires c = in_order c.in_ok-tokens.tokens.items (plain c.in_ok-program
     (tokens_ascend c.args.bytes.now c.in_ok-tokens.tokens.items c.in_ok-tokens.ensures.lexes.lexes)
     (subst (λ (ts : List Token). Reads ts (plain c.in_ok-program.program)) c.as_slice.ensures.value c.in_ok-program.ensures.reads)
 
-pub check-requires : goal.check-requires
-check-requires c = in_order c.in_ok-tokens.tokens.items (plain c.in_ok-program.program)
+pub check-requires-clause-order : goal.check-requires-clause-order
+check-requires-clause-order c = in_order c.in_ok-tokens.tokens.items (plain c.in_ok-program.program)
     (tokens_ascend c.args.bytes.now c.in_ok-tokens.tokens.items c.in_ok-tokens.ensures.lexes.lexes)
     (subst (λ (ts : List Token). Reads ts (plain c.in_ok-program.program)) c.as_slice.ensures.value c.in_ok-program.ensures.reads)
 

@@ -1,7 +1,8 @@
 use Rattle.std.proofs.Common.{◌∙◌, sym, ap, refl, map, drop}
+use Rattle.std.proofs.lemmas.List.{drop_all}
 use Rattle.algol_tree.specs.Image.{expr, exprs}
 use Rattle.algol_rules.specs.declared.fault.Faults.{Faults}
-use Rattle.algol_sites.specs.Seen.{seen, formal_as}
+use Rattle.algol_sites.specs.Seen.{classes_of, formal_as}
 use Rattle.algol_sites.specs.Noting.{noted_in}
 use Rattle.algol_sites.specs.Expressing.{noted_actual, is_alone}
 use Rattle.algol_tree.specs.Sites.{sites}
@@ -9,67 +10,130 @@ use Rattle.algol_tree.specs.Types.{taken_by, type_of}
 use Rattle.algol_tree.specs.Surroundings.{formals_at}
 use Rattle.algol_tree.specs.declared.tree.Kind.TheVariants as kinds
 use Rattle.algol_sites.proofs.Parts.{call_noted, two_noted, if_noted, wanted_as, wanted_for_as, through_as, typed_as}
-use Rattle.algol_sites.proofs.Actuals.{list_step, actual_step, valued, alone, alike, as_classes, none_left}
+use Rattle.algol_sites.proofs.Noted.{neg_noted, not_noted, paren_noted, plus_noted, tested_noted, variable_noted}
+use Rattle.algol_sites.proofs.Forms.{told_call, told_if, told_neg, told_not, told_paren, told_plus, told_tested, told_two, told_variable}
+use Rattle.algol_sites.proofs.Seen.{formals_told}
+use Rattle.algol_sites.proofs.Actuals.{each_split, list_end, list_step, actual_step, valued, alone, alike, none_left}
 use Rattle.algol_sites.proofs.expression.+expressions.Goals as goal
 use Rattle.algol_sites.proofs.expression.+expressions.Goals.{actuals-then-not-is_name_alone, actuals-else-not-is_name_alone}
 
 pub actuals-actuals-preserved : goal.actuals-actuals-preserved
-actuals-actuals-preserved t c =
+actuals-actuals-preserved t c = λ a u.
     let o = c.formal_at-formal.result in
-    let before = noted_actual c.actuals.faults.first (expr c.index-given-at.result) o (seen c.args.known.now) in
-    let valued_after = noted_in before (sites (expr c.index-given-at.result) (seen c.args.known.now)) in
+    let e = c.index-given-at.result in
+    let inv = c.actuals.invariant a u in
+    let told = each_split c.args.scopes.now a c.exprs_in-given.result.now c.actuals.at e c.actuals-test.true c.index-given-at.is inv.1 in
+    let before = noted_actual c.actuals.faults.first (expr e) o a in
+    let valued_after = noted_in before (sites (expr e) a) in
     elim c.if-not-is_name_alone.branch [
-      | actuals-then-not-is_name_alone w ↦
-          actual_step c.exprs_in-given.result.now c.actuals.at c.index-given-at.result c.formals_at-formals.result.now o (seen c.args.known.now)
-          c.actuals.faults.first c.if-not-is_name_alone.faults.first c.actuals-test.true c.index-given-at.is c.formal_at-formal.ensures
-          (ap (λ (f : Faults). f.first) w.faults-is ∙ w.expression.ensures ∙ ap (λ f. noted_in f (sites (expr c.index-given-at.result) (seen c.args.known.now))) c.want_actual.ensures
-          ∙ valued (is_alone (expr c.index-given-at.result) o) before valued_after (sym w.if-not-is_name_alone.ensures))
-          ∙ c.actuals.invariant
-      | actuals-else-not-is_name_alone w ↦
-          actual_step c.exprs_in-given.result.now c.actuals.at c.index-given-at.result c.formals_at-formals.result.now o (seen c.args.known.now)
-          c.actuals.faults.first c.if-not-is_name_alone.faults.first c.actuals-test.true c.index-given-at.is c.formal_at-formal.ensures
-          (ap (λ (f : Faults). f.first) w.faults-is ∙ c.want_actual.ensures
-          ∙ alone (is_alone (expr c.index-given-at.result) o) before valued_after (sym w.if-not-is_name_alone.ensures))
-          ∙ c.actuals.invariant
+      | actuals-then-not-is_name_alone w ↦ (
+        actual_step c.exprs_in-given.result.now c.actuals.at e c.parameters_at-formals.result.now o a
+            c.actuals.faults.first c.if-not-is_name_alone.faults.first c.actuals-test.true c.index-given-at.is c.formal_at-formal.ensures
+            (ap (λ (f : Faults). f.first) w.faults-is ∙ w.expression.ensures a told.0 ∙ ap (λ f. noted_in f (sites (expr e) a)) (c.want_actual.ensures a told.0)
+            ∙ valued (is_alone (expr e) o) before valued_after (sym w.if-not-is_name_alone.ensures))
+            ∙ inv.0,
+        told.1,
+      )
+      | actuals-else-not-is_name_alone w ↦ (
+        actual_step c.exprs_in-given.result.now c.actuals.at e c.parameters_at-formals.result.now o a
+            c.actuals.faults.first c.if-not-is_name_alone.faults.first c.actuals-test.true c.index-given-at.is c.formal_at-formal.ensures
+            (ap (λ (f : Faults). f.first) w.faults-is ∙ c.want_actual.ensures a told.0
+            ∙ alone (is_alone (expr e) o) before valued_after (sym w.if-not-is_name_alone.ensures))
+            ∙ inv.0,
+        told.1,
+      )
     ]
 
 pub actuals-returns : goal.actuals-returns
-actuals-returns t c =
-    none_left c.exprs_in-given.result.now c.actuals.at (drop c.actuals.at (map formal_as c.formals_at-formals.result.now)) (seen c.args.known.now) c.actuals.faults.first
+actuals-returns t c = λ a n u.
+    none_left c.exprs_in-given.result.now c.actuals.at (drop c.actuals.at (map formal_as c.parameters_at-formals.result.now)) a c.actuals.faults.first
     c.actuals-test.false
-    ∙ c.actuals.invariant
-    ∙ alike (exprs c.args.c.now.actuals) (map formal_as c.formals_at-formals.result.now) (formals_at (seen c.args.known.now) c.args.c.now.name) (seen c.args.known.now)
-    c.args.faults.now.first (as_classes c.formals_at-formals.result.now ∙ c.formals_at-formals.ensures)
+    ∙ (c.actuals.invariant a u).0
+    ∙ alike (exprs c.args.c.now.actuals) (map formal_as c.parameters_at-formals.result.now) (formals_at a c.args.c.now.name) a
+    c.args.faults.now.first
+    (ap (λ ss. classes_of (map formal_as ss)) c.parameters_at-formals.ensures ∙ formals_told c.args.scopes.now a c.args.c.now.name n)
+
+pub expression-returns-in-Variable : goal.expression-returns-in-Variable
+expression-returns-in-Variable t c = λ a u.
+    let told = told_variable c.args.scopes.now a c.args.e.now u c.in-Variable.v c.in-Variable.is in
+    variable_noted c.args.e.now a c.args.faults.now.first c.in-Variable.v c.read_variable.new.faults.first c.subscripts.new.faults.first c.in-Variable.is
+    (c.read_variable.ensures a told.0 told.1) (c.subscripts.ensures a told.1)
 
 pub expression-returns-in-Call : goal.expression-returns-in-Call
-expression-returns-in-Call t c =
-    call_noted c.args.e.now c.in-Call.c (seen c.args.known.now) c.args.faults.now.first c.called.new.faults.first c.actuals.new.faults.first c.in-Call.is
-    c.called.ensures c.actuals.ensures
+expression-returns-in-Call t c = λ a u.
+    let told = told_call c.args.scopes.now a c.args.e.now u c.in-Call.c c.in-Call.is in
+    call_noted c.args.e.now c.in-Call.c a c.args.faults.now.first c.called.new.faults.first c.actuals.new.faults.first c.in-Call.is
+    (c.called.ensures a told.0) (c.actuals.ensures a told.0 told.1)
+
+pub expression-returns-in-Happened : goal.expression-returns-in-Happened
+expression-returns-in-Happened t c = λ a u.
+    tested_noted c.args.e.now a c.args.faults.now.first c.in-Happened.event c.in-Happened.field-1 c.want_event.new.faults.first c.in-Happened.is
+    (c.want_event.ensures a (told_tested c.args.scopes.now a c.args.e.now u c.in-Happened.event c.in-Happened.field-1 c.in-Happened.is))
+
+pub expression-returns-in-Paren : goal.expression-returns-in-Paren
+expression-returns-in-Paren t c = λ a u.
+    paren_noted c.args.e.now a c.args.faults.now.first c.in-Paren.e c.in-Paren.field-1 c.boxed_expr.result.now c.expression.new.faults.first c.in-Paren.is
+    c.boxed_expr.ensures
+    (c.expression.ensures a (told_paren c.args.scopes.now a c.args.e.now u c.in-Paren.e c.in-Paren.field-1 c.boxed_expr.result.now c.in-Paren.is c.boxed_expr.ensures))
+
+pub expression-returns-in-Plus : goal.expression-returns-in-Plus
+expression-returns-in-Plus t c = λ a u.
+    let told = told_plus c.args.scopes.now a c.args.e.now u c.in-Plus.e c.in-Plus.field-1 c.boxed_expr-operand.result.now c.in-Plus.is c.boxed_expr-operand.ensures in
+    plus_noted c.args.e.now a c.args.faults.now.first c.in-Plus.e c.in-Plus.field-1 c.boxed_expr-operand.result.now c.want.new.faults.first
+    c.expression-in-Plus.new.faults.first c.in-Plus.is c.boxed_expr-operand.ensures (c.want.ensures a told) (c.expression-in-Plus.ensures a told)
+
+pub expression-returns-in-Neg : goal.expression-returns-in-Neg
+expression-returns-in-Neg t c = λ a u.
+    let told = told_neg c.args.scopes.now a c.args.e.now u c.in-Neg.e c.in-Neg.field-1 c.boxed_expr-operand-in-Neg.result.now c.in-Neg.is c.boxed_expr-operand-in-Neg.ensures in
+    neg_noted c.args.e.now a c.args.faults.now.first c.in-Neg.e c.in-Neg.field-1 c.boxed_expr-operand-in-Neg.result.now c.want-in-Neg.new.faults.first
+    c.expression-in-Neg.new.faults.first c.in-Neg.is c.boxed_expr-operand-in-Neg.ensures (c.want-in-Neg.ensures a told) (c.expression-in-Neg.ensures a told)
+
+pub expression-returns-in-Not : goal.expression-returns-in-Not
+expression-returns-in-Not t c = λ a u.
+    let told = told_not c.args.scopes.now a c.args.e.now u c.in-Not.e c.in-Not.field-1 c.boxed_expr-operand-in-Not.result.now c.in-Not.is c.boxed_expr-operand-in-Not.ensures in
+    not_noted c.args.e.now a c.args.faults.now.first c.in-Not.e c.in-Not.field-1 c.boxed_expr-operand-in-Not.result.now c.want-in-Not.new.faults.first
+    c.expression-in-Not.new.faults.first c.in-Not.is c.boxed_expr-operand-in-Not.ensures (c.want-in-Not.ensures a told) (c.expression-in-Not.ensures a told)
 
 pub expression-returns-in-Two : goal.expression-returns-in-Two
-expression-returns-in-Two t c =
-    two_noted c.args.e.now c.in-Two.op c.in-Two.x c.in-Two.y (seen c.args.known.now) c.args.faults.now.first c.want-in-Two.new.faults.first
+expression-returns-in-Two t c = λ a u.
+    let told =
+    told_two c.args.scopes.now a c.args.e.now u c.in-Two.op c.in-Two.x c.in-Two.y c.boxed_expr-left.result.now c.boxed_expr-right.result.now c.in-Two.is
+    c.boxed_expr-left.ensures c.boxed_expr-right.ensures in
+    two_noted c.args.e.now c.in-Two.op c.in-Two.x c.in-Two.y a c.args.faults.now.first c.want-in-Two.new.faults.first
     c.want-in-Two-2.new.faults.first c.expression-in-Two.new.faults.first c.expression-in-Two-2.new.faults.first c.in-Two.is
-    (wanted_as c.taken_by.result (taken_by c.in-Two.op) c.boxed_expr-left.result.now c.in-Two.x.value _ _ _ c.taken_by.ensures c.boxed_expr-left.ensures c.want-in-Two.ensures)
+    (wanted_as c.taken_by.result (taken_by c.in-Two.op) c.boxed_expr-left.result.now c.in-Two.x.value _ _ _ c.taken_by.ensures c.boxed_expr-left.ensures
+    (c.want-in-Two.ensures a told.0))
     (wanted_as c.taken_by-in-Two.result (taken_by c.in-Two.op) c.boxed_expr-right.result.now c.in-Two.y.value _ _ _ c.taken_by-in-Two.ensures c.boxed_expr-right.ensures
-    c.want-in-Two-2.ensures)
-    (through_as c.boxed_expr-left.result.now c.in-Two.x.value _ _ _ c.boxed_expr-left.ensures c.expression-in-Two.ensures)
-    (through_as c.boxed_expr-right.result.now c.in-Two.y.value _ _ _ c.boxed_expr-right.ensures c.expression-in-Two-2.ensures)
+    (c.want-in-Two-2.ensures a told.1))
+    (through_as c.boxed_expr-left.result.now c.in-Two.x.value _ _ _ c.boxed_expr-left.ensures (c.expression-in-Two.ensures a told.0))
+    (through_as c.boxed_expr-right.result.now c.in-Two.y.value _ _ _ c.boxed_expr-right.ensures (c.expression-in-Two-2.ensures a told.1))
 
 pub expression-returns-in-If : goal.expression-returns-in-If
-expression-returns-in-If t c =
-    if_noted c.args.e.now c.in-If.c c.in-If.x c.in-If.y c.in-If.field-3 (seen c.args.known.now) c.args.faults.now.first c.want-in-If.new.faults.first
+expression-returns-in-If t c = λ a u.
+    let told =
+    told_if c.args.scopes.now a c.args.e.now u c.in-If.c c.in-If.x c.in-If.y c.in-If.field-3 c.boxed_expr-condition.result.now c.boxed_expr-yes.result.now
+    c.boxed_expr-otherwise.result.now c.in-If.is c.boxed_expr-condition.ensures c.boxed_expr-yes.ensures c.boxed_expr-otherwise.ensures in
+    if_noted c.args.e.now c.in-If.c c.in-If.x c.in-If.y c.in-If.field-3 a c.args.faults.now.first c.want-in-If.new.faults.first
     c.want_if.new.faults.first c.expression-in-If.new.faults.first c.expression-in-If-2.new.faults.first c.expression-in-If-3.new.faults.first c.in-If.is
-    (wanted_as kinds.Truth kinds.Truth c.boxed_expr-condition.result.now c.in-If.c.value _ _ _ refl c.boxed_expr-condition.ensures c.want-in-If.ensures)
-    (wanted_for_as c.type_of.result (type_of (expr c.in-If.x.value) (seen c.args.known.now)) c.boxed_expr-otherwise.result.now c.in-If.y.value _ _ _
-    (typed_as c.type_of.result c.boxed_expr-yes.result.now c.in-If.x.value (seen c.args.known.now) c.boxed_expr-yes.ensures c.type_of.ensures) c.boxed_expr-otherwise.ensures
-    c.want_if.ensures)
-    (through_as c.boxed_expr-condition.result.now c.in-If.c.value _ _ _ c.boxed_expr-condition.ensures c.expression-in-If.ensures)
-    (through_as c.boxed_expr-yes.result.now c.in-If.x.value _ _ _ c.boxed_expr-yes.ensures c.expression-in-If-2.ensures)
-    (through_as c.boxed_expr-otherwise.result.now c.in-If.y.value _ _ _ c.boxed_expr-otherwise.ensures c.expression-in-If-3.ensures)
+    (wanted_as kinds.Truth kinds.Truth c.boxed_expr-condition.result.now c.in-If.c.value _ _ _ refl c.boxed_expr-condition.ensures (c.want-in-If.ensures a told.0))
+    (wanted_for_as c.type_of.result (type_of (expr c.in-If.x.value) a) c.boxed_expr-otherwise.result.now c.in-If.y.value _ _ _
+    (typed_as c.type_of.result c.boxed_expr-yes.result.now c.in-If.x.value a c.boxed_expr-yes.ensures (c.type_of.ensures a told.1.0)) c.boxed_expr-otherwise.ensures
+    (c.want_if.ensures a told.1.1))
+    (through_as c.boxed_expr-condition.result.now c.in-If.c.value _ _ _ c.boxed_expr-condition.ensures (c.expression-in-If.ensures a told.0))
+    (through_as c.boxed_expr-yes.result.now c.in-If.x.value _ _ _ c.boxed_expr-yes.ensures (c.expression-in-If-2.ensures a told.1.0))
+    (through_as c.boxed_expr-otherwise.result.now c.in-If.y.value _ _ _ c.boxed_expr-otherwise.ensures (c.expression-in-If-3.ensures a told.1.1))
 
 pub subscripts-subscripts-preserved : goal.subscripts-subscripts-preserved
-subscripts-subscripts-preserved t c =
-    list_step c.exprs_in-subs.result.now c.subscripts.e-index c.e-item.result (seen c.args.known.now) c.subscripts.faults.first c.expression.new.faults.first
-    c.subscripts-test.true c.e-item.is c.expression.ensures
-    ∙ c.subscripts.invariant
+subscripts-subscripts-preserved t c = λ a u.
+    let inv = c.subscripts.invariant a u in
+    let told = each_split c.args.scopes.now a c.exprs_in-subs.result.now c.subscripts.e-index c.e-item.result c.subscripts-test.true c.e-item.is inv.1 in (
+      list_step c.exprs_in-subs.result.now c.subscripts.e-index c.e-item.result a c.subscripts.faults.first c.expression.new.faults.first
+          c.subscripts-test.true c.e-item.is (c.expression.ensures a told.0)
+          ∙ inv.0,
+      told.1,
+    )
+
+pub subscripts-returns : goal.subscripts-returns
+subscripts-returns t c = λ a u.
+    list_end c.exprs_in-subs.result.now c.subscripts.e-index a c.subscripts.faults.first _
+    (drop_all c.subscripts.e-index c.exprs_in-subs.result.now c.subscripts-test.false) (c.subscripts.invariant a u).0

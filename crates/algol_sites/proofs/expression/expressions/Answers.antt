@@ -1,10 +1,18 @@
 use Rattle.std.proofs.Common.{◌∙◌}
-use Rattle.algol_sites.specs.Seen.{seen}
-use Rattle.algol_sites.proofs.Actuals.{list_step}
+use Rattle.std.proofs.lemmas.List.{drop_all}
+use Rattle.algol_sites.proofs.Actuals.{each_split, list_end, list_step}
 use Rattle.algol_sites.proofs.expression.expressions.Goals as goal
 
 pub expressions-preserved : goal.expressions-preserved
-expressions-preserved c =
-    list_step c.args.es.now c.expressions.e-index c.e-item.result (seen c.args.known.now) c.expressions.faults.first c.expression.new.faults.first
-    c.expressions-test.true c.e-item.is c.expression.ensures
-    ∙ c.expressions.invariant
+expressions-preserved c = λ a t.
+    let inv = c.expressions.invariant a t in
+    let told = each_split c.args.scopes.now a c.args.es.now c.expressions.e-index c.e-item.result c.expressions-test.true c.e-item.is inv.1 in (
+      list_step c.args.es.now c.expressions.e-index c.e-item.result a c.expressions.faults.first c.expression.new.faults.first c.expressions-test.true c.e-item.is
+          (c.expression.ensures a told.0) ∙ inv.0,
+      told.1,
+    )
+
+pub returns : goal.returns
+returns c = λ a t.
+    list_end c.args.es.now c.expressions.e-index a c.expressions.faults.first _ (drop_all c.expressions.e-index c.args.es.now c.expressions-test.false)
+    (c.expressions.invariant a t).0

@@ -4,10 +4,10 @@ use Rattle.algol_check.proofs.checker.Checker.label.Goals as goal
 
 pub returns-in-None : goal.returns-in-None
 returns-in-None c = λ s.
-    label_kept c.args.self.now c.want_name.new.faults c.args.self.now.standings c.as_slice-known.result.now c.args.name.now c.args.listed [] s
-    c.as_slice-known.ensures.value c.want_name.ensures (sym (append-nil c.args.self.now.standings.items)) c.in-None.ensures
+    label_kept c.args.scopes.now c.args.self.now c.want_name.new.faults c.args.self.now.standings c.args.name.now c.args.listed [] s
+    c.want_name.ensures (sym (append-nil c.args.self.now.standings.items)) c.in-None.ensures
 
 pub returns-in_ok-push-in-Some : goal.returns-in_ok-push-in-Some
 returns-in_ok-push-in-Some c = λ s.
-    label_kept c.args.self.now c.want_name.new.faults c.push.new.self c.as_slice-known.result.now c.args.name.now c.args.listed (c.in-Some.standing ∷ []) s
-    c.as_slice-known.ensures.value c.want_name.ensures c.in_ok-push-in-Some.ensures.items c.in-Some.ensures
+    label_kept c.args.scopes.now c.args.self.now c.want_name.new.faults c.push.new.self c.args.name.now c.args.listed (c.in-Some.standing ∷ []) s
+    c.want_name.ensures c.in_ok-push-in-Some.ensures.items c.in-Some.ensures

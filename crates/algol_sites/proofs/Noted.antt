@@ -1,0 +1,63 @@
+-- What is noted of an expression, by its form.
+use Rattle.std.proofs.Common.{rules, ◌≡◌, List, Option, refl, ap, sym, ◌∙◌}
+use Rattle.std.specs.declared.boxed.Box.{Box}
+use Rattle.std.specs.declared.alloc.Global.{Global}
+use Rattle.algol_tree.specs.declared.token.Spot.{Spot}
+use Rattle.algol_tree.specs.declared.refusal.Code.TheVariants as codes
+use Rattle.algol_tree.specs.declared.refusal.Fault.{Fault}
+use Rattle.algol_tree.specs.declared.tree.Kind.TheVariants as kinds
+use Rattle.algol_tree.specs.declared.tree.EventName.{EventName}
+use Rattle.algol_tree.specs.declared.tree.Expr.{Expr}
+use Rattle.algol_tree.specs.declared.tree.Expr as expressions
+use Rattle.algol_tree.specs.declared.tree.Variable.{Variable}
+use Rattle.algol_tree.specs.Plain as tree
+use Rattle.algol_tree.specs.Plain.{PExpr}
+use Rattle.algol_tree.specs.Image.{expr, exprs, variable}
+use Rattle.algol_tree.specs.Surroundings.{Surroundings, class_of}
+use Rattle.algol_tree.specs.Accepted.{noted_all}
+use Rattle.algol_tree.specs.Sites.{inside_list, sites}
+use Rattle.algol_sites.specs.Noting.{mistyped, noted_in}
+use Rattle.algol_sites.specs.Wanting.{unfit_event}
+use Rattle.algol_sites.specs.Expressing.{noted_here}
+use Rattle.algol_sites.proofs.Parts.{event_told, variable_is}
+use Rattle.algol_sites.proofs.Forms.{neg_image, not_image, paren_image, plus_image, tested_image, variable_image}
+
+module _ (e : Expr) (a : Surroundings) (f : Option Fault) where
+  -- the same of the plain tree
+  plainly : (p : PExpr) (g : Option Fault) → expr e ≡ p → g ≡ noted_in f (sites p a) → g ≡ noted_in f (sites (expr e) a)
+  plainly p g is q = q ∙ sym (ap (λ x. noted_in f (sites x a)) is)
+
+  pub variable_noted : (v : Variable) (g h : Option Fault) → e ≡ expressions.Variable v → g ≡ noted_here f (tree.variable (variable v)) a →
+      h ≡ noted_in g (inside_list (exprs v.subs) a) → h ≡ noted_in f (sites (expr e) a)
+  variable_noted v g h is p q =
+      plainly (tree.variable (tree.subscripted v.name (exprs v.subs))) h (ap expr is ∙ variable_image v)
+      (q ∙ ap (λ o. noted_in o (inside_list (exprs v.subs) a)) (p ∙ ap (λ x. noted_here f (tree.variable x) a) (variable_is v)))
+
+  pub tested_noted : (x : EventName) (spot : Spot) (g : Option Fault) → e ≡ expressions.Happened x spot → g ≡ noted_all f (unfit_event x a) →
+      g ≡ noted_in f (sites (expr e) a)
+  tested_noted x spot g is p =
+      plainly (tree.tested tree.happened x spot) g (ap expr is ∙ tested_image x spot)
+      (p ∙ ap (noted_all f) (sym (event_told x.task x.name (class_of a x.name))))
+
+  pub paren_noted : (x : Box Expr Global) (spot : Spot) (y : Expr) (g : Option Fault) → e ≡ expressions.Paren x spot → y ≡ x.value →
+      g ≡ noted_in f (sites (expr y) a) → g ≡ noted_in f (sites (expr e) a)
+  paren_noted x spot y g is same p =
+      plainly (tree.paren (expr x.value) spot) g (ap expr is ∙ paren_image x spot) (p ∙ ap (λ z. noted_in f (sites (expr z) a)) same)
+
+  pub plus_noted : (x : Box Expr Global) (spot : Spot) (y : Expr) (g h : Option Fault) → e ≡ expressions.Plus x spot → y ≡ x.value →
+      g ≡ noted_all f (mistyped kinds.Number (expr y) a) → h ≡ noted_in g (sites (expr y) a) → h ≡ noted_in f (sites (expr e) a)
+  plus_noted x spot y g h is same p q =
+      plainly (tree.plus (expr x.value) spot) h (ap expr is ∙ plus_image x spot)
+      (q ∙ ap (λ o. noted_in o (sites (expr y) a)) p ∙ ap (λ z. noted_in (noted_all f (mistyped kinds.Number (expr z) a)) (sites (expr z) a)) same)
+
+  pub neg_noted : (x : Box Expr Global) (spot : Spot) (y : Expr) (g h : Option Fault) → e ≡ expressions.Neg x spot → y ≡ x.value →
+      g ≡ noted_all f (mistyped kinds.Number (expr y) a) → h ≡ noted_in g (sites (expr y) a) → h ≡ noted_in f (sites (expr e) a)
+  neg_noted x spot y g h is same p q =
+      plainly (tree.neg (expr x.value) spot) h (ap expr is ∙ neg_image x spot)
+      (q ∙ ap (λ o. noted_in o (sites (expr y) a)) p ∙ ap (λ z. noted_in (noted_all f (mistyped kinds.Number (expr z) a)) (sites (expr z) a)) same)
+
+  pub not_noted : (x : Box Expr Global) (spot : Spot) (y : Expr) (g h : Option Fault) → e ≡ expressions.Not x spot → y ≡ x.value →
+      g ≡ noted_all f (mistyped kinds.Truth (expr y) a) → h ≡ noted_in g (sites (expr y) a) → h ≡ noted_in f (sites (expr e) a)
+  not_noted x spot y g h is same p q =
+      plainly (tree.not (expr x.value) spot) h (ap expr is ∙ not_image x spot)
+      (q ∙ ap (λ o. noted_in o (sites (expr y) a)) p ∙ ap (λ z. noted_in (noted_all f (mistyped kinds.Truth (expr z) a)) (sites (expr z) a)) same)
