@@ -1,5 +1,5 @@
 -- The scopes tell of the names at each part of a tree what these are declared as there.
-use Rattle.std.proofs.Common.{◌≡◌, ℕ, ◌+◌, ◌<◌, Bool, true, false, List, [], ◌∷◌, ◌++◌, map, length, Option, Some, None, refl, sym, subst, ap, ◌∙◌, arith}
+use Rattle.std.proofs.Common.{◌≡◌, ℕ, ◌+◌, ◌<◌, Bool, true, false, List, [], ◌∷◌, map, length, Option, Some, None, refl, subst, ap, ◌∙◌, arith}
 use Rattle.std.specs.Prelude.{if◌then◌else◌, is_some, not}
 use Rattle.std.specs.List.{AllByRecursion}
 use Rattle.std.specs.Option.{option_or}
@@ -11,12 +11,12 @@ use Rattle.algol_tree.specs.Plain.{PDecl, PDecls, PProgram, PStmt}
 use Rattle.algol_tree.specs.Classes as class
 use Rattle.algol_tree.specs.Sorts.{Declared, formals_of, look_up, same_name}
 use Rattle.algol_tree.specs.Blocks.{Block, blocks_of_program, number_at, same_spot}
-use Rattle.algol_tree.specs.Surroundings.{Surroundings, declared_as, inside_procedure, knowing, outermost}
+use Rattle.algol_tree.specs.Surroundings.{Surroundings, declared_as, inside_procedure, knowing}
 use Rattle.algol_tree.specs.Sites as site
 use Rattle.algol_tree.specs.Sites.{Part, Site, sites_in_decls}
 use Rattle.algol_tree.specs.Scopes.{names_in}
 use Rattle.algol_tree.specs.Cells.{couple_in, level_at}
-use Rattle.algol_tree.specs.Couples.{Known, Located, declaration_at, known_at, known_there}
+use Rattle.algol_tree.specs.Couples.{Known, Located, known_at, known_there}
 use Rattle.algol_tree.specs.Names.{declared_twice, if_so, places_if, unknown_in_part, unknown_names}
 use Rattle.algol_tree.specs.Accepted.{sites_of}
 use Rattle.algol_tree.specs.Ascending.{IsInOrder}
@@ -24,11 +24,9 @@ use Rattle.algol_sorts.specs.Sorts.{parameter_of, sort_of}
 use Rattle.algol_frames.specs.declared.scopes.Declared as found
 use Rattle.algol_frames.specs.declared.scopes.Scopes.{Scopes}
 use Rattle.algol_scope.specs.Noting.{parameters_by, parameters_here}
-use Rattle.algol_scope.specs.Resolved.{AreOf, Meaning, couple, declaration_of, located, meaning, meaning_at, meant, number_among, number_of, number_of_block, parameters_among, parameters_at, parameters_of}
-use Rattle.algol_told.specs.Telling.{EachPartIsTold, Tells, TellsAll, TellsAt, TellsHeading}
+use Rattle.algol_scope.specs.Resolved.{AreOf, Meaning, couple, declaration_of, located, meaning, meaning_at, meant, number_among, parameters_among, parameters_at}
+use Rattle.algol_told.specs.Telling.{EachPartIsTold, Tells, TellsAt}
 use Rattle.algol_told.proofs.Lists.{all-both, each-of, none-left, none-of, none-right}
-use Rattle.algol_told.proofs.Spots.{spot-itself}
-use Rattle.algol_told.proofs.Known.{spot-is}
 use Rattle.algol_told.proofs.Walk.{HoldsAt, all-hold}
 use Rattle.algol_told.proofs.Places.{IsSo, IsThere, declared-there, each-there, names-so, names_known}
 use Rattle.algol_told.proofs.Held as held
