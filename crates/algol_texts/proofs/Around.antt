@@ -15,7 +15,7 @@ use Rattle.algol_tree.specs.Sorts as sort
 use Rattle.algol_tree.specs.Sorts.{Sort, is_formal, Parameter, same_name, Declared, look_up, declare, is_named_in, sort_in, class_in, parameters_of}
 use Rattle.algol_tree.specs.Surroundings.{Surroundings, announced, declare_procedure, knowing, knowing_all, inside_procedure}
 use Rattle.algol_meaning.proofs.Naming.{same_name-is}
-use Rattle.algol_front_laws.proofs.Lists.{contains-first, contains-later, all-append, all-weaker, false-not-true}
+use Rattle.algol_told.proofs.Lists.{contains-first, contains-later, all-append, all-weaker, false-not-true}
 use Rattle.algol_texts.proofs.Parameters.{has_name, HasParameter, more_known, IsGiven, given_value, given_name, given_array, given_event, given, each_named, parameter_known, each_parameter}
 use Rattle.algol_texts.proofs.Callees.{AreSpecified, parameters_at, IsCallee, DeclaresCallee, AreCallees, IsChain}
 

@@ -16,7 +16,7 @@ use Rattle.algol_paths.specs.Texts.{InPairs}
 use Rattle.algol_calls.specs.Fits.{PairsFit}
 use Rattle.algol_front_laws.specs.Declarations.{EachOnce}
 use Rattle.algol_front_laws.specs.Uses.{use_by_name}
-use Rattle.algol_front_laws.proofs.Lists.{all-append, all-left, all-right, all-weaker, of-contained}
+use Rattle.algol_told.proofs.Lists.{all-append, all-left, all-right, all-weaker, of-contained}
 use Rattle.algol_texts.proofs.Parameters.{IsGiven, given_value, given_name, given_array, given_event, given, parameter_known}
 use Rattle.algol_texts.proofs.Good.{IsGood, AreGood, use_is}
 use Rattle.algol_texts.proofs.Callees.{AreSpecified, IsCallee}

@@ -18,7 +18,7 @@ use Rattle.algol_tree.specs.Sites as site
 use Rattle.algol_tree.specs.Sites.{Site, inside_decl, sites_in_decls}
 use Rattle.algol_tree.specs.Sorts.{same_name, Declared, Parameter, class_in, parameters_of}
 use Rattle.algol_tree.specs.Surroundings.{Surroundings, declared_as, body_of, heading_or, announced, knowing}
-use Rattle.algol_front_laws.proofs.Lists.{none-left, none-right, none-of, all-left, all-right, all-weaker, false-not-true}
+use Rattle.algol_told.proofs.Lists.{none-left, none-right, none-of, all-left, all-right, all-weaker, false-not-true}
 use Rattle.algol_texts.proofs.Parameters.{has_name, not_so, result_clear}
 use Rattle.algol_texts.proofs.Good.{IsGood, AreGood, nothing}
 

@@ -27,7 +27,7 @@ use Rattle.algol_calls.specs.Fits as fits
 use Rattle.algol_calls.specs.Fits.{wanted, AloneFits, IsNameOfIt, StandsFor, ExprFits, ExprsFit, ActualsFit}
 use Rattle.algol_front_laws.specs.Declarations.{EachOnce}
 use Rattle.algol_front_laws.specs.Uses.{use_by_name}
-use Rattle.algol_front_laws.proofs.Lists.{none-left, all-left, all-right, false-not-true}
+use Rattle.algol_told.proofs.Lists.{none-left, all-left, all-right, false-not-true}
 use Rattle.algol_texts.proofs.Parameters.{not_so, IsGiven, given_value, given_name, given_array, given_event, given, parameter}
 use Rattle.algol_texts.proofs.Good.{IsUsed, IsGood, AreGood, actual_used, value_good, nothing, first_so}
 use Rattle.algol_texts.proofs.Callees.{AreSpecified}

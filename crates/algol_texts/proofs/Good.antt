@@ -17,7 +17,7 @@ use Rattle.algol_tree.specs.Sorts.{Declared}
 use Rattle.algol_tree.specs.Surroundings.{Surroundings, declared_as}
 use Rattle.algol_front_laws.specs.Declarations.{EachOnce}
 use Rattle.algol_front_laws.specs.Uses.{use_by_name, use_in}
-use Rattle.algol_front_laws.proofs.Lists.{false-not-true}
+use Rattle.algol_told.proofs.Lists.{false-not-true}
 
 module _ (sc : Scopes) where
   -- The name has a declaration at its place, and this use of it is looked up.

@@ -20,7 +20,7 @@ use Rattle.algol_paths.specs.Blocks.{IsSeen}
 use Rattle.algol_calls.specs.Fits.{parameter_sort, LeftFits, ControlFits, Leads, IsSettled}
 use Rattle.algol_front_laws.specs.Declarations.{EachOnce}
 use Rattle.algol_front_laws.specs.Uses.{use_by_name}
-use Rattle.algol_front_laws.proofs.Lists.{none-left, false-not-true}
+use Rattle.algol_told.proofs.Lists.{none-left, false-not-true}
 use Rattle.algol_texts.proofs.Parameters.{has_name, not_so, is_same, no_parameter}
 use Rattle.algol_texts.proofs.Good.{IsUse, IsUsed, IsGood, use_is, nothing}
 use Rattle.algol_texts.proofs.Callees.{parameters_at, IsCallee, is_among, chain_at}

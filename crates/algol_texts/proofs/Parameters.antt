@@ -15,7 +15,7 @@ use Rattle.algol_tree.specs.Sorts as sort
 use Rattle.algol_tree.specs.Sorts.{Sort, is_formal, is_by_name, Declared, Parameter, same_name, is_named_in, sort_by, sort_in, class_by, class_in, specified_by, parameters_of}
 use Rattle.algol_meaning.proofs.Naming.{same_name-is, same_name-itself}
 use Rattle.algol_calls.specs.Fits.{parameter_sort}
-use Rattle.algol_front_laws.proofs.Lists.{none-left, none-right, contains-first, all-weaker, false-not-true}
+use Rattle.algol_told.proofs.Lists.{none-left, none-right, contains-first, all-weaker, false-not-true}
 
 -- one of them has this name
 abbrev pub has_name : List Parameter → List ℕ → Bool

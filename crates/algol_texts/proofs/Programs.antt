@@ -24,7 +24,7 @@ use Rattle.algol_paths.specs.Laws.{ItemsKeepToText}
 use Rattle.algol_calls.specs.Fits.{ItemsFit}
 use Rattle.algol_front_laws.specs.Declarations.{EachOnce}
 use Rattle.algol_front_laws.specs.Uses.{IsLookedUp, use_in}
-use Rattle.algol_front_laws.proofs.Lists.{none-left, none-right, none-of, all-left, all-right, all-append, all-both}
+use Rattle.algol_told.proofs.Lists.{none-left, none-right, none-of, all-left, all-right, all-append, all-both}
 use Rattle.algol_front_laws.proofs.Uses.{each-looked-up}
 use Rattle.algol_front_laws.proofs.Sources.{each-site-once, source-in-order}
 use Rattle.algol_texts.specs.Laws.{TextsOfAcceptedFit, TextsOfSourcesFit}

@@ -20,7 +20,7 @@ use Rattle.algol_paths.specs.Blocks.{IsInner}
 use Rattle.algol_calls.specs.Fits as fits
 use Rattle.algol_calls.specs.Fits.{wanted, ActualsFit}
 use Rattle.algol_front_laws.specs.Uses.{use_by_name}
-use Rattle.algol_front_laws.proofs.Lists.{none-left, none-right, all-append, all-left, all-right}
+use Rattle.algol_told.proofs.Lists.{none-left, none-right, all-append, all-left, all-right}
 use Rattle.algol_texts.proofs.Parameters.{not_so, HasParameter}
 use Rattle.algol_texts.proofs.Good.{IsGood, AreGood, first_so}
 use Rattle.algol_texts.proofs.Callees.{the_block, IsFine, AreFine, DeclaresCallee, AreCallees, are_callees}

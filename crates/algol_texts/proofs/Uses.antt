@@ -18,7 +18,7 @@ use Rattle.algol_calls.specs.Fits as fits
 use Rattle.algol_calls.specs.Fits.{parameter_sort, own_sort, IsTold, Leads, wanted, AloneFits, IsNameOfIt}
 use Rattle.algol_front_laws.specs.Declarations.{EachOnce}
 use Rattle.algol_front_laws.specs.Uses.{use_by_name}
-use Rattle.algol_front_laws.proofs.Lists.{of-contained, false-not-true}
+use Rattle.algol_told.proofs.Lists.{of-contained, false-not-true}
 use Rattle.algol_texts.proofs.Parameters.{IsSame, same_sort}
 use Rattle.algol_texts.proofs.Good.{IsUse, IsUsed, use_is, test_holds}
 use Rattle.algol_texts.proofs.Callees.{AreSpecified, parameters_at, IsCallee}
