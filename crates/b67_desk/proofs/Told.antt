@@ -10,7 +10,6 @@ use Rattle.b67_segment.specs.declared.code.Code.{Code}
 use Rattle.b67_segment.specs.declared.code.Segment.{Segment}
 use Rattle.b67_schedule.specs.Schedules.{entries, IsSchedule, Kept as Schedule}
 use Rattle.b67_report.specs.declared.EndWords.{EndWords}
-use Rattle.b67_report.specs.declared.EndWords.TheVariants as words
 use Rattle.b67_report.specs.declared.Report.{Report}
 use Rattle.b67_machine.specs.declared.reads.End.{End}
 use Rattle.b67_machine.specs.declared.reads.End.TheVariants as ends

@@ -1,4 +1,4 @@
-use Rattle.std.proofs.Common.{◌≤◌, ℕ, length, arith}
+use Rattle.std.proofs.Common.{◌≤◌, length, arith}
 use Rattle.std.specs.Prelude.{option_copied}
 use Rattle.algol_tree.specs.Image.{program as plain}
 use Rattle.algol_tree.specs.declared.TheConstants.{MOST_SOURCE_BYTES}

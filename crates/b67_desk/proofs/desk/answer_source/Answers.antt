@@ -1,4 +1,4 @@
-use Rattle.std.proofs.Common.{ap, arith, rules, length, ◌∙◌}
+use Rattle.std.proofs.Common.{ap, arith, rules, length}
 use Rattle.b67_desk.proofs.Answering.{read_is, too_long_is}
 use Rattle.b67_desk.proofs.desk.answer_source.Goals as goal
 

@@ -1,4 +1,4 @@
-use Rattle.std.proofs.Common.{ap, subst, rules}
+use Rattle.std.proofs.Common.{ap, subst}
 use Rattle.b67_schedule.specs.Schedules.{entries, IsSchedule}
 use Rattle.b67_segment.specs.declared.code.Code.{Code}
 use Rattle.b67_alone.specs.Alone.{RunsAlone}

@@ -1,7 +1,6 @@
-use Rattle.std.proofs.Common.{◌≡◌, ◌∙◌, ap, refl, sym, subst, Some, None}
+use Rattle.std.proofs.Common.{ap, refl, Some, None}
 use Rattle.std.specs.Prelude.{option_copied}
 use Rattle.algol_tree.specs.Image.{program as plain}
-use Rattle.b67_schedule.specs.Schedules.{entries}
 use Rattle.b67_desk.proofs.Answering.{bad_answered, replayed_answered}
 use Rattle.b67_desk.proofs.tree.answer_replay.Goals as goal
 
