@@ -7,7 +7,6 @@ use Rattle.std.specs.List.{flat_map}
 use Rattle.std.specs.declared.alloc.Global.{Global}
 use Rattle.algol_tree.specs.declared.token.Spot.{Spot}
 use Rattle.algol_tree.specs.declared.refusal.Code.TheVariants as codes
-use Rattle.algol_tree.specs.declared.refusal.Fault.{Fault}
 use Rattle.algol_tree.specs.declared.tree.Kind.TheVariants as kinds
 use Rattle.algol_tree.specs.declared.tree.Named.{Named}
 use Rattle.algol_tree.specs.declared.tree.EventAct.{EventAct}
@@ -15,7 +14,7 @@ use Rattle.algol_tree.specs.declared.tree.EventName.{EventName}
 use Rattle.algol_tree.specs.declared.tree.PhraseText.{PhraseText}
 use Rattle.algol_tree.specs.Plain as tree
 use Rattle.algol_tree.specs.Plain.{PExpr, PExprs, PVariable, PCall, PBody, PStmt, PStmts}
-use Rattle.algol_tree.specs.Blocks.{Begin, of_statement, of_procedure, Block, begin_block, begin_outer, blocks_of, blocks_in_body, blocks_in_stmts}
+use Rattle.algol_tree.specs.Blocks.{Begin, of_statement, Block, begin_block, begin_outer, blocks_of, blocks_in_body, blocks_in_stmts}
 use Rattle.algol_tree.specs.Surroundings.{Surroundings, formals_at, inside}
 use Rattle.algol_tree.specs.Cells.{first_spot}
 use Rattle.algol_tree.specs.Names.{if_so}

@@ -1,5 +1,5 @@
 -- The types of expressions, where the scopes tell of the names in them, and what is told of an expression by its form.
-use Rattle.std.proofs.Common.{rules, ◌≡◌, List, [], ◌∷◌, Option, Some, None, refl, ap, sym, ◌∙◌, subst}
+use Rattle.std.proofs.Common.{rules, ◌≡◌, Option, ap, sym, ◌∙◌, subst}
 use Rattle.std.specs.declared.boxed.Box.{Box}
 use Rattle.std.specs.declared.alloc.Global.{Global}
 use Rattle.algol_tree.specs.declared.token.Spot.{Spot}

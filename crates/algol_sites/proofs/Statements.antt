@@ -1,8 +1,7 @@
 -- What the walk notes of a statement is what the rules have for it, where the scopes tell of the names in it.
 use Rattle.std.proofs.Common.{rules, ◌≡◌, ℕ, ◌+◌, ◌<◌, Bool, true, false, List, [], ◌∷◌, ◌++◌, length, drop, get_or, Option, Some, None, refl, ap, sym, ◌∙◌, arith, drop-cons, suc, subst}
-use Rattle.std.specs.Prelude.{◌==◌, ◌&&◌, not, if◌then◌else◌, reverse}
+use Rattle.std.specs.Prelude.{◌&&◌, not, if◌then◌else◌}
 use Rattle.algol_tree.specs.declared.token.Spot.{Spot}
-use Rattle.algol_tree.specs.declared.refusal.Code.{Code}
 use Rattle.algol_tree.specs.declared.refusal.Code.TheVariants as codes
 use Rattle.algol_tree.specs.declared.refusal.Fault.{Fault}
 use Rattle.algol_tree.specs.declared.tree.Kind.{Kind}
@@ -21,25 +20,22 @@ use Rattle.algol_tree.specs.Plain.{PExpr, PExprs, PStmt}
 use Rattle.algol_tree.specs.Image.{expr, exprs, call, pairs, variable}
 use Rattle.algol_tree.specs.Classes as class
 use Rattle.algol_tree.specs.Classes.{Class, is_event, is_task, is_unspecified}
-use Rattle.algol_tree.specs.Cells.{first_spot}
 use Rattle.algol_tree.specs.Types.{read_type, element_type}
 use Rattle.algol_tree.specs.Names.{if_so}
-use Rattle.algol_tree.specs.Sorts.{Declared, look_up}
 use Rattle.algol_tree.specs.Blocks.{Block}
-use Rattle.algol_tree.specs.Surroundings.{Surroundings, class_of, class_of_declared, formals_at, formals_of_class}
+use Rattle.algol_tree.specs.Surroundings.{Surroundings, class_of, formals_at}
 use Rattle.algol_tree.specs.Sites as site
 use Rattle.algol_tree.specs.Sites.{Site, sites, inside_list, inside_actuals, sites_in_pairs}
 use Rattle.algol_tree.specs.Accepted.{noted_all}
 use Rattle.algol_sites.specs.declared.place.Place.{Place}
-use Rattle.algol_sites.specs.declared.wanted.Wanted.{Wanted}
 use Rattle.algol_sites.specs.declared.wanted.Wanted.TheVariants as wanted
 use Rattle.algol_sites.specs.Assigning.{can_take}
 use Rattle.algol_sites.specs.Placing.{IsPlaced}
 use Rattle.algol_frames.specs.declared.scopes.Scopes.{Scopes}
 use Rattle.algol_told.specs.Telling.{Tells, TellsAll}
 use Rattle.algol_sites.specs.Seeing.{Notes, NotesAt, TellsEach, TellsIn, TellsTask, stmt_parts, for_site}
-use Rattle.algol_sites.specs.Noting.{broken, broken_if, differs, mistyped, mistyped_for, mistyped_list, noted_at, noted_along, noted_in}
-use Rattle.algol_sites.specs.Wanting.{is_met, unfit, unfit_event, event_wanted}
+use Rattle.algol_sites.specs.Noting.{broken, broken_if, mistyped, mistyped_for, mistyped_list, noted_at, noted_along, noted_in}
+use Rattle.algol_sites.specs.Wanting.{is_met, unfit, unfit_event}
 use Rattle.algol_sites.specs.Lining.{noted_line}
 use Rattle.algol_sites.specs.Expressing.{miscounted_actuals, miscounted_subscripts, noted_call}
 use Rattle.algol_sites.specs.Stating.{noted_name_side, noted_element_side, noted_left, noted_process, noted_control, unfit_task, is_truth}

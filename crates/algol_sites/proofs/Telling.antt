@@ -1,5 +1,5 @@
 -- Where the scopes tell of the names at the parts of an expression, they tell of each name in it.
-use Rattle.std.proofs.Common.{◌≡◌, Bool, true, false, List, [], ◌∷◌, ◌++◌, Option, Some, None, subst}
+use Rattle.std.proofs.Common.{◌≡◌, Bool, true, false, List, ◌++◌, Option, Some, None, subst}
 use Rattle.std.specs.List.{AllByRecursion}
 use Rattle.algol_tree.specs.declared.tree.Named.{Named}
 use Rattle.algol_tree.specs.Plain as tree
@@ -7,8 +7,7 @@ use Rattle.algol_tree.specs.Plain.{PExpr, PExprs, PPair}
 use Rattle.algol_tree.specs.Classes.{Formal}
 use Rattle.algol_tree.specs.Scopes.{if_named}
 use Rattle.algol_tree.specs.Surroundings.{Surroundings, formals_at}
-use Rattle.algol_tree.specs.Sites as site
-use Rattle.algol_tree.specs.Sites.{Site, actual_part, first_formal, here, inside_actuals, inside_expr, inside_list, name_part, other_formals, sites, sites_in_pairs, wants_value}
+use Rattle.algol_tree.specs.Sites.{Site, actual_part, first_formal, here, inside_actuals, inside_expr, inside_list, name_part, other_formals, sites, wants_value}
 use Rattle.algol_frames.specs.declared.scopes.Scopes.{Scopes}
 use Rattle.algol_told.specs.Telling.{Tells, TellsAll, TellsAt}
 use Rattle.algol_told.proofs.Lists.{all-left, all-right}

@@ -1,5 +1,5 @@
 -- Which names can be assigned to at a place.
-use Rattle.std.specs.Prelude.{◌&&◌, ◌||◌, Bool, true, false, List, Option, Some, None, is_some}
+use Rattle.std.specs.Prelude.{◌&&◌, ◌||◌, Bool, true, false, List, Some, is_some}
 use Rattle.std.specs.List.{list_any}
 use Rattle.algol_tree.specs.declared.token.Spot.{Spot}
 use Rattle.algol_tree.specs.Blocks.{same_spot}

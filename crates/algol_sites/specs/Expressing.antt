@@ -13,7 +13,6 @@ use Rattle.algol_tree.specs.Accepted.{noted_all}
 use Rattle.algol_tree.specs.Sites as site
 use Rattle.algol_tree.specs.Sites.{Site}
 use Rattle.algol_sorts.specs.declared.sort.Sort.{Sort}
-use Rattle.algol_sorts.specs.declared.sort.Sort.TheVariants as sort
 use Rattle.algol_sites.specs.declared.wanted.Wanted.{Wanted}
 use Rattle.algol_sites.specs.declared.wanted.Wanted.TheVariants as wanted
 use Rattle.algol_sites.specs.Noting.{broken, broken_if, noted_at, mistyped_list}
