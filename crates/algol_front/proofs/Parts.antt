@@ -5,7 +5,6 @@ use Rattle.algol_tree.specs.declared.TheConstants.{MOST_SOURCE_BYTES}
 use Rattle.algol_tree.specs.declared.token.Spot.{Spot}
 use Rattle.algol_tree.specs.declared.token.Token.{Token}
 use Rattle.algol_tree.specs.declared.refusal.Code.{Code}
-use Rattle.algol_tree.specs.declared.refusal.Fault.{Fault}
 use Rattle.algol_tree.specs.declared.refusal.Refusal.{Refusal}
 use Rattle.algol_tree.specs.declared.refusal.Refusal.TheVariants.{At, NoMemory}
 use Rattle.algol_tree.specs.Plain.{PProgram}

@@ -1,5 +1,5 @@
 -- An accepted source has one tree, and is refused nowhere; any other text is refused once.
-use Rattle.std.proofs.Common.{◌≡◌, ℕ, List, Some, None, refl, sym, subst, ap, ◌∙◌}
+use Rattle.std.proofs.Common.{◌≡◌, ℕ, List, Some, None, sym, subst, ap, ◌∙◌}
 use Rattle.algol_tree.specs.declared.token.Spot.{Spot}
 use Rattle.algol_tree.specs.declared.token.Token.{Token}
 use Rattle.algol_tree.specs.declared.refusal.Code.{Code}
@@ -9,7 +9,7 @@ use Rattle.algol_tree.specs.declared.refusal.Refusal.TheVariants.{At, NoMemory}
 use Rattle.algol_tree.specs.Plain.{PProgram}
 use Rattle.algol_tree.specs.Programs.{Reads}
 use Rattle.algol_tree.specs.Refused.{RefusedProgram}
-use Rattle.algol_tree.specs.Accepted.{Accepted, scope_faults, check_faults, first_fault, refusal_after, tree_refusal}
+use Rattle.algol_tree.specs.Accepted.{Accepted, check_faults, first_fault, refusal_after, tree_refusal}
 use Rattle.algol_tree.specs.First.{Source, First, in_text, in_grammar, in_tree}
 use Rattle.algol_lexer.proofs.LexReach as texts
 use Rattle.algol_lexer.proofs.LexReach.{one_lexing, not_both}
