@@ -1,6 +1,6 @@
 -- The surroundings of each part of an accepted tree: which rules of names hold there, and what follows from part to part.
-use Rattle.std.proofs.Common.{◌≡◌, ◌+◌, List, [], ◌∷◌, ◌++◌, Some, refl, sym, ap, ◌∙◌}
-use Rattle.std.specs.List.{AllByRecursion, Contains, flat_map}
+use Rattle.std.proofs.Common.{◌≡◌, ◌+◌, List, [], Some, sym, ap, ◌∙◌}
+use Rattle.std.specs.List.{AllByRecursion, Contains}
 use Rattle.algol_tree.specs.declared.token.Spot.{Spot}
 use Rattle.algol_tree.specs.declared.tree.Heading.{Heading}
 use Rattle.algol_tree.specs.Plain as tree
