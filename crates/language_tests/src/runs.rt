@@ -19,11 +19,11 @@ fn first<'p>(alloc: Global, program: &'p Program) -> Result<World<'p>, AllocErro
 /// end.
 fn push_letter(text: &mut Vec<u8>, stepped: &Stepped) -> Result<(), AllocError> {
     match stepped {
-        Stepped::Went(acted) => text.push(acted.action.letter()),
-        Stepped::NotAble => text.push(b'-'),
+        Stepped::Went(acted) => Ok(text.push(acted.action.letter())?),
+        Stepped::NotAble => Ok(text.push(b'-')?),
         Stepped::Ended(acted) => {
             text.push(acted.action.letter())?;
-            text.push(b'.')
+            Ok(text.push(b'.')?)
         }
     }
 }
