@@ -1,5 +1,6 @@
 -- An accepted program that is built, with its names, has all that its code wants.
 use Rattle.std.proofs.Common.{arith, ◌≡◌, ℕ, ◌+◌, ◌<◌, ◌≤◌, suc, Bool, true, false, List, [], ◌∷◌, ◌++◌, length, filter, take, Some, refl, sym, ap, ◌∙◌, subst, length-append, slice_get, if◌then◌else◌}
+use Rattle.std.proofs.lemmas.List.{length-map}
 use Rattle.std.specs.BTreeMap.{BTreeMap}
 use Rattle.std.specs.List.{flat_map, AllByRecursion}
 use Rattle.std.proofs.lemmas.Option.{slice_get_within}
@@ -18,13 +19,13 @@ use Rattle.algol_tree.specs.Plain.{PDecls, PStmts, PBody, PProgram}
 use Rattle.algol_tree.specs.Scopes.{Scopes, scopes_of}
 use Rattle.algol_tree.specs.Sites.{Site}
 use Rattle.algol_tree.specs.Sorts.{Parameter}
-use Rattle.algol_paths.specs.Arrays.{arrays_of, lows_at}
+use Rattle.algol_paths.specs.Arrays.{an_array, arrays_in, arrays_of, made_in, lows_at}
 use Rattle.algol_paths.specs.Segments.{is_procedure, segment_of}
 use Rattle.algol_frames.specs.declared.scopes.Scopes as table
 use Rattle.algol_scope.specs.Resolved.{AreOf}
 use Rattle.algol_scope.proofs.Bodies.{body_is}
 use Rattle.b67_ops.specs.declared.TheConstants.{MOST_LEVEL, OUTER_LEVEL}
-use Rattle.b67_templates.specs.Cells.{Simple, parameter_cells, procedures, result_of, simple_cells, variables, zero_cells}
+use Rattle.b67_templates.specs.Cells.{Simple, parameter_cells, procedures, events_in, made_of, result_of, simple_cells, variables, zero_cells}
 use Rattle.b67_templates.specs.Fitting.{DeclsFit, StmtsFit}
 use Rattle.b67_emitter.specs.declared.names.Lows.{Lows}
 use Rattle.b67_emitter.specs.declared.names.Names.{Names}
@@ -106,6 +107,25 @@ length_three xs ys zs = omega (arith, length-append (xs ++ ys) zs, length-append
 zeros_behind : (sc : Scopes) (b : Block) → length (simple_cells sc b) ≡ length (parameter_cells sc b) + length (zero_cells b)
 zeros_behind sc b = length_three (parameter_cells sc b) (result_of b.result b.name) (variables b.decls)
 
+-- of what is made by actions not all need be arrays
+arrays_fewer : (ds : PDecls) → length (arrays_of ds) ≤ length (made_of ds)
+arrays_fewer tree.no_decls = omega arith
+arrays_fewer (tree.decls (tree.arrays kind ns pairs) ds) =
+    omega (
+      arith,
+      arrays_fewer ds,
+      length-append (arrays_in kind ns pairs) (arrays_of ds),
+      length-append (made_in kind ns pairs) (made_of ds),
+      length-map (arrays_in kind ns pairs) an_array,
+    )
+arrays_fewer (tree.decls (tree.events ns) ds) = omega (arith, arrays_fewer ds, length-append (events_in ns) (made_of ds))
+arrays_fewer (tree.decls (tree.tasks ns) ds) = omega (arith, arrays_fewer ds, length-append (events_in ns) (made_of ds))
+arrays_fewer (tree.decls (tree.simple kind ns) ds) = arrays_fewer ds
+arrays_fewer (tree.decls (tree.files ns) ds) = arrays_fewer ds
+arrays_fewer (tree.decls (tree.labels ns) ds) = arrays_fewer ds
+arrays_fewer (tree.decls (tree.forward h) ds) = arrays_fewer ds
+arrays_fewer (tree.decls (tree.procedure h t) ds) = arrays_fewer ds
+
 -- each parameter has a cell
 parameters_many : (sc : Scopes) (b : Block) → AreParameters sc b → length (parameter_cells sc b) ≡ length b.parameters
 parameters_many sc b is = as_many b.parameters (parameter_cells sc b) is.told
@@ -145,8 +165,8 @@ module _ (spot : Spot) (ds : PDecls) (ss : PStmts) (names : Names) where
         let here : block_numbered bs is.block ≡ b = block_is bs is.block b is.there in
         let own : block_numbered bs (number_at bs b.spot) ≡ b = ap (block_numbered bs) is.number_is ∙ here in
         let many : length (parameter_cells sc b) ≡ length b.parameters = parameters_many sc b (subst (AreParameters sc) here text.parameters) in
-        let cells : length (simple_cells sc b) + length (procedures b.decls) + length (arrays_of b.decls) ≤ MOST_BLOCK_CELLS =
-        subst (λ (z : Block). length (simple_cells sc z) + length (procedures z.decls) + length (arrays_of z.decls) ≤ MOST_BLOCK_CELLS) here text.few in
+        let cells : length (simple_cells sc b) + length (procedures b.decls) + length (made_of b.decls) ≤ MOST_BLOCK_CELLS =
+        subst (λ (z : Block). length (simple_cells sc z) + length (procedures z.decls) + length (made_of z.decls) ≤ MOST_BLOCK_CELLS) here text.few in
         let fits : BlockFits p (couples names) (results names) (lows names) is.block =
         accepted_fit p (couples names) (results names) (lows names) has.accepted has.order has.built has.whole has.texts (couples_known p names has.resolved) (results_known p names has.resolved)
         (lows_known p names has.resolved has.lows) is.block known in
@@ -156,7 +176,7 @@ module _ (spot : Spot) (ds : PDecls) (ss : PStmts) (names : Names) where
           result = ap (λ (z : Block). z.result) own;
           parameters = ap (λ (z : Block). length (parameter_cells sc z)) own ∙ many;
           level = subst (λ (z : Block). level_of z ≤ MOST_LEVEL) here text.low;
-          few = omega (arith, cells, many, zeros_behind sc b);
+          few = omega (arith, cells, many, zeros_behind sc b, arrays_fewer b.decls);
           decls = subst (λ (z : Block). DeclsFit sc (couples names) (results names) (lows names) (level_of z) z.decls) here fits.decls;
           fits = subst (λ (z : Block). StmtsFit sc (couples names) (results names) (lows names) (level_of z) z.stmts) here fits.stmts;
           room = omega (arith, lies.short number, is.short);

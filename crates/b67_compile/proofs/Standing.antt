@@ -18,10 +18,10 @@ use Rattle.b67_segment.specs.declared.code.Code.{Code}
 use Rattle.b67_segment.specs.declared.code.Format.{Format}
 use Rattle.b67_segment.specs.declared.code.Segment.{Segment}
 use Rattle.b67_listing.specs.Listings.{HasOperators, IsListable}
-use Rattle.b67_templates.specs.Contexts.{Context}
+use Rattle.b67_templates.specs.Contexts.{yields_of, Context}
 use Rattle.b67_templates.specs.Fragments.{stop}
-use Rattle.b67_templates.specs.Cells.{zero_cells, control_segments}
-use Rattle.b67_templates.specs.Code.{CellsAt, DeclsAt, HasNoCounts, StmtsAt, KAt}
+use Rattle.b67_templates.specs.Cells.{zero_cells}
+use Rattle.b67_templates.specs.Code.{CellsAt, DeclsAt, HasNoCounts, StmtsAt, KAt, control_pcws}
 use Rattle.b67_templates.specs.Programs.{BodyAt, ProgramAt, context_of}
 use Rattle.b67_emitter.specs.declared.names.Names.{Names}
 use Rattle.b67_emit_stmt.specs.Drafts.{AreListed}
@@ -63,7 +63,7 @@ module _ (sc : Scopes) (context : Context) (ps : List Placed) (level : ℕ) wher
   items_at (tree.stmts s (tree.stmts s' ss)) k f t here after = (f, here.0, here.0, stop, here.1, stop, items_at (tree.stmts s' ss) k here.0 t here.2 after)
 
   -- EXIT, or the result is given back
-  ending_at : (o : Option Kind) (name : List ℕ) (at : ℕ) → (block_numbered sc.blocks context.block).result ≡ o → EndAt sc context ps level o name at → KAt sc context ps level (ending o name) at
+  ending_at : (o : Option Kind) (name : List ℕ) (at : ℕ) → context.yields ≡ yields_of o → EndAt sc context ps level o name at → KAt sc context ps level (ending o name) at
   ending_at None name at e there = (at, there.0, e, stop, there.1)
   ending_at (Some kind) name at e there = (at, stop, there)
 
@@ -83,14 +83,16 @@ module _ (sc : Scopes) (context : Context) (ps : List Placed) (level : ℕ) wher
   decls_at (tree.decls (tree.procedure h s) ds) k f t here after = decls_at ds k f t here after
 
   -- the code of a block's text
-  body_at : (b : Block) → block_numbered sc.blocks context.block ≡ b → (m d e : ℕ) → CellsAt sc context ps level (length (zero_cells b)) (control_segments sc b.decls) 0 m →
+  body_at : (b : Block) → context.yields ≡ yields_of b.result → (m d e : ℕ) → CellsAt sc context ps level (length (zero_cells b)) (control_pcws sc level b.decls) 0 m →
       DeclsAt sc context ps level b.decls m d → StmtsAt sc context ps level b.stmts d e e → EndAt sc context ps level b.result b.name e → BodyAt sc context ps level b 0
   body_at b is m d e cells decls stmts end =
       let last = ending b.result b.name in
       let after : KAt sc context ps level (items b.stmts last) d =
-      items_at b.stmts last d e stmts (ending_at b.result b.name e (ap (λ (z : Block). z.result) is) end) in
+      items_at b.stmts last d e stmts (ending_at b.result b.name e is end) in
       record {
+        begin = 0;
         start = m;
+        over = stop;
         cells = cells;
         items = subst (λ (k : List Item). KAt sc context ps level (decls_items b.decls ++ items b.stmts k) m) (sym (same_ending b))
             (decls_at b.decls (items b.stmts last) m d decls (no_counts b.stmts last (ending_counts b.result b.name), after)).1;
@@ -144,24 +146,27 @@ module _ (spot : Spot) (ds : PDecls) (ss : PStmts) (names : Names) (has : Given 
     unfolding scopes_of
     program_at coded = record {
       many = coded.many ∙ texts_many spot ds ss has.order has.built has.named;
-      texts = coded.placed;
+      texts = record { placed = coded.placed; labels = λ spot. None };
       spells = coded.spells;
       bodies = bodies;
     }
       where
         bodies : (j : ℕ) → j < length (scopes_of p).blocks → (j ≡ 0) ⊎ (is_procedure (block_numbered (scopes_of p).blocks j) ≡ true) →
-            BodyAt (scopes_of p) (context_of code (scopes_of p) j) (coded.placed (segment_of (scopes_of p).blocks j)) (level_of (block_numbered (scopes_of p).blocks j)) (block_numbered (scopes_of p).blocks j) 0
+            BodyAt (scopes_of p) (context_of code (record { placed = coded.placed; labels = λ spot. None }) (scopes_of p) j) (coded.placed (segment_of (scopes_of p).blocks j)) (level_of (block_numbered (scopes_of p).blocks j)) (block_numbered (scopes_of p).blocks j) 0
         bodies j known own =
             let sc = scopes_of p in
             let b = block_numbered sc.blocks j in
             let r = block_text spot ds ss has.order has.built has.named j known own in
-            let at : Context = record { formats = formats; segment = segment_of sc.blocks j; block = j } in
+            let at : Context =
+            record { formats = formats; segment = segment_of sc.blocks j; block = j; level = level_of b; yields = yields_of b.result; labels = λ spot. None } in
             let there = coded.code (segment_of sc.blocks j) (text_of b r.tokens) r.text in
-            let same : made.context_of sc formats (text_of b r.tokens) ≡ at = ap (λ (n : ℕ). record { formats = formats; segment = segment_of sc.blocks n; block = n }) r.number_is in
+            let same : made.context_of sc formats (text_of b r.tokens) ≡ at = ap
+            (λ (n : ℕ). record { formats = formats; segment = segment_of sc.blocks n; block = n; level = level_of b; yields = yields_of b.result; labels = λ spot. None })
+            r.number_is in
             let ps = coded.placed (segment_of sc.blocks j) in
             let l = level_of b in
             body_at sc at ps l b refl there.0 there.1 there.2
-            (subst (λ (c : Context). CellsAt sc c ps l (length (zero_cells b)) (control_segments sc b.decls) 0 there.0) same there.3)
+            (subst (λ (c : Context). CellsAt sc c ps l (length (zero_cells b)) (control_pcws sc l b.decls) 0 there.0) same there.3)
             (subst (λ (c : Context). DeclsAt sc c ps l b.decls there.0 there.1) same there.4)
             (subst (λ (c : Context). StmtsAt sc c ps l b.stmts there.1 there.2 there.2) same there.5)
             (subst (λ (c : Context). EndAt sc c ps l b.result b.name there.2) same there.6)

@@ -1,4 +1,4 @@
--- The start of a block: a zero for each of its variables, the control words of its procedures, and PUSH.
+-- The start of a block: branches to it, a zero for each of its variables, its control words, and PUSH.
 use Rattle.std.proofs.Common.{◌≡◌, refl, sym, ap, ◌∙◌, subst, ℕ, zero, suc, ◌+◌, ◌≤◌, pos, List, [], ◌∷◌, ◌++◌, append_assoc, length, replicate, arith, length-append}
 use Rattle.std.specs.Prelude.{map, reverse}
 use Rattle.std.proofs.lemmas.List.{append-nil, length-map, length-replicate, reverse-append, reverse-reverse}
@@ -14,14 +14,15 @@ use Rattle.b67_segment.specs.declared.code.Code.{Code}
 use Rattle.b67_templates.specs.Contexts.{Context}
 use Rattle.b67_table.specs.Limits.{most_cells}
 use Rattle.b67_table.specs.Private.{frame}
-use Rattle.b67_templates.specs.Fragments.{Has, AllAt, ControlsAt, code_at}
+use Rattle.b67_templates.specs.Fragments as fragments
+use Rattle.b67_templates.specs.Fragments.{Has, AllAt, ControlsAt}
 use Rattle.b67_templates.specs.Code.{MadeAt}
 use Rattle.b67_standing.specs.Stepping.{Slot, operand, control}
-use Rattle.b67_cores.specs.Cores.{Core, size, CoreSteps, here}
+use Rattle.b67_cores.specs.Cores.{Core, size, CoreSteps}
 use Rattle.b67_cores.specs.Slots.{Known, newest, SlotIs, SlotsAre}
 use Rattle.b67_cores.specs.Stretches.{CoreAt, control_words, Begins, BlocksBegin}
-use Rattle.b67_cores.proofs.Moving.{Standing, slots_length, Reaches, place_grows, steps_on, nothing, on}
-use Rattle.b67_cores.proofs.Operating.{Goes}
+use Rattle.b67_cores.proofs.Moving.{Standing, moved, slots_length, Reaches, place_grows, steps_on, nothing, on}
+use Rattle.b67_cores.proofs.Operating.{Goes, going}
 use Rattle.b67_cores.proofs.Pushing.{zero_at, control_at}
 use Rattle.b67_cores.proofs.Making.{made, push_steps, made_as, made_at}
 use Rattle.b67_cores.proofs.Placing.{standing, moved_is}
@@ -50,23 +51,23 @@ reversed : (w : Word) (us rest : List Word) → reverse us ++ (w ∷ rest) ≡ r
 reversed w us rest = sym (append_assoc (reverse us) (w ∷ []) rest) ∙ ap (λ ws. ws ++ rest) (sym (reverse-append (w ∷ []) us))
 
 -- the slots of control words
-abbrev control_slots : ℕ → List ℕ → List Slot
-control_slots level segments = map (λ (segment : ℕ). control (code_at segment 0 (level + 1))) segments
+abbrev control_slots : List Pcw → List Slot
+control_slots controls = map (λ (pcw : Pcw). control pcw) controls
 
 -- what becomes the cells of a block, and its words
-abbrev cell_slots : ℕ → ℕ → List ℕ → List Slot
-cell_slots level many segments = replicate many zero_slot ++ control_slots level segments
+abbrev cell_slots : ℕ → List Pcw → List Slot
+cell_slots many controls = replicate many zero_slot ++ control_slots controls
 
-abbrev cell_words : ℕ → ℕ → List ℕ → List Word
-cell_words level many segments = replicate many zero_word ++ control_words level segments
+abbrev cell_words : ℕ → List Pcw → List Word
+cell_words many controls = replicate many zero_word ++ control_words controls
 
-cells-length : (level many : ℕ) (segments : List ℕ) → length (cell_slots level many segments) ≡ many + length segments
-cells-length level many segments =
+cells-length : (many : ℕ) (controls : List Pcw) → length (cell_slots many controls) ≡ many + length controls
+cells-length many controls =
     omega (
       arith,
-      length-append (replicate many zero_slot) (control_slots level segments),
+      length-append (replicate many zero_slot) (control_slots controls),
       length-replicate many zero_slot,
-      length-map segments (λ (segment : ℕ). control (code_at segment 0 (level + 1))),
+      length-map controls (λ (pcw : Pcw). control pcw),
     )
 
 module _ (sc : Scopes) (known : List Known) (level home base : ℕ) where
@@ -80,13 +81,13 @@ module _ (sc : Scopes) (known : List Known) (level home base : ℕ) where
   AreMade (slot ∷ slots) (w ∷ ws) = IsMade slot w × AreMade slots ws
   AreMade _ _ = ⊥
 
-  controls_made : (segments : List ℕ) → AreMade (control_slots level segments) (control_words level segments)
+  controls_made : (controls : List Pcw) → AreMade (control_slots controls) (control_words controls)
   controls_made [] = tt
-  controls_made (segment ∷ segments) = (record { only = λ x v e. e; plain = λ x. refl }, controls_made segments)
+  controls_made (pcw ∷ controls) = (record { only = λ x v e. e; plain = λ x. refl }, controls_made controls)
 
-  cells_made : (many : ℕ) (segments : List ℕ) → AreMade (cell_slots level many segments) (cell_words level many segments)
-  cells_made zero segments = controls_made segments
-  cells_made (suc k) segments = (record { only = λ x v e. e.is; plain = λ x. refl }, cells_made k segments)
+  cells_made : (many : ℕ) (controls : List Pcw) → AreMade (cell_slots many controls) (cell_words many controls)
+  cells_made zero controls = controls_made controls
+  cells_made (suc k) controls = (record { only = λ x v e. e.is; plain = λ x. refl }, cells_made k controls)
 
   made_newest : (slots : List Slot) (us : List Word) (x : List Slot) → AreMade slots us → newest home base (on_top slots x) ≡ newest home base x
   made_newest [] [] x h = refl
@@ -130,69 +131,82 @@ module _ (sc : Scopes) (known : List Known) (context : Context) (code : Code) (p
   abbrev Gets : ℕ → List Slot → ℕ → List Slot → Type 0
   Gets = Goes sc known code ps level most bound core st
 
+  branches_at : {from to : ℕ} (x : List Slot) → fragments.Goes ps level from to → Gets from x to x
+  branches_at x (fragments.stop {a = from}) = nothing sc known code ps level most bound core st from x
+  branches_at x (fragments.over {a = from} {b = target} next branch more) =
+      on sc known code ps level most bound core st (going sc known code ps level most bound core st from target next x branch) (branches_at x more)
+
   zeros_at : (k : ℕ) (x : List Slot) (from to : ℕ) → length x + k ≤ most → AllAt ps level (replicate k kinds.Zero) from to → Gets from x to (on_top (replicate k zero_slot) x)
   zeros_at zero x from to room e = subst (λ t. Gets from x t x) e (nothing sc known code ps level most bound core st from x)
   zeros_at (suc k) x from to room t =
       on sc known code ps level most bound core st (zero_at sc known context code ps level most bound core st x (omega (arith, room)) from t.0 t.1)
       (zeros_at k (zero_slot ∷ x) t.0 to (omega (arith, room)) t.2)
 
-  controls_at : (segments : List ℕ) (x : List Slot) (from to : ℕ) → length x + length segments ≤ most → ControlsAt ps level segments from to →
-      Gets from x to (on_top (control_slots level segments) x)
+  controls_at : (controls : List Pcw) (x : List Slot) (from to : ℕ) → length x + length controls ≤ most → ControlsAt ps level controls from to →
+      Gets from x to (on_top (control_slots controls) x)
   controls_at [] x from to room e = subst (λ t. Gets from x t x) e (nothing sc known code ps level most bound core st from x)
-  controls_at (segment ∷ segments) x from to room t =
-      let word : Pcw = code_at segment 0 (level + 1) in
-      on sc known code ps level most bound core st (control_at sc known context code ps level most bound core st from t.0 word x t.1 (omega (arith, room)))
-      (controls_at segments (control word ∷ x) t.0 to (omega (arith, room)) t.3)
+  controls_at (pcw ∷ controls) x from to room t =
+      on sc known code ps level most bound core st (control_at sc known context code ps level most bound core st from t.0 pcw x t.1 (omega (arith, room)))
+      (controls_at controls (control pcw ∷ x) t.0 to (omega (arith, room)) t.3)
 
-  cells_at : (many : ℕ) (segments : List ℕ) (from m to : ℕ) → many + length segments ≤ most → AllAt ps level (replicate many kinds.Zero) from m → ControlsAt ps level segments m to →
-      Gets from [] to (on_top (cell_slots level many segments) [])
-  cells_at many segments from m to room zeros controls =
+  cells_at : (many : ℕ) (controls : List Pcw) {from begin : ℕ} (m to : ℕ) → many + length controls ≤ most → fragments.Goes ps level from begin →
+      AllAt ps level (replicate many kinds.Zero) begin m → ControlsAt ps level controls m to → Gets from [] to (on_top (cell_slots many controls) [])
+  cells_at many controls {from = from} {begin = begin} m to room way zeros stand =
       let zeroed : List Slot = on_top (replicate many zero_slot) [] in
-      subst (λ x. Gets from [] to x) (on_top-append (replicate many zero_slot) (control_slots level segments) [])
-      (on sc known code ps level most bound core st (zeros_at many [] from m (omega (arith, room)) zeros)
-      (controls_at segments zeroed m to (omega (arith, room, on_top-length (replicate many zero_slot) [], length-replicate many zero_slot)) controls))
+      subst (λ x. Gets from [] to x) (on_top-append (replicate many zero_slot) (control_slots controls) [])
+      (on sc known code ps level most bound core st
+      (on sc known code ps level most bound core st (branches_at [] way) (zeros_at many [] begin m (omega (arith, room)) zeros))
+      (controls_at controls zeroed m to (omega (arith, room, on_top-length (replicate many zero_slot) [], length-replicate many zero_slot)) stand))
 
 module _ (sc : Scopes) (known : List Known) (context : Context) (code : Code) (ps : List Placed) (level bound from to : ℕ) (core : Core) (at : CoreAt sc known code ps level from [] core) where
-  -- no cells: nothing is done
-  none_made : length core.below + 0 ≤ bound → from ≡ to → Begins sc known code ps level bound 0 [] to core
-  none_made room e =
-      let bare : core.words ≡ [] = no_rest sc known level (frame core.registers) (length core.below) core.words at.words_are in
-      let here_now : CoreAt sc known code ps level to [] core = subst (λ n. CoreAt sc known code ps level n [] core) e at in
+  -- no cells: nothing is done but the branches
+  none_made : length core.below + 0 ≤ bound → fragments.Goes ps level from to → Begins sc known code ps level bound 0 [] to core
+  none_made room way =
+      let st : Standing code ps level 0 bound core = standing sc known code ps level 0 bound from [] core at room in
+      let r : Reaches sc known code ps level 0 bound core from [] core.words to [] =
+      branches_at sc known context code ps level 0 bound core st [] way core.words at.words_are (omega arith) in
+      let last : Core = moved core to [] r.left in
       record {
-        count = 0;
-        core = core;
-        steps = here (omega (arith, room, ap length bare));
+        count = r.count;
+        core = last;
+        steps = subst (λ (c : Core). CoreSteps code bound r.count c last) (sym (moved_is sc known code ps level 0 bound from [] core at)) r.steps;
         below = sym (append-nil core.below);
-        registers =
-            ap (λ n. record core.registers { s = n }) at.is.top
-            ∙ ap (λ n. record core.registers { s = size core; f = n }) at.mark_is
-            ∙ ap (λ n. record core.registers { s = size core; f = frame core.registers; place = n }) here_now.place_is
-            ∙ ap (λ n. record core.registers { s = size core; f = frame core.registers; cells = n; place = to }) (cells_more core.registers.cells);
-        at = here_now;
-        few = omega (arith, here_now.place_is);
+        registers = ap (λ n. record core.registers { s = size last; f = frame core.registers; cells = n; place = to }) (cells_more core.registers.cells);
+        at = record {
+          segment = at.segment;
+          there = at.there;
+          spells = at.spells;
+          level_is = at.level_is;
+          place_is = refl;
+          is = record { bottom = at.is.bottom; top = refl };
+          mark_is = refl;
+          words_are = r.are;
+        };
+        few = omega (arith, r.few, at.place_is);
       }
     where
       cells_more : (n : ℕ) → n ≡ n + 0
       cells_more n = omega arith
 
-  some_made : (many : ℕ) (segments : List ℕ) (m n : ℕ) → AllAt ps level (replicate many kinds.Zero) from m → ControlsAt ps level segments m n → Has ps level n (ops.Plain kinds.Push) to
-      → core.registers.cells + (many + length segments) ≤ most_cells → length core.below + (many + length segments) ≤ bound → Begins sc known code ps level bound many segments to core
-  some_made many segments m n zeros controls has few room =
-      let most : ℕ = many + length segments in
-      let slots : List Slot = on_top (cell_slots level many segments) [] in
+  some_made : (many : ℕ) (controls : List Pcw) {begin : ℕ} (m n : ℕ) → fragments.Goes ps level from begin → AllAt ps level (replicate many kinds.Zero) begin m
+      → ControlsAt ps level controls m n → Has ps level n (ops.Plain kinds.Push) to → core.registers.cells + (many + length controls) ≤ most_cells
+      → length core.below + (many + length controls) ≤ bound → Begins sc known code ps level bound many controls to core
+  some_made many controls m n way zeros stand has few room =
+      let most : ℕ = many + length controls in
+      let slots : List Slot = on_top (cell_slots many controls) [] in
       let st : Standing code ps level most bound core = standing sc known code ps level most bound from [] core at room in
       let r : Reaches sc known code ps level most bound core from [] core.words n slots =
-      cells_at sc known context code ps level most bound core st many segments from m n (omega arith) zeros controls core.words at.words_are (omega arith) in
-      let made_are : AreMade sc known level (frame core.registers) (length core.below) (cell_slots level many segments) (cell_words level many segments) =
-      cells_made sc known level (frame core.registers) (length core.below) many segments in
+      cells_at sc known context code ps level most bound core st many controls m n (omega arith) way zeros stand core.words at.words_are (omega arith) in
+      let made_are : AreMade sc known level (frame core.registers) (length core.below) (cell_slots many controls) (cell_words many controls) =
+      cells_made sc known level (frame core.registers) (length core.below) many controls in
       let bare : newest (frame core.registers) (length core.below) slots ≡ frame core.registers =
-      made_newest sc known level (frame core.registers) (length core.below) (cell_slots level many segments) (cell_words level many segments) [] made_are in
+      made_newest sc known level (frame core.registers) (length core.below) (cell_slots many controls) (cell_words many controls) [] made_are in
       let long : length r.left ≡ most =
       omega (
         arith,
         slots_length sc known level (frame core.registers) (length core.below) slots r.left r.are,
-        on_top-length (cell_slots level many segments) [],
-        cells-length level many segments,
+        on_top-length (cell_slots many controls) [],
+        cells-length many controls,
       ) in
       let small : length core.below + length r.left ≤ 2 + frame core.registers + most_cells = omega (arith, long, few, at.is.bottom) in
       let last : Core = made sc known code ps level most bound core st n to slots r.left has small in
@@ -203,8 +217,8 @@ module _ (sc : Scopes) (known : List Known) (context : Context) (code : Code) (p
             (steps_on {c = last} r.steps (push_steps sc known code ps level most bound core st n to slots r.left has small (last_fits r.steps)));
         below =
             ap (λ ws. core.below ++ reverse ws)
-            (all_made sc known level (frame core.registers) (length core.below) (cell_slots level many segments) (cell_words level many segments) r.left made_are r.are)
-            ∙ ap (λ ws. core.below ++ ws) (reverse-reverse (cell_words level many segments));
+            (all_made sc known level (frame core.registers) (length core.below) (cell_slots many controls) (cell_words many controls) r.left made_are r.are)
+            ∙ ap (λ ws. core.below ++ ws) (reverse-reverse (cell_words many controls));
         registers = made_as sc known code ps level most bound core st n to slots r.left has small most long bare;
         at = made_at sc known code ps level most bound core st n to slots r.left has small bare;
         few = omega (arith, r.few, at.place_is, place_grows has);
@@ -215,10 +229,11 @@ pushed_at : (sc : Scopes) (context : Context) (ps : List Placed) (level k j from
 pushed_at sc context ps level k j from to e h = subst (λ c. MadeAt sc context ps level c from to) e h
 
 pub blocks_begin : BlocksBegin
-blocks_begin sc known context code ps level bound zero [] from to core h at few room = none_made sc known context code ps level bound from to core at room (h.2 ∙ h.3 ∙ h.4)
-blocks_begin sc known context code ps level bound zero (segment ∷ segments) from to core h at few room =
-    some_made sc known context code ps level bound from to core at zero (segment ∷ segments) h.0 h.1 h.2 h.3
-    (pushed_at sc context ps level (zero + length (segment ∷ segments)) (length segments) h.1 to (omega arith) h.4) few room
-blocks_begin sc known context code ps level bound (suc k) segments from to core h at few room =
-    some_made sc known context code ps level bound from to core at (suc k) segments h.0 h.1 h.2 h.3
-    (pushed_at sc context ps level (suc k + length segments) (k + length segments) h.1 to (omega arith) h.4) few room
+blocks_begin sc known context code ps level bound zero [] from begin to core way h at few room =
+    none_made sc known context code ps level bound from to core at room (subst (λ t. fragments.Goes ps level from t) (h.2 ∙ h.3 ∙ h.4) way)
+blocks_begin sc known context code ps level bound zero (pcw ∷ controls) from begin to core way h at few room =
+    some_made sc known context code ps level bound from to core at zero (pcw ∷ controls) h.0 h.1 way h.2 h.3
+    (pushed_at sc context ps level (zero + length (pcw ∷ controls)) (length controls) h.1 to (omega arith) h.4) few room
+blocks_begin sc known context code ps level bound (suc k) controls from begin to core way h at few room =
+    some_made sc known context code ps level bound from to core at (suc k) controls h.0 h.1 way h.2 h.3
+    (pushed_at sc context ps level (suc k + length controls) (k + length controls) h.1 to (omega arith) h.4) few room

@@ -5,6 +5,7 @@ use Rattle.b67_word.specs.Word.{Word}
 use Rattle.b67_segment.specs.Operators.{Placed}
 use Rattle.b67_segment.specs.declared.code.Code.{Code}
 use Rattle.b67_table.specs.Private.{frame}
+use Rattle.b67_templates.specs.Contexts.{Context}
 use Rattle.b67_standing.specs.Stepping.{Held, Slot, operand, reference, intrinsic, control, descriptor, mark}
 use Rattle.b67_cores.specs.Cores.{Core}
 use Rattle.b67_cores.specs.Slots.{Known, IsKnown, SlotIs, SlotsAre}
@@ -32,16 +33,16 @@ module _ (sc : Scopes) (known more : List Known) (level home base : ℕ) where
 
 -- ---- fragments that add to what is known
 
-module _ (sc : Scopes) (level : ℕ) (core : Core) where
-  stuffed_both : (xs ys : List Known) → AreStuffed sc level core xs → AreStuffed sc level core ys → AreStuffed sc level core (xs ++ ys)
+module _ (sc : Scopes) (context : Context) (core : Core) where
+  stuffed_both : (xs ys : List Known) → AreStuffed sc context core xs → AreStuffed sc context core ys → AreStuffed sc context core (xs ++ ys)
   stuffed_both [] ys are more = more
   stuffed_both (x ∷ xs) ys are more = (are.0, stuffed_both xs ys are.1 more)
 
-module _ (sc : Scopes) (code : Code) (ps : List Placed) (level most bound : ℕ) (core : Core) where
+module _ (sc : Scopes) (context : Context) (code : Code) (ps : List Placed) (level most bound : ℕ) (core : Core) where
   -- private operators lead from words at a place to those of other slots, where more words may be known
   pub record Adds (known : List Known) (from : ℕ) (x : List Slot) (words : List Word) (to : ℕ) (y : List Slot) : Type 0 where
     pub added : List Known
-    pub added_are : AreStuffed sc level core added
+    pub added_are : AreStuffed sc context core added
     pub reaches : Reaches sc (added ++ known) code ps level most bound core from x words to y
 
   -- so they do from whatever words are those slots
@@ -57,7 +58,7 @@ module _ (sc : Scopes) (code : Code) (ps : List Placed) (level most bound : ℕ)
       → Adds (f.added ++ known) b y f.reaches.left c z → Adds known a x words c z
   then_adds {known} {a} {b} {c} {x} {y} {z} {words} f g = record {
     added = g.added ++ f.added;
-    added_are = stuffed_both sc level core g.added f.added g.added_are f.added_are;
+    added_are = stuffed_both sc context core g.added f.added g.added_are f.added_are;
     reaches = record {
       count = f.reaches.count + g.reaches.count;
       left = g.reaches.left;

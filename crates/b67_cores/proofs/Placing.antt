@@ -4,6 +4,7 @@ use Rattle.algol_tree.specs.Scopes.{Scopes}
 use Rattle.b67_segment.specs.Operators.{Placed}
 use Rattle.b67_segment.specs.declared.code.Code.{Code}
 use Rattle.b67_table.specs.Private.{frame}
+use Rattle.b67_templates.specs.Contexts.{Context}
 use Rattle.b67_standing.specs.Stepping.{Slot}
 use Rattle.b67_cores.specs.Cores.{Core, size, CoreSteps}
 use Rattle.b67_cores.specs.Slots.{Known, newest}
@@ -34,8 +35,9 @@ module _ (sc : Scopes) (known : List Known) (code : Code) (ps : List Placed) (le
   pub moved_is : core ≡ moved core place slots core.words
   moved_is = placed_as place slots core at.is.top at.mark_is at.place_is
 
-  arrives : (to : ℕ) (y : List Slot) → Adds sc code ps level most bound core known place slots core.words to y → Arrives sc known code ps level most bound to y core
-  arrives to y f = record {
+  arrives : (context : Context) (to : ℕ) (y : List Slot) → Adds sc context code ps level most bound core known place slots core.words to y →
+      Arrives sc known context code ps level most bound to y core
+  arrives context to y f = record {
     count = f.reaches.count;
     core = moved core to y f.reaches.left;
     steps = subst (λ (c : Core). CoreSteps code bound f.reaches.count c (moved core to y f.reaches.left)) (sym moved_is) f.reaches.steps;
@@ -59,10 +61,10 @@ module _ (sc : Scopes) (known : List Known) (code : Code) (ps : List Placed) (le
 pub fragments_are_performed : FragmentsArePerformed
 fragments_are_performed = record {
   step = λ sc known context code ps level most bound from to x y core step at sees room bounded.
-      arrives sc known code ps level most bound from x core at to y
+      arrives sc known code ps level most bound from x core at context to y
       (stepped sc known context code ps level most bound core (standing sc known code ps level most bound from x core at bounded) sees from to x y step core.words at.words_are room);
   leads = λ sc known context code ps level most bound from to x y core leads at sees room bounded.
-      arrives sc known code ps level most bound from x core at to y
+      arrives sc known code ps level most bound from x core at context to y
       (led sc context code ps level most bound core (standing sc known code ps level most bound from x core at bounded) sees known from to x y leads core.words at.words_are room);
   fault = fault_is;
 }

@@ -27,15 +27,15 @@ use Rattle.b67_cores.proofs.Stuffing.{stuffing}
 use Rattle.b67_cores.proofs.Looping.{counts_on, count_spent, past_tested, sign_tested}
 
 module _ (sc : Scopes) (known : List Known) (context : Context) (code : Code) (ps : List Placed) (level most bound : ℕ) (core : Core) (st : Standing code ps level most bound core)
-    (sees : Sees level core) where
+    (sees : Sees context.level core) where
   abbrev Gets : ℕ → List Slot → ℕ → List Slot → Type 0
   Gets = Goes sc known code ps level most bound core st
 
   abbrev Gives : ℕ → List Slot → ℕ → List Slot → Type 0
-  Gives = Gains sc code ps level most bound core known
+  Gives = Gains sc context code ps level most bound core known
 
   plain : {from to : ℕ} {x y : List Slot} → Gets from x to y → Gives from x to y
-  plain f = plainly sc code ps level most bound core f
+  plain f = plainly sc context code ps level most bound core f
 
   aimed : (from m n : ℕ) (x y : List Slot) (b c : Bool) → b ≡ c → Gets from x (if b then m else n) y → Gets from x (if c then m else n) y
   aimed from m n x y b c e g = subst (λ (t : Bool). Gets from x (if t then m else n) y) e g
@@ -46,8 +46,8 @@ module _ (sc : Scopes) (known : List Known) (context : Context) (code : Code) (p
   stepped from to x y (push_truth b at room) = plain (pushing.push_truth sc known context code ps level most bound core st from to b x at room)
   stepped from to x y (push_name n k at room) = plain (pushing.push_name sc known context code ps level most bound core st from to n k x at room)
   stepped from to x y (push_array n a c is at room) = plain (pushing.reference_at sc known context code ps level most bound core st from to c x at room)
-  stepped from to x y (stuff {from = before} {below = below} n d c is named stands) =
-      stuffing code ps level most bound core st sc known n d c is before from to named stands below sees
+  stepped from to x y (stuff {from = before} {below = below} held c is named stands) =
+      stuffing code ps level most bound core st sc known context held c is before from to named stands below sees
   stepped from to x y (move {below = below} low i at whole room forward) =
       plain (subscript_moved sc known context code ps level most bound core st low i below whole room from to at)
   stepped from to x y (exchange {below = below} v h at) = plain (exchange_descriptor sc known code ps level most bound core st from to v h below at)
@@ -78,9 +78,9 @@ module _ (sc : Scopes) (known : List Known) (context : Context) (code : Code) (p
   stepped from to x y (past_literal next d z s at hd e room) =
       plain (aimed from to next _ y (is_past d z) true e (sign_tested sc known context code ps level most bound core st from to next d y s at room))
 
-module _ (sc : Scopes) (context : Context) (code : Code) (ps : List Placed) (level most bound : ℕ) (core : Core) (st : Standing code ps level most bound core) (sees : Sees level core) where
-  pub led : (known : List Known) (from to : ℕ) (x y : List Slot) → Leads sc context ps level most from x to y → Gains sc code ps level most bound core known from x to y
-  led known from to x y there words are room = plainly sc code ps level most bound core (nothing sc known code ps level most bound core st from x) words are room
+module _ (sc : Scopes) (context : Context) (code : Code) (ps : List Placed) (level most bound : ℕ) (core : Core) (st : Standing code ps level most bound core) (sees : Sees context.level core) where
+  pub led : (known : List Known) (from to : ℕ) (x y : List Slot) → Leads sc context ps level most from x to y → Gains sc context code ps level most bound core known from x to y
+  led known from to x y there words are room = plainly sc context code ps level most bound core (nothing sc known code ps level most bound core st from x) words are room
   led known from to x y (first {b = b} {y = z} step more) words are room =
-      let f : Adds sc code ps level most bound core known from x words b z = stepped sc known context code ps level most bound core st sees from b x z step words are room in
-      then_adds sc code ps level most bound core f (led (f.added ++ known) b to z y more f.reaches.left f.reaches.are f.reaches.room)
+      let f : Adds sc context code ps level most bound core known from x words b z = stepped sc known context code ps level most bound core st sees from b x z step words are room in
+      then_adds sc context code ps level most bound core f (led (f.added ++ known) b to z y more f.reaches.left f.reaches.are f.reaches.room)

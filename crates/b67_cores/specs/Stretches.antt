@@ -2,7 +2,6 @@
 use Rattle.std.specs.Prelude.{◌≡◌, ◌≢◌, ◌↔◌, ℕ, ◌+◌, ◌<◌, ◌≤◌, true, false, pos, List, [], ◌∷◌, ◌++◌, length, map, reverse, replicate, Some, IsSome, Err, slice_get}
 use Rattle.b67_list.specs.Numbered.{numbered}
 use Rattle.algol_tree.specs.declared.tree.Op.{Op}
-use Rattle.algol_tree.specs.declared.tree.Named.{Named}
 use Rattle.algol_tree.specs.Scopes.{Scopes}
 use Rattle.algol_tree.specs.Types.{taken_by}
 use Rattle.b67_num.specs.declared.FaultKind.{FaultKind}
@@ -10,9 +9,9 @@ use Rattle.b67_num.specs.declared.NumFault.{NumFault}
 use Rattle.b67_num.specs.Whole.{fault_of}
 use Rattle.algol_meaning.specs.Value.{Value}
 use Rattle.algol_meaning.specs.Operators.{result_of}
-use Rattle.algol_paths.specs.Arrays.{DeclaredArray}
 use Rattle.b67_word.specs.declared.Place.{Place}
 use Rattle.b67_control.specs.declared.Registers.{Registers}
+use Rattle.b67_control.specs.declared.Pcw.{Pcw}
 use Rattle.b67_control.specs.Display.{place_at}
 use Rattle.b67_control.specs.Control.{pcw_word}
 use Rattle.b67_word.specs.Word.{Word}
@@ -37,10 +36,9 @@ use Rattle.b67_table.specs.Ending.{failed}
 use Rattle.b67_table.specs.Privacy.{Keeps}
 use Rattle.b67_table.specs.Runs.{Plains}
 use Rattle.b67_table.specs.Valid.{IsValid}
-use Rattle.b67_templates.specs.Fragments.{Has, HasKind, code_at, operator_for}
-use Rattle.b67_templates.specs.Cells.{IsDeclaredArray}
+use Rattle.b67_templates.specs.Fragments.{Has, HasKind, Goes, operator_for}
 use Rattle.b67_templates.specs.Code.{CellsAt}
-use Rattle.b67_standing.specs.Stepping.{cell_named, Slot, operand, ready, Step, Leads}
+use Rattle.b67_standing.specs.Stepping.{Held, Stuffable, Slot, operand, ready, Step, Leads}
 use Rattle.b67_cores.specs.Cores.{Core, size, IsCore, over, HasCore, with_core, CoreFaults, CoreStep, CoreSteps}
 use Rattle.b67_cores.specs.Slots.{Known, newest, SlotsAre}
 
@@ -144,29 +142,28 @@ pub record IsMoved (a b : Core) : Type 0 where
 abbrev pub Sees : ℕ → Core → Type 0
 Sees level core = (l : ℕ) → OUTER_LEVEL ≤ l → l ≤ level → IsSome (place_at core.registers.display l)
 
--- the reference to the cell of a declared array that STFF makes
-pub record IsStuffed (sc : Scopes) (level : ℕ) (core : Core) (x : Known) : Type 0 where
-  pub name : Named
-  pub declared : DeclaredArray
+-- a reference to a cell that STFF makes, in a frame that the display names
+pub record IsStuffed (sc : Scopes) (context : Context) (core : Core) (x : Known) : Type 0 where
+  pub held : Held
   pub couple : Couple
   pub frame : Place
-  pub held_is : x.held ≡ cell_named name
-  pub array : IsDeclaredArray sc level name declared couple
+  pub held_is : x.held ≡ held
+  pub stuffable : Stuffable sc context held couple
   pub shown : place_at core.registers.display couple.level ≡ Some frame
   pub word_is : x.word ≡ cell_word (record { frame = frame; index = couple.index })
 
-abbrev pub AreStuffed : Scopes → ℕ → Core → List Known → Type 0
-AreStuffed sc level core [] = Unit {0}
-AreStuffed sc level core (x ∷ known) = IsStuffed sc level core x × AreStuffed sc level core known
+abbrev pub AreStuffed : Scopes → Context → Core → List Known → Type 0
+AreStuffed sc context core [] = Unit {0}
+AreStuffed sc context core (x ∷ known) = IsStuffed sc context core x × AreStuffed sc context core known
 
 -- Private operators lead from the core to one at that place with those slots, at most as many as there are syllables between. More words
 -- may be known then: references that STFF made.
-pub record Arrives (sc : Scopes) (known : List Known) (code : Code) (ps : List Placed) (level most bound place : ℕ) (slots : List Slot) (a : Core) : Type 0 where
+pub record Arrives (sc : Scopes) (known : List Known) (context : Context) (code : Code) (ps : List Placed) (level most bound place : ℕ) (slots : List Slot) (a : Core) : Type 0 where
   pub count : ℕ
   pub core : Core
   pub steps : CoreSteps code bound count a core
   pub added : List Known
-  pub added_are : AreStuffed sc level a added
+  pub added_are : AreStuffed sc context a added
   pub at : CoreAt sc (added ++ known) code ps level place slots core
   pub moved : IsMoved a core
   pub room : length slots ≤ most
@@ -176,11 +173,11 @@ pub record Arrives (sc : Scopes) (known : List Known) (code : Code) (ps : List P
 -- lie above the floor, its stack has the most words of the bound.
 pub record FragmentsArePerformed : Type 0 where
   pub step : (sc : Scopes) (known : List Known) (context : Context) (code : Code) (ps : List Placed) (level most bound from to : ℕ) (x y : List Slot) (core : Core)
-      → Step sc context ps level most from x to y → CoreAt sc known code ps level from x core → Sees level core → length x ≤ most → length core.below + most ≤ bound
-      → Arrives sc known code ps level most bound to y core
+      → Step sc context ps level most from x to y → CoreAt sc known code ps level from x core → Sees context.level core → length x ≤ most → length core.below + most ≤ bound
+      → Arrives sc known context code ps level most bound to y core
   pub leads : (sc : Scopes) (known : List Known) (context : Context) (code : Code) (ps : List Placed) (level most bound from to : ℕ) (x y : List Slot) (core : Core)
-      → Leads sc context ps level most from x to y → CoreAt sc known code ps level from x core → Sees level core → length x ≤ most → length core.below + most ≤ bound
-      → Arrives sc known code ps level most bound to y core
+      → Leads sc context ps level most from x to y → CoreAt sc known code ps level from x core → Sees context.level core → length x ≤ most → length core.below + most ≤ bound
+      → Arrives sc known context code ps level most bound to y core
   -- an operator of the language without a result is a fault
   pub fault : (sc : Scopes) (known : List Known) (code : Code) (ps : List Placed) (level from to : ℕ) (op : Op) (v w : Value) (fault : NumFault) (below : List Slot) (core : Core)
       → Has ps level from (ops.Plain (operator_for op)) to → HasKind (taken_by op) v → HasKind (taken_by op) w → result_of op v w ≡ Err fault
@@ -188,27 +185,26 @@ pub record FragmentsArePerformed : Type 0 where
 
 -- ---- the start of a block
 
--- the control words of procedures whose code stands in these segments, in a frame of this level
-abbrev pub control_words : ℕ → List ℕ → List Word
-control_words level segments = map (λ (segment : ℕ). pcw_word (code_at segment 0 (level + 1))) segments
+abbrev pub control_words : List Pcw → List Word
+control_words controls = map (λ (pcw : Pcw). pcw_word pcw) controls
 
--- Private operators lead to a core with so many cells more that are 0, and those of procedures, and no words above the floor.
-pub record Begins (sc : Scopes) (known : List Known) (code : Code) (ps : List Placed) (level bound many : ℕ) (segments : List ℕ) (place : ℕ) (a : Core) : Type 0 where
+-- Private operators lead to a core with so many cells more that are 0, and those of these control words, and no words above the floor.
+pub record Begins (sc : Scopes) (known : List Known) (code : Code) (ps : List Placed) (level bound many : ℕ) (controls : List Pcw) (place : ℕ) (a : Core) : Type 0 where
   pub count : ℕ
   pub core : Core
   pub steps : CoreSteps code bound count a core
-  pub below : core.below ≡ a.below ++ (replicate many (words.operand (pos 0)) ++ control_words level segments)
-  pub registers : core.registers ≡ record a.registers { s = size core; f = frame a.registers; cells = a.registers.cells + (many + length segments); place = place }
+  pub below : core.below ≡ a.below ++ (replicate many (words.operand (pos 0)) ++ control_words controls)
+  pub registers : core.registers ≡ record a.registers { s = size core; f = frame a.registers; cells = a.registers.cells + (many + length controls); place = place }
   pub at : CoreAt sc known code ps level place [] core
   pub few : count + a.registers.place ≤ place
 
--- so do the zeros of a block's variables, the control words of its procedures, and PUSH, where the frame has room for the cells
+-- so do branches to them, the zeros of a block's variables, its control words, and PUSH, where the frame has room for the cells
 abbrev pub BlocksBegin : Type 0
 BlocksBegin =
-    (sc : Scopes) (known : List Known) (context : Context) (code : Code) (ps : List Placed) (level bound many : ℕ) (segments : List ℕ) (from to : ℕ) (core : Core)
-    → CellsAt sc context ps level many segments from to → CoreAt sc known code ps level from [] core
-    → core.registers.cells + (many + length segments) ≤ most_cells → length core.below + (many + length segments) ≤ bound
-    → Begins sc known code ps level bound many segments to core
+    (sc : Scopes) (known : List Known) (context : Context) (code : Code) (ps : List Placed) (level bound many : ℕ) (controls : List Pcw) (from begin to : ℕ) (core : Core)
+    → Goes ps level from begin → CellsAt sc context ps level many controls begin to → CoreAt sc known code ps level from [] core
+    → core.registers.cells + (many + length controls) ≤ most_cells → length core.below + (many + length controls) ≤ bound
+    → Begins sc known code ps level bound many controls to core
 
 -- ---- cells that are made later
 

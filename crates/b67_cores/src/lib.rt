@@ -43,8 +43,7 @@ pub fn fragments_are_performed()
     ensures { FragmentsArePerformed }
 {}
 
-/// Law: the start of a block makes a cell of 0 for its result and for each of its variables, and a cell of the control word of each of its
-/// procedures.
+/// Law: the start of a block makes a cell of 0 for its result and for each of its variables, and a cell of each of its control words.
 pub fn blocks_begin()
     ensures { BlocksBegin }
 {}

@@ -66,7 +66,7 @@ module _ (s : Names) (level : ℕ) (c : Call) (h : HasCall s level (call c)) whe
 -- From the first builder to the second these actuals were appended but for those left, whatever parameters they fit.
 abbrev pub LeftOf : Names → ℕ → Built → Built → List Expr → List Expr → Type 0
 LeftOf s level a b xs left =
-    (scopes : Scopes) (context : Context) (sorts : List Sort) (wanted : List Wanted) → ActualsFit scopes (couples s) (results s) (lows s) level sorts wanted (exprs xs) →
+    (scopes : Scopes) (context : Context) (sorts : List Sort) (wanted : List Wanted) → ActualsFit scopes (couples s) (results s) (lows s) context.level sorts wanted (exprs xs) →
     Left s scopes context level a b sorts wanted (exprs xs) (exprs left)
 
 -- the actuals from a place on
@@ -86,9 +86,9 @@ module _ (s : Names) (level : ℕ) (a b : Built) (xs : List Expr) where
       let sorts = sorts_of ((block_numbered h.scopes.blocks h.callee).parameters) in
       let wanted = parameter_wants h.scopes h.callee in
       let F : List Expr → Type 0 = λ ys. ActualsFit h.scopes (couples s) (results s) (lows s) level sorts wanted (exprs ys) in
-      let L : List Expr → Type 0 = λ ys. Left s h.scopes nowhere level a b sorts wanted (exprs xs) (exprs ys) in
-      next_has s h.scopes nowhere level a sorts wanted (exprs xs) b (expr x) (exprs more)
-      (subst L is (l h.scopes nowhere sorts wanted (subst F (sym whole) (actuals_fit s level c h))))
+      let L : List Expr → Type 0 = λ ys. Left s h.scopes (nowhere level) level a b sorts wanted (exprs xs) (exprs ys) in
+      next_has s h.scopes (nowhere level) level a sorts wanted (exprs xs) b (expr x) (exprs more)
+      (subst L is (l h.scopes (nowhere level) sorts wanted (subst F (sym whole) (actuals_fit s level c h))))
 
   pub next_one : (d : Built) (x : Expr) (left more : List Expr) → left ≡ x ∷ more → ActualEmitted s level b d (expr x) → LeftOf s level a b xs left → LeftOf s level a d xs more
   next_one d x left more is actual l scopes context sorts wanted fit =
@@ -99,7 +99,7 @@ module _ (s : Names) (level : ℕ) (a b : Built) (xs : List Expr) where
 
 module _ (s : Names) (a b d e : Built) (c : Call) (xs left : List Expr) (whole : xs ≡ c.actuals) (done : left ≡ []) (couple : Couple)
     (known : couples s c.name.spot ≡ Some couple) (level : d.level ≡ a.level)
-    (begun : (scopes : Scopes) (context : Context) (n : Named) (callee : ℕ) → IsProcedure scopes (level_set a) n callee couple →
+    (begun : (scopes : Scopes) (context : Context) (n : Named) (callee : ℕ) → IsProcedure scopes context.level n callee couple →
     Emitted a b (λ qs. BegunAt scopes context qs (level_set a) n callee (size a.operators) (size b.operators)))
     (filled : LeftOf s (level_set a) b d xs left)
     (enter : Emitted d e (λ qs. Has qs (level_set d) (size d.operators) (ops.Plain kinds.Entr) (size e.operators))) where
@@ -109,12 +109,12 @@ module _ (s : Names) (a b d e : Built) (c : Call) (xs left : List Expr) (whole :
       let L : List Expr → Type 0 = λ ys. LeftOf s (level_set a) b d c.actuals ys in
       subst L done (subst X whole filled)
 
-  own_call : (scopes : Scopes) (context : Context) (callee : ℕ) → ProcedureFits scopes (couples s) (results s) (lows s) (level_set a) c.name callee →
-      (sorts : List Sort) (wanted : List Wanted) → ActualsFit scopes (couples s) (results s) (lows s) (level_set a) sorts wanted (exprs c.actuals) →
+  own_call : (scopes : Scopes) (context : Context) (callee : ℕ) → ProcedureFits scopes (couples s) (results s) (lows s) context.level c.name callee →
+      (sorts : List Sort) (wanted : List Wanted) → ActualsFit scopes (couples s) (results s) (lows s) context.level sorts wanted (exprs c.actuals) →
       Emitted a e (λ qs. CallAt scopes context qs (level_set a) c.name callee (ActualsAt scopes context qs (level_set a) sorts wanted (exprs c.actuals)) (size a.operators) (size e.operators))
   own_call scopes context callee p sorts wanted fit =
       let same : p.couple ≡ couple = cc (p.known_is, known) in
-      let P : Couple → Type 0 = λ x. IsProcedure scopes (level_set a) c.name callee x in
+      let P : Couple → Type 0 = λ x. IsProcedure scopes context.level c.name callee x in
       call_part scopes context c.name callee a b d e (λ qs. ActualsAt scopes context qs (level_set a) sorts wanted (exprs c.actuals)) level
       (begun scopes context c.name callee (subst P same p.procedure))
       (none_left s scopes context (level_set a) b sorts wanted (exprs c.actuals) d (own_filled scopes context sorts wanted fit)) enter
@@ -124,8 +124,8 @@ module _ (s : Names) (a b d e : Built) (c : Call) (xs left : List Expr) (whole :
     code = λ scopes context n es callee is p fit.
         let sorts = sorts_of ((block_numbered scopes.blocks callee).parameters) in
         let wanted = parameter_wants scopes callee in
-        let P : Named → Type 0 = λ m. ProcedureFits scopes (couples s) (results s) (lows s) (level_set a) m callee in
-        let F : PExprs → Type 0 = λ xs. ActualsFit scopes (couples s) (results s) (lows s) (level_set a) sorts wanted xs in
+        let P : Named → Type 0 = λ m. ProcedureFits scopes (couples s) (results s) (lows s) context.level m callee in
+        let F : PExprs → Type 0 = λ xs. ActualsFit scopes (couples s) (results s) (lows s) context.level sorts wanted xs in
         let N : Named → Type 0 = λ m. Emitted a e (λ qs. CallAt scopes context qs (level_set a) m callee
         (ActualsAt scopes context qs (level_set a) sorts wanted es) (size a.operators) (size e.operators)) in
         let E : PExprs → Type 0 = λ xs. Emitted a e (λ qs. CallAt scopes context qs (level_set a) c.name callee

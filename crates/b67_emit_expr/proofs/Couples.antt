@@ -65,7 +65,7 @@ module _ (s : Names) (level : ℕ) where
 
   -- the couple of an array is of a level that many up, whichever way its name stands for it
   level_up : (scopes : Scopes) (n : Named) (shape : Shape) (c : Couple) → IsArray scopes level n shape c → c.level + (use_of scopes n).up ≡ level
-  level_up scopes n shape c (declared d is r) = r.level_is
+  level_up scopes n shape c (declared d is r) = r.made.level_is
   level_up scopes n shape c (formal r) = r.level_is
 
   pub known_array : (scopes : Scopes) (n : Named) (shape : Shape) → ArrayFits scopes (couples s) (results s) (lows s) level n shape → IsSome (couples s n.spot)

@@ -1,24 +1,24 @@
 -- Exits that were listed, and the branch past the first part of a conditional expression.
-use Rattle.std.proofs.Common.{◌≡◌, ℕ, ◌≤◌, List, [], ◌∷◌, length, drop, take, sym, ap, ◌∙◌, subst, arith, length-append}
+use Rattle.std.proofs.Common.{◌≡◌, ℕ, ◌≤◌, List, [], ◌∷◌, None, length, drop, take, sym, ap, ◌∙◌, subst, arith, length-append}
 use Rattle.std.proofs.lemmas.List.{drop_at, take_at}
 use Rattle.algol_tree.specs.Plain.{PExpr}
 use Rattle.b67_ops.specs.declared.Operator.TheVariants.{Branch}
 use Rattle.b67_segment.specs.Operators.{Placed, size}
 use Rattle.b67_segment.specs.Building.{Built}
-use Rattle.b67_templates.specs.Contexts.{Context}
+use Rattle.b67_templates.specs.Contexts.{nothing, Context}
 use Rattle.b67_templates.specs.Code.{ExprAt}
 use Rattle.b67_templates.specs.Emitting.{AreExits, EmittedWithExits}
 use Rattle.b67_emitter.specs.declared.names.Names.{Names}
 use Rattle.b67_emitter.specs.Values.{HasCode, ValueWithExits}
 use Rattle.b67_emitter.proofs.Exits.{exits_kept}
 
--- a context, where any will do
-abbrev pub nowhere : Context
-nowhere = record { formats = []; segment = 0; block = 0 }
+-- a context of this level, where any will do
+abbrev pub nowhere : ℕ → Context
+nowhere level = record { formats = []; segment = 0; block = 0; level = level; yields = nothing; labels = λ spot. None }
 
 module _ (s : Names) (level : ℕ) (a b : Built) (xs ys : List ℕ) (e : PExpr) (has : HasCode s level e) (h : ValueWithExits s level a b xs ys e) where
-  own : EmittedWithExits a b xs ys (λ qs target. ExprAt has.scopes nowhere qs level has.kind e (size a.operators) (size b.operators) target)
-  own = h.code has.scopes nowhere has.kind has.fits
+  own : EmittedWithExits a b xs ys (λ qs target. ExprAt has.scopes (nowhere level) qs level has.kind e (size a.operators) (size b.operators) target)
+  own = h.code has.scopes (nowhere level) has.kind has.fits
 
   pub list_grown : length xs ≤ length ys
   list_grown = omega (arith, ap length own.added, length-append xs own.exits)

@@ -29,7 +29,7 @@ module _ (s : Names) (n : Named) (a b : Built) (c : Couple) (known : couples s n
   pub read_name : (level : ℕ) → results s n.spot ≡ None → Emitted a b (λ qs. Has qs level (size a.operators) (ops.Valc c) (size b.operators)) → NameEmitted s level a b n
   read_name level none h = record { code = λ scopes context kind fits. by scopes context kind fits }
     where
-      by : (scopes : Scopes) (context : Context) (kind : Kind) → NameMeans s scopes level kind n →
+      by : (scopes : Scopes) (context : Context) (kind : Kind) → NameMeans s scopes context.level kind n →
           Emitted a b (λ qs. NameAt scopes context qs level kind n (size a.operators) (size b.operators))
       by scopes context kind (inl ((d, is, v), f)) =
           let same : d ≡ c = cc (is, known) in
@@ -39,17 +39,17 @@ module _ (s : Names) (n : Named) (a b : Built) (c : Couple) (known : couples s n
 
   -- between the beginning of the call and its entry nothing was appended
   pub call_name : (m : Built) (r : Couple) → results s n.spot ≡ Some r → m.level ≡ a.level →
-      ((scopes : Scopes) (context : Context) (n : Named) (callee : ℕ) → IsProcedure scopes (level_set a) n callee c →
+      ((scopes : Scopes) (context : Context) (n : Named) (callee : ℕ) → IsProcedure scopes context.level n callee c →
       Emitted a m (λ qs. BegunAt scopes context qs (level_set a) n callee (size a.operators) (size m.operators))) →
       Emitted m b (λ qs. Has qs (level_set m) (size m.operators) (ops.Plain kinds.Entr) (size b.operators)) → NameEmitted s (level_set a) a b n
   call_name m r some level begun enter = record { code = λ scopes context kind fits. by scopes context kind fits }
     where
-      by : (scopes : Scopes) (context : Context) (kind : Kind) → NameMeans s scopes (level_set a) kind n →
+      by : (scopes : Scopes) (context : Context) (kind : Kind) → NameMeans s scopes context.level kind n →
           Emitted a b (λ qs. NameAt scopes context qs (level_set a) kind n (size a.operators) (size b.operators))
       by scopes context kind (inl (f, none)) = absurd (let clash : None ≡ Some r = sym none ∙ some in cc)
       by scopes context kind (inr (callee, p, alone, is)) =
           let same : p.couple ≡ c = cc (p.known_is, known) in
-          let P : Couple → Type 0 = λ x. IsProcedure scopes (level_set a) n callee x in
+          let P : Couple → Type 0 = λ x. IsProcedure scopes context.level n callee x in
           weaker (λ qs. NameAt scopes context qs (level_set a) kind n (size a.operators) (size b.operators))
           (call_part scopes context n callee a m m b (λ qs. without scopes context qs (level_set a)) level (begun scopes context n callee (subst P same p.procedure))
           (emitted_none m (λ qs. size m.operators ≡ size m.operators) (λ qs. refl)) enter)

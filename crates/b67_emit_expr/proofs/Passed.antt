@@ -83,6 +83,8 @@ module _ (s : Names) (level : ℕ) (e : PExpr) where
       let one : m ≡ n = cc (sym same ∙ alone_is e n found.0) in
       let F : Named → Type 0 = λ x. (a : Shape) × ArrayFits scopes (couples s) (results s) (lows s) level x a × Agrees shape a in
       (shape, refl, subst F one fits)
+  wanted_array scopes (wants.by_name kind) n is fits = absurd fits
+  wanted_array scopes wants.event n is fits = absurd fits
   wanted_array scopes wants.other n is fits = absurd fits
 
   -- a value
@@ -91,8 +93,11 @@ module _ (s : Names) (level : ℕ) (e : PExpr) where
   wanted_value scopes (wants.value kind) none fits = (kind, refl, fits)
   wanted_value scopes (wants.array shape) none (n, same, (a, fits, agrees)) =
       absurd (not_found s e n (record { list = a.lows; formal = is_formal ((use_of scopes n).sort) }) same fits.lows_are none)
+  wanted_value scopes (wants.by_name kind) none fits = absurd fits
+  wanted_value scopes wants.event none fits = absurd fits
   wanted_value scopes wants.other none fits = absurd fits
 
+module _ (s : Names) (level : ℕ) (e : PExpr) where
   -- ---- an array
 
   module _ (n : Named) (is : array_alone s e ≡ Some n) where
@@ -101,12 +106,12 @@ module _ (s : Names) (level : ℕ) (e : PExpr) where
 
     pub known_actual : HasActual s level e → IsSome (couples s n.spot)
     known_actual h =
-        let own = wanted_array h.scopes h.wanted n is h.fits in
+        let own = wanted_array s level e h.scopes h.wanted n is h.fits in
         known_array s level h.scopes n own.2.0 own.2.1
 
     pub seen_actual : (c : Couple) → AreNear s → couples s n.spot ≡ Some c → HasActual s level e → IsSeen level c
     seen_actual c near known h =
-        let own = wanted_array h.scopes h.wanted n is h.fits in
+        let own = wanted_array s level e h.scopes h.wanted n is h.fits in
         seen_array s level h.scopes n own.2.0 c near known own.2.1
 
     pub actual_tokens : 1 ≤ expr_tokens e
@@ -115,17 +120,17 @@ module _ (s : Names) (level : ℕ) (e : PExpr) where
         omega (arith, ap expr_tokens (alone_is e n found.0))
 
     pub array_form : (a b : Built) (c : Couple) (l : Lows) → couples s n.spot ≡ Some c → lows s n.spot ≡ Some (told l) →
-        ((scopes : Scopes) (context : Context) (shape x : Shape) (m : Named) → IsArray scopes level m x c → l.formal ≡ is_formal ((use_of scopes m).sort) → Agrees shape x →
+        ((scopes : Scopes) (context : Context) (shape x : Shape) (m : Named) → IsArray scopes context.level m x c → l.formal ≡ is_formal ((use_of scopes m).sort) → Agrees shape x →
         Emitted a b (λ qs. ArrayActualAt scopes context qs level shape m (size a.operators) (size b.operators))) → ActualEmitted s level a b e
-    array_form a b c l known bounds h = record { code = λ scopes context wanted fits. by scopes context wanted (wanted_array scopes wanted n is fits) }
+    array_form a b c l known bounds h = record { code = λ scopes context wanted fits. by scopes context wanted (wanted_array s context.level e scopes wanted n is fits) }
       where
         by : (scopes : Scopes) (context : Context) (wanted : Wanted) →
-            (shape : Shape) × (wanted ≡ wants.array shape) × ((x : Shape) × ArrayFits scopes (couples s) (results s) (lows s) level n x × Agrees shape x) →
+            (shape : Shape) × (wanted ≡ wants.array shape) × ((x : Shape) × ArrayFits scopes (couples s) (results s) (lows s) context.level n x × Agrees shape x) →
             Emitted a b (λ qs. ActualAt scopes context qs level wanted e (size a.operators) (size b.operators))
         by scopes context wanted (shape, wish, (x, fits, agrees)) =
             let found = found_alone s e n is in
             let same : fits.couple ≡ c = cc (fits.known_is, known) in
-            let I : Couple → Type 0 = λ d. IsArray scopes level n x d in
+            let I : Couple → Type 0 = λ d. IsArray scopes context.level n x d in
             let both : told l ≡ record { list = x.lows; formal = is_formal ((use_of scopes n).sort) } = cc (fits.lows_are, bounds) in
             let W : Wanted → Type 0 = λ w. Emitted a b (λ qs. ActualAt scopes context qs level w e (size a.operators) (size b.operators)) in
             subst W (sym wish)
@@ -137,12 +142,12 @@ module _ (s : Names) (level : ℕ) (e : PExpr) where
 
   module _ (none : array_alone s e ≡ None) where
     pub actual_code : HasActual s level e → HasCode s level e
-    actual_code h = let own = wanted_value h.scopes h.wanted none h.fits in record { scopes = h.scopes; kind = own.0; fits = own.2 }
+    actual_code h = let own = wanted_value s level e h.scopes h.wanted none h.fits in record { scopes = h.scopes; kind = own.0; fits = own.2 }
 
     pub value_form : (a b : Built) → ValueEmitted s level a b e → ActualEmitted s level a b e
     value_form a b h = record {
       code = λ scopes context wanted fits.
-          let own = wanted_value scopes wanted none fits in
+          let own = wanted_value s context.level e scopes wanted none fits in
           let W : Wanted → Type 0 = λ w. Emitted a b (λ qs. ActualAt scopes context qs level w e (size a.operators) (size b.operators)) in
           subst W (sym own.1) (h.code scopes context own.0 own.2);
     }

@@ -42,10 +42,11 @@ module _ (s : Names) (level : ℕ) (v : Variable) (none : v.subs ≡ []) where
       let given : es ≡ tree.none = own_subscripts v n es is ∙ ap (λ (xs : List Expr). exprs xs) none in
       none_fits s scopes level shape.lows (subst F given fits.1)
 
+module _ (s : Names) (level : ℕ) (v : Variable) (none : v.subs ≡ []) where
   own_left : HasReference s level (variable v) → (scopes : Scopes) × (kind : Kind) × LeftFits scopes (couples s) (results s) (lows s) level kind v.name
   own_left (alone scopes kind n is fits) =
       let N : Named → Type 0 = λ m. LeftFits scopes (couples s) (results s) (lows s) level kind m in (scopes, kind, subst N (own_name v n tree.none is) fits)
-  own_left (element scopes n shape es is fits) = absurd (no_element scopes n shape es is fits)
+  own_left (element scopes n shape es is fits) = absurd (no_element s level v none scopes n shape es is fits)
 
   pub known_left : HasReference s level (variable v) → IsSome (lefts s v.name.spot)
   known_left h = let own = own_left h in some (lefts s v.name.spot) own.2.0 own.2.1
@@ -61,7 +62,7 @@ module _ (s : Names) (level : ℕ) (v : Variable) (none : v.subs ≡ []) where
         let same : fits.0 ≡ c = cc (fits.1, there) in
         let H : Couple → Type 0 = λ d. Emitted a b (λ qs. Has qs level (size a.operators) (ops.Namc d) (size b.operators)) in
         weaker (λ qs. ReferenceAt scopes context qs level n kind (size a.operators) (size b.operators)) (subst H (sym same) h) (λ qs x. (fits.0, fits.2, x));
-    element = λ scopes context n shape es is fits. absurd (no_element scopes n shape es is fits);
+    element = λ scopes context n shape es is fits. absurd (no_element s context.level v none scopes n shape es is fits);
   }
 
   pub reference_syllables : place_syllables (variable v) ≡ 2
@@ -95,7 +96,7 @@ module _ (s : Names) (w : PVariable) (is_element : IsElement w) where
     alone = λ scopes context kind n is fits. absurd (not_alone n is);
     element = λ scopes context n shape es is fits.
         let K : ℕ → Type 0 = λ i. Emitted b c (λ qs. Has qs i (size b.operators) (ops.Plain kinds.Indx) (size c.operators)) in
-        weaker (λ qs. (couple : Couple) × (m : ℕ) × IsArray scopes (level_set a) n shape couple
+        weaker (λ qs. (couple : Couple) × (m : ℕ) × IsArray scopes context.level n shape couple
         × SubscriptsAt scopes context qs (level_set a) couple shape.lows es (size a.operators) m
         × Has qs (level_set a) m (ops.Plain kinds.Indx) (size c.operators))
         (then (h.code scopes context n shape es is fits) (subst K (same_level a b l) k))

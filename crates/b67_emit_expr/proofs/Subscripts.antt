@@ -122,7 +122,7 @@ module _ (s : Names) (scopes : Scopes) (context : Context) (level : ℕ) (couple
   subscript_as a b low l x y p q h =
       let S : ℤ → Expr → Type 0 = λ m z. SubscriptEmitted s level a b m (expr z) in subst (λ m. S m y) p (subst (S low) q h)
 
-  pub one_code : (a b c : Built) (ls : List ℤ) (xs : List Expr) (low : ℤ) (x : Expr) → Fit s scopes level ls xs → length xs ≤ 1 → low ≡ get_or ls 0 (pos 0) → x ≡ get_or xs 0 x →
+  pub one_code : (a b c : Built) (ls : List ℤ) (xs : List Expr) (low : ℤ) (x : Expr) → Fit s scopes context.level ls xs → length xs ≤ 1 → low ≡ get_or ls 0 (pos 0) → x ≡ get_or xs 0 x →
       SubscriptEmitted s level a b low (expr x) → Emitted b c (λ qs. Has qs level (size b.operators) (ops.Namc couple) (size c.operators)) →
       Emitted a c (λ qs. SubscriptsAt scopes context qs level couple ls (exprs xs) (size a.operators) (size c.operators))
   one_code a b c [] xs low x fit few p q h r = absurd fit
@@ -142,7 +142,7 @@ module _ (s : Names) (scopes : Scopes) (context : Context) (level : ℕ) (couple
       (r : Emitted b c (λ qs. Has qs level (size b.operators) (ops.Namc couple) (size c.operators)))
       (n : Emitted c d (λ qs. Has qs level (size c.operators) (ops.Plain kinds.Nxln) (size d.operators)))
       (h' : SubscriptEmitted s level d e low' (expr x')) (k : Emitted e f (λ qs. Has qs level (size e.operators) (ops.Plain kinds.Exch) (size f.operators))) where
-    pub two_code : (ls : List ℤ) (xs : List Expr) → Fit s scopes level ls xs → 1 < length xs → low ≡ get_or ls 0 (pos 0) → x ≡ get_or xs 0 x →
+    pub two_code : (ls : List ℤ) (xs : List Expr) → Fit s scopes context.level ls xs → 1 < length xs → low ≡ get_or ls 0 (pos 0) → x ≡ get_or xs 0 x →
         low' ≡ get_or ls 1 (pos 0) → x' ≡ get_or xs 1 x' →
         Emitted a f (λ qs. SubscriptsAt scopes context qs level couple ls (exprs xs) (size a.operators) (size f.operators))
     two_code [] xs fit many p q p' q' = absurd fit
@@ -190,9 +190,10 @@ module _ (s : Names) (level : ℕ) (v : Variable) where
         let F : List ℤ → PExprs → Type 0 = λ ms xs. SubscriptsFit scopes (couples s) (results s) (lows s) level ms xs in
         subst (λ ms. F ms (exprs v.subs)) same (subst (F shape.lows) (own_subscripts v n es is) fits.1)
 
+module _ (s : Names) (level : ℕ) (v : Variable) where
   module _ (h : HasSubscripts s level (variable v)) where
     own : ArrayFits h.scopes (couples s) (results s) (lows s) level v.name h.shape
-    own = its_array h.scopes h.name h.shape h.subscripts h.variable_is h.fits
+    own = its_array s level v h.scopes h.name h.shape h.subscripts h.variable_is h.fits
 
     pub known_lows : IsSome (lows s v.name.spot)
     known_lows = some (lows s v.name.spot) (record { list = h.shape.lows; formal = is_formal ((use_of h.scopes v.name).sort) }) own.lows_are
@@ -208,7 +209,7 @@ module _ (s : Names) (level : ℕ) (v : Variable) where
       own_fit : Fit s h.scopes level ls xs
       own_fit =
           let F : List Expr → Type 0 = λ ys. Fit s h.scopes level ls ys in
-          subst F (sym whole) (its_subscripts h.scopes h.name h.shape h.subscripts h.variable_is h.fits ls bounds)
+          subst F (sym whole) (its_subscripts s level v h.scopes h.name h.shape h.subscripts h.variable_is h.fits ls bounds)
 
       pub some_subscripts : 0 < length xs
       some_subscripts = let many = as_many s h.scopes level ls xs own_fit in many.1
@@ -239,18 +240,18 @@ module _ (s : Names) (level : ℕ) (v : Variable) where
 
   -- the couple of the array and its lower bounds, as they were found
   module _ (ls : List ℤ) (xs : List Expr) (couple : Couple) (bounds : list_told (lows s v.name.spot) ≡ Some ls) (known : couples s v.name.spot ≡ Some couple) (whole : xs ≡ v.subs)
-      (a b : Built) (code : (scopes : Scopes) (context : Context) → Fit s scopes level ls xs →
+      (a b : Built) (code : (scopes : Scopes) (context : Context) → Fit s scopes context.level ls xs →
       Emitted a b (λ qs. SubscriptsAt scopes context qs level couple ls (exprs xs) (size a.operators) (size b.operators))) where
-    own_code : (scopes : Scopes) (context : Context) (shape : Shape) → ArrayFits scopes (couples s) (results s) (lows s) level v.name shape →
-        Fit s scopes level ls v.subs → Emitted a b (λ qs. (c : Couple) × IsArray scopes level v.name shape c
+    own_code : (scopes : Scopes) (context : Context) (shape : Shape) → ArrayFits scopes (couples s) (results s) (lows s) context.level v.name shape →
+        Fit s scopes context.level ls v.subs → Emitted a b (λ qs. (c : Couple) × IsArray scopes context.level v.name shape c
         × SubscriptsAt scopes context qs level c shape.lows (exprs v.subs) (size a.operators) (size b.operators))
     own_code scopes context shape f fit =
         let same : ls ≡ shape.lows = cc (ap list_told f.lows_are, bounds) in
         let there : f.couple ≡ couple = cc (f.known_is, known) in
-        let F : List Expr → Type 0 = λ ys. Fit s scopes level ls ys in
+        let F : List Expr → Type 0 = λ ys. Fit s scopes context.level ls ys in
         let C : List ℤ → List Expr → Type 0 = λ ms ys. Emitted a b (λ qs. SubscriptsAt scopes context qs level couple ms (exprs ys) (size a.operators) (size b.operators)) in
-        let I : Couple → Type 0 = λ c. IsArray scopes level v.name shape c in
-        weaker (λ qs. (c : Couple) × IsArray scopes level v.name shape c
+        let I : Couple → Type 0 = λ c. IsArray scopes context.level v.name shape c in
+        weaker (λ qs. (c : Couple) × IsArray scopes context.level v.name shape c
         × SubscriptsAt scopes context qs level c shape.lows (exprs v.subs) (size a.operators) (size b.operators))
         (subst (λ ms. C ms v.subs) same (subst (C ls) whole (code scopes context (subst F (sym whole) fit))))
         (λ qs w. (couple, subst I there f.array, w))
@@ -258,10 +259,10 @@ module _ (s : Names) (level : ℕ) (v : Variable) where
     subscripts_form : SubscriptsEmitted s level a b (variable v)
     subscripts_form = record {
       code = λ scopes context n shape es is fits.
-          let E : Named → PExprs → Type 0 = λ m ys. Emitted a b (λ qs. (c : Couple) × IsArray scopes level m shape c
+          let E : Named → PExprs → Type 0 = λ m ys. Emitted a b (λ qs. (c : Couple) × IsArray scopes context.level m shape c
           × SubscriptsAt scopes context qs level c shape.lows ys (size a.operators) (size b.operators)) in
           subst (λ m. E m es) (sym (own_name v n es is)) (subst (E v.name) (sym (own_subscripts v n es is))
-          (own_code scopes context shape (its_array scopes n shape es is fits) (its_subscripts scopes n shape es is fits ls bounds)));
+          (own_code scopes context shape (its_array s context.level v scopes n shape es is fits) (its_subscripts s context.level v scopes n shape es is fits ls bounds)));
     }
 
 -- The subscripts are appended at the level of the builder before them.

@@ -25,5 +25,5 @@ pub record NameHasCode (s : Names) (level : ℕ) (n : Named) : Type 0 where
 -- From the first builder to the second the variable's reading or the procedure's call was appended.
 pub record NameEmitted (s : Names) (level : ℕ) (before after : Built) (n : Named) : Type 0 where
   pub code :
-      (scopes : Scopes) (context : Context) (kind : Kind) → NameMeans s scopes level kind n →
+      (scopes : Scopes) (context : Context) (kind : Kind) → NameMeans s scopes context.level kind n →
       Emitted before after (λ qs. NameAt scopes context qs level kind n (size before.operators) (size after.operators))

@@ -35,14 +35,14 @@ ActualFits s scopes level (wants.value kind) e = ExprFits scopes (couples s) (re
 ActualFits s scopes level (wants.array shape) e =
     (n : Named) × (e ≡ tree.variable (tree.subscripted n tree.none))
     × ((a : Shape) × ArrayFits scopes (couples s) (results s) (lows s) level n a × Agrees shape a)
-ActualFits s scopes level wants.other e = ⊥
+ActualFits s scopes level _ e = ⊥
 
 -- where its code stands
 abbrev pub ActualAt : Scopes → Context → List Placed → ℕ → Wanted → PExpr → ℕ → ℕ → Type 0
 ActualAt scopes context ps level (wants.value kind) e f t = ExprAt scopes context ps level kind e f t t
 ActualAt scopes context ps level (wants.array shape) e f t =
     (n : Named) × (e ≡ tree.variable (tree.subscripted n tree.none)) × ArrayActualAt scopes context ps level shape n f t
-ActualAt scopes context ps level wants.other e f t = ⊥
+ActualAt scopes context ps level _ e f t = ⊥
 
 -- the actual has code at that level: it is what is wanted, in whatever program names have this meaning
 pub record HasActual (s : Names) (level : ℕ) (e : PExpr) : Type 0 where
@@ -53,5 +53,5 @@ pub record HasActual (s : Names) (level : ℕ) (e : PExpr) : Type 0 where
 -- From the first builder to the second the actual's code was appended.
 pub record ActualEmitted (s : Names) (level : ℕ) (before after : Built) (e : PExpr) : Type 0 where
   pub code :
-      (scopes : Scopes) (context : Context) (wanted : Wanted) → ActualFits s scopes level wanted e →
+      (scopes : Scopes) (context : Context) (wanted : Wanted) → ActualFits s scopes context.level wanted e →
       Emitted before after (λ qs. ActualAt scopes context qs level wanted e (size before.operators) (size after.operators))

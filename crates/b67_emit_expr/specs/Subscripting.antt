@@ -21,7 +21,7 @@ use Rattle.b67_emitter.specs.Values.{couples, results, lows, ElementFits}
 -- From the first builder to the second the subscript's code was appended, and then its move by this lower bound.
 pub record SubscriptEmitted (s : Names) (level : ℕ) (before after : Built) (low : ℤ) (e : PExpr) : Type 0 where
   pub code :
-      (scopes : Scopes) (context : Context) → ExprFits scopes (couples s) (results s) (lows s) level types.Number e →
+      (scopes : Scopes) (context : Context) → ExprFits scopes (couples s) (results s) (lows s) context.level types.Number e →
       Emitted before after
       (λ qs. (m : ℕ) × ExprAt scopes context qs level types.Number e (size before.operators) m m × MovedAt qs level low m (size after.operators))
 
@@ -38,6 +38,6 @@ pub record HasSubscripts (s : Names) (level : ℕ) (v : PVariable) : Type 0 wher
 pub record SubscriptsEmitted (s : Names) (level : ℕ) (before after : Built) (v : PVariable) : Type 0 where
   pub code :
       (scopes : Scopes) (context : Context) (name : Named) (shape : Shape) (es : PExprs) → v ≡ tree.subscripted name es →
-      ElementFits s scopes level name shape es →
-      Emitted before after (λ qs. (c : Couple) × IsArray scopes level name shape c
+      ElementFits s scopes context.level name shape es →
+      Emitted before after (λ qs. (c : Couple) × IsArray scopes context.level name shape c
       × SubscriptsAt scopes context qs level c shape.lows es (size before.operators) (size after.operators))

@@ -38,7 +38,7 @@ module _ (s : Known) (n : Named) (es : PExprs) (c : PCall) (is : c ≡ tree.call
       CallStmtFits sc s (level_set a) n es → Emitted a d (λ qs. CallStmtAt sc formats qs (level_set a) n es (size a.operators) (size d.operators))
   call_part sc formats typed a b d same known h k fit =
       let result = (block_numbered sc.scopes.blocks fit.0).result in
-      let call = h.code sc.scopes (context_in sc formats) n es fit.0 is fit.1 fit.2 in
-      let drop = leveled (λ l qs. DroppedAt sc.scopes (context_in sc formats) qs l result (size b.operators) (size d.operators)) (level_set a) (level_same a b same)
-      (k sc.scopes (context_in sc formats) result (known ∙ fit.1.typed)) in
+      let call = h.code sc.scopes (context_in sc formats (level_set a)) n es fit.0 is fit.1 fit.2 in
+      let drop = leveled (λ l qs. DroppedAt sc.scopes (context_in sc formats (level_set a)) qs l result (size b.operators) (size d.operators)) (level_set a) (level_same a b same)
+      (k sc.scopes (context_in sc formats (level_set a)) result (known ∙ fit.1.typed)) in
       weaker (λ qs. CallStmtAt sc formats qs (level_set a) n es (size a.operators) (size d.operators)) (then call drop) (λ qs p. (fit.0, size b.operators, p.0, p.1))

@@ -54,7 +54,7 @@ pub value_at : (s : Known) (b c : Built) (level : ℕ) (sc : Place) (formats : L
 value_at s b c level sc formats k e q v fit =
     let F : ℕ → Type 0 = λ l. ExprFits sc s l k e in
     leveled (λ l qs. ExprAt sc formats qs l k e (size b.operators) (size c.operators) (size c.operators)) level q
-    (v.code sc.scopes (context_in sc formats) k (subst F (sym q) fit))
+    (v.code sc.scopes (context_in sc formats (level_set b)) k (subst F (sym q) fit))
 
 -- ---- parts of statements
 

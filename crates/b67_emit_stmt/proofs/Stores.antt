@@ -54,11 +54,11 @@ pub store_part : (s : Known) (sc : Place) (formats : List Format) (v : PVariable
     Emitted a x (λ qs. StoredAt sc formats qs (level_set a) v e (size a.operators) (size x.operators))
 store_part s sc formats (tree.subscripted n tree.none) e a b d x h same k same' l fit =
     let q = level_same a b same in
-    assign_part sc formats (level_set a) fit.0 n e a b d x (h.alone sc.scopes (context_in sc formats) fit.0 n refl fit.1) (value_at s b d (level_set a) sc formats fit.0 e q k fit.2)
+    assign_part sc formats (level_set a) fit.0 n e a b d x (h.alone sc.scopes (context_in sc formats (level_set a)) fit.0 n refl fit.1) (value_at s b d (level_set a) sc formats fit.0 e q k fit.2)
     (plain_at kinds.Stod (level_set a) (level_same b d same' ∙ q) l)
 store_part s sc formats (tree.subscripted n (tree.more i is)) e a b d x h same k same' l fit =
     let q = level_same a b same in
-    let through = h.element sc.scopes (context_in sc formats) n fit.0 (tree.more i is) refl (fit.1, fit.2) in
+    let through = h.element sc.scopes (context_in sc formats (level_set a)) n fit.0 (tree.more i is) refl (fit.1, fit.2) in
     weaker (λ qs. StoredAt sc formats qs (level_set a) (tree.subscripted n (tree.more i is)) e (size a.operators) (size x.operators))
     (then (then through (value_at s b d (level_set a) sc formats fit.0.kind e q k fit.3)) (plain_at kinds.Stod (level_set a) (level_same b d same' ∙ q) l))
     (λ qs p. (fit.0, p.0.0.0, p.0.0.1, size b.operators, size d.operators, p.0.0.2, p.0.0.3, p.0.0.4, p.0.1, p.1))

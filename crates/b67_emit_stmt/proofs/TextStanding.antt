@@ -1,5 +1,5 @@
 -- The code of each text stands in the segment of its number.
-use Rattle.std.proofs.Common.{◌≡◌, ℕ, zero, suc, ◌+◌, ◌*◌, ◌≤◌, List, [], ◌∷◌, ◌++◌, length, refl, sym, ap, ◌∙◌, subst, arith, length-append}
+use Rattle.std.proofs.Common.{◌≡◌, ℕ, zero, suc, ◌+◌, ◌*◌, ◌≤◌, List, [], ◌∷◌, ◌++◌, length, refl, sym, ap, subst, arith, length-append}
 use Rattle.std.specs.Prelude.{Option, Some, None, slice_get}
 use Rattle.algol_tree.specs.declared.tree.Kind.{Kind}
 use Rattle.algol_tree.specs.Plain.{PDecls}
@@ -10,8 +10,9 @@ use Rattle.b67_segment.specs.declared.code.Format.{Format}
 use Rattle.b67_segment.specs.declared.code.Segment.{Segment}
 use Rattle.b67_segment.specs.Operators.{Placed}
 use Rattle.b67_segment.specs.Syllables.{Spells}
-use Rattle.b67_templates.specs.Cells.{result_of, variables, control_segments}
-use Rattle.b67_templates.specs.Code.{CellsAt}
+use Rattle.b67_templates.specs.Contexts.{yields_of}
+use Rattle.b67_templates.specs.Cells.{result_of, variables}
+use Rattle.b67_templates.specs.Code.{CellsAt, control_pcws}
 use Rattle.b67_emit_stmt.specs.Bodies.{EndingAt, Stands, result_couple, result_index, zeros_for}
 use Rattle.b67_emit_stmt.specs.Places.{Place}
 use Rattle.b67_emit_stmt.specs.Programs.{AreShort, Coded, EndAt, IsDue, TextAt, block_of, context_of}
@@ -19,7 +20,7 @@ use Rattle.b67_emit_stmt.specs.Texts.{Text}
 
 -- where a text stands
 abbrev pub place_of : Scopes → Text → Place
-place_of sc t = record { scopes = sc; segment = segment_of sc.blocks (block_of sc t); block = block_of sc t }
+place_of sc t = record { scopes = sc; segment = segment_of sc.blocks (block_of sc t); block = block_of sc t; yields = yields_of t.result }
 
 -- the code of a text stands in a segment, which is short
 abbrev pub TextStands : Scopes → List Format → Segment → Text → Type 0
@@ -51,7 +52,7 @@ ending : (sc : Scopes) (all : List Format) (known : Names) (number : ℕ) (t : T
 ending sc all known number t ps e None due is h = h
 ending sc all known number t ps e (Some kind) due is h = record {
   kind = kind;
-  is = due.result ∙ is;
+  is = ap yields_of is;
   named = due.named;
   couple = result_couple t.level (2 + t.parameters);
   level_is = refl;
@@ -65,7 +66,7 @@ ending sc all known number t ps e (Some kind) due is h = record {
 pub text_at : (sc : Scopes) (all : List Format) (known : Names) (number : ℕ) (t : Text) (segment : Segment) → IsDue sc known number t →
     Stands (place_of sc t) all segment t.level (result_index t.result t.parameters) t.decls t.stmts → 6 * length segment.words ≤ 24 * t.tokens + 48 → TextStands sc all segment t
 text_at sc all known number t segment due h short =
-    let C : ℕ → Type 0 = λ many. CellsAt sc (context_of sc all t) h.operators t.level many (control_segments sc t.decls) 0 h.code.0 in (
+    let C : ℕ → Type 0 = λ many. CellsAt sc (context_of sc all t) h.operators t.level many (control_pcws sc t.level t.decls) 0 h.code.0 in (
       h.operators,
       h.spells,
       (h.code.0, h.code.1, h.end, subst C (zeros_are t.result t.parameters t.name t.decls) h.code.2, h.code.3, h.code.4, ending sc all known number t h.operators h.end t.result due refl h.ending),

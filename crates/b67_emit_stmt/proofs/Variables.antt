@@ -1,5 +1,5 @@
 -- The variables and procedures that are declared, and that the code of declarations has room where their tokens have.
-use Rattle.std.proofs.Common.{rules, ◌≡◌, ◌+◌, ◌*◌, ◌≤◌, Some, None, List, ◌∷◌, length, ap, sym, ◌∙◌, arith, length-append}
+use Rattle.std.proofs.Common.{rules, ◌≡◌, ◌+◌, ◌*◌, ◌≤◌, List, ◌∷◌, length, ap, sym, ◌∙◌, arith, length-append}
 use Rattle.std.proofs.lemmas.List.{length-map}
 use Rattle.std.specs.declared.boxed.Box.{Box}
 use Rattle.std.specs.declared.alloc.Global.{Global}
@@ -15,12 +15,12 @@ use Rattle.algol_tree.specs.declared.tree.Heading.{Heading}
 use Rattle.algol_tree.specs.Image.{decl, decls, stmt}
 use Rattle.algol_tree.specs.Plain as tree
 use Rattle.algol_tree.specs.Plain.{PDecl, PDecls}
-use Rattle.b67_templates.specs.Cells.{Simple, of_kind, procedures, variables}
+use Rattle.b67_templates.specs.Cells.{Simple, value, of_kind, procedures, variables}
 use Rattle.b67_emit_stmt.specs.Bodies.{decls_syllables}
 
 declared : (kind : Kind) (ns : List Named) (ds : PDecls) → length (variables (tree.decls (tree.simple kind ns) ds)) ≡ length ns + length (variables ds)
 declared kind ns ds =
-    let one : Named → Simple = λ n. record { name = n.name; kind = Some kind; shape = None } in
+    let one : Named → Simple = λ n. record { name = n.name; wanted = value kind } in
     omega (arith, length-append (of_kind kind ns) (variables ds), length-map ns one)
 
 simple_is : (kind : Kind) (ns : List Named) → decl (shapes.Simple kind ns) ≡ tree.simple kind ns

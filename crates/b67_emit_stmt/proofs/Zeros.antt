@@ -1,12 +1,13 @@
 -- The cells of a block.
 use Rattle.std.proofs.Common.{◌≡◌, ℕ, zero, suc, ◌+◌, ◌≤◌, List, length, refl, sym, subst, arith}
+use Rattle.std.proofs.lemmas.List.{length-map}
 use Rattle.std.specs.Prelude.{replicate}
 use Rattle.b67_ops.specs.declared.Operator.TheVariants as ops
 use Rattle.b67_ops.specs.declared.PlainKind.TheVariants as kinds
 use Rattle.b67_segment.specs.Operators.{Placed, size}
 use Rattle.b67_segment.specs.Building.{Built}
 use Rattle.b67_segment.specs.declared.code.Format.{Format}
-use Rattle.b67_templates.specs.Fragments.{Has, AllAt, ControlsAt}
+use Rattle.b67_templates.specs.Fragments.{Has, AllAt, ControlsAt, code_at, procedure_controls}
 use Rattle.b67_templates.specs.Emitting.{Emitted}
 use Rattle.b67_emitter.proofs.Composing.{then, weaker}
 use Rattle.b67_emit_stmt.specs.declared.draft.Draft.{Draft}
@@ -35,24 +36,28 @@ pushed sc formats qs level (suc n) m t h k = k
 
 module _ (sc : Place) (level many : ℕ) (segments : List ℕ) (most : ℕ) (a d : Draft) (b e : Built) (es : d.exits.items ≡ a.exits.items) (fs : d.formats.items ≡ a.formats.items) (few : HasFew a)
     (zeros : Emitted a.out b (λ qs. AllAt qs level (replicate many kinds.Zero) (size a.out.operators) (size b.operators)))
-    (words : Emitted b e (λ qs. ControlsAt qs level segments (size b.operators) (size e.operators)))
+    (words : Emitted b e (λ qs. ControlsAt qs level (procedure_controls level segments) (size b.operators) (size e.operators)))
     (short : size d.out.operators ≤ size a.out.operators + most) where
+  as_long : length (procedure_controls level segments) ≡ length segments
+  as_long = length-map segments (λ (segment : ℕ). code_at segment 0 (level + 1))
+
   pub cells_pushed : 1 ≤ many + length segments → Emitted e d.out (λ qs. Has qs level (size e.operators) (ops.Plain kinds.Push) (size d.out.operators)) →
       Emits most a d (λ formats qs target. CellsAt sc formats qs level many segments (size a.out.operators) (size d.out.operators))
   cells_pushed some k =
       piece {n = most} {d = a} {e = d} es fs few
       (λ formats.
       weaker (λ qs. CellsAt sc formats qs level many segments (size a.out.operators) (size d.out.operators)) (then (then zeros words) k)
-      (λ qs p. (size b.operators, size e.operators, p.0.0, p.0.1, pushed sc formats qs level (many + length segments) (size e.operators) (size d.out.operators) some p.1)))
+      (λ qs p. (size b.operators, size e.operators, p.0.0, p.0.1, pushed sc formats qs level (many + length (procedure_controls level segments)) (size e.operators) (size d.out.operators) (omega (arith, some, as_long)) p.1)))
       short
 
   pub no_cells : many + length segments ≡ 0 → d.out ≡ e → Emits most a d (λ formats qs target. CellsAt sc formats qs level many segments (size a.out.operators) (size d.out.operators))
   no_cells none same =
-      let E : Built → Type 0 = λ x. Emitted b x (λ qs. ControlsAt qs level segments (size b.operators) (size x.operators)) in
+      let E : Built → Type 0 = λ x. Emitted b x (λ qs. ControlsAt qs level (procedure_controls level segments) (size b.operators) (size x.operators)) in
       piece {n = most} {d = a} {e = d} es fs few
       (λ formats.
       weaker (λ qs. CellsAt sc formats qs level many segments (size a.out.operators) (size d.out.operators)) (then zeros (subst E (sym same) words))
       (λ qs p.
+      let nothing : 0 ≡ many + length (procedure_controls level segments) = omega (arith, none, as_long) in
       let M : ℕ → Type 0 = λ m. MadeAt sc formats qs level m (size d.out.operators) (size d.out.operators) in
-      (size b.operators, size d.out.operators, p.0, p.1, subst M (sym none) refl)))
+      (size b.operators, size d.out.operators, p.0, p.1, subst M nothing refl)))
       short

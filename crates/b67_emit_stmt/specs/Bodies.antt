@@ -101,7 +101,7 @@ EmitsInside s level before after many ds ss =
 
 -- the cells, the arrays, the statements, EXIT
 abbrev pub BlockAt : Place → List Format → List Placed → ℕ → PDecls → PStmts → ℕ → Type 0
-BlockAt sc formats ps level ds ss at = code.InnerAt sc.scopes (context_in sc formats) ps level ds ss at
+BlockAt sc formats ps level ds ss at = code.InnerAt sc.scopes (context_in sc formats level) ps level ds ss at
 
 abbrev pub block_syllables : PDecls → PStmts → ℕ
 block_syllables ds ss = inside_syllables (variables_in ds) ds ss + 1

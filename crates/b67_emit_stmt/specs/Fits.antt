@@ -13,6 +13,7 @@ use Rattle.algol_tree.specs.Scopes.{Scopes}
 use Rattle.algol_places.specs.Numbers.{number_of}
 use Rattle.algol_paths.specs.Segments.{segment_of}
 use Rattle.b67_ops.specs.declared.TheConstants.{MOST_LEVEL}
+use Rattle.b67_templates.specs.Contexts.{nothing}
 use Rattle.b67_templates.specs.Cells.{procedures}
 use Rattle.b67_templates.specs.Fitting as fitting
 use Rattle.b67_templates.specs.Fitting.{BlockFits}
@@ -88,7 +89,7 @@ module _ (sc : Place) (s : Known) (level : ℕ) where
 -- in the segment that is known
 module _ (scopes : Scopes) (segment : ℕ) (s : Known) where
   abbrev place : Place
-  place = record { scopes = scopes; segment = segment; block = 0 }
+  place = record { scopes = scopes; segment = segment; block = 0; yields = nothing }
 
   abbrev mutual
     Fits : ℕ → PStmt → Type 0

@@ -10,7 +10,7 @@ ghost use Rattle.b67_segment.specs.declared.TheConstants.{MOST_SEGMENT_SYLLABLES
 ghost use Rattle.b67_segment.specs.Operators.{size};
 ghost use Rattle.b67_segment.specs.Building.{level_set};
 ghost use Rattle.b67_templates.specs.Cells as frames;
-ghost use Rattle.b67_templates.specs.Fragments.{AllAt, ControlsAt};
+ghost use Rattle.b67_templates.specs.Fragments.{AllAt, ControlsAt, procedure_controls};
 ghost use Rattle.b67_templates.specs.Emitting.{Emitted};
 ghost use Rattle.b67_emit_stmt.specs.Bodies.{EmitsCells, cells_syllables, numbers_of};
 ghost use Rattle.b67_emit_stmt.specs.Drafts.{HasFew, IsAt};
@@ -60,7 +60,7 @@ fn append_words(segments: &[u16], level: u8, out: &mut Builder) -> Result<(), Al
     requires inner { 1 ≤ length segments.now → level + 1 ≤ MOST_LEVEL }
     requires segments { All (λ (segment : ℕ). segment < 2 ^ 10) segments.now }
     requires room { size out.old.operators + 12 * length segments.now ≤ MOST_SEGMENT_SYLLABLES }
-    ensures code { OnOk result (Emitted out.old out.new (λ qs. ControlsAt qs (level_set out.old) segments.now (size out.old.operators) (size out.new.operators))) }
+    ensures code { OnOk result (Emitted out.old out.new (λ qs. ControlsAt qs (level_set out.old) (procedure_controls (level_set out.old) segments.now) (size out.old.operators) (size out.new.operators))) }
     ensures level { OnOk result (out.new.level ≡ out.old.level) }
     ensures size { OnOk result (size out.new.operators ≤ size out.old.operators + 12 * length segments.now) }
 {

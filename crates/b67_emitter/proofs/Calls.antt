@@ -20,7 +20,7 @@ use Rattle.b67_emitter.proofs.Composing.{weaker, then}
 pub begun_part : (couple : Couple) (a b c : Built) → b.level ≡ a.level →
     Emitted a b (λ qs. Has qs (level_set a) (size a.operators) (ops.Plain kinds.Mkst) (size b.operators)) →
     Emitted b c (λ qs. Has qs (level_set b) (size b.operators) (ops.Namc couple) (size c.operators)) →
-    (sc : names.Scopes) (context : Context) (n : Named) (callee : ℕ) → IsProcedure sc (level_set a) n callee couple →
+    (sc : names.Scopes) (context : Context) (n : Named) (callee : ℕ) → IsProcedure sc context.level n callee couple →
     Emitted a c (λ qs. BegunAt sc context qs (level_set a) n callee (size a.operators) (size c.operators))
 begun_part couple a b c e h i sc context n callee is =
     let q = same_level a b e in
@@ -36,7 +36,7 @@ module _ (couple : Couple) (a b c : Built) (same : b.level ≡ a.level)
   abbrev IsActual : Type 0
   IsActual = Emitted a c (λ qs. ArrayActualAt sc context qs (level_set a) shape n (size a.operators) (size c.operators))
 
-  pub stuffed_part : Emitted b c (λ qs. Has qs (level_set b) (size b.operators) (ops.Plain kinds.Stff) (size c.operators)) → IsArray sc (level_set a) n x couple →
+  pub stuffed_part : Emitted b c (λ qs. Has qs (level_set b) (size b.operators) (ops.Plain kinds.Stff) (size c.operators)) → IsArray sc context.level n x couple →
       false ≡ is_formal ((names.use_of sc n).sort) → Agrees shape x → IsActual
   stuffed_part h (declared d is r) f agrees =
       let H : ℕ → Type 0 = λ l. Emitted b c (λ qs. Has qs l (size b.operators) (ops.Plain kinds.Stff) (size c.operators)) in
@@ -44,7 +44,7 @@ module _ (couple : Couple) (a b c : Built) (same : b.level ≡ a.level)
       (λ qs p. refers d couple (size b.operators) r (subst (λ y. Agrees shape y) is agrees) p.0 p.1)
   stuffed_part h (formal r) f agrees = absurd (let clash : false ≡ true = f ∙ ap is_formal r.sort_is in cc)
 
-  pub loaded_part : Emitted b c (λ qs. Has qs (level_set b) (size b.operators) (ops.Plain kinds.Lodt) (size c.operators)) → IsArray sc (level_set a) n x couple →
+  pub loaded_part : Emitted b c (λ qs. Has qs (level_set b) (size b.operators) (ops.Plain kinds.Lodt) (size c.operators)) → IsArray sc context.level n x couple →
       true ≡ is_formal ((names.use_of sc n).sort) → Agrees shape x → IsActual
   loaded_part h (declared d is r) f agrees = absurd (let clash : true ≡ false = f ∙ ap is_formal r.sort_is in cc)
   loaded_part h (formal r) f agrees =

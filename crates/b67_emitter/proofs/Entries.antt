@@ -7,7 +7,7 @@ use Rattle.b67_ops.specs.declared.Operator.TheVariants as ops
 use Rattle.b67_ops.specs.declared.PlainKind.TheVariants as kinds
 use Rattle.b67_segment.specs.Operators.{Placed, size}
 use Rattle.b67_segment.specs.Building.{Built, level_set}
-use Rattle.b67_templates.specs.Fragments.{Has, EntryAt, ControlsAt, code_at}
+use Rattle.b67_templates.specs.Fragments.{Has, EntryAt, ControlsAt, code_at, procedure_controls}
 use Rattle.b67_templates.specs.Emitting.{Emitted}
 use Rattle.b67_emitter.proofs.Appends.{same_level}
 use Rattle.b67_emitter.proofs.Composing.{weaker, then}
@@ -43,19 +43,19 @@ entry_part segment place bits a b c d e f is fits h i j =
 
 pub control_part : (segment bits : ℕ) (a b : Built) → bits ≡ (pcw_word (code_at segment 0 (level_set a + 1))).bits → Fits_pcw (code_at segment 0 (level_set a + 1)) →
     Emitted a b (λ qs. Has qs (level_set a) (size a.operators) (ops.Mpcw bits) (size b.operators)) →
-    Emitted a b (λ qs. ControlsAt qs (level_set a) (segment ∷ []) (size a.operators) (size b.operators))
+    Emitted a b (λ qs. ControlsAt qs (level_set a) (procedure_controls (level_set a) (segment ∷ [])) (size a.operators) (size b.operators))
 control_part segment bits a b is fits h =
     let M : ℕ → Type 0 = λ n. Emitted a b (λ qs. Has qs (level_set a) (size a.operators) (ops.Mpcw n) (size b.operators)) in
-    weaker (λ qs. ControlsAt qs (level_set a) (segment ∷ []) (size a.operators) (size b.operators)) (subst M is h) (λ qs x. (size b.operators, x, fits, refl))
+    weaker (λ qs. ControlsAt qs (level_set a) (procedure_controls (level_set a) (segment ∷ [])) (size a.operators) (size b.operators)) (subst M is h) (λ qs x. (size b.operators, x, fits, refl))
 
-pub controls-append : (qs : List Placed) (level : ℕ) (ks : List ℕ) (k from middle to : ℕ) → ControlsAt qs level ks from middle → ControlsAt qs level (k ∷ []) middle to →
-    ControlsAt qs level (ks ++ k ∷ []) from to
-controls-append qs level [] k from middle to e h = let H : ℕ → Type 0 = λ f. ControlsAt qs level (k ∷ []) f to in subst H (sym e) h
+pub controls-append : (qs : List Placed) (level : ℕ) (ks : List ℕ) (k from middle to : ℕ) → ControlsAt qs level (procedure_controls level ks) from middle → ControlsAt qs level (procedure_controls level (k ∷ [])) middle to →
+    ControlsAt qs level (procedure_controls level (ks ++ k ∷ [])) from to
+controls-append qs level [] k from middle to e h = let H : ℕ → Type 0 = λ f. ControlsAt qs level (procedure_controls level (k ∷ [])) f to in subst H (sym e) h
 controls-append qs level (x ∷ ks) k from middle to (m, here, fits, rest) h = (m, here, fits, controls-append qs level ks k m middle to rest h)
 
 -- From the first builder to the second the control words of these segments were appended.
 pub record Controls (segments : List ℕ) (before after : Built) : Type 0 where
-  pub code : Emitted before after (λ qs. ControlsAt qs (level_set before) segments (size before.operators) (size after.operators))
+  pub code : Emitted before after (λ qs. ControlsAt qs (level_set before) (procedure_controls (level_set before) segments) (size before.operators) (size after.operators))
   pub level : after.level ≡ before.level
   pub wide : size after.operators ≤ size before.operators + 12 * length segments
 
@@ -68,19 +68,19 @@ controls_first b = record {
 
 -- one more of them
 controls_next : (ks : List ℕ) (k : ℕ) (a b c : Built) → Controls ks a b →
-    Emitted b c (λ qs. ControlsAt qs (level_set b) (k ∷ []) (size b.operators) (size c.operators)) → c.level ≡ b.level → size c.operators ≤ size b.operators + 12 →
+    Emitted b c (λ qs. ControlsAt qs (level_set b) (procedure_controls (level_set b) (k ∷ [])) (size b.operators) (size c.operators)) → c.level ≡ b.level → size c.operators ≤ size b.operators + 12 →
     Controls (ks ++ k ∷ []) a c
 controls_next ks k a b c s e l w =
-    let E : ℕ → Type 0 = λ n. Emitted b c (λ qs. ControlsAt qs n (k ∷ []) (size b.operators) (size c.operators)) in
+    let E : ℕ → Type 0 = λ n. Emitted b c (λ qs. ControlsAt qs n (procedure_controls n (k ∷ [])) (size b.operators) (size c.operators)) in
     record {
-      code = weaker (λ qs. ControlsAt qs (level_set a) (ks ++ k ∷ []) (size a.operators) (size c.operators)) (then s.code (subst E (same_level a b s.level) e))
+      code = weaker (λ qs. ControlsAt qs (level_set a) (procedure_controls (level_set a) (ks ++ k ∷ [])) (size a.operators) (size c.operators)) (then s.code (subst E (same_level a b s.level) e))
           (λ qs both. controls-append qs (level_set a) ks k (size a.operators) (size b.operators) (size c.operators) both.0 both.1);
       level = l ∙ s.level;
       wide = omega (arith, s.wide, length-append ks (k ∷ []));
     }
 
 pub controls_more : (segments : List ℕ) (i : ℕ) (a b c : Built) → i < length segments → Controls (take i segments) a b →
-    Emitted b c (λ qs. ControlsAt qs (level_set b) (get_or segments i 0 ∷ []) (size b.operators) (size c.operators)) → c.level ≡ b.level →
+    Emitted b c (λ qs. ControlsAt qs (level_set b) (procedure_controls (level_set b) (get_or segments i 0 ∷ [])) (size b.operators) (size c.operators)) → c.level ≡ b.level →
     size c.operators ≤ size b.operators + 12 → Controls (take (i + 1) segments) a c
 controls_more segments i a b c within s e l w =
     let S : List ℕ → Type 0 = λ ks. Controls ks a c in

@@ -89,13 +89,13 @@ pub record HasCode (s : Names) (level : ℕ) (e : PExpr) : Type 0 where
 -- From the first builder to the second the expression's code was appended, and the value stands at the place after it.
 pub record ValueEmitted (s : Names) (level : ℕ) (before after : Built) (e : PExpr) : Type 0 where
   pub code :
-      (scopes : Scopes) (context : Context) (kind : Kind) → ExprFits scopes (couples s) (results s) (lows s) level kind e →
+      (scopes : Scopes) (context : Context) (kind : Kind) → ExprFits scopes (couples s) (results s) (lows s) context.level kind e →
       Emitted before after (λ qs. ExprAt scopes context qs level kind e (size before.operators) (size after.operators) (size after.operators))
 
 -- The same, but that the branches out of it are exits.
 pub record ValueWithExits (s : Names) (level : ℕ) (before after : Built) (exits_before exits_after : List ℕ) (e : PExpr) : Type 0 where
   pub code :
-      (scopes : Scopes) (context : Context) (kind : Kind) → ExprFits scopes (couples s) (results s) (lows s) level kind e →
+      (scopes : Scopes) (context : Context) (kind : Kind) → ExprFits scopes (couples s) (results s) (lows s) context.level kind e →
       EmittedWithExits before after exits_before exits_after
       (λ qs target. ExprAt scopes context qs level kind e (size before.operators) (size after.operators) target)
 
@@ -116,8 +116,8 @@ pub record HasCall (s : Names) (level : ℕ) (c : PCall) : Type 0 where
 pub record CallEmitted (s : Names) (level : ℕ) (before after : Built) (c : PCall) : Type 0 where
   pub code :
       (scopes : Scopes) (context : Context) (n : Named) (es : PExprs) (callee : ℕ) → c ≡ tree.called n es →
-      ProcedureFits scopes (couples s) (results s) (lows s) level n callee →
-      ActualsFit scopes (couples s) (results s) (lows s) level (sorts_of ((block_numbered scopes.blocks callee).parameters)) (parameter_wants scopes callee) es →
+      ProcedureFits scopes (couples s) (results s) (lows s) context.level n callee →
+      ActualsFit scopes (couples s) (results s) (lows s) context.level (sorts_of ((block_numbered scopes.blocks callee).parameters)) (parameter_wants scopes callee) es →
       Emitted before after (λ qs. CallAt scopes context qs level n callee
       (ActualsAt scopes context qs level (sorts_of ((block_numbered scopes.blocks callee).parameters)) (parameter_wants scopes callee) es)
       (size before.operators) (size after.operators))
@@ -142,12 +142,12 @@ pub data HasReference (s : Names) (level : ℕ) (v : PVariable) : Type 0 where
 pub record ReferenceEmitted (s : Names) (level : ℕ) (before after : Built) (v : PVariable) : Type 0 where
   pub alone :
       (scopes : Scopes) (context : Context) (kind : Kind) (name : Named) → v ≡ tree.subscripted name tree.none →
-      LeftFits scopes (couples s) (results s) (lows s) level kind name →
+      LeftFits scopes (couples s) (results s) (lows s) context.level kind name →
       Emitted before after (λ qs. ReferenceAt scopes context qs level name kind (size before.operators) (size after.operators))
   pub element :
       (scopes : Scopes) (context : Context) (name : Named) (shape : Shape) (es : PExprs) → v ≡ tree.subscripted name es →
-      ElementFits s scopes level name shape es →
-      Emitted before after (λ qs. (c : Couple) × (m : ℕ) × IsArray scopes level name shape c
+      ElementFits s scopes context.level name shape es →
+      Emitted before after (λ qs. (c : Couple) × (m : ℕ) × IsArray scopes context.level name shape c
       × SubscriptsAt scopes context qs level c shape.lows es (size before.operators) m
       × Has qs level m (ops.Plain kinds.Indx) (size after.operators))
 

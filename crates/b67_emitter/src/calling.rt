@@ -25,7 +25,7 @@ pub fn append_begun(out: &mut Builder, couple: Couple) -> Result<(), AllocError>
     requires set { IsSome out.old.level }
     requires seen { IsSeen (level_set out.old) couple }
     requires room { size out.old.operators + 3 ≤ MOST_SEGMENT_SYLLABLES }
-    ensures code { OnOk result ((sc : names.Scopes) (context : Context) (n : Named) (callee : ℕ) → IsProcedure sc (level_set out.old) n callee couple →
+    ensures code { OnOk result ((sc : names.Scopes) (context : Context) (n : Named) (callee : ℕ) → IsProcedure sc context.level n callee couple →
         Emitted out.old out.new (λ qs. BegunAt sc context qs (level_set out.old) n callee (size out.old.operators) (size out.new.operators))) }
     ensures level { OnOk result (out.new.level ≡ out.old.level) }
     ensures size { OnOk result (size out.new.operators ≡ size out.old.operators + 3) }
@@ -40,7 +40,7 @@ pub fn append_array(out: &mut Builder, couple: Couple, formal: bool) -> Result<(
     requires set { IsSome out.old.level }
     requires seen { IsSeen (level_set out.old) couple }
     requires room { size out.old.operators + 3 ≤ MOST_SEGMENT_SYLLABLES }
-    ensures code { OnOk result ((sc : names.Scopes) (context : Context) (shape a : Shape) (n : Named) → IsArray sc (level_set out.old) n a couple →
+    ensures code { OnOk result ((sc : names.Scopes) (context : Context) (shape a : Shape) (n : Named) → IsArray sc context.level n a couple →
         formal ≡ is_formal ((names.use_of sc n).sort) → Agrees shape a →
         Emitted out.old out.new (λ qs. ArrayActualAt sc context qs (level_set out.old) shape n (size out.old.operators) (size out.new.operators))) }
     ensures level { OnOk result (out.new.level ≡ out.old.level) }

@@ -7,7 +7,7 @@ ghost use Rattle.b67_ops.specs.declared.TheConstants.{MOST_LEVEL};
 ghost use Rattle.b67_segment.specs.declared.TheConstants.{MOST_SEGMENT_SYLLABLES};
 ghost use Rattle.b67_segment.specs.Operators.{size};
 ghost use Rattle.b67_segment.specs.Building.{level_set};
-ghost use Rattle.b67_templates.specs.Fragments.{ControlsAt, EntryAt, code_at};
+ghost use Rattle.b67_templates.specs.Fragments.{ControlsAt, EntryAt, code_at, procedure_controls};
 ghost use Rattle.b67_templates.specs.Emitting.{Emitted};
 
 use crate::appending::{append_operator, append_plain};
@@ -69,7 +69,7 @@ pub fn append_control(out: &mut Builder, segment: u16, level: u8) -> Result<(), 
     requires segment { segment < 2 ^ 10 }
     requires room { size out.old.operators + 12 ≤ MOST_SEGMENT_SYLLABLES }
     ensures code { OnOk result (Emitted out.old out.new
-        (λ qs. ControlsAt qs (level_set out.old) (segment ∷ []) (size out.old.operators) (size out.new.operators))) }
+        (λ qs. ControlsAt qs (level_set out.old) (procedure_controls (level_set out.old) (segment ∷ [])) (size out.old.operators) (size out.new.operators))) }
     ensures level { OnOk result (out.new.level ≡ out.old.level) }
     ensures size { OnOk result (size out.new.operators ≤ size out.old.operators + 12) }
 {
@@ -85,7 +85,7 @@ pub fn append_controls(out: &mut Builder, segments: &[u16], level: u8) -> Result
     requires segments { All (λ (segment : ℕ). segment < 2 ^ 10) segments.now }
     requires room { size out.old.operators + 12 * length segments.now ≤ MOST_SEGMENT_SYLLABLES }
     ensures code { OnOk result (Emitted out.old out.new
-        (λ qs. ControlsAt qs (level_set out.old) segments.now (size out.old.operators) (size out.new.operators))) }
+        (λ qs. ControlsAt qs (level_set out.old) (procedure_controls (level_set out.old) segments.now) (size out.old.operators) (size out.new.operators))) }
     ensures level { OnOk result (out.new.level ≡ out.old.level) }
     ensures size { OnOk result (size out.new.operators ≤ size out.old.operators + 12 * length segments.now) }
 {

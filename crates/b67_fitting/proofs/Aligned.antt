@@ -14,25 +14,10 @@ use Rattle.algol_tree.specs.Plain as tree
 use Rattle.algol_tree.specs.Plain.{PDecls}
 use Rattle.algol_tree.specs.Sorts as sort
 use Rattle.algol_tree.specs.Sorts.{same_name, Declared, look_up, declare}
-use Rattle.algol_paths.specs.Arrays.{Shape}
-use Rattle.b67_templates.specs.Cells.{Simple, Wanted, value, array, other, wanted_by, of_kind, result_of, procedures, found_from}
+use Rattle.b67_templates.specs.Cells.{Simple, Wanted, value, of_kind, result_of, procedures, found_from}
 use Rattle.b67_fitting.proofs.Apart.{IsIn, each_in, IsApart, Apart, same_self, same_place}
 use Rattle.b67_fitting.proofs.Declaring.{IsOther}
 use Rattle.b67_fitting.proofs.Frames.{control_cells, result_cell}
-
--- ---- what a cell is told to have
-
--- a kind
-pub of_value : (o : Option Kind) (s : Option Shape) (kind : Kind) → wanted_by o s ≡ value kind → o ≡ Some kind
-of_value (Some k) s kind h = (let same : k ≡ kind = cc in ap Some same)
-of_value None (Some shape) kind h = absurd (let clash : array shape ≡ value kind = h in cc)
-of_value None None kind h = absurd (let clash : other ≡ value kind = h in cc)
-
--- or the shape of an array
-pub of_array : (o : Option Kind) (s : Option Shape) (shape : Shape) → wanted_by o s ≡ array shape → (o ≡ None) × (s ≡ Some shape)
-of_array (Some k) s shape h = absurd (let clash : value k ≡ array shape = h in cc)
-of_array None (Some own) shape h = (let same : own ≡ shape = cc in (refl, ap Some same))
-of_array None None shape h = absurd (let clash : other ≡ array shape = h in cc)
 
 -- ---- numbers
 
@@ -41,7 +26,7 @@ pub record IsAt (i j : ℕ) (xs : List Simple) (cs : List Cell) (name : List ℕ
   pub number : ℕ
   pub cell : Simple
   pub found : found_from i xs name ≡ Some (record { number = number; cell = cell })
-  pub wanted_is : wanted_by cell.kind cell.shape ≡ wanted
+  pub wanted_is : cell.wanted ≡ wanted
   pub index : index_from j cs spot ≡ Some (2 + number)
 
 abbrev pub Aligned : List Simple → List Cell → List ℕ → Spot → Wanted → Type 0
@@ -59,7 +44,7 @@ aligned_behind block own (n ∷ ns) xs cs name spot wanted g h l =
     record {
       number = r.number;
       cell = r.cell;
-      found = ap (λ (b : Bool). if b then Some (record { number = i; cell = record { name = n.name; kind = Some own; shape = None } }) else found_from (i + 1) more name) g.0 ∙ r.found;
+      found = ap (λ (b : Bool). if b then Some (record { number = i; cell = record { name = n.name; wanted = value own } }) else found_from (i + 1) more name) g.0 ∙ r.found;
       wanted_is = r.wanted_is;
       index = ap (λ (b : Bool). if b then Some j else index_from (j + 1) later spot) h.0 ∙ r.index;
     }
@@ -109,7 +94,7 @@ pub aligned_result : (o : Option Kind) (own : List ℕ) (block : ℕ) (at : Spot
     Aligned (result_of o own ++ xs) (result_cell o block at ++ cs) name spot wanted
 aligned_result None own block at xs cs name spot wanted h a l = l
 aligned_result (Some k) own block at xs cs name spot wanted h a l =
-    aligned_over (record { name = own; kind = Some k; shape = None } ∷ []) xs (record { block = block; spot = at; content = cells.result } ∷ []) cs name spot wanted (another (same_name own name) h, a, tt) l
+    aligned_over (record { name = own; wanted = value k } ∷ []) xs (record { block = block; spot = at; content = cells.result } ∷ []) cs name spot wanted (another (same_name own name) h, a, tt) l
   where
     another : (b : Bool) → (if b then true else false) ≡ false → b ≡ false
     another true g = absurd (let clash : true ≡ false = g in cc)
@@ -194,8 +179,8 @@ module _ (block depth : ℕ) where
             λ i j e.
             record {
               number = i;
-              cell = record { name = n.name; kind = Some kind; shape = None };
-              found = ap (λ (b : Bool). if b then Some (record { number = i; cell = record { name = n.name; kind = Some kind; shape = None } }) else found_from (i + 1) (of_kind kind ns ++ xs) name) h;
+              cell = record { name = n.name; wanted = value kind };
+              found = ap (λ (b : Bool). if b then Some (record { number = i; cell = record { name = n.name; wanted = value kind } }) else found_from (i + 1) (of_kind kind ns ++ xs) name) h;
               wanted_is = refl;
               index = ap (λ (b : Bool). if b then Some j else index_from (j + 1) (cells_for block cells.variable ns ++ cs) n.spot) (same_self n.spot) ∙ ap Some e;
             };

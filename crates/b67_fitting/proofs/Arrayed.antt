@@ -1,5 +1,5 @@
 -- An array has the same number by its name among the arrays of its block as by its place among the cells that actions make.
-use Rattle.std.proofs.Common.{arith, ◌≡◌, inl, inr, ℕ, ◌+◌, Bool, true, false, List, [], ◌∷◌, ◌++◌, length, Option, Some, None, refl, sym, ap, ◌∙◌, subst, append_assoc, if◌then◌else◌}
+use Rattle.std.proofs.Common.{arith, ◌≡◌, inl, inr, ℕ, ◌+◌, Bool, true, false, List, [], ◌∷◌, ◌++◌, map, length, Option, Some, None, refl, sym, ap, ◌∙◌, subst, append_assoc, if◌then◌else◌}
 use Rattle.std.specs.List.{AllByRecursion}
 use Rattle.algol_tree.specs.declared.token.Spot.{Spot}
 use Rattle.algol_tree.specs.declared.tree.Heading.{Heading}
@@ -16,8 +16,8 @@ use Rattle.algol_tree.specs.Plain as tree
 use Rattle.algol_tree.specs.Plain.{PPair, PStmt, PDecl, PDecls}
 use Rattle.algol_tree.specs.Sorts as sort
 use Rattle.algol_tree.specs.Sorts.{same_name, Declared, look_up, declare}
-use Rattle.algol_paths.specs.Arrays.{DeclaredArray, Lows, shape_in, arrays_in, arrays_of, lows_of, stands_among, lows_in, or_lows, lows_among, lows_declared}
-use Rattle.b67_templates.specs.Cells.{array_from}
+use Rattle.algol_paths.specs.Arrays.{an_array, DeclaredArray, Lows, shape_in, arrays_in, arrays_of, lows_of, stands_among, lows_in, or_lows, lows_among, lows_declared}
+use Rattle.b67_templates.specs.Cells.{made_from}
 use Rattle.b67_fitting.proofs.Apart.{IsIn, each_in, in_back, in_front, IsApart, Apart, same_self, apart_sym, apart_front, apart_from, apart_across}
 use Rattle.b67_fitting.proofs.Declaring.{same_is, one_more}
 use Rattle.b67_fitting.proofs.Frames.{made_cells}
@@ -37,7 +37,7 @@ own_lows pairs = Some (record { list = lows_of pairs; formal = false })
 
 pub record IsArrayed (xs : List DeclaredArray) (cs : List Cell) (name : List ℕ) (spot : Spot) (array : DeclaredArray) : Type 0 where
   pub number : ℕ
-  pub found : (i : ℕ) → array_from i xs name ≡ Some (record { number = i + number; array = array })
+  pub found : (i : ℕ) → made_from i (map an_array xs) name ≡ Some (record { number = i + number; made = an_array array })
   pub index : (j : ℕ) → index_from j cs spot ≡ Some (j + number)
 
 -- after one of another name, at another place
@@ -48,8 +48,8 @@ arrayed_behind x c xs cs name spot array g h r =
       number = r.number + 1;
       found =
           λ i.
-          ap (λ (b : Bool). if b then Some (record { number = i; array = x }) else array_from (i + 1) xs name) g ∙ r.found (i + 1)
-          ∙ ap (λ (n : ℕ). Some (record { number = n; array = array })) (let same : i + 1 + r.number ≡ i + (r.number + 1) = omega arith in same);
+          ap (λ (b : Bool). if b then Some (record { number = i; made = an_array x }) else made_from (i + 1) (map an_array xs) name) g ∙ r.found (i + 1)
+          ∙ ap (λ (n : ℕ). Some (record { number = n; made = an_array array })) (let same : i + 1 + r.number ≡ i + (r.number + 1) = omega arith in same);
       index =
           λ j.
           ap (λ (b : Bool). if b then Some j else index_from (j + 1) cs spot) h ∙ r.index (j + 1)
@@ -132,8 +132,8 @@ module _ (block depth : ℕ) (kind : Kind) (pairs : List PPair) where
           number = 0;
           found =
               λ i.
-              ap (λ (b : Bool). if b then Some (record { number = i; array = as_array n }) else array_from (i + 1) (arrays_in kind ns pairs ++ xs) name) h
-              ∙ ap (λ (m : ℕ). Some (record { number = m; array = as_array n })) (let same : i ≡ i + 0 = omega arith in same);
+              ap (λ (b : Bool). if b then Some (record { number = i; made = an_array (as_array n) }) else made_from (i + 1) (map an_array (arrays_in kind ns pairs ++ xs)) name) h
+              ∙ ap (λ (m : ℕ). Some (record { number = m; made = an_array (as_array n) })) (let same : i ≡ i + 0 = omega arith in same);
           index =
               λ j.
               ap (λ (b : Bool). if b then Some j else index_from (j + 1) (cells_for block cells.made ns ++ cs) n.spot) (same_self n.spot)

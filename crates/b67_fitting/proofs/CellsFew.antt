@@ -20,7 +20,7 @@ use Rattle.algol_tree.specs.Sites.{Site, sites_in_pairs, here_stmt, inside_stmt,
 use Rattle.algol_tree.specs.Sorts.{Declared}
 use Rattle.algol_tree.specs.Surroundings.{Surroundings, knowing, knowing_all, inside_procedure}
 use Rattle.algol_paths.specs.Arrays.{DeclaredArray, arrays_in, arrays_of}
-use Rattle.b67_templates.specs.Cells.{Simple, parameter_cells, simple_cells, of_kind, result_of, variables, procedures}
+use Rattle.b67_templates.specs.Cells.{Simple, value, parameter_cells, simple_cells, of_kind, result_of, variables, procedures}
 use Rattle.b67_fitting.specs.Built.{DeclsBuilt, StmtBuilt}
 use Rattle.b67_fitting.specs.Nested.{AreParameters}
 use Rattle.b67_fitting.proofs.ParametersTold.{told_many}
@@ -71,7 +71,7 @@ module _ (blocks : List Block) where
       omega (
         arith,
         length-append (of_kind kind ns) (variables ds),
-        length-map {B = Simple} ns (λ (n : Named). record { name = n.name; kind = Some kind; shape = None }),
+        length-map {B = Simple} ns (λ (n : Named). record { name = n.name; wanted = value kind }),
         ap length (filter-append own its more),
         length-append (filter own its) (filter own more),
         own_cells k cells.variable ns,

@@ -21,7 +21,7 @@ use Rattle.b67_ops.specs.declared.Couple.{Couple}
 use Rattle.b67_templates.specs.Cells.{Simple, value, parameter_cells, simple_cells, variables, result_of, procedures, found_from, IsVariable, IsProcedure}
 use Rattle.b67_templates.specs.Fitting.{couple_on_left, ReadFits, LeftFits}
 use Rattle.b67_fitting.specs.Fitted.{spelled}
-use Rattle.b67_fitting.proofs.Aligned.{of_value, IsAt}
+use Rattle.b67_fitting.proofs.Aligned.{IsAt}
 use Rattle.b67_fitting.proofs.Apart.{IsIn, in_front, in_back, in_flat, IsApart, Apart}
 use Rattle.b67_fitting.proofs.Blocked.{block_spots, numbered, number_none}
 use Rattle.b67_fitting.proofs.Frames.{named_of, front_cells, variable_cells, control_cells, made_cells, decl_cells, result_cell, cells_of_block, laid_out}
@@ -132,7 +132,7 @@ module _ (blocks : List Block) (all : List Site) (is : IsProgram blocks all) whe
               ∙ ap (λ (z : ℕ). found_from 0 (simple_cells scopes (block_numbered blocks z)) n.name) h.block_is
               ∙ ap (λ (z : Block). found_from 0 (simple_cells scopes z) n.name) (numbered blocks b is.blocks_apart h.there)
               ∙ ap (λ (z : List Simple). found_from 0 z n.name) (simple_is blocks b (is.homes b h.there) scopes.uses) ∙ r.found;
-          kind_is = of_value r.cell.kind r.cell.shape k r.wanted_is;
+          wanted_is = r.wanted_is;
           level_is = ap (λ (z : Use). length b.outer + 2 + z.up) u ∙ up;
           index_is = refl;
         }
@@ -191,14 +191,14 @@ module _ (blocks : List Block) (all : List Site) (is : IsProgram blocks all) whe
         let up : length (b.spot ∷ b.outer) + 2 + (a.depth - d.depth - 1) ≡ level = omega (arith, at, h.depth_is, deep) in
         record {
           variable = ap (λ (z : Use). is_variable z.sort) u;
-          found = record { number = length (given_cells blocks c); cell = record { name = g.name.name; kind = Some k; shape = None } };
+          found = record { number = length (given_cells blocks c); cell = record { name = g.name.name; wanted = value k } };
           there =
               ap (λ (z : Use). found_from 0 (simple_cells scopes (block_numbered blocks z.block)) n.name) u
               ∙ ap (λ (z : Block). found_from 0 (simple_cells scopes z) n.name) (numbered blocks c is.blocks_apart h.body_there)
               ∙ ap (λ (z : List Simple). found_from 0 z n.name) (simple_is blocks c (is.homes c h.body_there) scopes.uses)
               ∙ result_found blocks c (is.homes c h.body_there) k n.name e h.named
               (subst (λ (xs : List Simple). AllByRecursion (λ (x : Simple). same_name x.name n.name ≡ false) xs) (sym h.cells_are) (each_map (λ (x : Simple). same_name x.name n.name ≡ false) (cell_of g) g.params (result_other g k n.name e h.named h.once)));
-          kind_is = refl;
+          wanted_is = refl;
           level_is = ap (λ (z : Use). length (b.spot ∷ b.outer) + 2 + z.up) u ∙ up;
           index_is = refl;
         }

@@ -15,9 +15,9 @@ use Rattle.algol_tree.specs.Scopes.{Use, use_of}
 use Rattle.algol_tree.specs.Sites.{Site}
 use Rattle.algol_tree.specs.Sorts.{Sort, Declared, is_formal}
 use Rattle.algol_tree.specs.Surroundings.{Surroundings}
-use Rattle.algol_paths.specs.Arrays.{Lows, shape_of, arrays_of, lows_of, lows_at}
+use Rattle.algol_paths.specs.Arrays.{Lows, shape_of, lows_of, lows_at, Made, an_array}
 use Rattle.b67_ops.specs.declared.Couple.{Couple}
-use Rattle.b67_templates.specs.Cells.{Simple, declared, array_from, simple_cells, procedures, found_from}
+use Rattle.b67_templates.specs.Cells.{Simple, declared, made_of, made_from, simple_cells, procedures, found_from}
 use Rattle.b67_fitting.specs.Fitted.{spelled}
 use Rattle.b67_fitting.proofs.Blocked.{numbered}
 use Rattle.b67_fitting.proofs.Coupled.{the_use, IsProgram, scopes, simples_of, own_couple}
@@ -56,16 +56,18 @@ module _ (blocks : List Block) (all : List Site) (is : IsProgram blocks all) whe
             known_is = couples n.spot _ c (ap (located blocks all) is_known) own;
             array = declared h.array refl (record {
               sort_is = ap (λ (z : Use). z.sort) u ∙ h.sort_is;
-              number = h.arrayed.number;
-              there =
-                  ap (λ (z : Block). array_from 0 (arrays_of z.decls) n.name) block_is ∙ h.arrayed.found 0
-                  ∙ ap (λ (m : ℕ). Some (record { number = m; array = h.array })) (let same : 0 + h.arrayed.number ≡ h.arrayed.number = omega arith in same);
-              apart = ap (λ (z : List Simple). found_from 0 z n.name) cells_are ∙ no_simple blocks b home n.name other h.past h.simple;
-              outer = (let low : 2 ≤ length b.outer + 2 = omega arith in low);
-              level_is = ap (λ (z : Use). length b.outer + 2 + z.up) u ∙ up;
-              index_is =
-                  ap (λ (z : List Simple). 2 + length z + length (procedures b.decls) + h.arrayed.number) (sym cells_are)
-                  ∙ ap (λ (z : Block). 2 + length (simple_cells sc (block_numbered blocks ((use_of sc n).block))) + length (procedures z.decls) + h.arrayed.number) (sym block_is);
+              made = record {
+                number = h.arrayed.number;
+                there =
+                    ap (λ (z : Block). made_from 0 (made_of z.decls) n.name) block_is ∙ ap (λ (z : List Made). made_from 0 z n.name) home.made ∙ h.arrayed.found 0
+                    ∙ ap (λ (m : ℕ). Some (record { number = m; made = an_array h.array })) (let same : 0 + h.arrayed.number ≡ h.arrayed.number = omega arith in same);
+                apart = ap (λ (z : List Simple). found_from 0 z n.name) cells_are ∙ no_simple blocks b home n.name other h.past h.simple;
+                outer = (let low : 2 ≤ length b.outer + 2 = omega arith in low);
+                level_is = ap (λ (z : Use). length b.outer + 2 + z.up) u ∙ up;
+                index_is =
+                    ap (λ (z : List Simple). 2 + length z + length (procedures b.decls) + h.arrayed.number) (sym cells_are)
+                    ∙ ap (λ (z : Block). 2 + length (simple_cells sc (block_numbered blocks ((use_of sc n).block))) + length (procedures z.decls) + h.arrayed.number) (sym block_is);
+              };
             });
             lows_are =
                 lows_are n.spot _ (ap (located blocks all) is_known)

@@ -15,7 +15,7 @@ use Rattle.algol_paths.specs.Arrays.{Shape, Lows, lows_at}
 use Rattle.b67_ops.specs.declared.Couple.{Couple}
 use Rattle.b67_templates.specs.Cells.{Simple, array, formal, simple_cells, found_from}
 use Rattle.b67_fitting.specs.Fitted.{spelled}
-use Rattle.b67_fitting.proofs.Aligned.{of_array, IsAt}
+use Rattle.b67_fitting.proofs.Aligned.{IsAt}
 use Rattle.b67_fitting.proofs.Blocked.{numbered}
 use Rattle.b67_fitting.proofs.Coupled.{the_use, IsProgram, scopes, simples_of, frame_of, own_couple}
 use Rattle.b67_fitting.proofs.Framing.{simple_is, framed_parameter}
@@ -39,7 +39,6 @@ module _ (blocks : List Block) (all : List Site) (is : IsProgram blocks all) (kn
       let own : couple_in blocks all d.block d.spot ≡ Some c =
       own_couple blocks all is known results lows couples results_are a level at n d is_known b h.there h.block_is c.index r.index in
       let up : length b.outer + 2 + (a.depth - d.depth) ≡ level = omega (arith, at, h.within, h.depth_is) in
-      let told = of_array r.cell.kind r.cell.shape shape r.wanted_is in
       record {
         shape = shape;
         fits = record {
@@ -53,8 +52,7 @@ module _ (blocks : List Block) (all : List Site) (is : IsProgram blocks all) (kn
                 ∙ ap (λ (z : ℕ). found_from 0 (simple_cells sc (block_numbered blocks z)) n.name) h.block_is
                 ∙ ap (λ (z : Block). found_from 0 (simple_cells sc z) n.name) (numbered blocks b is.blocks_apart h.there)
                 ∙ ap (λ (z : List Simple). found_from 0 z n.name) (simple_is blocks b home sc.uses) ∙ r.found;
-            kind_is = told.0;
-            shape_is = told.1;
+            wanted_is = r.wanted_is;
             level_is = ap (λ (z : Use). length b.outer + 2 + z.up) u ∙ up;
             index_is = refl;
           });

@@ -11,9 +11,8 @@ use Rattle.algol_tree.specs.Cells as cells
 use Rattle.algol_tree.specs.Cells.{Content, Cell, cells_for, content_number, holding, layout}
 use Rattle.algol_tree.specs.Plain as tree
 use Rattle.algol_tree.specs.Plain.{PDecls}
-use Rattle.algol_tree.specs.Sorts.{class_in}
-use Rattle.algol_paths.specs.Arrays.{shape_in}
-use Rattle.b67_templates.specs.Cells.{Simple, kind_of, parameters_in, parameters_declared, parameters_around}
+use Rattle.b67_templates.specs.Cells.{Simple, parameters_in, parameters_declared, parameters_around}
+use Rattle.b67_fitting.proofs.Wanting.{wanted_of}
 use Rattle.b67_fitting.proofs.Lists.{each_both, each_of, filter_none, filter_every}
 
 -- ---- the cells of declarations: those of variables, those of procedures, those of arrays, and all in the order of the text
@@ -65,7 +64,7 @@ declared_long (tree.decls (tree.procedure h s) ds) spot = by (same_spot h.name.s
   where
     by : (b : Bool) → length (named_declared ds spot) ≡ length (parameters_declared ds spot) →
         length (if b then h.params else named_declared ds spot) ≡ length (if b then parameters_in h else parameters_declared ds spot)
-    by true later = sym (length-map {B = Simple} h.params (λ (n : Named). record { name = n.name; kind = kind_of (class_in h.specs n.name); shape = shape_in h.specs n.name }))
+    by true later = sym (length-map {B = Simple} h.params (λ (n : Named). record { name = n.name; wanted = wanted_of h n }))
     by false later = later
 declared_long (tree.decls d ds) spot = declared_long ds spot
 

@@ -15,7 +15,7 @@ use Rattle.algol_tree.specs.Plain as tree
 use Rattle.algol_tree.specs.Plain.{PStmt, PDecls}
 use Rattle.algol_tree.specs.Scopes.{Use}
 use Rattle.algol_tree.specs.Sorts.{same_name}
-use Rattle.b67_templates.specs.Cells.{Simple, Wanted, Found, found_from, of_kind, variables, result_of, simple_cells, procedures}
+use Rattle.b67_templates.specs.Cells.{Simple, Wanted, value, Found, found_from, of_kind, variables, result_of, simple_cells, procedures}
 use Rattle.b67_fitting.proofs.Aligned.{AreOthers, Aligned, aligned_over, index_on, aligned_on, aligned_result, index_past, IsControl, control}
 use Rattle.b67_fitting.proofs.Apart.{IsIn, each_in, in_front, in_back, in_either, IsApart, Apart, same_self, apart_sym, apart_back, apart_from}
 use Rattle.b67_fitting.proofs.Frames.{named_of, named_long, variable_cells, control_cells, made_cells, decl_cells, result_cell}
@@ -285,10 +285,10 @@ module _ (blocks : List Block) (b : Block) (home : IsHome blocks b) where
       ∙ ap (λ (n : ℕ). Some (2 + n)) given_long
 
   pub result_found : (kind : Kind) (name : List ℕ) → b.result ≡ Some kind → same_name b.name name ≡ true → AllByRecursion (λ (x : Simple). same_name x.name name ≡ false) (given_cells blocks b) →
-      found_from 0 simples name ≡ Some (record { number = length (given_cells blocks b); cell = record { name = b.name; kind = Some kind; shape = None } })
+      found_from 0 simples name ≡ Some (record { number = length (given_cells blocks b); cell = record { name = b.name; wanted = value kind } })
   result_found kind name e s o =
       let place = length (given_cells blocks b) in
       found_past (given_cells blocks b) (result_of b.result b.name ++ variables b.decls) 0 name o
       ∙ ap (λ (n : ℕ). found_from n (result_of b.result b.name ++ variables b.decls) name) (let same : 0 + place ≡ place = omega arith in same)
       ∙ ap (λ (r : Option Kind). found_from place (result_of r b.name ++ variables b.decls) name) e
-      ∙ ap (λ (t : Bool). if t then Some (record { number = place; cell = record { name = b.name; kind = Some kind; shape = None } }) else found_from (place + 1) (variables b.decls) name) s
+      ∙ ap (λ (t : Bool). if t then Some (record { number = place; cell = record { name = b.name; wanted = value kind } }) else found_from (place + 1) (variables b.decls) name) s

@@ -15,17 +15,18 @@ use Rattle.algol_tree.specs.Plain.{PStmt, PDecl, PDecls}
 use Rattle.algol_tree.specs.Sorts as sort
 use Rattle.algol_tree.specs.Sorts.{same_name, Declared, look_up, is_named_in, sort_in, class_in}
 use Rattle.algol_paths.specs.Arrays.{Shape, Lows, shape_in, lows_in, lows_among}
-use Rattle.b67_templates.specs.Cells.{Simple, Wanted, value, array, wanted_by, kind_of, found_from, parameters_around}
+use Rattle.b67_templates.specs.Cells.{Simple, Wanted, value, array, found_from, parameters_around}
 use Rattle.b67_fitting.specs.Wholes.{HaveDimensions}
 use Rattle.b67_fitting.proofs.Aligned.{Aligned, aligned_over}
 use Rattle.b67_fitting.proofs.Apart.{IsIn, each_in, in_back, IsApart, Apart, same_self, apart_from}
 use Rattle.b67_fitting.proofs.Frames.{named_declared, named_around, named_of}
+use Rattle.b67_fitting.proofs.Wanting.{wanted_of, wanted_value, wanted_array}
 use Rattle.b67_fitting.proofs.Specified.{IsSpecified, as_value, as_array, AreSpecified, SpecsWhole, no_shape, dimensions_in}
 
 -- ---- what is known of them
 
 abbrev pub cell_of : Heading → Named → Simple
-cell_of h n = record { name = n.name; kind = kind_of (class_in h.specs n.name); shape = shape_in h.specs n.name }
+cell_of h n = record { name = n.name; wanted = wanted_of h n }
 
 -- the lower bounds of such a parameter
 abbrev pub lows_wanted : Wanted → Option Lows
@@ -51,22 +52,14 @@ module _ (block depth : ℕ) (h : Heading) where
     pub lows : lows_among h.specs ns d.spot ≡ lows_wanted wanted
     pub aligned : Aligned (map (cell_of h) ns) (cells_for block cells.parameter ns) name d.spot wanted
 
-  abbrev wanted_of : Named → Wanted
-  wanted_of n = wanted_by (kind_of (class_in h.specs n.name)) (shape_in h.specs n.name)
-
-  one_parameter : (n : Named) → IsSpecified h n → SpecsWhole h → IsParameter (entry n) (wanted_of n)
-  one_parameter n (as_value kind c v s) w =
-      subst (λ (z : Class). IsParameter (entry n) (wanted_by (kind_of z) (shape_in h.specs n.name))) (sym c) (by_value kind c s)
+  one_parameter : (n : Named) → IsSpecified h n → SpecsWhole h → IsParameter (entry n) (wanted_of h n)
+  one_parameter n (as_value kind c v s) w = subst (IsParameter (entry n)) (sym (wanted_value h n kind c v)) (by_value kind c s)
   one_parameter n (as_array shape c e s) w =
-      subst (λ (z : Class). IsParameter (entry n) (wanted_by (kind_of z) (shape_in h.specs n.name))) (sym c)
-      (subst (λ (o : Option Shape). IsParameter (entry n) (wanted_by None o)) (sym e) (an_array shape c s (dimensions_in h.specs n.name shape w e)))
+      subst (IsParameter (entry n)) (sym (wanted_array h n shape c e)) (an_array shape c s (dimensions_in h.specs n.name shape w e))
 
-  one_lows : (n : Named) → IsSpecified h n → lows_in (shape_in h.specs n.name) ≡ lows_wanted (wanted_of n)
-  one_lows n (as_value kind c v s) =
-      ap lows_in (no_shape h.specs n.name kind c) ∙ sym (ap (λ (z : Class). lows_wanted (wanted_by (kind_of z) (shape_in h.specs n.name))) c)
-  one_lows n (as_array shape c e s) =
-      ap lows_in e
-      ∙ sym (ap (λ (z : Class). lows_wanted (wanted_by (kind_of z) (shape_in h.specs n.name))) c ∙ ap (λ (o : Option Shape). lows_wanted (wanted_by None o)) e)
+  one_lows : (n : Named) → IsSpecified h n → lows_in (shape_in h.specs n.name) ≡ lows_wanted (wanted_of h n)
+  one_lows n (as_value kind c v s) = ap lows_in (no_shape h.specs n.name kind c) ∙ sym (ap lows_wanted (wanted_value h n kind c v))
+  one_lows n (as_array shape c e s) = ap lows_in e ∙ sym (ap lows_wanted (wanted_array h n shape c e))
 
   pub given : (ns : List Named) → AreSpecified h ns → SpecsWhole h → Apart (spots_of_names ns) → (name : List ℕ) (d : Declared) → look_up (map entry ns) name ≡ Some d → IsGiven ns name d
   given [] v w p name d g = absurd (let clash : None ≡ Some d = g in cc)
@@ -81,7 +74,7 @@ module _ (block depth : ℕ) (h : Heading) where
           let same : entry n ≡ d = cc in
           subst (λ (z : Declared). IsGiven (n ∷ ns) name z) same
           (record {
-            wanted = wanted_of n;
+            wanted = wanted_of h n;
             parameter = one_parameter n v.0 w;
             block_is = refl;
             depth_is = refl;

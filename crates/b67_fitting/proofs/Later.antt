@@ -11,7 +11,7 @@ use Rattle.algol_tree.specs.Plain as tree
 use Rattle.algol_tree.specs.Plain.{PDecl, PDecls}
 use Rattle.algol_tree.specs.Sorts.{Sort, same_name, Declared, look_up, declare}
 use Rattle.algol_tree.specs.Surroundings.{Surroundings, made_known, knowing}
-use Rattle.b67_templates.specs.Cells.{Simple, of_kind, variables}
+use Rattle.b67_templates.specs.Cells.{Simple, value, of_kind, variables}
 use Rattle.b67_fitting.proofs.Declaring.{names_of, names_both, one_more, entry}
 use Rattle.b67_fitting.proofs.Lists.{each_both, each_map}
 use Rattle.b67_fitting.proofs.ResultsApart.{none_named}
@@ -44,7 +44,7 @@ module _ (blocks : List Block) where
   IsOther name x = same_name x.name name ≡ false
 
   kind_other : (kind : Kind) (ns : List Named) (name : List ℕ) → AllByRecursion (λ (n : Named). same_name n.name name ≡ false) ns → AllByRecursion (IsOther name) (of_kind kind ns)
-  kind_other kind ns name h = each_map (IsOther name) (λ (n : Named). record { name = n.name; kind = Some kind; shape = None }) ns h
+  kind_other kind ns name h = each_map (IsOther name) (λ (n : Named). record { name = n.name; wanted = value kind }) ns h
 
   pub later : (a : Surroundings) (first : List Declared) (ds : PDecls) → TypedDecls blocks a first ds → (name : List ℕ) → is_one_of (names_of a.block a.known) name ≡ true →
       AllByRecursion (λ (x : Simple). same_name x.name name ≡ false) (variables ds)

@@ -5,6 +5,7 @@ pub mod Clean
 pub mod Cleaned
 pub mod Parameters
 pub mod Specified
+pub mod Wanting
 pub mod Actuals
 pub mod Typed
 pub mod TypedBounds
@@ -15,6 +16,7 @@ pub mod Aligned
 pub mod Given
 pub mod Arrayed
 pub mod Stated
+pub mod OnlyArrays
 pub mod Known
 pub mod ResultsApart
 pub mod Later

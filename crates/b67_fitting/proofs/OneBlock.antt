@@ -17,13 +17,14 @@ use Rattle.algol_paths.specs.Arrays.{arrays_of}
 use Rattle.algol_paths.specs.Blocks.{IsSeen, IsSeenAround, IsInner}
 use Rattle.algol_paths.specs.Laws.{ItemsKeepToText}
 use Rattle.algol_paths.specs.Texts.{InStmts}
-use Rattle.b67_templates.specs.Cells.{simple_cells, result_of, variables, procedures}
+use Rattle.b67_templates.specs.Cells.{simple_cells, result_of, variables, procedures, made_of}
 use Rattle.b67_fitting.specs.Built.{DeclsBuilt}
 use Rattle.b67_fitting.specs.Names.{DeclsNamed}
 use Rattle.b67_fitting.specs.Nested.{IsDeclared, AreParameters, IsText}
 use Rattle.b67_fitting.proofs.BlockItems.{in_items}
 use Rattle.b67_fitting.proofs.Bounds.{InBounds}
 use Rattle.b67_fitting.proofs.Lists.{each_front, each_back, each_of}
+use Rattle.b67_fitting.proofs.OnlyArrays.{made_many}
 use Rattle.b67_fitting.proofs.Numbering.{IsNumbered, block_is}
 use Rattle.b67_fitting.proofs.Callees.{IsNamed, AreNamed, AreCallees}
 use Rattle.b67_fitting.proofs.Surrounded.{IsGood, AreGood, IsKept, AreKept}
@@ -113,11 +114,12 @@ module _ (sc : Scopes) (all : List Site) where
         length b.parameters + (length (result_of b.result b.name) + (length (variables b.decls) + length (procedures b.decls) + length (arrays_of b.decls))) ≤ length (cells_of sc.blocks all k) →
         InBounds (IsSeenAround sc k) b.decls → InStmts (IsSeen sc k) (IsInner sc k) b.stmts → IsTextOf b
     is_text d c n s t =
-        let few : length (simple_cells sc b) + length (procedures b.decls) + length (arrays_of b.decls) ≤ MOST_BLOCK_CELLS = omega (arith, simple_many sc b, parameters_many sc b f.headed, n, f.few) in
+        let few : length (simple_cells sc b) + length (procedures b.decls) + length (made_of b.decls) ≤ MOST_BLOCK_CELLS =
+        omega (arith, simple_many sc b, parameters_many sc b f.headed, n, f.few, made_many b.decls d) in
         record {
           items = subst (λ (z : Block). ItemsKeepToText sc k (items_of z)) (sym it_is) (in_items (IsSeen sc k) (IsInner sc k) (IsSeenAround sc k) b d s t);
           parameters = subst (AreParameters sc) (sym it_is) f.headed;
-          few = subst (λ (z : Block). length (simple_cells sc z) + length (procedures z.decls) + length (arrays_of z.decls) ≤ MOST_BLOCK_CELLS) (sym it_is) few;
+          few = subst (λ (z : Block). length (simple_cells sc z) + length (procedures z.decls) + length (made_of z.decls) ≤ MOST_BLOCK_CELLS) (sym it_is) few;
           low = subst (λ (z : Block). level_of z ≤ MOST_LEVEL) (sym it_is) f.low;
           procedure = λ i declared h. declared_by sc k b.decls c f.named i declared (subst (λ (z : Block). slice_get (procedures z.decls) i ≡ Some declared) it_is h);
         }

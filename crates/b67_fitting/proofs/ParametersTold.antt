@@ -2,28 +2,28 @@
 use Rattle.std.proofs.Common.{◌≡◌, List, [], ◌∷◌, map, length, suc, refl, ap}
 use Rattle.algol_tree.specs.declared.tree.Heading.{Heading}
 use Rattle.algol_tree.specs.declared.tree.Named.{Named}
-use Rattle.algol_tree.specs.Sorts.{Parameter, is_variable, is_named_in, sort_in, class_in, parameters_of}
-use Rattle.algol_paths.specs.Arrays.{shape_in}
-use Rattle.b67_templates.specs.Cells.{Simple, kind_of, parameters_in}
+use Rattle.algol_tree.specs.Sorts.{Parameter, is_variable, is_named_in, sort_in, parameters_of}
+use Rattle.b67_templates.specs.Cells.{Simple, parameters_in}
 use Rattle.b67_fitting.specs.Built.{HeadingBuilt}
 use Rattle.b67_fitting.specs.Nested as told
 use Rattle.b67_fitting.specs.Nested.{IsTold, AreTold}
 use Rattle.b67_fitting.proofs.Specified.{IsSpecified, as_value, as_array, AreSpecified, specified}
+use Rattle.b67_fitting.proofs.Wanting.{wanted_of, wanted_value, wanted_array}
 
 module _ (h : Heading) where
   abbrev as_parameter : Named → Parameter
   as_parameter n = record { name = n.name; sort = sort_in h.specs (is_named_in h.values n.name) n.name }
 
   abbrev as_cell : Named → Simple
-  as_cell n = record { name = n.name; kind = kind_of (class_in h.specs n.name); shape = shape_in h.specs n.name }
+  as_cell n = record { name = n.name; wanted = wanted_of h n }
 
   names_same : (ns : List Named) → map (λ (p : Parameter). p.name) (map as_parameter ns) ≡ map (λ (c : Simple). c.name) (map as_cell ns)
   names_same [] = refl
   names_same (n ∷ ns) = ap (λ z. n.name ∷ z) (names_same ns)
 
   told_one : (n : Named) → IsSpecified h n → IsTold (as_parameter n) (as_cell n)
-  told_one n (as_value kind c v s) = told.by_value kind (ap kind_of c) (ap is_variable s)
-  told_one n (as_array shape c a s) = told.an_array shape (ap kind_of c) a s
+  told_one n (as_value kind c v s) = told.by_value kind (wanted_value h n kind c v) (ap is_variable s)
+  told_one n (as_array shape c a s) = told.an_array shape (wanted_array h n shape c a) s
 
   told_all : (ns : List Named) → AreSpecified h ns → AreTold (map as_parameter ns) (map as_cell ns)
   told_all [] s = tt

@@ -24,7 +24,7 @@ use Rattle.algol_meaning.specs.Settle.{sorts_of}
 use Rattle.b67_ops.specs.declared.Couple.{Couple}
 use Rattle.b67_ops.specs.declared.TheConstants.{MOST_LEVEL}
 use Rattle.algol_paths.specs.Arrays.{Shape, Lows, shape_in, arrays_of}
-use Rattle.b67_templates.specs.Cells.{Simple, Wanted, wanted_by, kind_of, parameters_in, parameter_cells, parameter_wants, variables, procedures}
+use Rattle.b67_templates.specs.Cells.{Simple, Wanted, parameters_in, parameter_cells, parameter_wants, variables, procedures}
 use Rattle.b67_templates.specs.Fitting.{ReadFits, LeftFits, ProcedureFits, CallFits, ArrayFits, ExprFits, SubscriptsFit, ActualsFit, LineFits, ElementAssignFits, BoundsFit, DeclsFit, StmtFits, StmtsFit}
 use Rattle.b67_fitting.specs.Built.{HeadingBuilt}
 use Rattle.b67_fitting.specs.Wholes.{HaveDimensions}
@@ -37,6 +37,7 @@ use Rattle.b67_fitting.proofs.Listed.{AllThere, reads_in, lefts_in, IsBlock, Lis
 use Rattle.b67_fitting.proofs.Lists.{each_front, each_back, each_both, map_none}
 use Rattle.b67_fitting.proofs.Stated.{IsResult, IsLeft, TypedStmt, TypedStmts, TypedDecls}
 use Rattle.b67_fitting.proofs.Typed.{IsOf, IsFunction, TypedExpr, TypedActual, TypedActuals, TypedLine, as_formal, actual_part_is}
+use Rattle.b67_fitting.proofs.Wanting.{wanted_value, wanted_array}
 use Rattle.b67_fitting.proofs.Given.{cell_of}
 use Rattle.b67_fitting.proofs.Specified.{IsSpecified, as_value, as_array, AreSpecified, specified}
 
@@ -69,7 +70,7 @@ abbrev pub sorts_in : Heading → List Named → List Sort
 sorts_in h ns = sorts_of (map (λ (n : Named). record { name = n.name; sort = sort_in h.specs (is_named_in h.values n.name) n.name }) ns)
 
 abbrev pub wants_in : Heading → List Named → List Wanted
-wants_in h ns = map (λ (c : Simple). wanted_by c.kind c.shape) (map (cell_of h) ns)
+wants_in h ns = map (λ (c : Simple). c.wanted) (map (cell_of h) ns)
 
 module _ (blocks : List Block) (sc : Scopes) (known results : Spot → Option Couple) (lows : Spot → Option Lows) where
   -- A name that is read or called has its couple. Lower bounds are known of arrays only.
@@ -94,7 +95,7 @@ module _ (blocks : List Block) (sc : Scopes) (known results : Spot → Option Co
     fits_name k n g (inl o) = (inl (g.simple k level at o).0, g.simple_alone k o)
     fits_name k n g (inr f) =
         let c = g.called f.0 level at f.1 in
-        (inr (c.callee, c.fits, ap (map (λ (z : Simple). wanted_by z.kind z.shape)) (c.cells_are ∙ map_none _ f.0.params f.3), c.result_is ∙ f.2), g.called_alone f.0 f.1)
+        (inr (c.callee, c.fits, ap (map (λ (z : Simple). z.wanted)) (c.cells_are ∙ map_none _ f.0.params f.3), c.result_is ∙ f.2), g.called_alone f.0 f.1)
 
     fits_left : (k : Kind) (n : Named) → IsLeftPlaced a n → IsLeft blocks a k n → LeftFits sc known results lows level k n
     fits_left k n g (inl o) = g.simple k level at o
@@ -104,7 +105,7 @@ module _ (blocks : List Block) (sc : Scopes) (known results : Spot → Option Co
         ActualsFit sc known results lows level (sorts_of ((block_numbered sc.blocks c.callee).parameters)) (parameter_wants sc c.callee) es
     fits_actuals_of n es h c f =
         subst (λ (ps : List Parameter). ActualsFit sc known results lows level (sorts_of ps) (parameter_wants sc c.callee) es) (sym c.parameters_are)
-        (subst (λ (cs : List Simple). ActualsFit sc known results lows level (sorts_in h h.params) (map (λ (z : Simple). wanted_by z.kind z.shape) cs) es) (sym c.cells_are) f)
+        (subst (λ (cs : List Simple). ActualsFit sc known results lows level (sorts_in h h.params) (map (λ (z : Simple). z.wanted) cs) es) (sym c.cells_are) f)
 
     inside_call : (n : Named) (es : PExprs) (h : Heading) → class_of a n ≡ class.procedure h → AllByRecursion SitePlaced (inside_actuals es (formals_at a n) a) →
         AllByRecursion SitePlaced (inside_actuals es (formals_of h) a)
@@ -133,9 +134,8 @@ module _ (blocks : List Block) (sc : Scopes) (known results : Spot → Option Co
         let same : class.array t.0 t.1 ≡ class.array shape.kind (length shape.lows) = sym t.2 ∙ c in
         let kind : t.0 ≡ shape.kind = cc in
         let rank : t.1 ≡ length shape.lows = cc in
-        subst (λ (z : Class). ActualsFit sc known results lows level (sorts_in h (n ∷ ns)) (wanted_by (kind_of z) (shape_in h.specs n.name) ∷ wants_in h ns) (tree.more (tree.variable (tree.subscripted m tree.none)) es)) (sym c)
-        (subst (λ (z : Option Shape). ActualsFit sc known results lows level (sorts_in h (n ∷ ns)) (wanted_by None z ∷ wants_in h ns) (tree.more (tree.variable (tree.subscripted m tree.none)) es)) (sym s)
-        (ap is_variable o, (r.shape, r.fits, (r.kind_is ∙ kind, r.rank_is ∙ rank)), f))
+        subst (λ (w : Wanted). ActualsFit sc known results lows level (sorts_in h (n ∷ ns)) (w ∷ wants_in h ns) (tree.more (tree.variable (tree.subscripted m tree.none)) es))
+        (sym (wanted_array h n shape c s)) (ap is_variable o, (r.shape, r.fits, (r.kind_is ∙ kind, r.rank_is ∙ rank)), f)
     fits_array h n ns shape c s o e es t g f = absurd t
 
     -- an actual in front of the others
@@ -145,7 +145,7 @@ module _ (blocks : List Block) (sc : Scopes) (known results : Spot → Option Co
         ActualsFit sc known results lows level (sorts_in h (n ∷ ns)) (wants_in h (n ∷ ns)) (tree.more e es)
     fits_actual h n ns (as_value k c v s) e es (inl t) g valued f =
         let own : SitePlaced (here e a) = subst (λ (p : Part). SitePlaced (record { part = p; around = a })) (actual_part_is e (Some (as_formal h n)) (ap is_of_value t.1)) g in
-        subst (λ (z : Class). ActualsFit sc known results lows level (sorts_in h (n ∷ ns)) (wanted_by (kind_of z) (shape_in h.specs n.name) ∷ wants_in h ns) (tree.more e es)) (sym t.1)
+        subst (λ (w : Wanted). ActualsFit sc known results lows level (sorts_in h (n ∷ ns)) (w ∷ wants_in h ns) (tree.more e es)) (sym (wanted_value h n t.0 t.1 v))
         (ap is_variable s, valued t.0 t.3 own, f)
     fits_actual h n ns (as_value k c v s) (tree.variable (tree.subscripted m tree.none)) es (inr t) g valued f =
         absurd (let clash : class.simple k ≡ class.array t.0 t.1 = sym c ∙ t.2 in cc)

@@ -11,10 +11,10 @@ use Rattle.algol_tree.specs.Cells.{level_of}
 use Rattle.algol_tree.specs.Plain.{PProgram}
 use Rattle.algol_tree.specs.Scopes.{Scopes, scopes_of}
 use Rattle.algol_meaning.specs.Statements.{items_of}
-use Rattle.algol_paths.specs.Arrays.{Shape, arrays_of}
+use Rattle.algol_paths.specs.Arrays.{Shape}
 use Rattle.algol_paths.specs.Laws.{ItemsKeepToText}
 use Rattle.algol_paths.specs.Segments.{is_procedure, procedures_before, segment_tokens}
-use Rattle.b67_templates.specs.Cells.{Simple, parameter_cells, simple_cells, found_from, procedures}
+use Rattle.b67_templates.specs.Cells.{Simple, value, array, parameter_cells, simple_cells, found_from, procedures, made_of}
 use Rattle.b67_fitting.specs.Built.{IsBuilt}
 use Rattle.b67_fitting.specs.Names.{HasNames}
 
@@ -26,8 +26,8 @@ pub record IsDeclared (sc : Scopes) (j : ℕ) (declared : Named) : Type 0 where
 
 -- The cell of a parameter by value has its kind, that of an array its shape.
 pub data IsTold (p : Parameter) (cell : Simple) : Type 0 where
-  by_value : (kind : Kind) → cell.kind ≡ Some kind → is_variable p.sort ≡ true → IsTold p cell
-  an_array : (shape : Shape) → cell.kind ≡ None → cell.shape ≡ Some shape → p.sort ≡ formal_array shape.lows → IsTold p cell
+  by_value : (kind : Kind) → cell.wanted ≡ value kind → is_variable p.sort ≡ true → IsTold p cell
+  an_array : (shape : Shape) → cell.wanted ≡ array shape → p.sort ≡ formal_array shape.lows → IsTold p cell
 
 abbrev pub AreTold : List Parameter → List Simple → Type 0
 AreTold [] [] = Unit {0}
@@ -48,7 +48,7 @@ pub record IsText (sc : Scopes) (j : ℕ) : Type 0 where
   pub parameters : AreParameters sc (block_numbered sc.blocks j)
   pub few :
       length (simple_cells sc (block_numbered sc.blocks j)) + length (procedures (block_numbered sc.blocks j).decls)
-      + length (arrays_of (block_numbered sc.blocks j).decls)
+      + length (made_of (block_numbered sc.blocks j).decls)
       ≤ MOST_BLOCK_CELLS
   pub low : level_of (block_numbered sc.blocks j) ≤ MOST_LEVEL
   pub procedure : (k : ℕ) (declared : Named) → slice_get (procedures ((block_numbered sc.blocks j).decls)) k ≡ Some declared → IsDeclared sc j declared

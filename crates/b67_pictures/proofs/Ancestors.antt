@@ -7,8 +7,8 @@ use Rattle.algol_tree.specs.Plain.{PProgram}
 use Rattle.algol_tree.specs.Scopes.{Scopes, scopes_of}
 use Rattle.algol_meaning.specs.World.{Instance, Part, World, instance_at, or_no_instance, ancestor}
 use Rattle.b67_ops.specs.declared.TheConstants.{OUTER_LEVEL}
-use Rattle.b67_segment.specs.Operators.{Placed}
 use Rattle.b67_segment.specs.declared.code.Code.{Code}
+use Rattle.b67_templates.specs.Programs.{Texts}
 use Rattle.b67_cores.specs.Cores.{Core}
 use Rattle.b67_pictures.specs.Arrays.{Layout, IsOwn}
 use Rattle.b67_pictures.specs.Frames.{Stands, Around}
@@ -17,7 +17,7 @@ use Rattle.b67_pictures.proofs.Numbers.{get_within}
 use Rattle.b67_pictures.proofs.Parents.{length_around, ancestor_up}
 use Rattle.b67_pictures.proofs.Staying.{wanted_in, Remains, remains}
 
-module _ (tree : PProgram) (code : Code) (texts : ℕ → List Placed) (w w' : World) (lay lay' : Layout) (p limit : ℕ) (stay : StayBelow w w' lay lay' p limit)
+module _ (tree : PProgram) (code : Code) (texts : Texts) (w w' : World) (lay lay' : Layout) (p limit : ℕ) (stay : StayBelow w w' lay lay' p limit)
     (part : Part) (outer : List Part) (core : Core) (s : Stands tree code texts w lay p part outer core) (a : Around tree code texts w lay p outer s.frame.lower s.frame.mark s.frame.control (wanted_in tree w part))
     (low : length core.below ≤ limit) (h : ℕ) (own : IsOwn (part ∷ outer) h) where
   abbrev sc : Scopes

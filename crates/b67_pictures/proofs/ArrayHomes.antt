@@ -11,19 +11,19 @@ use Rattle.algol_tree.specs.Sorts.{Sort, is_variable, is_formal}
 use Rattle.algol_meaning.specs.Value.{Reference, Bounds, ArrayCell, Cell}
 use Rattle.algol_meaning.specs.Asks.{ask}
 use Rattle.algol_meaning.specs.World.{Instance, Part, Process, World, instance_at, or_no_instance, ancestor, by_cell, followed}
-use Rattle.algol_paths.specs.Arrays.{DeclaredArray, Shape, shape_of, arrays_of, to_make}
+use Rattle.algol_paths.specs.Arrays.{DeclaredArray, an_array, Shape, shape_of, all_to_make}
 use Rattle.algol_paths.specs.Blocks.{IsSeen, IsSeenAround, IsInner}
 use Rattle.b67_word.specs.Word.{Word}
 use Rattle.b67_control.specs.Control.{as_sirw}
 use Rattle.b67_ops.specs.declared.Couple.{Couple}
 use Rattle.b67_ops.specs.declared.TheConstants.{OUTER_LEVEL}
-use Rattle.b67_segment.specs.Operators.{Placed}
 use Rattle.b67_segment.specs.declared.code.Code.{Code}
 use Rattle.b67_store.specs.Store.{word_at}
 use Rattle.b67_table.specs.Chains.{place}
 use Rattle.b67_table.specs.Image.{Image}
 use Rattle.b67_table.specs.Private.{display_at}
-use Rattle.b67_templates.specs.Cells.{simple_cells, procedures, found_from, array_from, IsDeclaredArray, IsFormalArray, IsArray, declared, formal}
+use Rattle.b67_templates.specs.Cells.{simple_cells, procedures, found_from, IsDeclaredArray, IsFormalArray, IsArray, declared, formal, made_of, made_from}
+use Rattle.b67_templates.specs.Programs.{Texts}
 use Rattle.b67_cores.specs.Cores.{Core}
 use Rattle.b67_fitting.specs.Nested.{AreNested}
 use Rattle.b67_faithful.proofs.Contradictions.{some_same}
@@ -42,7 +42,7 @@ use Rattle.b67_pictures.proofs.Scene.{Scene}
 use Rattle.b67_pictures.proofs.Staying.{level_in}
 use Rattle.b67_pictures.proofs.Subscripts.{CountsBy, by_own, by_others}
 
-module _ (tree : PProgram) (code : Code) (texts : ℕ → List Placed) (nested : AreNested (scopes_of tree)) (w : World) (lay : Layout) (img : Image)
+module _ (tree : PProgram) (code : Code) (texts : Texts) (nested : AreNested (scopes_of tree)) (w : World) (lay : Layout) (img : Image)
     (p : ℕ) (q : Process) (part : Part) (outer : List Part) (bound : ℕ) (core : Core) (s : Scene tree code texts w lay img p q part outer bound core) where
   abbrev sc : Scopes
   sc = scopes_of tree
@@ -97,10 +97,10 @@ module _ (tree : PProgram) (code : Code) (texts : ℕ → List Placed) (nested :
     low = omega (arith, length_around sc.blocks block, get_below (block ∷ around sc.blocks block) up ((use_of sc n).block) is_seen.seen)
 
     -- all arrays of its instance are made
-    own_complete : to_make part.rest ≡ [] → IsComplete sc w lay part.instance
+    own_complete : all_to_make part.rest ≡ [] → IsComplete sc w lay part.instance
     own_complete none = complete_of sc w lay p part.instance outer (length s.stands.frame.lower) s.stands.frame.mark s.stands.frame.control s.stands.frame.cells s.stands.frame.framed (s.stands.frame.making ∙ none)
 
-    made_there : (k : ℕ) → (to_make part.rest ≡ []) ⊎ (1 ≤ k) → (1 ≤ k → IsComplete sc w lay (ancestor w k part.instance)) → IsComplete sc w lay (ancestor w k part.instance)
+    made_there : (k : ℕ) → (all_to_make part.rest ≡ []) ⊎ (1 ≤ k) → (1 ≤ k → IsComplete sc w lay (ancestor w k part.instance)) → IsComplete sc w lay (ancestor w k part.instance)
     made_there zero (inl none) further = own_complete none
     made_there zero (inr far) further = absurd (omega (arith, far))
     made_there (suc k) made further = further (omega arith)
@@ -111,7 +111,7 @@ module _ (tree : PProgram) (code : Code) (texts : ℕ → List Placed) (nested :
     in_bound (inr (inl is)) = absurd (let clash : false ≡ true = sym (ap is_variable v.sort_is) ∙ is in cc)
     in_bound (inr (inr is)) = absurd (let clash : false ≡ true = sym (ap is_formal v.sort_is) ∙ is in cc)
 
-    far_or_made : (to_make part.rest ≡ []) ⊎ IsSeenAround sc block n → (to_make part.rest ≡ []) ⊎ (1 ≤ up)
+    far_or_made : (all_to_make part.rest ≡ []) ⊎ IsSeenAround sc block n → (all_to_make part.rest ≡ []) ⊎ (1 ≤ up)
     far_or_made (inl none) = inl none
     far_or_made (inr around_it) = inr (in_bound around_it.1)
 
@@ -129,14 +129,14 @@ module _ (tree : PProgram) (code : Code) (texts : ℕ → List Placed) (nested :
       abbrev own : OwnCells sc w lay l.part.instance here
       own = framed_cells sc w lay l.frame.framed
 
-      there : array_from 0 (arrays_of (block_numbered sc.blocks here.block).decls) n.name ≡ Some (record { number = v.number; array = d })
-      there = ap (λ (j : ℕ). array_from 0 (arrays_of (block_numbered sc.blocks j).decls) n.name) block_here ∙ v.there
+      there : made_from 0 (made_of (block_numbered sc.blocks here.block).decls) n.name ≡ Some (record { number = v.made.number; made = an_array d })
+      there = ap (λ (j : ℕ). made_from 0 (made_of (block_numbered sc.blocks j).decls) n.name) block_here ∙ v.made.there
 
-      found : OwnArray sc w lay l.part.instance here own n.name v.number d
+      found : OwnArray sc w lay l.part.instance here own n.name v.made.number d
       found =
-          own_array sc w lay l.part.instance here own n.name v.number d there
-          (all_made sc w lay l.part.instance here own n.name v.number d there (none_later sc w lay l.part.instance here own complete))
-          (ap (λ (j : ℕ). found_from 0 (simple_cells sc (block_numbered sc.blocks j)) n.name) block_here ∙ v.apart)
+          own_array sc w lay l.part.instance here own n.name v.made.number d there
+          (all_made sc w lay l.part.instance here own n.name v.made.number d there (none_later sc w lay l.part.instance here own complete))
+          (ap (λ (j : ℕ). found_from 0 (simple_cells sc (block_numbered sc.blocks j)) n.name) block_here ∙ v.made.apart)
 
       of_there : IsArrayOf sc w lay (ancestor w up part.instance) n.name d found.cell found.allotted
       of_there = subst (λ (i : ℕ). IsArrayOf sc w lay i n.name d found.cell found.allotted) l.instance_is found.of
@@ -144,36 +144,36 @@ module _ (tree : PProgram) (code : Code) (texts : ℕ → List Placed) (nested :
       h : ArrayPlace tree code texts w lay img p q part outer bound core s (ancestor w up part.instance) n.name d found.cell found.allotted of_there
       h = array_place tree code texts w lay img p q part outer bound core s (ancestor w up part.instance) parent.own n.name d found.cell found.allotted of_there
 
-      number_is : v.number ≡ of_there.number
+      number_is : v.made.number ≡ of_there.number
       number_is =
-          let same : record { number = v.number; array = d } ≡ record { number = of_there.number; array = d } =
-          some_same (sym v.there ∙ ap (λ (j : ℕ). array_from 0 (arrays_of (block_numbered sc.blocks j).decls) n.name) (sym parent.block) ∙ of_there.found) in
+          let same : record { number = v.made.number; made = an_array d } ≡ record { number = of_there.number; made = an_array d } =
+          some_same (sym v.made.there ∙ ap (λ (j : ℕ). made_from 0 (made_of (block_numbered sc.blocks j).decls) n.name) (sym parent.block) ∙ of_there.found) in
           ap (λ f. f.number) same
 
       index_is : couple.index ≡ array_index tree code texts w lay img p q part outer bound core s (ancestor w up part.instance) of_there.number
       index_is =
           omega (
             arith,
-            v.index_is,
+            v.made.index_is,
             number_is,
             ap (λ (j : ℕ). length (simple_cells sc (block_numbered sc.blocks j))) parent.block,
             ap (λ (j : ℕ). length (procedures (block_numbered sc.blocks j).decls)) parent.block,
           )
 
       level_up : couple.level ≡ level - up
-      level_up = omega (arith, v.level_is)
+      level_up = omega (arith, v.made.level_is)
 
       -- a reference can hold its couple
       couple_fits : (couple.level < 32) × (couple.index < 2 ^ 14)
       couple_fits =
           let first : Instance = s.stands.frame.framed.instance in
           let same : level ≡ level_of (block_numbered sc.blocks first.block) = ap (λ (o : Option Instance). level_of (block_numbered sc.blocks (or_no_instance o).block)) s.stands.frame.framed.is in (
-            omega (arith, v.level_is, same, (nested.each first.block s.stands.frame.framed.known).low),
+            omega (arith, v.made.level_is, same, (nested.each first.block s.stands.frame.framed.known).low),
             omega (
               arith,
-              v.index_is,
+              v.made.index_is,
               (nested.each ((use_of sc n).block) (subst (λ (j : ℕ). j < length sc.blocks) block_here l.frame.framed.known)).few,
-              low_number 0 (arrays_of ((block_numbered sc.blocks ((use_of sc n).block)).decls)) n.name v.number d v.there,
+              low_number 0 (made_of ((block_numbered sc.blocks ((use_of sc n).block)).decls)) n.name v.made.number d v.made.there,
             ),
           )
 

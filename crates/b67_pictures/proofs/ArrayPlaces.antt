@@ -10,19 +10,19 @@ use Rattle.algol_tree.specs.Plain.{PProgram}
 use Rattle.algol_tree.specs.Scopes.{Scopes, scopes_of}
 use Rattle.algol_meaning.specs.Value.{Bounds, ArrayCell}
 use Rattle.algol_meaning.specs.World.{Instance, Part, Process, World, instance_at, or_no_instance}
-use Rattle.algol_paths.specs.Arrays.{DeclaredArray, arrays_of, lows_of}
+use Rattle.algol_paths.specs.Arrays.{DeclaredArray, lows_of}
 use Rattle.algol_paths.specs.Segments.{segment_of}
 use Rattle.b67_word.specs.Word.{Word}
 use Rattle.b67_control.specs.Control.{as_sirw}
 use Rattle.b67_control.proofs.ControlLaws.{sirw_laws}
-use Rattle.b67_segment.specs.Operators.{Placed}
 use Rattle.b67_segment.specs.declared.code.Code.{Code}
 use Rattle.b67_store.specs.Store.{words_of, word_at}
 use Rattle.b67_table.specs.Chains.{place}
 use Rattle.b67_table.specs.Image.{Image}
 use Rattle.b67_table.specs.References.{cell_word}
 use Rattle.b67_table.specs.declared.Cell.{Cell}
-use Rattle.b67_templates.specs.Cells.{simple_cells, procedures, control_segments}
+use Rattle.b67_templates.specs.Cells.{simple_cells, procedures, control_segments, made_of}
+use Rattle.b67_templates.specs.Programs.{Texts}
 use Rattle.b67_cores.specs.Cores.{Core}
 use Rattle.b67_fitting.specs.Nested.{AreNested}
 use Rattle.b67_pictures.specs.Arrays.{Allotted, Layout, DescriptorIs, AreSized, IsOwn, HasArray, IsArrayOf}
@@ -45,7 +45,7 @@ number_within : {A : Type 0} (xs : List A) (k : ℕ) (x : A) → numbered xs k �
 number_within xs zero x e = cc
 number_within xs (suc k) x e = omega (arith, get_below xs k x e)
 
-module _ (tree : PProgram) (code : Code) (texts : ℕ → List Placed) (w : World) (lay : Layout) (img : Image)
+module _ (tree : PProgram) (code : Code) (texts : Texts) (w : World) (lay : Layout) (img : Image)
     (p : ℕ) (q : Process) (part : Part) (outer : List Part) (bound : ℕ) (core : Core) (s : Scene tree code texts w lay img p q part outer bound core) where
   abbrev sc : Scopes
   sc = scopes_of tree
@@ -159,5 +159,5 @@ module _ (tree : PProgram) (code : Code) (texts : ℕ → List Placed) (w : Worl
         (omega (
           arith,
           (nested.each ((instance_at w i).block) h.known).few,
-          low_number 0 (arrays_of ((block_numbered sc.blocks ((instance_at w i).block)).decls)) name of.number declared of.found,
+          low_number 0 (made_of ((block_numbered sc.blocks ((instance_at w i).block)).decls)) name of.number declared of.found,
         ))

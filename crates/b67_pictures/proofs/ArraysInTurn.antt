@@ -8,7 +8,7 @@ use Rattle.algol_tree.specs.Plain.{PPair}
 use Rattle.algol_meaning.specs.Value.{initial_value, Bounds}
 use Rattle.algol_meaning.specs.Arrays.{elements_of, new_arrays}
 use Rattle.algol_meaning.specs.World.{NamedCell}
-use Rattle.algol_paths.specs.Arrays.{DeclaredArray, arrays_in, lows_of}
+use Rattle.algol_paths.specs.Arrays.{Made, lows_of, made_in}
 use Rattle.b67_word.specs.Word.{Word}
 use Rattle.b67_store.specs.Store.{Row, Rows, row_at, row_limit, counted_words}
 use Rattle.b67_faithful.proofs.Contradictions.{some_same, none_some}
@@ -20,7 +20,7 @@ use Rattle.b67_pictures.proofs.OneArray.{new_cell, IsAdded, array_added, hold_st
 
 -- ---- arrays that are made, in the order of their declarations
 
-pub made_long : (ds : List DeclaredArray) (cells : List NamedCell) (as' : List Allotted) (ws : List Word) → AreMade ds cells as' ws → (length cells ≡ length ds) × (length as' ≡ length ds) × (length ws ≡ length ds)
+pub made_long : (ds : List Made) (cells : List NamedCell) (as' : List Allotted) (ws : List Word) → AreMade ds cells as' ws → (length cells ≡ length ds) × (length as' ≡ length ds) × (length ws ≡ length ds)
 made_long [] [] [] [] made = (refl, refl, refl)
 made_long [] [] [] (w ∷ ws) made = absurd made
 made_long [] [] (a ∷ as') ws made = absurd made
@@ -33,7 +33,7 @@ made_long (d ∷ ds) (c ∷ cells) (a ∷ as') (w ∷ ws) made =
     (ap suc rest.0, ap suc rest.1, ap suc rest.2)
 
 -- arrays after others
-pub made_both : (ds : List DeclaredArray) (cells : List NamedCell) (as' : List Allotted) (ws : List Word) (es : List DeclaredArray) (more : List NamedCell) (bs : List Allotted) (vs : List Word) → AreMade ds cells as' ws → AreMade es more bs vs →
+pub made_both : (ds : List Made) (cells : List NamedCell) (as' : List Allotted) (ws : List Word) (es : List Made) (more : List NamedCell) (bs : List Allotted) (vs : List Word) → AreMade ds cells as' ws → AreMade es more bs vs →
     AreMade (ds ++ es) (cells ++ more) (as' ++ bs) (ws ++ vs)
 made_both [] [] [] [] es more bs vs made others = others
 made_both [] [] [] (w ∷ ws) es more bs vs made others = absurd made
@@ -125,7 +125,7 @@ allotted_many (suc k) bs rows = ap suc (allotted_many k bs (array_rows (extents_
 -- each is made as it is declared
 pub arrays_are_made : (kind : Kind) (pairs : List PPair) (bs : List Bounds) → HasDimensions bs → AreSized bs → map (λ (b : Bounds). b.low) bs ≡ lows_of pairs → (ns : List Named) (rows : Rows) →
     open_rows rows + length ns * rows_of_bounds bs ≤ row_limit →
-    AreMade (arrays_in kind ns pairs) (new_arrays kind bs ns) (arrays_allotted (length ns) (extents_of bs) rows) (arrays_descriptors (length ns) (extents_of bs) rows)
+    AreMade (made_in kind ns pairs) (new_arrays kind bs ns) (arrays_allotted (length ns) (extents_of bs) rows) (arrays_descriptors (length ns) (extents_of bs) rows)
 arrays_are_made kind pairs bs has sized lows [] rows few = tt
 arrays_are_made kind pairs bs has sized lows (n ∷ ns) rows few =
     let one = array_added kind bs has rows (omega (arith, few)) in (

@@ -10,10 +10,11 @@ use Rattle.algol_tree.specs.Sorts.{same_name}
 use Rattle.algol_meaning.specs.Value.{Value, ArrayCell, Cell, simple, event, array, named, reference}
 use Rattle.algol_meaning.specs.Arrays.{size_of_cell, size_of_cells, size_unless, live_elements}
 use Rattle.algol_meaning.specs.World.{NamedCell, Instance, World, cell_in, cells_with}
-use Rattle.algol_paths.specs.Arrays.{DeclaredArray, arrays_of}
+use Rattle.algol_paths.specs.Arrays.{DeclaredArray}
 use Rattle.b67_word.specs.Word.{Word}
 use Rattle.b67_store.specs.Store.{Rows}
-use Rattle.b67_templates.specs.Cells.{Simple, simple_cells}
+use Rattle.b67_templates.specs.Cells as wants
+use Rattle.b67_templates.specs.Cells.{Simple, simple_cells, Wanted, made_of}
 use Rattle.b67_faithful.proofs.Contradictions.{some_same, none_some}
 use Rattle.b67_pictures.specs.Arrays.{Allotted, Layout, rows_of_cell, rows_of_cells, live_rows, HasArray, HasRow, ArraysAre}
 use Rattle.b67_pictures.specs.Frames.{CellIs, CellsAre}
@@ -172,7 +173,7 @@ module _ (sc : Scopes) (w w' : World) (lay : Layout) (i : ℕ) (x : Instance) (t
             instance = x;
             is = ap (λ (k : ℕ). numbered w.instances k) (sym same) ∙ there;
             stands = ap (λ (z : Instance). z.left) here ∙ h.stands;
-            declares = ap (λ (z : Instance). slice_get (arrays_of (block_numbered sc.blocks z.block).decls) number) here ∙ h.declares;
+            declares = ap (λ (z : Instance). slice_get (made_of (block_numbered sc.blocks z.block).decls) number) here ∙ h.declares;
             has =
                 ap (λ (b : ℕ). slice_get x.cells (length (simple_cells sc (block_numbered sc.blocks b)) + number)) (ap (λ (z : Instance). z.block) here)
                 ∙ array_before x.cells name v (length (simple_cells sc (block_numbered sc.blocks h.instance.block)) + number) declared.name cell
@@ -217,12 +218,13 @@ no_elements [] [] ws are = refl
 no_elements [] (c ∷ cells) ws are = absurd are
 no_elements (s ∷ ss) [] ws are = refl
 no_elements (s ∷ ss) (c ∷ cells) [] are = absurd are
-no_elements (s ∷ ss) (c ∷ cells) (w ∷ ws) are = omega (arith, one s.kind c.cell are.1, no_elements ss cells ws are.2)
+no_elements (s ∷ ss) (c ∷ cells) (w ∷ ws) are = omega (arith, one s.wanted c.cell are.1, no_elements ss cells ws are.2)
   where
-    one : (o : Option Kind) (k : Cell) → CellIs o k w → size_of_cell k ≡ 0
+    one : (o : Wanted) (k : Cell) → CellIs o k w → size_of_cell k ≡ 0
     one o (simple v) is = refl
-    one (Some kind) (array a) is = absurd is
-    one None (array a) is = absurd is
+    one (wants.value kind) (array a) is = absurd is
+    one (wants.array shape) (array a) is = absurd is
+    one _ (array a) is = absurd is
     one o (event e) is = refl
     one o (named n) is = refl
     one o (reference r) is = refl
@@ -232,12 +234,13 @@ no_rows [] [] ws are = refl
 no_rows [] (c ∷ cells) ws are = absurd are
 no_rows (s ∷ ss) [] ws are = refl
 no_rows (s ∷ ss) (c ∷ cells) [] are = absurd are
-no_rows (s ∷ ss) (c ∷ cells) (w ∷ ws) are = omega (arith, one s.kind c.cell are.1, no_rows ss cells ws are.2)
+no_rows (s ∷ ss) (c ∷ cells) (w ∷ ws) are = omega (arith, one s.wanted c.cell are.1, no_rows ss cells ws are.2)
   where
-    one : (o : Option Kind) (k : Cell) → CellIs o k w → rows_of_cell k ≡ 0
+    one : (o : Wanted) (k : Cell) → CellIs o k w → rows_of_cell k ≡ 0
     one o (simple v) is = refl
-    one (Some kind) (array a) is = absurd is
-    one None (array a) is = absurd is
+    one (wants.value kind) (array a) is = absurd is
+    one (wants.array shape) (array a) is = absurd is
+    one _ (array a) is = absurd is
     one o (event e) is = refl
     one o (named n) is = refl
     one o (reference r) is = refl

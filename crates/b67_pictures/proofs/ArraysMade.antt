@@ -11,10 +11,10 @@ use Rattle.algol_tree.specs.Scopes.{Scopes}
 use Rattle.algol_meaning.specs.Value.{Bounds, ArrayCell, array}
 use Rattle.algol_meaning.specs.Arrays.{elements_of, size_of_cells, size_unless, live_elements, new_array, new_arrays, has_wrong_size, has_no_room}
 use Rattle.algol_meaning.specs.World.{NamedCell, Instance, World, or_no_instance, add_cells}
-use Rattle.algol_paths.specs.Arrays.{DeclaredArray, arrays_of, arrays_in, lows_of}
+use Rattle.algol_paths.specs.Arrays.{DeclaredArray, Made, lows_of, made_in, an_array, an_event, arrays_in}
 use Rattle.b67_word.specs.Word.{Word}
 use Rattle.b67_store.specs.Store.{Rows, row_limit}
-use Rattle.b67_templates.specs.Cells.{simple_cells}
+use Rattle.b67_templates.specs.Cells.{simple_cells, made_of}
 use Rattle.b67_templates.specs.Code.{AreDimensions}
 use Rattle.b67_faithful.proofs.Contradictions.{some_same, none_some}
 use Rattle.b67_pictures.specs.Arrays.{Allotted, Layout, numbers_of, AreSized, AreMade, HoldElements, open_rows, rows_of_bounds, rows_of_cells, live_rows, HasArray, ArraysAre}
@@ -46,9 +46,14 @@ module _ (kind : Kind) (bs : List Bounds) where
   got_cell (n ∷ ns) zero c e = ap (λ (x : NamedCell). x.cell) (sym (some_same e))
   got_cell (n ∷ ns) (suc l) c e = got_cell ns l c e
 
-got_kind : (kind : Kind) (pairs : List PPair) (ns : List Named) (l : ℕ) (d : DeclaredArray) → slice_get (arrays_in kind ns pairs) l ≡ Some d → d.kind ≡ kind
+-- the kind of the elements of an array, where it is one
+abbrev kind_made : Kind → Made → Kind
+kind_made kind (an_array d) = d.kind
+kind_made kind (an_event name) = kind
+
+got_kind : (kind : Kind) (pairs : List PPair) (ns : List Named) (l : ℕ) (d : DeclaredArray) → slice_get (made_in kind ns pairs) l ≡ Some (an_array d) → d.kind ≡ kind
 got_kind kind pairs [] l d e = none_some e
-got_kind kind pairs (n ∷ ns) zero d e = ap (λ (x : DeclaredArray). x.kind) (sym (some_same e))
+got_kind kind pairs (n ∷ ns) zero d e = ap (kind_made kind) (sym (some_same e))
 got_kind kind pairs (n ∷ ns) (suc l) d e = got_kind kind pairs ns l d e
 
 -- ---- the world after
@@ -68,9 +73,9 @@ pub record Makes (sc : Scopes) (w : World) (lay : Layout) (i : ℕ) (kind : Kind
   pub arrays : List NamedCell
   pub has : instance.cells ≡ simple ++ arrays
   pub many : length simple ≡ length (simple_cells sc (block_numbered sc.blocks instance.block))
-  pub declared : List DeclaredArray
-  pub later : List DeclaredArray
-  pub order : arrays_of (block_numbered sc.blocks instance.block).decls ≡ declared ++ (arrays_in kind ns pairs ++ later)
+  pub declared : List Made
+  pub later : List Made
+  pub order : made_of (block_numbered sc.blocks instance.block).decls ≡ declared ++ (made_in kind ns pairs ++ later)
   pub descriptors : List Word
   pub made : AreMade declared arrays (lay.rows i) descriptors
   pub dimensions : AreDimensions pairs
@@ -99,9 +104,9 @@ module _ (sc : Scopes) (w : World) (lay : Layout) (rows : Rows) (are : ArraysAre
   enough = omega (arith, are.opened, numbers_left w bs ns are.few (rows_few bs dimensional sized) m.room)
 
   -- the instance has made all these arrays
-  pub all_made : AreMade (m.declared ++ arrays_in kind ns pairs) (m.arrays ++ new_arrays kind bs ns) (lay.rows i ++ allotted_new ns bs rows) (m.descriptors ++ descriptors_new ns bs rows)
+  pub all_made : AreMade (m.declared ++ made_in kind ns pairs) (m.arrays ++ new_arrays kind bs ns) (lay.rows i ++ allotted_new ns bs rows) (m.descriptors ++ descriptors_new ns bs rows)
   all_made =
-      made_both m.declared m.arrays (lay.rows i) m.descriptors (arrays_in kind ns pairs) (new_arrays kind bs ns) (allotted_new ns bs rows) (descriptors_new ns bs rows) m.made
+      made_both m.declared m.arrays (lay.rows i) m.descriptors (made_in kind ns pairs) (new_arrays kind bs ns) (allotted_new ns bs rows) (descriptors_new ns bs rows) m.made
       (arrays_are_made kind pairs bs dimensional sized m.lows ns rows enough)
 
   added : AreAdded kind bs rows (rows_after ns bs rows) (allotted_new ns bs rows)
@@ -141,10 +146,10 @@ module _ (sc : Scopes) (w : World) (lay : Layout) (rows : Rows) (are : ArraysAre
         it_is : grown ≡ h.instance
         it_is = some_same (sym (numbered_set w.instances i m.instance grown m.is) ∙ ap (λ (k : ℕ). numbered (set_numbered w.instances i grown) k) same ∙ set_there)
 
-        declares_it : slice_get (m.declared ++ (arrays_in kind ns pairs ++ m.later)) number ≡ Some d
+        declares_it : slice_get (m.declared ++ (made_in kind ns pairs ++ m.later)) number ≡ Some (an_array d)
         declares_it =
-            ap (λ (ds : List DeclaredArray). slice_get ds number) (sym m.order)
-            ∙ ap (λ (z : Instance). slice_get (arrays_of (block_numbered sc.blocks z.block).decls) number) it_is
+            ap (λ (ds : List Made). slice_get ds number) (sym m.order)
+            ∙ ap (λ (z : Instance). slice_get (made_of (block_numbered sc.blocks z.block).decls) number) it_is
             ∙ h.declares
 
         has_it : slice_get (m.instance.cells ++ new_arrays kind bs ns) (front + number) ≡ Some (record { name = d.name; cell = array cell })
@@ -165,7 +170,7 @@ module _ (sc : Scopes) (w : World) (lay : Layout) (rows : Rows) (are : ArraysAre
               instance = m.instance;
               is = ap (λ (k : ℕ). numbered w.instances k) (sym same) ∙ m.is;
               stands = m.stands;
-              declares = ap (λ (ds : List DeclaredArray). slice_get ds number) m.order ∙ declares_it;
+              declares = ap (λ (ds : List Made). slice_get ds number) m.order ∙ declares_it;
               has = sym (get_before m.instance.cells (new_arrays kind bs ns) (front + number) (omega (arith, low, long))) ∙ has_it;
               allotted =
                   ap (λ (k : ℕ). slice_get (lay.rows k) number) (sym same)
@@ -179,14 +184,14 @@ module _ (sc : Scopes) (w : World) (lay : Layout) (rows : Rows) (are : ArraysAre
             given : slice_get (allotted_new ns bs rows) l ≡ Some a
             given = sym (get_behind (lay.rows i) (allotted_new ns bs rows) number l (omega (arith, place, long_rows))) ∙ allotted_it
 
-            within : l < length (arrays_in kind ns pairs)
-            within = omega (arith, get_below (allotted_new ns bs rows) l a given, many_new, length-map {B = DeclaredArray} ns (λ (n : Named). record { name = n.name; kind = kind; pairs = pairs }))
+            within : l < length (made_in kind ns pairs)
+            within = omega (arith, get_below (allotted_new ns bs rows) l a given, many_new, length-map (arrays_in kind ns pairs) an_array, length-map {B = DeclaredArray} ns (λ (n : Named). record { name = n.name; kind = kind; pairs = pairs }))
 
             kind_is : d.kind ≡ kind
             kind_is =
                 got_kind kind pairs ns l d
-                (sym (get_before (arrays_in kind ns pairs) m.later l within)
-                ∙ sym (get_behind m.declared (arrays_in kind ns pairs ++ m.later) number l place)
+                (sym (get_before (made_in kind ns pairs) m.later l within)
+                ∙ sym (get_behind m.declared (made_in kind ns pairs ++ m.later) number l place)
                 ∙ declares_it)
 
             cell_is : cell ≡ new_cell kind bs

@@ -18,7 +18,7 @@ use Rattle.algol_meaning.specs.World.{Instance, Process, Part, able, World, inst
 use Rattle.algol_meaning.specs.Actions.{MakeArrays}
 use Rattle.algol_meaning.specs.Asks.{Ask, makes_arrays, ask, resume}
 use Rattle.algol_meaning.specs.Choice.{Choice, choice, choice_of, goes, fails}
-use Rattle.algol_paths.specs.Laws.{RestsKeepToTheirText, ArraysAreMadeInOrder}
+use Rattle.algol_paths.specs.Laws.{RestsKeepToTheirText, AllIsMadeInOrder}
 use Rattle.algol_paths.specs.Segments.{segment_of}
 use Rattle.b67_word.specs.declared.Place.{Place}
 use Rattle.b67_word.specs.Word.{Word}
@@ -37,7 +37,7 @@ use Rattle.b67_table.specs.Limits.{most_cells, most_arrays}
 use Rattle.b67_table.specs.Outcome as outcomes
 use Rattle.b67_table.specs.Private.{frame}
 use Rattle.b67_table.specs.Table.{table, raw, plain, operator_at}
-use Rattle.b67_templates.specs.Programs.{context_of}
+use Rattle.b67_templates.specs.Programs.{Texts, context_of}
 use Rattle.b67_standing.specs.Stepping.{Slot}
 use Rattle.b67_standing.specs.Standing.{ActionAt, Acted, ComesTo}
 use Rattle.b67_cores.specs.Cores.{Core, size, IsCore, HasCore, with_core}
@@ -72,12 +72,12 @@ none_left : (sc : Scopes) (known : List Known) (level home base : ℕ) (ws : Lis
 none_left sc known level home base [] are = refl
 none_left sc known level home base (w ∷ ws) are = absurd are
 
-module _ (tree : PProgram) (code : Code) (texts : ℕ → List Placed) (nested : AreNested (scopes_of tree)) (fragments : FragmentsArePerformed) (cells_made : CellsAreMade) (keeps : RestsKeepToTheirText) (order : ArraysAreMadeInOrder)
+module _ (tree : PProgram) (code : Code) (texts : Texts) (nested : AreNested (scopes_of tree)) (fragments : FragmentsArePerformed) (cells_made : CellsAreMade) (keeps : RestsKeepToTheirText) (order : AllIsMadeInOrder)
     (w : World) (lay : Layout) (img : Image) (p : ℕ) (q : Process) (part : Part) (outer : List Part) (bound : ℕ) (core : Core) (s : Scene tree code texts w lay img p q part outer bound core) (able_is : q.state ≡ able) (able_p : numbered img.states p ≡ Some Able)
     (kind : Kind) (ns : List Named) (pairs : List PPair) (vs : List Value) (asks : ask part.rest ≡ makes_arrays kind ns pairs vs)
-    (a : ActionAt (scopes_of tree) (context_in tree code w part) (text_in tree texts w part) (level_in tree w part) (most_in tree w part) (makes_arrays kind ns pairs vs) s.stands.pc s.stands.slots)
-    (answered : (r : Answer) (at : ℕ) (left : List Slot) → Acted (scopes_of tree) (context_in tree code w part) (text_in tree texts w part) (level_in tree w part) (most_in tree w part) (makes_arrays kind ns pairs vs) s.stands.pc s.stands.slots a r at left →
-    ComesTo (scopes_of tree) (context_in tree code w part) (text_in tree texts w part) (level_in tree w part) (most_in tree w part) (resume (scopes_of tree) part.rest r) at left) where
+    (a : ActionAt (scopes_of tree) (context_in tree code texts w part) (text_in tree texts w part) (level_in tree w part) (most_in tree w part) (makes_arrays kind ns pairs vs) s.stands.pc s.stands.slots)
+    (answered : (r : Answer) (at : ℕ) (left : List Slot) → Acted (scopes_of tree) (context_in tree code texts w part) (text_in tree texts w part) (level_in tree w part) (most_in tree w part) (makes_arrays kind ns pairs vs) s.stands.pc s.stands.slots a r at left →
+    ComesTo (scopes_of tree) (context_in tree code texts w part) (text_in tree texts w part) (level_in tree w part) (most_in tree w part) (resume (scopes_of tree) part.rest r) at left) where
   abbrev sc : Scopes
   sc = scopes_of tree
 
@@ -278,9 +278,9 @@ module _ (tree : PProgram) (code : Code) (texts : ℕ → List Placed) (nested :
             slots = [];
             known = [];
             known_are = tt;
-            at = subst (λ (j : ℕ). CoreAt sc [] code (texts (segment_of sc.blocks j)) (level_of (block_numbered sc.blocks j)) a.0 [] g.core) block_is g.at;
+            at = subst (λ (j : ℕ). CoreAt sc [] code (texts.placed (segment_of sc.blocks j)) (level_of (block_numbered sc.blocks j)) a.0 [] g.core) block_is g.at;
             held = omega arith;
-            comes = subst (λ (j : ℕ). ComesTo sc (context_of code sc j) (texts (segment_of sc.blocks j)) (level_of (block_numbered sc.blocks j)) (most_around tree j) (resume sc part.rest done) a.0 []) block_is
+            comes = subst (λ (j : ℕ). ComesTo sc (context_of code texts sc j) (texts.placed (segment_of sc.blocks j)) (level_of (block_numbered sc.blocks j)) (most_around tree j) (resume sc part.rest done) a.0 []) block_is
                 (answered done a.0 [] (refl, refl));
             room = subst (λ (j : ℕ). length g.core.below + most_around tree j ≤ bound') block_is (omega (arith, s.room, below_long));
             light = omega (arith, s.light, heavier);
@@ -318,7 +318,7 @@ module _ (tree : PProgram) (code : Code) (texts : ℕ → List Placed) (nested :
       (has_wrong_size bs) (has_no_room w bs ns) refl refl
 
 -- in each scene whose head asks for arrays
-pub making_done : (tree : PProgram) (code : Code) (texts : ℕ → List Placed) → AreNested (scopes_of tree) → FragmentsArePerformed → CellsAreMade → RestsKeepToTheirText → ArraysAreMadeInOrder →
+pub making_done : (tree : PProgram) (code : Code) (texts : Texts) → AreNested (scopes_of tree) → FragmentsArePerformed → CellsAreMade → RestsKeepToTheirText → AllIsMadeInOrder →
     (kind : Kind) (ns : List Named) (pairs : List PPair) (vs : List Value) → IsDone tree code texts (makes_arrays kind ns pairs vs)
 making_done tree code texts nested fragments cells_made keeps order kind ns pairs vs w lay img p q part outer bound core s able_is able_p asks a answered waits returns =
     making tree code texts nested fragments cells_made keeps order w lay img p q part outer bound core s able_is able_p kind ns pairs vs asks a answered

@@ -5,7 +5,7 @@ use Rattle.algol_tree.specs.declared.tree.Named.{Named}
 use Rattle.algol_tree.specs.Plain.{PBody}
 use Rattle.algol_meaning.specs.Rest.{Hole, read, element, index, happens, broken, enter, inside, subscript, argument, left, right, negated, inverted, condition, Actuals, pass, in_value, Aim, resolve, place_index, inside_place, place_subscript, Rest, over, reading, giving, giving_place, store, select, turning, going, entering_block, entering, starting, acting, line, arrays, event, within, dropping, evaluating, locating, aiming, storing, choosing, looping, checking, counting, differing, stepping, selecting, calling, preparing, writing, bounding}
 use Rattle.algol_meaning.specs.Asks.{Ask, reads_element, indexes, passes, ask, ask_hole, ask_actuals, ask_aim}
-use Rattle.algol_paths.specs.Arrays.{to_make}
+use Rattle.algol_paths.specs.Arrays.{all_to_make}
 use Rattle.algol_paths.specs.Texts.{InHole, InActuals, InAim, InRest}
 
 -- the array of which an element or an index is asked for, or that is passed
@@ -47,7 +47,7 @@ module _ (P : Named → Type 0) (n : Named) where
 module _ (P : Named → Type 0) (n : Named) (Q : PBody → Type 0) (R : Named → Type 0) (narrower : R n → P n) where
   pub record ArraySeen (r : Rest) : Type 0 where
     pub seen : P n
-    pub made : (to_make r ≡ []) ⊎ R n
+    pub made : (all_to_make r ≡ []) ⊎ R n
 
   pub array_seen : (r : Rest) → array_asked (ask r) ≡ Some n → InRest P Q R r → ArraySeen r
   array_seen over e is = cc

@@ -5,7 +5,7 @@ use Rattle.algol_tree.specs.declared.tree.Named.{Named}
 use Rattle.algol_tree.specs.Plain.{PBody, body}
 use Rattle.algol_meaning.specs.Rest.{Given, valued, passed, refers, names, Hole, read, element, index, happens, broken, enter, inside, subscript, argument, left, right, negated, inverted, condition, Actuals, pass, in_value, Aim, resolve, place_index, inside_place, place_subscript, Rest, over, reading, giving, giving_place, store, select, turning, going, entering_block, entering, starting, acting, line, arrays, event, within, dropping, evaluating, locating, aiming, storing, choosing, looping, checking, counting, differing, stepping, selecting, calling, preparing, writing, bounding}
 use Rattle.algol_meaning.specs.Asks.{enters, enters_block, ask, ask_hole, ask_actuals, ask_aim}
-use Rattle.algol_paths.specs.Arrays.{to_make}
+use Rattle.algol_paths.specs.Arrays.{all_to_make}
 use Rattle.algol_paths.specs.Texts.{InGivens, InHole, InActuals, InAim, InRest}
 
 -- Of each name of an array that is given P holds.
@@ -104,7 +104,7 @@ enters_seen P n gs Q R narrower (calling m x k) e is = actuals_enter P n gs x e 
 enters_seen P n gs Q R narrower (preparing m x task k) e is = actuals_enter P n gs x e is.1
 
 -- arrays are still to be made where it is entered in a bound
-pub entered_in_bound : (P : Named → Type 0) (n : Named) (gs : List Given) (Q : PBody → Type 0) (R : Named → Type 0) (r : Rest) → ask r ≡ enters n gs → InRest P Q R r → (to_make r ≡ []) ⊎ InEntry R n gs
+pub entered_in_bound : (P : Named → Type 0) (n : Named) (gs : List Given) (Q : PBody → Type 0) (R : Named → Type 0) (r : Rest) → ask r ≡ enters n gs → InRest P Q R r → (all_to_make r ≡ []) ⊎ InEntry R n gs
 entered_in_bound P n gs Q R (arrays kind ns pairs vs k) e is = cc
 entered_in_bound P n gs Q R (event m k) e is = cc
 entered_in_bound P n gs Q R (bounding kind ns pairs vs h ps k) e is = inr (hole_enters R n gs h e is.0)
@@ -174,7 +174,7 @@ blocks_seen P Q R b (calling m x k) e is = actuals_block x b e
 blocks_seen P Q R b (preparing m x task k) e is = actuals_block x b e
 
 -- and no arrays are still to be made there
-pub block_unmade : (b : PBody) (r : Rest) → ask r ≡ enters_block b → to_make r ≡ []
+pub block_unmade : (b : PBody) (r : Rest) → ask r ≡ enters_block b → all_to_make r ≡ []
 block_unmade b (arrays kind ns pairs vs k) e = cc
 block_unmade b (event m k) e = cc
 block_unmade b (bounding kind ns pairs vs h ps k) e = hole_blocks h b e

@@ -16,7 +16,7 @@ use Rattle.algol_meaning.specs.Statements.{settle_items, decls_items, items}
 use Rattle.algol_meaning.specs.Asks.{Ask, nothing, enters_block, ask, resume}
 use Rattle.algol_meaning.specs.Choice.{choice_of}
 use Rattle.algol_paths.specs.Blocks.{IsSeen, IsSeenAround, IsInner}
-use Rattle.algol_paths.specs.Laws.{RestsKeepToTheirText, ArraysAreMadeInOrder}
+use Rattle.algol_paths.specs.Laws.{RestsKeepToTheirText, AllIsMadeInOrder}
 use Rattle.algol_paths.specs.Segments.{segment_among, segment_of, segment_tokens}
 use Rattle.b67_word.specs.Word.{Word}
 use Rattle.b67_control.specs.declared.Pcw.{Pcw}
@@ -33,12 +33,13 @@ use Rattle.b67_table.specs.Chains.{place}
 use Rattle.b67_table.specs.Image.{Image}
 use Rattle.b67_table.specs.Private.{frame, display_at}
 use Rattle.b67_table.specs.Rows.{level_below}
-use Rattle.b67_templates.specs.Cells.{parameter_cells, result_of, variables, zero_cells, procedures, control_segments}
-use Rattle.b67_templates.specs.Code.{CellsAt, DeclsAt, StmtsAt, in_block}
-use Rattle.b67_templates.specs.Contexts.{Context}
+use Rattle.b67_templates.specs.Cells.{parameter_cells, result_of, variables, zero_cells, procedures}
+use Rattle.b67_templates.specs.Code.{CellsAt, DeclsAt, StmtsAt, in_block, control_pcws}
+use Rattle.b67_templates.specs.Contexts as yielding
+use Rattle.b67_templates.specs.Contexts.{Yields, yields_of, Context}
 use Rattle.b67_templates.specs.Depths.{decls_depth, stmts_depth}
-use Rattle.b67_templates.specs.Fragments.{Has, code_at}
-use Rattle.b67_templates.specs.Programs.{context_of}
+use Rattle.b67_templates.specs.Fragments.{Has, code_at, stop}
+use Rattle.b67_templates.specs.Programs.{Texts, context_of}
 use Rattle.b67_standing.specs.Laws.{InnerBlocksStart}
 use Rattle.b67_standing.specs.Stepping.{Slot, control, mark}
 use Rattle.b67_standing.specs.Standing.{ActionAt, Entered, Gives, pushed, ComesTo, EntersAt}
@@ -71,19 +72,19 @@ use Rattle.b67_pictures.proofs.Unmade.{makes, unmade}
 use Rattle.b67_table.specs.Look.{seen}
 use Rattle.b67_table.specs.References.{cell_of}
 
-module _ (tree : PProgram) (code : Code) (texts : ℕ → List Placed) (nested : LiesNested tree) (short : IsShort tree code)
-    (fragments : FragmentsArePerformed) (begins_so : BlocksBegin) (starts : InnerBlocksStart) (keeps : RestsKeepToTheirText) (order : ArraysAreMadeInOrder)
+module _ (tree : PProgram) (code : Code) (texts : Texts) (nested : LiesNested tree) (short : IsShort tree code)
+    (fragments : FragmentsArePerformed) (begins_so : BlocksBegin) (starts : InnerBlocksStart) (keeps : RestsKeepToTheirText) (order : AllIsMadeInOrder)
     (w : World) (lay : Layout) (img : Image) (p : ℕ) (q : Process) (part : Part) (outer : List Part) (bound : ℕ) (core : Core)
     (s : Scene tree code texts w lay img p q part outer bound core) (able_is : q.state ≡ able) (able_p : numbered img.states p ≡ Some Able)
     (spot : Spot) (ds : PDecls) (ss : PStmts) (asks : ask part.rest ≡ enters_block (body spot ds ss))
-    (a : ActionAt (scopes_of tree) (context_in tree code w part) (text_in tree texts w part) (level_in tree w part) (most_in tree w part) (enters_block (body spot ds ss)) s.stands.pc s.stands.slots)
-    (waits : (to : ℕ) (after : List Slot) (wanted : Option Kind) →
-    Entered (scopes_of tree) (context_in tree code w part) (text_in tree texts w part) (level_in tree w part) (most_in tree w part) (enters_block (body spot ds ss)) s.stands.pc s.stands.slots a to after wanted →
+    (a : ActionAt (scopes_of tree) (context_in tree code texts w part) (text_in tree texts w part) (level_in tree w part) (most_in tree w part) (enters_block (body spot ds ss)) s.stands.pc s.stands.slots)
+    (waits : (to : ℕ) (after : List Slot) (wanted : Yields) →
+    Entered (scopes_of tree) (context_in tree code texts w part) (text_in tree texts w part) (level_in tree w part) (most_in tree w part) (enters_block (body spot ds ss)) s.stands.pc s.stands.slots a to after wanted →
     ask (resume (scopes_of tree) part.rest entered) ≡ nothing)
-    (returns : (to : ℕ) (after : List Slot) (wanted : Option Kind) →
-    Entered (scopes_of tree) (context_in tree code w part) (text_in tree texts w part) (level_in tree w part) (most_in tree w part) (enters_block (body spot ds ss)) s.stands.pc s.stands.slots a to after wanted →
+    (returns : (to : ℕ) (after : List Slot) (wanted : Yields) →
+    Entered (scopes_of tree) (context_in tree code texts w part) (text_in tree texts w part) (level_in tree w part) (most_in tree w part) (enters_block (body spot ds ss)) s.stands.pc s.stands.slots a to after wanted →
     (r : Answer) → Gives wanted r →
-    ComesTo (scopes_of tree) (context_in tree code w part) (text_in tree texts w part) (level_in tree w part) (most_in tree w part) (resume (scopes_of tree) (resume (scopes_of tree) part.rest entered) r) to (pushed r after)) where
+    ComesTo (scopes_of tree) (context_in tree code texts w part) (text_in tree texts w part) (level_in tree w part) (most_in tree w part) (resume (scopes_of tree) (resume (scopes_of tree) part.rest entered) r) to (pushed r after)) where
   abbrev sc : Scopes
   sc = scopes_of tree
 
@@ -99,7 +100,7 @@ module _ (tree : PProgram) (code : Code) (texts : ℕ → List Placed) (nested :
   abbrev b : Block
   b = block_numbered sc.blocks j
 
-  abbrev at : EntersAt sc (context_in tree code w part) (text_in tree texts w part) level (most_in tree w part) spot ds ss s.stands.pc a.0 s.stands.slots a.1
+  abbrev at : EntersAt sc (context_in tree code texts w part) (text_in tree texts w part) level (most_in tree w part) spot ds ss s.stands.pc a.0 s.stands.slots a.1
   at = a.2
 
   is_inner : IsInner sc around_block (body spot ds ss)
@@ -114,10 +115,12 @@ module _ (tree : PProgram) (code : Code) (texts : ℕ → List Placed) (nested :
       ∙ ap (segment_among sc.blocks) is_inner.around_is
 
   -- what stands in the text around stands in that of the block
-  in_text : (X : Context → List Placed → ℕ → Type 0) → X (in_block j (context_in tree code w part)) (text_in tree texts w part) (level + 1) → X (context_of code sc j) (texts (segment_of sc.blocks j)) (level_of b)
+  in_text : (X : Context → List Placed → ℕ → Type 0) → X (in_block j (context_in tree code texts w part)) (text_in tree texts w part) (level + 1) → X (context_of code texts sc j) (texts.placed (segment_of sc.blocks j)) (level_of b)
   in_text X x =
-      subst (λ (k : ℕ). X (record { formats = code.formats; segment = k; block = j }) (texts k) (level_of b)) (sym same_segment)
-      (subst (X (in_block j (context_in tree code w part)) (text_in tree texts w part)) (sym level_new) x)
+      let own : ℕ → ℕ → Yields → Context = λ k l y. record { formats = code.formats; segment = k; block = j; level = l; yields = y; labels = texts.labels } in
+      subst (λ (k : ℕ). X (own k (level_of b) (yields_of b.result)) (texts.placed k) (level_of b)) (sym same_segment)
+      (subst (λ (y : Yields). X (own (segment_of sc.blocks around_block) (level_of b) y) (text_in tree texts w part) (level_of b)) (ap yields_of (sym is_inner.result))
+      (subst (λ (l : ℕ). X (own (segment_of sc.blocks around_block) l yielding.nothing) (text_in tree texts w part) l) (sym level_new) x))
 
   -- ---- the entry
 
@@ -170,7 +173,7 @@ module _ (tree : PProgram) (code : Code) (texts : ℕ → List Placed) (nested :
         low = linked_low tree code texts w lay p img.stacks part outer core s.stands s.around part.instance (inl refl) linked;
         segment = s.stands.there.segment;
         there = ap (λ (k : ℕ). slice_get code.segments k) (same_segment ∙ sym s.stands.segment_is) ∙ s.stands.there.there;
-        spells = subst (λ (k : ℕ). Spells (texts k) s.stands.there.segment) (sym same_segment) s.stands.there.spells;
+        spells = subst (λ (k : ℕ). Spells (texts.placed k) s.stands.there.segment) (sym same_segment) s.stands.there.spells;
         leads = λ m x is. subst (λ (y : Pcw). Leads code img core a.0 x m y (place p linked.at)) c_is
             (block_leads code img core a.0 x m c (place p linked.at) (no_irw x is) (no_sirw x is) (ap as_pcw is ∙ as_pcw-pcw_word c at.fits) home_there);
         calls = λ x is. subst (λ (y : Pcw). seen img.stacks (called_by x (cell_of core.registers x)) ≡ Ok y) c_is
@@ -191,15 +194,17 @@ module _ (tree : PProgram) (code : Code) (texts : ℕ → List Placed) (nested :
   abbrev block_body : Body tree code texts nested short fragments begins_so keeps order w lay img p q part outer bound core s able_is able_p j at.begin
   block_body =
       record {
+        ready = at.begin;
         start = at.code.0;
-        cells_at = subst (λ (n : ℕ). CellsAt sc (context_of code sc j) (texts (segment_of sc.blocks j)) (level_of b) n (control_segments sc b.decls) at.begin at.code.0) zeros_many
-            (subst (λ (x : PDecls). CellsAt sc (context_of code sc j) (texts (segment_of sc.blocks j)) (level_of b) (length (variables ds)) (control_segments sc x) at.begin at.code.0) (sym is_inner.decls_are)
-            (in_text (λ x ps l. CellsAt sc x ps l (length (variables ds)) (control_segments sc ds) at.begin at.code.0) at.code.4));
-        comes = subst (λ (k : List Item). ComesTo sc (context_of code sc j) (texts (segment_of sc.blocks j)) (level_of b) (most_around tree j) (settle_items sc k) at.code.0 [])
+        over = stop;
+        cells_at = subst (λ (n : ℕ). CellsAt sc (context_of code texts sc j) (texts.placed (segment_of sc.blocks j)) (level_of b) n (control_pcws sc (level_of b) b.decls) at.begin at.code.0) zeros_many
+            (subst (λ (x : PDecls). CellsAt sc (context_of code texts sc j) (texts.placed (segment_of sc.blocks j)) (level_of b) (length (variables ds)) (control_pcws sc (level_of b) x) at.begin at.code.0) (sym is_inner.decls_are)
+            (in_text (λ x ps l. CellsAt sc x ps l (length (variables ds)) (control_pcws sc l ds) at.begin at.code.0) at.code.4));
+        comes = subst (λ (k : List Item). ComesTo sc (context_of code texts sc j) (texts.placed (segment_of sc.blocks j)) (level_of b) (most_around tree j) (settle_items sc k) at.code.0 [])
             (sym (plain_items b is_inner.result ∙ ap (λ (x : PDecls). decls_items x ++ items b.stmts []) is_inner.decls_are ∙ ap (λ (x : PStmts). decls_items ds ++ items x []) is_inner.stmts_are))
-            (starts sc (context_of code sc j) (texts (segment_of sc.blocks j)) (level_of b) (most_around tree j) ds ss at.code.0 at.code.1 at.code.2 at.code.3
+            (starts sc (context_of code texts sc j) (texts.placed (segment_of sc.blocks j)) (level_of b) (most_around tree j) ds ss at.code.0 at.code.1 at.code.2 at.code.3
             (in_text (λ x ps l. DeclsAt sc x ps l ds at.code.0 at.code.1) at.code.5)
-            (in_text (λ x ps l. StmtsAt sc x ps l ss at.code.1 at.code.2 at.code.2) at.code.6) is_inner.result
+            (in_text (λ x ps l. StmtsAt sc x ps l ss at.code.1 at.code.2 at.code.2) at.code.6) (ap yields_of is_inner.result)
             (in_text (λ x ps l. Has ps l at.code.2 (ops.Plain kinds.Exit) at.code.3) at.code.7) (omega (arith, room)));
         small = omega (arith, room);
       }
@@ -208,8 +213,8 @@ module _ (tree : PProgram) (code : Code) (texts : ℕ → List Placed) (nested :
   behind =
       record {
         unmade = unmade part.rest (ap makes asks);
-        waits = waits a.0 a.1 None (refl, refl, refl);
-        returns = λ r given. returns a.0 a.1 None (refl, refl, refl) r (subst (λ (o : Option Kind). Gives o r) is_inner.result given);
+        waits = waits a.0 a.1 yielding.nothing (refl, refl, refl);
+        returns = λ r given. returns a.0 a.1 yielding.nothing (refl, refl, refl) r (subst (λ (o : Option Kind). Gives (yields_of o) r) is_inner.result given);
       }
 
   -- nothing is given to it

@@ -20,7 +20,6 @@ use Rattle.b67_ops.specs.Intrinsics.{number_of, couple_of_intrinsic}
 use Rattle.b67_ops.specs.declared.Operator.TheVariants as ops
 use Rattle.b67_ops.specs.declared.PlainKind.TheVariants as kinds
 use Rattle.b67_word.specs.declared.Place.{Place}
-use Rattle.b67_segment.specs.Operators.{Placed}
 use Rattle.b67_segment.specs.declared.code.Code.{Code}
 use Rattle.b67_store.specs.Store.{words_of, words_or, word_at}
 use Rattle.b67_table.specs.Arguments.{wholes_in, joined}
@@ -36,6 +35,7 @@ use Rattle.b67_table.specs.Private.{frame}
 use Rattle.b67_letters.specs.declared.Letter.{Letter}
 use Rattle.b67_letters.specs.Letters.{told_by, letter_of, intrinsic_letter, called_letter, called_by, operator_letter}
 use Rattle.b67_templates.specs.Fragments.{HasKind}
+use Rattle.b67_templates.specs.Programs.{Texts}
 use Rattle.b67_standing.specs.Stepping.{Slot, operand, reference, intrinsic, control, descriptor, mark}
 use Rattle.b67_standing.specs.Standing.{operands, AreNumbers}
 use Rattle.b67_cores.specs.Cores.{Core}
@@ -173,7 +173,7 @@ module _ (sc : Scopes) (known : List Known) (level home base : ℕ) where
 
 -- ---- the call, in a scene
 
-module _ (tree : PProgram) (code : Code) (texts : ℕ → List Placed) (w : World) (lay : Layout) (img : Image)
+module _ (tree : PProgram) (code : Code) (texts : Texts) (w : World) (lay : Layout) (img : Image)
     (p : ℕ) (q : Process) (part : Part) (outer : List Part) (bound : ℕ) (core : Core) (s : Scene tree code texts w lay img p q part outer bound core)
     (name : Intrinsic) (vs : List Value) (below : List Slot) (fits : AreNumbers vs) (lies : s.stands.slots ≡ operands vs (intrinsic name ∷ mark ∷ below)) where
   abbrev sc : Scopes

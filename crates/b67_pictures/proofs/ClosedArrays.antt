@@ -9,14 +9,15 @@ use Rattle.algol_meaning.specs.Value.{ArrayCell, Cell, array}
 use Rattle.algol_meaning.specs.Arrays.{size_of_cell, size_of_cells, size_unless, live_elements}
 use Rattle.algol_meaning.specs.Instances.{leave}
 use Rattle.algol_meaning.specs.World.{NamedCell, Instance, World, instance_at}
-use Rattle.algol_paths.specs.Arrays.{DeclaredArray, arrays_of}
+use Rattle.algol_paths.specs.Arrays.{DeclaredArray, Made, an_array, an_event}
 use Rattle.b67_word.specs.Word.{Word}
 use Rattle.b67_control.specs.declared.Descriptor.{Descriptor}
 use Rattle.b67_store.specs.Store.{Rows, row_at}
 use Rattle.b67_table.specs.Image.{Image, with_rows}
 use Rattle.b67_table.specs.Linkage.{closed_by, array_closed, arrays_closed}
 use Rattle.b67_table.specs.Program.{Change, changed}
-use Rattle.b67_templates.specs.Cells.{simple_cells, control_segments}
+use Rattle.b67_templates.specs.Fragments.{procedure_controls}
+use Rattle.b67_templates.specs.Cells.{simple_cells, control_segments, made_of}
 use Rattle.b67_cores.specs.Stretches.{control_words}
 use Rattle.b67_faithful.proofs.Contradictions.{some_same, none_some}
 use Rattle.b67_pictures.specs.Arrays.{Allotted, numbers_of, Layout, IsMade, AreMade, HoldElements, rows_of_cell, rows_of_cells, live_rows, HasArray, HasRow, ArraysAre}
@@ -120,9 +121,9 @@ module _ (sc : Scopes) (w : World) (lay : Layout) (img : Image) (are : ArraysAre
       rest =
           next (λ n none. array_keeps rows a n (λ j e. none k j (omega arith) (row j n e)) ∙ keeps n (λ number j low r. none number j (omega (arith, low)) r))
 
-  closes_from : (ds : List DeclaredArray) (cells : List NamedCell) (as' : List Allotted) (words : List Word) (k : ℕ) (rows : Rows) → AreMade ds cells as' words →
+  closes_from : (ds : List Made) (cells : List NamedCell) (as' : List Allotted) (words : List Word) (k : ℕ) (rows : Rows) → AreMade ds cells as' words →
       ((n : ℕ) → IsNone k n → row_at rows n ≡ row_at img.rows n) →
-      ((n m : ℕ) (d : DeclaredArray) → m ≡ k + n → slice_get ds n ≡ Some d → slice_get (arrays_of (block_numbered sc.blocks x.block).decls) m ≡ Some d) →
+      ((n m : ℕ) (d : DeclaredArray) → m ≡ k + n → slice_get ds n ≡ Some (an_array d) → slice_get (made_of (block_numbered sc.blocks x.block).decls) m ≡ Some (an_array d)) →
       ((n m : ℕ) (c : NamedCell) → m ≡ k + n → slice_get cells n ≡ Some c → slice_get x.cells (length (simple_cells sc (block_numbered sc.blocks x.block)) + m) ≡ Some c) →
       ((n m : ℕ) (a : Allotted) → m ≡ k + n → slice_get as' n ≡ Some a → slice_get (lay.rows i) m ≡ Some a) → Closes rows cells words
   closes_from [] [] [] [] k rows made keeps declares lie allots =
@@ -138,7 +139,8 @@ module _ (sc : Scopes) (w : World) (lay : Layout) (img : Image) (are : ArraysAre
   closes_from (d ∷ ds) [] as' words k rows made keeps declares lie allots = absurd made
   closes_from (d ∷ ds) (c ∷ cells) [] words k rows made keeps declares lie allots = absurd made
   closes_from (d ∷ ds) (c ∷ cells) (a ∷ as') [] k rows made keeps declares lie allots = absurd made
-  closes_from (d ∷ ds) (c ∷ cells) (a ∷ as') (word ∷ words) k rows made keeps declares lie allots =
+  closes_from (an_event name ∷ ds) (c ∷ cells) (a ∷ as') (word ∷ words) k rows made keeps declares lie allots = absurd made.0
+  closes_from (an_array d ∷ ds) (c ∷ cells) (a ∷ as') (word ∷ words) k rows made keeps declares lie allots =
       one_more d c a word cells words k rows made.0 keeps
       (record {
         instance = x;
@@ -157,7 +159,7 @@ module _ (sc : Scopes) (w : World) (lay : Layout) (img : Image) (are : ArraysAre
       closes_from own.declared own.arrays (lay.rows i) own.descriptors 0 img.rows own.made (λ n none. refl)
       (λ n m d far there.
       let same : m ≡ n = omega (arith, far) in
-      ap (λ (ds : List DeclaredArray). slice_get ds m) own.order ∙ ap (λ (j : ℕ). slice_get (own.declared ++ own.later) j) same ∙ get-front own.declared own.later n d there)
+      ap (λ (ds : List Made). slice_get ds m) own.order ∙ ap (λ (j : ℕ). slice_get (own.declared ++ own.later) j) same ∙ get-front own.declared own.later n (an_array d) there)
       (λ n m c far there.
       let same : m ≡ n = omega (arith, far) in
       ap (λ (cells : List NamedCell). slice_get cells (length (simple_cells sc (block_numbered sc.blocks x.block)) + m)) own.has
@@ -235,15 +237,15 @@ module _ (sc : Scopes) (w : World) (lay : Layout) (img : Image) (are : ArraysAre
           cc)
       few_still j y there stands (inr other) = are.few j y (sym (numbered_other w.instances i j gone other) ∙ there) stands
 
-  pub arrays_close : (level : ℕ) (segments : List ℕ) → IsClosed sc w lay img i (own.values ++ (control_words level segments ++ own.descriptors))
+  pub arrays_close : (level : ℕ) (segments : List ℕ) → IsClosed sc w lay img i (own.values ++ (control_words (procedure_controls level segments) ++ own.descriptors))
   arrays_close level segments =
       record {
         rows = closed.after;
         changes = λ p next.
             ap (λ (c : Change). changed p c img)
-            (skipped own.values (control_words level segments ++ own.descriptors) next
+            (skipped own.values (control_words (procedure_controls level segments) ++ own.descriptors) next
             (cells_describe_nothing (simple_cells sc (block_numbered sc.blocks x.block)) own.simple own.values own.simple_are)
-            ∙ skipped (control_words level segments) own.descriptors next (controls_describe_nothing level segments))
+            ∙ skipped (control_words (procedure_controls level segments)) own.descriptors next (controls_describe_nothing level segments))
             ∙ closed.changes p next img refl;
         are = arrays_left;
       }

@@ -3,20 +3,20 @@ use Rattle.std.proofs.Common.{◌≡◌, refl, sym, ap, ◌∙◌, ℕ, suc, ◌
 use Rattle.algol_tree.specs.Blocks.{block_numbered}
 use Rattle.algol_tree.specs.Scopes.{Scopes}
 use Rattle.algol_meaning.specs.World.{NamedCell, Instance, Part, World, instance_at, or_no_instance}
-use Rattle.algol_paths.specs.Arrays.{DeclaredArray, arrays_of}
+use Rattle.algol_paths.specs.Arrays.{Made}
 use Rattle.b67_word.specs.Word.{Word}
-use Rattle.b67_templates.specs.Cells.{simple_cells}
+use Rattle.b67_templates.specs.Cells.{simple_cells, made_of}
 use Rattle.b67_pictures.specs.Arrays.{Allotted, Layout, AreMade}
 use Rattle.b67_pictures.specs.Frames.{IsComplete, Framed}
 use Rattle.b67_pictures.proofs.Zeros.{cells_length}
 
 -- there are as many cells, rows and descriptors as arrays
-pub record AsMany (ds : List DeclaredArray) (cells : List NamedCell) (rows : List Allotted) (words : List Word) : Type 0 where
+pub record AsMany (ds : List Made) (cells : List NamedCell) (rows : List Allotted) (words : List Word) : Type 0 where
   pub cells_many : length cells ≡ length ds
   pub rows_many : length rows ≡ length ds
   pub words_many : length words ≡ length ds
 
-pub made_many : (ds : List DeclaredArray) (cells : List NamedCell) (rows : List Allotted) (words : List Word) → AreMade ds cells rows words → AsMany ds cells rows words
+pub made_many : (ds : List Made) (cells : List NamedCell) (rows : List Allotted) (words : List Word) → AreMade ds cells rows words → AsMany ds cells rows words
 made_many [] [] [] [] made = record { cells_many = refl; rows_many = refl; words_many = refl }
 made_many [] [] [] (w ∷ words) made = absurd made
 made_many [] [] (a ∷ rows) words made = absurd made
@@ -45,4 +45,4 @@ complete_of sc w lay p i outer at marked control cells f none =
       length-append f.declared f.later,
       ap length none,
     )
-    ∙ ap (λ (x : Instance). length (simple_cells sc (block_numbered sc.blocks x.block)) + length (arrays_of (block_numbered sc.blocks x.block).decls)) (sym here)
+    ∙ ap (λ (x : Instance). length (simple_cells sc (block_numbered sc.blocks x.block)) + length (made_of (block_numbered sc.blocks x.block).decls)) (sym here)

@@ -2,10 +2,10 @@
 use Rattle.std.proofs.Common.{ℕ, List}
 use Rattle.algol_tree.specs.Plain.{PProgram}
 use Rattle.algol_tree.specs.Scopes.{scopes_of}
-use Rattle.algol_paths.proofs.Making.{arrays_are_made_in_order}
+use Rattle.algol_paths.proofs.Making.{all_is_made_in_order}
 use Rattle.algol_paths.proofs.Rests.{rests_keep_to_their_text}
-use Rattle.b67_segment.specs.Operators.{Placed}
 use Rattle.b67_segment.specs.declared.code.Code.{Code}
+use Rattle.b67_templates.specs.Programs.{Texts}
 use Rattle.b67_cores.proofs.Making.{cells_are_made}
 use Rattle.b67_cores.proofs.Placing.{fragments_are_performed}
 use Rattle.b67_fitting.specs.Nested.{AreNested}
@@ -20,18 +20,18 @@ use Rattle.b67_pictures.proofs.TouchingPassing.{passing_near}
 use Rattle.b67_pictures.proofs.Joining.{ArraysAreDone, nested_programs_follow}
 
 -- what is done with arrays: the picture is kept
-arrays_done : (tree : PProgram) (code : Code) (texts : ℕ → List Placed) → AreNested (scopes_of tree) → ArraysAreDone tree code texts
+arrays_done : (tree : PProgram) (code : Code) (texts : Texts) → AreNested (scopes_of tree) → ArraysAreDone tree code texts
 arrays_done tree code texts nested =
     record {
-      reading = element_read_done tree code texts fragments_are_performed rests_keep_to_their_text arrays_are_made_in_order nested;
-      indexing = index_done tree code texts fragments_are_performed rests_keep_to_their_text arrays_are_made_in_order nested;
-      storing = element_store_done tree code texts fragments_are_performed rests_keep_to_their_text arrays_are_made_in_order;
-      passing = passing_done tree code texts fragments_are_performed rests_keep_to_their_text arrays_are_made_in_order nested;
-      making = making_done tree code texts nested fragments_are_performed cells_are_made rests_keep_to_their_text arrays_are_made_in_order;
+      reading = element_read_done tree code texts fragments_are_performed rests_keep_to_their_text all_is_made_in_order nested;
+      indexing = index_done tree code texts fragments_are_performed rests_keep_to_their_text all_is_made_in_order nested;
+      storing = element_store_done tree code texts fragments_are_performed rests_keep_to_their_text all_is_made_in_order;
+      passing = passing_done tree code texts fragments_are_performed rests_keep_to_their_text all_is_made_in_order nested;
+      making = making_done tree code texts nested fragments_are_performed cells_are_made rests_keep_to_their_text all_is_made_in_order;
     }
 
 -- .. and no word of another process is touched
-arrays_near : (tree : PProgram) (code : Code) (texts : ℕ → List Placed) → AreNested (scopes_of tree) → ArraysAreNear tree code texts
+arrays_near : (tree : PProgram) (code : Code) (texts : Texts) → AreNested (scopes_of tree) → ArraysAreNear tree code texts
 arrays_near tree code texts nested =
     record {
       reading = reading_near tree code texts nested;
@@ -43,6 +43,6 @@ arrays_near tree code texts nested =
 
 pub nested_programs_are_faithful : NestedProgramsAreFaithful
 nested_programs_are_faithful =
-    nested_programs_follow rests_keep_to_their_text arrays_are_made_in_order frames_close
+    nested_programs_follow rests_keep_to_their_text all_is_made_in_order frames_close
     (λ tree code texts nested rests. processes_apart tree code texts nested rests (arrays_near tree code texts nested))
     (λ tree code at lies short. arrays_done tree code at.texts lies.nested)

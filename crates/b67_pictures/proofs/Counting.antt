@@ -7,8 +7,8 @@ use Rattle.algol_tree.specs.Plain.{PProgram}
 use Rattle.algol_tree.specs.Scopes.{Scopes, scopes_of}
 use Rattle.algol_meaning.specs.World.{Instance, Process, Part, World, or_no_instance}
 use Rattle.b67_ops.specs.declared.TheConstants.{MOST_LEVEL}
-use Rattle.b67_segment.specs.Operators.{Placed}
 use Rattle.b67_segment.specs.declared.code.Code.{Code}
+use Rattle.b67_templates.specs.Programs.{Texts}
 use Rattle.b67_table.specs.declared.InterruptKind.TheVariants.{BadCode as bad_code}
 use Rattle.b67_table.specs.Effect.{interrupts}
 use Rattle.b67_table.specs.Outcome.{limited}
@@ -49,7 +49,7 @@ none_few code p {img} gone (go {b = b} e t more) = no_operator code img b p gone
 abbrev pub HasLowBlocks : Scopes → Type 0
 HasLowBlocks sc = (j : ℕ) → j < length sc.blocks → level_of (block_numbered sc.blocks j) ≤ MOST_LEVEL
 
-module _ (tree : PProgram) (code : Code) (texts : ℕ → List Placed) (low : HasLowBlocks (scopes_of tree)) (w : World) (lay : Layout) (img : Image) (by : PicturesBy tree code texts w lay img) where
+module _ (tree : PProgram) (code : Code) (texts : Texts) (low : HasLowBlocks (scopes_of tree)) (w : World) (lay : Layout) (img : Image) (by : PicturesBy tree code texts w lay img) where
   -- it is at a level that the machine has
   settled_level : (p : ℕ) (q : Process) (l : Living tree code texts w lay img p q) → l.settled.registers.ll ≤ MOST_LEVEL
   settled_level p q l = by_parts q.todo l.frames

@@ -15,13 +15,14 @@ use Rattle.algol_meaning.specs.Value.{Value, Reference}
 use Rattle.algol_meaning.specs.Rest.{own, there, element_of, Given, Answer, done, value, cell, place, entered}
 use Rattle.algol_meaning.specs.World.{Instance, Process, Part, able, World, or_no_instance}
 use Rattle.algol_meaning.specs.Asks.{Ask, nothing, reads, reads_element, indexes, asks_happened, fails, enters, passes, resolves, reads_result, leaves, stores, selects, turns, goes_to, enters_block, starts, acts, writes, makes_arrays, makes_event, ask, resume}
-use Rattle.algol_paths.specs.Laws.{RestsKeepToTheirText, ArraysAreMadeInOrder}
+use Rattle.algol_paths.specs.Laws.{RestsKeepToTheirText, AllIsMadeInOrder}
 use Rattle.b67_ops.specs.declared.Couple.{Couple}
-use Rattle.b67_segment.specs.Operators.{Placed}
 use Rattle.b67_segment.specs.declared.code.Code.{Code}
 use Rattle.b67_table.specs.declared.ProcessState.TheVariants.{Able}
 use Rattle.b67_table.specs.Image.{Image}
+use Rattle.b67_templates.specs.Contexts.{Yields}
 use Rattle.b67_templates.specs.Cells.{Simple, Found, found_from, simple_cells, IsVariable}
+use Rattle.b67_templates.specs.Programs.{Texts}
 use Rattle.b67_standing.specs.Stepping.{Slot}
 use Rattle.b67_standing.specs.Standing.{ActionAt, Acted, Entered, Gives, pushed, ComesTo, GoesOn}
 use Rattle.b67_standing.specs.Laws.{RestsGoOn}
@@ -63,22 +64,22 @@ small_index sc nested level n kind couple v =
 
 -- ---- the actions
 
-module _ (tree : PProgram) (code : Code) (texts : ℕ → List Placed) where
+module _ (tree : PProgram) (code : Code) (texts : Texts) where
   -- what an action of a scene, which stands at what its head asks for, needs of the place to which it leads
   abbrev pub GoesOnFrom : (w : World) (lay : Layout) (img : Image) (p : ℕ) (q : Process) (part : Part) (outer : List Part) (bound : ℕ) (core : Core) →
       Scene tree code texts w lay img p q part outer bound core → (k : Ask) → Type 0
   GoesOnFrom w lay img p q part outer bound core s k =
-      (a : ActionAt (scopes_of tree) (context_in tree code w part) (text_in tree texts w part) (level_in tree w part) (most_in tree w part) k s.stands.pc s.stands.slots) →
+      (a : ActionAt (scopes_of tree) (context_in tree code texts w part) (text_in tree texts w part) (level_in tree w part) (most_in tree w part) k s.stands.pc s.stands.slots) →
       ((r : Answer) (at : ℕ) (left : List Slot) →
-      Acted (scopes_of tree) (context_in tree code w part) (text_in tree texts w part) (level_in tree w part) (most_in tree w part) k s.stands.pc s.stands.slots a r at left →
-      ComesTo (scopes_of tree) (context_in tree code w part) (text_in tree texts w part) (level_in tree w part) (most_in tree w part) (resume (scopes_of tree) part.rest r) at left) →
-      ((at : ℕ) (after : List Slot) (wanted : Option Kind) →
-      Entered (scopes_of tree) (context_in tree code w part) (text_in tree texts w part) (level_in tree w part) (most_in tree w part) k s.stands.pc s.stands.slots a at after wanted →
+      Acted (scopes_of tree) (context_in tree code texts w part) (text_in tree texts w part) (level_in tree w part) (most_in tree w part) k s.stands.pc s.stands.slots a r at left →
+      ComesTo (scopes_of tree) (context_in tree code texts w part) (text_in tree texts w part) (level_in tree w part) (most_in tree w part) (resume (scopes_of tree) part.rest r) at left) →
+      ((at : ℕ) (after : List Slot) (wanted : Yields) →
+      Entered (scopes_of tree) (context_in tree code texts w part) (text_in tree texts w part) (level_in tree w part) (most_in tree w part) k s.stands.pc s.stands.slots a at after wanted →
       ask (resume (scopes_of tree) part.rest entered) ≡ nothing) →
-      ((at : ℕ) (after : List Slot) (wanted : Option Kind) →
-      Entered (scopes_of tree) (context_in tree code w part) (text_in tree texts w part) (level_in tree w part) (most_in tree w part) k s.stands.pc s.stands.slots a at after wanted →
+      ((at : ℕ) (after : List Slot) (wanted : Yields) →
+      Entered (scopes_of tree) (context_in tree code texts w part) (text_in tree texts w part) (level_in tree w part) (most_in tree w part) k s.stands.pc s.stands.slots a at after wanted →
       (r : Answer) → Gives wanted r →
-      ComesTo (scopes_of tree) (context_in tree code w part) (text_in tree texts w part) (level_in tree w part) (most_in tree w part) (resume (scopes_of tree) (resume (scopes_of tree) part.rest entered) r) at
+      ComesTo (scopes_of tree) (context_in tree code texts w part) (text_in tree texts w part) (level_in tree w part) (most_in tree w part) (resume (scopes_of tree) (resume (scopes_of tree) part.rest entered) r) at
       (pushed r after)) →
       Does tree code texts w img p
 
@@ -102,7 +103,7 @@ module _ (tree : PProgram) (code : Code) (texts : ℕ → List Placed) where
     pub leaving : IsDone (leaves done)
     pub returning : (v : Value) → IsDone (leaves (value v))
 
-  module _ (nested : AreNested (scopes_of tree)) (fragments : FragmentsArePerformed) (keeps : RestsKeepToTheirText) (order : ArraysAreMadeInOrder) (rests : RestsGoOn) (others : OthersAreDone) (w : World) (lay : Layout) (img : Image)
+  module _ (nested : AreNested (scopes_of tree)) (fragments : FragmentsArePerformed) (keeps : RestsKeepToTheirText) (order : AllIsMadeInOrder) (rests : RestsGoOn) (others : OthersAreDone) (w : World) (lay : Layout) (img : Image)
       (p : ℕ) (q : Process) (part : Part) (outer : List Part) (bound : ℕ) (core : Core) (s : Scene tree code texts w lay img p q part outer bound core) (able_is : q.state ≡ able) (able_p : numbered img.states p ≡ Some Able) where
     -- the part's level is one that the machine has
     low : level_in tree w part ≤ MOST_LEVEL
@@ -147,6 +148,6 @@ module _ (tree : PProgram) (code : Code) (texts : ℕ → List Placed) where
     -- whatever its head asks for
     pub scene_does : Does tree code texts w img p
     scene_does =
-        let on : GoesOn (scopes_of tree) (context_in tree code w part) (text_in tree texts w part) (level_in tree w part) (most_in tree w part) part.rest s.stands.pc s.stands.slots =
-        rests (scopes_of tree) (context_in tree code w part) (text_in tree texts w part) (level_in tree w part) (most_in tree w part) part.rest s.stands.pc s.stands.slots s.stands.stands s.stands.asks in
+        let on : GoesOn (scopes_of tree) (context_in tree code texts w part) (text_in tree texts w part) (level_in tree w part) (most_in tree w part) part.rest s.stands.pc s.stands.slots =
+        rests (scopes_of tree) (context_in tree code texts w part) (text_in tree texts w part) (level_in tree w part) (most_in tree w part) part.rest s.stands.pc s.stands.slots s.stands.stands s.stands.asks in
         by_ask (ask part.rest) refl on.action on.answered on.waits on.returns

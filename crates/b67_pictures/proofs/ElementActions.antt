@@ -6,9 +6,9 @@ use Rattle.algol_tree.specs.Scopes.{scopes_of}
 use Rattle.algol_meaning.specs.Asks.{reads_element, indexes, passes, stores}
 use Rattle.algol_meaning.specs.Rest.{element_of}
 use Rattle.algol_meaning.specs.Value.{Value, Reference}
-use Rattle.algol_paths.specs.Laws.{RestsKeepToTheirText, ArraysAreMadeInOrder}
-use Rattle.b67_segment.specs.Operators.{Placed}
+use Rattle.algol_paths.specs.Laws.{RestsKeepToTheirText, AllIsMadeInOrder}
 use Rattle.b67_segment.specs.declared.code.Code.{Code}
+use Rattle.b67_templates.specs.Programs.{Texts}
 use Rattle.b67_cores.specs.Stretches.{FragmentsArePerformed}
 use Rattle.b67_fitting.specs.Nested.{AreNested}
 use Rattle.b67_pictures.proofs.Dispatching.{IsDone}
@@ -17,7 +17,7 @@ use Rattle.b67_pictures.proofs.ElementStoring.{element_storing}
 use Rattle.b67_pictures.proofs.Indexing.{indexing}
 use Rattle.b67_pictures.proofs.Passing.{passing}
 
-module _ (tree : PProgram) (code : Code) (texts : ℕ → List Placed) (fragments : FragmentsArePerformed) (keeps : RestsKeepToTheirText) (order : ArraysAreMadeInOrder) where
+module _ (tree : PProgram) (code : Code) (texts : Texts) (fragments : FragmentsArePerformed) (keeps : RestsKeepToTheirText) (order : AllIsMadeInOrder) where
   pub element_read_done : AreNested (scopes_of tree) → (n : Named) (ks : List ℕ) (v : Value) → IsDone tree code texts (reads_element n ks v)
   element_read_done nested n ks v w lay img p q part outer bound core s able_is able_p asks a answered waits returns =
       element_reading tree code texts nested fragments keeps order w lay img p q part outer bound core s able_is able_p n ks v asks a answered

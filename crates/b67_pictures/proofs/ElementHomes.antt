@@ -7,8 +7,8 @@ use Rattle.algol_meaning.specs.Value.{Reference, Bounds, ArrayCell}
 use Rattle.algol_meaning.specs.World.{Process, Part, World}
 use Rattle.b67_word.specs.Word.{Word}
 use Rattle.b67_control.specs.declared.Descriptor.{Descriptor}
-use Rattle.b67_segment.specs.Operators.{Placed}
 use Rattle.b67_segment.specs.declared.code.Code.{Code}
+use Rattle.b67_templates.specs.Programs.{Texts}
 use Rattle.b67_table.specs.Arrays.{as_indexed}
 use Rattle.b67_table.specs.Image.{Image}
 use Rattle.b67_cores.specs.Cores.{Core}
@@ -35,7 +35,7 @@ place_few sc w lay (b ∷ c ∷ d ∷ bs) ks index at sized within = absurd with
 abbrev pub at_element : ℕ → ℕ → Descriptor
 at_element at n = record { presence = true; copy = true; indexed = true; mother = false; length = at; address = n }
 
-module _ (tree : PProgram) (code : Code) (texts : ℕ → List Placed) (w : World) (lay : Layout) (img : Image)
+module _ (tree : PProgram) (code : Code) (texts : Texts) (w : World) (lay : Layout) (img : Image)
     (p : ℕ) (q : Process) (part : Part) (outer : List Part) (bound : ℕ) (core : Core) (s : Scene tree code texts w lay img p q part outer bound core)
     (r : Reference) (ks : List ℕ) (kind : Kind) (word : Word) (e : IsElement (scopes_of tree) w lay (part ∷ outer) r ks kind word) where
   abbrev sc : Scopes

@@ -13,7 +13,7 @@ use Rattle.algol_meaning.specs.World.{Process, Part, able, World, cell_at, follo
 use Rattle.algol_meaning.specs.Actions.{ElementRead, Fault}
 use Rattle.algol_meaning.specs.Asks.{Ask, reads_element, ask, resume}
 use Rattle.algol_meaning.specs.Choice.{Choice, choice, choice_of, element_read, element_read_at, here}
-use Rattle.algol_paths.specs.Laws.{RestsKeepToTheirText, ArraysAreMadeInOrder}
+use Rattle.algol_paths.specs.Laws.{RestsKeepToTheirText, AllIsMadeInOrder}
 use Rattle.b67_ops.specs.declared.Operator.TheVariants as ops
 use Rattle.b67_ops.specs.declared.PlainKind.TheVariants as kinds
 use Rattle.b67_segment.specs.Operators.{Placed}
@@ -28,6 +28,7 @@ use Rattle.b67_table.specs.Effect as effects
 use Rattle.b67_table.specs.Outcome as outcomes
 use Rattle.b67_table.specs.Table.{table, operator_at}
 use Rattle.b67_templates.specs.Fragments.{HasKind}
+use Rattle.b67_templates.specs.Programs.{Texts}
 use Rattle.b67_standing.specs.Stepping.{Slot, operand}
 use Rattle.b67_standing.specs.Standing.{ActionAt, Acted, ComesTo, ElementReadAt}
 use Rattle.b67_cores.specs.Cores.{Core, with_core}
@@ -52,13 +53,13 @@ use Rattle.b67_pictures.proofs.Subscripts.{index_below}
 use Rattle.b67_pictures.proofs.Unmade.{makes, unmade}
 use Rattle.b67_pictures.proofs.Words.{value_tag}
 
-module _ (tree : PProgram) (code : Code) (texts : ℕ → List Placed) (nested : AreNested (scopes_of tree)) (fragments : FragmentsArePerformed) (keeps : RestsKeepToTheirText) (order : ArraysAreMadeInOrder)
+module _ (tree : PProgram) (code : Code) (texts : Texts) (nested : AreNested (scopes_of tree)) (fragments : FragmentsArePerformed) (keeps : RestsKeepToTheirText) (order : AllIsMadeInOrder)
     (w : World) (lay : Layout) (img : Image) (p : ℕ) (q : Process) (part : Part) (outer : List Part) (bound : ℕ) (core : Core) (s : Scene tree code texts w lay img p q part outer bound core)
     (able_is : q.state ≡ able) (able_p : numbered img.states p ≡ Some Able) (n : Named) (ks : List ℕ) (v : Value) (asks : ask part.rest ≡ reads_element n ks v)
-    (a : ActionAt (scopes_of tree) (context_in tree code w part) (text_in tree texts w part) (level_in tree w part) (most_in tree w part) (reads_element n ks v) s.stands.pc s.stands.slots)
+    (a : ActionAt (scopes_of tree) (context_in tree code texts w part) (text_in tree texts w part) (level_in tree w part) (most_in tree w part) (reads_element n ks v) s.stands.pc s.stands.slots)
     (answered : (r : Answer) (at : ℕ) (after : List Slot) →
-    Acted (scopes_of tree) (context_in tree code w part) (text_in tree texts w part) (level_in tree w part) (most_in tree w part) (reads_element n ks v) s.stands.pc s.stands.slots a r at after →
-    ComesTo (scopes_of tree) (context_in tree code w part) (text_in tree texts w part) (level_in tree w part) (most_in tree w part) (resume (scopes_of tree) part.rest r) at after) where
+    Acted (scopes_of tree) (context_in tree code texts w part) (text_in tree texts w part) (level_in tree w part) (most_in tree w part) (reads_element n ks v) s.stands.pc s.stands.slots a r at after →
+    ComesTo (scopes_of tree) (context_in tree code texts w part) (text_in tree texts w part) (level_in tree w part) (most_in tree w part) (resume (scopes_of tree) part.rest r) at after) where
   abbrev sc : Scopes
   sc = scopes_of tree
 
@@ -74,7 +75,7 @@ module _ (tree : PProgram) (code : Code) (texts : ℕ → List Placed) (nested :
   abbrev below : List Slot
   below = a.1
 
-  abbrev found : ElementReadAt sc (context_in tree code w part) text level (most_in tree w part) n ks v s.stands.pc next s.stands.slots below
+  abbrev found : ElementReadAt sc (context_in tree code texts w part) text level (most_in tree w part) n ks v s.stands.pc next s.stands.slots below
   found = a.2
 
   there : operator_at code core.registers ≡ Ok (ops.Plain kinds.Nxlv, next)

@@ -13,8 +13,8 @@ use Rattle.algol_meaning.specs.World.{NamedCell, Instance, Process, Part, able, 
 use Rattle.algol_meaning.specs.Actions.{ElementStore}
 use Rattle.algol_meaning.specs.Asks.{Ask, stores, ask, resume}
 use Rattle.algol_meaning.specs.Choice.{Choice, choice, choice_of, goes}
-use Rattle.algol_paths.specs.Arrays.{DeclaredArray}
-use Rattle.algol_paths.specs.Laws.{RestsKeepToTheirText, ArraysAreMadeInOrder}
+use Rattle.algol_paths.specs.Arrays.{Made}
+use Rattle.algol_paths.specs.Laws.{RestsKeepToTheirText, AllIsMadeInOrder}
 use Rattle.algol_paths.specs.Segments.{segment_of}
 use Rattle.b67_word.specs.Word.{Word}
 use Rattle.b67_ops.specs.declared.Operator.TheVariants as ops
@@ -30,7 +30,7 @@ use Rattle.b67_table.specs.Private.{frame}
 use Rattle.b67_table.specs.Table.{table, raw, operator_at}
 use Rattle.b67_templates.specs.Cells.{Simple, simple_cells}
 use Rattle.b67_templates.specs.Fragments.{HasKind}
-use Rattle.b67_templates.specs.Programs.{context_of}
+use Rattle.b67_templates.specs.Programs.{Texts, context_of}
 use Rattle.b67_standing.specs.Stepping.{Slot, element, operand, descriptor}
 use Rattle.b67_standing.specs.Standing.{ActionAt, Acted, ComesTo}
 use Rattle.b67_cores.specs.Cores.{Core, size, HasCore, IsCore, with_core, here}
@@ -72,13 +72,13 @@ use Rattle.b67_pictures.proofs.StoringFrames.{changed, stored_world, same_of, sa
 use Rattle.b67_pictures.proofs.Unmade.{makes, unmade}
 use Rattle.b67_pictures.proofs.Words.{value_tag}
 
-module _ (tree : PProgram) (code : Code) (texts : ℕ → List Placed) (fragments : FragmentsArePerformed) (kept : RestsKeepToTheirText) (order : ArraysAreMadeInOrder) (w : World) (lay : Layout) (img : Image)
+module _ (tree : PProgram) (code : Code) (texts : Texts) (fragments : FragmentsArePerformed) (kept : RestsKeepToTheirText) (order : AllIsMadeInOrder) (w : World) (lay : Layout) (img : Image)
     (p : ℕ) (q : Process) (part : Part) (outer : List Part) (bound : ℕ) (core : Core) (s : Scene tree code texts w lay img p q part outer bound core)
     (able_is : q.state ≡ able) (able_p : numbered img.states p ≡ Some Able) (r : Reference) (ks : List ℕ) (v : Value) (asks : ask part.rest ≡ stores (element_of r ks) v)
-    (a : ActionAt (scopes_of tree) (context_in tree code w part) (text_in tree texts w part) (level_in tree w part) (most_in tree w part) (stores (element_of r ks) v) s.stands.pc s.stands.slots)
+    (a : ActionAt (scopes_of tree) (context_in tree code texts w part) (text_in tree texts w part) (level_in tree w part) (most_in tree w part) (stores (element_of r ks) v) s.stands.pc s.stands.slots)
     (answered : (x : Answer) (at : ℕ) (left : List Slot) →
-    Acted (scopes_of tree) (context_in tree code w part) (text_in tree texts w part) (level_in tree w part) (most_in tree w part) (stores (element_of r ks) v) s.stands.pc s.stands.slots a x at left →
-    ComesTo (scopes_of tree) (context_in tree code w part) (text_in tree texts w part) (level_in tree w part) (most_in tree w part) (resume (scopes_of tree) part.rest x) at left) where
+    Acted (scopes_of tree) (context_in tree code texts w part) (text_in tree texts w part) (level_in tree w part) (most_in tree w part) (stores (element_of r ks) v) s.stands.pc s.stands.slots a x at left →
+    ComesTo (scopes_of tree) (context_in tree code texts w part) (text_in tree texts w part) (level_in tree w part) (most_in tree w part) (resume (scopes_of tree) part.rest x) at left) where
   abbrev sc : Scopes
   sc = scopes_of tree
 
@@ -89,7 +89,7 @@ module _ (tree : PProgram) (code : Code) (texts : ℕ → List Placed) (fragment
   level = level_of (block_numbered sc.blocks b)
 
   abbrev text : List Placed
-  text = texts (segment_of sc.blocks b)
+  text = texts.placed (segment_of sc.blocks b)
 
   abbrev st : Stands tree code texts w lay p part outer core
   st = s.stands
@@ -191,7 +191,7 @@ module _ (tree : PProgram) (code : Code) (texts : ℕ → List Placed) (fragment
     abbrev ss : List Simple
     ss = simple_cells sc (block_numbered sc.blocks instance.block)
 
-    changes : (first : List NamedCell) (values : List Word) (arrays : List NamedCell) (declared : List DeclaredArray) (descriptors : List Word) → CellsAre ss first values → AreMade declared arrays (lay.rows i) descriptors →
+    changes : (first : List NamedCell) (values : List Word) (arrays : List NamedCell) (declared : List Made) (descriptors : List Word) → CellsAre ss first values → AreMade declared arrays (lay.rows i) descriptors →
         instance.cells ≡ first ++ arrays → ChangedCells ss (lay.rows i) cells' first values values declared descriptors
     changes first values arrays declared descriptors are made has_cells =
         record {
@@ -338,9 +338,9 @@ module _ (tree : PProgram) (code : Code) (texts : ℕ → List Placed) (fragment
           slots = below;
           known = st.held;
           known_are = known_now;
-          at = subst (λ (m : ℕ). CoreAt sc st.held code (texts (segment_of sc.blocks m)) (level_of (block_numbered sc.blocks m)) next below new) block_is core_at;
+          at = subst (λ (m : ℕ). CoreAt sc st.held code (texts.placed (segment_of sc.blocks m)) (level_of (block_numbered sc.blocks m)) next below new) block_is core_at;
           held = subst (λ (m : ℕ). length below ≤ most_around tree m) block_is held;
-          comes = subst (λ (m : ℕ). ComesTo sc (context_of code sc m) (texts (segment_of sc.blocks m)) (level_of (block_numbered sc.blocks m)) (most_around tree m) (resume sc part.rest done) next below) block_is
+          comes = subst (λ (m : ℕ). ComesTo sc (context_of code texts sc m) (texts.placed (segment_of sc.blocks m)) (level_of (block_numbered sc.blocks m)) (most_around tree m) (resume sc part.rest done) next below) block_is
               (answered done next below (refl, refl));
           room = subst (λ (m : ℕ). length new.below + most_around tree m ≤ bound) block_is (omega (arith, s.room));
           light = light';

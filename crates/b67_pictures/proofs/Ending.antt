@@ -18,8 +18,8 @@ use Rattle.b67_word.specs.Word.{Word}
 use Rattle.b67_control.specs.declared.Registers.{Registers}
 use Rattle.b67_ops.specs.declared.Operator.TheVariants as ops
 use Rattle.b67_ops.specs.declared.PlainKind.TheVariants as kinds
-use Rattle.b67_segment.specs.Operators.{Placed}
 use Rattle.b67_segment.specs.declared.code.Code.{Code}
+use Rattle.b67_templates.specs.Programs.{Texts}
 use Rattle.b67_store.specs.Store.{Stacks, stack_at, stack_limit, closed_at}
 use Rattle.b67_table.specs.declared.ProcessState.TheVariants.{Able, Ended}
 use Rattle.b67_table.specs.Image.{Image, is_live}
@@ -54,7 +54,7 @@ closed_other (z ∷ zs) zero (suc m) apart = refl
 closed_other (z ∷ zs) (suc n) zero apart = refl
 closed_other (z ∷ zs) (suc n) (suc m) apart = closed_other zs n m (λ e. apart (ap suc e))
 
-module _ (tree : PProgram) (code : Code) (texts : ℕ → List Placed) (closing : FramesClose) (w : World) (lay : Layout) (img : Image)
+module _ (tree : PProgram) (code : Code) (texts : Texts) (closing : FramesClose) (w : World) (lay : Layout) (img : Image)
     (p : ℕ) (q : Process) (part : Part) (bound : ℕ) (core : Core) (s : Scene tree code texts w lay img p q part [] bound core) (able_p : numbered img.states p ≡ Some Able) where
   abbrev sc : Scopes
   sc = scopes_of tree
@@ -88,7 +88,7 @@ module _ (tree : PProgram) (code : Code) (texts : ℕ → List Placed) (closing 
 
     -- ---- the image
 
-    module _ (a : ActionAt sc (context_in tree code w part) (text_in tree texts w part) (level_in tree w part) (most_in tree w part) (leaves done) s.stands.pc s.stands.slots) where
+    module _ (a : ActionAt sc (context_in tree code texts w part) (text_in tree texts w part) (level_in tree w part) (most_in tree w part) (leaves done) s.stands.pc s.stands.slots) where
       there : operator_at code core.registers ≡ Ok (ops.Plain kinds.Exit, a.0)
       there = operator_there sc s.stands.held code (text_in tree texts w part) (level_in tree w part) s.stands.pc s.stands.slots core (ops.Plain kinds.Exit) a.0 s.stands.there a.2
 

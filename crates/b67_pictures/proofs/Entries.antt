@@ -21,7 +21,6 @@ use Rattle.b67_control.proofs.ControlLaws.{as_mscw-mscw_word, as_rcw-rcw_word}
 use Rattle.b67_control.specs.Display.{place_at}
 use Rattle.b67_ops.specs.declared.Operator.TheVariants as ops
 use Rattle.b67_ops.specs.declared.PlainKind.TheVariants as kinds
-use Rattle.b67_segment.specs.Operators.{Placed}
 use Rattle.b67_segment.specs.Syllables.{Spells}
 use Rattle.b67_segment.specs.declared.code.Code.{Code}
 use Rattle.b67_segment.specs.declared.code.Segment.{Segment}
@@ -35,8 +34,9 @@ use Rattle.b67_table.specs.Look.{seen}
 use Rattle.b67_table.specs.Outcome as outcomes
 use Rattle.b67_table.specs.Private.{frame, at_or}
 use Rattle.b67_table.specs.Table.{raw, table, plain, operator_at}
-use Rattle.b67_templates.specs.Fragments.{Has, code_at}
+use Rattle.b67_templates.specs.Fragments.{Has, code_at, procedure_controls}
 use Rattle.b67_templates.specs.Cells.{Wanted, simple_cells, procedures, control_segments}
+use Rattle.b67_templates.specs.Programs.{Texts}
 use Rattle.b67_standing.specs.Stepping.{Slot, mark}
 use Rattle.b67_standing.specs.Standing.{given_slots}
 use Rattle.b67_cores.specs.Cores.{Core, IsCore, with_core}
@@ -47,6 +47,7 @@ use Rattle.b67_letters.specs.Letters.{called_by}
 use Rattle.b67_faithful.specs.Correspondence.{operator_action}
 use Rattle.b67_faithful.specs.Faithful.{IsShort}
 use Rattle.b67_fitting.specs.Nested.{AreNested, LiesNested}
+use Rattle.b67_pictures.proofs.MadeArrays.{as_many_controls}
 use Rattle.b67_pictures.specs.Arrays.{Layout, IsOwn}
 use Rattle.b67_pictures.specs.Frames.{IsComplete, Framed}
 use Rattle.b67_pictures.proofs.Completing.{made_many}
@@ -78,10 +79,10 @@ cells_few sc w lay p i outer at marked control cells f nested =
     omega (
       arith,
       ap length f.cells_is,
-      length-append f.values (control_words (level_of b) (control_segments sc b.decls) ++ f.descriptors),
-      length-append (control_words (level_of b) (control_segments sc b.decls)) f.descriptors,
+      length-append f.values (control_words (procedure_controls (level_of b) (control_segments sc b.decls)) ++ f.descriptors),
+      length-append (control_words (procedure_controls (level_of b) (control_segments sc b.decls))) f.descriptors,
       words_long (simple_cells sc b) f.simple f.values f.simple_are,
-      length_mapped (λ (k : ℕ). pcw_word (code_at k 0 (level_of b + 1))) (control_segments sc b.decls),
+      as_many_controls (level_of b) (control_segments sc b.decls),
       length_mapped (λ (n : Named). segment_of sc.blocks (number_at sc.blocks n.spot)) (procedures b.decls),
       (made_many f.declared f.arrays (lay.rows i) f.descriptors f.made).words_many,
       ap length f.order,
@@ -89,7 +90,7 @@ cells_few sc w lay p i outer at marked control cells f nested =
       (nested.each f.instance.block f.known).few,
     )
 
-module _ (tree : PProgram) (code : Code) (texts : ℕ → List Placed) (nested : LiesNested tree) (short : IsShort tree code)
+module _ (tree : PProgram) (code : Code) (texts : Texts) (nested : LiesNested tree) (short : IsShort tree code)
     (w : World) (lay : Layout) (img : Image) (p : ℕ) (q : Process) (part : Part) (outer : List Part) (bound : ℕ) (core : Core)
     (s : Scene tree code texts w lay img p q part outer bound core) where
   abbrev pub sc : Scopes
@@ -123,7 +124,7 @@ module _ (tree : PProgram) (code : Code) (texts : ℕ → List Placed) (nested :
     pub low : linked.at + 2 ≤ length core.below
     pub segment : Segment
     pub there : slice_get code.segments (segment_of sc.blocks j) ≡ Some segment
-    pub spells : Spells (texts (segment_of sc.blocks j)) segment
+    pub spells : Spells (texts.placed (segment_of sc.blocks j)) segment
     pub leads : (m : Mscw) (x : Word) → SlotIs sc s.stands.held level own base (mark ∷ waiting) slot x →
         Leads code img core next x m (code_at (segment_of sc.blocks j) begin (level_of (block_numbered sc.blocks j))) (place p linked.at)
     pub calls : (x : Word) → SlotIs sc s.stands.held level own base (mark ∷ waiting) slot x →
@@ -304,7 +305,7 @@ module _ (tree : PProgram) (code : Code) (texts : ℕ → List Placed) (nested :
         new_is code img p core s.has next there arguments first.word second.word more m c home display entry
         (shown_here ∙ ap (λ (k : ℕ). Some (place k at)) (sym s.has.own) ∙ ap (λ (k : ℕ). Some (place core.registers.stack k)) (sym at_is))
 
-    pub core_at : CoreAt sc [] code (texts (segment_of sc.blocks j)) inner_level begin [] new
+    pub core_at : CoreAt sc [] code (texts.placed (segment_of sc.blocks j)) inner_level begin [] new
     core_at =
         record {
           segment = e.segment;

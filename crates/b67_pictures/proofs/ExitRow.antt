@@ -30,8 +30,9 @@ use Rattle.b67_table.specs.Questions.{with_critical, unless, live_criticals}
 use Rattle.b67_num.specs.declared.FaultKind.TheVariants.{CriticalBlockExit}
 use Rattle.b67_table.specs.Rows.{row, exit}
 use Rattle.b67_table.specs.Table.{raw, table, operator_at, class_at}
-use Rattle.b67_templates.specs.Cells.{Simple}
-use Rattle.b67_templates.specs.Fragments.{code_at}
+use Rattle.b67_templates.specs.Cells as wants
+use Rattle.b67_templates.specs.Cells.{Simple, Wanted}
+use Rattle.b67_templates.specs.Fragments.{code_at, procedure_controls}
 use Rattle.b67_cores.specs.Stretches.{control_words}
 use Rattle.b67_cores.specs.Cores.{Core, HasCore}
 use Rattle.b67_letters.specs.Letters.{left_letter}
@@ -47,17 +48,18 @@ abbrev pub DescribeNothing : List Word → Type 0
 DescribeNothing [] = Unit {0}
 DescribeNothing (w ∷ words) = (as_descriptor w ≡ None) × DescribeNothing words
 
-cell_describes_nothing : (o : Option Kind) (c : Cell) (w : Word) → CellIs o c w → as_descriptor w ≡ None
-cell_describes_nothing (Some k) (simple v) w is = no_descriptor w (value_tag v w is.1)
-cell_describes_nothing (Some k) (event e) w is = absurd is
-cell_describes_nothing (Some k) (array a) w is = absurd is
-cell_describes_nothing (Some k) (named n) w is = absurd is
-cell_describes_nothing (Some k) (reference r) w is = absurd is
-cell_describes_nothing None (simple v) w is = absurd is
-cell_describes_nothing None (event e) w is = absurd is
-cell_describes_nothing None (array a) w is = absurd is
-cell_describes_nothing None (named n) w is = absurd is
-cell_describes_nothing None (reference r) w is = is
+cell_describes_nothing : (o : Wanted) (c : Cell) (w : Word) → CellIs o c w → as_descriptor w ≡ None
+cell_describes_nothing (wants.value k) (simple v) w is = no_descriptor w (value_tag v w is.1)
+cell_describes_nothing (wants.value k) (event e) w is = absurd is
+cell_describes_nothing (wants.value k) (array a) w is = absurd is
+cell_describes_nothing (wants.value k) (named n) w is = absurd is
+cell_describes_nothing (wants.value k) (reference r) w is = absurd is
+cell_describes_nothing (wants.array shape) (simple v) w is = absurd is
+cell_describes_nothing (wants.array shape) (event e) w is = absurd is
+cell_describes_nothing (wants.array shape) (array a) w is = absurd is
+cell_describes_nothing (wants.array shape) (named n) w is = absurd is
+cell_describes_nothing (wants.array shape) (reference r) w is = is
+cell_describes_nothing _ c w is = absurd is
 
 pub cells_describe_nothing : (ss : List Simple) (cells : List NamedCell) (words : List Word) → CellsAre ss cells words → DescribeNothing words
 cells_describe_nothing [] [] [] are = tt
@@ -65,10 +67,10 @@ cells_describe_nothing [] [] (w ∷ words) are = absurd are
 cells_describe_nothing [] (c ∷ cells) words are = absurd are
 cells_describe_nothing (s ∷ ss) [] words are = absurd are
 cells_describe_nothing (s ∷ ss) (c ∷ cells) [] are = absurd are
-cells_describe_nothing (s ∷ ss) (c ∷ cells) (w ∷ words) are = (cell_describes_nothing s.kind c.cell w are.1, cells_describe_nothing ss cells words are.2)
+cells_describe_nothing (s ∷ ss) (c ∷ cells) (w ∷ words) are = (cell_describes_nothing s.wanted c.cell w are.1, cells_describe_nothing ss cells words are.2)
 
 -- nor do the control words of procedures
-pub controls_describe_nothing : (level : ℕ) (segments : List ℕ) → DescribeNothing (control_words level segments)
+pub controls_describe_nothing : (level : ℕ) (segments : List ℕ) → DescribeNothing (control_words (procedure_controls level segments))
 controls_describe_nothing level [] = tt
 controls_describe_nothing level (segment ∷ segments) = (pcw_describes_nothing (code_at segment 0 (level + 1)), controls_describe_nothing level segments)
 

@@ -17,7 +17,6 @@ use Rattle.b67_word.specs.Word.{Word}
 use Rattle.b67_control.specs.Control.{as_sirw}
 use Rattle.b67_ops.specs.declared.Couple.{Couple}
 use Rattle.b67_ops.specs.declared.TheConstants.{OUTER_LEVEL}
-use Rattle.b67_segment.specs.Operators.{Placed}
 use Rattle.b67_segment.specs.declared.code.Code.{Code}
 use Rattle.b67_store.specs.Store.{word_at}
 use Rattle.b67_table.specs.Chains.{place}
@@ -25,6 +24,7 @@ use Rattle.b67_table.specs.Image.{Image}
 use Rattle.b67_table.specs.Private.{display_at}
 use Rattle.b67_table.specs.References.{cell_word}
 use Rattle.b67_templates.specs.Cells.{Simple, Found, simple_cells, found_from, Agrees, IsFormalArray}
+use Rattle.b67_templates.specs.Programs.{Texts}
 use Rattle.b67_cores.specs.Cores.{Core}
 use Rattle.b67_fitting.specs.Nested.{AreNested}
 use Rattle.b67_faithful.proofs.Contradictions.{some_same}
@@ -93,7 +93,7 @@ leads_so sc w lay parts parts' owned shape shape' agree r word h =
 
 -- ---- the parameter's cell
 
-module _ (tree : PProgram) (code : Code) (texts : ℕ → List Placed) (nested : AreNested (scopes_of tree)) (w : World) (lay : Layout) (img : Image)
+module _ (tree : PProgram) (code : Code) (texts : Texts) (nested : AreNested (scopes_of tree)) (w : World) (lay : Layout) (img : Image)
     (p : ℕ) (q : Process) (part : Part) (outer : List Part) (bound : ℕ) (core : Core) (s : Scene tree code texts w lay img p q part outer bound core) where
   abbrev sc : Scopes
   sc = scopes_of tree
@@ -154,7 +154,7 @@ module _ (tree : PProgram) (code : Code) (texts : ℕ → List Placed) (nested :
           × LeadsTo sc w lay l.outer shape r word
 
       g : Leading
-      g = l.frame.framed.formals c.far v.found.cell shape c.lies v.kind_is v.shape_is
+      g = l.frame.framed.formals c.far v.found.cell shape c.lies v.wanted_is
 
       leads_here : LeadsTo sc w lay (part ∷ outer) shape g.2 g.1
       leads_here = leads_so sc w lay l.outer (part ∷ outer) l.inside shape shape (λ a is. is) g.2 g.1 g.6

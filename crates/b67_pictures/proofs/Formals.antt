@@ -15,8 +15,8 @@ use Rattle.b67_word.specs.Word.{Word}
 use Rattle.b67_control.specs.Control.{as_descriptor}
 use Rattle.b67_ops.specs.declared.Couple.{Couple}
 use Rattle.b67_templates.specs.Cells as wants
-use Rattle.b67_templates.specs.Cells.{Simple, Wanted, wanted_by, Agrees, IsDeclaredArray}
-use Rattle.b67_standing.specs.Stepping.{cell_named, cell_of}
+use Rattle.b67_templates.specs.Cells.{Simple, Wanted, Agrees, IsDeclaredArray}
+use Rattle.b67_standing.specs.Stepping.{cell_named, passed as passed_held}
 use Rattle.b67_cores.specs.Slots.{Known}
 use Rattle.b67_fitting.specs.Nested.{AreTold}
 use Rattle.b67_faithful.proofs.Contradictions.{some_same, none_some}
@@ -28,29 +28,16 @@ use Rattle.b67_pictures.proofs.Knowing.{known_is}
 use Rattle.b67_pictures.proofs.Words.{cell_describes_nothing}
 use Rattle.b67_pictures.proofs.Zeros.{HaveKinds}
 
--- ---- what is wanted of a cell
-
--- what is wanted for a cell of a kind
-kind_wanted : (o : Option Kind) (shape : Option Shape) (kind : Kind) → wants.value kind ≡ wanted_by o shape → o ≡ Some kind
-kind_wanted (Some k) shape kind e = let same : kind ≡ k = cc in ap Some (sym same)
-kind_wanted None (Some shape) kind e = cc
-kind_wanted None None kind e = cc
-
-record IsArrayCell (o : Option Kind) (told : Option Shape) (shape : Shape) : Type 0 where
-  kind_is : o ≡ None
-  shape_is : told ≡ Some shape
-
-array_wanted : (o : Option Kind) (told : Option Shape) (shape : Shape) → wants.array shape ≡ wanted_by o told → IsArrayCell o told shape
-array_wanted (Some k) told shape e = cc
-array_wanted None (Some other) shape e = let same : shape ≡ other = cc in record { kind_is = refl; shape_is = ap Some (sym same) }
-array_wanted None None shape e = cc
+-- what has a kind is no array
+no_array : {X : Type 0} (kind : Kind) (shape : Shape) → wants.value kind ≡ wants.array shape → X
+no_array kind shape e = absurd (let clash : wants.value kind ≡ wants.array shape = e in cc)
 
 -- ---- cells that lead to arrays
 
 module _ (sc : Scopes) (w : World) (lay : Layout) (parts : List Part) where
   -- of a parameter that is an array
   abbrev pub LeadsSo : Simple → NamedCell → Word → Type 0
-  LeadsSo s c x = (shape : Shape) → s.kind ≡ None → s.shape ≡ Some shape → (r : Reference) × (c.cell ≡ reference r) × LeadsTo sc w lay parts shape r x
+  LeadsSo s c x = (shape : Shape) → s.wanted ≡ wants.array shape → (r : Reference) × (c.cell ≡ reference r) × LeadsTo sc w lay parts shape r x
 
   abbrev pub LeadAll : List Simple → List NamedCell → List Word → Type 0
   LeadAll [] [] [] = Unit {0}
@@ -58,16 +45,16 @@ module _ (sc : Scopes) (w : World) (lay : Layout) (parts : List Part) where
   LeadAll _ _ _ = ⊥
 
   -- one of them
-  pub lead_there : (ss : List Simple) (cells : List NamedCell) (words : List Word) → LeadAll ss cells words → (k : ℕ) (s : Simple) (shape : Shape) → slice_get ss k ≡ Some s → s.kind ≡ None → s.shape ≡ Some shape →
+  pub lead_there : (ss : List Simple) (cells : List NamedCell) (words : List Word) → LeadAll ss cells words → (k : ℕ) (s : Simple) (shape : Shape) → slice_get ss k ≡ Some s → s.wanted ≡ wants.array shape →
       (c : NamedCell) × (word : Word) × (r : Reference) × (slice_get cells k ≡ Some c) × (slice_get words k ≡ Some word) × (c.cell ≡ reference r) × LeadsTo sc w lay parts shape r word
-  lead_there [] cells words all k s shape there none told = none_some there
-  lead_there (t ∷ ss) [] words all k s shape there none told = absurd all
-  lead_there (t ∷ ss) (c ∷ cells) [] all k s shape there none told = absurd all
-  lead_there (t ∷ ss) (c ∷ cells) (x ∷ words) all zero s shape there none told =
+  lead_there [] cells words all k s shape there told = none_some there
+  lead_there (t ∷ ss) [] words all k s shape there told = absurd all
+  lead_there (t ∷ ss) (c ∷ cells) [] all k s shape there told = absurd all
+  lead_there (t ∷ ss) (c ∷ cells) (x ∷ words) all zero s shape there told =
       let same : t ≡ s = some_same there in
-      let one = all.0 shape (ap (λ (u : Simple). u.kind) same ∙ none) (ap (λ (u : Simple). u.shape) same ∙ told) in
+      let one = all.0 shape (ap (λ (u : Simple). u.wanted) same ∙ told) in
       (c, x, one.0, refl, refl, one.1, one.2)
-  lead_there (t ∷ ss) (c ∷ cells) (x ∷ words) all (suc k) s shape there none told = lead_there ss cells words all.1 k s shape there none told
+  lead_there (t ∷ ss) (c ∷ cells) (x ∷ words) all (suc k) s shape there told = lead_there ss cells words all.1 k s shape there told
 
   pub lead_both : (ss : List Simple) (cells : List NamedCell) (words : List Word) (ss' : List Simple) (cells' : List NamedCell) (words' : List Word) → LeadAll ss cells words → LeadAll ss' cells' words' →
       LeadAll (ss ++ ss') (cells ++ cells') (words ++ words')
@@ -85,7 +72,7 @@ module _ (sc : Scopes) (w : World) (lay : Layout) (parts : List Part) where
   kinds_lead [] (c ∷ cells) words have are = absurd are
   kinds_lead (s ∷ ss) [] words have are = absurd are
   kinds_lead (s ∷ ss) (c ∷ cells) [] have are = absurd are
-  kinds_lead (s ∷ ss) (c ∷ cells) (x ∷ words) have are = ((λ shape none told. none_some (sym none ∙ have.0.1)), kinds_lead ss cells words have.1 are.2)
+  kinds_lead (s ∷ ss) (c ∷ cells) (x ∷ words) have are = ((λ shape told. no_array have.0.0 shape (sym have.0.1 ∙ told)), kinds_lead ss cells words have.1 are.2)
 
 -- ---- what is given
 
@@ -103,24 +90,23 @@ module _ (sc : Scopes) (w : World) (lay : Layout) (p : ℕ) (q : Process) (part 
 
   -- one more
   one_given : (s : Simple) (ss : List Simple) (q' : Parameter) (ps : List Parameter) (g : Given) (gs : List Given) (x : Word) (words : List Word) → q'.name ≡ s.name →
-      CellIs s.kind (given_cell sc w p q part outer g) x → LeadsSo sc w lay (part ∷ outer) s (record { name = q'.name; cell = given_cell sc w p q part outer g }) x → AreGivenCells ss ps gs words →
+      CellIs s.wanted (given_cell sc w p q part outer g) x → LeadsSo sc w lay (part ∷ outer) s (record { name = q'.name; cell = given_cell sc w p q part outer g }) x → AreGivenCells ss ps gs words →
       AreGivenCells (s ∷ ss) (q' ∷ ps) (g ∷ gs) (x ∷ words)
   one_given s ss q' ps g gs x words name is lead more = record { cells = (name, is, more.cells); lead = (lead, more.lead) }
 
   -- a reference that leads to an array
   reference_given : (s : Simple) (ss : List Simple) (q' : Parameter) (ps : List Parameter) (g : Given) (gs : List Given) (x : Word) (words : List Word) (shape : Shape) (r : Reference) → q'.name ≡ s.name →
-      wants.array shape ≡ wanted_by s.kind s.shape → given_cell sc w p q part outer g ≡ reference r → LeadsTo sc w lay (part ∷ outer) shape r x → AreGivenCells ss ps gs words →
+      wants.array shape ≡ s.wanted → given_cell sc w p q part outer g ≡ reference r → LeadsTo sc w lay (part ∷ outer) shape r x → AreGivenCells ss ps gs words →
       AreGivenCells (s ∷ ss) (q' ∷ ps) (g ∷ gs) (x ∷ words)
   reference_given s ss q' ps g gs x words shape r name wanted is lead more =
-      let cell = array_wanted s.kind s.shape shape wanted in
       one_given s ss q' ps g gs x words name
-      (subst (λ (o : Option Kind). CellIs o (given_cell sc w p q part outer g) x) (sym cell.kind_is)
-      (subst (λ (c : Cell). CellIs None c x) (sym is) (ap as_descriptor lead.word_is ∙ cell_describes_nothing _)))
-      (λ other none told.
-      let same : shape ≡ other = some_same (sym cell.shape_is ∙ told) in
+      (subst (λ (o : Wanted). CellIs o (given_cell sc w p q part outer g) x) wanted
+      (subst (λ (c : Cell). CellIs (wants.array shape) c x) (sym is) (ap as_descriptor lead.word_is ∙ cell_describes_nothing _)))
+      (λ other told.
+      let same : shape ≡ other = cc (wanted ∙ told) in
       (r, is, subst (λ (t : Shape). LeadsTo sc w lay (part ∷ outer) t r x) same lead)) more
 
-  pub given_are : {wanted : List Wanted} {gs : List Given} → AreFit sc level wanted gs → (ss : List Simple) (ps : List Parameter) → AreTold ps ss → wanted ≡ map (λ (c : Simple). wanted_by c.kind c.shape) ss →
+  pub given_are : {wanted : List Wanted} {gs : List Given} → AreFit sc level wanted gs → (ss : List Simple) (ps : List Parameter) → AreTold ps ss → wanted ≡ map (λ (c : Simple). c.wanted) ss →
       InReferred P gs → (words : List Word) → Words wanted gs words → AreGivenCells ss ps gs words
   given_are none_wanted [] [] told wanted seen [] is = record { cells = tt; lead = tt }
   given_are none_wanted [] [] told wanted seen (x ∷ words) is = absurd is
@@ -131,22 +117,21 @@ module _ (sc : Scopes) (w : World) (lay : Layout) (p : ℕ) (q : Process) (part 
   given_are (a_value kind v fits rest) [] [] told wanted seen words is = cc
   given_are (a_value kind v fits rest) (s ∷ ss) (q' ∷ ps) told wanted seen [] is = absurd is
   given_are (a_value {wanted = others} {gs = gs} kind v fits rest) (s ∷ ss) (q' ∷ ps) told wanted seen (x ∷ words) is =
-      let here : wants.value kind ≡ wanted_by s.kind s.shape = cc in
-      let behind : others ≡ map (λ (c : Simple). wanted_by c.kind c.shape) ss = cc in
-      let kind_is : s.kind ≡ Some kind = kind_wanted s.kind s.shape kind here in
-      one_given s ss q' ps (valued v) gs x words told.0 (subst (λ (o : Option Kind). CellIs o (simple v) x) (sym kind_is) (fits, is.0))
-      (λ shape none other. none_some (sym none ∙ kind_is)) (given_are rest ss ps told.2 behind seen words is.1)
+      let here : wants.value kind ≡ s.wanted = cc in
+      let behind : others ≡ map (λ (c : Simple). c.wanted) ss = cc in
+      one_given s ss q' ps (valued v) gs x words told.0 (subst (λ (o : Wanted). CellIs o (simple v) x) here (fits, is.0))
+      (λ shape told. no_array kind shape (here ∙ told)) (given_are rest ss ps told.2 behind seen words is.1)
   given_are (a_name shape n d c array agrees rest) [] [] told wanted seen words is = cc
   given_are (a_name shape n d c array agrees rest) (s ∷ ss) (q' ∷ ps) told wanted seen [] is = absurd is
   given_are (a_name {wanted = others} {gs = gs} shape n d c array agrees rest) (s ∷ ss) (q' ∷ ps) told wanted seen (x ∷ words) is =
-      let here : wants.array shape ≡ wanted_by s.kind s.shape = cc in
-      let behind : others ≡ map (λ (c : Simple). wanted_by c.kind c.shape) ss = cc in
+      let here : wants.array shape ≡ s.wanted = cc in
+      let behind : others ≡ map (λ (c : Simple). c.wanted) ss = cc in
       reference_given s ss q' ps (refers n) gs x words shape (named_from sc w lay part.instance n) told.0 here refl
       (leads n seen.0 shape d c array agrees x (known_is sc w lay (part ∷ outer) part.instance known are (cell_named n) x is.0)) (given_are rest ss ps told.2 behind seen.1 words is.1)
   given_are (a_cell shape r rest) [] [] told wanted seen words is = cc
   given_are (a_cell shape r rest) (s ∷ ss) (q' ∷ ps) told wanted seen [] is = absurd is
   given_are (a_cell {wanted = others} {gs = gs} shape r rest) (s ∷ ss) (q' ∷ ps) told wanted seen (x ∷ words) is =
-      let here : wants.array shape ≡ wanted_by s.kind s.shape = cc in
-      let behind : others ≡ map (λ (c : Simple). wanted_by c.kind c.shape) ss = cc in
-      reference_given s ss q' ps (passed (reference r)) gs x words shape r told.0 here refl (known_is sc w lay (part ∷ outer) part.instance known are (cell_of shape r) x is.0)
+      let here : wants.array shape ≡ s.wanted = cc in
+      let behind : others ≡ map (λ (c : Simple). c.wanted) ss = cc in
+      reference_given s ss q' ps (passed (reference r)) gs x words shape r told.0 here refl (known_is sc w lay (part ∷ outer) part.instance known are (passed_held (wants.array shape) (reference r)) x is.0)
       (given_are rest ss ps told.2 behind seen words is.1)

@@ -18,11 +18,12 @@ use Rattle.algol_meaning.specs.Statements.{settle_items, items_of}
 use Rattle.algol_meaning.specs.Actions.{Enter}
 use Rattle.algol_meaning.specs.Asks.{nothing, ask, resume}
 use Rattle.algol_meaning.specs.Choice.{Choice, choice}
-use Rattle.algol_paths.specs.Arrays.{arrays_of, to_make, left_to_make}
-use Rattle.algol_paths.specs.Laws.{KeepsToText, RestsKeepToTheirText, ArraysAreMadeInOrder}
+use Rattle.algol_paths.specs.Arrays.{all_to_make, all_left_to_make}
+use Rattle.algol_paths.specs.Laws.{KeepsToText, RestsKeepToTheirText, AllIsMadeInOrder}
 use Rattle.algol_paths.specs.Segments.{segment_of}
 use Rattle.b67_word.specs.declared.Place.{Place}
 use Rattle.b67_word.specs.Word.{Word}
+use Rattle.b67_control.specs.declared.Pcw.{Pcw}
 use Rattle.b67_control.specs.declared.Registers.{Registers}
 use Rattle.b67_control.specs.Control.{pcw_word}
 use Rattle.b67_ops.specs.declared.TheConstants.{OUTER_LEVEL}
@@ -35,10 +36,11 @@ use Rattle.b67_table.specs.Image.{Image}
 use Rattle.b67_table.specs.Linkage.{entered_mark, control_word}
 use Rattle.b67_table.specs.Outcome as outcomes
 use Rattle.b67_table.specs.Table.{table}
-use Rattle.b67_templates.specs.Cells.{Wanted, parameter_cells, zero_cells, simple_cells, procedures, control_segments}
-use Rattle.b67_templates.specs.Code.{CellsAt}
-use Rattle.b67_templates.specs.Fragments.{code_at}
-use Rattle.b67_templates.specs.Programs.{context_of}
+use Rattle.b67_templates.specs.Contexts.{yields_of}
+use Rattle.b67_templates.specs.Cells.{Wanted, parameter_cells, zero_cells, simple_cells, procedures, control_segments, made_of}
+use Rattle.b67_templates.specs.Code.{CellsAt, control_pcws}
+use Rattle.b67_templates.specs.Fragments.{code_at, Goes}
+use Rattle.b67_templates.specs.Programs.{Texts, context_of}
 use Rattle.b67_standing.specs.Stepping.{Slot}
 use Rattle.b67_table.specs.Private.{frame}
 use Rattle.b67_standing.specs.Standing.{Gives, pushed, ComesTo}
@@ -70,7 +72,7 @@ use Rattle.b67_pictures.proofs.Linked.{all_each, level_around, shown_chained}
 use Rattle.b67_pictures.proofs.Lying.{StayBelow}
 use Rattle.b67_pictures.proofs.Numbers.{numbered_set}
 use Rattle.b67_pictures.proofs.Scene.{Scene}
-use Rattle.b67_pictures.proofs.Segmented.{length_mapped}
+use Rattle.b67_pictures.proofs.Segmented.{length_mapped, controls_many}
 use Rattle.b67_pictures.proofs.StackWords.{length-stack}
 use Rattle.b67_pictures.proofs.Stage.{gives_within, goes_on, weight_of}
 use Rattle.b67_pictures.proofs.Staying.{text_in, level_in, context_in, most_in, wanted_in, FrameStill, frame_still, same_instance, parts_remain, known_stays, parts_weigh}
@@ -78,8 +80,8 @@ use Rattle.b67_pictures.proofs.Texted.{block_keeps, block_makes}
 use Rattle.b67_pictures.proofs.Zeros.{zero_word, cells_length}
 
 -- the new instance of a block or a procedure, and its part
-abbrev pub made_of : Scopes → ℕ → ℕ → ℕ → List Cell → Instance
-made_of sc p h j given = record { block = j; parent = h; process = p; cells = fresh_cells (block_numbered sc.blocks j) given; left = false }
+abbrev pub new_instance : Scopes → ℕ → ℕ → ℕ → List Cell → Instance
+new_instance sc p h j given = record { block = j; parent = h; process = p; cells = fresh_cells (block_numbered sc.blocks j) given; left = false }
 
 abbrev pub inner_of : Scopes → World → ℕ → Purpose → Part
 inner_of sc w j purpose = record { instance = length w.instances + 1; purpose = purpose; rest = settle_items sc (items_of (block_numbered sc.blocks j)) }
@@ -90,10 +92,10 @@ around_of sc part = record part { rest = resume sc part.rest entered }
 -- the world in which they are made
 abbrev pub entered_world : Scopes → World → ℕ → Process → Part → List Part → ℕ → ℕ → List Cell → Purpose → World
 entered_world sc w p q part outer h j given purpose =
-    with_process (record w { instances = w.instances ++ made_of sc p h j given ∷ [] }) p (record q { todo = inner_of sc w j purpose ∷ around_of sc part ∷ outer })
+    with_process (record w { instances = w.instances ++ new_instance sc p h j given ∷ [] }) p (record q { todo = inner_of sc w j purpose ∷ around_of sc part ∷ outer })
 
-module _ (tree : PProgram) (code : Code) (texts : ℕ → List Placed) (nested : LiesNested tree) (short : IsShort tree code)
-    (fragments : FragmentsArePerformed) (begins : BlocksBegin) (keeps : RestsKeepToTheirText) (order : ArraysAreMadeInOrder)
+module _ (tree : PProgram) (code : Code) (texts : Texts) (nested : LiesNested tree) (short : IsShort tree code)
+    (fragments : FragmentsArePerformed) (begins : BlocksBegin) (keeps : RestsKeepToTheirText) (order : AllIsMadeInOrder)
     (w : World) (lay : Layout) (img : Image) (p : ℕ) (q : Process) (part : Part) (outer : List Part) (bound : ℕ) (core : Core)
     (s : Scene tree code texts w lay img p q part outer bound core) (able_is : q.state ≡ able) (able_p : numbered img.states p ≡ Some Able) where
   abbrev sc : Scopes
@@ -109,18 +111,20 @@ module _ (tree : PProgram) (code : Code) (texts : ℕ → List Placed) (nested :
 
   -- The code of the block: its cells, and what it has to do, for which its segment has the room.
   pub record Body (j begin : ℕ) : Type 0 where
+    pub ready : ℕ
     pub start : ℕ
-    pub cells_at : CellsAt sc (context_of code sc j) (texts (segment_of sc.blocks j)) (level_of (block_numbered sc.blocks j)) (length (zero_cells (block_numbered sc.blocks j)))
-        (control_segments sc (block_numbered sc.blocks j).decls) begin start
-    pub comes : ComesTo sc (context_of code sc j) (texts (segment_of sc.blocks j)) (level_of (block_numbered sc.blocks j)) (most_around tree j) (settle_items sc (items_of (block_numbered sc.blocks j))) start []
+    pub over : Goes (texts.placed (segment_of sc.blocks j)) (level_of (block_numbered sc.blocks j)) begin ready
+    pub cells_at : CellsAt sc (context_of code texts sc j) (texts.placed (segment_of sc.blocks j)) (level_of (block_numbered sc.blocks j)) (length (zero_cells (block_numbered sc.blocks j)))
+        (control_pcws sc (level_of (block_numbered sc.blocks j)) (block_numbered sc.blocks j).decls) ready start
+    pub comes : ComesTo sc (context_of code texts sc j) (texts.placed (segment_of sc.blocks j)) (level_of (block_numbered sc.blocks j)) (most_around tree j) (settle_items sc (items_of (block_numbered sc.blocks j))) start []
     pub small : length (procedures (block_numbered sc.blocks j).decls) ≤ 4 * tokens_around tree j
 
   -- after the entry the part around goes on, once the value that is wanted was given
   pub record GoesOnBehind (next : ℕ) (waiting : List Slot) (j : ℕ) : Type 0 where
-    pub unmade : left_to_make part.rest ≡ to_make part.rest
+    pub unmade : all_left_to_make part.rest ≡ all_to_make part.rest
     pub waits : ask (resume sc part.rest entered) ≡ nothing
-    pub returns : (a : Answer) → Gives ((block_numbered sc.blocks j).result) a →
-        ComesTo sc (context_in tree code w part) (text_in tree texts w part) (level_in tree w part) (most_in tree w part) (resume sc (resume sc part.rest entered) a) next (pushed a waiting)
+    pub returns : (a : Answer) → Gives (yields_of (block_numbered sc.blocks j).result) a →
+        ComesTo sc (context_in tree code texts w part) (text_in tree texts w part) (level_in tree w part) (most_in tree w part) (resume sc (resume sc part.rest entered) a) next (pushed a waiting)
 
   module _ (wanted : List Wanted) (gs : List Given) (slot : Slot) (next : ℕ) (waiting : List Slot) (h j begin : ℕ) (e : CallsThere wanted gs slot next waiting h j begin) (purpose : Purpose) (owns : is_evaluation purpose ≡ false) (body : Body j begin)
       (behind : GoesOnBehind next waiting j) (given : List Cell)
@@ -137,7 +141,7 @@ module _ (tree : PProgram) (code : Code) (texts : ℕ → List Placed) (nested :
     b = block_numbered sc.blocks j
 
     abbrev ps : List Placed
-    ps = texts (segment_of sc.blocks j)
+    ps = texts.placed (segment_of sc.blocks j)
 
     abbrev inner_level : ℕ
     inner_level = level_of b
@@ -148,8 +152,8 @@ module _ (tree : PProgram) (code : Code) (texts : ℕ → List Placed) (nested :
     abbrev many : ℕ
     many = length (zero_cells b)
 
-    abbrev segments : List ℕ
-    segments = control_segments sc b.decls
+    abbrev controls : List Pcw
+    controls = control_pcws sc inner_level b.decls
 
     -- what was given, and after it zeros
     abbrev arguments : List Word
@@ -162,7 +166,7 @@ module _ (tree : PProgram) (code : Code) (texts : ℕ → List Placed) (nested :
     zeros = replicate many zero_word
 
     abbrev cells : List Word
-    cells = (taken ++ zeros) ++ control_words inner_level segments
+    cells = (taken ++ zeros) ++ control_words controls
 
     given_there : AreCells j given taken
     given_there = fit taken (entries.given tree code texts nested short w lay img p q part outer bound core s wanted gs slot next waiting h j begin e).actuals
@@ -176,11 +180,11 @@ module _ (tree : PProgram) (code : Code) (texts : ℕ → List Placed) (nested :
     all_many : length (simple_cells sc b) ≡ length taken + many
     all_many = omega (arith, simple_many sc b, taken_many)
 
-    segments_many : length segments ≡ length (procedures b.decls)
-    segments_many = length_mapped (λ (n : Named). segment_of sc.blocks (number_at sc.blocks n.spot)) (procedures b.decls)
+    controls_are_many : length controls ≡ length (procedures b.decls)
+    controls_are_many = controls_many inner_level (control_segments sc b.decls) ∙ length_mapped (λ (n : Named). segment_of sc.blocks (number_at sc.blocks n.spot)) (procedures b.decls)
 
-    few_cells : length taken + (many + length segments) ≤ 400
-    few_cells = omega (arith, all_many, segments_many, is_text.few)
+    few_cells : length taken + (many + length controls) ≤ 400
+    few_cells = omega (arith, all_many, controls_are_many, is_text.few)
 
     cells_are : CellsAre (simple_cells sc b) (fresh_cells b given) (taken ++ zeros)
     cells_are = fresh_are sc b given taken given_there.cells
@@ -188,14 +192,14 @@ module _ (tree : PProgram) (code : Code) (texts : ℕ → List Placed) (nested :
     cells_lead : LeadAll sc w lay (part ∷ outer) (simple_cells sc b) (fresh_cells b given) (taken ++ zeros)
     cells_lead = fresh_lead sc w lay (part ∷ outer) b given taken given_there.lead
 
-    cells_many : length cells ≡ length taken + (many + length segments)
+    cells_many : length cells ≡ length taken + (many + length controls)
     cells_many =
         omega (
           arith,
-          length-append (taken ++ zeros) (control_words inner_level segments),
+          length-append (taken ++ zeros) (control_words controls),
           words_long (simple_cells sc b) (fresh_cells b given) (taken ++ zeros) cells_are,
           all_many,
-          length_mapped (λ (k : ℕ). pcw_word (code_at k 0 (inner_level + 1))) segments,
+          length_mapped (λ (pcw : Pcw). pcw_word pcw) controls,
         )
 
     -- ---- the world
@@ -204,7 +208,7 @@ module _ (tree : PProgram) (code : Code) (texts : ℕ → List Placed) (nested :
     n = length w.instances + 1
 
     abbrev made : Instance
-    made = made_of sc p h j given
+    made = new_instance sc p h j given
 
     abbrev inner : Part
     inner = inner_of sc w j purpose
@@ -312,11 +316,11 @@ module _ (tree : PProgram) (code : Code) (texts : ℕ → List Placed) (nested :
     more_long = length-stack core.below more
 
     abbrev bound' : ℕ
-    bound' = at + 2 + length taken + (many + length segments) + most_around tree j
+    bound' = at + 2 + length taken + (many + length controls) + most_around tree j
 
-    g : Begins sc [] code ps inner_level bound' many segments body.start new
+    g : Begins sc [] code ps inner_level bound' many controls body.start new
     g =
-        begins sc [] (context_of code sc j) code ps inner_level bound' many segments begin body.start new body.cells_at
+        begins sc [] (context_of code texts sc j) code ps inner_level bound' many controls begin body.ready body.start new body.over body.cells_at
         (entries.core_at tree code texts nested short w lay img p q part outer bound core s wanted gs slot next waiting h j begin e) (omega (arith, few_cells, as_given)) (omega (arith, new_long))
 
     -- ---- its frame
@@ -333,7 +337,7 @@ module _ (tree : PProgram) (code : Code) (texts : ℕ → List Placed) (nested :
 
     complete_now : IsComplete sc w' lay' h
     complete_now =
-        subst (λ (x : Instance). length x.cells ≡ length (simple_cells sc (block_numbered sc.blocks x.block)) + length (arrays_of (block_numbered sc.blocks x.block).decls)) parent_here e.complete
+        subst (λ (x : Instance). length x.cells ≡ length (simple_cells sc (block_numbered sc.blocks x.block)) + length (made_of (block_numbered sc.blocks x.block).decls)) parent_here e.complete
 
     abbrev framed : Framed sc w' lay' p n (part' ∷ outer) (length lower) mark control cells
     framed =
@@ -347,8 +351,8 @@ module _ (tree : PProgram) (code : Code) (texts : ℕ → List Placed) (nested :
           simple = fresh_cells b given;
           values = taken ++ zeros;
           simple_are = cells_are;
-          formals = λ k t shape there none told.
-              let g = lead_there sc w lay (part ∷ outer) (simple_cells sc b) (fresh_cells b given) (taken ++ zeros) cells_lead k t shape there none told in (
+          formals = λ k t shape there told.
+              let g = lead_there sc w lay (part ∷ outer) (simple_cells sc b) (fresh_cells b given) (taken ++ zeros) cells_lead k t shape there told in (
                 g.0,
                 g.1,
                 g.2,
@@ -360,12 +364,12 @@ module _ (tree : PProgram) (code : Code) (texts : ℕ → List Placed) (nested :
               );
           arrays = [];
           declared = [];
-          later = arrays_of b.decls;
+          later = made_of b.decls;
           order = refl;
           descriptors = [];
           made = subst (λ (as' : List Allotted). AreMade [] [] as' []) (sym (rows_there lay.rows n [] n refl)) tt;
           has = sym (append-nil (fresh_cells b given));
-          cells_is = ap (λ (ws : List Word). (taken ++ zeros) ++ ws) (sym (append-nil (control_words inner_level segments)));
+          cells_is = ap (λ (ws : List Word). (taken ++ zeros) ++ ws) (sym (append-nil (control_words controls)));
           placed = inside e.own_parent around_now complete_now;
           home = home;
           linked = home_there;
@@ -387,8 +391,8 @@ module _ (tree : PProgram) (code : Code) (texts : ℕ → List Placed) (nested :
           mark = mark;
           control = control;
           cells = cells;
-          words_are = g.below ∙ append_assoc lower (mark ∷ control ∷ taken) (zeros ++ control_words inner_level segments)
-              ∙ ap (λ (ws : List Word). lower ++ mark ∷ control ∷ ws) (sym (append_assoc taken zeros (control_words inner_level segments)));
+          words_are = g.below ∙ append_assoc lower (mark ∷ control ∷ taken) (zeros ++ control_words controls)
+              ∙ ap (λ (ws : List Word). lower ++ mark ∷ control ∷ ws) (sym (append_assoc taken zeros (control_words controls)));
           framed = framed;
           text = subst (λ (k : ℕ). KeepsToText sc k inner.rest) (sym block_in) text_in_block;
           making = sym (block_makes sc j order is_text);
@@ -410,11 +414,11 @@ module _ (tree : PProgram) (code : Code) (texts : ℕ → List Placed) (nested :
 
     -- ---- what waits
 
-    returns_now : (a : Answer) → Gives b.result a →
-        ComesTo sc (context_in tree code w' part') (text_in tree texts w' part') (level_in tree w' part') (most_in tree w' part') (resume sc part'.rest a) next (pushed a waiting)
+    returns_now : (a : Answer) → Gives (yields_of b.result) a →
+        ComesTo sc (context_in tree code texts w' part') (text_in tree texts w' part') (level_in tree w' part') (most_in tree w' part') (resume sc part'.rest a) next (pushed a waiting)
     returns_now =
-        subst (λ (x : Instance). (a : Answer) → Gives b.result a →
-        ComesTo sc (context_of code sc x.block) (texts (segment_of sc.blocks x.block)) (level_of (block_numbered sc.blocks x.block)) (most_around tree x.block) (resume sc part'.rest a) next (pushed a waiting)) here
+        subst (λ (x : Instance). (a : Answer) → Gives (yields_of b.result) a →
+        ComesTo sc (context_of code texts sc x.block) (texts.placed (segment_of sc.blocks x.block)) (level_of (block_numbered sc.blocks x.block)) (most_around tree x.block) (resume sc part'.rest a) next (pushed a waiting)) here
         behind.returns
 
     words_now : SlotsAre sc s.stands.held (level_in tree w' part') (length still.frame.lower) (length core.below) waiting more
@@ -438,7 +442,7 @@ module _ (tree : PProgram) (code : Code) (texts : ℕ → List Placed) (nested :
     few_waiting =
         omega (arith, ap length e.lies, (entries.given tree code texts nested short w lay img p q part outer bound core s wanted gs slot next waiting h j begin e).slots_many, s.stands.few)
 
-    abbrev waits_now : Waits tree code texts w' lay' p part' outer lower mark control b.result
+    abbrev waits_now : Waits tree code texts w' lay' p part' outer lower mark control (yields_of b.result)
     waits_now =
         record {
           below = core.below;
@@ -467,7 +471,7 @@ module _ (tree : PProgram) (code : Code) (texts : ℕ → List Placed) (nested :
         }
 
     around_inner : Around tree code texts w' lay' p (part' ∷ outer) lower mark control (wanted_in tree w' inner)
-    around_inner = subst (λ (k : ℕ). Around tree code texts w' lay' p (part' ∷ outer) lower mark control ((block_numbered sc.blocks k).result)) (sym block_in) (waits_now, still.around)
+    around_inner = subst (λ (k : ℕ). Around tree code texts w' lay' p (part' ∷ outer) lower mark control (yields_of (block_numbered sc.blocks k).result)) (sym block_in) (waits_now, still.around)
 
     -- ---- the new part goes on
 
@@ -494,7 +498,7 @@ module _ (tree : PProgram) (code : Code) (texts : ℕ → List Placed) (nested :
           inner_weight,
           weight_before,
           body.small,
-          segments_many,
+          controls_are_many,
           s.light,
           s.room,
           more_few,
@@ -516,7 +520,7 @@ module _ (tree : PProgram) (code : Code) (texts : ℕ → List Placed) (nested :
     new_small : size new ≤ stack_limit
     new_small = omega (arith, new_long, entries.room tree code texts nested short w lay img p q part outer bound core s wanted gs slot next waiting h j begin e, more_long, as_given)
 
-    cells_counted : length arguments + (many + length segments) ≡ length cells
+    cells_counted : length arguments + (many + length controls) ≡ length cells
     cells_counted = omega (arith, cells_many, as_given)
 
     living_now : Living tree code texts w' lay' (with_core img p new) p q'
@@ -542,9 +546,9 @@ module _ (tree : PProgram) (code : Code) (texts : ℕ → List Placed) (nested :
           slots = [];
           known = [];
           known_are = tt;
-          at = subst (λ (k : ℕ). CoreAt sc [] code (texts (segment_of sc.blocks k)) (level_of (block_numbered sc.blocks k)) body.start [] g.core) (sym block_in) g.at;
+          at = subst (λ (k : ℕ). CoreAt sc [] code (texts.placed (segment_of sc.blocks k)) (level_of (block_numbered sc.blocks k)) body.start [] g.core) (sym block_in) g.at;
           held = omega arith;
-          comes = subst (λ (k : ℕ). ComesTo sc (context_of code sc k) (texts (segment_of sc.blocks k)) (level_of (block_numbered sc.blocks k)) (most_around tree k) inner.rest body.start []) (sym block_in) body.comes;
+          comes = subst (λ (k : ℕ). ComesTo sc (context_of code texts sc k) (texts.placed (segment_of sc.blocks k)) (level_of (block_numbered sc.blocks k)) (most_around tree k) inner.rest body.start []) (sym block_in) body.comes;
           room = subst (λ (k : ℕ). length g.core.below + most_around tree k ≤ bound') (sym block_in) (omega (arith, ap length frame_in.words_are, length-append lower (mark ∷ control ∷ cells), cells_many));
           light = light';
         })

@@ -17,14 +17,13 @@ use Rattle.algol_meaning.specs.Asks.{Ask, leaves, ask, resume}
 use Rattle.algol_meaning.specs.Choice.{Choice, choice, choice_of, left_with, left_or_ended, fails}
 use Rattle.algol_meaning.specs.Critical.{some_depends}
 use Rattle.algol_paths.specs.Blocks.{IsSeen}
-use Rattle.algol_paths.specs.Laws.{RestsKeepToTheirText, ArraysAreMadeInOrder}
+use Rattle.algol_paths.specs.Laws.{RestsKeepToTheirText, AllIsMadeInOrder}
 use Rattle.algol_paths.specs.Segments.{segment_of}
 use Rattle.algol_paths.specs.Texts.{InAnswer}
 use Rattle.b67_word.specs.declared.Place.{Place}
 use Rattle.b67_word.specs.Word.{Word}
 use Rattle.b67_control.specs.Control.{as_mscw, as_rcw}
 use Rattle.b67_control.specs.Display.{place_at}
-use Rattle.b67_segment.specs.Operators.{Placed}
 use Rattle.b67_segment.specs.declared.code.Code.{Code}
 use Rattle.b67_store.specs.Store.{Rows, stack_limit}
 use Rattle.b67_table.specs.declared.Below.{Below}
@@ -36,7 +35,7 @@ use Rattle.b67_table.specs.Outcome as outcomes
 use Rattle.b67_table.specs.Private.{frame, at_or}
 use Rattle.b67_table.specs.Table.{raw, table, plain}
 use Rattle.b67_table.specs.Effect.{gives}
-use Rattle.b67_templates.specs.Programs.{context_of}
+use Rattle.b67_templates.specs.Programs.{Texts, context_of}
 use Rattle.b67_standing.specs.Stepping.{Slot}
 use Rattle.b67_standing.specs.Standing.{Gives, pushed, ComesTo}
 use Rattle.b67_cores.specs.Cores.{Core, size, IsCore, HasCore, with_core}
@@ -77,7 +76,7 @@ pub data IsGiven : Answer → Option Word → Type 0 where
   nothing_given : IsGiven done None
   value_given : (v : Value) (x : Word) → ValueIs v x → IsGiven (value v) (Some x)
 
-module _ (tree : PProgram) (code : Code) (texts : ℕ → List Placed) (stand : HaveTexts tree code texts) (fragments : FragmentsArePerformed) (keeps : RestsKeepToTheirText) (order : ArraysAreMadeInOrder) (closing : FramesClose)
+module _ (tree : PProgram) (code : Code) (texts : Texts) (stand : HaveTexts tree code texts) (fragments : FragmentsArePerformed) (keeps : RestsKeepToTheirText) (order : AllIsMadeInOrder) (closing : FramesClose)
     (w : World) (lay : Layout) (img : Image) (p : ℕ) (q : Process) (part next : Part) (parts : List Part) (bound : ℕ) (core : Core)
     (s : Scene tree code texts w lay img p q part (next ∷ parts) bound core) (able_is : q.state ≡ able) (able_p : numbered img.states p ≡ Some Able) where
   abbrev sc : Scopes
@@ -388,9 +387,9 @@ module _ (tree : PProgram) (code : Code) (texts : ℕ → List Placed) (stand : 
             slots = slots;
             known = u.held;
             known_are = known_of sc w' w' lay (next ∷ parts) (part' ∷ parts) refl (λ j own. own) next.instance u.held known_now;
-            at = subst (λ (j : ℕ). CoreAt sc u.held code (texts (segment_of sc.blocks j)) (level_of (block_numbered sc.blocks j)) u.pc slots new) block_now core_at;
+            at = subst (λ (j : ℕ). CoreAt sc u.held code (texts.placed (segment_of sc.blocks j)) (level_of (block_numbered sc.blocks j)) u.pc slots new) block_now core_at;
             held = subst (λ (j : ℕ). length slots ≤ most_around tree j) block_now few;
-            comes = subst (λ (j : ℕ). ComesTo sc (context_of code sc j) (texts (segment_of sc.blocks j)) (level_of (block_numbered sc.blocks j)) (most_around tree j) (resume sc next.rest r) u.pc slots) block_now
+            comes = subst (λ (j : ℕ). ComesTo sc (context_of code texts sc j) (texts.placed (segment_of sc.blocks j)) (level_of (block_numbered sc.blocks j)) (most_around tree j) (resume sc next.rest r) u.pc slots) block_now
                 (u.returns r gives_it);
             room = subst (λ (j : ℕ). length u.below + most_around tree j ≤ bound') block_now (omega arith);
             light = light';

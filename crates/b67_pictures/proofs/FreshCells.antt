@@ -75,29 +75,6 @@ none_lead sc w lay parts b no_cells none =
     subst (λ (ss : List Simple). LeadAll sc w lay parts ss (instances.parameter_cells b.parameters []) []) (sym no_cells)
     (subst (λ (ps : List Parameter). LeadAll sc w lay parts [] (instances.parameter_cells ps []) []) (sym none) tt)
 
--- a cell without a kind is that of a parameter that is an array
-pub told_shape : (sc : Scopes) (b : Block) → AreParameters sc b → (k : ℕ) (s : Simple) → slice_get (simple_cells sc b) k ≡ Some s → s.kind ≡ None → (shape : Shape) × (s.shape ≡ Some shape)
-told_shape sc b parameters k s there none =
-    among b.parameters (cells.parameter_cells sc b) parameters.told k (ap (λ (ss : List Simple). slice_get ss k) (sym (cells_joined sc b)) ∙ there)
-  where
-    one_told : (p : Parameter) (c : Simple) → IsTold p c → c.kind ≡ None → (shape : Shape) × (c.shape ≡ Some shape)
-    one_told p c (by_value kind is variable) none = none_some (sym none ∙ is)
-    one_told p c (an_array shape without is sort) none = (shape, is)
-
-    behind : (ss : List Simple) → HaveKinds ss → (k : ℕ) → slice_get ss k ≡ Some s → (shape : Shape) × (s.shape ≡ Some shape)
-    behind [] have k there = none_some there
-    behind (t ∷ ss) have zero there = none_some (sym none ∙ ap (λ (u : Simple). u.kind) (sym (some_same there)) ∙ have.0.1)
-    behind (t ∷ ss) have (suc k) there = behind ss have.1 k there
-
-    among : (ps : List Parameter) (ss : List Simple) → AreTold ps ss → (k : ℕ) → slice_get (ss ++ zero_cells b) k ≡ Some s → (shape : Shape) × (s.shape ≡ Some shape)
-    among [] [] told k there = behind (zero_cells b) (block_kinds b) k there
-    among [] (t ∷ ss) told k there = absurd told
-    among (p ∷ ps) [] told k there = absurd told
-    among (p ∷ ps) (t ∷ ss) told zero there =
-        let same : t ≡ s = some_same there in
-        subst (λ (u : Simple). (shape : Shape) × (u.shape ≡ Some shape)) same (one_told p t told.1 (ap (λ (u : Simple). u.kind) same ∙ none))
-    among (p ∷ ps) (t ∷ ss) told (suc k) there = among ps ss told.2 k there
-
 -- their number
 pub simple_many : (sc : Scopes) (b : Block) → length (simple_cells sc b) ≡ length (cells.parameter_cells sc b) + length (zero_cells b)
 simple_many sc b = ap length (cells_joined sc b) ∙ length-append (cells.parameter_cells sc b) (zero_cells b)

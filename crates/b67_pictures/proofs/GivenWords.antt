@@ -14,7 +14,7 @@ use Rattle.b67_ops.specs.declared.Couple.{Couple}
 use Rattle.b67_templates.specs.Fragments.{HasKind}
 use Rattle.b67_templates.specs.Cells as wants
 use Rattle.b67_templates.specs.Cells.{Wanted, Agrees, IsDeclaredArray}
-use Rattle.b67_standing.specs.Stepping.{Slot, cell_named, cell_of}
+use Rattle.b67_standing.specs.Stepping.{Slot, cell_named, passed as passed_held}
 use Rattle.b67_standing.specs.Standing.{given_slot, given_slots, AreGiven}
 use Rattle.b67_cores.specs.Slots.{Known, newest, ValueIs, IsKnown, SlotIs, SlotsAre}
 use Rattle.b67_pictures.proofs.Slotted.{Top, top_slot}
@@ -34,6 +34,8 @@ module _ (sc : Scopes) (level : ℕ) where
   are_fit [] (g ∷ gs) fit = absurd fit
   are_fit (wants.value kind ∷ wanted) [] fit = absurd fit
   are_fit (wants.array shape ∷ wanted) [] fit = absurd fit
+  are_fit ((wants.by_name kind) ∷ wanted) [] fit = absurd fit
+  are_fit (wants.event ∷ wanted) [] fit = absurd fit
   are_fit (wants.other ∷ wanted) [] fit = absurd fit
   are_fit (wants.value kind ∷ wanted) (valued v ∷ gs) fit = a_value kind v fit.0 (are_fit wanted gs fit.1)
   are_fit (wants.value kind ∷ wanted) (refers n ∷ gs) fit = absurd fit
@@ -47,6 +49,14 @@ module _ (sc : Scopes) (level : ℕ) where
   are_fit (wants.array shape ∷ wanted) (passed (cells.named n) ∷ gs) fit = absurd fit
   are_fit (wants.array shape ∷ wanted) (passed (cells.reference r) ∷ gs) fit = a_cell shape r (are_fit wanted gs fit)
   are_fit (wants.array shape ∷ wanted) (names e ∷ gs) fit = absurd fit
+  are_fit ((wants.by_name kind) ∷ wanted) (valued v ∷ gs) fit = absurd fit
+  are_fit ((wants.by_name kind) ∷ wanted) (refers n ∷ gs) fit = absurd fit
+  are_fit ((wants.by_name kind) ∷ wanted) (passed c ∷ gs) fit = absurd fit
+  are_fit ((wants.by_name kind) ∷ wanted) (names x ∷ gs) fit = absurd fit
+  are_fit (wants.event ∷ wanted) (valued v ∷ gs) fit = absurd fit
+  are_fit (wants.event ∷ wanted) (refers n ∷ gs) fit = absurd fit
+  are_fit (wants.event ∷ wanted) (passed c ∷ gs) fit = absurd fit
+  are_fit (wants.event ∷ wanted) (names e ∷ gs) fit = absurd fit
   are_fit (wants.other ∷ wanted) (valued v ∷ gs) fit = absurd fit
   are_fit (wants.other ∷ wanted) (refers n ∷ gs) fit = absurd fit
   are_fit (wants.other ∷ wanted) (passed c ∷ gs) fit = absurd fit
@@ -66,7 +76,7 @@ module _ (sc : Scopes) (known : List Known) (level home base : ℕ) where
   abbrev pub ActualIs : Wanted → Given → Word → Type 0
   ActualIs wanted (valued v) w = ValueIs v w
   ActualIs wanted (refers n) w = IsKnown known (cell_named n) w
-  ActualIs (wants.array shape) (passed (cells.reference r)) w = IsKnown known (cell_of shape r) w
+  ActualIs (wants.array shape) (passed (cells.reference r)) w = IsKnown known (passed_held (wants.array shape) (cells.reference r)) w
   ActualIs _ _ w = ⊥
 
   abbrev pub ActualsAre : List Wanted → List Given → List Word → Type 0

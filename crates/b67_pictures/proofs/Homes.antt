@@ -23,7 +23,8 @@ use Rattle.b67_table.specs.Image.{Image}
 use Rattle.b67_table.specs.Private.{display_at}
 use Rattle.b67_table.specs.Table.{operator_at}
 use Rattle.b67_templates.specs.Fragments.{HasKind, Has}
-use Rattle.b67_templates.specs.Cells.{simple_cells, IsVariable}
+use Rattle.b67_templates.specs.Cells.{simple_cells, IsVariable, Wanted}
+use Rattle.b67_templates.specs.Programs.{Texts}
 use Rattle.b67_standing.specs.Stepping.{Slot}
 use Rattle.b67_cores.specs.Cores.{Core}
 use Rattle.b67_cores.specs.Slots.{Known, ValueIs}
@@ -53,7 +54,7 @@ get-behind (x ∷ front) back k n e =
     let far : n ≡ suc (length front + k) = omega (arith, e) in
     ap (λ (m : ℕ). slice_get (x ∷ front ++ back) m) far ∙ get-behind front back k (length front + k) refl
 
-module _ (tree : PProgram) (code : Code) (texts : ℕ → List Placed) (w : World) (lay : Layout) (img : Image)
+module _ (tree : PProgram) (code : Code) (texts : Texts) (w : World) (lay : Layout) (img : Image)
     (p : ℕ) (q : Process) (part : Part) (outer : List Part) (bound : ℕ) (core : Core) (s : Scene tree code texts w lay img p q part outer bound core) where
   abbrev sc : Scopes
   sc = scopes_of tree
@@ -109,7 +110,7 @@ module _ (tree : PProgram) (code : Code) (texts : ℕ → List Placed) (w : Worl
       c = variable_cell (simple_cells sc (block_numbered sc.blocks ((use_of sc n).block))) first_cells l.frame.framed.values 0 n.name v.found own_cells v.there
 
       held : Holds_value kind (cell_in first_cells n.name) c.word
-      held = value_of_cell kind (cell_in first_cells n.name) c.word (subst (λ (o : Option Kind). CellIs o (cell_in first_cells n.name) c.word) v.kind_is c.is)
+      held = value_of_cell kind (cell_in first_cells n.name) c.word (subst (λ (o : Wanted). CellIs o (cell_in first_cells n.name) c.word) v.wanted_is c.is)
 
       -- it lies before the arrays
       cell_here : cell_in here.cells n.name ≡ cell_in first_cells n.name

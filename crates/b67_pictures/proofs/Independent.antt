@@ -6,8 +6,8 @@ use Rattle.algol_tree.specs.Plain.{PProgram}
 use Rattle.algol_meaning.specs.World.{Process, State, lives, World}
 use Rattle.algol_meaning.specs.Critical.{is_this, some_depends}
 use Rattle.b67_control.specs.declared.Registers.{Registers}
-use Rattle.b67_segment.specs.Operators.{Placed}
 use Rattle.b67_segment.specs.declared.code.Code.{Code}
+use Rattle.b67_templates.specs.Programs.{Texts}
 use Rattle.b67_table.specs.declared.ProcessState.{ProcessState}
 use Rattle.b67_table.specs.Image.{Image, is_ended}
 use Rattle.b67_table.specs.Questions.{live_criticals}
@@ -27,7 +27,7 @@ and_false : (b : Bool) → (b && false) ≡ false
 and_false true = refl
 and_false false = refl
 
-module _ (tree : PProgram) (code : Code) (texts : ℕ → List Placed) (w : World) (lay : Layout) (img : Image) (by : PicturesBy tree code texts w lay img) where
+module _ (tree : PProgram) (code : Code) (texts : Texts) (w : World) (lay : Layout) (img : Image) (by : PicturesBy tree code texts w lay img) where
   depends_not : (o : Process) (p i : ℕ) → Pictured tree code texts w lay img p o → (lives o.state && is_this o.critical i) ≡ false
   depends_not o p i (dead e s) = ap (λ (st : State). lives st && is_this o.critical i) e
   depends_not o p i (living a s l) = ap (λ (c : Option ℕ). lives o.state && is_this c i) l.independent ∙ and_false (lives o.state)

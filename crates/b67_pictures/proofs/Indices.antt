@@ -13,7 +13,6 @@ use Rattle.b67_word.specs.Word.{Word, as_whole}
 use Rattle.b67_control.specs.declared.Descriptor.{Descriptor}
 use Rattle.b67_control.specs.Control.{as_irw, as_descriptor}
 use Rattle.b67_ops.specs.declared.Couple.{Couple}
-use Rattle.b67_segment.specs.Operators.{Placed}
 use Rattle.b67_segment.specs.declared.code.Code.{Code}
 use Rattle.b67_store.specs.Store.{row_limit}
 use Rattle.b67_table.specs.Arrays.{is_array, array_of, array_word, index_in}
@@ -21,8 +20,9 @@ use Rattle.b67_table.specs.Chains.{place}
 use Rattle.b67_table.specs.Image.{Image}
 use Rattle.b67_table.specs.Look.{seen}
 use Rattle.b67_table.specs.Private.{frame}
-use Rattle.b67_templates.specs.Cells.{FoundArray}
+use Rattle.b67_templates.specs.Cells.{FoundMade}
 use Rattle.b67_templates.specs.Fragments.{moved}
+use Rattle.b67_templates.specs.Programs.{Texts}
 use Rattle.b67_standing.specs.Stepping.{row, Slot, operand, reference, descriptor}
 use Rattle.b67_standing.specs.Standing.{IsLast}
 use Rattle.b67_cores.specs.Cores.{Core}
@@ -46,7 +46,7 @@ use Rattle.b67_pictures.proofs.Words.{reference_read}
 same_array : (a b : ArrayCell) → array a ≡ array b → a ≡ b
 same_array a b e = cc
 
-module _ (tree : PProgram) (code : Code) (texts : ℕ → List Placed) (nested : AreNested (scopes_of tree)) (w : World) (lay : Layout) (img : Image)
+module _ (tree : PProgram) (code : Code) (texts : Texts) (nested : AreNested (scopes_of tree)) (w : World) (lay : Layout) (img : Image)
     (p : ℕ) (q : Process) (part : Part) (outer : List Part) (bound : ℕ) (core : Core) (s : Scene tree code texts w lay img p q part outer bound core) where
   abbrev sc : Scopes
   sc = scopes_of tree
@@ -203,7 +203,7 @@ module _ (tree : PProgram) (code : Code) (texts : ℕ → List Placed) (nested :
       allotted_is : of_row.allotted ≡ h.allotted
       allotted_is =
           let found = some_same (sym of_home.found ∙ h.of.found) in
-          some_same (sym of_home.allotted ∙ ap (λ (f : FoundArray). slice_get (lay.rows home.instance) f.number) found ∙ h.of.allotted)
+          some_same (sym of_home.allotted ∙ ap (λ (f : FoundMade). slice_get (lay.rows home.instance) f.number) found ∙ h.of.allotted)
 
       bounds_are : of_row.first ∷ of_row.second ∷ [] ≡ b ∷ c ∷ []
       bounds_are = sym of_row.bounds ∙ ap (λ (a : ArrayCell). a.bounds) cell_is ∙ is

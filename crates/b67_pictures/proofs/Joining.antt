@@ -9,12 +9,11 @@ use Rattle.algol_tree.specs.Scopes.{scopes_of}
 use Rattle.algol_meaning.specs.Value.{Value, Reference}
 use Rattle.algol_meaning.specs.Rest.{element_of, Given, done, value}
 use Rattle.algol_meaning.specs.Asks.{reads_element, indexes, leaves, enters, passes, stores, enters_block, makes_arrays}
-use Rattle.algol_paths.specs.Laws.{RestsKeepToTheirText, ArraysAreMadeInOrder}
-use Rattle.b67_segment.specs.Operators.{Placed}
+use Rattle.algol_paths.specs.Laws.{RestsKeepToTheirText, AllIsMadeInOrder}
 use Rattle.b67_segment.specs.declared.code.Code.{Code}
 use Rattle.b67_segment.specs.declared.code.Segment.{Segment}
 use Rattle.b67_table.specs.Limits.{segment_limit}
-use Rattle.b67_templates.specs.Programs.{ProgramAt}
+use Rattle.b67_templates.specs.Programs.{Texts, ProgramAt}
 use Rattle.b67_standing.specs.Laws.{RestsGoOn}
 use Rattle.b67_standing.proofs.GoingOn.{rests_go_on}
 use Rattle.b67_standing.proofs.Starting.{blocks_start, inner_blocks_start}
@@ -26,6 +25,7 @@ use Rattle.b67_faithful.specs.Faithful.{HasFormats, IsShort, Faithful}
 use Rattle.b67_faithful.proofs.Contradictions.{none_some}
 use Rattle.b67_fitting.specs.Names.{HasNames}
 use Rattle.b67_fitting.specs.Nested.{AreNested, LiesNested}
+use Rattle.b67_pictures.proofs.Yielding.{no_value}
 use Rattle.b67_pictures.specs.Programs.{NestedProgramsAreFaithful}
 use Rattle.b67_pictures.proofs.Closing.{FramesClose}
 use Rattle.b67_pictures.proofs.Dispatching.{IsDone, OthersAreDone, scene_does}
@@ -46,17 +46,17 @@ use Rattle.b67_pictures.proofs.Starting.{first_pictured}
 use Rattle.b67_pictures.proofs.Counting.{operators_are_few}
 
 -- what is done with arrays: an element is read, indexed, or stored, a parameter is passed on, and arrays are made
-pub record ArraysAreDone (tree : PProgram) (code : Code) (texts : ℕ → List Placed) : Type 0 where
+pub record ArraysAreDone (tree : PProgram) (code : Code) (texts : Texts) : Type 0 where
   pub reading : (n : Named) (ks : List ℕ) (v : Value) → IsDone tree code texts (reads_element n ks v)
   pub indexing : (n : Named) (ks : List ℕ) (v : Value) → IsDone tree code texts (indexes n ks v)
   pub storing : (r : Reference) (ks : List ℕ) (v : Value) → IsDone tree code texts (stores (element_of r ks) v)
   pub passing : (n : Named) → IsDone tree code texts (passes n)
   pub making : (kind : Kind) (ns : List Named) (pairs : List PPair) (vs : List Value) → IsDone tree code texts (makes_arrays kind ns pairs vs)
 
-module _ (keeps : RestsKeepToTheirText) (order : ArraysAreMadeInOrder) (closing : FramesClose) (tree : PProgram) (code : Code) (names : HasNames tree) (lies : LiesNested tree) (short : IsShort tree code)
+module _ (keeps : RestsKeepToTheirText) (order : AllIsMadeInOrder) (closing : FramesClose) (tree : PProgram) (code : Code) (names : HasNames tree) (lies : LiesNested tree) (short : IsShort tree code)
     (segments : All (λ (segment : Segment). length segment.words ≤ segment_limit) code.segments) (at : ProgramAt code tree) (apart : StandApart tree code at.texts)
     (arrays : ArraysAreDone tree code at.texts) where
-  abbrev texts : ℕ → List Placed
+  abbrev texts : Texts
   texts = at.texts
 
   -- a block or a procedure is left, or the process ends
@@ -67,7 +67,7 @@ module _ (keeps : RestsKeepToTheirText) (order : ArraysAreMadeInOrder) (closing 
 
   -- of the outermost part no value is wanted
   gives_back : (v : Value) → IsDone tree code texts (leaves (value v))
-  gives_back v w lay img p q part [] bound core s able_is able_p asks a answered waits returns = none_some (sym s.around.3 ∙ a.2)
+  gives_back v w lay img p q part [] bound core s able_is able_p asks a answered waits returns = no_value a.0 (sym s.around.3 ∙ a.2)
   gives_back v w lay img p q part (next ∷ parts) bound core s able_is able_p asks a answered waits returns =
       leaving_with tree code texts (have_texts tree code at) fragments_are_performed keeps order closing w lay img p q part next parts bound core s able_is able_p v asks a
 
@@ -115,10 +115,10 @@ within_limit segments all k first inside = (all k first inside).1.few
 
 -- the processes of a picture stand apart
 abbrev pub ProcessesStandApart : Type 0
-ProcessesStandApart = (tree : PProgram) (code : Code) (texts : ℕ → List Placed) → AreNested (scopes_of tree) → RestsGoOn → StandApart tree code texts
+ProcessesStandApart = (tree : PProgram) (code : Code) (texts : Texts) → AreNested (scopes_of tree) → RestsGoOn → StandApart tree code texts
 
 -- Where the blocks of a program lie in one another, a code in which it stands is faithful to it.
-pub nested_programs_follow : RestsKeepToTheirText → ArraysAreMadeInOrder → FramesClose → ProcessesStandApart →
+pub nested_programs_follow : RestsKeepToTheirText → AllIsMadeInOrder → FramesClose → ProcessesStandApart →
     ((tree : PProgram) (code : Code) (at : ProgramAt code tree) → LiesNested tree → IsShort tree code → ArraysAreDone tree code at.texts) → NestedProgramsAreFaithful
 nested_programs_follow keeps in_order closing apart arrays tree code lies names at formats short listable =
     program_is_faithful keeps in_order closing tree code names lies short (within_limit code.segments listable.segments) at (apart tree code at.texts lies.nested rests_go_on) (arrays tree code at lies short) formats listable

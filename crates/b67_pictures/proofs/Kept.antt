@@ -4,8 +4,8 @@ use Rattle.b67_list.specs.Numbered.{numbered, set_numbered}
 use Rattle.algol_tree.specs.Plain.{PProgram}
 use Rattle.algol_meaning.specs.World.{Instance, Process, World, process_at}
 use Rattle.b67_word.specs.declared.Place.{Place}
-use Rattle.b67_segment.specs.Operators.{Placed}
 use Rattle.b67_segment.specs.declared.code.Code.{Code}
+use Rattle.b67_templates.specs.Programs.{Texts}
 use Rattle.b67_table.specs.Image.{Image}
 use Rattle.b67_cores.specs.Cores.{Core, HasCore}
 use Rattle.b67_faithful.specs.Weight.{weight, parts_weight}
@@ -44,7 +44,7 @@ alike_but w w' lay r i x y there other same =
       rows = λ j z e own. refl;
     }
 
-module _ (tree : PProgram) (code : Code) (texts : ℕ → List Placed) (w w' : World) (lay lay' : Layout) (r : ℕ) (alike : AreAlike w w' lay lay' r) where
+module _ (tree : PProgram) (code : Code) (texts : Texts) (w w' : World) (lay lay' : Layout) (r : ℕ) (alike : AreAlike w w' lay lay' r) where
   -- so low that it is below any limit
   pub stay_below : (limit : ℕ) → StayBelow w w' lay lay' r limit
   stay_below limit = record { instances = λ i at x e own laid low. alike.own i x e own; places = alike.places; rows = λ i at x e own laid low. alike.rows i x e own }

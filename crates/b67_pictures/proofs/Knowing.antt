@@ -9,12 +9,13 @@ use Rattle.algol_tree.specs.Scopes.{Scopes, use_of}
 use Rattle.algol_tree.specs.Sorts.{same_name}
 use Rattle.algol_meaning.specs.Value.{Value, Reference, Bounds, ArrayCell, Cell, simple, event, array, named, reference}
 use Rattle.algol_meaning.specs.World.{NamedCell, Instance, Part, World, instance_at, or_no_instance, ancestor, cell_in, cells_with, by_cell, followed}
-use Rattle.algol_paths.specs.Arrays.{DeclaredArray, Shape, arrays_of}
+use Rattle.algol_paths.specs.Arrays.{DeclaredArray, Shape}
 use Rattle.b67_word.specs.declared.Place.{Place}
 use Rattle.b67_word.specs.Word.{Word}
 use Rattle.b67_table.specs.References.{cell_word}
-use Rattle.b67_templates.specs.Cells.{simple_cells, procedures, array_from}
-use Rattle.b67_standing.specs.Stepping.{Held, row, element, cell_named, cell_of}
+use Rattle.b67_templates.specs.Cells as wants
+use Rattle.b67_templates.specs.Cells.{simple_cells, procedures, made_of, made_from}
+use Rattle.b67_standing.specs.Stepping.{Held, row, element, cell_named, passed}
 use Rattle.b67_cores.specs.Slots.{Known, IsKnown}
 use Rattle.b67_pictures.specs.Arrays.{Allotted, Layout, IsOwn, IsArrayOf, IsIn, LeadsTo, named_from, IsNamed, IsRow, IsElement, HeldIs, AreKnown}
 
@@ -50,7 +51,7 @@ module _ (sc : Scopes) (w w' : World) (lay lay' : Layout) where
   array_lasts j name declared cell a keeps h =
       record {
         number = h.number;
-        found = ap (λ (b : ℕ). array_from 0 (arrays_of (block_numbered sc.blocks b).decls) name) keeps.block ∙ h.found;
+        found = ap (λ (b : ℕ). made_from 0 (made_of (block_numbered sc.blocks b).decls) name) keeps.block ∙ h.found;
         is = (keeps.arrays name cell h.is).is;
         allotted = keeps.rows h.number a h.allotted;
       }
@@ -153,7 +154,8 @@ module _ (sc : Scopes) (w w' : World) (lay lay' : Layout) where
       held_lasts (row n ks) word h = row_lasts n ks word h
       held_lasts (element r ks kind) word h = element_lasts r ks kind word h
       held_lasts (cell_named n) word h = named_lasts n word h
-      held_lasts (cell_of shape r) word h = leads_lasts shape r word h
+      held_lasts (passed (wants.array shape) (reference r)) word h = leads_lasts shape r word h
+      held_lasts (passed _ c) word h = absurd h
 
       -- so all of it holds later
       pub known_lasts : (known : List Known) → AreKnown sc w lay parts i known → AreKnown sc w' lay' parts' i known

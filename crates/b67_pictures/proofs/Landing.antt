@@ -8,6 +8,7 @@ use Rattle.b67_control.specs.declared.Registers.{Registers}
 use Rattle.b67_control.specs.Display.{place_at}
 use Rattle.b67_segment.specs.Operators.{Placed}
 use Rattle.b67_segment.specs.declared.code.Code.{Code}
+use Rattle.b67_templates.specs.Programs.{Texts}
 use Rattle.b67_store.specs.Store.{stack_limit}
 use Rattle.b67_table.specs.Chains.{place}
 use Rattle.b67_table.specs.Image.{Image}
@@ -31,7 +32,7 @@ pub steps_none : (sc : Scopes) (known : List Known) (code : Code) (ps : List Pla
 steps_none sc known code ps level most bound pc slots core at few room =
     here (omega (arith, slots_length sc known level (frame core.registers) (length core.below) slots core.words at.words_are, few, room))
 
-module _ (tree : PProgram) (code : Code) (texts : ℕ → List Placed) (w : World) (lay : Layout) (img : Image) where
+module _ (tree : PProgram) (code : Code) (texts : Texts) (w : World) (lay : Layout) (img : Image) where
   -- The process has the core `first`, from which private operators lead to `core`. That has the frame of the innermost part, and stands at
   -- a place from where the machine comes to where it stands for what the part has still to do.
   pub record Landed (p : ℕ) (q : Process) (part : Part) (outer : List Part) (bound : ℕ) (first core : Core) : Type 0 where
@@ -56,14 +57,14 @@ module _ (tree : PProgram) (code : Code) (texts : ℕ → List Placed) (w : Worl
     pub known_are : AreKnown (scopes_of tree) w lay (part ∷ outer) part.instance known
     pub at : CoreAt (scopes_of tree) known code (text_in tree texts w part) (level_in tree w part) pc slots core
     pub held : length slots ≤ most_in tree w part
-    pub comes : ComesTo (scopes_of tree) (context_in tree code w part) (text_in tree texts w part) (level_in tree w part) (most_in tree w part) part.rest pc slots
+    pub comes : ComesTo (scopes_of tree) (context_in tree code texts w part) (text_in tree texts w part) (level_in tree w part) (most_in tree w part) part.rest pc slots
     pub room : length core.below + most_in tree w part ≤ bound
     pub light : bound + 3 ≤ weight tree w p
 
   pub living_of : FragmentsArePerformed → (p : ℕ) (q : Process) (part : Part) (outer : List Part) (bound : ℕ) (first core : Core) → Landed p q part outer bound first core → Living tree code texts w lay img p q
   living_of fragments p q part outer bound first core l =
-      let a : Arrives (scopes_of tree) l.known code (text_in tree texts w part) (level_in tree w part) (most_in tree w part) bound l.comes.at l.comes.with_slots core =
-      fragments.leads (scopes_of tree) l.known (context_in tree code w part) code (text_in tree texts w part) (level_in tree w part) (most_in tree w part) bound l.pc l.comes.at l.slots l.comes.with_slots core l.comes.leads l.at
+      let a : Arrives (scopes_of tree) l.known (context_in tree code texts w part) code (text_in tree texts w part) (level_in tree w part) (most_in tree w part) bound l.comes.at l.comes.with_slots core =
+      fragments.leads (scopes_of tree) l.known (context_in tree code texts w part) code (text_in tree texts w part) (level_in tree w part) (most_in tree w part) bound l.pc l.comes.at l.slots l.comes.with_slots core l.comes.leads l.at
       (sees tree code texts w lay p part outer core.below l.frame l.around core l.chained) l.held l.room in
       let stands : Frames tree code texts w lay p (part ∷ outer) a.core = (
         record {

@@ -10,6 +10,7 @@ use Rattle.b67_segment.specs.Operators.{Placed}
 use Rattle.b67_segment.specs.declared.code.Code.{Code}
 use Rattle.b67_table.specs.Image.{Image}
 use Rattle.b67_templates.specs.Contexts.{Context}
+use Rattle.b67_templates.specs.Programs.{Texts}
 use Rattle.b67_standing.specs.Stepping.{Slot}
 use Rattle.b67_standing.specs.Standing.{ActionAt}
 use Rattle.b67_standing.specs.Laws.{RestsGoOn}
@@ -53,7 +54,7 @@ module _ (sc : Scopes) (context : Context) (ps : List Placed) (level most pc : �
   asks_alone (makes_arrays kind ns pairs vs) a = (tt, tt)
   asks_alone (makes_event n) a = (tt, tt)
 
-module _ (tree : PProgram) (code : Code) (texts : ℕ → List Placed) (rests : RestsGoOn) (w : World) (lay : Layout) (img : Image) where
+module _ (tree : PProgram) (code : Code) (texts : Texts) (rests : RestsGoOn) (w : World) (lay : Layout) (img : Image) where
   pub acts_alone : (p : ℕ) (q : Process) → numbered w.processes p ≡ Some q → Living tree code texts w lay img p q → IsAlone w (choice (scopes_of tree) w p)
   acts_alone p q at l = by_parts q.todo refl l.frames
     where
@@ -61,8 +62,8 @@ module _ (tree : PProgram) (code : Code) (texts : ℕ → List Placed) (rests : 
       by_parts [] todo f = absurd f
       by_parts (part ∷ outer) todo f =
           let s : Stands tree code texts w lay p part outer l.settled = f.0 in
-          let on = rests (scopes_of tree) (context_in tree code w part) _ _ (most_in tree w part) part.rest s.pc s.slots s.stands s.asks in
-          let alone : AsksAlone (ask part.rest) = asks_alone (scopes_of tree) (context_in tree code w part) _ _ (most_in tree w part) s.pc s.slots (ask part.rest) on.action in
+          let on = rests (scopes_of tree) (context_in tree code texts w part) _ _ (most_in tree w part) part.rest s.pc s.slots s.stands s.asks in
+          let alone : AsksAlone (ask part.rest) = asks_alone (scopes_of tree) (context_in tree code texts w part) _ _ (most_in tree w part) s.pc s.slots (ask part.rest) on.action in
           subst (λ (c : Choice). IsAlone w c) (sym (choice_is (scopes_of tree) w p q part outer at todo))
           (record {
             starts = stays (scopes_of tree) w p q part outer (ask part.rest) alone.0;

@@ -1,19 +1,19 @@
 -- A block or a procedure is left.
 use Rattle.std.proofs.Common.{◌≡◌, sym, subst, ℕ, List, [], ◌∷◌, length, Option, Some, None, Ok}
 use Rattle.b67_list.specs.Numbered.{numbered}
-use Rattle.algol_tree.specs.declared.tree.Kind.{Kind}
 use Rattle.algol_tree.specs.Plain.{PProgram}
 use Rattle.algol_tree.specs.Scopes.{scopes_of}
 use Rattle.algol_meaning.specs.Value.{Value}
 use Rattle.algol_meaning.specs.Rest.{done, value}
 use Rattle.algol_meaning.specs.World.{Process, Part, able, World}
 use Rattle.algol_meaning.specs.Asks.{leaves, ask}
-use Rattle.algol_paths.specs.Laws.{RestsKeepToTheirText, ArraysAreMadeInOrder}
+use Rattle.algol_paths.specs.Laws.{RestsKeepToTheirText, AllIsMadeInOrder}
 use Rattle.b67_word.specs.declared.Place.{Place}
 use Rattle.b67_ops.specs.declared.Operator.TheVariants as ops
 use Rattle.b67_ops.specs.declared.PlainKind.TheVariants as kinds
-use Rattle.b67_segment.specs.Operators.{Placed}
 use Rattle.b67_segment.specs.declared.code.Code.{Code}
+use Rattle.b67_templates.specs.Contexts.{Yields}
+use Rattle.b67_templates.specs.Programs.{Texts}
 use Rattle.b67_table.specs.declared.Below.{Below}
 use Rattle.b67_table.specs.declared.ProcessState.TheVariants.{Able}
 use Rattle.b67_table.specs.Image.{Image}
@@ -38,7 +38,7 @@ use Rattle.b67_pictures.proofs.Spelled.{HaveTexts}
 use Rattle.b67_pictures.proofs.Staying.{text_in, level_in, context_in, most_in, wanted_in}
 use Rattle.b67_pictures.proofs.Words.{value_tag}
 
-module _ (tree : PProgram) (code : Code) (texts : ℕ → List Placed) (stand : HaveTexts tree code texts) (fragments : FragmentsArePerformed) (keeps : RestsKeepToTheirText) (order : ArraysAreMadeInOrder) (closing : FramesClose)
+module _ (tree : PProgram) (code : Code) (texts : Texts) (stand : HaveTexts tree code texts) (fragments : FragmentsArePerformed) (keeps : RestsKeepToTheirText) (order : AllIsMadeInOrder) (closing : FramesClose)
     (w : World) (lay : Layout) (img : Image) (p : ℕ) (q : Process) (part next : Part) (parts : List Part) (bound : ℕ) (core : Core)
     (s : Scene tree code texts w lay img p q part (next ∷ parts) bound core) (able_is : q.state ≡ able) (able_p : numbered img.states p ≡ Some Able) where
   abbrev around : Waits tree code texts w lay p next parts s.stands.frame.lower s.stands.frame.mark s.stands.frame.control (wanted_in tree w part)
@@ -55,13 +55,13 @@ module _ (tree : PProgram) (code : Code) (texts : ℕ → List Placed) (stand : 
 
   -- with nothing: EXIT
   module _ (asks : ask part.rest ≡ leaves done)
-      (a : ActionAt (scopes_of tree) (context_in tree code w part) (text_in tree texts w part) (level_in tree w part) (most_in tree w part) (leaves done) s.stands.pc s.stands.slots) where
+      (a : ActionAt (scopes_of tree) (context_in tree code texts w part) (text_in tree texts w part) (level_in tree w part) (most_in tree w part) (leaves done) s.stands.pc s.stands.slots) where
     exits : operator_at code core.registers ≡ Ok (ops.Plain kinds.Exit, a.0)
     exits = operator_there (scopes_of tree) s.stands.held code (text_in tree texts w part) (level_in tree w part) s.stands.pc s.stands.slots core (ops.Plain kinds.Exit) a.0 s.stands.there a.2
 
     pub leaving : Does tree code texts w img p
     leaving =
-        leaving_frame tree code texts stand fragments keeps order closing w lay img p q part next parts bound core s able_is able_p done None nothing_given (subst (λ (o : Option Kind). Gives o done) (sym a.1) tt) a.0 asks
+        leaving_frame tree code texts stand fragments keeps order closing w lay img p q part next parts bound core s able_is able_p done None nothing_given (subst (λ (o : Yields). Gives o done) (sym a.1) tt) a.0 asks
         (leave_raw code img p core s.has a.0 around.below around.words s.stands.frame.mark s.stands.frame.control s.stands.frame.cells below shown leaves_it exits)
         (action_not_plain code img p core s.has (ops.Plain kinds.Exit) a.0 exits
         (leave_class code img p core s.has a.0 around.below around.words s.stands.frame.mark s.stands.frame.control s.stands.frame.cells below shown leaves_it exits))
@@ -69,7 +69,7 @@ module _ (tree : PProgram) (code : Code) (texts : ℕ → List Placed) (stand : 
 
   -- with a value: RETN
   module _ (v : Value) (asks : ask part.rest ≡ leaves (value v))
-      (a : ActionAt (scopes_of tree) (context_in tree code w part) (text_in tree texts w part) (level_in tree w part) (most_in tree w part) (leaves (value v)) s.stands.pc s.stands.slots) where
+      (a : ActionAt (scopes_of tree) (context_in tree code texts w part) (text_in tree texts w part) (level_in tree w part) (most_in tree w part) (leaves (value v)) s.stands.pc s.stands.slots) where
     returns : operator_at code core.registers ≡ Ok (ops.Plain kinds.Retn, a.1)
     returns = operator_there (scopes_of tree) s.stands.held code (text_in tree texts w part) (level_in tree w part) s.stands.pc s.stands.slots core (ops.Plain kinds.Retn) a.1 s.stands.there a.4
 
@@ -79,7 +79,7 @@ module _ (tree : PProgram) (code : Code) (texts : ℕ → List Placed) (stand : 
     pub leaving_with : Does tree code texts w img p
     leaving_with =
         leaving_frame tree code texts stand fragments keeps order closing w lay img p q part next parts bound core s able_is able_p (value v) (Some on_top.word) (value_given v on_top.word on_top.slot_is)
-        (subst (λ (o : Option Kind). Gives o (value v)) (sym a.2) a.3) a.1 asks
+        (subst (λ (o : Yields). Gives o (value v)) (sym a.2) a.3) a.1 asks
         (return_raw code img p core s.has a.1 returns around.below around.words s.stands.frame.mark s.stands.frame.control s.stands.frame.cells below shown leaves_it on_top.word on_top.words_below on_top.is
         (value_tag v on_top.word on_top.slot_is))
         (action_not_plain code img p core s.has (ops.Plain kinds.Retn) a.1 returns

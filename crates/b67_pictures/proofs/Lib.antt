@@ -1,3 +1,4 @@
+pub mod Yielding
 pub mod Numbers
 pub mod Parents
 pub mod Knowing

@@ -12,8 +12,9 @@ use Rattle.b67_word.specs.declared.Place.{Place}
 use Rattle.b67_word.specs.Word.{Word}
 use Rattle.b67_control.specs.Control.{as_mscw, as_rcw}
 use Rattle.b67_control.specs.Display.{place_at}
-use Rattle.b67_segment.specs.Operators.{Placed}
 use Rattle.b67_segment.specs.declared.code.Code.{Code}
+use Rattle.b67_templates.specs.Contexts.{Yields}
+use Rattle.b67_templates.specs.Programs.{Texts}
 use Rattle.b67_store.specs.Store.{Stacks, words_of, word_at}
 use Rattle.b67_table.specs.Chains.{place}
 use Rattle.b67_table.specs.Image.{Image}
@@ -73,7 +74,7 @@ begins_core img p core has n x e =
     ∙ ap (λ (ws : List Word). slice_get ws n) (words_are img p core has)
     ∙ get-front core.below (reverse core.words) n x e
 
-module _ (tree : PProgram) (code : Code) (texts : ℕ → List Placed) (w : World) (lay : Layout) (p : ℕ) (stacks : Stacks) where
+module _ (tree : PProgram) (code : Code) (texts : Texts) (w : World) (lay : Layout) (p : ℕ) (stacks : Stacks) where
   abbrev sc : Scopes
   sc = scopes_of tree
 
@@ -158,7 +159,7 @@ module _ (tree : PProgram) (code : Code) (texts : ℕ → List Placed) (w : Worl
         by_place (inside own alone made) = from_parent (around_linked x.parent own) alone
 
   -- so stand the frames of all parts around, whose words begin the stack
-  pub around_linked : (parts : List Part) (lower : List Word) (mark control : Word) (wanted : Option Kind) → Around tree code texts w lay p parts lower mark control wanted → Begins_with stacks p lower → (i : ℕ) → IsOwn parts i →
+  pub around_linked : (parts : List Part) (lower : List Word) (mark control : Word) (wanted : Yields) → Around tree code texts w lay p parts lower mark control wanted → Begins_with stacks p lower → (i : ℕ) → IsOwn parts i →
       Linked sc w lay stacks p i
   around_linked [] lower mark control wanted a b i own = absurd own
   around_linked (part ∷ outer) lower mark control wanted a b i own =

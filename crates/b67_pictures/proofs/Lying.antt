@@ -11,17 +11,16 @@ use Rattle.algol_meaning.specs.World.{Instance, Part, World, instance_at, or_no_
 use Rattle.algol_meaning.specs.Rest.{Answer}
 use Rattle.algol_meaning.specs.Asks.{resume}
 use Rattle.algol_meaning.specs.Critical.{is_evaluation}
-use Rattle.algol_paths.specs.Arrays.{arrays_of}
 use Rattle.algol_paths.specs.Laws.{KeepsToText}
 use Rattle.algol_paths.specs.Segments.{segment_of}
 use Rattle.b67_word.specs.declared.Place.{Place}
 use Rattle.b67_word.specs.Word.{Word}
-use Rattle.b67_segment.specs.Operators.{Placed}
 use Rattle.b67_segment.specs.declared.code.Code.{Code}
 use Rattle.b67_table.specs.Chains.{place}
 use Rattle.b67_ops.specs.declared.TheConstants.{OUTER_LEVEL}
-use Rattle.b67_templates.specs.Cells.{simple_cells}
-use Rattle.b67_templates.specs.Programs.{context_of}
+use Rattle.b67_templates.specs.Contexts.{Yields, yields_of}
+use Rattle.b67_templates.specs.Cells.{simple_cells, made_of}
+use Rattle.b67_templates.specs.Programs.{Texts, context_of}
 use Rattle.b67_standing.specs.Standing.{Gives, pushed, ComesTo}
 use Rattle.b67_cores.specs.Cores.{Core}
 use Rattle.b67_cores.specs.Slots.{Known, SlotsAre}
@@ -41,7 +40,7 @@ below_frame words lower mark control cells e = omega (arith, ap length e, length
 further : (words lower back front rest : List Word) → words ≡ lower ++ back → lower ≡ front ++ rest → words ≡ front ++ (rest ++ back)
 further words lower back front rest e f = e ∙ ap (λ (ws : List Word). ws ++ back) f ∙ append_assoc front rest back
 
-module _ (tree : PProgram) (code : Code) (texts : ℕ → List Placed) (w : World) (lay : Layout) (p : ℕ) where
+module _ (tree : PProgram) (code : Code) (texts : Texts) (w : World) (lay : Layout) (p : ℕ) where
   -- The frame of an instance of these parts: these words begin with it and with what lies below it.
   pub record Lies (parts : List Part) (i : ℕ) (words : List Word) : Type 0 where
     pub part : Part
@@ -60,7 +59,7 @@ module _ (tree : PProgram) (code : Code) (texts : ℕ → List Placed) (w : Worl
       let whole : length (l.frame.lower) + 2 + length (l.frame.cells) ≡ length l.front = below_frame l.front l.frame.lower l.frame.mark l.frame.control l.frame.cells l.frame.words_are in
       omega (arith, ap length l.words_are, length-append l.front l.rest, whole)
 
-  pub lies_around : (parts : List Part) (lower : List Word) (mark control : Word) (wanted : Option Kind) → Around tree code texts w lay p parts lower mark control wanted → (i : ℕ) → IsOwn parts i → Lies parts i lower
+  pub lies_around : (parts : List Part) (lower : List Word) (mark control : Word) (wanted : Yields) → Around tree code texts w lay p parts lower mark control wanted → (i : ℕ) → IsOwn parts i → Lies parts i lower
   lies_around [] lower mark control wanted a i own = absurd own
   lies_around (part ∷ outer) lower mark control wanted a i (inl e) =
       record {
@@ -195,11 +194,11 @@ pub record StayBelow (w w' : World) (lay lay' : Layout) (p limit : ℕ) : Type 0
   pub places : (i : ℕ) (f : Place) → numbered lay.places i ≡ Some f → numbered lay'.places i ≡ Some f
   pub rows : (i at : ℕ) (x : Instance) → numbered w.instances i ≡ Some x → x.process ≡ p → numbered lay.places i ≡ Some (place p at) → at < limit → lay'.rows i ≡ lay.rows i
 
-module _ (tree : PProgram) (code : Code) (texts : ℕ → List Placed) (w w' : World) (lay lay' : Layout) (p limit : ℕ) (stay : StayBelow w w' lay lay' p limit) where
+module _ (tree : PProgram) (code : Code) (texts : Texts) (w w' : World) (lay lay' : Layout) (p limit : ℕ) (stay : StayBelow w w' lay lay' p limit) where
   abbrev sc : Scopes
   sc = scopes_of tree
 
-  abbrev wanted_old : Part → Option Kind
+  abbrev wanted_old : Part → Yields
   wanted_old part = result_of_part tree code texts w lay p part
 
   abbrev OldFrame : Part → List Part → List Word → Type 0
@@ -223,7 +222,7 @@ module _ (tree : PProgram) (code : Code) (texts : ℕ → List Placed) (w w' : W
     pub instance : instance_at w' j ≡ instance_at w j
     pub rows : lay'.rows j ≡ lay.rows j
 
-  lasts_outer : (outer : List Part) (lower : List Word) (mark control : Word) (wanted : Option Kind) → Around tree code texts w lay p outer lower mark control wanted → length lower ≤ limit → (j : ℕ) → IsOwn outer j → Lasts j
+  lasts_outer : (outer : List Part) (lower : List Word) (mark control : Word) (wanted : Yields) → Around tree code texts w lay p outer lower mark control wanted → length lower ≤ limit → (j : ℕ) → IsOwn outer j → Lasts j
   lasts_outer outer lower mark control wanted a low j own =
       let l : Lies tree code texts w lay p outer j lower = lies_around tree code texts w lay p outer lower mark control wanted a j own in
       let lowest : length l.frame.lower < limit = omega (arith, lies_low tree code texts w lay p outer j lower l, low) in
@@ -233,7 +232,7 @@ module _ (tree : PProgram) (code : Code) (texts : ℕ → List Placed) (w w' : W
       })
 
   -- the parts around, whose frames lie lower
-  pub outer_remain : (outer : List Part) (lower : List Word) (mark control : Word) (wanted : Option Kind) → Around tree code texts w lay p outer lower mark control wanted → length lower ≤ limit → Remain sc w w' lay lay' outer outer
+  pub outer_remain : (outer : List Part) (lower : List Word) (mark control : Word) (wanted : Yields) → Around tree code texts w lay p outer lower mark control wanted → length lower ≤ limit → Remain sc w w' lay lay' outer outer
   outer_remain outer lower mark control wanted a low =
       record {
         owned = λ j own. own;
@@ -242,7 +241,7 @@ module _ (tree : PProgram) (code : Code) (texts : ℕ → List Placed) (w w' : W
       }
 
   -- the parent of an instance is one of the parts around, whose frames lie lower
-  pub placed_after : (outer : List Part) (lower : List Word) (mark control : Word) (wanted : Option Kind) → Around tree code texts w lay p outer lower mark control wanted → length lower < limit → (x : Instance) → IsPlaced sc w lay outer x →
+  pub placed_after : (outer : List Part) (lower : List Word) (mark control : Word) (wanted : Yields) → Around tree code texts w lay p outer lower mark control wanted → length lower < limit → (x : Instance) → IsPlaced sc w lay outer x →
       IsPlaced sc w' lay' outer x
   placed_after outer lower mark control wanted a low x (outermost none_up alone) = outermost none_up alone
   placed_after outer lower mark control wanted a low x (inside own next made) =
@@ -251,7 +250,7 @@ module _ (tree : PProgram) (code : Code) (texts : ℕ → List Placed) (w w' : W
       let same : instance_at w x.parent ≡ instance_at w' x.parent =
       ap (λ (k : ℕ). instance_at w k) (sym l.instance_is) ∙ same_instance l.part l.outer l.front l.frame lowest ∙ ap (λ (k : ℕ). instance_at w' k) l.instance_is in
       inside own (subst (λ (y : Instance). around sc.blocks x.block ≡ y.block ∷ around sc.blocks y.block) same next)
-      (subst (λ (y : Instance). length y.cells ≡ length (simple_cells sc (block_numbered sc.blocks y.block)) + length (arrays_of (block_numbered sc.blocks y.block).decls)) same made)
+      (subst (λ (y : Instance). length y.cells ≡ length (simple_cells sc (block_numbered sc.blocks y.block)) + length (made_of (block_numbered sc.blocks y.block).decls)) same made)
 
   abbrev framed_after : (part : Part) (outer : List Part) (words : List Word) (f : OldFrame part outer words) → Around tree code texts w lay p outer f.lower f.mark f.control (wanted_old part) → length f.lower < limit →
       Framed sc w' lay' p part.instance outer (length f.lower) f.mark f.control f.cells
@@ -266,8 +265,8 @@ module _ (tree : PProgram) (code : Code) (texts : ℕ → List Placed) (w w' : W
         simple = f.framed.simple;
         values = f.framed.values;
         simple_are = f.framed.simple_are;
-        formals = λ k s shape there none told.
-            let g = f.framed.formals k s shape there none told in
+        formals = λ k s shape there told.
+            let g = f.framed.formals k s shape there told in
             (g.0, g.1, g.2, g.3, g.4, g.5, leads_lasts sc w w' lay lay' outer outer (outer_remain outer f.lower f.mark f.control (wanted_old part) a (omega (arith, low))) shape g.2 g.1 g.6);
         arrays = f.framed.arrays;
         declared = f.framed.declared;
@@ -323,12 +322,12 @@ module _ (tree : PProgram) (code : Code) (texts : ℕ → List Placed) (w w' : W
         known_lasts sc w w' lay lay' (part ∷ outer) (part ∷ outer) remain part.instance
         (climbs_own sc w w' lay lay' (part ∷ outer) remain.keeps (next_own tree code texts w lay p part outer words f a) part.instance (inl refl))
 
-  frame_low : (part : Part) (outer : List Part) (lower : List Word) (mark control : Word) (wanted : Option Kind) → length lower ≤ limit → (s : Waits tree code texts w lay p part outer lower mark control wanted) → length (s.frame.lower) < limit
+  frame_low : (part : Part) (outer : List Part) (lower : List Word) (mark control : Word) (wanted : Yields) → length lower ≤ limit → (s : Waits tree code texts w lay p part outer lower mark control wanted) → length (s.frame.lower) < limit
   frame_low part outer lower mark control wanted low s =
       omega (arith, low, ap length s.lower_is, length-append s.below (reverse s.words), below_frame s.below s.frame.lower s.frame.mark s.frame.control s.frame.cells s.frame.words_are)
 
   -- the parts whose frames lie so low weigh as much
-  pub weight_stays : (parts : List Part) (lower : List Word) (mark control : Word) (wanted : Option Kind) → length lower ≤ limit → Around tree code texts w lay p parts lower mark control wanted → parts_weight tree w parts ≡ parts_weight tree w' parts
+  pub weight_stays : (parts : List Part) (lower : List Word) (mark control : Word) (wanted : Yields) → length lower ≤ limit → Around tree code texts w lay p parts lower mark control wanted → parts_weight tree w parts ≡ parts_weight tree w' parts
   weight_stays [] lower mark control wanted low a = refl
   weight_stays (part ∷ outer) lower mark control wanted low a =
       let s : Waits tree code texts w lay p part outer lower mark control wanted = a.0 in
@@ -339,7 +338,7 @@ module _ (tree : PProgram) (code : Code) (texts : ℕ → List Placed) (w w' : W
       ap (λ (n : ℕ). n + parts_weight tree w outer) here ∙ ap (λ (n : ℕ). part_weight tree w' part + n) others
 
   -- the parts whose frames lie below stand as they did
-  pub around_stays : (parts : List Part) (lower : List Word) (mark control : Word) (wanted : Option Kind) → length lower ≤ limit → Around tree code texts w lay p parts lower mark control wanted →
+  pub around_stays : (parts : List Part) (lower : List Word) (mark control : Word) (wanted : Yields) → length lower ≤ limit → Around tree code texts w lay p parts lower mark control wanted →
       Around tree code texts w' lay' p parts lower mark control wanted
   around_stays [] lower mark control wanted low a = a
   around_stays (part ∷ outer) lower mark control wanted low a =
@@ -355,7 +354,7 @@ module _ (tree : PProgram) (code : Code) (texts : ℕ → List Placed) (w w' : W
           pc = s.pc;
           slots = s.slots;
           returns = subst (λ (x : Instance). (r : Answer) → Gives wanted r →
-              ComesTo sc (context_of code sc x.block) (texts (segment_of sc.blocks x.block)) (level_of (block_numbered sc.blocks x.block)) (most_around tree x.block) (resume sc part.rest r) s.pc (pushed r s.slots)) same s.returns;
+              ComesTo sc (context_of code texts sc x.block) (texts.placed (segment_of sc.blocks x.block)) (level_of (block_numbered sc.blocks x.block)) (most_around tree x.block) (resume sc part.rest r) s.pc (pushed r s.slots)) same s.returns;
           few = subst (λ (x : Instance). length s.slots + 1 ≤ most_around tree x.block) same s.few;
           held = s.held;
           held_are = known_after part outer s.below s.frame a.1 lowest s.held s.held_are;
@@ -373,7 +372,7 @@ module _ (tree : PProgram) (code : Code) (texts : ℕ → List Placed) (w w' : W
           light = subst (λ (x : Instance). length s.below + most_around tree x.block + 3 ≤ parts_weight tree w' (part ∷ outer)) same
               (subst (λ (n : ℕ). length s.below + most_around tree ((instance_at w part.instance).block) + 3 ≤ n) (weight_stays (part ∷ outer) lower mark control wanted low a) s.light);
         },
-        subst (λ (x : Instance). Around tree code texts w' lay' p outer s.frame.lower s.frame.mark s.frame.control ((block_numbered sc.blocks x.block).result)) same
+        subst (λ (x : Instance). Around tree code texts w' lay' p outer s.frame.lower s.frame.mark s.frame.control (yields_of (block_numbered sc.blocks x.block).result)) same
             (around_stays outer s.frame.lower s.frame.mark s.frame.control (wanted_old part) (omega (arith, lowest)) a.1),
       )
 

@@ -6,9 +6,11 @@ use Rattle.algol_tree.specs.Sorts.{same_name}
 use Rattle.algol_meaning.specs.Value.{Bounds, ArrayCell, Cell, simple, event, array, named, reference}
 use Rattle.algol_meaning.specs.Arrays.{elements_of}
 use Rattle.algol_meaning.specs.World.{NamedCell, cell_in, cells_with}
-use Rattle.algol_paths.specs.Arrays.{DeclaredArray, lows_of}
+use Rattle.algol_paths.specs.Arrays.{DeclaredArray, Made, an_array, lows_of, an_event}
 use Rattle.b67_word.specs.Word.{Word}
-use Rattle.b67_templates.specs.Cells.{Simple, found_from, FoundArray, array_from}
+use Rattle.b67_templates.specs.Fragments.{procedure_controls}
+use Rattle.b67_templates.specs.Cells as wants
+use Rattle.b67_templates.specs.Cells.{Simple, found_from, made_from, made_name, FoundMade, Wanted}
 use Rattle.b67_cores.specs.Stretches.{control_words}
 use Rattle.b67_faithful.proofs.Contradictions.{some_same, none_some}
 use Rattle.b67_pictures.specs.Arrays.{Allotted, DescriptorIs, AreSized, AreMade}
@@ -26,7 +28,7 @@ pub none_left : {A : Type 0} (xs : List A) → length xs ≡ 0 → xs ≡ []
 none_left [] e = refl
 none_left (x ∷ xs) e = absurd (omega (arith, e))
 
-pub as_many_controls : (level : ℕ) (segments : List ℕ) → length (control_words level segments) ≡ length segments
+pub as_many_controls : (level : ℕ) (segments : List ℕ) → length (control_words (procedure_controls level segments)) ≡ length segments
 as_many_controls level [] = refl
 as_many_controls level (segment ∷ segments) = ap suc (as_many_controls level segments)
 
@@ -77,10 +79,11 @@ past_values (s ∷ ss) [] ws more name a are is = absurd are
 past_values (s ∷ ss) (c ∷ cells) [] more name a are is = absurd are
 past_values (s ∷ ss) (c ∷ cells) (w ∷ ws) more name a are is = by_name (past_values ss cells ws more name a are.2) (same_name c.name name) refl is
   where
-    no_array : (o : Option Kind) (k : Cell) → CellIs o k w → k ≡ array a → ⊥
+    no_array : (o : Wanted) (k : Cell) → CellIs o k w → k ≡ array a → ⊥
     no_array o (simple v) holds e = cc
-    no_array (Some kind) (array b) holds e = holds
-    no_array None (array b) holds e = holds
+    no_array (wants.value kind) (array b) holds e = holds
+    no_array (wants.array shape) (array b) holds e = holds
+    no_array _ (array b) holds e = holds
     no_array o (event b) holds e = cc
     no_array o (named b) holds e = cc
     no_array o (reference b) holds e = cc
@@ -88,38 +91,38 @@ past_values (s ∷ ss) (c ∷ cells) (w ∷ ws) more name a are is = by_name (pa
     by_name : (cell_in (cells ++ more) name ≡ array a → IsPast cells name) → (b : Bool) → same_name c.name name ≡ b →
         (if same_name c.name name then c.cell else cell_in (cells ++ more) name) ≡ array a → IsPast (c ∷ cells) name
     by_name rest true same e =
-        absurd (no_array s.kind c.cell are.1 (ap (λ (b : Bool). if b then c.cell else cell_in (cells ++ more) name) (sym same) ∙ e))
+        absurd (no_array s.wanted c.cell are.1 (ap (λ (b : Bool). if b then c.cell else cell_in (cells ++ more) name) (sym same) ∙ e))
     by_name rest false same e =
         one_past c cells name same (rest (ap (λ (b : Bool). if b then c.cell else cell_in (cells ++ more) name) (sym same) ∙ e))
 
 -- ---- the arrays that are made
 
-pub low_number : (k : ℕ) (ds : List DeclaredArray) (name : List ℕ) (number : ℕ) (d : DeclaredArray) → array_from k ds name ≡ Some (record { number = number; array = d }) → number < k + length ds
+pub low_number : (k : ℕ) (ds : List Made) (name : List ℕ) (number : ℕ) (d : DeclaredArray) → made_from k ds name ≡ Some (record { number = number; made = an_array d }) → number < k + length ds
 low_number k [] name number d there = none_some there
-low_number k (e ∷ ds) name number d there = by_name (low_number (k + 1) ds name number d) (same_name e.name name) there
+low_number k (e ∷ ds) name number d there = by_name (low_number (k + 1) ds name number d) (same_name (made_name e) name) there
   where
-    by_name : (array_from (k + 1) ds name ≡ Some (record { number = number; array = d }) → number < k + 1 + length ds) → (b : Bool) →
-        (if b then Some (record { number = k; array = e }) else array_from (k + 1) ds name) ≡ Some (record { number = number; array = d }) → number < k + suc (length ds)
-    by_name rest true same = let here : k ≡ number = ap (λ (f : FoundArray). f.number) (some_same same) in omega (arith, here)
+    by_name : (made_from (k + 1) ds name ≡ Some (record { number = number; made = an_array d }) → number < k + 1 + length ds) → (b : Bool) →
+        (if b then Some (record { number = k; made = e }) else made_from (k + 1) ds name) ≡ Some (record { number = number; made = an_array d }) → number < k + suc (length ds)
+    by_name rest true same = let here : k ≡ number = ap (λ (f : FoundMade). f.number) (some_same same) in omega (arith, here)
     by_name rest false same = omega (arith, rest same)
 
-high_number : (k : ℕ) (ds : List DeclaredArray) (name : List ℕ) (number : ℕ) (d : DeclaredArray) → array_from k ds name ≡ Some (record { number = number; array = d }) → k ≤ number
+high_number : (k : ℕ) (ds : List Made) (name : List ℕ) (number : ℕ) (d : DeclaredArray) → made_from k ds name ≡ Some (record { number = number; made = an_array d }) → k ≤ number
 high_number k [] name number d there = none_some there
-high_number k (e ∷ ds) name number d there = by_name (high_number (k + 1) ds name number d) (same_name e.name name) there
+high_number k (e ∷ ds) name number d there = by_name (high_number (k + 1) ds name number d) (same_name (made_name e) name) there
   where
-    by_name : (array_from (k + 1) ds name ≡ Some (record { number = number; array = d }) → k + 1 ≤ number) → (b : Bool) →
-        (if b then Some (record { number = k; array = e }) else array_from (k + 1) ds name) ≡ Some (record { number = number; array = d }) → k ≤ number
-    by_name rest true same = let here : k ≡ number = ap (λ (f : FoundArray). f.number) (some_same same) in omega (arith, here)
+    by_name : (made_from (k + 1) ds name ≡ Some (record { number = number; made = an_array d }) → k + 1 ≤ number) → (b : Bool) →
+        (if b then Some (record { number = k; made = e }) else made_from (k + 1) ds name) ≡ Some (record { number = number; made = an_array d }) → k ≤ number
+    by_name rest true same = let here : k ≡ number = ap (λ (f : FoundMade). f.number) (some_same same) in omega (arith, here)
     by_name rest false same = omega (arith, rest same)
 
 pub same_cell : (c : NamedCell) (name : List ℕ) (cell : Cell) → c.name ≡ name → c.cell ≡ cell → c ≡ record { name = name; cell = cell }
 same_cell c name cell e f = ap (λ (n : List ℕ). record { name = n; cell = c.cell }) e ∙ ap (λ (k : Cell). record { name = name; cell = k }) f
 
 -- an array among those that are made
-pub record MadeThere (k : ℕ) (ds : List DeclaredArray) (cells : List NamedCell) (as' : List Allotted) (ws : List Word) (name : List ℕ) (number : ℕ) (d : DeclaredArray) : Type 0 where
+pub record MadeThere (k : ℕ) (ds : List Made) (cells : List NamedCell) (as' : List Allotted) (ws : List Word) (name : List ℕ) (number : ℕ) (d : DeclaredArray) : Type 0 where
   pub far : ℕ
   pub number_is : number ≡ k + far
-  pub declared_lies : slice_get ds far ≡ Some d
+  pub declared_lies : slice_get ds far ≡ Some (an_array d)
   pub cell : ArrayCell
   pub allotted : Allotted
   pub word : Word
@@ -133,21 +136,27 @@ pub record MadeThere (k : ℕ) (ds : List DeclaredArray) (cells : List NamedCell
   pub is : cell_in cells name ≡ array cell
   pub changed : (c : Cell) → cells_with cells name c ≡ slice_set cells far (record { name = d.name; cell = c })
 
-pub made_array : (k : ℕ) (ds later : List DeclaredArray) (cells : List NamedCell) (as' : List Allotted) (ws : List Word) (name : List ℕ) (number : ℕ) (d : DeclaredArray) → AreMade ds cells as' ws →
-    array_from k (ds ++ later) name ≡ Some (record { number = number; array = d }) → number < k + length ds → MadeThere k ds cells as' ws name number d
+pub made_array : (k : ℕ) (ds later : List Made) (cells : List NamedCell) (as' : List Allotted) (ws : List Word) (name : List ℕ) (number : ℕ) (d : DeclaredArray) → AreMade ds cells as' ws →
+    made_from k (ds ++ later) name ≡ Some (record { number = number; made = an_array d }) → number < k + length ds → MadeThere k ds cells as' ws name number d
 made_array k [] later cells as' ws name number d made there low = absurd (omega (arith, low, high_number k later name number d there))
 made_array k (e ∷ ds) later [] as' ws name number d made there low = absurd made
 made_array k (e ∷ ds) later (c ∷ cells) [] ws name number d made there low = absurd made
 made_array k (e ∷ ds) later (c ∷ cells) (a ∷ as') [] name number d made there low = absurd made
-made_array k (e ∷ ds) later (c ∷ cells) (a ∷ as') (w ∷ ws) name number d made there low =
+made_array k (an_event event_name ∷ ds) later (c ∷ cells) (a ∷ as') (w ∷ ws) name number d made there low = absurd made.0
+made_array k (an_array e ∷ ds) later (c ∷ cells) (a ∷ as') (w ∷ ws) name number d made there low =
     by_name (λ h. made_array (k + 1) ds later cells as' ws name number d made.1 h (omega (arith, low))) (same_name e.name name) there (ap (λ (n : List ℕ). same_name n name) made.0.named)
   where
-    by_name : (array_from (k + 1) (ds ++ later) name ≡ Some (record { number = number; array = d }) → MadeThere (k + 1) ds cells as' ws name number d) → (b : Bool) →
-        (if b then Some (record { number = k; array = e }) else array_from (k + 1) (ds ++ later) name) ≡ Some (record { number = number; array = d }) → same_name c.name name ≡ b →
-        MadeThere k (e ∷ ds) (c ∷ cells) (a ∷ as') (w ∷ ws) name number d
-    by_name rest true h same = subst (λ (f : FoundArray). MadeThere k (e ∷ ds) (c ∷ cells) (a ∷ as') (w ∷ ws) name f.number f.array) (some_same h) first
+    by_name : (made_from (k + 1) (ds ++ later) name ≡ Some (record { number = number; made = an_array d }) → MadeThere (k + 1) ds cells as' ws name number d) → (b : Bool) →
+        (if b then Some (record { number = k; made = an_array e }) else made_from (k + 1) (ds ++ later) name) ≡ Some (record { number = number; made = an_array d }) → same_name c.name name ≡ b →
+        MadeThere k (an_array e ∷ ds) (c ∷ cells) (a ∷ as') (w ∷ ws) name number d
+    by_name rest true h same =
+        let found = some_same h in
+        let here : k ≡ number = ap (λ (f : FoundMade). f.number) found in
+        let own : e ≡ d = cc (ap (λ (f : FoundMade). f.made) found) in
+        subst (λ (n : ℕ). MadeThere k (an_array e ∷ ds) (c ∷ cells) (a ∷ as') (w ∷ ws) name n d) here
+        (subst (λ (x : DeclaredArray). MadeThere k (an_array e ∷ ds) (c ∷ cells) (a ∷ as') (w ∷ ws) name k x) own first)
       where
-        first : MadeThere k (e ∷ ds) (c ∷ cells) (a ∷ as') (w ∷ ws) name k e
+        first : MadeThere k (an_array e ∷ ds) (c ∷ cells) (a ∷ as') (w ∷ ws) name k e
         first =
             record {
               far = 0;
@@ -190,8 +199,8 @@ made_array k (e ∷ ds) later (c ∷ cells) (a ∷ as') (w ∷ ws) name number d
         }
 
 -- what means an array among the cells of those that are made is one of them
-pub made_low : (k : ℕ) (ds later : List DeclaredArray) (cells : List NamedCell) (as' : List Allotted) (ws : List Word) (name : List ℕ) (number : ℕ) (d : DeclaredArray) (cell : ArrayCell) → AreMade ds cells as' ws →
-    cell_in cells name ≡ array cell → array_from k (ds ++ later) name ≡ Some (record { number = number; array = d }) → number < k + length ds
+pub made_low : (k : ℕ) (ds later : List Made) (cells : List NamedCell) (as' : List Allotted) (ws : List Word) (name : List ℕ) (number : ℕ) (d : DeclaredArray) (cell : ArrayCell) → AreMade ds cells as' ws →
+    cell_in cells name ≡ array cell → made_from k (ds ++ later) name ≡ Some (record { number = number; made = an_array d }) → number < k + length ds
 made_low k [] later [] [] [] name number d cell made is there = absurd (let clash : cell_in [] name ≡ array cell = is in cc)
 made_low k [] later [] [] (w ∷ ws) name number d cell made is there = absurd made
 made_low k [] later [] (a ∷ as') ws name number d cell made is there = absurd made
@@ -199,11 +208,12 @@ made_low k [] later (c ∷ cells) as' ws name number d cell made is there = absu
 made_low k (e ∷ ds) later [] as' ws name number d cell made is there = absurd made
 made_low k (e ∷ ds) later (c ∷ cells) [] ws name number d cell made is there = absurd made
 made_low k (e ∷ ds) later (c ∷ cells) (a ∷ as') [] name number d cell made is there = absurd made
-made_low k (e ∷ ds) later (c ∷ cells) (a ∷ as') (w ∷ ws) name number d cell made is there =
+made_low k (an_event event_name ∷ ds) later (c ∷ cells) (a ∷ as') (w ∷ ws) name number d cell made is there = absurd made.0
+made_low k (an_array e ∷ ds) later (c ∷ cells) (a ∷ as') (w ∷ ws) name number d cell made is there =
     by_name (made_low (k + 1) ds later cells as' ws name number d cell made.1) (same_name e.name name) there (ap (λ (n : List ℕ). same_name n name) made.0.named)
   where
-    by_name : (cell_in cells name ≡ array cell → array_from (k + 1) (ds ++ later) name ≡ Some (record { number = number; array = d }) → number < k + 1 + length ds) → (b : Bool) →
-        (if b then Some (record { number = k; array = e }) else array_from (k + 1) (ds ++ later) name) ≡ Some (record { number = number; array = d }) → same_name c.name name ≡ b →
+    by_name : (cell_in cells name ≡ array cell → made_from (k + 1) (ds ++ later) name ≡ Some (record { number = number; made = an_array d }) → number < k + 1 + length ds) → (b : Bool) →
+        (if b then Some (record { number = k; made = an_array e }) else made_from (k + 1) (ds ++ later) name) ≡ Some (record { number = number; made = an_array d }) → same_name c.name name ≡ b →
         number < k + suc (length ds)
-    by_name rest true h same = let here : k ≡ number = ap (λ (f : FoundArray). f.number) (some_same h) in omega (arith, here)
+    by_name rest true h same = let here : k ≡ number = ap (λ (f : FoundMade). f.number) (some_same h) in omega (arith, here)
     by_name rest false h same = omega (arith, rest (ap (λ (b : Bool). if b then c.cell else cell_in cells name) (sym same) ∙ is) h)

@@ -1,16 +1,16 @@
 -- A head that makes arrays makes those that come first among the ones that are still to be made.
-use Rattle.std.proofs.Common.{◌≡◌, refl, ap, ◌∙◌, List, [], ◌++◌, true, false}
+use Rattle.std.proofs.Common.{◌≡◌, refl, ap, ◌∙◌, List, [], ◌∷◌, ◌++◌, true, false}
 use Rattle.algol_tree.specs.declared.tree.Kind.{Kind}
 use Rattle.algol_tree.specs.declared.tree.Named.{Named}
 use Rattle.algol_tree.specs.Plain.{PPair}
 use Rattle.algol_meaning.specs.Value.{Value}
-use Rattle.algol_meaning.specs.Rest.{Hole, read, element, index, happens, broken, enter, inside, subscript, argument, left, right, negated, inverted, condition, Actuals, pass, in_value, Aim, resolve, place_index, inside_place, place_subscript, Rest, arrays, evaluating, locating, aiming, storing, choosing, looping, checking, counting, differing, stepping, selecting, calling, preparing, writing, bounding}
-use Rattle.algol_meaning.specs.Asks.{Ask, makes_arrays, ask_hole, ask_actuals, ask_aim, ask}
-use Rattle.algol_paths.specs.Arrays.{DeclaredArray, arrays_in, to_make, left_to_make}
+use Rattle.algol_meaning.specs.Rest.{Hole, read, element, index, happens, broken, enter, inside, subscript, argument, left, right, negated, inverted, condition, Actuals, pass, in_value, Aim, resolve, place_index, inside_place, place_subscript, Rest, arrays, event, evaluating, locating, aiming, storing, choosing, looping, checking, counting, differing, stepping, selecting, calling, preparing, writing, bounding}
+use Rattle.algol_meaning.specs.Asks.{Ask, makes_arrays, makes_event, ask_hole, ask_actuals, ask_aim, ask}
+use Rattle.algol_paths.specs.Arrays.{Made, an_event, made_in, all_to_make, all_left_to_make}
 use Rattle.b67_faithful.proofs.Contradictions.{true_false}
 use Rattle.b67_pictures.proofs.Unmade.{makes}
 
--- no head of an expression makes arrays
+-- no head of an expression makes anything
 mutual
   hole_makes_none : (h : Hole) → makes (ask_hole h) ≡ false
   hole_makes_none (read n) = refl
@@ -38,13 +38,15 @@ aim_makes_none (place_index n ks v es) = refl
 aim_makes_none inside_place = refl
 aim_makes_none (place_subscript n ks h es) = hole_makes_none h
 
--- the arrays that are asked for
-abbrev made_by : Ask → List DeclaredArray
-made_by (makes_arrays kind ns pairs vs) = arrays_in kind ns pairs
+-- what is asked for
+abbrev made_by : Ask → List Made
+made_by (makes_arrays kind ns pairs vs) = made_in kind ns pairs
+made_by (makes_event n) = an_event n.name ∷ []
 made_by _ = []
 
-making : (r : Rest) → makes (ask r) ≡ true → to_make r ≡ made_by (ask r) ++ left_to_make r
+making : (r : Rest) → makes (ask r) ≡ true → all_to_make r ≡ made_by (ask r) ++ all_left_to_make r
 making (arrays kind ns pairs vs k) e = refl
+making (event n k) e = refl
 making (evaluating h) e = true_false e (hole_makes_none h)
 making (locating x) e = true_false e (aim_makes_none x)
 making (aiming x y k) e = true_false e (aim_makes_none x)
@@ -62,5 +64,5 @@ making (writing phrases vs h es k) e = true_false e (hole_makes_none h)
 making (bounding kind ns pairs vs h later k) e = true_false e (hole_makes_none h)
 making r e = true_false e refl
 
-pub makes_first : (r : Rest) (kind : Kind) (ns : List Named) (pairs : List PPair) (vs : List Value) → ask r ≡ makes_arrays kind ns pairs vs → to_make r ≡ arrays_in kind ns pairs ++ left_to_make r
-makes_first r kind ns pairs vs e = making r (ap makes e) ∙ ap (λ (k : Ask). made_by k ++ left_to_make r) e
+pub makes_first : (r : Rest) (kind : Kind) (ns : List Named) (pairs : List PPair) (vs : List Value) → ask r ≡ makes_arrays kind ns pairs vs → all_to_make r ≡ made_in kind ns pairs ++ all_left_to_make r
+makes_first r kind ns pairs vs e = making r (ap makes e) ∙ ap (λ (k : Ask). made_by k ++ all_left_to_make r) e

@@ -13,25 +13,27 @@ use Rattle.algol_meaning.specs.Value.{Value, Bounds}
 use Rattle.algol_meaning.specs.Arrays.{new_arrays, has_wrong_size, has_no_room, bounds_of}
 use Rattle.algol_meaning.specs.World.{NamedCell, Instance, Process, Part, World, instance_at, or_no_instance, with_process}
 use Rattle.algol_meaning.specs.Asks.{makes_arrays, ask, resume}
-use Rattle.algol_paths.specs.Arrays.{DeclaredArray, arrays_of, arrays_in, left_to_make}
-use Rattle.algol_paths.specs.Laws.{KeepsToText, RestsKeepToTheirText, ArraysAreMadeInOrder}
+use Rattle.algol_paths.specs.Arrays.{DeclaredArray, Made, made_in, all_left_to_make, an_array, arrays_in}
+use Rattle.algol_paths.specs.Laws.{KeepsToText, RestsKeepToTheirText, AllIsMadeInOrder}
 use Rattle.algol_paths.specs.Segments.{segment_of}
 use Rattle.b67_word.specs.declared.Place.{Place}
 use Rattle.b67_word.specs.Word.{Word}
 use Rattle.b67_control.specs.Control.{pcw_word}
-use Rattle.b67_segment.specs.Operators.{Placed}
 use Rattle.b67_segment.specs.declared.code.Code.{Code}
 use Rattle.b67_table.specs.Chains.{place}
 use Rattle.b67_table.specs.Image.{Image}
 use Rattle.b67_table.specs.Limits.{most_cells, most_arrays}
-use Rattle.b67_templates.specs.Cells.{simple_cells, procedures, control_segments}
+use Rattle.b67_templates.specs.Contexts.{yields_of}
+use Rattle.b67_templates.specs.Cells.{simple_cells, procedures, control_segments, made_of}
 use Rattle.b67_templates.specs.Code.{AreDimensions}
-use Rattle.b67_templates.specs.Fragments.{code_at}
+use Rattle.b67_templates.specs.Fragments.{code_at, procedure_controls}
+use Rattle.b67_templates.specs.Programs.{Texts}
 use Rattle.b67_cores.specs.Cores.{Core}
 use Rattle.b67_cores.specs.Stretches.{control_words}
 use Rattle.b67_faithful.specs.Weight.{tokens_around, part_weight, weight}
 use Rattle.b67_faithful.proofs.Contradictions.{some_same}
 use Rattle.b67_fitting.specs.Nested.{AreNested, IsText}
+use Rattle.b67_pictures.proofs.MadeArrays.{as_many_controls}
 use Rattle.b67_pictures.specs.Arrays.{Allotted, Layout, AreMade, ArraysAre}
 use Rattle.b67_pictures.specs.Frames.{IsPlaced, outermost, inside, IsChained, Framed, Frame, Around}
 use Rattle.b67_pictures.proofs.ArraySizes.{bounds_lows}
@@ -56,7 +58,7 @@ pub new_many : (kind : Kind) (bs : List Bounds) (ns : List Named) → length (ne
 new_many kind bs [] = refl
 new_many kind bs (n ∷ ns) = ap suc (new_many kind bs ns)
 
-module _ (tree : PProgram) (code : Code) (texts : ℕ → List Placed) (nested : AreNested (scopes_of tree)) (keeps : RestsKeepToTheirText) (order : ArraysAreMadeInOrder) (w : World) (lay : Layout) (img : Image)
+module _ (tree : PProgram) (code : Code) (texts : Texts) (nested : AreNested (scopes_of tree)) (keeps : RestsKeepToTheirText) (order : AllIsMadeInOrder) (w : World) (lay : Layout) (img : Image)
     (p : ℕ) (q : Process) (part : Part) (outer : List Part) (bound : ℕ) (core : Core) (s : Scene tree code texts w lay img p q part outer bound core)
     (kind : Kind) (ns : List Named) (pairs : List PPair) (vs : List Value) (asks : ask part.rest ≡ makes_arrays kind ns pairs vs) where
   abbrev sc : Scopes
@@ -82,19 +84,20 @@ module _ (tree : PProgram) (code : Code) (texts : ℕ → List Placed) (nested :
 
   -- ---- how many there are
 
-  pub ordered : arrays_of b.decls ≡ framed.declared ++ (arrays_in kind ns pairs ++ left_to_make part.rest)
-  ordered = framed.order ∙ ap (λ (ds : List DeclaredArray). framed.declared ++ ds) (f.making ∙ makes_first part.rest kind ns pairs vs asks)
+  pub ordered : made_of b.decls ≡ framed.declared ++ (made_in kind ns pairs ++ all_left_to_make part.rest)
+  ordered = framed.order ∙ ap (λ (ds : List Made). framed.declared ++ ds) (f.making ∙ makes_first part.rest kind ns pairs vs asks)
 
   text : IsText sc x.block
   text = nested.each x.block framed.known
 
-  declared_many : length (arrays_of b.decls) ≡ length framed.declared + (length ns + length (left_to_make part.rest))
+  declared_many : length (made_of b.decls) ≡ length framed.declared + (length ns + length (all_left_to_make part.rest))
   declared_many =
       omega (
         arith,
         ap length ordered,
-        length-append framed.declared (arrays_in kind ns pairs ++ left_to_make part.rest),
-        length-append (arrays_in kind ns pairs) (left_to_make part.rest),
+        length-append framed.declared (made_in kind ns pairs ++ all_left_to_make part.rest),
+        length-append (made_in kind ns pairs) (all_left_to_make part.rest),
+        length_mapped an_array (arrays_in kind ns pairs),
         length_mapped (λ (n : Named). declared_as n) ns,
       )
     where
@@ -110,10 +113,10 @@ module _ (tree : PProgram) (code : Code) (texts : ℕ → List Placed) (nested :
       omega (
         arith,
         ap length framed.cells_is,
-        length-append framed.values (control_words (level_of b) (control_segments sc b.decls) ++ framed.descriptors),
-        length-append (control_words (level_of b) (control_segments sc b.decls)) framed.descriptors,
+        length-append framed.values (control_words (procedure_controls (level_of b) (control_segments sc b.decls)) ++ framed.descriptors),
+        length-append (control_words (procedure_controls (level_of b) (control_segments sc b.decls))) framed.descriptors,
         words_long (simple_cells sc b) framed.simple framed.values framed.simple_are,
-        length_mapped (λ (k : ℕ). pcw_word (code_at k 0 (level_of b + 1))) (control_segments sc b.decls),
+        as_many_controls (level_of b) (control_segments sc b.decls),
         length_mapped (λ (n : Named). segment_of sc.blocks (number_at sc.blocks n.spot)) (procedures b.decls),
         (made_many framed.declared framed.arrays (lay.rows i) framed.descriptors framed.made).words_many,
       )
@@ -204,7 +207,7 @@ module _ (tree : PProgram) (code : Code) (texts : ℕ → List Placed) (nested :
           has = framed.has;
           many = cells_length (simple_cells sc b) framed.simple framed.values framed.simple_are;
           declared = framed.declared;
-          later = left_to_make part.rest;
+          later = all_left_to_make part.rest;
           order = ordered;
           descriptors = framed.descriptors;
           made = framed.made;
@@ -218,15 +221,15 @@ module _ (tree : PProgram) (code : Code) (texts : ℕ → List Placed) (nested :
     arrays_now =
         arrays_after sc w lay img.rows s.by.arrays i kind ns pairs bs making w' lay' refl rows_here (λ j other. rows_elsewhere j (λ same. other (sym same)))
 
-    pub made_now : AreMade (framed.declared ++ arrays_in kind ns pairs) (framed.arrays ++ new_arrays kind bs ns) (lay'.rows i) (framed.descriptors ++ descriptors)
+    pub made_now : AreMade (framed.declared ++ made_in kind ns pairs) (framed.arrays ++ new_arrays kind bs ns) (lay'.rows i) (framed.descriptors ++ descriptors)
     made_now =
-        subst (λ (rows : List Allotted). AreMade (framed.declared ++ arrays_in kind ns pairs) (framed.arrays ++ new_arrays kind bs ns) rows (framed.descriptors ++ descriptors)) (sym rows_here)
+        subst (λ (rows : List Allotted). AreMade (framed.declared ++ made_in kind ns pairs) (framed.arrays ++ new_arrays kind bs ns) rows (framed.descriptors ++ descriptors)) (sym rows_here)
         (all_made sc w lay img.rows s.by.arrays i kind ns pairs bs making)
 
     pub descriptors_many : length descriptors ≡ length ns
     descriptors_many =
         let before = made_many framed.declared framed.arrays (lay.rows i) framed.descriptors framed.made in
-        let after = made_many (framed.declared ++ arrays_in kind ns pairs) (framed.arrays ++ new_arrays kind bs ns) (lay'.rows i) (framed.descriptors ++ descriptors) made_now in
+        let after = made_many (framed.declared ++ made_in kind ns pairs) (framed.arrays ++ new_arrays kind bs ns) (lay'.rows i) (framed.descriptors ++ descriptors) made_now in
         omega (
           arith,
           before.words_many,
@@ -255,7 +258,7 @@ module _ (tree : PProgram) (code : Code) (texts : ℕ → List Placed) (nested :
             ∙ same_instance tree code texts w w' lay lay' p (length f.lower) stays l.part l.outer l.front l.frame lowest
             ∙ ap (λ (k : ℕ). instance_at w' k) l.instance_is in
             inside own (subst (λ (y : Instance). around sc.blocks x.block ≡ y.block ∷ around sc.blocks y.block) same next)
-            (subst (λ (y : Instance). length y.cells ≡ length (simple_cells sc (block_numbered sc.blocks y.block)) + length (arrays_of (block_numbered sc.blocks y.block).decls)) same complete)
+            (subst (λ (y : Instance). length y.cells ≡ length (simple_cells sc (block_numbered sc.blocks y.block)) + length (made_of (block_numbered sc.blocks y.block).decls)) same complete)
 
     abbrev framed' : Framed sc w' lay' p i outer (length f.lower) f.mark f.control (f.cells ++ descriptors)
     framed' =
@@ -269,8 +272,8 @@ module _ (tree : PProgram) (code : Code) (texts : ℕ → List Placed) (nested :
           simple = framed.simple;
           values = framed.values;
           simple_are = framed.simple_are;
-          formals = λ k t shape there none told.
-              let g = framed.formals k t shape there none told in (
+          formals = λ k t shape there told.
+              let g = framed.formals k t shape there told in (
                 g.0,
                 g.1,
                 g.2,
@@ -280,16 +283,16 @@ module _ (tree : PProgram) (code : Code) (texts : ℕ → List Placed) (nested :
                 leads_lasts sc w w' lay lay' outer outer (outer_remain tree code texts w w' lay lay' p (length f.lower) stays outer f.lower f.mark f.control (wanted_in tree w part) s.around (omega arith)) shape g.2 g.1 g.6,
               );
           arrays = framed.arrays ++ new_arrays kind bs ns;
-          declared = framed.declared ++ arrays_in kind ns pairs;
-          later = left_to_make part.rest;
-          order = ordered ∙ sym (append_assoc framed.declared (arrays_in kind ns pairs) (left_to_make part.rest));
+          declared = framed.declared ++ made_in kind ns pairs;
+          later = all_left_to_make part.rest;
+          order = ordered ∙ sym (append_assoc framed.declared (made_in kind ns pairs) (all_left_to_make part.rest));
           descriptors = framed.descriptors ++ descriptors;
           made = made_now;
           has = ap (λ (cs : List NamedCell). cs ++ new_arrays kind bs ns) framed.has ∙ append_assoc framed.simple framed.arrays (new_arrays kind bs ns);
           cells_is =
               ap (λ (ws : List Word). ws ++ descriptors) framed.cells_is
-              ∙ append_assoc framed.values (control_words (level_of b) (control_segments sc b.decls) ++ framed.descriptors) descriptors
-              ∙ ap (λ (ws : List Word). framed.values ++ ws) (append_assoc (control_words (level_of b) (control_segments sc b.decls)) framed.descriptors descriptors);
+              ∙ append_assoc framed.values (control_words (procedure_controls (level_of b) (control_segments sc b.decls)) ++ framed.descriptors) descriptors
+              ∙ ap (λ (ws : List Word). framed.values ++ ws) (append_assoc (control_words (procedure_controls (level_of b) (control_segments sc b.decls))) framed.descriptors descriptors);
           placed = placed_now;
           home = framed.home;
           linked = home_after tree code texts w w' lay lay' p (length f.lower) stays x.parent framed.home framed.linked;
@@ -317,7 +320,7 @@ module _ (tree : PProgram) (code : Code) (texts : ℕ → List Placed) (nested :
     -- the parts around stand as they did
     pub around' : Around tree code texts w' lay' p outer f.lower f.mark f.control (wanted_in tree w' part')
     around' =
-        subst (λ (j : ℕ). Around tree code texts w' lay' p outer f.lower f.mark f.control ((block_numbered sc.blocks j).result)) block_is
+        subst (λ (j : ℕ). Around tree code texts w' lay' p outer f.lower f.mark f.control (yields_of (block_numbered sc.blocks j).result)) block_is
         (around_stays tree code texts w w' lay lay' p (length f.lower) stays outer f.lower f.mark f.control (wanted_in tree w part) (omega arith) s.around)
 
     -- ---- weights

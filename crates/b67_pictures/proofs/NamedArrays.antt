@@ -8,14 +8,14 @@ use Rattle.algol_tree.specs.Scopes.{Scopes, scopes_of, use_of}
 use Rattle.algol_tree.specs.Sorts.{is_variable, is_formal}
 use Rattle.algol_meaning.specs.Rest.{Given, valued, passed, refers, names}
 use Rattle.algol_meaning.specs.World.{Instance, Part, World, instance_at, or_no_instance, ancestor, cell_in}
-use Rattle.algol_paths.specs.Arrays.{DeclaredArray, Shape, shape_of, arrays_of, to_make}
+use Rattle.algol_paths.specs.Arrays.{DeclaredArray, an_array, Shape, shape_of, all_to_make}
 use Rattle.algol_paths.specs.Blocks.{IsSeen, IsSeenAround}
 use Rattle.b67_word.specs.Word.{Word}
 use Rattle.b67_ops.specs.declared.Couple.{Couple}
-use Rattle.b67_segment.specs.Operators.{Placed}
 use Rattle.b67_segment.specs.declared.code.Code.{Code}
 use Rattle.b67_table.specs.References.{cell_word}
-use Rattle.b67_templates.specs.Cells.{Agrees, FoundArray, simple_cells, procedures, found_from, array_from, IsDeclaredArray}
+use Rattle.b67_templates.specs.Cells.{Agrees, simple_cells, procedures, found_from, IsDeclaredArray, made_of, made_from, FoundMade}
+use Rattle.b67_templates.specs.Programs.{Texts}
 use Rattle.b67_faithful.proofs.Contradictions.{some_same}
 use Rattle.b67_pictures.specs.Arrays.{Layout, named_from, LeadsTo, IsNamed}
 use Rattle.b67_pictures.specs.Frames.{IsComplete, Frame, Around}
@@ -29,11 +29,11 @@ use Rattle.b67_pictures.proofs.Staying.{wanted_in}
 abbrev pub IsSeenMade : PProgram → World → Part → Named → Type 0
 IsSeenMade tree w part n =
     IsSeen (scopes_of tree) ((instance_at w part.instance).block) n
-    × ((to_make part.rest ≡ []) ⊎ IsSeenAround (scopes_of tree) ((instance_at w part.instance).block) n)
+    × ((all_to_make part.rest ≡ []) ⊎ IsSeenAround (scopes_of tree) ((instance_at w part.instance).block) n)
 
 -- each of those that are given is so
 pub both_seen : (tree : PProgram) (w : World) (part : Part) (gs : List Given) → InReferred (IsSeen (scopes_of tree) ((instance_at w part.instance).block)) gs →
-    (to_make part.rest ≡ []) ⊎ InReferred (IsSeenAround (scopes_of tree) ((instance_at w part.instance).block)) gs → InReferred (IsSeenMade tree w part) gs
+    (all_to_make part.rest ≡ []) ⊎ InReferred (IsSeenAround (scopes_of tree) ((instance_at w part.instance).block)) gs → InReferred (IsSeenMade tree w part) gs
 both_seen tree w part gs seen (inl none) = none_made gs seen
   where
     none_made : (xs : List Given) → InReferred (IsSeen (scopes_of tree) ((instance_at w part.instance).block)) xs → InReferred (IsSeenMade tree w part) xs
@@ -52,7 +52,7 @@ both_seen tree w part gs seen (inr around_it) = all_around gs seen around_it
     all_around (passed c ∷ xs) is more = all_around xs is more
     all_around (names e ∷ xs) is more = all_around xs is more
 
-module _ (tree : PProgram) (code : Code) (texts : ℕ → List Placed) (w : World) (lay : Layout) (p : ℕ) (part : Part) (outer : List Part) (words : List Word) (f : Frame tree code texts w lay p part outer words)
+module _ (tree : PProgram) (code : Code) (texts : Texts) (w : World) (lay : Layout) (p : ℕ) (part : Part) (outer : List Part) (words : List Word) (f : Frame tree code texts w lay p part outer words)
     (a : Around tree code texts w lay p outer f.lower f.mark f.control (wanted_in tree w part)) where
   abbrev sc : Scopes
   sc = scopes_of tree
@@ -60,11 +60,11 @@ module _ (tree : PProgram) (code : Code) (texts : ℕ → List Placed) (w : Worl
   abbrev block : ℕ
   block = (instance_at w part.instance).block
 
-  own_complete : to_make part.rest ≡ [] → IsComplete sc w lay part.instance
+  own_complete : all_to_make part.rest ≡ [] → IsComplete sc w lay part.instance
   own_complete none = complete_of sc w lay p part.instance outer (length f.lower) f.mark f.control f.cells f.framed (f.making ∙ none)
 
   -- so far up all arrays are made
-  pub up_complete : (k : ℕ) → (to_make part.rest ≡ []) ⊎ (1 ≤ k) → (1 ≤ k → IsComplete (scopes_of tree) w lay (ancestor w k part.instance)) → IsComplete (scopes_of tree) w lay (ancestor w k part.instance)
+  pub up_complete : (k : ℕ) → (all_to_make part.rest ≡ []) ⊎ (1 ≤ k) → (1 ≤ k → IsComplete (scopes_of tree) w lay (ancestor w k part.instance)) → IsComplete (scopes_of tree) w lay (ancestor w k part.instance)
   up_complete zero (inl none) further = own_complete none
   up_complete zero (inr far) further = absurd (omega (arith, far))
   up_complete (suc k) made further = further (omega arith)
@@ -83,7 +83,7 @@ module _ (tree : PProgram) (code : Code) (texts : ℕ → List Placed) (w : Worl
     in_bound (inr (inl is)) = absurd (let clash : false ≡ true = sym (ap is_variable v.sort_is) ∙ is in cc)
     in_bound (inr (inr is)) = absurd (let clash : false ≡ true = sym (ap is_formal v.sort_is) ∙ is in cc)
 
-    far_or_made : (to_make part.rest ≡ []) ⊎ IsSeenAround sc block n → (to_make part.rest ≡ []) ⊎ (1 ≤ up)
+    far_or_made : (all_to_make part.rest ≡ []) ⊎ IsSeenAround sc block n → (all_to_make part.rest ≡ []) ⊎ (1 ≤ up)
     far_or_made (inl none) = inl none
     far_or_made (inr around_it) = inr (in_bound around_it.1)
 
@@ -106,28 +106,28 @@ module _ (tree : PProgram) (code : Code) (texts : ℕ → List Placed) (w : Worl
       abbrev own : OwnCells sc w lay l.part.instance here
       own = framed_cells sc w lay l.frame.framed
 
-      there : array_from 0 (arrays_of (block_numbered sc.blocks here.block).decls) n.name ≡ Some (record { number = v.number; array = d })
-      there = ap (λ (j : ℕ). array_from 0 (arrays_of (block_numbered sc.blocks j).decls) n.name) block_here ∙ v.there
+      there : made_from 0 (made_of (block_numbered sc.blocks here.block).decls) n.name ≡ Some (record { number = v.made.number; made = an_array d })
+      there = ap (λ (j : ℕ). made_from 0 (made_of (block_numbered sc.blocks j).decls) n.name) block_here ∙ v.made.there
 
-      found : OwnArray sc w lay l.part.instance here own n.name v.number d
+      found : OwnArray sc w lay l.part.instance here own n.name v.made.number d
       found =
-          own_array sc w lay l.part.instance here own n.name v.number d there
-          (all_made sc w lay l.part.instance here own n.name v.number d there (none_later sc w lay l.part.instance here own complete))
-          (ap (λ (j : ℕ). found_from 0 (simple_cells sc (block_numbered sc.blocks j)) n.name) block_here ∙ v.apart)
+          own_array sc w lay l.part.instance here own n.name v.made.number d there
+          (all_made sc w lay l.part.instance here own n.name v.made.number d there (none_later sc w lay l.part.instance here own complete))
+          (ap (λ (j : ℕ). found_from 0 (simple_cells sc (block_numbered sc.blocks j)) n.name) block_here ∙ v.made.apart)
 
-      same_number : h.array.number ≡ v.number
-      same_number = ap (λ (y : FoundArray). y.number) (some_same (sym h.array.there ∙ v.there))
+      same_number : h.array.made.number ≡ v.made.number
+      same_number = ap (λ (y : FoundMade). y.number) (some_same (sym h.array.made.there ∙ v.made.there))
 
       same_block : (instance_at w home).block ≡ (use_of sc n).block
       same_block = ap (λ (y : Instance). y.block) instance_here ∙ block_here
 
       index_is :
           h.couple.index
-          ≡ 2 + length (simple_cells sc (block_numbered sc.blocks ((instance_at w home).block))) + length (procedures ((block_numbered sc.blocks ((instance_at w home).block)).decls)) + v.number
+          ≡ 2 + length (simple_cells sc (block_numbered sc.blocks ((instance_at w home).block))) + length (procedures ((block_numbered sc.blocks ((instance_at w home).block)).decls)) + v.made.number
       index_is =
           omega (
             arith,
-            h.array.index_is,
+            h.array.made.index_is,
             same_number,
             ap (λ (j : ℕ). length (simple_cells sc (block_numbered sc.blocks j))) same_block,
             ap (λ (j : ℕ). length (procedures (block_numbered sc.blocks j).decls)) same_block,
@@ -142,10 +142,10 @@ module _ (tree : PProgram) (code : Code) (texts : ℕ → List Placed) (w : Worl
             cell = found.cell;
             allotted = found.allotted;
             array = record {
-              number = v.number;
-              found = ap (λ (y : Instance). array_from 0 (arrays_of (block_numbered sc.blocks y.block).decls) n.name) instance_here ∙ there;
+              number = v.made.number;
+              found = ap (λ (y : Instance). made_from 0 (made_of (block_numbered sc.blocks y.block).decls) n.name) instance_here ∙ there;
               is = ap (λ (k : ℕ). cell_in ((instance_at w k).cells) n.name) (sym l.instance_is) ∙ found.of.is;
-              allotted = ap (λ (k : ℕ). slice_get (lay.rows k) v.number) (sym l.instance_is) ∙ found.has.allotted;
+              allotted = ap (λ (k : ℕ). slice_get (lay.rows k) v.made.number) (sym l.instance_is) ∙ found.has.allotted;
             };
             frame = h.frame;
             laid = h.laid;

@@ -7,9 +7,10 @@ use Rattle.algol_tree.specs.Scopes.{Scopes}
 use Rattle.algol_meaning.specs.Value.{Bounds, ArrayCell, Cell, array}
 use Rattle.algol_meaning.specs.Arrays.{elements_of}
 use Rattle.algol_meaning.specs.World.{NamedCell, Instance, Part, World, instance_at, or_no_instance, cell_in, cells_with}
-use Rattle.algol_paths.specs.Arrays.{DeclaredArray, arrays_of, lows_of}
+use Rattle.algol_paths.specs.Arrays.{DeclaredArray, Made, an_array, lows_of}
 use Rattle.b67_word.specs.Word.{Word}
-use Rattle.b67_templates.specs.Cells.{simple_cells, found_from, array_from}
+use Rattle.b67_templates.specs.Fragments.{procedure_controls}
+use Rattle.b67_templates.specs.Cells.{simple_cells, found_from, made_of, made_from}
 use Rattle.b67_cores.specs.Stretches.{control_words}
 use Rattle.b67_faithful.proofs.Contradictions.{some_same}
 use Rattle.b67_pictures.specs.Arrays.{Allotted, Layout, DescriptorIs, AreSized, AreMade, HasArray, IsArrayOf}
@@ -28,9 +29,9 @@ module _ (sc : Scopes) (w : World) (lay : Layout) where
     pub values : List Word
     pub simple_are : CellsAre (simple_cells sc (block_numbered sc.blocks x.block)) simple values
     pub arrays : List NamedCell
-    pub declared : List DeclaredArray
-    pub later : List DeclaredArray
-    pub order : arrays_of (block_numbered sc.blocks x.block).decls ≡ declared ++ later
+    pub declared : List Made
+    pub later : List Made
+    pub order : made_of (block_numbered sc.blocks x.block).decls ≡ declared ++ later
     pub descriptors : List Word
     pub made : AreMade declared arrays (lay.rows i) descriptors
     pub has : x.cells ≡ simple ++ arrays
@@ -71,7 +72,7 @@ module _ (sc : Scopes) (w : World) (lay : Layout) where
     pub has : HasArray sc w lay i number declared cell allotted
 
   made_here : (i : ℕ) (x : Instance) (own : OwnCells i x) (name : List ℕ) (number : ℕ) (declared : DeclaredArray) →
-      array_from 0 (arrays_of (block_numbered sc.blocks x.block).decls) name ≡ Some (record { number = number; array = declared }) → number < length own.declared → IsPast own.simple name →
+      made_from 0 (made_of (block_numbered sc.blocks x.block).decls) name ≡ Some (record { number = number; made = an_array declared }) → number < length own.declared → IsPast own.simple name →
       OwnArray i x own name number declared
   made_here i x own name number declared there low past =
       record {
@@ -89,7 +90,7 @@ module _ (sc : Scopes) (w : World) (lay : Layout) where
         changed_behind = λ c. ap (λ (cells : List NamedCell). cells_with cells name c) own.has ∙ past.changed own.arrays c;
         of = record {
           number = number;
-          found = ap (λ (y : Instance). array_from 0 (arrays_of (block_numbered sc.blocks y.block).decls) name) here ∙ there;
+          found = ap (λ (y : Instance). made_from 0 (made_of (block_numbered sc.blocks y.block).decls) name) here ∙ there;
           is =
               ap (λ (y : Instance). cell_in y.cells name) here
               ∙ ap (λ (cells : List NamedCell). cell_in cells name) own.has
@@ -102,8 +103,8 @@ module _ (sc : Scopes) (w : World) (lay : Layout) where
           is = own.is;
           stands = own.stands;
           declares =
-              ap (λ (ds : List DeclaredArray). slice_get ds number) own.order
-              ∙ get-front own.declared own.later number declared (at_number own.declared declared m.declared_lies);
+              ap (λ (ds : List Made). slice_get ds number) own.order
+              ∙ get-front own.declared own.later number (an_array declared) (at_number own.declared (an_array declared) m.declared_lies);
           has =
               ap (λ (cells : List NamedCell). slice_get cells (length (simple_cells sc (block_numbered sc.blocks x.block)) + number)) own.has
               ∙ get_past own.simple own.arrays number (length (simple_cells sc (block_numbered sc.blocks x.block)) + number) (ap (λ (n : ℕ). n + number) (sym (cells_length (simple_cells sc (block_numbered sc.blocks x.block)) own.simple own.values own.simple_are)))
@@ -118,7 +119,7 @@ module _ (sc : Scopes) (w : World) (lay : Layout) where
       m : MadeThere 0 own.declared own.arrays (lay.rows i) own.descriptors name number declared
       m =
           made_array 0 own.declared own.later own.arrays (lay.rows i) own.descriptors name number declared own.made
-          (ap (λ (ds : List DeclaredArray). array_from 0 ds name) (sym own.order) ∙ there) (omega (arith, low))
+          (ap (λ (ds : List Made). made_from 0 ds name) (sym own.order) ∙ there) (omega (arith, low))
 
       far_is : number ≡ m.far
       far_is = omega (arith, m.number_is)
@@ -145,19 +146,19 @@ module _ (sc : Scopes) (w : World) (lay : Layout) where
           length-append own.declared own.later,
         ))
       where
-        many : length x.cells ≡ length (simple_cells sc (block_numbered sc.blocks x.block)) + length (arrays_of (block_numbered sc.blocks x.block).decls)
+        many : length x.cells ≡ length (simple_cells sc (block_numbered sc.blocks x.block)) + length (made_of (block_numbered sc.blocks x.block).decls)
         many =
-            subst (λ (y : Instance). length y.cells ≡ length (simple_cells sc (block_numbered sc.blocks y.block)) + length (arrays_of (block_numbered sc.blocks y.block).decls)) here complete
+            subst (λ (y : Instance). length y.cells ≡ length (simple_cells sc (block_numbered sc.blocks y.block)) + length (made_of (block_numbered sc.blocks y.block).decls)) here complete
 
     -- a name that means an array which the instance has made
     module _ (name : List ℕ) (number : ℕ) (declared : DeclaredArray)
-        (there : array_from 0 (arrays_of (block_numbered sc.blocks x.block).decls) name ≡ Some (record { number = number; array = declared })) where
+        (there : made_from 0 (made_of (block_numbered sc.blocks x.block).decls) name ≡ Some (record { number = number; made = an_array declared })) where
       pub all_made : own.later ≡ [] → number < length own.declared
       all_made none =
           omega (
             arith,
             low_number 0 own.declared name number declared
-                (ap (λ (ds : List DeclaredArray). array_from 0 ds name) (sym (own.order ∙ ap (λ (ds : List DeclaredArray). own.declared ++ ds) none ∙ append-nil own.declared)) ∙ there),
+                (ap (λ (ds : List Made). made_from 0 ds name) (sym (own.order ∙ ap (λ (ds : List Made). own.declared ++ ds) none ∙ append-nil own.declared)) ∙ there),
           )
 
       pub own_array : number < length own.declared → found_from 0 (simple_cells sc (block_numbered sc.blocks x.block)) name ≡ None → OwnArray i x own name number declared
@@ -176,15 +177,15 @@ module _ (sc : Scopes) (w : World) (lay : Layout) where
         past : IsPast own.simple name
         past = past_values (simple_cells sc (block_numbered sc.blocks x.block)) own.simple own.values own.arrays name cell own.simple_are is_array
 
-        there : array_from 0 (arrays_of (block_numbered sc.blocks x.block).decls) name ≡ Some (record { number = of.number; array = declared })
-        there = ap (λ (y : Instance). array_from 0 (arrays_of (block_numbered sc.blocks y.block).decls) name) (sym here) ∙ of.found
+        there : made_from 0 (made_of (block_numbered sc.blocks x.block).decls) name ≡ Some (record { number = of.number; made = an_array declared })
+        there = ap (λ (y : Instance). made_from 0 (made_of (block_numbered sc.blocks y.block).decls) name) (sym here) ∙ of.found
 
         low : of.number < length own.declared
         low =
             omega (
               arith,
               made_low 0 own.declared own.later own.arrays (lay.rows i) own.descriptors name of.number declared cell own.made (sym (past.found own.arrays) ∙ is_array)
-                  (ap (λ (ds : List DeclaredArray). array_from 0 ds name) (sym own.order) ∙ there),
+                  (ap (λ (ds : List Made). made_from 0 ds name) (sym own.order) ∙ there),
             )
 
         found : OwnArray i x own name of.number declared
@@ -199,12 +200,12 @@ module _ (sc : Scopes) (w : World) (lay : Layout) where
 
     -- its descriptor lies after the control words
     pub descriptor_lies : (name : List ℕ) (number : ℕ) (declared : DeclaredArray) (found : OwnArray i x own name number declared) (level : ℕ) (segments : List ℕ) →
-        slice_get (own.values ++ (control_words level segments ++ own.descriptors)) (length (simple_cells sc (block_numbered sc.blocks x.block)) + length segments + number) ≡ Some found.word
+        slice_get (own.values ++ (control_words (procedure_controls level segments) ++ own.descriptors)) (length (simple_cells sc (block_numbered sc.blocks x.block)) + length segments + number) ≡ Some found.word
     descriptor_lies name number declared found level segments =
-        get_past own.values (control_words level segments ++ own.descriptors) (length segments + number) (length (simple_cells sc (block_numbered sc.blocks x.block)) + length segments + number)
+        get_past own.values (control_words (procedure_controls level segments) ++ own.descriptors) (length segments + number) (length (simple_cells sc (block_numbered sc.blocks x.block)) + length segments + number)
         (omega (
           arith,
           as_many_values (simple_cells sc (block_numbered sc.blocks x.block)) own.simple own.values own.simple_are,
         ))
-        ∙ get_past (control_words level segments) own.descriptors number (length segments + number) (ap (λ (n : ℕ). n + number) (sym (as_many_controls level segments)))
+        ∙ get_past (control_words (procedure_controls level segments)) own.descriptors number (length segments + number) (ap (λ (n : ℕ). n + number) (sym (as_many_controls level segments)))
         ∙ found.lies

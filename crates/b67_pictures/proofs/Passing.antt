@@ -12,12 +12,13 @@ use Rattle.algol_meaning.specs.Asks.{Ask, passes, ask, resume}
 use Rattle.algol_meaning.specs.Choice.{choice_of, goes}
 use Rattle.algol_paths.specs.Arrays.{Shape}
 use Rattle.algol_paths.specs.Blocks.{IsSeen, IsSeenAround, IsInner}
-use Rattle.algol_paths.specs.Laws.{RestsKeepToTheirText, ArraysAreMadeInOrder}
+use Rattle.algol_paths.specs.Laws.{RestsKeepToTheirText, AllIsMadeInOrder}
 use Rattle.b67_ops.specs.declared.Operator.TheVariants as ops
 use Rattle.b67_ops.specs.declared.PlainKind.TheVariants as kinds
 use Rattle.b67_control.specs.Control.{as_irw}
 use Rattle.b67_segment.specs.Operators.{Placed}
 use Rattle.b67_segment.specs.declared.code.Code.{Code}
+use Rattle.b67_templates.specs.Programs.{Texts}
 use Rattle.b67_table.specs.Chains.{place}
 use Rattle.b67_table.specs.declared.ProcessState.TheVariants.{Able}
 use Rattle.b67_table.specs.Image.{Image}
@@ -25,7 +26,8 @@ use Rattle.b67_table.specs.Effect as effects
 use Rattle.b67_table.specs.Outcome as outcomes
 use Rattle.b67_table.specs.Private.{frame}
 use Rattle.b67_table.specs.Table.{operator_at}
-use Rattle.b67_standing.specs.Stepping.{Slot, reference as reference_slot, descriptor, cell_of}
+use Rattle.b67_templates.specs.Cells as wants
+use Rattle.b67_standing.specs.Stepping.{Slot, reference as reference_slot, descriptor, passed as passed_held}
 use Rattle.b67_standing.specs.Standing.{ActionAt, Acted, ComesTo, PassesAt}
 use Rattle.b67_cores.specs.Cores.{Core, with_core}
 use Rattle.b67_cores.specs.Slots.{Known, newest}
@@ -50,10 +52,10 @@ use Rattle.b67_pictures.proofs.Words.{reference_read}
 
 -- ---- what a process finds that stands at LODT
 
-module _ (tree : PProgram) (code : Code) (texts : ℕ → List Placed) (nested : AreNested (scopes_of tree)) (w : World) (lay : Layout) (img : Image)
+module _ (tree : PProgram) (code : Code) (texts : Texts) (nested : AreNested (scopes_of tree)) (w : World) (lay : Layout) (img : Image)
     (p : ℕ) (q : Process) (part : Part) (outer : List Part) (bound : ℕ) (core : Core) (s : Scene tree code texts w lay img p q part outer bound core)
     (n : Named) (asks : ask part.rest ≡ passes n) (shape : Shape) (next : ℕ) (below : List Slot)
-    (found : PassesAt (scopes_of tree) (context_in tree code w part) (text_in tree texts w part) (level_in tree w part) (most_in tree w part) n shape s.stands.pc next s.stands.slots below) where
+    (found : PassesAt (scopes_of tree) (context_in tree code texts w part) (text_in tree texts w part) (level_in tree w part) (most_in tree w part) n shape s.stands.pc next s.stands.slots below) where
   abbrev block : ℕ
   block = (instance_at w part.instance).block
 
@@ -75,13 +77,13 @@ module _ (tree : PProgram) (code : Code) (texts : ℕ → List Placed) (nested :
 
 -- ---- the action
 
-module _ (tree : PProgram) (code : Code) (texts : ℕ → List Placed) (nested : AreNested (scopes_of tree)) (fragments : FragmentsArePerformed) (keeps : RestsKeepToTheirText) (order : ArraysAreMadeInOrder)
+module _ (tree : PProgram) (code : Code) (texts : Texts) (nested : AreNested (scopes_of tree)) (fragments : FragmentsArePerformed) (keeps : RestsKeepToTheirText) (order : AllIsMadeInOrder)
     (w : World) (lay : Layout) (img : Image) (p : ℕ) (q : Process) (part : Part) (outer : List Part) (bound : ℕ) (core : Core) (s : Scene tree code texts w lay img p q part outer bound core)
     (able_is : q.state ≡ able) (able_p : numbered img.states p ≡ Some Able) (n : Named) (asks : ask part.rest ≡ passes n)
-    (a : ActionAt (scopes_of tree) (context_in tree code w part) (text_in tree texts w part) (level_in tree w part) (most_in tree w part) (passes n) s.stands.pc s.stands.slots)
+    (a : ActionAt (scopes_of tree) (context_in tree code texts w part) (text_in tree texts w part) (level_in tree w part) (most_in tree w part) (passes n) s.stands.pc s.stands.slots)
     (answered : (r : Answer) (at : ℕ) (after : List Slot) →
-    Acted (scopes_of tree) (context_in tree code w part) (text_in tree texts w part) (level_in tree w part) (most_in tree w part) (passes n) s.stands.pc s.stands.slots a r at after →
-    ComesTo (scopes_of tree) (context_in tree code w part) (text_in tree texts w part) (level_in tree w part) (most_in tree w part) (resume (scopes_of tree) part.rest r) at after) where
+    Acted (scopes_of tree) (context_in tree code texts w part) (text_in tree texts w part) (level_in tree w part) (most_in tree w part) (passes n) s.stands.pc s.stands.slots a r at after →
+    ComesTo (scopes_of tree) (context_in tree code texts w part) (text_in tree texts w part) (level_in tree w part) (most_in tree w part) (resume (scopes_of tree) part.rest r) at after) where
   abbrev sc : Scopes
   sc = scopes_of tree
 
@@ -100,7 +102,7 @@ module _ (tree : PProgram) (code : Code) (texts : ℕ → List Placed) (nested :
   abbrev below : List Slot
   below = a.2
 
-  abbrev found : PassesAt sc (context_in tree code w part) text level (most_in tree w part) n shape s.stands.pc next s.stands.slots below
+  abbrev found : PassesAt sc (context_in tree code texts w part) text level (most_in tree w part) n shape s.stands.pc next s.stands.slots below
   found = a.3
 
   there : operator_at code core.registers ≡ Ok (ops.Plain kinds.Lodt, next)
@@ -115,12 +117,12 @@ module _ (tree : PProgram) (code : Code) (texts : ℕ → List Placed) (nested :
     leads = leads_so sc w lay (part ∷ outer) (part ∷ outer) (λ j own. own) found.actual shape (λ b is. (is.0 ∙ found.agrees.0, is.1 ∙ found.agrees.1)) h.r h.word h.leads
 
     abbrev one : Known
-    one = record { held = cell_of shape h.r; word = h.word }
+    one = record { held = passed_held (wants.array shape) (reference h.r); word = h.word }
 
     abbrev new : Core
     new = with_other core h.word f.top.words_below next
 
-    core_at : CoreAt sc (one ∷ s.stands.held) code text level next (descriptor (cell_of shape h.r) ∷ below) new
+    core_at : CoreAt sc (one ∷ s.stands.held) code text level next (descriptor (passed_held (wants.array shape) (reference h.r)) ∷ below) new
     core_at =
         record {
           segment = s.stands.there.segment;
@@ -133,14 +135,14 @@ module _ (tree : PProgram) (code : Code) (texts : ℕ → List Placed) (nested :
           words_are = (inl (refl, refl), more_known s.stands.held one sc level (frame core.registers) (length core.below) below f.top.words_below f.top.are);
         }
 
-    few : length (descriptor (cell_of shape h.r) ∷ below) ≤ most_in tree w part
+    few : length (descriptor (passed_held (wants.array shape) (reference h.r)) ∷ below) ≤ most_in tree w part
     few = omega (arith, ap length found.lies, s.stands.few)
 
     passing_does : Does tree code texts w img p
     passing_does =
         does_in_frame tree code texts fragments keeps order w lay img p q part outer bound core s able_is able_p (unmade part.rest (ap makes asks)) (cell (reference h.r)) tt w.output new refl (record { is = refl })
-        (one ∷ s.stands.held) (leads, s.stands.held_are) next (descriptor (cell_of shape h.r) ∷ below) core_at few
-        (answered (cell (reference h.r)) next (descriptor (cell_of shape h.r) ∷ below) (refl, refl)) Pass
+        (one ∷ s.stands.held) (leads, s.stands.held_are) next (descriptor (passed_held (wants.array shape) (reference h.r)) ∷ below) core_at few
+        (answered (cell (reference h.r)) next (descriptor (passed_held (wants.array shape) (reference h.r)) ∷ below) (refl, refl)) Pass
         (action_not_plain code img p core s.has (ops.Plain kinds.Lodt) next there
         (pass_class code img p core s.has next there f.top.word f.top.words_below f.top.is found.couple.level found.couple.index f.names (place p h.at) h.shown h.word h.lies
         (record { stack = p; displacement = h.target.at; index = array_index tree code texts w lay img p q part outer bound core s h.r.instance h.leads.array.number }) h.reads))

@@ -4,8 +4,8 @@ use Rattle.std.specs.Prelude.{if◌then◌else◌}
 use Rattle.b67_list.specs.Numbered.{numbered}
 use Rattle.algol_tree.specs.Plain.{PProgram}
 use Rattle.algol_meaning.specs.World.{Process, able, World}
-use Rattle.b67_segment.specs.Operators.{Placed}
 use Rattle.b67_segment.specs.declared.code.Code.{Code}
+use Rattle.b67_templates.specs.Programs.{Texts}
 use Rattle.b67_store.specs.Store.{stack_at, stack_limit}
 use Rattle.b67_control.specs.Display.{place_at}
 use Rattle.b67_table.specs.declared.InterruptKind.TheVariants.{BadCode as bad_code}
@@ -63,7 +63,7 @@ at_most_or_more (suc m) (suc n) = later (at_most_or_more m n)
 pub within_or_beyond : (n : ℕ) → (n ≤ stack_limit) ⊎ (stack_limit < n)
 within_or_beyond n = at_most_or_more n stack_limit
 
-module _ (performed : StepsArePerformed) (tree : PProgram) (code : Code) (texts : ℕ → List Placed) where
+module _ (performed : StepsArePerformed) (tree : PProgram) (code : Code) (texts : Texts) where
   module _ (w : World) (lay : Layout) (img : Image) where
     -- another process's operator leaves a process as it is
     kept : (p : ℕ) (b : Core) (q : ℕ) (r : Process) → ((core : Core) → HasCore img q core → HasCore (with_core img p b) q core) →
@@ -94,7 +94,7 @@ first_step (here s) apart = absurd (apart refl)
 first_step (onward {n} {b = c} s step l) apart = (n, c, step, l)
 
 -- the image in which a process has this core instead, after a step, all else being as it was
-pub record Nearer (tree : PProgram) (code : Code) (texts : ℕ → List Placed) (w : World) (lay : Layout) (a : Image) (core : Core) (p : ℕ) (q : Process) (before : Living tree code texts w lay a p q) : Type 0 where
+pub record Nearer (tree : PProgram) (code : Code) (texts : Texts) (w : World) (lay : Layout) (a : Image) (core : Core) (p : ℕ) (q : Process) (before : Living tree code texts w lay a p q) : Type 0 where
   pub lives_so : Living tree code texts w lay (with_core a p core) p q
   pub core_is : lives_so.core ≡ core
   pub bound_is : lives_so.bound ≡ before.bound
@@ -102,7 +102,7 @@ pub record Nearer (tree : PProgram) (code : Code) (texts : ℕ → List Placed) 
   pub others : (r : ℕ) (other : Core) → r ≢ p → HasCore a r other → HasCore (with_core a p core) r other
   pub system : stack_at (with_core a p core).stacks 0 ≡ stack_at a.stacks 0
 
-module _ (performed : StepsArePerformed) (limits : StepsComeToLimit) (tree : PProgram) (code : Code) (texts : ℕ → List Placed) (w : World) (lay : Layout) (a : Image) (p : ℕ) where
+module _ (performed : StepsArePerformed) (limits : StepsComeToLimit) (tree : PProgram) (code : Code) (texts : Texts) (w : World) (lay : Layout) (a : Image) (p : ℕ) where
   -- a step of a process that lives has been made
   pub step_made : (q : Process) → numbered w.processes p ≡ Some q → (l : Living tree code texts w lay a p q) → (c : Core) (n : ℕ) → CoreStep code l.core c → CoreSteps code l.bound n c l.settled → size c ≤ stack_limit →
       Nearer tree code texts w lay a c p q l
@@ -156,7 +156,7 @@ module _ (performed : StepsArePerformed) (limits : StepsComeToLimit) (tree : PPr
           subst (λ (x : Process). Pictured tree code texts w lay (with_core a p c) r x) own
           (subst (λ (k : ℕ). Pictured tree code texts w lay (with_core a p c) k q) (sym same) (living able_is s n.lives_so))
 
-module _ (performed : StepsArePerformed) (limits : StepsComeToLimit) (tree : PProgram) (code : Code) (texts : ℕ → List Placed) (w : World) (lay : Layout) (a b : Image) (p : ℕ) (is_plain : plain code a p ≡ true) (gives_b : table code a p ≡ gives b) where
+module _ (performed : StepsArePerformed) (limits : StepsComeToLimit) (tree : PProgram) (code : Code) (texts : Texts) (w : World) (lay : Layout) (a b : Image) (p : ℕ) (is_plain : plain code a p ≡ true) (gives_b : table code a p ≡ gives b) where
   -- a process whose own operator it was has one step less before it
   nearer : (q : Process) → numbered w.processes p ≡ Some q → (l : Living tree code texts w lay a p q) → (HasCore a p l.settled → plain code a p ≡ false) →
       (c : Core) × (b ≡ with_core a p c) × Nearer tree code texts w lay a c p q l

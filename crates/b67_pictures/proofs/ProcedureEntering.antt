@@ -15,9 +15,9 @@ use Rattle.algol_meaning.specs.World.{Instance, Process, Part, procedure, able, 
 use Rattle.algol_meaning.specs.Asks.{Ask, nothing, enters, ask, resume}
 use Rattle.algol_meaning.specs.Choice.{choice_of, entered_procedure, given_cells}
 use Rattle.algol_meaning.specs.Settle.{block_of}
-use Rattle.algol_paths.specs.Arrays.{to_make}
+use Rattle.algol_paths.specs.Arrays.{all_to_make}
 use Rattle.algol_paths.specs.Blocks.{IsSeen, IsSeenAround, IsInner}
-use Rattle.algol_paths.specs.Laws.{RestsKeepToTheirText, ArraysAreMadeInOrder}
+use Rattle.algol_paths.specs.Laws.{RestsKeepToTheirText, AllIsMadeInOrder}
 use Rattle.algol_paths.specs.Segments.{is_procedure, segment_of}
 use Rattle.b67_word.specs.Word.{Word}
 use Rattle.b67_control.specs.declared.Pcw.{Pcw}
@@ -25,7 +25,6 @@ use Rattle.b67_control.specs.Control.{Fits_pcw, as_irw, as_sirw, pcw_word}
 use Rattle.b67_control.proofs.ControlLaws.{as_sirw-other, as_pcw-pcw_word, kind_of-pcw_word}
 use Rattle.b67_ops.specs.declared.Couple.{Couple}
 use Rattle.b67_ops.specs.declared.TheConstants.{OUTER_LEVEL}
-use Rattle.b67_segment.specs.Operators.{Placed}
 use Rattle.b67_segment.specs.declared.code.Code.{Code}
 use Rattle.b67_segment.specs.declared.code.Segment.{Segment}
 use Rattle.b67_store.specs.Store.{word_at}
@@ -33,10 +32,11 @@ use Rattle.b67_table.specs.declared.ProcessState.TheVariants.{Able}
 use Rattle.b67_table.specs.Chains.{place}
 use Rattle.b67_table.specs.Image.{Image}
 use Rattle.b67_table.specs.Private.{frame, display_at}
-use Rattle.b67_templates.specs.Cells.{Simple, wanted_by, parameter_cells, parameter_wants, simple_cells, procedures, control_segments, IsProcedure}
+use Rattle.b67_templates.specs.Contexts.{Yields, yields_of}
+use Rattle.b67_templates.specs.Cells.{Simple, parameter_cells, parameter_wants, simple_cells, procedures, control_segments, IsProcedure}
 use Rattle.b67_templates.specs.Depths.{decls_depth, stmts_depth}
-use Rattle.b67_templates.specs.Fragments.{code_at}
-use Rattle.b67_templates.specs.Programs.{context_of, BodyAt, ProgramAt}
+use Rattle.b67_templates.specs.Fragments.{code_at, procedure_controls}
+use Rattle.b67_templates.specs.Programs.{Texts, context_of, BodyAt, ProgramAt}
 use Rattle.b67_standing.specs.Laws.{BlocksStart}
 use Rattle.b67_standing.specs.Stepping.{Slot, reference, mark}
 use Rattle.b67_standing.specs.Standing.{ActionAt, Entered, Gives, pushed, ComesTo, CallsAt}
@@ -62,7 +62,7 @@ use Rattle.b67_pictures.proofs.Lying.{Lies, lies_in, IsParent, parents_in}
 use Rattle.b67_pictures.proofs.NamedArrays.{IsSeenMade, both_seen, up_complete, named_leads}
 use Rattle.b67_pictures.proofs.Numbers.{get_within, get_below}
 use Rattle.b67_pictures.proofs.Scene.{Scene}
-use Rattle.b67_pictures.proofs.Segmented.{before_whole, segment_low, procedure_segment, get_mapped, length_mapped}
+use Rattle.b67_pictures.proofs.Segmented.{before_whole, segment_low, procedure_segment, get_mapped, length_mapped, get_control}
 use Rattle.b67_pictures.proofs.StackWords.{get-front}
 use Rattle.b67_pictures.proofs.Stage.{choice_is}
 use Rattle.b67_pictures.proofs.Parents.{length_around}
@@ -79,22 +79,22 @@ HasRoomFor tree =
     + length (procedures (block_numbered (scopes_of tree).blocks j).decls) + 1 ≤ 4 * tokens_around tree j
 
 module _ (tree : PProgram) (code : Code) (program : ProgramAt code tree) (nested : LiesNested tree) (short : IsShort tree code) (small : HasRoomFor tree)
-    (fragments : FragmentsArePerformed) (begins_so : BlocksBegin) (starts : BlocksStart) (keeps : RestsKeepToTheirText) (order : ArraysAreMadeInOrder)
+    (fragments : FragmentsArePerformed) (begins_so : BlocksBegin) (starts : BlocksStart) (keeps : RestsKeepToTheirText) (order : AllIsMadeInOrder)
     (w : World) (lay : Layout) (img : Image) (p : ℕ) (q : Process) (part : Part) (outer : List Part) (bound : ℕ) (core : Core)
     (s : Scene tree code program.texts w lay img p q part outer bound core) (able_is : q.state ≡ able) (able_p : numbered img.states p ≡ Some Able)
     (n : Named) (gs : List Given) (asks : ask part.rest ≡ enters n gs)
-    (a : ActionAt (scopes_of tree) (context_in tree code w part) (text_in tree program.texts w part) (level_in tree w part) (most_in tree w part) (enters n gs) s.stands.pc s.stands.slots)
-    (waits : (to : ℕ) (after : List Slot) (wanted : Option Kind) →
-    Entered (scopes_of tree) (context_in tree code w part) (text_in tree program.texts w part) (level_in tree w part) (most_in tree w part) (enters n gs) s.stands.pc s.stands.slots a to after wanted →
+    (a : ActionAt (scopes_of tree) (context_in tree code program.texts w part) (text_in tree program.texts w part) (level_in tree w part) (most_in tree w part) (enters n gs) s.stands.pc s.stands.slots)
+    (waits : (to : ℕ) (after : List Slot) (wanted : Yields) →
+    Entered (scopes_of tree) (context_in tree code program.texts w part) (text_in tree program.texts w part) (level_in tree w part) (most_in tree w part) (enters n gs) s.stands.pc s.stands.slots a to after wanted →
     ask (resume (scopes_of tree) part.rest entered) ≡ nothing)
-    (returns : (to : ℕ) (after : List Slot) (wanted : Option Kind) →
-    Entered (scopes_of tree) (context_in tree code w part) (text_in tree program.texts w part) (level_in tree w part) (most_in tree w part) (enters n gs) s.stands.pc s.stands.slots a to after wanted →
+    (returns : (to : ℕ) (after : List Slot) (wanted : Yields) →
+    Entered (scopes_of tree) (context_in tree code program.texts w part) (text_in tree program.texts w part) (level_in tree w part) (most_in tree w part) (enters n gs) s.stands.pc s.stands.slots a to after wanted →
     (r : Answer) → Gives wanted r →
-    ComesTo (scopes_of tree) (context_in tree code w part) (text_in tree program.texts w part) (level_in tree w part) (most_in tree w part) (resume (scopes_of tree) (resume (scopes_of tree) part.rest entered) r) to (pushed r after)) where
+    ComesTo (scopes_of tree) (context_in tree code program.texts w part) (text_in tree program.texts w part) (level_in tree w part) (most_in tree w part) (resume (scopes_of tree) (resume (scopes_of tree) part.rest entered) r) to (pushed r after)) where
   abbrev sc : Scopes
   sc = scopes_of tree
 
-  abbrev texts : ℕ → List Placed
+  abbrev texts : Texts
   texts = program.texts
 
   abbrev level : ℕ
@@ -106,7 +106,7 @@ module _ (tree : PProgram) (code : Code) (program : ProgramAt code tree) (nested
   abbrev callee : ℕ
   callee = a.0
 
-  abbrev at : CallsAt sc (context_in tree code w part) (text_in tree texts w part) level (most_in tree w part) n gs callee s.stands.pc a.1 s.stands.slots a.2
+  abbrev at : CallsAt sc (context_in tree code texts w part) (text_in tree texts w part) level (most_in tree w part) n gs callee s.stands.pc a.1 s.stands.slots a.2
   at = a.3
 
   abbrev couple : Couple
@@ -133,13 +133,13 @@ module _ (tree : PProgram) (code : Code) (program : ProgramAt code tree) (nested
   seen_there : IsSeen sc block n
   seen_there = all_seen.0
 
-  in_bound : (to_make part.rest ≡ []) ⊎ InEntry (IsSeenAround sc block) n gs
+  in_bound : (all_to_make part.rest ≡ []) ⊎ InEntry (IsSeenAround sc block) n gs
   in_bound = entered_in_bound (IsSeen sc block) n gs (IsInner sc block) (IsSeenAround sc block) part.rest asks s.stands.frame.text
 
   arrays_seen : InReferred (IsSeenMade tree w part) gs
   arrays_seen = both_seen tree w part gs all_seen.1 (given_in_bound in_bound)
     where
-      given_in_bound : (to_make part.rest ≡ []) ⊎ InEntry (IsSeenAround sc block) n gs → (to_make part.rest ≡ []) ⊎ InReferred (IsSeenAround sc block) gs
+      given_in_bound : (all_to_make part.rest ≡ []) ⊎ InEntry (IsSeenAround sc block) n gs → (all_to_make part.rest ≡ []) ⊎ InReferred (IsSeenAround sc block) gs
       given_in_bound (inl none) = inl none
       given_in_bound (inr around_it) = inr around_it.1
 
@@ -168,11 +168,11 @@ module _ (tree : PProgram) (code : Code) (program : ProgramAt code tree) (nested
   complete : IsComplete sc w lay h
   complete = up_complete tree code texts w lay p part outer core.below s.stands.frame s.around up (by_text in_bound) parent.complete
     where
-      by_text : (to_make part.rest ≡ []) ⊎ InEntry (IsSeenAround sc block) n gs → (to_make part.rest ≡ []) ⊎ (1 ≤ up)
+      by_text : (all_to_make part.rest ≡ []) ⊎ InEntry (IsSeenAround sc block) n gs → (all_to_make part.rest ≡ []) ⊎ (1 ≤ up)
       by_text (inl none) = inl none
       by_text (inr around_it) = far around_it.0.1
         where
-          far : (1 ≤ up) ⊎ (is_variable ((use_of sc n).sort) ≡ true) ⊎ (is_formal ((use_of sc n).sort) ≡ true) → (to_make part.rest ≡ []) ⊎ (1 ≤ up)
+          far : (1 ≤ up) ⊎ (is_variable ((use_of sc n).sort) ≡ true) ⊎ (is_formal ((use_of sc n).sort) ≡ true) → (all_to_make part.rest ≡ []) ⊎ (1 ≤ up)
           far (inl more) = inr more
           far (inr (inl variable)) = absurd (let clash : false ≡ true = sym (ap is_variable named.sort_is) ∙ variable in cc)
           far (inr (inr formal)) = absurd (let clash : false ≡ true = sym (ap is_formal named.sort_is) ∙ formal in cc)
@@ -221,12 +221,12 @@ module _ (tree : PProgram) (code : Code) (program : ProgramAt code tree) (nested
   far = length (simple_cells sc (block_numbered sc.blocks u)) + named.number
 
   abbrev controls_there : List Word
-  controls_there = control_words (level_of (block_numbered sc.blocks x.block)) (control_segments sc (block_numbered sc.blocks x.block).decls)
+  controls_there = control_words (procedure_controls (level_of (block_numbered sc.blocks x.block)) (control_segments sc (block_numbered sc.blocks x.block).decls))
 
   control_lies : slice_get controls_there named.number ≡ Some (pcw_word c)
   control_lies =
-      ap (λ (k : ℕ). slice_get (control_words (level_of (block_numbered sc.blocks k)) (control_segments sc (block_numbered sc.blocks k).decls)) named.number) block_is
-      ∙ get_mapped (λ (k : ℕ). pcw_word (code_at k 0 (level_of (block_numbered sc.blocks u) + 1))) (control_segments sc (block_numbered sc.blocks u).decls) named.number
+      ap (λ (k : ℕ). slice_get (control_words (procedure_controls (level_of (block_numbered sc.blocks k)) (control_segments sc (block_numbered sc.blocks k).decls))) named.number) block_is
+      ∙ get_control (level_of (block_numbered sc.blocks u)) (control_segments sc (block_numbered sc.blocks u).decls) named.number
       (segment_of sc.blocks (number_at sc.blocks named.declared.spot))
       (get_mapped (λ (m : Named). segment_of sc.blocks (number_at sc.blocks m.spot)) (procedures (block_numbered sc.blocks u).decls) named.number named.declared named.there)
       ∙ ap (λ (k : ℕ). Some (pcw_word (code_at (segment_of sc.blocks k) 0 (level_of (block_numbered sc.blocks u) + 1)))) named.callee_is
@@ -301,7 +301,7 @@ module _ (tree : PProgram) (code : Code) (program : ProgramAt code tree) (nested
   fit = are_fit sc level (parameter_wants sc callee) gs at.fit
 
   given_many : length gs ≡ length (parameter_cells sc b)
-  given_many = fit_many sc level fit ∙ length_mapped (λ (c : Simple). wanted_by c.kind c.shape) (parameter_cells sc b)
+  given_many = fit_many sc level fit ∙ length_mapped (λ (c : Simple). c.wanted) (parameter_cells sc b)
 
   abbrev calls : Calls tree code texts nested short w lay img p q part outer bound core s (parameter_wants sc callee) gs (reference couple) a.1 a.2 h callee 0
   calls =
@@ -327,7 +327,7 @@ module _ (tree : PProgram) (code : Code) (program : ProgramAt code tree) (nested
 
   -- ---- its code
 
-  code_there : BodyAt sc (context_of code sc callee) (texts (segment_of sc.blocks callee)) (level_of b) b 0
+  code_there : BodyAt sc (context_of code texts sc callee) (texts.placed (segment_of sc.blocks callee)) (level_of b) b 0
   code_there = program.bodies callee known (inr is_own)
 
   room : decls_depth b.decls + stmts_depth b.stmts + length (procedures b.decls) + 1 ≤ 4 * tokens_around tree callee
@@ -336,14 +336,16 @@ module _ (tree : PProgram) (code : Code) (program : ProgramAt code tree) (nested
   abbrev procedure_body : Body tree code texts nested short fragments begins_so keeps order w lay img p q part outer bound core s able_is able_p callee 0
   procedure_body =
       record {
+        ready = code_there.begin;
         start = code_there.start;
+        over = code_there.over;
         cells_at = code_there.cells;
-        comes = starts sc (context_of code sc callee) (texts (segment_of sc.blocks callee)) (level_of b) (most_around tree callee) b code_there.start code_there.items (omega (arith, room)) (omega (arith, room));
+        comes = starts sc (context_of code texts sc callee) (texts.placed (segment_of sc.blocks callee)) (level_of b) (most_around tree callee) b code_there.start code_there.items (omega (arith, room)) (omega (arith, room));
         small = omega (arith, room);
       }
 
   abbrev behind : GoesOnBehind tree code texts nested short fragments begins_so keeps order w lay img p q part outer bound core s able_is able_p a.1 a.2 callee
-  behind = record { unmade = unmade part.rest (ap makes asks); waits = waits a.1 a.2 b.result (refl, refl, refl); returns = returns a.1 a.2 b.result (refl, refl, refl) }
+  behind = record { unmade = unmade part.rest (ap makes asks); waits = waits a.1 a.2 (yields_of b.result) (refl, refl, refl); returns = returns a.1 a.2 (yields_of b.result) (refl, refl, refl) }
 
   abbrev AreCellsThere : List Cell → List Word → Type 0
   AreCellsThere given ws = AreCells tree code texts nested short fragments begins_so keeps order w lay img p q part outer bound core s able_is able_p callee given ws

@@ -4,8 +4,8 @@ use Rattle.std.proofs.Common.{◌≡◌, ◌⊎◌, inl, inr, refl, sym, ◌∙�
 use Rattle.b67_list.specs.Numbered.{numbered}
 use Rattle.algol_tree.specs.Plain.{PProgram}
 use Rattle.algol_meaning.specs.World.{Process, able, World}
-use Rattle.b67_segment.specs.Operators.{Placed}
 use Rattle.b67_segment.specs.declared.code.Code.{Code}
+use Rattle.b67_templates.specs.Programs.{Texts}
 use Rattle.b67_store.specs.Store.{stack_limit}
 use Rattle.b67_table.specs.declared.ProcessState.TheVariants.{Able}
 use Rattle.b67_table.specs.Image.{Image}
@@ -20,12 +20,12 @@ use Rattle.b67_pictures.specs.Pictures.{Living, PicturesBy}
 use Rattle.b67_pictures.proofs.Plainly.{steps_fit, stepped, within_or_beyond, Nearer, step_made, pictured_nearer, plain_pictured}
 
 -- each process of a picture whose core is settled does its action
-abbrev pub SettledAct : PProgram → Code → (ℕ → List Placed) → Type 0
+abbrev pub SettledAct : PProgram → Code → Texts → Type 0
 SettledAct tree code texts =
     (w : World) (lay : Layout) (img : Image) (p : ℕ) (q : Process) → PicturesBy tree code texts w lay img → numbered w.processes p ≡ Some q → q.state ≡ able → numbered img.states p ≡ Some Able →
     (l : Living tree code texts w lay img p q) → HasCore img p l.settled → Does tree code texts w img p
 
-module _ (tree : PProgram) (code : Code) (texts : ℕ → List Placed) (performed : StepsArePerformed) (limits : StepsComeToLimit) (settled_does : SettledAct tree code texts) where
+module _ (tree : PProgram) (code : Code) (texts : Texts) (performed : StepsArePerformed) (limits : StepsComeToLimit) (settled_does : SettledAct tree code texts) where
   -- what the operator of an action does is not plain
   pub not_plain : {w : World} {img : Image} {p : ℕ} → Does tree code texts w img p → plain code img p ≡ false
   not_plain (gave after np t act by) = np

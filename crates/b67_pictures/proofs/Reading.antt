@@ -12,11 +12,11 @@ use Rattle.algol_meaning.specs.Actions.{Read}
 use Rattle.algol_meaning.specs.Asks.{Ask, reads, ask, resume}
 use Rattle.algol_meaning.specs.Choice.{choice_of, read_of}
 use Rattle.algol_paths.specs.Blocks.{IsSeen, IsSeenAround, IsInner}
-use Rattle.algol_paths.specs.Laws.{RestsKeepToTheirText, ArraysAreMadeInOrder}
+use Rattle.algol_paths.specs.Laws.{RestsKeepToTheirText, AllIsMadeInOrder}
 use Rattle.b67_word.specs.Word.{Word}
 use Rattle.b67_ops.specs.declared.Operator.TheVariants as ops
-use Rattle.b67_segment.specs.Operators.{Placed}
 use Rattle.b67_segment.specs.declared.code.Code.{Code}
+use Rattle.b67_templates.specs.Programs.{Texts}
 use Rattle.b67_store.specs.Store.{word_at}
 use Rattle.b67_table.specs.Chains.{place}
 use Rattle.b67_table.specs.declared.ProcessState.TheVariants.{Able}
@@ -43,14 +43,14 @@ use Rattle.b67_pictures.proofs.ValueRow.{with_top, reads_value, value_raw, value
 use Rattle.b67_pictures.proofs.Words.{value_tag, no_sirw, no_pcw}
 use Rattle.b67_pictures.proofs.Unmade.{makes, unmade}
 
-module _ (tree : PProgram) (code : Code) (texts : ℕ → List Placed) (fragments : FragmentsArePerformed) (keeps : RestsKeepToTheirText) (order : ArraysAreMadeInOrder) (w : World) (lay : Layout) (img : Image)
+module _ (tree : PProgram) (code : Code) (texts : Texts) (fragments : FragmentsArePerformed) (keeps : RestsKeepToTheirText) (order : AllIsMadeInOrder) (w : World) (lay : Layout) (img : Image)
     (p : ℕ) (q : Process) (part : Part) (outer : List Part) (bound : ℕ) (core : Core) (s : Scene tree code texts w lay img p q part outer bound core) (able_is : q.state ≡ able) (able_p : numbered img.states p ≡ Some Able) where
   abbrev sc : Scopes
   sc = scopes_of tree
 
-  module _ (n : Named) (asks : ask part.rest ≡ reads n) (a : ActionAt sc (context_in tree code w part) (text_in tree texts w part) (level_in tree w part) (most_in tree w part) (reads n) s.stands.pc s.stands.slots)
-      (answered : (r : Answer) (at : ℕ) (after : List Slot) → Acted sc (context_in tree code w part) (text_in tree texts w part) (level_in tree w part) (most_in tree w part) (reads n) s.stands.pc s.stands.slots a r at after →
-      ComesTo sc (context_in tree code w part) (text_in tree texts w part) (level_in tree w part) (most_in tree w part) (resume sc part.rest r) at after) where
+  module _ (n : Named) (asks : ask part.rest ≡ reads n) (a : ActionAt sc (context_in tree code texts w part) (text_in tree texts w part) (level_in tree w part) (most_in tree w part) (reads n) s.stands.pc s.stands.slots)
+      (answered : (r : Answer) (at : ℕ) (after : List Slot) → Acted sc (context_in tree code texts w part) (text_in tree texts w part) (level_in tree w part) (most_in tree w part) (reads n) s.stands.pc s.stands.slots a r at after →
+      ComesTo sc (context_in tree code texts w part) (text_in tree texts w part) (level_in tree w part) (most_in tree w part) (resume sc part.rest r) at after) where
     -- the operator, and where it finds the variable
     there : operator_at code core.registers ≡ Ok (ops.Valc a.2.0, a.1)
     there = operator_there sc s.stands.held code (text_in tree texts w part) (level_in tree w part) s.stands.pc s.stands.slots core (ops.Valc a.2.0) a.1 s.stands.there a.2.2

@@ -14,10 +14,9 @@ use Rattle.algol_meaning.specs.World.{NamedCell, Instance, Process, Part, able, 
 use Rattle.algol_meaning.specs.Actions.{Read}
 use Rattle.algol_meaning.specs.Asks.{Ask, reads_result, ask, resume}
 use Rattle.algol_meaning.specs.Choice.{choice_of, goes}
-use Rattle.algol_paths.specs.Laws.{RestsKeepToTheirText, ArraysAreMadeInOrder}
+use Rattle.algol_paths.specs.Laws.{RestsKeepToTheirText, AllIsMadeInOrder}
 use Rattle.b67_word.specs.Word.{Word}
 use Rattle.b67_ops.specs.declared.Operator.TheVariants as ops
-use Rattle.b67_segment.specs.Operators.{Placed}
 use Rattle.b67_segment.specs.declared.code.Code.{Code}
 use Rattle.b67_store.specs.Store.{word_at}
 use Rattle.b67_table.specs.Chains.{place}
@@ -27,8 +26,12 @@ use Rattle.b67_table.specs.Effect as effects
 use Rattle.b67_table.specs.Outcome as outcomes
 use Rattle.b67_table.specs.Private.{display_at}
 use Rattle.b67_table.specs.Table.{operator_at}
+use Rattle.b67_templates.specs.Contexts as yielding
+use Rattle.b67_templates.specs.Contexts.{yields_of}
+use Rattle.b67_templates.specs.Cells as wants
 use Rattle.b67_templates.specs.Cells.{Simple, parameter_cells, result_of, variables, simple_cells, Found, found_from}
 use Rattle.b67_templates.specs.Code.{ResultAt}
+use Rattle.b67_templates.specs.Programs.{Texts}
 use Rattle.b67_fitting.specs.Nested.{AreNested}
 use Rattle.b67_standing.specs.Stepping.{Slot, operand}
 use Rattle.b67_standing.specs.Standing.{ActionAt, Acted, ComesTo}
@@ -45,6 +48,7 @@ use Rattle.b67_pictures.proofs.Rows.{action_not_plain, action_is}
 use Rattle.b67_pictures.proofs.Scene.{Scene, shown_frame}
 use Rattle.b67_pictures.proofs.Stage.{choice_is}
 use Rattle.b67_pictures.proofs.StackWords.{get-front}
+use Rattle.b67_pictures.proofs.Yielding.{result_given}
 use Rattle.b67_pictures.proofs.Staying.{text_in, level_in, context_in, most_in}
 use Rattle.b67_pictures.proofs.ValueRow.{with_top, reads_value, value_raw, value_class}
 use Rattle.b67_pictures.proofs.Variables.{Cell_of, variable_cell, cell_front, Holds_value, value_of_cell}
@@ -70,26 +74,26 @@ found_behind from (s ∷ ss) others name f none e = by_name (same_name s.name na
 
 -- the result comes first after the cells of the parameters
 result_found : (sc : Scopes) (b : Block) (kind : Kind) → found_from 0 (parameter_cells sc b) b.name ≡ None → b.result ≡ Some kind →
-    found_from 0 (simple_cells sc b) b.name ≡ Some (record { number = length (parameter_cells sc b); cell = record { name = b.name; kind = Some kind; shape = None } })
+    found_from 0 (simple_cells sc b) b.name ≡ Some (record { number = length (parameter_cells sc b); cell = record { name = b.name; wanted = wants.value kind } })
 result_found sc b kind apart typed =
     let far = length (parameter_cells sc b) in
     ap (λ (ss : List Simple). found_from 0 ss b.name) (cells_joined sc b)
-    ∙ found_behind 0 (parameter_cells sc b) (result_of b.result b.name ++ variables b.decls) b.name (record { number = far; cell = record { name = b.name; kind = Some kind; shape = None } }) apart
+    ∙ found_behind 0 (parameter_cells sc b) (result_of b.result b.name ++ variables b.decls) b.name (record { number = far; cell = record { name = b.name; wanted = wants.value kind } }) apart
     (ap (λ (n : ℕ). found_from n (result_of b.result b.name ++ variables b.decls) b.name) (let same : 0 + far ≡ far = omega arith in same)
     ∙ ap (λ (o : Option Kind). found_from far (result_of o b.name ++ variables b.decls) b.name) typed
-    ∙ ap (λ (t : Bool). if t then Some (record { number = far; cell = record { name = b.name; kind = Some kind; shape = None } }) else found_from (far + 1) (variables b.decls) b.name) (same_itself b.name))
+    ∙ ap (λ (t : Bool). if t then Some (record { number = far; cell = record { name = b.name; wanted = wants.value kind } }) else found_from (far + 1) (variables b.decls) b.name) (same_itself b.name))
 
-module _ (tree : PProgram) (code : Code) (texts : ℕ → List Placed) (nested : AreNested (scopes_of tree)) (fragments : FragmentsArePerformed) (keeps : RestsKeepToTheirText) (order : ArraysAreMadeInOrder) (w : World) (lay : Layout) (img : Image)
+module _ (tree : PProgram) (code : Code) (texts : Texts) (nested : AreNested (scopes_of tree)) (fragments : FragmentsArePerformed) (keeps : RestsKeepToTheirText) (order : AllIsMadeInOrder) (w : World) (lay : Layout) (img : Image)
     (p : ℕ) (q : Process) (part : Part) (outer : List Part) (bound : ℕ) (core : Core) (s : Scene tree code texts w lay img p q part outer bound core) (able_is : q.state ≡ able) (able_p : numbered img.states p ≡ Some Able)
     (name : List ℕ) (asks : ask part.rest ≡ reads_result name)
-    (a : ActionAt (scopes_of tree) (context_in tree code w part) (text_in tree texts w part) (level_in tree w part) (most_in tree w part) (reads_result name) s.stands.pc s.stands.slots)
+    (a : ActionAt (scopes_of tree) (context_in tree code texts w part) (text_in tree texts w part) (level_in tree w part) (most_in tree w part) (reads_result name) s.stands.pc s.stands.slots)
     (answered : (r : Answer) (at : ℕ) (after : List Slot) →
-    Acted (scopes_of tree) (context_in tree code w part) (text_in tree texts w part) (level_in tree w part) (most_in tree w part) (reads_result name) s.stands.pc s.stands.slots a r at after →
-    ComesTo (scopes_of tree) (context_in tree code w part) (text_in tree texts w part) (level_in tree w part) (most_in tree w part) (resume (scopes_of tree) part.rest r) at after) where
+    Acted (scopes_of tree) (context_in tree code texts w part) (text_in tree texts w part) (level_in tree w part) (most_in tree w part) (reads_result name) s.stands.pc s.stands.slots a r at after →
+    ComesTo (scopes_of tree) (context_in tree code texts w part) (text_in tree texts w part) (level_in tree w part) (most_in tree w part) (resume (scopes_of tree) part.rest r) at after) where
   abbrev sc : Scopes
   sc = scopes_of tree
 
-  abbrev at : ResultAt sc (context_in tree code w part) (text_in tree texts w part) (level_in tree w part) name s.stands.pc
+  abbrev at : ResultAt sc (context_in tree code texts w part) (text_in tree texts w part) (level_in tree w part) name s.stands.pc
   at = a.0
 
   abbrev next : ℕ
@@ -110,7 +114,7 @@ module _ (tree : PProgram) (code : Code) (texts : ℕ → List Placed) (nested :
   b = block_numbered sc.blocks own.block
 
   typed : b.result ≡ Some at.kind
-  typed = subst (λ (x : Instance). (block_numbered sc.blocks x.block).result ≡ Some at.kind) own_is at.is
+  typed = result_given b.result at.kind (subst (λ (x : Instance). yields_of (block_numbered sc.blocks x.block).result ≡ yielding.value at.kind) own_is at.is)
 
   named : b.name ≡ name
   named = subst (λ (x : Instance). (block_numbered sc.blocks x.block).name ≡ name) own_is at.named
@@ -122,7 +126,7 @@ module _ (tree : PProgram) (code : Code) (texts : ℕ → List Placed) (nested :
   index_is = at.index_is ∙ ap (λ (x : Instance). 2 + length (parameter_cells sc (block_numbered sc.blocks x.block))) own_is
 
   abbrev found : Found
-  found = record { number = length (parameter_cells sc b); cell = record { name = b.name; kind = Some at.kind; shape = None } }
+  found = record { number = length (parameter_cells sc b); cell = record { name = b.name; wanted = wants.value at.kind } }
 
   abbrev first_cells : List NamedCell
   first_cells = s.stands.frame.framed.simple

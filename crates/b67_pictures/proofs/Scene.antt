@@ -5,8 +5,8 @@ use Rattle.algol_tree.specs.Plain.{PProgram}
 use Rattle.algol_meaning.specs.World.{Process, Part, World}
 use Rattle.b67_control.specs.declared.Registers.{Registers}
 use Rattle.b67_control.specs.Display.{place_at}
-use Rattle.b67_segment.specs.Operators.{Placed}
 use Rattle.b67_segment.specs.declared.code.Code.{Code}
+use Rattle.b67_templates.specs.Programs.{Texts}
 use Rattle.b67_store.specs.Store.{stack_limit}
 use Rattle.b67_table.specs.Chains.{place}
 use Rattle.b67_table.specs.Image.{Image}
@@ -20,7 +20,7 @@ use Rattle.b67_pictures.specs.Frames.{Stands, Around, Frames}
 use Rattle.b67_pictures.specs.Pictures.{innermost_most, Living, PicturesBy}
 use Rattle.b67_pictures.proofs.Staying.{level_in, most_in, wanted_in}
 
-module _ (tree : PProgram) (code : Code) (texts : ℕ → List Placed) (w : World) (lay : Layout) (img : Image) where
+module _ (tree : PProgram) (code : Code) (texts : Texts) (w : World) (lay : Layout) (img : Image) where
   -- process p, whose innermost part stands at its head: there its core is
   pub record Scene (p : ℕ) (q : Process) (part : Part) (outer : List Part) (bound : ℕ) (core : Core) : Type 0 where
     pub by : PicturesBy tree code texts w lay img

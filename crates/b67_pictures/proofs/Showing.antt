@@ -8,8 +8,8 @@ use Rattle.algol_meaning.specs.World.{is_able as meaning_able}
 use Rattle.algol_meaning.specs.Run.{end_of}
 use Rattle.algol_meaning.specs.Run as meaning
 use Rattle.b67_control.specs.declared.Registers.{Registers}
-use Rattle.b67_segment.specs.Operators.{Placed}
 use Rattle.b67_segment.specs.declared.code.Code.{Code}
+use Rattle.b67_templates.specs.Programs.{Texts}
 use Rattle.b67_table.specs.declared.ProcessState.{ProcessState}
 use Rattle.b67_table.specs.declared.ProcessState.TheVariants.{Able, Ended}
 use Rattle.b67_table.specs.declared.InterruptKind.TheVariants.{BadCode as bad_code}
@@ -85,7 +85,7 @@ no_limit code img p gone t = by_live (is_live (numbered img.states p)) (by_regis
     by_live true x f h = true_false refl f
     by_live false x f h = cc
 
-module _ (tree : PProgram) (code : Code) (texts : ℕ → List Placed) (w : World) (lay : Layout) (img : Image) (by : PicturesBy tree code texts w lay img) where
+module _ (tree : PProgram) (code : Code) (texts : Texts) (w : World) (lay : Layout) (img : Image) (by : PicturesBy tree code texts w lay img) where
   -- an able process, and how it is pictured
   pub record IsAble (p : ℕ) : Type 0 where
     pub process : Process

@@ -10,8 +10,8 @@ use Rattle.algol_meaning.specs.Choice.{choice}
 use Rattle.algol_meaning.specs.Run.{start}
 use Rattle.b67_word.specs.declared.Place.{Place}
 use Rattle.b67_control.specs.declared.Registers.{Registers}
-use Rattle.b67_segment.specs.Operators.{Placed}
 use Rattle.b67_segment.specs.declared.code.Code.{Code}
+use Rattle.b67_templates.specs.Programs.{Texts}
 use Rattle.b67_table.specs.declared.InterruptKind.{InterruptKind}
 use Rattle.b67_table.specs.Outcome.{Outcome, gives, faults, interrupts, limit}
 use Rattle.b67_table.specs.Image.{Image, is_live}
@@ -64,21 +64,21 @@ pub faults_limit : {A B : Type 0} {j : FaultKind} {e : Outcome A} → e ≡ faul
 faults_limit x y = cc
 
 -- an image pictures a world in which there is a process 1
-abbrev pub PicturesSome : PProgram → Code → (ℕ → List Placed) → World → Image → Type 0
+abbrev pub PicturesSome : PProgram → Code → Texts → World → Image → Type 0
 PicturesSome tree code texts w img = Pictures tree code texts w img × (1 ≤ length w.processes)
 
 -- what no operator of a pictured image touches: a word in another process's private part
-abbrev pub StandApart : PProgram → Code → (ℕ → List Placed) → Type 0
+abbrev pub StandApart : PProgram → Code → Texts → Type 0
 StandApart tree code texts =
     (w : World) (lay : Layout) (a : Image) → PicturesBy tree code texts w lay a → (p q : ℕ) (x : Place) (r : Registers) → OperatorTouches code a p x → Lives a q r → IsPrivate r x → p ≡ q
 
 -- the plain operators of a process of a pictured image are few
-abbrev pub OperatorsAreFew : PProgram → Code → (ℕ → List Placed) → Type 0
+abbrev pub OperatorsAreFew : PProgram → Code → Texts → Type 0
 OperatorsAreFew tree code texts =
     (w : World) (lay : Layout) (a : Image) → PicturesBy tree code texts w lay a → (b : Image) (p n : ℕ) → Plains code p a n b → AreFew code p n b
 
 -- no action of a process that is pictured makes a process or takes one away, or releases one
-abbrev pub ActsAlone : PProgram → Code → (ℕ → List Placed) → Type 0
+abbrev pub ActsAlone : PProgram → Code → Texts → Type 0
 ActsAlone tree code texts =
     (w : World) (lay : Layout) (img : Image) (p : ℕ) (q : Process) → PicturesBy tree code texts w lay img → numbered w.processes p ≡ Some q → Living tree code texts w lay img p q →
     IsAlone w (choice (scopes_of tree) w p)
@@ -127,7 +127,7 @@ released_none code img p r has idle x is calm = by_letter (letter code img p) re
 fault_releases : (code : Code) (img : Image) (p : ℕ) (kind : FaultKind) → table code img p ≡ faults kind → releases code img p ≡ []
 fault_releases code img p kind t = ap (λ (o : Outcome Image). released_by o (registers_releases code img p (numbered img.regs p))) t
 
-module _ (tree : PProgram) (code : Code) (texts : ℕ → List Placed) (performed : StepsArePerformed) (limits : StepsComeToLimit) (settled_does : SettledAct tree code texts) (alone : ActsAlone tree code texts) where
+module _ (tree : PProgram) (code : Code) (texts : Texts) (performed : StepsArePerformed) (limits : StepsComeToLimit) (settled_does : SettledAct tree code texts) (alone : ActsAlone tree code texts) where
   abbrev Pic : World → Image → Type 0
   Pic w img = PicturesSome tree code texts w img
 

@@ -5,21 +5,20 @@ use Rattle.algol_tree.specs.Blocks.{around}
 use Rattle.algol_tree.specs.Plain.{PProgram}
 use Rattle.algol_tree.specs.Scopes.{scopes_of}
 use Rattle.algol_paths.specs.Segments.{is_procedure, segment_of}
-use Rattle.b67_segment.specs.Operators.{Placed}
 use Rattle.b67_segment.specs.Syllables.{Spells}
 use Rattle.b67_segment.specs.declared.code.Code.{Code}
 use Rattle.b67_segment.specs.declared.code.Segment.{Segment}
-use Rattle.b67_templates.specs.Programs.{ProgramAt}
+use Rattle.b67_templates.specs.Programs.{Texts, ProgramAt}
 use Rattle.b67_pictures.proofs.Numbers.{get_within}
 use Rattle.b67_pictures.proofs.Segmented.{before_whole, segment_low}
 
 -- the segment of this number is that of its operators
-pub record HasText (code : Code) (texts : ℕ → List Placed) (number : ℕ) : Type 0 where
+pub record HasText (code : Code) (texts : Texts) (number : ℕ) : Type 0 where
   pub segment : Segment
   pub there : slice_get code.segments number ≡ Some segment
-  pub spells : Spells (texts number) segment
+  pub spells : Spells (texts.placed number) segment
 
-abbrev pub HaveTexts : PProgram → Code → (ℕ → List Placed) → Type 0
+abbrev pub HaveTexts : PProgram → Code → Texts → Type 0
 HaveTexts tree code texts = (j : ℕ) → HasText code texts (segment_of (scopes_of tree).blocks j)
 
 pub have_texts : (tree : PProgram) (code : Code) (program : ProgramAt code tree) → HaveTexts tree code program.texts

@@ -10,8 +10,8 @@ use Rattle.algol_meaning.specs.World.{Part, Process, able, World, process_at, or
 use Rattle.algol_meaning.specs.Asks.{ask}
 use Rattle.algol_meaning.specs.Choice.{choice, choice_in, choice_of}
 use Rattle.b67_control.specs.declared.Registers.{Registers}
-use Rattle.b67_segment.specs.Operators.{Placed}
 use Rattle.b67_segment.specs.declared.code.Code.{Code}
+use Rattle.b67_templates.specs.Programs.{Texts}
 use Rattle.b67_store.specs.Store.{stack_at, stack_limit}
 use Rattle.b67_table.specs.declared.ProcessState.{ProcessState}
 use Rattle.b67_table.specs.declared.ProcessState.TheVariants.{Able}
@@ -71,7 +71,7 @@ weight_of tree w p q parts at todo = ap (λ (o : Process). parts_weight tree w o
 
 -- ---- the picture after an action
 
-module _ (tree : PProgram) (code : Code) (texts : ℕ → List Placed) (w : World) (lay : Layout) (img : Image) (by : PicturesBy tree code texts w lay img) (p : ℕ) (q : Process)
+module _ (tree : PProgram) (code : Code) (texts : Texts) (w : World) (lay : Layout) (img : Image) (by : PicturesBy tree code texts w lay img) (p : ℕ) (q : Process)
     (at : numbered w.processes p ≡ Some q) where
   -- process p has come to this state in an image in which each other process has its core, and is pictured there
   pub comes_to : (w' : World) (lay' : Layout) (img' : Image) (q' : Process) → w'.processes ≡ set_numbered w.processes p q' → length lay'.places ≡ length w'.instances → ArraysAre (scopes_of tree) w' lay' img'.rows →

@@ -17,10 +17,11 @@ use Rattle.algol_meaning.specs.Instances.{fresh_cells}
 use Rattle.algol_meaning.specs.Run.{start}
 use Rattle.algol_meaning.specs.Arrays.{size_of_cells}
 use Rattle.algol_meaning.specs.Value.{ArrayCell}
-use Rattle.algol_paths.specs.Arrays.{DeclaredArray, arrays_of}
-use Rattle.algol_paths.specs.Laws.{RestsKeepToTheirText, ArraysAreMadeInOrder}
+use Rattle.algol_paths.specs.Arrays.{DeclaredArray}
+use Rattle.algol_paths.specs.Laws.{RestsKeepToTheirText, AllIsMadeInOrder}
 use Rattle.algol_paths.specs.Segments.{procedures_before, segment_among, segment_of}
 use Rattle.b67_word.specs.Word.{Word}
+use Rattle.b67_control.specs.declared.Pcw.{Pcw}
 use Rattle.b67_control.specs.declared.Registers.{Registers}
 use Rattle.b67_control.specs.declared.Rcw.{Rcw}
 use Rattle.b67_control.specs.Control.{pcw_word}
@@ -34,9 +35,11 @@ use Rattle.b67_segment.specs.declared.code.Segment.{Segment}
 use Rattle.b67_table.specs.Beginning.{base_mark, base_frame, first_registers, first_image}
 use Rattle.b67_table.specs.Chains.{place}
 use Rattle.b67_table.specs.Linkage.{base_control}
-use Rattle.b67_templates.specs.Cells.{Simple, parameters_around, parameter_cells, simple_cells, zero_cells, procedures, control_segments}
+use Rattle.b67_templates.specs.Contexts.{yields_of}
+use Rattle.b67_templates.specs.Code.{control_pcws}
+use Rattle.b67_templates.specs.Cells.{Simple, parameters_around, parameter_cells, simple_cells, zero_cells, procedures, control_segments, made_of}
 use Rattle.b67_templates.specs.Fragments.{code_at}
-use Rattle.b67_templates.specs.Programs.{BodyAt, context_of, ProgramAt}
+use Rattle.b67_templates.specs.Programs.{Texts, BodyAt, context_of, ProgramAt}
 use Rattle.b67_standing.specs.Standing.{ComesTo}
 use Rattle.b67_standing.specs.Laws.{BlocksStart}
 use Rattle.b67_cores.specs.Cores.{Core, IsCore, HasCore}
@@ -45,6 +48,7 @@ use Rattle.b67_faithful.specs.Weight.{tokens_around, weight}
 use Rattle.b67_faithful.proofs.Contradictions.{some_same, none_some}
 use Rattle.b67_fitting.specs.Names.{HasNames}
 use Rattle.b67_fitting.specs.Nested.{AreTold, AreNested}
+use Rattle.b67_pictures.proofs.Segmented.{controls_many}
 use Rattle.b67_pictures.specs.Arrays.{Allotted, Layout, rows_of_cells, HasArray, ArraysAre}
 use Rattle.b67_pictures.specs.Frames.{most_around, CellsAre, IsChained, Framed, outermost}
 use Rattle.b67_pictures.specs.Pictures.{Pictured, living, Pictures}
@@ -72,11 +76,11 @@ first_there [] h = absurd (omega (arith, h))
 first_there (s ∷ segments) h = (s, refl)
 
 module _ (tree : PProgram) (code : Code) (names : HasNames tree) (nested : AreNested (scopes_of tree)) (stands : ProgramAt code tree)
-    (fragments : FragmentsArePerformed) (begin : BlocksBegin) (starts : BlocksStart) (keeps : RestsKeepToTheirText) (order : ArraysAreMadeInOrder) where
+    (fragments : FragmentsArePerformed) (begin : BlocksBegin) (starts : BlocksStart) (keeps : RestsKeepToTheirText) (order : AllIsMadeInOrder) where
   abbrev sc : Scopes
   sc = scopes_of tree
 
-  abbrev texts : ℕ → List Placed
+  abbrev texts : Texts
   texts = stands.texts
 
   abbrev block : Block
@@ -86,17 +90,17 @@ module _ (tree : PProgram) (code : Code) (names : HasNames tree) (nested : AreNe
   level = level_of block
 
   abbrev text : List Placed
-  text = texts (segment_of sc.blocks 0)
+  text = texts.placed (segment_of sc.blocks 0)
 
   -- its cells: values and control words
   abbrev many : ℕ
   many = length (zero_cells block)
 
-  abbrev controls : List ℕ
-  controls = control_segments sc block.decls
+  abbrev controls : List Pcw
+  controls = control_pcws sc level block.decls
 
   abbrev cells : List Word
-  cells = replicate many zero_word ++ control_words level controls
+  cells = replicate many zero_word ++ control_words controls
 
   abbrev most : ℕ
   most = most_around tree 0
@@ -116,7 +120,7 @@ module _ (tree : PProgram) (code : Code) (names : HasNames tree) (nested : AreNe
   segment : (s : Segment) × (slice_get code.segments 0 ≡ Some s)
   segment = first_there code.segments (omega (arith, stands.many))
 
-  body : BodyAt sc (context_of code sc 0) text level block 0
+  body : BodyAt sc (context_of code texts sc 0) text level block 0
   body = stands.bodies 0 nested.some (inl refl)
 
   -- the outermost block has no parameters
@@ -134,14 +138,15 @@ module _ (tree : PProgram) (code : Code) (names : HasNames tree) (nested : AreNe
   all_many = omega (arith, simple_many sc block, ap length no_cells)
 
   many_controls : length controls ≡ length (procedures block.decls)
-  many_controls = length-map (procedures block.decls) (λ (n : Named). segment_of sc.blocks (number_at sc.blocks n.spot))
+  many_controls =
+      controls_many level (control_segments sc block.decls) ∙ length-map (procedures block.decls) (λ (n : Named). segment_of sc.blocks (number_at sc.blocks n.spot))
 
   at_first : CoreAt sc [] code text level 0 [] first_core
   at_first =
       record {
         segment = segment.0;
         there = segment.1;
-        spells = subst (λ (k : ℕ). Spells (texts k) segment.0) (sym segment_first) (stands.spells 0 segment.0 segment.1);
+        spells = subst (λ (k : ℕ). Spells (texts.placed k) segment.0) (sym segment_first) (stands.spells 0 segment.0 segment.1);
         level_is = sym outer;
         place_is = refl;
         is = first_is;
@@ -151,14 +156,14 @@ module _ (tree : PProgram) (code : Code) (names : HasNames tree) (nested : AreNe
 
   begun : Begins sc [] code text level bound many controls body.start first_core
   begun =
-      begin sc [] (context_of code sc 0) code text level bound many controls 0 body.start first_core body.cells at_first
+      begin sc [] (context_of code texts sc 0) code text level bound many controls 0 body.begin body.start first_core body.over body.cells at_first
       (omega (arith, (nested.each 0 nested.some).few, all_many, many_controls)) (omega arith)
 
   small : needs block ≤ 4 * tokens_around tree 0
   small = block_small tree names 0 nested.some (inl refl)
 
-  comes : ComesTo sc (context_of code sc 0) text level most (settle_items sc (items_of block)) body.start []
-  comes = starts sc (context_of code sc 0) text level most block body.start body.items (omega (arith, small)) (omega (arith, small))
+  comes : ComesTo sc (context_of code texts sc 0) text level most (settle_items sc (items_of block)) body.start []
+  comes = starts sc (context_of code texts sc 0) text level most block body.start body.items (omega (arith, small)) (omega (arith, small))
 
   abbrev first_part : Part
   first_part = record { instance = 1; purpose = worlds.block; rest = settle_items sc (items_of block) }
@@ -207,12 +212,12 @@ module _ (tree : PProgram) (code : Code) (names : HasNames tree) (nested : AreNe
         formals = lead_there sc w first_lay [] (simple_cells sc block) (fresh_cells block []) (replicate many zero_word) zeros_lead;
         arrays = [];
         declared = [];
-        later = arrays_of block.decls;
+        later = made_of block.decls;
         order = refl;
         descriptors = [];
         made = tt;
         has = sym (append-nil (fresh_cells block []));
-        cells_is = ap (λ (ws : List Word). replicate many zero_word ++ ws) (sym (append-nil (control_words level controls)));
+        cells_is = ap (λ (ws : List Word). replicate many zero_word ++ ws) (sym (append-nil (control_words controls)));
         placed = outermost refl (ap (λ (o : List Spot). map (number_at sc.blocks) o) nested.outer);
         home = place 0 0;
         linked = refl;
@@ -236,9 +241,9 @@ module _ (tree : PProgram) (code : Code) (names : HasNames tree) (nested : AreNe
 
   length_cells : length cells ≡ many + length controls
   length_cells =
-      length-append (replicate many zero_word) (control_words level controls)
-      ∙ ap (λ (n : ℕ). n + length (control_words level controls)) (length-replicate many zero_word)
-      ∙ ap (λ (n : ℕ). many + n) (length-map controls (λ (s : ℕ). pcw_word (code_at s 0 (level + 1))))
+      length-append (replicate many zero_word) (control_words controls)
+      ∙ ap (λ (n : ℕ). n + length (control_words controls)) (length-replicate many zero_word)
+      ∙ ap (λ (n : ℕ). many + n) (length-map controls (λ (pcw : Pcw). pcw_word pcw))
 
   landed : Landed tree code texts w first_lay first_image 1 first_process first_part [] bound first_core begun.core
   unfolding start
@@ -265,7 +270,7 @@ module _ (tree : PProgram) (code : Code) (names : HasNames tree) (nested : AreNe
           text = block_keeps sc 0 keeps (nested.each 0 nested.some);
           making = sym (block_makes sc 0 order (nested.each 0 nested.some));
         };
-        around = (refl, refl, refl, nested.untyped);
+        around = (refl, refl, refl, ap yields_of nested.untyped);
         counted = omega (arith, ap (λ (r : Registers). r.cells) begun.registers, length_cells);
         chained = subst (λ d. IsChained sc w first_lay 1 level d) (sym (ap (λ (r : Registers). r.display) begun.registers)) chained;
         segment_is = ap (λ (r : Registers). r.segment) begun.registers ∙ sym segment_first;

@@ -15,8 +15,8 @@ use Rattle.b67_word.specs.Word.{Word}
 use Rattle.b67_ops.specs.declared.TheConstants.{OUTER_LEVEL}
 use Rattle.b67_segment.specs.Operators.{Placed}
 use Rattle.b67_segment.specs.declared.code.Code.{Code}
-use Rattle.b67_templates.specs.Contexts.{Context}
-use Rattle.b67_templates.specs.Programs.{context_of}
+use Rattle.b67_templates.specs.Contexts.{Yields, yields_of, Context}
+use Rattle.b67_templates.specs.Programs.{Texts, context_of}
 use Rattle.b67_standing.specs.Standing.{StandsFor}
 use Rattle.b67_cores.specs.Cores.{Core}
 use Rattle.b67_cores.specs.Slots.{Known}
@@ -32,21 +32,21 @@ use Rattle.b67_pictures.proofs.Numbers.{get_within}
 use Rattle.b67_pictures.proofs.Parents.{ancestor_up, length_around}
 
 -- the operators of the segment in which the text of a part stands, and its level
-abbrev pub text_in : PProgram → (ℕ → List Placed) → World → Part → List Placed
-text_in tree texts w part = texts (segment_of (scopes_of tree).blocks ((instance_at w part.instance).block))
+abbrev pub text_in : PProgram → Texts → World → Part → List Placed
+text_in tree texts w part = texts.placed (segment_of (scopes_of tree).blocks ((instance_at w part.instance).block))
 
 abbrev pub level_in : PProgram → World → Part → ℕ
 level_in tree w part = level_of (block_numbered (scopes_of tree).blocks ((instance_at w part.instance).block))
 
-abbrev pub context_in : PProgram → Code → World → Part → Context
-context_in tree code w part = context_of code (scopes_of tree) ((instance_at w part.instance).block)
+abbrev pub context_in : PProgram → Code → Texts → World → Part → Context
+context_in tree code texts w part = context_of code texts (scopes_of tree) ((instance_at w part.instance).block)
 
--- how many words may lie above the cells of its frame, and the kind of the value that it gives
+-- how many words may lie above the cells of its frame, and what it gives when it leaves
 abbrev pub most_in : PProgram → World → Part → ℕ
 most_in tree w part = most_around tree ((instance_at w part.instance).block)
 
-abbrev pub wanted_in : PProgram → World → Part → Option Kind
-wanted_in tree w part = (block_numbered (scopes_of tree).blocks ((instance_at w part.instance).block)).result
+abbrev pub wanted_in : PProgram → World → Part → Yields
+wanted_in tree w part = yields_of (block_numbered (scopes_of tree).blocks ((instance_at w part.instance).block)).result
 
 -- ---- weights
 
@@ -67,7 +67,7 @@ same_weight tree w w' (part ∷ parts) each =
 -- ---- frames
 
 -- the parts around, below a frame of the same words
-pub around_at : (tree : PProgram) (code : Code) (texts : ℕ → List Placed) (w : World) (lay : Layout) (p : ℕ) (parts : List Part) (l l' : List Word) (m m' c c' : Word) (wanted : Option Kind) → l ≡ l' → m ≡ m' → c ≡ c' →
+pub around_at : (tree : PProgram) (code : Code) (texts : Texts) (w : World) (lay : Layout) (p : ℕ) (parts : List Part) (l l' : List Word) (m m' c c' : Word) (wanted : Yields) → l ≡ l' → m ≡ m' → c ≡ c' →
     Around tree code texts w lay p parts l m c wanted → Around tree code texts w lay p parts l' m' c' wanted
 around_at tree code texts w lay p parts l l' m m' c c' wanted el em ec a =
     subst (λ (x : List Word). Around tree code texts w lay p parts x m' c' wanted) el
@@ -75,12 +75,12 @@ around_at tree code texts w lay p parts l l' m m' c c' wanted el em ec a =
     (subst (λ (x : Word). Around tree code texts w lay p parts l m x wanted) ec a))
 
 -- the mark of a frame lies below its words
-pub frame_low : (tree : PProgram) (code : Code) (texts : ℕ → List Placed) (w : World) (lay : Layout) (p : ℕ) (part : Part) (outer : List Part) (words : List Word) →
+pub frame_low : (tree : PProgram) (code : Code) (texts : Texts) (w : World) (lay : Layout) (p : ℕ) (part : Part) (outer : List Part) (words : List Word) →
     (f : Frame tree code texts w lay p part outer words) → length f.lower + 2 + length f.cells ≡ length words
 frame_low tree code texts w lay p part outer words f =
     omega (arith, ap length f.words_are, length-append f.lower (f.mark ∷ f.control ∷ f.cells))
 
-module _ (tree : PProgram) (code : Code) (texts : ℕ → List Placed) (w w' : World) (lay lay' : Layout) (p limit : ℕ) (stay : StayBelow w w' lay lay' p limit) where
+module _ (tree : PProgram) (code : Code) (texts : Texts) (w w' : World) (lay lay' : Layout) (p limit : ℕ) (stay : StayBelow w w' lay lay' p limit) where
   abbrev sc : Scopes
   sc = scopes_of tree
 
@@ -96,7 +96,7 @@ module _ (tree : PProgram) (code : Code) (texts : ℕ → List Placed) (w w' : W
       let t : Stayed tree code texts w w' lay lay' p limit stay part outer words f = frame_stays tree code texts w w' lay lay' p limit stay part outer words f a low in
       record {
         frame = t.frame;
-        around = subst (λ (x : Instance). Around tree code texts w' lay' p outer t.frame.lower t.frame.mark t.frame.control ((block_numbered sc.blocks x.block).result))
+        around = subst (λ (x : Instance). Around tree code texts w' lay' p outer t.frame.lower t.frame.mark t.frame.control (yields_of (block_numbered sc.blocks x.block).result))
             (same_before tree code texts w w' lay lay' p limit stay part outer words f low)
             (around_at tree code texts w' lay' p outer f.lower t.frame.lower f.mark t.frame.mark f.control t.frame.control (wanted_in tree w part) (sym t.lower) (sym t.mark) (sym t.control)
             (around_stays tree code texts w w' lay lay' p limit stay outer f.lower f.mark f.control (wanted_in tree w part) (omega (arith, low)) a));
@@ -192,11 +192,11 @@ module _ (tree : PProgram) (code : Code) (texts : ℕ → List Placed) (w w' : W
         asks = s.asks;
         pc = s.pc;
         slots = s.slots;
-        stands = subst (λ (x : Instance). StandsFor sc (context_of code sc x.block) (texts (segment_of sc.blocks x.block)) (level_of (block_numbered sc.blocks x.block)) (most_around tree x.block) part.rest s.pc s.slots) here
+        stands = subst (λ (x : Instance). StandsFor sc (context_of code texts sc x.block) (texts.placed (segment_of sc.blocks x.block)) (level_of (block_numbered sc.blocks x.block)) (most_around tree x.block) part.rest s.pc s.slots) here
             s.stands;
         held = s.held;
         held_are = known_stays s.held s.held_are;
-        there = subst (λ (x : Instance). CoreAt sc s.held code (texts (segment_of sc.blocks x.block)) (level_of (block_numbered sc.blocks x.block)) s.pc s.slots core) here s.there;
+        there = subst (λ (x : Instance). CoreAt sc s.held code (texts.placed (segment_of sc.blocks x.block)) (level_of (block_numbered sc.blocks x.block)) s.pc s.slots core) here s.there;
         few = subst (λ (x : Instance). length s.slots ≤ most_around tree x.block) here s.few;
       },
       still.around,

@@ -5,9 +5,9 @@ use Rattle.algol_tree.specs.Sorts.{same_name}
 use Rattle.algol_meaning.specs.Value.{Bounds, ArrayCell, Cell, array}
 use Rattle.algol_meaning.specs.Arrays.{elements_of, size_of_cell, size_of_cells}
 use Rattle.algol_meaning.specs.World.{NamedCell, cell_in, cells_with}
-use Rattle.algol_paths.specs.Arrays.{DeclaredArray, lows_of}
+use Rattle.algol_paths.specs.Arrays.{DeclaredArray, Made, lows_of, an_array, an_event}
 use Rattle.b67_word.specs.Word.{Word}
-use Rattle.b67_pictures.specs.Arrays.{Allotted, DescriptorIs, AreSized, IsMade, AreMade, rows_of_bounds, rows_of_cell, rows_of_cells}
+use Rattle.b67_pictures.specs.Arrays.{Allotted, DescriptorIs, AreSized, IsMade, AreMade, rows_of_bounds, rows_of_cell, rows_of_cells, IsMadeSo}
 
 -- the same array with other elements
 pub record IsAlike (cell later : ArrayCell) : Type 0 where
@@ -71,8 +71,12 @@ module _ (name : List ℕ) (cell later : ArrayCell) (alike : IsAlike cell later)
         descriptor = subst (λ (bs : List Bounds). DescriptorIs bs a w) bounds made.descriptor;
       }
 
+  made_so_stays : (m : Made) (c : NamedCell) (a : Allotted) (w : Word) → IsMadeSo m c a w → c.cell ≡ array cell → IsMadeSo m (record c { cell = array later }) a w
+  made_so_stays (an_array d) c a w made is = made_alike d c a w made is
+  made_so_stays (an_event n) c a w made is = absurd made
+
   -- and so are all
-  pub made_stays : (ds : List DeclaredArray) (cells : List NamedCell) (as' : List Allotted) (ws : List Word) → cell_in cells name ≡ array cell → AreMade ds cells as' ws →
+  pub made_stays : (ds : List Made) (cells : List NamedCell) (as' : List Allotted) (ws : List Word) → cell_in cells name ≡ array cell → AreMade ds cells as' ws →
       AreMade ds (cells_with cells name (array later)) as' ws
   made_stays [] [] [] [] is made = tt
   made_stays [] [] [] (w ∷ ws) is made = absurd made
@@ -88,7 +92,7 @@ module _ (name : List ℕ) (cell later : ArrayCell) (alike : IsAlike cell later)
           AreMade (d ∷ ds) (with_cell (same_name c.name name) c cells name (array later)) (a ∷ as') (w ∷ ws)
       by_name rest true e =
           subst (λ (b : Bool). AreMade (d ∷ ds) (with_cell b c cells name (array later)) (a ∷ as') (w ∷ ws)) (sym e)
-          (made_alike d c a w made.0 (ap (λ (b : Bool). first_cell b c cells name) (sym e) ∙ is), made.1)
+          (made_so_stays d c a w made.0 (ap (λ (b : Bool). first_cell b c cells name) (sym e) ∙ is), made.1)
       by_name rest false e =
           subst (λ (b : Bool). AreMade (d ∷ ds) (with_cell b c cells name (array later)) (a ∷ as') (w ∷ ws)) (sym e)
           (made.0, rest (ap (λ (b : Bool). first_cell b c cells name) (sym e) ∙ is))

@@ -7,12 +7,12 @@ use Rattle.algol_tree.specs.Scopes.{Scopes}
 use Rattle.algol_meaning.specs.Value.{Value, ArrayCell, Cell, array}
 use Rattle.algol_meaning.specs.Arrays.{size_of_cells, size_unless, live_elements, flat, with_element}
 use Rattle.algol_meaning.specs.World.{NamedCell, Instance, World, instance_at, or_no_instance, cell_in, cells_with, by_cell, set_cell}
-use Rattle.algol_paths.specs.Arrays.{DeclaredArray, arrays_of}
+use Rattle.algol_paths.specs.Arrays.{DeclaredArray, an_array}
 use Rattle.b67_word.specs.Word.{Word}
 use Rattle.b67_store.specs.Store.{Rows, with_row_word}
 use Rattle.b67_store.proofs.StoreLaws.{counts}
 use Rattle.b67_templates.specs.Fragments.{HasKind}
-use Rattle.b67_templates.specs.Cells.{simple_cells}
+use Rattle.b67_templates.specs.Cells.{simple_cells, made_of}
 use Rattle.b67_cores.specs.Slots.{ValueIs}
 use Rattle.b67_faithful.proofs.Contradictions.{some_same}
 use Rattle.b67_pictures.specs.Arrays.{Allotted, numbers_of, Layout, HoldElements, rows_of_cells, live_rows, IsIn, AreMade, HasArray, HasRow, ArraysAre, IsArrayOf}
@@ -126,9 +126,9 @@ module _ (sc : Scopes) (w : World) (lay : Layout) (rows : Rows) (are : ArraysAre
   simple_many : length own.simple ≡ first
   simple_many = cells_length (simple_cells sc (block_numbered sc.blocks x.block)) own.simple own.values own.simple_are
 
-  has_declared : slice_get (arrays_of (block_numbered sc.blocks x.block).decls) of.number ≡ Some declared
+  has_declared : slice_get (made_of (block_numbered sc.blocks x.block).decls) of.number ≡ Some (an_array declared)
   has_declared =
-      ap (λ (y : Instance). slice_get (arrays_of (block_numbered sc.blocks y.block).decls) of.number) (some_same (sym own.is ∙ has.is)) ∙ has.declares
+      ap (λ (y : Instance). slice_get (made_of (block_numbered sc.blocks y.block).decls) of.number) (some_same (sym own.is ∙ has.is)) ∙ has.declares
 
   abbrev Was : (j other : ℕ) (d : DeclaredArray) (c : ArrayCell) (b : Allotted) → Type 0
   Was j other d c b = Before sc w lay i of.number declared later a j other d c b
@@ -142,8 +142,8 @@ module _ (sc : Scopes) (w : World) (lay : Layout) (rows : Rows) (are : ArraysAre
           instance_is : element_instance ≡ h.instance
           instance_is = some_same (sym element_there ∙ ap (λ (k : ℕ). numbered element_world.instances k) own_is ∙ h.is)
 
-          declares : slice_get (arrays_of (block_numbered sc.blocks x.block).decls) other ≡ Some d
-          declares = ap (λ (y : Instance). slice_get (arrays_of (block_numbered sc.blocks y.block).decls) other) instance_is ∙ h.declares
+          declares : slice_get (made_of (block_numbered sc.blocks x.block).decls) other ≡ Some (an_array d)
+          declares = ap (λ (y : Instance). slice_get (made_of (block_numbered sc.blocks y.block).decls) other) instance_is ∙ h.declares
 
           lies : slice_get (slice_set own.arrays of.number (record { name = declared.name; cell = array later })) other ≡ Some (record { name = d.name; cell = array c })
           lies =
@@ -161,7 +161,7 @@ module _ (sc : Scopes) (w : World) (lay : Layout) (rows : Rows) (are : ArraysAre
               ∙ ap (λ (n : ℕ). slice_get (slice_set own.arrays of.number (record { name = declared.name; cell = array later })) n) number_is
               ∙ lies)) in
               stored own_is number_is
-              (some_same (sym has_declared ∙ ap (λ (n : ℕ). slice_get (arrays_of (block_numbered sc.blocks x.block).decls) n) number_is ∙ declares)) (cc)
+              (cc (some_same (sym has_declared ∙ ap (λ (n : ℕ). slice_get (made_of (block_numbered sc.blocks x.block).decls) n) number_is ∙ declares))) (cc)
               (some_same (sym has.allotted ∙ ap (λ (n : ℕ). slice_get (lay.rows i) n) number_is ∙ ap (λ (k : ℕ). slice_get (lay.rows k) other) own_is ∙ h.allotted))
           by_number (inr apart_is) =
               same

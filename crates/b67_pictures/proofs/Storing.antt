@@ -14,9 +14,9 @@ use Rattle.algol_meaning.specs.World.{NamedCell, Instance, Process, Part, able, 
 use Rattle.algol_meaning.specs.Actions.{Store}
 use Rattle.algol_meaning.specs.Asks.{Ask, stores, ask, resume}
 use Rattle.algol_meaning.specs.Choice.{Choice, choice, choice_of}
-use Rattle.algol_paths.specs.Arrays.{DeclaredArray}
+use Rattle.algol_paths.specs.Arrays.{Made}
 use Rattle.algol_paths.specs.Blocks.{IsSeen, IsSeenAround, IsInner}
-use Rattle.algol_paths.specs.Laws.{RestsKeepToTheirText, ArraysAreMadeInOrder}
+use Rattle.algol_paths.specs.Laws.{RestsKeepToTheirText, AllIsMadeInOrder}
 use Rattle.algol_paths.specs.Segments.{segment_of}
 use Rattle.b67_word.specs.Word.{Word}
 use Rattle.b67_control.specs.Control.{as_irw}
@@ -36,7 +36,7 @@ use Rattle.b67_table.specs.Private.{frame, display_at}
 use Rattle.b67_table.specs.PrivateRows as rows
 use Rattle.b67_table.specs.Table.{table, raw, operator_at}
 use Rattle.b67_templates.specs.Cells.{Simple, simple_cells}
-use Rattle.b67_templates.specs.Programs.{context_of}
+use Rattle.b67_templates.specs.Programs.{Texts, context_of}
 use Rattle.b67_standing.specs.Stepping.{Slot, operand, reference}
 use Rattle.b67_standing.specs.Standing.{ActionAt, Acted, ComesTo}
 use Rattle.b67_cores.specs.Cores.{Core, size, IsCore, with_core, here}
@@ -84,13 +84,13 @@ length_cells (x ∷ cells) name c = by_name (same_name x.name name) (length_cell
 two_words : (words left : List Word) (x y : Word) (rest : List Word) → words ≡ x ∷ left → left ≡ y ∷ rest → words ≡ x ∷ y ∷ rest
 two_words words left x y rest e f = e ∙ ap (λ (ws : List Word). x ∷ ws) f
 
-module _ (tree : PProgram) (code : Code) (texts : ℕ → List Placed) (fragments : FragmentsArePerformed) (kept : RestsKeepToTheirText) (order : ArraysAreMadeInOrder) (w : World) (lay : Layout) (img : Image)
+module _ (tree : PProgram) (code : Code) (texts : Texts) (fragments : FragmentsArePerformed) (kept : RestsKeepToTheirText) (order : AllIsMadeInOrder) (w : World) (lay : Layout) (img : Image)
     (p : ℕ) (q : Process) (part : Part) (outer : List Part) (bound : ℕ) (core : Core) (s : Scene tree code texts w lay img p q part outer bound core)
     (able_is : q.state ≡ able) (able_p : numbered img.states p ≡ Some Able) (n : Named) (v : Value) (asks : ask part.rest ≡ stores (own n) v)
-    (a : ActionAt (scopes_of tree) (context_in tree code w part) (text_in tree texts w part) (level_in tree w part) (most_in tree w part) (stores (own n) v) s.stands.pc s.stands.slots)
+    (a : ActionAt (scopes_of tree) (context_in tree code texts w part) (text_in tree texts w part) (level_in tree w part) (most_in tree w part) (stores (own n) v) s.stands.pc s.stands.slots)
     (answered : (r : Answer) (at : ℕ) (left : List Slot) →
-    Acted (scopes_of tree) (context_in tree code w part) (text_in tree texts w part) (level_in tree w part) (most_in tree w part) (stores (own n) v) s.stands.pc s.stands.slots a r at left →
-    ComesTo (scopes_of tree) (context_in tree code w part) (text_in tree texts w part) (level_in tree w part) (most_in tree w part) (resume (scopes_of tree) part.rest r) at left) where
+    Acted (scopes_of tree) (context_in tree code texts w part) (text_in tree texts w part) (level_in tree w part) (most_in tree w part) (stores (own n) v) s.stands.pc s.stands.slots a r at left →
+    ComesTo (scopes_of tree) (context_in tree code texts w part) (text_in tree texts w part) (level_in tree w part) (most_in tree w part) (resume (scopes_of tree) part.rest r) at left) where
   abbrev sc : Scopes
   sc = scopes_of tree
 
@@ -101,7 +101,7 @@ module _ (tree : PProgram) (code : Code) (texts : ℕ → List Placed) (fragment
   level = level_of (block_numbered sc.blocks b)
 
   abbrev text : List Placed
-  text = texts (segment_of sc.blocks b)
+  text = texts.placed (segment_of sc.blocks b)
 
   abbrev couple : Couple
   couple = a.2.couple
@@ -192,15 +192,15 @@ module _ (tree : PProgram) (code : Code) (texts : ℕ → List Placed) (fragment
     same_cells : ss ≡ ss_there
     same_cells = ap (λ (m : ℕ). simple_cells sc (block_numbered sc.blocks m)) f.block_is
 
-    changes : (first : List NamedCell) (values : List Word) (arrays : List NamedCell) (declared : List DeclaredArray) (descriptors : List Word) → CellsAre ss first values → AreMade declared arrays (lay.rows i) descriptors →
+    changes : (first : List NamedCell) (values : List Word) (arrays : List NamedCell) (declared : List Made) (descriptors : List Word) → CellsAre ss first values → AreMade declared arrays (lay.rows i) descriptors →
         instance.cells ≡ first ++ arrays → ChangedCells ss (lay.rows i) cells' first values (slice_set values f.number x) declared descriptors
     changes first values arrays declared descriptors are made has =
         record {
           simple = cells_with first n.name (simple v);
           arrays = arrays;
-          references = references_stored ss_there first values 0 n.name a.2.variable.found a.2.kind v x f.number are_there a.2.variable.there a.2.variable.kind_is number_is;
+          references = references_stored ss_there first values 0 n.name a.2.variable.found a.2.kind v x f.number are_there a.2.variable.there a.2.variable.wanted_is number_is;
           simple_are = subst (λ (l : List Simple). CellsAre l (cells_with first n.name (simple v)) (slice_set values f.number x)) (sym same_cells)
-              (cell_changed ss_there first values 0 n.name a.2.variable.found a.2.kind v x f.number are_there a.2.variable.there a.2.variable.kind_is number_is a.2.fits x_is);
+              (cell_changed ss_there first values 0 n.name a.2.variable.found a.2.kind v x f.number are_there a.2.variable.there a.2.variable.wanted_is number_is a.2.fits x_is);
           made = made;
           has = ap (λ (cells : List NamedCell). cells_with cells n.name (simple v)) has
               ∙ changed_front ss_there first arrays values 0 n.name a.2.variable.found (simple v) are_there a.2.variable.there;
@@ -347,9 +347,9 @@ module _ (tree : PProgram) (code : Code) (texts : ℕ → List Placed) (fragment
           slots = a.1;
           known = st.held;
           known_are = known_now;
-          at = subst (λ (m : ℕ). CoreAt sc st.held code (texts (segment_of sc.blocks m)) (level_of (block_numbered sc.blocks m)) a.0 a.1 new) block_is core_at;
+          at = subst (λ (m : ℕ). CoreAt sc st.held code (texts.placed (segment_of sc.blocks m)) (level_of (block_numbered sc.blocks m)) a.0 a.1 new) block_is core_at;
           held = subst (λ (m : ℕ). length a.1 ≤ most_around tree m) block_is held;
-          comes = subst (λ (m : ℕ). ComesTo sc (context_of code sc m) (texts (segment_of sc.blocks m)) (level_of (block_numbered sc.blocks m)) (most_around tree m) (resume sc part.rest done) a.0 a.1) block_is (answered done a.0 a.1 (refl, refl));
+          comes = subst (λ (m : ℕ). ComesTo sc (context_of code texts sc m) (texts.placed (segment_of sc.blocks m)) (level_of (block_numbered sc.blocks m)) (most_around tree m) (resume sc part.rest done) a.0 a.1) block_is (answered done a.0 a.1 (refl, refl));
           room = subst (λ (m : ℕ). length new.below + most_around tree m ≤ bound) block_is (omega (arith, s.room, length-set core.below k x));
           light = light';
         })

@@ -11,16 +11,17 @@ use Rattle.algol_tree.specs.Scopes.{Scopes, scopes_of}
 use Rattle.algol_meaning.specs.World.{NamedCell, Instance, Part, World, instance_at, or_no_instance, with_instance, ancestor}
 use Rattle.algol_meaning.specs.Rest.{Answer}
 use Rattle.algol_meaning.specs.Asks.{resume}
-use Rattle.algol_paths.specs.Arrays.{DeclaredArray, arrays_of}
+use Rattle.algol_paths.specs.Arrays.{Made}
 use Rattle.algol_paths.specs.Laws.{KeepsToText}
 use Rattle.algol_paths.specs.Segments.{segment_of}
 use Rattle.b67_word.specs.declared.Place.{Place}
 use Rattle.b67_word.specs.Word.{Word}
-use Rattle.b67_segment.specs.Operators.{Placed}
 use Rattle.b67_segment.specs.declared.code.Code.{Code}
 use Rattle.b67_table.specs.Chains.{place}
-use Rattle.b67_templates.specs.Cells.{Simple, simple_cells, control_segments}
-use Rattle.b67_templates.specs.Programs.{context_of}
+use Rattle.b67_templates.specs.Fragments.{procedure_controls}
+use Rattle.b67_templates.specs.Contexts.{Yields, yields_of}
+use Rattle.b67_templates.specs.Cells.{Simple, simple_cells, control_segments, made_of}
+use Rattle.b67_templates.specs.Programs.{Texts, context_of}
 use Rattle.b67_standing.specs.Standing.{Gives, pushed, ComesTo}
 use Rattle.b67_cores.specs.Slots.{Known, newest, SlotsAre}
 use Rattle.b67_cores.specs.Stretches.{control_words}
@@ -119,7 +120,7 @@ module _ (w : World) (i : ℕ) (x : Instance) (at : numbered w.instances i ≡ S
 
 -- The cells of an instance after it: the words of the simple cells are these, references stay, and the arrays have their descriptors and
 -- rows. Before they were those cells, with those words.
-pub record ChangedCells (ss : List Simple) (rows : List Allotted) (cells before : List NamedCell) (words values : List Word) (declared : List DeclaredArray) (descriptors : List Word) : Type 0 where
+pub record ChangedCells (ss : List Simple) (rows : List Allotted) (cells before : List NamedCell) (words values : List Word) (declared : List Made) (descriptors : List Word) : Type 0 where
   pub simple : List NamedCell
   pub arrays : List NamedCell
   pub references : ReferencesStay before words simple values
@@ -128,10 +129,10 @@ pub record ChangedCells (ss : List Simple) (rows : List Allotted) (cells before 
   pub has : cells ≡ simple ++ arrays
 
 -- The instance's frame lies so high in the stack of process p. A word that is stored lies so far above the frame's two words, at the place k.
-module _ (tree : PProgram) (code : Code) (texts : ℕ → List Placed) (w : World) (lay : Layout) (p : ℕ) (i : ℕ) (x : Instance) (at : numbered w.instances i ≡ Some x) (with_cells : List NamedCell)
+module _ (tree : PProgram) (code : Code) (texts : Texts) (w : World) (lay : Layout) (p : ℕ) (i : ℕ) (x : Instance) (at : numbered w.instances i ≡ Some x) (with_cells : List NamedCell)
     (high : ℕ) (laid : numbered lay.places i ≡ Some (place p high)) (far k : ℕ) (place_is : k ≡ high + 2 + far) (word : Option Word) (many : length with_cells ≡ length x.cells)
     (short : IsStored word → far < length (simple_cells (scopes_of tree) (block_numbered (scopes_of tree).blocks x.block))) (keeps : KeepsArrays (scopes_of tree) w (stored_world w i x at with_cells) lay lay i)
-    (changes : (simple : List NamedCell) (values : List Word) (arrays : List NamedCell) (declared : List DeclaredArray) (descriptors : List Word) →
+    (changes : (simple : List NamedCell) (values : List Word) (arrays : List NamedCell) (declared : List Made) (descriptors : List Word) →
     CellsAre (simple_cells (scopes_of tree) (block_numbered (scopes_of tree).blocks x.block)) simple values → AreMade declared arrays (lay.rows i) descriptors → x.cells ≡ simple ++ arrays →
     ChangedCells (simple_cells (scopes_of tree) (block_numbered (scopes_of tree).blocks x.block)) (lay.rows i) with_cells simple values (put word values far) declared descriptors) where
   abbrev sc : Scopes
@@ -162,7 +163,7 @@ module _ (tree : PProgram) (code : Code) (texts : ℕ → List Placed) (w : Worl
       ∙ ap (λ (y : Instance). length (simple_cells sc (block_numbered sc.blocks y.block))) (frame_is part outer words f e)
 
   abbrev controls_of : Instance → List Word
-  controls_of y = control_words (level_of (block_numbered sc.blocks y.block)) (control_segments sc (block_numbered sc.blocks y.block).decls)
+  controls_of y = control_words (procedure_controls (level_of (block_numbered sc.blocks y.block)) (control_segments sc (block_numbered sc.blocks y.block).decls))
 
   frame_cells : (part : Part) (outer : List Part) (words : List Word) (f : Before part outer words) → part.instance ≡ i → length ss ≤ length f.cells
   frame_cells part outer words f e =
@@ -196,7 +197,7 @@ module _ (tree : PProgram) (code : Code) (texts : ℕ → List Placed) (w : Worl
       (subst (λ (j : ℕ). IsComplete sc w' lay j) parent
       (sym (same_of w i x at with_cells (λ (y : Instance). length y.cells) many y.parent)
       ∙ made
-      ∙ same_of w i x at with_cells (λ (y : Instance). length (simple_cells sc (block_numbered sc.blocks y.block)) + length (arrays_of (block_numbered sc.blocks y.block).decls)) refl y.parent))
+      ∙ same_of w i x at with_cells (λ (y : Instance). length (simple_cells sc (block_numbered sc.blocks y.block)) + length (made_of (block_numbered sc.blocks y.block).decls)) refl y.parent))
 
   -- a frame after the store, and the parts around it
   pub record Stored (part : Part) (outer : List Part) (words : List Word) (f : Frame tree code texts w lay p part outer words) : Type 0 where
@@ -212,7 +213,7 @@ module _ (tree : PProgram) (code : Code) (texts : ℕ → List Placed) (w : Worl
   wanted_so : (part : Part) (outer : List Part) (lower : List Word) (mark control : Word) → Around tree code texts w' lay p outer lower mark control (wanted_in tree w part) →
       Around tree code texts w' lay p outer lower mark control (wanted_in tree w' part)
   wanted_so part outer lower mark control a =
-      subst (λ (b : ℕ). Around tree code texts w' lay p outer lower mark control ((block_numbered sc.blocks b).result)) (same_of w i x at with_cells (λ (y : Instance). y.block) refl part.instance) a
+      subst (λ (b : ℕ). Around tree code texts w' lay p outer lower mark control (yields_of (block_numbered sc.blocks b).result)) (same_of w i x at with_cells (λ (y : Instance). y.block) refl part.instance) a
 
   text_so : (part : Part) (outer : List Part) (words : List Word) (f : Before part outer words) → KeepsToText sc ((instance_at w' part.instance).block) part.rest
   text_so part outer words f = subst (λ (b : ℕ). KeepsToText sc b part.rest) (same_of w i x at with_cells (λ (y : Instance). y.block) refl part.instance) f.text
@@ -260,14 +261,14 @@ module _ (tree : PProgram) (code : Code) (texts : ℕ → List Placed) (w : Worl
           simple = c.simple;
           values = put word f.framed.values far;
           simple_are = c.simple_are;
-          formals = λ n t shape there none told.
-              let g = f.framed.formals n t shape (ap (λ (y : Instance). slice_get (simple_cells sc (block_numbered sc.blocks y.block)) n) is_x ∙ there) none told in
+          formals = λ n t shape there told.
+              let g = f.framed.formals n t shape (ap (λ (y : Instance). slice_get (simple_cells sc (block_numbered sc.blocks y.block)) n) is_x ∙ there) told in
               let stay = c.references n g.0 g.1 g.2 g.3 g.4 g.5 in
               (g.0, g.1, g.2, stay.0, stay.1, g.5, leads_lasts sc w w' lay lay outer outer (all_remain outer) shape g.2 g.1 g.6);
           arrays = c.arrays;
           declared = f.framed.declared;
           later = f.framed.later;
-          order = subst (λ (y : Instance). arrays_of (block_numbered sc.blocks y.block).decls ≡ f.framed.declared ++ f.framed.later) is_x f.framed.order;
+          order = subst (λ (y : Instance). made_of (block_numbered sc.blocks y.block).decls ≡ f.framed.declared ++ f.framed.later) is_x f.framed.order;
           descriptors = f.framed.descriptors;
           made = subst (λ (j : ℕ). AreMade f.framed.declared c.arrays (lay.rows j) f.framed.descriptors) (sym e) c.made;
           has = c.has;
@@ -298,8 +299,8 @@ module _ (tree : PProgram) (code : Code) (texts : ℕ → List Placed) (w : Worl
         simple = f.framed.simple;
         values = f.framed.values;
         simple_are = f.framed.simple_are;
-        formals = λ n t shape there none told.
-            let g = f.framed.formals n t shape there none told in
+        formals = λ n t shape there told.
+            let g = f.framed.formals n t shape there told in
             (g.0, g.1, g.2, g.3, g.4, g.5, leads_lasts sc w w' lay lay outer outer (all_remain outer) shape g.2 g.1 g.6);
         arrays = f.framed.arrays;
         declared = f.framed.declared;
@@ -368,7 +369,7 @@ module _ (tree : PProgram) (code : Code) (texts : ℕ → List Placed) (w : Worl
       }
 
   -- the parts around
-  pub around_stored : (parts : List Part) (lower : List Word) (mark control : Word) (wanted : Option Kind) → Around tree code texts w lay p parts lower mark control wanted → IsOwn parts i →
+  pub around_stored : (parts : List Part) (lower : List Word) (mark control : Word) (wanted : Yields) → Around tree code texts w lay p parts lower mark control wanted → IsOwn parts i →
       Around tree code texts (stored_world w i x at with_cells) lay p parts (put word lower k) mark control wanted
   around_stored [] lower mark control wanted a own = absurd own
   around_stored (part ∷ outer) lower mark control wanted a own =
@@ -385,7 +386,7 @@ module _ (tree : PProgram) (code : Code) (texts : ℕ → List Placed) (w : Worl
           pc = s.pc;
           slots = s.slots;
           returns = subst (λ (b : ℕ). (r : Answer) → Gives wanted r →
-              ComesTo sc (context_of code sc b) (texts (segment_of sc.blocks b)) (level_of (block_numbered sc.blocks b)) (most_around tree b) (resume sc part.rest r) s.pc (pushed r s.slots)) block_is s.returns;
+              ComesTo sc (context_of code texts sc b) (texts.placed (segment_of sc.blocks b)) (level_of (block_numbered sc.blocks b)) (most_around tree b) (resume sc part.rest r) s.pc (pushed r s.slots)) block_is s.returns;
           few = subst (λ (b : ℕ). length s.slots + 1 ≤ most_around tree b) block_is s.few;
           held = s.held;
           held_are = known_stored (part ∷ outer) part.instance s.held s.held_are;

@@ -1,5 +1,5 @@
 -- The references that STFF made are known: each display register names the frame of a static parent.
-use Rattle.std.proofs.Common.{◌≡◌, refl, sym, ap, ◌∙◌, subst, ℕ, ◌+◌, ◌-◌, ◌≤◌, List, [], ◌∷◌, ◌++◌, Option, arith}
+use Rattle.std.proofs.Common.{◌≡◌, refl, sym, ap, ◌∙◌, subst, ℕ, ◌+◌, ◌-◌, ◌≤◌, List, [], ◌∷◌, ◌++◌, Option, Some, arith}
 use Rattle.std.specs.Prelude.{IsSome}
 use Rattle.b67_list.specs.Numbered.{numbered}
 use Rattle.algol_tree.specs.Plain.{PProgram}
@@ -8,17 +8,20 @@ use Rattle.algol_meaning.specs.World.{Part, World, ancestor}
 use Rattle.b67_word.specs.declared.Place.{Place}
 use Rattle.b67_word.specs.Word.{Word}
 use Rattle.b67_control.specs.Display.{place_at}
+use Rattle.b67_table.specs.References.{cell_word}
+use Rattle.b67_ops.specs.declared.Couple.{Couple}
 use Rattle.b67_ops.specs.declared.TheConstants.{OUTER_LEVEL}
-use Rattle.b67_segment.specs.Operators.{Placed}
 use Rattle.b67_segment.specs.declared.code.Code.{Code}
-use Rattle.b67_standing.specs.Stepping.{Held}
+use Rattle.b67_templates.specs.Contexts.{Context}
+use Rattle.b67_templates.specs.Programs.{Texts}
+use Rattle.b67_standing.specs.Stepping.{Held, Stuffable, of_array}
 use Rattle.b67_cores.specs.Cores.{Core}
 use Rattle.b67_cores.specs.Slots.{Known}
 use Rattle.b67_cores.specs.Stretches.{Sees, IsStuffed, AreStuffed}
-use Rattle.b67_pictures.specs.Arrays.{Layout, IsNamed, HeldIs, AreKnown}
+use Rattle.b67_pictures.specs.Arrays.{Layout, HeldIs, AreKnown}
 use Rattle.b67_pictures.specs.Frames.{IsChained, Frame, Around}
 use Rattle.b67_pictures.proofs.Lying.{Lies, lies_frame, own_parent}
-use Rattle.b67_pictures.proofs.Staying.{level_in, wanted_in}
+use Rattle.b67_pictures.proofs.Staying.{level_in, context_in, wanted_in}
 
 -- what is known of each is so of both
 pub known_both : (sc : Scopes) (w : World) (lay : Layout) (parts : List Part) (i : ℕ) (added known : List Known) → AreKnown sc w lay parts i added → AreKnown sc w lay parts i known →
@@ -26,7 +29,7 @@ pub known_both : (sc : Scopes) (w : World) (lay : Layout) (parts : List Part) (i
 known_both sc w lay parts i [] known more are = are
 known_both sc w lay parts i (x ∷ added) known more are = (more.0, known_both sc w lay parts i added known more.1 are)
 
-module _ (tree : PProgram) (code : Code) (texts : ℕ → List Placed) (w : World) (lay : Layout) (p : ℕ) (part : Part) (outer : List Part) (words : List Word) (f : Frame tree code texts w lay p part outer words)
+module _ (tree : PProgram) (code : Code) (texts : Texts) (w : World) (lay : Layout) (p : ℕ) (part : Part) (outer : List Part) (words : List Word) (f : Frame tree code texts w lay p part outer words)
     (a : Around tree code texts w lay p outer f.lower f.mark f.control (wanted_in tree w part)) (core : Core)
     (chained : IsChained (scopes_of tree) w lay part.instance (level_in tree w part) core.registers.display) where
   abbrev sc : Scopes
@@ -49,25 +52,31 @@ module _ (tree : PProgram) (code : Code) (texts : ℕ → List Placed) (w : Worl
       ∙ ap (numbered lay.places) (sym lies.instance_is)
       ∙ lies.frame.framed.laid)) refl
 
-  one_stuffed : (x : Known) → IsStuffed sc level core x → HeldIs sc w lay (part ∷ outer) part.instance x.held x.word
-  one_stuffed x s =
-      let up : ℕ = (use_of sc s.name).up in
-      let near : up + OUTER_LEVEL ≤ level = omega (arith, s.array.level_is, s.array.outer) in
-      let up_level : level - up ≡ s.couple.level = omega (arith, s.array.level_is) in
-      let is : IsNamed sc w lay (part ∷ outer) part.instance s.name x.word =
+  abbrev context : Context
+  context = context_in tree code texts w part
+
+  named_stuffed : (held : Held) (couple : Couple) (word : Word) (frame : Place) → Stuffable sc context held couple → place_at core.registers.display couple.level ≡ Some frame →
+      word ≡ cell_word (record { frame = frame; index = couple.index }) → HeldIs sc w lay (part ∷ outer) part.instance held word
+  named_stuffed held couple word frame (of_array n d c is) shown word_is =
+      let up : ℕ = (use_of sc n).up in
+      let near : up + OUTER_LEVEL ≤ level = omega (arith, is.made.level_is, is.made.outer) in
+      let up_level : level - up ≡ c.level = omega (arith, is.made.level_is) in
       record {
         own = own_parent tree code texts w lay p part outer words f a up near;
         level = level;
-        declared = s.declared;
-        couple = s.couple;
-        array = s.array;
-        frame = s.frame;
-        laid = sym (chained up near) ∙ ap (place_at core.registers.display) up_level ∙ s.shown;
-        word_is = s.word_is;
-      } in
-      subst (λ (h : Held). HeldIs sc w lay (part ∷ outer) part.instance h x.word) (sym s.held_is) is
+        declared = d;
+        couple = c;
+        array = is;
+        frame = frame;
+        laid = sym (chained up near) ∙ ap (place_at core.registers.display) up_level ∙ shown;
+        word_is = word_is;
+      }
+
+  one_stuffed : (x : Known) → IsStuffed sc context core x → HeldIs sc w lay (part ∷ outer) part.instance x.held x.word
+  one_stuffed x s =
+      subst (λ (h : Held). HeldIs sc w lay (part ∷ outer) part.instance h x.word) (sym s.held_is) (named_stuffed s.held s.couple x.word s.frame s.stuffable s.shown s.word_is)
 
   -- all of them are known
-  pub stuffed_known : (known : List Known) → AreStuffed (scopes_of tree) (level_in tree w part) core known → AreKnown (scopes_of tree) w lay (part ∷ outer) part.instance known
+  pub stuffed_known : (known : List Known) → AreStuffed (scopes_of tree) (context_in tree code texts w part) core known → AreKnown (scopes_of tree) w lay (part ∷ outer) part.instance known
   stuffed_known [] are = tt
   stuffed_known (x ∷ known) are = (one_stuffed x are.0, stuffed_known known are.1)

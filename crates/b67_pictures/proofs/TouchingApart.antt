@@ -41,6 +41,7 @@ use Rattle.b67_templates.specs.Cells.{Wanted, parameter_wants}
 use Rattle.b67_templates.specs.Code.{stmts_count}
 use Rattle.b67_templates.specs.Contexts.{Context}
 use Rattle.b67_templates.specs.Fragments.{Has, operator_for, code_at}
+use Rattle.b67_templates.specs.Programs.{Texts}
 use Rattle.b67_standing.specs.Laws.{RestsGoOn}
 use Rattle.b67_standing.specs.Standing.{ActionAt, GoesOn, given_slots}
 use Rattle.b67_standing.specs.Stepping.{Slot, control, mark, operand, reference}
@@ -58,6 +59,7 @@ use Rattle.b67_pictures.proofs.Homes.{operator_there}
 use Rattle.b67_pictures.proofs.Numbers.{numbered_beyond}
 use Rattle.b67_pictures.proofs.Scene.{Scene, scene_of, shown_frame}
 use Rattle.b67_pictures.proofs.Slotted.{Top, top_slot}
+use Rattle.b67_pictures.proofs.Yielding.{result_given}
 use Rattle.b67_pictures.proofs.Staying.{text_in, level_in, context_in, most_in}
 use Rattle.b67_pictures.proofs.Words.{reference_read, reference_unindexed}
 use Rattle.b67_pictures.proofs.Touching.{Near}
@@ -73,13 +75,13 @@ use Rattle.b67_pictures.proofs.TouchingWords.{image_leads, level_known, couple_f
 -- ---- what is done with arrays
 
 -- The operator of a scene whose head asks for this touches no stack but that of its process, and the system's.
-abbrev pub IsNear : (tree : PProgram) (code : Code) (texts : ℕ → List Placed) → Ask → Type 0
+abbrev pub IsNear : (tree : PProgram) (code : Code) (texts : Texts) → Ask → Type 0
 IsNear tree code texts k =
     (w : World) (lay : Layout) (img : Image) (p : ℕ) (q : Process) (part : Part) (outer : List Part) (bound : ℕ) (core : Core) (s : Scene tree code texts w lay img p q part outer bound core) (x : Place) →
     TouchesFrom code img p x core.registers → ask part.rest ≡ k →
-    ActionAt (scopes_of tree) (context_in tree code w part) (text_in tree texts w part) (level_in tree w part) (most_in tree w part) k s.stands.pc s.stands.slots → Near p x.stack
+    ActionAt (scopes_of tree) (context_in tree code texts w part) (text_in tree texts w part) (level_in tree w part) (most_in tree w part) k s.stands.pc s.stands.slots → Near p x.stack
 
-pub record ArraysAreNear (tree : PProgram) (code : Code) (texts : ℕ → List Placed) : Type 0 where
+pub record ArraysAreNear (tree : PProgram) (code : Code) (texts : Texts) : Type 0 where
   pub reading : (n : Named) (ks : List ℕ) (v : Value) → IsNear tree code texts (reads_element n ks v)
   pub indexing : (n : Named) (ks : List ℕ) (v : Value) → IsNear tree code texts (indexes n ks v)
   pub storing : (r : Reference) (ks : List ℕ) (v : Value) → IsNear tree code texts (stores (element_of r ks) v)
@@ -88,7 +90,7 @@ pub record ArraysAreNear (tree : PProgram) (code : Code) (texts : ℕ → List P
 
 -- ---- a process at its action
 
-module _ (tree : PProgram) (code : Code) (texts : ℕ → List Placed) (nested : AreNested (scopes_of tree)) (rests : RestsGoOn) (arrays : ArraysAreNear tree code texts) (w : World) (lay : Layout) (img : Image) where
+module _ (tree : PProgram) (code : Code) (texts : Texts) (nested : AreNested (scopes_of tree)) (rests : RestsGoOn) (arrays : ArraysAreNear tree code texts) (w : World) (lay : Layout) (img : Image) where
   abbrev sc : Scopes
   sc = scopes_of tree
 
@@ -100,7 +102,7 @@ module _ (tree : PProgram) (code : Code) (texts : ℕ → List Placed) (nested :
     level = level_in tree w part
 
     abbrev context : Context
-    context = context_in tree code w part
+    context = context_in tree code texts w part
 
     abbrev text : List Placed
     text = text_in tree texts w part
@@ -145,7 +147,7 @@ module _ (tree : PProgram) (code : Code) (texts : ℕ → List Placed) (nested :
     result_near : (name : List ℕ) → At (reads_result name) → Near p x.stack
     result_near name a =
         operand_near a.0.couple a.0.valued a.0.read
-        (result_there tree code texts nested w lay img p q part outer bound core s a.0.kind a.0.is a.0.couple a.0.level_is a.0.index_is)
+        (result_there tree code texts nested w lay img p q part outer bound core s a.0.kind (result_given _ a.0.kind a.0.is) a.0.couple a.0.level_is a.0.index_is)
 
     stored_near : (n : Named) (v : Value) → ask part.rest ≡ stores (own n) v → At (stores (own n) v) → Near p x.stack
     stored_near n v e a =
@@ -316,6 +318,6 @@ module _ (tree : PProgram) (code : Code) (texts : ℕ → List Placed) (nested :
         by_stack o e lies (inr system) = none_some (ap (λ (n : ℕ). numbered w.processes n) (sym system ∙ lies) ∙ e)
 
 -- no operator of a pictured image reads or writes a word in the private part of another process
-pub processes_apart : (tree : PProgram) (code : Code) (texts : ℕ → List Placed) → AreNested (scopes_of tree) → RestsGoOn → ArraysAreNear tree code texts →
+pub processes_apart : (tree : PProgram) (code : Code) (texts : Texts) → AreNested (scopes_of tree) → RestsGoOn → ArraysAreNear tree code texts →
     (w : World) (lay : Layout) (a : Image) → PicturesBy tree code texts w lay a → (p q : ℕ) (x : Place) (r : Registers) → OperatorTouches code a p x → Lives a q r → IsPrivate r x → p ≡ q
 processes_apart tree code texts nested rests arrays w lay a by = stand_apart tree code texts nested rests arrays w lay a by

@@ -17,14 +17,15 @@ use Rattle.b67_control.specs.Control.{Fits_pcw, as_pcw, as_sirw, pcw_word}
 use Rattle.b67_control.proofs.ControlLaws.{as_pcw-pcw_word, as_sirw-other}
 use Rattle.b67_ops.specs.declared.Couple.{Couple}
 use Rattle.b67_ops.specs.declared.TheConstants.{OUTER_LEVEL}
-use Rattle.b67_segment.specs.Operators.{Placed}
 use Rattle.b67_segment.specs.declared.code.Code.{Code}
 use Rattle.b67_store.specs.Store.{words_of, word_at}
 use Rattle.b67_table.specs.Chains.{place}
 use Rattle.b67_table.specs.Image.{Image}
 use Rattle.b67_table.specs.Private.{display_at}
+use Rattle.b67_templates.specs.Cells as wants
 use Rattle.b67_templates.specs.Cells.{Simple, result_of, variables, parameter_cells, simple_cells, procedures, control_segments, IsVariable, IsProcedure}
-use Rattle.b67_templates.specs.Fragments.{code_at}
+use Rattle.b67_templates.specs.Fragments.{code_at, procedure_controls}
+use Rattle.b67_templates.specs.Programs.{Texts}
 use Rattle.b67_cores.specs.Cores.{Core}
 use Rattle.b67_cores.specs.Stretches.{control_words}
 use Rattle.b67_fitting.specs.Nested.{IsDeclared, AreNested}
@@ -36,7 +37,7 @@ use Rattle.b67_pictures.proofs.Lying.{Lies, lies_in, IsParent, parents_in}
 use Rattle.b67_pictures.proofs.Numbers.{get_below}
 use Rattle.b67_pictures.proofs.Rows.{words_are}
 use Rattle.b67_pictures.proofs.Scene.{Scene, shown_frame}
-use Rattle.b67_pictures.proofs.Segmented.{procedure_segment, get_mapped}
+use Rattle.b67_pictures.proofs.Segmented.{procedure_segment, get_mapped, get_control}
 use Rattle.b67_pictures.proofs.StackWords.{get-front}
 use Rattle.b67_pictures.proofs.Parents.{length_around}
 use Rattle.b67_pictures.proofs.Staying.{level_in}
@@ -74,7 +75,7 @@ record First (far : ℕ) (words : List Word) : Type 0 where
 
 -- the result and what lies after it
 abbrev from_result : Block → Kind → List Simple
-from_result b kind = record { name = b.name; kind = Some kind; shape = None } ∷ variables b.decls
+from_result b kind = record { name = b.name; wanted = wants.value kind } ∷ variables b.decls
 
 -- the cell after those of the parameters is that of the result
 first_value : (sc : Scopes) (b : Block) (kind : Kind) → b.result ≡ Some kind → (cells : List NamedCell) (words : List Word) → CellsAre (simple_cells sc b) cells words → First (length (parameter_cells sc b)) words
@@ -94,7 +95,7 @@ first_value sc b kind typed cells words are = behind (parameter_cells sc b) cell
 
 -- ---- where a process stands
 
-module _ (tree : PProgram) (code : Code) (texts : ℕ → List Placed) (nested : AreNested (scopes_of tree)) (w : World) (lay : Layout) (img : Image)
+module _ (tree : PProgram) (code : Code) (texts : Texts) (nested : AreNested (scopes_of tree)) (w : World) (lay : Layout) (img : Image)
     (p : ℕ) (q : Process) (part : Part) (outer : List Part) (bound : ℕ) (core : Core) (s : Scene tree code texts w lay img p q part outer bound core) where
   abbrev sc : Scopes
   sc = scopes_of tree
@@ -216,7 +217,7 @@ module _ (tree : PProgram) (code : Code) (texts : ℕ → List Placed) (nested :
           (omega (arith, procedure_segment sc.blocks called is_declared.procedure, few), (lit< tt, (lit< tt, (omega (arith, further, deep), (lit< tt, tt)))))
 
       abbrev controls_there : List Word
-      controls_there = control_words (level_of declaring) (control_segments sc declaring.decls)
+      controls_there = control_words (procedure_controls (level_of declaring) (control_segments sc declaring.decls))
 
       cells_lie : slice_get l.frame.cells (length (simple_cells sc declaring) + c.number) ≡ Some (pcw_word control)
       cells_lie =
@@ -224,7 +225,7 @@ module _ (tree : PProgram) (code : Code) (texts : ℕ → List Placed) (nested :
           ∙ get-behind l.frame.framed.values (controls_there ++ l.frame.framed.descriptors) c.number (length (simple_cells sc declaring) + c.number)
           (omega (arith, words_many (simple_cells sc declaring) l.frame.framed.simple l.frame.framed.values l.frame.framed.simple_are))
           ∙ get-front controls_there l.frame.framed.descriptors c.number (pcw_word control)
-          (get_mapped (λ (k : ℕ). pcw_word (code_at k 0 (level_of declaring + 1))) (control_segments sc declaring.decls) c.number segment
+          (get_control (level_of declaring) (control_segments sc declaring.decls) c.number segment
           (get_mapped (λ (m : Named). segment_of sc.blocks (number_at sc.blocks m.spot)) (procedures declaring.decls) c.number c.declared declared_there))
 
       far : length l.frame.lower + couple.index ≡ length l.frame.lower + suc (suc (length (simple_cells sc declaring) + c.number))

@@ -21,6 +21,7 @@ use Rattle.b67_table.specs.Image.{Image}
 use Rattle.b67_table.specs.Private.{frame}
 use Rattle.b67_table.specs.Table.{operator_at}
 use Rattle.b67_templates.specs.Fragments.{Has}
+use Rattle.b67_templates.specs.Programs.{Texts}
 use Rattle.b67_standing.specs.Stepping.{Slot, element, operand, descriptor}
 use Rattle.b67_standing.specs.Standing.{ActionAt, of_row, of_element, ElementReadAt}
 use Rattle.b67_cores.specs.Cores.{Core}
@@ -41,7 +42,7 @@ use Rattle.b67_pictures.proofs.TouchingApart.{IsNear}
 use Rattle.b67_pictures.proofs.TouchingIndices.{index_touches, load_touches, mother_touches, element_store_touches, load_near, mother_near, index_near}
 use Rattle.b67_pictures.proofs.TouchingOperators.{TouchesFrom, store_near}
 
-module _ (tree : PProgram) (code : Code) (texts : ℕ → List Placed) (nested : AreNested (scopes_of tree)) where
+module _ (tree : PProgram) (code : Code) (texts : Texts) (nested : AreNested (scopes_of tree)) where
   abbrev sc : Scopes
   sc = scopes_of tree
 
@@ -54,7 +55,7 @@ module _ (tree : PProgram) (code : Code) (texts : ℕ → List Placed) (nested :
     text = text_in tree texts w part
 
     abbrev At : Ask → Type 0
-    At k = ActionAt sc (context_in tree code w part) text level (most_in tree w part) k s.stands.pc s.stands.slots
+    At k = ActionAt sc (context_in tree code texts w part) text level (most_in tree w part) k s.stands.pc s.stands.slots
 
     stands : (op : Operator) (next : ℕ) → Has text level s.stands.pc op next → operator_at code core.registers ≡ Ok (op, next)
     stands op next has_it = operator_there sc s.stands.held code text level s.stands.pc s.stands.slots core op next s.stands.there has_it
@@ -69,7 +70,7 @@ module _ (tree : PProgram) (code : Code) (texts : ℕ → List Placed) (nested :
     module _ (n : Named) (ks : List ℕ) (v : Value) where
       read_near : ask part.rest ≡ reads_element n ks v → At (reads_element n ks v) → Near p x.stack
       read_near asks a =
-          let found : ElementReadAt sc (context_in tree code w part) text level (most_in tree w part) n ks v s.stands.pc a.0 s.stands.slots a.1 = a.2 in
+          let found : ElementReadAt sc (context_in tree code texts w part) text level (most_in tree w part) n ks v s.stands.pc a.0 s.stands.slots a.1 = a.2 in
           let h : IsHome n a.2.array a.2.couple = array_home tree code texts nested w lay img p q part outer bound core s n a.2.array a.2.couple (ap array_asked asks) a.2.is_array in
           let l : LastIndex tree code texts nested w lay img p q part outer bound core s n a.2.array a.2.couple h ks a.2.subscript a.1 =
           last_index tree code texts nested w lay img p q part outer bound core s n a.2.array a.2.couple h ks a.2.subscript a.1 a.2.lies in

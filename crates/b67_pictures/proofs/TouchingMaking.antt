@@ -15,8 +15,8 @@ use Rattle.b67_control.specs.declared.Mscw.{Mscw}
 use Rattle.b67_ops.specs.declared.Operator.TheVariants as ops
 use Rattle.b67_ops.specs.declared.PlainKind.TheVariants as kinds
 use Rattle.b67_ops.specs.declared.intrinsic.Intrinsic.TheVariants.{Arrays}
-use Rattle.b67_segment.specs.Operators.{Placed}
 use Rattle.b67_segment.specs.declared.code.Code.{Code}
+use Rattle.b67_templates.specs.Programs.{Texts}
 use Rattle.b67_store.specs.Store.{least_free, counted_words, count_limit}
 use Rattle.b67_table.specs.declared.InterruptKind.TheVariants.{InvalidOperand}
 use Rattle.b67_table.specs.Arguments.{wholes_in, if_chained, finished_at}
@@ -156,7 +156,7 @@ module _ (p : ℕ) (img : Image) (code : Code) (r : Registers) (own : r.stack �
 
 -- ---- where a process stands at it
 
-pub making_near : (tree : PProgram) (code : Code) (texts : ℕ → List Placed) (kind : Kind) (ns : List Named) (pairs : List PPair) (vs : List Value) → IsNear tree code texts (makes_arrays kind ns pairs vs)
+pub making_near : (tree : PProgram) (code : Code) (texts : Texts) (kind : Kind) (ns : List Named) (pairs : List PPair) (vs : List Value) → IsNear tree code texts (makes_arrays kind ns pairs vs)
 making_near tree code texts kind ns pairs vs w lay img p q part outer bound core s x t asks a =
     enter_near code img p x core.registers s.has.own t a.1.made
     (operator_there (scopes_of tree) s.stands.held code (text_in tree texts w part) (level_in tree w part) s.stands.pc s.stands.slots core (ops.Plain kinds.Entr) a.1.made s.stands.there a.1.stands)

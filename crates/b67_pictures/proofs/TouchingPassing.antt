@@ -12,8 +12,8 @@ use Rattle.b67_control.specs.declared.Irw.{Irw}
 use Rattle.b67_control.specs.Control.{as_irw, as_sirw}
 use Rattle.b67_ops.specs.declared.Operator.TheVariants as ops
 use Rattle.b67_ops.specs.declared.PlainKind.TheVariants as kinds
-use Rattle.b67_segment.specs.Operators.{Placed}
 use Rattle.b67_segment.specs.declared.code.Code.{Code}
+use Rattle.b67_templates.specs.Programs.{Texts}
 use Rattle.b67_store.specs.Store.{word_at}
 use Rattle.b67_table.specs.declared.Reached.{Reached}
 use Rattle.b67_table.specs.declared.InterruptKind.TheVariants.{InvalidOperand, StackUnderflow}
@@ -84,7 +84,7 @@ unfolding rows.row
 pass_near code img p x r t next e stays = stays.near x (touched_by code img p x r t (ops.Plain kinds.Lodt) next e)
 
 -- what TouchingApart asks for
-pub passing_near : (tree : PProgram) (code : Code) (texts : ℕ → List Placed) → AreNested (scopes_of tree) → (n : Named) → IsNear tree code texts (passes n)
+pub passing_near : (tree : PProgram) (code : Code) (texts : Texts) → AreNested (scopes_of tree) → (n : Named) → IsNear tree code texts (passes n)
 passing_near tree code texts nested n w lay img p q part outer bound core s x t asks a =
     let f : FindsFormal tree code texts nested w lay img p q part outer bound core s n asks a.0 a.1 a.2 a.3 = finds_formal tree code texts nested w lay img p q part outer bound core s n asks a.0 a.1 a.2 a.3 in
     let stands : operator_at code core.registers ≡ Ok (ops.Plain kinds.Lodt, a.1) =

@@ -13,7 +13,7 @@ use Rattle.algol_tree.specs.Scopes.{Scopes, scopes_of, use_of}
 use Rattle.algol_tree.specs.Sorts.{same_name}
 use Rattle.algol_meaning.specs.Value.{Value, Bounds, Cell, simple, event, array, named, reference as refers}
 use Rattle.algol_meaning.specs.World.{NamedCell, Instance, Part, World, or_no_instance}
-use Rattle.algol_paths.specs.Arrays.{DeclaredArray, Shape, arrays_of}
+use Rattle.algol_paths.specs.Arrays.{Made, an_array, an_event, Shape}
 use Rattle.b67_word.specs.declared.Place.{Place}
 use Rattle.b67_word.specs.Word.{Word, field}
 use Rattle.b67_control.specs.Kind as kind
@@ -30,7 +30,6 @@ use Rattle.b67_ops.specs.declared.Couple.{Couple}
 use Rattle.b67_ops.specs.declared.intrinsic.Intrinsic.{Intrinsic}
 use Rattle.b67_ops.specs.declared.intrinsic.Intrinsic.TheVariants as names
 use Rattle.b67_ops.specs.Intrinsics.{number_of, couple_of_intrinsic, intrinsics}
-use Rattle.b67_segment.specs.Operators.{Placed}
 use Rattle.b67_segment.specs.declared.code.Code.{Code}
 use Rattle.b67_store.specs.Store.{stack_at, words_of, words_or, word_at, stack_limit}
 use Rattle.b67_table.specs.Beginning.{system_stack, intrinsic_words}
@@ -40,9 +39,12 @@ use Rattle.b67_table.specs.PrivateRows.{open_mark}
 use Rattle.b67_table.specs.PrivateRows as rows
 use Rattle.b67_table.specs.References.{cell_word}
 use Rattle.b67_table.specs.declared.Cell as frame_cells
-use Rattle.b67_templates.specs.Fragments.{code_at}
-use Rattle.b67_templates.specs.Cells.{Simple, Found, simple_cells, found_from, FoundArray, array_from, procedures, control_segments, IsVariable, IsProcedure, IsFormalArray, IsArray, declared, formal}
-use Rattle.b67_standing.specs.Stepping.{Held, row, element, cell_named, cell_of, Slot, operand, reference, intrinsic, control, descriptor, mark}
+use Rattle.b67_templates.specs.Contexts.{Yields}
+use Rattle.b67_templates.specs.Fragments.{code_at, procedure_controls}
+use Rattle.b67_templates.specs.Cells as wants
+use Rattle.b67_templates.specs.Cells.{Simple, Found, simple_cells, found_from, procedures, control_segments, IsVariable, IsProcedure, IsFormalArray, IsArray, declared, formal, Wanted, FoundMade, made_from, made_name, made_of}
+use Rattle.b67_templates.specs.Programs.{Texts}
+use Rattle.b67_standing.specs.Stepping.{Held, row, element, cell_named, passed, Slot, operand, reference, intrinsic, control, descriptor, mark}
 use Rattle.b67_cores.specs.Cores.{Core, size, stack_of, HasCore}
 use Rattle.b67_cores.specs.Slots.{ValueIs, Known, IsKnown, SlotsAre}
 use Rattle.b67_cores.specs.Stretches.{control_words}
@@ -51,7 +53,6 @@ use Rattle.b67_faithful.proofs.Contradictions.{some_same}
 use Rattle.b67_fitting.specs.Nested.{AreNested}
 use Rattle.b67_pictures.specs.Arrays.{Allotted, Layout, DescriptorIs, AreMade, HeldIs, AreKnown}
 use Rattle.b67_pictures.specs.Frames.{CellIs, CellsAre, IsPlaced, outermost, inside, home_of, result_of_part, Frame, Stands, Waits, Around, level_at}
-use Rattle.b67_pictures.proofs.FreshCells.{told_shape}
 use Rattle.b67_pictures.proofs.Lying.{Lies, lies_around}
 use Rattle.b67_pictures.proofs.Numbers.{get_below}
 use Rattle.b67_pictures.proofs.Rows.{words_are}
@@ -189,25 +190,26 @@ module _ (p : ℕ) where
   -- ---- cells
 
   -- a value; of a reference it is known otherwise
-  cell_leads : (o : Option Kind) (c : Cell) (w : Word) → CellIs o c w → (o ≡ None → LeadsNear p w) → LeadsNear p w
-  cell_leads None c w is referred = referred refl
-  cell_leads (Some k) (simple v) w is referred = value_leads v w is.1
-  cell_leads (Some k) (event e) w is referred = absurd is
-  cell_leads (Some k) (array a) w is referred = absurd is
-  cell_leads (Some k) (named n) w is referred = absurd is
-  cell_leads (Some k) (refers r) w is referred = absurd is
+  cell_leads : (o : Wanted) (c : Cell) (w : Word) → CellIs o c w → ((shape : Shape) → o ≡ wants.array shape → LeadsNear p w) → LeadsNear p w
+  cell_leads (wants.array shape) c w is referred = referred shape refl
+  cell_leads (wants.value k) (simple v) w is referred = value_leads v w is.1
+  cell_leads (wants.value k) (event e) w is referred = absurd is
+  cell_leads (wants.value k) (array a) w is referred = absurd is
+  cell_leads (wants.value k) (named n) w is referred = absurd is
+  cell_leads (wants.value k) (refers r) w is referred = absurd is
+  cell_leads _ c w is referred = absurd is
 
   cells_lead : (ss : List Simple) (cells : List NamedCell) (words : List Word) → CellsAre ss cells words →
-      ((k : ℕ) (s : Simple) (w : Word) → slice_get ss k ≡ Some s → s.kind ≡ None → slice_get words k ≡ Some w → LeadsNear p w) → AllLead words
+      ((k : ℕ) (s : Simple) (shape : Shape) (w : Word) → slice_get ss k ≡ Some s → s.wanted ≡ wants.array shape → slice_get words k ≡ Some w → LeadsNear p w) → AllLead words
   cells_lead [] [] [] are referred = tt
   cells_lead [] [] (w ∷ words) are referred = absurd are
   cells_lead [] (c ∷ cells) words are referred = absurd are
   cells_lead (s ∷ ss) [] words are referred = absurd are
   cells_lead (s ∷ ss) (c ∷ cells) [] are referred = absurd are
   cells_lead (s ∷ ss) (c ∷ cells) (w ∷ words) are referred =
-      (cell_leads s.kind c.cell w are.1 (λ none. referred 0 s w refl none refl), cells_lead ss cells words are.2 (λ k t x there none lies. referred (suc k) t x there none lies))
+      (cell_leads s.wanted c.cell w are.1 (λ shape told. referred 0 s shape w refl told refl), cells_lead ss cells words are.2 (λ k t shape x there told lies. referred (suc k) t shape x there told lies))
 
-  controls_lead : (level : ℕ) (segments : List ℕ) → AllLead (control_words level segments)
+  controls_lead : (level : ℕ) (segments : List ℕ) → AllLead (control_words (procedure_controls level segments))
   controls_lead level [] = tt
   controls_lead level (segment ∷ segments) = (control_leads (code_at segment 0 (level + 1)), controls_lead level segments)
 
@@ -218,14 +220,15 @@ module _ (p : ℕ) where
   array_leads (b ∷ c ∷ []) a w is = subst (LeadsNear p) (sym is.4) (descriptor_leads _)
   array_leads (b ∷ c ∷ d ∷ bs) a w is = absurd is
 
-  arrays_lead : (ds : List DeclaredArray) (cells : List NamedCell) (as' : List Allotted) (words : List Word) → AreMade ds cells as' words → AllLead words
+  arrays_lead : (ds : List Made) (cells : List NamedCell) (as' : List Allotted) (words : List Word) → AreMade ds cells as' words → AllLead words
   arrays_lead ds cells as' [] are = tt
   arrays_lead [] [] [] (w ∷ words) are = absurd are
   arrays_lead [] [] (a ∷ as') (w ∷ words) are = absurd are
   arrays_lead [] (c ∷ cells) as' (w ∷ words) are = absurd are
   arrays_lead (d ∷ ds) [] as' (w ∷ words) are = absurd are
   arrays_lead (d ∷ ds) (c ∷ cells) [] (w ∷ words) are = absurd are
-  arrays_lead (d ∷ ds) (c ∷ cells) (a ∷ as') (w ∷ words) are = (array_leads are.0.cell.bounds a w are.0.descriptor, arrays_lead ds cells as' words are.1)
+  arrays_lead (an_event name ∷ ds) (c ∷ cells) (a ∷ as') (w ∷ words) are = absurd are.0
+  arrays_lead (an_array d ∷ ds) (c ∷ cells) (a ∷ as') (w ∷ words) are = (array_leads are.0.cell.bounds a w are.0.descriptor, arrays_lead ds cells as' words are.1)
 
 -- what is known of descriptors and references is of no marks
 abbrev pub KnownLead : ℕ → List Known → Type 0
@@ -236,7 +239,8 @@ module _ (sc : Scopes) (w : World) (lay : Layout) (p : ℕ) (parts : List Part) 
   held_leads (row n ks) x is = subst (LeadsNear p) (sym is.word_is) (descriptor_leads p _)
   held_leads (element r ks kind) x is = subst (LeadsNear p) (sym is.word_is) (descriptor_leads p _)
   held_leads (cell_named n) x is = subst (LeadsNear p) (sym is.word_is) (cell_word_leads p _)
-  held_leads (cell_of shape r) x is = subst (LeadsNear p) (sym is.word_is) (cell_word_leads p _)
+  held_leads (passed (wants.array shape) (refers r)) x is = subst (LeadsNear p) (sym is.word_is) (cell_word_leads p _)
+  held_leads (passed _ c) x is = absurd is
 
   pub known_lead : (known : List Known) → AreKnown sc w lay parts i known → KnownLead p known
   known_lead [] are h x is = absurd is
@@ -256,17 +260,17 @@ found_low k (c ∷ cells) name f e = by_name (same_name c.name name) e (λ h. fo
     by_name true h later = omega (arith, ap (λ (x : Found). x.number) (some_same h))
     by_name false h later = omega (arith, later h)
 
-pub array_low : (k : ℕ) (ds : List DeclaredArray) (name : List ℕ) (f : FoundArray) → array_from k ds name ≡ Some f → f.number < k + length ds
+pub array_low : (k : ℕ) (ds : List Made) (name : List ℕ) (f : FoundMade) → made_from k ds name ≡ Some f → f.number < k + length ds
 array_low k [] name f e = cc
-array_low k (d ∷ ds) name f e = by_name (same_name d.name name) e (λ h. array_low (k + 1) ds name f h)
+array_low k (d ∷ ds) name f e = by_name (same_name (made_name d) name) e (λ h. array_low (k + 1) ds name f h)
   where
-    by_name : (b : Bool) → (if b then Some (record { number = k; array = d }) else array_from (k + 1) ds name) ≡ Some f → (array_from (k + 1) ds name ≡ Some f → f.number < k + 1 + length ds) → f.number < k + length (d ∷ ds)
-    by_name true h later = omega (arith, ap (λ (x : FoundArray). x.number) (some_same h))
+    by_name : (b : Bool) → (if b then Some (record { number = k; made = d }) else made_from (k + 1) ds name) ≡ Some f → (made_from (k + 1) ds name ≡ Some f → f.number < k + 1 + length ds) → f.number < k + length (d ∷ ds)
+    by_name true h later = omega (arith, ap (λ (x : FoundMade). x.number) (some_same h))
     by_name false h later = omega (arith, later h)
 
 -- a number has a block, or the block that it stands for has no cells
 abbrev cells_of : Scopes → Block → ℕ
-cells_of sc b = length (simple_cells sc b) + length (procedures b.decls) + length (arrays_of b.decls)
+cells_of sc b = length (simple_cells sc b) + length (procedures b.decls) + length (made_of b.decls)
 
 block_or_none : (sc : Scopes) (bs : List Block) (b : ℕ) → (b < length bs) ⊎ (cells_of sc (block_numbered bs b) ≡ 0)
 block_or_none sc [] b = inr refl
@@ -290,29 +294,30 @@ module _ (sc : Scopes) (nested : AreNested sc) where
   couple_fits level n k c v known =
       let b : Block = block_numbered sc.blocks ((use_of sc n).block) in
       let low : v.found.number < 0 + length (simple_cells sc b) = found_low 0 (simple_cells sc b) n.name v.found v.there in
-      let few : length (simple_cells sc b) + length (procedures b.decls) + length (arrays_of b.decls) ≤ 400 = few_cells ((use_of sc n).block) in
+      let few : length (simple_cells sc b) + length (procedures b.decls) + length (made_of b.decls) ≤ 400 = few_cells ((use_of sc n).block) in
       (omega (arith, v.level_is, known), omega (arith, v.index_is, low, few))
 
   pub formal_fits : (level : ℕ) (n : Named) (shape : Shape) (c : Couple) → IsFormalArray sc level n shape c → level < 32 → (c.level < 32) × (c.index < 2 ^ 14)
   formal_fits level n shape c v known =
       let b : Block = block_numbered sc.blocks ((use_of sc n).block) in
       let low : v.found.number < 0 + length (simple_cells sc b) = found_low 0 (simple_cells sc b) n.name v.found v.there in
-      let few : length (simple_cells sc b) + length (procedures b.decls) + length (arrays_of b.decls) ≤ 400 = few_cells ((use_of sc n).block) in
+      let few : length (simple_cells sc b) + length (procedures b.decls) + length (made_of b.decls) ≤ 400 = few_cells ((use_of sc n).block) in
       (omega (arith, v.level_is, known), omega (arith, v.index_is, low, few))
 
   pub procedure_fits : (level : ℕ) (n : Named) (callee : ℕ) (c : Couple) → IsProcedure sc level n callee c → level < 32 → (c.level < 32) × (c.index < 2 ^ 14)
   procedure_fits level n callee c is known =
       let b : Block = block_numbered sc.blocks ((use_of sc n).block) in
       let low : is.number < length (procedures b.decls) = get_below (procedures b.decls) is.number is.declared is.there in
-      let few : length (simple_cells sc b) + length (procedures b.decls) + length (arrays_of b.decls) ≤ 400 = few_cells ((use_of sc n).block) in
+      let few : length (simple_cells sc b) + length (procedures b.decls) + length (made_of b.decls) ≤ 400 = few_cells ((use_of sc n).block) in
       (omega (arith, is.level_is, known), omega (arith, is.index_is, low, few))
 
   pub array_fits : (level : ℕ) (n : Named) (shape : Shape) (c : Couple) → IsArray sc level n shape c → level < 32 → (c.level < 32) × (c.index < 2 ^ 14)
   array_fits level n shape c (declared d same is) known =
       let b : Block = block_numbered sc.blocks ((use_of sc n).block) in
-      let low : is.number < 0 + length (arrays_of b.decls) = array_low 0 (arrays_of b.decls) n.name (record { number = is.number; array = d }) is.there in
-      let few : length (simple_cells sc b) + length (procedures b.decls) + length (arrays_of b.decls) ≤ 400 = few_cells ((use_of sc n).block) in
-      (omega (arith, is.level_is, known), omega (arith, is.index_is, low, few))
+      let made = is.made in
+      let low : made.number < 0 + length (made_of b.decls) = array_low 0 (made_of b.decls) n.name (record { number = made.number; made = an_array d }) made.there in
+      let few : length (simple_cells sc b) + length (procedures b.decls) + length (made_of b.decls) ≤ 400 = few_cells ((use_of sc n).block) in
+      (omega (arith, made.level_is, known), omega (arith, made.index_is, low, few))
   array_fits level n shape c (formal is) known = formal_fits level n shape c is known
 
 -- ---- slots
@@ -331,18 +336,18 @@ module _ (sc : Scopes) (known : List Known) (p level home base : ℕ) (described
 
 -- ---- the frames of a process
 
-module _ (tree : PProgram) (code : Code) (texts : ℕ → List Placed) (nested : AreNested (scopes_of tree)) (w : World) (lay : Layout) (p : ℕ) where
+module _ (tree : PProgram) (code : Code) (texts : Texts) (nested : AreNested (scopes_of tree)) (w : World) (lay : Layout) (p : ℕ) where
   abbrev sc : Scopes
   sc = scopes_of tree
 
-  abbrev Outer : List Part → List Word → Word → Word → Option Kind → Type 0
+  abbrev Outer : List Part → List Word → Word → Word → Yields → Type 0
   Outer parts lower m c wanted = Around tree code texts w lay p parts lower m c wanted
 
-  abbrev wanted_of : Part → Option Kind
+  abbrev wanted_of : Part → Yields
   wanted_of part = result_of_part tree code texts w lay p part
 
   -- the frame of an instance that lies in these parts
-  laid_near : (outer : List Part) (lower : List Word) (m c : Word) (wanted : Option Kind) → Outer outer lower m c wanted → (i : ℕ) (home : Place) → numbered lay.places i ≡ Some home → Lies tree code texts w lay p outer i lower → Near p home.stack
+  laid_near : (outer : List Part) (lower : List Word) (m c : Word) (wanted : Yields) → Outer outer lower m c wanted → (i : ℕ) (home : Place) → numbered lay.places i ≡ Some home → Lies tree code texts w lay p outer i lower → Near p home.stack
   laid_near outer lower m c wanted a i home e l =
       let at : numbered lay.places i ≡ Some (place p (length l.frame.lower)) = ap (numbered lay.places) (sym l.instance_is) ∙ l.frame.framed.laid in
       inl (ap (λ (x : Place). x.stack) (some_same (sym e ∙ at)))
@@ -350,7 +355,7 @@ module _ (tree : PProgram) (code : Code) (texts : ℕ → List Placed) (nested :
   root_near : (home : Place) → Some (place 0 0) ≡ Some home → Near p home.stack
   root_near home e = inr (sym (ap (λ (x : Place). x.stack) (some_same e)))
 
-  home_near : (outer : List Part) (lower : List Word) (m c : Word) (wanted : Option Kind) → Outer outer lower m c wanted → (x : Instance) → IsPlaced sc w lay outer x → (home : Place) → home_of sc w lay x.parent ≡ Some home → Near p home.stack
+  home_near : (outer : List Part) (lower : List Word) (m c : Word) (wanted : Yields) → Outer outer lower m c wanted → (x : Instance) → IsPlaced sc w lay outer x → (home : Place) → home_of sc w lay x.parent ≡ Some home → Near p home.stack
   home_near outer lower m c wanted a x (outermost none_up alone) home e = root_near home (sym (ap (home_of sc w lay) none_up) ∙ e)
   home_near outer lower m c wanted a x (inside own next made) home e = by_parent x.parent e (lies_around tree code texts w lay p outer lower m c wanted a x.parent own)
     where
@@ -359,11 +364,10 @@ module _ (tree : PProgram) (code : Code) (texts : ℕ → List Placed) (nested :
       by_parent (suc i) f l = laid_near outer lower m c wanted a (suc i) home f l
 
   -- the cells of parameters that are arrays
-  formals_lead : (part : Part) (outer : List Part) (words : List Word) (f : Frame tree code texts w lay p part outer words) (k : ℕ) (s : Simple) (x : Word) →
-      slice_get (simple_cells sc (block_numbered sc.blocks f.framed.instance.block)) k ≡ Some s → s.kind ≡ None → slice_get f.framed.values k ≡ Some x → LeadsNear p x
-  formals_lead part outer words f k s x there none lies =
-      let told = told_shape sc (block_numbered sc.blocks f.framed.instance.block) (nested.each f.framed.instance.block f.framed.known).parameters k s there none in
-      let g = f.framed.formals k s told.0 there none told.1 in
+  formals_lead : (part : Part) (outer : List Part) (words : List Word) (f : Frame tree code texts w lay p part outer words) (k : ℕ) (s : Simple) (shape : Shape) (x : Word) →
+      slice_get (simple_cells sc (block_numbered sc.blocks f.framed.instance.block)) k ≡ Some s → s.wanted ≡ wants.array shape → slice_get f.framed.values k ≡ Some x → LeadsNear p x
+  formals_lead part outer words f k s shape x there told lies =
+      let g = f.framed.formals k s shape there told in
       subst (LeadsNear p) (some_same (sym g.4 ∙ lies)) (subst (LeadsNear p) (sym g.6.word_is) (cell_word_leads p _))
 
   frame_leads : (part : Part) (outer : List Part) (words : List Word) (f : Frame tree code texts w lay p part outer words) → Outer outer f.lower f.mark f.control (wanted_of part) → AllLead p f.lower → AllLead p words
@@ -377,13 +381,13 @@ module _ (tree : PProgram) (code : Code) (texts : ℕ → List Placed) (nested :
           subst (AllLead p) (sym f.framed.cells_is)
               (lead_both p f.framed.values _ (cells_lead p (simple_cells sc (block_numbered sc.blocks f.framed.instance.block)) f.framed.simple f.framed.values f.framed.simple_are
               (formals_lead part outer words f))
-              (lead_both p (control_words (level_of (block_numbered sc.blocks f.framed.instance.block)) (control_segments sc (block_numbered sc.blocks f.framed.instance.block).decls)) f.framed.descriptors
+              (lead_both p (control_words (procedure_controls (level_of (block_numbered sc.blocks f.framed.instance.block)) (control_segments sc (block_numbered sc.blocks f.framed.instance.block).decls))) f.framed.descriptors
               (controls_lead p (level_of (block_numbered sc.blocks f.framed.instance.block)) (control_segments sc (block_numbered sc.blocks f.framed.instance.block).decls))
               (arrays_lead p f.framed.declared f.framed.arrays (lay.rows part.instance) f.framed.descriptors f.framed.made))),
         ),
       ))
 
-  around_leads : (parts : List Part) (lower : List Word) (m c : Word) (wanted : Option Kind) → Outer parts lower m c wanted → length lower ≤ 2 ^ 16 → AllLead p lower
+  around_leads : (parts : List Part) (lower : List Word) (m c : Word) (wanted : Yields) → Outer parts lower m c wanted → length lower ≤ 2 ^ 16 → AllLead p lower
   around_leads [] lower m c wanted a room = subst (AllLead p) (sym a.0) tt
   around_leads (part ∷ outer) lower m c wanted a room =
       let s : Waits tree code texts w lay p part outer lower m c wanted = a.0 in

@@ -10,8 +10,8 @@ use Rattle.algol_meaning.specs.Asks.{Ask, turns, ask, resume}
 use Rattle.algol_meaning.specs.Choice.{choice_of}
 use Rattle.b67_ops.specs.declared.Operator.TheVariants as ops
 use Rattle.b67_ops.specs.declared.BranchKind.TheVariants.{Brun}
-use Rattle.b67_segment.specs.Operators.{Placed}
 use Rattle.b67_segment.specs.declared.code.Code.{Code}
+use Rattle.b67_templates.specs.Programs.{Texts}
 use Rattle.b67_table.specs.declared.ProcessState.TheVariants.{Able}
 use Rattle.b67_table.specs.Image.{Image}
 use Rattle.b67_table.specs.Effect as effects
@@ -21,7 +21,7 @@ use Rattle.b67_standing.specs.Stepping.{Slot}
 use Rattle.b67_standing.specs.Standing.{ActionAt, Acted, ComesTo}
 use Rattle.b67_cores.specs.Cores.{Core, with_core}
 use Rattle.b67_cores.specs.Stretches.{CoreAt, FragmentsArePerformed}
-use Rattle.algol_paths.specs.Laws.{RestsKeepToTheirText, ArraysAreMadeInOrder}
+use Rattle.algol_paths.specs.Laws.{RestsKeepToTheirText, AllIsMadeInOrder}
 use Rattle.b67_faithful.specs.Correspondence.{as_action}
 use Rattle.b67_pictures.specs.Arrays.{Layout}
 use Rattle.b67_pictures.specs.Acting.{Does}
@@ -34,14 +34,14 @@ use Rattle.b67_pictures.proofs.Staying.{text_in, level_in, context_in, most_in}
 use Rattle.b67_pictures.proofs.InFrame.{does_in_frame}
 use Rattle.b67_pictures.proofs.Unmade.{makes, unmade}
 
-module _ (tree : PProgram) (code : Code) (texts : ℕ → List Placed) (fragments : FragmentsArePerformed) (keeps : RestsKeepToTheirText) (order : ArraysAreMadeInOrder) (w : World) (lay : Layout) (img : Image)
+module _ (tree : PProgram) (code : Code) (texts : Texts) (fragments : FragmentsArePerformed) (keeps : RestsKeepToTheirText) (order : AllIsMadeInOrder) (w : World) (lay : Layout) (img : Image)
     (p : ℕ) (q : Process) (part : Part) (outer : List Part) (bound : ℕ) (core : Core) (s : Scene tree code texts w lay img p q part outer bound core) (able_is : q.state ≡ able) (able_p : numbered img.states p ≡ Some Able) where
   abbrev sc : Scopes
   sc = scopes_of tree
 
-  module _ (asks : ask part.rest ≡ turns) (a : ActionAt sc (context_in tree code w part) (text_in tree texts w part) (level_in tree w part) (most_in tree w part) turns s.stands.pc s.stands.slots)
-      (answered : (r : Answer) (at : ℕ) (left : List Slot) → Acted sc (context_in tree code w part) (text_in tree texts w part) (level_in tree w part) (most_in tree w part) turns s.stands.pc s.stands.slots a r at left →
-      ComesTo sc (context_in tree code w part) (text_in tree texts w part) (level_in tree w part) (most_in tree w part) (resume sc part.rest r) at left) where
+  module _ (asks : ask part.rest ≡ turns) (a : ActionAt sc (context_in tree code texts w part) (text_in tree texts w part) (level_in tree w part) (most_in tree w part) turns s.stands.pc s.stands.slots)
+      (answered : (r : Answer) (at : ℕ) (left : List Slot) → Acted sc (context_in tree code texts w part) (text_in tree texts w part) (level_in tree w part) (most_in tree w part) turns s.stands.pc s.stands.slots a r at left →
+      ComesTo sc (context_in tree code texts w part) (text_in tree texts w part) (level_in tree w part) (most_in tree w part) (resume sc part.rest r) at left) where
     there : operator_at code core.registers ≡ Ok (ops.Branch Brun a.0, a.1)
     there = operator_there sc s.stands.held code (text_in tree texts w part) (level_in tree w part) s.stands.pc s.stands.slots core (ops.Branch Brun a.0) a.1 s.stands.there a.2.stands
 

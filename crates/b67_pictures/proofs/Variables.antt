@@ -7,7 +7,8 @@ use Rattle.algol_meaning.specs.Value.{Value, Reference, Cell, simple, event, arr
 use Rattle.algol_meaning.specs.World.{NamedCell, cell_in, cells_with}
 use Rattle.b67_word.specs.Word.{Word}
 use Rattle.b67_templates.specs.Fragments.{HasKind}
-use Rattle.b67_templates.specs.Cells.{Simple, Found, found_from}
+use Rattle.b67_templates.specs.Cells as wants
+use Rattle.b67_templates.specs.Cells.{Simple, Found, found_from, Wanted}
 use Rattle.b67_cores.specs.Slots.{ValueIs}
 use Rattle.b67_faithful.proofs.Contradictions.{some_same}
 use Rattle.b67_pictures.specs.Frames.{CellIs, CellsAre}
@@ -18,7 +19,7 @@ pub record Cell_of (f : Found) (from : ℕ) (name : List ℕ) (cells : List Name
   pub far : ℕ
   pub number : f.number ≡ from + far
   pub lies : slice_get words far ≡ Some word
-  pub is : CellIs f.cell.kind (cell_in cells name) word
+  pub is : CellIs f.cell.wanted (cell_in cells name) word
 
 pub variable_cell : (ss : List Simple) (cells : List NamedCell) (words : List Word) (from : ℕ) (name : List ℕ) (f : Found) → CellsAre ss cells words → found_from from ss name ≡ Some f →
     Cell_of f from name cells words
@@ -37,7 +38,7 @@ variable_cell (s ∷ ss) (c ∷ cells) (w ∷ words) from name f are e =
           far = 0;
           number = ap (λ (x : Found). x.number) (sym is_f) ∙ omega arith;
           lies = refl;
-          is = subst (λ (x : Found). CellIs x.cell.kind (cell_in (c ∷ cells) name) w) is_f (subst (λ (k : Cell). CellIs s.kind k w) (sym cell_is) are.1);
+          is = subst (λ (x : Found). CellIs x.cell.wanted (cell_in (c ∷ cells) name) w) is_f (subst (λ (k : Cell). CellIs s.wanted k w) (sym cell_is) are.1);
         }
     by_name rest false h same =
         let later = rest h in
@@ -47,7 +48,7 @@ variable_cell (s ∷ ss) (c ∷ cells) (w ∷ words) from name f are e =
           far = suc later.far;
           number = later.number ∙ omega arith;
           lies = later.lies;
-          is = subst (λ (k : Cell). CellIs f.cell.kind k later.word) (sym cell_is) later.is;
+          is = subst (λ (k : Cell). CellIs f.cell.wanted k later.word) (sym cell_is) later.is;
         }
 
 -- cells after do not hide it
@@ -94,7 +95,7 @@ pub record Holds_value (k : Kind) (c : Cell) (w : Word) : Type 0 where
   pub kind : HasKind k value
   pub word : ValueIs value w
 
-pub value_of_cell : (k : Kind) (c : Cell) (w : Word) → CellIs (Some k) c w → Holds_value k c w
+pub value_of_cell : (k : Kind) (c : Cell) (w : Word) → CellIs (wants.value k) c w → Holds_value k c w
 value_of_cell k (simple v) w is = record { value = v; is = refl; kind = is.0; word = is.1 }
 value_of_cell k (event e) w is = absurd is
 value_of_cell k (array a) w is = absurd is
@@ -103,7 +104,7 @@ value_of_cell k (reference r) w is = absurd is
 
 -- another value of the kind, in the cell and as its word
 pub cell_changed : (ss : List Simple) (cells : List NamedCell) (words : List Word) (from : ℕ) (name : List ℕ) (f : Found) (k : Kind) (v : Value) (w : Word) (far : ℕ) → CellsAre ss cells words →
-    found_from from ss name ≡ Some f → f.cell.kind ≡ Some k → f.number ≡ from + far → HasKind k v → ValueIs v w → CellsAre ss (cells_with cells name (simple v)) (slice_set words far w)
+    found_from from ss name ≡ Some f → f.cell.wanted ≡ wants.value k → f.number ≡ from + far → HasKind k v → ValueIs v w → CellsAre ss (cells_with cells name (simple v)) (slice_set words far w)
 cell_changed [] cells words from name f k v w far are e kind number fits is = cc
 cell_changed (s ∷ ss) [] words from name f k v w far are e kind number fits is = absurd are
 cell_changed (s ∷ ss) (c ∷ cells) [] from name f k v w far are e kind number fits is = absurd are
@@ -119,10 +120,10 @@ cell_changed (s ∷ ss) (c ∷ cells) (x ∷ words) from name f k v w far are e 
         let none_far : far ≡ 0 = omega (arith, number, ap (λ (y : Found). y.number) is_f) in
         let cells_are : cells_with (c ∷ cells) name (simple v) ≡ record c { cell = simple v } ∷ cells =
         ap (λ b. if b then record c { cell = simple v } ∷ cells else c ∷ cells_with cells name (simple v)) same in
-        let kind_is : s.kind ≡ Some k = ap (λ (y : Found). y.cell.kind) is_f ∙ kind in
+        let kind_is : s.wanted ≡ wants.value k = ap (λ (y : Found). y.cell.wanted) is_f ∙ kind in
         subst (λ (n : ℕ). CellsAre (s ∷ ss) (cells_with (c ∷ cells) name (simple v)) (slice_set (x ∷ words) n w)) (sym none_far)
         (subst (λ (cs : List NamedCell). CellsAre (s ∷ ss) cs (w ∷ words)) (sym cells_are)
-        (are.0, subst (λ (o : Option Kind). CellIs o (simple v) w) (sym kind_is) (fits, is), are.2))
+        (are.0, subst (λ (o : Wanted). CellIs o (simple v) w) (sym kind_is) (fits, is), are.2))
     by_name there rest false h same zero number =
         let later = there h in
         absurd (omega (arith, number, later.number))
@@ -141,12 +142,12 @@ ReferencesStay cells words cells' words' =
     (slice_get cells' k ≡ Some c) × (slice_get words' k ≡ Some word)
 
 -- a cell of a kind is none
-no_reference : (o : Option Kind) (k : Kind) (c : Cell) (w : Word) (r : Reference) → CellIs o c w → o ≡ Some k → c ≡ reference r → ⊥
-no_reference o k c w r is kind same = absurd (subst (λ (d : Cell). CellIs (Some k) d w) same (subst (λ (p : Option Kind). CellIs p c w) kind is))
+no_reference : (o : Wanted) (k : Kind) (c : Cell) (w : Word) (r : Reference) → CellIs o c w → o ≡ wants.value k → c ≡ reference r → ⊥
+no_reference o k c w r is kind same = absurd (subst (λ (d : Cell). CellIs (wants.value k) d w) same (subst (λ (p : Wanted). CellIs p c w) kind is))
 
 -- so references stay where a variable changes
 pub references_stored : (ss : List Simple) (cells : List NamedCell) (words : List Word) (from : ℕ) (name : List ℕ) (f : Found) (k : Kind) (v : Value) (w : Word) (far : ℕ) → CellsAre ss cells words →
-    found_from from ss name ≡ Some f → f.cell.kind ≡ Some k → f.number ≡ from + far → ReferencesStay cells words (cells_with cells name (simple v)) (slice_set words far w)
+    found_from from ss name ≡ Some f → f.cell.wanted ≡ wants.value k → f.number ≡ from + far → ReferencesStay cells words (cells_with cells name (simple v)) (slice_set words far w)
 references_stored [] cells words from name f k v w far are e kind number = cc
 references_stored (s ∷ ss) [] words from name f k v w far are e kind number = absurd are
 references_stored (s ∷ ss) (c ∷ cells) [] from name f k v w far are e kind number = absurd are
@@ -163,14 +164,14 @@ references_stored (s ∷ ss) (c ∷ cells) (x ∷ words) from name f k v w far a
         let none_far : far ≡ 0 = omega (arith, number, ap (λ (y : Found). y.number) is_f) in
         let cells_are : cells_with (c ∷ cells) name (simple v) ≡ record c { cell = simple v } ∷ cells =
         ap (λ b. if b then record c { cell = simple v } ∷ cells else c ∷ cells_with cells name (simple v)) same in
-        let kind_is : s.kind ≡ Some k = ap (λ (y : Found). y.cell.kind) is_f ∙ kind in
+        let kind_is : s.wanted ≡ wants.value k = ap (λ (y : Found). y.cell.wanted) is_f ∙ kind in
         subst (λ (n : ℕ). ReferencesStay (c ∷ cells) (x ∷ words) (cells_with (c ∷ cells) name (simple v)) (slice_set (x ∷ words) n w)) (sym none_far)
         (subst (λ (cs : List NamedCell). ReferencesStay (c ∷ cells) (x ∷ words) cs (w ∷ words)) (sym cells_are) (stay_behind kind_is))
       where
-        stay_behind : s.kind ≡ Some k → ReferencesStay (c ∷ cells) (x ∷ words) (record c { cell = simple v } ∷ cells) (w ∷ words)
+        stay_behind : s.wanted ≡ wants.value k → ReferencesStay (c ∷ cells) (x ∷ words) (record c { cell = simple v } ∷ cells) (w ∷ words)
         stay_behind kind_is zero d word r there lies is =
             let same : c ≡ d = some_same there in
-            absurd (no_reference s.kind k c.cell x r are.1 kind_is (ap (λ (y : NamedCell). y.cell) same ∙ is))
+            absurd (no_reference s.wanted k c.cell x r are.1 kind_is (ap (λ (y : NamedCell). y.cell) same ∙ is))
         stay_behind kind_is (suc m) d word r there lies is = (there, lies)
     by_name there rest false h same zero number =
         let later = there h in

@@ -13,7 +13,7 @@ use Rattle.algol_meaning.specs.Instances.{result_cells, initial_cells, variable_
 use Rattle.b67_word.specs.Word.{Word}
 use Rattle.b67_word.specs.Word as words
 use Rattle.b67_templates.specs.Fragments.{HasKind}
-use Rattle.b67_templates.specs.Cells.{Simple, of_kind, result_of, variables, zero_cells}
+use Rattle.b67_templates.specs.Cells.{Simple, of_kind, result_of, variables, zero_cells, value}
 use Rattle.b67_cores.specs.Slots.{ValueIs}
 use Rattle.b67_pictures.specs.Frames.{CellsAre}
 
@@ -64,7 +64,7 @@ cells_length (s ∷ ss) (c ∷ cells) (w ∷ ws) are = ap suc (cells_length ss c
 -- each of these cells has a kind
 abbrev pub HaveKinds : List Simple → Type 0
 HaveKinds [] = Unit {0}
-HaveKinds (s ∷ ss) = ((kind : Kind) × (s.kind ≡ Some kind)) × HaveKinds ss
+HaveKinds (s ∷ ss) = ((kind : Kind) × (s.wanted ≡ value kind)) × HaveKinds ss
 
 named_kinds : (kind : Kind) (ns : List Named) (ss : List Simple) → HaveKinds ss → HaveKinds (of_kind kind ns ++ ss)
 named_kinds kind [] ss have = have

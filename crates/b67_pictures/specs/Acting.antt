@@ -5,8 +5,8 @@ use Rattle.algol_tree.specs.Plain.{PProgram}
 use Rattle.algol_tree.specs.Scopes.{scopes_of}
 use Rattle.algol_meaning.specs.World.{World}
 use Rattle.algol_meaning.specs.Choice.{choice}
-use Rattle.b67_segment.specs.Operators.{Placed}
 use Rattle.b67_segment.specs.declared.code.Code.{Code}
+use Rattle.b67_templates.specs.Programs.{Texts}
 use Rattle.b67_store.specs.Store.{stack_limit}
 use Rattle.b67_table.specs.Outcome.{gives, faults, limit}
 use Rattle.b67_table.specs.Image.{Image}
@@ -16,7 +16,7 @@ use Rattle.b67_faithful.specs.Correspondence.{operator_action}
 use Rattle.b67_faithful.specs.Weight.{weight}
 use Rattle.b67_pictures.specs.Pictures.{Pictures}
 
-module _ (tree : PProgram) (code : Code) (texts : ℕ → List Placed) (w : World) (img : Image) (p : ℕ) where
+module _ (tree : PProgram) (code : Code) (texts : Texts) (w : World) (img : Image) (p : ℕ) where
   -- It is the source's action, and gives an image of the world after it, or keeps the source's fault. Or it comes to the stack limit,
   -- where the process weighs more than a stack has room for.
   pub data Does : Type 0 where

@@ -6,10 +6,10 @@ use Rattle.algol_tree.specs.declared.tree.Named.{Named}
 use Rattle.algol_tree.specs.Blocks.{block_numbered}
 use Rattle.algol_tree.specs.Scopes.{Scopes, use_of}
 use Rattle.algol_meaning.specs.declared.TheConstants.{MOST_ELEMENTS}
-use Rattle.algol_meaning.specs.Value.{Value, Reference, Bounds, ArrayCell, Cell, array}
+use Rattle.algol_meaning.specs.Value.{Value, Reference, Bounds, ArrayCell, Cell, array, reference}
 use Rattle.algol_meaning.specs.Arrays.{size_of, elements_of, size_of_cells, size_unless, live_elements}
 use Rattle.algol_meaning.specs.World.{NamedCell, Instance, Part, World, instance_at, ancestor, cell_in, followed}
-use Rattle.algol_paths.specs.Arrays.{DeclaredArray, Shape, shape_of, arrays_of, lows_of}
+use Rattle.algol_paths.specs.Arrays.{DeclaredArray, Made, an_array, an_event, Shape, shape_of, lows_of}
 use Rattle.b67_word.specs.declared.Place.{Place}
 use Rattle.b67_word.specs.Word.{Word}
 use Rattle.b67_control.specs.Control.{descriptor_word}
@@ -18,8 +18,9 @@ use Rattle.b67_store.specs.Store.{Rows, row_at, row_limit, counted_words}
 use Rattle.b67_table.specs.Arrays.{array_word}
 use Rattle.b67_table.specs.References.{cell_word}
 use Rattle.b67_templates.specs.Fragments.{HasKind}
-use Rattle.b67_templates.specs.Cells.{Agrees, simple_cells, procedures, array_from, IsDeclaredArray}
-use Rattle.b67_standing.specs.Stepping.{Held, row, element, cell_named, cell_of}
+use Rattle.b67_templates.specs.Cells as wants
+use Rattle.b67_templates.specs.Cells.{Agrees, simple_cells, made_of, made_from, made_base, IsDeclaredArray}
+use Rattle.b67_standing.specs.Stepping.{Held, row, element, cell_named, passed}
 use Rattle.b67_cores.specs.Slots.{Known, ValueIs}
 
 -- ---- layouts
@@ -75,10 +76,15 @@ pub record IsMade (declared : DeclaredArray) (c : NamedCell) (a : Allotted) (w :
   pub whole : length cell.elements ≡ elements_of cell.bounds
   pub descriptor : DescriptorIs cell.bounds a w
 
--- the arrays that an instance has made, in the order of their declarations
-abbrev pub AreMade : List DeclaredArray → List NamedCell → List Allotted → List Word → Type 0
+-- .. of what a declaration makes: an array
+abbrev pub IsMadeSo : Made → NamedCell → Allotted → Word → Type 0
+IsMadeSo (an_array declared) c a w = IsMade declared c a w
+IsMadeSo (an_event name) c a w = ⊥
+
+-- what an instance has made, in the order of the declarations
+abbrev pub AreMade : List Made → List NamedCell → List Allotted → List Word → Type 0
 AreMade [] [] [] [] = Unit {0}
-AreMade (d ∷ ds) (c ∷ cells) (a ∷ as') (w ∷ words) = IsMade d c a w × AreMade ds cells as' words
+AreMade (m ∷ ms) (c ∷ cells) (a ∷ as') (w ∷ words) = IsMadeSo m c a w × AreMade ms cells as' words
 AreMade _ _ _ _ = ⊥
 
 -- ---- elements
@@ -122,12 +128,12 @@ IsOwn [] i = ⊥
 IsOwn (part ∷ parts) i = (part.instance ≡ i) ⊎ IsOwn parts i
 
 module _ (sc : Scopes) (w : World) (lay : Layout) where
-  -- the instance stands, and has this array by this number among its declared ones
+  -- the instance stands, and has this array by this number among what its block declares
   pub record HasArray (i number : ℕ) (declared : DeclaredArray) (cell : ArrayCell) (a : Allotted) : Type 0 where
     pub instance : Instance
     pub is : numbered w.instances i ≡ Some instance
     pub stands : instance.left ≡ false
-    pub declares : slice_get (arrays_of (block_numbered sc.blocks instance.block).decls) number ≡ Some declared
+    pub declares : slice_get (made_of (block_numbered sc.blocks instance.block).decls) number ≡ Some (an_array declared)
     pub has :
         slice_get instance.cells (length (simple_cells sc (block_numbered sc.blocks instance.block)) + number)
         ≡ Some (record { name = declared.name; cell = array cell })
@@ -156,7 +162,7 @@ module _ (sc : Scopes) (w : World) (lay : Layout) where
   -- an instance's array by its name
   pub record IsArrayOf (i : ℕ) (name : List ℕ) (declared : DeclaredArray) (cell : ArrayCell) (a : Allotted) : Type 0 where
     pub number : ℕ
-    pub found : array_from 0 (arrays_of (block_numbered sc.blocks ((instance_at w i).block)).decls) name ≡ Some (record { number = number; array = declared })
+    pub found : made_from 0 (made_of (block_numbered sc.blocks ((instance_at w i).block)).decls) name ≡ Some (record { number = number; made = an_array declared })
     pub is : cell_in ((instance_at w i).cells) name ≡ array cell
     pub allotted : slice_get (lay.rows i) number ≡ Some a
 
@@ -188,9 +194,7 @@ module _ (sc : Scopes) (w : World) (lay : Layout) where
         word
         ≡ cell_word (record {
           frame = frame;
-          index =
-              2 + length (simple_cells sc (block_numbered sc.blocks ((instance_at w r.instance).block)))
-              + length (procedures ((block_numbered sc.blocks ((instance_at w r.instance).block)).decls)) + array.number;
+          index = made_base sc (block_numbered sc.blocks ((instance_at w r.instance).block)) + array.number;
         })
 
   -- what a name leads to from a part of instance i
@@ -248,7 +252,8 @@ module _ (sc : Scopes) (w : World) (lay : Layout) where
   HeldIs parts i (row n ks) word = IsRow parts i n ks word
   HeldIs parts i (element r ks kind) word = IsElement parts r ks kind word
   HeldIs parts i (cell_named n) word = IsNamed parts i n word
-  HeldIs parts i (cell_of shape r) word = LeadsTo parts shape r word
+  HeldIs parts i (passed (wants.array shape) (reference r)) word = LeadsTo parts shape r word
+  HeldIs parts i _ word = ⊥
 
   -- what is known of words on the stack is so
   abbrev pub AreKnown : List Part → ℕ → List Known → Type 0

@@ -11,7 +11,7 @@ use Rattle.algol_meaning.specs.World.{NamedCell, Instance, Part, World, instance
 use Rattle.algol_meaning.specs.Rest.{Answer}
 use Rattle.algol_meaning.specs.Asks.{nothing, ask, resume}
 use Rattle.algol_meaning.specs.Critical.{is_evaluation}
-use Rattle.algol_paths.specs.Arrays.{DeclaredArray, Shape, arrays_of, to_make}
+use Rattle.algol_paths.specs.Arrays.{Made, Shape, all_to_make}
 use Rattle.algol_paths.specs.Laws.{KeepsToText}
 use Rattle.algol_paths.specs.Segments.{segment_of}
 use Rattle.b67_word.specs.declared.Place.{Place}
@@ -25,10 +25,13 @@ use Rattle.b67_segment.specs.declared.code.Code.{Code}
 use Rattle.b67_table.specs.Chains.{place}
 use Rattle.b67_table.specs.Beginning.{base_mark}
 use Rattle.b67_table.specs.Linkage.{base_control, code_place}
-use Rattle.b67_templates.specs.Contexts.{Context}
+use Rattle.b67_templates.specs.Contexts as yielding
+use Rattle.b67_templates.specs.Contexts.{Yields, yields_of, Context}
 use Rattle.b67_templates.specs.Fragments.{HasKind}
-use Rattle.b67_templates.specs.Programs.{context_of}
-use Rattle.b67_templates.specs.Cells.{Simple, simple_cells, procedures, control_segments}
+use Rattle.b67_templates.specs.Programs.{Texts, context_of}
+use Rattle.b67_templates.specs.Cells as wants
+use Rattle.b67_templates.specs.Cells.{Simple, Wanted, simple_cells, procedures, made_of}
+use Rattle.b67_templates.specs.Code.{control_pcws}
 use Rattle.b67_standing.specs.Stepping.{Slot}
 use Rattle.b67_standing.specs.Standing.{Gives, pushed, StandsFor, ComesTo}
 use Rattle.b67_cores.specs.Cores.{Core}
@@ -39,17 +42,17 @@ use Rattle.b67_pictures.specs.Arrays.{Layout, IsOwn, AreMade, LeadsTo, AreKnown}
 
 -- ---- cells
 
--- the word of a cell: of a variable its value, which has the kind of its declaration; of a parameter that is an array a reference, which
--- describes no row
-abbrev pub CellIs : Option Kind → Cell → Word → Type 0
-CellIs (Some k) (simple v) w = HasKind k v × ValueIs v w
-CellIs None (reference r) w = as_descriptor w ≡ None
+-- the word of a cell of which that is wanted: of a variable its value, which has the kind of its declaration; of a parameter that is an array
+-- a reference, which describes no row
+abbrev pub CellIs : Wanted → Cell → Word → Type 0
+CellIs (wants.value k) (simple v) w = HasKind k v × ValueIs v w
+CellIs (wants.array shape) (reference r) w = as_descriptor w ≡ None
 CellIs _ _ w = ⊥
 
 -- the words of an instance's cells, in the order of its block
 abbrev pub CellsAre : List Simple → List NamedCell → List Word → Type 0
 CellsAre [] [] [] = Unit {0}
-CellsAre (s ∷ ss) (c ∷ cells) (w ∷ words) = (c.name ≡ s.name) × CellIs s.kind c.cell w × CellsAre ss cells words
+CellsAre (s ∷ ss) (c ∷ cells) (w ∷ words) = (c.name ≡ s.name) × CellIs s.wanted c.cell w × CellsAre ss cells words
 CellsAre _ _ _ = ⊥
 
 -- how many words may lie above the cells of a block's frame: four for each token of the segment, but for the control words among the cells
@@ -70,9 +73,9 @@ module _ (sc : Scopes) (w : World) (lay : Layout) where
   home_of zero = Some (place 0 0)
   home_of (suc i) = numbered lay.places (suc i)
 
-  -- the instance has made all arrays of its block
+  -- the instance has made all that its block declares
   abbrev pub IsComplete : ℕ → Type 0
-  IsComplete i = length ((instance_at w i).cells) ≡ length (simple_cells sc (block_at i)) + length (arrays_of (block_at i).decls)
+  IsComplete i = length ((instance_at w i).cells) ≡ length (simple_cells sc (block_at i)) + length (made_of (block_at i).decls)
 
   -- An instance of an outermost block has no parent. That of another block has one among those of these parts, of the block around it, and
   -- that has all its cells.
@@ -93,21 +96,21 @@ module _ (sc : Scopes) (w : World) (lay : Layout) where
     pub values : List Word
     pub simple_are : CellsAre (simple_cells sc (block_numbered sc.blocks instance.block)) simple values
     -- each parameter that is an array leads to one
-    pub formals : (k : ℕ) (s : Simple) (shape : Shape) → slice_get (simple_cells sc (block_numbered sc.blocks instance.block)) k ≡ Some s → s.kind ≡ None → s.shape ≡ Some shape →
+    pub formals : (k : ℕ) (s : Simple) (shape : Shape) → slice_get (simple_cells sc (block_numbered sc.blocks instance.block)) k ≡ Some s → s.wanted ≡ wants.array shape →
         (c : NamedCell) × (word : Word) × (r : Reference) × (slice_get simple k ≡ Some c) × (slice_get values k ≡ Some word) × (c.cell ≡ reference r)
         × LeadsTo sc w lay outer shape r word
     -- after them lie the control words of the block's procedures, and then the descriptors of the arrays that are made
     pub arrays : List NamedCell
-    pub declared : List DeclaredArray
-    pub later : List DeclaredArray
-    pub order : arrays_of (block_numbered sc.blocks instance.block).decls ≡ declared ++ later
+    pub declared : List Made
+    pub later : List Made
+    pub order : made_of (block_numbered sc.blocks instance.block).decls ≡ declared ++ later
     pub descriptors : List Word
     pub made : AreMade declared arrays (lay.rows i) descriptors
     pub has : instance.cells ≡ simple ++ arrays
     pub cells_is :
         cells
         ≡ values
-        ++ (control_words (level_of (block_numbered sc.blocks instance.block)) (control_segments sc (block_numbered sc.blocks instance.block).decls)
+        ++ (control_words (control_pcws sc (level_of (block_numbered sc.blocks instance.block)) (block_numbered sc.blocks instance.block).decls)
         ++ descriptors)
     pub placed : IsPlaced outer instance
     pub home : Place
@@ -118,7 +121,7 @@ module _ (sc : Scopes) (w : World) (lay : Layout) where
     pub control_is : as_rcw control ≡ Some back
     pub level_is : back.own_level ≡ level_of (block_numbered sc.blocks instance.block)
 
-module _ (tree : PProgram) (code : Code) (texts : ℕ → List Placed) (w : World) (lay : Layout) (p : ℕ) where
+module _ (tree : PProgram) (code : Code) (texts : Texts) (w : World) (lay : Layout) (p : ℕ) where
   -- the number of a part's block, the segment in which its text stands, and its level
   abbrev pub block_of : Part → ℕ
   block_of part = (instance_at w part.instance).block
@@ -127,17 +130,17 @@ module _ (tree : PProgram) (code : Code) (texts : ℕ → List Placed) (w : Worl
   segment_at part = segment_of (scopes_of tree).blocks (block_of part)
 
   abbrev pub text_of : Part → List Placed
-  text_of part = texts (segment_at part)
+  text_of part = texts.placed (segment_at part)
 
   abbrev pub context_at : Part → Context
-  context_at part = context_of code (scopes_of tree) (block_of part)
+  context_at part = context_of code texts (scopes_of tree) (block_of part)
 
-  -- how many words may lie above the cells of its frame, the kind of its result
+  -- how many words may lie above the cells of its frame, what it gives when it leaves
   abbrev pub most_of : Part → ℕ
   most_of part = most_around tree (block_of part)
 
-  abbrev pub result_of_part : Part → Option Kind
-  result_of_part part = (block_at (scopes_of tree) w lay part.instance).result
+  abbrev pub result_of_part : Part → Yields
+  result_of_part part = yields_of (block_at (scopes_of tree) w lay part.instance).result
 
   abbrev pub level_at : Part → ℕ
   level_at part = level_of (block_at (scopes_of tree) w lay part.instance)
@@ -154,7 +157,7 @@ module _ (tree : PProgram) (code : Code) (texts : ℕ → List Placed) (w : Worl
     pub framed : Framed (scopes_of tree) w lay p part.instance outer (length lower) mark control cells
     pub text : KeepsToText (scopes_of tree) (block_of part) part.rest
     -- what it has still to make is what its instance has not made
-    pub making : framed.later ≡ to_make part.rest
+    pub making : framed.later ≡ all_to_make part.rest
 
   -- The innermost part: the core is at the place, and has the words, where the machine stands for what the part has still to do.
   pub record Stands (part : Part) (outer : List Part) (core : Core) : Type 0 where
@@ -173,7 +176,7 @@ module _ (tree : PProgram) (code : Code) (texts : ℕ → List Placed) (w : Worl
 
   -- A part around, which waits for the one inside it. Once that has left with what is wanted of it, it goes on. The mark and the control word of the frame above lead back: the mark to the newest
   -- mark below, the control word to the place where it goes on.
-  pub record Waits (part : Part) (outer : List Part) (lower : List Word) (mark control : Word) (wanted : Option Kind) : Type 0 where
+  pub record Waits (part : Part) (outer : List Part) (lower : List Word) (mark control : Word) (wanted : Yields) : Type 0 where
     pub below : List Word
     pub words : List Word
     pub lower_is : lower ≡ below ++ reverse words
@@ -199,10 +202,10 @@ module _ (tree : PProgram) (code : Code) (texts : ℕ → List Placed) (w : Worl
     pub cells_are : back.caller_cells ≡ length frame.cells
     pub light : length below + most_of part + 3 ≤ parts_weight tree w (part ∷ outer)
 
-  -- The parts around, the innermost first, whose frames lie in these words, below a frame of this mark and this control word. A value of
-  -- that kind is wanted of the part of that frame, or none.
-  abbrev pub Around : List Part → List Word → Word → Word → Option Kind → Type 0
-  Around [] lower mark control wanted = (lower ≡ []) × (mark ≡ base_mark) × (control ≡ base_control OUTER_LEVEL) × (wanted ≡ None)
+  -- The parts around, the innermost first, whose frames lie in these words, below a frame of this mark and this control word, of whose part
+  -- that is wanted.
+  abbrev pub Around : List Part → List Word → Word → Word → Yields → Type 0
+  Around [] lower mark control wanted = (lower ≡ []) × (mark ≡ base_mark) × (control ≡ base_control OUTER_LEVEL) × (wanted ≡ yielding.nothing)
   Around (part ∷ outer) lower mark control wanted =
       (s : Waits part outer lower mark control wanted) × Around outer s.frame.lower s.frame.mark s.frame.control (result_of_part part)
 

@@ -4,8 +4,8 @@ use Rattle.b67_list.specs.Numbered.{numbered}
 use Rattle.algol_tree.specs.Plain.{PProgram}
 use Rattle.algol_tree.specs.Scopes.{scopes_of}
 use Rattle.algol_meaning.specs.World.{Part, Process, able, ended, WorldFault, World, instance_at}
-use Rattle.b67_segment.specs.Operators.{Placed}
 use Rattle.b67_segment.specs.declared.code.Code.{Code}
+use Rattle.b67_templates.specs.Programs.{Texts}
 use Rattle.b67_store.specs.Store.{stack_at, stack_limit}
 use Rattle.b67_control.specs.Display.{place_at}
 use Rattle.b67_table.specs.Beginning.{system_stack}
@@ -28,7 +28,7 @@ abbrev pub innermost_most : PProgram → World → List Part → ℕ
 innermost_most tree w [] = 0
 innermost_most tree w (part ∷ outer) = most_around tree ((instance_at w part.instance).block)
 
-module _ (tree : PProgram) (code : Code) (texts : ℕ → List Placed) (w : World) (lay : Layout) (img : Image) where
+module _ (tree : PProgram) (code : Code) (texts : Texts) (w : World) (lay : Layout) (img : Image) where
   -- A process that is able comes by private operators only to where its core stands for its parts. It depends on no instance, and has
   -- no task: that comes with PROCESS.
   pub record Living (p : ℕ) (q : Process) : Type 0 where
@@ -66,5 +66,5 @@ module _ (tree : PProgram) (code : Code) (texts : ℕ → List Placed) (w : Worl
     pub each : (p : ℕ) (q : Process) → numbered w.processes p ≡ Some q → Pictured p q
 
 -- an image pictures a world: for some layout of the frames of its instances
-abbrev pub Pictures : PProgram → Code → (ℕ → List Placed) → World → Image → Type 0
+abbrev pub Pictures : PProgram → Code → Texts → World → Image → Type 0
 Pictures tree code texts w img = (lay : Layout) × PicturesBy tree code texts w lay img

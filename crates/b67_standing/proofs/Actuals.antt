@@ -22,7 +22,7 @@ use Rattle.b67_templates.specs.Cells.{Wanted, parameter_wants, IsProcedure, decl
 use Rattle.b67_templates.specs.Code as code
 use Rattle.b67_templates.specs.Code.{ArrayActualAt, ActualsAt}
 use Rattle.b67_templates.specs.Depths.{line_depth}
-use Rattle.b67_standing.specs.Stepping.{Slot, operand, reference, mark, HasRoom, push_array, stuff, Leads, there, first}
+use Rattle.b67_standing.specs.Stepping.{Slot, operand, reference, mark, HasRoom, cell_named, of_array, push_array, stuff, Leads, there, first}
 use Rattle.b67_standing.specs.Standing.{operands, given_slot, given_slots, AreGiven, CallsAt, Fills, Shows}
 use Rattle.b67_standing.proofs.Leading.{on, valued_at}
 
@@ -96,15 +96,15 @@ module _ (sc : Scopes) (context : Context) (ps : List Placed) (level most : ℕ)
   -- what becomes of the actuals once these lie there
   abbrev pub ActualsOn : Named → ℕ → Couple → PExprs → List Sort → List Wanted → ℕ → List Slot → ℕ → Type 0
   ActualsOn n callee couple es sorts after m below next =
-      (gs : List Given) (before : List Wanted) → parameter_wants sc callee ≡ before ++ after → AreGiven sc level before gs → HasRoom most below (2 + length gs + line_depth es) →
+      (gs : List Given) (before : List Wanted) → parameter_wants sc callee ≡ before ++ after → AreGiven sc context.level before gs → HasRoom most below (2 + length gs + line_depth es) →
       ComesFilled n callee (settle_actuals sc es sorts gs) m (given_slots before gs (called_on couple below)) below next
 
   -- what is asked of an actual, and of those before and after it
   pub record ActualAt (n : Named) (callee : ℕ) (couple : Couple) (gs : List Given) (before : List Wanted) (wanted : Wanted) (after : List Wanted) (sorts : List Sort) (es : PExprs)
       (m filled next : ℕ) (below : List Slot) : Type 0 where
-    pub procedure : IsProcedure sc level n callee couple
+    pub procedure : IsProcedure sc context.level n callee couple
     pub wants_are : parameter_wants sc callee ≡ before ++ wanted ∷ after
-    pub fit : AreGiven sc level before gs
+    pub fit : AreGiven sc context.level before gs
     pub actuals : ActualsAt sc context ps level sorts after es m filled
     pub enter : Has ps level filled (ops.Plain kinds.Entr) next
     pub room : HasRoom most below (2 + length gs + 1 + line_depth es)
@@ -112,15 +112,15 @@ module _ (sc : Scopes) (context : Context) (ps : List Placed) (level most : ℕ)
   -- the actual is done, and those after it come
   pub actual_done : (n : Named) (callee : ℕ) (couple : Couple) (gs : List Given) (before : List Wanted) (wanted : Wanted) (after : List Wanted) (sorts : List Sort) (es : PExprs)
       (m filled next : ℕ) (below : List Slot) (g : Given) → ActualAt n callee couple gs before wanted after sorts es m filled next below →
-      AreGiven sc level (wanted ∷ []) (g ∷ []) → ActualsOn n callee couple es sorts after m below next →
+      AreGiven sc context.level (wanted ∷ []) (g ∷ []) → ActualsOn n callee couple es sorts after m below next →
       ComesFilled n callee (settle_actuals sc es sorts (gs ++ g ∷ [])) m (given_slot wanted g ∷ given_slots before gs (called_on couple below)) below next
   actual_done n callee couple gs before wanted after sorts es m filled next below g a fits c =
       let floor = called_on couple below in
       let hs = gs ++ g ∷ [] in
       let longer : length hs ≡ length gs + 1 = length-append gs (g ∷ []) in
       subst (λ o. ComesFilled n callee (settle_actuals sc es sorts hs) m o below next)
-      (given_slots-more before gs wanted g floor (given-length sc level before gs a.fit))
-      (c hs (before ++ wanted ∷ []) (a.wants_are ∙ sym (append_assoc before (wanted ∷ []) after)) (given-more sc level before gs wanted g a.fit fits) (omega (arith, a.room, longer)))
+      (given_slots-more before gs wanted g floor (given-length sc context.level before gs a.fit))
+      (c hs (before ++ wanted ∷ []) (a.wants_are ∙ sym (append_assoc before (wanted ∷ []) after)) (given-more sc context.level before gs wanted g a.fit fits) (omega (arith, a.room, longer)))
 
   -- an actual by value
   pub actual_stands : (n : Named) (callee : ℕ) (couple : Couple) (gs : List Given) (before : List Wanted) (kind : Kind) (after : List Wanted) (sorts : List Sort) (es : PExprs)
@@ -150,7 +150,7 @@ module _ (sc : Scopes) (context : Context) (ps : List Placed) (level most : ℕ)
       let settled : Sort → HalfGiven = λ s. alone_of (procedure_in s) (is_formal s) gs x sorts es (settle_actuals sc es sorts) in
       let pushes = push_array x (shape_of d) c (declared d refl i) name (omega (arith, a.room, given_slots-length before gs (called_on couple below))) in
       subst (λ s. ComesFilled n callee (settled s) f floor below next) (sym i.sort_is)
-      (after_filled n callee (settle_actuals sc es sorts (gs ++ refers x ∷ [])) below next (first pushes (first (stuff x d c i name stuffs) there))
+      (after_filled n callee (settle_actuals sc es sorts (gs ++ refers x ∷ [])) below next (first pushes (first (stuff (cell_named x) c (of_array x d c i) name stuffs) there))
       (actual_done n callee couple gs before (wants.array shape) after sorts es m filled next below (refers x) a ((d, c, i, agrees), tt) go))
   array_stands n callee couple gs before shape after sorts es f m filled next below x a (code.passes actual c q i agrees name loads) go =
       let floor = given_slots before gs (called_on couple below) in

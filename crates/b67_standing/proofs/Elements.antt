@@ -62,7 +62,7 @@ module _ (sc : Scopes) (context : Context) (ps : List Placed) (level most : ℕ)
 
   -- what is asked of an assignment to an element of this array, whose subscripts end at the place t
   pub record AimAt (n : Named) (a : Shape) (c : Couple) (kind : Kind) (e : PExpr) (k : List Item) (t : ℕ) : Type 0 where
-    pub is_array : IsArray sc level n a c
+    pub is_array : IsArray sc context.level n a c
     pub kind_is : a.kind ≡ kind
     pub m : ℕ
     pub q : ℕ

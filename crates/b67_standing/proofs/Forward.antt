@@ -49,7 +49,7 @@ module _ (sc : Scopes) (context : Context) (ps : List Placed) (level most : ℕ)
   step_forward (push_truth b h room) = forward ps level h
   step_forward (push_name n k h room) = forward ps level h.2
   step_forward (push_array n a c i h room) = forward ps level h
-  step_forward (stuff n d c i named h) = forward ps level h
+  step_forward (stuff held c i named h) = forward ps level h
   step_forward (move low i h w room on) = on
   step_forward (exchange v h s) = forward ps level s
   step_forward (calculate op v w x h i j e) = forward ps level h

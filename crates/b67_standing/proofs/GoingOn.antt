@@ -21,7 +21,7 @@ use Rattle.b67_ops.specs.declared.PlainKind.TheVariants as kinds
 use Rattle.b67_ops.specs.declared.BranchKind.TheVariants.{Brun}
 use Rattle.b67_ops.specs.declared.intrinsic.Intrinsic.TheVariants.{Select}
 use Rattle.b67_segment.specs.Operators.{Placed}
-use Rattle.b67_templates.specs.Contexts.{Context}
+use Rattle.b67_templates.specs.Contexts.{yields_of, Context}
 use Rattle.b67_templates.specs.Fragments.{Has, BranchAt, Goes, stop}
 use Rattle.b67_templates.specs.Code.{DroppedAt, StmtAt, CasesAt, any, stmts_count}
 use Rattle.b67_templates.specs.Depths.{stmt_depth, stmts_depth}
@@ -143,7 +143,7 @@ module _ (sc : Scopes) (context : Context) (ps : List Placed) (level most : ℕ)
   -- ---- parts inside
 
   -- after the entry a result is dropped, and what comes after goes on
-  dropped : (o : Option Kind) (a : Answer) (k : List Item) (next u at : ℕ) (left : List Slot) → DroppedAt sc context ps level o next u → Gives o a → at ≡ next → left ≡ pend k →
+  dropped : (o : Option Kind) (a : Answer) (k : List Item) (next u at : ℕ) (left : List Slot) → DroppedAt sc context ps level o next u → Gives (yields_of o) a → at ≡ next → left ≡ pend k →
       Following k u → Coming (settle_items sc k) at (pushed a left)
   dropped None rests.done k next u at left d fits e l follows = next_at sc context ps level most k (settle_items sc k) u at left (e ∙ d) l (items_at sc context ps level most k u follows)
   dropped (Some kind) (rests.value v) k next u at left d fits e l follows =

@@ -1,6 +1,6 @@
 -- The action at the head of an expression stands where the machine stands for it, and from where it leaves the machine the rest of the
 -- expression goes on. Where it entered a procedure, the rest goes on with the value that this gives. So it is with the actuals of a call.
-use Rattle.std.proofs.Common.{◌≡◌, refl, sym, ap, ◌∙◌, subst, ℕ, arith, List, [], ◌∷◌, ◌++◌, Option, Some}
+use Rattle.std.proofs.Common.{◌≡◌, refl, sym, ap, ◌∙◌, subst, ℕ, arith, List, [], ◌∷◌, ◌++◌}
 use Rattle.algol_tree.specs.declared.tree.Kind.{Kind}
 use Rattle.algol_tree.specs.declared.tree.Kind.TheVariants as types
 use Rattle.algol_tree.specs.declared.tree.Named.{Named}
@@ -19,7 +19,8 @@ use Rattle.algol_meaning.specs.Asks.{Ask, nothing, reads, reads_element, indexes
 use Rattle.b67_ops.specs.declared.Operator.TheVariants as ops
 use Rattle.b67_ops.specs.declared.PlainKind.TheVariants as kinds
 use Rattle.b67_segment.specs.Operators.{Placed}
-use Rattle.b67_templates.specs.Contexts.{Context}
+use Rattle.b67_templates.specs.Contexts as yielding
+use Rattle.b67_templates.specs.Contexts.{Yields, yields_of, Context}
 use Rattle.b67_templates.specs.Fragments.{HasKind, Has, Goes, stop, over}
 use Rattle.b67_templates.specs.Cells as wants
 use Rattle.b67_templates.specs.Code.{ReadAt}
@@ -78,9 +79,9 @@ pub record PutsOn (sc : Scopes) (context : Context) (ps : List Placed) (level mo
   pub action : ActionAt sc context ps level most q pc slots
   pub answered : (a : Answer) (at : ℕ) (after : List Slot) → Acted sc context ps level most q pc slots action a at after →
       Comes sc context ps level most k at after (put sc h a) below to
-  pub returns : (at : ℕ) (after : List Slot) (wanted : Option Kind) → Entered sc context ps level most q pc slots action at after wanted → (a : Answer) → Gives wanted a →
+  pub returns : (at : ℕ) (after : List Slot) (wanted : Yields) → Entered sc context ps level most q pc slots action at after wanted → (a : Answer) → Gives wanted a →
       Comes sc context ps level most k at (pushed a after) (put sc h a) below to
-  pub inside : (at : ℕ) (after : List Slot) (wanted : Option Kind) → Entered sc context ps level most q pc slots action at after wanted → Inside sc h
+  pub inside : (at : ℕ) (after : List Slot) (wanted : Yields) → Entered sc context ps level most q pc slots action at after wanted → Inside sc h
 
 -- the same of the actuals of a call
 pub record FillsOn (sc : Scopes) (context : Context) (ps : List Placed) (level most : ℕ) (q : Ask) (n : Named) (callee : ℕ) (x : Actuals) (pc : ℕ) (slots below : List Slot)
@@ -88,9 +89,9 @@ pub record FillsOn (sc : Scopes) (context : Context) (ps : List Placed) (level m
   pub action : ActionAt sc context ps level most q pc slots
   pub answered : (a : Answer) (at : ℕ) (after : List Slot) → Acted sc context ps level most q pc slots action a at after →
       ComesFilled sc context ps level most n callee (put_actuals sc x a) at after below next
-  pub returns : (at : ℕ) (after : List Slot) (wanted : Option Kind) → Entered sc context ps level most q pc slots action at after wanted → (a : Answer) → Gives wanted a →
+  pub returns : (at : ℕ) (after : List Slot) (wanted : Yields) → Entered sc context ps level most q pc slots action at after wanted → (a : Answer) → Gives wanted a →
       ComesFilled sc context ps level most n callee (put_actuals sc x a) at (pushed a after) below next
-  pub inside : (at : ℕ) (after : List Slot) (wanted : Option Kind) → Entered sc context ps level most q pc slots action at after wanted → InsideActuals sc x
+  pub inside : (at : ℕ) (after : List Slot) (wanted : Yields) → Entered sc context ps level most q pc slots action at after wanted → InsideActuals sc x
 
 module _ (sc : Scopes) (context : Context) (ps : List Placed) (level most : ℕ) where
   abbrev Putting : Kind → Hole → ℕ → List Slot → List Slot → ℕ → Type 0
@@ -159,7 +160,7 @@ module _ (sc : Scopes) (context : Context) (ps : List Placed) (level most : ℕ)
   no_answer fault pc slots h rests.entered at left l = l
 
   -- the value that a procedure gives lies where that of its call is to lie
-  given_back : (k : Kind) (next : ℕ) (below : List Slot) (to : ℕ) → Goes ps level next to → (a : Answer) (at : ℕ) (left : List Slot) → at ≡ next → left ≡ below → Gives (Some k) a →
+  given_back : (k : Kind) (next : ℕ) (below : List Slot) (to : ℕ) → Goes ps level next to → (a : Answer) (at : ℕ) (left : List Slot) → at ≡ next → left ≡ below → Gives (yielding.value k) a →
       Coming k at (pushed a left) (half_of a) below to
   given_back k next below to g (rests.value v) at left e l fits =
       here sc context ps level most k at (operand v ∷ left) (val v) below to (subst (λ z. Goes ps level z to) (sym e) g, ap (λ o. operand v ∷ o) l, fits)
@@ -204,7 +205,7 @@ module _ (sc : Scopes) (context : Context) (ps : List Placed) (level most : ℕ)
     puts_on k (rests.enter n gs) pc slots below to s = record {
       action = (s.0, s.1, below, s.2);
       answered = λ a at left l. absurd l;
-      returns = λ at left wanted l a fits. given_back k s.1 below to s.5 a at left l.0 l.1 (subst (λ o. Gives o a) (l.2 ∙ s.3) fits);
+      returns = λ at left wanted l a fits. given_back k s.1 below to s.5 a at left l.0 l.1 (subst (λ o. Gives o a) (l.2 ∙ ap yields_of s.3) fits);
       inside = λ at left wanted l. record { inner = refl; same = λ a. refl };
     }
     puts_on k (rests.element n ks v) pc slots below to s = record {

@@ -87,7 +87,7 @@ module _ (sc : Scopes) (context : Context) (ps : List Placed) (level most : ℕ)
 
   -- ---- assignments
 
-  pub assigned_stands : (n : Named) (kind : Kind) (couple : Couple) (x : Half) (pc : ℕ) (slots : List Slot) (k : List Item) (m next : ℕ) → IsVariable sc level n kind couple →
+  pub assigned_stands : (n : Named) (kind : Kind) (couple : Couple) (x : Half) (pc : ℕ) (slots : List Slot) (k : List Item) (m next : ℕ) → IsVariable sc context.level n kind couple →
       Showing kind x pc slots (reference couple ∷ pend k) m → Has ps level m (ops.Plain kinds.Stod) next → Following k next → Coming (assigned_of (own n) x k) pc slots
   assigned_stands n kind couple (val v) pc slots k m next i s h f =
       after_rest (value_at pc slots v (reference couple ∷ pend k) m s.0 s.1)

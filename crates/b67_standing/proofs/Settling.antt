@@ -52,7 +52,7 @@ module _ (sc : Scopes) (context : Context) (ps : List Placed) (level most : ℕ)
         record {
           couple = b.couple;
           procedure = b.procedure;
-          fit = subst (λ o. AreGiven sc level o []) (sym none) tt;
+          fit = subst (λ o. AreGiven sc context.level o []) (sym none) tt;
           lies = ap (λ o. given_slots o [] (reference b.couple ∷ mark ∷ below)) (sym none);
           stands = subst (λ z. Has ps level z (ops.Plain kinds.Entr) t) (sym c.3) c.4;
         },
@@ -114,7 +114,7 @@ module _ (sc : Scopes) (context : Context) (ps : List Placed) (level most : ℕ)
 
     -- the actuals come to lie there one after another
     pub actuals_at : (es : PExprs) (sorts : List Sort) (after : List Wanted) (n : Named) (callee : ℕ) (couple : Couple) (f filled next : ℕ) (below : List Slot) →
-        IsProcedure sc level n callee couple → ActualsAt sc context ps level sorts after es f filled → Has ps level filled (ops.Plain kinds.Entr) next →
+        IsProcedure sc context.level n callee couple → ActualsAt sc context ps level sorts after es f filled → Has ps level filled (ops.Plain kinds.Entr) next →
         ActualsOn sc context ps level most n callee couple es sorts after f below next
     actuals_at tree.none [] [] n callee couple f filled next below procedure l enter gs before wants_are fit room =
         let floor = called_on sc context ps level most couple below in
@@ -126,7 +126,7 @@ module _ (sc : Scopes) (context : Context) (ps : List Placed) (level most : ℕ)
           fills = record {
             couple = couple;
             procedure = procedure;
-            fit = subst (λ o. AreGiven sc level o gs) (sym all) fit;
+            fit = subst (λ o. AreGiven sc context.level o gs) (sym all) fit;
             lies = ap (λ o. given_slots o gs floor) (sym all);
             stands = subst (λ z. Has ps level z (ops.Plain kinds.Entr) next) (sym l) enter;
           };
@@ -154,9 +154,13 @@ module _ (sc : Scopes) (context : Context) (ps : List Placed) (level most : ℕ)
     actuals_at tree.none (sort ∷ sorts) [] n callee couple f filled next below procedure l enter gs before wants_are fit room = absurd l
     actuals_at tree.none (sort ∷ sorts) (wants.value kind ∷ later) n callee couple f filled next below procedure l enter gs before wants_are fit room = absurd l
     actuals_at tree.none (sort ∷ sorts) (wants.array shape ∷ later) n callee couple f filled next below procedure l enter gs before wants_are fit room = absurd l
+    actuals_at tree.none (sort ∷ sorts) (wants.by_name kind ∷ later) n callee couple f filled next below procedure l enter gs before wants_are fit room = absurd l
+    actuals_at tree.none (sort ∷ sorts) (wants.event ∷ later) n callee couple f filled next below procedure l enter gs before wants_are fit room = absurd l
     actuals_at tree.none (sort ∷ sorts) (wants.other ∷ later) n callee couple f filled next below procedure l enter gs before wants_are fit room = absurd l
     actuals_at (tree.more e es) [] [] n callee couple f filled next below procedure l enter gs before wants_are fit room = absurd l
     actuals_at (tree.more e es) [] (x ∷ later) n callee couple f filled next below procedure l enter gs before wants_are fit room = absurd l
     actuals_at (tree.more e es) (sort ∷ sorts) [] n callee couple f filled next below procedure l enter gs before wants_are fit room = absurd l
+    actuals_at (tree.more e es) (sort ∷ sorts) (wants.by_name kind ∷ later) n callee couple f filled next below procedure l enter gs before wants_are fit room = absurd l
+    actuals_at (tree.more e es) (sort ∷ sorts) (wants.event ∷ later) n callee couple f filled next below procedure l enter gs before wants_are fit room = absurd l
     actuals_at (tree.more e es) (sort ∷ sorts) (wants.other ∷ later) n callee couple f filled next below procedure l enter gs before wants_are fit room = absurd l
     actuals_at (tree.more _ es) (sort ∷ sorts) (wants.array shape ∷ later) n callee couple f filled next below procedure l enter gs before wants_are fit room = absurd l

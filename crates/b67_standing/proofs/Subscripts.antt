@@ -96,7 +96,7 @@ module _ (sc : Scopes) (context : Context) (ps : List Placed) (level most : ℕ)
     pub room : HasRoom most below 2
 
   pub last_moved : (v : Value) (pc : ℕ) (slots : List Slot) (n : Named) (a : Shape) (c : Couple) (lows : List ℤ) (ks : List ℕ) (below : List Slot) (to : ℕ) →
-      IsArray sc level n a c → InSubscript (val v) pc slots n c lows ks tree.none below to → LastMoved v pc slots n c lows ks below to
+      IsArray sc context.level n a c → InSubscript (val v) pc slots n c lows ks tree.none below to → LastMoved v pc slots n c lows ks below to
   last_moved v pc slots n a c (low ∷ []) [] below to i s = record {
     is = number_is v (s.2).2;
     whole = number_whole v (s.2).2;
@@ -134,7 +134,7 @@ module _ (sc : Scopes) (context : Context) (ps : List Placed) (level most : ℕ)
     pub room : HasRoom most below (5 + depth e)
 
   pub first_moved : (v : Value) (pc : ℕ) (slots : List Slot) (n : Named) (a : Shape) (c : Couple) (lows : List ℤ) (ks : List ℕ) (e : PExpr) (below : List Slot) (to : ℕ) →
-      IsArray sc level n a c → InSubscript (val v) pc slots n c lows ks (tree.more e tree.none) below to → FirstMoved v pc slots c lows ks e below to
+      IsArray sc context.level n a c → InSubscript (val v) pc slots n c lows ks (tree.more e tree.none) below to → FirstMoved v pc slots c lows ks e below to
   first_moved v pc slots n a c (low ∷ low' ∷ []) [] e below to i s = record {
     is = number_is v (s.4).2;
     whole = number_whole v (s.4).2;
@@ -176,7 +176,7 @@ module _ (sc : Scopes) (context : Context) (ps : List Placed) (level most : ℕ)
 
   -- an element in an expression, from where a subscript stands
   pub subscript_at : (k : Kind) (n : Named) (a : Shape) (c : Couple) (x : Half) (pc : ℕ) (slots : List Slot) (ks : List ℕ) (es : PExprs) (below : List Slot) (t next to : ℕ) →
-      IsArray sc level n a c → a.kind ≡ k → InSubscript x pc slots n c a.lows ks es below t → Has ps level t (ops.Plain kinds.Nxlv) next → Goes ps level next to →
+      IsArray sc context.level n a c → a.kind ≡ k → InSubscript x pc slots n c a.lows ks es below t → Has ps level t (ops.Plain kinds.Nxlv) next → Goes ps level next to →
       Coming k pc slots (subscripted_of n ks x es) below to
   subscript_at k n a c (busy h) pc slots ks es below t next to i same s read g =
       here sc context ps level most k pc slots (busy (rests.subscript n ks h es)) below to (a, c, t, next, i, same, s, read, g)

@@ -1,12 +1,13 @@
 -- The laws of where the machine stands: for every list of operators, every level and every number of words that there may be.
-use Rattle.std.specs.Prelude.{◌≡◌, ℕ, ◌+◌, ◌<◌, ◌≤◌, List, [], ◌++◌, length, None}
-use Rattle.algol_tree.specs.Blocks.{Block, block_numbered}
+use Rattle.std.specs.Prelude.{◌≡◌, ℕ, ◌+◌, ◌<◌, ◌≤◌, List, [], ◌++◌, length}
+use Rattle.algol_tree.specs.Blocks.{Block}
 use Rattle.algol_tree.specs.Scopes.{Scopes}
 use Rattle.algol_meaning.specs.Rest.{Item, Rest, Answer}
 use Rattle.algol_tree.specs.Plain.{PDecls, PStmts}
 use Rattle.algol_meaning.specs.Statements.{settle_items, items, decls_items, items_of}
 use Rattle.algol_meaning.specs.Asks.{Ask, nothing, ask}
 use Rattle.b67_segment.specs.Operators.{Placed}
+use Rattle.b67_templates.specs.Contexts as yielding
 use Rattle.b67_templates.specs.Contexts.{Context}
 use Rattle.b67_ops.specs.declared.Operator.TheVariants as ops
 use Rattle.b67_ops.specs.declared.PlainKind.TheVariants as kinds
@@ -32,7 +33,7 @@ BlocksStart =
 abbrev pub InnerBlocksStart : Type 0
 InnerBlocksStart =
     (sc : Scopes) (context : Context) (ps : List Placed) (level most : ℕ) (ds : PDecls) (ss : PStmts) (pc from end over : ℕ) →
-    DeclsAt sc context ps level ds pc from → StmtsAt sc context ps level ss from end end → (block_numbered sc.blocks context.block).result ≡ None →
+    DeclsAt sc context ps level ds pc from → StmtsAt sc context ps level ss from end end → context.yields ≡ yielding.nothing →
     Has ps level end (ops.Plain kinds.Exit) over → decls_depth ds + stmts_depth ss ≤ most →
     ComesTo sc context ps level most (settle_items sc (decls_items ds ++ items ss [])) pc []
 

@@ -1,5 +1,5 @@
 -- Where the machine stands for what a part has still to do: the place of the code, and what lies above the floor there.
-use Rattle.std.specs.Prelude.{◌≡◌, ℕ, ◌+◌, ◌*◌, ◌<◌, ◌≤◌, ℤ, pos, List, [], ◌∷◌, ◌++◌, length, Option, Some, None, Err}
+use Rattle.std.specs.Prelude.{◌≡◌, ℕ, ◌+◌, ◌*◌, ◌<◌, ◌≤◌, ℤ, pos, List, [], ◌∷◌, ◌++◌, length, Some, Err}
 use Rattle.algol_tree.specs.declared.tree.Op.{Op}
 use Rattle.algol_tree.specs.declared.tree.Kind.{Kind}
 use Rattle.algol_tree.specs.declared.tree.Kind.TheVariants as types
@@ -26,13 +26,14 @@ use Rattle.b67_ops.specs.declared.PlainKind.TheVariants as kinds
 use Rattle.b67_ops.specs.declared.BranchKind.TheVariants.{Brfl, Brtr, Brun}
 use Rattle.b67_ops.specs.declared.intrinsic.Intrinsic.TheVariants.{Write, Select, Arrays}
 use Rattle.b67_segment.specs.Operators.{Placed}
-use Rattle.b67_templates.specs.Contexts.{Context}
+use Rattle.b67_templates.specs.Contexts as yielding
+use Rattle.b67_templates.specs.Contexts.{Yields, yields_of, Context}
 use Rattle.b67_templates.specs.Fragments.{IsWhole, HasKind, Has, moved, MovedAt, ReadyAt, BranchAt, TurnAt, Goes, code_at, operator_for, is_implication}
 use Rattle.b67_templates.specs.Cells as wants
 use Rattle.b67_templates.specs.Cells.{Wanted, parameter_wants, Agrees, procedures, IsVariable, IsProcedure, IsDeclaredArray, IsFormalArray, IsArray}
 use Rattle.b67_templates.specs.Code.{FormatIs, DroppedAt, ResultAt, AreDimensions, HasNoCounts, in_block, ReadAt, ExprAt, SecondAt, ActualsAt, BoundsAt, LineAt, TableAt, PastAt, StepAt, StmtAt, CasesAt, InnerAt, ThruAt, KAt, exprs_count, stmts_count}
 use Rattle.b67_templates.specs.Depths.{depth, line_depth, bounds_depth, decls_depth, loop_depth, stmt_depth, stmts_depth, AreShallow}
-use Rattle.b67_standing.specs.Stepping.{row, element as element_held, cell_named, cell_of, Slot, operand, reference, intrinsic, control, descriptor, mark, ready, HasRoom, Leads}
+use Rattle.b67_standing.specs.Stepping.{row, element as element_held, cell_named, passed as passed_held, Slot, operand, reference, intrinsic, control, descriptor, mark, ready, HasRoom, Leads}
 
 -- the counts that lie there while these items wait
 abbrev pub pend : List Item → List Slot
@@ -59,7 +60,7 @@ AreNumbers (v ∷ vs) = HasKind types.Number v × AreNumbers vs
 abbrev pub given_slot : Wanted → Given → Slot
 given_slot wanted (valued v) = operand v
 given_slot wanted (refers n) = descriptor (cell_named n)
-given_slot (wants.array shape) (passed (cells.reference r)) = descriptor (cell_of shape r)
+given_slot (wants.array shape) (passed (cells.reference r)) = descriptor (passed_held (wants.array shape) (cells.reference r))
 given_slot _ _ = mark
 
 -- those of these actuals, the last on top
@@ -67,10 +68,10 @@ abbrev pub given_slots : List Wanted → List Given → List Slot → List Slot
 given_slots (w ∷ wanted) (g ∷ gs) below = given_slots wanted gs (given_slot w g ∷ below)
 given_slots _ _ below = below
 
--- a part that leaves gives a value of the kind that is wanted of it, or nothing
-abbrev pub Gives : Option Kind → Answer → Type 0
-Gives None done = Unit {0}
-Gives (Some kind) (value v) = HasKind kind v
+-- a part that leaves gives what is wanted of it: a value of that kind, or nothing
+abbrev pub Gives : Yields → Answer → Type 0
+Gives yielding.nothing done = Unit {0}
+Gives (yielding.value kind) (value v) = HasKind kind v
 Gives _ _ = ⊥
 
 -- the value lies on top
@@ -129,7 +130,7 @@ module _ (sc : Scopes) (context : Context) (ps : List Placed) (level most : ℕ)
   pub record StoreAt (n : Named) (v : Value) (pc next : ℕ) (slots below : List Slot) : Type 0 where
     pub kind : Kind
     pub couple : Couple
-    pub variable : IsVariable sc level n kind couple
+    pub variable : IsVariable sc context.level n kind couple
     pub fits : HasKind kind v
     pub lies : slots ≡ operand v ∷ reference couple ∷ below
     pub stands : Has ps level pc (ops.Plain kinds.Stod) next
@@ -172,8 +173,8 @@ module _ (sc : Scopes) (context : Context) (ps : List Placed) (level most : ℕ)
   -- the actuals lie on the reference of a procedure's control word, and that on a mark
   pub record CallsAt (n : Named) (gs : List Given) (callee pc next : ℕ) (slots below : List Slot) : Type 0 where
     pub couple : Couple
-    pub procedure : IsProcedure sc level n callee couple
-    pub fit : AreGiven sc level (parameter_wants sc callee) gs
+    pub procedure : IsProcedure sc context.level n callee couple
+    pub fit : AreGiven sc context.level (parameter_wants sc callee) gs
     pub lies : slots ≡ given_slots (parameter_wants sc callee) gs (reference couple ∷ mark ∷ below)
     pub stands : Has ps level pc (ops.Plain kinds.Entr) next
 
@@ -181,7 +182,7 @@ module _ (sc : Scopes) (context : Context) (ps : List Placed) (level most : ℕ)
   pub record PassesAt (n : Named) (shape : Shape) (pc next : ℕ) (slots below : List Slot) : Type 0 where
     pub actual : Shape
     pub couple : Couple
-    pub is_formal : IsFormalArray sc level n actual couple
+    pub is_formal : IsFormalArray sc context.level n actual couple
     pub agrees : Agrees shape actual
     pub lies : slots ≡ reference couple ∷ below
     pub stands : Has ps level pc (ops.Plain kinds.Lodt) next
@@ -193,7 +194,7 @@ module _ (sc : Scopes) (context : Context) (ps : List Placed) (level most : ℕ)
     pub array : Shape
     pub couple : Couple
     pub subscript : ℤ
-    pub is_array : IsArray sc level n array couple
+    pub is_array : IsArray sc context.level n array couple
     pub is : v ≡ number subscript
     pub whole : IsWhole subscript
     pub lies : IsLast n couple array.lows ks subscript slots below
@@ -204,7 +205,7 @@ module _ (sc : Scopes) (context : Context) (ps : List Placed) (level most : ℕ)
     pub array : Shape
     pub couple : Couple
     pub subscript : ℤ
-    pub is_array : IsArray sc level n array couple
+    pub is_array : IsArray sc context.level n array couple
     pub kind_is : array.kind ≡ kind
     pub is : v ≡ number subscript
     pub whole : IsWhole subscript
@@ -216,7 +217,7 @@ module _ (sc : Scopes) (context : Context) (ps : List Placed) (level most : ℕ)
     pub array : Shape
     pub couple : Couple
     pub subscript : ℤ
-    pub is_array : IsArray sc level n array couple
+    pub is_array : IsArray sc context.level n array couple
     pub lows_are : array.lows ≡ low ∷ second ∷ []
     pub first : ks ≡ []
     pub is : v ≡ number subscript
@@ -275,7 +276,7 @@ module _ (sc : Scopes) (context : Context) (ps : List Placed) (level most : ℕ)
         (low : ℤ) × (second : ℤ) × (q : ℕ) × (t : ℕ) × (next : ℕ) × (r : RowIndexAt n ks v low second pc q slots below) × (r.array.kind ≡ k)
         × SecondAt sc context ps level second e q t × Has ps level t (ops.Plain kinds.Nxlv) next × HasRoom most below (5 + depth e) × Goes ps level next to
     Holds k (subscript n ks h es) pc slots below to =
-        (a : Shape) × (c : Couple) × (t : ℕ) × (next : ℕ) × IsArray sc level n a c × (a.kind ≡ k)
+        (a : Shape) × (c : Couple) × (t : ℕ) × (next : ℕ) × IsArray sc context.level n a c × (a.kind ≡ k)
         × Seeks (λ over m. Holds types.Number h pc slots over m) n c a.lows ks es below t × Has ps level t (ops.Plain kinds.Nxlv) next × Goes ps level next to
     Holds k (argument n x) pc slots below to =
         (callee : ℕ) × (filled : ℕ) × (next : ℕ) × ((block_numbered sc.blocks callee).result ≡ Some k) × Fills n callee x pc slots below filled
@@ -286,13 +287,13 @@ module _ (sc : Scopes) (context : Context) (ps : List Placed) (level most : ℕ)
     pub Fills : Named → ℕ → Actuals → ℕ → List Slot → List Slot → ℕ → Type 0
     Fills n callee (in_value gs h sorts es) pc slots below filled =
         (couple : Couple) × (before : List Wanted) × (kind : Kind) × (after : List Wanted) × (m : ℕ)
-        × IsProcedure sc level n callee couple × (parameter_wants sc callee ≡ before ++ wants.value kind ∷ after) × AreGiven sc level before gs
+        × IsProcedure sc context.level n callee couple × (parameter_wants sc callee ≡ before ++ wants.value kind ∷ after) × AreGiven sc context.level before gs
         × Holds kind h pc slots (given_slots before gs (reference couple ∷ mark ∷ below)) m × ActualsAt sc context ps level sorts after es m filled
         × HasRoom most below (2 + length gs + 1 + line_depth es)
     -- the head is the passing of a parameter that stands for an array
     Fills n callee (pass gs p sorts es) pc slots below filled =
         (couple : Couple) × (before : List Wanted) × (shape : Shape) × (after : List Wanted) × (m : ℕ)
-        × IsProcedure sc level n callee couple × (parameter_wants sc callee ≡ before ++ wants.array shape ∷ after) × AreGiven sc level before gs
+        × IsProcedure sc context.level n callee couple × (parameter_wants sc callee ≡ before ++ wants.array shape ∷ after) × AreGiven sc context.level before gs
         × PassesAt p shape pc m slots (given_slots before gs (reference couple ∷ mark ∷ below)) × ActualsAt sc context ps level sorts after es m filled
         × HasRoom most below (2 + length gs + 1 + line_depth es)
 
@@ -308,7 +309,7 @@ module _ (sc : Scopes) (context : Context) (ps : List Placed) (level most : ℕ)
       (low : ℤ) × (second : ℤ) × (q : ℕ) × (t : ℕ) × (r : RowIndexAt n ks v low second pc q slots below) × (r.array.kind ≡ k) × SecondAt sc context ps level second e q t
       × Has ps level t (ops.Plain kinds.Indx) to × HasRoom most below (5 + depth e)
   Aims k (place_subscript n ks h es) pc slots below to =
-      (a : Shape) × (c : Couple) × (t : ℕ) × IsArray sc level n a c × (a.kind ≡ k)
+      (a : Shape) × (c : Couple) × (t : ℕ) × IsArray sc context.level n a c × (a.kind ≡ k)
       × Seeks (λ over m. Holds types.Number h pc slots over m) n c a.lows ks es below t × Has ps level t (ops.Plain kinds.Indx) to
   Aims k _ pc slots below to = ⊥
 
@@ -349,7 +350,7 @@ module _ (sc : Scopes) (context : Context) (ps : List Placed) (level most : ℕ)
   -- Here the machine stands for what a part has still to do, up to its head. What comes after the head stands where the code leads.
   abbrev pub StandsFor : Rest → ℕ → List Slot → Type 0
   StandsFor over pc slots =
-      (next : ℕ) × ((block_numbered sc.blocks context.block).result ≡ None) × Has ps level pc (ops.Plain kinds.Exit) next × (slots ≡ [])
+      (next : ℕ) × (context.yields ≡ yielding.nothing) × Has ps level pc (ops.Plain kinds.Exit) next × (slots ≡ [])
   StandsFor (store (own n) v k) pc slots = (next : ℕ) × StoreAt n v pc next slots (pend k) × Follows k next
   StandsFor (select v ss k) pc slots =
       (table : ℕ) × (u : ℕ) × SelectAt v ss pc table slots (pend k) × CasesAt sc context ps level ss table u × Follows k u × HasRoom most (pend k) (stmts_depth ss)
@@ -380,10 +381,10 @@ module _ (sc : Scopes) (context : Context) (ps : List Placed) (level most : ℕ)
   -- the result of the procedure is read, and given back
   StandsFor (reading name) pc slots = ResultAt sc context ps level name pc × (slots ≡ []) × (1 ≤ most)
   StandsFor (giving v) pc slots =
-      (kind : Kind) × (over : ℕ) × ((block_numbered sc.blocks context.block).result ≡ Some kind) × HasKind kind v × Has ps level pc (ops.Plain kinds.Retn) over
+      (kind : Kind) × (over : ℕ) × (context.yields ≡ yielding.value kind) × HasKind kind v × Has ps level pc (ops.Plain kinds.Retn) over
       × (slots ≡ operand v ∷ [])
   StandsFor (storing (own n) h k) pc slots =
-      (kind : Kind) × (c : Couple) × (m : ℕ) × (next : ℕ) × IsVariable sc level n kind c × Holds kind h pc slots (reference c ∷ pend k) m
+      (kind : Kind) × (c : Couple) × (m : ℕ) × (next : ℕ) × IsVariable sc context.level n kind c × Holds kind h pc slots (reference c ∷ pend k) m
       × Has ps level m (ops.Plain kinds.Stod) next × Follows k next
   StandsFor (choosing h x y k) pc slots =
       (m : ℕ) × (m' : ℕ) × (n : ℕ) × (f : ℕ) × (t : ℕ) × (u : ℕ) × Holds types.Truth h pc slots (pend k) m × BranchAt ps level Brfl m f m'
@@ -441,9 +442,9 @@ module _ (sc : Scopes) (context : Context) (ps : List Placed) (level most : ℕ)
   ActionAt (fails fault) pc slots =
       (op : Op) × (v : Value) × (w : Value) × (next : ℕ) × (below : List Slot) × BreaksAt op v w fault pc next slots below
   ActionAt (leaves done) pc slots =
-      (next : ℕ) × ((block_numbered sc.blocks context.block).result ≡ None) × Has ps level pc (ops.Plain kinds.Exit) next × (slots ≡ [])
+      (next : ℕ) × (context.yields ≡ yielding.nothing) × Has ps level pc (ops.Plain kinds.Exit) next × (slots ≡ [])
   ActionAt (leaves (value v)) pc slots =
-      (kind : Kind) × (over : ℕ) × ((block_numbered sc.blocks context.block).result ≡ Some kind) × HasKind kind v × Has ps level pc (ops.Plain kinds.Retn) over
+      (kind : Kind) × (over : ℕ) × (context.yields ≡ yielding.value kind) × HasKind kind v × Has ps level pc (ops.Plain kinds.Retn) over
       × (slots ≡ operand v ∷ [])
   ActionAt (reads_result name) pc slots = ResultAt sc context ps level name pc × (slots ≡ []) × (1 ≤ most)
   ActionAt (enters n gs) pc slots = (callee : ℕ) × (next : ℕ) × (below : List Slot) × CallsAt n gs callee pc next slots below
@@ -471,15 +472,15 @@ module _ (sc : Scopes) (context : Context) (ps : List Placed) (level most : ℕ)
       (at ≡ next) × (after ≡ descriptor (element_held r more kind) ∷ below) × IsNext ks more
   Acted (stores (element_of r ks) v) pc slots a done at after = (at ≡ a.0) × (after ≡ a.1)
   Acted (makes_arrays kind ns pairs vs) pc slots a done at after = (at ≡ a.0) × (after ≡ [])
-  Acted (passes n) pc slots a (cell (cells.reference r)) at after = (at ≡ a.1) × (after ≡ descriptor (cell_of a.0 r) ∷ a.2)
+  Acted (passes n) pc slots a (cell (cells.reference r)) at after = (at ≡ a.1) × (after ≡ descriptor (passed_held (wants.array a.0) (cells.reference r)) ∷ a.2)
   Acted turns pc slots a done at after = (at ≡ a.0) × (after ≡ slots)
   Acted (writes phrases vs) pc slots a done at after = (at ≡ a.0) × (after ≡ a.1)
   Acted _ pc slots a _ at after = ⊥
 
-  -- where the machine goes on after the entry of a part inside, what lies there, and the kind of the value that is wanted of it
-  abbrev pub Entered : (q : Ask) (pc : ℕ) (slots : List Slot) → ActionAt q pc slots → ℕ → List Slot → Option Kind → Type 0
-  Entered (enters_block (tree.body spot ds ss)) pc slots a at after wanted = (at ≡ a.0) × (after ≡ a.1) × (wanted ≡ None)
-  Entered (enters n gs) pc slots a at after wanted = (at ≡ a.1) × (after ≡ a.2) × (wanted ≡ (block_numbered sc.blocks a.0).result)
+  -- where the machine goes on after the entry of a part inside, what lies there, and what is wanted of it
+  abbrev pub Entered : (q : Ask) (pc : ℕ) (slots : List Slot) → ActionAt q pc slots → ℕ → List Slot → Yields → Type 0
+  Entered (enters_block (tree.body spot ds ss)) pc slots a at after wanted = (at ≡ a.0) × (after ≡ a.1) × (wanted ≡ yielding.nothing)
+  Entered (enters n gs) pc slots a at after wanted = (at ≡ a.1) × (after ≡ a.2) × (wanted ≡ yields_of (block_numbered sc.blocks a.0).result)
   Entered _ pc slots a at after wanted = ⊥
 
   -- The head's action stands at this place. Whatever it answers, the machine then comes to where it stands for what is left. Where a part
@@ -487,6 +488,6 @@ module _ (sc : Scopes) (context : Context) (ps : List Placed) (level most : ℕ)
   pub record GoesOn (r : Rest) (pc : ℕ) (slots : List Slot) : Type 0 where
     pub action : ActionAt (ask r) pc slots
     pub answered : (a : Answer) (at : ℕ) (after : List Slot) → Acted (ask r) pc slots action a at after → ComesTo (resume sc r a) at after
-    pub waits : (at : ℕ) (after : List Slot) (wanted : Option Kind) → Entered (ask r) pc slots action at after wanted → ask (resume sc r entered) ≡ nothing
-    pub returns : (at : ℕ) (after : List Slot) (wanted : Option Kind) → Entered (ask r) pc slots action at after wanted → (a : Answer) → Gives wanted a →
+    pub waits : (at : ℕ) (after : List Slot) (wanted : Yields) → Entered (ask r) pc slots action at after wanted → ask (resume sc r entered) ≡ nothing
+    pub returns : (at : ℕ) (after : List Slot) (wanted : Yields) → Entered (ask r) pc slots action at after wanted → (a : Answer) → Gives wanted a →
         ComesTo (resume sc (resume sc r entered) a) at (pushed a after)

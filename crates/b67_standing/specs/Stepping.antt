@@ -6,7 +6,7 @@ use Rattle.algol_tree.specs.declared.tree.Named.{Named}
 use Rattle.algol_tree.specs.Types.{taken_by}
 use Rattle.algol_tree.specs.Scopes.{Scopes}
 use Rattle.b67_num.specs.Whole.{negation_of}
-use Rattle.algol_meaning.specs.Value.{Value, number, truth, truth_of, Reference}
+use Rattle.algol_meaning.specs.Value.{Value, number, truth, truth_of, Reference, Cell}
 use Rattle.algol_paths.specs.Arrays.{DeclaredArray, Shape}
 use Rattle.algol_meaning.specs.Operators.{result_of}
 use Rattle.algol_meaning.specs.Statements.{is_past}
@@ -19,16 +19,17 @@ use Rattle.b67_ops.specs.declared.intrinsic.Intrinsic.{Intrinsic}
 use Rattle.b67_segment.specs.Operators.{Placed}
 use Rattle.b67_templates.specs.Contexts.{Context}
 use Rattle.b67_templates.specs.Fragments.{IsWhole, HasKind, Has, NumberAt, moved, MovedAt, BranchAt, IntrinsicAt, EntryAt, code_at, operator_for, is_implication, truth_literal}
-use Rattle.b67_templates.specs.Cells.{IsDeclaredArray, IsArray}
+use Rattle.b67_templates.specs.Cells.{Wanted, IsDeclaredArray, IsArray}
 use Rattle.b67_templates.specs.Code.{ReferenceAt, BegunAt, CountAt, PastAt, StepSign, SignedAt}
 
--- what a word on the stack is that leads to an array: the descriptor of the row that has these subscripts, of the array that a name means
--- here, or of an element of this kind; or the reference to the cell of the array that a name means here, or to that cell, an array of that shape
+-- What a word on the stack stands for, where that is known of the world: the copy of a row's descriptor, of the array that a name means
+-- here; that of an element of this kind; the reference to the cell that a name means here, as STFF makes it; what the cell of a parameter of
+-- which that is wanted has, as LODT copies it.
 pub data Held : Type 0 where
   row : Named → List ℕ → Held
   element : Reference → List ℕ → Kind → Held
   cell_named : Named → Held
-  cell_of : Shape → Reference → Held
+  passed : Wanted → Cell → Held
 
 -- a word above the floor
 pub data Slot : Type 0 where
@@ -38,6 +39,10 @@ pub data Slot : Type 0 where
   control : Pcw → Slot  -- of code that is entered
   descriptor : Held → Slot  -- a descriptor, or a reference that is read alike everywhere
   mark : Slot  -- one that is not entered
+
+-- At the text of this context the couple is that of a cell to which STFF makes a reference that is read alike everywhere, which stands for this.
+pub data Stuffable (sc : Scopes) (context : Context) : Held → Couple → Type 0 where
+  of_array : (n : Named) (d : DeclaredArray) (c : Couple) → IsDeclaredArray sc context.level n d c → Stuffable sc context (cell_named n) c
 
 -- the first operand of an operator as its code has it: of an implication it is inverted
 abbrev pub ready : Op → Value → Value
@@ -53,11 +58,11 @@ module _ (sc : Scopes) (context : Context) (ps : List Placed) (level most : ℕ)
     push_number : {pc next : ℕ} {below : List Slot} (z : ℤ) → NumberAt ps level z pc next → HasRoom most below 1 → Step pc below next (operand (number z) ∷ below)
     push_truth : {pc next : ℕ} {below : List Slot} (b : Bool) → Has ps level pc (ops.Plain (truth_literal b)) next → HasRoom most below 1 → Step pc below next (operand (truth b) ∷ below)
     push_name : {pc next : ℕ} {below : List Slot} (n : Named) (k : Kind) → (r : ReferenceAt sc context ps level n k pc next) → HasRoom most below 1 → Step pc below next (reference r.0 ∷ below)
-    push_array : {pc next : ℕ} {below : List Slot} (n : Named) (a : Shape) (c : Couple) → IsArray sc level n a c → Has ps level pc (ops.Namc c) next → HasRoom most below 1 →
+    push_array : {pc next : ℕ} {below : List Slot} (n : Named) (a : Shape) (c : Couple) → IsArray sc context.level n a c → Has ps level pc (ops.Namc c) next → HasRoom most below 1 →
         Step pc below next (reference c ∷ below)
-    -- that of a declared array, which NAMC before it pushed, becomes one that is read alike everywhere
-    stuff : {from pc next : ℕ} {below : List Slot} (n : Named) (d : DeclaredArray) (c : Couple) → IsDeclaredArray sc level n d c → Has ps level from (ops.Namc c) pc →
-        Has ps level pc (ops.Plain kinds.Stff) next → Step pc (reference c ∷ below) next (descriptor (cell_named n) ∷ below)
+    -- one that NAMC before it pushed becomes one that is read alike everywhere
+    stuff : {from pc next : ℕ} {below : List Slot} (held : Held) (c : Couple) → Stuffable sc context held c → Has ps level from (ops.Namc c) pc →
+        Has ps level pc (ops.Plain kinds.Stff) next → Step pc (reference c ∷ below) next (descriptor held ∷ below)
     -- a subscript is moved by a lower bound, which takes code where that is not 0
     move : {pc next : ℕ} {below : List Slot} (low i : ℤ) → MovedAt ps level low pc next → IsWhole i → HasRoom most below 4 → pc < next →
         Step pc (operand (number i) ∷ below) next (operand (number (moved low i)) ∷ below)

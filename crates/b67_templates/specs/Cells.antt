@@ -1,31 +1,38 @@
 -- Where the cells of a block lie in its frame, and which of them a name means.
-use Rattle.std.specs.Prelude.{◌≡◌, ℕ, ◌+◌, ◌≤◌, if◌then◌else◌, true, List, [], ◌∷◌, ◌++◌, map, length, Option, Some, None, slice_get}
+use Rattle.std.specs.Prelude.{◌≡◌, ℕ, ◌+◌, ◌≤◌, if◌then◌else◌, Bool, true, false, is_some, List, [], ◌∷◌, ◌++◌, map, length, Option, Some, None, slice_get}
 use Rattle.algol_tree.specs.declared.token.Spot.{Spot}
 use Rattle.algol_tree.specs.declared.tree.Heading.{Heading}
 use Rattle.algol_tree.specs.declared.tree.Kind.{Kind}
 use Rattle.algol_tree.specs.declared.tree.Named.{Named}
 use Rattle.algol_tree.specs.Plain as tree
-use Rattle.algol_tree.specs.Plain.{PDecls}
+use Rattle.algol_tree.specs.Plain.{PExpr, PExprs, PPair, PStmt, PStmts, PDecls}
 use Rattle.algol_tree.specs.Classes as class
 use Rattle.algol_tree.specs.Classes.{Class}
 use Rattle.algol_tree.specs.Sorts as sort
-use Rattle.algol_tree.specs.Sorts.{same_name, is_variable, procedure, class_in}
+use Rattle.algol_tree.specs.Sorts.{same_name, is_variable, is_named_in, procedure, procedure_in, class_in}
 use Rattle.algol_tree.specs.Blocks.{Block, block_numbered, number_at, same_spot}
 use Rattle.algol_tree.specs.Scopes.{Scopes, use_of}
+use Rattle.algol_meaning.specs.Settle.{block_of}
 use Rattle.algol_paths.specs.Segments.{segment_of}
-use Rattle.algol_paths.specs.Arrays.{DeclaredArray, Shape, shape_of, shape_in, arrays_of}
+use Rattle.algol_paths.specs.Arrays.{DeclaredArray, Shape, shape_of, shape_in, Made, an_array, an_event, made_in}
 use Rattle.b67_ops.specs.declared.Couple.{Couple}
 use Rattle.b67_ops.specs.declared.TheConstants.{OUTER_LEVEL}
 
--- a cell that needs no action: its name, and the kind of its values where it has one by its declaration; of a parameter that is an array
--- its shape
+-- what is wanted of a cell or of an actual: a value of a kind, a name of that kind, an array of a shape, an event
+pub data Wanted : Type 0 where
+  value : Kind → Wanted
+  by_name : Kind → Wanted
+  array : Shape → Wanted
+  event : Wanted
+  other : Wanted
+
+-- a cell that needs no action: its name, and what it holds
 pub record Simple : Type 0 where
   pub name : List ℕ
-  pub kind : Option Kind
-  pub shape : Option Shape
+  pub wanted : Wanted
 
 abbrev pub of_kind : Kind → List Named → List Simple
-of_kind kind ns = map (λ (n : Named). record { name = n.name; kind = Some kind; shape = None }) ns
+of_kind kind ns = map (λ (n : Named). record { name = n.name; wanted = value kind }) ns
 
 abbrev pub variables : PDecls → List Simple
 variables tree.no_decls = []
@@ -34,18 +41,22 @@ variables (tree.decls d ds) = variables ds
 
 abbrev pub result_of : Option Kind → List ℕ → List Simple
 result_of None name = []
-result_of (Some kind) name = record { name = name; kind = Some kind; shape = None } ∷ []
+result_of (Some kind) name = record { name = name; wanted = value kind } ∷ []
 
 -- ---- parameters
 
--- the kind of the values of what is declared so
-abbrev pub kind_of : Class → Option Kind
-kind_of (class.simple kind) = Some kind
-kind_of _ = None
+-- what a parameter of this class is given, by value or not
+abbrev pub wanted_for : Class → Bool → Option Shape → Wanted
+wanted_for (class.simple kind) true shape = value kind
+wanted_for (class.simple kind) false shape = by_name kind
+wanted_for class.event by_value shape = event
+wanted_for _ by_value (Some shape) = array shape
+wanted_for _ by_value None = other
 
 -- the cells of a heading's parameters
 abbrev pub parameters_in : Heading → List Simple
-parameters_in h = map (λ (n : Named). record { name = n.name; kind = kind_of (class_in h.specs n.name); shape = shape_in h.specs n.name }) h.params
+parameters_in h =
+    map (λ (n : Named). record { name = n.name; wanted = wanted_for (class_in h.specs n.name) (is_named_in h.values n.name) (shape_in h.specs n.name) }) h.params
 
 -- .. of the heading whose name stands there
 abbrev pub parameters_declared : PDecls → Spot → List Simple
@@ -62,20 +73,9 @@ parameters_around blocks (outer ∷ outers) spot = parameters_declared ((block_n
 abbrev pub parameter_cells : Scopes → Block → List Simple
 parameter_cells sc b = parameters_around sc.blocks b.outer b.spot
 
--- what is wanted of an actual: a value of a kind, or an array of a shape
-pub data Wanted : Type 0 where
-  value : Kind → Wanted
-  array : Shape → Wanted
-  other : Wanted
-
-abbrev pub wanted_by : Option Kind → Option Shape → Wanted
-wanted_by (Some kind) shape = value kind
-wanted_by None (Some shape) = array shape
-wanted_by None None = other
-
--- .. for the parameters of the procedure whose block has this number
+-- what is wanted for the parameters of the procedure whose block has this number
 abbrev pub parameter_wants : Scopes → ℕ → List Wanted
-parameter_wants sc callee = map (λ (c : Simple). wanted_by c.kind c.shape) (parameter_cells sc (block_numbered sc.blocks callee))
+parameter_wants sc callee = map (λ (c : Simple). c.wanted) (parameter_cells sc (block_numbered sc.blocks callee))
 
 -- an array for a parameter of that shape has its kind of elements, and as many dimensions
 abbrev pub Agrees : Shape → Shape → Type 0
@@ -106,16 +106,115 @@ procedures (tree.decls d ds) = procedures ds
 abbrev pub control_segments : Scopes → PDecls → List ℕ
 control_segments sc ds = map (λ (n : Named). segment_of sc.blocks (number_at sc.blocks n.spot)) (procedures ds)
 
--- ---- arrays
+-- ---- what actions make
 
-pub record FoundArray : Type 0 where
+abbrev pub made_name : Made → List ℕ
+made_name (an_array a) = a.name
+made_name (an_event name) = name
+
+abbrev pub events_in : List Named → List Made
+events_in ns = map (λ (n : Named). an_event n.name) ns
+
+-- what declarations make by actions, in their order: arrays, events, and the events of tasks
+abbrev pub made_of : PDecls → List Made
+made_of tree.no_decls = []
+made_of (tree.decls (tree.arrays kind ns pairs) ds) = made_in kind ns pairs ++ made_of ds
+made_of (tree.decls (tree.events ns) ds) = events_in ns ++ made_of ds
+made_of (tree.decls (tree.tasks ns) ds) = events_in ns ++ made_of ds
+made_of (tree.decls d ds) = made_of ds
+
+pub record FoundMade : Type 0 where
   pub number : ℕ
-  pub array : DeclaredArray
+  pub made : Made
 
--- the first array of that name
-abbrev pub array_from : ℕ → List DeclaredArray → List ℕ → Option FoundArray
-array_from k [] name = None
-array_from k (a ∷ rest) name = if same_name a.name name then Some (record { number = k; array = a }) else array_from (k + 1) rest name
+-- the first of that name
+abbrev pub made_from : ℕ → List Made → List ℕ → Option FoundMade
+made_from k [] name = None
+made_from k (m ∷ rest) name = if same_name (made_name m) name then Some (record { number = k; made = m }) else made_from (k + 1) rest name
+
+-- where what actions make lies in the frame of a block: after its simple cells and the control words
+abbrev pub made_base : Scopes → Block → ℕ
+made_base sc b = 2 + length (simple_cells sc b) + length (procedures b.decls)
+
+-- ---- actuals that have a cell
+
+-- an actual whose code is evaluated at each use of the parameter, and the kind that it has
+pub record Actual : Type 0 where
+  pub expr : PExpr
+  pub kind : Kind
+
+module _ (sc : Scopes) where
+  -- The name of a simple variable or of a simple parameter stands for itself; anything else that is given for a name has a cell.
+  abbrev pub own_actual : Wanted → PExpr → List Actual
+  own_actual (by_name k) (tree.variable (tree.subscripted n tree.none)) = if is_some (procedure_in ((use_of sc n).sort)) then record { expr = tree.variable (tree.subscripted n tree.none); kind = k } ∷ [] else []
+  own_actual (by_name k) e = record { expr = e; kind = k } ∷ []
+  own_actual _ e = []
+
+  abbrev pub wants_of : Named → List Wanted
+  wants_of n = parameter_wants sc (block_of ((use_of sc n).sort))
+
+  abbrev mutual
+    pub actuals_in : PExpr → List Actual
+    actuals_in (tree.variable (tree.subscripted n es)) = actuals_among es
+    actuals_in (tree.call (tree.called n es)) = actuals_given (wants_of n) es
+    actuals_in (tree.paren e spot) = actuals_in e
+    actuals_in (tree.plus e spot) = actuals_in e
+    actuals_in (tree.neg e spot) = actuals_in e
+    actuals_in (tree.not e spot) = actuals_in e
+    actuals_in (tree.two op x y) = actuals_in x ++ actuals_in y
+    actuals_in (tree.if c x y spot) = actuals_in c ++ actuals_in x ++ actuals_in y
+    actuals_in _ = []
+
+    -- of subscripts, and of items
+    pub actuals_among : PExprs → List Actual
+    actuals_among tree.none = []
+    actuals_among (tree.more e es) = actuals_in e ++ actuals_among es
+
+    -- of a call: each comes before those within it
+    pub actuals_given : List Wanted → PExprs → List Actual
+    actuals_given wanted tree.none = []
+    actuals_given [] (tree.more e es) = actuals_in e ++ actuals_given [] es
+    actuals_given (w ∷ wanted) (tree.more e es) = own_actual w e ++ actuals_in e ++ actuals_given wanted es
+
+  abbrev pub actuals_in_pairs : List PPair → List Actual
+  actuals_in_pairs [] = []
+  actuals_in_pairs (p ∷ pairs) = actuals_in p.high ++ actuals_in_pairs pairs
+
+  abbrev pub actuals_in_decls : PDecls → List Actual
+  actuals_in_decls tree.no_decls = []
+  actuals_in_decls (tree.decls (tree.arrays kind ns pairs) ds) = actuals_in_pairs pairs ++ actuals_in_decls ds
+  actuals_in_decls (tree.decls d ds) = actuals_in_decls ds
+
+  -- what stands in an inner block is that block's
+  abbrev mutual
+    pub actuals_in_stmt : PStmt → List Actual
+    actuals_in_stmt (tree.label n s) = actuals_in_stmt s
+    actuals_in_stmt (tree.assign (tree.subscripted n es) e) = actuals_among es ++ actuals_in e
+    actuals_in_stmt (tree.call_of (tree.called n es)) = actuals_given (wants_of n) es
+    actuals_in_stmt (tree.block (tree.body spot tree.no_decls ss)) = actuals_in_stmts ss
+    actuals_in_stmt (tree.if_then c x) = actuals_in c ++ actuals_in_stmt x
+    actuals_in_stmt (tree.if_else c x y) = actuals_in c ++ actuals_in_stmt x ++ actuals_in_stmt y
+    actuals_in_stmt (tree.while c b) = actuals_in c ++ actuals_in_stmt b
+    actuals_in_stmt (tree.until b c) = actuals_in_stmt b ++ actuals_in c
+    actuals_in_stmt (tree.for v a s l b) = actuals_in a ++ actuals_in s ++ actuals_in l ++ actuals_in_stmt b
+    actuals_in_stmt (tree.thru e b) = actuals_in e ++ actuals_in_stmt b
+    actuals_in_stmt (tree.case e ss) = actuals_in e ++ actuals_in_stmts ss
+    actuals_in_stmt (tree.process (tree.called n es) task) = actuals_given (wants_of n) es
+    actuals_in_stmt (tree.write n spot phrases es) = actuals_among es
+    actuals_in_stmt _ = []
+
+    pub actuals_in_stmts : PStmts → List Actual
+    actuals_in_stmts tree.no_stmts = []
+    actuals_in_stmts (tree.stmts s ss) = actuals_in_stmt s ++ actuals_in_stmts ss
+
+  -- those of a block, in the order of the text
+  abbrev pub actuals_of : Block → List Actual
+  actuals_of b = actuals_in_decls b.decls ++ actuals_in_stmts b.stmts
+
+-- only a subscripted actual has a place
+abbrev pub has_place : PExpr → Bool
+has_place (tree.variable (tree.subscripted n (tree.more e es))) = true
+has_place _ = false
 
 -- the cells of 0 that a block begins with: its result and its simple variables
 abbrev pub zero_cells : Block → List Simple
@@ -138,32 +237,31 @@ pub record IsVariable (sc : Scopes) (level : ℕ) (n : Named) (kind : Kind) (cou
   pub variable : is_variable ((use_of sc n).sort) ≡ true
   pub found : Found
   pub there : found_from 0 (simple_cells sc (block_numbered sc.blocks ((use_of sc n).block))) n.name ≡ Some found
-  pub kind_is : found.cell.kind ≡ Some kind
+  pub wanted_is : found.cell.wanted ≡ value kind
   pub level_is : couple.level + (use_of sc n).up ≡ level
   pub index_is : couple.index ≡ 2 + found.number
 
--- At this level the name is that of an array that a block declares, and this is the couple of its descriptor. The cell lies after the
--- control words of the block, which has no simple cell of that name.
-pub record IsDeclaredArray (sc : Scopes) (level : ℕ) (n : Named) (declared : DeclaredArray) (couple : Couple) : Type 0 where
-  pub sort_is : (use_of sc n).sort ≡ sort.array
+-- At this level the name is that of what an action of its block makes, and this is the couple of its cell. No simple cell of the block has
+-- that name.
+pub record IsMadeThere (sc : Scopes) (level : ℕ) (n : Named) (made : Made) (couple : Couple) : Type 0 where
   pub number : ℕ
-  pub there :
-      array_from 0 (arrays_of ((block_numbered sc.blocks ((use_of sc n).block)).decls)) n.name ≡ Some (record { number = number; array = declared })
+  pub there : made_from 0 (made_of ((block_numbered sc.blocks ((use_of sc n).block)).decls)) n.name ≡ Some (record { number = number; made = made })
   pub apart : found_from 0 (simple_cells sc (block_numbered sc.blocks ((use_of sc n).block))) n.name ≡ None
   pub outer : OUTER_LEVEL ≤ couple.level
   pub level_is : couple.level + (use_of sc n).up ≡ level
-  pub index_is :
-      couple.index
-      ≡ 2 + length (simple_cells sc (block_numbered sc.blocks ((use_of sc n).block)))
-      + length (procedures ((block_numbered sc.blocks ((use_of sc n).block)).decls)) + number
+  pub index_is : couple.index ≡ made_base sc (block_numbered sc.blocks ((use_of sc n).block)) + number
+
+-- .. of an array that a block declares, and this is the couple of its descriptor
+pub record IsDeclaredArray (sc : Scopes) (level : ℕ) (n : Named) (declared : DeclaredArray) (couple : Couple) : Type 0 where
+  pub sort_is : (use_of sc n).sort ≡ sort.array
+  pub made : IsMadeThere sc level n (an_array declared) couple
 
 -- .. of a parameter that stands for an array, and this is the couple of its cell, which has a reference to the array's.
 pub record IsFormalArray (sc : Scopes) (level : ℕ) (n : Named) (shape : Shape) (couple : Couple) : Type 0 where
   pub sort_is : (use_of sc n).sort ≡ sort.formal_array shape.lows
   pub found : Found
   pub there : found_from 0 (simple_cells sc (block_numbered sc.blocks ((use_of sc n).block))) n.name ≡ Some found
-  pub kind_is : found.cell.kind ≡ None
-  pub shape_is : found.cell.shape ≡ Some shape
+  pub wanted_is : found.cell.wanted ≡ array shape
   pub level_is : couple.level + (use_of sc n).up ≡ level
   pub index_is : couple.index ≡ 2 + found.number
 

@@ -17,6 +17,7 @@ use Rattle.algol_tree.specs.Scopes.{Scopes}
 use Rattle.algol_meaning.specs.Rest.{Loop, Item, run, turn, count, check, test, result, make_arrays, make_event}
 use Rattle.algol_meaning.specs.Settle.{sorts_of}
 use Rattle.algol_meaning.specs.Statements.{difference_in, stepped, alone}
+use Rattle.b67_control.specs.declared.Pcw.{Pcw}
 use Rattle.b67_ops.specs.declared.Couple.{Couple}
 use Rattle.b67_ops.specs.declared.Operator.TheVariants as ops
 use Rattle.b67_ops.specs.declared.PlainKind.TheVariants as kinds
@@ -25,8 +26,8 @@ use Rattle.b67_ops.specs.declared.intrinsic.Intrinsic.TheVariants.{Write, Select
 use Rattle.b67_segment.specs.Operators.{Placed}
 use Rattle.b67_segment.specs.declared.code.Phrase.{Phrase}
 use Rattle.b67_segment.specs.declared.code.Phrase.TheVariants as parts
-use Rattle.b67_templates.specs.Contexts.{Context}
-use Rattle.b67_templates.specs.Fragments.{Has, AllAt, ControlsAt, NumberAt, MovedAt, ReadyAt, BranchAt, TurnAt, Goes, IntrinsicAt, EntryAt, operator_for, is_implication, truth_literal}
+use Rattle.b67_templates.specs.Contexts.{nothing, value, Context}
+use Rattle.b67_templates.specs.Fragments.{Has, AllAt, ControlsAt, NumberAt, MovedAt, ReadyAt, BranchAt, TurnAt, Goes, IntrinsicAt, EntryAt, operator_for, is_implication, truth_literal, procedure_controls}
 use Rattle.algol_paths.specs.Arrays.{DeclaredArray, Shape, shape_of}
 use Rattle.b67_templates.specs.Cells as wants
 use Rattle.b67_templates.specs.Cells.{parameter_cells, Wanted, Agrees, parameter_wants, variables, control_segments, IsVariable, IsProcedure, IsDeclaredArray, IsFormalArray, IsArray}
@@ -94,17 +95,17 @@ module _ (sc : Scopes) (context : Context) (ps : List Placed) (level : ℕ) wher
     pub numbers : numbers_in list ≡ items
 
   abbrev pub ReadAt : Named → Kind → ℕ → ℕ → Type 0
-  ReadAt n kind from to = (c : Couple) × IsVariable sc level n kind c × Has ps level from (ops.Valc c) to
+  ReadAt n kind from to = (c : Couple) × IsVariable sc context.level n kind c × Has ps level from (ops.Valc c) to
 
   abbrev pub ReferenceAt : Named → Kind → ℕ → ℕ → Type 0
-  ReferenceAt n kind from to = (c : Couple) × IsVariable sc level n kind c × Has ps level from (ops.Namc c) to
+  ReferenceAt n kind from to = (c : Couple) × IsVariable sc context.level n kind c × Has ps level from (ops.Namc c) to
 
   -- ---- calls
 
   -- a mark, the reference of the procedure's control word
   pub record BegunAt (n : Named) (callee f t : ℕ) : Type 0 where
     pub couple : Couple
-    pub procedure : IsProcedure sc level n callee couple
+    pub procedure : IsProcedure sc context.level n callee couple
     pub marked : ℕ
     pub mark : Has ps level f (ops.Plain kinds.Mkst) marked
     pub reference : Has ps level marked (ops.Namc couple) t
@@ -120,9 +121,9 @@ module _ (sc : Scopes) (context : Context) (ps : List Placed) (level : ℕ) wher
   -- The actual of an array parameter: of a declared array the reference to its cell, wherever it is read; of an array parameter the
   -- reference that its cell has.
   pub data ArrayActualAt (shape : Shape) (n : Named) (f t : ℕ) : Type 0 where
-    refers : (d : DeclaredArray) (c : Couple) (m : ℕ) → IsDeclaredArray sc level n d c → Agrees shape (shape_of d) → Has ps level f (ops.Namc c) m → Has ps level m (ops.Plain kinds.Stff) t →
+    refers : (d : DeclaredArray) (c : Couple) (m : ℕ) → IsDeclaredArray sc context.level n d c → Agrees shape (shape_of d) → Has ps level f (ops.Namc c) m → Has ps level m (ops.Plain kinds.Stff) t →
         ArrayActualAt shape n f t
-    passes : (a : Shape) (c : Couple) (m : ℕ) → IsFormalArray sc level n a c → Agrees shape a → Has ps level f (ops.Namc c) m → Has ps level m (ops.Plain kinds.Lodt) t →
+    passes : (a : Shape) (c : Couple) (m : ℕ) → IsFormalArray sc context.level n a c → Agrees shape a → Has ps level f (ops.Namc c) m → Has ps level m (ops.Plain kinds.Lodt) t →
         ArrayActualAt shape n f t
 
   -- a name by itself in an expression: a variable is read, a typed procedure is called
@@ -153,7 +154,7 @@ module _ (sc : Scopes) (context : Context) (ps : List Placed) (level : ℕ) wher
         (m : ℕ) × (m' : ℕ) × (n : ℕ) × (n' : ℕ) × ExprAt types.Truth c f m m × BranchAt ps level Brfl m n' m' × ExprAt k x m' n u × BranchAt ps level Brun n u n'
         × ExprAt k y n' t u
     ExprAt k (tree.variable (tree.subscripted n (tree.more e es))) f t u =
-        (a : Shape) × (c : Couple) × (m : ℕ) × IsArray sc level n a c × (a.kind ≡ k) × SubscriptsAt c a.lows (tree.more e es) f m
+        (a : Shape) × (c : Couple) × (m : ℕ) × IsArray sc context.level n a c × (a.kind ≡ k) × SubscriptsAt c a.lows (tree.more e es) f m
         × Has ps level m (ops.Plain kinds.Nxlv) t
     ExprAt k (tree.call (tree.called n es)) f t u =
         (callee : ℕ) × CallAt n callee (ActualsAt (sorts_of ((block_numbered sc.blocks callee).parameters)) (parameter_wants sc callee) es) f t × ((block_numbered sc.blocks callee).result ≡ Some k)
@@ -197,7 +198,7 @@ module _ (sc : Scopes) (context : Context) (ps : List Placed) (level : ℕ) wher
   -- the descriptor of the element, the value, the store
   abbrev pub ElementAssignAt : Named → PExprs → PExpr → ℕ → ℕ → Type 0
   ElementAssignAt n es e f t =
-      (a : Shape) × (c : Couple) × (m : ℕ) × (q : ℕ) × (r : ℕ) × IsArray sc level n a c × SubscriptsAt c a.lows es f m
+      (a : Shape) × (c : Couple) × (m : ℕ) × (q : ℕ) × (r : ℕ) × IsArray sc context.level n a c × SubscriptsAt c a.lows es f m
       × Has ps level m (ops.Plain kinds.Indx) q × ExprAt a.kind e q r r × Has ps level r (ops.Plain kinds.Stod) t
 
   -- lower bounds as they stand, and the values of upper bounds
@@ -287,15 +288,15 @@ module _ (sc : Scopes) (context : Context) (ps : List Placed) (level : ℕ) wher
   MadeAt zero f t = f ≡ t
   MadeAt (suc n) f t = Has ps level f (ops.Plain kinds.Push) t
 
-  -- a zero for each of so many, a control word for each of these segments, and their making into cells
-  abbrev pub CellsAt : ℕ → List ℕ → ℕ → ℕ → Type 0
-  CellsAt many segments f t =
-      (m : ℕ) × (n : ℕ) × AllAt ps level (replicate many kinds.Zero) f m × ControlsAt ps level segments m n × MadeAt (many + length segments) n t
+  -- a zero for each of so many, these control words, and their making into cells
+  abbrev pub CellsAt : ℕ → List Pcw → ℕ → ℕ → Type 0
+  CellsAt many controls f t =
+      (m : ℕ) × (n : ℕ) × AllAt ps level (replicate many kinds.Zero) f m × ControlsAt ps level controls m n × MadeAt (many + length controls) n t
 
   -- the result of a procedure of that name is read, and given back
   pub record ResultAt (name : List ℕ) (f : ℕ) : Type 0 where
     pub kind : Kind
-    pub is : (block_numbered sc.blocks context.block).result ≡ Some kind
+    pub is : context.yields ≡ value kind
     pub named : (block_numbered sc.blocks context.block).name ≡ name
     pub couple : Couple
     pub level_is : couple.level ≡ level
@@ -305,9 +306,13 @@ module _ (sc : Scopes) (context : Context) (ps : List Placed) (level : ℕ) wher
     pub read : Has ps level f (ops.Valc couple) valued
     pub back : Has ps level valued (ops.Plain kinds.Retn) over
 
--- the context of a block of this number in the same segment
+-- the context of a block of this number within another one, in the same segment
 abbrev pub in_block : ℕ → Context → Context
-in_block block context = record context { block = block }
+in_block block context = record context { block = block; level = context.level + 1; yields = nothing }
+
+-- the control words with which a block of this level and these declarations begins
+abbrev pub control_pcws : Scopes → ℕ → PDecls → List Pcw
+control_pcws sc level ds = procedure_controls level (control_segments sc ds)
 
 module _ (sc : Scopes) where
   abbrev mutual
@@ -321,7 +326,7 @@ module _ (sc : Scopes) where
     StmtAt context ps level (tree.block (tree.body spot (tree.decls d ds) ss)) f t u =
         (o : ℕ) × (at : ℕ) × Goes ps level f o
         × ((b : ℕ) × (d' : ℕ) × (e : ℕ) × (v : ℕ)
-        × CellsAt sc (in_block (number_at sc.blocks spot) context) ps (level + 1) (length (variables (tree.decls d ds))) (control_segments sc (tree.decls d ds)) at b
+        × CellsAt sc (in_block (number_at sc.blocks spot) context) ps (level + 1) (length (variables (tree.decls d ds))) (control_pcws sc (level + 1) (tree.decls d ds)) at b
         × DeclsAt sc (in_block (number_at sc.blocks spot) context) ps (level + 1) (tree.decls d ds) b d'
         × StmtsAt (in_block (number_at sc.blocks spot) context) ps (level + 1) ss d' e e
         × Has ps (level + 1) e (ops.Plain kinds.Exit) v)
@@ -359,7 +364,7 @@ module _ (sc : Scopes) where
   -- the cells of an inner block, its arrays, its statements, EXIT; the context is that of the block
   abbrev pub InnerAt : Context → List Placed → ℕ → PDecls → PStmts → ℕ → Type 0
   InnerAt context ps level ds ss at =
-      (b : ℕ) × (d : ℕ) × (e : ℕ) × (v : ℕ) × CellsAt sc context ps level (length (variables ds)) (control_segments sc ds) at b
+      (b : ℕ) × (d : ℕ) × (e : ℕ) × (v : ℕ) × CellsAt sc context ps level (length (variables ds)) (control_pcws sc level ds) at b
       × DeclsAt sc context ps level ds b d × StmtsAt context ps level ss d e e × Has ps level e (ops.Plain kinds.Exit) v
 
 module _ (sc : Scopes) (context : Context) (ps : List Placed) (level : ℕ) where
@@ -374,10 +379,10 @@ module _ (sc : Scopes) (context : Context) (ps : List Placed) (level : ℕ) wher
   ThruAt b q t =
       (l : ℕ) × (q' : ℕ) × (m : ℕ) × CountAt sc context ps level q l q' × StmtAt sc context ps level b q' m m × TurnAt ps level m q l × Has ps level l (ops.Plain kinds.Dlet) t
 
-  -- ---- what is still to be done; a block without a result ends with EXIT
+  -- ---- what is still to be done; a text that gives nothing ends with EXIT
 
   abbrev pub KAt : List Item → ℕ → Type 0
-  KAt [] pc = (q : ℕ) × (to : ℕ) × ((block_numbered sc.blocks context.block).result ≡ None) × Goes ps level pc q × Has ps level q (ops.Plain kinds.Exit) to
+  KAt [] pc = (q : ℕ) × (to : ℕ) × (context.yields ≡ nothing) × Goes ps level pc q × Has ps level q (ops.Plain kinds.Exit) to
   KAt (run s ∷ k) pc = (q : ℕ) × (t : ℕ) × (u : ℕ) × Goes ps level pc q × StmtAt sc context ps level s q t u × Goes ps level t u × KAt k u
   KAt (turn ∷ k) pc = (q : ℕ) × (l : ℕ) × (to : ℕ) × Goes ps level pc q × TurnAt ps level q l to × KAt k l
   KAt (count n b ∷ k) pc = (q : ℕ) × (t : ℕ) × (u : ℕ) × Goes ps level pc q × ThruAt b q t × Goes ps level t u × KAt k u

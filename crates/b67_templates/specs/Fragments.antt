@@ -1,5 +1,5 @@
 -- The small pieces of which templates are made, in a segment of these operators, at one level.
-use Rattle.std.specs.Prelude.{◌≡◌, ℕ, ◌+◌, ◌/◌, ◌%◌, ◌<◌, ◌≤◌, unsigned_abs, ℤ, pos, neg_ℤ, ◌-ℤ◌, int_le, int_lt, if◌then◌else◌, Bool, true, false, List, [], ◌∷◌}
+use Rattle.std.specs.Prelude.{◌≡◌, ℕ, ◌+◌, ◌/◌, ◌%◌, ◌<◌, ◌≤◌, unsigned_abs, ℤ, pos, neg_ℤ, ◌-ℤ◌, int_le, int_lt, if◌then◌else◌, Bool, true, false, List, [], ◌∷◌, map}
 use Rattle.b67_limits.specs.declared.TheConstants.{MOST_ELEMENTS}
 use Rattle.algol_tree.specs.declared.tree.Op.{Op}
 use Rattle.algol_tree.specs.declared.tree.Op.TheVariants as operators
@@ -99,6 +99,10 @@ abbrev pub code_at : ℕ → ℕ → ℕ → Pcw
 code_at segment place level =
     record { intrinsic = false; names = false; segment = segment; psr = place % 6; pir = place / 6; level = level; number = 0 }
 
+-- the control words of procedures in a block of this level: the code of each begins at the start of its segment and runs one level further in
+abbrev pub procedure_controls : ℕ → List ℕ → List Pcw
+procedure_controls level segments = map (λ (segment : ℕ). code_at segment 0 (level + 1)) segments
+
 -- ---- operators one after another
 
 module _ (ps : List Placed) (level : ℕ) where
@@ -150,11 +154,10 @@ module _ (ps : List Placed) (level : ℕ) where
     pub fits : Fits_pcw (code_at segment begin (level + 1))
     pub enter : Has named (ops.Plain kinds.Entr) to
 
-  -- control words of the code of procedures: each begins at the start of its segment and runs one level further in
-  abbrev pub ControlsAt : List ℕ → ℕ → ℕ → Type 0
+  -- these control words are pushed
+  abbrev pub ControlsAt : List Pcw → ℕ → ℕ → Type 0
   ControlsAt [] from to = from ≡ to
-  ControlsAt (segment ∷ segments) from to =
-      (m : ℕ) × Has from (ops.Mpcw (pcw_word (code_at segment 0 (level + 1))).bits) m × Fits_pcw (code_at segment 0 (level + 1)) × ControlsAt segments m to
+  ControlsAt (pcw ∷ pcws) from to = (m : ℕ) × Has from (ops.Mpcw (pcw_word pcw).bits) m × Fits_pcw pcw × ControlsAt pcws m to
 
   -- A subscript on top is moved to an index from 0: by the product of the bound with a comparison that says whether it may be.
   abbrev pub MovedBy : Low → ℤ → ℕ → ℕ → Type 0

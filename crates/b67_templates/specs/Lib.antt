@@ -3,6 +3,7 @@ pub mod Fragments
 pub mod Cells
 pub mod Code
 pub mod Depths
+pub mod Paying
 pub mod Programs
 pub mod Fitting
 pub mod Emitting

@@ -1,5 +1,6 @@
 -- Where the code of a block and of a program stands.
-use Rattle.std.specs.Prelude.{◌≡◌, ◌⊎◌, ℕ, ◌+◌, ◌<◌, true, List, length, filter, Some, slice_get}
+use Rattle.std.specs.Prelude.{◌≡◌, ◌⊎◌, ℕ, ◌+◌, ◌<◌, true, List, length, filter, Option, Some, slice_get}
+use Rattle.algol_tree.specs.declared.token.Spot.{Spot}
 use Rattle.algol_tree.specs.Plain.{PProgram}
 use Rattle.algol_tree.specs.Blocks.{Block, block_numbered}
 use Rattle.algol_tree.specs.Cells.{level_of}
@@ -10,27 +11,46 @@ use Rattle.b67_segment.specs.Operators.{Placed}
 use Rattle.b67_segment.specs.Syllables.{Spells}
 use Rattle.b67_segment.specs.declared.code.Code.{Code}
 use Rattle.b67_segment.specs.declared.code.Segment.{Segment}
-use Rattle.b67_templates.specs.Contexts.{Context}
-use Rattle.b67_templates.specs.Cells.{zero_cells, control_segments}
-use Rattle.b67_templates.specs.Code.{CellsAt, KAt}
+use Rattle.b67_templates.specs.Contexts.{yields_of, Context}
+use Rattle.b67_templates.specs.Fragments.{Goes}
+use Rattle.b67_templates.specs.Cells.{zero_cells}
+use Rattle.b67_templates.specs.Code.{CellsAt, control_pcws, KAt}
 
 module _ (sc : Scopes) (context : Context) (ps : List Placed) (level : ℕ) where
-  -- the cells that a block begins with, and what it has to do
+  -- A branch over what is entered elsewhere, where there is any; the cells that the block begins with, and what it has to do.
   pub record BodyAt (b : Block) (from : ℕ) : Type 0 where
+    pub begin : ℕ
     pub start : ℕ
-    pub cells : CellsAt sc context ps level (length (zero_cells b)) (control_segments sc b.decls) from start
+    pub over : Goes ps level from begin
+    pub cells : CellsAt sc context ps level (length (zero_cells b)) (control_pcws sc level b.decls) begin start
     pub items : KAt sc context ps level (items_of b) start
 
+-- the operators of each segment, by its number; and where the statements after labels stand, by the places of the labels before them
+pub record Texts : Type 0 where
+  pub placed : ℕ → List Placed
+  pub labels : Spot → Option ℕ
+
+-- the operators of the segment in which the text of a block stands
+abbrev pub text_of : Texts → Scopes → ℕ → List Placed
+text_of texts sc j = texts.placed (segment_of sc.blocks j)
+
 -- the context of the text of a block
-abbrev pub context_of : Code → Scopes → ℕ → Context
-context_of code sc j = record { formats = code.formats; segment = segment_of sc.blocks j; block = j }
+abbrev pub context_of : Code → Texts → Scopes → ℕ → Context
+context_of code texts sc j =
+    record {
+      formats = code.formats;
+      segment = segment_of sc.blocks j;
+      block = j;
+      level = level_of (block_numbered sc.blocks j);
+      yields = yields_of (block_numbered sc.blocks j).result;
+      labels = texts.labels;
+    }
 
 -- The code of a program has a segment for the program's text and one for each procedure, in the order of the text. In it stands, from the
 -- start, the code of the outer block or of the procedure's.
 pub record ProgramAt (code : Code) (p : PProgram) : Type 0 where
   pub many : length code.segments ≡ 1 + length (filter is_procedure (scopes_of p).blocks)
-  -- by the number of a segment
-  pub texts : ℕ → List Placed
-  pub spells : (k : ℕ) (segment : Segment) → slice_get code.segments k ≡ Some segment → Spells (texts k) segment
+  pub texts : Texts
+  pub spells : (k : ℕ) (segment : Segment) → slice_get code.segments k ≡ Some segment → Spells (texts.placed k) segment
   pub bodies : (j : ℕ) → j < length (scopes_of p).blocks → (j ≡ 0) ⊎ (is_procedure (block_numbered (scopes_of p).blocks j) ≡ true) →
-      BodyAt (scopes_of p) (context_of code (scopes_of p) j) (texts (segment_of (scopes_of p).blocks j)) (level_of (block_numbered (scopes_of p).blocks j)) (block_numbered (scopes_of p).blocks j) 0
+      BodyAt (scopes_of p) (context_of code texts (scopes_of p) j) (text_of texts (scopes_of p) j) (level_of (block_numbered (scopes_of p).blocks j)) (block_numbered (scopes_of p).blocks j) 0

@@ -4,3 +4,10 @@
 //! A construct has one template. Between two actions it has private operators only, which go forward; an action operator stands
 //! exactly where the source has an action. So the operators of a template come in the order of the actions of its construct.
 #![tactic(auto)]
+
+ghost use Rattle.b67_templates.specs.Paying.{TokensPay};
+
+/// Law: the tokens of an expression pay for its code where it stands, twice, and for the code of the actuals in it that have cells.
+pub fn tokens_pay()
+    ensures { TokensPay }
+{}

@@ -199,7 +199,7 @@ chosen-aim-requires t c =
     let has = code_on c.args.names.now (level_set c.args.out.now) (level_set c.append_branch.new.out) (expr c.args.x.now)
     (same_level c.args.out.now c.append_branch.new.out (c.in_ok-otherwise.ensures.level ∙ c.in_ok-operand.ensures.level)) c.requires.first in
     hole_lies c.operand.new.out c.append_branch.new.out c.value_with_exits.new.out c.append_exit.new.out _ _ _ c.operand.new.exits.items c.value_with_exits.new.exits.items
-    c.append_exit.new.exits.items c.in_ok-otherwise.otherwise c.in_ok-otherwise.ensures.code (c.in_ok-value_with_exits.ensures.code.code has.scopes nowhere has.kind has.fits)
+    c.append_exit.new.exits.items c.in_ok-otherwise.otherwise c.in_ok-otherwise.ensures.code (c.in_ok-value_with_exits.ensures.code.code has.scopes (nowhere (level_set c.append_branch.new.out)) has.kind has.fits)
     c.in_ok-append_exit.ensures.code c.in_ok-otherwise.ensures.place
 
 pub chosen-returns-clause-code : goal.chosen-returns-clause-code

@@ -7,7 +7,7 @@ use Rattle.b67_segment.specs.Operators.{size}
 use Rattle.b67_segment.specs.Building.{level_set}
 use Rattle.b67_templates.specs.Cells.{procedures, control_segments}
 use Rattle.b67_templates.specs.Emitting.{Emitted}
-use Rattle.b67_templates.specs.Fragments.{AllAt, ControlsAt}
+use Rattle.b67_templates.specs.Fragments.{AllAt, ControlsAt, procedure_controls}
 use Rattle.b67_emit_stmt.specs.declared.draft.Draft.{Draft}
 use Rattle.b67_emit_stmt.specs.Bodies.{cells_syllables, numbers_of}
 use Rattle.b67_emit_stmt.specs.Drafts.{Emits}
@@ -53,9 +53,9 @@ returns-clause-code g c =
     let counted = c.in_ok-numbers.numbers.ok in
     λ sc numbered.
     let own : c.deref.result.now ≡ control_segments sc.scopes ds = are ∙ numbers_are s sc.scopes level (procedures ds) numbered in
-    let W : List ℕ → Type 0 = λ l. Emitted b e (λ qs. ControlsAt qs level l (size b.operators) (size e.operators)) in
+    let W : List ℕ → Type 0 = λ l. Emitted b e (λ qs. ControlsAt qs level (procedure_controls level l) (size b.operators) (size e.operators)) in
     let zeros = leveled (λ l qs. AllAt qs l (replicate many kinds.Zero) (size a.out.operators) (size b.operators)) level set c.in_ok-append_zeros.ensures.code in
-    let words = subst W own (leveled (λ l qs. ControlsAt qs l c.deref.result.now (size b.operators) (size e.operators)) level q c.in_ok-append_words.ensures.code) in
+    let words = subst W own (leveled (λ l qs. ControlsAt qs l (procedure_controls l c.deref.result.now) (size b.operators) (size e.operators)) level q c.in_ok-append_words.ensures.code) in
     let control : length (control_segments sc.scopes ds) ≡ length (numbers_of s (procedures ds)) = ap length (sym own) ∙ same in
     let T : Draft → Type 0 = λ x. Emits (cells_syllables many ds) a x (λ formats qs target. CellsAt sc formats qs level many (control_segments sc.scopes ds) (size a.out.operators) (size x.out.operators)) in
     elim c.if-many-len-gt0.branch [

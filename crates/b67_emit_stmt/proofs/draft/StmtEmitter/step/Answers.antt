@@ -16,7 +16,7 @@ use Rattle.b67_emit_stmt.proofs.draft.StmtEmitter.step.Goals as goal
 
 pub append_past-requires-clause-few : goal.append_past-requires-clause-few
 append_past-requires-clause-few g c =
-    let grown = (c.in_ok-value-in-None.ensures.code.code c.requires.fits.0.scopes (context_in c.requires.fits.0 []) types.Number c.requires.fits.1).grown in omega (arith, c.requires.ready.few, grown)
+    let grown = (c.in_ok-value-in-None.ensures.code.code c.requires.fits.0.scopes (context_in c.requires.fits.0 [] (level_set c.args.to.now.out)) types.Number c.requires.fits.1).grown in omega (arith, c.requires.ready.few, grown)
 
 pub returns-in-Some-clause-code : goal.returns-in-Some-clause-code
 returns-in-Some-clause-code g c =

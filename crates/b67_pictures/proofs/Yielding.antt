@@ -1,0 +1,12 @@
+-- What the text of a block gives tells the block's result.
+use Rattle.std.proofs.Common.{◌≡◌, Option, Some, None, ap}
+use Rattle.algol_tree.specs.declared.tree.Kind.{Kind}
+use Rattle.b67_templates.specs.Contexts.{nothing, value, yields_of}
+
+pub result_given : (o : Option Kind) (kind : Kind) → yields_of o ≡ value kind → o ≡ Some kind
+result_given (Some k) kind e = (let same : k ≡ kind = cc in ap Some same)
+result_given None kind e = absurd (let clash : nothing ≡ value kind = e in cc)
+
+-- what gives nothing gives no value
+pub no_value : {X : Type 0} (kind : Kind) → nothing ≡ value kind → X
+no_value kind e = absurd (let clash : nothing ≡ value kind = e in cc)
