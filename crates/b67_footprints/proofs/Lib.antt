@@ -1,0 +1,16 @@
+pub mod Lists
+pub mod Going
+pub mod References
+pub mod Chains
+pub mod Changes
+pub mod Operators
+pub mod Calls
+pub mod Making
+pub mod Starting
+pub mod Entering
+pub mod Every
+pub mod Touching
+pub mod Within
+pub mod Apart
+pub mod Rest
+pub mod Worked

@@ -1,0 +1,62 @@
+-- What holds of every operator of every code, in every image.
+use Rattle.std.specs.Prelude.{◌≡◌, ◌≢◌, ◌⊎◌, ℕ, ◌+◌, ◌≤◌, length, Ok}
+use Rattle.b67_list.specs.Numbered.{numbered}
+use Rattle.b67_word.specs.declared.Place.{Place}
+use Rattle.b67_control.specs.declared.Registers.{Registers}
+use Rattle.b67_ops.specs.declared.Operator.{Operator}
+use Rattle.b67_segment.specs.declared.code.Code.{Code}
+use Rattle.b67_store.specs.Store.{word_at, row_at}
+use Rattle.b67_table.specs.declared.Cell.{Cell}
+use Rattle.b67_table.specs.Chains.{place}
+use Rattle.b67_table.specs.References.{cell_place}
+use Rattle.b67_table.specs.Effect.{gives}
+use Rattle.b67_table.specs.Image.{Image}
+use Rattle.b67_table.specs.Rows.{row}
+use Rattle.b67_table.specs.Table.{raw, operator_at}
+use Rattle.b67_table.specs.Touches.{IsPrivate}
+use Rattle.b67_table.specs.Sound.{Lives, OperatorTouches}
+use Rattle.b67_table.specs.Valid.{IsValid}
+use Rattle.b67_footprints.specs.Reaching.{NamesCell, LeadsTo, Reaches, ReachesRow}
+use Rattle.b67_footprints.specs.Keeping.{NamesOperand, RowKeeps}
+
+-- an operator asks and writes only what it may
+abbrev pub OperatorsKeep : Type 0
+OperatorsKeep = (code : Code) (img : Image) (p : ℕ) (r : Registers) (op : Operator) (here next : ℕ) → RowKeeps (row op here) code img op p r next
+
+-- each word that it reads or writes it reaches, or it is one of the stack of the process that it starts
+abbrev pub OperatorsTouchWhatTheyReach : Type 0
+OperatorsTouchWhatTheyReach =
+    (code : Code) (img : Image) (p : ℕ) (x : Place) (t : OperatorTouches code img p x) → Reaches img t.op t.registers x ⊎ (x.stack ≡ img.started + 1)
+
+-- ---- what is another's
+
+-- the place is in the private part of no process but p
+abbrev pub IsOfNoOther : Image → ℕ → Place → Type 0
+IsOfNoOther img p x = (q : ℕ) (o : Registers) → Lives img q o → IsPrivate o x → p ≡ q
+
+-- No cell that the process's next operator names, and no mark to which it is led, with the place above it, is in the private part of another.
+-- So it is where references, the display and links lead to cells and frames below floors.
+pub record LeadsBelow (code : Code) (img : Image) (p : ℕ) : Type 0 where
+  pub cells : (r : Registers) (op : Operator) (next : ℕ) → Lives img p r → operator_at code r ≡ Ok (op, next) → (c : Cell) → NamesCell img op r c
+      → IsOfNoOther img p (cell_place c)
+  pub marks : (r : Registers) (op : Operator) (next : ℕ) → Lives img p r → operator_at code r ≡ Ok (op, next) → (f : Place) → LeadsTo img op r f
+      → IsOfNoOther img p f × IsOfNoOther img p (place f.stack (f.at + 1))
+
+-- then the process's next operator neither reads nor writes a word in the private part of another
+abbrev pub OthersStayPrivate : Type 0
+OthersStayPrivate =
+    (code : Code) (img : Image) (p : ℕ) (x : Place) → IsValid code img → LeadsBelow code img p → OperatorTouches code img p x → IsOfNoOther img p x
+
+-- ---- what is not reached
+
+-- All that an operator leaves as it is, beside its own stack and the stack of the process that it starts: words but for operands
+-- in cells that it names, rows that it does not reach, and the registers of others.
+pub record LeavesTheRest (img new : Image) (p : ℕ) (op : Operator) (r : Registers) : Type 0 where
+  pub words : (x : Place) → x.stack ≢ r.stack → x.stack ≢ img.started + 1 → (NamesOperand img op r x → ⊥) → word_at new.stacks x ≡ word_at img.stacks x
+  pub rows : (n : ℕ) → (ReachesRow img op r n → ⊥) → row_at new.rows n ≡ row_at img.rows n
+  pub registers : (q : ℕ) → q ≢ p → q ≤ length img.regs → numbered new.regs q ≡ numbered img.regs q
+
+abbrev pub OperatorsLeaveTheRest : Type 0
+OperatorsLeaveTheRest =
+    (code : Code) (img new : Image) (p : ℕ) (r : Registers) (op : Operator) (next : ℕ) → Lives img p r → operator_at code r ≡ Ok (op, next) → raw code img p ≡ gives new
+    → LeavesTheRest img new p op r

@@ -1,0 +1,4 @@
+pub mod Reaching
+pub mod Keeping
+pub mod Laws
+pub mod Worked

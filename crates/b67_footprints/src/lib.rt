@@ -1,0 +1,36 @@
+//! Footprints: what the operators of a process ask of an image and write into it, by what they reach.
+//!
+//! An operator reaches its own stack, the cells that its couple and the words that it takes name, and those to which references in
+//! such cells lead; the marks to which the display, the cells of procedures and links lead; and the rows that descriptors there
+//! describe. Which other process's stack these lie in does not matter: there is no process or stack that is special.
+#![tactic(auto)]
+
+ghost use Rattle.b67_footprints.specs.Laws.{OperatorsKeep, OperatorsTouchWhatTheyReach, OthersStayPrivate, OperatorsLeaveTheRest};
+ghost use Rattle.b67_footprints.specs.Worked.{NamesMayLeadAbove};
+
+/// Law: every operator asks and writes only what it reaches, and what is public.
+pub fn operators_keep_to_what_they_reach()
+    ensures { OperatorsKeep }
+{}
+
+/// Law: each word that an operator reads or writes it reaches, or it is a word of the process that it starts.
+pub fn operators_touch_what_they_reach()
+    ensures { OperatorsTouchWhatTheyReach }
+{}
+
+/// Law: where references, the display and links lead to cells and frames below floors, an operator neither reads nor writes a
+/// word in the private part of another process.
+pub fn others_stay_private()
+    ensures { OthersStayPrivate }
+{}
+
+/// Law: what an operator does not reach it leaves as it is: words, rows, and the registers of others.
+pub fn operators_leave_the_rest()
+    ensures { OperatorsLeaveTheRest }
+{}
+
+/// Law: no operator asks where a name leads: VALC of a couple beyond the cells of a frame of another process reads a word in that
+/// process's private part. So that references lead below floors is for a code to keep.
+pub fn names_may_lead_above_floors()
+    ensures { NamesMayLeadAbove }
+{}
