@@ -1,14 +1,16 @@
 -- Where references lead below floors, what is private to others stays so.
-use Rattle.std.proofs.Common.{◌≡◌, ◌⊎◌, inl, inr, sym, ◌∙◌, ℕ, ◌+◌, arith}
+use Rattle.std.proofs.Common.{◌≡◌, ◌⊎◌, inl, inr, refl, sym, ◌∙◌, ℕ, ◌+◌, arith}
 use Rattle.b67_word.specs.declared.Place.{Place}
 use Rattle.b67_control.specs.declared.Registers.{Registers}
 use Rattle.b67_segment.specs.declared.code.Code.{Code}
-use Rattle.b67_table.specs.Image.{Image}
+use Rattle.b67_table.specs.Image.{Image, private_of}
 use Rattle.b67_table.specs.Sound.{Lives, OperatorTouches}
 use Rattle.b67_table.specs.Valid.{IsValid}
+use Rattle.b67_table.proofs.Beside.{Touch, raw_apart}
+use Rattle.b67_table.proofs.FirstValid.{valid_stands}
 use Rattle.b67_table.proofs.Lists.{numbered_within}
 use Rattle.b67_footprints.specs.Reaching.{Reaches}
-use Rattle.b67_footprints.specs.Laws.{IsOfNoOther, LeadsBelow, OthersStayPrivate}
+use Rattle.b67_footprints.specs.Laws.{IsOfNoOther, LeadsBelow, OthersStayPrivate, PrivatePartsStay}
 use Rattle.b67_footprints.proofs.Touching.{operators_touch_what_they_reach}
 use Rattle.b67_footprints.proofs.Within.{AreReached, reached_are}
 
@@ -40,3 +42,11 @@ module _ (code : Code) (img : Image) (p : ℕ) (valid : IsValid code img) where
 
 pub others_stay_private : OthersStayPrivate
 others_stay_private code img p x valid below t = others_private code img p valid below x t
+
+pub private_parts_stay : PrivatePartsStay
+unfolding Touch
+private_parts_stay code img new p q o valid below other lives given =
+    let after =
+    (raw_apart code p q o (private_of img o) img other (valid_stands code img q o valid lives.live lives.is) (refl, refl, refl, refl, refl, refl)
+    (λ x t private. other (others_stay_private code img p x valid below t q o lives private))).after new given in
+    (after.stands, after.same)

@@ -10,7 +10,8 @@ use Rattle.b67_table.specs.declared.Cell.{Cell}
 use Rattle.b67_table.specs.Chains.{place}
 use Rattle.b67_table.specs.References.{cell_place}
 use Rattle.b67_table.specs.Effect.{gives}
-use Rattle.b67_table.specs.Image.{Image}
+use Rattle.b67_table.specs.Image.{Image, private_of}
+use Rattle.b67_table.specs.Privacy.{Stands}
 use Rattle.b67_table.specs.Rows.{row}
 use Rattle.b67_table.specs.Table.{raw, operator_at}
 use Rattle.b67_table.specs.Touches.{IsPrivate}
@@ -46,6 +47,12 @@ pub record LeadsBelow (code : Code) (img : Image) (p : ℕ) : Type 0 where
 abbrev pub OthersStayPrivate : Type 0
 OthersStayPrivate =
     (code : Code) (img : Image) (p : ℕ) (x : Place) → IsValid code img → LeadsBelow code img p → OperatorTouches code img p x → IsOfNoOther img p x
+
+-- and leaves its private part and its registers as they are: what it writes into that stack lies below the floor
+abbrev pub PrivatePartsStay : Type 0
+PrivatePartsStay =
+    (code : Code) (img new : Image) (p q : ℕ) (o : Registers) → IsValid code img → LeadsBelow code img p → p ≢ q → Lives img q o
+    → raw code img p ≡ gives new → Stands new q o × (private_of new o ≡ private_of img o)
 
 -- ---- what is not reached
 

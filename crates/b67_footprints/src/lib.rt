@@ -5,7 +5,7 @@
 //! describe. Which other process's stack these lie in does not matter: there is no process or stack that is special.
 #![tactic(auto)]
 
-ghost use Rattle.b67_footprints.specs.Laws.{OperatorsKeep, OperatorsTouchWhatTheyReach, OthersStayPrivate, OperatorsLeaveTheRest};
+ghost use Rattle.b67_footprints.specs.Laws.{OperatorsKeep, OperatorsTouchWhatTheyReach, OthersStayPrivate, PrivatePartsStay, OperatorsLeaveTheRest};
 ghost use Rattle.b67_footprints.specs.Worked.{NamesMayLeadAbove};
 
 /// Law: every operator asks and writes only what it reaches, and what is public.
@@ -22,6 +22,11 @@ pub fn operators_touch_what_they_reach()
 /// word in the private part of another process.
 pub fn others_stay_private()
     ensures { OthersStayPrivate }
+{}
+
+/// Law: there, it leaves the private parts and the registers of others as they are, and writes into their stacks below floors only.
+pub fn private_parts_stay()
+    ensures { PrivatePartsStay }
 {}
 
 /// Law: what an operator does not reach it leaves as it is: words, rows, and the registers of others.
