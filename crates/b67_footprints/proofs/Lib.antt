@@ -12,5 +12,6 @@ pub mod Every
 pub mod Touching
 pub mod Within
 pub mod Apart
+pub mod Cores
 pub mod Rest
 pub mod Worked

@@ -1,4 +1,5 @@
 pub mod Reaching
 pub mod Keeping
 pub mod Laws
+pub mod Cores
 pub mod Worked

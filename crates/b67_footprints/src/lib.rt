@@ -5,6 +5,7 @@
 //! describe. Which other process's stack these lie in does not matter: there is no process or stack that is special.
 #![tactic(auto)]
 
+ghost use Rattle.b67_footprints.specs.Cores.{CoresStayAbove};
 ghost use Rattle.b67_footprints.specs.Laws.{OperatorsKeep, OperatorsTouchWhatTheyReach, OthersStayPrivate, PrivatePartsStay, OperatorsLeaveTheRest};
 ghost use Rattle.b67_footprints.specs.Worked.{NamesMayLeadAbove};
 
@@ -27,6 +28,11 @@ pub fn others_stay_private()
 /// Law: there, it leaves the private parts and the registers of others as they are, and writes into their stacks below floors only.
 pub fn private_parts_stay()
     ensures { PrivatePartsStay }
+{}
+
+/// Law: so it changes the core of another below its floor only.
+pub fn cores_stay_above()
+    ensures { CoresStayAbove }
 {}
 
 /// Law: what an operator does not reach it leaves as it is: words, rows, and the registers of others.
