@@ -12,11 +12,8 @@ use Rattle.b67_fitting.specs.Nested.{AreNested}
 use Rattle.b67_pictures.specs.Programs.{NestedProgramsAreFaithful}
 use Rattle.b67_pictures.proofs.ClosedArrays.{frames_close}
 use Rattle.b67_pictures.proofs.ArraysMaking.{making_done}
-use Rattle.b67_pictures.proofs.TouchingApart.{ArraysAreNear, processes_apart}
+use Rattle.b67_pictures.proofs.TouchingApart.{processes_apart}
 use Rattle.b67_pictures.proofs.ElementActions.{element_read_done, index_done, element_store_done, passing_done}
-use Rattle.b67_pictures.proofs.TouchingElements.{reading_near, indexing_near, storing_near}
-use Rattle.b67_pictures.proofs.TouchingMaking.{making_near}
-use Rattle.b67_pictures.proofs.TouchingPassing.{passing_near}
 use Rattle.b67_pictures.proofs.Joining.{ArraysAreDone, nested_programs_follow}
 
 -- what is done with arrays: the picture is kept
@@ -30,19 +27,8 @@ arrays_done tree code texts nested =
       making = making_done tree code texts nested fragments_are_performed cells_are_made rests_keep_to_their_text all_is_made_in_order;
     }
 
--- .. and no word of another process is touched
-arrays_near : (tree : PProgram) (code : Code) (texts : Texts) → AreNested (scopes_of tree) → ArraysAreNear tree code texts
-arrays_near tree code texts nested =
-    record {
-      reading = reading_near tree code texts nested;
-      indexing = indexing_near tree code texts nested;
-      storing = storing_near tree code texts nested;
-      passing = passing_near tree code texts nested;
-      making = making_near tree code texts;
-    }
-
 pub nested_programs_are_faithful : NestedProgramsAreFaithful
 nested_programs_are_faithful =
     nested_programs_follow rests_keep_to_their_text all_is_made_in_order frames_close
-    (λ tree code texts nested rests. processes_apart tree code texts nested rests (arrays_near tree code texts nested))
+    processes_apart
     (λ tree code at lies short. arrays_done tree code at.texts lies.nested)

@@ -78,14 +78,13 @@ pub mod Simulating
 pub mod Counting
 pub mod Dispatching
 pub mod Touching
-pub mod TouchingLooks
+pub mod TouchingOperators
+pub mod TouchingNames
 pub mod TouchingWords
 pub mod TouchingCells
 pub mod TouchingCalls
-pub mod TouchingEntry
-pub mod TouchingLeaving
-pub mod TouchingOperators
-pub mod TouchingRows
+pub mod TouchingScene
+pub mod TouchingElements
 pub mod TouchingApart
 pub mod ArraySizes
 pub mod OpenRows
@@ -100,7 +99,6 @@ pub mod MakingRow
 pub mod MakingAsked
 pub mod MakingFrame
 pub mod ArraysMaking
-pub mod TouchingMaking
 pub mod MadeArrays
 pub mod OwnCells
 pub mod FewElements
@@ -128,6 +126,3 @@ pub mod ElementStoring
 pub mod PassRow
 pub mod Passing
 pub mod ElementActions
-pub mod TouchingIndices
-pub mod TouchingElements
-pub mod TouchingPassing

@@ -25,26 +25,26 @@ use Rattle.b67_ops.specs.declared.Operator.{Operator}
 use Rattle.b67_ops.specs.declared.Operator.TheVariants as ops
 use Rattle.b67_ops.specs.declared.PlainKind.TheVariants as kinds
 use Rattle.b67_ops.specs.declared.BranchKind.TheVariants.{Brun}
+use Rattle.b67_ops.specs.declared.intrinsic.Intrinsic.{Intrinsic}
 use Rattle.b67_ops.specs.declared.intrinsic.Intrinsic.TheVariants as names
 use Rattle.b67_segment.specs.Operators.{Placed}
 use Rattle.b67_segment.specs.declared.code.Code.{Code}
 use Rattle.b67_store.specs.Store.{word_at}
-use Rattle.b67_table.specs.Arrays.{as_indexed}
 use Rattle.b67_table.specs.Chains.{place}
 use Rattle.b67_table.specs.Image.{Image, is_live}
 use Rattle.b67_table.specs.Private.{display_at, frame}
 use Rattle.b67_table.specs.Rows.{level_below}
 use Rattle.b67_table.specs.Sound.{Lives, OperatorTouches}
-use Rattle.b67_table.specs.Table.{operator_at}
 use Rattle.b67_table.specs.Touches.{IsPrivate}
+use Rattle.b67_table.proofs.Lists.{numbered_within}
 use Rattle.b67_templates.specs.Cells.{Wanted, parameter_wants}
 use Rattle.b67_templates.specs.Code.{stmts_count}
 use Rattle.b67_templates.specs.Contexts.{Context}
 use Rattle.b67_templates.specs.Fragments.{Has, operator_for, code_at}
 use Rattle.b67_templates.specs.Programs.{Texts}
 use Rattle.b67_standing.specs.Laws.{RestsGoOn}
-use Rattle.b67_standing.specs.Standing.{ActionAt, GoesOn, given_slots}
-use Rattle.b67_standing.specs.Stepping.{Slot, control, mark, operand, reference}
+use Rattle.b67_standing.specs.Standing.{ActionAt, GoesOn, given_slots, operands}
+use Rattle.b67_standing.specs.Stepping.{Slot, control, intrinsic, mark, operand, reference}
 use Rattle.b67_cores.specs.Cores.{Core, HasCore, CoreStep, CoreSteps, here, onward}
 use Rattle.b67_cores.specs.Slots.{newest, SlotIs, SlotsAre}
 use Rattle.b67_cores.proofs.Moving.{slots_length}
@@ -55,42 +55,24 @@ use Rattle.b67_pictures.specs.Pictures.{Living, Pictured, living, dead, Pictures
 use Rattle.b67_pictures.proofs.GivenWords.{AreFit, none_wanted, are_fit, Taken, taken_words}
 use Rattle.b67_pictures.proofs.Asked.{reads_seen, stores_seen}
 use Rattle.b67_pictures.proofs.AskedEntries.{enters_seen}
-use Rattle.b67_pictures.proofs.Homes.{operator_there}
 use Rattle.b67_pictures.proofs.Numbers.{numbered_beyond}
 use Rattle.b67_pictures.proofs.Scene.{Scene, scene_of, shown_frame}
 use Rattle.b67_pictures.proofs.Slotted.{Top, top_slot}
 use Rattle.b67_pictures.proofs.Yielding.{result_given}
 use Rattle.b67_pictures.proofs.Staying.{text_in, level_in, context_in, most_in}
-use Rattle.b67_pictures.proofs.Words.{reference_read, reference_unindexed}
-use Rattle.b67_pictures.proofs.Touching.{Near}
-use Rattle.b67_pictures.proofs.TouchingLooks.{AllLeadNear}
-use Rattle.b67_pictures.proofs.TouchingOperators.{TouchesFrom, private_near, value_near, store_near, enter_near, exit_near, return_near, turn_near, operator_private}
-use Rattle.b67_pictures.proofs.TouchingRows.{value_touches, store_touches, turn_touches}
-use Rattle.b67_pictures.proofs.TouchingLeaving.{exit_touches, return_touches}
-use Rattle.b67_pictures.proofs.TouchingEntry.{block_touches, procedure_touches}
+use Rattle.b67_pictures.proofs.Words.{no_sirw, reference_read}
+use Rattle.b67_pictures.proofs.Touching.{Near, NamesNear}
+use Rattle.b67_pictures.proofs.TouchingOperators.{TouchesFrom, private_near, operator_private}
 use Rattle.b67_pictures.proofs.TouchingCells.{IsOperand, IsEntry, Names, variable_there, result_there, procedure_there}
-use Rattle.b67_pictures.proofs.TouchingCalls.{under_top, call_touches, write_touches, select_touches}
-use Rattle.b67_pictures.proofs.TouchingWords.{image_leads, level_known, couple_fits, procedure_fits, pcw_kind}
-
--- ---- what is done with arrays
-
--- The operator of a scene whose head asks for this touches no stack but that of its process, and the system's.
-abbrev pub IsNear : (tree : PProgram) (code : Code) (texts : Texts) → Ask → Type 0
-IsNear tree code texts k =
-    (w : World) (lay : Layout) (img : Image) (p : ℕ) (q : Process) (part : Part) (outer : List Part) (bound : ℕ) (core : Core) (s : Scene tree code texts w lay img p q part outer bound core) (x : Place) →
-    TouchesFrom code img p x core.registers → ask part.rest ≡ k →
-    ActionAt (scopes_of tree) (context_in tree code texts w part) (text_in tree texts w part) (level_in tree w part) (most_in tree w part) k s.stands.pc s.stands.slots → Near p x.stack
-
-pub record ArraysAreNear (tree : PProgram) (code : Code) (texts : Texts) : Type 0 where
-  pub reading : (n : Named) (ks : List ℕ) (v : Value) → IsNear tree code texts (reads_element n ks v)
-  pub indexing : (n : Named) (ks : List ℕ) (v : Value) → IsNear tree code texts (indexes n ks v)
-  pub storing : (r : Reference) (ks : List ℕ) (v : Value) → IsNear tree code texts (stores (element_of r ks) v)
-  pub passing : (n : Named) → IsNear tree code texts (passes n)
-  pub making : (kind : Kind) (ns : List Named) (pairs : List PPair) (vs : List Value) → IsNear tree code texts (makes_arrays kind ns pairs vs)
+use Rattle.b67_pictures.proofs.TouchingCalls.{under_top, call_names}
+use Rattle.b67_pictures.proofs.TouchingElements.{element_read_near, indexed_near, element_stored_near, passed_near, made_near}
+use Rattle.b67_pictures.proofs.TouchingNames.{value_names, none_named, branch_names, cell_named, no_kind, block_names, entry_names}
+use Rattle.b67_pictures.proofs.TouchingScene.{Comes, by_names, by_class}
+use Rattle.b67_pictures.proofs.TouchingWords.{level_known, couple_fits, procedure_fits, pcw_kind}
 
 -- ---- a process at its action
 
-module _ (tree : PProgram) (code : Code) (texts : Texts) (nested : AreNested (scopes_of tree)) (rests : RestsGoOn) (arrays : ArraysAreNear tree code texts) (w : World) (lay : Layout) (img : Image) where
+module _ (tree : PProgram) (code : Code) (texts : Texts) (nested : AreNested (scopes_of tree)) (rests : RestsGoOn) (w : World) (lay : Layout) (img : Image) where
   abbrev sc : Scopes
   sc = scopes_of tree
 
@@ -117,14 +99,11 @@ module _ (tree : PProgram) (code : Code) (texts : Texts) (nested : AreNested (sc
     abbrev InCell : Couple → (Word → Type 0) → Type 0
     InCell couple Is = Names tree code texts nested w lay img p q part outer bound core s couple Is
 
-    leads : AllLeadNear p img
-    leads = image_leads tree code texts nested w lay p part outer core s.stands s.around img s.has s.by.system s.small
-
     known : level < 32
     known = level_known tree code texts nested w lay p part outer core s.stands s.around
 
-    stands : (op : Operator) (next : ℕ) → Has text level s.stands.pc op next → operator_at code r ≡ Ok (op, next)
-    stands op next has_it = operator_there sc s.stands.held code text level s.stands.pc s.stands.slots core op next s.stands.there has_it
+    by_op : (op : Operator) (next : ℕ) → Has text level s.stands.pc op next → NamesNear p img op r → Comes img p x
+    by_op = by_names tree code texts nested w lay img p q part outer bound core s x t
 
     -- ---- cells
 
@@ -132,24 +111,22 @@ module _ (tree : PProgram) (code : Code) (texts : Texts) (nested : AreNested (sc
     shown_near : (at l : ℕ) → display_at r l ≡ Some (place p at) → (f : Place) → display_at r l ≡ Some f → Near p f.stack
     shown_near at l shown f e = inl (ap (λ (y : Place). y.stack) (some_same (sym e ∙ shown)))
 
-    operand_near : (couple : Couple) (next : ℕ) → Has text level s.stands.pc (ops.Valc couple) next → InCell couple IsOperand → Near p x.stack
-    operand_near couple next has_it c =
-        value_near code img p x r s.has.own t couple next (stands (ops.Valc couple) next has_it)
-        (value_touches p img r s.has.own couple next (place p c.at) c.shown (inl refl) c.word c.lies c.is)
+    operand_near : (couple : Couple) (next : ℕ) → Has text level s.stands.pc (ops.Valc couple) next → InCell couple IsOperand → Comes img p x
+    operand_near couple next has_it c = by_op (ops.Valc couple) next has_it (value_names p img r couple (place p c.at) c.shown (inl refl) c.word c.lies (no_sirw c.word c.is))
 
     -- ---- actions
 
-    read_near : (n : Named) → ask part.rest ≡ reads n → At (reads n) → Near p x.stack
+    read_near : (n : Named) → ask part.rest ≡ reads n → At (reads n) → Comes img p x
     read_near n e a =
         let seen : IsSeen sc block n = reads_seen (IsSeen sc block) n (IsInner sc block) (IsSeenAround sc block) (λ (seen : IsSeenAround sc block n). seen.0) part.rest e s.stands.frame.text in
         operand_near a.2.0 a.1 a.2.2 (variable_there tree code texts nested w lay img p q part outer bound core s n a.0 a.2.0 seen a.2.1)
 
-    result_near : (name : List ℕ) → At (reads_result name) → Near p x.stack
+    result_near : (name : List ℕ) → At (reads_result name) → Comes img p x
     result_near name a =
         operand_near a.0.couple a.0.valued a.0.read
         (result_there tree code texts nested w lay img p q part outer bound core s a.0.kind (result_given _ a.0.kind a.0.is) a.0.couple a.0.level_is a.0.index_is)
 
-    stored_near : (n : Named) (v : Value) → ask part.rest ≡ stores (own n) v → At (stores (own n) v) → Near p x.stack
+    stored_near : (n : Named) (v : Value) → ask part.rest ≡ stores (own n) v → At (stores (own n) v) → Comes img p x
     stored_near n v e a =
         let seen : IsSeen sc block n = stores_seen (IsSeen sc block) n (IsInner sc block) (IsSeenAround sc block) (λ (seen : IsSeenAround sc block n). seen.0) part.rest v e s.stands.frame.text in
         let couple : Couple = a.2.couple in
@@ -160,29 +137,27 @@ module _ (tree : PProgram) (code : Code) (texts : Texts) (nested : AreNested (sc
         let fits : (couple.level < 32) × (couple.index < 2 ^ 14) = couple_fits sc nested level n a.2.kind couple a.2.variable known in
         let top : core.words ≡ (first.word ∷ []) ++ second.word ∷ second.words_below = first.is ∙ ap (λ (ws : List Word). first.word ∷ ws) second.is in
         let c : InCell couple IsOperand = variable_there tree code texts nested w lay img p q part outer bound core s n a.2.kind couple seen a.2.variable in
-        store_near code img p x r s.has.own t a.0 (stands (ops.Plain kinds.Stod) a.0 a.2.stands)
-        (store_touches p img r s.has.own a.0 second.word
-        (under_top img p core s.has (first.word ∷ []) second.word second.words_below top (r.s - 2) (omega (arith, s.has.is.top, ap length top)))
-        (record { level = couple.level; index = couple.index }) (ap as_irw second.slot_is ∙ reference_read couple fits.0 fits.1)
-        (ap as_indexed second.slot_is ∙ reference_unindexed couple fits.0 fits.1) (shown_near c.at couple.level c.shown))
+        by_op (ops.Plain kinds.Stod) a.0 a.2.stands
+        (cell_named p img r kinds.Stod (λ f. cc) (r.s - 2) (λ m f. f) second.word
+        (under_top img p core s.has (first.word ∷ []) second.word second.words_below top (r.s - 2) (omega (arith, s.has.is.top, ap length top))) (λ follows. follows)
+        (record { level = couple.level; index = couple.index }) (place p c.at) (ap as_irw second.slot_is ∙ reference_read couple fits.0 fits.1) c.shown (inl refl))
 
-    left_near : At (leaves done) → Near p x.stack
-    left_near a = exit_near code img p x r s.has.own t a.0 (stands (ops.Plain kinds.Exit) a.0 a.2) (exit_touches p img leads r s.has.own a.0)
+    left_near : At (leaves done) → Comes img p x
+    left_near a = by_op (ops.Plain kinds.Exit) a.0 a.2 (none_named p img r kinds.Exit (λ e. cc) (λ n takes. takes))
 
-    given_near : (v : Value) → At (leaves (value v)) → Near p x.stack
-    given_near v a = return_near code img p x r s.has.own t a.1 (stands (ops.Plain kinds.Retn) a.1 a.4) (return_touches p img leads r s.has.own a.1)
+    given_near : (v : Value) → At (leaves (value v)) → Comes img p x
+    given_near v a = by_op (ops.Plain kinds.Retn) a.1 a.4 (none_named p img r kinds.Retn (λ e. cc) (λ n takes. takes))
 
-    written_near : (phrases : List PhraseText) (vs : List Value) → At (writes phrases vs) → Near p x.stack
-    written_near phrases vs a =
-        enter_near code img p x r s.has.own t a.0 (stands (ops.Plain kinds.Entr) a.0 a.2.stands)
-        (call_touches img p code core s.has a.0 s.by.system s.sees sc s.stands.held level (frame r) s.stands.slots s.stands.there.mark_is s.stands.there.words_are names.Write (number (pos a.2.format) ∷ vs) a.1 a.2.lies
-        (write_touches p img code r s.has.own a.0))
+    called : (name : Intrinsic) (vs : List Value) (below : List Slot) → s.stands.slots ≡ operands vs (intrinsic name ∷ mark ∷ below) → NamesNear p img (ops.Plain kinds.Entr) r
+    called name vs below lies =
+        call_names img p core s.has s.by.system s.sees sc s.stands.held level (frame r) s.stands.slots s.stands.there.mark_is s.stands.there.words_are name vs below lies
 
-    selected_near : (v : Value) (ss : PStmts) → At (selects v ss) → Near p x.stack
+    written_near : (phrases : List PhraseText) (vs : List Value) → At (writes phrases vs) → Comes img p x
+    written_near phrases vs a = by_op (ops.Plain kinds.Entr) a.0 a.2.stands (called names.Write (number (pos a.2.format) ∷ vs) a.1 a.2.lies)
+
+    selected_near : (v : Value) (ss : PStmts) → At (selects v ss) → Comes img p x
     selected_near v ss a =
-        enter_near code img p x r s.has.own t a.0 (stands (ops.Plain kinds.Entr) a.0 a.2.stands)
-        (call_touches img p code core s.has a.0 s.by.system s.sees sc s.stands.held level (frame r) s.stands.slots s.stands.there.mark_is s.stands.there.words_are names.Select
-        (v ∷ number (pos (stmts_count ss)) ∷ number (pos a.0) ∷ []) a.1 a.2.lies (select_touches p img code r s.has.own a.0))
+        by_op (ops.Plain kinds.Entr) a.0 a.2.stands (called names.Select (v ∷ number (pos (stmts_count ss)) ∷ number (pos a.0) ∷ []) a.1 a.2.lies)
 
     -- the word above the mark, under the words of actuals
     above_mark : (wanted : List Wanted) (gs : List Given) → AreFit sc level wanted gs → (slot : Slot) (below : List Slot) → s.stands.slots ≡ given_slots wanted gs (slot ∷ mark ∷ below) →
@@ -209,34 +184,34 @@ module _ (tree : PProgram) (code : Code) (texts : Texts) (nested : AreNested (sc
             shown_near (length s.stands.frame.lower) (level + 1 - 1) (ap (λ (l : ℕ). display_at r l) same ∙ shown_frame tree code texts w lay img p q part outer bound core s) h f
         by_test false f = none_some f
 
-    block_near : (spot : Spot) (ds : PDecls) (ss : PStmts) → At (enters_block (tree_forms.body spot ds ss)) → Near p x.stack
+    block_near : (spot : Spot) (ds : PDecls) (ss : PStmts) → At (enters_block (tree_forms.body spot ds ss)) → Comes img p x
     block_near spot ds ss a =
         let c : Pcw = code_at context.segment a.2.begin (level + 1) in
         let above = above_mark [] [] none_wanted (control c) a.1 a.2.lies refl in
-        enter_near code img p x r s.has.own t a.0 (stands (ops.Plain kinds.Entr) a.0 a.2.stands)
-        (block_touches p img code r s.has.own a.0 above.0 above.2 leads c refl
+        by_op (ops.Plain kinds.Entr) a.0 a.2.stands
+        (block_names p img r above.0 above.2
         (ap as_irw above.1 ∙ irw_laws.other (pcw_word c) (λ k. let is = sym (pcw_kind c) ∙ k in cc))
-        (ap as_sirw above.1 ∙ as_sirw-other (pcw_word c) (λ k. let is = sym (pcw_kind c) ∙ k in cc))
-        (ap as_pcw above.1 ∙ as_pcw-pcw_word c a.2.fits) home_near)
+        (ap as_sirw above.1 ∙ as_sirw-other (pcw_word c) (λ k. let is = sym (pcw_kind c) ∙ k in cc)) c
+        (ap as_pcw above.1 ∙ as_pcw-pcw_word c a.2.fits) refl home_near)
 
-    called_near : (n : Named) (gs : List Given) → ask part.rest ≡ enters n gs → At (enters n gs) → Near p x.stack
+    called_near : (n : Named) (gs : List Given) → ask part.rest ≡ enters n gs → At (enters n gs) → Comes img p x
     called_near n gs e a =
         let seen : IsSeen sc block n = (enters_seen (IsSeen sc block) n gs (IsInner sc block) (IsSeenAround sc block) (λ m (seen : IsSeenAround sc block m). seen.0) part.rest e s.stands.frame.text).0 in
         let couple : Couple = a.3.couple in
         let fits : (couple.level < 32) × (couple.index < 2 ^ 14) = procedure_fits sc nested level n a.0 couple a.3.procedure known in
         let above = above_mark (parameter_wants sc a.0) gs (are_fit sc level (parameter_wants sc a.0) gs a.3.fit) (reference couple) a.2 a.3.lies refl in
         let c : InCell couple IsEntry = procedure_there tree code texts nested w lay img p q part outer bound core s n a.0 couple seen a.3.procedure in
-        enter_near code img p x r s.has.own t a.1 (stands (ops.Plain kinds.Entr) a.1 a.3.stands)
-        (procedure_touches p img code r s.has.own a.1 above.0 above.2 leads c.is.control c.is.no_intrinsic (record { level = couple.level; index = couple.index })
-        (ap as_irw above.1 ∙ reference_read couple fits.0 fits.1) (place p c.at) c.shown (inl refl) c.word c.lies c.is.no_sirw c.is.reads)
+        by_op (ops.Plain kinds.Entr) a.1 a.3.stands
+        (entry_names p img r above.0 above.2 (record { level = couple.level; index = couple.index }) (ap as_irw above.1 ∙ reference_read couple fits.0 fits.1) (place p c.at) c.shown (inl refl)
+        c.word c.lies c.is.no_sirw (λ kind n u d after there names. no_kind p img r above.0 above.2 c.word c.is.control c.is.reads c.is.no_intrinsic kind))
 
-    by_ask : (k : Ask) → ask part.rest ≡ k → At k → Near p x.stack
+    by_ask : (k : Ask) → ask part.rest ≡ k → At k → Comes img p x
     by_ask (reads n) e a = read_near n e a
     by_ask (fails fault) e a =
-        private_near code img p x r s.has.own t (ops.Plain (operator_for a.0)) a.3 (stands (ops.Plain (operator_for a.0)) a.3 a.5.stands) (operator_private a.0 r.place)
+        by_class tree code texts nested w lay img p q part outer bound core s x t (ops.Plain (operator_for a.0)) a.3 a.5.stands (operator_private a.0 r.place)
     by_ask (stores (own n) v) e a = stored_near n v e a
     by_ask turns e a =
-        turn_near code img p x r s.has.own t a.0 a.1 (stands (ops.Branch Brun a.0) a.1 a.2.stands) (omega (arith, a.2.back, s.stands.there.place_is)) (turn_touches p img r s.has.own a.0 a.1)
+        by_op (ops.Branch Brun a.0) a.1 a.2.stands (branch_names p img r Brun a.0)
     by_ask (writes phrases vs) e a = written_near phrases vs a
     by_ask (selects v ss) e a = selected_near v ss a
     by_ask (leaves done) e a = left_near a
@@ -248,20 +223,20 @@ module _ (tree : PProgram) (code : Code) (texts : Texts) (nested : AreNested (sc
     by_ask (leaves (at_place y)) e a = absurd a
     by_ask (leaves entered) e a = absurd a
     by_ask (stores (there y) v) e a = absurd a
-    by_ask (stores (element_of y ks) v) e a = arrays.storing y ks v w lay img p q part outer bound core s x t e a
+    by_ask (stores (element_of y ks) v) e a = element_stored_near tree code texts nested w lay img p q part outer bound core s x t y ks v a
     by_ask nothing e a = absurd a
-    by_ask (reads_element n ks v) e a = arrays.reading n ks v w lay img p q part outer bound core s x t e a
-    by_ask (indexes n ks v) e a = arrays.indexing n ks v w lay img p q part outer bound core s x t e a
+    by_ask (reads_element n ks v) e a = element_read_near tree code texts nested w lay img p q part outer bound core s x t n ks v e a
+    by_ask (indexes n ks v) e a = indexed_near tree code texts nested w lay img p q part outer bound core s x t n ks v e a
     by_ask (asks_happened n) e a = absurd a
-    by_ask (passes n) e a = arrays.passing n w lay img p q part outer bound core s x t e a
+    by_ask (passes n) e a = passed_near tree code texts nested w lay img p q part outer bound core s x t n e a
     by_ask (resolves n) e a = absurd a
     by_ask (goes_to n) e a = absurd a
     by_ask (starts n gs task) e a = absurd a
     by_ask (acts y n) e a = absurd a
-    by_ask (makes_arrays kind ns pairs vs) e a = arrays.making kind ns pairs vs w lay img p q part outer bound core s x t e a
+    by_ask (makes_arrays kind ns pairs vs) e a = made_near tree code texts nested w lay img p q part outer bound core s x t kind ns pairs vs a
     by_ask (makes_event n) e a = absurd a
 
-    pub standing_near : Near p x.stack
+    pub standing_near : Comes img p x
     standing_near =
         let on : GoesOn sc context text level (most_in tree w part) part.rest s.stands.pc s.stands.slots =
         rests sc context text level (most_in tree w part) part.rest s.stands.pc s.stands.slots s.stands.stands s.stands.asks in
@@ -286,20 +261,20 @@ module _ (tree : PProgram) (code : Code) (texts : Texts) (nested : AreNested (sc
         by_number (Some q) e = by_picture q e (by.each p q e)
         by_number None e = true_false live (ap is_live (numbered_beyond w.processes img.states p by.states e))
 
-    operator_near : (p : ℕ) (q : Process) → numbered w.processes p ≡ Some q → (l : Living tree code texts w lay img p q) → (x : Place) → TouchesFrom code img p x l.core.registers → Near p x.stack
+    operator_near : (p : ℕ) (q : Process) → numbered w.processes p ≡ Some q → (l : Living tree code texts w lay img p q) → (x : Place) → TouchesFrom code img p x l.core.registers → Comes img p x
     operator_near p q at l x t = by_steps l.steps refl refl
       where
-        settled_near : l.core ≡ l.settled → Near p x.stack
+        settled_near : l.core ≡ l.settled → Comes img p x
         settled_near same =
             let found = scene_of tree code texts w lay img p q by at l (subst (λ (c : Core). HasCore img p c) same l.has) in
             standing_near p q found.0 found.1 l.bound l.settled found.2 x (subst (λ (c : Core). TouchesFrom code img p x c.registers) same t)
 
-        step_near : (c b : Core) → c ≡ l.core → CoreStep code c b → Near p x.stack
+        step_near : (c b : Core) → c ≡ l.core → CoreStep code c b → Comes img p x
         step_near c b same step =
-            private_near code img p x c.registers (ap (λ (d : Core). d.registers.stack) same ∙ l.has.own) (subst (λ (d : Core). TouchesFrom code img p x d.registers) (sym same) t) step.op step.next
-            step.stands step.private
+            inl (private_near code img p x c.registers (ap (λ (d : Core). d.registers.stack) same ∙ l.has.own) (subst (λ (d : Core). TouchesFrom code img p x d.registers) (sym same) t) step.op step.next
+            step.stands step.private)
 
-        by_steps : {n : ℕ} {c d : Core} → CoreSteps code l.bound n c d → c ≡ l.core → d ≡ l.settled → Near p x.stack
+        by_steps : {n : ℕ} {c d : Core} → CoreSteps code l.bound n c d → c ≡ l.core → d ≡ l.settled → Comes img p x
         by_steps (here fits) f g = settled_near (sym f ∙ g)
         by_steps (onward {a = c} {b = b} fits step more) f g = step_near c b f step
 
@@ -313,11 +288,12 @@ module _ (tree : PProgram) (code : Code) (texts : Texts) (nested : AreNested (sc
         let lies : x.stack ≡ q = private.0 ∙ ap (λ (o : Registers). o.stack) other_registers ∙ b.living_is.has.own in
         by_stack b.process b.is lies (operator_near p a.process a.is a.living_is x (subst (λ (o : Registers). TouchesFrom code img p x o) own_registers from))
       where
-        by_stack : (o : Process) → numbered w.processes q ≡ Some o → x.stack ≡ q → Near p x.stack → p ≡ q
-        by_stack o e lies (inl acting) = sym acting ∙ lies
-        by_stack o e lies (inr system) = none_some (ap (λ (n : ℕ). numbered w.processes n) (sym system ∙ lies) ∙ e)
+        by_stack : (o : Process) → numbered w.processes q ≡ Some o → x.stack ≡ q → Comes img p x → p ≡ q
+        by_stack o e lies (inl (inl acting)) = sym acting ∙ lies
+        by_stack o e lies (inl (inr system)) = none_some (ap (λ (n : ℕ). numbered w.processes n) (sym system ∙ lies) ∙ e)
+        by_stack o e lies (inr started) = absurd (omega (arith, lies, started, by.started, numbered_within w.processes q o e))
 
 -- no operator of a pictured image reads or writes a word in the private part of another process
-pub processes_apart : (tree : PProgram) (code : Code) (texts : Texts) → AreNested (scopes_of tree) → RestsGoOn → ArraysAreNear tree code texts →
+pub processes_apart : (tree : PProgram) (code : Code) (texts : Texts) → AreNested (scopes_of tree) → RestsGoOn →
     (w : World) (lay : Layout) (a : Image) → PicturesBy tree code texts w lay a → (p q : ℕ) (x : Place) (r : Registers) → OperatorTouches code a p x → Lives a q r → IsPrivate r x → p ≡ q
-processes_apart tree code texts nested rests arrays w lay a by = stand_apart tree code texts nested rests arrays w lay a by
+processes_apart tree code texts nested rests w lay a by = stand_apart tree code texts nested rests w lay a by

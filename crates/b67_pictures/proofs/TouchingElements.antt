@@ -1,46 +1,53 @@
--- The operators that read an element, index an array or store an element touch no stack but that of their process, and the system's.
-use Rattle.std.proofs.Common.{◌≡◌, refl, ap, ◌∙◌, ℕ, List, ◌∷◌, length, Bool, Ok, ℤ}
+-- What the operators reach that read an element, index an array, store an element, pass an array on or make arrays.
+use Rattle.std.proofs.Common.{◌≡◌, inl, refl, ap, ◌∙◌, ℕ, ◌-◌, List, [], ◌∷◌, length, Bool, Some, ℤ}
+use Rattle.algol_tree.specs.declared.tree.Kind.{Kind}
 use Rattle.algol_tree.specs.declared.tree.Named.{Named}
-use Rattle.algol_tree.specs.Plain.{PProgram}
+use Rattle.algol_tree.specs.Plain.{PProgram, PPair}
 use Rattle.algol_tree.specs.Scopes.{Scopes, scopes_of}
 use Rattle.algol_meaning.specs.Value.{Value, Reference}
 use Rattle.algol_meaning.specs.Rest.{element_of}
 use Rattle.algol_meaning.specs.World.{Part, Process, World}
-use Rattle.algol_meaning.specs.Asks.{Ask, reads_element, indexes, stores, ask}
+use Rattle.algol_meaning.specs.Asks.{Ask, reads_element, indexes, stores, passes, makes_arrays, ask}
 use Rattle.algol_paths.specs.Arrays.{Shape}
 use Rattle.b67_word.specs.declared.Place.{Place}
 use Rattle.b67_word.specs.Word.{Word}
 use Rattle.b67_control.specs.declared.Descriptor.{Descriptor}
 use Rattle.b67_ops.specs.declared.Couple.{Couple}
-use Rattle.b67_ops.specs.declared.Operator.{Operator}
 use Rattle.b67_ops.specs.declared.Operator.TheVariants as ops
+use Rattle.b67_ops.specs.declared.PlainKind.{PlainKind}
 use Rattle.b67_ops.specs.declared.PlainKind.TheVariants as kinds
+use Rattle.b67_ops.specs.declared.intrinsic.Intrinsic.TheVariants.{Arrays}
 use Rattle.b67_segment.specs.Operators.{Placed}
 use Rattle.b67_segment.specs.declared.code.Code.{Code}
+use Rattle.b67_store.specs.Store.{word_at}
+use Rattle.b67_table.specs.Chains.{place}
 use Rattle.b67_table.specs.Image.{Image}
 use Rattle.b67_table.specs.Private.{frame}
-use Rattle.b67_table.specs.Table.{operator_at}
 use Rattle.b67_templates.specs.Fragments.{Has}
 use Rattle.b67_templates.specs.Programs.{Texts}
 use Rattle.b67_standing.specs.Stepping.{Slot, element, operand, descriptor}
 use Rattle.b67_standing.specs.Standing.{ActionAt, of_row, of_element, ElementReadAt}
 use Rattle.b67_cores.specs.Cores.{Core}
 use Rattle.b67_fitting.specs.Nested.{AreNested}
+use Rattle.b67_footprints.specs.Reaching.{TakesBy}
+use Rattle.b67_footprints.proofs.Operators.{indexed_is}
 use Rattle.b67_pictures.specs.Arrays.{Layout, IsElement}
 use Rattle.b67_pictures.proofs.ArrayHomes.{MeantArray, array_home}
+use Rattle.b67_pictures.proofs.ArraysGiven.{arrays_given, given_lie}
 use Rattle.b67_pictures.proofs.AskedElements.{array_asked}
+use Rattle.b67_pictures.proofs.Described.{IsDescriptor, is_descriptor, IsFound, itself}
 use Rattle.b67_pictures.proofs.ElementHomes.{at_element, ElementHome, element_home}
-use Rattle.b67_pictures.proofs.Homes.{operator_there}
 use Rattle.b67_pictures.proofs.IndexRows.{top_word, under_word}
 use Rattle.b67_pictures.proofs.Knowing.{known_is}
 use Rattle.b67_pictures.proofs.Indices.{Finds, LastIndex, last_index, FirstIndex, first_of_two}
+use Rattle.b67_pictures.proofs.Passing.{FindsFormal, finds_formal}
 use Rattle.b67_pictures.proofs.Scene.{Scene}
 use Rattle.b67_pictures.proofs.Slotted.{Top, top_slot}
 use Rattle.b67_pictures.proofs.Staying.{text_in, level_in, context_in, most_in}
-use Rattle.b67_pictures.proofs.Touching.{Near}
-use Rattle.b67_pictures.proofs.TouchingApart.{IsNear}
-use Rattle.b67_pictures.proofs.TouchingIndices.{index_touches, load_touches, mother_touches, element_store_touches, load_near, mother_near, index_near}
-use Rattle.b67_pictures.proofs.TouchingOperators.{TouchesFrom, store_near}
+use Rattle.b67_pictures.proofs.TouchingCalls.{call_names, over_top}
+use Rattle.b67_pictures.proofs.TouchingNames.{cell_named, found_named}
+use Rattle.b67_pictures.proofs.TouchingOperators.{TouchesFrom}
+use Rattle.b67_pictures.proofs.TouchingScene.{Comes, by_names}
 
 module _ (tree : PProgram) (code : Code) (texts : Texts) (nested : AreNested (scopes_of tree)) where
   abbrev sc : Scopes
@@ -57,8 +64,11 @@ module _ (tree : PProgram) (code : Code) (texts : Texts) (nested : AreNested (sc
     abbrev At : Ask → Type 0
     At k = ActionAt sc (context_in tree code texts w part) text level (most_in tree w part) k s.stands.pc s.stands.slots
 
-    stands : (op : Operator) (next : ℕ) → Has text level s.stands.pc op next → operator_at code core.registers ≡ Ok (op, next)
-    stands op next has_it = operator_there sc s.stands.held code text level s.stands.pc s.stands.slots core op next s.stands.there has_it
+    -- an operator that takes the word at one place of its stack, where that word is found to be or to reach a descriptor
+    by_found : (kind : PlainKind) → (ops.Plain kind ≡ ops.Plain kinds.Entr → ⊥) → (n next : ℕ) → ((m : ℕ) → TakesBy kind core.registers m → m ≡ n) → Has text level s.stands.pc (ops.Plain kind) next →
+        (first : Word) → word_at img.stacks (place core.registers.stack n) ≡ Some first → IsFound p img core.registers first → Comes img p x
+    by_found kind enters n next only has_it first lies found =
+        by_names tree code texts nested w lay img p q part outer bound core s x t (ops.Plain kind) next has_it (found_named p img core.registers kind enters n only first lies found)
 
     -- the array that a name means there
     abbrev IsHome : Named → Shape → Couple → Type 0
@@ -68,31 +78,28 @@ module _ (tree : PProgram) (code : Code) (texts : Texts) (nested : AreNested (sc
     AreFound mother z d below = Finds tree code texts nested w lay img p q part outer bound core s mother z d below
 
     module _ (n : Named) (ks : List ℕ) (v : Value) where
-      read_near : ask part.rest ≡ reads_element n ks v → At (reads_element n ks v) → Near p x.stack
-      read_near asks a =
+      pub element_read_near : ask part.rest ≡ reads_element n ks v → At (reads_element n ks v) → Comes img p x
+      element_read_near asks a =
           let found : ElementReadAt sc (context_in tree code texts w part) text level (most_in tree w part) n ks v s.stands.pc a.0 s.stands.slots a.1 = a.2 in
           let h : IsHome n a.2.array a.2.couple = array_home tree code texts nested w lay img p q part outer bound core s n a.2.array a.2.couple (ap array_asked asks) a.2.is_array in
           let l : LastIndex tree code texts nested w lay img p q part outer bound core s n a.2.array a.2.couple h ks a.2.subscript a.1 =
           last_index tree code texts nested w lay img p q part outer bound core s n a.2.array a.2.couple h ks a.2.subscript a.1 a.2.lies in
-          load_near code img p x core.registers t a.0 (stands (ops.Plain kinds.Nxlv) a.0 a.2.stands)
-          (load_touches p img core.registers s.has.own l.finds.first (top_word img p core s.has l.finds.first l.finds.second l.finds.words l.finds.top) l.finds.found a.0)
+          by_found kinds.Nxlv (λ e. cc) (core.registers.s - 1) a.0 (λ m e. e) a.2.stands l.finds.first (top_word img p core s.has l.finds.first l.finds.second l.finds.words l.finds.top) l.finds.found
 
-      indexed_near : ask part.rest ≡ indexes n ks v → At (indexes n ks v) → Near p x.stack
+      pub indexed_near : ask part.rest ≡ indexes n ks v → At (indexes n ks v) → Comes img p x
       indexed_near asks (of_row low second next below found) =
           let h : IsHome n found.array found.couple = array_home tree code texts nested w lay img p q part outer bound core s n found.array found.couple (ap array_asked asks) found.is_array in
           let l : FirstIndex tree code texts nested w lay img p q part outer bound core s n found.array found.couple h found.subscript below =
           first_of_two tree code texts nested w lay img p q part outer bound core s n found.array found.couple h found.subscript low second below found.lows_are found.lies in
-          mother_near code img p x core.registers t next (stands (ops.Plain kinds.Nxln) next found.stands)
-          (mother_touches p img core.registers s.has.own l.finds.first (top_word img p core s.has l.finds.first l.finds.second l.finds.words l.finds.top) l.finds.found next)
+          by_found kinds.Nxln (λ e. cc) (core.registers.s - 1) next (λ m e. e) found.stands l.finds.first (top_word img p core s.has l.finds.first l.finds.second l.finds.words l.finds.top) l.finds.found
       indexed_near asks (of_element kind next below found) =
           let h : IsHome n found.array found.couple = array_home tree code texts nested w lay img p q part outer bound core s n found.array found.couple (ap array_asked asks) found.is_array in
           let l : LastIndex tree code texts nested w lay img p q part outer bound core s n found.array found.couple h ks found.subscript below =
           last_index tree code texts nested w lay img p q part outer bound core s n found.array found.couple h ks found.subscript below found.lies in
-          index_near code img p x core.registers t next (stands (ops.Plain kinds.Indx) next found.stands)
-          (index_touches p img core.registers s.has.own l.finds.first (top_word img p core s.has l.finds.first l.finds.second l.finds.words l.finds.top) l.finds.found next)
+          by_found kinds.Indx (λ e. cc) (core.registers.s - 1) next (λ m e. e) found.stands l.finds.first (top_word img p core s.has l.finds.first l.finds.second l.finds.words l.finds.top) l.finds.found
 
     -- the word under the value is the descriptor of an element
-    element_stored_near : (r : Reference) (ks : List ℕ) (v : Value) → At (stores (element_of r ks) v) → Near p x.stack
+    pub element_stored_near : (r : Reference) (ks : List ℕ) (v : Value) → At (stores (element_of r ks) v) → Comes img p x
     element_stored_near r ks v a =
         let first : Top sc s.stands.held level (frame core.registers) (length core.below) (operand v) (descriptor (element r ks a.2.kind) ∷ a.1) core.words =
         top_slot sc s.stands.held level (frame core.registers) (length core.below) s.stands.slots (operand v) (descriptor (element r ks a.2.kind) ∷ a.1) core.words s.stands.there.words_are a.2.lies in
@@ -101,16 +108,21 @@ module _ (tree : PProgram) (code : Code) (texts : Texts) (nested : AreNested (sc
         let e : IsElement sc w lay (part ∷ outer) r ks a.2.kind second.word =
         known_is sc w lay (part ∷ outer) part.instance s.stands.held s.stands.held_are (element r ks a.2.kind) second.word second.slot_is in
         let h : ElementHome tree code texts w lay img p q part outer bound core s r ks a.2.kind second.word e = element_home tree code texts w lay img p q part outer bound core s r ks a.2.kind second.word e in
-        store_near code img p x core.registers s.has.own t a.0 (stands (ops.Plain kinds.Stod) a.0 a.2.stands)
-        (element_store_touches p img core.registers s.has.own second.word
-        (under_word img p core s.has first.word second.word second.words_below (first.is ∙ ap (λ (ws : List Word). first.word ∷ ws) second.is)) (at_element e.at e.number) h.reads a.0)
+        let d : IsDescriptor second.word (at_element e.at e.number) = is_descriptor second.word (at_element e.at e.number) (indexed_is second.word (at_element e.at e.number) h.reads) in
+        by_found kinds.Stod (λ f. cc) (core.registers.s - 2) a.0 (λ m f. f) a.2.stands second.word
+        (under_word img p core s.has first.word second.word second.words_below (first.is ∙ ap (λ (ws : List Word). first.word ∷ ws) second.is)) (itself d.no_irw d.no_sirw)
 
-  -- what TouchingApart asks for
-  pub reading_near : (n : Named) (ks : List ℕ) (v : Value) → IsNear tree code texts (reads_element n ks v)
-  reading_near n ks v w lay img p q part outer bound core s x t asks a = read_near w lay img p q part outer bound core s x t n ks v asks a
+    -- LODT takes the cell of a parameter and looks no further
+    pub passed_near : (n : Named) → ask part.rest ≡ passes n → At (passes n) → Comes img p x
+    passed_near n asks a =
+        let f : FindsFormal tree code texts nested w lay img p q part outer bound core s n asks a.0 a.1 a.2 a.3 = finds_formal tree code texts nested w lay img p q part outer bound core s n asks a.0 a.1 a.2 a.3 in
+        by_names tree code texts nested w lay img p q part outer bound core s x t (ops.Plain kinds.Lodt) a.1 a.3.stands
+        (cell_named p img core.registers kinds.Lodt (λ e. cc) (core.registers.s - 1) (λ m e. e) f.top.word
+        (over_top img p core s.has f.top.word f.top.words_below f.top.is) (λ follows. follows)
+        (record { level = a.3.couple.level; index = a.3.couple.index }) (place p f.home.at) f.names f.home.shown (inl refl))
 
-  pub indexing_near : (n : Named) (ks : List ℕ) (v : Value) → IsNear tree code texts (indexes n ks v)
-  indexing_near n ks v w lay img p q part outer bound core s x t asks a = indexed_near w lay img p q part outer bound core s x t n ks v asks a
-
-  pub storing_near : (r : Reference) (ks : List ℕ) (v : Value) → IsNear tree code texts (stores (element_of r ks) v)
-  storing_near r ks v w lay img p q part outer bound core s x t asks a = element_stored_near w lay img p q part outer bound core s x t r ks v a
+    pub made_near : (kind : Kind) (ns : List Named) (pairs : List PPair) (vs : List Value) → At (makes_arrays kind ns pairs vs) → Comes img p x
+    made_near kind ns pairs vs a =
+        by_names tree code texts nested w lay img p q part outer bound core s x t (ops.Plain kinds.Entr) a.1.made a.1.stands
+        (call_names img p core s.has s.by.system s.sees sc s.stands.held level (frame core.registers) s.stands.slots s.stands.there.mark_is s.stands.there.words_are Arrays
+        (arrays_given (length ns) pairs vs) [] (a.1.lies ∙ given_lie (length ns) pairs vs))

@@ -1,26 +1,23 @@
 -- The operator that stands where a process's registers point: what it reads and writes lies where its program's words lie.
-use Rattle.std.proofs.Common.{◌≡◌, inl, refl, ◌∙◌, subst, ℕ, ◌≤◌, Bool, false, Result, Ok}
-use Rattle.std.specs.Prelude.{if◌then◌else◌}
+use Rattle.std.proofs.Common.{◌≡◌, ◌⊎◌, inl, inr, refl, ◌∙◌, subst, ℕ, ◌+◌, Result, Ok}
 use Rattle.algol_tree.specs.declared.tree.Op.{Op}
 use Rattle.algol_tree.specs.declared.tree.Op.TheVariants as operators
 use Rattle.b67_word.specs.declared.Place.{Place}
 use Rattle.b67_control.specs.declared.Registers.{Registers}
-use Rattle.b67_ops.specs.declared.Couple.{Couple}
 use Rattle.b67_ops.specs.declared.Operator.{Operator}
 use Rattle.b67_ops.specs.declared.Operator.TheVariants as ops
 use Rattle.b67_ops.specs.declared.PlainKind.TheVariants as kinds
-use Rattle.b67_ops.specs.declared.BranchKind.TheVariants.{Brun}
 use Rattle.b67_segment.specs.declared.code.Code.{Code}
 use Rattle.b67_table.specs.declared.Class.TheVariants as classes
 use Rattle.b67_table.specs.Image.{Image}
-use Rattle.b67_table.specs.PrivateRows as private_rows
-use Rattle.b67_table.specs.Rows as rows
-use Rattle.b67_table.specs.Rows.{Row, row, private_part, action, value_call, store, turn, enter, exit, return_value}
+use Rattle.b67_table.specs.Rows.{Row, row, private_part, action}
 use Rattle.b67_table.specs.Table.{operator_at, class_at, class_by}
 use Rattle.b67_table.specs.Touches.{RowTouches}
 use Rattle.b67_templates.specs.Fragments.{operator_for}
-use Rattle.b67_pictures.proofs.TurnRow.{not_below}
-use Rattle.b67_pictures.proofs.Touching.{Near, Stays}
+use Rattle.b67_footprints.specs.Reaching.{Reaches}
+use Rattle.b67_footprints.proofs.Every.{operators_keep}
+use Rattle.b67_footprints.proofs.Touching.{row_reached}
+use Rattle.b67_pictures.proofs.Touching.{Near, IsNear, NamesNear, reached_near}
 
 ok_same : {A B : Type 0} {x y : A} {o : Result A B} → o ≡ Ok x → o ≡ Ok y → x ≡ y
 ok_same e f = cc
@@ -50,32 +47,13 @@ module _ (code : Code) (img : Image) (p : ℕ) (x : Place) where
     unfolding class_at
     private_near op next e private = by_class (row op r.place) next private (touched_by op next e)
 
-    pub value_near : (couple : Couple) (next : ℕ) → operator_at code r ≡ Ok (ops.Valc couple, next) → Stays p img (value_call couple r next) → Near p x.stack
-    unfolding row
-    value_near couple next e stays = stays.near x (touched_by (ops.Valc couple) next e)
-
-    pub store_near : (next : ℕ) → operator_at code r ≡ Ok (ops.Plain kinds.Stod, next) → Stays p img (store false r next) → Near p x.stack
-    unfolding row
-    store_near next e stays = stays.near x (touched_by (ops.Plain kinds.Stod) next e)
-
-    pub enter_near : (next : ℕ) → operator_at code r ≡ Ok (ops.Plain kinds.Entr, next) → Stays p img (enter code r next) → Near p x.stack
-    unfolding row
-    enter_near next e stays = stays.near x (touched_by (ops.Plain kinds.Entr) next e)
-
-    pub exit_near : (next : ℕ) → operator_at code r ≡ Ok (ops.Plain kinds.Exit, next) → Stays p img (exit r next) → Near p x.stack
-    unfolding row
-    exit_near next e stays = stays.near x (touched_by (ops.Plain kinds.Exit) next e)
-
-    pub return_near : (next : ℕ) → operator_at code r ≡ Ok (ops.Plain kinds.Retn, next) → Stays p img (return_value r next) → Near p x.stack
-    unfolding row
-    return_near next e stays = stays.near x (touched_by (ops.Plain kinds.Retn) next e)
-
-    pub turn_near : (target next : ℕ) → operator_at code r ≡ Ok (ops.Branch Brun target, next) → target ≤ r.place → Stays p img (turn Brun target r next) → Near p x.stack
-    unfolding row
-    turn_near target next e back stays =
-        stays.near x
-        (subst (λ (b : Bool). RowTouches (if b then private_part (private_rows.branch Brun target) else rows.acts (turn Brun target)) code img p r next x) (not_below r.place target back)
-        (touched_by (ops.Branch Brun target) next e))
+    -- any operator that names near cells
+    pub named_near : IsNear p img r → (op : Operator) (next : ℕ) → operator_at code r ≡ Ok (op, next) → NamesNear p img op r → Near p x.stack ⊎ (x.stack ≡ img.started + 1)
+    named_near near op next e names = by_reach (row_reached img op r p x (row op r.place) code next (touched_by op next e) (operators_keep code img p r op r.place next))
+      where
+        by_reach : Reaches img op r x ⊎ (x.stack ≡ img.started + 1) → Near p x.stack ⊎ (x.stack ≡ img.started + 1)
+        by_reach (inl k) = inl (reached_near p img r near op names x k)
+        by_reach (inr e) = inr e
 
 -- the operators of the language are private
 pub operator_private : (op : Op) (at : ℕ) → class_at (ops.Plain (operator_for op)) at ≡ classes.Private

@@ -42,7 +42,7 @@ use Rattle.b67_table.specs.declared.Cell as frame_cells
 use Rattle.b67_templates.specs.Contexts.{Yields}
 use Rattle.b67_templates.specs.Fragments.{code_at, procedure_controls}
 use Rattle.b67_templates.specs.Cells as wants
-use Rattle.b67_templates.specs.Cells.{Simple, Found, simple_cells, found_from, procedures, control_segments, IsVariable, IsProcedure, IsFormalArray, IsArray, declared, formal, Wanted, FoundMade, made_from, made_name, made_of}
+use Rattle.b67_templates.specs.Cells.{Simple, Found, simple_cells, found_from, procedures, control_segments, IsVariable, IsProcedure, Wanted, made_of}
 use Rattle.b67_templates.specs.Programs.{Texts}
 use Rattle.b67_standing.specs.Stepping.{Held, row, element, cell_named, passed, Slot, operand, reference, intrinsic, control, descriptor, mark}
 use Rattle.b67_cores.specs.Cores.{Core, size, stack_of, HasCore}
@@ -57,8 +57,7 @@ use Rattle.b67_pictures.proofs.Lying.{Lies, lies_around}
 use Rattle.b67_pictures.proofs.Numbers.{get_below}
 use Rattle.b67_pictures.proofs.Rows.{words_are}
 use Rattle.b67_pictures.proofs.StackWords.{reverse-cons}
-use Rattle.b67_pictures.proofs.Touching.{Near}
-use Rattle.b67_pictures.proofs.TouchingLooks.{LeadsNear, AllLeadNear}
+use Rattle.b67_pictures.proofs.Touching.{Near, LeadsNear, AllLeadNear}
 use Rattle.b67_pictures.proofs.Words.{value_tag, mark_read}
 
 -- the number of an intrinsic fits a reference
@@ -78,7 +77,7 @@ numbers_small names.Liberate = lit< tt
 
 -- ---- kinds of words
 
-tag_operand : (w : Word) → w.tag ≡ 0 → kind_of w ≡ kind.operand
+pub tag_operand : (w : Word) → w.tag ≡ 0 → kind_of w ≡ kind.operand
 unfolding kind_of
 tag_operand w e = rw e refl
 
@@ -260,14 +259,6 @@ found_low k (c ∷ cells) name f e = by_name (same_name c.name name) e (λ h. fo
     by_name true h later = omega (arith, ap (λ (x : Found). x.number) (some_same h))
     by_name false h later = omega (arith, later h)
 
-pub array_low : (k : ℕ) (ds : List Made) (name : List ℕ) (f : FoundMade) → made_from k ds name ≡ Some f → f.number < k + length ds
-array_low k [] name f e = cc
-array_low k (d ∷ ds) name f e = by_name (same_name (made_name d) name) e (λ h. array_low (k + 1) ds name f h)
-  where
-    by_name : (b : Bool) → (if b then Some (record { number = k; made = d }) else made_from (k + 1) ds name) ≡ Some f → (made_from (k + 1) ds name ≡ Some f → f.number < k + 1 + length ds) → f.number < k + length (d ∷ ds)
-    by_name true h later = omega (arith, ap (λ (x : FoundMade). x.number) (some_same h))
-    by_name false h later = omega (arith, later h)
-
 -- a number has a block, or the block that it stands for has no cells
 abbrev cells_of : Scopes → Block → ℕ
 cells_of sc b = length (simple_cells sc b) + length (procedures b.decls) + length (made_of b.decls)
@@ -297,28 +288,12 @@ module _ (sc : Scopes) (nested : AreNested sc) where
       let few : length (simple_cells sc b) + length (procedures b.decls) + length (made_of b.decls) ≤ 400 = few_cells ((use_of sc n).block) in
       (omega (arith, v.level_is, known), omega (arith, v.index_is, low, few))
 
-  pub formal_fits : (level : ℕ) (n : Named) (shape : Shape) (c : Couple) → IsFormalArray sc level n shape c → level < 32 → (c.level < 32) × (c.index < 2 ^ 14)
-  formal_fits level n shape c v known =
-      let b : Block = block_numbered sc.blocks ((use_of sc n).block) in
-      let low : v.found.number < 0 + length (simple_cells sc b) = found_low 0 (simple_cells sc b) n.name v.found v.there in
-      let few : length (simple_cells sc b) + length (procedures b.decls) + length (made_of b.decls) ≤ 400 = few_cells ((use_of sc n).block) in
-      (omega (arith, v.level_is, known), omega (arith, v.index_is, low, few))
-
   pub procedure_fits : (level : ℕ) (n : Named) (callee : ℕ) (c : Couple) → IsProcedure sc level n callee c → level < 32 → (c.level < 32) × (c.index < 2 ^ 14)
   procedure_fits level n callee c is known =
       let b : Block = block_numbered sc.blocks ((use_of sc n).block) in
       let low : is.number < length (procedures b.decls) = get_below (procedures b.decls) is.number is.declared is.there in
       let few : length (simple_cells sc b) + length (procedures b.decls) + length (made_of b.decls) ≤ 400 = few_cells ((use_of sc n).block) in
       (omega (arith, is.level_is, known), omega (arith, is.index_is, low, few))
-
-  pub array_fits : (level : ℕ) (n : Named) (shape : Shape) (c : Couple) → IsArray sc level n shape c → level < 32 → (c.level < 32) × (c.index < 2 ^ 14)
-  array_fits level n shape c (declared d same is) known =
-      let b : Block = block_numbered sc.blocks ((use_of sc n).block) in
-      let made = is.made in
-      let low : made.number < 0 + length (made_of b.decls) = array_low 0 (made_of b.decls) n.name (record { number = made.number; made = an_array d }) made.there in
-      let few : length (simple_cells sc b) + length (procedures b.decls) + length (made_of b.decls) ≤ 400 = few_cells ((use_of sc n).block) in
-      (omega (arith, made.level_is, known), omega (arith, made.index_is, low, few))
-  array_fits level n shape c (formal is) known = formal_fits level n shape c is known
 
 -- ---- slots
 
