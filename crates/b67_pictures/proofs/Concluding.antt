@@ -1,5 +1,4 @@
 -- The law of the crate: a code in which a program stands whose blocks lie in one another, and which is short and can be listed, is faithful to it.
-use Rattle.std.proofs.Common.{ℕ, List}
 use Rattle.algol_tree.specs.Plain.{PProgram}
 use Rattle.algol_tree.specs.Scopes.{scopes_of}
 use Rattle.algol_paths.proofs.Making.{all_is_made_in_order}

@@ -16,7 +16,7 @@ use Rattle.b67_word.specs.Word.{Word}
 use Rattle.b67_control.specs.declared.Mscw.{Mscw}
 use Rattle.b67_control.specs.declared.Pcw.{Pcw}
 use Rattle.b67_control.specs.declared.Rcw.{Rcw}
-use Rattle.b67_control.specs.Control.{as_irw, as_mscw, as_rcw, pcw_word}
+use Rattle.b67_control.specs.Control.{as_mscw, as_rcw}
 use Rattle.b67_control.proofs.ControlLaws.{as_mscw-mscw_word, as_rcw-rcw_word}
 use Rattle.b67_control.specs.Display.{place_at}
 use Rattle.b67_ops.specs.declared.Operator.TheVariants as ops

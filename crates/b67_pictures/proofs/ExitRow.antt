@@ -2,7 +2,6 @@
 use Rattle.std.proofs.Common.{◌≡◌, ◌⊎◌, inl, inr, refl, ap, ◌∙◌, ℕ, zero, suc, ◌+◌, List, [], ◌∷◌, ◌++◌, length, take, drop, Option, Some, None, Bool, true, false, Ok}
 use Rattle.std.specs.Prelude.{if◌then◌else◌, nat_eq, slice_get, reverse}
 use Rattle.b67_list.specs.Numbered.{set_numbered}
-use Rattle.algol_tree.specs.declared.tree.Kind.{Kind}
 use Rattle.algol_meaning.specs.Value.{Cell, simple, event, array, named, reference}
 use Rattle.algol_meaning.specs.World.{NamedCell}
 use Rattle.algol_meaning.specs.Actions as act

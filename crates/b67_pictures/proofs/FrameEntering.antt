@@ -39,7 +39,7 @@ use Rattle.b67_table.specs.Table.{table}
 use Rattle.b67_templates.specs.Contexts.{yields_of}
 use Rattle.b67_templates.specs.Cells.{Wanted, parameter_cells, zero_cells, simple_cells, procedures, control_segments, made_of}
 use Rattle.b67_templates.specs.Code.{CellsAt, control_pcws}
-use Rattle.b67_templates.specs.Fragments.{code_at, Goes}
+use Rattle.b67_templates.specs.Fragments.{Goes}
 use Rattle.b67_templates.specs.Programs.{Texts, context_of}
 use Rattle.b67_standing.specs.Stepping.{Slot}
 use Rattle.b67_table.specs.Private.{frame}

@@ -1,6 +1,6 @@
 -- The words of the cells of a block that is entered.
-use Rattle.std.proofs.Common.{◌≡◌, refl, sym, ap, ◌∙◌, subst, ℕ, zero, suc, ◌+◌, List, [], ◌∷◌, ◌++◌, length, Some, None, append_assoc, length-append}
-use Rattle.std.specs.Prelude.{slice_get, replicate}
+use Rattle.std.proofs.Common.{◌≡◌, refl, sym, ap, ◌∙◌, subst, suc, ◌+◌, List, [], ◌∷◌, ◌++◌, length, append_assoc, length-append}
+use Rattle.std.specs.Prelude.{replicate}
 use Rattle.algol_tree.specs.Blocks.{Block}
 use Rattle.algol_tree.specs.Scopes.{Scopes}
 use Rattle.algol_tree.specs.Sorts.{Parameter}
@@ -8,16 +8,14 @@ use Rattle.algol_meaning.specs.Value.{Cell}
 use Rattle.algol_meaning.specs.World.{NamedCell, Part, World}
 use Rattle.algol_meaning.specs.Instances as instances
 use Rattle.algol_meaning.specs.Instances.{fresh_cells}
-use Rattle.algol_paths.specs.Arrays.{Shape}
 use Rattle.b67_word.specs.Word.{Word}
 use Rattle.b67_templates.specs.Cells as cells
 use Rattle.b67_templates.specs.Cells.{Simple, zero_cells, simple_cells}
-use Rattle.b67_fitting.specs.Nested.{IsTold, by_value, an_array, AreTold, AreParameters}
-use Rattle.b67_faithful.proofs.Contradictions.{some_same, none_some}
+use Rattle.b67_fitting.specs.Nested.{AreTold, AreParameters}
 use Rattle.b67_pictures.specs.Arrays.{Layout}
 use Rattle.b67_pictures.specs.Frames.{CellsAre}
 use Rattle.b67_pictures.proofs.Formals.{LeadAll, lead_both, kinds_lead}
-use Rattle.b67_pictures.proofs.Zeros.{zero_word, block_zeros, HaveKinds, block_kinds}
+use Rattle.b67_pictures.proofs.Zeros.{zero_word, block_zeros, block_kinds}
 
 -- cells after others
 cells_both : (ss : List Simple) (cells : List NamedCell) (ws : List Word) (ss' : List Simple) (cells' : List NamedCell) (ws' : List Word) → CellsAre ss cells ws → CellsAre ss' cells' ws' →

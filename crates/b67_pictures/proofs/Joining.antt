@@ -22,7 +22,6 @@ use Rattle.b67_cores.proofs.Performing.{steps_are_performed, steps_come_to_limit
 use Rattle.b67_cores.proofs.Placing.{fragments_are_performed}
 use Rattle.b67_listing.specs.Listings.{HasOperators, IsListable}
 use Rattle.b67_faithful.specs.Faithful.{HasFormats, IsShort, Faithful}
-use Rattle.b67_faithful.proofs.Contradictions.{none_some}
 use Rattle.b67_fitting.specs.Names.{HasNames}
 use Rattle.b67_fitting.specs.Nested.{AreNested, LiesNested}
 use Rattle.b67_pictures.proofs.Yielding.{no_value}

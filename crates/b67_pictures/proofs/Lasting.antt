@@ -1,11 +1,11 @@
 -- An action of a process that is pictured makes no process and takes none away, and releases nobody.
-use Rattle.std.proofs.Common.{◌≡◌, refl, subst, sym, ℕ, List, [], ◌∷◌, length, Some}
+use Rattle.std.proofs.Common.{◌≡◌, refl, subst, sym, ℕ, List, [], ◌∷◌, Some}
 use Rattle.b67_list.specs.Numbered.{numbered}
 use Rattle.algol_tree.specs.Plain.{PProgram}
 use Rattle.algol_tree.specs.Scopes.{Scopes, scopes_of}
 use Rattle.algol_meaning.specs.World.{Process, Part, World}
 use Rattle.algol_meaning.specs.Asks.{Ask, nothing, reads, reads_element, indexes, asks_happened, fails, enters, passes, resolves, reads_result, leaves, stores, selects, turns, goes_to, enters_block, starts, acts, writes, makes_arrays, makes_event, ask}
-use Rattle.algol_meaning.specs.Choice.{Choice, choice, choice_of}
+use Rattle.algol_meaning.specs.Choice.{Choice, choice}
 use Rattle.b67_segment.specs.Operators.{Placed}
 use Rattle.b67_segment.specs.declared.code.Code.{Code}
 use Rattle.b67_table.specs.Image.{Image}

@@ -18,7 +18,6 @@ use Rattle.algol_paths.specs.Laws.{KeepsToText, RestsKeepToTheirText, AllIsMadeI
 use Rattle.algol_paths.specs.Segments.{segment_of}
 use Rattle.b67_word.specs.declared.Place.{Place}
 use Rattle.b67_word.specs.Word.{Word}
-use Rattle.b67_control.specs.Control.{pcw_word}
 use Rattle.b67_segment.specs.declared.code.Code.{Code}
 use Rattle.b67_table.specs.Chains.{place}
 use Rattle.b67_table.specs.Image.{Image}
@@ -26,7 +25,7 @@ use Rattle.b67_table.specs.Limits.{most_cells, most_arrays}
 use Rattle.b67_templates.specs.Contexts.{yields_of}
 use Rattle.b67_templates.specs.Cells.{simple_cells, procedures, control_segments, made_of}
 use Rattle.b67_templates.specs.Code.{AreDimensions}
-use Rattle.b67_templates.specs.Fragments.{code_at, procedure_controls}
+use Rattle.b67_templates.specs.Fragments.{procedure_controls}
 use Rattle.b67_templates.specs.Programs.{Texts}
 use Rattle.b67_cores.specs.Cores.{Core}
 use Rattle.b67_cores.specs.Stretches.{control_words}

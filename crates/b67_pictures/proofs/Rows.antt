@@ -19,7 +19,6 @@ use Rattle.b67_table.specs.Image.{Image}
 use Rattle.b67_table.specs.Rows.{row}
 use Rattle.b67_table.specs.Table.{table, raw, plain, by_registers, by_operator, by_row, operator_at, class_at, is_private, is_new, private_at, private_in, private_next}
 use Rattle.b67_cores.specs.Cores.{Core, HasCore, stack_of}
-use Rattle.b67_letters.specs.declared.Letter.{Letter}
 use Rattle.b67_letters.specs.Letters.{operator_letter, fetched_letter, registers_letter, letter_by}
 use Rattle.b67_faithful.specs.Correspondence.{as_action, operator_action}
 

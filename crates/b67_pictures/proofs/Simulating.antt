@@ -1,5 +1,5 @@
 -- Images that picture worlds go with the source through every operator.
-use Rattle.std.proofs.Common.{◌≡◌, ◌⊎◌, inl, inr, refl, sym, ap, ◌∙◌, subst, ℕ, ◌<◌, ◌≤◌, List, [], length, Option, Some, None, false, arith}
+use Rattle.std.proofs.Common.{◌≡◌, ◌⊎◌, inl, inr, refl, sym, ap, ◌∙◌, subst, ℕ, ◌<◌, ◌≤◌, [], length, Option, Some, None, false, arith}
 use Rattle.b67_list.specs.Numbered.{numbered}
 use Rattle.b67_num.specs.declared.FaultKind.{FaultKind}
 use Rattle.algol_tree.specs.Plain.{PProgram}

@@ -1,5 +1,5 @@
 -- The text of each block stands in a segment of the code.
-use Rattle.std.proofs.Common.{◌≡◌, ℕ, List, ◌∷◌, length, filter, Some, arith}
+use Rattle.std.proofs.Common.{◌≡◌, ℕ, ◌∷◌, length, filter, Some, arith}
 use Rattle.std.specs.Prelude.{slice_get}
 use Rattle.algol_tree.specs.Blocks.{around}
 use Rattle.algol_tree.specs.Plain.{PProgram}

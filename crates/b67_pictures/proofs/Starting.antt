@@ -38,7 +38,6 @@ use Rattle.b67_table.specs.Linkage.{base_control}
 use Rattle.b67_templates.specs.Contexts.{yields_of}
 use Rattle.b67_templates.specs.Code.{control_pcws}
 use Rattle.b67_templates.specs.Cells.{Simple, parameters_around, parameter_cells, simple_cells, zero_cells, procedures, control_segments, made_of}
-use Rattle.b67_templates.specs.Fragments.{code_at}
 use Rattle.b67_templates.specs.Programs.{Texts, BodyAt, context_of, ProgramAt}
 use Rattle.b67_standing.specs.Standing.{ComesTo}
 use Rattle.b67_standing.specs.Laws.{BlocksStart}

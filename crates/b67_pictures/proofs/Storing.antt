@@ -1,6 +1,6 @@
 -- A store.
-use Rattle.std.proofs.Common.{◌≡◌, ◌≢◌, refl, sym, ap, ◌∙◌, subst, ℕ, suc, ◌+◌, ◌-◌, ◌<◌, ◌≤◌, ◌^◌, List, [], ◌∷◌, ◌++◌, length, Option, Some, None, Bool, true, false, Ok, arith}
-use Rattle.std.specs.Prelude.{slice_get, slice_set, reverse, if◌then◌else◌}
+use Rattle.std.proofs.Common.{◌≡◌, ◌≢◌, refl, sym, ap, ◌∙◌, subst, ℕ, suc, ◌+◌, ◌<◌, ◌≤◌, ◌^◌, List, [], ◌∷◌, ◌++◌, length, Option, Some, None, Bool, true, false, Ok, arith}
+use Rattle.std.specs.Prelude.{slice_set, if◌then◌else◌}
 use Rattle.b67_list.specs.Numbered.{numbered}
 use Rattle.algol_tree.specs.declared.tree.Named.{Named}
 use Rattle.algol_tree.specs.Blocks.{block_numbered}
@@ -60,11 +60,11 @@ use Rattle.b67_pictures.proofs.Landing.{living_of}
 use Rattle.b67_pictures.proofs.Lying.{StayBelow}
 use Rattle.b67_faithful.proofs.Choices.{length_set_numbered}
 use Rattle.b67_pictures.proofs.Numbers.{get_below, numbered_set}
-use Rattle.b67_pictures.proofs.Rows.{action_not_plain, action_is, words_are}
+use Rattle.b67_pictures.proofs.Rows.{action_not_plain, action_is}
 use Rattle.b67_pictures.proofs.Scene.{Scene}
 use Rattle.b67_pictures.proofs.Stage.{gives_within, choice_is, goes_on, weight_of}
 use Rattle.b67_pictures.proofs.Slotted.{Top, top_slot}
-use Rattle.b67_pictures.proofs.StackWords.{length-set, word-under}
+use Rattle.b67_pictures.proofs.StackWords.{length-set}
 use Rattle.b67_pictures.proofs.Staying.{text_in, level_in, context_in, most_in, IsAsHeavy, same_weight, FrameStill, frame_still}
 use Rattle.b67_pictures.proofs.StoreRow.{with_cell, stores_variable, store_raw, store_class}
 use Rattle.b67_pictures.proofs.StoringFrames.{changed, stored_world, changed_at, same_of, same_ancestors, as_heavy, ChangedCells, Stored, known_stored, frame_stored}

@@ -1,5 +1,5 @@
 -- What an operator reaches lies in the process's own stack and in the system's, where the cells do that it names.
-use Rattle.std.proofs.Common.{◌≡◌, ◌⊎◌, inl, inr, refl, sym, ap, ◌∙◌, subst, ℕ, ◌+◌, ◌≤◌, Option, Some, None}
+use Rattle.std.proofs.Common.{◌≡◌, ◌⊎◌, inl, inr, ap, ◌∙◌, ℕ, ◌+◌, ◌≤◌, Some, None}
 use Rattle.b67_word.specs.declared.Place.{Place}
 use Rattle.b67_word.specs.Word.{Word}
 use Rattle.b67_control.specs.declared.Registers.{Registers}
@@ -16,7 +16,7 @@ use Rattle.b67_table.specs.Image.{Image, critical_of}
 use Rattle.b67_table.specs.Private.{display_at}
 use Rattle.b67_table.specs.Rows.{level_below}
 use Rattle.b67_footprints.specs.Reaching.{NamesCell, LeadsTo, Reaches}
-use Rattle.b67_footprints.proofs.Within.{AreLed, led_are, AreReached, reached_are}
+use Rattle.b67_footprints.proofs.Within.{AreLed, led_are, reached_are}
 
 -- the stack of a process, or the system's
 abbrev pub Near : ℕ → ℕ → Type 0

@@ -1,15 +1,14 @@
 -- No operator of a pictured image reads or writes a word in the private part of another process.
-use Rattle.std.proofs.Common.{◌≡◌, inl, inr, refl, sym, ap, ◌∙◌, subst, ℕ, ◌+◌, ◌-◌, ◌<◌, List, [], ◌∷◌, length, Option, Some, None, Bool, true, false, Ok, arith, ◌^◌, ◌++◌}
+use Rattle.std.proofs.Common.{◌≡◌, inl, inr, refl, sym, ap, ◌∙◌, subst, ℕ, ◌+◌, ◌-◌, ◌<◌, List, [], ◌∷◌, length, Option, Some, None, Bool, true, false, arith, ◌^◌, ◌++◌}
 use Rattle.std.specs.Prelude.{if◌then◌else◌, nat_le, pos}
 use Rattle.b67_list.specs.Numbered.{numbered}
 use Rattle.algol_tree.specs.declared.token.Spot.{Spot}
-use Rattle.algol_tree.specs.declared.tree.Kind.{Kind}
 use Rattle.algol_tree.specs.declared.tree.Named.{Named}
 use Rattle.algol_tree.specs.declared.tree.PhraseText.{PhraseText}
 use Rattle.algol_tree.specs.Plain as tree_forms
 use Rattle.algol_tree.specs.Plain.{PProgram, PStmts, PDecls, PPair}
 use Rattle.algol_tree.specs.Scopes.{Scopes, scopes_of}
-use Rattle.algol_meaning.specs.Value.{Value, number, Reference}
+use Rattle.algol_meaning.specs.Value.{Value, number}
 use Rattle.algol_meaning.specs.Rest.{own, there, element_of, Given, done, value, cell, place as at_place, entered}
 use Rattle.algol_meaning.specs.World.{Process, Part, World, instance_at}
 use Rattle.algol_meaning.specs.Asks.{Ask, nothing, reads, reads_element, indexes, asks_happened, fails, enters, passes, resolves, reads_result, leaves, stores, selects, turns, goes_to, enters_block, starts, acts, writes, makes_arrays, makes_event, ask}

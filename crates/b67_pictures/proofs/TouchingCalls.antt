@@ -1,10 +1,9 @@
 -- The entry of an intrinsic: it names the cell of its control word in the system's stack, and no other, since its arguments are operands.
-use Rattle.std.proofs.Common.{◌≡◌, inr, refl, sym, ap, ◌∙◌, subst, ℕ, ◌+◌, ◌-◌, ◌<◌, ◌≤◌, List, [], ◌∷◌, ◌++◌, Option, Some, None, true, false, arith, length, lit<, length-append}
+use Rattle.std.proofs.Common.{◌≡◌, inr, refl, sym, ap, ◌∙◌, subst, ℕ, ◌+◌, ◌-◌, ◌≤◌, List, ◌∷◌, ◌++◌, Option, Some, None, true, false, arith, length, lit<, length-append}
 use Rattle.std.specs.Prelude.{slice_get, reverse}
 use Rattle.std.proofs.lemmas.List.{length-reverse}
 use Rattle.algol_tree.specs.Scopes.{Scopes}
 use Rattle.algol_meaning.specs.Value.{Value}
-use Rattle.b67_word.specs.declared.Place.{Place}
 use Rattle.b67_word.specs.Word.{Word}
 use Rattle.b67_control.specs.declared.Irw.{Irw}
 use Rattle.b67_control.specs.declared.Pcw.{Pcw}
@@ -25,7 +24,7 @@ use Rattle.b67_table.specs.Image.{Image}
 use Rattle.b67_table.specs.References.{irw_or_sirw, cell_of}
 use Rattle.b67_standing.specs.Stepping.{Slot, intrinsic, mark}
 use Rattle.b67_standing.specs.Standing.{operands}
-use Rattle.b67_cores.specs.Cores.{Core, stack_of, HasCore}
+use Rattle.b67_cores.specs.Cores.{Core, HasCore}
 use Rattle.b67_cores.specs.Slots.{Known, newest, SlotsAre}
 use Rattle.b67_cores.proofs.Moving.{slots_length}
 use Rattle.b67_faithful.proofs.Contradictions.{none_some}

@@ -1,5 +1,5 @@
 -- The cells that an operator names, by what it finds: none, one, or one and the one to which that refers.
-use Rattle.std.proofs.Common.{◌≡◌, ◌⊎◌, inl, inr, refl, sym, ap, ◌∙◌, subst, ℕ, ◌+◌, ◌-◌, ◌<◌, Option, Some, None, Bool, true, false}
+use Rattle.std.proofs.Common.{◌≡◌, ◌⊎◌, inl, inr, sym, ap, ◌∙◌, subst, ℕ, ◌+◌, ◌<◌, Option, Some, None, true, false}
 use Rattle.b67_word.specs.declared.Place.{Place}
 use Rattle.b67_word.specs.Word.{Word}
 use Rattle.b67_control.specs.declared.Registers.{Registers}
@@ -22,7 +22,7 @@ use Rattle.b67_table.specs.Private.{display_at}
 use Rattle.b67_table.specs.References.{cell_place, cell_in, couple_cell, irw_or_sirw, sirw_cell, cell_of}
 use Rattle.b67_table.specs.Rows.{level_below}
 use Rattle.b67_faithful.proofs.Contradictions.{some_same, none_some}
-use Rattle.b67_footprints.specs.Reaching.{TakesBy, Takes, Follows, IsIntrinsic, NamesCell}
+use Rattle.b67_footprints.specs.Reaching.{TakesBy, Takes, Follows, IsIntrinsic}
 use Rattle.b67_footprints.proofs.Within.{AreNamed, named_are}
 use Rattle.b67_pictures.proofs.Described.{IsFound, itself, in_cell, through_cell}
 use Rattle.b67_pictures.proofs.Touching.{Near, NamesNear}

@@ -1,12 +1,11 @@
 -- A process that stands at its action: its marks and its display lead to its own stack and to the system's.
-use Rattle.std.proofs.Common.{◌≡◌, ◌⊎◌, inl, inr, refl, sym, ap, ◌∙◌, ℕ, ◌+◌, ◌-◌, ◌≤◌, List, ◌∷◌, length, Option, Some, None, Ok, arith}
+use Rattle.std.proofs.Common.{◌≡◌, ◌⊎◌, inl, refl, sym, ap, ◌∙◌, ℕ, ◌+◌, ◌-◌, ◌≤◌, List, ◌∷◌, length, Some, Ok, arith}
 use Rattle.b67_list.specs.Numbered.{numbered}
 use Rattle.algol_tree.specs.Blocks.{around}
 use Rattle.algol_tree.specs.Plain.{PProgram}
 use Rattle.algol_tree.specs.Scopes.{Scopes, scopes_of}
 use Rattle.algol_meaning.specs.World.{Process, Part, World, instance_at, ancestor}
 use Rattle.b67_word.specs.declared.Place.{Place}
-use Rattle.b67_control.specs.declared.Registers.{Registers}
 use Rattle.b67_ops.specs.declared.Operator.{Operator}
 use Rattle.b67_ops.specs.declared.TheConstants.{OUTER_LEVEL}
 use Rattle.b67_segment.specs.Operators.{Placed}

@@ -1,5 +1,5 @@
 -- What the operator of an action does in an image of a world.
-use Rattle.std.specs.Prelude.{◌≡◌, ℕ, ◌<◌, false, List, Some}
+use Rattle.std.specs.Prelude.{◌≡◌, ℕ, ◌<◌, false, Some}
 use Rattle.b67_num.specs.declared.FaultKind.{FaultKind}
 use Rattle.algol_tree.specs.Plain.{PProgram}
 use Rattle.algol_tree.specs.Scopes.{scopes_of}
