@@ -1,27 +1,12 @@
 //! The answer to a case.
 
-use b67_asm::{NotAssembled, Refusal, Rule, assemble};
+use algol_tree::MOST_SOURCE_BYTES;
+use b67_asm::{NotAssembled, Refusal, assemble};
 use b67_asm_writer::source;
 use b67_list::push_number;
 use b67_segment::{Code, Format, Phrase, Segment};
 use case_sheet::Case;
 use std::alloc::{AllocError, Global};
-
-/// The most bytes of a text.
-const MOST_BYTES: usize = 262_144;
-
-/// The number of a rule.
-fn number_of(rule: Rule) -> u8 {
-    match rule {
-        Rule::BadLine => 1,
-        Rule::UnknownLabel => 2,
-        Rule::DoubleLabel => 3,
-        Rule::Range => 4,
-        Rule::SegmentTooLong => 5,
-        Rule::NoSegment => 6,
-        Rule::EmptySegment => 7,
-    }
-}
 
 fn push_segment(told: &mut Vec<u8>, segment: &Segment) -> Result<(), AllocError> {
     push_number(told, b"SEGMENT ", segment.words.items().len())?;
@@ -70,7 +55,7 @@ fn push_code(told: &mut Vec<u8>, code: &Code) -> Result<(), AllocError> {
 }
 
 fn push_refusal(told: &mut Vec<u8>, refusal: Refusal) -> Result<(), AllocError> {
-    push_number(told, b"REFUSED A", number_of(refusal.rule))?;
+    push_number(told, b"REFUSED A", refusal.rule.number())?;
     push_number(told, b" ", refusal.line)?;
     told.extend_from_slice(b"\n")
 }
@@ -79,7 +64,7 @@ fn push_refusal(told: &mut Vec<u8>, refusal: Refusal) -> Result<(), AllocError> 
 pub(crate) fn answered(alloc: Global, case: &Case) -> Result<Vec<u8>, AllocError> {
     let mut told = Vec::new(alloc);
     let text = case.input.as_slice();
-    if text.len() > MOST_BYTES {
+    if text.len() > MOST_SOURCE_BYTES {
         told.extend_from_slice(b"TOO LONG\n")?;
         return Ok(told);
     }
