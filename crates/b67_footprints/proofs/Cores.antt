@@ -1,5 +1,5 @@
 -- Where references lead below floors, an operator changes another's core below its floor only.
-use Rattle.std.proofs.Common.{◌≡◌, refl, sym, ap, subst, ◌∙◌, ℕ, List, [], ◌∷◌, ◌++◌, length, take, drop, reverse, Option, Some, arith, take-append-drop, length-take}
+use Rattle.std.proofs.Common.{◌≡◌, refl, sym, ap, subst, ◌∙◌, ℕ, List, [], ◌∷◌, ◌++◌, length, take, drop, reverse, Option, Some, arith, take-append-drop, length-append, length-take}
 use Rattle.std.proofs.lemmas.List.{reverse-reverse}
 use Rattle.b67_word.specs.Word.{Word}
 use Rattle.b67_store.specs.Store.{words_or, words_of}
@@ -51,7 +51,17 @@ module _ (img new : Image) (q : ℕ) (core : Core) (has : HasCore img q core) (s
     is = record { bottom = low; top = omega (arith, has.is.top, has.is.bottom, low) };
   }
 
+-- a process that has a core stands
+stands_so : (img : Image) (q : ℕ) (core : Core) → HasCore img q core → Stands img q core.registers
+stands_so img q core has = record {
+  live = has.live;
+  has = has.registers;
+  words = stack_of core;
+  opened = has.stack;
+  high = omega (arith, has.is.bottom, length-append core.below (reverse core.words));
+}
+
 pub cores_stay_above : CoresStayAbove
-cores_stay_above code img new p q core valid below other has given =
-    let kept = private_parts_stay code img new p q core.registers valid below other (record { live = has.live; is = has.registers }) given in
+cores_stay_above code img new p q core own below other has given =
+    let kept = private_parts_stay code img new p q core.registers own below other (stands_so img q core has) given in
     (take (floor core.registers) kept.0.words, core_after img new q core has kept.0 kept.1)

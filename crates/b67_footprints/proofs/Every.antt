@@ -50,8 +50,8 @@ module _ (code : Code) (img : Image) (p : ℕ) (r : Registers) (next : ℕ) wher
   plain_kept kinds.Dlet = tt
   plain_kept kinds.Exch = tt
   plain_kept kinds.Dupl = tt
-  plain_kept kinds.Stod = store_kept img (ops.Plain kinds.Stod) r p next refl false
-  plain_kept kinds.Ston = store_kept img (ops.Plain kinds.Ston) r p next refl true
+  plain_kept kinds.Stod = store_kept img (ops.Plain kinds.Stod) r p next refl tt false
+  plain_kept kinds.Ston = store_kept img (ops.Plain kinds.Ston) r p next refl tt true
   plain_kept kinds.Lodt = load_through_kept img (ops.Plain kinds.Lodt) r p next refl
   plain_kept kinds.Load = load_value_kept img (ops.Plain kinds.Load) r p next refl tt
   plain_kept kinds.Noop = tt

@@ -14,4 +14,5 @@ pub mod Within
 pub mod Apart
 pub mod Cores
 pub mod Rest
+pub mod CoresKept
 pub mod Worked

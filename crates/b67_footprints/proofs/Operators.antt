@@ -30,7 +30,7 @@ use Rattle.b67_table.specs.Linkage.{entering, selected, accidental, is_critical,
 use Rattle.b67_table.specs.Arrays.{is_array, array_in, array_by, array_of, indexed_in, as_indexed, index_in, index_or_fault, Subscripted, subscripted, word_in, element, if_row, subscripted_element, index, index_and_load, index_mother}
 use Rattle.b67_table.specs.Rows.{turn_by, turn, operand_pushed, value_or_entry, value_call, loaded, load_value, is_passed, load_through, cell_or_entry, evaluate, after_store, kept_words, store_by, store, is_result, exit, return_value}
 use Rattle.b67_footprints.specs.Reaching.{Takes, Follows, NamesCell, by_couple, by_word, LeadsTo, own, home, ReachesRow}
-use Rattle.b67_footprints.specs.Keeping.{TestKeeps, ChangeKeeps, ProgramKeeps}
+use Rattle.b67_footprints.specs.Keeping.{Stores, TestKeeps, ChangeKeeps, ProgramKeeps}
 use Rattle.b67_footprints.proofs.Going.{Any, LookKeeps, look_then, see_then, see_kept, test_then, look_by, test_by, look_there}
 use Rattle.b67_footprints.proofs.References.{IsAt, popped_kept, AreTop, two_kept, IsReached, named_kept, reached_kept, operand_kept, valid_kept, IsDescribed, top_described, reached_described}
 use Rattle.b67_footprints.proofs.Chains.{entering_kept, leaving_kept}
@@ -209,7 +209,7 @@ module _ (img : Image) (op : Operator) (r : Registers) (p next : ℕ) where
   after_store_kept false x now = (refl, (refl, tt))
   after_store_kept true x now = (refl, (refl, (refl, tt)))
 
-  module _ (takes : Takes op r (r.s - 2)) (keeps : Bool) where
+  module _ (takes : Takes op r (r.s - 2)) (stores : Stores op) (keeps : Bool) where
     store_by_kept : (x y : Word) → IsAt img op r (r.s - 2) y → (o : Option Descriptor) → as_indexed y ≡ o → ProgramKeeps img op r p (store_by keeps r next x y o)
     store_by_kept x y i (Some d) e =
         let reaches : ReachesRow img op r d.address = top_described img op r (r.s - 2) y i d (indexed_is y d e) in
@@ -218,7 +218,7 @@ module _ (img : Image) (op : Operator) (r : Registers) (p next : ℕ) where
     store_by_kept x y i None e =
         see_then img op r (IsReached img op r) Ends (named (cell_of r y)) _ (taken_named (r.s - 2) takes y i) (λ v k.
         see_then img op r (λ (w : Word). v.word.tag ≡ 0) Ends (operand_in v.word) _ (operand_kept img op r v.word) (λ old t. (
-          inr (record { cell = v.cell; names = k.names; lies = refl; word = v.word; there = k.there; operand = t }),
+          inr (record { stores = stores; cell = v.cell; names = k.names; lies = refl; word = v.word; there = k.there; operand = t }),
           after_store_kept keeps x (written p (writes.save (cell_place v.cell) x) img),
         )))
 

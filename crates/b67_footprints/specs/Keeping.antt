@@ -4,6 +4,8 @@ use Rattle.b67_word.specs.declared.Place.{Place}
 use Rattle.b67_word.specs.Word.{Word}
 use Rattle.b67_control.specs.declared.Registers.{Registers}
 use Rattle.b67_ops.specs.declared.Operator.{Operator}
+use Rattle.b67_ops.specs.declared.Operator.TheVariants as ops
+use Rattle.b67_ops.specs.declared.PlainKind.TheVariants as kinds
 use Rattle.b67_segment.specs.declared.code.Code.{Code}
 use Rattle.b67_store.specs.Store.{word_at, row_at}
 use Rattle.b67_table.specs.declared.Cell.{Cell}
@@ -31,8 +33,15 @@ MayAsk img op r questions.criticals = Unit {0}
 MayAsk img op r (questions.critical p) = Unit {0}
 MayAsk img op r questions.started = Unit {0}
 
--- an operand lies in a cell that the operator names
+-- the operator stores
+abbrev pub Stores : Operator → Type 0
+Stores (ops.Plain kinds.Stod) = Unit {0}
+Stores (ops.Plain kinds.Ston) = Unit {0}
+Stores _ = ⊥
+
+-- it stores, and an operand lies in a cell that it names
 pub record NamesOperand (img : Image) (op : Operator) (r : Registers) (x : Place) : Type 0 where
+  pub stores : Stores op
   pub cell : Cell
   pub names : NamesCell img op r cell
   pub lies : x ≡ cell_place cell
@@ -40,7 +49,7 @@ pub record NamesOperand (img : Image) (op : Operator) (r : Registers) (x : Place
   pub there : word_at img.stacks x ≡ Some word
   pub operand : word.tag ≡ 0
 
--- Words of its own stack, and operands in cells that it names; rows that it reaches, and new ones under numbers that are free; events that it
+-- Words of its own stack, and, where it stores, operands in cells that it names; rows that it reaches, and new ones under numbers that are free; events that it
 -- reaches, and those of its own stack; and the stack of the next process.
 abbrev pub MayWrite : Image → Operator → Registers → Write → Type 0
 MayWrite img op r (writes.save x w) = (x.stack ≡ r.stack) ⊎ NamesOperand img op r x

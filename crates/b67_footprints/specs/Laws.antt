@@ -7,13 +7,14 @@ use Rattle.b67_ops.specs.declared.Operator.{Operator}
 use Rattle.b67_segment.specs.declared.code.Code.{Code}
 use Rattle.b67_store.specs.Store.{word_at, row_at}
 use Rattle.b67_table.specs.declared.Cell.{Cell}
+use Rattle.b67_table.specs.declared.Class.TheVariants.{Action}
 use Rattle.b67_table.specs.Chains.{place}
 use Rattle.b67_table.specs.References.{cell_place}
 use Rattle.b67_table.specs.Effect.{gives}
 use Rattle.b67_table.specs.Image.{Image, private_of}
 use Rattle.b67_table.specs.Privacy.{Stands}
 use Rattle.b67_table.specs.Rows.{row}
-use Rattle.b67_table.specs.Table.{raw, operator_at}
+use Rattle.b67_table.specs.Table.{raw, operator_at, class_at}
 use Rattle.b67_table.specs.Touches.{IsPrivate}
 use Rattle.b67_table.specs.Sound.{Lives, OperatorTouches}
 use Rattle.b67_table.specs.Valid.{IsValid}
@@ -35,29 +36,39 @@ OperatorsTouchWhatTheyReach =
 abbrev pub IsOfNoOther : Image → ℕ → Place → Type 0
 IsOfNoOther img p x = (q : ℕ) (o : Registers) → Lives img q o → IsPrivate o x → p ≡ q
 
--- No cell that the process's next operator names, and no mark to which it is led, with the place above it, is in the private part of another.
--- So it is where references, the display and links lead to cells and frames below floors.
-pub record LeadsBelow (code : Code) (img : Image) (p : ℕ) : Type 0 where
-  pub cells : (r : Registers) (op : Operator) (next : ℕ) → Lives img p r → operator_at code r ≡ Ok (op, next) → (c : Cell) → NamesCell img op r c
-      → IsOfNoOther img p (cell_place c)
-  pub marks : (r : Registers) (op : Operator) (next : ℕ) → Lives img p r → operator_at code r ≡ Ok (op, next) → (f : Place) → LeadsTo img op r f
-      → IsOfNoOther img p f × IsOfNoOther img p (place f.stack (f.at + 1))
+-- each process that lives has the stack of its number, and is one of those that were started
+abbrev pub HaveOwnStacks : Image → Type 0
+HaveOwnStacks img = (p : ℕ) (r : Registers) → Lives img p r → (r.stack ≡ p) × (p ≤ img.started)
+
+-- so it is in each valid image
+abbrev pub ValidHaveOwnStacks : Type 0
+ValidHaveOwnStacks = (code : Code) (img : Image) → IsValid code img → HaveOwnStacks img
+
+-- No cell that the operator names, and no mark to which it is led, with the place above it, is in the private part of a process but p.
+pub record ReachesNoOther (img : Image) (p : ℕ) (op : Operator) (r : Registers) : Type 0 where
+  pub cells : (c : Cell) → NamesCell img op r c → IsOfNoOther img p (cell_place c)
+  pub marks : (f : Place) → LeadsTo img op r f → IsOfNoOther img p f × IsOfNoOther img p (place f.stack (f.at + 1))
+
+-- So it is with the process's next operator, where it is an action: where references, the display and links lead to cells and frames below floors.
+abbrev pub LeadsBelow : Code → Image → ℕ → Type 0
+LeadsBelow code img p =
+    (r : Registers) (op : Operator) (next : ℕ) → Lives img p r → operator_at code r ≡ Ok (op, next) → class_at op r.place ≡ Action → ReachesNoOther img p op r
 
 -- then the process's next operator neither reads nor writes a word in the private part of another
 abbrev pub OthersStayPrivate : Type 0
 OthersStayPrivate =
-    (code : Code) (img : Image) (p : ℕ) (x : Place) → IsValid code img → LeadsBelow code img p → OperatorTouches code img p x → IsOfNoOther img p x
+    (code : Code) (img : Image) (p : ℕ) (x : Place) → HaveOwnStacks img → LeadsBelow code img p → OperatorTouches code img p x → IsOfNoOther img p x
 
 -- and leaves its private part and its registers as they are: what it writes into that stack lies below the floor
 abbrev pub PrivatePartsStay : Type 0
 PrivatePartsStay =
-    (code : Code) (img new : Image) (p q : ℕ) (o : Registers) → IsValid code img → LeadsBelow code img p → p ≢ q → Lives img q o
+    (code : Code) (img new : Image) (p q : ℕ) (o : Registers) → HaveOwnStacks img → LeadsBelow code img p → p ≢ q → Stands img q o
     → raw code img p ≡ gives new → Stands new q o × (private_of new o ≡ private_of img o)
 
 -- ---- what is not reached
 
--- All that an operator leaves as it is, beside its own stack and the stack of the process that it starts: words but for operands
--- in cells that it names, rows that it does not reach, and the registers of others.
+-- All that an operator leaves as it is, beside its own stack and the stack of the process that it starts: words but, where it
+-- stores, for operands in cells that it names, rows that it does not reach, and the registers of others.
 pub record LeavesTheRest (img new : Image) (p : ℕ) (op : Operator) (r : Registers) : Type 0 where
   pub words : (x : Place) → x.stack ≢ r.stack → x.stack ≢ img.started + 1 → (NamesOperand img op r x → ⊥) → word_at new.stacks x ≡ word_at img.stacks x
   pub rows : (n : ℕ) → (ReachesRow img op r n → ⊥) → row_at new.rows n ≡ row_at img.rows n

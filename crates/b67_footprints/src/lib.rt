@@ -5,8 +5,8 @@
 //! describe. Which other process's stack these lie in does not matter: there is no process or stack that is special.
 #![tactic(auto)]
 
-ghost use Rattle.b67_footprints.specs.Cores.{CoresStayAbove};
-ghost use Rattle.b67_footprints.specs.Laws.{OperatorsKeep, OperatorsTouchWhatTheyReach, OthersStayPrivate, PrivatePartsStay, OperatorsLeaveTheRest};
+ghost use Rattle.b67_footprints.specs.Cores.{CoresStayAbove, CoresStay};
+ghost use Rattle.b67_footprints.specs.Laws.{OperatorsKeep, OperatorsTouchWhatTheyReach, ValidHaveOwnStacks, OthersStayPrivate, PrivatePartsStay, OperatorsLeaveTheRest};
 ghost use Rattle.b67_footprints.specs.Worked.{NamesMayLeadAbove};
 
 /// Law: every operator asks and writes only what it reaches, and what is public.
@@ -17,6 +17,12 @@ pub fn operators_keep_to_what_they_reach()
 /// Law: each word that an operator reads or writes it reaches, or it is a word of the process that it starts.
 pub fn operators_touch_what_they_reach()
     ensures { OperatorsTouchWhatTheyReach }
+{}
+
+/// Law: in a valid image each process that lives has the stack of its number, and is one of those that were started. The laws on
+/// what is another's ask of an image no more than this.
+pub fn valid_images_have_own_stacks()
+    ensures { ValidHaveOwnStacks }
 {}
 
 /// Law: where references, the display and links lead to cells and frames below floors, an operator neither reads nor writes a
@@ -33,6 +39,11 @@ pub fn private_parts_stay()
 /// Law: so it changes the core of another below its floor only.
 pub fn cores_stay_above()
     ensures { CoresStayAbove }
+{}
+
+/// Law: and where it stores into no cell of the other's stack, it leaves the core as it is. Only STOD and STON store into cells.
+pub fn cores_stay()
+    ensures { CoresStay }
 {}
 
 /// Law: what an operator does not reach it leaves as it is: words, rows, and the registers of others.
