@@ -13,7 +13,9 @@ use Rattle.algol_meaning.specs.Asks.{ask}
 use Rattle.algol_meaning.specs.World.{Instance, Part, Process, World, instance_at, or_no_instance, ancestor, by_cell, followed}
 use Rattle.algol_paths.specs.Arrays.{DeclaredArray, an_array, Shape, shape_of, all_to_make}
 use Rattle.algol_paths.specs.Blocks.{IsSeen, IsSeenAround, IsInner}
+use Rattle.b67_word.specs.declared.Place.{Place}
 use Rattle.b67_word.specs.Word.{Word}
+use Rattle.b67_control.specs.declared.Sirw.{Sirw}
 use Rattle.b67_control.specs.Control.{as_sirw}
 use Rattle.b67_ops.specs.declared.Couple.{Couple}
 use Rattle.b67_ops.specs.declared.TheConstants.{OUTER_LEVEL}
@@ -22,6 +24,7 @@ use Rattle.b67_store.specs.Store.{word_at}
 use Rattle.b67_table.specs.Chains.{place}
 use Rattle.b67_table.specs.Image.{Image}
 use Rattle.b67_table.specs.Private.{display_at}
+use Rattle.b67_table.specs.References.{cell_place, sirw_cell}
 use Rattle.b67_templates.specs.Cells.{simple_cells, procedures, found_from, IsDeclaredArray, IsFormalArray, IsArray, declared, formal, made_of, made_from}
 use Rattle.b67_templates.specs.Programs.{Texts}
 use Rattle.b67_cores.specs.Cores.{Core}
@@ -41,6 +44,7 @@ use Rattle.b67_pictures.proofs.Parents.{length_around}
 use Rattle.b67_pictures.proofs.Scene.{Scene}
 use Rattle.b67_pictures.proofs.Staying.{level_in}
 use Rattle.b67_pictures.proofs.Subscripts.{CountsBy, by_own, by_others}
+use Rattle.b67_pictures.proofs.Touching.{NearCell, own_cell}
 
 module _ (tree : PProgram) (code : Code) (texts : Texts) (nested : AreNested (scopes_of tree)) (w : World) (lay : Layout) (img : Image)
     (p : ℕ) (q : Process) (part : Part) (outer : List Part) (bound : ℕ) (core : Core) (s : Scene tree code texts w lay img p q part outer bound core) where
@@ -58,10 +62,11 @@ module _ (tree : PProgram) (code : Code) (texts : Texts) (nested : AreNested (sc
 
   -- the cell that a couple names has this word, or a reference to the cell that has it
   pub data Reaches (couple : Couple) (word : Word) : Type 0 where
-    directly : (at : ℕ) → display_at core.registers couple.level ≡ Some (place p at) → word_at img.stacks (place p (at + couple.index)) ≡ Some word → Reaches couple word
-    by_reference : (at : ℕ) (first : Word) (high index : ℕ) → display_at core.registers couple.level ≡ Some (place p at) →
-        word_at img.stacks (place p (at + couple.index)) ≡ Some first → as_sirw first ≡ Some (record { stack = p; displacement = high; index = index }) →
-        word_at img.stacks (place p (high + index)) ≡ Some word → Reaches couple word
+    directly : (home : Place) → display_at core.registers couple.level ≡ Some home → NearCell p img (record { frame = home; index = couple.index }) →
+        word_at img.stacks (place home.stack (home.at + couple.index)) ≡ Some word → Reaches couple word
+    by_reference : (home : Place) (first : Word) (r : Sirw) → display_at core.registers couple.level ≡ Some home → NearCell p img (record { frame = home; index = couple.index }) →
+        word_at img.stacks (place home.stack (home.at + couple.index)) ≡ Some first → as_sirw first ≡ Some r → NearCell p img (sirw_cell r) →
+        word_at img.stacks (cell_place (sirw_cell r)) ≡ Some word → Reaches couple word
 
   -- The array to whose cell this reference leads: its instance, whose frame lies in the stack, its cell, its rows, and the word of its
   -- descriptor. A name of this sort means it there, which counts by that shape; so does that couple.
@@ -192,8 +197,9 @@ module _ (tree : PProgram) (code : Code) (texts : Texts) (nested : AreNested (sc
             sized = h.sized;
             descriptor = h.descriptor;
             reaches =
-                directly h.at
+                directly (place p h.at)
                 (ap (λ (k : ℕ). display_at core.registers k) level_up ∙ s.stands.chained up low ∙ h.laid)
+                (own_cell p img (record { frame = place p h.at; index = couple.index }) refl)
                 (ap (λ (k : ℕ). word_at img.stacks (place p (h.at + k))) index_is ∙ h.lies);
             fits = couple_fits;
           }
@@ -209,6 +215,9 @@ module _ (tree : PProgram) (code : Code) (texts : Texts) (nested : AreNested (sc
   module _ (n : Named) (shape : Shape) (couple : Couple) (is_seen : IsSeenThere n) (v : IsFormalArray sc level n shape couple) where
     f : FormalHome tree code texts nested w lay img p q part outer bound core s n shape couple
     f = formal_home tree code texts nested w lay img p q part outer bound core s n shape couple is_seen.seen v
+
+    abbrev leads_to : Sirw
+    leads_to = record { stack = p; displacement = f.target.at; index = array_index tree code texts w lay img p q part outer bound core s f.r.instance f.leads.array.number }
 
     formal_array_home : ArrayHome ((use_of sc n).sort) f.r shape couple
     formal_array_home =
@@ -227,7 +236,7 @@ module _ (tree : PProgram) (code : Code) (texts : Texts) (nested : AreNested (sc
           sized = f.target.sized;
           descriptor = f.target.descriptor;
           reaches =
-              by_reference f.at f.word f.target.at (array_index tree code texts w lay img p q part outer bound core s f.r.instance f.leads.array.number) f.shown f.lies f.reads f.target.lies;
+              by_reference (place p f.at) f.word leads_to f.shown (own_cell p img (record { frame = place p f.at; index = couple.index }) refl) f.lies f.reads (own_cell p img (sirw_cell leads_to) refl) f.target.lies;
           fits = f.fits;
         }
 

@@ -1,10 +1,12 @@
 -- Words of a stack that are read as descriptors, or as whole numbers.
 use Rattle.std.proofs.Common.{◌≡◌, refl, sym, ap, ◌∙◌, ℕ, ◌+◌, Some, None, Bool, true, false, ℤ}
+use Rattle.b67_word.specs.declared.Place.{Place}
 use Rattle.b67_word.specs.Word.{Word, as_whole}
 use Rattle.b67_word.proofs.WordLaws.{as_whole-operand}
 use Rattle.b67_control.specs.declared.Descriptor.{Descriptor}
 use Rattle.b67_control.specs.declared.Irw.{Irw}
 use Rattle.b67_control.specs.declared.Registers.{Registers}
+use Rattle.b67_control.specs.declared.Sirw.{Sirw}
 use Rattle.b67_control.specs.Control.{as_irw, as_sirw, as_descriptor}
 use Rattle.b67_control.proofs.ControlLaws.{irw_laws, as_sirw-other, descriptor_laws}
 use Rattle.b67_store.specs.Store.{word_at}
@@ -12,7 +14,9 @@ use Rattle.b67_table.specs.Arrays.{is_array}
 use Rattle.b67_table.specs.Chains.{place}
 use Rattle.b67_table.specs.Image.{Image}
 use Rattle.b67_table.specs.Private.{display_at}
+use Rattle.b67_table.specs.References.{cell_place, sirw_cell}
 use Rattle.b67_cores.specs.Slots.{IsNumber}
+use Rattle.b67_pictures.proofs.Touching.{NearCell}
 
 pub whole_read : (z : ℤ) (w : Word) → IsNumber z w → as_whole w ≡ Some z
 whole_read z w i = ap as_whole i.is ∙ as_whole-operand z i.whole
@@ -39,9 +43,11 @@ pub is_whole_array : (copied mother : Bool) (size n : ℕ) → is_array mother (
 is_whole_array copied true size n = refl
 is_whole_array copied false size n = refl
 
--- A word of process p that is a descriptor itself, or refers to a cell of the own stack in which one lies, or a reference to the cell of one.
+-- A word of process p that is a descriptor itself, or refers to a near cell in which one lies, or in which a reference to the near cell of one lies.
 pub data IsFound (p : ℕ) (img : Image) (r : Registers) (x : Word) : Type 0 where
   itself : as_irw x ≡ None → as_sirw x ≡ None → IsFound p img r x
-  in_cell : (i : Irw) (at : ℕ) (w : Word) → as_irw x ≡ Some i → display_at r i.level ≡ Some (place p at) → word_at img.stacks (place p (at + i.index)) ≡ Some w → as_sirw w ≡ None → IsFound p img r x
-  through_cell : (i : Irw) (at : ℕ) (v : Word) (high index : ℕ) (w : Word) → as_irw x ≡ Some i → display_at r i.level ≡ Some (place p at) → word_at img.stacks (place p (at + i.index)) ≡ Some v →
-      as_sirw v ≡ Some (record { stack = p; displacement = high; index = index }) → word_at img.stacks (place p (high + index)) ≡ Some w → as_sirw w ≡ None → IsFound p img r x
+  in_cell : (i : Irw) (home : Place) (w : Word) → as_irw x ≡ Some i → display_at r i.level ≡ Some home → NearCell p img (record { frame = home; index = i.index }) →
+      word_at img.stacks (place home.stack (home.at + i.index)) ≡ Some w → as_sirw w ≡ None → IsFound p img r x
+  through_cell : (i : Irw) (home : Place) (v : Word) (s : Sirw) (w : Word) → as_irw x ≡ Some i → display_at r i.level ≡ Some home → NearCell p img (record { frame = home; index = i.index }) →
+      word_at img.stacks (place home.stack (home.at + i.index)) ≡ Some v → as_sirw v ≡ Some s → NearCell p img (sirw_cell s) → word_at img.stacks (cell_place (sirw_cell s)) ≡ Some w → as_sirw w ≡ None →
+      IsFound p img r x

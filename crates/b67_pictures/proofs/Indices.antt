@@ -16,7 +16,6 @@ use Rattle.b67_ops.specs.declared.Couple.{Couple}
 use Rattle.b67_segment.specs.declared.code.Code.{Code}
 use Rattle.b67_store.specs.Store.{row_limit}
 use Rattle.b67_table.specs.Arrays.{is_array, array_of, array_word, index_in}
-use Rattle.b67_table.specs.Chains.{place}
 use Rattle.b67_table.specs.Image.{Image}
 use Rattle.b67_table.specs.Look.{seen}
 use Rattle.b67_table.specs.Private.{frame}
@@ -117,15 +116,15 @@ module _ (tree : PProgram) (code : Code) (texts : Texts) (nested : AreNested (sc
     -- by a reference to the array
     module _ (mother : Bool) (x : Word) (d : Descriptor) (x_is : as_irw x ≡ Some (record { level = couple.level; index = couple.index })) (fits : is_array mother d ≡ true) (is : IsDescriptor h.word d) where
       array_found : Reaches tree code texts nested w lay img p q part outer bound core s couple h.word → seen img.stacks (array_of core.registers mother x) ≡ Ok d
-      array_found (directly at shown lies) =
-          array_reached img core.registers mother x d fits couple.level couple.index (place p at) h.word x_is shown lies is.no_sirw is.reads
-      array_found (by_reference at first high index shown lies refers there) =
-          array_through img core.registers mother x d fits couple.level couple.index (place p at) first (record { stack = p; displacement = high; index = index }) h.word x_is shown lies refers there is.no_sirw is.reads
+      array_found (directly at shown near lies) =
+          array_reached img core.registers mother x d fits couple.level couple.index at h.word x_is shown lies is.no_sirw is.reads
+      array_found (by_reference at first r shown near lies refers further there) =
+          array_through img core.registers mother x d fits couple.level couple.index at first r h.word x_is shown lies refers there is.no_sirw is.reads
 
       is_found : Reaches tree code texts nested w lay img p q part outer bound core s couple h.word → IsFound p img core.registers x
-      is_found (directly at shown lies) = in_cell (record { level = couple.level; index = couple.index }) at h.word x_is shown lies is.no_sirw
-      is_found (by_reference at first high index shown lies refers there) =
-          through_cell (record { level = couple.level; index = couple.index }) at first high index h.word x_is shown lies refers there is.no_sirw
+      is_found (directly at shown near lies) = in_cell (record { level = couple.level; index = couple.index }) at h.word x_is shown near lies is.no_sirw
+      is_found (by_reference at first r shown near lies refers further there) =
+          through_cell (record { level = couple.level; index = couple.index }) at first r h.word x_is shown near lies refers further there is.no_sirw
 
     referred : (mother : Bool) (size m : ℕ) (z : ℤ) (below : List Slot) → s.stands.slots ≡ reference couple ∷ operand (number z) ∷ below → h.word ≡ array_word mother size m → size ≤ 1048576 → m < row_limit →
         Finds mother z (whole_array false mother size m) below

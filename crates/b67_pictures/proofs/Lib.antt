@@ -36,6 +36,7 @@ pub mod FreshCells
 pub mod Scene
 pub mod Ancestors
 pub mod StoringFrames
+pub mod StoringOthers
 pub mod Storing
 pub mod Calling
 pub mod Reading
@@ -83,6 +84,7 @@ pub mod TouchingNames
 pub mod TouchingWords
 pub mod TouchingCells
 pub mod TouchingCalls
+pub mod TouchingOthers
 pub mod TouchingScene
 pub mod TouchingElements
 pub mod TouchingApart

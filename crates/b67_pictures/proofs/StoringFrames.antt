@@ -58,11 +58,11 @@ abbrev pub put : Option Word → List Word → ℕ → List Word
 put None words k = words
 put (Some x) words k = slice_set words k x
 
-length_put : (o : Option Word) (words : List Word) (k : ℕ) → length (put o words k) ≡ length words
+pub length_put : (o : Option Word) (words : List Word) (k : ℕ) → length (put o words k) ≡ length words
 length_put None words k = refl
 length_put (Some x) words k = length-set words k x
 
-put_first : (o : Option Word) (first second : List Word) (k : ℕ) → (IsStored o → k < length first) → put o (first ++ second) k ≡ put o first k ++ second
+pub put_first : (o : Option Word) (first second : List Word) (k : ℕ) → (IsStored o → k < length first) → put o (first ++ second) k ≡ put o first k ++ second
 put_first None first second k low = refl
 put_first (Some x) first second k low = set_first first second k x (low tt)
 

@@ -1,5 +1,7 @@
--- What an operator reaches lies in the process's own stack and in the system's, where the cells do that it names.
-use Rattle.std.proofs.Common.{◌≡◌, ◌⊎◌, inl, inr, ap, ◌∙◌, ℕ, ◌+◌, ◌≤◌, Some, None}
+-- What an operator reaches is in the private part of no other process, where near are the cells that it names and the frames to which marks and the
+-- display lead.
+use Rattle.std.proofs.Common.{◌≡◌, refl, sym, ap, ◌∙◌, ℕ, ◌+◌, ◌-◌, ◌<◌, ◌≤◌, Some, arith}
+use Rattle.b67_list.specs.Numbered.{numbered}
 use Rattle.b67_word.specs.declared.Place.{Place}
 use Rattle.b67_word.specs.Word.{Word}
 use Rattle.b67_control.specs.declared.Registers.{Registers}
@@ -11,67 +13,104 @@ use Rattle.b67_ops.specs.declared.Operator.TheVariants as ops
 use Rattle.b67_ops.specs.declared.PlainKind.TheVariants as kinds
 use Rattle.b67_store.specs.Store.{word_at}
 use Rattle.b67_table.specs.declared.Cell.{Cell}
-use Rattle.b67_table.specs.Chains.{place}
+use Rattle.b67_table.specs.Chains.{place, link_of}
+use Rattle.b67_table.specs.References.{cell_place}
 use Rattle.b67_table.specs.Image.{Image, critical_of}
-use Rattle.b67_table.specs.Private.{display_at}
+use Rattle.b67_table.specs.Private.{display_at, floor}
 use Rattle.b67_table.specs.Rows.{level_below}
-use Rattle.b67_footprints.specs.Reaching.{NamesCell, LeadsTo, Reaches}
-use Rattle.b67_footprints.proofs.Within.{AreLed, led_are, reached_are}
+use Rattle.b67_table.specs.Sound.{Lives}
+use Rattle.b67_footprints.specs.Reaching.{NamesCell, LeadsTo}
+use Rattle.b67_footprints.specs.Laws.{IsOfNoOther, HaveOwnStacks, ReachesNoOther}
+use Rattle.b67_footprints.proofs.Within.{AreLed, led_are}
+use Rattle.b67_faithful.proofs.Contradictions.{some_same, none_some}
 
--- the stack of a process, or the system's
-abbrev pub Near : ℕ → ℕ → Type 0
-Near p stack = (stack ≡ p) ⊎ (stack ≡ 0)
+-- ---- places
 
--- A word of a process that, where it is a mark, has a link to one of the two stacks.
-pub record LeadsNear (p : ℕ) (w : Word) : Type 0 where
-  pub link : (m : Mscw) → as_mscw w ≡ Some m → Near p m.stack
+-- a place of the process's own stack, or of the system's, or below the floor of the process whose stack it is
+pub data Near (p : ℕ) (img : Image) (x : Place) : Type 0 where
+  own_stack : x.stack ≡ p → Near p img x
+  system : x.stack ≡ 0 → Near p img x
+  below_floor : (r : Registers) → Lives img x.stack r → x.at < floor r → Near p img x
 
--- so does each word of the two stacks
-pub record AllLeadNear (p : ℕ) (img : Image) : Type 0 where
-  pub each : (x : Place) (w : Word) → Near p x.stack → word_at img.stacks x ≡ Some w → LeadsNear p w
+-- a mark, with the place above it
+abbrev pub NearFrame : ℕ → Image → Place → Type 0
+NearFrame p img f = Near p img f × Near p img (place f.stack (f.at + 1))
 
--- a process of an image whose marks and whose display lead to the two stacks, and that depends on no place
+-- a cell, with its frame
+abbrev pub NearCell : ℕ → Image → Cell → Type 0
+NearCell p img c = NearFrame p img c.frame × Near p img (cell_place c)
+
+-- the frame so high in a stack
+abbrev pub FrameAt : ℕ → Image → ℕ → ℕ → Type 0
+FrameAt p img stack at = NearFrame p img (place stack at)
+
+module _ (p : ℕ) (img : Image) where
+  pub system_frame : (n : ℕ) → FrameAt p img 0 n
+  system_frame n = (system refl, system refl)
+
+  pub own_frame : (f : Place) → f.stack ≡ p → NearFrame p img f
+  own_frame f e = (own_stack e, own_stack e)
+
+  pub own_cell : (c : Cell) → c.frame.stack ≡ p → NearCell p img c
+  own_cell c e = (own_frame c.frame e, own_stack e)
+
+  pub system_cell : (c : Cell) → c.frame.stack ≡ 0 → NearCell p img c
+  system_cell c e = ((system e, system e), system e)
+
+  -- so is what lies lower in that stack
+  pub lower_near : (x : Place) (n : ℕ) → n ≤ x.at → Near p img x → Near p img (place x.stack n)
+  lower_near x n low (own_stack e) = own_stack e
+  lower_near x n low (system e) = system e
+  lower_near x n low (below_floor r lives high) = below_floor r lives (omega (arith, low, high))
+
+  -- it is in the private part of no other
+  pub near_apart : HaveOwnStacks img → (x : Place) → Near p img x → IsOfNoOther img p x
+  near_apart own x (own_stack e) q o there private = sym e ∙ private.0 ∙ (own q o there).0
+  near_apart own x (system e) q o there private =
+      let none : 0 ≡ q = sym e ∙ private.0 ∙ (own q o there).0 in
+      none_some (ap (λ (n : ℕ). numbered img.regs n) none ∙ there.is)
+  near_apart own x (below_floor r lives low) q o there private =
+      let number : x.stack ≡ q = private.0 ∙ (own q o there).0 in
+      let same : r ≡ o = some_same (sym lives.is ∙ ap (λ (n : ℕ). numbered img.regs n) number ∙ there.is) in
+      absurd (omega (arith, low, private.1, ap floor same))
+
+-- ---- where a process stands
+
+-- a process of an image: near are the frames to which near marks and its display lead, and the critical places of the processes of near stacks
 pub record IsNear (p : ℕ) (img : Image) (r : Registers) : Type 0 where
   pub own : r.stack ≡ p
-  pub leads : AllLeadNear p img
-  pub shows : (f : Place) (level : ℕ) → 2 ≤ level → level ≤ r.ll → display_at r level ≡ Some f → Near p f.stack
-  pub free : critical_of img.regs p ≡ None
+  pub links : (x : Place) (w : Word) (m : Mscw) → Near p img x → word_at img.stacks x ≡ Some w → as_mscw w ≡ Some m → NearFrame p img (link_of m)
+  pub shows : (f : Place) (level : ℕ) → 2 ≤ level → level ≤ r.ll → display_at r level ≡ Some f → NearFrame p img f
+  pub depends : (f c : Place) → Near p img f → critical_of img.regs f.stack ≡ Some c → NearFrame p img c
 
--- an operator names cells of the two stacks, and enters procedures around which the display names frames of theirs
+-- an operator names near cells, and enters procedures around which the display names near frames
 pub record NamesNear (p : ℕ) (img : Image) (op : Operator) (r : Registers) : Type 0 where
-  pub cells : (c : Cell) → NamesCell img op r c → Near p c.frame.stack
+  pub cells : (c : Cell) → NamesCell img op r c → NearCell p img c
   pub around : (f : Place) (w : Word) (pcw : Pcw) → op ≡ ops.Plain kinds.Entr → word_at img.stacks (place r.stack (r.f + 1)) ≡ Some w → as_pcw w ≡ Some pcw →
-      level_below r pcw.level ≡ Some f → Near p f.stack
+      level_below r pcw.level ≡ Some f → NearFrame p img f
 
 module _ (p : ℕ) (img : Image) (r : Registers) (near : IsNear p img r) (op : Operator) (names : NamesNear p img op r) where
   abbrev IsThere : Place → Type 0
-  IsThere x = Near p x.stack
-
-  -- no process depends on another
-  independent : (f c : Place) → Near p f.stack → critical_of img.regs f.stack ≡ Some c → Near p c.stack
-  independent f c (inl own) e = let gone : critical_of img.regs f.stack ≡ None = ap (critical_of img.regs) own ∙ near.free in cc
-  independent f c (inr system) e = let gone : critical_of img.regs f.stack ≡ None = ap (critical_of img.regs) system in cc
+  IsThere f = NearFrame p img f
 
   led : AreLed img op r IsThere
   led =
       record {
-        own = λ f e. inl (e ∙ near.own);
+        own = λ f e. own_frame p img f (e ∙ near.own);
         shown = near.shows;
         around = names.around;
-        home = λ c w pcw k there is. names.cells c k;
-        linked = λ f w m k there is. (near.leads.each f w k there).link m is;
-        lower = λ f w m k there is. k;
-        depends = independent;
+        home = λ c w pcw k there is. (names.cells c k).0;
+        linked = λ f w m k there is. near.links f w m k.0 there is;
+        lower = λ f w m k there is. (lower_near p img f (f.at - m.df) (omega arith) k.0, lower_near p img (place f.stack (f.at + 1)) (f.at - m.df + 1) (omega arith) k.1);
+        depends = λ f c k e. near.depends f c k.0 e;
       }
 
-  led_near : (f : Place) → LeadsTo img op r f → Near p f.stack
+  led_near : (f : Place) → LeadsTo img op r f → NearFrame p img f
   led_near f k = led_are img op r IsThere led k
 
-  pub reached_near : (x : Place) → Reaches img op r x → Near p x.stack
-  reached_near x k =
-      reached_are img op r IsThere
-      (record {
-        own = λ y e. inl (e ∙ near.own);
-        cell = names.cells;
-        mark = λ f i. (led_near f i, led_near f i);
-      }) k
+  pub reaches_no_other : HaveOwnStacks img → ReachesNoOther img p op r
+  reaches_no_other own =
+      record {
+        cells = λ c k. near_apart p img own (cell_place c) (names.cells c k).1;
+        marks = λ f k. (near_apart p img own f (led_near f k).0, near_apart p img own (place f.stack (f.at + 1)) (led_near f k).1);
+      }

@@ -1,5 +1,5 @@
 -- No operator of a pictured image reads or writes a word in the private part of another process.
-use Rattle.std.proofs.Common.{◌≡◌, inl, inr, refl, sym, ap, ◌∙◌, subst, ℕ, ◌+◌, ◌-◌, ◌<◌, List, [], ◌∷◌, length, Option, Some, None, Bool, true, false, arith, ◌^◌, ◌++◌}
+use Rattle.std.proofs.Common.{◌≡◌, refl, sym, ap, ◌∙◌, subst, ℕ, ◌+◌, ◌-◌, ◌<◌, List, [], ◌∷◌, length, Some, None, Bool, true, false, arith, ◌^◌, ◌++◌}
 use Rattle.std.specs.Prelude.{if◌then◌else◌, nat_le, pos}
 use Rattle.b67_list.specs.Numbered.{numbered}
 use Rattle.algol_tree.specs.declared.token.Spot.{Spot}
@@ -30,12 +30,11 @@ use Rattle.b67_segment.specs.Operators.{Placed}
 use Rattle.b67_segment.specs.declared.code.Code.{Code}
 use Rattle.b67_store.specs.Store.{word_at}
 use Rattle.b67_table.specs.Chains.{place}
-use Rattle.b67_table.specs.Image.{Image, is_live}
+use Rattle.b67_table.specs.Image.{Image}
 use Rattle.b67_table.specs.Private.{display_at, frame}
 use Rattle.b67_table.specs.Rows.{level_below}
 use Rattle.b67_table.specs.Sound.{Lives, OperatorTouches}
 use Rattle.b67_table.specs.Touches.{IsPrivate}
-use Rattle.b67_table.proofs.Lists.{numbered_within}
 use Rattle.b67_templates.specs.Cells.{Wanted, parameter_wants}
 use Rattle.b67_templates.specs.Code.{stmts_count}
 use Rattle.b67_templates.specs.Contexts.{Context}
@@ -47,26 +46,28 @@ use Rattle.b67_standing.specs.Stepping.{Slot, control, intrinsic, mark, operand,
 use Rattle.b67_cores.specs.Cores.{Core, HasCore, CoreStep, CoreSteps, here, onward}
 use Rattle.b67_cores.specs.Slots.{newest, SlotIs, SlotsAre}
 use Rattle.b67_cores.proofs.Moving.{slots_length}
-use Rattle.b67_faithful.proofs.Contradictions.{some_same, none_some, true_false}
+use Rattle.b67_faithful.proofs.Contradictions.{some_same, none_some}
 use Rattle.b67_fitting.specs.Nested.{AreNested}
+use Rattle.b67_footprints.specs.Laws.{LeadsBelow}
+use Rattle.b67_footprints.proofs.Apart.{others_stay_private}
 use Rattle.b67_pictures.specs.Arrays.{Layout}
-use Rattle.b67_pictures.specs.Pictures.{Living, Pictured, living, dead, PicturesBy}
+use Rattle.b67_pictures.specs.Pictures.{Living, PicturesBy}
 use Rattle.b67_pictures.proofs.GivenWords.{AreFit, none_wanted, are_fit, Taken, taken_words}
 use Rattle.b67_pictures.proofs.Asked.{reads_seen, stores_seen}
 use Rattle.b67_pictures.proofs.AskedEntries.{enters_seen}
-use Rattle.b67_pictures.proofs.Numbers.{numbered_beyond}
 use Rattle.b67_pictures.proofs.Scene.{Scene, scene_of, shown_frame}
 use Rattle.b67_pictures.proofs.Slotted.{Top, top_slot}
 use Rattle.b67_pictures.proofs.Yielding.{result_given}
 use Rattle.b67_pictures.proofs.Staying.{text_in, level_in, context_in, most_in}
 use Rattle.b67_pictures.proofs.Words.{no_sirw, reference_read}
-use Rattle.b67_pictures.proofs.Touching.{Near, NamesNear}
-use Rattle.b67_pictures.proofs.TouchingOperators.{TouchesFrom, private_near, operator_private}
+use Rattle.b67_pictures.proofs.Touching.{NearFrame, own_frame, NamesNear}
+use Rattle.b67_pictures.proofs.TouchingOperators.{StandsNear, privately, near_reaches, operator_private}
+use Rattle.b67_pictures.proofs.TouchingOthers.{LivesThere, lives_there, own_stacks}
 use Rattle.b67_pictures.proofs.TouchingCells.{IsOperand, IsEntry, Names, variable_there, result_there, procedure_there}
 use Rattle.b67_pictures.proofs.TouchingCalls.{under_top, call_names}
 use Rattle.b67_pictures.proofs.TouchingElements.{element_read_near, indexed_near, element_stored_near, passed_near, made_near}
 use Rattle.b67_pictures.proofs.TouchingNames.{value_names, none_named, branch_names, cell_named, no_kind, block_names, entry_names}
-use Rattle.b67_pictures.proofs.TouchingScene.{Comes, by_names, by_class}
+use Rattle.b67_pictures.proofs.TouchingScene.{by_names, by_class}
 use Rattle.b67_pictures.proofs.TouchingWords.{level_known, couple_fits, procedure_fits, pcw_kind}
 
 -- ---- a process at its action
@@ -75,9 +76,12 @@ module _ (tree : PProgram) (code : Code) (texts : Texts) (nested : AreNested (sc
   abbrev sc : Scopes
   sc = scopes_of tree
 
-  module _ (p : ℕ) (q : Process) (part : Part) (outer : List Part) (bound : ℕ) (core : Core) (s : Scene tree code texts w lay img p q part outer bound core) (x : Place) (t : TouchesFrom code img p x core.registers) where
+  module _ (p : ℕ) (q : Process) (part : Part) (outer : List Part) (bound : ℕ) (core : Core) (s : Scene tree code texts w lay img p q part outer bound core) where
     abbrev r : Registers
     r = core.registers
+
+    abbrev Comes : Type 0
+    Comes = StandsNear code p img core.registers
 
     abbrev level : ℕ
     level = level_in tree w part
@@ -101,31 +105,31 @@ module _ (tree : PProgram) (code : Code) (texts : Texts) (nested : AreNested (sc
     known : level < 32
     known = level_known tree code texts nested w lay p part outer core s.stands s.around
 
-    by_op : (op : Operator) (next : ℕ) → Has text level s.stands.pc op next → NamesNear p img op r → Comes img p x
-    by_op = by_names tree code texts nested w lay img p q part outer bound core s x t
+    by_op : (op : Operator) (next : ℕ) → Has text level s.stands.pc op next → NamesNear p img op r → Comes
+    by_op = by_names tree code texts nested w lay img p q part outer bound core s
 
     -- ---- cells
 
     -- what the display names
-    shown_near : (at l : ℕ) → display_at r l ≡ Some (place p at) → (f : Place) → display_at r l ≡ Some f → Near p f.stack
-    shown_near at l shown f e = inl (ap (λ (y : Place). y.stack) (some_same (sym e ∙ shown)))
+    shown_near : (at l : ℕ) → display_at r l ≡ Some (place p at) → (f : Place) → display_at r l ≡ Some f → NearFrame p img f
+    shown_near at l shown f e = own_frame p img f (ap (λ (y : Place). y.stack) (some_same (sym e ∙ shown)))
 
-    operand_near : (couple : Couple) (next : ℕ) → Has text level s.stands.pc (ops.Valc couple) next → InCell couple IsOperand → Comes img p x
-    operand_near couple next has_it c = by_op (ops.Valc couple) next has_it (value_names p img r couple (place p c.at) c.shown (inl refl) c.word c.lies (no_sirw c.word c.is))
+    operand_near : (couple : Couple) (next : ℕ) → Has text level s.stands.pc (ops.Valc couple) next → InCell couple IsOperand → Comes
+    operand_near couple next has_it c = by_op (ops.Valc couple) next has_it (value_names p img r couple c.home c.shown c.near c.word c.lies (no_sirw c.word c.is))
 
     -- ---- actions
 
-    read_near : (n : Named) → ask part.rest ≡ reads n → At (reads n) → Comes img p x
+    read_near : (n : Named) → ask part.rest ≡ reads n → At (reads n) → Comes
     read_near n e a =
         let seen : IsSeen sc block n = reads_seen (IsSeen sc block) n (IsInner sc block) (IsSeenAround sc block) (λ (seen : IsSeenAround sc block n). seen.0) part.rest e s.stands.frame.text in
         operand_near a.2.0 a.1 a.2.2 (variable_there tree code texts nested w lay img p q part outer bound core s n a.0 a.2.0 seen a.2.1)
 
-    result_near : (name : List ℕ) → At (reads_result name) → Comes img p x
+    result_near : (name : List ℕ) → At (reads_result name) → Comes
     result_near name a =
         operand_near a.0.couple a.0.valued a.0.read
         (result_there tree code texts nested w lay img p q part outer bound core s a.0.kind (result_given _ a.0.kind a.0.is) a.0.couple a.0.level_is a.0.index_is)
 
-    stored_near : (n : Named) (v : Value) → ask part.rest ≡ stores (own n) v → At (stores (own n) v) → Comes img p x
+    stored_near : (n : Named) (v : Value) → ask part.rest ≡ stores (own n) v → At (stores (own n) v) → Comes
     stored_near n v e a =
         let seen : IsSeen sc block n = stores_seen (IsSeen sc block) n (IsInner sc block) (IsSeenAround sc block) (λ (seen : IsSeenAround sc block n). seen.0) part.rest v e s.stands.frame.text in
         let couple : Couple = a.2.couple in
@@ -139,22 +143,22 @@ module _ (tree : PProgram) (code : Code) (texts : Texts) (nested : AreNested (sc
         by_op (ops.Plain kinds.Stod) a.0 a.2.stands
         (cell_named p img r kinds.Stod (λ f. cc) (r.s - 2) (λ m f. f) second.word
         (under_top img p core s.has (first.word ∷ []) second.word second.words_below top (r.s - 2) (omega (arith, s.has.is.top, ap length top))) (λ follows. follows)
-        (record { level = couple.level; index = couple.index }) (place p c.at) (ap as_irw second.slot_is ∙ reference_read couple fits.0 fits.1) c.shown (inl refl))
+        (record { level = couple.level; index = couple.index }) c.home (ap as_irw second.slot_is ∙ reference_read couple fits.0 fits.1) c.shown c.near)
 
-    left_near : At (leaves done) → Comes img p x
+    left_near : At (leaves done) → Comes
     left_near a = by_op (ops.Plain kinds.Exit) a.0 a.2 (none_named p img r kinds.Exit (λ e. cc) (λ n takes. takes))
 
-    given_near : (v : Value) → At (leaves (value v)) → Comes img p x
+    given_near : (v : Value) → At (leaves (value v)) → Comes
     given_near v a = by_op (ops.Plain kinds.Retn) a.1 a.4 (none_named p img r kinds.Retn (λ e. cc) (λ n takes. takes))
 
     called : (name : Intrinsic) (vs : List Value) (below : List Slot) → s.stands.slots ≡ operands vs (intrinsic name ∷ mark ∷ below) → NamesNear p img (ops.Plain kinds.Entr) r
     called name vs below lies =
         call_names img p core s.has s.by.system s.sees sc s.stands.held level (frame r) s.stands.slots s.stands.there.mark_is s.stands.there.words_are name vs below lies
 
-    written_near : (phrases : List PhraseText) (vs : List Value) → At (writes phrases vs) → Comes img p x
+    written_near : (phrases : List PhraseText) (vs : List Value) → At (writes phrases vs) → Comes
     written_near phrases vs a = by_op (ops.Plain kinds.Entr) a.0 a.2.stands (called names.Write (number (pos a.2.format) ∷ vs) a.1 a.2.lies)
 
-    selected_near : (v : Value) (ss : PStmts) → At (selects v ss) → Comes img p x
+    selected_near : (v : Value) (ss : PStmts) → At (selects v ss) → Comes
     selected_near v ss a =
         by_op (ops.Plain kinds.Entr) a.0 a.2.stands (called names.Select (v ∷ number (pos (stmts_count ss)) ∷ number (pos a.0) ∷ []) a.1 a.2.lies)
 
@@ -172,18 +176,18 @@ module _ (tree : PProgram) (code : Code) (texts : Texts) (nested : AreNested (sc
         (first.word, first.slot_is, under_top img p core s.has g.arguments first.word first.words_below (g.is ∙ ap (λ (ws : List Word). g.arguments ++ ws) first.is) (r.f + 1) (omega (arith, f, many)))
 
     -- the level around a block is that of the part's own frame
-    home_near : (h : Place) → level_below r (level + 1) ≡ Some h → Near p h.stack
+    home_near : (h : Place) → level_below r (level + 1) ≡ Some h → NearFrame p img h
     home_near h e = by_test (nat_le 1 (level + 1)) e
       where
         same : level + 1 - 1 ≡ r.ll
         same = omega (arith, s.stands.there.level_is)
 
-        by_test : (b : Bool) → (if b then display_at r (level + 1 - 1) else None) ≡ Some h → Near p h.stack
+        by_test : (b : Bool) → (if b then display_at r (level + 1 - 1) else None) ≡ Some h → NearFrame p img h
         by_test true f =
             shown_near (length s.stands.frame.lower) (level + 1 - 1) (ap (λ (l : ℕ). display_at r l) same ∙ shown_frame tree code texts w lay img p q part outer bound core s) h f
         by_test false f = none_some f
 
-    block_near : (spot : Spot) (ds : PDecls) (ss : PStmts) → At (enters_block (tree_forms.body spot ds ss)) → Comes img p x
+    block_near : (spot : Spot) (ds : PDecls) (ss : PStmts) → At (enters_block (tree_forms.body spot ds ss)) → Comes
     block_near spot ds ss a =
         let c : Pcw = code_at context.segment a.2.begin (level + 1) in
         let above = above_mark [] [] none_wanted (control c) a.1 a.2.lies refl in
@@ -193,7 +197,7 @@ module _ (tree : PProgram) (code : Code) (texts : Texts) (nested : AreNested (sc
         (ap as_sirw above.1 ∙ as_sirw-other (pcw_word c) (λ k. let is = sym (pcw_kind c) ∙ k in cc)) c
         (ap as_pcw above.1 ∙ as_pcw-pcw_word c a.2.fits) refl home_near)
 
-    called_near : (n : Named) (gs : List Given) → ask part.rest ≡ enters n gs → At (enters n gs) → Comes img p x
+    called_near : (n : Named) (gs : List Given) → ask part.rest ≡ enters n gs → At (enters n gs) → Comes
     called_near n gs e a =
         let seen : IsSeen sc block n = (enters_seen (IsSeen sc block) n gs (IsInner sc block) (IsSeenAround sc block) (λ m (seen : IsSeenAround sc block m). seen.0) part.rest e s.stands.frame.text).0 in
         let couple : Couple = a.3.couple in
@@ -201,13 +205,13 @@ module _ (tree : PProgram) (code : Code) (texts : Texts) (nested : AreNested (sc
         let above = above_mark (parameter_wants sc a.0) gs (are_fit sc level (parameter_wants sc a.0) gs a.3.fit) (reference couple) a.2 a.3.lies refl in
         let c : InCell couple IsEntry = procedure_there tree code texts nested w lay img p q part outer bound core s n a.0 couple seen a.3.procedure in
         by_op (ops.Plain kinds.Entr) a.1 a.3.stands
-        (entry_names p img r above.0 above.2 (record { level = couple.level; index = couple.index }) (ap as_irw above.1 ∙ reference_read couple fits.0 fits.1) (place p c.at) c.shown (inl refl)
+        (entry_names p img r above.0 above.2 (record { level = couple.level; index = couple.index }) (ap as_irw above.1 ∙ reference_read couple fits.0 fits.1) c.home c.shown c.near
         c.word c.lies c.is.no_sirw (λ kind n u d after there names. no_kind p img r above.0 above.2 c.word c.is.control c.is.reads c.is.no_intrinsic kind))
 
-    by_ask : (k : Ask) → ask part.rest ≡ k → At k → Comes img p x
+    by_ask : (k : Ask) → ask part.rest ≡ k → At k → Comes
     by_ask (reads n) e a = read_near n e a
     by_ask (fails fault) e a =
-        by_class tree code texts nested w lay img p q part outer bound core s x t (ops.Plain (operator_for a.0)) a.3 a.5.stands (operator_private a.0 r.place)
+        by_class tree code texts nested w lay img p q part outer bound core s (ops.Plain (operator_for a.0)) a.3 a.5.stands (operator_private a.0 r.place)
     by_ask (stores (own n) v) e a = stored_near n v e a
     by_ask turns e a =
         by_op (ops.Branch Brun a.0) a.1 a.2.stands (branch_names p img r Brun a.0)
@@ -222,20 +226,20 @@ module _ (tree : PProgram) (code : Code) (texts : Texts) (nested : AreNested (sc
     by_ask (leaves (at_place y)) e a = absurd a
     by_ask (leaves entered) e a = absurd a
     by_ask (stores (there y) v) e a = absurd a
-    by_ask (stores (element_of y ks) v) e a = element_stored_near tree code texts nested w lay img p q part outer bound core s x t y ks v a
+    by_ask (stores (element_of y ks) v) e a = element_stored_near tree code texts nested w lay img p q part outer bound core s y ks v a
     by_ask nothing e a = absurd a
-    by_ask (reads_element n ks v) e a = element_read_near tree code texts nested w lay img p q part outer bound core s x t n ks v e a
-    by_ask (indexes n ks v) e a = indexed_near tree code texts nested w lay img p q part outer bound core s x t n ks v e a
+    by_ask (reads_element n ks v) e a = element_read_near tree code texts nested w lay img p q part outer bound core s n ks v e a
+    by_ask (indexes n ks v) e a = indexed_near tree code texts nested w lay img p q part outer bound core s n ks v e a
     by_ask (asks_happened n) e a = absurd a
-    by_ask (passes n) e a = passed_near tree code texts nested w lay img p q part outer bound core s x t n e a
+    by_ask (passes n) e a = passed_near tree code texts nested w lay img p q part outer bound core s n e a
     by_ask (resolves n) e a = absurd a
     by_ask (goes_to n) e a = absurd a
     by_ask (starts n gs task) e a = absurd a
     by_ask (acts y n) e a = absurd a
-    by_ask (makes_arrays kind ns pairs vs) e a = made_near tree code texts nested w lay img p q part outer bound core s x t kind ns pairs vs a
+    by_ask (makes_arrays kind ns pairs vs) e a = made_near tree code texts nested w lay img p q part outer bound core s kind ns pairs vs a
     by_ask (makes_event n) e a = absurd a
 
-    pub standing_near : Comes img p x
+    pub standing_near : Comes
     standing_near =
         let on : GoesOn sc context text level (most_in tree w part) part.rest s.stands.pc s.stands.slots =
         rests sc context text level (most_in tree w part) part.rest s.stands.pc s.stands.slots s.stands.stands s.stands.asks in
@@ -244,55 +248,30 @@ module _ (tree : PProgram) (code : Code) (texts : Texts) (nested : AreNested (sc
   -- ---- a process that lives
 
   module _ (by : PicturesBy tree code texts w lay img) where
-    record LivesThere (p : ℕ) : Type 0 where
-      process : Process
-      is : numbered w.processes p ≡ Some process
-      living_is : Living tree code texts w lay img p process
-
-    lives_there : (p : ℕ) → is_live (numbered img.states p) ≡ true → LivesThere p
-    lives_there p live = by_number (numbered w.processes p) refl
+    operator_near : (p : ℕ) (q : Process) → numbered w.processes p ≡ Some q → (l : Living tree code texts w lay img p q) → StandsNear code p img l.core.registers
+    operator_near p q at l = by_steps l.steps refl refl
       where
-        by_picture : (q : Process) → numbered w.processes p ≡ Some q → Pictured tree code texts w lay img p q → LivesThere p
-        by_picture q e (living able_is able_p l) = record { process = q; is = e; living_is = l }
-        by_picture q e (dead ended_is ended_p) = true_false live (ap is_live ended_p)
-
-        by_number : (o : Option Process) → numbered w.processes p ≡ o → LivesThere p
-        by_number (Some q) e = by_picture q e (by.each p q e)
-        by_number None e = true_false live (ap is_live (numbered_beyond w.processes img.states p by.states e))
-
-    operator_near : (p : ℕ) (q : Process) → numbered w.processes p ≡ Some q → (l : Living tree code texts w lay img p q) → (x : Place) → TouchesFrom code img p x l.core.registers → Comes img p x
-    operator_near p q at l x t = by_steps l.steps refl refl
-      where
-        settled_near : l.core ≡ l.settled → Comes img p x
+        settled_near : l.core ≡ l.settled → StandsNear code p img l.core.registers
         settled_near same =
             let found = scene_of tree code texts w lay img p q by at l (subst (λ (c : Core). HasCore img p c) same l.has) in
-            standing_near p q found.0 found.1 l.bound l.settled found.2 x (subst (λ (c : Core). TouchesFrom code img p x c.registers) same t)
+            subst (λ (c : Core). StandsNear code p img c.registers) (sym same) (standing_near p q found.0 found.1 l.bound l.settled found.2)
 
-        step_near : (c b : Core) → c ≡ l.core → CoreStep code c b → Comes img p x
-        step_near c b same step =
-            inl (private_near code img p x c.registers (ap (λ (d : Core). d.registers.stack) same ∙ l.has.own) (subst (λ (d : Core). TouchesFrom code img p x d.registers) (sym same) t) step.op step.next
-            step.stands step.private)
+        step_near : (c b : Core) → c ≡ l.core → CoreStep code c b → StandsNear code p img l.core.registers
+        step_near c b same step = subst (λ (d : Core). StandsNear code p img d.registers) same (privately step.op step.next step.stands step.private)
 
-        by_steps : {n : ℕ} {c d : Core} → CoreSteps code l.bound n c d → c ≡ l.core → d ≡ l.settled → Comes img p x
+        by_steps : {n : ℕ} {c d : Core} → CoreSteps code l.bound n c d → c ≡ l.core → d ≡ l.settled → StandsNear code p img l.core.registers
         by_steps (here fits) f g = settled_near (sym f ∙ g)
         by_steps (onward {a = c} {b = b} fits step more) f g = step_near c b f step
 
-    pub stand_apart : (p q : ℕ) (x : Place) (r : Registers) → OperatorTouches code img p x → Lives img q r → IsPrivate r x → p ≡ q
-    stand_apart p q x r touches lives private =
-        let a : LivesThere p = lives_there p touches.lives.live in
-        let b : LivesThere q = lives_there q lives.live in
-        let own_registers : touches.registers ≡ a.living_is.core.registers = some_same (sym touches.lives.is ∙ a.living_is.has.registers) in
-        let other_registers : r ≡ b.living_is.core.registers = some_same (sym lives.is ∙ b.living_is.has.registers) in
-        let from : TouchesFrom code img p x touches.registers = record { operator = (touches.op, touches.next); stands = touches.stands; touches = touches.touches } in
-        let lies : x.stack ≡ q = private.0 ∙ ap (λ (o : Registers). o.stack) other_registers ∙ b.living_is.has.own in
-        by_stack b.process b.is lies (operator_near p a.process a.is a.living_is x (subst (λ (o : Registers). TouchesFrom code img p x o) own_registers from))
-      where
-        by_stack : (o : Process) → numbered w.processes q ≡ Some o → x.stack ≡ q → Comes img p x → p ≡ q
-        by_stack o e lies (inl (inl acting)) = sym acting ∙ lies
-        by_stack o e lies (inl (inr system)) = none_some (ap (λ (n : ℕ). numbered w.processes n) (sym system ∙ lies) ∙ e)
-        by_stack o e lies (inr started) = absurd (omega (arith, lies, started, by.started, numbered_within w.processes q o e))
+    -- where a process is led, it is led below floors
+    pub leads_below : (p : ℕ) → LeadsBelow code img p
+    leads_below p o op next lives stands is_action =
+        let t : LivesThere tree code texts w lay img by p o = lives_there tree code texts w lay img by p o lives in
+        near_reaches code p img o (own_stacks tree code texts w lay img by)
+        (subst (λ (k : Registers). StandsNear code p img k) (sym t.has) (operator_near p t.process t.is t.living_is)) op next stands is_action
 
 -- no operator of a pictured image reads or writes a word in the private part of another process
 pub processes_apart : (tree : PProgram) (code : Code) (texts : Texts) → AreNested (scopes_of tree) → RestsGoOn →
     (w : World) (lay : Layout) (a : Image) → PicturesBy tree code texts w lay a → (p q : ℕ) (x : Place) (r : Registers) → OperatorTouches code a p x → Lives a q r → IsPrivate r x → p ≡ q
-processes_apart tree code texts nested rests w lay a by = stand_apart tree code texts nested rests w lay a by
+processes_apart tree code texts nested rests w lay a by p q x r touches lives private =
+    others_stay_private code a p x (own_stacks tree code texts w lay a by) (leads_below tree code texts nested rests w lay a by p) touches q r lives private

@@ -1,5 +1,5 @@
 -- The entry of an intrinsic: it names the cell of its control word in the system's stack, and no other, since its arguments are operands.
-use Rattle.std.proofs.Common.{◌≡◌, inr, refl, sym, ap, ◌∙◌, subst, ℕ, ◌+◌, ◌-◌, ◌≤◌, List, ◌∷◌, ◌++◌, Option, Some, None, true, false, arith, length, lit<, length-append}
+use Rattle.std.proofs.Common.{◌≡◌, refl, sym, ap, ◌∙◌, subst, ℕ, ◌+◌, ◌-◌, ◌≤◌, List, ◌∷◌, ◌++◌, Option, Some, None, true, false, arith, length, lit<, length-append}
 use Rattle.std.specs.Prelude.{slice_get, reverse}
 use Rattle.std.proofs.lemmas.List.{length-reverse}
 use Rattle.algol_tree.specs.Scopes.{Scopes}
@@ -34,7 +34,7 @@ use Rattle.b67_pictures.proofs.Homes.{get-behind}
 use Rattle.b67_pictures.proofs.Rows.{words_are}
 use Rattle.b67_pictures.proofs.Slotted.{Top, top_slot}
 use Rattle.b67_pictures.proofs.StackWords.{word-over, word-under, stack-over}
-use Rattle.b67_pictures.proofs.Touching.{NamesNear}
+use Rattle.b67_pictures.proofs.Touching.{system_cell, NamesNear}
 use Rattle.b67_pictures.proofs.TouchingNames.{entry_names}
 use Rattle.b67_pictures.proofs.TouchingWords.{numbers_small, pcw_kind, tag_operand}
 use Rattle.b67_pictures.proofs.Words.{no_sirw, reference_read}
@@ -113,7 +113,7 @@ module _ (img : Image) (p : ℕ) (core : Core) (has : HasCore img p core) (syste
       entry_names p img core.registers i.word
       (under_top img p core has g.arguments i.word i.words_below whole (core.registers.f + 1) (omega (arith, f, many)))
       (record { level = 0; index = number_of name }) (ap as_irw i.slot_is ∙ reference_read (couple_of_intrinsic name) (lit< tt) (numbers_small name))
-      (place 0 0) sees (inr refl) (intrinsic_pcw (number_of name)) entry_lies (no_further name)
+      (place 0 0) sees (system_cell p img (record { frame = place 0 0; index = number_of name }) refl) (intrinsic_pcw (number_of name)) entry_lies (no_further name)
       (λ kind n u c after there names.
       operand_none u
       (above_operands core.below g.arguments (i.word ∷ i.words_below) g.are_operands n u (omega (arith, f, many, after))

@@ -11,6 +11,7 @@ use Rattle.algol_tree.specs.Scopes.{Scopes, scopes_of, use_of}
 use Rattle.algol_meaning.specs.World.{NamedCell, Instance, Part, Process, World, instance_at, or_no_instance, ancestor}
 use Rattle.algol_paths.specs.Blocks.{IsSeen}
 use Rattle.algol_paths.specs.Segments.{procedures_before, segment_of}
+use Rattle.b67_word.specs.declared.Place.{Place}
 use Rattle.b67_word.specs.Word.{Word}
 use Rattle.b67_control.specs.declared.Pcw.{Pcw}
 use Rattle.b67_control.specs.Control.{Fits_pcw, as_pcw, as_sirw, pcw_word}
@@ -41,6 +42,7 @@ use Rattle.b67_pictures.proofs.Segmented.{procedure_segment, get_mapped, get_con
 use Rattle.b67_pictures.proofs.StackWords.{get-front}
 use Rattle.b67_pictures.proofs.Parents.{length_around}
 use Rattle.b67_pictures.proofs.Staying.{level_in}
+use Rattle.b67_pictures.proofs.Touching.{NearCell, own_cell}
 use Rattle.b67_pictures.proofs.TouchingWords.{pcw_kind}
 use Rattle.b67_pictures.proofs.Variables.{Holds_value, value_of_cell}
 use Rattle.b67_pictures.proofs.Words.{value_tag}
@@ -106,13 +108,18 @@ module _ (tree : PProgram) (code : Code) (texts : Texts) (nested : AreNested (sc
   abbrev block : ℕ
   block = (instance_at w part.instance).block
 
-  -- a couple names a cell of the own stack, in which lies such a word
+  -- a couple names a near cell, in which lies such a word
   pub record Names (couple : Couple) (Is : Word → Type 0) : Type 0 where
-    pub at : ℕ
-    pub shown : display_at core.registers couple.level ≡ Some (place p at)
+    pub home : Place
+    pub shown : display_at core.registers couple.level ≡ Some home
+    pub near : NearCell p img (record { frame = home; index = couple.index })
     pub word : Word
-    pub lies : word_at img.stacks (place p (at + couple.index)) ≡ Some word
+    pub lies : word_at img.stacks (place home.stack (home.at + couple.index)) ≡ Some word
     pub is : Is word
+
+  -- one of the own stack is near
+  near_own : (n index : ℕ) → NearCell p img (record { frame = place p n; index = index })
+  near_own n index = own_cell p img (record { frame = place p n; index = index }) refl
 
   -- what lies below the floor lies in the stack
   below_there : (n : ℕ) (x : Word) → slice_get core.below n ≡ Some x → word_at img.stacks (place p n) ≡ Some x
@@ -125,8 +132,9 @@ module _ (tree : PProgram) (code : Code) (texts : Texts) (nested : AreNested (sc
   variable_there n kind couple seen v =
       let h : Home tree code texts w lay img p q part outer bound core s n kind couple = home tree code texts w lay img p q part outer bound core s n kind couple seen v in
       record {
-        at = length h.lies.frame.lower;
+        home = place p (length h.lies.frame.lower);
         shown = h.shown;
+        near = near_own (length h.lies.frame.lower) couple.index;
         word = h.word;
         lies = below_there (length h.lies.frame.lower + couple.index) h.word h.below_lies;
         is = value_tag h.value h.word h.word_is;
@@ -163,7 +171,8 @@ module _ (tree : PProgram) (code : Code) (texts : Texts) (nested : AreNested (sc
     pub result_there : Names couple IsOperand
     result_there =
         record {
-          at = length s.stands.frame.lower;
+          home = place p (length s.stands.frame.lower);
+          near = near_own (length s.stands.frame.lower) couple.index;
           shown = ap (λ (k : ℕ). display_at core.registers k) (level_is ∙ sym s.stands.there.level_is) ∙ shown_frame tree code texts w lay img p q part outer bound core s;
           word = first.word;
           lies = below_there (length s.stands.frame.lower + couple.index) first.word result_lies;
@@ -245,7 +254,8 @@ module _ (tree : PProgram) (code : Code) (texts : Texts) (nested : AreNested (sc
       entry_there : Names couple IsEntry
       entry_there =
           record {
-            at = length l.frame.lower;
+            home = place p (length l.frame.lower);
+            near = near_own (length l.frame.lower) couple.index;
             shown =
                 ap (λ (k : ℕ). display_at core.registers k) level_up
                 ∙ s.stands.chained up low

@@ -1,5 +1,5 @@
 -- What the operators reach that read an element, index an array, store an element, pass an array on or make arrays.
-use Rattle.std.proofs.Common.{◌≡◌, inl, refl, ap, ◌∙◌, ℕ, ◌-◌, List, [], ◌∷◌, length, Bool, Some, ℤ}
+use Rattle.std.proofs.Common.{◌≡◌, refl, ap, ◌∙◌, ℕ, ◌-◌, List, [], ◌∷◌, length, Bool, Some, ℤ}
 use Rattle.algol_tree.specs.declared.tree.Kind.{Kind}
 use Rattle.algol_tree.specs.declared.tree.Named.{Named}
 use Rattle.algol_tree.specs.Plain.{PProgram, PPair}
@@ -9,7 +9,6 @@ use Rattle.algol_meaning.specs.Rest.{element_of}
 use Rattle.algol_meaning.specs.World.{Part, Process, World}
 use Rattle.algol_meaning.specs.Asks.{Ask, reads_element, indexes, stores, passes, makes_arrays, ask}
 use Rattle.algol_paths.specs.Arrays.{Shape}
-use Rattle.b67_word.specs.declared.Place.{Place}
 use Rattle.b67_word.specs.Word.{Word}
 use Rattle.b67_control.specs.declared.Descriptor.{Descriptor}
 use Rattle.b67_ops.specs.declared.Couple.{Couple}
@@ -44,17 +43,17 @@ use Rattle.b67_pictures.proofs.Passing.{FindsFormal, finds_formal}
 use Rattle.b67_pictures.proofs.Scene.{Scene}
 use Rattle.b67_pictures.proofs.Slotted.{Top, top_slot}
 use Rattle.b67_pictures.proofs.Staying.{text_in, level_in, context_in, most_in}
+use Rattle.b67_pictures.proofs.Touching.{own_cell}
 use Rattle.b67_pictures.proofs.TouchingCalls.{call_names, over_top}
 use Rattle.b67_pictures.proofs.TouchingNames.{cell_named, found_named}
-use Rattle.b67_pictures.proofs.TouchingOperators.{TouchesFrom}
-use Rattle.b67_pictures.proofs.TouchingScene.{Comes, by_names}
+use Rattle.b67_pictures.proofs.TouchingOperators.{StandsNear}
+use Rattle.b67_pictures.proofs.TouchingScene.{by_names}
 
 module _ (tree : PProgram) (code : Code) (texts : Texts) (nested : AreNested (scopes_of tree)) where
   abbrev sc : Scopes
   sc = scopes_of tree
 
-  module _ (w : World) (lay : Layout) (img : Image) (p : ℕ) (q : Process) (part : Part) (outer : List Part) (bound : ℕ) (core : Core) (s : Scene tree code texts w lay img p q part outer bound core) (x : Place)
-      (t : TouchesFrom code img p x core.registers) where
+  module _ (w : World) (lay : Layout) (img : Image) (p : ℕ) (q : Process) (part : Part) (outer : List Part) (bound : ℕ) (core : Core) (s : Scene tree code texts w lay img p q part outer bound core) where
     abbrev level : ℕ
     level = level_in tree w part
 
@@ -66,9 +65,9 @@ module _ (tree : PProgram) (code : Code) (texts : Texts) (nested : AreNested (sc
 
     -- an operator that takes the word at one place of its stack, where that word is found to be or to reach a descriptor
     by_found : (kind : PlainKind) → (ops.Plain kind ≡ ops.Plain kinds.Entr → ⊥) → (n next : ℕ) → ((m : ℕ) → TakesBy kind core.registers m → m ≡ n) → Has text level s.stands.pc (ops.Plain kind) next →
-        (first : Word) → word_at img.stacks (place core.registers.stack n) ≡ Some first → IsFound p img core.registers first → Comes img p x
+        (first : Word) → word_at img.stacks (place core.registers.stack n) ≡ Some first → IsFound p img core.registers first → StandsNear code p img core.registers
     by_found kind enters n next only has_it first lies found =
-        by_names tree code texts nested w lay img p q part outer bound core s x t (ops.Plain kind) next has_it (found_named p img core.registers kind enters n only first lies found)
+        by_names tree code texts nested w lay img p q part outer bound core s (ops.Plain kind) next has_it (found_named p img core.registers kind enters n only first lies found)
 
     -- the array that a name means there
     abbrev IsHome : Named → Shape → Couple → Type 0
@@ -78,7 +77,7 @@ module _ (tree : PProgram) (code : Code) (texts : Texts) (nested : AreNested (sc
     AreFound mother z d below = Finds tree code texts nested w lay img p q part outer bound core s mother z d below
 
     module _ (n : Named) (ks : List ℕ) (v : Value) where
-      pub element_read_near : ask part.rest ≡ reads_element n ks v → At (reads_element n ks v) → Comes img p x
+      pub element_read_near : ask part.rest ≡ reads_element n ks v → At (reads_element n ks v) → StandsNear code p img core.registers
       element_read_near asks a =
           let found : ElementReadAt sc (context_in tree code texts w part) text level (most_in tree w part) n ks v s.stands.pc a.0 s.stands.slots a.1 = a.2 in
           let h : IsHome n a.2.array a.2.couple = array_home tree code texts nested w lay img p q part outer bound core s n a.2.array a.2.couple (ap array_asked asks) a.2.is_array in
@@ -86,7 +85,7 @@ module _ (tree : PProgram) (code : Code) (texts : Texts) (nested : AreNested (sc
           last_index tree code texts nested w lay img p q part outer bound core s n a.2.array a.2.couple h ks a.2.subscript a.1 a.2.lies in
           by_found kinds.Nxlv (λ e. cc) (core.registers.s - 1) a.0 (λ m e. e) a.2.stands l.finds.first (top_word img p core s.has l.finds.first l.finds.second l.finds.words l.finds.top) l.finds.found
 
-      pub indexed_near : ask part.rest ≡ indexes n ks v → At (indexes n ks v) → Comes img p x
+      pub indexed_near : ask part.rest ≡ indexes n ks v → At (indexes n ks v) → StandsNear code p img core.registers
       indexed_near asks (of_row low second next below found) =
           let h : IsHome n found.array found.couple = array_home tree code texts nested w lay img p q part outer bound core s n found.array found.couple (ap array_asked asks) found.is_array in
           let l : FirstIndex tree code texts nested w lay img p q part outer bound core s n found.array found.couple h found.subscript below =
@@ -99,7 +98,7 @@ module _ (tree : PProgram) (code : Code) (texts : Texts) (nested : AreNested (sc
           by_found kinds.Indx (λ e. cc) (core.registers.s - 1) next (λ m e. e) found.stands l.finds.first (top_word img p core s.has l.finds.first l.finds.second l.finds.words l.finds.top) l.finds.found
 
     -- the word under the value is the descriptor of an element
-    pub element_stored_near : (r : Reference) (ks : List ℕ) (v : Value) → At (stores (element_of r ks) v) → Comes img p x
+    pub element_stored_near : (r : Reference) (ks : List ℕ) (v : Value) → At (stores (element_of r ks) v) → StandsNear code p img core.registers
     element_stored_near r ks v a =
         let first : Top sc s.stands.held level (frame core.registers) (length core.below) (operand v) (descriptor (element r ks a.2.kind) ∷ a.1) core.words =
         top_slot sc s.stands.held level (frame core.registers) (length core.below) s.stands.slots (operand v) (descriptor (element r ks a.2.kind) ∷ a.1) core.words s.stands.there.words_are a.2.lies in
@@ -113,16 +112,16 @@ module _ (tree : PProgram) (code : Code) (texts : Texts) (nested : AreNested (sc
         (under_word img p core s.has first.word second.word second.words_below (first.is ∙ ap (λ (ws : List Word). first.word ∷ ws) second.is)) (itself d.no_irw d.no_sirw)
 
     -- LODT takes the cell of a parameter and looks no further
-    pub passed_near : (n : Named) → ask part.rest ≡ passes n → At (passes n) → Comes img p x
+    pub passed_near : (n : Named) → ask part.rest ≡ passes n → At (passes n) → StandsNear code p img core.registers
     passed_near n asks a =
         let f : FindsFormal tree code texts nested w lay img p q part outer bound core s n asks a.0 a.1 a.2 a.3 = finds_formal tree code texts nested w lay img p q part outer bound core s n asks a.0 a.1 a.2 a.3 in
-        by_names tree code texts nested w lay img p q part outer bound core s x t (ops.Plain kinds.Lodt) a.1 a.3.stands
+        by_names tree code texts nested w lay img p q part outer bound core s (ops.Plain kinds.Lodt) a.1 a.3.stands
         (cell_named p img core.registers kinds.Lodt (λ e. cc) (core.registers.s - 1) (λ m e. e) f.top.word
         (over_top img p core s.has f.top.word f.top.words_below f.top.is) (λ follows. follows)
-        (record { level = a.3.couple.level; index = a.3.couple.index }) (place p f.home.at) f.names f.home.shown (inl refl))
+        (record { level = a.3.couple.level; index = a.3.couple.index }) (place p f.home.at) f.names f.home.shown (own_cell p img (record { frame = place p f.home.at; index = a.3.couple.index }) refl))
 
-    pub made_near : (kind : Kind) (ns : List Named) (pairs : List PPair) (vs : List Value) → At (makes_arrays kind ns pairs vs) → Comes img p x
+    pub made_near : (kind : Kind) (ns : List Named) (pairs : List PPair) (vs : List Value) → At (makes_arrays kind ns pairs vs) → StandsNear code p img core.registers
     made_near kind ns pairs vs a =
-        by_names tree code texts nested w lay img p q part outer bound core s x t (ops.Plain kinds.Entr) a.1.made a.1.stands
+        by_names tree code texts nested w lay img p q part outer bound core s (ops.Plain kinds.Entr) a.1.made a.1.stands
         (call_names img p core s.has s.by.system s.sees sc s.stands.held level (frame core.registers) s.stands.slots s.stands.there.mark_is s.stands.there.words_are Arrays
         (arrays_given (length ns) pairs vs) [] (a.1.lies ∙ given_lie (length ns) pairs vs))

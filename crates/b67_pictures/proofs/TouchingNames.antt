@@ -25,7 +25,7 @@ use Rattle.b67_faithful.proofs.Contradictions.{some_same, none_some}
 use Rattle.b67_footprints.specs.Reaching.{TakesBy, Takes, Follows, IsIntrinsic}
 use Rattle.b67_footprints.proofs.Within.{AreNamed, named_are}
 use Rattle.b67_pictures.proofs.Described.{IsFound, itself, in_cell, through_cell}
-use Rattle.b67_pictures.proofs.Touching.{Near, NamesNear}
+use Rattle.b67_pictures.proofs.Touching.{NearFrame, NearCell, NamesNear}
 
 module _ (p : ℕ) (img : Image) (r : Registers) where
   -- the word at a place is one only
@@ -44,7 +44,7 @@ module _ (p : ℕ) (img : Image) (r : Registers) where
 
   -- ---- VALC, of a cell that holds no reference
 
-  module _ (couple : Couple) (f : Place) (shown : display_at r couple.level ≡ Some f) (near : Near p f.stack) (w : Word) (lies : word_at img.stacks (place f.stack (f.at + couple.index)) ≡ Some w)
+  module _ (couple : Couple) (f : Place) (shown : display_at r couple.level ≡ Some f) (near : NearCell p img (record { frame = f; index = couple.index })) (w : Word) (lies : word_at img.stacks (place f.stack (f.at + couple.index)) ≡ Some w)
       (no_sirw : as_sirw w ≡ None) where
     abbrev There : Cell → Type 0
     There c = c ≡ record { frame = f; index = couple.index }
@@ -70,7 +70,7 @@ module _ (p : ℕ) (img : Image) (r : Registers) where
     pub value_names : NamesNear p img (ops.Valc couple) r
     value_names =
         record {
-          cells = λ c k. subst (λ (d : Cell). Near p d.frame.stack) (sym (named_are img (ops.Valc couple) r There value_named k)) near;
+          cells = λ c k. subst (NearCell p img) (sym (named_are img (ops.Valc couple) r There value_named k)) near;
           around = λ g x pcw is there reads e. cc;
         }
 
@@ -125,11 +125,11 @@ module _ (p : ℕ) (img : Image) (r : Registers) where
 
       -- a property of cells, of the one that the word names and of those to which it leads
       module _ (C : Cell → Type 0) (first : (c : Cell) → cell_of r x ≡ Some c → C c) (further : (b : Cell) (w : Word) (s : Sirw) → Follows op → C b → word_at img.stacks (cell_place b) ≡ Some w → as_sirw w ≡ Some s → C (sirw_cell s))
-          (stack : (c : Cell) → C c → Near p c.frame.stack) where
+          (near : (c : Cell) → C c → NearCell p img c) where
         pub word_named : NamesNear p img (ops.Plain kind) r
         word_named =
             record {
-              cells = λ c k. stack c (named_are img op r C are k);
+              cells = λ c k. near c (named_are img op r C are k);
               around = λ g y pcw is there reads e. absurd (enters is);
             }
           where
@@ -144,45 +144,44 @@ module _ (p : ℕ) (img : Image) (r : Registers) where
                 }
 
       -- it goes no further than the cell that the word names
-      pub cell_named : (Follows (ops.Plain kind) → ⊥) → (i : Irw) (f : Place) → as_irw x ≡ Some i → display_at r i.level ≡ Some f → Near p f.stack → NamesNear p img (ops.Plain kind) r
+      pub cell_named : (Follows (ops.Plain kind) → ⊥) → (i : Irw) (f : Place) → as_irw x ≡ Some i → display_at r i.level ≡ Some f → NearCell p img (record { frame = f; index = i.index }) → NamesNear p img (ops.Plain kind) r
       cell_named stays i f reads shown near =
           word_named (λ (c : Cell). c ≡ record { frame = f; index = i.index }) (one_cell x i f reads shown) (λ b w s follows same there is. absurd (stays follows))
-          (λ c same. subst (λ (d : Cell). Near p d.frame.stack) (sym same) near)
+          (λ c same. subst (NearCell p img) (sym same) near)
 
       -- it goes on from the cell that the word names to the one to which that refers, and no further
-      module _ (i : Irw) (at : ℕ) (v : Word) (high index : ℕ) (w : Word) (reads : as_irw x ≡ Some i) (shown : display_at r i.level ≡ Some (place p at)) (there : word_at img.stacks (place p (at + i.index)) ≡ Some v)
-          (refers : as_sirw v ≡ Some (record { stack = p; displacement = high; index = index })) (further : word_at img.stacks (place p (high + index)) ≡ Some w) (no_sirw : as_sirw w ≡ None) where
+      module _ (i : Irw) (home : Place) (v : Word) (t : Sirw) (w : Word) (reads : as_irw x ≡ Some i) (shown : display_at r i.level ≡ Some home) (near : NearCell p img (record { frame = home; index = i.index }))
+          (there : word_at img.stacks (place home.stack (home.at + i.index)) ≡ Some v) (refers : as_sirw v ≡ Some t) (near_there : NearCell p img (sirw_cell t)) (further : word_at img.stacks (cell_place (sirw_cell t)) ≡ Some w)
+          (no_sirw : as_sirw w ≡ None) where
         abbrev first : Cell
-        first = record { frame = place p at; index = i.index }
-
-        abbrev second : Cell
-        second = record { frame = place p high; index = index }
+        first = record { frame = home; index = i.index }
 
         abbrev Both : Cell → Type 0
-        Both c = (c ≡ first) ⊎ (c ≡ second)
+        Both c = (c ≡ first) ⊎ (c ≡ sirw_cell t)
 
         go_on : (b : Cell) (y : Word) (s : Sirw) → Follows op → Both b → word_at img.stacks (cell_place b) ≡ Some y → as_sirw y ≡ Some s → Both (sirw_cell s)
         go_on b y s follows (inl same) lies_there is =
-            let word : v ≡ y = one_word (place p (at + i.index)) v y there (subst (λ (k : Cell). word_at img.stacks (cell_place k) ≡ Some y) same lies_there) in
+            let word : v ≡ y = one_word (place home.stack (home.at + i.index)) v y there (subst (λ (k : Cell). word_at img.stacks (cell_place k) ≡ Some y) same lies_there) in
             inr (ap sirw_cell (some_same (sym is ∙ ap as_sirw (sym word) ∙ refers)))
         go_on b y s follows (inr same) lies_there is =
-            none_some (sym no_sirw ∙ ap as_sirw (one_word (place p (high + index)) w y further (subst (λ (k : Cell). word_at img.stacks (cell_place k) ≡ Some y) same lies_there)) ∙ is)
+            none_some (sym no_sirw ∙ ap as_sirw (one_word (cell_place (sirw_cell t)) w y further (subst (λ (k : Cell). word_at img.stacks (cell_place k) ≡ Some y) same lies_there)) ∙ is)
 
-        both_near : (c : Cell) → Both c → Near p c.frame.stack
-        both_near c (inl same) = inl (ap (λ (d : Cell). d.frame.stack) same)
-        both_near c (inr same) = inl (ap (λ (d : Cell). d.frame.stack) same)
+        both_near : (c : Cell) → Both c → NearCell p img c
+        both_near c (inl same) = subst (NearCell p img) (sym same) near
+        both_near c (inr same) = subst (NearCell p img) (sym same) near_there
 
         through_named : NamesNear p img (ops.Plain kind) r
-        through_named = word_named Both (λ c e. inl (one_cell x i (place p at) reads shown c e)) go_on both_near
+        through_named = word_named Both (λ c e. inl (one_cell x i home reads shown c e)) go_on both_near
 
       -- an array is found
       pub found_named : IsFound p img r x → NamesNear p img (ops.Plain kind) r
       found_named (itself no_irw no_sirw) = word_named (λ (c : Cell). ⊥) (no_cell x no_irw no_sirw) (λ b w s follows same there is. absurd same) (λ c same. absurd same)
-      found_named (in_cell i at w reads shown there no_sirw) =
-          word_named (λ (c : Cell). c ≡ record { frame = place p at; index = i.index }) (one_cell x i (place p at) reads shown)
-          (λ b v s follows same lies_there is. none_some (sym no_sirw ∙ ap as_sirw (one_word (place p (at + i.index)) w v there (subst (λ (k : Cell). word_at img.stacks (cell_place k) ≡ Some v) same lies_there)) ∙ is))
-          (λ c same. inl (ap (λ (d : Cell). d.frame.stack) same))
-      found_named (through_cell i at v high index w reads shown there refers further no_sirw) = through_named i at v high index w reads shown there refers further no_sirw
+      found_named (in_cell i home w reads shown near there no_sirw) =
+          word_named (λ (c : Cell). c ≡ record { frame = home; index = i.index }) (one_cell x i home reads shown)
+          (λ b v s follows same lies_there is.
+          none_some (sym no_sirw ∙ ap as_sirw (one_word (place home.stack (home.at + i.index)) w v there (subst (λ (k : Cell). word_at img.stacks (cell_place k) ≡ Some v) same lies_there)) ∙ is))
+          (λ c same. subst (NearCell p img) (sym same) near)
+      found_named (through_cell i home v t w reads shown near there refers near_there further no_sirw) = through_named i home v t w reads shown near there refers near_there further no_sirw
 
   -- ---- ENTR, of the word above the mark
 
@@ -200,7 +199,7 @@ module _ (p : ℕ) (img : Image) (r : Registers) where
 
     -- the control word of a block
     module _ (no_irw : as_irw w ≡ None) (no_sirw : as_sirw w ≡ None) (c : Pcw) (reads : as_pcw w ≡ Some c) (no_intrinsic : c.intrinsic ≡ false)
-        (near : (h : Place) → level_below r c.level ≡ Some h → Near p h.stack) where
+        (near : (h : Place) → level_below r c.level ≡ Some h → NearFrame p img h) where
       control_named : AreNamed img (ops.Plain kinds.Entr) r (λ (d : Cell). ⊥)
       control_named =
           record {
@@ -220,7 +219,7 @@ module _ (p : ℕ) (img : Image) (r : Registers) where
           }
 
     -- the reference to a cell in which a control word lies
-    module _ (i : Irw) (reads : as_irw w ≡ Some i) (f : Place) (shown : display_at r i.level ≡ Some f) (near : Near p f.stack) (word : Word)
+    module _ (i : Irw) (reads : as_irw w ≡ Some i) (f : Place) (shown : display_at r i.level ≡ Some f) (near : NearCell p img (record { frame = f; index = i.index })) (word : Word)
         (there : word_at img.stacks (place f.stack (f.at + i.index)) ≡ Some word) (no_sirw : as_sirw word ≡ None) where
       abbrev IsCell : Cell → Type 0
       IsCell d = d ≡ record { frame = f; index = i.index }
@@ -250,6 +249,6 @@ module _ (p : ℕ) (img : Image) (r : Registers) where
         pub entry_names : NamesNear p img (ops.Plain kinds.Entr) r
         entry_names =
             record {
-              cells = λ d k. subst (λ (e : Cell). Near p e.frame.stack) (sym (named_are img entr r IsCell entry_named k)) near;
+              cells = λ d k. subst (NearCell p img) (sym (named_are img entr r IsCell entry_named k)) near;
               around = λ g v pcw is lies_there pcw_is e. none_some (sym no_control ∙ ap as_pcw (one_word (place r.stack (r.f + 1)) w v lies lies_there) ∙ pcw_is);
             }

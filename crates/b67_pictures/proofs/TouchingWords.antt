@@ -1,4 +1,4 @@
--- The marks in a process's stack lead nowhere but to that stack, and to the system's.
+-- The marks in a process's stack lead to the frames below them that lie there, and to the system's stack.
 use Rattle.std.proofs.Common.{◌≡◌, ◌≢◌, ◌⊎◌, inl, inr, refl, sym, ap, ◌∙◌, subst, ℕ, zero, suc, ◌+◌, ◌<◌, ◌≤◌, ◌^◌, List, [], ◌∷◌, ◌++◌, length, Option, Some, Bool, true, false, arith, lit<, length-append}
 use Rattle.std.specs.Prelude.{if◌then◌else◌, ◌==◌, slice_get, reverse}
 use Rattle.std.proofs.lemmas.List.{length-reverse}
@@ -31,10 +31,9 @@ use Rattle.b67_ops.specs.declared.intrinsic.Intrinsic.{Intrinsic}
 use Rattle.b67_ops.specs.declared.intrinsic.Intrinsic.TheVariants as names
 use Rattle.b67_ops.specs.Intrinsics.{number_of, couple_of_intrinsic, intrinsics}
 use Rattle.b67_segment.specs.declared.code.Code.{Code}
-use Rattle.b67_store.specs.Store.{stack_at, words_of, words_or, word_at, stack_limit}
+use Rattle.b67_store.specs.Store.{stack_limit}
 use Rattle.b67_table.specs.Beginning.{system_stack, intrinsic_words}
 use Rattle.b67_table.specs.Chains.{place}
-use Rattle.b67_table.specs.Image.{Image}
 use Rattle.b67_table.specs.PrivateRows.{open_mark}
 use Rattle.b67_table.specs.PrivateRows as rows
 use Rattle.b67_table.specs.References.{cell_word}
@@ -45,7 +44,7 @@ use Rattle.b67_templates.specs.Cells as wants
 use Rattle.b67_templates.specs.Cells.{Simple, Found, simple_cells, found_from, procedures, control_segments, IsVariable, IsProcedure, Wanted, made_of}
 use Rattle.b67_templates.specs.Programs.{Texts}
 use Rattle.b67_standing.specs.Stepping.{Held, row, element, cell_named, passed, Slot, operand, reference, intrinsic, control, descriptor, mark}
-use Rattle.b67_cores.specs.Cores.{Core, size, stack_of, HasCore}
+use Rattle.b67_cores.specs.Cores.{Core, size, stack_of}
 use Rattle.b67_cores.specs.Slots.{ValueIs, Known, IsKnown, SlotsAre}
 use Rattle.b67_cores.specs.Stretches.{control_words}
 use Rattle.b67_cores.proofs.Moving.{slots_length}
@@ -53,11 +52,9 @@ use Rattle.b67_faithful.proofs.Contradictions.{some_same}
 use Rattle.b67_fitting.specs.Nested.{AreNested}
 use Rattle.b67_pictures.specs.Arrays.{Allotted, Layout, DescriptorIs, AreMade, HeldIs, AreKnown}
 use Rattle.b67_pictures.specs.Frames.{CellIs, CellsAre, IsPlaced, outermost, inside, home_of, result_of_part, Frame, Stands, Waits, Around, level_at}
-use Rattle.b67_pictures.proofs.Lying.{Lies, lies_around}
+use Rattle.b67_pictures.proofs.Lying.{Lies, lies_low, lies_around}
 use Rattle.b67_pictures.proofs.Numbers.{get_below}
-use Rattle.b67_pictures.proofs.Rows.{words_are}
 use Rattle.b67_pictures.proofs.StackWords.{reverse-cons}
-use Rattle.b67_pictures.proofs.Touching.{Near, LeadsNear, AllLeadNear}
 use Rattle.b67_pictures.proofs.Words.{value_tag, mark_read}
 
 -- the number of an intrinsic fits a reference
@@ -119,44 +116,49 @@ alike_tag : (s : Sirw) → (sirw_word s).tag ≡ 1
 unfolding sirw_word
 alike_tag s = refl
 
-module _ (p : ℕ) where
+-- a word that, where it is a mark, has a link to such a place: its stack, and so high there
+pub record LinksTo (Home : ℕ → ℕ → Type 0) (w : Word) : Type 0 where
+  pub link : (m : Mscw) → as_mscw w ≡ Some m → Home m.stack m.displacement
+
+-- the places of the system's stack are such
+module _ (Home : ℕ → ℕ → Type 0) (root : (n : ℕ) → Home 0 n) where
   -- a word that is no mark
-  leads_else : (w : Word) → kind_of w ≢ kind.mscw → LeadsNear p w
+  leads_else : (w : Word) → kind_of w ≢ kind.mscw → LinksTo Home w
   leads_else w no_mark = record { link = λ m e. absurd (no_mark (mscw_laws.kind w m e)) }
 
-  leads_kind : (w : Word) (k : kind.Kind) → kind_of w ≡ k → k ≢ kind.mscw → LeadsNear p w
+  leads_kind : (w : Word) (k : kind.Kind) → kind_of w ≡ k → k ≢ kind.mscw → LinksTo Home w
   leads_kind w k is other = leads_else w (λ e. other (sym is ∙ e))
 
-  value_leads : (v : Value) (w : Word) → ValueIs v w → LeadsNear p w
+  value_leads : (v : Value) (w : Word) → ValueIs v w → LinksTo Home w
   value_leads v w is = leads_kind w kind.operand (tag_operand w (value_tag v w is)) (λ e. cc)
 
-  control_leads : (c : Pcw) → LeadsNear p (pcw_word c)
+  control_leads : (c : Pcw) → LinksTo Home (pcw_word c)
   control_leads c = leads_kind (pcw_word c) kind.pcw (pcw_kind c) (λ e. cc)
 
-  pub descriptor_leads : (d : Descriptor) → LeadsNear p (descriptor_word d)
+  pub descriptor_leads : (d : Descriptor) → LinksTo Home (descriptor_word d)
   descriptor_leads d = leads_kind (descriptor_word d) kind.descriptor (tag_descriptor (descriptor_word d) (descriptor_tag d)) (λ e. cc)
 
-  back_leads : (w : Word) (back : Rcw) → as_rcw w ≡ Some back → LeadsNear p w
+  back_leads : (w : Word) (back : Rcw) → as_rcw w ≡ Some back → LinksTo Home w
   back_leads w back e = leads_kind w kind.rcw (rcw_laws.kind w back e) (λ e. cc)
 
-  reference_leads : (c : Couple) → LeadsNear p (rows.reference c)
+  reference_leads : (c : Couple) → LinksTo Home (rows.reference c)
   reference_leads c = leads_else (rows.reference c) (no_mark (rows.reference c) (reference_tag (record { level = c.level; index = c.index })))
 
   -- the reference that is read alike everywhere
-  pub cell_word_leads : (c : frame_cells.Cell) → LeadsNear p (cell_word c)
+  pub cell_word_leads : (c : frame_cells.Cell) → LinksTo Home (cell_word c)
   cell_word_leads c = leads_else (cell_word c) (no_mark (cell_word c) (alike_tag (record { stack = c.frame.stack; displacement = c.frame.at; index = c.index })))
 
-  mark_leads : (w : Word) (m : Mscw) → as_mscw w ≡ Some m → Near p m.stack → LeadsNear p w
-  mark_leads w m e near = record { link = λ n f. subst (λ (x : Mscw). Near p x.stack) (some_same (sym e ∙ f)) near }
+  mark_leads : (w : Word) (m : Mscw) → as_mscw w ≡ Some m → Home m.stack m.displacement → LinksTo Home w
+  mark_leads w m e near = record { link = λ n f. subst (λ (x : Mscw). Home x.stack x.displacement) (some_same (sym e ∙ f)) near }
 
-  open_leads : (df : ℕ) → df < 2 ^ 16 → LeadsNear p (open_mark df)
-  open_leads df low = mark_leads (open_mark df) (record { entered = false; stack = 0; displacement = 0; df = df }) (mark_read df low) (inr refl)
+  open_leads : (df : ℕ) → df < 2 ^ 16 → LinksTo Home (open_mark df)
+  open_leads df low = mark_leads (open_mark df) (record { entered = false; stack = 0; displacement = 0; df = df }) (mark_read df low) (root 0)
 
   -- ---- lists of words
 
   abbrev pub AllLead : List Word → Type 0
   AllLead [] = Unit {0}
-  AllLead (w ∷ ws) = LeadsNear p w × AllLead ws
+  AllLead (w ∷ ws) = LinksTo Home w × AllLead ws
 
   lead_both : (xs ys : List Word) → AllLead xs → AllLead ys → AllLead (xs ++ ys)
   lead_both [] ys a b = b
@@ -166,9 +168,9 @@ module _ (p : ℕ) where
   lead_turned [] a = tt
   lead_turned (x ∷ xs) a = subst AllLead (sym (reverse-cons x xs)) (lead_both (reverse xs) (x ∷ []) (lead_turned xs a.1) (a.0, tt))
 
-  lead_at : (xs : List Word) (n : ℕ) (w : Word) → AllLead xs → slice_get xs n ≡ Some w → LeadsNear p w
+  pub lead_at : (xs : List Word) (n : ℕ) (w : Word) → AllLead xs → slice_get xs n ≡ Some w → LinksTo Home w
   lead_at [] n w a e = cc
-  lead_at (x ∷ xs) zero w a e = subst (LeadsNear p) (some_same e) a.0
+  lead_at (x ∷ xs) zero w a e = subst (LinksTo Home) (some_same e) a.0
   lead_at (x ∷ xs) (suc n) w a e = lead_at xs n w a.1 e
 
   -- ---- the system's stack
@@ -178,18 +180,18 @@ module _ (p : ℕ) where
   intrinsics_lead n (name ∷ more) =
       (control_leads (record { intrinsic = true; names = false; segment = 0; psr = 0; pir = 0; level = 0; number = n }), intrinsics_lead (n + 1) more)
 
-  system_leads : AllLead system_stack
+  pub system_leads : AllLead system_stack
   system_leads =
       let m : Mscw = record { entered = true; stack = 0; displacement = 0; df = 0 } in
       let c : Rcw = record { segment = 0; psr = 0; pir = 0; caller_level = 0; caller_cells = 0; own_level = 0 } in (
-        mark_leads _ m (as_mscw-mscw_word m (lit< tt, (lit< tt, (lit< tt, tt)))) (inr refl),
+        mark_leads _ m (as_mscw-mscw_word m (lit< tt, (lit< tt, (lit< tt, tt)))) (root 0),
         (back_leads _ c (as_rcw-rcw_word c (lit< tt, (lit< tt, (lit< tt, (lit< tt, (lit< tt, (lit< tt, tt))))))), intrinsics_lead 2 intrinsics),
       )
 
   -- ---- cells
 
   -- a value; of a reference it is known otherwise
-  cell_leads : (o : Wanted) (c : Cell) (w : Word) → CellIs o c w → ((shape : Shape) → o ≡ wants.array shape → LeadsNear p w) → LeadsNear p w
+  cell_leads : (o : Wanted) (c : Cell) (w : Word) → CellIs o c w → ((shape : Shape) → o ≡ wants.array shape → LinksTo Home w) → LinksTo Home w
   cell_leads (wants.array shape) c w is referred = referred shape refl
   cell_leads (wants.value k) (simple v) w is referred = value_leads v w is.1
   cell_leads (wants.value k) (event e) w is referred = absurd is
@@ -199,7 +201,7 @@ module _ (p : ℕ) where
   cell_leads _ c w is referred = absurd is
 
   cells_lead : (ss : List Simple) (cells : List NamedCell) (words : List Word) → CellsAre ss cells words →
-      ((k : ℕ) (s : Simple) (shape : Shape) (w : Word) → slice_get ss k ≡ Some s → s.wanted ≡ wants.array shape → slice_get words k ≡ Some w → LeadsNear p w) → AllLead words
+      ((k : ℕ) (s : Simple) (shape : Shape) (w : Word) → slice_get ss k ≡ Some s → s.wanted ≡ wants.array shape → slice_get words k ≡ Some w → LinksTo Home w) → AllLead words
   cells_lead [] [] [] are referred = tt
   cells_lead [] [] (w ∷ words) are referred = absurd are
   cells_lead [] (c ∷ cells) words are referred = absurd are
@@ -213,10 +215,10 @@ module _ (p : ℕ) where
   controls_lead level (segment ∷ segments) = (control_leads (code_at segment 0 (level + 1)), controls_lead level segments)
 
   -- the descriptors of arrays
-  array_leads : (bs : List Bounds) (a : Allotted) (w : Word) → DescriptorIs bs a w → LeadsNear p w
+  array_leads : (bs : List Bounds) (a : Allotted) (w : Word) → DescriptorIs bs a w → LinksTo Home w
   array_leads [] a w is = absurd is
-  array_leads (b ∷ []) a w is = subst (LeadsNear p) (sym is.3) (descriptor_leads _)
-  array_leads (b ∷ c ∷ []) a w is = subst (LeadsNear p) (sym is.4) (descriptor_leads _)
+  array_leads (b ∷ []) a w is = subst (LinksTo Home) (sym is.3) (descriptor_leads _)
+  array_leads (b ∷ c ∷ []) a w is = subst (LinksTo Home) (sym is.4) (descriptor_leads _)
   array_leads (b ∷ c ∷ d ∷ bs) a w is = absurd is
 
   arrays_lead : (ds : List Made) (cells : List NamedCell) (as' : List Allotted) (words : List Word) → AreMade ds cells as' words → AllLead words
@@ -230,23 +232,23 @@ module _ (p : ℕ) where
   arrays_lead (an_array d ∷ ds) (c ∷ cells) (a ∷ as') (w ∷ words) are = (array_leads are.0.cell.bounds a w are.0.descriptor, arrays_lead ds cells as' words are.1)
 
 -- what is known of descriptors and references is of no marks
-abbrev pub KnownLead : ℕ → List Known → Type 0
-KnownLead p known = (h : Held) (x : Word) → IsKnown known h x → LeadsNear p x
+abbrev pub KnownLead : (ℕ → ℕ → Type 0) → List Known → Type 0
+KnownLead Home known = (h : Held) (x : Word) → IsKnown known h x → LinksTo Home x
 
-module _ (sc : Scopes) (w : World) (lay : Layout) (p : ℕ) (parts : List Part) (i : ℕ) where
-  held_leads : (h : Held) (x : Word) → HeldIs sc w lay parts i h x → LeadsNear p x
-  held_leads (row n ks) x is = subst (LeadsNear p) (sym is.word_is) (descriptor_leads p _)
-  held_leads (element r ks kind) x is = subst (LeadsNear p) (sym is.word_is) (descriptor_leads p _)
-  held_leads (cell_named n) x is = subst (LeadsNear p) (sym is.word_is) (cell_word_leads p _)
-  held_leads (passed (wants.array shape) (refers r)) x is = subst (LeadsNear p) (sym is.word_is) (cell_word_leads p _)
+module _ (sc : Scopes) (w : World) (lay : Layout) (Home : ℕ → ℕ → Type 0) (root : (n : ℕ) → Home 0 n) (parts : List Part) (i : ℕ) where
+  held_leads : (h : Held) (x : Word) → HeldIs sc w lay parts i h x → LinksTo Home x
+  held_leads (row n ks) x is = subst (LinksTo Home) (sym is.word_is) (descriptor_leads Home root _)
+  held_leads (element r ks kind) x is = subst (LinksTo Home) (sym is.word_is) (descriptor_leads Home root _)
+  held_leads (cell_named n) x is = subst (LinksTo Home) (sym is.word_is) (cell_word_leads Home root _)
+  held_leads (passed (wants.array shape) (refers r)) x is = subst (LinksTo Home) (sym is.word_is) (cell_word_leads Home root _)
   held_leads (passed _ c) x is = absurd is
 
-  pub known_lead : (known : List Known) → AreKnown sc w lay parts i known → KnownLead p known
+  pub known_lead : (known : List Known) → AreKnown sc w lay parts i known → KnownLead Home known
   known_lead [] are h x is = absurd is
   known_lead (k ∷ known) are h x is = by_place is (known_lead known are.1 h x)
     where
-      by_place : ((k.held ≡ h) × (k.word ≡ x)) ⊎ IsKnown known h x → (IsKnown known h x → LeadsNear p x) → LeadsNear p x
-      by_place (inl same) rest = subst (LeadsNear p) same.1 (held_leads k.held k.word are.0)
+      by_place : ((k.held ≡ h) × (k.word ≡ x)) ⊎ IsKnown known h x → (IsKnown known h x → LinksTo Home x) → LinksTo Home x
+      by_place (inl same) rest = subst (LinksTo Home) same.1 (held_leads k.held k.word are.0)
       by_place (inr later) rest = rest later
 
 -- ---- references to variables
@@ -297,17 +299,17 @@ module _ (sc : Scopes) (nested : AreNested sc) where
 
 -- ---- slots
 
-module _ (sc : Scopes) (known : List Known) (p level home base : ℕ) (described : KnownLead p known) where
-  slots_lead : (slots : List Slot) (words : List Word) → SlotsAre sc known level home base slots words → base + length slots ≤ 2 ^ 16 → AllLead p words
+module _ (sc : Scopes) (known : List Known) (Home : ℕ → ℕ → Type 0) (root : (n : ℕ) → Home 0 n) (level home base : ℕ) (described : KnownLead Home known) where
+  slots_lead : (slots : List Slot) (words : List Word) → SlotsAre sc known level home base slots words → base + length slots ≤ 2 ^ 16 → AllLead Home root words
   slots_lead [] [] are room = tt
   slots_lead [] (w ∷ ws) are room = absurd are
   slots_lead (slot ∷ slots) [] are room = absurd are
-  slots_lead (operand v ∷ slots) (w ∷ ws) are room = (value_leads p v w are.0, slots_lead slots ws are.1 (omega (arith, room)))
-  slots_lead (reference c ∷ slots) (w ∷ ws) are room = (subst (LeadsNear p) (sym are.0) (reference_leads p c), slots_lead slots ws are.1 (omega (arith, room)))
-  slots_lead (intrinsic i ∷ slots) (w ∷ ws) are room = (subst (LeadsNear p) (sym are.0) (reference_leads p (couple_of_intrinsic i)), slots_lead slots ws are.1 (omega (arith, room)))
-  slots_lead (control c ∷ slots) (w ∷ ws) are room = (subst (LeadsNear p) (sym are.0) (control_leads p c), slots_lead slots ws are.1 (omega (arith, room)))
+  slots_lead (operand v ∷ slots) (w ∷ ws) are room = (value_leads Home root v w are.0, slots_lead slots ws are.1 (omega (arith, room)))
+  slots_lead (reference c ∷ slots) (w ∷ ws) are room = (subst (LinksTo Home) (sym are.0) (reference_leads Home root c), slots_lead slots ws are.1 (omega (arith, room)))
+  slots_lead (intrinsic i ∷ slots) (w ∷ ws) are room = (subst (LinksTo Home) (sym are.0) (reference_leads Home root (couple_of_intrinsic i)), slots_lead slots ws are.1 (omega (arith, room)))
+  slots_lead (control c ∷ slots) (w ∷ ws) are room = (subst (LinksTo Home) (sym are.0) (control_leads Home root c), slots_lead slots ws are.1 (omega (arith, room)))
   slots_lead (descriptor h ∷ slots) (w ∷ ws) are room = (described h w are.0, slots_lead slots ws are.1 (omega (arith, room)))
-  slots_lead (mark ∷ slots) (w ∷ ws) are room = (subst (LeadsNear p) (sym are.0) (open_leads p _ (omega (arith, room))), slots_lead slots ws are.1 (omega (arith, room)))
+  slots_lead (mark ∷ slots) (w ∷ ws) are room = (subst (LinksTo Home) (sym are.0) (open_leads Home root _ (omega (arith, room))), slots_lead slots ws are.1 (omega (arith, room)))
 
 -- ---- the frames of a process
 
@@ -321,60 +323,6 @@ module _ (tree : PProgram) (code : Code) (texts : Texts) (nested : AreNested (sc
   abbrev wanted_of : Part → Yields
   wanted_of part = result_of_part tree code texts w lay p part
 
-  -- the frame of an instance that lies in these parts
-  laid_near : (outer : List Part) (lower : List Word) (m c : Word) (wanted : Yields) → Outer outer lower m c wanted → (i : ℕ) (home : Place) → numbered lay.places i ≡ Some home → Lies tree code texts w lay p outer i lower → Near p home.stack
-  laid_near outer lower m c wanted a i home e l =
-      let at : numbered lay.places i ≡ Some (place p (length l.frame.lower)) = ap (numbered lay.places) (sym l.instance_is) ∙ l.frame.framed.laid in
-      inl (ap (λ (x : Place). x.stack) (some_same (sym e ∙ at)))
-
-  root_near : (home : Place) → Some (place 0 0) ≡ Some home → Near p home.stack
-  root_near home e = inr (sym (ap (λ (x : Place). x.stack) (some_same e)))
-
-  home_near : (outer : List Part) (lower : List Word) (m c : Word) (wanted : Yields) → Outer outer lower m c wanted → (x : Instance) → IsPlaced sc w lay outer x → (home : Place) → home_of sc w lay x.parent ≡ Some home → Near p home.stack
-  home_near outer lower m c wanted a x (outermost none_up alone) home e = root_near home (sym (ap (home_of sc w lay) none_up) ∙ e)
-  home_near outer lower m c wanted a x (inside own next made) home e = by_parent x.parent e (lies_around tree code texts w lay p outer lower m c wanted a x.parent own)
-    where
-      by_parent : (i : ℕ) → home_of sc w lay i ≡ Some home → Lies tree code texts w lay p outer i lower → Near p home.stack
-      by_parent zero f l = root_near home f
-      by_parent (suc i) f l = laid_near outer lower m c wanted a (suc i) home f l
-
-  -- the cells of parameters that are arrays
-  formals_lead : (part : Part) (outer : List Part) (words : List Word) (f : Frame tree code texts w lay p part outer words) (k : ℕ) (s : Simple) (shape : Shape) (x : Word) →
-      slice_get (simple_cells sc (block_numbered sc.blocks f.framed.instance.block)) k ≡ Some s → s.wanted ≡ wants.array shape → slice_get f.framed.values k ≡ Some x → LeadsNear p x
-  formals_lead part outer words f k s shape x there told lies =
-      let g = f.framed.formals k s shape there told in
-      subst (LeadsNear p) (some_same (sym g.4 ∙ lies)) (subst (LeadsNear p) (sym g.6.word_is) (cell_word_leads p _))
-
-  frame_leads : (part : Part) (outer : List Part) (words : List Word) (f : Frame tree code texts w lay p part outer words) → Outer outer f.lower f.mark f.control (wanted_of part) → AllLead p f.lower → AllLead p words
-  frame_leads part outer words f a low =
-      let near : Near p f.framed.home.stack = home_near outer f.lower f.mark f.control (wanted_of part) a f.framed.instance f.framed.placed f.framed.home f.framed.linked in
-      subst (AllLead p) (sym f.words_are)
-      (lead_both p f.lower (f.mark ∷ f.control ∷ f.cells) low (
-        mark_leads p f.mark _ f.framed.mark_is near,
-        (
-          back_leads p f.control f.framed.back f.framed.control_is,
-          subst (AllLead p) (sym f.framed.cells_is)
-              (lead_both p f.framed.values _ (cells_lead p (simple_cells sc (block_numbered sc.blocks f.framed.instance.block)) f.framed.simple f.framed.values f.framed.simple_are
-              (formals_lead part outer words f))
-              (lead_both p (control_words (procedure_controls (level_of (block_numbered sc.blocks f.framed.instance.block)) (control_segments sc (block_numbered sc.blocks f.framed.instance.block).decls))) f.framed.descriptors
-              (controls_lead p (level_of (block_numbered sc.blocks f.framed.instance.block)) (control_segments sc (block_numbered sc.blocks f.framed.instance.block).decls))
-              (arrays_lead p f.framed.declared f.framed.arrays (lay.rows part.instance) f.framed.descriptors f.framed.made))),
-        ),
-      ))
-
-  around_leads : (parts : List Part) (lower : List Word) (m c : Word) (wanted : Yields) → Outer parts lower m c wanted → length lower ≤ 2 ^ 16 → AllLead p lower
-  around_leads [] lower m c wanted a room = subst (AllLead p) (sym a.0) tt
-  around_leads (part ∷ outer) lower m c wanted a room =
-      let s : Waits tree code texts w lay p part outer lower m c wanted = a.0 in
-      let long : length lower ≡ length s.below + length s.words = ap length s.lower_is ∙ length-append s.below (reverse s.words) ∙ ap (λ (n : ℕ). length s.below + n) (length-reverse s.words) in
-      let lowest : length s.below ≡ length s.frame.lower + (2 + length s.frame.cells) = ap length s.frame.words_are ∙ length-append s.frame.lower (s.frame.mark ∷ s.frame.control ∷ s.frame.cells) ∙ omega arith in
-      let many : length s.words ≡ length s.slots = slots_length sc s.held (level_at tree code texts w lay p part) (length s.frame.lower) (length s.below) s.slots s.words s.words_are in
-      subst (AllLead p) (sym s.lower_is)
-      (lead_both p s.below (reverse s.words)
-      (frame_leads part outer s.below s.frame a.1 (around_leads outer s.frame.lower s.frame.mark s.frame.control (wanted_of part) a.1 (omega (arith, room, long, lowest))))
-      (lead_turned p s.words (slots_lead sc s.held p (level_at tree code texts w lay p part) (length s.frame.lower) (length s.below)
-      (known_lead sc w lay p (part ∷ outer) part.instance s.held s.held_are) s.slots s.words s.words_are (omega (arith, room, long, many)))))
-
   module _ (part : Part) (outer : List Part) (core : Core) (s : Stands tree code texts w lay p part outer core) (a : Outer outer s.frame.lower s.frame.mark s.frame.control (wanted_of part)) where
     pub level_known : level_at tree code texts w lay p part < 32
     level_known =
@@ -382,24 +330,79 @@ module _ (tree : PProgram) (code : Code) (texts : Texts) (nested : AreNested (sc
         ap (λ (o : Option Instance). level_of (block_numbered sc.blocks ((or_no_instance o).block))) s.frame.framed.is in
         omega (arith, same, s.frame.framed.level_is, (Fits-as_rcw s.frame.control s.frame.framed.control_is).1.1.1.1.1.0)
 
-    core_leads : size core ≤ stack_limit → AllLead p (stack_of core)
-    core_leads room =
-        let lowest : length core.below ≡ length s.frame.lower + (2 + length s.frame.cells) = ap length s.frame.words_are ∙ length-append s.frame.lower (s.frame.mark ∷ s.frame.control ∷ s.frame.cells) ∙ omega arith in
-        let many : length core.words ≡ length s.slots =
-        slots_length sc s.held (level_at tree code texts w lay p part) _ (length core.below) s.slots core.words s.there.words_are in
-        lead_both p core.below (reverse core.words)
-        (frame_leads part outer core.below s.frame a (around_leads outer s.frame.lower s.frame.mark s.frame.control (wanted_of part) a (omega (arith, room, lowest))))
-        (lead_turned p core.words (slots_lead sc s.held p (level_at tree code texts w lay p part) _ (length core.below)
-        (known_lead sc w lay p (part ∷ outer) part.instance s.held s.held_are) s.slots core.words s.there.words_are (omega (arith, room, many))))
+  -- Where frames so low are such places, and those of the system's stack.
+  module _ (Home : ℕ → ℕ → Type 0) (root : (n : ℕ) → Home 0 n) (limit : ℕ) (frames : (n : ℕ) → n + 2 ≤ limit → Home p n) where
+    abbrev IsHome : Place → Type 0
+    IsHome f = Home f.stack f.at
 
-    -- so do all words of the two stacks, in an image in which the process stands so
-    pub image_leads : (img : Image) → HasCore img p core → stack_at img.stacks 0 ≡ Some system_stack → size core ≤ stack_limit → AllLeadNear p img
-    image_leads img has system room = record { each = by_stack }
+    -- the frame of an instance that lies in these parts
+    laid_near : (outer : List Part) (lower : List Word) → length lower ≤ limit → (i : ℕ) (home : Place) → numbered lay.places i ≡ Some home → Lies tree code texts w lay p outer i lower → IsHome home
+    laid_near outer lower low i home e l =
+        let at : numbered lay.places i ≡ Some (place p (length l.frame.lower)) = ap (numbered lay.places) (sym l.instance_is) ∙ l.frame.framed.laid in
+        let ends : length l.frame.lower + 2 + length l.frame.cells ≤ length lower = lies_low tree code texts w lay p outer i lower l in
+        subst (λ (f : Place). Home f.stack f.at) (some_same (sym at ∙ e)) (frames (length l.frame.lower) (omega (arith, ends, low)))
+
+    root_near : (home : Place) → Some (place 0 0) ≡ Some home → IsHome home
+    root_near home e = subst (λ (f : Place). Home f.stack f.at) (some_same e) (root 0)
+
+    home_near : (outer : List Part) (lower : List Word) (m c : Word) (wanted : Yields) → Outer outer lower m c wanted → length lower ≤ limit → (x : Instance) → IsPlaced sc w lay outer x → (home : Place) →
+        home_of sc w lay x.parent ≡ Some home → IsHome home
+    home_near outer lower m c wanted a low x (outermost none_up alone) home e = root_near home (sym (ap (home_of sc w lay) none_up) ∙ e)
+    home_near outer lower m c wanted a low x (inside own next made) home e = by_parent x.parent e (lies_around tree code texts w lay p outer lower m c wanted a x.parent own)
       where
-        by_stack : (x : Place) (word : Word) → Near p x.stack → word_at img.stacks x ≡ Some word → LeadsNear p word
-        by_stack x word (inl own) e =
-            let words : words_of img.stacks x.stack ≡ stack_of core = ap (words_of img.stacks) (own ∙ sym has.own) ∙ words_are img p core has in
-            lead_at p (stack_of core) x.at word (core_leads room) (sym (ap (λ (ws : List Word). slice_get ws x.at) words) ∙ e)
-        by_stack x word (inr none) e =
-            let words : words_of img.stacks x.stack ≡ system_stack = ap (words_of img.stacks) none ∙ ap words_or system in
-            lead_at p system_stack x.at word (system_leads p) (sym (ap (λ (ws : List Word). slice_get ws x.at) words) ∙ e)
+        by_parent : (i : ℕ) → home_of sc w lay i ≡ Some home → Lies tree code texts w lay p outer i lower → IsHome home
+        by_parent zero f l = root_near home f
+        by_parent (suc i) f l = laid_near outer lower low (suc i) home f l
+
+    -- the cells of parameters that are arrays
+    formals_lead : (part : Part) (outer : List Part) (words : List Word) (f : Frame tree code texts w lay p part outer words) (k : ℕ) (s : Simple) (shape : Shape) (x : Word) →
+        slice_get (simple_cells sc (block_numbered sc.blocks f.framed.instance.block)) k ≡ Some s → s.wanted ≡ wants.array shape → slice_get f.framed.values k ≡ Some x → LinksTo Home x
+    formals_lead part outer words f k s shape x there told lies =
+        let g = f.framed.formals k s shape there told in
+        subst (LinksTo Home) (some_same (sym g.4 ∙ lies)) (subst (LinksTo Home) (sym g.6.word_is) (cell_word_leads Home root _))
+
+    frame_leads : (part : Part) (outer : List Part) (words : List Word) (f : Frame tree code texts w lay p part outer words) → Outer outer f.lower f.mark f.control (wanted_of part) → length f.lower ≤ limit → AllLead Home root f.lower → AllLead Home root words
+    frame_leads part outer words f a ends low =
+        let near : IsHome f.framed.home = home_near outer f.lower f.mark f.control (wanted_of part) a ends f.framed.instance f.framed.placed f.framed.home f.framed.linked in
+        subst (AllLead Home root) (sym f.words_are)
+        (lead_both Home root f.lower (f.mark ∷ f.control ∷ f.cells) low (
+          mark_leads Home root f.mark _ f.framed.mark_is near,
+          (
+            back_leads Home root f.control f.framed.back f.framed.control_is,
+            subst (AllLead Home root) (sym f.framed.cells_is)
+                (lead_both Home root f.framed.values _ (cells_lead Home root (simple_cells sc (block_numbered sc.blocks f.framed.instance.block)) f.framed.simple f.framed.values f.framed.simple_are
+                (formals_lead part outer words f))
+                (lead_both Home root (control_words (procedure_controls (level_of (block_numbered sc.blocks f.framed.instance.block)) (control_segments sc (block_numbered sc.blocks f.framed.instance.block).decls))) f.framed.descriptors
+                (controls_lead Home root (level_of (block_numbered sc.blocks f.framed.instance.block)) (control_segments sc (block_numbered sc.blocks f.framed.instance.block).decls))
+                (arrays_lead Home root f.framed.declared f.framed.arrays (lay.rows part.instance) f.framed.descriptors f.framed.made))),
+          ),
+        ))
+
+    around_leads : (parts : List Part) (lower : List Word) (m c : Word) (wanted : Yields) → Outer parts lower m c wanted → length lower ≤ 2 ^ 16 → length lower ≤ limit → AllLead Home root lower
+    around_leads [] lower m c wanted a room low = subst (AllLead Home root) (sym a.0) tt
+    around_leads (part ∷ outer) lower m c wanted a room low =
+        let s : Waits tree code texts w lay p part outer lower m c wanted = a.0 in
+        let long : length lower ≡ length s.below + length s.words = ap length s.lower_is ∙ length-append s.below (reverse s.words) ∙ ap (λ (n : ℕ). length s.below + n) (length-reverse s.words) in
+        let lowest : length s.below ≡ length s.frame.lower + (2 + length s.frame.cells) = ap length s.frame.words_are ∙ length-append s.frame.lower (s.frame.mark ∷ s.frame.control ∷ s.frame.cells) ∙ omega arith in
+        let many : length s.words ≡ length s.slots = slots_length sc s.held (level_at tree code texts w lay p part) (length s.frame.lower) (length s.below) s.slots s.words s.words_are in
+        subst (AllLead Home root) (sym s.lower_is)
+        (lead_both Home root s.below (reverse s.words)
+        (frame_leads part outer s.below s.frame a.1 (omega (arith, low, long, lowest))
+        (around_leads outer s.frame.lower s.frame.mark s.frame.control (wanted_of part) a.1 (omega (arith, room, long, lowest)) (omega (arith, low, long, lowest))))
+        (lead_turned Home root s.words (slots_lead sc s.held Home root (level_at tree code texts w lay p part) (length s.frame.lower) (length s.below)
+        (known_lead sc w lay Home root (part ∷ outer) part.instance s.held s.held_are) s.slots s.words s.words_are (omega (arith, room, long, many)))))
+
+    module _ (part : Part) (outer : List Part) (core : Core) (s : Stands tree code texts w lay p part outer core) (a : Outer outer s.frame.lower s.frame.mark s.frame.control (wanted_of part)) where
+      -- so do the words below the floor
+      pub below_leads : length s.frame.lower ≤ 2 ^ 16 → length s.frame.lower ≤ limit → AllLead Home root core.below
+      below_leads room low = frame_leads part outer core.below s.frame a low (around_leads outer s.frame.lower s.frame.mark s.frame.control (wanted_of part) a room low)
+
+      -- and those above it
+      pub core_leads : size core ≤ stack_limit → length s.frame.lower ≤ limit → AllLead Home root (stack_of core)
+      core_leads room low =
+          let lowest : length core.below ≡ length s.frame.lower + (2 + length s.frame.cells) = ap length s.frame.words_are ∙ length-append s.frame.lower (s.frame.mark ∷ s.frame.control ∷ s.frame.cells) ∙ omega arith in
+          let many : length core.words ≡ length s.slots =
+          slots_length sc s.held (level_at tree code texts w lay p part) _ (length core.below) s.slots core.words s.there.words_are in
+          lead_both Home root core.below (reverse core.words) (below_leads (omega (arith, room, lowest)) low)
+          (lead_turned Home root core.words (slots_lead sc s.held Home root (level_at tree code texts w lay p part) _ (length core.below)
+          (known_lead sc w lay Home root (part ∷ outer) part.instance s.held s.held_are) s.slots core.words s.there.words_are (omega (arith, room, many))))
