@@ -73,12 +73,12 @@ weight_of tree w p q parts at todo = ap (λ (o : Process). parts_weight tree w o
 
 module _ (tree : PProgram) (code : Code) (texts : Texts) (w : World) (lay : Layout) (img : Image) (by : PicturesBy tree code texts w lay img) (p : ℕ) (q : Process)
     (at : numbered w.processes p ≡ Some q) where
-  -- process p has come to this state in an image in which each other process has its core, and is pictured there
-  pub comes_to : (w' : World) (lay' : Layout) (img' : Image) (q' : Process) → w'.processes ≡ set_numbered w.processes p q' → length lay'.places ≡ length w'.instances → ArraysAre (scopes_of tree) w' lay' img'.rows →
-      ((r : ℕ) → r ≢ p → AreAlike w w' lay lay' r) → img'.output ≡ w'.output → w'.fault ≡ w.fault → img'.fault ≡ img.fault → img'.started ≡ img.started → length img'.states ≡ length img.states →
-      ((r : ℕ) → r ≢ p → numbered img'.states r ≡ numbered img.states r) → stack_at img'.stacks 0 ≡ stack_at img.stacks 0 →
-      ((r : ℕ) (core : Core) → r ≢ p → HasCore img r core → HasCore img' r core) → Pictured tree code texts w' lay' img' p q' → PicturesBy tree code texts w' lay' img'
-  comes_to w' lay' img' q' processes laid arrays alike output world_fault fault started many states system keeps own =
+  -- process p has come to this state in an image in which each other process is pictured, and is pictured there
+  pub comes_by : (w' : World) (lay' : Layout) (img' : Image) (q' : Process) → w'.processes ≡ set_numbered w.processes p q' → length lay'.places ≡ length w'.instances → ArraysAre (scopes_of tree) w' lay' img'.rows →
+      img'.output ≡ w'.output → w'.fault ≡ w.fault → img'.fault ≡ img.fault → img'.started ≡ img.started → length img'.states ≡ length img.states → stack_at img'.stacks 0 ≡ stack_at img.stacks 0 →
+      ((r : ℕ) (o : Process) → r ≢ p → numbered w.processes r ≡ Some o → numbered w'.processes r ≡ Some o → Pictured tree code texts w lay img r o → Pictured tree code texts w' lay' img' r o) →
+      Pictured tree code texts w' lay' img' p q' → PicturesBy tree code texts w' lay' img'
+  comes_by w' lay' img' q' processes laid arrays output world_fault fault started many system others own =
       let same_number : length w'.processes ≡ length w.processes = ap length processes ∙ length_set_numbered w.processes p q' in
       record {
         laid = laid;
@@ -100,7 +100,17 @@ module _ (tree : PProgram) (code : Code) (texts : Texts) (w : World) (lay : Layo
           (subst (λ (n : ℕ). Pictured tree code texts w' lay' img' n q') (sym same) own)
       by_number r o e e' (inr other) =
           let before : numbered w.processes r ≡ Some o = sym (numbered_other w.processes p r q' (λ (same : p ≡ r). other (sym same))) ∙ e in
-          pictured_alike tree code texts w w' lay lay' r (alike r other) img img' o (process_is w r o before) (process_is w' r o e') (states r other) (λ core has. keeps r core other has) (by.each r o before)
+          others r o other before e' (by.each r o before)
+
+  -- .. in which each other process has its core
+  pub comes_to : (w' : World) (lay' : Layout) (img' : Image) (q' : Process) → w'.processes ≡ set_numbered w.processes p q' → length lay'.places ≡ length w'.instances → ArraysAre (scopes_of tree) w' lay' img'.rows →
+      ((r : ℕ) → r ≢ p → AreAlike w w' lay lay' r) → img'.output ≡ w'.output → w'.fault ≡ w.fault → img'.fault ≡ img.fault → img'.started ≡ img.started → length img'.states ≡ length img.states →
+      ((r : ℕ) → r ≢ p → numbered img'.states r ≡ numbered img.states r) → stack_at img'.stacks 0 ≡ stack_at img.stacks 0 →
+      ((r : ℕ) (core : Core) → r ≢ p → HasCore img r core → HasCore img' r core) → Pictured tree code texts w' lay' img' p q' → PicturesBy tree code texts w' lay' img'
+  comes_to w' lay' img' q' processes laid arrays alike output world_fault fault started many states system keeps own =
+      comes_by w' lay' img' q' processes laid arrays output world_fault fault started many system
+      (λ r o other before after pictured.
+      pictured_alike tree code texts w w' lay lay' r (alike r other) img img' o (process_is w r o before) (process_is w' r o after) (states r other) (λ core has. keeps r core other has) pictured) own
 
   -- it goes on, and stands for what it has still to do
   pub goes_on : (w' : World) (lay' : Layout) (img' : Image) (q' : Process) → w'.processes ≡ set_numbered w.processes p q' → q'.state ≡ able → length lay'.places ≡ length w'.instances → ArraysAre (scopes_of tree) w' lay' img'.rows →

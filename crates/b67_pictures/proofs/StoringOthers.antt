@@ -1,16 +1,17 @@
 -- A store into a cell of a frame of a process, by whatever process: the one whose frame it is lives on after it, with the word in its stack below its
--- floor, on its way to where it stands or there.
-use Rattle.std.proofs.Common.{◌≡◌, refl, sym, ap, ◌∙◌, subst, ℕ, ◌+◌, ◌<◌, ◌≤◌, List, [], ◌∷◌, ◌++◌, length, Option, Some, arith}
+-- floor, on its way to where it stands or there; and all others are pictured as they were.
+use Rattle.std.proofs.Common.{◌≡◌, ◌≢◌, ◌⊎◌, inl, inr, refl, sym, ap, ◌∙◌, subst, ℕ, ◌+◌, ◌<◌, ◌≤◌, List, [], ◌∷◌, ◌++◌, length, Option, Some, arith}
 use Rattle.b67_list.specs.Numbered.{numbered}
 use Rattle.algol_tree.specs.Blocks.{block_numbered}
 use Rattle.algol_tree.specs.Cells.{level_of}
 use Rattle.algol_tree.specs.Plain.{PProgram}
 use Rattle.algol_tree.specs.Scopes.{Scopes, scopes_of}
-use Rattle.algol_meaning.specs.World.{NamedCell, Instance, Part, Process, World, instance_at, process_at}
+use Rattle.algol_meaning.specs.World.{NamedCell, Instance, Part, Process, World, instance_at, process_at, with_process}
 use Rattle.algol_paths.specs.Arrays.{Made}
 use Rattle.algol_paths.specs.Segments.{segment_of}
 use Rattle.b67_word.specs.Word.{Word}
 use Rattle.b67_segment.specs.declared.code.Code.{Code}
+use Rattle.b67_table.specs.declared.ProcessState.{ProcessState}
 use Rattle.b67_table.specs.Chains.{place}
 use Rattle.b67_table.specs.Image.{Image}
 use Rattle.b67_table.specs.Private.{frame}
@@ -23,10 +24,13 @@ use Rattle.b67_cores.specs.Stretches.{CoreAt, Above}
 use Rattle.b67_cores.proofs.Staying.{steps_stay_above}
 use Rattle.b67_pictures.specs.Arrays.{Layout, AreMade, IsOwn}
 use Rattle.b67_pictures.specs.Frames.{CellsAre, most_around, IsChained, Stands, Around, Frames}
-use Rattle.b67_pictures.specs.Pictures.{innermost_most, Living}
+use Rattle.b67_pictures.specs.Pictures.{innermost_most, Living, Pictured, living, dead}
+use Rattle.b67_pictures.proofs.Kept.{alike_by, alike_but, pictured_alike}
 use Rattle.b67_pictures.proofs.Knowing.{KeepsArrays}
+use Rattle.b67_pictures.proofs.Numbers.{same_or_not}
+use Rattle.b67_pictures.proofs.Stage.{process_is}
 use Rattle.b67_pictures.proofs.Staying.{wanted_in, same_weight}
-use Rattle.b67_pictures.proofs.StoringFrames.{IsStored, put, length_put, put_first, stored_world, same_of, same_ancestors, as_heavy, ChangedCells, Stored, known_stored, frame_stored}
+use Rattle.b67_pictures.proofs.StoringFrames.{IsStored, put, length_put, put_first, changed, stored_world, same_of, same_ancestors, as_heavy, ChangedCells, Stored, known_stored, frame_stored}
 
 -- The instance's frame lies so high in the stack of process p. A word that is stored lies so far above the frame's two words, at the place k.
 module _ (tree : PProgram) (code : Code) (texts : Texts) (w : World) (lay : Layout) (p : ℕ) (i : ℕ) (x : Instance) (at : numbered w.instances i ≡ Some x) (with_cells : List NamedCell)
@@ -137,3 +141,34 @@ module _ (tree : PProgram) (code : Code) (texts : Texts) (w : World) (lay : Layo
           room = omega (arith, l.room, length_put word l.settled.below k, most_same o.todo);
           light = subst (λ (n : ℕ). l.bound + 3 ≤ n) (sym (same_weight tree w w' (process_at w p).todo (λ j own_part. as_heavy w i x at with_cells many j))) l.light;
         }
+
+  -- ---- all but the process that stores
+
+  -- Process a stores, and has the state q' after it. The instance is one of process p, whose core has the word; all others have their cores.
+  module _ (a : ℕ) (q' : Process) (img img' : Image) (mine : x.process ≡ p) (owns : (o : Process) → numbered w.processes p ≡ Some o → IsOwn o.todo i)
+      (low : (core : Core) → HasCore img p core → IsStored word → k < length core.below) (holds : (core : Core) → HasCore img p core → HasCore img' p (stored_core core))
+      (stay : (r : ℕ) (core : Core) → r ≢ a → r ≢ p → HasCore img r core → HasCore img' r core) (states : img'.states ≡ img.states) where
+    abbrev after : World
+    after = with_process w' a q'
+
+    same_state : (r : ℕ) → numbered img'.states r ≡ numbered img.states r
+    same_state r = ap (λ (ss : List ProcessState). numbered ss r) states
+
+    -- the one whose frame it is
+    owner_stored : (o : Process) → numbered w.processes p ≡ Some o → numbered after.processes p ≡ Some o → Pictured tree code texts w lay img p o → Pictured tree code texts after lay img' p o
+    owner_stored o before now (dead e s) = dead e (same_state p ∙ s)
+    owner_stored o before now (living e s l) =
+        let stored : Living tree code texts w' lay img' p o = living_stored img o (owns o before) l (low l.core l.has) img' (holds l.core l.has) in
+        pictured_alike tree code texts w' after lay lay p (alike_by w' after lay p refl) img' img' o (process_is w p o before) (process_is after p o now) refl (λ core has. has) (living e (same_state p ∙ s) stored)
+
+    pub others_stored : (r : ℕ) (o : Process) → r ≢ a → numbered w.processes r ≡ Some o → numbered (with_process (stored_world w i x at with_cells) a q').processes r ≡ Some o → Pictured tree code texts w lay img r o →
+        Pictured tree code texts (with_process (stored_world w i x at with_cells) a q') lay img' r o
+    others_stored r o other before now pictured = by_owner (same_or_not r p)
+      where
+        by_owner : (r ≡ p) ⊎ (r ≢ p) → Pictured tree code texts after lay img' r o
+        by_owner (inl e) =
+            subst (λ (n : ℕ). Pictured tree code texts after lay img' n o) (sym e)
+            (owner_stored o (ap (λ (n : ℕ). numbered w.processes n) (sym e) ∙ before) (ap (λ (n : ℕ). numbered after.processes n) (sym e) ∙ now) (subst (λ (n : ℕ). Pictured tree code texts w lay img n o) e pictured))
+        by_owner (inr apart) =
+            pictured_alike tree code texts w after lay lay r (alike_but w after lay r i x (changed w i x at with_cells) at (λ (same : r ≡ x.process). apart (same ∙ mine)) refl) img img' o
+            (process_is w r o before) (process_is after r o now) (same_state r) (λ core has. stay r core other apart has) pictured
