@@ -5,7 +5,7 @@
 //! describe. Which other process's stack these lie in does not matter: there is no process or stack that is special.
 #![tactic(auto)]
 
-ghost use Rattle.b67_footprints.specs.Cores.{CoresStayAbove, CoresStay};
+ghost use Rattle.b67_footprints.specs.Cores.{CoresStayAbove, CoresStay, CoresHoldStores};
 ghost use Rattle.b67_footprints.specs.Laws.{OperatorsKeep, OperatorsTouchWhatTheyReach, ValidHaveOwnStacks, OthersStayPrivate, PrivatePartsStay, OperatorsLeaveTheRest};
 ghost use Rattle.b67_footprints.specs.Worked.{NamesMayLeadAbove};
 
@@ -44,6 +44,11 @@ pub fn cores_stay_above()
 /// Law: and where it stores into no cell of the other's stack, it leaves the core as it is. Only STOD and STON store into cells.
 pub fn cores_stay()
     ensures { CoresStay }
+{}
+
+/// Law: and where it stores at one place of the other's stack only, it leaves the core with the word that lies there then.
+pub fn cores_hold_stores()
+    ensures { CoresHoldStores }
 {}
 
 /// Law: what an operator does not reach it leaves as it is: words, rows, and the registers of others.
