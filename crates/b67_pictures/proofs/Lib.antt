@@ -88,6 +88,7 @@ pub mod TouchingOthers
 pub mod TouchingScene
 pub mod TouchingElements
 pub mod TouchingApart
+pub mod TouchingCores
 pub mod ArraySizes
 pub mod OpenRows
 pub mod ArrayRows
