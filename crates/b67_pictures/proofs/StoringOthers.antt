@@ -11,6 +11,7 @@ use Rattle.algol_paths.specs.Arrays.{Made}
 use Rattle.algol_paths.specs.Segments.{segment_of}
 use Rattle.b67_word.specs.Word.{Word}
 use Rattle.b67_segment.specs.declared.code.Code.{Code}
+use Rattle.b67_store.specs.Store.{stack_at}
 use Rattle.b67_table.specs.declared.ProcessState.{ProcessState}
 use Rattle.b67_table.specs.Chains.{place}
 use Rattle.b67_table.specs.Image.{Image}
@@ -22,13 +23,14 @@ use Rattle.b67_cores.specs.Cores.{Core, over, HasCore, CoreSteps}
 use Rattle.b67_cores.specs.Slots.{newest, SlotsAre}
 use Rattle.b67_cores.specs.Stretches.{CoreAt, Above}
 use Rattle.b67_cores.proofs.Staying.{steps_stay_above}
-use Rattle.b67_pictures.specs.Arrays.{Layout, AreMade, IsOwn}
+use Rattle.b67_faithful.proofs.Choices.{length_set_numbered}
+use Rattle.b67_pictures.specs.Arrays.{Layout, AreMade, IsOwn, ArraysAre}
 use Rattle.b67_pictures.specs.Frames.{CellsAre, most_around, IsChained, Stands, Around, Frames}
-use Rattle.b67_pictures.specs.Pictures.{innermost_most, Living, Pictured, living, dead}
+use Rattle.b67_pictures.specs.Pictures.{innermost_most, Living, Pictured, living, dead, PicturesBy}
 use Rattle.b67_pictures.proofs.Kept.{alike_by, alike_but, pictured_alike}
 use Rattle.b67_pictures.proofs.Knowing.{KeepsArrays}
 use Rattle.b67_pictures.proofs.Numbers.{same_or_not}
-use Rattle.b67_pictures.proofs.Stage.{process_is}
+use Rattle.b67_pictures.proofs.Stage.{process_is, comes_by}
 use Rattle.b67_pictures.proofs.Staying.{wanted_in, same_weight}
 use Rattle.b67_pictures.proofs.StoringFrames.{IsStored, put, length_put, put_first, changed, stored_world, same_of, same_ancestors, as_heavy, ChangedCells, Stored, known_stored, frame_stored}
 
@@ -172,3 +174,11 @@ module _ (tree : PProgram) (code : Code) (texts : Texts) (w : World) (lay : Layo
         by_owner (inr apart) =
             pictured_alike tree code texts w after lay lay r (alike_but w after lay r i x (changed w i x at with_cells) at (λ (same : r ≡ x.process). apart (same ∙ mine)) refl) img img' o
             (process_is w r o before) (process_is after r o now) (same_state r) (λ core has. stay r core other apart has) pictured
+
+    -- so the image pictures the world after it, where it pictures the process that stores
+    pub stored_pictured : (by : PicturesBy tree code texts w lay img) (q : Process) → numbered w.processes a ≡ Some q → ArraysAre (scopes_of tree) (with_process (stored_world w i x at with_cells) a q') lay img'.rows → img'.output ≡ w.output →
+        img'.fault ≡ img.fault → img'.started ≡ img.started → stack_at img'.stacks 0 ≡ stack_at img.stacks 0 → Pictured tree code texts (with_process (stored_world w i x at with_cells) a q') lay img' a q' →
+        PicturesBy tree code texts (with_process (stored_world w i x at with_cells) a q') lay img'
+    stored_pictured by q at_a arrays output fault started system own =
+        comes_by tree code texts w lay img by a q at_a after lay img' q' refl (by.laid ∙ sym (length_set_numbered w.instances i (changed w i x at with_cells))) arrays output refl fault started (ap length states) system
+        others_stored own
