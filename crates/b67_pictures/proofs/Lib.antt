@@ -89,6 +89,7 @@ pub mod TouchingScene
 pub mod TouchingElements
 pub mod TouchingApart
 pub mod TouchingCores
+pub mod StoredElsewhere
 pub mod ArraySizes
 pub mod OpenRows
 pub mod ArrayRows
